@@ -1,0 +1,9 @@
+pub mod FixedLaws
+pub mod FixedLemmas
+pub mod FrontLemmas
+pub mod GroupLemmas
+pub mod LebFrontLemmas
+pub mod LebLaws
+pub mod ReadBack
+pub mod Spelling
+pub mod StepLemmas

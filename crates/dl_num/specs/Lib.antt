@@ -1,0 +1,10 @@
+pub mod Fixed
+pub mod FixedBytes
+pub mod OperandBytes
+pub mod Leb
+pub mod LebFront
+pub mod LebReader
+pub mod Magnitude
+pub mod Front
+pub mod Steps
+pub mod Laws

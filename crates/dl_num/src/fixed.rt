@@ -1,0 +1,93 @@
+//! Numbers of fixed size, byte by byte. Sections 7.4 and 7.5.5.
+
+ghost use Rattle.std.specs.Prelude.{◌≡◌, ◌<◌, ◌≤◌, ◌↔◌, ◌++◌, ◌∷◌, [], length, take, IsTrue};
+ghost use Rattle.dl_num.specs.Fixed.{fixed, IsNumberSize};
+
+use byteorder::{BigEndian, ByteOrder, LittleEndian};
+
+/// The order in which the bytes of a number of fixed size stand.
+#[derive(Debug, Clone, Copy, PartialEq, Eq)]
+pub enum Order {
+    /// The lowest byte first.
+    Little,
+    /// The highest byte first.
+    Big,
+}
+
+/// A number of 1 to 16 bytes, as its bytes come.
+#[derive(Debug, Clone, Copy)]
+pub struct Fixed {
+    len: usize,
+    filled: usize,
+    bytes: [u8; 16],
+    ghost some: { 1 ≤ len },
+    ghost fits: { len ≤ 16 },
+    ghost within: { filled ≤ len },
+}
+
+impl Fixed {
+    ghost use Rattle.dl_num.specs.FixedBytes.{size_of, taken_by, IsFull};
+
+    /// No byte yet of a number of `len` bytes.
+    pub fn new(len: usize) -> Self
+        requires some { 1 ≤ len }
+        requires fits { len ≤ 16 }
+        ensures size { size_of result ≡ len }
+        ensures empty { taken_by result ≡ [] }
+    {
+        Fixed {
+            len,
+            filled: 0,
+            bytes: [0; 16],
+        }
+    }
+
+    /// Takes the next byte; true where it is the last one.
+    pub fn push(&mut self, byte: u8) -> bool
+        requires { length (taken_by self.old) < size_of self.old }
+        ensures taken { taken_by self.new ≡ taken_by self.old ++ byte ∷ [] }
+        ensures size { size_of self.new ≡ size_of self.old }
+        ensures within { length (taken_by self.new) ≤ size_of self.new }
+        ensures last { IsTrue result ↔ IsFull self.new }
+    {
+        self.bytes[self.filled] = byte;
+        self.filled += 1;
+        self.is_full()
+    }
+
+    /// Whether all the bytes have come.
+    pub fn is_full(&self) -> bool
+        ensures { IsTrue result ↔ IsFull self.now }
+    {
+        self.filled == self.len
+    }
+
+    /// The number that the bytes spell in this order.
+    pub fn number(&self, order: Order) -> u64
+        requires full { IsFull self.now }
+        requires size { IsNumberSize (size_of self.now) }
+        ensures { result ≡ fixed order (taken_by self.now) }
+    {
+        number_of(&self.bytes[..self.len], order)
+    }
+
+    /// The sixteen bytes as they stand.
+    pub fn bytes16(&self) -> [u8; 16]
+        requires full { IsFull self.now }
+        requires size { size_of self.now ≡ 16 }
+        ensures { result ≡ taken_by self.now }
+    {
+        self.bytes
+    }
+}
+
+/// The number that all of the bytes spell.
+fn number_of(bytes: &[u8], order: Order) -> u64
+    requires { IsNumberSize (length bytes.now) }
+    ensures { result ≡ fixed order bytes.now }
+{
+    match order {
+        Order::Little => LittleEndian::read_uint(bytes, bytes.len()),
+        Order::Big => BigEndian::read_uint(bytes, bytes.len()),
+    }
+}

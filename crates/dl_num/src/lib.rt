@@ -1,0 +1,18 @@
+//! Numbers of a line table: LEB128 both ways, and numbers of fixed size.
+#![tactic(auto)]
+
+pub mod fixed;
+pub mod front;
+pub mod laws;
+pub mod leb;
+pub mod operand;
+pub mod spell;
+
+pub use fixed::{Fixed, Order};
+pub use front::{sleb_at_front, sleb_read_back, uleb_at_front, uleb_read_back};
+pub use leb::{LebRange, Skip, Sleb, Uleb};
+pub use operand::Operand;
+pub use spell::{sleb_bytes, uleb_bytes};
+
+#[cfg(test)]
+mod tests;

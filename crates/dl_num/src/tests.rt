@@ -1,0 +1,137 @@
+use crate::{
+    Fixed, LebRange, Operand, Order, Skip, Sleb, Uleb, sleb_at_front, sleb_bytes, sleb_read_back,
+    uleb_at_front, uleb_bytes, uleb_read_back,
+};
+use std::process::Abort;
+
+const MIDDLE: [u8; 9] = [0x80; 9];
+
+/// The bytes are one spelling, which ends with its last byte and has this value.
+fn reads_unsigned(rt: &impl Abort, number: &mut Uleb, bytes: &[u8], value: Result<u64, LebRange>) {
+    for (i, byte) in bytes.iter().enumerate() {
+        let answer = number.push(*byte);
+        let last = bytes.len() - i == 1;
+        assert_eq!(rt; answer, if last { Some(value) } else { None });
+    }
+}
+
+fn reads_signed(rt: &impl Abort, number: &mut Sleb, bytes: &[u8], value: Result<i64, LebRange>) {
+    for (i, byte) in bytes.iter().enumerate() {
+        let answer = number.push(*byte);
+        let last = bytes.len() - i == 1;
+        assert_eq!(rt; answer, if last { Some(value) } else { None });
+    }
+}
+
+#[test]
+fn unsigned_spellings(rt: HostRuntime) {
+    let power = [0x80, 0x80, 0x80, 0x80, 0x80, 0x80, 0x80, 0x80, 0x10];
+    let most = [0xff, 0xff, 0xff, 0xff, 0xff, 0xff, 0xff, 0xff, 0xff, 0x01];
+    let rows: [(u64, &[u8]); 5] = [
+        (0, &[0x00]),
+        (127, &[0x7f]),
+        (128, &[0x80, 0x01]),
+        (1 << 60, &power),
+        (u64::MAX, &most),
+    ];
+    for (number, bytes) in rows {
+        assert_eq!(rt; uleb_bytes(number).as_slice(), bytes);
+        reads_unsigned(&rt, &mut Uleb::new(), bytes, Ok(number));
+        assert_eq!(rt; uleb_read_back(number), Some(Ok(number)));
+    }
+}
+
+#[test]
+fn signed_spellings(rt: HostRuntime) {
+    let most = [0xff, 0xff, 0xff, 0xff, 0xff, 0xff, 0xff, 0xff, 0xff, 0x00];
+    let least = [0x80, 0x80, 0x80, 0x80, 0x80, 0x80, 0x80, 0x80, 0x80, 0x7f];
+    let rows: [(i64, &[u8]); 8] = [
+        (-2, &[0x7e]),
+        (-1, &[0x7f]),
+        (63, &[0x3f]),
+        (64, &[0xc0, 0x00]),
+        (-64, &[0x40]),
+        (-65, &[0xbf, 0x7f]),
+        (i64::MAX, &most),
+        (i64::MIN, &least),
+    ];
+    for (number, bytes) in rows {
+        assert_eq!(rt; sleb_bytes(number).as_slice(), bytes);
+        reads_signed(&rt, &mut Sleb::new(), bytes, Ok(number));
+        assert_eq!(rt; sleb_read_back(number), Some(Ok(number)));
+    }
+}
+
+/// Out of range is answered at the last byte, and the next byte begins a new number.
+#[test]
+fn out_of_range(rt: HostRuntime) {
+    let mut number = Uleb::new();
+    let mut signed = Sleb::new();
+    let mut skip = Skip::new();
+    for byte in MIDDLE {
+        assert_eq!(rt; number.push(byte), None);
+        assert_eq!(rt; signed.push(byte), None);
+        assert!(rt; !skip.push(byte));
+    }
+    assert_eq!(rt; number.push(0x02), Some(Err(LebRange)));
+    assert_eq!(rt; number.push(0x05), Some(Ok(5)));
+    assert_eq!(rt; signed.push(0x01), Some(Err(LebRange)));
+    assert_eq!(rt; signed.push(0x7b), Some(Ok(-5)));
+    assert!(rt; skip.push(0x02));
+}
+
+/// Padding of any length, and the bits behind the sixty-fourth.
+#[test]
+fn padded(rt: HostRuntime) {
+    let column = [
+        0x83, 0x80, 0x80, 0x80, 0x80, 0x80, 0x80, 0x80, 0x80, 0x80, 0x80, 0x00,
+    ];
+    reads_unsigned(&rt, &mut Uleb::new(), &column, Ok(3));
+    let large = [
+        0x83, 0x80, 0x80, 0x80, 0x80, 0x80, 0x80, 0x80, 0x80, 0x80, 0x80, 0x01,
+    ];
+    reads_unsigned(&rt, &mut Uleb::new(), &large, Err(LebRange));
+    let mut thousand = [0x80; 1000];
+    thousand[0] = 0x83;
+    thousand[999] = 0x00;
+    reads_unsigned(&rt, &mut Uleb::new(), &thousand, Ok(3));
+    thousand.fill(0xff);
+    thousand[999] = 0x7f;
+    reads_signed(&rt, &mut Sleb::new(), &thousand, Ok(-1));
+}
+
+#[test]
+fn at_the_front(rt: HostRuntime) {
+    assert_eq!(rt; uleb_at_front(&[0x80, 0x01, 0xff]), Some(Ok(128)));
+    assert_eq!(rt; uleb_at_front(&[0x80]), None);
+    assert_eq!(rt; sleb_at_front(&[0xbf, 0x7f, 0xff]), Some(Ok(-65)));
+    assert_eq!(rt; sleb_at_front(&[]), None);
+}
+
+#[test]
+fn fixed_sizes(rt: HostRuntime) {
+    let mut number = Fixed::new(4);
+    assert!(rt; !number.push(0x01));
+    assert!(rt; !number.push(0x02));
+    assert!(rt; !number.is_full());
+    assert!(rt; !number.push(0x03));
+    assert!(rt; number.push(0x04));
+    assert!(rt; number.is_full());
+    assert_eq!(rt; number.number(Order::Little), 0x0403_0201);
+    assert_eq!(rt; number.number(Order::Big), 0x0102_0304);
+}
+
+#[test]
+fn sixteen_bytes(rt: HostRuntime) {
+    let mut operand = Operand::new(16);
+    let mut whole = None;
+    for byte in 0..16 {
+        match operand.push(byte) {
+            Ok(fixed) => whole = Some((byte, fixed)),
+            Err(more) => operand = more,
+        }
+    }
+    let (last, fixed) = whole.expect(&rt, "sixteen bytes");
+    assert_eq!(rt; last, 15);
+    assert!(rt; fixed.is_full());
+}
