@@ -1,5 +1,5 @@
 -- Numbers of fixed size, in either order of their bytes. DWARF 5, sections 7.4 and 7.5.5.
-use Rattle.std.specs.Prelude.{◌≡◌, ℕ, zero, suc, ◌+◌, ◌*◌, ◌/◌, ◌%◌, ◌^◌, ◌⊎◌, List, [], ◌∷◌, length, reverse}
+use Rattle.std.specs.Prelude.{ℕ, zero, suc, ◌+◌, ◌*◌, ◌/◌, ◌%◌, ◌^◌, Bool, ◌||◌, ◌==◌, List, [], ◌∷◌, length, reverse}
 use Rattle.dl_num.specs.declared.fixed.Order.{Order}
 use Rattle.dl_num.specs.declared.fixed.Order.TheVariants.{Little, Big}
 
@@ -19,8 +19,8 @@ fixed Little bytes = little bytes
 fixed Big bytes = big bytes
 
 -- the sizes of a number
-abbrev pub IsNumberSize : ℕ → Type 0
-IsNumberSize n = (n ≡ 1) ⊎ (n ≡ 2) ⊎ (n ≡ 4) ⊎ (n ≡ 8)
+abbrev pub is_number_size : ℕ → Bool
+is_number_size n = (n == 1) || (n == 2) || (n == 4) || (n == 8)
 
 -- the lowest k bytes of n, the lowest first
 abbrev pub little_bytes : ℕ → ℕ → List ℕ

@@ -1,6 +1,7 @@
 pub mod Fixed
 pub mod FixedBytes
 pub mod OperandBytes
+pub mod NumberBytes
 pub mod Leb
 pub mod LebFront
 pub mod LebReader

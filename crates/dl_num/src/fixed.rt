@@ -1,7 +1,7 @@
 //! Numbers of fixed size, byte by byte. Sections 7.4 and 7.5.5.
 
 ghost use Rattle.std.specs.Prelude.{◌≡◌, ◌<◌, ◌≤◌, ◌↔◌, ◌++◌, ◌∷◌, [], length, take, IsTrue};
-ghost use Rattle.dl_num.specs.Fixed.{fixed, IsNumberSize};
+ghost use Rattle.dl_num.specs.Fixed.{fixed, is_number_size};
 
 use byteorder::{BigEndian, ByteOrder, LittleEndian};
 
@@ -65,7 +65,7 @@ impl Fixed {
     /// The number that the bytes spell in this order.
     pub fn number(&self, order: Order) -> u64
         requires full { IsFull self.now }
-        requires size { IsNumberSize (size_of self.now) }
+        requires size { IsTrue (is_number_size (size_of self.now)) }
         ensures { result ≡ fixed order (taken_by self.now) }
     {
         number_of(&self.bytes[..self.len], order)
@@ -83,7 +83,7 @@ impl Fixed {
 
 /// The number that all of the bytes spell.
 fn number_of(bytes: &[u8], order: Order) -> u64
-    requires { IsNumberSize (length bytes.now) }
+    requires { IsTrue (is_number_size (length bytes.now)) }
     ensures { result ≡ fixed order bytes.now }
 {
     match order {

@@ -5,12 +5,17 @@ pub mod fixed;
 pub mod front;
 pub mod laws;
 pub mod leb;
+pub mod number;
 pub mod operand;
 pub mod spell;
 
 pub use fixed::{Fixed, Order};
-pub use front::{sleb_at_front, sleb_read_back, uleb_at_front, uleb_read_back};
+pub use front::{
+    short_sleb_at_front, short_uleb_at_front, sleb_at_front, sleb_read_back, uleb_at_front,
+    uleb_read_back,
+};
 pub use leb::{LebRange, Skip, Sleb, Uleb};
+pub use number::Number;
 pub use operand::Operand;
 pub use spell::{sleb_bytes, uleb_bytes};
 

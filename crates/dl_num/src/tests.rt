@@ -102,10 +102,14 @@ fn padded(rt: HostRuntime) {
 
 #[test]
 fn at_the_front(rt: HostRuntime) {
-    assert_eq!(rt; uleb_at_front(&[0x80, 0x01, 0xff]), Some(Ok(128)));
-    assert_eq!(rt; uleb_at_front(&[0x80]), None);
-    assert_eq!(rt; sleb_at_front(&[0xbf, 0x7f, 0xff]), Some(Ok(-65)));
-    assert_eq!(rt; sleb_at_front(&[]), None);
+    let number = uleb_at_front(&[0x80, 0x01, 0xff]).expect(&rt, "a number");
+    assert_eq!(rt; number.0, Ok(128));
+    assert_eq!(rt; number.1, [0xff].as_slice());
+    assert!(rt; uleb_at_front(&[0x80]).is_none());
+    let number = sleb_at_front(&[0xbf, 0x7f, 0xff]).expect(&rt, "a number");
+    assert_eq!(rt; number.0, Ok(-65));
+    assert_eq!(rt; number.1, [0xff].as_slice());
+    assert!(rt; sleb_at_front(&[]).is_none());
 }
 
 #[test]

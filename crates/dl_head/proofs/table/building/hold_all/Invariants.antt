@@ -1,0 +1,12 @@
+use Rattle.std.proofs.Common.{◌+◌, ◌≤◌, length, drop, vec_len}
+use Rattle.std.specs.List.{sum_by}
+use Rattle.std.specs.Vec.{vec_capacity}
+use Rattle.dl_head.specs.Held.{pooled, values_end}
+use Rattle.dl_head.proofs.table.building.hold_all.Given as goal
+
+abbrev pub invariant-loop-value : goal.invariant-loop-value
+invariant-loop-value l = record {
+  held_room : vec_len l.held + length l.values ≤ vec_capacity l.held + l.value-index;
+  pool_room : vec_len l.pool + sum_by pooled (drop l.value-index l.values) ≤ vec_capacity l.pool;
+  within : values_end l.held.items ≤ length l.pool.items;
+}

@@ -1,0 +1,11 @@
+pub mod Number
+pub mod Value
+pub mod TableData
+pub mod Layout
+pub mod Bytes
+pub mod Held
+pub mod TableHeld
+pub mod Built
+pub mod TableStep
+pub mod HeadStep
+pub mod FaultText

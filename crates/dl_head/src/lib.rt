@@ -1,0 +1,21 @@
+//! The header of a line table unit of DWARF 5: its forms, its tables, and its reader. Section 6.2.4.
+#![tactic(auto)]
+
+pub mod fault;
+pub mod form;
+pub mod header;
+pub mod params;
+pub mod reader;
+pub mod table;
+pub mod text;
+
+pub use fault::{BuildFault, Fault, FaultKind, ParamFault};
+pub use form::{Form, Format};
+pub use header::{Header, Refused};
+pub use params::Params;
+pub use reader::{HeadReader, HeadStep};
+pub use table::{Entry, Pair, Table, ValueRef, Values};
+pub use text::text_at;
+
+#[cfg(test)]
+mod tests;

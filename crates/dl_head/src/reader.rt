@@ -1,0 +1,254 @@
+//! The header of a unit, byte by byte. Section 6.2.4.
+
+ghost use Rattle.std.specs.Prelude.{◌≡◌, ◌≤◌, ◌^◌, true, length};
+ghost use Rattle.dl_head.specs.Number.{is_number_size};
+ghost use Rattle.dl_head.specs.HeadStep.{lengths_fit};
+
+mod byte_field;
+mod fields;
+mod lengths;
+mod next;
+mod number;
+mod table_reader;
+mod value_phase;
+mod value_reader;
+
+use crate::fault::{Fault, FaultKind};
+use crate::form::Format;
+use crate::header::Header;
+use crate::params::Params;
+use crate::table::Table;
+use byte_field::ByteField;
+use dl_num::Order;
+use next::Next;
+use number::Number;
+use std::alloc::Global;
+use std::mem;
+use table_reader::TableReader;
+
+/// What a step of the header reader answers.
+#[derive(Clone, Copy, Debug, PartialEq, Eq)]
+pub enum HeadStep {
+    /// The byte is taken, and the header goes on.
+    More,
+    /// With the version's second byte: the unit is of this version, which isn't 5.
+    Foreign(u16),
+    /// With the header's last byte by header_length.
+    Done,
+    /// Memory was refused; the byte isn't taken, and nothing has changed.
+    NoMemory,
+    /// With the byte that decides it.
+    Fault(Fault),
+}
+
+/// What the next byte of a header is part of.
+#[derive(Clone, Copy)]
+enum Phase {
+    UnitLength(Number),
+    /// The eight bytes after 0xffffffff.
+    LongUnitLength(Number),
+    Version,
+    /// The version's second byte, after this one.
+    VersionEnd(u8),
+    HeaderLength(Number),
+    Byte(ByteField),
+    /// The length of the next standard opcode.
+    OpcodeLength,
+    Directories,
+    Files,
+    /// Bytes between the last entry and the header's end.
+    Padding,
+    Done,
+    Foreign(u16),
+    Failed(Fault),
+}
+
+/// A reader of the header of a unit, whose bytes come one at a time.
+#[derive(Drop)]
+pub struct HeadReader {
+    alloc: Global,
+    order: Order,
+    phase: Phase,
+    params: Params,
+    unit_length: u64,
+    /// Where the unit ends, and from header_length on where the header does.
+    end: Option<u64>,
+    /// What is wrong where that end comes inside a field.
+    overrun: FaultKind,
+    /// Where the field begins.
+    start: u64,
+    taken: u64,
+    /// The table at hand.
+    table: TableReader,
+    directories: Table,
+    files: Table,
+    /// The header, once it is complete.
+    header: Option<Header>,
+    ghost short: { unit_length ≤ 2 ^ 40 },
+    ghost address_size: { is_number_size params.address_size ≡ true },
+    ghost operations: { 1 ≤ params.maximum_operations_per_instruction },
+    ghost lines: { 1 ≤ params.line_range },
+    ghost lengths: { lengths_fit phase (length params.lengths.items) params.opcode_base ≡ true },
+}
+
+impl HeadReader {
+    ghost use Rattle.dl_head.specs.declared.reader.Phase.TheVariants as phase;
+
+    /// No byte yet of a header whose numbers stand in this order. It takes no memory.
+    pub fn new(alloc: Global, order: Order) -> HeadReader {
+        HeadReader {
+            alloc,
+            order,
+            phase: Phase::UnitLength(Number::new(4)),
+            params: Params::least(Format::Dwarf32),
+            unit_length: 0,
+            end: None,
+            overrun: FaultKind::UnitOverrun,
+            start: 0,
+            taken: 0,
+            table: TableReader::new(alloc),
+            directories: Table::without_pairs(alloc, Format::Dwarf32),
+            files: Table::without_pairs(alloc, Format::Dwarf32),
+            header: None,
+        }
+    }
+
+    /// Takes the next byte, save where it answers NoMemory, or answered Done, Foreign or a fault
+    /// before; it then answers the same again.
+    pub fn step(&mut self, byte: u8) -> HeadStep {
+        match self.phase {
+            Phase::Done => return HeadStep::Done,
+            Phase::Foreign(version) => return HeadStep::Foreign(version),
+            Phase::Failed(fault) => return HeadStep::Fault(fault),
+            _ => {}
+        }
+        match self.push(byte) {
+            Next::NoMemory => HeadStep::NoMemory,
+            Next::Within => {
+                self.taken = self.taken.saturating_add(1);
+                self.settle()
+            }
+            Next::Ends => {
+                self.taken = self.taken.saturating_add(1);
+                self.start = self.taken;
+                self.settle()
+            }
+            Next::Refuses(kind) => {
+                self.taken = self.taken.saturating_add(1);
+                self.fail(kind)
+            }
+        }
+    }
+
+    /// How many bytes were taken.
+    pub fn taken(&self) -> u64 {
+        self.taken
+    }
+
+    /// The unit's bytes, its initial length included, once that is read.
+    pub fn unit_len(&self) -> Option<u64> {
+        match self.end {
+            Some(_) => Some(lengths::initial_size(self.params.format) + self.unit_length),
+            None => None,
+        }
+    }
+
+    /// How many pairs, values, and bytes of texts and blocks are held; 2^64 - 1 where there are
+    /// more.
+    pub fn cells(&self) -> u64 {
+        match &self.header {
+            Some(header) => header.cells(),
+            None => self
+                .directories
+                .cells()
+                .saturating_add(self.files.cells())
+                .saturating_add(self.table.cells()),
+        }
+    }
+
+    /// The header, from Done on.
+    pub fn header(&self) -> Option<&Header> {
+        self.header.as_ref()
+    }
+
+    /// The header, from Done on.
+    pub fn into_header(self) -> Option<Header> {
+        self.header
+    }
+
+    /// What the bytes come to that were taken.
+    fn settle(&mut self) -> HeadStep {
+        match self.phase {
+            Phase::Foreign(version) => HeadStep::Foreign(version),
+            _ if self.end != Some(self.taken) => HeadStep::More,
+            Phase::Padding => {
+                self.complete();
+                HeadStep::Done
+            }
+            _ => self.fail(self.overrun),
+        }
+    }
+
+    fn fail(&mut self, kind: FaultKind) -> HeadStep {
+        let fault = Fault {
+            offset: self.start,
+            kind,
+        };
+        self.phase = Phase::Failed(fault);
+        HeadStep::Fault(fault)
+    }
+
+    /// Makes the header of all that was read.
+    fn complete(&mut self)
+        requires { self.old.phase ≡ phase.Padding }
+    {
+        let format = self.params.format;
+        let params = mem::replace(&mut self.params, Params::least(format));
+        let empty = Table::without_pairs(self.alloc, format);
+        let directories = mem::replace(&mut self.directories, empty);
+        let empty = Table::without_pairs(self.alloc, format);
+        let files = mem::replace(&mut self.files, empty);
+        self.header = Some(Header::of_parts(params, directories, files));
+        self.phase = Phase::Done;
+    }
+
+    /// What the byte makes of the field that it falls in.
+    fn push(&mut self, byte: u8) -> Next {
+        match self.phase {
+            Phase::UnitLength(number) => self.unit_length(number, byte),
+            Phase::LongUnitLength(number) => self.long_unit_length(number, byte),
+            Phase::Version => self.version(byte),
+            Phase::VersionEnd(first) => self.version_end(first, byte),
+            Phase::HeaderLength(number) => self.header_length(number, byte),
+            Phase::Byte(field) => self.byte_field(field, byte),
+            Phase::OpcodeLength => self.opcode_length(byte),
+            Phase::Directories => self.directories(byte),
+            Phase::Files => self.files(byte),
+            Phase::Padding | Phase::Done | Phase::Foreign(_) | Phase::Failed(_) => Next::Within,
+        }
+    }
+
+    fn directories(&mut self, byte: u8) -> Next
+        requires { self.old.phase ≡ phase.Directories }
+    {
+        let format = self.params.format;
+        let next = self.table.push(self.order, format, byte);
+        if let Some(table) = self.table.take(self.alloc, format) {
+            self.directories = table;
+            self.phase = Phase::Files;
+        }
+        next
+    }
+
+    fn files(&mut self, byte: u8) -> Next
+        requires { self.old.phase ≡ phase.Files }
+    {
+        let format = self.params.format;
+        let next = self.table.push(self.order, format, byte);
+        if let Some(table) = self.table.take(self.alloc, format) {
+            self.files = table;
+            self.phase = Phase::Padding;
+        }
+        next
+    }
+}

@@ -1,0 +1,101 @@
+//! The fields of one byte of a header, and the lengths of its standard opcodes. Section 6.2.4.
+
+ghost use Rattle.std.specs.Prelude.{◌≡◌, ◌+◌, ◌≤◌, true, None, length};
+ghost use Rattle.dl_head.specs.Layout.{objection};
+ghost use Rattle.dl_head.specs.HeadStep.{lengths_fit};
+ghost use Rattle.dl_head.specs.Bytes.{byte_kind};
+
+use crate::fault::FaultKind;
+use crate::params::is_wrong_length;
+use crate::reader::byte_field::ByteField;
+use crate::reader::next::Next;
+use crate::reader::number::Number;
+use crate::reader::{HeadReader, Phase};
+
+impl HeadReader {
+    ghost use Rattle.dl_head.specs.declared.reader.Phase.TheVariants as phase;
+
+    pub(super) fn byte_field(&mut self, field: ByteField, byte: u8) -> Next
+        requires { self.old.phase ≡ phase.Byte field }
+    {
+        if let Some(kind) = field.objection(byte) {
+            return Next::Refuses(kind);
+        }
+        self.store(field, byte);
+        Next::Ends
+    }
+
+    /// Keeps the field's value, and goes on to the next field.
+    fn store(&mut self, field: ByteField, byte: u8)
+        requires at { self.old.phase ≡ phase.Byte field }
+        requires good { objection (byte_kind field) byte ≡ None }
+    {
+        match field {
+            ByteField::AddressSize => {
+                self.params.address_size = byte;
+                self.phase = Phase::Byte(ByteField::SegmentSelectorSize);
+            }
+            ByteField::SegmentSelectorSize => {
+                self.params.segment_selector_size = byte;
+                self.phase = Phase::HeaderLength(Number::new(self.params.format.offset_size()));
+            }
+            ByteField::MinimumInstructionLength => {
+                self.params.minimum_instruction_length = byte;
+                self.phase = Phase::Byte(ByteField::MaximumOperations);
+            }
+            ByteField::MaximumOperations => {
+                self.params.maximum_operations_per_instruction = byte;
+                self.phase = Phase::Byte(ByteField::DefaultIsStmt);
+            }
+            ByteField::DefaultIsStmt => {
+                self.params.default_is_stmt = byte;
+                self.phase = Phase::Byte(ByteField::LineBase);
+            }
+            ByteField::LineBase => {
+                self.params.line_base = signed(byte);
+                self.phase = Phase::Byte(ByteField::LineRange);
+            }
+            ByteField::LineRange => {
+                self.params.line_range = byte;
+                self.phase = Phase::Byte(ByteField::OpcodeBase);
+            }
+            ByteField::OpcodeBase => {
+                self.params.opcode_base = byte;
+                self.phase = length_or_table(0, byte);
+            }
+        }
+    }
+
+    pub(super) fn opcode_length(&mut self, byte: u8) -> Next
+        requires { self.old.phase ≡ phase.OpcodeLength }
+    {
+        let opcode_base = self.params.opcode_base;
+        let opcode = self.params.lengths.len() + 1;
+        if is_wrong_length(opcode, byte) {
+            return Next::Refuses(FaultKind::StandardLength(opcode as u8));
+        }
+        self.params.lengths.push(byte);
+        self.phase = length_or_table(opcode, opcode_base);
+        Next::Ends
+    }
+}
+
+/// What follows so many lengths of opcodes below this opcode_base: the next one, or the tables.
+fn length_or_table(lengths: usize, opcode_base: u8) -> Phase
+    requires { lengths + 1 ≤ opcode_base }
+    ensures { lengths_fit result lengths opcode_base ≡ true }
+{
+    if lengths + 1 < usize::from(opcode_base) {
+        Phase::OpcodeLength
+    } else {
+        Phase::Directories
+    }
+}
+
+fn signed(byte: u8) -> i8 {
+    if byte < 128 {
+        byte as i8
+    } else {
+        (i16::from(byte) - 256) as i8
+    }
+}

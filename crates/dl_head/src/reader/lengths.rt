@@ -1,0 +1,136 @@
+//! The lengths and the version of a unit: its fields up to header_length. Sections 6.2.4 and 7.4.
+
+ghost use Rattle.std.specs.Prelude.{◌≡◌, ◌≤◌, ◌∷◌, []};
+ghost use Rattle.dl_num.specs.Fixed.{fixed};
+ghost use Rattle.dl_head.specs.Layout.{initial_size as initial_size_of, fixed_part as fixed_part_of};
+
+use crate::fault::FaultKind;
+use crate::form::Format;
+use crate::reader::byte_field::ByteField;
+use crate::reader::next::Next;
+use crate::reader::number::Number;
+use crate::reader::{HeadReader, Phase};
+use dl_num::Order;
+
+/// The greatest unit_length that is accepted.
+const UNIT_LENGTH_LIMIT: u64 = 1 << 40;
+
+/// The size in bytes of the initial length. Section 7.4.
+pub(super) fn initial_size(format: Format) -> u64
+    ensures { result ≡ initial_size_of format }
+{
+    match format {
+        Format::Dwarf32 => 4,
+        Format::Dwarf64 => 12,
+    }
+}
+
+/// The size in bytes of the fields from version to header_length.
+fn fixed_part(format: Format) -> u64
+    ensures { result ≡ fixed_part_of format }
+{
+    match format {
+        Format::Dwarf32 => 8,
+        Format::Dwarf64 => 12,
+    }
+}
+
+impl HeadReader {
+    ghost use Rattle.dl_head.specs.declared.reader.Phase.TheVariants as phase;
+
+    pub(super) fn unit_length(&mut self, number: Number, byte: u8) -> Next
+        requires { self.old.phase ≡ phase.UnitLength number }
+    {
+        match number.push(self.order, byte) {
+            Err(number) => {
+                self.phase = Phase::UnitLength(number);
+                Next::Within
+            }
+            Ok(0xffff_ffff) => {
+                self.phase = Phase::LongUnitLength(Number::new(8));
+                Next::Within
+            }
+            Ok(length) if length >= 0xffff_fff0 => Next::Refuses(FaultKind::ReservedLength),
+            Ok(length) => self.start_unit(Format::Dwarf32, length),
+        }
+    }
+
+    pub(super) fn long_unit_length(&mut self, number: Number, byte: u8) -> Next
+        requires { self.old.phase ≡ phase.LongUnitLength number }
+    {
+        match number.push(self.order, byte) {
+            Err(number) => {
+                self.phase = Phase::LongUnitLength(number);
+                Next::Within
+            }
+            Ok(length) => self.start_unit(Format::Dwarf64, length),
+        }
+    }
+
+    fn start_unit(&mut self, format: Format, length: u64) -> Next
+        requires { self.old.params.lengths.items ≡ [] }
+    {
+        if length > UNIT_LENGTH_LIMIT {
+            return Next::Refuses(FaultKind::UnitTooLong);
+        }
+        self.params.format = format;
+        self.unit_length = length;
+        self.end = Some(initial_size(format) + length);
+        self.phase = Phase::Version;
+        Next::Ends
+    }
+
+    pub(super) fn version(&mut self, byte: u8) -> Next
+        requires { self.old.phase ≡ phase.Version }
+    {
+        self.phase = Phase::VersionEnd(byte);
+        Next::Within
+    }
+
+    pub(super) fn version_end(&mut self, first: u8, byte: u8) -> Next
+        requires { self.old.phase ≡ phase.VersionEnd first }
+    {
+        let version = version_of(self.order, first, byte);
+        if version == 5 {
+            self.phase = Phase::Byte(ByteField::AddressSize);
+        } else {
+            self.phase = Phase::Foreign(version);
+        }
+        Next::Ends
+    }
+
+    pub(super) fn header_length(&mut self, number: Number, byte: u8) -> Next
+        requires { self.old.phase ≡ phase.HeaderLength number }
+    {
+        match number.push(self.order, byte) {
+            Err(number) => {
+                self.phase = Phase::HeaderLength(number);
+                Next::Within
+            }
+            Ok(length) => self.start_header(length),
+        }
+    }
+
+    fn start_header(&mut self, length: u64) -> Next
+        requires { self.old.params.lengths.items ≡ [] }
+    {
+        let format = self.params.format;
+        if length > self.unit_length.saturating_sub(fixed_part(format)) {
+            return Next::Refuses(FaultKind::HeaderBeyondUnit);
+        }
+        self.end = Some(initial_size(format) + fixed_part(format) + length);
+        self.overrun = FaultKind::HeaderOverrun;
+        self.phase = Phase::Byte(ByteField::MinimumInstructionLength);
+        Next::Ends
+    }
+}
+
+/// The number that two bytes spell.
+fn version_of(order: Order, first: u8, second: u8) -> u16
+    ensures { result ≡ fixed order (first ∷ second ∷ []) }
+{
+    match order {
+        Order::Little => u16::from(first) + 256 * u16::from(second),
+        Order::Big => 256 * u16::from(first) + u16::from(second),
+    }
+}

@@ -1,0 +1,187 @@
+//! A table of directories or files, byte by byte: its pairs and the count of its entries. Section
+//! 6.2.4.1.
+
+ghost use Rattle.std.specs.Prelude.{◌≡◌, ◌+◌, ◌≤◌, length};
+ghost use Rattle.dl_head.specs.Held.{values_end};
+ghost use Rattle.dl_head.specs.TableStep.{row_end, text_start, bytes_due};
+
+use crate::fault::FaultKind;
+use crate::form::{Form, Format};
+use crate::reader::next::Next;
+use crate::reader::value_phase::{Cursor, ValuePhase};
+use crate::table::held::Held;
+use crate::table::{Pair, Table, cells_of};
+use dl_num::{LebRange, Order, Uleb};
+use std::alloc::Global;
+use std::mem;
+
+/// What the next byte of a table is part of.
+#[derive(Clone, Copy)]
+pub(crate) enum TablePhase {
+    PairCount,
+    /// A content code; so many pairs are left with its own.
+    ContentCode(u8, Uleb),
+    /// The form code after this content code; so many pairs are left with its own.
+    FormCode(u8, u64, Uleb),
+    EntryCount(Uleb),
+    Value(Cursor, ValuePhase),
+    /// The last entry is complete.
+    Whole,
+}
+
+/// A table whose bytes come one at a time. The bytes of a text stand in the pool before the text is
+/// among the values, those of a block after it.
+#[derive(Drop)]
+pub(crate) struct TableReader {
+    pub(super) phase: TablePhase,
+    pub(super) pairs: Vec<Pair>,
+    pub(super) values: Vec<Held>,
+    pub(super) pool: Vec<u8>,
+    ghost in_row: { row_end phase ≤ length pairs.items },
+    ghost begun: { text_start phase ≤ length pool.items },
+    ghost within: { values_end values.items ≤ length pool.items + bytes_due phase },
+}
+
+impl TableReader {
+    ghost use Rattle.dl_head.specs.declared.reader.table_reader.TablePhase.TheVariants as phase;
+
+    /// No byte yet. It takes no memory.
+    pub fn new(alloc: Global) -> TableReader {
+        TableReader {
+            phase: TablePhase::PairCount,
+            pairs: Vec::new(alloc),
+            values: Vec::new(alloc),
+            pool: Vec::new(alloc),
+        }
+    }
+
+    /// How many cells the table holds so far; 2^64 - 1 where there are more.
+    pub fn cells(&self) -> u64 {
+        cells_of(&self.pairs, &self.values, &self.pool)
+    }
+
+    /// The table, where its last entry is complete; the reader is then as new.
+    pub fn take(&mut self, alloc: Global, format: Format) -> Option<Table> {
+        match self.phase {
+            TablePhase::Whole => {
+                let TableReader {
+                    phase: _,
+                    pairs,
+                    values,
+                    pool,
+                } = mem::replace(self, TableReader::new(alloc));
+                Some(Table::of_parts(format, pairs, values, pool))
+            }
+            _ => None,
+        }
+    }
+
+    /// Takes the next byte, save where memory is refused; the reader is then unchanged.
+    pub fn push(&mut self, order: Order, format: Format, byte: u8) -> Next {
+        match self.phase {
+            TablePhase::PairCount => self.pair_count(byte),
+            TablePhase::ContentCode(left, code) => self.content_code(left, code, byte),
+            TablePhase::FormCode(left, content, code) => self.form_code(left, content, code, byte),
+            TablePhase::EntryCount(count) => self.entry_count(count, format, byte),
+            TablePhase::Value(at, value) => self.value(at, value, order, format, byte),
+            TablePhase::Whole => Next::Within,
+        }
+    }
+
+    fn pair_count(&mut self, byte: u8) -> Next
+        requires { self.old.phase ≡ phase.PairCount }
+    {
+        self.begin_pair(byte);
+        Next::Ends
+    }
+
+    /// Goes on to the next pair, so many being left, or to the count of the entries.
+    fn begin_pair(&mut self, left: u8)
+        requires { values_end self.old.values.items ≤ length self.old.pool.items }
+    {
+        if left == 0 {
+            self.phase = TablePhase::EntryCount(Uleb::new());
+        } else {
+            self.phase = TablePhase::ContentCode(left, Uleb::new());
+        }
+    }
+
+    fn content_code(&mut self, left: u8, mut code: Uleb, byte: u8) -> Next
+        requires { self.old.phase ≡ phase.ContentCode left code }
+    {
+        match code.push(byte) {
+            None => {
+                self.phase = TablePhase::ContentCode(left, code);
+                Next::Within
+            }
+            Some(Err(LebRange)) => Next::Refuses(FaultKind::LebRange),
+            Some(Ok(content)) => {
+                self.phase = TablePhase::FormCode(left, content, Uleb::new());
+                Next::Ends
+            }
+        }
+    }
+
+    fn form_code(&mut self, left: u8, content: u64, mut code: Uleb, byte: u8) -> Next
+        requires { self.old.phase ≡ phase.FormCode left content code }
+    {
+        match code.push(byte) {
+            None => {
+                self.phase = TablePhase::FormCode(left, content, code);
+                Next::Within
+            }
+            Some(Err(LebRange)) => Next::Refuses(FaultKind::LebRange),
+            Some(Ok(code)) => self.take_form(left, content, code),
+        }
+    }
+
+    /// Enters the pair of a form code that is complete.
+    fn take_form(&mut self, left: u8, content: u64, code: u64) -> Next
+        requires { values_end self.old.values.items ≤ length self.old.pool.items }
+    {
+        let Some(form) = Form::from_code(code) else {
+            return Next::Refuses(FaultKind::UnknownForm(code));
+        };
+        if self.pairs.push(Pair { content, form }).is_err() {
+            return Next::NoMemory;
+        }
+        self.begin_pair(left.saturating_sub(1));
+        Next::Ends
+    }
+
+    fn entry_count(&mut self, mut count: Uleb, format: Format, byte: u8) -> Next
+        requires { self.old.phase ≡ phase.EntryCount count }
+    {
+        match count.push(byte) {
+            None => {
+                self.phase = TablePhase::EntryCount(count);
+                Next::Within
+            }
+            Some(count) => self.take_count(count, format),
+        }
+    }
+
+    /// Begins the entries of a count that is complete. Without pairs it has to be 0.
+    fn take_count(&mut self, count: Result<u64, LebRange>, format: Format) -> Next
+        requires { values_end self.old.values.items ≤ length self.old.pool.items }
+    {
+        match count {
+            Ok(0) => {
+                self.phase = TablePhase::Whole;
+                Next::Ends
+            }
+            _ if self.pairs.is_empty() => Next::Refuses(FaultKind::EmptyFormat),
+            Ok(count) => {
+                self.begin_value(
+                    Cursor {
+                        column: 0,
+                        left: count,
+                    },
+                    format,
+                );
+                Next::Ends
+            }
+            Err(LebRange) => Next::Refuses(FaultKind::LebRange),
+        }
+    }
+}

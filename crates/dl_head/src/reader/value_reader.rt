@@ -1,0 +1,214 @@
+//! The values of a table, byte by byte. Section 7.5.5.
+
+ghost use Rattle.std.specs.Prelude.{◌≡◌, ◌<◌, ◌≤◌, length};
+ghost use Rattle.dl_head.specs.Held.{held_end, values_end};
+
+use crate::fault::FaultKind;
+use crate::form::{Form, Format};
+use crate::reader::next::Next;
+use crate::reader::number::{Number, Sixteen};
+use crate::reader::table_reader::{TablePhase, TableReader};
+use crate::reader::value_phase::{Cursor, ValuePhase};
+use crate::table::held::{Extent, Held};
+use dl_num::{LebRange, Order, Uleb};
+
+impl TableReader {
+    ghost use Rattle.dl_head.specs.declared.reader.table_reader.TablePhase.TheVariants as phase;
+    ghost use Rattle.dl_head.specs.declared.reader.value_phase.ValuePhase.TheVariants as value;
+
+    /// Takes the next byte of a value.
+    pub(super) fn value(
+        &mut self,
+        at: Cursor,
+        value: ValuePhase,
+        order: Order,
+        format: Format,
+        byte: u8,
+    ) -> Next
+        requires { self.old.phase ≡ phase.Value at value }
+    {
+        match value {
+            ValuePhase::Number(form, number) => self.number(at, form, number, order, format, byte),
+            ValuePhase::Leb(number) => self.leb(at, number, format, byte),
+            ValuePhase::Text(start) => self.text(at, start, format, byte),
+            ValuePhase::Data16(sixteen) => self.data16(at, sixteen, format, byte),
+            ValuePhase::BlockLength(length) => self.block_length(at, length, order, format, byte),
+            ValuePhase::LebBlockLength(number) => self.leb_block_length(at, number, format, byte),
+            ValuePhase::Block(left) => self.block(at, left, format, byte),
+        }
+    }
+
+    fn number(
+        &mut self,
+        at: Cursor,
+        form: Form,
+        number: Number,
+        order: Order,
+        format: Format,
+        byte: u8,
+    ) -> Next
+        requires { self.old.phase ≡ phase.Value at (value.Number form number) }
+    {
+        match number.push(order, byte) {
+            Err(number) => {
+                self.phase = TablePhase::Value(at, ValuePhase::Number(form, number));
+                Next::Within
+            }
+            Ok(number) => self.enter(at, held_number(form, number), format),
+        }
+    }
+
+    fn leb(&mut self, at: Cursor, mut number: Uleb, format: Format, byte: u8) -> Next
+        requires { self.old.phase ≡ phase.Value at (value.Leb number) }
+    {
+        match number.push(byte) {
+            None => {
+                self.phase = TablePhase::Value(at, ValuePhase::Leb(number));
+                Next::Within
+            }
+            Some(Err(LebRange)) => Next::Refuses(FaultKind::LebRange),
+            Some(Ok(number)) => self.enter(at, Held::Number(number), format),
+        }
+    }
+
+    fn data16(&mut self, at: Cursor, sixteen: Sixteen, format: Format, byte: u8) -> Next
+        requires { self.old.phase ≡ phase.Value at (value.Data16 sixteen) }
+    {
+        match sixteen.push(byte) {
+            Err(sixteen) => {
+                self.phase = TablePhase::Value(at, ValuePhase::Data16(sixteen));
+                Next::Within
+            }
+            Ok(bytes) => self.enter(at, Held::Data16(bytes), format),
+        }
+    }
+
+    fn text(&mut self, at: Cursor, start: usize, format: Format, byte: u8) -> Next
+        requires { self.old.phase ≡ phase.Value at (value.Text start) }
+    {
+        if byte == 0 {
+            let len = self.pool.len() - start;
+            return self.enter(at, Held::Text(Extent { start, len }), format);
+        }
+        if self.pool.push(byte).is_err() {
+            return Next::NoMemory;
+        }
+        Next::Within
+    }
+
+    fn block_length(
+        &mut self,
+        at: Cursor,
+        number: Number,
+        order: Order,
+        format: Format,
+        byte: u8,
+    ) -> Next
+        requires { self.old.phase ≡ phase.Value at (value.BlockLength number) }
+    {
+        match number.push(order, byte) {
+            Err(number) => {
+                self.phase = TablePhase::Value(at, ValuePhase::BlockLength(number));
+                Next::Within
+            }
+            Ok(size) => self.begin_block(at, size, format),
+        }
+    }
+
+    fn leb_block_length(&mut self, at: Cursor, mut number: Uleb, format: Format, byte: u8) -> Next
+        requires { self.old.phase ≡ phase.Value at (value.LebBlockLength number) }
+    {
+        match number.push(byte) {
+            None => {
+                self.phase = TablePhase::Value(at, ValuePhase::LebBlockLength(number));
+                Next::Within
+            }
+            Some(Err(LebRange)) => Next::Refuses(FaultKind::LebRange),
+            Some(Ok(size)) => self.begin_block(at, size, format),
+        }
+    }
+
+    /// Enters a block of this size, whose bytes are to come.
+    #[tactic(auto, using(crate::proofs::HeldLemmas::pushes))]
+    fn begin_block(&mut self, at: Cursor, size: u64, format: Format) -> Next
+        requires in_row { at.column < length self.old.pairs.items }
+        requires whole { values_end self.old.values.items ≤ length self.old.pool.items }
+    {
+        let start = self.pool.len();
+        let len = size as usize;
+        if self
+            .values
+            .push(Held::Block(Extent { start, len }))
+            .is_err()
+        {
+            return Next::NoMemory;
+        }
+        if size == 0 {
+            self.end_value(at, format);
+            return Next::Ends;
+        }
+        self.phase = TablePhase::Value(at, ValuePhase::Block(size));
+        Next::Within
+    }
+
+    fn block(&mut self, at: Cursor, left: u64, format: Format, byte: u8) -> Next
+        requires { self.old.phase ≡ phase.Value at (value.Block left) }
+    {
+        if self.pool.push(byte).is_err() {
+            return Next::NoMemory;
+        }
+        if left <= 1 {
+            self.end_value(at, format);
+            return Next::Ends;
+        }
+        self.phase = TablePhase::Value(at, ValuePhase::Block(left - 1));
+        Next::Within
+    }
+
+    /// Enters a value that is complete.
+    #[tactic(auto, using(crate::proofs::HeldLemmas::pushes))]
+    fn enter(&mut self, at: Cursor, held: Held, format: Format) -> Next
+        requires in_row { at.column < length self.old.pairs.items }
+        requires whole { values_end self.old.values.items ≤ length self.old.pool.items }
+        requires held { held_end held ≤ length self.old.pool.items }
+    {
+        if self.values.push(held).is_err() {
+            return Next::NoMemory;
+        }
+        self.end_value(at, format);
+        Next::Ends
+    }
+
+    /// Goes on to the value after this place.
+    fn end_value(&mut self, at: Cursor, format: Format)
+        requires in_row { at.column < length self.old.pairs.items }
+        requires whole { values_end self.old.values.items ≤ length self.old.pool.items }
+    {
+        match at.next(self.pairs.len()) {
+            Some(at) => self.begin_value(at, format),
+            None => self.phase = TablePhase::Whole,
+        }
+    }
+
+    /// Goes on to the value at this place.
+    pub(super) fn begin_value(&mut self, at: Cursor, format: Format)
+        requires in_row { at.column < length self.old.pairs.items }
+        requires whole { values_end self.old.values.items ≤ length self.old.pool.items }
+    {
+        let form = self.pairs[at.column].form;
+        let value = ValuePhase::new(form, format, self.pool.len());
+        self.phase = TablePhase::Value(at, value);
+    }
+}
+
+/// The number or offset of a form.
+fn held_number(form: Form, number: u64) -> Held
+    ensures { held_end result ≡ 0 }
+{
+    match form {
+        Form::LineStrp => Held::LineStr(number),
+        Form::Strp => Held::Str(number),
+        Form::StrpSup => Held::StrSup(number),
+        _ => Held::Number(number),
+    }
+}

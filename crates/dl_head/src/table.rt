@@ -1,0 +1,171 @@
+//! Tables of directories and files. Section 6.2.4.1.
+
+ghost use Rattle.std.specs.Prelude.{◌≡◌, ◌*◌, ◌/◌, ◌<◌, ◌≤◌, ◌↔◌, [], IsTrue, length, take, drop};
+ghost use Rattle.dl_head.specs.Held.{values_end};
+
+mod building;
+mod entry;
+pub(crate) mod held;
+
+use crate::fault::BuildFault;
+use crate::form::{Form, Format};
+pub use entry::{Entry, Values};
+use held::Held;
+pub use held::ValueRef;
+use std::alloc::Global;
+use std::marker::Model;
+
+/// The greatest number of pairs of a format.
+const MAX_PAIRS: usize = 255;
+
+/// A content code, and the form in which its values are spelled. Section 6.2.4.1.
+#[derive(Clone, Copy, Debug, PartialEq, Eq)]
+pub struct Pair {
+    pub content: u64,
+    pub form: Form,
+}
+
+/// A table of directories or files: a list of pairs, and entries of one value for each pair. The
+/// bytes of all its texts and blocks stand in one pool, in the order of its values.
+#[derive(Debug, Drop)]
+pub struct Table {
+    format: Format,
+    pairs: Vec<Pair>,
+    values: Vec<Held>,
+    pool: Vec<u8>,
+}
+
+impl Model for Table {
+    ghost use Rattle.dl_head.specs.TableData.{TableData};
+
+    ghost Value = { TableData };
+
+    ghost use Rattle.std.specs.Prelude.{◌≤◌, length};
+    ghost use Rattle.dl_head.specs.Held.{values_end};
+    ghost use Rattle.dl_head.specs.TableHeld.{table_held};
+
+    ghost view = { table_held };
+
+    ghost invariant = { λ t. values_end t.values.items ≤ length t.pool.items };
+}
+
+impl Table {
+    /// A table without entries. It is refused where there are more than 255 pairs, or where memory
+    /// is.
+    pub fn new(alloc: Global, format: Format, pairs: &[Pair]) -> Result<Table, BuildFault> {
+        if pairs.len() > MAX_PAIRS {
+            return Err(BuildFault::TooManyFormats);
+        }
+        match Vec::from_slice(alloc, pairs) {
+            Ok(pairs) => Ok(Table {
+                format,
+                pairs,
+                values: Vec::new(alloc),
+                pool: Vec::new(alloc),
+            }),
+            Err(_) => Err(BuildFault::NoMemory),
+        }
+    }
+
+    /// Adds an entry at the end. Where it is refused, the table is unchanged.
+    pub fn push_entry(&mut self, values: &[ValueRef<'_>]) -> Result<(), BuildFault> {
+        if self.pairs.is_empty() {
+            return Err(BuildFault::EmptyFormat);
+        }
+        if let Some(place) = building::wrong_value(self.format, self.pairs.as_slice(), values) {
+            return Err(BuildFault::WrongValue(place));
+        }
+        let Some(pooled) = building::pooled_len(values) else {
+            return Err(BuildFault::NoMemory);
+        };
+        if self.values.reserve(values.len()).is_err() || self.pool.reserve(pooled).is_err() {
+            return Err(BuildFault::NoMemory);
+        }
+        building::hold_all(&mut self.values, &mut self.pool, values);
+        Ok(())
+    }
+
+    /// How many entries there are.
+    pub fn len(&self) -> usize
+        ensures { result ≡ length self.now.entries }
+    {
+        self.values.len().checked_div(self.pairs.len()).unwrap_or(0)
+    }
+
+    /// Whether there are no entries.
+    pub fn is_empty(&self) -> bool
+        ensures { IsTrue result ↔ (self.now.entries ≡ []) }
+    {
+        self.len() == 0
+    }
+
+    /// The content code and form of each value of an entry.
+    pub fn pairs(&self) -> &[Pair]
+        ensures { result.now ≡ self.now.pairs }
+    {
+        self.pairs.as_slice()
+    }
+
+    /// The entry of this number, from 0 on; None from `len()` on.
+    pub fn entry(&self, i: usize) -> Option<Entry<'_>> {
+        if i >= self.len() {
+            return None;
+        }
+        let held = row(self.values.as_slice(), self.pairs.len(), i);
+        Some(Entry::new(self.pairs.as_slice(), held, self.pool.as_slice()))
+    }
+
+    /// A table that takes no entries. It takes no memory.
+    pub(crate) fn without_pairs(alloc: Global, format: Format) -> Table {
+        Table {
+            format,
+            pairs: Vec::new(alloc),
+            values: Vec::new(alloc),
+            pool: Vec::new(alloc),
+        }
+    }
+
+    /// A table of values whose bytes stand in the pool.
+    pub(crate) fn of_parts(
+        format: Format,
+        pairs: Vec<Pair>,
+        values: Vec<Held>,
+        pool: Vec<u8>,
+    ) -> Table
+        requires { values_end values.items ≤ length pool.items }
+    {
+        Table {
+            format,
+            pairs,
+            values,
+            pool,
+        }
+    }
+
+    pub(crate) fn format(&self) -> Format {
+        self.format
+    }
+
+    /// How many pairs, values, and bytes of texts and blocks the table holds; 2^64 - 1 where there
+    /// are more.
+    pub(crate) fn cells(&self) -> u64 {
+        cells_of(&self.pairs, &self.values, &self.pool)
+    }
+}
+
+/// The row of this number, from 0 on, in rows of so many values.
+#[tactic(auto, using(crate::proofs::HeldLemmas::row_within))]
+fn row(values: &[Held], width: usize, i: usize) -> &[Held]
+    requires { i < length values.now / width }
+    ensures { result.now ≡ take width (drop (i * width) values.now) }
+{
+    let start = i * width;
+    &values[start..start + width]
+}
+
+/// How many cells there are in these parts of a table; 2^64 - 1 where there are more.
+pub(crate) fn cells_of(pairs: &Vec<Pair>, values: &Vec<Held>, pool: &Vec<u8>) -> u64 {
+    (pairs.len() as u64)
+        .saturating_add(values.len() as u64)
+        .saturating_add(pool.len() as u64)
+}

@@ -1,0 +1,6 @@
+//! Worked headers and tables.
+
+mod building;
+mod reading;
+mod texts;
+mod vectors;

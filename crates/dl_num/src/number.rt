@@ -1,0 +1,44 @@
+//! Numbers of 1, 2, 4 or 8 bytes that lack at least one byte.
+
+ghost use Rattle.std.specs.Prelude.{◌≡◌, ◌++◌, ◌∷◌, [], length, IsTrue, IfOk, IfErr};
+ghost use Rattle.dl_num.specs.Fixed.{fixed, is_number_size};
+ghost use Rattle.dl_num.specs.OperandBytes.{operand_size, operand_bytes};
+
+use crate::fixed::Order;
+use crate::operand::Operand;
+
+/// A number of 1, 2, 4 or 8 bytes that lacks at least one byte.
+#[derive(Debug, Clone, Copy)]
+pub struct Number {
+    operand: Operand,
+    ghost size: { IsTrue (is_number_size (operand_size operand)) },
+}
+
+impl Number {
+    ghost use Rattle.dl_num.specs.NumberBytes.{number_size, number_bytes};
+
+    /// No byte yet of a number of `len` bytes.
+    pub fn new(len: usize) -> Self
+        requires { IsTrue (is_number_size len) }
+        ensures size { number_size result ≡ len }
+        ensures empty { number_bytes result ≡ [] }
+    {
+        Number {
+            operand: Operand::new(len),
+        }
+    }
+
+    /// Takes the next byte: the number in this order where it is the last one, else the number
+    /// with it.
+    pub fn push(self, order: Order, byte: u8) -> Result<u64, Self>
+        ensures last { IfOk result (λ n. length (number_bytes self ++ byte ∷ []) ≡ number_size self) }
+        ensures whole { IfOk result (λ n. n ≡ fixed order (number_bytes self ++ byte ∷ [])) }
+        ensures size { IfErr result (λ number. number_size number ≡ number_size self) }
+        ensures taken { IfErr result (λ number. number_bytes number ≡ number_bytes self ++ byte ∷ []) }
+    {
+        match self.operand.push(byte) {
+            Ok(fixed) => Ok(fixed.number(order)),
+            Err(operand) => Err(Number { operand }),
+        }
+    }
+}

@@ -1,0 +1,16 @@
+//! The rows of a line table unit of DWARF 5: its operations, its registers, and its reader. Section 6.2.
+#![tactic(auto)]
+
+pub mod operation;
+pub mod phase;
+pub mod program;
+pub mod reader;
+pub mod registers;
+pub mod row;
+
+pub use operation::Operation;
+pub use reader::{Event, Fed, Finish, Reader};
+pub use row::Row;
+
+#[cfg(test)]
+mod tests;

@@ -1,0 +1,125 @@
+//! The line number program of a unit, from bytes that come in pieces. Sections 6.2.5.1 to 6.2.5.3.
+
+ghost use Rattle.std.specs.Prelude.{◌≡◌, ◌≤◌, length};
+ghost use Rattle.dl_head.specs.Built.{IsUsable};
+
+use crate::operation::Operation;
+use crate::phase::{Phase, Step, short_operation};
+use crate::registers::Registers;
+use crate::row::Row;
+use dl_head::{FaultKind, Params};
+use dl_num::Order;
+
+/// What bytes of a program give.
+#[derive(Clone, Copy)]
+pub enum Given<'a> {
+    /// No row; all of them are used.
+    Nothing,
+    /// A row, and the bytes behind the operation that appends it.
+    Row(Row, &'a [u8]),
+    /// What is wrong with the operation at hand, and the bytes behind the one that decides it.
+    Refuses(FaultKind, &'a [u8]),
+}
+
+/// Where a reader is in a program.
+#[derive(Clone, Copy)]
+pub struct Program {
+    registers: Registers,
+    phase: Phase,
+    /// How many bytes of the operation at hand have come.
+    begun: u64,
+    in_sequence: bool,
+}
+
+impl Program {
+    ghost use Rattle.dl_rows.specs.Left.{GivenLeaves};
+    ghost use Rattle.dl_rows.specs.declared.phase.Phase.TheVariants as phase;
+
+    /// At the first operation.
+    pub fn new(default_is_stmt: bool) -> Self {
+        Program {
+            registers: Registers::new(default_is_stmt),
+            phase: Phase::Start,
+            begun: 0,
+            in_sequence: false,
+        }
+    }
+
+    /// Whether no operation is incomplete.
+    pub fn is_between(&self) -> bool {
+        matches!(self.phase, Phase::Start)
+    }
+
+    /// How many bytes of the operation at hand have come.
+    pub fn begun(&self) -> u64 {
+        self.begun
+    }
+
+    /// Whether there was a row, and the last one isn't an end row.
+    pub fn in_sequence(&self) -> bool {
+        self.in_sequence
+    }
+
+    /// Takes bytes up to the end of the next operation that appends a row.
+    pub fn push<'a>(&mut self, order: Order, params: &Params, mut bytes: &'a [u8]) -> Given<'a>
+        requires { IsUsable params.now }
+        ensures { GivenLeaves (length bytes.entry.now) result }
+    {
+        while !bytes.is_empty() {
+            if self.is_between()
+                && let Some((operation, behind)) = short_operation(params, bytes)
+            {
+                bytes = behind;
+                if let Some(row) = self.finish(params, operation) {
+                    return Given::Row(row, behind);
+                }
+                continue;
+            }
+            match self.phase.push(order, params, bytes) {
+                Step::Within(phase) => {
+                    self.phase = phase;
+                    self.begun = self.begun.saturating_add(bytes.len() as u64);
+                    return Given::Nothing;
+                }
+                Step::Ends(operation, behind) => {
+                    bytes = behind;
+                    if let Some(row) = self.finish(params, operation) {
+                        return Given::Row(row, behind);
+                    }
+                }
+                Step::Refuses(kind, behind) => {
+                    let used = bytes.len() - behind.len();
+                    self.begun = self.begun.saturating_add(used as u64);
+                    return Given::Refuses(kind, behind);
+                }
+            }
+        }
+        Given::Nothing
+    }
+
+    /// Goes on behind an operation, and gives the row that it appends, if any.
+    #[inline(always)]
+    fn finish(&mut self, params: &Params, operation: Operation) -> Option<Row>
+        requires { IsUsable params.now }
+        ensures { self.new.phase ≡ phase.Start }
+    {
+        self.phase = Phase::Start;
+        self.begun = 0;
+        self.registers.apply(params, operation);
+        match operation {
+            Operation::Special(_) | Operation::Copy => {
+                let row = self.registers.row(params, false);
+                self.registers.clear();
+                self.in_sequence = true;
+                Some(row)
+            }
+            Operation::End => {
+                let row = self.registers.row(params, true);
+                self.registers = Registers::new(params.default_is_stmt != 0);
+                self.in_sequence = false;
+                Some(row)
+            }
+            _ => None,
+        }
+    }
+}

@@ -1,0 +1,149 @@
+//! What a reader tells of a unit that comes in pieces.
+
+use crate::{Event, Finish, Reader, Row};
+use dl_head::{Fault, FaultKind};
+use dl_num::Order;
+use std::alloc::Global;
+use std::process::Abort;
+use std::test::Fail;
+
+/// What a reader tells of a unit, but for More.
+#[derive(Debug, Clone, Copy, PartialEq, Eq)]
+pub enum Told {
+    Header,
+    Foreign(u16),
+    Row(Row),
+    End,
+    Fault(Fault),
+}
+
+/// A fault of this kind at this place.
+pub fn fault(offset: u64, kind: FaultKind) -> Told {
+    Told::Fault(Fault { offset, kind })
+}
+
+/// What a reader tells of the bytes, of which it is given `first` and then pieces of `step` bytes.
+pub fn tell(
+    alloc: Global,
+    order: Order,
+    bytes: &[u8],
+    first: usize,
+    step: usize,
+) -> Result<Vec<Told>, Fail> {
+    let mut reader = Reader::new(alloc, order);
+    let mut told = Vec::new(alloc);
+    let mut rest = bytes;
+    let mut len = first;
+    for _ in 0..bytes.len().saturating_mul(2).saturating_add(8) {
+        let (piece, _) = rest.split_at(len.min(rest.len()));
+        match reader.feed(piece) {
+            Err(fault) => {
+                told.push(Told::Fault(fault))?;
+                return Ok(told);
+            }
+            Ok(fed) => {
+                rest = rest.get(fed.used..).ok_or("bytes that were used")?;
+                len = len.saturating_sub(fed.used);
+                match fed.event {
+                    Event::More if piece.is_empty() && rest.is_empty() => return Ok(told),
+                    Event::More => {}
+                    Event::Header => told.push(Told::Header)?,
+                    Event::Foreign(version) => told.push(Told::Foreign(version))?,
+                    Event::Row(row) => told.push(Told::Row(row))?,
+                    Event::End => {
+                        told.push(Told::End)?;
+                        return Ok(told);
+                    }
+                    Event::NoMemory => return Err("memory was refused".into()),
+                }
+            }
+        }
+        if len == 0 {
+            len = step.min(rest.len());
+        }
+    }
+    Err("a reader that doesn't stop".into())
+}
+
+/// Asserts that a reader tells this of the bytes: whole, byte by byte, and in two pieces cut at each
+/// place.
+pub fn assert_told(
+    rt: &impl Abort,
+    alloc: Global,
+    order: Order,
+    bytes: &[u8],
+    wanted: &[Told],
+) -> Result<(), Fail> {
+    assert_eq!(rt;
+        tell(alloc, order, bytes, bytes.len(), 1)?.as_slice(),
+        wanted
+    );
+    assert_eq!(rt; tell(alloc, order, bytes, 1, 1)?.as_slice(), wanted);
+    for cut in 0..bytes.len() {
+        let cut_there = tell(alloc, order, bytes, cut, bytes.len())?;
+        assert_eq!(rt; cut_there.as_slice(), wanted, "cut at {cut}");
+    }
+    Ok(())
+}
+
+/// Asserts that the bytes cut off at each place end as Truncated there, unless the fault that they
+/// are refused for stands before.
+pub fn assert_truncated(
+    rt: &impl Abort,
+    alloc: Global,
+    order: Order,
+    bytes: &[u8],
+) -> Result<(), Fail> {
+    for len in 0..bytes.len() {
+        let mut reader = Reader::new(alloc, order);
+        let (piece, _) = bytes.split_at(len);
+        let mut refused = None;
+        let mut rest = piece;
+        for _ in 0..=bytes.len() {
+            match reader.feed(rest) {
+                Err(fault) => {
+                    refused = Some(fault);
+                    break;
+                }
+                Ok(fed) => rest = rest.get(fed.used..).ok_or("bytes that were used")?,
+            }
+            if rest.is_empty() {
+                break;
+            }
+        }
+        let truncated = Fault {
+            offset: len as u64,
+            kind: FaultKind::Truncated,
+        };
+        let wanted = match refused {
+            Some(fault) => Err(fault),
+            None if len == 0 => Ok(Finish::Empty),
+            None => Err(truncated),
+        };
+        assert_eq!(rt; reader.finish(), wanted, "cut off at {len}");
+    }
+    Ok(())
+}
+
+/// Asserts that a reader tells a header and these rows of a unit, and then its end or the fault, in
+/// pieces of each kind; and how the unit stands where it is cut off.
+pub fn assert_rows(
+    rt: &impl Abort,
+    alloc: Global,
+    order: Order,
+    unit: &[u8],
+    rows: &[Row],
+    refused: Option<(u64, FaultKind)>,
+) -> Result<(), Fail> {
+    let mut wanted = Vec::new(alloc);
+    wanted.push(Told::Header)?;
+    for row in rows {
+        wanted.push(Told::Row(*row))?;
+    }
+    wanted.push(match refused {
+        Some((offset, kind)) => fault(offset, kind),
+        None => Told::End,
+    })?;
+    assert_told(rt, alloc, order, unit, wanted.as_slice())?;
+    assert_truncated(rt, alloc, order, unit)
+}

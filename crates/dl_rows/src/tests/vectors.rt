@@ -1,0 +1,107 @@
+//! Units that are built from the words of a table, and rows.
+
+use crate::Row;
+use std::alloc::Global;
+use std::test::Fail;
+
+/// The bytes of hexadecimal words.
+pub fn bytes(alloc: Global, words: &str) -> Result<Vec<u8>, Fail> {
+    let mut bytes = Vec::new(alloc);
+    for word in words.split_whitespace() {
+        bytes.push(u8::from_str_radix(word, 16)?)?;
+    }
+    Ok(bytes)
+}
+
+/// The header behind unit_length of a unit of the 32-bit format: addresses of 8 bytes, minimum 1,
+/// maximum 1, default_is_stmt 1, line_base -5, line_range 14, opcode_base 13, empty tables. Little.
+const HEADER: &str = "05 00 08 00 16 00 00 00 01 01 01 fb 0e 0d \
+                      00 01 01 01 01 00 00 00 01 00 00 01 00 00 00 00";
+
+/// The unit of this header with a program.
+pub fn unit(alloc: Global, program: &str) -> Result<Vec<u8>, Fail> {
+    let header = bytes(alloc, HEADER)?;
+    let program = bytes(alloc, program)?;
+    let len = header.len().saturating_add(program.len());
+    let mut unit = bytes(alloc, "")?;
+    unit.push(u8::try_from(len)?)?;
+    unit.extend_from_slice(&[0, 0, 0])?;
+    unit.extend_from_slice(header.as_slice())?;
+    unit.extend_from_slice(program.as_slice())?;
+    Ok(unit)
+}
+
+/// The same with other bytes at some places.
+pub fn unit_with(alloc: Global, changes: &[(usize, u8)], program: &str) -> Result<Vec<u8>, Fail> {
+    let mut unit = unit(alloc, program)?;
+    for (place, byte) in changes {
+        let old = unit.get_mut(*place).ok_or("a place in the unit")?;
+        *old = *byte;
+    }
+    Ok(unit)
+}
+
+/// A row of file 1 and column 0, a statement.
+pub fn row(address: u64, op_index: u8, line: u64) -> Row {
+    Row {
+        address,
+        file: 1,
+        line,
+        column: 0,
+        isa: 0,
+        discriminator: 0,
+        op_index,
+        is_stmt: true,
+        basic_block: false,
+        end_sequence: false,
+        prologue_end: false,
+        epilogue_begin: false,
+    }
+}
+
+/// The same as an end row.
+pub fn end(address: u64, op_index: u8, line: u64) -> Row {
+    let mut row = row(address, op_index, line);
+    row.end_sequence = true;
+    row
+}
+
+pub const THREE_ROWS: &str = "00 09 02 00 10 40 00 00 00 00 00 13 4b 02 02 00 01 01";
+
+pub const SMALLEST: &str = "00 01 01";
+
+pub const OPCODE_BASE_10: &str = "1e 00 00 00 05 00 08 00 13 00 00 00 01 01 01 fb 0e 0a \
+                                  00 01 01 01 01 00 00 00 01 00 00 00 00 03 0a 0a";
+
+pub const OPCODE_BASE_14: &str = "2c 00 00 00 05 00 08 00 17 00 00 00 01 01 01 fb 0e 0e \
+                                  00 01 01 01 01 00 00 00 01 00 00 01 02 00 00 00 00 \
+                                  0d 80 01 05 00 04 80 aa bb cc 00 01 01";
+
+pub const DWARF64_WITH_MD5: &str = "ff ff ff ff 42 00 00 00 00 00 00 00 05 00 08 00 \
+                                    36 00 00 00 00 00 00 00 01 01 01 fb 0e 0d \
+                                    00 01 01 01 01 00 00 00 01 00 00 01 \
+                                    01 01 08 01 2f 73 00 03 01 08 02 0f 05 1e 01 61 2e 63 00 00 \
+                                    00 01 02 03 04 05 06 07 08 09 0a 0b 0c 0d 0e 0f";
+
+pub const HUGE_DIRECTORY_COUNT: &str = "29 00 00 00 05 00 08 00 21 00 00 00 01 01 01 fb 0e 0d \
+                                        00 01 01 01 01 00 00 00 01 00 00 01 \
+                                        01 01 08 80 80 80 80 80 80 80 80 10 2f 73 00";
+
+pub const LINE_STRP_DIRECTORY: &str = "24 00 00 00 05 00 08 00 1c 00 00 00 01 01 01 fb 0e 0d \
+                                       00 01 01 01 01 00 00 00 01 00 00 01 \
+                                       01 01 1f 01 02 00 00 00 00 00";
+
+pub const BLOCK_PAST_THE_HEADER: &str = "28 00 00 00 05 00 08 00 20 00 00 00 01 01 01 fb 0e 0d \
+                                         00 01 01 01 01 00 00 00 01 00 00 01 \
+                                         01 01 09 01 ff ff ff ff ff ff ff ff ff 01";
+
+pub const BIG_SMALLEST: &str = "00 00 00 21 00 05 08 00 00 00 00 16 01 01 01 fb 0e 0d \
+                                00 01 01 01 01 00 00 00 01 00 00 01 00 00 00 00 00 01 01";
+
+pub const BIG_THREE_ROWS: &str = "00 00 00 30 00 05 08 00 00 00 00 16 01 01 01 fb 0e 0d \
+                                  00 01 01 01 01 00 00 00 01 00 00 01 00 00 00 00 \
+                                  00 09 02 00 00 00 00 00 40 10 00 13 4b 02 02 00 01 01";
+
+pub const BIG_FIXED_ADVANCE: &str = "00 00 00 23 00 05 08 00 00 00 00 16 10 03 01 fb 0e 0d \
+                                     00 01 01 01 01 00 00 00 01 00 00 01 00 00 00 00 \
+                                     20 09 12 34 01";
