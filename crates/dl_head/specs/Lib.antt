@@ -9,3 +9,4 @@ pub mod Built
 pub mod TableStep
 pub mod HeadStep
 pub mod FaultText
+pub mod Text

@@ -1,5 +1,7 @@
 -- How many bytes are left behind a step. No promise rests on this file.
-use Rattle.std.specs.Prelude.{ℕ, ◌≤◌, length}
+use Rattle.std.specs.Prelude.{ℕ, ◌+◌, ◌≤◌, length}
+use Rattle.dl_rows.specs.declared.operation.Operation.{Operation}
+use Rattle.dl_rows.specs.declared.operation.Operation.TheVariants as op
 use Rattle.dl_rows.specs.declared.phase.Phase.{Phase}
 use Rattle.dl_rows.specs.declared.phase.Phase.TheVariants as phase
 use Rattle.dl_rows.specs.declared.phase.Step.{Step}
@@ -7,15 +9,27 @@ use Rattle.dl_rows.specs.declared.phase.Step.TheVariants as step
 use Rattle.dl_rows.specs.declared.program.Given.{Given}
 use Rattle.dl_rows.specs.declared.program.Given.TheVariants as given
 
--- at most n bytes are left
+-- 1 where the operation appends a row, else 0
+abbrev pub rows_of : Operation → ℕ
+rows_of (op.Special b) = 1
+rows_of op.Copy = 1
+rows_of op.End = 1
+rows_of other = 0
+
+-- at most n bytes are left, and fewer where a row is appended
 abbrev pub Leaves : ℕ → Step → Type 0
 Leaves n (step.Within p) = Unit {0}
-Leaves n (step.Ends o behind) = length behind.now ≤ n
+Leaves n (step.Ends o behind) = length behind.now + rows_of o ≤ n
 Leaves n (step.Refuses k behind) = length behind.now ≤ n
+
+-- fewer than n bytes are left
+abbrev pub LeavesFewer : ℕ → Step → Type 0
+LeavesFewer n (step.Ends o behind) = length behind.now + 1 ≤ n
+LeavesFewer n other = Unit {0}
 
 abbrev pub GivenLeaves : ℕ → Given → Type 0
 GivenLeaves n given.Nothing = Unit {0}
-GivenLeaves n (given.Row r behind) = length behind.now ≤ n
+GivenLeaves n (given.Row r behind) = length behind.now + 1 ≤ n
 GivenLeaves n (given.Refuses k behind) = length behind.now ≤ n
 
 -- 0 between operations, else 1

@@ -1,7 +1,7 @@
 //! One operation of a line number program, from bytes that may end inside it. Sections 6.2.5.1 to 6.2.5.3.
 
 ghost use Rattle.std.specs.Prelude.{◌≡◌, ◌<◌, ◌≤◌, ◌-◌, length, IfSome};
-ghost use Rattle.dl_rows.specs.Left.{Leaves};
+ghost use Rattle.dl_rows.specs.Left.{Leaves, LeavesFewer, rows_of};
 ghost use Rattle.dl_head.specs.Built.{IsUsable};
 
 use crate::operation::Operation;
@@ -31,7 +31,9 @@ impl UnsignedOpcode {
     }
 
     #[inline(always)]
-    fn operation(self, operand: u64) -> Operation {
+    fn operation(self, operand: u64) -> Operation
+        ensures { rows_of result ≡ 0 }
+    {
         match self {
             UnsignedOpcode::AdvancePc => Operation::AdvancePc(operand),
             UnsignedOpcode::SetFile => Operation::SetFile(operand),
@@ -83,7 +85,7 @@ impl Phase {
     pub fn push<'a>(self, order: Order, params: &Params, bytes: &'a [u8]) -> Step<'a>
         requires { IsUsable params.now }
         ensures within { Leaves (length bytes.entry.now) result }
-        ensures progress { self ≡ phase.Start → Leaves (length bytes.entry.now - 1) result }
+        ensures progress { self ≡ phase.Start → LeavesFewer (length bytes.entry.now) result }
     {
         match self {
             Phase::Start => start(params, order, bytes),
@@ -131,7 +133,8 @@ pub fn short_operation<'a>(params: &Params, bytes: &'a [u8]) -> Option<(Operatio
 
 fn start<'a>(params: &Params, order: Order, bytes: &'a [u8]) -> Step<'a>
     requires { IsUsable params.now }
-    ensures { Leaves (length bytes.entry.now - 1) result }
+    ensures within { Leaves (length bytes.entry.now) result }
+    ensures progress { LeavesFewer (length bytes.entry.now) result }
 {
     if let Some((operation, behind)) = short_operation(params, bytes) {
         return Step::Ends(operation, behind);

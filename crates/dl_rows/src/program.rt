@@ -1,6 +1,6 @@
 //! The line number program of a unit, from bytes that come in pieces. Sections 6.2.5.1 to 6.2.5.3.
 
-ghost use Rattle.std.specs.Prelude.{◌≡◌, ◌≤◌, length};
+ghost use Rattle.std.specs.Prelude.{◌≡◌, ◌≤◌, length, IfSome};
 ghost use Rattle.dl_head.specs.Built.{IsUsable};
 
 use crate::operation::Operation;
@@ -32,7 +32,7 @@ pub struct Program {
 }
 
 impl Program {
-    ghost use Rattle.dl_rows.specs.Left.{GivenLeaves};
+    ghost use Rattle.dl_rows.specs.Left.{GivenLeaves, rows_of};
     ghost use Rattle.dl_rows.specs.declared.phase.Phase.TheVariants as phase;
 
     /// At the first operation.
@@ -82,6 +82,8 @@ impl Program {
                     return Given::Nothing;
                 }
                 Step::Ends(operation, behind) => {
+                    self.phase = Phase::Start;
+                    self.begun = 0;
                     bytes = behind;
                     if let Some(row) = self.finish(params, operation) {
                         return Given::Row(row, behind);
@@ -97,14 +99,13 @@ impl Program {
         Given::Nothing
     }
 
-    /// Goes on behind an operation, and gives the row that it appends, if any.
+    /// Applies an operation, and gives the row that it appends, if any.
     #[inline(always)]
     fn finish(&mut self, params: &Params, operation: Operation) -> Option<Row>
         requires { IsUsable params.now }
-        ensures { self.new.phase ≡ phase.Start }
+        ensures phase { self.new.phase ≡ self.old.phase }
+        ensures row { IfSome result (λ row. 1 ≤ rows_of operation) }
     {
-        self.phase = Phase::Start;
-        self.begun = 0;
         self.registers.apply(params, operation);
         match operation {
             Operation::Special(_) | Operation::Copy => {

@@ -1,6 +1,6 @@
 //! The reader of a unit, from bytes that come in pieces. Section 6.2.
 
-ghost use Rattle.std.specs.Prelude.{◌≡◌, ◌≤◌, length, IfOk};
+ghost use Rattle.std.specs.Prelude.{◌≡◌, ◌≢◌, ◌≤◌, ◌+◌, ◌⊎◌, length, IsTrue, IfOk};
 
 use crate::program::{Given, Program};
 use crate::row::Row;
@@ -55,8 +55,12 @@ pub struct Reader {
 }
 
 impl Reader {
+    ghost use Rattle.dl_rows.specs.Progress.{IsPause, taken_of};
+
     /// No byte yet of a unit whose numbers stand in this order. It takes no memory.
-    pub fn new(alloc: Global, order: Order) -> Reader {
+    pub fn new(alloc: Global, order: Order) -> Reader
+        ensures { taken_of result ≡ 0 }
+    {
         Reader {
             order,
             head: HeadReader::new(alloc, order),
@@ -70,7 +74,9 @@ impl Reader {
 
     /// Takes bytes of the piece up to the next event. After a fault it answers the fault again.
     pub fn feed(&mut self, piece: &[u8]) -> Result<Fed, Fault>
-        ensures { IfOk result (λ fed. fed.used ≤ length piece.now) }
+        ensures used { IfOk result (λ fed. fed.used ≤ length piece.now) }
+        ensures progress { IfOk result (λ fed. IsPause fed.event ⊎ (1 ≤ fed.used)) }
+        ensures end { IfOk result (λ fed. fed.event ≡ Event.End → 1 ≤ taken_of self.old + fed.used) }
     {
         if let Some(fault) = self.fault {
             return Err(fault);
@@ -126,7 +132,9 @@ impl Reader {
     }
 
     /// How many bytes were taken.
-    pub fn taken(&self) -> u64 {
+    pub fn taken(&self) -> u64
+        ensures { result ≡ taken_of self.now }
+    {
         self.taken
     }
 
@@ -149,8 +157,7 @@ impl Reader {
         if self.taken == 0 {
             return Ok(Finish::Empty);
         }
-        let has_begun = self.is_foreign || self.head.header().is_some();
-        if has_begun && self.left == 0 {
+        if self.is_whole() {
             return Ok(Finish::Whole);
         }
         Err(Fault {
@@ -161,7 +168,9 @@ impl Reader {
 
     /// Takes bytes of the header.
     fn feed_head(&mut self, piece: &[u8]) -> Result<Fed, Fault>
-        ensures { IfOk result (λ fed. fed.used ≤ length piece.now) }
+        ensures used { IfOk result (λ fed. fed.used ≤ length piece.now) }
+        ensures progress { IfOk result (λ fed. IsPause fed.event ⊎ (1 ≤ fed.used)) }
+        ensures not_end { IfOk result (λ fed. fed.event ≢ Event.End) }
     {
         for (i, byte) in piece.iter().enumerate() {
             let step = self.head.step(*byte);
@@ -208,24 +217,38 @@ impl Reader {
 
     /// Takes bytes of a unit of another version.
     fn pass_over(&mut self, piece: &[u8]) -> Fed
-        ensures { result.used ≤ length piece.now }
+        ensures used { result.used ≤ length piece.now }
+        ensures pause { IsPause result.event }
+        ensures end { result.event ≡ Event.End → 1 ≤ taken_of self.old + result.used }
     {
         let used = front(piece, self.left).len();
         self.count(used);
         self.pause(used, piece)
     }
 
+    /// Whether all of the unit's bytes were taken.
+    fn is_whole(&self) -> bool
+        ensures { IsTrue result → 1 ≤ taken_of self.now }
+    {
+        let is_known = self.is_foreign || self.head.header().is_some();
+        is_known && self.taken > 0 && self.left == 0
+    }
+
     /// What is told where a piece gave nothing.
     fn pause(&self, used: usize, piece: &[u8]) -> Fed
         requires { used ≤ length piece.now }
-        ensures { result.used ≡ used }
+        ensures used { result.used ≡ used }
+        ensures pause { IsPause result.event }
+        ensures end { result.event ≡ Event.End → 1 ≤ taken_of self.now }
     {
-        let ends = self.left == 0 && (used == 0 || used < piece.len());
+        let ends = self.is_whole() && (used == 0 || used < piece.len());
         let event = if ends { Event::End } else { Event::More };
         Fed { used, event }
     }
 
-    fn count(&mut self, used: usize) {
+    fn count(&mut self, used: usize)
+        ensures { taken_of self.new ≤ taken_of self.old + used }
+    {
         self.taken = self.taken.saturating_add(used as u64);
         self.left = self.left.saturating_sub(used as u64);
     }

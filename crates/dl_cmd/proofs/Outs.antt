@@ -1,0 +1,65 @@
+-- How what is out grows with each write and each text.
+use Rattle.std.proofs.Common.{◌≡◌, ℕ, ◌+◌, ◌-◌, ◌≤◌, List, [], ◌++◌, length, take, drop, Option, arith, sym, ap, subst, ◌∙◌, append_assoc, length-append, length-drop}
+use Rattle.std.proofs.Math.Seq.{take-add}
+use Rattle.std.proofs.lemmas.List.{take_rest, take_all, take-append-le, drop-append-le}
+use Rattle.std.proofs.Math.ListN.{drop_of_length-le}
+use Rattle.std.specs.Io.KnownBytes.{Appends}
+use Rattle.std.proofs.KnownBytes.{Appends-trans, Appends-nil}
+use Rattle.dl_cmd.specs.Output.{HasOut, HasPrinted, TellsOut}
+use Rattle.dl_cmd.specs.declared.fault.RunFault.{RunFault}
+use Rattle.dl_cmd.specs.declared.fault.RunFault.TheVariants.{Write}
+
+pub HasOut-none : (start : Option (List ℕ)) (text : List ℕ) → HasOut start start text 0
+HasOut-none start text = record { within = omega arith; written = Appends-nil start }
+
+module _ (start a b : Option (List ℕ)) (text : List ℕ) (out : ℕ) where
+  -- k more bytes went out
+  pub HasOut-write : (k : ℕ) → HasOut start a text out → out + k ≤ length text → Appends a b (take k (drop out text)) → HasOut start b text (out + k)
+  HasOut-write k h fits p = record {
+    within = fits;
+    written = subst (Appends start b) (sym (take-add out k text)) (Appends-trans start a b _ _ h.written p);
+  }
+
+  -- the same where the bytes are those of a slice of the text
+  pub HasOut-slice : (k : ℕ) → HasOut start a text out → k ≤ length text - out → Appends a b (take k (take (length text - out) (drop out text))) → HasOut start b text (out + k)
+  HasOut-slice k h fits p =
+      HasOut-write k h (let w = h.within in omega arith) (subst (λ l. Appends a b (take k l)) (take_rest text out) p)
+
+  -- the buffer was written in part
+  pub HasOut-pending : (pending : List ℕ) (k : ℕ) → HasPrinted start a text (record { pending = pending; out = out }) → HasOut a b pending k → HasOut start b text (out + k)
+  HasOut-pending pending k h p =
+      let w = h.first.within in
+      let n = ap length h.rest in
+      HasOut-write k h.first (let m = p.within in omega (arith, length-drop {A = ℕ})) (subst (λ l. Appends a b (take k l)) (sym h.rest) p.written)
+
+  -- the buffer was written
+  pub HasPrinted-flushed : (pending : List ℕ) → HasPrinted start a text (record { pending = pending; out = out }) → Appends a b pending → HasPrinted start b text (record { pending = []; out = out + length pending })
+  HasPrinted-flushed pending h p =
+      let w = h.first.within in
+      let n : length text - out ≡ length pending = sym (length-drop out text) ∙ ap length h.rest in
+      let all : take (length pending) (drop out text) ≡ pending = take_all (length pending) (drop out text) (omega (arith, length-drop {A = ℕ})) ∙ h.rest in
+      record {
+        first = HasOut-write (length pending) h.first (omega arith) (subst (Appends a b) (sym all) p);
+        rest = drop_of_length-le text (omega arith);
+      }
+
+module _ (start now : Option (List ℕ)) (text more : List ℕ) where
+  pub HasOut-more : (out : ℕ) → HasOut start now text out → HasOut start now (text ++ more) out
+  HasOut-more out h = record {
+    within = let w = h.within in omega (arith, length-append text more);
+    written = subst (Appends start now) (sym (take-append-le out text more h.within)) h.written;
+  }
+
+  pub HasPrinted-more : (out : ℕ) (pending : List ℕ) → HasPrinted start now text (record { pending = pending; out = out }) → HasPrinted start now (text ++ more) (record { pending = pending ++ more; out = out })
+  HasPrinted-more out pending h = record {
+    first = HasOut-more out h.first;
+    rest = drop-append-le out text more h.first.within ∙ ap (λ l. l ++ more) h.rest;
+  }
+
+  pub TellsOut-more : (f : RunFault) → TellsOut start now text f → TellsOut start now (text ++ more) f
+  TellsOut-more (Write out) t = (let below = t.0 in omega (arith, length-append text more), HasOut-more out t.1)
+  TellsOut-more _ t = t
+
+-- what is said of the front of a text holds of the text
+pub TellsOut-front : (start now : Option (List ℕ)) (text a b : List ℕ) (f : RunFault) → TellsOut start now (text ++ a) f → TellsOut start now (text ++ (a ++ b)) f
+TellsOut-front start now text a b f t = subst (λ l. TellsOut start now l f) (append_assoc text a b) (TellsOut-more start now (text ++ a) b f t)

@@ -1,0 +1,68 @@
+-- The command line of the program, as clap reads it.
+use Rattle.std.specs.Prelude.{◌≡◌, false, [], ◌∷◌, Some, codes, true, pos}
+use Rattle.clap.specs.Words.{App, app_of, rule_of, Rule, new_app, new_rule, with_rule, with_subcommand}
+use Rattle.clap.specs.declared.builder.arg.Arg.{Arg}
+use Rattle.clap.specs.declared.builder.command.Command.{Command}
+use Rattle.clap.specs.declared.builder.command.Command.TheViews.{out-Command}
+use Rattle.clap.specs.declared.builder.ArgAction.TheVariants.{SetTrue}
+use Rattle.clap.specs.declared.builder.value_parser.ValueParser.TheVariants as vp
+
+-- `--big`
+abbrev pub big_rule : Rule
+big_rule = record (new_rule (codes "big")) { long = Some (codes "big"); action = Some SetTrue }
+
+-- `--line-str PATH`
+abbrev pub line_str_rule : Rule
+line_str_rule = record (new_rule (codes "line-str")) { long = Some (codes "line-str"); value_names = 1 }
+
+-- `--str PATH`
+abbrev pub str_rule : Rule
+str_rule = record (new_rule (codes "str")) { long = Some (codes "str"); value_names = 1 }
+
+-- `ADDRESS`
+abbrev pub address_rule : Rule
+address_rule = record (new_rule (codes "address")) { required = true; value_names = 1 }
+
+-- `--op N`, a whole number from 0 to 255, and 0 where it isn't given
+abbrev pub op_rule : Rule
+op_rule = record (new_rule (codes "op")) {
+  long = Some (codes "op");
+  value_names = 1;
+  parser = Some (vp.Signed (pos 0) (pos 255));
+  defaults = codes "0" ∷ [];
+}
+
+abbrev pub with_strings : App → App
+with_strings a = with_rule (with_rule (with_rule a big_rule) line_str_rule) str_rule
+
+-- `dump [--big] [--line-str PATH] [--str PATH]`
+abbrev pub dump_app : App
+dump_app = with_strings (new_app (codes "dump"))
+
+-- `check [--big]`
+abbrev pub check_app : App
+check_app = with_rule (new_app (codes "check")) big_rule
+
+-- `find ADDRESS [--op N] [--big] [--line-str PATH] [--str PATH]`
+abbrev pub find_app : App
+find_app = with_strings (with_rule (with_rule (new_app (codes "find")) address_rule) op_rule)
+
+-- `copy [--big]`
+abbrev pub copy_app : App
+copy_app = with_rule (new_app (codes "copy")) big_rule
+
+-- `dwline`, which wants a subcommand
+abbrev pub top_app : App
+top_app = let a = new_app (codes "dwline") in record a { top = record a.top { subcommand_required = true } }
+
+-- the whole program
+abbrev pub command_line : App
+command_line = with_subcommand (with_subcommand (with_subcommand (with_subcommand top_app dump_app.top) check_app.top) find_app.top) copy_app.top
+
+-- a command without global arguments, of which a parse reads this
+abbrev pub IsApp : App → Command → Type 0
+IsApp a c = (app_of c ≡ a) × ((out-Command c).has_globals ≡ false)
+
+-- an argument that isn't global, of which a parse reads this
+abbrev pub IsRule : Rule → Arg → Type 0
+IsRule r a = (rule_of a ≡ r) × (a.global ≡ false)

@@ -1,0 +1,10 @@
+pub mod Digits
+pub mod RunText
+pub mod Text
+pub mod ValueText
+pub mod Printed
+pub mod Output
+pub mod Strings
+pub mod CommandLine
+pub mod Job
+pub mod Address

@@ -1,0 +1,59 @@
+//! The command that counts units, sequences and rows.
+
+ghost use Rattle.std.specs.Prelude.{◌≤◌};
+
+use crate::fault::RunFault;
+use crate::options::{Options, SECTION_LIMIT};
+use crate::output::Printer;
+use crate::section::{Visitor, read_units};
+use crate::summary::Summary;
+use dl_head::Header;
+use dl_rows::Row;
+use std::alloc::Global;
+use std::io::{Read, Write};
+
+/// Prints nothing.
+#[derive(Drop)]
+struct Checker;
+
+impl<W: Write> Visitor<W> for Checker {
+    fn header(&mut self, _output: &mut W, _offset: u64, _header: &Header) -> Result<(), RunFault> {
+        Ok(())
+    }
+
+    fn foreign(&mut self, _output: &mut W, _offset: u64, _version: u16) -> Result<(), RunFault> {
+        Ok(())
+    }
+
+    #[inline]
+    fn row(&mut self, _output: &mut W, _row: &Row) -> Result<(), RunFault> {
+        Ok(())
+    }
+
+    fn open(&mut self, _output: &mut W) -> Result<(), RunFault> {
+        Ok(())
+    }
+
+    fn settle(&mut self, _output: &mut W) -> Result<(), RunFault> {
+        Ok(())
+    }
+}
+
+/// Reads all units of the input, and prints one line with their counts where none is damaged.
+///
+/// Before the input's end nothing is printed. The faults are those of `RunFault`; each growth of
+/// memory is one of `Reader::feed`.
+pub fn check<R: Read, W: Write>(
+    alloc: Global,
+    input: &mut R,
+    output: &mut W,
+    options: &Options<'_>,
+) -> Result<Summary, RunFault>
+    requires { options.now.limit ≤ SECTION_LIMIT }
+{
+    let summary = read_units(alloc, input, output, options, &mut Checker)?;
+    let mut printer = Printer::new();
+    printer.summary(output, &summary)?;
+    printer.flush(output)?;
+    Ok(summary)
+}

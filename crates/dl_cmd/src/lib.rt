@@ -1,0 +1,27 @@
+//! The commands over a section of line tables: what they read, print and answer.
+#![tactic(auto)]
+
+mod address;
+mod checking;
+mod dumping;
+mod fault;
+mod input;
+mod options;
+mod output;
+mod section;
+mod strings;
+mod summary;
+mod text;
+mod words;
+
+pub use address::read_address;
+pub use checking::check;
+pub use dumping::dump;
+pub use fault::RunFault;
+pub use options::{Options, SECTION_LIMIT};
+pub use strings::read_strings;
+pub use summary::Summary;
+pub use words::{Job, read_job, word_status};
+
+#[cfg(test)]
+mod tests;

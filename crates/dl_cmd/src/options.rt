@@ -1,0 +1,19 @@
+//! What a command over a section is told besides the bytes.
+
+use dl_num::Order;
+
+/// How many bytes of a section are read at most: 2^44.
+pub const SECTION_LIMIT: u64 = 1 << 44;
+
+/// What a command over a section is told besides the bytes.
+#[derive(Debug, Clone, Copy)]
+pub struct Options<'a> {
+    /// The order of the section's numbers.
+    pub order: Order,
+    /// The section `.debug_line_str`, where paths may stand.
+    pub debug_line_str: Option<&'a [u8]>,
+    /// The section `.debug_str`, where paths may stand.
+    pub debug_str: Option<&'a [u8]>,
+    /// How many bytes the section may have, at most `SECTION_LIMIT`.
+    pub limit: u64,
+}

@@ -1,0 +1,168 @@
+//! The output, printed through one buffer.
+mod lines;
+mod values;
+
+ghost use Rattle.std.specs.Prelude.{◌≡◌, ◌+◌, ◌^◌, ◌<◌, ◌≤◌, ℕ, List, [], ◌++◌, Option, length, take, IfSome, IfNone, IfOk, OnOk, IfErr, MatchResult};
+ghost use Rattle.std.specs.Io.KnownBytes.{Appends, Keeps};
+ghost use Rattle.dl_cmd.specs.Output.{HasOut, HasPrinted, TellsOut, Flushes, Prints, printed_len};
+
+use crate::fault::RunFault;
+use crate::input::INTERRUPTIONS;
+use crate::text::write_bytes;
+use std::io::{ErrorKind, Write};
+use std::marker::Model;
+pub use values::StringSections;
+
+/// The writer failed, or took nothing, after it took `out` bytes.
+#[derive(Clone, Copy, Debug, PartialEq, Eq)]
+struct WriteFailed {
+    out: usize,
+}
+
+/// One write, which is repeated where it was interrupted. None is a failed write.
+fn write_some<W: Write>(output: &mut W, bytes: &[u8]) -> Option<usize>
+    ensures within { IfSome result (λ n. n ≤ length bytes.now) }
+    ensures some { IfSome result (λ n.
+        Appends (W.contents output.old) (W.contents output.new) (take n bytes.now)) }
+    ensures none { IfNone result (Keeps (W.contents output.old) (W.contents output.new)) }
+{
+    for _ in 0..=INTERRUPTIONS {
+        match output.write(bytes) {
+            Ok(n) => return Some(n),
+            Err(error) => {
+                if error.kind() != ErrorKind::Interrupted {
+                    return None;
+                }
+            }
+        }
+    }
+    None
+}
+
+/// Writes all of the bytes, or says how many of them are out.
+fn write_counted<W: Write>(output: &mut W, bytes: &[u8]) -> Result<(), WriteFailed>
+    ensures ok { OnOk result (Appends (W.contents output.old) (W.contents output.new) bytes.now) }
+    ensures err { IfErr result (λ e.
+        HasOut (W.contents output.old) (W.contents output.new) bytes.now e.out) }
+    ensures part { IfErr result (λ e. e.out < length bytes.now) }
+{
+    let mut out = 0;
+    while out < bytes.len() {
+        match write_some(output, &bytes[out..]) {
+            None | Some(0) => return Err(WriteFailed { out }),
+            Some(n) => out += n,
+        }
+    }
+    Ok(())
+}
+
+/// How many bytes a printer holds at most.
+const HELD: usize = 65536;
+
+/// How many bytes a text has at most that is written into the buffer itself.
+const PIECE: usize = 256;
+
+/// Prints through one buffer, and counts the bytes that are out.
+///
+/// The writer is lent at each call. After a fault nothing more is to be printed.
+#[derive(Drop)]
+pub struct Printer {
+    buffer: [u8; HELD],
+    held: usize,
+    out: u128,
+}
+
+impl Model for Printer {
+    ghost use Rattle.std.specs.Prelude.{◌≤◌, take};
+    ghost use Rattle.dl_cmd.specs.Printed.{Printed};
+    ghost use Rattle.dl_cmd.specs.declared.output.TheConstants.{HELD};
+
+    ghost Value = { Printed };
+
+    ghost view = { λ p. record { pending = take p.held p.buffer; out = p.out } };
+
+    ghost invariant = { λ p. p.held ≤ HELD };
+}
+
+/// Writes bytes on top of the `out` that are out, and answers how many are out then. Where a count
+/// of 128 bits can't tell that, it writes none of them.
+fn write_on<W: Write>(output: &mut W, out: u128, bytes: &[u8]) -> Result<u128, RunFault>
+    ensures printed { (start : Option (List ℕ)) (text : List ℕ)
+        → HasPrinted start (W.contents output.old) text (record { pending = bytes.now; out = out })
+        → MatchResult result
+        (λ n. HasPrinted start (W.contents output.new) text (record { pending = []; out = n }))
+        (λ f. TellsOut start (W.contents output.new) text f) }
+{
+    let Some(all) = out.checked_add(bytes.len() as u128) else {
+        return Err(RunFault::Write { out });
+    };
+    match write_counted(output, bytes) {
+        Ok(()) => Ok(all),
+        Err(failed) => Err(RunFault::Write {
+            out: out + failed.out as u128,
+        }),
+    }
+}
+
+impl Printer {
+    /// Nothing was printed.
+    pub fn new() -> Printer
+        ensures nothing_pending { result.pending ≡ [] }
+        ensures nothing_out { result.out ≡ 0 }
+    {
+        Printer {
+            buffer: [0; HELD],
+            held: 0,
+            out: 0,
+        }
+    }
+
+    /// Writes what is held.
+    pub fn flush<W: Write>(&mut self, output: &mut W) -> Result<(), RunFault>
+        ensures printed { Flushes (W.contents output.old) (W.contents output.new)
+            self.old self.new result }
+        ensures empty { OnOk result (self.new.pending ≡ []) }
+    {
+        self.out = write_on(output, self.out, &self.buffer[..self.held])?;
+        self.held = 0;
+        Ok(())
+    }
+
+    /// Writes the bytes themselves, where nothing is held.
+    fn pass<W: Write>(&mut self, output: &mut W, bytes: &[u8]) -> Result<(), RunFault>
+        requires empty { self.old.pending ≡ [] }
+        ensures printed { Prints (W.contents output.old) (W.contents output.new)
+            self.old self.new bytes.now result }
+    {
+        self.out = write_on(output, self.out, bytes)?;
+        Ok(())
+    }
+
+    /// Prints the bytes, and first writes what is held where they don't fit beside it.
+    pub fn put<W: Write>(&mut self, output: &mut W, bytes: &[u8]) -> Result<(), RunFault>
+        ensures printed { Prints (W.contents output.old) (W.contents output.new)
+            self.old self.new bytes.now result }
+    {
+        if HELD - self.held < bytes.len() {
+            self.flush(output)?;
+            if HELD < bytes.len() {
+                return self.pass(output, bytes);
+            }
+        }
+        self.held = write_bytes(&mut self.buffer, self.held, bytes);
+        Ok(())
+    }
+
+    /// Writes what is held where the buffer has no room beside it for `PIECE` bytes.
+    #[inline]
+    fn make_room<W: Write>(&mut self, output: &mut W) -> Result<(), RunFault>
+        ensures printed { Flushes (W.contents output.old) (W.contents output.new)
+            self.old self.new result }
+        ensures room { OnOk result (length self.new.pending + PIECE ≤ HELD) }
+    {
+        if HELD - self.held < PIECE {
+            self.flush(output)?;
+        }
+        Ok(())
+    }
+}

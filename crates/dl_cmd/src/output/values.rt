@@ -1,0 +1,218 @@
+//! Printing values, of any length.
+ghost use Rattle.std.specs.Prelude.{◌≡◌, ◌+◌, ◌*◌, ◌^◌, ◌<◌, ◌≤◌, ◌++◌, length, OnOk, codes, decimal};
+ghost use Rattle.std.specs.Option.{option_copied};
+ghost use Rattle.dl_cmd.specs.Digits.{hexadecimal_bytes};
+ghost use Rattle.dl_cmd.specs.Output.{Prints, printed_len};
+ghost use Rattle.dl_head.specs.Held.{value_lent};
+ghost use Rattle.dl_cmd.specs.ValueText.{quoted, quoted_bytes, offset_text, quoted_or_offset, text_in_section, value_text, named_value, content_name, strings_of};
+
+use super::Printer;
+use crate::fault::RunFault;
+use crate::text::{
+    write_hexadecimal_bytes, write_number, write_offset, write_quoted_bytes, write_value_start,
+};
+use dl_head::{Entry, ValueRef, text_at};
+use std::io::Write;
+
+/// How many bytes of a value are printed in one go.
+const PART: usize = 64;
+
+/// The string sections that were handed in.
+#[derive(Clone, Copy)]
+pub struct StringSections<'a> {
+    pub debug_line_str: Option<&'a [u8]>,
+    pub debug_str: Option<&'a [u8]>,
+}
+
+/// The text at an offset of a section, where the section was handed in.
+fn text_in_section(section: Option<&[u8]>, offset: u64) -> Option<&[u8]>
+    ensures { option_copied result ≡ text_in_section (option_copied section.entry) offset }
+{
+    match section {
+        Some(bytes) => text_at(bytes, offset),
+        None => None,
+    }
+}
+
+impl Printer {
+    /// Prints two digits for each of a few bytes.
+    fn hexadecimal_part<W: Write>(&mut self, output: &mut W, bytes: &[u8]) -> Result<(), RunFault>
+        requires short { length bytes.now ≤ 64 }
+        ensures printed { Prints (W.contents output.old) (W.contents output.new)
+            self.old self.new (hexadecimal_bytes bytes.now) result }
+    {
+        self.make_room(output)?;
+        self.held = write_hexadecimal_bytes(&mut self.buffer, self.held, bytes);
+        Ok(())
+    }
+
+    /// Prints two digits for each byte.
+    fn hexadecimal<W: Write>(&mut self, output: &mut W, bytes: &[u8]) -> Result<(), RunFault>
+        ensures printed { Prints (W.contents output.old) (W.contents output.new)
+            self.old self.new (hexadecimal_bytes bytes.now) result }
+    {
+        let mut done = 0;
+        while done < bytes.len() {
+            let end = bytes.len().min(done + PART);
+            self.hexadecimal_part(output, &bytes[done..end])?;
+            done = end;
+        }
+        Ok(())
+    }
+
+    /// Prints the bytes of a block.
+    fn block<W: Write>(&mut self, output: &mut W, bytes: &[u8]) -> Result<(), RunFault>
+        ensures printed { Prints (W.contents output.old) (W.contents output.new)
+            self.old self.new (codes "block:" ++ hexadecimal_bytes bytes.now) result }
+    {
+        self.put(output, b"block:")?;
+        self.hexadecimal(output, bytes)
+    }
+
+    /// Prints a name and a number.
+    pub fn number<W: Write>(
+        &mut self,
+        output: &mut W,
+        name: &[u8],
+        number: u64,
+    ) -> Result<(), RunFault>
+        requires short { length name.now ≤ 16 }
+        ensures printed { Prints (W.contents output.old) (W.contents output.new)
+            self.old self.new (name.now ++ decimal number) result }
+    {
+        self.make_room(output)?;
+        self.held = write_number(&mut self.buffer, self.held, name, number);
+        Ok(())
+    }
+
+    /// Prints a few bytes as they stand between quotes.
+    fn quoted_part<W: Write>(&mut self, output: &mut W, bytes: &[u8]) -> Result<(), RunFault>
+        requires short { length bytes.now ≤ 64 }
+        ensures printed { Prints (W.contents output.old) (W.contents output.new)
+            self.old self.new (quoted_bytes bytes.now) result }
+    {
+        self.make_room(output)?;
+        self.held = write_quoted_bytes(&mut self.buffer, self.held, bytes);
+        Ok(())
+    }
+
+    /// Prints bytes as they stand between quotes.
+    fn quoted_bytes<W: Write>(&mut self, output: &mut W, bytes: &[u8]) -> Result<(), RunFault>
+        ensures printed { Prints (W.contents output.old) (W.contents output.new)
+            self.old self.new (quoted_bytes bytes.now) result }
+    {
+        let mut done = 0;
+        while done < bytes.len() {
+            let end = bytes.len().min(done + PART);
+            self.quoted_part(output, &bytes[done..end])?;
+            done = end;
+        }
+        Ok(())
+    }
+
+    /// Prints a text in quotes.
+    fn quoted<W: Write>(&mut self, output: &mut W, text: &[u8]) -> Result<(), RunFault>
+        ensures printed { Prints (W.contents output.old) (W.contents output.new)
+            self.old self.new (quoted text.now) result }
+    {
+        self.put(output, b"\"")?;
+        self.quoted_bytes(output, text)?;
+        self.put(output, b"\"")
+    }
+
+    /// Prints an offset into a section, after the name of its form.
+    fn offset<W: Write>(&mut self, output: &mut W, name: &[u8], offset: u64) -> Result<(), RunFault>
+        requires short { length name.now ≤ 16 }
+        ensures printed { Prints (W.contents output.old) (W.contents output.new)
+            self.old self.new (offset_text name.now offset) result }
+    {
+        self.make_room(output)?;
+        self.held = write_offset(&mut self.buffer, self.held, name, offset);
+        Ok(())
+    }
+
+    /// Prints the text at an offset of a section, or the offset where there is none.
+    fn string<W: Write>(
+        &mut self,
+        output: &mut W,
+        name: &[u8],
+        section: Option<&[u8]>,
+        offset: u64,
+    ) -> Result<(), RunFault>
+        requires short { length name.now ≤ 16 }
+        ensures printed { Prints (W.contents output.old) (W.contents output.new) self.old self.new
+            (quoted_or_offset name.now offset
+            (text_in_section (option_copied section.entry) offset)) result }
+    {
+        match text_in_section(section, offset) {
+            Some(text) => self.quoted(output, text),
+            None => self.offset(output, name, offset),
+        }
+    }
+
+    /// Prints a value. Texts are looked up in the string sections.
+    fn value<W: Write>(
+        &mut self,
+        output: &mut W,
+        strings: &StringSections<'_>,
+        value: ValueRef<'_>,
+    ) -> Result<(), RunFault>
+        ensures printed { Prints (W.contents output.old) (W.contents output.new) self.old self.new
+            (value_text (strings_of strings.now) (value_lent value.entry)) result }
+    {
+        match value {
+            ValueRef::Text(text) => self.quoted(output, text),
+            ValueRef::LineStr(at) => {
+                self.string(output, b"line_strp", strings.debug_line_str, at)
+            }
+            ValueRef::Str(at) => self.string(output, b"strp", strings.debug_str, at),
+            ValueRef::StrSup(at) => self.offset(output, b"strp_sup", at),
+            ValueRef::Number(number) => self.number(output, b"", number),
+            ValueRef::Block(bytes) => self.block(output, bytes),
+            ValueRef::Data16(bytes) => self.hexadecimal(output, &bytes),
+        }
+    }
+
+    /// Prints a value after the name of its content code.
+    pub fn named_value<W: Write>(
+        &mut self,
+        output: &mut W,
+        strings: &StringSections<'_>,
+        content: u64,
+        value: ValueRef<'_>,
+    ) -> Result<(), RunFault>
+        ensures printed { Prints (W.contents output.old) (W.contents output.new) self.old self.new
+            (named_value (strings_of strings.now) content (value_lent value.entry)) result }
+    {
+        self.value_start(output, content)?;
+        self.value(output, strings, value)
+    }
+
+    /// Prints what stands before a value of that content code.
+    fn value_start<W: Write>(&mut self, output: &mut W, content: u64) -> Result<(), RunFault>
+        ensures printed { Prints (W.contents output.old) (W.contents output.new) self.old self.new
+            (codes " " ++ content_name content ++ codes "=") result }
+    {
+        self.make_room(output)?;
+        self.held = write_value_start(&mut self.buffer, self.held, content);
+        Ok(())
+    }
+
+    /// Prints the line of an entry of a table: its name, its number and its values.
+    pub fn entry<W: Write>(
+        &mut self,
+        output: &mut W,
+        strings: &StringSections<'_>,
+        name: &[u8],
+        number: u64,
+        entry: Entry<'_>,
+    ) -> Result<(), RunFault>
+        requires { length name.now ≤ 16 }
+    {
+        self.number(output, name, number)?;
+        for (content, value) in entry.values() {
+            self.named_value(output, strings, content, value)?;
+        }
+        self.put(output, b"\n")
+    }
+}

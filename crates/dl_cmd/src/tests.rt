@@ -1,0 +1,9 @@
+//! Texts, readers and writers from outside.
+mod addresses;
+mod faults;
+mod printing;
+mod reading;
+mod sections;
+mod streams;
+mod words;
+mod writing;

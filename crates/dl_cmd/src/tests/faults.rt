@@ -1,0 +1,58 @@
+//! The texts and the statuses of faults.
+use crate::RunFault;
+use arrayvec::ArrayString;
+use dl_head::FaultKind;
+use std::fmt::Write;
+use std::test::Fail;
+
+#[test]
+fn kinds(rt: HostRuntime) -> Result<(), Fail> {
+    for (kind, want) in [
+        (FaultKind::ReservedLength, "reserved initial length"),
+        (FaultKind::UnitTooLong, "unit too long"),
+        (FaultKind::UnitOverrun, "unit ends in its header"),
+        (FaultKind::AddressSize, "bad address size"),
+        (FaultKind::HeaderBeyondUnit, "header goes past the unit"),
+        (FaultKind::HeaderOverrun, "header ends too soon"),
+        (FaultKind::MaxOps, "maximum operations is 0"),
+        (FaultKind::LineRange, "line range is 0"),
+        (FaultKind::OpcodeBase, "opcode base is 0"),
+        (
+            FaultKind::StandardLength(2),
+            "wrong length of standard opcode 2",
+        ),
+        (FaultKind::UnknownForm(13), "unknown form 0xd"),
+        (FaultKind::EmptyFormat, "entries without a format"),
+        (FaultKind::LebRange, "number out of range"),
+        (FaultKind::ExtendedEmpty, "empty extended opcode"),
+        (FaultKind::ExtendedLength, "wrong length of extended opcode"),
+        (FaultKind::OpcodeOverrun, "unit ends inside an opcode"),
+        (FaultKind::Truncated, "input ends inside a unit"),
+    ] {
+        let mut text = ArrayString::<64>::new();
+        write!(text, "{kind}")?;
+        assert_eq!(rt; text.as_str(), want);
+    }
+    Ok(())
+}
+
+#[test]
+fn run_faults(rt: HostRuntime) -> Result<(), Fail> {
+    let damage = RunFault::Damage {
+        offset: 0x34,
+        kind: FaultKind::OpcodeOverrun,
+    };
+    for (fault, want, status) in [
+        (damage, "damage at 0x34: unit ends inside an opcode", 1),
+        (RunFault::NoMemory, "out of memory", 3),
+        (RunFault::Read, "cannot read the input", 3),
+        (RunFault::Write { out: 10 }, "cannot write the output", 3),
+        (RunFault::SectionTooLong, "section too long", 1),
+    ] {
+        let mut text = ArrayString::<64>::new();
+        write!(text, "{fault}")?;
+        assert_eq!(rt; text.as_str(), want);
+        assert_eq!(rt; fault.status(), status);
+    }
+    Ok(())
+}
