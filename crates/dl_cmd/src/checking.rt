@@ -5,7 +5,7 @@ ghost use Rattle.std.specs.Prelude.{◌≤◌};
 use crate::fault::RunFault;
 use crate::options::{Options, SECTION_LIMIT};
 use crate::output::Printer;
-use crate::section::{Visitor, read_units};
+use crate::section::{Next, Visitor, read_units};
 use crate::summary::Summary;
 use dl_head::Header;
 use dl_rows::Row;
@@ -32,6 +32,10 @@ impl<W: Write> Visitor<W> for Checker {
 
     fn open(&mut self, _output: &mut W) -> Result<(), RunFault> {
         Ok(())
+    }
+
+    fn end(&mut self, _output: &mut W, _header: Option<&Header>) -> Result<Next, RunFault> {
+        Ok(Next::Unit)
     }
 
     fn settle(&mut self, _output: &mut W) -> Result<(), RunFault> {

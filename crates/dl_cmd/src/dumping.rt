@@ -5,7 +5,7 @@ ghost use Rattle.std.specs.Prelude.{◌≤◌, length};
 use crate::fault::RunFault;
 use crate::options::{Options, SECTION_LIMIT};
 use crate::output::{Printer, StringSections};
-use crate::section::{Visitor, read_units};
+use crate::section::{Next, Visitor, read_units};
 use crate::summary::Summary;
 use dl_head::{Header, Table};
 use dl_rows::Row;
@@ -39,6 +39,10 @@ impl<W: Write> Visitor<W> for Dumper<'_> {
 
     fn open(&mut self, output: &mut W) -> Result<(), RunFault> {
         self.printer.open_sequence(output)
+    }
+
+    fn end(&mut self, _output: &mut W, _header: Option<&Header>) -> Result<Next, RunFault> {
+        Ok(Next::Unit)
     }
 
     fn settle(&mut self, output: &mut W) -> Result<(), RunFault> {

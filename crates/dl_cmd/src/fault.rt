@@ -16,6 +16,8 @@ pub enum RunFault {
     Write { out: u128 },
     /// The section goes past the limit.
     SectionTooLong,
+    /// No row answers for the address. Only `find` answers it.
+    NotFound,
 }
 
 impl RunFault {
@@ -27,7 +29,7 @@ impl RunFault {
         ensures { result ≡ status self.now }
     {
         match self {
-            RunFault::Damage { .. } | RunFault::SectionTooLong => 1,
+            RunFault::Damage { .. } | RunFault::SectionTooLong | RunFault::NotFound => 1,
             RunFault::NoMemory | RunFault::Read | RunFault::Write { .. } => 3,
         }
     }
@@ -46,6 +48,7 @@ impl fmt::Display for RunFault {
             RunFault::Read => write!(f, "cannot read the input"),
             RunFault::Write { .. } => write!(f, "cannot write the output"),
             RunFault::SectionTooLong => write!(f, "section too long"),
+            RunFault::NotFound => write!(f, "no line for this address"),
         }
     }
 }

@@ -13,6 +13,15 @@ use dl_rows::{Event, Reader, Row};
 use std::alloc::Global;
 use std::io::{Read, Write};
 
+/// What a command reads behind a whole unit.
+#[derive(Clone, Copy, Debug, PartialEq, Eq)]
+pub enum Next {
+    /// The next unit.
+    Unit,
+    /// Nothing more.
+    Nothing,
+}
+
 /// What a command does at the events of the units of a section.
 pub trait Visitor<W: Write> {
     /// A unit at this offset of the section has this header.
@@ -26,6 +35,9 @@ pub trait Visitor<W: Write> {
 
     /// The unit at hand is whole, and its last row isn't an end row.
     fn open(&mut self, output: &mut W) -> Result<(), RunFault>;
+
+    /// The unit at hand is whole. Of another version than 5 it has no header.
+    fn end(&mut self, output: &mut W, header: Option<&Header>) -> Result<Next, RunFault>;
 
     /// All that was read is worked through.
     fn settle(&mut self, output: &mut W) -> Result<(), RunFault>;
@@ -66,13 +78,14 @@ impl Units {
         }
     }
 
-    /// Works through a piece of the section, and through the end of a unit that is whole with it.
+    /// Works through a piece of the section, and through the end of a unit that is whole with it, up
+    /// to where the visitor wants nothing more.
     fn feed<W: Write, V: Visitor<W>>(
         &mut self,
         output: &mut W,
         visitor: &mut V,
         piece: &[u8],
-    ) -> Result<(), RunFault> {
+    ) -> Result<Next, RunFault> {
         let mut rest = piece;
         'events: loop {
             let fed = match self.reader.feed(rest) {
@@ -86,10 +99,14 @@ impl Units {
             };
             rest = &rest[fed.used..];
             match fed.event {
-                Event::More if fed.used == 0 => return Ok(()),
+                Event::More if fed.used == 0 => return Ok(Next::Unit),
                 Event::More => {}
                 Event::NoMemory => return Err(RunFault::NoMemory),
-                Event::End => self.end(output, visitor)?,
+                Event::End => {
+                    if self.end(output, visitor)? == Next::Nothing {
+                        return Ok(Next::Nothing);
+                    }
+                }
                 event => self.tell(output, visitor, event)?,
             }
         }
@@ -128,12 +145,13 @@ impl Units {
         &mut self,
         output: &mut W,
         visitor: &mut V,
-    ) -> Result<(), RunFault>
+    ) -> Result<Next, RunFault>
         ensures { OnOk result (taken_of self.new.reader ≡ 0) }
     {
         if self.reader.in_sequence() {
             visitor.open(output)?;
         }
+        let next = visitor.end(output, self.reader.header())?;
         let summary = &mut self.summary;
         if self.is_foreign {
             summary.skipped = summary.skipped.saturating_add(1);
@@ -147,7 +165,7 @@ impl Units {
         self.is_foreign = false;
         self.sequences = 0;
         self.rows = 0;
-        Ok(())
+        Ok(next)
     }
 
     /// What the section comes to where its bytes are over.
@@ -162,7 +180,8 @@ impl Units {
     }
 }
 
-/// Reads the units of the input to its end, and tells the visitor of each event.
+/// Reads the units of the input to its end, or to where the visitor wants nothing more, and tells the
+/// visitor of each event.
 ///
 /// The first fault in the order of the bytes is answered; before it the visitor was told of all that
 /// the bytes before the fault give.
@@ -184,7 +203,9 @@ pub fn read_units<R: Read, W: Write, V: Visitor<W>>(
             return units.finish();
         }
         let known = front(piece, left);
-        work_through(&mut units, output, visitor, known)?;
+        if work_through(&mut units, output, visitor, known)? == Next::Nothing {
+            return Ok(units.summary);
+        }
         if known.len() < piece.len() {
             return Err(RunFault::SectionTooLong);
         }
@@ -198,7 +219,7 @@ fn work_through<W: Write, V: Visitor<W>>(
     output: &mut W,
     visitor: &mut V,
     piece: &[u8],
-) -> Result<(), RunFault> {
+) -> Result<Next, RunFault> {
     match units.feed(output, visitor, piece) {
         Err(RunFault::Write { out }) => Err(RunFault::Write { out }),
         result => {

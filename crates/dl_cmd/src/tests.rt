@@ -1,6 +1,7 @@
 //! Texts, readers and writers from outside.
 mod addresses;
 mod faults;
+mod finding;
 mod printing;
 mod reading;
 mod sections;

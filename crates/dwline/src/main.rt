@@ -4,8 +4,10 @@
 ghost use Rattle.std.specs.Prelude.{◌≤◌, ◌^◌};
 
 use dl_cmd::{
-    Job, Options, RunFault, SECTION_LIMIT, check, dump, read_job, read_strings, word_status,
+    Job, Options, RunFault, SECTION_LIMIT, check, dump, find, read_address, read_job, read_strings,
+    word_status,
 };
+use dl_look::Place;
 use dl_num::Order;
 use std::alloc::{AllocError, Global};
 use std::env;
@@ -58,21 +60,52 @@ fn order(big: bool) -> Order {
     if big { Order::Big } else { Order::Little }
 }
 
-fn run_dump(
-    rt: &HostRuntime,
-    big: bool,
-    line_str: Option<&str>,
-    strings: Option<&str>,
-) -> Result<(), Stop> {
-    let debug_line_str = read_file(rt, line_str)?;
-    let debug_str = read_file(rt, strings)?;
-    let options = Options {
-        order: order(big),
-        debug_line_str: debug_line_str.as_ref().map(|bytes| bytes.as_slice()),
-        debug_str: debug_str.as_ref().map(|bytes| bytes.as_slice()),
-        limit: SECTION_LIMIT,
-    };
+/// The string sections that the words name.
+#[derive(Drop)]
+struct Strings {
+    debug_line_str: Option<Vec<u8>>,
+    debug_str: Option<Vec<u8>>,
+}
+
+impl Strings {
+    fn read(
+        rt: &HostRuntime,
+        line_str: Option<&str>,
+        strings: Option<&str>,
+    ) -> Result<Strings, RunFault> {
+        Ok(Strings {
+            debug_line_str: read_file(rt, line_str)?,
+            debug_str: read_file(rt, strings)?,
+        })
+    }
+
+    fn options(&self, big: bool) -> Options<'_>
+        ensures { result.limit ≤ SECTION_LIMIT }
+    {
+        Options {
+            order: order(big),
+            debug_line_str: self.debug_line_str.as_ref().map(|bytes| bytes.as_slice()),
+            debug_str: self.debug_str.as_ref().map(|bytes| bytes.as_slice()),
+            limit: SECTION_LIMIT,
+        }
+    }
+}
+
+fn run_dump(rt: &HostRuntime, strings: &Strings, big: bool) -> Result<(), Stop> {
+    let options = strings.options(big);
     dump(rt.alloc(), &mut rt.stdin(), &mut rt.stdout(), &options)?;
+    Ok(())
+}
+
+fn run_find(rt: &HostRuntime, strings: &Strings, big: bool, place: Place) -> Result<(), Stop> {
+    let options = strings.options(big);
+    find(
+        rt.alloc(),
+        &mut rt.stdin(),
+        &mut rt.stdout(),
+        place,
+        &options,
+    )?;
     Ok(())
 }
 
@@ -95,9 +128,27 @@ fn run_job(rt: &HostRuntime, job: Option<Job<'_>>) -> Result<(), Stop> {
                 line_str,
                 strings,
             },
-        ) => run_dump(rt, big, line_str, strings),
+        ) => run_dump(rt, &Strings::read(rt, line_str, strings)?, big),
         Some(Job::Check { big }) => run_check(rt, big),
-        Some(Job::Find { .. }) | Some(Job::Copy { .. }) | None => Err(Stop::NotUnderstood),
+        Some(
+            Job::Find {
+                big,
+                address,
+                op,
+                line_str,
+                strings,
+            },
+        ) => {
+            let Some(address) = address.and_then(|text| read_address(text)) else {
+                return Err(Stop::NotUnderstood);
+            };
+            let place = Place {
+                address,
+                op_index: op,
+            };
+            run_find(rt, &Strings::read(rt, line_str, strings)?, big, place)
+        }
+        Some(Job::Copy { .. }) | None => Err(Stop::NotUnderstood),
     }
 }
 

@@ -48,6 +48,7 @@ fn run_faults(rt: HostRuntime) -> Result<(), Fail> {
         (RunFault::Read, "cannot read the input", 3),
         (RunFault::Write { out: 10 }, "cannot write the output", 3),
         (RunFault::SectionTooLong, "section too long", 1),
+        (RunFault::NotFound, "no line for this address", 1),
     ] {
         let mut text = ArrayString::<64>::new();
         write!(text, "{fault}")?;

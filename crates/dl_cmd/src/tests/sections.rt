@@ -9,16 +9,16 @@ use std::alloc::Global;
 use std::process::Abort;
 use std::test::Fail;
 
-const SMALLEST: &str = "21 00 00 00 05 00 08 00 16 00 00 00 01 01 01 fb 0e 0d \
+pub const SMALLEST: &str = "21 00 00 00 05 00 08 00 16 00 00 00 01 01 01 fb 0e 0d \
                         00 01 01 01 01 00 00 00 01 00 00 01 00 00 00 00 00 01 01";
 
-const THREE_ROWS: &str = "30 00 00 00 05 00 08 00 16 00 00 00 01 01 01 fb 0e 0d \
+pub const THREE_ROWS: &str = "30 00 00 00 05 00 08 00 16 00 00 00 01 01 01 fb 0e 0d \
                           00 01 01 01 01 00 00 00 01 00 00 01 00 00 00 00 \
                           00 09 02 00 10 40 00 00 00 00 00 13 4b 02 02 00 01 01";
 
-const FOREIGN: &str = "06 00 00 00 04 00 aa bb cc dd";
+pub const FOREIGN: &str = "06 00 00 00 04 00 aa bb cc dd";
 
-const MD5: &str = "ff ff ff ff 42 00 00 00 00 00 00 00 05 00 08 00 36 00 00 00 00 00 00 00 \
+pub const MD5: &str = "ff ff ff ff 42 00 00 00 00 00 00 00 05 00 08 00 36 00 00 00 00 00 00 00 \
                    01 01 01 fb 0e 0d 00 01 01 01 01 00 00 00 01 00 00 01 \
                    01 01 08 01 2f 73 00 03 01 08 02 0f 05 1e 01 61 2e 63 00 00 \
                    00 01 02 03 04 05 06 07 08 09 0a 0b 0c 0d 0e 0f";
@@ -40,7 +40,7 @@ const THREE_TEXT: &str = "unit 0x0 dwarf32 version 5 address_size 8\n\
                           row 0x0000000000401004 0 1 3 0 stmt\n\
                           row 0x0000000000401006 0 1 3 0 stmt end\n";
 
-fn options(limit: u64) -> Options<'static>
+pub fn options(limit: u64) -> Options<'static>
     ensures { result.limit ≤ SECTION_LIMIT }
 {
     Options {
@@ -51,7 +51,7 @@ fn options(limit: u64) -> Options<'static>
     }
 }
 
-fn bytes(alloc: Global, words: &[&str]) -> Result<Vec<u8>, Fail> {
+pub fn bytes(alloc: Global, words: &[&str]) -> Result<Vec<u8>, Fail> {
     let mut bytes = Vec::new(alloc);
     for words in words {
         for word in words.split_whitespace() {
@@ -106,7 +106,7 @@ fn counts(units: u64, skipped: u64, sequences: u64, rows: u64) -> Result<Summary
     })
 }
 
-fn damage(offset: u64, kind: FaultKind) -> RunFault {
+pub fn damage(offset: u64, kind: FaultKind) -> RunFault {
     RunFault::Damage { offset, kind }
 }
 

@@ -1,0 +1,107 @@
+//! The command that looks an address up.
+
+ghost use Rattle.std.specs.Prelude.{◌≤◌};
+
+use crate::fault::RunFault;
+use crate::options::{Options, SECTION_LIMIT};
+use crate::output::{Printer, StringSections};
+use crate::section::{Next, Visitor, read_units};
+use crate::summary::Summary;
+use dl_head::{Header, Table};
+use dl_look::{Finder, Place};
+use dl_rows::Row;
+use std::alloc::Global;
+use std::io::{Read, Write};
+
+/// Looks a place up in the rows of each unit, and prints the first answer.
+#[derive(Drop)]
+struct Seeker<'a> {
+    printer: Printer,
+    strings: StringSections<'a>,
+    place: Place,
+    /// Was given the rows of the unit at hand.
+    finder: Finder,
+    found: bool,
+}
+
+impl<W: Write> Visitor<W> for Seeker<'_> {
+    fn header(&mut self, _output: &mut W, _offset: u64, _header: &Header) -> Result<(), RunFault> {
+        Ok(())
+    }
+
+    fn foreign(&mut self, _output: &mut W, _offset: u64, _version: u16) -> Result<(), RunFault> {
+        Ok(())
+    }
+
+    #[inline]
+    fn row(&mut self, _output: &mut W, row: &Row) -> Result<(), RunFault> {
+        self.finder.row(row);
+        Ok(())
+    }
+
+    fn open(&mut self, _output: &mut W) -> Result<(), RunFault> {
+        Ok(())
+    }
+
+    fn end(&mut self, output: &mut W, header: Option<&Header>) -> Result<Next, RunFault> {
+        let answer = self.finder.answer();
+        self.finder = Finder::new(self.place);
+        let (Some(row), Some(header)) = (answer, header) else {
+            return Ok(Next::Unit);
+        };
+        self.file(output, header.files(), row.file)?;
+        self.printer.row(output, &row)?;
+        self.found = true;
+        Ok(Next::Nothing)
+    }
+
+    fn settle(&mut self, output: &mut W) -> Result<(), RunFault> {
+        self.printer.flush(output)
+    }
+}
+
+impl Seeker<'_> {
+    /// Prints the line of a file of the table, or that the table has no entry of this number.
+    fn file<W: Write>(&mut self, output: &mut W, files: &Table, file: u64) -> Result<(), RunFault> {
+        match files.entry(file as usize) {
+            Some(entry) => self
+                .printer
+                .entry(output, &self.strings, b"file ", file, entry),
+            None => self.printer.missing_file(output, file),
+        }
+    }
+}
+
+/// Prints two lines for the place, from the first whole unit whose rows answer for it: the line of the
+/// row's file, or that the unit's table has no such file, and the line of the row. The rest of the input
+/// isn't looked at.
+///
+/// The counts are those of the units up to this one. A fault in one of these units, or before them, is
+/// answered with nothing printed; where no unit answers, and none is damaged, it is `NotFound`. Each
+/// growth of memory is one of `Reader::feed`.
+pub fn find<R: Read, W: Write>(
+    alloc: Global,
+    input: &mut R,
+    output: &mut W,
+    place: Place,
+    options: &Options<'_>,
+) -> Result<Summary, RunFault>
+    requires { options.now.limit ≤ SECTION_LIMIT }
+{
+    let mut seeker = Seeker {
+        printer: Printer::new(),
+        strings: StringSections {
+            debug_line_str: options.debug_line_str,
+            debug_str: options.debug_str,
+        },
+        place,
+        finder: Finder::new(place),
+        found: false,
+    };
+    let summary = read_units(alloc, input, output, options, &mut seeker)?;
+    if seeker.found {
+        Ok(summary)
+    } else {
+        Err(RunFault::NotFound)
+    }
+}

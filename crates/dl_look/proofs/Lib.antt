@@ -1,0 +1,9 @@
+pub mod AnswerLaws
+pub mod FinderLemmas
+pub mod Halving
+pub mod LastUpto
+pub mod MoreRows
+pub mod PlaceOrder
+pub mod SpanLemmas
+pub mod SpansSoFar
+pub mod WorkedRows

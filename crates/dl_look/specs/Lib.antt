@@ -1,0 +1,4 @@
+pub mod Answer
+pub mod FinderRows
+pub mod Laws
+pub mod Spans

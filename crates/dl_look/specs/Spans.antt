@@ -1,0 +1,23 @@
+-- What an index keeps of the sequences of its rows.
+use Rattle.std.specs.Prelude.{ℕ, ◌+◌, List, [], ◌∷◌, length}
+use Rattle.dl_rows.specs.declared.row.Row.{Row}
+use Rattle.dl_look.specs.declared.probed.Span.{Span}
+use Rattle.dl_look.specs.Answer.{sequences, is_rising, first_place, last_place}
+
+-- of a sequence whose first row has the number start
+abbrev pub span_of : ℕ → List Row → Span
+span_of start sequence = record {
+  start = start;
+  len = length sequence;
+  first = first_place sequence;
+  last = last_place sequence;
+  rising = is_rising sequence;
+}
+
+-- of sequences one behind the other
+abbrev pub spans_from : ℕ → List (List Row) → List Span
+spans_from start [] = []
+spans_from start (s ∷ ss) = span_of start s ∷ spans_from (start + length s) ss
+
+abbrev pub spans : List Row → List Span
+spans rows = spans_from 0 (sequences rows)

@@ -1,0 +1,135 @@
+//! Rows in memory, for the look-up of many places.
+
+ghost use Rattle.std.specs.Prelude.{◌≡◌, IfOk};
+ghost use Rattle.dl_look.specs.Answer.{answer};
+ghost use Rattle.dl_look.specs.Spans as Spans;
+
+use crate::place::Place;
+use crate::probed::{Probed, Span};
+use crate::run::Run;
+use crate::searching::search;
+use dl_rows::Row;
+use std::alloc::Global;
+use std::marker::Model;
+
+/// A growth was refused.
+#[derive(Debug, Clone, Copy, PartialEq, Eq)]
+pub struct NoMemory;
+
+/// Rows, with what is kept of each of their sequences that has an end row.
+#[derive(Debug, Drop)]
+pub struct Index {
+    rows: Vec<Row>,
+    spans: Vec<Span>,
+}
+
+// An index is seen as its rows.
+impl Model for Index {
+    ghost use Rattle.std.specs.Prelude.{◌≡◌, List};
+    ghost use Rattle.dl_rows.specs.declared.row.Row.{Row};
+    ghost use Rattle.dl_look.specs.Spans as Spans;
+
+    ghost Value = { List Row };
+
+    ghost view = { λ kept. kept.rows.items };
+
+    ghost invariant = { λ kept. kept.spans.items ≡ Spans.spans kept.rows.items };
+}
+
+impl Index {
+    /// An index of a copy of the rows. Where a growth is refused, nothing is kept.
+    pub fn build(alloc: Global, rows: &[Row]) -> Result<Index, NoMemory>
+        ensures { IfOk result (λ built. built ≡ rows.now) }
+    {
+        let spans = spans_of(alloc, rows)?;
+        match Vec::from_slice(alloc, rows) {
+            Ok(rows) => Ok(Index { rows, spans }),
+            Err(_) => Err(NoMemory),
+        }
+    }
+
+    /// The answer of the rows for a place, as `Finder::answer` gives it.
+    pub fn find(&self, place: Place) -> Option<Row>
+        ensures { result ≡ answer self.now place }
+    {
+        search(&mut self.probe(), place)
+    }
+
+    /// The rows, to be seen by counted calls; no probe was made yet.
+    pub fn probe(&self) -> Probe<'_>
+        ensures rows { ⟦<Probe<'static> as Probed>⟧.list result ≡ self.now }
+        ensures count { ⟦<Probe<'static> as Probed>⟧.probes result ≡ 0 }
+    {
+        Probe {
+            rows: self.rows.as_slice(),
+            spans: self.spans.as_slice(),
+            count: 0,
+        }
+    }
+}
+
+/// What is kept of the sequences of the rows, by one pass over them.
+fn spans_of(alloc: Global, rows: &[Row]) -> Result<Vec<Span>, NoMemory>
+    ensures { IfOk result (λ spans. spans.items ≡ Spans.spans rows.now) }
+{
+    let mut spans = Vec::new(alloc);
+    let mut start = 0;
+    let mut run = None;
+    for (i, row) in rows.iter().enumerate() {
+        let extended = Run::extended(run, Place::of(row));
+        if row.end_sequence {
+            let span = Span {
+                start,
+                len: i - start + 1,
+                first: extended.first,
+                last: extended.last,
+                rising: extended.rising,
+            };
+            if spans.push(span).is_err() {
+                return Err(NoMemory);
+            }
+            start = i + 1;
+            run = None;
+        } else {
+            run = Some(extended);
+        }
+    }
+    Ok(spans)
+}
+
+/// The rows of an index, seen by counted calls.
+#[derive(Debug, Drop)]
+pub struct Probe<'a> {
+    rows: &'a [Row],
+    spans: &'a [Span],
+    count: u128,
+    ghost tied: { spans.now ≡ Spans.spans rows.now },
+}
+
+impl Probed for Probe<'_> {
+    ghost list = { λ p. p.rows.now };
+
+    ghost probes = { λ p. p.count };
+
+    fn rows(&self) -> usize {
+        self.rows.len()
+    }
+
+    fn sequences(&self) -> usize {
+        self.spans.len()
+    }
+
+    fn count(&self) -> u128 {
+        self.count
+    }
+
+    fn sequence(&mut self, i: usize) -> Span {
+        self.count += 1;
+        self.spans[i]
+    }
+
+    fn row(&mut self, i: usize) -> Row {
+        self.count += 1;
+        self.rows[i]
+    }
+}

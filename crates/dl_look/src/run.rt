@@ -1,0 +1,45 @@
+//! The rows of a sequence that came so far.
+
+use crate::place::Place;
+
+/// Rows one behind the other: the places of the first and of the last, and whether no place is below
+/// the one before it.
+#[derive(Debug, Clone, Copy, PartialEq, Eq)]
+pub struct Run {
+    pub first: Place,
+    pub last: Place,
+    pub rising: bool,
+}
+
+impl Run {
+    ghost use Rattle.std.specs.Prelude.{◌≡◌, ◌++◌, ◌∷◌, [], List, Some};
+    ghost use Rattle.dl_rows.specs.declared.row.Row.{Row};
+    ghost use Rattle.dl_look.specs.Answer.{place_of};
+    ghost use Rattle.dl_look.specs.FinderRows.{run_of, run_covers};
+
+    /// The rows of a run, None for none, and a row behind them.
+    pub fn extended(run: Option<Run>, place: Place) -> Run
+        ensures { (rows : List Row) (r : Row) → run ≡ run_of rows → place ≡ place_of r
+            → Some result ≡ run_of (rows ++ r ∷ []) }
+    {
+        match run {
+            Some(run) => Run {
+                first: run.first,
+                last: place,
+                rising: run.rising && run.last.is_at_most(place),
+            },
+            None => Run {
+                first: place,
+                last: place,
+                rising: true,
+            },
+        }
+    }
+
+    /// Whether the run is rising and covers the place, where its last row is an end row.
+    pub fn covers(&self, place: Place) -> bool
+        ensures { result ≡ run_covers place self.now }
+    {
+        self.rising && place.is_within(self.first, self.last)
+    }
+}
