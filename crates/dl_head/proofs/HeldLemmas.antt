@@ -1,10 +1,16 @@
 -- Where the bytes of values end in a pool.
-use Rattle.std.proofs.Common.{◌≡◌, ℕ, zero, suc, ◌+◌, ◌*◌, ◌/◌, ◌<◌, ◌≤◌, List, [], ◌∷◌, ◌++◌, Option, Some, None, length, take, drop, get_or, max, refl, sym, ap, arith}
-use Rattle.std.proofs.lemmas.List.{take-append-drop}
+use Rattle.std.proofs.Common.{◌≡◌, ℕ, zero, suc, ◌+◌, ◌*◌, ◌/◌, ◌<◌, ◌≤◌, List, [], ◌∷◌, ◌++◌, length, take, drop, map, get_or, max, refl, ap, arith, ◌∙◌}
+use Rattle.std.proofs.lemmas.List.{take-append-drop, take_all, take-append-le, drop-append-le, length-drop, length-take-le, map-append, take_more, append_assoc}
+use Rattle.std.proofs.Math.Seq.{drop-append_seam}
+use Rattle.dl_head.specs.declared.form.Format.{Format}
+use Rattle.dl_head.specs.declared.table.Pair.{Pair}
 use Rattle.dl_head.specs.declared.table.held.Held.{Held}
-use Rattle.std.proofs.Math.Nat.{mul-le-mul_right, div-mul-le_self, div-zero}
-use Rattle.std.specs.Option.{SomeIff, unwrap_or}
-use Rattle.dl_head.specs.Held.{held_end, values_end, rows}
+use Rattle.std.proofs.Math.Nat.{mul-le-mul_right, div-mul-le_self, mul-div_cancel}
+use Rattle.dl_head.specs.declared.table.held.Extent.{Extent}
+use Rattle.dl_head.specs.declared.table.held.ValueRef.{ValueRef}
+use Rattle.dl_head.specs.declared.table.held.Held.TheVariants as held
+use Rattle.dl_head.specs.Value.{Value, text, block}
+use Rattle.dl_head.specs.Held.{bytes_at, held_end, value_held, value_lent, values_end, rows, IsWhole, table_of}
 
 pub values_end-append : (xs ys : List Held) → values_end (xs ++ ys) ≡ max (values_end xs) (values_end ys)
 values_end-append [] ys = omega arith
@@ -44,8 +50,53 @@ row_within i width n h =
     let b = div-mul-le_self n width in
     omega arith
 
--- the count of the entries, where a table without pairs has none
-pub counted : (o : Option ℕ) (n width : ℕ) → SomeIff o (0 < width) (n / width) → unwrap_or o 0 ≡ n / width
-counted (Some x) n width h = h.1
-counted None n zero h = sym (div-zero n)
-counted None n (suc width) h = absurd (h (omega arith))
+-- a number of rows is whole
+pub whole_rows : (n width : ℕ) → IsWhole (n * width) width
+whole_rows n zero = omega arith
+whole_rows n (suc width) = ap (λ k. k * suc width) (mul-div_cancel n (omega arith))
+
+pub take_whole : {A : Type 0} (xs : List A) (n width : ℕ) → n * width ≤ length xs → IsWhole (length (take (n * width) xs)) width
+take_whole xs n width h = rw (length-take-le (n * width) xs h) (whole_rows n width)
+
+-- nothing is left out of a table of few pairs and whole rows
+pub table_of-take : (format : Format) (pairs p : List Pair) (values v : List Held) (pool : List ℕ) (k : ℕ) → p ≡ take 255 pairs → v ≡ take k values → k ≡ length values / length p * length p → length pairs ≤ 255 → IsWhole (length values) (length pairs) → table_of format p v pool ≡ table_of format pairs values pool
+table_of-take format pairs p values v pool k p_is v_is k_is few whole =
+    let same_pairs : p ≡ pairs = p_is ∙ take_all 255 pairs few in
+    let kept : k ≡ length values = k_is ∙ ap (λ (q : List Pair). length values / length q * length q) same_pairs ∙ whole in
+    let same_values : v ≡ values = v_is ∙ take_all k values (omega arith) in
+    rw (same_pairs, same_values) refl
+
+-- bytes that are appended stand there
+pub bytes_at-append : (pool w : List ℕ) → bytes_at (pool ++ w) (record { start = length pool; len = length w }) ≡ w
+bytes_at-append pool w = rw (drop-append_seam pool w, take_all (length w) w (omega arith)) refl
+
+-- more bytes in the pool change no value
+bytes_at-more : (pool more : List ℕ) (e : Extent) → e.start + e.len ≤ length pool → bytes_at (pool ++ more) e ≡ bytes_at pool e
+bytes_at-more pool more e h =
+    let start : e.start ≤ length pool = omega arith in
+    let len : e.len ≤ length (drop e.start pool) = omega (arith, length-drop e.start pool) in
+    rw (drop-append-le e.start pool more start, take-append-le e.len (drop e.start pool) more len) refl
+
+pub value_held-more : (pool more : List ℕ) (h : Held) → held_end h ≤ length pool → value_held (pool ++ more) h ≡ value_held pool h
+value_held-more pool more (held.Text e) h = ap text (bytes_at-more pool more e h)
+value_held-more pool more (held.LineStr n) h = refl
+value_held-more pool more (held.Str n) h = refl
+value_held-more pool more (held.StrSup n) h = refl
+value_held-more pool more (held.Number n) h = refl
+value_held-more pool more (held.Block e) h = ap block (bytes_at-more pool more e h)
+value_held-more pool more (held.Data16 w) h = refl
+
+pub values_held-more : (pool more : List ℕ) (values : List Held) → values_end values ≤ length pool → map (value_held (pool ++ more)) values ≡ map (value_held pool) values
+values_held-more pool more [] h = refl
+values_held-more pool more (v ∷ values) h =
+    rw (value_held-more pool more v (omega arith), values_held-more pool more values (omega arith)) refl
+
+-- a value is held behind the others, and its bytes behind theirs
+pub values_held-push : (pool more : List ℕ) (values : List Held) (h : Held) (v : Value) → values_end values ≤ length pool → value_held (pool ++ more) h ≡ v → map (value_held (pool ++ more)) (values ++ h ∷ []) ≡ map (value_held pool) values ++ v ∷ []
+values_held-push pool more values h v within is =
+    rw (map-append (value_held (pool ++ more)) values (h ∷ []), values_held-more pool more values within, is) refl
+
+-- one value more of those that are lent
+pub values_lent-more : (before now : List Value) (values : List ValueRef) (i : ℕ) (d : ValueRef) → i < length values → now ≡ before ++ map value_lent (take i values) → now ++ value_lent (get_or values i d) ∷ [] ≡ before ++ map value_lent (take (i + 1) values)
+values_lent-more before now values i d h is =
+    rw (take_more values i d h, map-append value_lent (take i values) (get_or values i d ∷ []), is) (append_assoc before (map value_lent (take i values)) (value_lent (get_or values i d) ∷ []))

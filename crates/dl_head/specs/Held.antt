@@ -1,10 +1,13 @@
 -- What the fields of a table hold, seen as its pairs and values.
-use Rattle.std.specs.Prelude.{ℕ, zero, suc, ◌+◌, List, [], ◌∷◌, length, take, drop, max}
+use Rattle.std.specs.Prelude.{◌≡◌, ℕ, zero, suc, ◌+◌, ◌*◌, ◌/◌, List, [], ◌∷◌, length, take, drop, map, max}
+use Rattle.dl_head.specs.declared.form.Format.{Format}
+use Rattle.dl_head.specs.declared.table.Pair.{Pair}
 use Rattle.dl_head.specs.declared.table.held.Extent.{Extent}
 use Rattle.dl_head.specs.declared.table.held.Held.{Held}
 use Rattle.dl_head.specs.declared.table.held.Held.TheVariants as held
 use Rattle.dl_head.specs.declared.table.held.ValueRef.{ValueRef}
 use Rattle.dl_head.specs.declared.table.held.ValueRef.TheVariants as lent
+use Rattle.dl_head.specs.TableData.{TableData}
 use Rattle.dl_head.specs.Value.{Value, text, line_str, str, str_sup, number, block, data16}
 
 -- the bytes of a pool at an extent
@@ -47,8 +50,29 @@ abbrev pub rows : {A : Type 0} → ℕ → ℕ → List A → List (List A)
 rows zero width xs = []
 rows (suc count) width xs = take width xs ∷ rows count width (drop width xs)
 
--- how many bytes of a pool a value takes
+-- so many values are a whole number of rows
+abbrev pub IsWhole : (values width : ℕ) → Type 0
+IsWhole values width = values / width * width ≡ values
+
+-- a table whose entries are rows of one value for each pair
+abbrev pub table_of : Format → List Pair → List Held → List ℕ → TableData
+table_of format pairs values pool = record {
+  format = format;
+  pairs = pairs;
+  entries = rows (length values / length pairs) (length pairs) (map (value_held pool) values);
+}
+
+-- the bytes of a value that stand in a pool, and how many they are
+abbrev pub bytes_lent : ValueRef → List ℕ
+bytes_lent (lent.Text w) = w.now
+bytes_lent (lent.Block w) = w.now
+bytes_lent other = []
+
 abbrev pub pooled : ValueRef → ℕ
-pooled (lent.Text w) = length w.now
-pooled (lent.Block w) = length w.now
-pooled other = 0
+pooled v = length (bytes_lent v)
+
+-- how many cells a value is: itself, and the bytes of a text or block
+abbrev pub cells_held : Held → ℕ
+cells_held (held.Text e) = 1 + e.len
+cells_held (held.Block e) = 1 + e.len
+cells_held other = 1

@@ -1,12 +1,14 @@
 -- A table's fields, seen as its pairs and entries.
-use Rattle.std.specs.Prelude.{◌/◌, length, map}
+use Rattle.std.specs.Prelude.{◌≤◌, length}
 use Rattle.dl_head.specs.declared.table.Table.TheInside.{Inside}
 use Rattle.dl_head.specs.TableData.{TableData}
-use Rattle.dl_head.specs.Held.{value_held, rows}
+use Rattle.dl_head.specs.Held.{values_end, IsWhole, table_of}
 
 abbrev pub table_held : Inside → TableData
-table_held t = record {
-  format = t.format;
-  pairs = t.pairs.items;
-  entries = rows (length t.values.items / length t.pairs.items) (length t.pairs.items) (map (value_held t.pool.items) t.values.items);
-}
+table_held t = table_of t.format t.pairs.items t.values.items t.pool.items
+
+-- what is true of a table's fields
+pub record IsHeld (t : Inside) : Type 0 where
+  pub within : values_end t.values.items ≤ length t.pool.items
+  pub whole : IsWhole (length t.values.items) (length t.pairs.items)
+  pub few : length t.pairs.items ≤ 255

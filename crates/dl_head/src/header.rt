@@ -1,7 +1,9 @@
 //! Headers. Section 6.2.4.
 
-ghost use Rattle.std.specs.Prelude.{◌≡◌, IfNone};
-ghost use Rattle.dl_head.specs.Built.{IsUsable};
+ghost use Rattle.std.specs.Prelude.{◌≡◌, ◌↔◌, IsTrue, ◌-◌, ◌^◌, None, Some, IfErr, IfOk, IfNone, OnOk, min};
+ghost use Rattle.std.specs.Option.{option_map};
+ghost use Rattle.dl_head.specs.Built.{IsUsable, param_fault as param_fault_of, with_standard_opcodes as standard, wrong_length as wrong_length_of};
+ghost use Rattle.dl_head.specs.TableCells.{header_cells};
 
 use crate::fault::ParamFault;
 use crate::params::{Params, is_wrong_length, standard_lengths};
@@ -29,6 +31,31 @@ impl Model for Header {
     ghost invariant = { λ h. IsUsable h.params };
 }
 
+impl PartialEq for Header {
+    ghost use Rattle.std.specs.Cmp.{partial_equiv_from_equiv};
+    ghost use Rattle.dl_head.specs.Equal.{same_header};
+    ghost use Rattle.dl_head.specs.EqualLaws.{same_header-laws as same_header_laws};
+
+    ghost eq = { same_header };
+
+    ghost laws = { partial_equiv_from_equiv same_header_laws };
+
+    fn eq(&self, other: &Header) -> bool
+        ensures value { result ≡ same_header self.now other.now }
+        ensures exact { IsTrue result ↔ (self.now ≡ other.now) }
+    {
+        self.params == other.params
+            && self.directories == other.directories
+            && self.files == other.files
+    }
+}
+
+impl Eq for Header {
+    ghost use Rattle.dl_head.specs.EqualLaws.{same_header-laws as same_header_laws};
+
+    ghost laws = { same_header_laws };
+}
+
 /// Why the parts of a header were refused, and all of them.
 #[derive(Debug, Drop, Error)]
 #[error("no header: {fault}")]
@@ -41,7 +68,15 @@ pub struct Refused {
 
 impl Header {
     /// A header of these parts, or the first reason against it with all parts.
-    pub fn new(params: Params, directories: Table, files: Table) -> Result<Header, Refused> {
+    pub fn new(params: Params, directories: Table, files: Table) -> Result<Header, Refused>
+        ensures fits { OnOk result (param_fault_of params directories files ≡ None) }
+        ensures made { IfOk result
+            (λ h. h ≡ record { params = params; directories = directories; files = files }) }
+        ensures refused { IfErr result
+            (λ r. param_fault_of params directories files ≡ Some r.fault) }
+        ensures handed_back { IfErr result
+            (λ r. (r.params ≡ params) × (r.directories ≡ directories) × (r.files ≡ files)) }
+    {
         match param_fault(&params, &directories, &files) {
             Some(fault) => Err(Refused {
                 fault,
@@ -60,6 +95,8 @@ impl Header {
     /// The header of parts that were read.
     pub(crate) fn of_parts(params: Params, directories: Table, files: Table) -> Header
         requires { IsUsable params }
+        ensures { result
+            ≡ record { params = params; directories = directories; files = files } }
     {
         Header {
             params,
@@ -92,12 +129,16 @@ impl Header {
 
     /// How many pairs, values, and bytes of texts and blocks the tables hold; 2^64 - 1 where there
     /// are more.
-    pub fn cells(&self) -> u64 {
+    pub fn cells(&self) -> u64
+        ensures { result ≡ min (header_cells self.now) (2 ^ 64 - 1) }
+    {
         self.directories.cells().saturating_add(self.files.cells())
     }
 
     /// The same header with opcode_base 13 and the twelve lengths of section 6.2.5.2.
-    pub fn with_standard_opcodes(self) -> Header {
+    pub fn with_standard_opcodes(self) -> Header
+        ensures { result ≡ standard self }
+    {
         let Header {
             mut params,
             directories,
@@ -115,7 +156,8 @@ impl Header {
 
 /// The first reason for which the parts make no header.
 fn param_fault(params: &Params, directories: &Table, files: &Table) -> Option<ParamFault>
-    ensures { IfNone result (IsUsable params.now) }
+    ensures value { result ≡ param_fault_of params.now directories.now files.now }
+    ensures usable { IfNone result (IsUsable params.now) }
 {
     if !matches!(params.address_size, 1 | 2 | 4 | 8) {
         return Some(ParamFault::AddressSize);
@@ -139,7 +181,9 @@ fn param_fault(params: &Params, directories: &Table, files: &Table) -> Option<Pa
 }
 
 /// The least standard opcode whose length isn't that of section 6.2.5.2.
-fn wrong_length(lengths: &[u8]) -> Option<u8> {
+fn wrong_length(lengths: &[u8]) -> Option<u8>
+    ensures { result ≡ wrong_length_of 1 lengths.now }
+{
     for (i, length) in lengths.iter().enumerate() {
         if is_wrong_length(i + 1, *length) {
             return Some((i + 1) as u8);

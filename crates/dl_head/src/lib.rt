@@ -1,14 +1,18 @@
-//! The header of a line table unit of DWARF 5: its forms, its tables, and its reader. Section 6.2.4.
+//! The header of a line table unit of DWARF 5: its forms, its tables, its reader and its writer. Section 6.2.4.
 #![tactic(auto)]
 
+mod counted;
 pub mod fault;
 pub mod form;
 pub mod header;
+pub mod laws;
 pub mod params;
 pub mod reader;
 pub mod table;
 pub mod text;
+pub mod write;
 
+pub use counted::HeadWrite;
 pub use fault::{BuildFault, Fault, FaultKind, ParamFault};
 pub use form::{Form, Format};
 pub use header::{Header, Refused};
@@ -16,6 +20,7 @@ pub use params::Params;
 pub use reader::{HeadReader, HeadStep};
 pub use table::{Entry, Pair, Table, ValueRef, Values};
 pub use text::text_at;
+pub use write::{TooLong, header_len, write_header};
 
 #[cfg(test)]
 mod tests;

@@ -1,6 +1,8 @@
 //! The fields of a header that are numbers. Section 6.2.4.
 
-ghost use Rattle.std.specs.Prelude.{◌≡◌, [], ◌≤◌, IsTrue};
+ghost use Rattle.std.specs.Prelude.{◌≡◌, [], ◌≤◌, IsTrue, Some, None, if◌then◌else◌};
+ghost use Rattle.dl_head.specs.Layout.{objection, opcode_length};
+ghost use Rattle.dl_head.specs.declared.fault.FaultKind.TheVariants as fault;
 ghost use Rattle.dl_head.specs.Built.{IsUsable};
 
 use crate::form::Format;
@@ -64,6 +66,7 @@ pub(crate) fn standard_lengths() -> ArrayVec<u8, 254>
 pub(crate) fn is_wrong_length(opcode: usize, length: u8) -> bool
     requires { 1 ≤ opcode }
     ensures standard { IsTrue result → opcode ≤ 12 }
+    ensures value { objection (opcode_length opcode) length ≡ (if result then Some (fault.StandardLength opcode) else None) }
 {
     match STANDARD_LENGTHS.get(opcode - 1) {
         Some(standard) => *standard != length,

@@ -1,14 +1,14 @@
 //! The header of a unit, byte by byte. Section 6.2.4.
 
 ghost use Rattle.std.specs.Prelude.{◌≡◌, ◌≤◌, ◌^◌, true, length};
-ghost use Rattle.dl_head.specs.Number.{is_number_size};
+ghost use Rattle.dl_num.specs.Fixed.{is_number_size};
 ghost use Rattle.dl_head.specs.HeadStep.{lengths_fit};
 
 mod byte_field;
 mod fields;
 mod lengths;
 mod next;
-mod number;
+mod sixteen;
 mod table_reader;
 mod value_phase;
 mod value_reader;
@@ -19,9 +19,8 @@ use crate::header::Header;
 use crate::params::Params;
 use crate::table::Table;
 use byte_field::ByteField;
-use dl_num::Order;
+use dl_num::{Number, Order};
 use next::Next;
-use number::Number;
 use std::alloc::Global;
 use std::mem;
 use table_reader::TableReader;

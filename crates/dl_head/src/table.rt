@@ -1,11 +1,19 @@
 //! Tables of directories and files. Section 6.2.4.1.
 
-ghost use Rattle.std.specs.Prelude.{◌≡◌, ◌*◌, ◌/◌, ◌<◌, ◌≤◌, ◌↔◌, [], IsTrue, length, take, drop};
-ghost use Rattle.dl_head.specs.Held.{values_end};
+ghost use Rattle.std.specs.Prelude.{◌≡◌, ◌+◌, ◌-◌, ◌*◌, ◌/◌, ◌^◌, ◌<◌, ◌≤◌, ◌↔◌, ◌∷◌, ◌++◌, [], IsTrue, IfOk, OnOk, OnErr, Err, length, take, drop, map, min, slice_get};
+ghost use Rattle.std.specs.Option.{option_map};
+ghost use Rattle.dl_head.specs.Built.{entry_fault, format_fault, Refuses};
+ghost use Rattle.std.specs.List.{sum_by};
+ghost use Rattle.dl_head.specs.Held.{cells_held, value_lent, values_end, IsWhole, table_of};
+ghost use Rattle.dl_head.specs.TableCells.{table_cells};
+ghost use Rattle.dl_head.specs.EntryData.{with_content};
 
 mod building;
 mod entry;
+mod equal;
 pub(crate) mod held;
+mod spelled;
+mod writing;
 
 use crate::fault::BuildFault;
 use crate::form::{Form, Format};
@@ -40,21 +48,29 @@ impl Model for Table {
 
     ghost Value = { TableData };
 
-    ghost use Rattle.std.specs.Prelude.{◌≤◌, length};
-    ghost use Rattle.dl_head.specs.Held.{values_end};
-    ghost use Rattle.dl_head.specs.TableHeld.{table_held};
+    ghost use Rattle.dl_head.specs.TableHeld.{IsHeld, table_held};
 
     ghost view = { table_held };
 
-    ghost invariant = { λ t. values_end t.values.items ≤ length t.pool.items };
+    ghost invariant = { IsHeld };
 }
 
 impl Table {
+    ghost use Rattle.dl_head.specs.EntryHeld.{entry_items};
+
     /// A table without entries. It is refused where there are more than 255 pairs, or where memory
     /// is.
-    pub fn new(alloc: Global, format: Format, pairs: &[Pair]) -> Result<Table, BuildFault> {
+    pub fn new(alloc: Global, format: Format, pairs: &[Pair]) -> Result<Table, BuildFault>
+        ensures refused { Refuses (format_fault pairs.now) result }
+        ensures memory { result ≡ Err BuildFault.NoMemory → 0 < length pairs.now }
+        ensures made { IfOk result
+            (λ t. t ≡ record { format = format; pairs = pairs.now; entries = [] }) }
+    {
         if pairs.len() > MAX_PAIRS {
             return Err(BuildFault::TooManyFormats);
+        }
+        if pairs.is_empty() {
+            return Ok(Table::without_pairs(alloc, format));
         }
         match Vec::from_slice(alloc, pairs) {
             Ok(pairs) => Ok(Table {
@@ -68,7 +84,13 @@ impl Table {
     }
 
     /// Adds an entry at the end. Where it is refused, the table is unchanged.
-    pub fn push_entry(&mut self, values: &[ValueRef<'_>]) -> Result<(), BuildFault> {
+    pub fn push_entry(&mut self, values: &[ValueRef<'_>]) -> Result<(), BuildFault>
+        ensures refused { Refuses (entry_fault self.old (map value_lent values.now)) result }
+        ensures added { OnOk result (self.new ≡ record self.old {
+          entries = self.old.entries ++ map value_lent values.now ∷ [];
+        }) }
+        ensures unchanged { OnErr result (self.new ≡ self.old) }
+    {
         if self.pairs.is_empty() {
             return Err(BuildFault::EmptyFormat);
         }
@@ -89,7 +111,7 @@ impl Table {
     pub fn len(&self) -> usize
         ensures { result ≡ length self.now.entries }
     {
-        self.values.len().checked_div(self.pairs.len()).unwrap_or(0)
+        whole_rows(self.values.len(), self.pairs.len())
     }
 
     /// Whether there are no entries.
@@ -107,7 +129,10 @@ impl Table {
     }
 
     /// The entry of this number, from 0 on; None from `len()` on.
-    pub fn entry(&self, i: usize) -> Option<Entry<'_>> {
+    pub fn entry(&self, i: usize) -> Option<Entry<'_>>
+        ensures { option_map entry_items result
+            ≡ option_map (with_content self.now.pairs) (slice_get self.now.entries i) }
+    {
         if i >= self.len() {
             return None;
         }
@@ -116,7 +141,9 @@ impl Table {
     }
 
     /// A table that takes no entries. It takes no memory.
-    pub(crate) fn without_pairs(alloc: Global, format: Format) -> Table {
+    pub(crate) fn without_pairs(alloc: Global, format: Format) -> Table
+        ensures { result ≡ record { format = format; pairs = []; entries = [] } }
+    {
         Table {
             format,
             pairs: Vec::new(alloc),
@@ -125,15 +152,21 @@ impl Table {
         }
     }
 
-    /// A table of values whose bytes stand in the pool.
+    /// A table of values whose bytes stand in the pool. Pairs after the 255th and values after the
+    /// last whole entry are left out.
     pub(crate) fn of_parts(
         format: Format,
-        pairs: Vec<Pair>,
-        values: Vec<Held>,
+        mut pairs: Vec<Pair>,
+        mut values: Vec<Held>,
         pool: Vec<u8>,
     ) -> Table
         requires { values_end values.items ≤ length pool.items }
+        ensures { length pairs.items ≤ 255 → IsWhole (length values.items) (length pairs.items)
+            → result ≡ table_of format pairs.items values.items pool.items }
     {
+        pairs.truncate(MAX_PAIRS);
+        let width = pairs.len();
+        values.truncate(whole_rows(values.len(), width) * width);
         Table {
             format,
             pairs,
@@ -142,15 +175,27 @@ impl Table {
         }
     }
 
-    pub(crate) fn format(&self) -> Format {
+    pub(crate) fn format(&self) -> Format
+        ensures { result ≡ self.now.format }
+    {
         self.format
     }
 
     /// How many pairs, values, and bytes of texts and blocks the table holds; 2^64 - 1 where there
     /// are more.
-    pub(crate) fn cells(&self) -> u64 {
-        cells_of(&self.pairs, &self.values, &self.pool)
+    pub(crate) fn cells(&self) -> u64
+        ensures { result ≡ min (table_cells self.now) (2 ^ 64 - 1) }
+    {
+        (self.pairs.len() as u64).saturating_add(held_cells(self.values.as_slice()))
     }
+}
+
+/// How many whole rows so many values have; none where a row has no values.
+fn whole_rows(values: usize, width: usize) -> usize
+    ensures rows { result ≡ values / width }
+    ensures within { result * width ≤ values }
+{
+    values.checked_div(width).unwrap_or(0)
 }
 
 /// The row of this number, from 0 on, in rows of so many values.
@@ -163,8 +208,22 @@ fn row(values: &[Held], width: usize, i: usize) -> &[Held]
     &values[start..start + width]
 }
 
+/// How many cells these values are; 2^64 - 1 where there are more.
+fn held_cells(values: &[Held]) -> u64
+    ensures { result ≡ min (sum_by cells_held values.now) (2 ^ 64 - 1) }
+{
+    let mut cells = 0u64;
+    for held in values {
+        cells = cells.saturating_add(held.cells());
+    }
+    cells
+}
+
 /// How many cells there are in these parts of a table; 2^64 - 1 where there are more.
-pub(crate) fn cells_of(pairs: &Vec<Pair>, values: &Vec<Held>, pool: &Vec<u8>) -> u64 {
+pub(crate) fn cells_of(pairs: &Vec<Pair>, values: &Vec<Held>, pool: &Vec<u8>) -> u64
+    ensures { result ≡ min (length pairs.now.items + length values.now.items
+        + length pool.now.items) (2 ^ 64 - 1) }
+{
     (pairs.len() as u64)
         .saturating_add(values.len() as u64)
         .saturating_add(pool.len() as u64)

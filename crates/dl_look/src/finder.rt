@@ -36,43 +36,43 @@ impl Finder {
     }
 
     /// Takes the next row.
+    #[inline]
     pub fn row(&mut self, row: &Row)
         ensures { (x : Place) (rows : List Row) → StandsFor self.old x rows
             → StandsFor self.new x (rows ++ row.now ∷ []) }
     {
         let place = Place::of(row);
         let run = Run::extended(self.run, place);
-        let found = self.found_with(row, place);
+        self.note(row, place);
         if row.end_sequence {
-            self.end_sequence(run, found);
+            self.end_sequence(run);
         } else {
             self.run = Some(run);
-            self.found = found;
         }
     }
 
-    /// The last row that isn't above the place, where this row is next.
-    fn found_with(&self, row: &Row, place: Place) -> Option<Row>
-        ensures { result ≡ (if is_at_most place self.now.place then Some row.now else self.now.found) }
+    /// Keeps the next row, at this place, where it isn't above the one that is looked for.
+    #[inline]
+    fn note(&mut self, row: &Row, place: Place)
+        ensures { self.new ≡ (record self.old {
+            found = if is_at_most place self.old.place then Some row.now else self.old.found }) }
     {
         if place.is_at_most(self.place) {
-            Some(*row)
-        } else {
-            self.found
+            self.found = Some(*row);
         }
     }
 
-    /// Ends the sequence at hand: its rows, and the last of them that isn't above the place.
-    fn end_sequence(&mut self, run: Run, found: Option<Row>)
+    /// Ends the sequence at hand.
+    fn end_sequence(&mut self, run: Run)
         ensures answer { self.new.answer
-            ≡ (if is_none self.old.answer && run_covers self.old.place run then found
+            ≡ (if is_none self.old.answer && run_covers self.old.place run then self.old.found
             else self.old.answer) }
         ensures place { self.new.place ≡ self.old.place }
         ensures run { self.new.run ≡ None }
         ensures found { self.new.found ≡ None }
     {
         if self.answer.is_none() && run.covers(self.place) {
-            self.answer = found;
+            self.answer = self.found;
         }
         self.run = None;
         self.found = None;

@@ -17,6 +17,7 @@ impl Place {
     ghost use Rattle.dl_look.specs.Answer.{place_of, is_at_most, is_below};
 
     /// The place of a row.
+    #[inline]
     pub fn of(row: &Row) -> Place
         ensures { result ≡ place_of row.now }
     {
@@ -27,6 +28,7 @@ impl Place {
     }
 
     /// Whether this place isn't above the other.
+    #[inline]
     pub(crate) fn is_at_most(self, other: Place) -> bool
         ensures { result ≡ is_at_most self other }
     {

@@ -18,6 +18,7 @@ impl Run {
     ghost use Rattle.dl_look.specs.FinderRows.{run_of, run_covers};
 
     /// The rows of a run, None for none, and a row behind them.
+    #[inline]
     pub fn extended(run: Option<Run>, place: Place) -> Run
         ensures { (rows : List Row) (r : Row) → run ≡ run_of rows → place ≡ place_of r
             → Some result ≡ run_of (rows ++ r ∷ []) }

@@ -68,7 +68,7 @@ cut_is_standing spelt empty (a ∷ found) b rest ((x ∷ w), v, e, first, cut) =
     rw e (found_first spelt [] x w v a first.spells first.shortest ∙ ap (with_found a) (cut_is_standing spelt empty found v rest cut))
 
 -- a front that leaves a byte is a front of what the last byte follows
-front_before : (begun front : List ℕ) (x y : ℕ) (back : List ℕ) → begun ++ x ∷ [] ≡ front ++ y ∷ back → (z : List ℕ) × (begun ≡ front ++ z)
+pub front_before : (begun front : List ℕ) (x y : ℕ) (back : List ℕ) → begun ++ x ∷ [] ≡ front ++ y ∷ back → (z : List ℕ) × (begun ≡ front ++ z)
 front_before begun [] x y back e = (begun, refl)
 front_before [] (a ∷ []) x y back e = absurd cc
 front_before [] (a ∷ c ∷ front) x y back e = absurd cc

@@ -1,5 +1,5 @@
 -- Numbers in LEB128 at the front of bytes.
-use Rattle.std.proofs.Common.{◌≡◌, ℕ, ◌<◌, ◌≤◌, Bool, true, false, nat_le, ◌&&◌, List, [], ◌∷◌, ◌++◌, length, refl, sym, ap, ◌∙◌, arith, inl, inr}
+use Rattle.std.proofs.Common.{◌≡◌, ℕ, ◌<◌, ◌≤◌, Bool, true, false, nat_le, ◌&&◌, List, [], ◌∷◌, ◌++◌, length, refl, sym, ap, ◌∙◌, arith, inl, inr, Option, None, Some, MatchOption}
 use Rattle.std.proofs.lemmas.Bool.{cases_lt, lt-ltb, le-ltb, le-leb, lt-leb}
 use Rattle.dl_num.specs.Leb.{AllContinue}
 use Rattle.dl_num.specs.LebFront.{is_leb, leb_front}
@@ -67,3 +67,8 @@ leb_front-le (a ∷ w) = elim (cases_lt a 128) [
   | inl lt ↦ rw (lt-ltb a 128 lt) (omega arith)
   | inr le ↦ rw (le-ltb a 128 le) (omega (arith, leb_front-le w))
 ]
+
+-- what holds of an answer, where more is known of each case
+pub answer-map : {A : Type 0} {P Q : Type 0} {R S : A → Type 0} (o : Option A) → (P → Q) → ((a : A) → R a → S a) → MatchOption o P R → MatchOption o Q S
+answer-map None f g m = f m
+answer-map (Some a) f g m = g a m

@@ -5,5 +5,6 @@ pub mod GroupLemmas
 pub mod LebFrontLemmas
 pub mod LebLaws
 pub mod ReadBack
+pub mod ShortestLemmas
 pub mod Spelling
 pub mod StepLemmas

@@ -2,7 +2,8 @@
 use Rattle.std.specs.Prelude.{◌≡◌, ℕ, ◌^◌, ◌<◌, ◌↔◌, ℤ, List, [], ◌∷◌, ◌++◌, length, Option, None, IsTrue}
 use Rattle.dl_num.specs.declared.fixed.Order.{Order}
 use Rattle.dl_num.specs.Fixed.{fixed, fixed_bytes}
-use Rattle.dl_num.specs.Leb.{groups, IsUleb, IsSleb}
+use Rattle.dl_num.specs.Leb.{groups, IsUleb, IsSleb, IsShortestUleb}
+use Rattle.dl_num.specs.Shortest.{shortest_uleb}
 use Rattle.dl_num.specs.LebFront.{is_leb, leb_front, behind_leb}
 use Rattle.dl_num.specs.Front.{IsCut, standing}
 use Rattle.dl_num.specs.Steps.{Verdict, EndsWith}
@@ -33,6 +34,10 @@ LebIsTested = (w : List ℕ) (n : ℕ) → IsUleb w n ↔ (IsTrue (is_leb w) × 
 -- the front of a spelling and what follows it is the spelling
 abbrev pub LebIsFront : Type 0
 LebIsFront = (w v : List ℕ) (n : ℕ) → IsUleb w n → (leb_front (w ++ v) ≡ w) × (behind_leb (w ++ v) ≡ v)
+
+-- the computed shortest spelling is one
+abbrev pub ComputedIsShortest : Type 0
+ComputedIsShortest = (n : ℕ) → IsShortestUleb (shortest_uleb n) n
 
 -- a number is spelled by its bytes, and bytes are those of the number that they spell
 abbrev pub FixedReadsBack : Type 0

@@ -5,6 +5,7 @@ pub mod NumberBytes
 pub mod Leb
 pub mod LebFront
 pub mod LebReader
+pub mod Shortest
 pub mod Magnitude
 pub mod Front
 pub mod Steps

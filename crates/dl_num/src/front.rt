@@ -1,7 +1,7 @@
 //! Numbers in LEB128 at the front of bytes, and that shortest spellings are read back. Section 7.6.
 
-ghost use Rattle.std.specs.Prelude.{◌≡◌, ◌*◌, ◌++◌, ◌-ℤ◌, ℕ, pos, nat_lt, if◌then◌else◌, List, take, MatchOption};
-ghost use Rattle.dl_num.specs.Leb.{AllContinue, IsUleb, IsSleb};
+ghost use Rattle.std.specs.Prelude.{◌≡◌, ◌*◌, ◌++◌, ◌-ℤ◌, ℕ, pos, nat_lt, if◌then◌else◌, List, take, IfSome, MatchOption, ◌<◌, ◌^◌};
+ghost use Rattle.dl_num.specs.Leb.{AllContinue, IsUleb, IsSleb, IsSigned64};
 ghost use Rattle.dl_num.specs.LebReader.{UlebIs, SlebIs};
 
 use crate::leb::{LebRange, Sleb, Uleb};
@@ -13,13 +13,7 @@ pub fn uleb_at_front(bytes: &[u8]) -> Option<(Result<u64, LebRange>, &[u8])>
     ensures { MatchOption result (AllContinue bytes.entry.now)
         (λ found. (w : List ℕ) × (bytes.entry.now ≡ w ++ found.1.now) × UlebIs w found.0) }
 {
-    let mut number = Uleb::new();
-    for (i, byte) in bytes.iter().enumerate() {
-        if let Some(answer) = number.push(*byte) {
-            return Some((answer, &bytes[i + 1..]));
-        }
-    }
-    None
+    Uleb::new().take_from(bytes)
 }
 
 /// The signed number that the bytes begin with, and the bytes behind it; None where they end before
@@ -28,20 +22,15 @@ pub fn sleb_at_front(bytes: &[u8]) -> Option<(Result<i64, LebRange>, &[u8])>
     ensures { MatchOption result (AllContinue bytes.entry.now)
         (λ found. (w : List ℕ) × (bytes.entry.now ≡ w ++ found.1.now) × SlebIs w found.0) }
 {
-    let mut number = Sleb::new();
-    for (i, byte) in bytes.iter().enumerate() {
-        if let Some(answer) = number.push(*byte) {
-            return Some((answer, &bytes[i + 1..]));
-        }
-    }
-    None
+    Sleb::new().take_from(bytes)
 }
 
 /// The unsigned number of one or two bytes that the bytes begin with, and the bytes behind it; None
 /// where they begin with no such number.
 #[inline(always)]
 pub fn short_uleb_at_front(bytes: &[u8]) -> Option<(u64, &[u8])>
-    ensures { MatchOption result (AllContinue (take 2 bytes.entry.now))
+    ensures fits { IfSome result (λ found. found.0 < 2 ^ 64) }
+    ensures number { MatchOption result (AllContinue (take 2 bytes.entry.now))
         (λ found. (w : List ℕ) × (bytes.entry.now ≡ w ++ found.1.now) × IsUleb w found.0) }
 {
     match bytes {
@@ -58,7 +47,8 @@ pub fn short_uleb_at_front(bytes: &[u8]) -> Option<(u64, &[u8])>
 /// where they begin with no such number.
 #[inline(always)]
 pub fn short_sleb_at_front(bytes: &[u8]) -> Option<(i64, &[u8])>
-    ensures { MatchOption result (AllContinue (take 2 bytes.entry.now))
+    ensures fits { IfSome result (λ found. IsSigned64 found.0) }
+    ensures number { MatchOption result (AllContinue (take 2 bytes.entry.now))
         (λ found. (w : List ℕ) × (bytes.entry.now ≡ w ++ found.1.now) × IsSleb w found.0) }
 {
     match bytes {

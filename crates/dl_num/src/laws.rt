@@ -1,6 +1,6 @@
 //! Laws of the definitions of numbers, each the contract of a function that does nothing.
 
-ghost use Rattle.dl_num.specs.Laws.{OneUnsignedValue, OneSignedValue, NoUlebBeginsAnother, NoSlebBeginsAnother, LebIsTested, LebIsFront, FixedReadsBack, FixedHasItsSize, BytesReadBack, FixedIsBelow, CutIsStanding, OneEnd};
+ghost use Rattle.dl_num.specs.Laws.{OneUnsignedValue, OneSignedValue, NoUlebBeginsAnother, NoSlebBeginsAnother, LebIsTested, LebIsFront, ComputedIsShortest, FixedReadsBack, FixedHasItsSize, BytesReadBack, FixedIsBelow, CutIsStanding, OneEnd};
 
 /// Bytes in LEB128 spell one number. Section 7.6.
 pub fn one_value()
@@ -18,6 +18,11 @@ pub fn no_spelling_begins_another()
 pub fn leb_is_tested()
     ensures test { LebIsTested }
     ensures front { LebIsFront }
+{}
+
+/// The shortest spelling that is computed is one. Section 7.6.
+pub fn shortest_is_computed()
+    ensures { ComputedIsShortest }
 {}
 
 /// Numbers of fixed size and their bytes stand for one another, in either order.

@@ -1,7 +1,8 @@
 //! Numbers in LEB128, byte by byte. Section 7.6.
 
-ghost use Rattle.std.specs.Prelude.{◌≡◌, ◌<◌, ◌≤◌, ◌+◌, ◌*◌, ◌↔◌, ℕ, List, [], ◌∷◌, ◌++◌, IsTrue, IsNone};
-ghost use Rattle.dl_num.specs.LebReader.{fitting, UlebTook, UlebAnswer, SlebTook, SlebAnswer, signed_of};
+ghost use Rattle.std.specs.Prelude.{◌≡◌, ◌<◌, ◌≤◌, ◌+◌, ◌*◌, ◌↔◌, ℕ, List, [], ◌∷◌, ◌++◌, length, IsTrue, IsNone, IfSome, IfOk, MatchOption, ◌^◌};
+ghost use Rattle.dl_num.specs.Leb.{IsSigned64};
+ghost use Rattle.dl_num.specs.LebReader.{fitting, UlebTook, UlebIs, UlebAnswer, SlebTook, SlebIs, SlebAnswer, signed_of};
 
 /// The number doesn't fit 64 bits.
 #[derive(Debug, Clone, Copy, PartialEq, Eq)]
@@ -29,6 +30,7 @@ impl Uleb {
     /// 2^64, and is as new; before it answers None.
     pub fn push(&mut self, byte: u8) -> Option<Result<u64, LebRange>>
         ensures more { IsNone result ↔ (128 ≤ byte) }
+        ensures fits { IfSome result (λ answer. IfOk answer (λ n. n < 2 ^ 64)) }
         ensures answer { (w : List ℕ) → UlebTook self.old w → UlebAnswer (w ++ byte ∷ []) result self.new }
     {
         let number = add_digit(self.number, byte % 128, self.weight);
@@ -42,6 +44,22 @@ impl Uleb {
             Some(n) => Some(Ok(n)),
             None => Some(Err(LebRange)),
         }
+    }
+
+    /// Takes bytes up to the number's last one: the number, as `push` answers it, and the bytes
+    /// behind it. None where all bytes are taken, and more are needed.
+    pub fn take_from<'a>(&mut self, bytes: &'a [u8]) -> Option<(Result<u64, LebRange>, &'a [u8])>
+        ensures used { IfSome result (λ found. length found.1.now < length bytes.entry.now) }
+        ensures fits { IfSome result (λ found. IfOk found.0 (λ n. n < 2 ^ 64)) }
+        ensures answer { (w : List ℕ) → UlebTook self.old w → MatchOption result (UlebTook self.new (w ++ bytes.entry.now))
+            (λ found. (front : List ℕ) × (bytes.entry.now ≡ front ++ found.1.now) × UlebIs (w ++ front) found.0 × UlebTook self.new []) }
+    {
+        for (i, byte) in bytes.iter().enumerate() {
+            if let Some(answer) = self.push(*byte) {
+                return Some((answer, &bytes[i + 1..]));
+            }
+        }
+        None
     }
 }
 
@@ -71,6 +89,7 @@ impl Sleb {
     /// to 2^63 - 1, and is as new; before it answers None.
     pub fn push(&mut self, byte: u8) -> Option<Result<i64, LebRange>>
         ensures more { IsNone result ↔ (128 ≤ byte) }
+        ensures fits { IfSome result (λ answer. IfOk answer IsSigned64) }
         ensures answer { (w : List ℕ) → SlebTook self.old w → SlebAnswer (w ++ byte ∷ []) result self.new }
     {
         let number = add_digit(self.number, byte % 128, self.weight);
@@ -83,6 +102,22 @@ impl Sleb {
         }
         *self = Sleb::new();
         Some(signed(byte >= 64, number, turned))
+    }
+
+    /// Takes bytes up to the number's last one: the number, as `push` answers it, and the bytes
+    /// behind it. None where all bytes are taken, and more are needed.
+    pub fn take_from<'a>(&mut self, bytes: &'a [u8]) -> Option<(Result<i64, LebRange>, &'a [u8])>
+        ensures used { IfSome result (λ found. length found.1.now < length bytes.entry.now) }
+        ensures fits { IfSome result (λ found. IfOk found.0 IsSigned64) }
+        ensures answer { (w : List ℕ) → SlebTook self.old w → MatchOption result (SlebTook self.new (w ++ bytes.entry.now))
+            (λ found. (front : List ℕ) × (bytes.entry.now ≡ front ++ found.1.now) × SlebIs (w ++ front) found.0 × SlebTook self.new []) }
+    {
+        for (i, byte) in bytes.iter().enumerate() {
+            if let Some(number) = self.push(*byte) {
+                return Some((number, &bytes[i + 1..]));
+            }
+        }
+        None
     }
 }
 

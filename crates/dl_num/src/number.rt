@@ -1,6 +1,6 @@
 //! Numbers of 1, 2, 4 or 8 bytes that lack at least one byte.
 
-ghost use Rattle.std.specs.Prelude.{◌≡◌, ◌++◌, ◌∷◌, [], length, IsTrue, IfOk, IfErr};
+ghost use Rattle.std.specs.Prelude.{◌≡◌, ◌<◌, ◌++◌, ◌∷◌, [], List, ℕ, length, IsTrue, IfOk, IfErr};
 ghost use Rattle.dl_num.specs.Fixed.{fixed, is_number_size};
 ghost use Rattle.dl_num.specs.OperandBytes.{operand_size, operand_bytes};
 
@@ -40,5 +40,25 @@ impl Number {
             Ok(fixed) => Ok(fixed.number(order)),
             Err(operand) => Err(Number { operand }),
         }
+    }
+
+    /// Takes bytes up to the number's last one: the number in this order and the bytes behind it,
+    /// else the number with all of them.
+    pub fn take_from<'a>(self, order: Order, bytes: &'a [u8]) -> Result<(u64, &'a [u8]), Self>
+        ensures whole { IfOk result (λ found. (front : List ℕ) × (bytes.entry.now ≡ front ++ found.1.now)
+            × (length (number_bytes self ++ front) ≡ number_size self) × (found.0 ≡ fixed order (number_bytes self ++ front))) }
+        ensures used { IfOk result (λ found. length found.1.now < length bytes.entry.now) }
+        ensures size { IfErr result (λ number. number_size number ≡ number_size self) }
+        ensures taken { IfErr result (λ number. number_bytes number ≡ number_bytes self ++ bytes.entry.now) }
+        ensures lacks { IfErr result (λ number. length (number_bytes number) < number_size number) }
+    {
+        let mut number = self;
+        for (i, byte) in bytes.iter().enumerate() {
+            match number.push(order, *byte) {
+                Ok(whole) => return Ok((whole, &bytes[i + 1..])),
+                Err(more) => number = more,
+            }
+        }
+        Err(number)
     }
 }

@@ -2,13 +2,15 @@
 
 ghost use Rattle.std.specs.Prelude.{◌≡◌, ◌<◌, ◌≤◌, ◌^◌};
 ghost use Rattle.dl_num.specs.Leb.{IsShortestUleb, IsShortestSleb};
+ghost use Rattle.dl_num.specs.Shortest.{shortest_uleb};
 ghost use Rattle.dl_num.specs.Magnitude.{signed_value, byte_of};
 
 use arrayvec::ArrayVec;
 
 /// The shortest spelling of an unsigned number.
 pub fn uleb_bytes(number: u64) -> ArrayVec<u8, 10>
-    ensures { IsShortestUleb result.items number }
+    ensures shortest { IsShortestUleb result.items number }
+    ensures value { result.items ≡ shortest_uleb number }
 {
     let mut bytes = ArrayVec::new();
     let mut rest = number;

@@ -1,5 +1,10 @@
 -- Sums that wrap, and quotients of sums.
-use Rattle.std.proofs.Common.{◌≡◌, ℕ, ◌+◌, ◌*◌, ◌/◌, ◌^◌, ◌%◌, ◌<◌, ◌≤◌, refl, sym, ap, ◌∙◌, arith}
+use Rattle.std.proofs.Common.{◌≡◌, ℕ, suc, ◌+◌, ◌*◌, ◌/◌, ◌^◌, ◌%◌, ◌-◌, ◌<◌, ◌≤◌, refl, sym, ap, ◌∙◌, arith, inl, inr, ℤ, pos, negsuc, ◌+ℤ◌}
+use Rattle.std.specs.Prelude.{unsigned_abs}
+use Rattle.std.specs.Int.{w64, cast_unsigned}
+use Rattle.std.proofs.lemmas.Bool.{cases_lt}
+use Rattle.std.proofs.lemmas.Int.{ints}
+use Rattle.dl_rows.specs.Matrix.{modulo}
 use Rattle.std.proofs.Math.Nat.{add-mul-div_right, add-mul-mod_self_right}
 use Rattle.std.proofs.lemmas.Nat.{div-add-mod', mul-mod_second}
 use Rattle.dl_head.specs.declared.params.Params.{Params}
@@ -40,3 +45,19 @@ advanced_by_one h r by one a b c =
     let z : (r.op_index + by) % 1 ≡ 0 = omega arith in
     let w = wrapped_step r.address h.minimum_instruction_length (by + r.op_index) in
     rw (b, c, w, m, d, z) refl
+
+-- a step of a line that wraps on the way
+pub modulo-add : (z i : ℤ) → unsigned_abs i < 2 ^ 64 → (modulo z (2 ^ 64) + cast_unsigned w64 i) % 2 ^ 64 ≡ modulo (z +ℤ i) (2 ^ 64)
+modulo-add (pos a) (pos b) h = omega arith
+modulo-add (pos a) (negsuc b) h = elim (cases_lt b a) [
+  | inl lt ↦ let e : pos a +ℤ negsuc b ≡ pos (a - suc b) = omega (arith, ints) in rw e (omega arith)
+  | inr le ↦ let e : pos a +ℤ negsuc b ≡ negsuc (b - a) = omega (arith, ints) in rw e (omega arith)
+]
+modulo-add (negsuc a) (pos b) h = elim (cases_lt a b) [
+  | inl lt ↦ let e : negsuc a +ℤ pos b ≡ pos (b - suc a) = omega (arith, ints) in rw e (omega arith)
+  | inr le ↦ let e : negsuc a +ℤ pos b ≡ negsuc (a - b) = omega (arith, ints) in rw e (omega arith)
+]
+modulo-add (negsuc a) (negsuc b) h = omega arith
+
+pub modulo-same : (z : ℤ) → z +ℤ pos 0 ≡ z
+modulo-same z = omega (arith, ints)

@@ -1,1 +1,14 @@
 pub mod Arithmetic
+pub mod BodyLemmas
+pub mod ExtendedLemmas
+pub mod FirstLemmas
+pub mod Judged
+pub mod OperandLemmas
+pub mod OperationLaws
+pub mod PhaseLemmas
+pub mod PlaceLemmas
+pub mod ProgramLaws
+pub mod RegisterLemmas
+pub mod SkipLemmas
+pub mod SpeltFirst
+pub mod WorkedRows

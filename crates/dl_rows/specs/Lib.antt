@@ -1,3 +1,10 @@
+pub mod BadOperation
+pub mod Laws
 pub mod Left
 pub mod Machine
+pub mod Matrix
+pub mod OperationSpelt
+pub mod Phases
 pub mod Progress
+pub mod Spelling
+pub mod Sums

@@ -1,6 +1,7 @@
 //! The rows of a line table unit of DWARF 5: its operations, its registers, and its reader. Section 6.2.
 #![tactic(auto)]
 
+pub mod laws;
 pub mod operation;
 pub mod phase;
 pub mod program;

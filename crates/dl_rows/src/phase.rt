@@ -1,8 +1,15 @@
 //! One operation of a line number program, from bytes that may end inside it. Sections 6.2.5.1 to 6.2.5.3.
 
-ghost use Rattle.std.specs.Prelude.{◌≡◌, ◌<◌, ◌≤◌, ◌-◌, length, IfSome};
-ghost use Rattle.dl_rows.specs.Left.{Leaves, LeavesFewer, rows_of};
+ghost use Rattle.std.specs.Prelude.{◌≡◌, ◌<◌, ◌≤◌, ◌-◌, ◌∷◌, ◌++◌, [], ℕ, List, length, IfSome, IfNone, slice_index, Ok};
+ghost use Rattle.dl_num.specs.declared.fixed.Order.{Order};
+ghost use Rattle.dl_num.specs.Front.{SpellsFirst};
+ghost use Rattle.dl_num.specs.Leb.{IsUleb};
+ghost use Rattle.dl_head.specs.declared.params.Params.{Params};
 ghost use Rattle.dl_head.specs.Built.{IsUsable};
+ghost use Rattle.dl_rows.specs.declared.phase.Phase.TheVariants as phase;
+ghost use Rattle.dl_rows.specs.Left.{Leaves, LeavesFewer, rows_of};
+ghost use Rattle.dl_rows.specs.OperationSpelt.{operation_spelt};
+ghost use Rattle.dl_rows.specs.Phases.{PhaseStands, StepIs, opcode_of, operation_of, HasNoUnsigned, HasOperand};
 
 use crate::operation::Operation;
 use dl_head::{FaultKind, Params};
@@ -20,7 +27,10 @@ pub enum UnsignedOpcode {
 impl UnsignedOpcode {
     /// The opcode of this number, if it is one of them.
     #[inline(always)]
-    fn of(number: u8) -> Option<UnsignedOpcode> {
+    fn of(number: u8) -> Option<UnsignedOpcode>
+        ensures some { IfSome result (λ opcode. opcode_of opcode ≡ number) }
+        ensures none { IfNone result (HasNoUnsigned number) }
+    {
         match number {
             2 => Some(UnsignedOpcode::AdvancePc),
             4 => Some(UnsignedOpcode::SetFile),
@@ -32,7 +42,8 @@ impl UnsignedOpcode {
 
     #[inline(always)]
     fn operation(self, operand: u64) -> Operation
-        ensures { rows_of result ≡ 0 }
+        ensures value { result ≡ operation_of self operand }
+        ensures rows { rows_of result ≡ 0 }
     {
         match self {
             UnsignedOpcode::AdvancePc => Operation::AdvancePc(operand),
@@ -79,16 +90,15 @@ pub enum Step<'a> {
 }
 
 impl Phase {
-    ghost use Rattle.dl_rows.specs.declared.phase.Phase.TheVariants as phase;
-
     /// Takes bytes up to the end of the operation.
     pub fn push<'a>(self, order: Order, params: &Params, bytes: &'a [u8]) -> Step<'a>
         requires { IsUsable params.now }
         ensures within { Leaves (length bytes.entry.now) result }
         ensures progress { self ≡ phase.Start → LeavesFewer (length bytes.entry.now) result }
+        ensures step { (v : List ℕ) → PhaseStands params.now self v → StepIs order params.now v bytes.entry.now result }
     {
         match self {
-            Phase::Start => start(params, order, bytes),
+            Phase::Start => start(order, params, bytes),
             Phase::Unsigned(opcode, number) => unsigned(opcode, number, bytes),
             Phase::Line(number) => line(number, bytes),
             Phase::FixedAdd(number) => fixed_add(order, number, bytes),
@@ -102,110 +112,135 @@ impl Phase {
     }
 }
 
+/// The operation of an opcode that has no operand.
+#[inline(always)]
+fn without_operand(params: &Params, opcode: u8) -> Option<Operation>
+    ensures some { (order : Order) → IfSome result (λ o. SpellsFirst (operation_spelt order params.now) (opcode ∷ []) (Ok o)) }
+    ensures none { IfNone result (HasOperand params.now opcode) }
+{
+    if opcode >= params.opcode_base {
+        return Some(Operation::Special(opcode));
+    }
+    match opcode {
+        1 => Some(Operation::Copy),
+        6 => Some(Operation::Negate),
+        7 => Some(Operation::Block),
+        8 => Some(Operation::ConstAdd),
+        10 => Some(Operation::Prologue),
+        11 => Some(Operation::Epilogue),
+        _ => None,
+    }
+}
+
 /// The operation that the bytes begin with and the bytes behind it, where it has no operand or one
 /// in LEB128 of at most two bytes.
 #[inline(always)]
 pub fn short_operation<'a>(params: &Params, bytes: &'a [u8]) -> Option<(Operation, &'a [u8])>
-    ensures { IfSome result (λ found. length found.1.now < length bytes.entry.now) }
+    ensures left { IfSome result (λ found. length found.1.now < length bytes.entry.now) }
+    ensures operation { (order : Order) → IfSome result (λ found. (front : List ℕ) × (bytes.entry.now ≡ front ++ found.1.now)
+        × SpellsFirst (operation_spelt order params.now) front (Ok found.0)) }
 {
     let (opcode, bytes) = bytes.split_first()?;
-    if *opcode >= params.opcode_base {
-        return Some((Operation::Special(*opcode), bytes));
+    if let Some(operation) = without_operand(params, *opcode) {
+        return Some((operation, bytes));
     }
-    match *opcode {
-        1 => Some((Operation::Copy, bytes)),
-        3 => {
-            let (lines, behind) = short_sleb_at_front(bytes)?;
-            Some((Operation::AdvanceLine(lines), behind))
-        }
-        6 => Some((Operation::Negate, bytes)),
-        7 => Some((Operation::Block, bytes)),
-        8 => Some((Operation::ConstAdd, bytes)),
-        10 => Some((Operation::Prologue, bytes)),
-        11 => Some((Operation::Epilogue, bytes)),
-        _ => {
-            let opcode = UnsignedOpcode::of(*opcode)?;
-            let (operand, behind) = short_uleb_at_front(bytes)?;
-            Some((opcode.operation(operand), behind))
-        }
+    if *opcode == 3 {
+        let (lines, behind) = short_sleb_at_front(bytes)?;
+        return Some((Operation::AdvanceLine(lines), behind));
     }
+    let opcode = UnsignedOpcode::of(*opcode)?;
+    let (operand, behind) = short_uleb_at_front(bytes)?;
+    Some((opcode.operation(operand), behind))
 }
 
-fn start<'a>(params: &Params, order: Order, bytes: &'a [u8]) -> Step<'a>
+fn start<'a>(order: Order, params: &Params, bytes: &'a [u8]) -> Step<'a>
     requires { IsUsable params.now }
     ensures within { Leaves (length bytes.entry.now) result }
     ensures progress { LeavesFewer (length bytes.entry.now) result }
+    ensures step { StepIs order params.now [] bytes.entry.now result }
 {
-    if let Some((operation, behind)) = short_operation(params, bytes) {
-        return Step::Ends(operation, behind);
-    }
-    let Some((opcode, bytes)) = bytes.split_first() else {
+    let Some((opcode, behind)) = bytes.split_first() else {
         return Step::Within(Phase::Start);
     };
-    match *opcode {
+    match without_operand(params, *opcode) {
+        Some(operation) => Step::Ends(operation, behind),
+        None => operand(order, params, *opcode, behind),
+    }
+}
+
+/// Takes bytes behind an opcode that may have an operand.
+fn operand<'a>(order: Order, params: &Params, opcode: u8, bytes: &'a [u8]) -> Step<'a>
+    requires usable { IsUsable params.now }
+    requires operand { HasOperand params.now opcode }
+    ensures within { Leaves (length bytes.entry.now) result }
+    ensures step { StepIs order params.now (opcode ∷ []) bytes.entry.now result }
+{
+    match opcode {
         0 => length(order, params, Uleb::new(), bytes),
         3 => line(Sleb::new(), bytes),
         9 => fixed_add(order, Number::new(2), bytes),
-        _ => match UnsignedOpcode::of(*opcode) {
+        _ => match UnsignedOpcode::of(opcode) {
             Some(opcode) => unsigned(opcode, Uleb::new(), bytes),
-            None => skipped(operands(params, *opcode), bytes),
+            None => operands(params, opcode, bytes),
         },
     }
 }
 
-/// How many operands a standard opcode has.
-fn operands(params: &Params, opcode: u8) -> u8 {
-    params
-        .lengths
-        .get(usize::from(opcode).saturating_sub(1))
-        .copied()
-        .unwrap_or(0)
+/// Takes bytes behind a standard opcode that isn't known.
+fn operands<'a>(params: &Params, opcode: u8, bytes: &'a [u8]) -> Step<'a>
+    requires usable { IsUsable params.now }
+    requires unknown { 12 < opcode }
+    requires below { opcode < params.now.opcode_base }
+    ensures within { Leaves (length bytes.entry.now) result }
+    ensures step { (order : Order) → StepIs order params.now (opcode ∷ []) bytes.entry.now result }
+{
+    let count = params.lengths[usize::from(opcode) - 1];
+    if count == 0 {
+        return Step::Ends(Operation::Skipped, bytes);
+    }
+    skipped(count, bytes)
 }
 
 fn unsigned<'a>(opcode: UnsignedOpcode, mut number: Uleb, bytes: &'a [u8]) -> Step<'a>
-    ensures { Leaves (length bytes.entry.now) result }
+    ensures within { Leaves (length bytes.entry.now) result }
+    ensures step { (order : Order) (h : Params) (v : List ℕ) → PhaseStands h (phase.Unsigned opcode number) v → StepIs order h v bytes.entry.now result }
 {
-    for (i, byte) in bytes.iter().enumerate() {
-        match number.push(*byte) {
-            None => {}
-            Some(Ok(operand)) => return Step::Ends(opcode.operation(operand), &bytes[i + 1..]),
-            Some(Err(LebRange)) => return Step::Refuses(FaultKind::LebRange, &bytes[i + 1..]),
-        }
+    let Some((answer, behind)) = number.take_from(bytes) else {
+        return Step::Within(Phase::Unsigned(opcode, number));
+    };
+    match answer {
+        Ok(operand) => Step::Ends(opcode.operation(operand), behind),
+        Err(LebRange) => Step::Refuses(FaultKind::LebRange, behind),
     }
-    Step::Within(Phase::Unsigned(opcode, number))
 }
 
 fn line<'a>(mut number: Sleb, bytes: &'a [u8]) -> Step<'a>
-    ensures { Leaves (length bytes.entry.now) result }
+    ensures within { Leaves (length bytes.entry.now) result }
+    ensures step { (order : Order) (h : Params) (v : List ℕ) → PhaseStands h (phase.Line number) v → StepIs order h v bytes.entry.now result }
 {
-    for (i, byte) in bytes.iter().enumerate() {
-        match number.push(*byte) {
-            None => {}
-            Some(Ok(lines)) => return Step::Ends(Operation::AdvanceLine(lines), &bytes[i + 1..]),
-            Some(Err(LebRange)) => return Step::Refuses(FaultKind::LebRange, &bytes[i + 1..]),
-        }
+    let Some((answer, behind)) = number.take_from(bytes) else {
+        return Step::Within(Phase::Line(number));
+    };
+    match answer {
+        Ok(lines) => Step::Ends(Operation::AdvanceLine(lines), behind),
+        Err(LebRange) => Step::Refuses(FaultKind::LebRange, behind),
     }
-    Step::Within(Phase::Line(number))
 }
 
-fn fixed_add<'a>(order: Order, mut number: Number, bytes: &'a [u8]) -> Step<'a>
-    ensures { Leaves (length bytes.entry.now) result }
+fn fixed_add<'a>(order: Order, number: Number, bytes: &'a [u8]) -> Step<'a>
+    ensures within { Leaves (length bytes.entry.now) result }
+    ensures step { (h : Params) (v : List ℕ) → PhaseStands h (phase.FixedAdd number) v → StepIs order h v bytes.entry.now result }
 {
-    for (i, byte) in bytes.iter().enumerate() {
-        match number.push(order, *byte) {
-            Ok(by) => return Step::Ends(Operation::FixedAdd(by), &bytes[i + 1..]),
-            Err(more) => number = more,
-        }
+    match number.take_from(order, bytes) {
+        Ok((by, behind)) => Step::Ends(Operation::FixedAdd(by), behind),
+        Err(number) => Step::Within(Phase::FixedAdd(number)),
     }
-    Step::Within(Phase::FixedAdd(number))
 }
 
 fn skipped<'a>(mut left: u8, bytes: &'a [u8]) -> Step<'a>
-    ensures { Leaves (length bytes.entry.now) result }
+    ensures within { Leaves (length bytes.entry.now) result }
+    ensures step { (order : Order) (h : Params) (v : List ℕ) → PhaseStands h (phase.Skipped left) v → StepIs order h v bytes.entry.now result }
 {
-    if left == 0 {
-        return Step::Ends(Operation::Skipped, bytes);
-    }
     for (i, byte) in bytes.iter().enumerate() {
         if !Skip::new().push(*byte) {
             continue;
@@ -220,22 +255,34 @@ fn skipped<'a>(mut left: u8, bytes: &'a [u8]) -> Step<'a>
 
 fn length<'a>(order: Order, params: &Params, mut number: Uleb, bytes: &'a [u8]) -> Step<'a>
     requires { IsUsable params.now }
-    ensures { Leaves (length bytes.entry.now) result }
+    ensures within { Leaves (length bytes.entry.now) result }
+    ensures step { (v : List ℕ) → PhaseStands params.now (phase.Length number) v → StepIs order params.now v bytes.entry.now result }
 {
-    for (i, byte) in bytes.iter().enumerate() {
-        match number.push(*byte) {
-            None => {}
-            Some(Ok(0)) => return Step::Refuses(FaultKind::ExtendedEmpty, &bytes[i + 1..]),
-            Some(Ok(len)) => return extended(order, params, len, &bytes[i + 1..]),
-            Some(Err(LebRange)) => return Step::Refuses(FaultKind::LebRange, &bytes[i + 1..]),
-        }
+    let Some((answer, behind)) = number.take_from(bytes) else {
+        return Step::Within(Phase::Length(number));
+    };
+    match answer {
+        Ok(len) => body(order, params, len, behind),
+        Err(LebRange) => Step::Refuses(FaultKind::LebRange, behind),
     }
-    Step::Within(Phase::Length(number))
+}
+
+/// Takes bytes behind the length of an extended opcode.
+fn body<'a>(order: Order, params: &Params, len: u64, bytes: &'a [u8]) -> Step<'a>
+    requires { IsUsable params.now }
+    ensures within { Leaves (length bytes.entry.now) result }
+    ensures step { (w : List ℕ) → IsUleb w len → StepIs order params.now (0 ∷ w) bytes.entry.now result }
+{
+    if len == 0 {
+        return Step::Refuses(FaultKind::ExtendedEmpty, bytes);
+    }
+    extended(order, params, len, bytes)
 }
 
 fn extended<'a>(order: Order, params: &Params, len: u64, bytes: &'a [u8]) -> Step<'a>
     requires { IsUsable params.now }
-    ensures { Leaves (length bytes.entry.now) result }
+    ensures within { Leaves (length bytes.entry.now) result }
+    ensures step { (v : List ℕ) → PhaseStands params.now (phase.Extended len) v → StepIs order params.now v bytes.entry.now result }
 {
     let Some((opcode, bytes)) = bytes.split_first() else {
         return Step::Within(Phase::Extended(len));
@@ -247,40 +294,46 @@ fn extended<'a>(order: Order, params: &Params, len: u64, bytes: &'a [u8]) -> Ste
         }
         4 if len > 1 => discriminator(len - 1, Uleb::new(), bytes),
         1 | 2 | 4 => Step::Refuses(FaultKind::ExtendedLength, bytes),
-        _ => rest(len.saturating_sub(1), bytes),
+        _ if len > 1 => rest(len - 1, bytes),
+        _ => Step::Ends(Operation::Skipped, bytes),
     }
 }
 
-fn address<'a>(order: Order, mut number: Number, bytes: &'a [u8]) -> Step<'a>
-    ensures { Leaves (length bytes.entry.now) result }
+fn address<'a>(order: Order, number: Number, bytes: &'a [u8]) -> Step<'a>
+    ensures within { Leaves (length bytes.entry.now) result }
+    ensures step { (h : Params) (v : List ℕ) → PhaseStands h (phase.Address number) v → StepIs order h v bytes.entry.now result }
 {
-    for (i, byte) in bytes.iter().enumerate() {
-        match number.push(order, *byte) {
-            Ok(address) => return Step::Ends(Operation::Address(address), &bytes[i + 1..]),
-            Err(more) => number = more,
-        }
+    match number.take_from(order, bytes) {
+        Ok((address, behind)) => Step::Ends(Operation::Address(address), behind),
+        Err(number) => Step::Within(Phase::Address(number)),
     }
-    Step::Within(Phase::Address(number))
 }
 
 fn discriminator<'a>(mut left: u64, mut number: Uleb, bytes: &'a [u8]) -> Step<'a>
-    ensures { Leaves (length bytes.entry.now) result }
+    ensures within { Leaves (length bytes.entry.now) result }
+    ensures step { (order : Order) (h : Params) (v : List ℕ) → PhaseStands h (phase.Discriminator left number) v → StepIs order h v bytes.entry.now result }
 {
     for (i, byte) in bytes.iter().enumerate() {
-        match number.push(*byte) {
-            None if left > 1 => left -= 1,
-            Some(Ok(value)) if left == 1 => {
-                return Step::Ends(Operation::Discriminator(value), &bytes[i + 1..]);
+        let Some(answer) = number.push(*byte) else {
+            if left <= 1 {
+                return Step::Refuses(FaultKind::ExtendedLength, &bytes[i + 1..]);
             }
-            Some(Err(LebRange)) => return Step::Refuses(FaultKind::LebRange, &bytes[i + 1..]),
-            _ => return Step::Refuses(FaultKind::ExtendedLength, &bytes[i + 1..]),
-        }
+            left -= 1;
+            continue;
+        };
+        let behind = &bytes[i + 1..];
+        return match answer {
+            Ok(value) if left == 1 => Step::Ends(Operation::Discriminator(value), behind),
+            Ok(_) => Step::Refuses(FaultKind::ExtendedLength, behind),
+            Err(LebRange) => Step::Refuses(FaultKind::LebRange, behind),
+        };
     }
     Step::Within(Phase::Discriminator(left, number))
 }
 
 fn rest<'a>(left: u64, bytes: &'a [u8]) -> Step<'a>
-    ensures { Leaves (length bytes.entry.now) result }
+    ensures within { Leaves (length bytes.entry.now) result }
+    ensures step { (order : Order) (h : Params) (v : List ℕ) → PhaseStands h (phase.Rest left) v → StepIs order h v bytes.entry.now result }
 {
     let len = bytes.len() as u64;
     if left <= len {

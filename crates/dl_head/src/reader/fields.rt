@@ -1,22 +1,24 @@
 //! The fields of one byte of a header, and the lengths of its standard opcodes. Section 6.2.4.
 
-ghost use Rattle.std.specs.Prelude.{◌≡◌, ◌+◌, ◌≤◌, true, None, length};
-ghost use Rattle.dl_head.specs.Layout.{objection};
+ghost use Rattle.std.specs.Prelude.{◌≡◌, ◌+◌, ◌≤◌, ◌++◌, ◌∷◌, [], ℕ, nat_lt, if◌then◌else◌, List, true, None, length};
+ghost use Rattle.dl_head.specs.Layout.{Item, number_is, objection, opcode_length, signed_byte};
 ghost use Rattle.dl_head.specs.HeadStep.{lengths_fit};
 ghost use Rattle.dl_head.specs.Bytes.{byte_kind};
+ghost use Rattle.dl_head.specs.declared.reader.Phase.TheVariants as phase;
 
 use crate::fault::FaultKind;
 use crate::params::is_wrong_length;
 use crate::reader::byte_field::ByteField;
 use crate::reader::next::Next;
-use crate::reader::number::Number;
 use crate::reader::{HeadReader, Phase};
+use dl_num::Number;
 
 impl HeadReader {
-    ghost use Rattle.dl_head.specs.declared.reader.Phase.TheVariants as phase;
+    ghost use Rattle.dl_head.specs.Place.{At, Follows, SameCounts};
 
     pub(super) fn byte_field(&mut self, field: ByteField, byte: u8) -> Next
         requires { self.old.phase ≡ phase.Byte field }
+        ensures { Follows self.old byte result self.new }
     {
         if let Some(kind) = field.objection(byte) {
             return Next::Refuses(kind);
@@ -29,6 +31,8 @@ impl HeadReader {
     fn store(&mut self, field: ByteField, byte: u8)
         requires at { self.old.phase ≡ phase.Byte field }
         requires good { objection (byte_kind field) byte ≡ None }
+        ensures counts { SameCounts self.old self.new }
+        ensures at { (items : List Item) (rest : List ℕ) → At self.old items rest → At self.new (items ++ number_is byte ∷ []) [] }
     {
         match field {
             ByteField::AddressSize => {
@@ -68,6 +72,7 @@ impl HeadReader {
 
     pub(super) fn opcode_length(&mut self, byte: u8) -> Next
         requires { self.old.phase ≡ phase.OpcodeLength }
+        ensures { Follows self.old byte result self.new }
     {
         let opcode_base = self.params.opcode_base;
         let opcode = self.params.lengths.len() + 1;
@@ -83,7 +88,8 @@ impl HeadReader {
 /// What follows so many lengths of opcodes below this opcode_base: the next one, or the tables.
 fn length_or_table(lengths: usize, opcode_base: u8) -> Phase
     requires { lengths + 1 ≤ opcode_base }
-    ensures { lengths_fit result lengths opcode_base ≡ true }
+    ensures fit { lengths_fit result lengths opcode_base ≡ true }
+    ensures next { result ≡ (if nat_lt (lengths + 1) opcode_base then phase.OpcodeLength else phase.Directories) }
 {
     if lengths + 1 < usize::from(opcode_base) {
         Phase::OpcodeLength
@@ -92,7 +98,9 @@ fn length_or_table(lengths: usize, opcode_base: u8) -> Phase
     }
 }
 
-fn signed(byte: u8) -> i8 {
+fn signed(byte: u8) -> i8
+    ensures { result ≡ signed_byte byte }
+{
     if byte < 128 {
         byte as i8
     } else {

@@ -8,9 +8,8 @@ use crate::fault::FaultKind;
 use crate::form::Format;
 use crate::reader::byte_field::ByteField;
 use crate::reader::next::Next;
-use crate::reader::number::Number;
 use crate::reader::{HeadReader, Phase};
-use dl_num::Order;
+use dl_num::{Number, Order};
 
 /// The greatest unit_length that is accepted.
 const UNIT_LENGTH_LIMIT: u64 = 1 << 40;
@@ -37,9 +36,11 @@ fn fixed_part(format: Format) -> u64
 
 impl HeadReader {
     ghost use Rattle.dl_head.specs.declared.reader.Phase.TheVariants as phase;
+    ghost use Rattle.dl_head.specs.Place.{Follows, Starts, StartsHeader};
 
     pub(super) fn unit_length(&mut self, number: Number, byte: u8) -> Next
         requires { self.old.phase ≡ phase.UnitLength number }
+        ensures { Follows self.old byte result self.new }
     {
         match number.push(self.order, byte) {
             Err(number) => {
@@ -57,6 +58,7 @@ impl HeadReader {
 
     pub(super) fn long_unit_length(&mut self, number: Number, byte: u8) -> Next
         requires { self.old.phase ≡ phase.LongUnitLength number }
+        ensures { Follows self.old byte result self.new }
     {
         match number.push(self.order, byte) {
             Err(number) => {
@@ -69,6 +71,7 @@ impl HeadReader {
 
     fn start_unit(&mut self, format: Format, length: u64) -> Next
         requires { self.old.params.lengths.items ≡ [] }
+        ensures { Starts self.old format length result self.new }
     {
         if length > UNIT_LENGTH_LIMIT {
             return Next::Refuses(FaultKind::UnitTooLong);
@@ -82,6 +85,7 @@ impl HeadReader {
 
     pub(super) fn version(&mut self, byte: u8) -> Next
         requires { self.old.phase ≡ phase.Version }
+        ensures { Follows self.old byte result self.new }
     {
         self.phase = Phase::VersionEnd(byte);
         Next::Within
@@ -89,6 +93,7 @@ impl HeadReader {
 
     pub(super) fn version_end(&mut self, first: u8, byte: u8) -> Next
         requires { self.old.phase ≡ phase.VersionEnd first }
+        ensures { Follows self.old byte result self.new }
     {
         let version = version_of(self.order, first, byte);
         if version == 5 {
@@ -101,6 +106,7 @@ impl HeadReader {
 
     pub(super) fn header_length(&mut self, number: Number, byte: u8) -> Next
         requires { self.old.phase ≡ phase.HeaderLength number }
+        ensures { Follows self.old byte result self.new }
     {
         match number.push(self.order, byte) {
             Err(number) => {
@@ -113,6 +119,7 @@ impl HeadReader {
 
     fn start_header(&mut self, length: u64) -> Next
         requires { self.old.params.lengths.items ≡ [] }
+        ensures { StartsHeader self.old length result self.new }
     {
         let format = self.params.format;
         if length > self.unit_length.saturating_sub(fixed_part(format)) {

@@ -1,7 +1,7 @@
 //! A table of directories or files, byte by byte: its pairs and the count of its entries. Section
 //! 6.2.4.1.
 
-ghost use Rattle.std.specs.Prelude.{◌≡◌, ◌+◌, ◌≤◌, length};
+ghost use Rattle.std.specs.Prelude.{◌≡◌, ◌+◌, ◌≤◌, Ok, length};
 ghost use Rattle.dl_head.specs.Held.{values_end};
 ghost use Rattle.dl_head.specs.TableStep.{row_end, text_start, bytes_due};
 
@@ -44,6 +44,8 @@ pub(crate) struct TableReader {
 
 impl TableReader {
     ghost use Rattle.dl_head.specs.declared.reader.table_reader.TablePhase.TheVariants as phase;
+    ghost use Rattle.dl_head.specs.TablePlace.{TableFollows, BeginsPair, TakesContent, TakesForm, TakesCount, PushFollows, ValueFollows};
+    ghost use Rattle.dl_num.specs.declared.fixed.Order.{Order};
 
     /// No byte yet. It takes no memory.
     pub fn new(alloc: Global) -> TableReader {
@@ -77,7 +79,9 @@ impl TableReader {
     }
 
     /// Takes the next byte, save where memory is refused; the reader is then unchanged.
-    pub fn push(&mut self, order: Order, format: Format, byte: u8) -> Next {
+    pub fn push(&mut self, order: Order, format: Format, byte: u8) -> Next
+        ensures { PushFollows order format self.old byte result self.new }
+    {
         match self.phase {
             TablePhase::PairCount => self.pair_count(byte),
             TablePhase::ContentCode(left, code) => self.content_code(left, code, byte),
@@ -90,6 +94,7 @@ impl TableReader {
 
     fn pair_count(&mut self, byte: u8) -> Next
         requires { self.old.phase ≡ phase.PairCount }
+        ensures { TableFollows self.old byte result self.new }
     {
         self.begin_pair(byte);
         Next::Ends
@@ -98,6 +103,7 @@ impl TableReader {
     /// Goes on to the next pair, so many being left, or to the count of the entries.
     fn begin_pair(&mut self, left: u8)
         requires { values_end self.old.values.items ≤ length self.old.pool.items }
+        ensures { BeginsPair self.old left self.new }
     {
         if left == 0 {
             self.phase = TablePhase::EntryCount(Uleb::new());
@@ -108,6 +114,7 @@ impl TableReader {
 
     fn content_code(&mut self, left: u8, mut code: Uleb, byte: u8) -> Next
         requires { self.old.phase ≡ phase.ContentCode left code }
+        ensures { TableFollows self.old byte result self.new }
     {
         match code.push(byte) {
             None => {
@@ -115,15 +122,22 @@ impl TableReader {
                 Next::Within
             }
             Some(Err(LebRange)) => Next::Refuses(FaultKind::LebRange),
-            Some(Ok(content)) => {
-                self.phase = TablePhase::FormCode(left, content, Uleb::new());
-                Next::Ends
-            }
+            Some(Ok(content)) => self.take_content(left, content),
         }
+    }
+
+    /// Goes on to the form code after a content code that is complete.
+    fn take_content(&mut self, left: u8, content: u64) -> Next
+        requires { values_end self.old.values.items ≤ length self.old.pool.items }
+        ensures { TakesContent self.old left content result self.new }
+    {
+        self.phase = TablePhase::FormCode(left, content, Uleb::new());
+        Next::Ends
     }
 
     fn form_code(&mut self, left: u8, content: u64, mut code: Uleb, byte: u8) -> Next
         requires { self.old.phase ≡ phase.FormCode left content code }
+        ensures { TableFollows self.old byte result self.new }
     {
         match code.push(byte) {
             None => {
@@ -138,6 +152,7 @@ impl TableReader {
     /// Enters the pair of a form code that is complete.
     fn take_form(&mut self, left: u8, content: u64, code: u64) -> Next
         requires { values_end self.old.values.items ≤ length self.old.pool.items }
+        ensures { TakesForm self.old left content code result self.new }
     {
         let Some(form) = Form::from_code(code) else {
             return Next::Refuses(FaultKind::UnknownForm(code));
@@ -151,6 +166,7 @@ impl TableReader {
 
     fn entry_count(&mut self, mut count: Uleb, format: Format, byte: u8) -> Next
         requires { self.old.phase ≡ phase.EntryCount count }
+        ensures { (order : Order) → ValueFollows order format self.old byte result self.new }
     {
         match count.push(byte) {
             None => {
@@ -164,24 +180,36 @@ impl TableReader {
     /// Begins the entries of a count that is complete. Without pairs it has to be 0.
     fn take_count(&mut self, count: Result<u64, LebRange>, format: Format) -> Next
         requires { values_end self.old.values.items ≤ length self.old.pool.items }
+        ensures { TakesCount self.old count format result self.new }
     {
         match count {
-            Ok(0) => {
-                self.phase = TablePhase::Whole;
-                Next::Ends
+            Ok(count) => self.begin_entries(count, format),
+            Err(LebRange) => {
+                if self.pairs.is_empty() {
+                    return Next::Refuses(FaultKind::EmptyFormat);
+                }
+                Next::Refuses(FaultKind::LebRange)
             }
-            _ if self.pairs.is_empty() => Next::Refuses(FaultKind::EmptyFormat),
-            Ok(count) => {
-                self.begin_value(
-                    Cursor {
-                        column: 0,
-                        left: count,
-                    },
-                    format,
-                );
-                Next::Ends
-            }
-            Err(LebRange) => Next::Refuses(FaultKind::LebRange),
         }
+    }
+
+    /// Begins so many entries.
+    fn begin_entries(&mut self, count: u64, format: Format) -> Next
+        requires { values_end self.old.values.items ≤ length self.old.pool.items }
+        ensures { TakesCount self.old (Ok count) format result self.new }
+    {
+        if count == 0 {
+            self.phase = TablePhase::Whole;
+            return Next::Ends;
+        }
+        if self.pairs.is_empty() {
+            return Next::Refuses(FaultKind::EmptyFormat);
+        }
+        let first = Cursor {
+            column: 0,
+            left: count,
+        };
+        self.begin_value(first, format);
+        Next::Ends
     }
 }

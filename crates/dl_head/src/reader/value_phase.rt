@@ -1,10 +1,10 @@
 //! Where the reader of a table is among its values.
 
-ghost use Rattle.std.specs.Prelude.{◌≡◌, ◌<◌, ◌≤◌, IfSome};
+ghost use Rattle.std.specs.Prelude.{◌≡◌, ◌<◌, ◌≤◌, ℕ, List, [], length, IfSome};
 
 use crate::form::{Form, Format};
-use crate::reader::number::{Number, Sixteen};
-use dl_num::Uleb;
+use crate::reader::sixteen::Sixteen;
+use dl_num::{Number, Uleb};
 
 /// The place of a value in the entries.
 #[derive(Clone, Copy)]
@@ -17,10 +17,13 @@ pub(crate) struct Cursor {
 }
 
 impl Cursor {
+    ghost use Rattle.dl_head.specs.TablePlace.{Moves};
+
     /// The place after this one, where an entry has so many values; None after the last one.
     pub fn next(self, width: usize) -> Option<Cursor>
         requires { self.column < width }
-        ensures { IfSome result (λ at. at.column < width) }
+        ensures within { IfSome result (λ at. at.column < width) }
+        ensures moves { Moves self width result }
     {
         if self.column + 1 < width {
             Some(Cursor {
@@ -55,12 +58,14 @@ pub(crate) enum ValuePhase {
 }
 
 impl ValuePhase {
+    ghost use Rattle.dl_head.specs.TablePlace.{ValueAt};
     ghost use Rattle.dl_head.specs.TableStep.{value_start, value_due};
 
     /// No byte yet of a value of the form, where the next byte of the pool has this place.
     pub fn new(form: Form, format: Format, pool_len: usize) -> ValuePhase
         ensures begun { value_start result ≤ pool_len }
         ensures none_due { value_due result ≡ 0 }
+        ensures at { (pool : List ℕ) → length pool ≡ pool_len → ValueAt format form result pool [] }
     {
         match form {
             Form::Data1 => ValuePhase::Number(form, Number::new(1)),

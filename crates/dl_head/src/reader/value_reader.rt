@@ -1,20 +1,23 @@
 //! The values of a table, byte by byte. Section 7.5.5.
 
-ghost use Rattle.std.specs.Prelude.{◌≡◌, ◌<◌, ◌≤◌, length};
-ghost use Rattle.dl_head.specs.Held.{held_end, values_end};
+ghost use Rattle.std.specs.Prelude.{◌≡◌, ◌+◌, ◌<◌, ◌≤◌, ◌^◌, ℕ, List, length};
+ghost use Rattle.dl_num.specs.declared.fixed.Order.{Order};
+ghost use Rattle.dl_head.specs.Held.{held_end, values_end, value_held};
+ghost use Rattle.dl_head.specs.TablePlace.{number_value};
 
 use crate::fault::FaultKind;
 use crate::form::{Form, Format};
 use crate::reader::next::Next;
-use crate::reader::number::{Number, Sixteen};
+use crate::reader::sixteen::Sixteen;
 use crate::reader::table_reader::{TablePhase, TableReader};
 use crate::reader::value_phase::{Cursor, ValuePhase};
 use crate::table::held::{Extent, Held};
-use dl_num::{LebRange, Order, Uleb};
+use dl_num::{LebRange, Number, Order, Uleb};
 
 impl TableReader {
     ghost use Rattle.dl_head.specs.declared.reader.table_reader.TablePhase.TheVariants as phase;
     ghost use Rattle.dl_head.specs.declared.reader.value_phase.ValuePhase.TheVariants as value;
+    ghost use Rattle.dl_head.specs.TablePlace.{GoesOn, Enters, BeginsBlock, ValueFollows};
 
     /// Takes the next byte of a value.
     pub(super) fn value(
@@ -26,6 +29,7 @@ impl TableReader {
         byte: u8,
     ) -> Next
         requires { self.old.phase ≡ phase.Value at value }
+        ensures { ValueFollows order format self.old byte result self.new }
     {
         match value {
             ValuePhase::Number(form, number) => self.number(at, form, number, order, format, byte),
@@ -48,6 +52,7 @@ impl TableReader {
         byte: u8,
     ) -> Next
         requires { self.old.phase ≡ phase.Value at (value.Number form number) }
+        ensures { ValueFollows order format self.old byte result self.new }
     {
         match number.push(order, byte) {
             Err(number) => {
@@ -60,6 +65,7 @@ impl TableReader {
 
     fn leb(&mut self, at: Cursor, mut number: Uleb, format: Format, byte: u8) -> Next
         requires { self.old.phase ≡ phase.Value at (value.Leb number) }
+        ensures { (order : Order) → ValueFollows order format self.old byte result self.new }
     {
         match number.push(byte) {
             None => {
@@ -67,12 +73,13 @@ impl TableReader {
                 Next::Within
             }
             Some(Err(LebRange)) => Next::Refuses(FaultKind::LebRange),
-            Some(Ok(number)) => self.enter(at, Held::Number(number), format),
+            Some(Ok(number)) => self.enter(at, held_number(Form::Udata, number), format),
         }
     }
 
     fn data16(&mut self, at: Cursor, sixteen: Sixteen, format: Format, byte: u8) -> Next
         requires { self.old.phase ≡ phase.Value at (value.Data16 sixteen) }
+        ensures { (order : Order) → ValueFollows order format self.old byte result self.new }
     {
         match sixteen.push(byte) {
             Err(sixteen) => {
@@ -85,6 +92,7 @@ impl TableReader {
 
     fn text(&mut self, at: Cursor, start: usize, format: Format, byte: u8) -> Next
         requires { self.old.phase ≡ phase.Value at (value.Text start) }
+        ensures { (order : Order) → ValueFollows order format self.old byte result self.new }
     {
         if byte == 0 {
             let len = self.pool.len() - start;
@@ -105,6 +113,7 @@ impl TableReader {
         byte: u8,
     ) -> Next
         requires { self.old.phase ≡ phase.Value at (value.BlockLength number) }
+        ensures { ValueFollows order format self.old byte result self.new }
     {
         match number.push(order, byte) {
             Err(number) => {
@@ -117,6 +126,7 @@ impl TableReader {
 
     fn leb_block_length(&mut self, at: Cursor, mut number: Uleb, format: Format, byte: u8) -> Next
         requires { self.old.phase ≡ phase.Value at (value.LebBlockLength number) }
+        ensures { (order : Order) → ValueFollows order format self.old byte result self.new }
     {
         match number.push(byte) {
             None => {
@@ -133,6 +143,8 @@ impl TableReader {
     fn begin_block(&mut self, at: Cursor, size: u64, format: Format) -> Next
         requires in_row { at.column < length self.old.pairs.items }
         requires whole { values_end self.old.values.items ≤ length self.old.pool.items }
+        ensures small { size < 2 ^ 64 }
+        ensures begins { BeginsBlock self.old at size format result self.new }
     {
         let start = self.pool.len();
         let len = size as usize;
@@ -153,6 +165,7 @@ impl TableReader {
 
     fn block(&mut self, at: Cursor, left: u64, format: Format, byte: u8) -> Next
         requires { self.old.phase ≡ phase.Value at (value.Block left) }
+        ensures { (order : Order) → ValueFollows order format self.old byte result self.new }
     {
         if self.pool.push(byte).is_err() {
             return Next::NoMemory;
@@ -171,6 +184,7 @@ impl TableReader {
         requires in_row { at.column < length self.old.pairs.items }
         requires whole { values_end self.old.values.items ≤ length self.old.pool.items }
         requires held { held_end held ≤ length self.old.pool.items }
+        ensures { Enters self.old at held format result self.new }
     {
         if self.values.push(held).is_err() {
             return Next::NoMemory;
@@ -183,6 +197,7 @@ impl TableReader {
     fn end_value(&mut self, at: Cursor, format: Format)
         requires in_row { at.column < length self.old.pairs.items }
         requires whole { values_end self.old.values.items ≤ length self.old.pool.items }
+        ensures { GoesOn self.old.pairs.items self.old.pool.items self.old.values.items (at.column + 1) at.left format self.new }
     {
         match at.next(self.pairs.len()) {
             Some(at) => self.begin_value(at, format),
@@ -194,6 +209,7 @@ impl TableReader {
     pub(super) fn begin_value(&mut self, at: Cursor, format: Format)
         requires in_row { at.column < length self.old.pairs.items }
         requires whole { values_end self.old.values.items ≤ length self.old.pool.items }
+        ensures { GoesOn self.old.pairs.items self.old.pool.items self.old.values.items at.column at.left format self.new }
     {
         let form = self.pairs[at.column].form;
         let value = ValuePhase::new(form, format, self.pool.len());
@@ -203,7 +219,9 @@ impl TableReader {
 
 /// The number or offset of a form.
 fn held_number(form: Form, number: u64) -> Held
-    ensures { held_end result ≡ 0 }
+    ensures end { held_end result ≡ 0 }
+    ensures small { number < 2 ^ 64 }
+    ensures value { (pool : List ℕ) → value_held pool result ≡ number_value form number }
 {
     match form {
         Form::LineStrp => Held::LineStr(number),

@@ -1,7 +1,9 @@
 //! Entries of a table, lent.
 
-ghost use Rattle.std.specs.Prelude.{◌≡◌, ◌≤◌, length};
-ghost use Rattle.dl_head.specs.Held.{values_end};
+ghost use Rattle.std.specs.Prelude.{◌≡◌, ◌≤◌, length, map};
+ghost use Rattle.std.specs.Option.{option_map};
+ghost use Rattle.dl_head.specs.Held.{value_held, value_lent, values_end};
+ghost use Rattle.dl_head.specs.EntryData.{value_of, with_content};
 
 use crate::table::Pair;
 use crate::table::held::{Held, ValueRef};
@@ -16,52 +18,58 @@ pub struct Entry<'a> {
 }
 
 impl<'a> Entry<'a> {
+    ghost use Rattle.dl_head.specs.EntryHeld.{entry_items};
+    ghost use Rattle.dl_head.specs.ValuesLeft.{values_left};
+
     pub(crate) fn new(pairs: &'a [Pair], held: &'a [Held], pool: &'a [u8]) -> Entry<'a>
         requires { values_end held.now ≤ length pool.now }
+        ensures { entry_items result
+            ≡ with_content pairs.now (map (value_held pool.now) held.now) }
     {
         Entry { pairs, held, pool }
     }
 
     /// The value of the first pair with this content code.
-    pub fn get(&self, content: u64) -> Option<ValueRef<'a>> {
-        let place = self.pairs.iter().position(|pair| pair.content == content)?;
-        let held = self.held.get(place)?;
-        Some(held.lend(self.pool))
+    pub fn get(&self, content: u64) -> Option<ValueRef<'a>>
+        ensures { option_map value_lent result ≡ value_of (entry_items self.now) content }
+    {
+        for (code, value) in self.values() {
+            if code == content {
+                return Some(value);
+            }
+        }
+        None
     }
 
     /// The values with their content codes, in the order of the pairs.
-    pub fn values(&self) -> Values<'a> {
-        Values {
-            pairs: self.pairs,
-            held: self.held,
-            pool: self.pool,
-        }
+    pub fn values(&self) -> Values<'a>
+        ensures { values_left result ≡ entry_items self.now }
+    {
+        Values { left: *self }
     }
 }
 
 /// The values of an entry with their content codes, in the order of the pairs.
 #[derive(Clone, Copy)]
 pub struct Values<'a> {
-    pairs: &'a [Pair],
-    held: &'a [Held],
-    pool: &'a [u8],
-    ghost within: { values_end held.now ≤ length pool.now },
+    left: Entry<'a>,
 }
 
 impl<'a> Iterator for Values<'a> {
     type Item = (u64, ValueRef<'a>);
 
-    ghost use Rattle.std.specs.Iterator.{at_most};
-    ghost use Rattle.std.specs.Prelude.{length};
+    ghost use Rattle.std.specs.Iterator.{YieldsFirstBy, item_count};
+    ghost use Rattle.dl_head.specs.ValuesLeft.{item_lent, values_left};
 
-    ghost remaining = { λ s. at_most (length s.held.now) };
+    ghost next_gives = { YieldsFirstBy item_lent values_left };
+
+    ghost remaining = { item_count values_left };
 
     fn next(&mut self) -> Option<(u64, ValueRef<'a>)> {
-        let (pair, pairs) = self.pairs.split_first()?;
-        let (held, others) = self.held.split_first()?;
-        let value = held.lend(self.pool);
-        self.pairs = pairs;
-        self.held = others;
-        Some((pair.content, value))
+        let Entry { pairs, held, pool } = self.left;
+        let (pair, pairs) = pairs.split_first()?;
+        let (first, held) = held.split_first()?;
+        self.left = Entry { pairs, held, pool };
+        Some((pair.content, first.lend(pool)))
     }
 }

@@ -1,7 +1,7 @@
 //! Values of a table, held and lent.
 
-ghost use Rattle.std.specs.Prelude.{◌≡◌, ◌≤◌, length};
-ghost use Rattle.dl_head.specs.Held.{held_end, pooled, value_held, value_lent};
+ghost use Rattle.std.specs.Prelude.{◌≡◌, ◌-◌, ◌^◌, ◌≤◌, length, min};
+ghost use Rattle.dl_head.specs.Held.{cells_held, held_end, pooled, value_held, value_lent};
 
 /// A value of a table, lent. Texts are without their zero byte. Section 7.5.5.
 #[derive(Clone, Copy, Debug, PartialEq, Eq)]
@@ -50,6 +50,17 @@ pub(crate) enum Held {
 }
 
 impl Held {
+    /// How many cells it is: itself, and the bytes of a text or block; 2^64 - 1 where there are
+    /// more.
+    pub fn cells(self) -> u64
+        ensures { result ≡ min (cells_held self) (2 ^ 64 - 1) }
+    {
+        match self {
+            Held::Text(extent) | Held::Block(extent) => (extent.len as u64).saturating_add(1),
+            _ => 1,
+        }
+    }
+
     /// The value, its bytes lent by the pool.
     pub fn lend(self, pool: &[u8]) -> ValueRef<'_>
         requires { held_end self ≤ length pool.now }

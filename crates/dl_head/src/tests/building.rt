@@ -1,18 +1,18 @@
 //! Tables and headers that are built.
 
-use crate::tests::vectors::MD5;
+use crate::tests::vectors::{DWARF64_WITH_MD5, EMPTY_PROGRAM, MD5, read};
 use crate::{BuildFault, Form, Format, Header, Pair, ParamFault, Params, Table, ValueRef};
 use arrayvec::ArrayVec;
 use std::alloc::Global;
 use std::process::Abort;
 use std::test::Fail;
 
-fn pair(content: u64, form: Form) -> Pair {
+pub fn pair(content: u64, form: Form) -> Pair {
     Pair { content, form }
 }
 
 /// The params of an empty program's header.
-fn params() -> Params {
+pub fn params() -> Params {
     Params {
         format: Format::Dwarf32,
         address_size: 8,
@@ -237,5 +237,53 @@ fn standard_opcodes_replace_others(rt: HostRuntime) -> Result<(), Fail> {
         }
         Err(_) => assert!(rt; false),
     }
+    Ok(())
+}
+
+/// The tables of the header of dwarf64 with MD5.
+fn tables_with_md5(alloc: Global) -> Result<(Table, Table), BuildFault> {
+    let mut directories = Table::new(alloc, Format::Dwarf64, &[pair(1, Form::String)])?;
+    directories.push_entry(&[ValueRef::Text(b"/s")])?;
+    let pairs = [
+        pair(1, Form::String),
+        pair(2, Form::Udata),
+        pair(5, Form::Data16),
+    ];
+    let mut files = Table::new(alloc, Format::Dwarf64, &pairs)?;
+    let values = [
+        ValueRef::Text(b"a.c"),
+        ValueRef::Number(0),
+        ValueRef::Data16(MD5),
+    ];
+    files.push_entry(&values)?;
+    Ok((directories, files))
+}
+
+#[test]
+fn a_built_header_is_the_one_that_is_read(rt: HostRuntime) -> Result<(), Fail> {
+    let (directories, files) = tables_with_md5(rt.alloc())?;
+    let mut params = params();
+    params.format = Format::Dwarf64;
+    match Header::new(params, directories, files) {
+        Ok(header) => {
+            assert_eq!(rt; header.cells(), 13);
+            let other = read(rt.alloc(), &DWARF64_WITH_MD5).expect(&rt, "a header");
+            assert!(rt; header == other);
+            assert!(rt; header != read(rt.alloc(), &EMPTY_PROGRAM).expect(&rt, "a header"));
+        }
+        Err(_) => assert!(rt; false),
+    }
+    Ok(())
+}
+
+#[test]
+fn tables_differ_in_a_value(rt: HostRuntime) -> Result<(), Fail> {
+    let table = pooled(rt.alloc())?;
+    let mut other = pooled(rt.alloc())?;
+    assert!(rt; table == other);
+    other.push_entry(&[ValueRef::Text(b"ab"), ValueRef::Block(&[])])?;
+    assert!(rt; table != other);
+    let (directories, files) = tables_with_md5(rt.alloc())?;
+    assert!(rt; directories != files && directories != table);
     Ok(())
 }

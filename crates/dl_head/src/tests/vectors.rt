@@ -2,6 +2,10 @@
 
 ghost use Rattle.std.specs.Prelude.{◌<◌};
 
+use crate::{HeadReader, Header};
+use dl_num::Order;
+use std::alloc::Global;
+
 /// The header of an empty program: the 32-bit format, addresses of 8 bytes, opcode_base 13, empty
 /// tables. Little.
 pub const EMPTY_PROGRAM: [u8; 34] = [
@@ -66,3 +70,12 @@ pub const OPCODE_BASE_10: [u8; 31] = [
     0x1e, 0x00, 0x00, 0x00, 0x05, 0x00, 0x08, 0x00, 0x13, 0x00, 0x00, 0x00, 0x01, 0x01, 0x01, 0xfb,
     0x0e, 0x0a, 0x00, 0x01, 0x01, 0x01, 0x01, 0x00, 0x00, 0x00, 0x01, 0x00, 0x00, 0x00, 0x00,
 ];
+
+/// The header of these bytes, which are Little.
+pub fn read(alloc: Global, bytes: &[u8]) -> Option<Header> {
+    let mut reader = HeadReader::new(alloc, Order::Little);
+    for byte in bytes {
+        reader.step(*byte);
+    }
+    reader.into_header()
+}

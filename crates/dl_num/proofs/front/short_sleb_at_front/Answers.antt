@@ -2,8 +2,8 @@ use Rattle.std.proofs.Common.{arith}
 use Rattle.dl_num.proofs.ReadBack.{signed_byte, signed_bytes}
 use Rattle.dl_num.proofs.front.short_sleb_at_front.Goals as goal
 
-pub returns-in-len1-up : goal.returns-in-len1-up
-returns-in-len1-up c = signed_byte c.args.bytes.now _ _ (omega arith) c.from.ensures c.if-last-lt128.true c.signed_below.ensures
+pub returns-in-len1-up-clause-number : goal.returns-in-len1-up-clause-number
+returns-in-len1-up-clause-number c = signed_byte c.args.bytes.now _ _ (omega arith) c.from.ensures c.if-last-lt128.true c.signed_below.ensures
 
-pub returns-in-len2-up : goal.returns-in-len2-up
-returns-in-len2-up c = signed_bytes c.args.bytes.now _ _ _ (omega arith) c.from-in-len2-up.ensures c.from-in-len2-up-2.ensures (omega arith) c.if-last-lt128-2.true c.signed_below-in-len2-up.ensures
+pub returns-in-len2-up-clause-number : goal.returns-in-len2-up-clause-number
+returns-in-len2-up-clause-number c = signed_bytes c.args.bytes.now _ _ _ (omega arith) c.from-in-len2-up.ensures c.from-in-len2-up-2.ensures (omega arith) c.if-last-lt128-2.true c.signed_below-in-len2-up.ensures

@@ -1,9 +1,5 @@
-use Rattle.std.proofs.Common.{take, arith}
-use Rattle.dl_num.proofs.ReadBack.{split_at}
+use Rattle.dl_num.proofs.LebFrontLemmas.{answer-map}
 use Rattle.dl_num.proofs.front.uleb_at_front.Goals as goal
 
-pub returns-in-Some : goal.returns-in-Some
-returns-in-Some c =
-    let xs = c.args.bytes.now in
-    let i = c.loop-i.i in
-    (_, split_at xs i (omega arith), (c.in-Some.ensures.answer (take i xs) c.loop-i.invariant).0)
+pub returns : goal.returns
+returns c = answer-map c.take_from.result (λ took. took.continue) (λ found t. (t.0, t.1, t.2)) (c.take_from.ensures.answer _ c.new.ensures)

@@ -2,19 +2,29 @@ use Rattle.std.proofs.Common.{◌≡◌, ◌+◌, ◌%◌, ◌++◌, ◌∷◌, 
 use Rattle.dl_num.specs.Leb.{groups}
 use Rattle.dl_num.proofs.GroupLemmas.{groups-push}
 use Rattle.dl_num.proofs.Spelling.{part_fits, part_grows, uleb_shortest}
+use Rattle.dl_num.proofs.ShortestLemmas.{group_more, group_last}
 use Rattle.dl_num.proofs.spell.uleb_bytes.Goals as goal
 
 pub push-requires : goal.push-requires
-push-requires c = (omega arith, part_fits c.loop-rest.bytes.items (omega arith) c.loop-rest.invariant)
+push-requires c = (omega arith, part_fits c.loop-rest.bytes.items (omega arith) c.loop-rest.invariant.part)
 
 pub loop-rest-preserved : goal.loop-rest-preserved
 loop-rest-preserved c =
     let items = c.loop-rest.bytes.items in
     let b = c.loop-rest.rest % 128 + 128 in
-    rw c.push.ensures.items (part_grows 128 b (groups (items ++ b ∷ [])) refl c.loop-rest-test.true (omega arith) (let m : b % 128 ≡ c.loop-rest.rest % 128 = omega arith in rw (groups-push, m) refl) c.loop-rest.invariant)
+    let computed = c.loop-rest.invariant.computed in
+    record {
+      part = rw c.push.ensures.items (part_grows 128 b (groups (items ++ b ∷ [])) refl c.loop-rest-test.true (omega arith) (let m : b % 128 ≡ c.loop-rest.rest % 128 = omega arith in rw (groups-push, m) refl) c.loop-rest.invariant.part);
+      computed = rw c.push.ensures.items (group_more items _ computed.0 c.loop-rest.rest c.loop-rest-test.true computed.1 computed.2);
+    }
 
 pub push-requires-2 : goal.push-requires-2
-push-requires-2 c = (omega arith, part_fits c.loop-rest.bytes.items (omega arith) c.loop-rest.invariant)
+push-requires-2 c = (omega arith, part_fits c.loop-rest.bytes.items (omega arith) c.loop-rest.invariant.part)
 
-pub returns : goal.returns
-returns c = rw c.push-2.ensures.items (uleb_shortest c.loop-rest.bytes.items (omega arith) c.loop-rest.invariant)
+pub returns-clause-shortest : goal.returns-clause-shortest
+returns-clause-shortest c = rw c.push-2.ensures.items (uleb_shortest c.loop-rest.bytes.items (omega arith) c.loop-rest.invariant.part)
+
+pub returns-clause-value : goal.returns-clause-value
+returns-clause-value c =
+    let computed = c.loop-rest.invariant.computed in
+    rw c.push-2.ensures.items (group_last c.loop-rest.bytes.items _ computed.0 c.loop-rest.rest c.loop-rest-test.false computed.2)

@@ -1,8 +1,11 @@
-use Rattle.std.proofs.Common.{ℕ, ◌*◌, ◌/◌, List, length, map, ap, sym, ◌∙◌, drop, arith}
+use Rattle.std.proofs.Common.{ℕ, ◌*◌, ◌/◌, List, length, map, ap, sym, ◌∙◌, take, drop, Some, arith}
+use Rattle.dl_head.specs.declared.table.Pair.{Pair}
 use Rattle.dl_head.specs.declared.table.held.Held.{Held}
 use Rattle.dl_head.specs.TableData.{TableData}
+use Rattle.dl_head.specs.EntryData.{with_content}
 use Rattle.dl_head.specs.Held.{value_held, values_end}
 use Rattle.dl_head.proofs.HeldLemmas.{length-rows, values_end-take, values_end-drop}
+use Rattle.dl_head.proofs.RowLemmas.{entry_at}
 use Rattle.dl_head.proofs.table.Table.entry.Goals as goal
 
 pub row-held-requires : goal.row-held-requires
@@ -24,5 +27,16 @@ new-requires c =
     let d = ap values_end c.row-held.ensures in
     let e = ap values_end c.as_slice.ensures.value in
     let p = c.as_slice-3.ensures.len in
-    let i = c.self.invariant in
+    let i = c.self.invariant.within in
     omega arith
+
+pub returns : goal.returns
+returns c =
+    let t = c.self.inside in
+    let held = c.row-held.ensures ∙ ap (λ (xs : List Held). take c.len-2.result (drop (c.args.i * c.len-2.result) xs)) c.as_slice.ensures.value
+    ∙ ap (λ (n : ℕ). take n (drop (c.args.i * n) t.values.items)) (c.len-2.ensures ∙ t.pairs.ok.0) in
+    let lent = c.new.ensures ∙ ap (λ (ps : List Pair). with_content ps (map (value_held c.as_slice-3.result.now) c.row-held.result.now)) c.as_slice-2.ensures.value
+    ∙ ap (λ (pool : List ℕ). with_content t.pairs.items (map (value_held pool) c.row-held.result.now)) c.as_slice-3.ensures.value
+    ∙ ap (λ (xs : List Held). with_content t.pairs.items (map (value_held t.pool.items) xs)) held in
+    ap (λ items. Some items) lent
+    ∙ sym (entry_at t.format t.pairs.items t.values.items t.pool.items c.args.self.now c.args.i c.self.view_is (omega arith))

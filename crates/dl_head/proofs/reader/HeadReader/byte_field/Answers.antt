@@ -1,0 +1,23 @@
+use Rattle.std.proofs.Common.{refl, sym, ap, ◌∙◌}
+use Rattle.dl_head.specs.Layout.{number_is, judged}
+use Rattle.dl_head.proofs.Places.{at_phase, byte_spelt}
+use Rattle.dl_head.proofs.reader.HeadReader.byte_field.Goals as goal
+
+pub returns-in-Some : goal.returns-in-Some
+returns-in-Some c = record {
+  made = λ items rest at.
+      byte_spelt c.args.self.now.order c.args.self.now c.args.field items rest c.args.byte (at_phase _ _ items rest c.requires at)
+      ∙ ap (λ o. judged o c.args.byte) (sym c.in-Some.ensures);
+  counts = record { order = refl; start = refl; taken = refl };
+}
+
+pub returns : goal.returns
+returns c = record {
+  made = λ items rest at. (
+    number_is c.args.byte,
+    byte_spelt c.args.self.now.order c.args.self.now c.args.field items rest c.args.byte (at_phase _ _ items rest c.requires at)
+        ∙ ap (λ o. judged o c.args.byte) (sym c.in_default.ensures),
+    c.store.ensures.at items rest at,
+  );
+  counts = c.store.ensures.counts;
+}

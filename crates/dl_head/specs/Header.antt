@@ -1,0 +1,93 @@
+-- The spelling of a header, and the header that bytes begin with. DWARF 5, section 6.2.4; initial lengths are of section 7.4.
+use Rattle.std.specs.Prelude.{◌≡◌, ℕ, ◌+◌, ◌-◌, ◌&&◌, List, [], ◌∷◌, ◌++◌, length, drop, Option, Some, None, Ok, Err, nat_le, if◌then◌else◌}
+use Rattle.dl_num.specs.declared.fixed.Order.{Order}
+use Rattle.dl_head.specs.TableData.{HeaderData}
+use Rattle.dl_head.specs.Value.{good}
+use Rattle.dl_head.specs.Layout.{Layout, last_entry, foreign_version, Item, length_is, number_is, header_layout, following, following_all, field_spelt, initial_size, fixed_part}
+
+-- w is the spellings of good fields of these values, from a layout on
+abbrev pub SpellsFields : Order → Layout → List Item → List ℕ → Type 0
+SpellsFields order layout [] w = w ≡ []
+SpellsFields order layout (i ∷ items) w =
+    (front : List ℕ) × (rest : List ℕ) × (w ≡ front ++ rest) × (field_spelt order layout front ≡ good i) × SpellsFields order (following layout i) items rest
+
+-- how long the unit is by its unit_length, the initial length included
+abbrev pub unit_end : List Item → Option ℕ
+unit_end (length_is format n ∷ items) = Some (initial_size format + n)
+unit_end items = None
+
+-- where the header ends by its header_length, the fifth field
+abbrev pub header_end : List Item → Option ℕ
+header_end (length_is format n ∷ version ∷ address ∷ segment ∷ number_is header ∷ items) = Some (initial_size format + fixed_part format + header)
+header_end items = None
+
+-- the header, where the last entry is complete
+abbrev pub header_made : Layout → Option HeaderData
+header_made (last_entry h) = Some h
+header_made layout = None
+
+-- the version, where it isn't 5
+abbrev pub foreign_made : Layout → Option ℕ
+foreign_made (foreign_version v) = Some v
+foreign_made layout = None
+
+-- w is the spellings of the fields of h up to the last entry, then any bytes up to the end by header_length
+pub record IsHeader (order : Order) (h : HeaderData) (w : List ℕ) : Type 0 where
+  pub items : List Item
+  pub fields : List ℕ
+  pub padding : List ℕ
+  pub whole : w ≡ fields ++ padding
+  pub spelt : SpellsFields order header_layout items fields
+  pub made : header_made (following_all header_layout items) ≡ Some h
+  pub end : header_end items ≡ Some (length w)
+
+-- b is good fields of these values, one after the other, and then rest, at whose front no further good field stands
+pub record IsFieldCut (order : Order) (b : List ℕ) (items : List Item) (rest : List ℕ) : Type 0 where
+  pub fields : List ℕ
+  pub whole : b ≡ fields ++ rest
+  pub spelt : SpellsFields order header_layout items fields
+  pub no_more : (front : List ℕ) (back : List ℕ) (i : Item) → rest ≡ front ++ back → field_spelt order (following_all header_layout items) front ≡ good i → ⊥
+
+-- The good fields that are cut off the front of some bytes, one at a time: their values, and the bytes after them.
+pub record Cut : Type 0 where
+  pub items : List Item
+  pub rest : List ℕ
+
+abbrev pub with_item : Item → Cut → Cut
+with_item i c = record { items = i ∷ c.items; rest = c.rest }
+
+-- begun: bytes before b that are no whole good field yet
+abbrev pub cut_after : Order → Layout → List ℕ → List ℕ → Cut
+cut_after order layout begun [] = record { items = []; rest = begun }
+cut_after order layout begun (x ∷ b) = elim (field_spelt order layout (begun ++ x ∷ [])) [
+  | Some (Ok i) ↦ with_item i (cut_after order (following layout i) [] b)
+  | Some (Err kind) ↦ cut_after order layout (begun ++ x ∷ []) b
+  | None ↦ cut_after order layout (begun ++ x ∷ []) b
+]
+
+-- the good fields at the front of b, computed
+abbrev pub cut : Order → List ℕ → Cut
+cut order b = cut_after order header_layout [] b
+
+-- what stands next, after the good fields at the front of b
+abbrev pub layout_after : Order → List ℕ → Layout
+layout_after order b = following_all header_layout (cut order b).items
+
+-- the unit's bytes, once b holds a good initial length
+abbrev pub unit_len : Order → List ℕ → Option ℕ
+unit_len order b = unit_end (cut order b).items
+
+-- the version in b, where it isn't 5
+abbrev pub foreign_in : Order → List ℕ → Option ℕ
+foreign_in order b = foreign_made (layout_after order b)
+
+-- what is left of b behind a header, the fields of which are so many bytes
+abbrev pub header_up_to : List ℕ → ℕ → Option HeaderData → Option ℕ → Option (HeaderData × List ℕ)
+header_up_to b fields (Some h) (Some end) = if nat_le fields end && nat_le end (length b) then Some (h, drop end b) else None
+header_up_to b fields made end = None
+
+-- the header that b begins with, and what follows it, computed
+abbrev pub header_in : Order → List ℕ → Option (HeaderData × List ℕ)
+header_in order b =
+    let c = cut order b in
+    header_up_to b (length b - length c.rest) (header_made (following_all header_layout c.items)) (header_end c.items)

@@ -1,0 +1,147 @@
+-- Where the header reader is: between which fields, and in which bytes of the next one. No promise rests on this file.
+use Rattle.std.specs.Prelude.{◌≡◌, ℕ, ◌+◌, ◌-◌, ◌≤◌, List, [], ◌∷◌, ◌++◌, length, Some, None}
+use Rattle.dl_num.specs.declared.fixed.Order.{Order}
+use Rattle.dl_num.specs.Fixed.{fixed}
+use Rattle.dl_num.specs.NumberBytes.{number_size, number_bytes}
+use Rattle.dl_head.specs.declared.reader.byte_field.ByteField.{ByteField}
+use Rattle.dl_head.specs.declared.reader.byte_field.ByteField.TheVariants as field
+use Rattle.dl_head.specs.declared.reader.Phase.{Phase}
+use Rattle.dl_head.specs.declared.reader.Phase.TheVariants as phase
+use Rattle.dl_head.specs.declared.reader.next.Next.{Next}
+use Rattle.dl_head.specs.declared.reader.next.Next.TheVariants as byte_makes
+use Rattle.dl_head.specs.declared.reader.HeadReader.{HeadReader}
+use Rattle.dl_head.specs.declared.reader.table_reader.TableReader.{TableReader}
+use Rattle.dl_head.specs.declared.reader.table_reader.TablePhase.TheVariants as table
+use Rattle.dl_head.specs.declared.fault.FaultKind.TheVariants as fault
+use Rattle.dl_head.specs.declared.form.Format.{Format}
+use Rattle.dl_head.specs.declared.params.Params.{Params}
+use Rattle.dl_head.specs.Value.{good, bad, offset_size}
+use Rattle.dl_head.specs.Layout.{Layout, foreign_version, Item, length_is, number_is, following_all, field_spelt, header_layout, lengths_layout, tables_layout, initial_size, fixed_part, unit_length_limit}
+use Rattle.dl_head.specs.Layout.{from_address_size, from_segment_selector_size, from_minimum_length, from_maximum_operations, from_default_is_stmt, from_line_base, from_line_range, from_opcode_base}
+use Rattle.dl_head.specs.Header.{unit_end, header_end}
+
+-- the fields from one of one byte on
+abbrev pub from_byte : ByteField → ℕ → Params → Layout
+from_byte field.AddressSize unit_length p = from_address_size unit_length p
+from_byte field.SegmentSelectorSize unit_length p = from_segment_selector_size unit_length p
+from_byte field.MinimumInstructionLength unit_length p = from_minimum_length p
+from_byte field.MaximumOperations unit_length p = from_maximum_operations p
+from_byte field.DefaultIsStmt unit_length p = from_default_is_stmt p
+from_byte field.LineBase unit_length p = from_line_base p
+from_byte field.LineRange unit_length p = from_line_range p
+from_byte field.OpcodeBase unit_length p = from_opcode_base p
+
+-- the lengths of the opcodes that are left, behind those in p
+abbrev pub from_length : Params → Layout
+from_length p =
+    let before = p.lengths.items in
+    lengths_layout (length before + 1) (p.opcode_base - 1 - length before) before λ lengths. tables_layout (record p { lengths = record { items = lengths } })
+
+-- the reader of a table has taken nothing
+pub record IsFresh (t : TableReader) : Type 0 where
+  pub phase : t.phase ≡ table.PairCount
+  pub pairs : t.pairs.items ≡ []
+  pub values : t.values.items ≡ []
+  pub pool : t.pool.items ≡ []
+
+-- the unit_length as a field's value
+abbrev pub length_item : HeadReader → Item
+length_item r = length_is r.params.format r.unit_length
+
+-- where the unit ends
+abbrev pub end_of_unit : HeadReader → ℕ
+end_of_unit r = initial_size r.params.format + r.unit_length
+
+-- nothing of a table or of an opcode has been read
+pub record IsBefore (r : HeadReader) : Type 0 where
+  pub no_lengths : r.params.lengths.items ≡ []
+  pub fresh : IsFresh r.table
+
+-- the values before header_length
+pub record Early (r : HeadReader) (items is : List Item) : Type 0 where
+  pub items_are : items ≡ is
+  pub end : r.end ≡ Some (end_of_unit r)
+  pub overrun : r.overrun ≡ fault.UnitOverrun
+  pub before : IsBefore r
+
+-- the fields after header_length
+pub record Late (r : HeadReader) (items : List Item) (layout : Layout) : Type 0 where
+  pub follows : following_all header_layout items ≡ layout
+  pub unit : unit_end items ≡ Some (end_of_unit r)
+  pub header : ℕ
+  pub header_ends : header_end items ≡ Some header
+  pub end : r.end ≡ Some header
+  pub overrun : r.overrun ≡ fault.HeaderOverrun
+  pub fresh : IsFresh r.table
+
+-- the values of the fields before header_length
+abbrev pub before_header_length : HeadReader → List Item
+before_header_length r = length_item r ∷ number_is 5 ∷ number_is r.params.address_size ∷ number_is r.params.segment_selector_size ∷ []
+
+-- no field is behind
+pub record AtStart (r : HeadReader) (items : List Item) : Type 0 where
+  pub none : items ≡ []
+  pub end : r.end ≡ None
+  pub overrun : r.overrun ≡ fault.UnitOverrun
+  pub before : IsBefore r
+
+-- the bytes of the long initial length
+pub record InLong (order : Order) (rest : List ℕ) (number : List ℕ) : Type 0 where
+  pub escape : List ℕ
+  pub whole : rest ≡ escape ++ number
+  pub size : length escape ≡ 4
+  pub value : fixed order escape ≡ 0xffffffff
+
+-- The reader has read fields of these values, and the bytes rest of the next one; up to the lengths of the opcodes.
+abbrev pub AtPhase : HeadReader → Phase → List Item → List ℕ → Type 0
+AtPhase r (phase.UnitLength n) items rest = AtStart r items × (number_bytes n ≡ rest) × (number_size n ≡ 4)
+AtPhase r (phase.LongUnitLength n) items rest = AtStart r items × InLong r.order rest (number_bytes n) × (number_size n ≡ 8)
+AtPhase r phase.Version items rest = Early r items (length_item r ∷ []) × (rest ≡ [])
+AtPhase r (phase.VersionEnd first) items rest = Early r items (length_item r ∷ []) × (rest ≡ first ∷ [])
+AtPhase r (phase.HeaderLength n) items rest =
+    Early r items (before_header_length r) × (number_bytes n ≡ rest) × (number_size n ≡ offset_size r.params.format)
+AtPhase r (phase.Byte field.AddressSize) items rest = Early r items (length_item r ∷ number_is 5 ∷ []) × (rest ≡ [])
+AtPhase r (phase.Byte field.SegmentSelectorSize) items rest =
+    Early r items (length_item r ∷ number_is 5 ∷ number_is r.params.address_size ∷ []) × (rest ≡ [])
+AtPhase r (phase.Byte f) items rest = Late r items (from_byte f r.unit_length r.params) × (rest ≡ []) × (r.params.lengths.items ≡ [])
+AtPhase r phase.OpcodeLength items rest = Late r items (from_length r.params) × (rest ≡ [])
+AtPhase r phase.Directories items rest = Late r items (tables_layout r.params) × (rest ≡ [])
+AtPhase r (phase.Foreign v) items rest = following_all header_layout items ≡ foreign_version v
+AtPhase r p items rest = ⊥
+
+abbrev pub At : HeadReader → List Item → List ℕ → Type 0
+At r items rest = AtPhase r r.phase items rest
+
+-- the counts are kept
+pub record SameCounts (old new : HeadReader) : Type 0 where
+  pub order : new.order ≡ old.order
+  pub start : new.start ≡ old.start
+  pub taken : new.taken ≡ old.taken
+
+-- what the byte makes of the field that ends with w
+abbrev pub Made : Order → List Item → List ℕ → Next → HeadReader → Type 0
+Made order items w byte_makes.Within new = (field_spelt order (following_all header_layout items) w ≡ None) × At new items w
+Made order items w byte_makes.Ends new = (i : Item) × (field_spelt order (following_all header_layout items) w ≡ good i) × At new (items ++ i ∷ []) []
+Made order items w (byte_makes.Refuses kind) new = field_spelt order (following_all header_layout items) w ≡ bad kind
+Made order items w byte_makes.NoMemory new = ⊥
+
+-- a byte of a field before the tables
+pub record Follows (old : HeadReader) (byte : ℕ) (result : Next) (new : HeadReader) : Type 0 where
+  pub made : (items : List Item) (rest : List ℕ) → At old items rest → Made old.order items (rest ++ byte ∷ []) result new
+  pub counts : SameCounts old new
+
+-- `start_unit`: the initial length is good, and the reader is at the version, or it is too long
+abbrev pub Starts : HeadReader → Format → ℕ → Next → HeadReader → Type 0
+Starts old format length byte_makes.Ends new =
+    (length ≤ unit_length_limit) × (AtStart old [] → At new (length_is format length ∷ []) []) × SameCounts old new
+Starts old format length (byte_makes.Refuses kind) new = (unit_length_limit + 1 ≤ length) × (kind ≡ fault.UnitTooLong) × SameCounts old new
+Starts old format length result new = ⊥
+
+-- `start_header`: header_length is good, and the reader is behind it, or it is above the bytes left in the unit
+abbrev pub StartsHeader : HeadReader → ℕ → Next → HeadReader → Type 0
+StartsHeader old header byte_makes.Ends new =
+    (header ≤ old.unit_length - fixed_part old.params.format) × ((items : List Item) → Early old items (before_header_length old) → At new (items ++ number_is header ∷ []) [])
+    × SameCounts old new
+StartsHeader old header (byte_makes.Refuses kind) new =
+    (old.unit_length - fixed_part old.params.format + 1 ≤ header) × (kind ≡ fault.HeaderBeyondUnit) × SameCounts old new
+StartsHeader old header result new = ⊥

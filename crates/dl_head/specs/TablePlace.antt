@@ -1,0 +1,249 @@
+-- Where the reader of a table is: in which bytes of which field. `next` is what follows the table. No promise rests on this file.
+use Rattle.std.specs.Prelude.{◌≡◌, ℕ, ◌+◌, ◌-◌, ◌^◌, ◌<◌, ◌≤◌, drop, Bool, true, not, ◌==◌, List, [], ◌∷◌, ◌++◌, length, Some, None, Option, map, ◌⊎◌, Result}
+use Rattle.dl_num.specs.declared.fixed.Order.{Order}
+use Rattle.dl_num.specs.LebReader.{UlebTook, UlebIs}
+use Rattle.dl_num.specs.declared.leb.LebRange.{LebRange}
+use Rattle.dl_head.specs.declared.fault.FaultKind.TheVariants as fault
+use Rattle.dl_head.specs.declared.form.Format.{Format}
+use Rattle.dl_head.specs.declared.form.Form.{Form}
+use Rattle.dl_head.specs.declared.form.Form.TheVariants as form
+use Rattle.dl_head.specs.declared.table.held.Held.{Held}
+use Rattle.dl_head.specs.declared.table.held.Held.TheVariants as held
+use Rattle.dl_head.specs.declared.reader.value_phase.Cursor.{Cursor}
+use Rattle.dl_head.specs.declared.reader.value_phase.ValuePhase.{ValuePhase}
+use Rattle.dl_head.specs.declared.reader.value_phase.ValuePhase.TheVariants as value
+use Rattle.dl_head.specs.declared.table.Pair.{Pair}
+use Rattle.dl_head.specs.declared.reader.next.Next.{Next}
+use Rattle.dl_head.specs.declared.reader.next.Next.TheVariants as byte_makes
+use Rattle.dl_head.specs.declared.reader.table_reader.TableReader.{TableReader}
+use Rattle.dl_head.specs.declared.reader.table_reader.TablePhase.{TablePhase}
+use Rattle.dl_head.specs.declared.reader.table_reader.TablePhase.TheVariants as phase
+use Rattle.dl_head.specs.TableData.{TableData}
+use Rattle.dl_num.specs.NumberBytes.{number_size, number_bytes}
+use Rattle.dl_num.specs.OperandBytes.{operand_bytes}
+use Rattle.dl_head.specs.Held.{value_held, values_end}
+use Rattle.dl_head.specs.Field.{IsFixed, IsUleb64, HasNoZero}
+use Rattle.dl_head.specs.Value.{Value, line_str, str, str_sup, number, block, good, bad, form_of_code, offset_size}
+use Rattle.dl_head.specs.Layout.{Layout, number_then, form_then, content_code, entry_count, Item, value_is, following, field_spelt, pairs_layout, entry_layout, entries_layout, table_layout}
+use Rattle.dl_head.specs.Place.{IsFresh}
+
+-- what follows the pairs; some: there are any
+abbrev pub after_pairs : Format → (TableData → Layout) → Bool → List Pair → Layout
+after_pairs format next some pairs =
+    number_then (entry_count some) λ count. entries_layout format pairs count [] λ entries. next (record { format = format; pairs = pairs; entries = entries })
+
+-- the pairs that are left behind those that were read, and what follows them
+abbrev pub pairs_left : Format → (TableData → Layout) → ℕ → List Pair → Layout
+pairs_left format next left pairs = pairs_layout left pairs (after_pairs format next true)
+
+-- a form code, and the pairs that are left with it
+abbrev pub form_left : Format → (TableData → Layout) → ℕ → List Pair → ℕ → Layout
+form_left format next left pairs content = form_then λ f. pairs_left format next (left - 1) (pairs ++ record { content = content; form = f } ∷ [])
+
+-- no value is held
+pub record NoValues (t : TableReader) : Type 0 where
+  pub values : t.values.items ≡ []
+  pub pool : t.pool.items ≡ []
+
+-- how many bytes a number of this form has
+abbrev pub number_bytes_of : Format → Form → Option ℕ
+number_bytes_of format form.Data1 = Some 1
+number_bytes_of format form.Data2 = Some 2
+number_bytes_of format form.Data4 = Some 4
+number_bytes_of format form.Data8 = Some 8
+number_bytes_of format form.Strp = Some (offset_size format)
+number_bytes_of format form.StrpSup = Some (offset_size format)
+number_bytes_of format form.LineStrp = Some (offset_size format)
+number_bytes_of format f = None
+
+-- the value of a number of this form
+abbrev pub number_value : Form → ℕ → Value
+number_value form.LineStrp n = line_str n
+number_value form.Strp n = str n
+number_value form.StrpSup n = str_sup n
+number_value f n = number n
+
+-- how many bytes the length of a block of this form has
+abbrev pub length_bytes_of : Form → Option ℕ
+length_bytes_of form.Block1 = Some 1
+length_bytes_of form.Block2 = Some 2
+length_bytes_of form.Block4 = Some 4
+length_bytes_of f = None
+
+-- the spelling of the length of a block of this form
+abbrev pub IsLengthOf : Order → Form → ℕ → List ℕ → Type 0
+IsLengthOf order form.Block n w = IsUleb64 n w
+IsLengthOf order f n w = (k : ℕ) × (length_bytes_of f ≡ Some k) × IsFixed order k n w
+
+-- the bytes rest of a value of the form have come, where the pool holds these bytes
+abbrev pub ValueAt : Format → Form → ValuePhase → List ℕ → List ℕ → Type 0
+ValueAt format f (value.Number g n) pool rest = (g ≡ f) × (number_bytes_of format f ≡ Some (number_size n)) × (number_bytes n ≡ rest)
+ValueAt format f (value.Leb u) pool rest = (f ≡ form.Udata) × UlebTook u rest
+ValueAt format f (value.Text start) pool rest = (f ≡ form.String) × (start ≤ length pool) × (drop start pool ≡ rest) × HasNoZero rest
+ValueAt format f (value.Data16 s) pool rest = (f ≡ form.Data16) × (operand_bytes s.operand ≡ rest)
+ValueAt format f (value.BlockLength n) pool rest = (length_bytes_of f ≡ Some (number_size n)) × (number_bytes n ≡ rest)
+ValueAt format f (value.LebBlockLength u) pool rest = (f ≡ form.Block) × UlebTook u rest
+ValueAt format f (value.Block left) pool rest = ⊥
+
+-- the values of the entries, one entry after the other
+abbrev pub joined : List (List Value) → List Value
+joined [] = []
+joined (e ∷ entries) = e ++ joined entries
+
+-- each entry has a value for each pair
+abbrev pub AreWide : ℕ → List (List Value) → Type 0
+AreWide width [] = Unit {0}
+AreWide width (e ∷ entries) = (length e ≡ width) × AreWide width entries
+
+-- entries, and the values of one that isn't complete, are held
+pub record Holds (pairs : List Pair) (pool : List ℕ) (values : List Held) (entries : List (List Value)) (before : List Value) : Type 0 where
+  pub held : joined entries ++ before ≡ map (value_held pool) values
+  pub wide : AreWide (length pairs) entries
+  pub within : values_end values ≤ length pool
+
+-- what follows the values before of an entry behind these, so many entries being left with it
+abbrev pub values_left : Format → (TableData → Layout) → List Pair → List (List Value) → List Value → ℕ → Layout
+values_left format next pairs entries before left =
+    entry_layout format (drop (length before) pairs) before λ entry.
+    entries_layout format pairs (left - 1) (entries ++ entry ∷ []) λ all. next (record { format = format; pairs = pairs; entries = all })
+
+-- the reader is in the bytes rest of a value
+pub record InValue (t : TableReader) (at : Cursor) (v : ValuePhase) (format : Format) (next : TableData → Layout) (layout : Layout) (rest : List ℕ) : Type 0 where
+  pub entries : List (List Value)
+  pub before : List Value
+  pub column : at.column ≡ length before
+  pub pair : Pair
+  pub later : List Pair
+  pub at_pair : drop (length before) t.pairs.items ≡ pair ∷ later
+  pub holds : Holds t.pairs.items t.pool.items t.values.items entries before
+  pub layout_is : layout ≡ values_left format next t.pairs.items entries before at.left
+  pub value : ValueAt format pair.form v t.pool.items rest
+
+-- the reader is in the bytes of a block, whose value is entered already; so many are to come
+pub record InBlock (order : Order) (t : TableReader) (at : Cursor) (left : ℕ) (format : Format) (next : TableData → Layout) (layout : Layout) (rest : List ℕ) : Type 0 where
+  pub entries : List (List Value)
+  pub before : List Value
+  pub column : at.column ≡ length before
+  pub pair : Pair
+  pub later : List Pair
+  pub at_pair : drop (length before) t.pairs.items ≡ pair ∷ later
+  pub earlier : List Held
+  pub pool : List ℕ
+  pub size : List ℕ
+  pub bytes : List ℕ
+  pub values_are : t.values.items ≡ earlier ++ held.Block (record { start = length pool; len = length bytes + left }) ∷ []
+  pub pool_is : t.pool.items ≡ pool ++ bytes
+  pub holds : Holds t.pairs.items pool earlier entries before
+  pub layout_is : layout ≡ values_left format next t.pairs.items entries before at.left
+  pub rest_is : rest ≡ size ++ bytes
+  pub length_is : IsLengthOf order pair.form (length bytes + left) size
+  pub some : 1 ≤ left
+
+-- the last entry is complete
+pub record IsWhole (t : TableReader) (format : Format) (next : TableData → Layout) (layout : Layout) : Type 0 where
+  pub entries : List (List Value)
+  pub holds : Holds t.pairs.items t.pool.items t.values.items entries []
+  pub layout_is : layout ≡ next (record { format = format; pairs = t.pairs.items; entries = entries })
+
+-- the reader is in the bytes rest of the first field of the layout
+abbrev pub TableAt : Order → TableReader → TablePhase → Format → (TableData → Layout) → Layout → List ℕ → Type 0
+TableAt order t phase.PairCount format next layout rest = IsFresh t × (layout ≡ table_layout format next) × (rest ≡ [])
+TableAt order t (phase.ContentCode left code) format next layout rest =
+    NoValues t × (layout ≡ number_then content_code (form_left format next left t.pairs.items)) × UlebTook code rest × (1 ≤ left)
+TableAt order t (phase.FormCode left content code) format next layout rest =
+    NoValues t × (layout ≡ form_left format next left t.pairs.items content) × UlebTook code rest × (1 ≤ left)
+TableAt order t (phase.EntryCount count) format next layout rest =
+    NoValues t × (layout ≡ after_pairs format next (not (length t.pairs.items == 0)) t.pairs.items) × UlebTook count rest
+TableAt order t (phase.Value at (value.Block left)) format next layout rest = InBlock order t at left format next layout rest
+TableAt order t (phase.Value at v) format next layout rest = InValue t at v format next layout rest
+TableAt order t phase.Whole format next layout rest = IsWhole t format next layout × (rest ≡ [])
+
+-- the phase and what is held are as they were
+pub record SameTable (old new : TableReader) : Type 0 where
+  pub phase : new.phase ≡ old.phase
+  pub pairs : new.pairs.items ≡ old.pairs.items
+  pub values : new.values.items ≡ old.values.items
+  pub pool : new.pool.items ≡ old.pool.items
+
+-- what the byte makes of the field that ends with w
+abbrev pub TableMade : Order → TableReader → Format → (TableData → Layout) → Layout → List ℕ → Next → TableReader → Type 0
+TableMade order old format next layout w byte_makes.Within new = (field_spelt order layout w ≡ None) × TableAt order new new.phase format next layout w
+TableMade order old format next layout w byte_makes.Ends new = (i : Item) × (field_spelt order layout w ≡ good i) × TableAt order new new.phase format next (following layout i) []
+TableMade order old format next layout w (byte_makes.Refuses kind) new = field_spelt order layout w ≡ bad kind
+TableMade order old format next layout w byte_makes.NoMemory new = SameTable old new
+
+-- a byte of the count of the pairs or of a pair
+abbrev pub TableFollows : TableReader → ℕ → Next → TableReader → Type 0
+TableFollows old byte result new =
+    (order : Order) (format : Format) (next : TableData → Layout) (layout : Layout) (rest : List ℕ) → TableAt order old old.phase format next layout rest
+    → TableMade order old format next layout (rest ++ byte ∷ []) result new
+
+-- `begin_pair`: so many pairs are left, or the count of the entries follows
+abbrev pub BeginsPair : TableReader → ℕ → TableReader → Type 0
+BeginsPair old left new =
+    (order : Order) (format : Format) (next : TableData → Layout) (some : Bool) → NoValues old → some ≡ not (left + length old.pairs.items == 0)
+    → TableAt order new new.phase format next (pairs_layout left old.pairs.items (after_pairs format next some)) []
+
+-- `take_content`: the form code of the pair follows
+abbrev pub TakesContent : TableReader → ℕ → ℕ → Next → TableReader → Type 0
+TakesContent old left content result new =
+    (result ≡ byte_makes.Ends) × (content < 2 ^ 64)
+    × ((order : Order) (format : Format) (next : TableData → Layout) → NoValues old → 1 ≤ left → TableAt order new new.phase format next (form_left format next left old.pairs.items content) [])
+
+-- `take_form`: the pair is entered, or its code is none of a form, or memory was refused
+abbrev pub TakesForm : TableReader → ℕ → ℕ → ℕ → Next → TableReader → Type 0
+TakesForm old left content code byte_makes.Ends new =
+    (f : Form) × (form_of_code code ≡ Some f)
+    × ((order : Order) (format : Format) (next : TableData → Layout) → NoValues old → 1 ≤ left
+    → TableAt order new new.phase format next (pairs_left format next (left - 1) (old.pairs.items ++ record { content = content; form = f } ∷ [])) [])
+TakesForm old left content code (byte_makes.Refuses kind) new = (form_of_code code ≡ None) × (code < 2 ^ 64) × (kind ≡ fault.UnknownForm code)
+TakesForm old left content code byte_makes.NoMemory new = SameTable old new
+TakesForm old left content code byte_makes.Within new = ⊥
+
+-- `Cursor::next`: the place of the value after this one, where an entry has so many
+abbrev pub Moves : Cursor → ℕ → Option Cursor → Type 0
+Moves old width None = (width ≤ old.column + 1) × (old.left ≤ 1)
+Moves old width (Some new) =
+    ((old.column + 1 < width) × (new.column ≡ old.column + 1) × (new.left ≡ old.left)) ⊎ ((width ≤ old.column + 1) × (2 ≤ old.left) × (new.column ≡ 0) × (new.left ≡ old.left - 1))
+
+-- `begin_value`, `end_value`: the values before the place are complete
+abbrev pub GoesOn : List Pair → List ℕ → List Held → ℕ → ℕ → Format → TableReader → Type 0
+GoesOn pairs pool values column left format new =
+    (order : Order) (next : TableData → Layout) (layout : Layout) (entries : List (List Value)) (before : List Value)
+    → Holds pairs pool values entries before → length before ≡ column → layout ≡ values_left format next pairs entries before left
+    → TableAt order new new.phase format next layout []
+
+-- `enter`: the value is complete, or memory was refused
+abbrev pub Enters : TableReader → Cursor → Held → Format → Next → TableReader → Type 0
+Enters old at h format byte_makes.Ends new =
+    (order : Order) (next : TableData → Layout) (layout : Layout) (v : ValuePhase) (rest : List ℕ) → InValue old at v format next layout rest
+    → TableAt order new new.phase format next (following layout (value_is (value_held old.pool.items h))) []
+Enters old at h format byte_makes.NoMemory new = SameTable old new
+Enters old at h format result new = ⊥
+
+-- `begin_block`: a block of this size, whose length is read; its bytes follow, or it is complete, or memory was refused
+abbrev pub BeginsBlock : TableReader → Cursor → ℕ → Format → Next → TableReader → Type 0
+BeginsBlock old at size format byte_makes.Within new =
+    (1 ≤ size) × ((order : Order) (next : TableData → Layout) (layout : Layout) (v : ValuePhase) (rest : List ℕ) (w : List ℕ) → (is : InValue old at v format next layout rest)
+    → IsLengthOf order is.pair.form size w → TableAt order new new.phase format next layout w)
+BeginsBlock old at size format byte_makes.Ends new =
+    (size ≡ 0) × ((order : Order) (next : TableData → Layout) (layout : Layout) (v : ValuePhase) (rest : List ℕ) → InValue old at v format next layout rest
+    → TableAt order new new.phase format next (following layout (value_is (block []))) [])
+BeginsBlock old at size format byte_makes.NoMemory new = SameTable old new
+BeginsBlock old at size format (byte_makes.Refuses kind) new = ⊥
+
+-- what the byte makes of a value
+abbrev pub ValueFollows : Order → Format → TableReader → ℕ → Next → TableReader → Type 0
+ValueFollows order format old byte result new =
+    (next : TableData → Layout) (layout : Layout) (rest : List ℕ) → TableAt order old old.phase format next layout rest
+    → TableMade order old format next layout (rest ++ byte ∷ []) result new
+
+-- `take_count`: the count of the entries is whole
+abbrev pub TakesCount : TableReader → Result ℕ LebRange → Format → Next → TableReader → Type 0
+TakesCount old count format result new =
+    (order : Order) (next : TableData → Layout) (layout : Layout) (w : List ℕ) → NoValues old → layout ≡ after_pairs format next (not (length old.pairs.items == 0)) old.pairs.items
+    → UlebIs w count → TableMade order old format next layout w result new
+
+-- `push`: a byte of a table that isn't whole
+abbrev pub PushFollows : Order → Format → TableReader → ℕ → Next → TableReader → Type 0
+PushFollows order format old byte result new = (old.phase ≡ phase.Whole → ⊥) → ValueFollows order format old byte result new

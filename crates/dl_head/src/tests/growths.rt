@@ -1,0 +1,87 @@
+//! Growths of a table that are refused, each once.
+
+use crate::{BuildFault, Form, Format, Pair, Table, ValueRef};
+use std::alloc::{AllocError, Global};
+use std::process::Abort;
+use std::test::Fail;
+
+/// The size of the first growth of a table's values.
+const VALUES_SIZE: usize = 96;
+
+/// Takes all the memory that the process can get, but for one block of `spare` bytes.
+fn hoard_but(alloc: Global, spare: usize) -> Result<Vec<Vec<u8>>, AllocError> {
+    let mut blocks = Vec::with_capacity(alloc, 1 << 17)?;
+    let free: Vec<u8> = Vec::with_capacity(alloc, spare)?;
+    let mut size = 1usize << 46;
+    for _ in 0..1u32 << 17 {
+        if size == 0 || blocks.len() >= blocks.capacity() {
+            break;
+        }
+        match Vec::with_capacity(alloc, size) {
+            Ok(block) => blocks.push(block)?,
+            Err(_) => size /= 2,
+        }
+    }
+    drop(free);
+    Ok(blocks)
+}
+
+const PAIRS: [Pair; 2] = [
+    Pair {
+        content: 1,
+        form: Form::String,
+    },
+    Pair {
+        content: 2,
+        form: Form::Udata,
+    },
+];
+
+/// Adds an entry while all memory is taken but for one block of `spare` bytes.
+fn push_with(
+    alloc: Global,
+    spare: usize,
+    table: &mut Table,
+    values: &[ValueRef<'_>],
+) -> Result<Result<(), BuildFault>, AllocError> {
+    let blocks = hoard_but(alloc, spare)?;
+    let pushed = table.push_entry(values);
+    drop(blocks);
+    Ok(pushed)
+}
+
+fn empty(alloc: Global) -> Result<Table, BuildFault> {
+    Table::new(alloc, Format::Dwarf32, &PAIRS)
+}
+
+#[test]
+fn a_format_needs_memory(rt: HostRuntime) -> Result<(), Fail> {
+    let blocks = hoard_but(rt.alloc(), 0)?;
+    let refused = Table::new(rt.alloc(), Format::Dwarf32, &PAIRS);
+    let none = Table::new(rt.alloc(), Format::Dwarf32, &[]);
+    drop(blocks);
+    assert!(rt; matches!(&refused, Err(BuildFault::NoMemory)));
+    assert!(rt; none?.is_empty());
+    assert_eq!(rt; empty(rt.alloc())?.pairs(), PAIRS.as_slice());
+    Ok(())
+}
+
+#[test]
+fn an_entry_needs_memory(rt: HostRuntime) -> Result<(), Fail> {
+    let entry = [ValueRef::Text(b"ab"), ValueRef::Number(7)];
+    let mut table = empty(rt.alloc())?;
+    for spare in [0, VALUES_SIZE] {
+        let refused = push_with(rt.alloc(), spare, &mut table, &entry)?;
+        assert_eq!(rt; refused, Err(BuildFault::NoMemory));
+        assert!(rt; table == empty(rt.alloc())?);
+    }
+    assert_eq!(rt; table.push_entry(&entry), Ok(()));
+    let held = table.entry(0).expect(&rt, "an entry");
+    assert_eq!(rt; held.get(1), Some(entry[0]));
+    assert_eq!(rt; held.get(2), Some(entry[1]));
+    let mut other = empty(rt.alloc())?;
+    let no_bytes = [ValueRef::Text(b""), ValueRef::Number(7)];
+    let pushed = push_with(rt.alloc(), VALUES_SIZE, &mut other, &no_bytes)?;
+    assert_eq!(rt; pushed, Ok(()));
+    Ok(())
+}
