@@ -55,7 +55,8 @@ impl Finder {
     #[inline]
     fn note(&mut self, row: &Row, place: Place)
         ensures { self.new ≡ (record self.old {
-            found = if is_at_most place self.old.place then Some row.now else self.old.found }) }
+          found = if is_at_most place self.old.place then Some row.now else self.old.found;
+        }) }
     {
         if place.is_at_most(self.place) {
             self.found = Some(*row);
