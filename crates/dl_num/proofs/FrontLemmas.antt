@@ -28,7 +28,7 @@ pub standing-append : {A : Type 0} (spelt : List ℕ → Option A) (b c : List �
 standing-append spelt b c = standing_after-append spelt [] b c
 
 -- where no bytes on the way spell anything, nothing is found
-nothing_yet : {A : Type 0} (spelt : List ℕ → Option A) (begun b : List ℕ)
+pub nothing_yet : {A : Type 0} (spelt : List ℕ → Option A) (begun b : List ℕ)
     → ((front : List ℕ) (x : ℕ) (back : List ℕ) → b ≡ front ++ x ∷ back → ◌≡◌ {A = Option A} (spelt (begun ++ (front ++ x ∷ []))) None)
     → standing_after spelt begun b ≡ record { found = []; rest = begun ++ b }
 nothing_yet {A = A} spelt begun [] h = ap (λ (z : List ℕ). let s : Standing A = record { found = []; rest = z } in s) (sym (append-nil begun))
@@ -40,7 +40,7 @@ nothing_yet {A = A} spelt begun (x ∷ b) h =
     subst (λ (o : Option A). standing_on spelt (begun ++ x ∷ []) o b ≡ s (begun ++ x ∷ b)) none after
 
 -- the first spelling is found
-found_first : {A : Type 0} (spelt : List ℕ → Option A) (begun : List ℕ) (x : ℕ) (w v : List ℕ) (a : A) → spelt (begun ++ x ∷ w) ≡ Some a
+pub found_first : {A : Type 0} (spelt : List ℕ → Option A) (begun : List ℕ) (x : ℕ) (w v : List ℕ) (a : A) → spelt (begun ++ x ∷ w) ≡ Some a
     → ((front : List ℕ) (y : ℕ) (back : List ℕ) → x ∷ w ≡ front ++ y ∷ back → ◌≡◌ {A = Option A} (spelt (begun ++ front)) None)
     → standing_after spelt begun (x ∷ w ++ v) ≡ with_found a (standing_after spelt [] v)
 found_first {A = A} spelt begun x [] v a e h =

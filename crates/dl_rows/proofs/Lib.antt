@@ -4,10 +4,15 @@ pub mod ExtendedLemmas
 pub mod FirstLemmas
 pub mod Judged
 pub mod OperandLemmas
+pub mod OperandRanges
 pub mod OperationLaws
 pub mod PhaseLemmas
 pub mod PlaceLemmas
 pub mod ProgramLaws
+pub mod ProgramLemmas
+pub mod ProgramSteps
+pub mod ProgramTurns
+pub mod ProgramWalks
 pub mod RegisterLemmas
 pub mod SkipLemmas
 pub mod SpeltFirst

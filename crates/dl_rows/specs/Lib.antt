@@ -5,6 +5,7 @@ pub mod Machine
 pub mod Matrix
 pub mod OperationSpelt
 pub mod Phases
+pub mod Programs
 pub mod Progress
 pub mod Spelling
 pub mod Sums

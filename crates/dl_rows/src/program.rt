@@ -1,6 +1,6 @@
 //! The line number program of a unit, from bytes that come in pieces. Sections 6.2.5.1 to 6.2.5.3.
 
-ghost use Rattle.std.specs.Prelude.{◌≡◌, ◌≤◌, length, IfSome};
+ghost use Rattle.std.specs.Prelude.{◌≡◌, ◌≤◌, List, length, IfSome, IsTrue};
 ghost use Rattle.dl_head.specs.Built.{IsUsable};
 
 use crate::operation::Operation;
@@ -32,7 +32,11 @@ pub struct Program {
 }
 
 impl Program {
+    ghost use Rattle.dl_rows.specs.declared.operation.Operation.{Operation};
     ghost use Rattle.dl_rows.specs.Left.{GivenLeaves, rows_of};
+    ghost use Rattle.dl_rows.specs.Matrix.{matrix};
+    ghost use Rattle.dl_rows.specs.Programs.{Finishes, ends_open};
+    ghost use Rattle.dl_rows.specs.Sums.{FitsProgram, HasRange, registers_after};
     ghost use Rattle.dl_rows.specs.declared.phase.Phase.TheVariants as phase;
 
     /// At the first operation.
@@ -46,7 +50,9 @@ impl Program {
     }
 
     /// Whether no operation is incomplete.
-    pub fn is_between(&self) -> bool {
+    pub fn is_between(&self) -> bool
+        ensures { IsTrue result → self.now.phase ≡ phase.Start }
+    {
         matches!(self.phase, Phase::Start)
     }
 
@@ -104,7 +110,12 @@ impl Program {
     fn finish(&mut self, params: &Params, operation: Operation) -> Option<Row>
         requires { IsUsable params.now }
         ensures phase { self.new.phase ≡ self.old.phase }
+        ensures begun { self.new.begun ≡ self.old.begun }
         ensures row { IfSome result (λ row. 1 ≤ rows_of operation) }
+        ensures finishes { (before : List Operation) → FitsProgram params.now → HasRange operation
+            → self.old.registers ≡ registers_after params.now before
+            → self.old.in_sequence ≡ ends_open (matrix params.now before)
+            → Finishes params.now before operation result self.new }
     {
         self.registers.apply(params, operation);
         match operation {

@@ -1,0 +1,60 @@
+-- The ranges of the operands that bytes spell.
+use Rattle.std.proofs.Common.{◌≡◌, ℕ, ◌^◌, ◌<◌, ◌≤◌, ℤ, pos, negsuc, List, [], ◌∷◌, ◌++◌, length, ap, subst, ◌∙◌, arith}
+use Rattle.std.specs.Prelude.{unsigned_abs}
+use Rattle.dl_num.specs.declared.fixed.Order.{Order}
+use Rattle.dl_num.specs.Fixed.{fixed}
+use Rattle.dl_num.specs.Leb.{IsSigned64}
+use Rattle.dl_num.specs.Laws.{AllBytes}
+use Rattle.dl_num.proofs.FixedLaws.{fixed_is_below}
+use Rattle.dl_head.specs.declared.params.Params.{Params}
+use Rattle.dl_head.specs.Built.{IsUsable}
+use Rattle.dl_rows.specs.declared.operation.Operation.{Operation}
+use Rattle.dl_rows.specs.declared.operation.Operation.TheVariants as op
+use Rattle.dl_rows.specs.Spelling.{SpellsOperation}
+use Rattle.dl_rows.specs.Sums.{HasRange}
+use Rattle.dl_rows.proofs.RegisterLemmas.{size_cases}
+
+pub bytes_front : (b x : List ℕ) → AllBytes (b ++ x) → AllBytes b
+bytes_front [] x all = tt
+bytes_front (c ∷ b) x all = (all.0, bytes_front b x all.1)
+
+pub bytes_back : (b x : List ℕ) → AllBytes (b ++ x) → AllBytes x
+bytes_back [] x all = all
+bytes_back (c ∷ b) x all = bytes_back b x all.1
+
+pub bytes_joined : (b x : List ℕ) → AllBytes b → AllBytes x → AllBytes (b ++ x)
+bytes_joined [] x all more = more
+bytes_joined (c ∷ b) x all more = (all.0, bytes_joined b x all.1 more)
+
+signed_range : (i : ℤ) → IsSigned64 i → unsigned_abs i < 2 ^ 64
+signed_range (pos n) h = omega arith
+signed_range (negsuc n) h = omega arith
+
+address_range : (order : Order) (h : Params) (n : ℕ) (operand : List ℕ) → IsUsable h → AllBytes operand → length operand ≡ h.address_size → n ≡ fixed order operand → n < 2 ^ 64
+address_range order h n operand usable all size number =
+    let lt = fixed_is_below order operand all in
+    size_cases h.address_size usable.address_size (λ e. below 1 (size ∙ e) lt (omega arith)) (λ e. below 2 (size ∙ e) lt (omega arith)) (λ e. below 4 (size ∙ e) lt (omega arith)) (λ e. below 8 (size ∙ e) lt (omega arith))
+  where
+    below : (k : ℕ) → length operand ≡ k → fixed order operand < 256 ^ length operand → 256 ^ k ≤ 2 ^ 64 → n < 2 ^ 64
+    below k e lt le = let p : 256 ^ length operand ≡ 256 ^ k = ap (λ (x : ℕ). 256 ^ x) e in omega arith
+
+pub range_of : (order : Order) (h : Params) (o : Operation) (v : List ℕ) → IsUsable h → AllBytes v → SpellsOperation order h o v → HasRange o
+range_of order h (op.Special b) v usable all s = (subst (λ (z : List ℕ). AllBytes z) s.1 all).0
+range_of order h (op.AdvanceLine i) v usable all s = signed_range i s.fits
+range_of order h (op.Address n) v usable all s =
+    let whole : AllBytes (0 ∷ (s.extended.size ++ 2 ∷ s.operand)) = subst (λ (z : List ℕ). AllBytes z) s.extended.bytes all in
+    address_range order h n s.operand usable (bytes_back s.extended.size (2 ∷ s.operand) whole.1).1 s.size s.number
+range_of order h op.Copy v usable all s = tt
+range_of order h (op.AdvancePc n) v usable all s = tt
+range_of order h (op.SetFile n) v usable all s = tt
+range_of order h (op.SetColumn n) v usable all s = tt
+range_of order h op.Negate v usable all s = tt
+range_of order h op.Block v usable all s = tt
+range_of order h op.ConstAdd v usable all s = tt
+range_of order h (op.FixedAdd n) v usable all s = tt
+range_of order h op.Prologue v usable all s = tt
+range_of order h op.Epilogue v usable all s = tt
+range_of order h (op.Isa n) v usable all s = tt
+range_of order h op.End v usable all s = tt
+range_of order h (op.Discriminator n) v usable all s = tt
+range_of order h op.Skipped v usable all s = tt
