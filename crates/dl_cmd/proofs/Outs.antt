@@ -1,16 +1,13 @@
 -- How what is out grows with each write and each text.
 use Rattle.std.proofs.Common.{◌≡◌, ℕ, ◌+◌, ◌-◌, ◌≤◌, List, [], ◌++◌, length, take, drop, Option, arith, sym, ap, subst, ◌∙◌, append_assoc, length-append, length-drop}
 use Rattle.std.proofs.Math.Seq.{take-add}
-use Rattle.std.proofs.lemmas.List.{take_rest, take_all, take-append-le, drop-append-le}
+use Rattle.std.proofs.lemmas.List.{take_all, take-append-le, drop-append-le}
 use Rattle.std.proofs.Math.ListN.{drop_of_length-le}
 use Rattle.std.specs.Io.KnownBytes.{Appends}
-use Rattle.std.proofs.KnownBytes.{Appends-trans, Appends-nil}
+use Rattle.std.proofs.KnownBytes.{Appends-trans}
 use Rattle.dl_cmd.specs.Output.{HasOut, HasPrinted, TellsOut}
 use Rattle.dl_cmd.specs.declared.fault.RunFault.{RunFault}
 use Rattle.dl_cmd.specs.declared.fault.RunFault.TheVariants.{Write}
-
-pub HasOut-none : (start : Option (List ℕ)) (text : List ℕ) → HasOut start start text 0
-HasOut-none start text = record { within = omega arith; written = Appends-nil start }
 
 module _ (start a b : Option (List ℕ)) (text : List ℕ) (out : ℕ) where
   -- k more bytes went out
@@ -19,11 +16,6 @@ module _ (start a b : Option (List ℕ)) (text : List ℕ) (out : ℕ) where
     within = fits;
     written = subst (Appends start b) (sym (take-add out k text)) (Appends-trans start a b _ _ h.written p);
   }
-
-  -- the same where the bytes are those of a slice of the text
-  pub HasOut-slice : (k : ℕ) → HasOut start a text out → k ≤ length text - out → Appends a b (take k (take (length text - out) (drop out text))) → HasOut start b text (out + k)
-  HasOut-slice k h fits p =
-      HasOut-write k h (let w = h.within in omega arith) (subst (λ l. Appends a b (take k l)) (take_rest text out) p)
 
   -- the buffer was written in part
   pub HasOut-pending : (pending : List ℕ) (k : ℕ) → HasPrinted start a text (record { pending = pending; out = out }) → HasOut a b pending k → HasOut start b text (out + k)

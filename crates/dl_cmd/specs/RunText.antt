@@ -3,7 +3,7 @@ use Rattle.std.specs.Prelude.{ℕ, List, ◌++◌, codes}
 use Rattle.dl_cmd.specs.Digits.{hexadecimal}
 use Rattle.dl_head.specs.FaultText.{fault_text}
 use Rattle.dl_cmd.specs.declared.fault.RunFault.{RunFault}
-use Rattle.dl_cmd.specs.declared.fault.RunFault.TheVariants.{Damage, NoMemory, Read, Write, SectionTooLong, NotFound}
+use Rattle.dl_cmd.specs.declared.fault.RunFault.TheVariants.{Damage, NoMemory, Read, Write, SectionTooLong, NotFound, ForeignUnit, Emit}
 
 abbrev pub run_fault_text : RunFault → List ℕ
 run_fault_text (Damage offset kind) = codes "damage at 0x" ++ hexadecimal offset ++ codes ": " ++ fault_text kind
@@ -12,6 +12,8 @@ run_fault_text Read = codes "cannot read the input"
 run_fault_text (Write out) = codes "cannot write the output"
 run_fault_text SectionTooLong = codes "section too long"
 run_fault_text NotFound = codes "no line for this address"
+run_fault_text (ForeignUnit unit) = codes "unit 0x" ++ hexadecimal unit ++ codes " is not version 5"
+run_fault_text (Emit unit fault) = codes "cannot write unit 0x" ++ hexadecimal unit ++ codes ": unit too long"
 
 -- what the section is to blame for is 1, what memory, input and output are to blame for is 3
 abbrev pub status : RunFault → ℕ
@@ -21,3 +23,5 @@ status Read = 3
 status (Write out) = 3
 status SectionTooLong = 1
 status NotFound = 1
+status (ForeignUnit unit) = 1
+status (Emit unit fault) = 1

@@ -34,7 +34,7 @@ impl<W: Write> Visitor<W> for Checker {
         Ok(())
     }
 
-    fn end(&mut self, _output: &mut W, _header: Option<&Header>) -> Result<Next, RunFault> {
+    fn end(&mut self, _output: &mut W, _header: Option<Header>) -> Result<Next, RunFault> {
         Ok(Next::Unit)
     }
 

@@ -41,7 +41,7 @@ impl<W: Write> Visitor<W> for Dumper<'_> {
         self.printer.open_sequence(output)
     }
 
-    fn end(&mut self, _output: &mut W, _header: Option<&Header>) -> Result<Next, RunFault> {
+    fn end(&mut self, _output: &mut W, _header: Option<Header>) -> Result<Next, RunFault> {
         Ok(Next::Unit)
     }
 

@@ -1,5 +1,6 @@
 //! How a command stops that doesn't end well, with its text and its status.
 
+use dl_emit::EmitFault;
 use dl_head::FaultKind;
 use std::fmt;
 
@@ -18,6 +19,12 @@ pub enum RunFault {
     SectionTooLong,
     /// No row answers for the address. Only `find` answers it.
     NotFound,
+    /// A unit isn't of version 5. Its offset counts from the section's first byte. Only `copy` answers
+    /// it, and the next one.
+    ForeignUnit { unit: u64 },
+    /// A unit isn't written, since it would be too long. Its offset counts from the section's first
+    /// byte.
+    Emit { unit: u64, fault: EmitFault },
 }
 
 impl RunFault {
@@ -29,7 +36,11 @@ impl RunFault {
         ensures { result ≡ status self.now }
     {
         match self {
-            RunFault::Damage { .. } | RunFault::SectionTooLong | RunFault::NotFound => 1,
+            RunFault::Damage { .. }
+            | RunFault::SectionTooLong
+            | RunFault::NotFound
+            | RunFault::ForeignUnit { .. }
+            | RunFault::Emit { .. } => 1,
             RunFault::NoMemory | RunFault::Read | RunFault::Write { .. } => 3,
         }
     }
@@ -49,6 +60,10 @@ impl fmt::Display for RunFault {
             RunFault::Write { .. } => write!(f, "cannot write the output"),
             RunFault::SectionTooLong => write!(f, "section too long"),
             RunFault::NotFound => write!(f, "no line for this address"),
+            RunFault::ForeignUnit { unit } => write!(f, "unit 0x{unit:x} is not version 5"),
+            RunFault::Emit { unit, .. } => {
+                write!(f, "cannot write unit 0x{unit:x}: unit too long")
+            }
         }
     }
 }

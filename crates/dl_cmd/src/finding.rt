@@ -43,7 +43,7 @@ impl<W: Write> Visitor<W> for Seeker<'_> {
         Ok(())
     }
 
-    fn end(&mut self, output: &mut W, header: Option<&Header>) -> Result<Next, RunFault> {
+    fn end(&mut self, output: &mut W, header: Option<Header>) -> Result<Next, RunFault> {
         let answer = self.finder.answer();
         self.finder = Finder::new(self.place);
         let (Some(row), Some(header)) = (answer, header) else {

@@ -3,6 +3,7 @@
 
 mod address;
 mod checking;
+mod copying;
 mod dumping;
 mod fault;
 mod finding;
@@ -17,6 +18,7 @@ mod words;
 
 pub use address::read_address;
 pub use checking::check;
+pub use copying::copy;
 pub use dumping::dump;
 pub use fault::RunFault;
 pub use finding::find;

@@ -1,5 +1,6 @@
 //! The output, printed through one buffer.
 mod lines;
+mod printing;
 mod values;
 
 ghost use Rattle.std.specs.Prelude.{◌≡◌, ◌+◌, ◌^◌, ◌<◌, ◌≤◌, ℕ, List, [], ◌++◌, Option, length, take, IfSome, IfNone, IfOk, OnOk, IfErr, MatchResult};
@@ -7,54 +8,12 @@ ghost use Rattle.std.specs.Io.KnownBytes.{Appends, Keeps};
 ghost use Rattle.dl_cmd.specs.Output.{HasOut, HasPrinted, TellsOut, Flushes, Prints, printed_len};
 
 use crate::fault::RunFault;
-use crate::input::INTERRUPTIONS;
 use crate::text::write_bytes;
-use std::io::{ErrorKind, Write};
+use dl_head::counted::write_all;
+pub use printing::Printing;
+use std::io::Write;
 use std::marker::Model;
 pub use values::StringSections;
-
-/// The writer failed, or took nothing, after it took `out` bytes.
-#[derive(Clone, Copy, Debug, PartialEq, Eq)]
-struct WriteFailed {
-    out: usize,
-}
-
-/// One write, which is repeated where it was interrupted. None is a failed write.
-fn write_some<W: Write>(output: &mut W, bytes: &[u8]) -> Option<usize>
-    ensures within { IfSome result (λ n. n ≤ length bytes.now) }
-    ensures some { IfSome result (λ n.
-        Appends (W.contents output.old) (W.contents output.new) (take n bytes.now)) }
-    ensures none { IfNone result (Keeps (W.contents output.old) (W.contents output.new)) }
-{
-    for _ in 0..=INTERRUPTIONS {
-        match output.write(bytes) {
-            Ok(n) => return Some(n),
-            Err(error) => {
-                if error.kind() != ErrorKind::Interrupted {
-                    return None;
-                }
-            }
-        }
-    }
-    None
-}
-
-/// Writes all of the bytes, or says how many of them are out.
-fn write_counted<W: Write>(output: &mut W, bytes: &[u8]) -> Result<(), WriteFailed>
-    ensures ok { OnOk result (Appends (W.contents output.old) (W.contents output.new) bytes.now) }
-    ensures err { IfErr result (λ e.
-        HasOut (W.contents output.old) (W.contents output.new) bytes.now e.out) }
-    ensures part { IfErr result (λ e. e.out < length bytes.now) }
-{
-    let mut out = 0;
-    while out < bytes.len() {
-        match write_some(output, &bytes[out..]) {
-            None | Some(0) => return Err(WriteFailed { out }),
-            Some(n) => out += n,
-        }
-    }
-    Ok(())
-}
 
 /// How many bytes a printer holds at most.
 const HELD: usize = 65536;
@@ -96,10 +55,10 @@ fn write_on<W: Write>(output: &mut W, out: u128, bytes: &[u8]) -> Result<u128, R
     let Some(all) = out.checked_add(bytes.len() as u128) else {
         return Err(RunFault::Write { out });
     };
-    match write_counted(output, bytes) {
+    match write_all(output, bytes) {
         Ok(()) => Ok(all),
-        Err(failed) => Err(RunFault::Write {
-            out: out + failed.out as u128,
+        Err(part) => Err(RunFault::Write {
+            out: out + part as u128,
         }),
     }
 }

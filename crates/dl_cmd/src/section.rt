@@ -12,6 +12,7 @@ use dl_num::Order;
 use dl_rows::{Event, Reader, Row};
 use std::alloc::Global;
 use std::io::{Read, Write};
+use std::mem;
 
 /// What a command reads behind a whole unit.
 #[derive(Clone, Copy, Debug, PartialEq, Eq)]
@@ -37,7 +38,7 @@ pub trait Visitor<W: Write> {
     fn open(&mut self, output: &mut W) -> Result<(), RunFault>;
 
     /// The unit at hand is whole. Of another version than 5 it has no header.
-    fn end(&mut self, output: &mut W, header: Option<&Header>) -> Result<Next, RunFault>;
+    fn end(&mut self, output: &mut W, header: Option<Header>) -> Result<Next, RunFault>;
 
     /// All that was read is worked through.
     fn settle(&mut self, output: &mut W) -> Result<(), RunFault>;
@@ -151,7 +152,9 @@ impl Units {
         if self.reader.in_sequence() {
             visitor.open(output)?;
         }
-        let next = visitor.end(output, self.reader.header())?;
+        let reader = mem::replace(&mut self.reader, Reader::new(self.alloc, self.order));
+        self.offset = self.offset.saturating_add(reader.taken());
+        let next = visitor.end(output, reader.into_header())?;
         let summary = &mut self.summary;
         if self.is_foreign {
             summary.skipped = summary.skipped.saturating_add(1);
@@ -160,8 +163,6 @@ impl Units {
         }
         summary.sequences = summary.sequences.saturating_add(self.sequences);
         summary.rows = summary.rows.saturating_add(self.rows);
-        self.offset = self.offset.saturating_add(self.reader.taken());
-        self.reader = Reader::new(self.alloc, self.order);
         self.is_foreign = false;
         self.sequences = 0;
         self.rows = 0;

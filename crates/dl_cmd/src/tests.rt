@@ -1,5 +1,6 @@
 //! Texts, readers and writers from outside.
 mod addresses;
+mod copying;
 mod faults;
 mod finding;
 mod printing;

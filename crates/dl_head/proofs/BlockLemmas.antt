@@ -1,6 +1,6 @@
 -- The reader of a table in the blocks among its values.
-use Rattle.std.proofs.Common.{◌≡◌, ◌≢◌, ℕ, ◌+◌, ◌^◌, ◌<◌, ◌≤◌, true, false, List, ◌++◌, length, take, Option, Some, None, Err, refl, sym, ap, subst, ◌∙◌, arith, length-append}
-use Rattle.std.proofs.lemmas.Bool.{lt-ltb, le-ltb, le-leb, lt-leb, ne_eqb}
+use Rattle.std.proofs.Common.{◌≡◌, ◌≢◌, ℕ, ◌+◌, ◌^◌, ◌<◌, ◌≤◌, true, false, List, [], ◌∷◌, ◌++◌, length, take, Option, Some, None, Err, refl, sym, ap, subst, ◌∙◌, arith, length-append, append_assoc}
+use Rattle.std.proofs.lemmas.Bool.{lt-ltb, le-ltb, le-leb, ne_eqb}
 use Rattle.std.proofs.lemmas.List.{take_at}
 use Rattle.dl_num.specs.declared.fixed.Order.{Order}
 use Rattle.dl_num.specs.declared.leb.LebRange.{LebRange}
@@ -18,7 +18,7 @@ use Rattle.dl_head.specs.declared.form.Form.TheVariants as form
 use Rattle.dl_head.specs.Field.{IsFixed, IsUleb64}
 use Rattle.dl_head.specs.Value.{block, good, bad, block_spelt, leb_block_spelt, value_spelt}
 use Rattle.dl_head.specs.TablePlace.{length_bytes_of, IsLengthOf}
-use Rattle.dl_head.proofs.FieldLemmas.{none_some}
+use Rattle.dl_head.proofs.FieldLemmas.{none_some, some_same}
 use Rattle.dl_head.proofs.FieldLaws.{value_is_good}
 
 -- ---- a block whose bytes are on their way
@@ -43,14 +43,11 @@ leb_part n size bytes is lt =
 no_length : {A : Type 0} (k : ℕ) → ◌≡◌ {A = Option ℕ} None (Some k) → A
 no_length k e = absurd (none_some {a = k} refl e)
 
-some_same : (a b : ℕ) → ◌≡◌ {A = Option ℕ} (Some a) (Some b) → b ≡ a
-some_same a b e = cc
-
 pub part_block : (order : Order) (format : Format) (f : Form) (n : ℕ) (size bytes : List ℕ) → IsLengthOf order f n size → length bytes < n → value_spelt order format f (size ++ bytes) ≡ None
 part_block order format form.Block n size bytes is lt = leb_part n size bytes is lt
-part_block order format form.Block1 n size bytes is lt = fixed_part order 1 n size bytes (subst (λ (k : ℕ). IsFixed order k n size) (some_same 1 is.0 is.1) is.2) lt
-part_block order format form.Block2 n size bytes is lt = fixed_part order 2 n size bytes (subst (λ (k : ℕ). IsFixed order k n size) (some_same 2 is.0 is.1) is.2) lt
-part_block order format form.Block4 n size bytes is lt = fixed_part order 4 n size bytes (subst (λ (k : ℕ). IsFixed order k n size) (some_same 4 is.0 is.1) is.2) lt
+part_block order format form.Block1 n size bytes is lt = fixed_part order 1 n size bytes (subst (λ (k : ℕ). IsFixed order k n size) (sym (some_same 1 is.0 is.1)) is.2) lt
+part_block order format form.Block2 n size bytes is lt = fixed_part order 2 n size bytes (subst (λ (k : ℕ). IsFixed order k n size) (sym (some_same 2 is.0 is.1)) is.2) lt
+part_block order format form.Block4 n size bytes is lt = fixed_part order 4 n size bytes (subst (λ (k : ℕ). IsFixed order k n size) (sym (some_same 4 is.0 is.1)) is.2) lt
 part_block order format form.Data1 n size bytes is lt = no_length is.0 is.1
 part_block order format form.Data2 n size bytes is lt = no_length is.0 is.1
 part_block order format form.Data4 n size bytes is lt = no_length is.0 is.1
@@ -67,11 +64,11 @@ part_block order format form.LineStrp n size bytes is lt = no_length is.0 is.1
 pub whole_block : (order : Order) (format : Format) (f : Form) (size bytes : List ℕ) → IsLengthOf order f (length bytes) size → value_spelt order format f (size ++ bytes) ≡ good (block bytes)
 whole_block order format form.Block size bytes is = value_is_good order format form.Block (size ++ bytes) (block bytes) (bytes, refl, (size, refl, is))
 whole_block order format form.Block1 size bytes is =
-    value_is_good order format form.Block1 (size ++ bytes) (block bytes) (bytes, refl, (size, refl, subst (λ (k : ℕ). IsFixed order k (length bytes) size) (some_same 1 is.0 is.1) is.2))
+    value_is_good order format form.Block1 (size ++ bytes) (block bytes) (bytes, refl, (size, refl, subst (λ (k : ℕ). IsFixed order k (length bytes) size) (sym (some_same 1 is.0 is.1)) is.2))
 whole_block order format form.Block2 size bytes is =
-    value_is_good order format form.Block2 (size ++ bytes) (block bytes) (bytes, refl, (size, refl, subst (λ (k : ℕ). IsFixed order k (length bytes) size) (some_same 2 is.0 is.1) is.2))
+    value_is_good order format form.Block2 (size ++ bytes) (block bytes) (bytes, refl, (size, refl, subst (λ (k : ℕ). IsFixed order k (length bytes) size) (sym (some_same 2 is.0 is.1)) is.2))
 whole_block order format form.Block4 size bytes is =
-    value_is_good order format form.Block4 (size ++ bytes) (block bytes) (bytes, refl, (size, refl, subst (λ (k : ℕ). IsFixed order k (length bytes) size) (some_same 4 is.0 is.1) is.2))
+    value_is_good order format form.Block4 (size ++ bytes) (block bytes) (bytes, refl, (size, refl, subst (λ (k : ℕ). IsFixed order k (length bytes) size) (sym (some_same 4 is.0 is.1)) is.2))
 whole_block order format form.Data1 size bytes is = no_length is.0 is.1
 whole_block order format form.Data2 size bytes is = no_length is.0 is.1
 whole_block order format form.Data4 size bytes is = no_length is.0 is.1
@@ -84,9 +81,6 @@ whole_block order format form.Data16 size bytes is = no_length is.0 is.1
 whole_block order format form.LineStrp size bytes is = no_length is.0 is.1
 
 -- ---- the length of a block
-
-short_fixed : (order : Order) (k : ℕ) (w : List ℕ) → length w < k → block_spelt order k w ≡ None
-short_fixed order k w lt = rw (lt-leb k (length w) lt) refl
 
 pub length_of : (order : Order) (f : Form) (k n : ℕ) (w : List ℕ) → length_bytes_of f ≡ Some k → IsFixed order k n w → IsLengthOf order f n w
 length_of order form.Block1 k n w e is = (k, e, is)
@@ -121,3 +115,7 @@ leb_length_large order format f w e is large =
     let le : 2 ^ 64 ≤ groups (leb_front w) = omega (arith, ap groups front, t.1, large.2) in
     let none : leb_block_spelt w ≡ bad fault.LebRange = rw (number, le-ltb _ _ le, t.0) refl in
     ap (λ (g : Form). value_spelt order format g w) is ∙ none
+
+-- the bytes, and one more
+pub one_more : (rest size bytes : List ℕ) (byte : ℕ) → rest ≡ size ++ bytes → rest ++ byte ∷ [] ≡ size ++ (bytes ++ byte ∷ [])
+one_more rest size bytes byte e = ap (λ (l : List ℕ). l ++ byte ∷ []) e ∙ append_assoc size bytes (byte ∷ [])

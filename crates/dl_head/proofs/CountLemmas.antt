@@ -1,5 +1,5 @@
 -- The reader of a table at the count of its entries.
-use Rattle.std.proofs.Common.{◌≡◌, ◌≢◌, ℕ, suc, ◌-◌, ◌^◌, ◌<◌, ◌≤◌, ◌==◌, Bool, true, false, not, List, [], length, map, None, refl, sym, ap, ◌∙◌, arith}
+use Rattle.std.proofs.Common.{◌≡◌, ◌≢◌, ℕ, suc, ◌-◌, ◌^◌, ◌<◌, ◌≤◌, ◌==◌, Bool, true, false, not, List, [], length, map, sum_by, None, refl, sym, ap, ◌∙◌, arith}
 use Rattle.std.proofs.lemmas.Bool.{lt-ltb, le-ltb, ne_eqb, eq-eqb, eqb-true}
 use Rattle.dl_num.specs.declared.fixed.Order.{Order}
 use Rattle.dl_num.specs.declared.leb.Uleb.{Uleb}
@@ -12,10 +12,10 @@ use Rattle.dl_head.specs.declared.table.Pair.{Pair}
 use Rattle.dl_head.specs.declared.table.held.Held.{Held}
 use Rattle.dl_head.specs.declared.reader.table_reader.TableReader.{TableReader}
 use Rattle.dl_head.specs.TableData.{TableData}
-use Rattle.dl_head.specs.Held.{value_held, values_end}
+use Rattle.dl_head.specs.Held.{value_held, values_end, cells_held}
 use Rattle.dl_head.specs.Value.{good, bad}
 use Rattle.dl_head.specs.Layout.{Layout, entry_count, number_is, following, field_spelt, entries_layout, objection, judged}
-use Rattle.dl_head.specs.TablePlace.{after_pairs, NoValues, Holds, values_left, IsWhole, TableAt, GoesOn}
+use Rattle.dl_head.specs.TablePlace.{after_pairs, NoValues, Holds, Summed, values_left, IsWhole, TableAt, GoesOn}
 use Rattle.dl_head.proofs.PairLemmas.{number_open, number_whole}
 
 abbrev some_pairs : List Pair → Bool
@@ -57,13 +57,16 @@ zero_good false n e = ap (λ (m : ℕ). judged (objection (entry_count false) m)
 holds_none : (t : TableReader) → NoValues t → Holds t.pairs.items t.pool.items t.values.items [] []
 holds_none t none = record { held = ap (λ (hs : List Held). map (value_held t.pool.items) hs) (sym none.values); wide = tt; within = omega (arith, ap values_end none.values) }
 
+summed_none : (t : TableReader) → NoValues t → Summed t.values.items (length t.pool.items)
+summed_none t none = omega (arith, ap (sum_by cells_held) none.values, ap length none.values, ap length none.pool)
+
 -- no entries
 pub no_entries : (order : Order) (t : TableReader) (format : Format) (next : TableData → Layout) (layout : Layout) (w : List ℕ) (n : ℕ) → NoValues t
     → layout ≡ after_pairs format next (some_pairs t.pairs.items) t.pairs.items → IsUleb w n → n ≡ 0
     → (field_spelt order layout w ≡ good (number_is 0)) × IsWhole t format next (following layout (number_is 0))
 no_entries order t format next layout w n none is spelt e = (
   count_judged order format next (some_pairs t.pairs.items) t.pairs.items layout w n is spelt ∙ zero_good (some_pairs t.pairs.items) n e,
-  record { entries = []; holds = holds_none t none; layout_is = ap (λ (l : Layout). following l (number_is 0)) is },
+  record { entries = []; holds = holds_none t none; summed = summed_none t none; some_pairs = λ e. refl; layout_is = ap (λ (l : Layout). following l (number_is 0)) is },
 )
 
 -- the first entry
@@ -76,7 +79,7 @@ first_entry order old new format next layout w n none is spelt other lt some goe
     let one : n ≡ suc (n - 1) = omega (arith, other) in
     let left : following layout (number_is n) ≡ values_left format next pairs [] [] n =
     ap (λ (l : Layout). following l (number_is n)) is ∙ ap (λ (k : ℕ). entries_layout format pairs k [] λ entries. next (record { format = format; pairs = pairs; entries = entries })) one in
-    (count_good order format next pairs layout w n is spelt some lt, goes order next (following layout (number_is n)) [] [] (holds_none old none) refl left)
+    (count_good order format next pairs layout w n is spelt some lt, goes order next (following layout (number_is n)) [] [] (holds_none old none) (summed_none old none) refl left)
 
 -- ---- by the test for pairs
 

@@ -23,6 +23,9 @@ Once {A = A} judge = (w : List ℕ) (x : ℕ) (v : List ℕ) (r s : A) → judge
 pub none_some : {A : Type 0} {o : Option A} {a : A} → o ≡ None → o ≡ Some a → ⊥
 none_some {A = A} {o = o} {a = a} e f = let g : ◌≡◌ {A = Option A} None (Some a) = sym e ∙ f in absurd cc
 
+pub some_same : (a b : ℕ) → ◌≡◌ {A = Option ℕ} (Some a) (Some b) → a ≡ b
+some_same a b e = cc
+
 -- a test that holds where anything is judged
 pub if_some : {A : Type 0} (b : Bool) (o : Option A) (a : A) → (if b then o else None) ≡ Some a → b ≡ true
 if_some true o a e = refl

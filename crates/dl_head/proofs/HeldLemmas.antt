@@ -58,13 +58,11 @@ whole_rows n (suc width) = ap (λ k. k * suc width) (mul-div_cancel n (omega ari
 pub take_whole : {A : Type 0} (xs : List A) (n width : ℕ) → n * width ≤ length xs → IsWhole (length (take (n * width) xs)) width
 take_whole xs n width h = rw (length-take-le (n * width) xs h) (whole_rows n width)
 
--- nothing is left out of a table of few pairs and whole rows
-pub table_of-take : (format : Format) (pairs p : List Pair) (values v : List Held) (pool : List ℕ) (k : ℕ) → p ≡ take 255 pairs → v ≡ take k values → k ≡ length values / length p * length p → length pairs ≤ 255 → IsWhole (length values) (length pairs) → table_of format p v pool ≡ table_of format pairs values pool
-table_of-take format pairs p values v pool k p_is v_is k_is few whole =
-    let same_pairs : p ≡ pairs = p_is ∙ take_all 255 pairs few in
-    let kept : k ≡ length values = k_is ∙ ap (λ (q : List Pair). length values / length q * length q) same_pairs ∙ whole in
-    let same_values : v ≡ values = v_is ∙ take_all k values (omega arith) in
-    rw (same_pairs, same_values) refl
+-- nothing is left out of whole rows
+pub table_of-take : (format : Format) (pairs : List Pair) (values v : List Held) (pool : List ℕ) (k : ℕ) → v ≡ take k values → k ≡ length values / length pairs * length pairs → IsWhole (length values) (length pairs) → table_of format pairs v pool ≡ table_of format pairs values pool
+table_of-take format pairs values v pool k v_is k_is whole =
+    let same : v ≡ values = v_is ∙ take_all k values (omega (arith, k_is, whole)) in
+    rw same refl
 
 -- bytes that are appended stand there
 pub bytes_at-append : (pool w : List ℕ) → bytes_at (pool ++ w) (record { start = length pool; len = length w }) ≡ w

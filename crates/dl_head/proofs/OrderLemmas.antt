@@ -43,7 +43,7 @@ length-entry order format (p ∷ pairs) [] = refl
 length-entry order format (p ∷ pairs) (v ∷ values) =
     omega (arith, length-append (value_bytes order format p.form v) (entry_bytes order format pairs values), length-append (value_bytes Little format p.form v) (entry_bytes Little format pairs values), length-value order format p.form v, length-entry order format pairs values)
 
-length-parts : {A : Type 0} (f g : A → List ℕ) → ((a : A) → length (f a) ≡ length (g a)) → (xs : List A) → length (flat_map f xs) ≡ length (flat_map g xs)
+pub length-parts : {A : Type 0} (f g : A → List ℕ) → ((a : A) → length (f a) ≡ length (g a)) → (xs : List A) → length (flat_map f xs) ≡ length (flat_map g xs)
 length-parts f g same [] = refl
 length-parts f g same (x ∷ xs) =
     omega (arith, length-append (f x) (flat_map f xs), length-append (g x) (flat_map g xs), same x, length-parts f g same xs)

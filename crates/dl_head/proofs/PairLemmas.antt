@@ -1,5 +1,5 @@
 -- The reader of a table in the pairs of its format.
-use Rattle.std.proofs.Common.{◌≡◌, ℕ, zero, suc, ◌+◌, ◌-◌, ◌^◌, ◌<◌, ◌≤◌, ◌==◌, Bool, true, false, not, List, [], ◌∷◌, ◌++◌, length, Option, Some, None, Result, Ok, Err, refl, sym, ap, subst, ◌∙◌, arith}
+use Rattle.std.proofs.Common.{◌≡◌, ℕ, zero, suc, ◌+◌, ◌-◌, ◌^◌, ◌<◌, ◌≤◌, ◌==◌, Bool, true, false, not, List, [], ◌∷◌, ◌++◌, length, Option, Some, None, Result, Ok, Err, refl, sym, ap, subst, ◌∙◌, arith, length-append}
 use Rattle.std.proofs.lemmas.Bool.{lt-ltb, le-ltb, ne_eqb}
 use Rattle.dl_num.specs.declared.fixed.Order.{Order}
 use Rattle.dl_num.specs.declared.leb.LebRange.{LebRange}
@@ -22,14 +22,17 @@ use Rattle.dl_head.specs.declared.reader.table_reader.TablePhase.{TablePhase}
 use Rattle.dl_head.specs.TableData.{TableData}
 use Rattle.dl_head.specs.Value.{good, bad, form_code, all_forms, form_of_code}
 use Rattle.dl_head.specs.Layout.{NumberField, Layout, number_then, form_then, content_code, number_is, form_is, following, field_spelt, pairs_layout, table_layout, number_judged, sized_spelt, form_judged, objection, judged}
-use Rattle.dl_head.specs.TablePlace.{after_pairs, form_left, NoValues, TableAt, TableMade, BeginsPair, TakesContent, TakesForm}
-use Rattle.dl_head.specs.Place.{IsFresh}
+use Rattle.dl_head.specs.TablePlace.{after_pairs, pairs_left, form_left, NoValues, TableAt, SameTable, TableMade, BeginsPair, TakesContent, TakesForm}
 use Rattle.dl_head.proofs.Places.{fixed-one}
+use Rattle.dl_head.proofs.FieldCells.{cells_good}
 use Rattle.dl_head.proofs.FieldLaws.{form_has_code}
 
 pub table_at : (order : Order) (t : TableReader) (p : TablePhase) (format : Format) (next : TableData → Layout) (layout : Layout) (rest : List ℕ) → t.phase ≡ p
     → TableAt order t t.phase format next layout rest → TableAt order t p format next layout rest
 table_at order t p format next layout rest e at = subst (λ (q : TablePhase). TableAt order t q format next layout rest) e at
+
+pub same_table : (t : TableReader) → SameTable t t
+same_table t = record { phase = refl; pairs = refl; values = refl; pool = refl }
 
 -- the first of the pairs that are left
 pub pairs_open : (left : ℕ) (pairs : List Pair) (k : List Pair → Layout) → 1 ≤ left
@@ -161,8 +164,9 @@ form_made order format next old new left content code byte_makes.Ends layout w i
   subst (λ (l : Layout). TableAt order new new.phase format next l []) (sym (ap (λ (l : Layout). following l (form_is takes.0)) is)) (takes.2 order format next none some),
 )
 form_made order format next old new left content code (byte_makes.Refuses kind) layout w is none some spelt takes =
-    form_unknown order _ layout w code is spelt takes.0 takes.1 ∙ ap (λ (k : FaultKind). bad k) (sym takes.2)
-form_made order format next old new left content code byte_makes.NoMemory layout w is none some spelt takes = takes
+    (form_unknown order _ layout w code is spelt takes.0 takes.1 ∙ ap (λ (k : FaultKind). bad k) (sym takes.2), takes.3)
+form_made order format next old new left content code byte_makes.NoMemory layout w is none some spelt takes =
+    (takes.0, omega (arith, cells_good order layout w (form_is takes.1.0) (form_good order _ layout w code takes.1.0 is spelt takes.1.1)))
 form_made order format next old new left content code byte_makes.Within layout w is none some spelt takes = absurd takes
 
 -- ---- the count of the pairs
@@ -173,11 +177,19 @@ count_spelt order format next layout rest x is none =
     ap (λ (l : Layout). field_spelt order l (rest ++ x ∷ [])) is ∙ ap (λ (w : List ℕ). field_spelt order (table_layout format next) (w ++ x ∷ [])) none
     ∙ ap (λ (n : ℕ). good (number_is n)) (fixed-one order x)
 
-pub counted : (order : Order) (old new : TableReader) (count : ℕ) (format : Format) (next : TableData → Layout) (layout : Layout) → IsFresh old → layout ≡ table_layout format next → BeginsPair old count new
-    → TableAt order new new.phase format next (following layout (number_is count)) []
-counted order old new count format next layout fresh is begins =
-    let none : length old.pairs.items ≡ 0 = ap length fresh.pairs in
-    let some : not (count == 0) ≡ not (count + length old.pairs.items == 0) = ap (λ (n : ℕ). not (n == 0)) (let s : count ≡ count + length old.pairs.items = omega (arith, none) in s) in
-    let at = begins order format next (not (count == 0)) (record { values = fresh.values; pool = fresh.pool }) some in
-    subst (λ (l : Layout). TableAt order new new.phase format next l [])
-    (ap (λ (ps : List Pair). pairs_layout count ps (after_pairs format next (not (count == 0)))) fresh.pairs ∙ sym (ap (λ (l : Layout). following l (number_is count)) is)) at
+pub counted : (order : Order) (new : TableReader) (count : ℕ) (p : TablePhase) (format : Format) (next : TableData → Layout) (layout : Layout) → new.pairs.items ≡ [] → NoValues new → layout ≡ table_layout format next
+    → BeginsPair count p → TableAt order new p format next (following layout (number_is count)) []
+counted order new count p format next layout pairs values is begins =
+    let some : not (count == 0) ≡ not (count + length new.pairs.items == 0) = ap (λ (n : ℕ). not (n == 0)) (let s : count ≡ count + length new.pairs.items = omega (arith, ap length pairs) in s) in
+    subst (λ (l : Layout). TableAt order new p format next l [])
+    (ap (λ (ps : List Pair). pairs_layout count ps (after_pairs format next (not (count == 0)))) pairs ∙ sym (ap (λ (l : Layout). following l (number_is count)) is))
+    (begins order new format next (not (count == 0)) values some)
+
+-- a pair more, and those that are left
+pub paired : (order : Order) (old new : TableReader) (left less : ℕ) (pair : Pair) (p : TablePhase) (format : Format) (next : TableData → Layout) → NoValues new → new.pairs.items ≡ old.pairs.items ++ pair ∷ [] → less ≡ left - 1
+    → BeginsPair less p → TableAt order new p format next (pairs_left format next (left - 1) (old.pairs.items ++ pair ∷ [])) []
+paired order old new left less pair p format next values pairs e begins =
+    let some : true ≡ not (less + length new.pairs.items == 0) =
+    sym (ap not (ne_eqb (less + length new.pairs.items) 0 (λ z. omega (arith, z, ap length pairs, length-append old.pairs.items (pair ∷ []))))) in
+    subst (λ (n : ℕ). TableAt order new p format next (pairs_left format next n (old.pairs.items ++ pair ∷ [])) []) e
+    (subst (λ (ps : List Pair). TableAt order new p format next (pairs_left format next less ps) []) pairs (begins order new format next true values some))

@@ -11,15 +11,21 @@ use Rattle.dl_head.specs.declared.reader.Phase.{Phase}
 use Rattle.dl_head.specs.declared.reader.Phase.TheVariants as phase
 use Rattle.dl_head.specs.declared.reader.HeadReader.{HeadReader}
 use Rattle.dl_head.specs.declared.params.Params.{Params}
-use Rattle.dl_head.specs.Layout.{opcode_length, Layout, number_then, Item, number_is, following, following_all, field_spelt, header_layout, objection, judged, signed_byte, lengths_layout, tables_layout, from_opcode_base}
+use Rattle.dl_head.specs.Layout.{opcode_length, Layout, number_then, Item, number_is, following, following_all, field_spelt, header_layout, objection, judged, signed_byte, lengths_layout, tables_layout, from_files, from_opcode_base}
 use Rattle.dl_head.specs.Bytes.{byte_kind}
 use Rattle.dl_head.specs.HeadStep.{lengths_fit}
-use Rattle.dl_head.specs.Place.{from_byte, from_length, end_of_unit, IsFresh, Late, AtPhase, At}
+use Rattle.dl_head.specs.Place.{from_byte, from_length, end_of_unit, Behind, Late, AtPhase, At}
+use Rattle.dl_head.specs.TablePlace.{IsFresh, TableAt}
+use Rattle.dl_head.specs.declared.reader.table_reader.TablePhase.{TablePhase}
+use Rattle.dl_head.specs.declared.reader.table_reader.TablePhase.TheVariants as table
 use Rattle.dl_head.proofs.CutLemmas.{following_all-append}
 use Rattle.dl_head.proofs.QuietLemmas.{header_end-append, unit_end-append}
 
 pub at_phase : (r : HeadReader) (p : Phase) (items : List Item) (rest : List ℕ) → r.phase ≡ p → At r items rest → AtPhase r p items rest
 at_phase r p items rest e at = subst (λ (q : Phase). AtPhase r q items rest) e at
+
+pub phase_at : (r : HeadReader) (p : Phase) (items : List Item) (rest : List ℕ) → r.phase ≡ p → AtPhase r p items rest → At r items rest
+phase_at r p items rest e at = subst (λ (q : Phase). AtPhase r q items rest) (sym e) at
 
 pub at_field : (r : HeadReader) (f g : ByteField) (items : List Item) (rest : List ℕ) → f ≡ g → r.phase ≡ phase.Byte f → At r items rest → AtPhase r (phase.Byte g) items rest
 at_field r f g items rest is e at = at_phase r (phase.Byte g) items rest (e ∙ ap (λ (h : ByteField). phase.Byte h) is) at
@@ -28,31 +34,35 @@ pub fixed-one : (order : Order) (x : ℕ) → fixed order (x ∷ []) ≡ x
 fixed-one Little x = omega arith
 fixed-one Big x = omega arith
 
+pub behind_on : (r new : HeadReader) (items : List Item) (layout next : Layout) (i : Item) → Behind r items layout → following layout i ≡ next
+    → new.end ≡ r.end → new.overrun ≡ r.overrun → end_of_unit new ≡ end_of_unit r → Behind new (items ++ i ∷ []) next
+behind_on r new items layout next i behind e end overrun unit = record {
+  follows = following_all-append header_layout items (i ∷ []) ∙ ap (λ (l : Layout). following l i) behind.follows ∙ e;
+  unit = unit_end-append items (i ∷ []) (end_of_unit r) behind.unit ∙ ap (λ (n : ℕ). Some n) (sym unit);
+  header = behind.header;
+  header_ends = header_end-append items (i ∷ []) behind.header behind.header_ends;
+  end = end ∙ behind.end;
+  overrun = overrun ∙ behind.overrun;
+}
+
 pub late_on : (r new : HeadReader) (items : List Item) (layout next : Layout) (i : Item) → Late r items layout → following layout i ≡ next
     → new.end ≡ r.end → new.overrun ≡ r.overrun → end_of_unit new ≡ end_of_unit r → IsFresh new.table → Late new (items ++ i ∷ []) next
-late_on r new items layout next i late e end overrun unit fresh = record {
-  follows = following_all-append header_layout items (i ∷ []) ∙ ap (λ (l : Layout). following l i) late.follows ∙ e;
-  unit = unit_end-append items (i ∷ []) (end_of_unit r) late.unit ∙ ap (λ (n : ℕ). Some n) (sym unit);
-  header = late.header;
-  header_ends = header_end-append items (i ∷ []) late.header late.header_ends;
-  end = end ∙ late.end;
-  overrun = overrun ∙ late.overrun;
-  fresh = fresh;
-}
+late_on r new items layout next i late e end overrun unit fresh =
+    record { behind = behind_on r new items layout next i late.behind e end overrun unit; fresh = fresh }
 
 -- ---- fields of one byte
 
 -- the first field of a layout
-byte_follows : (r : HeadReader) (f : ByteField) (items : List Item) (rest : List ℕ) → AtPhase r (phase.Byte f) items rest
+pub byte_follows : (r : HeadReader) (f : ByteField) (items : List Item) (rest : List ℕ) → AtPhase r (phase.Byte f) items rest
     → (following_all header_layout items ≡ from_byte f r.unit_length r.params) × (rest ≡ [])
 byte_follows r field.AddressSize items rest at = (ap (λ (l : List Item). following_all header_layout l) at.0.items_are, at.1)
 byte_follows r field.SegmentSelectorSize items rest at = (ap (λ (l : List Item). following_all header_layout l) at.0.items_are, at.1)
-byte_follows r field.MinimumInstructionLength items rest at = (at.0.follows, at.1)
-byte_follows r field.MaximumOperations items rest at = (at.0.follows, at.1)
-byte_follows r field.DefaultIsStmt items rest at = (at.0.follows, at.1)
-byte_follows r field.LineBase items rest at = (at.0.follows, at.1)
-byte_follows r field.LineRange items rest at = (at.0.follows, at.1)
-byte_follows r field.OpcodeBase items rest at = (at.0.follows, at.1)
+byte_follows r field.MinimumInstructionLength items rest at = (at.0.behind.follows, at.1)
+byte_follows r field.MaximumOperations items rest at = (at.0.behind.follows, at.1)
+byte_follows r field.DefaultIsStmt items rest at = (at.0.behind.follows, at.1)
+byte_follows r field.LineBase items rest at = (at.0.behind.follows, at.1)
+byte_follows r field.LineRange items rest at = (at.0.behind.follows, at.1)
+byte_follows r field.OpcodeBase items rest at = (at.0.behind.follows, at.1)
 
 byte_is : (order : Order) (f : ByteField) (unit_length : ℕ) (p : Params) (x : ℕ) → field_spelt order (from_byte f unit_length p) (x ∷ []) ≡ judged (objection (byte_kind f) (fixed order (x ∷ []))) (fixed order (x ∷ []))
 byte_is order field.AddressSize unit_length p x = refl
@@ -75,7 +85,7 @@ byte_spelt order r f items rest x at =
 
 -- ---- line_base
 
-sfits_signed : (n : ℕ) → n < 256 → SFits w8 (signed_byte n)
+pub sfits_signed : (n : ℕ) → n < 256 → SFits w8 (signed_byte n)
 sfits_signed n lt = elim (cases_lt n 128) [
   | inl small ↦ rw (lt-ltb n 128 small) (omega (arith, ints))
   | inr big ↦ rw (le-ltb n 128 big) (omega (arith, ints))
@@ -87,10 +97,10 @@ kept_signed n z lt e = ap (λ (y : ℤ). to_z w8 (of_z w8 y)) e ∙ to_z-of_z w8
 
 -- ---- the lengths of the opcodes
 
-abbrev lengths_left : Params → ℕ → List ℕ → Layout
+abbrev pub lengths_left : Params → ℕ → List ℕ → Layout
 lengths_left p left before = lengths_layout (length before + 1) left before λ lengths. tables_layout (record p { lengths = record { items = lengths } })
 
-lengths_open : (p : Params) (left : ℕ) (before : List ℕ) → 1 ≤ left
+pub lengths_open : (p : Params) (left : ℕ) (before : List ℕ) → 1 ≤ left
     → lengths_left p left before ≡ number_then (opcode_length (length before + 1)) λ n. lengths_layout (length before + 2) (left - 1) (before ++ n ∷ []) λ lengths. tables_layout (record p { lengths = record { items = lengths } })
 lengths_open p zero before h = absurd (omega arith)
 lengths_open p (suc count) before h =
@@ -139,13 +149,24 @@ first_length p n none =
 late_as : (r : HeadReader) (items : List Item) (layout next : Layout) → layout ≡ next → Late r items layout → Late r items next
 late_as r items layout next e late = subst (λ (l : Layout). Late r items l) e late
 
+-- the tables follow
+before_tables : (r : HeadReader) (items : List Item) → Late r items (tables_layout r.params) → AtPhase r phase.Directories items []
+before_tables r items late = record {
+  layout = tables_layout r.params;
+  behind = late.behind;
+  at = subst (λ (p : TablePhase). TableAt r.order r.table p r.params.format (from_files r.params) (tables_layout r.params) []) (sym late.fresh.phase) (late.fresh, refl, refl);
+  going = λ whole. fresh_whole (sym late.fresh.phase ∙ whole);
+} where
+  fresh_whole : table.PairCount ≡ table.Whole → ⊥
+  fresh_whole e = absurd cc
+
 -- the next length of an opcode follows, or the tables
 pub at_lengths : (r : HeadReader) (items : List Item) (p : Phase) → Late r items (from_length r.params)
     → p ≡ (if nat_lt (length r.params.lengths.items + 1) r.params.opcode_base then phase.OpcodeLength else phase.Directories) → AtPhase r p items []
 at_lengths r items p late is = elim (cases_lt (length r.params.lengths.items + 1) r.params.opcode_base) [
   | inl lt ↦ subst (λ (q : Phase). AtPhase r q items []) (sym (is ∙ ap (λ (b : Bool). if b then phase.OpcodeLength else phase.Directories) (lt-ltb _ _ lt))) (late, refl)
   | inr le ↦ subst (λ (q : Phase). AtPhase r q items []) (sym (is ∙ ap (λ (b : Bool). if b then phase.OpcodeLength else phase.Directories) (le-ltb _ _ le)))
-      (late_as r items (from_length r.params) (tables_layout r.params) (lengths_whole r.params (omega (arith, le))) late, refl)
+      (before_tables r items (late_as r items (from_length r.params) (tables_layout r.params) (lengths_whole r.params (omega (arith, le))) late))
 ]
 
 -- the next phase, by how many lengths there are

@@ -64,7 +64,7 @@ spells-append order layout [] more w v s t = subst (λ (l : List ℕ). SpellsFie
 spells-append order layout (i ∷ items) more w v s t =
     (s.0, s.1 ++ v, ap (λ (l : List ℕ). l ++ v) s.2 ∙ append_assoc s.0 s.1 v, s.3, spells-append order (following layout i) items more s.1 v s.4 t)
 
-length_first : (order : Order) (f : Format) (n : ℕ) (items : List Item) (w : List ℕ) → SpellsFields order header_layout (length_is f n ∷ items) w
+pub length_first : (order : Order) (f : Format) (n : ℕ) (items : List Item) (w : List ℕ) → SpellsFields order header_layout (length_is f n ∷ items) w
     → (rest : List ℕ) × (length w ≡ initial_size f + length rest) × SpellsFields order (following header_layout (length_is f n)) items rest
 length_first order f n items w s =
     let a = is_length order s.0 (length_is f n) s.3 in
@@ -120,7 +120,7 @@ early_five order f n address segment header w s =
     let z : length e.0 ≡ 0 = none_left e.0 e.2 in omega (arith, a.1, b.1, c.1, d.1, e.1)
 
 -- bytes that end inside one of these fields, and the bytes that end it
-early : (order : Order) (f : Format) (n address segment header : ℕ) (more before after : List Item) (item : Item) (w : List ℕ)
+pub early : (order : Order) (f : Format) (n address segment header : ℕ) (more before after : List Item) (item : Item) (w : List ℕ)
     → (length_is f n ∷ number_is 5 ∷ number_is address ∷ number_is segment ∷ number_is header ∷ more) ≡ before ++ item ∷ after → header_end before ≡ None
     → SpellsFields order header_layout (before ++ item ∷ []) w → IsEarly f w
 early order f n address segment header more [] after item w e none s =

@@ -14,7 +14,8 @@ use Rattle.dl_head.specs.declared.fault.FaultKind.TheVariants as fault
 use Rattle.dl_head.specs.Value.{Judgement, good, bad, offset_size}
 use Rattle.dl_head.specs.Layout.{header_length, foreign_version, Item, length_is, number_is, following_all, field_spelt, header_layout, objection, judged, short_length, long_length, initial_length_spelt, unit_length_limit, initial_size, fixed_part, from_minimum_length}
 use Rattle.dl_head.specs.Header.{header_end, unit_end}
-use Rattle.dl_head.specs.Place.{AtStart, InLong, Early, Late, At, Made, SameCounts, Starts, StartsHeader, length_item, before_header_length, end_of_unit, IsFresh}
+use Rattle.dl_head.specs.Place.{AtStart, InLong, Early, Late, At, Made, SameCounts, Starts, StartsHeader, length_item, before_header_length, end_of_unit}
+use Rattle.dl_head.specs.TablePlace.{IsFresh}
 
 -- ---- the initial length
 
@@ -118,12 +119,14 @@ pub header_length_late : (r new : HeadReader) (items : List Item) (n : ℕ) → 
     → new.end ≡ Some (initial_size r.params.format + fixed_part r.params.format + n) → new.overrun ≡ fault.HeaderOverrun → IsFresh new.table
     → Late new (items ++ number_is n ∷ []) (from_minimum_length new.params)
 header_length_late r new items n early follows unit end overrun fresh = record {
-  follows = ap (λ (k : List Item). following_all header_layout (k ++ number_is n ∷ [])) early.items_are ∙ follows;
-  unit = ap (λ (k : List Item). unit_end (k ++ number_is n ∷ [])) early.items_are ∙ ap (λ (k : ℕ). Some k) (sym unit);
-  header = initial_size r.params.format + fixed_part r.params.format + n;
-  header_ends = ap (λ (k : List Item). header_end (k ++ number_is n ∷ [])) early.items_are;
-  end = end;
-  overrun = overrun;
+  behind = record {
+    follows = ap (λ (k : List Item). following_all header_layout (k ++ number_is n ∷ [])) early.items_are ∙ follows;
+    unit = ap (λ (k : List Item). unit_end (k ++ number_is n ∷ [])) early.items_are ∙ ap (λ (k : ℕ). Some k) (sym unit);
+    header = initial_size r.params.format + fixed_part r.params.format + n;
+    header_ends = ap (λ (k : List Item). header_end (k ++ number_is n ∷ [])) early.items_are;
+    end = end;
+    overrun = overrun;
+  };
   fresh = fresh;
 }
 

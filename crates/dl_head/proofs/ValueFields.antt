@@ -1,5 +1,5 @@
 -- What bytes are as a value, by what the reader of a table has read of it.
-use Rattle.std.proofs.Common.{◌≡◌, ◌≢◌, ℕ, ◌-◌, ◌^◌, ◌<◌, ◌≤◌, false, List, [], ◌∷◌, ◌++◌, length, take, drop, Option, Some, None, Err, refl, sym, ap, ◌∙◌, arith}
+use Rattle.std.proofs.Common.{◌≡◌, ◌≢◌, ℕ, ◌-◌, ◌^◌, ◌<◌, ◌≤◌, false, ◌+◌, List, [], ◌∷◌, ◌++◌, length, take, drop, Some, None, Err, refl, sym, ap, ◌∙◌, arith}
 use Rattle.std.proofs.lemmas.Bool.{lt-ltb, le-ltb, ne_eqb, eq-eqb}
 use Rattle.std.proofs.lemmas.List.{take_all, length-drop}
 use Rattle.dl_num.specs.declared.fixed.Order.{Order}
@@ -21,44 +21,48 @@ use Rattle.dl_head.specs.declared.reader.table_reader.TableReader.{TableReader}
 use Rattle.dl_head.specs.declared.reader.value_phase.Cursor.{Cursor}
 use Rattle.dl_head.specs.declared.reader.value_phase.ValuePhase.{ValuePhase}
 use Rattle.dl_head.specs.TableData.{TableData}
-use Rattle.dl_head.specs.Held.{value_held}
+use Rattle.dl_head.specs.Held.{value_held, cells_held}
+use Rattle.dl_head.specs.TableStep.{value_filled}
 use Rattle.dl_head.specs.Field.{HasNoZero}
 use Rattle.dl_head.specs.Value.{Value, text, number, data16, Judgement, good, bad, is_text, text_spelt, number_spelt, leb_spelt, value_spelt}
-use Rattle.dl_head.specs.Layout.{Layout, value_is, value_judged, field_spelt}
+use Rattle.dl_head.specs.Layout.{Layout, value_then, value_is, value_judged, field_spelt}
 use Rattle.dl_head.specs.TablePlace.{number_bytes_of, number_value, InValue, TableMade, Enters}
-use Rattle.dl_head.proofs.FieldLemmas.{none_some}
+use Rattle.dl_head.proofs.FieldLemmas.{none_some, some_same}
+use Rattle.dl_head.proofs.FieldCells.{cells_good, some_cell}
 use Rattle.dl_head.proofs.FieldLaws.{text_good}
 use Rattle.dl_head.proofs.ValueLemmas.{at_value}
 
 -- the field is a value of the pair's form
+pub value_layout : (t : TableReader) (at : Cursor) (v : ValuePhase) (format : Format) (next : TableData → Layout) (layout : Layout) (rest : List ℕ) (is : InValue t at v format next layout rest)
+    → (k : Value → Layout) × (layout ≡ value_then format is.pair.form k)
+value_layout t at v format next layout rest is = (_, is.layout_is ∙ at_value format next t.pairs.items is.entries is.before at.left is.pair is.later is.at_pair)
+
 pub value_field : (order : Order) (t : TableReader) (at : Cursor) (v : ValuePhase) (format : Format) (next : TableData → Layout) (layout : Layout) (rest w : List ℕ) (is : InValue t at v format next layout rest)
     → field_spelt order layout w ≡ value_judged (value_spelt order format is.pair.form w)
-value_field order t at v format next layout rest w is =
-    ap (λ (l : Layout). field_spelt order l w) (is.layout_is ∙ at_value format next t.pairs.items is.entries is.before at.left is.pair is.later is.at_pair)
+value_field order t at v format next layout rest w is = ap (λ (l : Layout). field_spelt order l w) (value_layout t at v format next layout rest is).1
 
 -- a value is whole, and entered
 pub value_made : (order : Order) (old new : TableReader) (at : Cursor) (v : ValuePhase) (h : Held) (format : Format) (next : TableData → Layout) (layout : Layout) (rest w : List ℕ) (result : Next)
-    → (is : InValue old at v format next layout rest) → value_spelt order format is.pair.form w ≡ good (value_held old.pool.items h) → Enters old at h format result new
+    → (is : InValue old at v format next layout rest) → value_spelt order format is.pair.form w ≡ good (value_held old.pool.items h) → value_filled v (length old.pool.items) + cells_held h ≡ 1 + length old.pool.items → Enters old at h format result new
     → TableMade order old format next layout w result new
-value_made order old new at v h format next layout rest w byte_makes.Ends is spelt enters =
-    (value_is (value_held old.pool.items h), value_field order old at v format next layout rest w is ∙ ap value_judged spelt, enters order next layout v rest is)
-value_made order old new at v h format next layout rest w byte_makes.NoMemory is spelt enters = enters
-value_made order old new at v h format next layout rest w byte_makes.Within is spelt enters = absurd enters
-value_made order old new at v h format next layout rest w (byte_makes.Refuses kind) is spelt enters = absurd enters
+value_made order old new at v h format next layout rest w byte_makes.Ends is spelt full enters =
+    (value_is (value_held old.pool.items h), value_field order old at v format next layout rest w is ∙ ap value_judged spelt, enters order next layout v rest is full)
+value_made order old new at v h format next layout rest w byte_makes.NoMemory is spelt full enters =
+    let u = value_held old.pool.items h in
+    (enters, omega (arith, cells_good order layout w (value_is u) (value_field order old at v format next layout rest w is ∙ ap value_judged spelt), some_cell u))
+value_made order old new at v h format next layout rest w byte_makes.Within is spelt full enters = absurd enters
+value_made order old new at v h format next layout rest w (byte_makes.Refuses kind) is spelt full enters = absurd enters
 
 -- ---- numbers of fixed size
 
-same_size : (a b : ℕ) → ◌≡◌ {A = Option ℕ} (Some a) (Some b) → a ≡ b
-same_size a b e = cc
-
 pub number_form : (order : Order) (format : Format) (f : Form) (k : ℕ) (w : List ℕ) → number_bytes_of format f ≡ Some k → value_spelt order format f w ≡ number_spelt order k (number_value f) w
-number_form order format form.Data1 k w e = ap (λ (n : ℕ). number_spelt order n number w) (same_size 1 k e)
-number_form order format form.Data2 k w e = ap (λ (n : ℕ). number_spelt order n number w) (same_size 2 k e)
-number_form order format form.Data4 k w e = ap (λ (n : ℕ). number_spelt order n number w) (same_size 4 k e)
-number_form order format form.Data8 k w e = ap (λ (n : ℕ). number_spelt order n number w) (same_size 8 k e)
-number_form order format form.Strp k w e = ap (λ (n : ℕ). number_spelt order n (number_value form.Strp) w) (same_size _ k e)
-number_form order format form.StrpSup k w e = ap (λ (n : ℕ). number_spelt order n (number_value form.StrpSup) w) (same_size _ k e)
-number_form order format form.LineStrp k w e = ap (λ (n : ℕ). number_spelt order n (number_value form.LineStrp) w) (same_size _ k e)
+number_form order format form.Data1 k w e = ap (λ (n : ℕ). number_spelt order n number w) (some_same 1 k e)
+number_form order format form.Data2 k w e = ap (λ (n : ℕ). number_spelt order n number w) (some_same 2 k e)
+number_form order format form.Data4 k w e = ap (λ (n : ℕ). number_spelt order n number w) (some_same 4 k e)
+number_form order format form.Data8 k w e = ap (λ (n : ℕ). number_spelt order n number w) (some_same 8 k e)
+number_form order format form.Strp k w e = ap (λ (n : ℕ). number_spelt order n (number_value form.Strp) w) (some_same _ k e)
+number_form order format form.StrpSup k w e = ap (λ (n : ℕ). number_spelt order n (number_value form.StrpSup) w) (some_same _ k e)
+number_form order format form.LineStrp k w e = ap (λ (n : ℕ). number_spelt order n (number_value form.LineStrp) w) (some_same _ k e)
 number_form order format form.Block2 k w e = absurd (none_some {a = k} refl e)
 number_form order format form.Block4 k w e = absurd (none_some {a = k} refl e)
 number_form order format form.String k w e = absurd (none_some {a = k} refl e)

@@ -1,7 +1,8 @@
 -- The reader of a table among its values.
-use Rattle.std.proofs.Common.{◌≡◌, ℕ, zero, suc, ◌+◌, ◌-◌, ◌<◌, ◌≤◌, inl, inr, false, List, [], ◌∷◌, ◌++◌, length, take, drop, map, get_or, if◌then◌else◌, Some, None, Result, Ok, Err, refl, sym, ap, subst, ◌∙◌, arith, length-append, append_assoc, append-nil}
+use Rattle.std.proofs.Common.{◌≡◌, ℕ, zero, suc, ◌+◌, ◌-◌, ◌<◌, ◌≤◌, inl, inr, true, false, List, [], ◌∷◌, ◌++◌, length, drop, get_or, if◌then◌else◌, Some, None, Result, Ok, Err, refl, sym, ap, subst, ◌∙◌, arith, length-append, append_assoc, append-nil}
 use Rattle.std.specs.Result.{is_ok, is_err}
-use Rattle.std.proofs.lemmas.List.{map-append, drop-append-le, take-append-le, length-drop}
+use Rattle.std.proofs.lemmas.List.Sums.{sum_by_push}
+use Rattle.std.proofs.lemmas.List.{map-append, drop-append-le}
 use Rattle.dl_num.specs.declared.fixed.Order.{Order}
 use Rattle.dl_head.specs.declared.form.Format.{Format}
 use Rattle.dl_head.specs.declared.table.Pair.{Pair}
@@ -13,14 +14,13 @@ use Rattle.dl_head.specs.declared.reader.value_phase.Cursor.{Cursor}
 use Rattle.dl_head.specs.declared.reader.value_phase.ValuePhase.{ValuePhase}
 use Rattle.dl_head.specs.declared.reader.value_phase.ValuePhase.TheVariants as value
 use Rattle.dl_head.specs.TableData.{TableData}
-use Rattle.dl_head.specs.declared.table.held.Extent.{Extent}
-use Rattle.dl_head.specs.declared.table.held.Held.TheVariants as held
 use Rattle.dl_head.specs.Field.{HasNoZero}
-use Rattle.dl_head.specs.Held.{bytes_at, held_end, value_held, values_end}
-use Rattle.dl_head.specs.Value.{Value, text, block}
+use Rattle.dl_head.specs.Held.{held_end, value_held, cells_held}
+use Rattle.dl_head.specs.TableStep.{value_filled}
+use Rattle.dl_head.specs.Value.{Value}
 use Rattle.dl_head.specs.Layout.{Layout, value_then, value_is, following, entry_layout, entries_layout}
-use Rattle.dl_head.specs.TablePlace.{joined, AreWide, Holds, values_left, InValue, IsWhole, TableAt, Moves, GoesOn}
-use Rattle.dl_head.proofs.HeldLemmas.{values_end-push}
+use Rattle.dl_head.specs.TablePlace.{joined, AreWide, Holds, Summed, values_left, InValue, IsWhole, TableAt, Moves, GoesOn}
+use Rattle.dl_head.proofs.HeldLemmas.{values_end-push, values_held-more}
 
 -- an element, and those behind it
 pub drop_at : {A : Type 0} (xs : List A) (i : ℕ) (d : A) → i < length xs → drop i xs ≡ get_or xs i d ∷ drop (suc i) xs
@@ -48,17 +48,6 @@ wide-push : (width : ℕ) (entries : List (List Value)) (e : List Value) → Are
 wide-push width [] e h size = (size, tt)
 wide-push width (f ∷ entries) e h size = (h.0, wide-push width entries e h.1 size)
 
--- the reader is at a value, whichever its form
-pub in_value : (order : Order) (t : TableReader) (at : Cursor) (v : ValuePhase) (format : Format) (next : TableData → Layout) (layout : Layout) (rest : List ℕ)
-    → InValue t at v format next layout rest → TableAt order t (phase.Value at v) format next layout rest
-in_value order t at (value.Number f n) format next layout rest is = is
-in_value order t at (value.Leb u) format next layout rest is = is
-in_value order t at (value.Text start) format next layout rest is = is
-in_value order t at (value.Data16 s) format next layout rest is = is
-in_value order t at (value.BlockLength n) format next layout rest is = is
-in_value order t at (value.LebBlockLength u) format next layout rest is = is
-in_value order t at (value.Block left) format next layout rest is = absurd is.value
-
 -- ---- one value more
 
 pub holds_more : (pairs : List Pair) (pool : List ℕ) (values : List Held) (entries : List (List Value)) (before : List Value) (h : Held) → Holds pairs pool values entries before
@@ -68,6 +57,9 @@ holds_more pairs pool values entries before h holds within = record {
   wide = holds.wide;
   within = omega (arith, values_end-push values h, holds.within, within);
 }
+
+pub summed-push : (values : List Held) (h : Held) (filled n : ℕ) → Summed values filled → filled + cells_held h ≡ 1 + n → Summed (values ++ h ∷ []) n
+summed-push values h filled n summed full = omega (arith, sum_by_push cells_held values h, length-append values (h ∷ []), summed, full)
 
 -- an entry is complete
 pub holds_entry : (pairs : List Pair) (pool : List ℕ) (values : List Held) (entries : List (List Value)) (before : List Value) → Holds pairs pool values entries before → length before ≡ length pairs
@@ -121,68 +113,52 @@ last_entry format next pairs entries before left le few =
 -- `end_value`, where another one follows
 pub moved : (order : Order) (pairs : List Pair) (pool : List ℕ) (values : List Held) (new : TableReader) (at to : Cursor) (format : Format) (next : TableData → Layout) (layout : Layout)
     (entries : List (List Value)) (before : List Value) → Moves at (length pairs) (Some to) → at.column < length pairs → GoesOn pairs pool values to.column to.left format new
-    → Holds pairs pool values entries before → length before ≡ at.column + 1 → layout ≡ values_left format next pairs entries before at.left → TableAt order new new.phase format next layout []
-moved order pairs pool values new at to format next layout entries before (inl m) lt goes holds size is =
-    goes order next layout entries before holds (size ∙ sym m.1) (is ∙ ap (λ (n : ℕ). values_left format next pairs entries before n) (sym m.2))
-moved order pairs pool values new at to format next layout entries before (inr m) lt goes holds size is =
-    goes order next layout (entries ++ before ∷ []) [] (holds_entry pairs pool values entries before holds (omega (arith, m.0, lt, size))) (sym m.2)
+    → Holds pairs pool values entries before → Summed values (length pool) → length before ≡ at.column + 1 → layout ≡ values_left format next pairs entries before at.left → TableAt order new new.phase format next layout []
+moved order pairs pool values new at to format next layout entries before (inl m) lt goes holds summed size is =
+    goes order next layout entries before holds summed (size ∙ sym m.1) (is ∙ ap (λ (n : ℕ). values_left format next pairs entries before n) (sym m.2))
+moved order pairs pool values new at to format next layout entries before (inr m) lt goes holds summed size is =
+    goes order next layout (entries ++ before ∷ []) [] (holds_entry pairs pool values entries before holds (omega (arith, m.0, lt, size))) summed (sym m.2)
     (is ∙ next_entry format next pairs entries before at.left to.left (omega (arith, m.0, size)) m.1 m.3)
 
 -- `end_value`, where it was the last one
 pub ended : (t : TableReader) (at : Cursor) (format : Format) (next : TableData → Layout) (layout : Layout) (entries : List (List Value)) (before : List Value)
-    → Moves at (length t.pairs.items) None → at.column < length t.pairs.items → Holds t.pairs.items t.pool.items t.values.items entries before
+    → Moves at (length t.pairs.items) None → at.column < length t.pairs.items → Holds t.pairs.items t.pool.items t.values.items entries before → Summed t.values.items (length t.pool.items)
     → length before ≡ at.column + 1 → layout ≡ values_left format next t.pairs.items entries before at.left → IsWhole t format next layout
-ended t at format next layout entries before m lt holds size is = record {
+ended t at format next layout entries before m lt holds summed size is = record {
   entries = entries ++ before ∷ [];
   holds = holds_entry t.pairs.items t.pool.items t.values.items entries before holds (omega (arith, m.0, lt, size));
+  summed = summed;
+  some_pairs = λ none. absurd (omega (arith, none, lt));
   layout_is = is ∙ last_entry format next t.pairs.items entries before at.left (omega (arith, m.0, size)) m.1;
 }
 
-pub pushed_byte : {A E : Type 0} (xs ys : List ℕ) (r : Result A E) → is_err r ≡ false → (if is_ok r then xs else ys) ≡ xs
-pushed_byte xs ys (Ok a) e = refl
-pushed_byte xs ys (Err x) e = absurd cc
+-- what a list is after a push that wasn't refused
+pub pushed : {A B E : Type 0} (xs ys : List B) (r : Result A E) → is_err r ≡ false → (if is_ok r then xs else ys) ≡ xs
+pushed xs ys (Ok a) e = refl
+pushed xs ys (Err x) e = absurd cc
 
-pub pushed_ok : {A E : Type 0} (xs ys : List Held) (r : Result A E) → is_err r ≡ false → (if is_ok r then xs else ys) ≡ xs
-pushed_ok xs ys (Ok a) e = refl
-pushed_ok xs ys (Err x) e = absurd cc
+-- and after one that was
+pub refused : {A B E : Type 0} (xs ys : List B) (r : Result A E) → is_err r ≡ true → (if is_ok r then xs else ys) ≡ ys
+refused xs ys (Ok a) e = absurd cc
+refused xs ys (Err x) e = refl
 
 -- `enter`
 pub entered : (order : Order) (old : TableReader) (values : List Held) (new : TableReader) (at : Cursor) (h : Held) (format : Format) (next : TableData → Layout) (layout : Layout) (v : ValuePhase) (rest : List ℕ)
-    → InValue old at v format next layout rest → held_end h ≤ length old.pool.items → GoesOn old.pairs.items old.pool.items values (at.column + 1) at.left format new
+    → InValue old at v format next layout rest → held_end h ≤ length old.pool.items → value_filled v (length old.pool.items) + cells_held h ≡ 1 + length old.pool.items → GoesOn old.pairs.items old.pool.items values (at.column + 1) at.left format new
     → values ≡ old.values.items ++ h ∷ [] → TableAt order new new.phase format next (following layout (value_is (value_held old.pool.items h))) []
-entered order old values new at h format next layout v rest is within goes same =
+entered order old values new at h format next layout v rest is within full goes same =
     let u = value_held old.pool.items h in
     let more = holds_more old.pairs.items old.pool.items old.values.items is.entries is.before h is.holds within in
     goes order next (following layout (value_is u)) is.entries (is.before ++ u ∷ [])
-    (subst (λ (hs : List Held). Holds old.pairs.items old.pool.items hs is.entries (is.before ++ u ∷ [])) (sym same) more) (omega (arith, length-append is.before (u ∷ []), is.column))
+    (subst (λ (hs : List Held). Holds old.pairs.items old.pool.items hs is.entries (is.before ++ u ∷ [])) (sym same) more)
+    (subst (λ (hs : List Held). Summed hs (length old.pool.items)) (sym same) (summed-push old.values.items h _ (length old.pool.items) is.summed full)) (omega (arith, length-append is.before (u ∷ []), is.column))
     (ap (λ (l : Layout). following l (value_is u)) is.layout_is ∙ after_value format next old.pairs.items is.entries is.before at.left is.pair is.later u is.at_pair)
 
 -- ---- a pool that grows
 
-extent_kept : (pool more : List ℕ) (e : Extent) → e.start + e.len ≤ length pool → bytes_at (pool ++ more) e ≡ bytes_at pool e
-extent_kept pool more e le =
-    ap (λ (l : List ℕ). take e.len l) (drop-append-le e.start pool more (omega (arith, le)))
-    ∙ take-append-le e.len (drop e.start pool) more (omega (arith, le, length-drop e.start pool))
-
-value_kept : (pool more : List ℕ) (h : Held) → held_end h ≤ length pool → value_held (pool ++ more) h ≡ value_held pool h
-value_kept pool more (held.Text e) le = ap (λ (l : List ℕ). text l) (extent_kept pool more e le)
-value_kept pool more (held.Block e) le = ap (λ (l : List ℕ). block l) (extent_kept pool more e le)
-value_kept pool more (held.LineStr n) le = refl
-value_kept pool more (held.Str n) le = refl
-value_kept pool more (held.StrSup n) le = refl
-value_kept pool more (held.Number n) le = refl
-value_kept pool more (held.Data16 w) le = refl
-
-values_kept : (pool more : List ℕ) (values : List Held) → values_end values ≤ length pool → map (value_held (pool ++ more)) values ≡ map (value_held pool) values
-values_kept pool more [] le = refl
-values_kept pool more (h ∷ values) le =
-    let one = value_kept pool more h (omega (arith, le)) in
-    let rest = values_kept pool more values (omega (arith, le)) in
-    ap (λ (v : Value). v ∷ map (value_held (pool ++ more)) values) one ∙ ap (λ (vs : List Value). value_held pool h ∷ vs) rest
-
 pub holds_grown : (pairs : List Pair) (pool more : List ℕ) (values : List Held) (entries : List (List Value)) (before : List Value) → Holds pairs pool values entries before → Holds pairs (pool ++ more) values entries before
 holds_grown pairs pool more values entries before holds =
-    record { held = holds.held ∙ sym (values_kept pool more values holds.within); wide = holds.wide; within = omega (arith, holds.within, length-append pool more) }
+    record { held = holds.held ∙ sym (values_held-more pool more values holds.within); wide = holds.wide; within = omega (arith, holds.within, length-append pool more) }
 
 -- a byte more of a text
 pub text_grown : (order : Order) (old new : TableReader) (at : Cursor) (start byte : ℕ) (format : Format) (next : TableData → Layout) (layout : Layout) (rest : List ℕ)
@@ -203,6 +179,7 @@ text_grown order old new at start byte format next layout rest is phase_is pairs
           subst (λ (ps : List Pair). Holds ps new.pool.items new.values.items is.entries is.before) (sym pairs)
           (subst (λ (w : List ℕ). Holds old.pairs.items w new.values.items is.entries is.before) (sym pool)
           (subst (λ (hs : List Held). Holds old.pairs.items (old.pool.items ++ byte ∷ []) hs is.entries is.before) (sym values) grown));
+      summed = subst (λ (hs : List Held). Summed hs start) (sym values) is.summed;
       layout_is = is.layout_is ∙ ap (λ (ps : List Pair). values_left format next ps is.entries is.before at.left) (sym pairs);
       value = (is.value.0, omega (arith, is.value.1, ap length pool, length-append old.pool.items (byte ∷ [])), dropped, none);
     } in

@@ -1,12 +1,11 @@
 -- How what is out grows with each write.
-use Rattle.std.proofs.Common.{◌≡◌, ℕ, suc, ◌+◌, ◌-◌, ◌%◌, ◌/◌, ◌<◌, List, [], ◌∷◌, ◌++◌, length, take, drop, get_or, map, Option, Result, MatchResult, refl, arith, sym, ap, subst, ◌∙◌, append_assoc, length-append}
+use Rattle.std.proofs.Common.{◌≡◌, ℕ, ◌+◌, ◌-◌, ◌/◌, ◌<◌, List, [], ◌∷◌, ◌++◌, length, take, drop, get_or, map, Option, Result, MatchResult, refl, arith, sym, ap, subst, ◌∙◌, append_assoc, length-append}
 use Rattle.std.proofs.Math.Seq.{take-add, take-append-add}
 use Rattle.std.proofs.lemmas.List.{take_rest, take-append-le, take_more, take-append-drop, length-map, length-take, get_or-map, append-nil}
 use Rattle.std.specs.List.{flat_map}
 use Rattle.std.proofs.lemmas.Grind.{flat_map-append}
 use Rattle.std.specs.Io.KnownBytes.{Appends}
 use Rattle.std.proofs.KnownBytes.{Appends-trans}
-use Rattle.dl_num.specs.Fixed.{little_bytes}
 use Rattle.dl_num.specs.declared.fixed.Order.{Order}
 use Rattle.dl_head.specs.declared.form.Format.{Format}
 use Rattle.dl_head.specs.declared.table.Pair.{Pair}
@@ -70,10 +69,6 @@ module _ (start now : Option (List ℕ)) where
 
   pub TellsOut-same : (text a b : List ℕ) (f : HeadWrite) → a ≡ b → TellsOut start now (text ++ a) f → TellsOut start now (text ++ b) f
   TellsOut-same text a b f is h = subst (λ l. TellsOut start now (text ++ l) f) is h
-
--- the low byte of a number, and those of what is left
-pub little-more : (items whole : List ℕ) (k rest : ℕ) → items ++ little_bytes (suc k) rest ≡ whole → (items ++ rest % 256 ∷ []) ++ little_bytes k (rest / 256) ≡ whole
-little-more items whole k rest h = append_assoc items (rest % 256 ∷ []) (little_bytes k (rest / 256)) ∙ h
 
 -- one part more, and the parts before it, of it and after it
 pub parts_more : {A : Type 0} (f : A → List ℕ) (xs : List A) (i : ℕ) (d : A) → i < length xs → flat_map f (take (i + 1) xs) ≡ flat_map f (take i xs) ++ f (get_or xs i d)

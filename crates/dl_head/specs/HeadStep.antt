@@ -1,5 +1,5 @@
--- What the phases of the header reader say of its params. No promise rests on this file.
-use Rattle.std.specs.Prelude.{ℕ, ◌+◌, Bool, true, nat_lt, ◌==◌}
+-- What the phases of the header reader say of its params and tables, and how far its end is. No promise rests on this file.
+use Rattle.std.specs.Prelude.{ℕ, ◌+◌, ◌^◌, Bool, true, nat_le, nat_lt, ◌==◌, Option, Some, None}
 use Rattle.dl_head.specs.declared.reader.Phase.{Phase}
 use Rattle.dl_head.specs.declared.reader.Phase.TheVariants as phase
 
@@ -13,3 +13,17 @@ lengths_fit phase.Done n base = true
 lengths_fit (phase.Foreign v) n base = true
 lengths_fit (phase.Failed f) n base = true
 lengths_fit p n base = n == 0
+
+-- no unit that is accepted ends behind this
+abbrev pub end_near : Option ℕ → Bool
+end_near None = true
+end_near (Some end) = nat_le end (2 ^ 41)
+
+-- whether tables of so many cells fit the phase: one that isn't read yet has none
+abbrev pub tables_fit : Phase → (directories files : ℕ) → Bool
+tables_fit phase.Files directories files = files == 0
+tables_fit phase.Padding directories files = true
+tables_fit phase.Done directories files = true
+tables_fit (phase.Foreign v) directories files = true
+tables_fit (phase.Failed f) directories files = true
+tables_fit p directories files = directories + files == 0

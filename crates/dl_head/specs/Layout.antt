@@ -88,12 +88,17 @@ table_layout format next =
     entries_layout format pairs count [] λ entries.
     next (record { format = format; pairs = pairs; entries = entries })
 
+-- the header is complete
+abbrev pub from_end : Params → TableData → TableData → Layout
+from_end p directories files = last_entry (record { params = p; directories = directories; files = files })
+
+-- the table of files
+abbrev pub from_files : Params → TableData → Layout
+from_files p directories = table_layout p.format (from_end p directories)
+
 -- the two tables
 abbrev pub tables_layout : Params → Layout
-tables_layout params =
-    table_layout params.format λ directories.
-    table_layout params.format λ files.
-    last_entry (record { params = params; directories = directories; files = files })
+tables_layout p = table_layout p.format (from_files p)
 
 -- the size of the fields from version to header_length
 abbrev pub fixed_part : Format → ℕ

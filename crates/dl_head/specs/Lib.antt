@@ -7,6 +7,7 @@ pub mod Header
 pub mod Refusal
 pub mod Cells
 pub mod Written
+pub mod WrittenLaws
 pub mod Laws
 pub mod Bytes
 pub mod Held
@@ -26,3 +27,6 @@ pub mod Spelled
 pub mod Writing
 pub mod Place
 pub mod TablePlace
+pub mod Standing
+pub mod Reading
+pub mod Runs

@@ -1,5 +1,5 @@
 -- Where the header reader is: between which fields, and in which bytes of the next one. No promise rests on this file.
-use Rattle.std.specs.Prelude.{◌≡◌, ℕ, ◌+◌, ◌-◌, ◌≤◌, List, [], ◌∷◌, ◌++◌, length, Some, None}
+use Rattle.std.specs.Prelude.{◌≡◌, ◌≢◌, ℕ, ◌+◌, ◌-◌, ◌≤◌, List, [], ◌∷◌, ◌++◌, length, Some, None}
 use Rattle.dl_num.specs.declared.fixed.Order.{Order}
 use Rattle.dl_num.specs.Fixed.{fixed}
 use Rattle.dl_num.specs.NumberBytes.{number_size, number_bytes}
@@ -10,13 +10,15 @@ use Rattle.dl_head.specs.declared.reader.Phase.TheVariants as phase
 use Rattle.dl_head.specs.declared.reader.next.Next.{Next}
 use Rattle.dl_head.specs.declared.reader.next.Next.TheVariants as byte_makes
 use Rattle.dl_head.specs.declared.reader.HeadReader.{HeadReader}
-use Rattle.dl_head.specs.declared.reader.table_reader.TableReader.{TableReader}
 use Rattle.dl_head.specs.declared.reader.table_reader.TablePhase.TheVariants as table
 use Rattle.dl_head.specs.declared.fault.FaultKind.TheVariants as fault
 use Rattle.dl_head.specs.declared.form.Format.{Format}
 use Rattle.dl_head.specs.declared.params.Params.{Params}
+use Rattle.dl_head.specs.TableData.{TableData}
+use Rattle.dl_head.specs.TableCells.{table_cells}
+use Rattle.dl_head.specs.TablePlace.{IsFresh, TableAt, Adds, reader_cells}
 use Rattle.dl_head.specs.Value.{good, bad, offset_size}
-use Rattle.dl_head.specs.Layout.{Layout, foreign_version, Item, length_is, number_is, following_all, field_spelt, header_layout, lengths_layout, tables_layout, initial_size, fixed_part, unit_length_limit}
+use Rattle.dl_head.specs.Layout.{Layout, Item, length_is, number_is, following_all, field_spelt, header_layout, lengths_layout, tables_layout, from_files, from_end, initial_size, fixed_part, unit_length_limit}
 use Rattle.dl_head.specs.Layout.{from_address_size, from_segment_selector_size, from_minimum_length, from_maximum_operations, from_default_is_stmt, from_line_base, from_line_range, from_opcode_base}
 use Rattle.dl_head.specs.Header.{unit_end, header_end}
 
@@ -36,13 +38,6 @@ abbrev pub from_length : Params → Layout
 from_length p =
     let before = p.lengths.items in
     lengths_layout (length before + 1) (p.opcode_base - 1 - length before) before λ lengths. tables_layout (record p { lengths = record { items = lengths } })
-
--- the reader of a table has taken nothing
-pub record IsFresh (t : TableReader) : Type 0 where
-  pub phase : t.phase ≡ table.PairCount
-  pub pairs : t.pairs.items ≡ []
-  pub values : t.values.items ≡ []
-  pub pool : t.pool.items ≡ []
 
 -- the unit_length as a field's value
 abbrev pub length_item : HeadReader → Item
@@ -65,14 +60,25 @@ pub record Early (r : HeadReader) (items is : List Item) : Type 0 where
   pub before : IsBefore r
 
 -- the fields after header_length
-pub record Late (r : HeadReader) (items : List Item) (layout : Layout) : Type 0 where
+pub record Behind (r : HeadReader) (items : List Item) (layout : Layout) : Type 0 where
   pub follows : following_all header_layout items ≡ layout
   pub unit : unit_end items ≡ Some (end_of_unit r)
   pub header : ℕ
   pub header_ends : header_end items ≡ Some header
   pub end : r.end ≡ Some header
   pub overrun : r.overrun ≡ fault.HeaderOverrun
+
+-- those of them before the tables
+pub record Late (r : HeadReader) (items : List Item) (layout : Layout) : Type 0 where
+  pub behind : Behind r items layout
   pub fresh : IsFresh r.table
+
+-- the reader is in the bytes rest of a field of the table at hand, which next follows
+pub record InTable (r : HeadReader) (items : List Item) (rest : List ℕ) (next : TableData → Layout) : Type 0 where
+  pub layout : Layout
+  pub behind : Behind r items layout
+  pub at : TableAt r.order r.table r.table.phase r.params.format next layout rest
+  pub going : r.table.phase ≡ table.Whole → ⊥
 
 -- the values of the fields before header_length
 abbrev pub before_header_length : HeadReader → List Item
@@ -92,7 +98,7 @@ pub record InLong (order : Order) (rest : List ℕ) (number : List ℕ) : Type 0
   pub size : length escape ≡ 4
   pub value : fixed order escape ≡ 0xffffffff
 
--- The reader has read fields of these values, and the bytes rest of the next one; up to the lengths of the opcodes.
+-- The reader has read fields of these values, and the bytes rest of the next one, or of the padding.
 abbrev pub AtPhase : HeadReader → Phase → List Item → List ℕ → Type 0
 AtPhase r (phase.UnitLength n) items rest = AtStart r items × (number_bytes n ≡ rest) × (number_size n ≡ 4)
 AtPhase r (phase.LongUnitLength n) items rest = AtStart r items × InLong r.order rest (number_bytes n) × (number_size n ≡ 8)
@@ -105,18 +111,21 @@ AtPhase r (phase.Byte field.SegmentSelectorSize) items rest =
     Early r items (length_item r ∷ number_is 5 ∷ number_is r.params.address_size ∷ []) × (rest ≡ [])
 AtPhase r (phase.Byte f) items rest = Late r items (from_byte f r.unit_length r.params) × (rest ≡ []) × (r.params.lengths.items ≡ [])
 AtPhase r phase.OpcodeLength items rest = Late r items (from_length r.params) × (rest ≡ [])
-AtPhase r phase.Directories items rest = Late r items (tables_layout r.params) × (rest ≡ [])
-AtPhase r (phase.Foreign v) items rest = following_all header_layout items ≡ foreign_version v
+AtPhase r phase.Directories items rest = InTable r items rest (from_files r.params)
+AtPhase r phase.Files items rest = InTable r items rest (from_end r.params r.directories)
+AtPhase r phase.Padding items rest = Behind r items (from_end r.params r.directories r.files)
+AtPhase r (phase.Foreign v) items rest = Early r items (length_item r ∷ number_is v ∷ []) × (v ≢ 5)
 AtPhase r p items rest = ⊥
 
 abbrev pub At : HeadReader → List Item → List ℕ → Type 0
 At r items rest = AtPhase r r.phase items rest
 
--- the counts are kept
+-- the counts are kept, and the header
 pub record SameCounts (old new : HeadReader) : Type 0 where
   pub order : new.order ≡ old.order
   pub start : new.start ≡ old.start
   pub taken : new.taken ≡ old.taken
+  pub header : new.header ≡ old.header
 
 -- what the byte makes of the field that ends with w
 abbrev pub Made : Order → List Item → List ℕ → Next → HeadReader → Type 0
@@ -145,3 +154,30 @@ StartsHeader old header byte_makes.Ends new =
 StartsHeader old header (byte_makes.Refuses kind) new =
     (old.unit_length - fixed_part old.params.format + 1 ≤ header) × (kind ≡ fault.HeaderBeyondUnit) × SameCounts old new
 StartsHeader old header result new = ⊥
+
+-- what is known of the unit's length is kept
+pub record SameUnit (old new : HeadReader) : Type 0 where
+  pub end : new.end ≡ old.end
+  pub unit_length : new.unit_length ≡ old.unit_length
+  pub format : new.params.format ≡ old.params.format
+
+-- a field that is refused
+abbrev pub Keeps : HeadReader → Next → HeadReader → Type 0
+Keeps old (byte_makes.Refuses kind) new = SameUnit old new
+Keeps old result new = Unit {0}
+
+-- how many cells the reader holds
+abbrev pub held_cells : HeadReader → ℕ
+held_cells r = table_cells r.directories + table_cells r.files + reader_cells r.table
+
+-- what a byte makes of the field, or of the padding, that it falls in
+abbrev pub ByteMade : HeadReader → List Item → List ℕ → ℕ → Next → HeadReader → Type 0
+ByteMade old items rest byte byte_makes.NoMemory new = At new items rest
+ByteMade old items rest byte result new = Made old.order items (rest ++ byte ∷ []) result new
+
+-- `push`: a byte of a header that isn't whole
+pub record PushFollows (old : HeadReader) (byte : ℕ) (result : Next) (new : HeadReader) : Type 0 where
+  pub made : (items : List Item) (rest : List ℕ) → At old items rest → ByteMade old items rest byte result new
+  pub cells : (items : List Item) (rest : List ℕ) → At old items rest
+      → Adds old.order (following_all header_layout items) rest (rest ++ byte ∷ []) result (held_cells old) (held_cells new)
+  pub counts : SameCounts old new

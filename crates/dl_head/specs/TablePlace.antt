@@ -1,5 +1,5 @@
 -- Where the reader of a table is: in which bytes of which field. `next` is what follows the table. No promise rests on this file.
-use Rattle.std.specs.Prelude.{◌≡◌, ℕ, ◌+◌, ◌-◌, ◌^◌, ◌<◌, ◌≤◌, drop, Bool, true, not, ◌==◌, List, [], ◌∷◌, ◌++◌, length, Some, None, Option, map, ◌⊎◌, Result}
+use Rattle.std.specs.Prelude.{◌≡◌, ℕ, ◌+◌, ◌-◌, ◌^◌, ◌<◌, ◌≤◌, drop, Bool, true, not, ◌==◌, List, [], ◌∷◌, ◌++◌, length, Some, None, Option, map, ◌⊎◌, Result, Ok, Err, sum_by}
 use Rattle.dl_num.specs.declared.fixed.Order.{Order}
 use Rattle.dl_num.specs.LebReader.{UlebTook, UlebIs}
 use Rattle.dl_num.specs.declared.leb.LebRange.{LebRange}
@@ -19,13 +19,55 @@ use Rattle.dl_head.specs.declared.reader.table_reader.TableReader.{TableReader}
 use Rattle.dl_head.specs.declared.reader.table_reader.TablePhase.{TablePhase}
 use Rattle.dl_head.specs.declared.reader.table_reader.TablePhase.TheVariants as phase
 use Rattle.dl_head.specs.TableData.{TableData}
+use Rattle.dl_head.specs.TableCells.{table_cells}
 use Rattle.dl_num.specs.NumberBytes.{number_size, number_bytes}
 use Rattle.dl_num.specs.OperandBytes.{operand_bytes}
-use Rattle.dl_head.specs.Held.{value_held, values_end}
+use Rattle.dl_head.specs.Held.{value_held, values_end, cells_held}
+use Rattle.dl_head.specs.TableStep.{value_filled}
+use Rattle.dl_head.specs.Cells.{item_cells, rest_cells}
 use Rattle.dl_head.specs.Field.{IsFixed, IsUleb64, HasNoZero}
 use Rattle.dl_head.specs.Value.{Value, line_str, str, str_sup, number, block, good, bad, form_of_code, offset_size}
 use Rattle.dl_head.specs.Layout.{Layout, number_then, form_then, content_code, entry_count, Item, value_is, following, field_spelt, pairs_layout, entry_layout, entries_layout, table_layout}
-use Rattle.dl_head.specs.Place.{IsFresh}
+
+-- the reader of a table has taken nothing
+pub record IsFresh (t : TableReader) : Type 0 where
+  pub phase : t.phase ≡ phase.PairCount
+  pub pairs : t.pairs.items ≡ []
+  pub values : t.values.items ≡ []
+  pub pool : t.pool.items ≡ []
+
+-- how many cells the reader of a table holds
+abbrev pub reader_cells : TableReader → ℕ
+reader_cells t = length t.pairs.items + length t.values.items + length t.pool.items
+
+-- the cells of the field at the front of the layout, of which the bytes w have come
+abbrev pub field_cells : Order → Layout → List ℕ → ℕ
+field_cells order layout w = elim (field_spelt order layout w) [
+  | Some (Ok i) ↦ item_cells i
+  | Some (Err kind) ↦ rest_cells layout w
+  | None ↦ rest_cells layout w
+]
+
+-- the last byte of w, behind rest, adds to the cells before what it adds to those of the field; memory is refused only where that is some
+abbrev pub Adds : Order → Layout → List ℕ → List ℕ → Next → ℕ → ℕ → Type 0
+Adds order layout rest w byte_makes.NoMemory before after = (after ≡ before) × (rest_cells layout rest < field_cells order layout w)
+Adds order layout rest w result before after = after + rest_cells layout rest ≡ before + field_cells order layout w
+
+-- a byte of a number that is no cell
+abbrev pub KeepsCells : TableReader → Next → TableReader → Type 0
+KeepsCells old byte_makes.NoMemory new = ⊥
+KeepsCells old result new = reader_cells new ≡ reader_cells old
+
+-- a byte of a field that is one cell, once it is whole
+abbrev pub OneCell : TableReader → Next → TableReader → Type 0
+OneCell old byte_makes.Ends new = reader_cells new ≡ reader_cells old + 1
+OneCell old result new = reader_cells new ≡ reader_cells old
+
+-- a byte that is a cell
+abbrev pub EachCell : TableReader → Next → TableReader → Type 0
+EachCell old byte_makes.NoMemory new = reader_cells new ≡ reader_cells old
+EachCell old (byte_makes.Refuses kind) new = ⊥
+EachCell old result new = reader_cells new ≡ reader_cells old + 1
 
 -- what follows the pairs; some: there are any
 abbrev pub after_pairs : Format → (TableData → Layout) → Bool → List Pair → Layout
@@ -101,6 +143,10 @@ pub record Holds (pairs : List Pair) (pool : List ℕ) (values : List Held) (ent
   pub wide : AreWide (length pairs) entries
   pub within : values_end values ≤ length pool
 
+-- so many bytes of the pool are those of texts and blocks among the values
+abbrev pub Summed : List Held → ℕ → Type 0
+Summed values filled = sum_by cells_held values ≡ length values + filled
+
 -- what follows the values before of an entry behind these, so many entries being left with it
 abbrev pub values_left : Format → (TableData → Layout) → List Pair → List (List Value) → List Value → ℕ → Layout
 values_left format next pairs entries before left =
@@ -116,6 +162,7 @@ pub record InValue (t : TableReader) (at : Cursor) (v : ValuePhase) (format : Fo
   pub later : List Pair
   pub at_pair : drop (length before) t.pairs.items ≡ pair ∷ later
   pub holds : Holds t.pairs.items t.pool.items t.values.items entries before
+  pub summed : Summed t.values.items (value_filled v (length t.pool.items))
   pub layout_is : layout ≡ values_left format next t.pairs.items entries before at.left
   pub value : ValueAt format pair.form v t.pool.items rest
 
@@ -134,6 +181,7 @@ pub record InBlock (order : Order) (t : TableReader) (at : Cursor) (left : ℕ) 
   pub values_are : t.values.items ≡ earlier ++ held.Block (record { start = length pool; len = length bytes + left }) ∷ []
   pub pool_is : t.pool.items ≡ pool ++ bytes
   pub holds : Holds t.pairs.items pool earlier entries before
+  pub summed : Summed earlier (length pool)
   pub layout_is : layout ≡ values_left format next t.pairs.items entries before at.left
   pub rest_is : rest ≡ size ++ bytes
   pub length_is : IsLengthOf order pair.form (length bytes + left) size
@@ -143,6 +191,8 @@ pub record InBlock (order : Order) (t : TableReader) (at : Cursor) (left : ℕ) 
 pub record IsWhole (t : TableReader) (format : Format) (next : TableData → Layout) (layout : Layout) : Type 0 where
   pub entries : List (List Value)
   pub holds : Holds t.pairs.items t.pool.items t.values.items entries []
+  pub summed : Summed t.values.items (length t.pool.items)
+  pub some_pairs : length t.pairs.items ≡ 0 → entries ≡ []
   pub layout_is : layout ≡ next (record { format = format; pairs = t.pairs.items; entries = entries })
 
 -- the reader is in the bytes rest of the first field of the layout
@@ -169,8 +219,8 @@ pub record SameTable (old new : TableReader) : Type 0 where
 abbrev pub TableMade : Order → TableReader → Format → (TableData → Layout) → Layout → List ℕ → Next → TableReader → Type 0
 TableMade order old format next layout w byte_makes.Within new = (field_spelt order layout w ≡ None) × TableAt order new new.phase format next layout w
 TableMade order old format next layout w byte_makes.Ends new = (i : Item) × (field_spelt order layout w ≡ good i) × TableAt order new new.phase format next (following layout i) []
-TableMade order old format next layout w (byte_makes.Refuses kind) new = field_spelt order layout w ≡ bad kind
-TableMade order old format next layout w byte_makes.NoMemory new = SameTable old new
+TableMade order old format next layout w (byte_makes.Refuses kind) new = (field_spelt order layout w ≡ bad kind) × SameTable old new
+TableMade order old format next layout w byte_makes.NoMemory new = SameTable old new × (1 ≤ field_cells order layout w)
 
 -- a byte of the count of the pairs or of a pair
 abbrev pub TableFollows : TableReader → ℕ → Next → TableReader → Type 0
@@ -178,11 +228,11 @@ TableFollows old byte result new =
     (order : Order) (format : Format) (next : TableData → Layout) (layout : Layout) (rest : List ℕ) → TableAt order old old.phase format next layout rest
     → TableMade order old format next layout (rest ++ byte ∷ []) result new
 
--- `begin_pair`: so many pairs are left, or the count of the entries follows
-abbrev pub BeginsPair : TableReader → ℕ → TableReader → Type 0
-BeginsPair old left new =
-    (order : Order) (format : Format) (next : TableData → Layout) (some : Bool) → NoValues old → some ≡ not (left + length old.pairs.items == 0)
-    → TableAt order new new.phase format next (pairs_layout left old.pairs.items (after_pairs format next some)) []
+-- `of_pairs`: so many pairs are left, or the count of the entries follows
+abbrev pub BeginsPair : ℕ → TablePhase → Type 0
+BeginsPair left p =
+    (order : Order) (t : TableReader) (format : Format) (next : TableData → Layout) (some : Bool) → NoValues t → some ≡ not (left + length t.pairs.items == 0)
+    → TableAt order t p format next (pairs_layout left t.pairs.items (after_pairs format next some)) []
 
 -- `take_content`: the form code of the pair follows
 abbrev pub TakesContent : TableReader → ℕ → ℕ → Next → TableReader → Type 0
@@ -196,8 +246,8 @@ TakesForm old left content code byte_makes.Ends new =
     (f : Form) × (form_of_code code ≡ Some f)
     × ((order : Order) (format : Format) (next : TableData → Layout) → NoValues old → 1 ≤ left
     → TableAt order new new.phase format next (pairs_left format next (left - 1) (old.pairs.items ++ record { content = content; form = f } ∷ [])) [])
-TakesForm old left content code (byte_makes.Refuses kind) new = (form_of_code code ≡ None) × (code < 2 ^ 64) × (kind ≡ fault.UnknownForm code)
-TakesForm old left content code byte_makes.NoMemory new = SameTable old new
+TakesForm old left content code (byte_makes.Refuses kind) new = (form_of_code code ≡ None) × (code < 2 ^ 64) × (kind ≡ fault.UnknownForm code) × SameTable old new
+TakesForm old left content code byte_makes.NoMemory new = SameTable old new × ((f : Form) × (form_of_code code ≡ Some f))
 TakesForm old left content code byte_makes.Within new = ⊥
 
 -- `Cursor::next`: the place of the value after this one, where an entry has so many
@@ -210,14 +260,14 @@ Moves old width (Some new) =
 abbrev pub GoesOn : List Pair → List ℕ → List Held → ℕ → ℕ → Format → TableReader → Type 0
 GoesOn pairs pool values column left format new =
     (order : Order) (next : TableData → Layout) (layout : Layout) (entries : List (List Value)) (before : List Value)
-    → Holds pairs pool values entries before → length before ≡ column → layout ≡ values_left format next pairs entries before left
+    → Holds pairs pool values entries before → Summed values (length pool) → length before ≡ column → layout ≡ values_left format next pairs entries before left
     → TableAt order new new.phase format next layout []
 
 -- `enter`: the value is complete, or memory was refused
 abbrev pub Enters : TableReader → Cursor → Held → Format → Next → TableReader → Type 0
 Enters old at h format byte_makes.Ends new =
     (order : Order) (next : TableData → Layout) (layout : Layout) (v : ValuePhase) (rest : List ℕ) → InValue old at v format next layout rest
-    → TableAt order new new.phase format next (following layout (value_is (value_held old.pool.items h))) []
+    → value_filled v (length old.pool.items) + cells_held h ≡ 1 + length old.pool.items → TableAt order new new.phase format next (following layout (value_is (value_held old.pool.items h))) []
 Enters old at h format byte_makes.NoMemory new = SameTable old new
 Enters old at h format result new = ⊥
 
@@ -225,10 +275,10 @@ Enters old at h format result new = ⊥
 abbrev pub BeginsBlock : TableReader → Cursor → ℕ → Format → Next → TableReader → Type 0
 BeginsBlock old at size format byte_makes.Within new =
     (1 ≤ size) × ((order : Order) (next : TableData → Layout) (layout : Layout) (v : ValuePhase) (rest : List ℕ) (w : List ℕ) → (is : InValue old at v format next layout rest)
-    → IsLengthOf order is.pair.form size w → TableAt order new new.phase format next layout w)
+    → value_filled v (length old.pool.items) ≡ length old.pool.items → IsLengthOf order is.pair.form size w → TableAt order new new.phase format next layout w)
 BeginsBlock old at size format byte_makes.Ends new =
     (size ≡ 0) × ((order : Order) (next : TableData → Layout) (layout : Layout) (v : ValuePhase) (rest : List ℕ) → InValue old at v format next layout rest
-    → TableAt order new new.phase format next (following layout (value_is (block []))) [])
+    → value_filled v (length old.pool.items) ≡ length old.pool.items → TableAt order new new.phase format next (following layout (value_is (block []))) [])
 BeginsBlock old at size format byte_makes.NoMemory new = SameTable old new
 BeginsBlock old at size format (byte_makes.Refuses kind) new = ⊥
 
@@ -238,6 +288,12 @@ ValueFollows order format old byte result new =
     (next : TableData → Layout) (layout : Layout) (rest : List ℕ) → TableAt order old old.phase format next layout rest
     → TableMade order old format next layout (rest ++ byte ∷ []) result new
 
+-- how many cells the byte of a value adds
+abbrev pub ValueAdds : Order → Format → TableReader → ℕ → Next → TableReader → Type 0
+ValueAdds order format old byte result new =
+    (next : TableData → Layout) (layout : Layout) (rest : List ℕ) → TableAt order old old.phase format next layout rest
+    → Adds order layout rest (rest ++ byte ∷ []) result (reader_cells old) (reader_cells new)
+
 -- `take_count`: the count of the entries is whole
 abbrev pub TakesCount : TableReader → Result ℕ LebRange → Format → Next → TableReader → Type 0
 TakesCount old count format result new =
@@ -245,5 +301,13 @@ TakesCount old count format result new =
     → UlebIs w count → TableMade order old format next layout w result new
 
 -- `push`: a byte of a table that isn't whole
-abbrev pub PushFollows : Order → Format → TableReader → ℕ → Next → TableReader → Type 0
-PushFollows order format old byte result new = (old.phase ≡ phase.Whole → ⊥) → ValueFollows order format old byte result new
+pub record PushFollows (order : Order) (format : Format) (old : TableReader) (byte : ℕ) (result : Next) (new : TableReader) : Type 0 where
+  pub made : (old.phase ≡ phase.Whole → ⊥) → ValueFollows order format old byte result new
+  pub cells : (old.phase ≡ phase.Whole → ⊥) → ValueAdds order format old byte result new
+
+-- `take`: the table and a fresh reader, where the last entry is complete
+abbrev pub Takes : TableReader → Format → Option TableData → TableReader → Type 0
+Takes old format None new = (old.phase ≡ phase.Whole → ⊥) × (new ≡ old)
+Takes old format (Some t) new =
+    (old.phase ≡ phase.Whole) × IsFresh new
+    × ((next : TableData → Layout) (layout : Layout) → IsWhole old format next layout → (layout ≡ next t) × (table_cells t ≡ reader_cells old))

@@ -1,5 +1,5 @@
 -- What the phases of the reader of a table say of its vectors. No promise rests on this file.
-use Rattle.std.specs.Prelude.{ℕ, ◌+◌}
+use Rattle.std.specs.Prelude.{ℕ, ◌+◌, max}
 use Rattle.dl_head.specs.declared.reader.table_reader.TablePhase.{TablePhase}
 use Rattle.dl_head.specs.declared.reader.table_reader.TablePhase.TheVariants as phase
 use Rattle.dl_head.specs.declared.reader.value_phase.ValuePhase.{ValuePhase}
@@ -10,10 +10,22 @@ abbrev pub value_start : ValuePhase → ℕ
 value_start (value.Text start) = start
 value_start v = 0
 
+-- how many bytes of the pool are those of complete values, where it has so many
+abbrev pub value_filled : ValuePhase → ℕ → ℕ
+value_filled (value.Text start) n = start
+value_filled v n = n
+
 -- how many bytes of the block at hand are to come
 abbrev pub value_due : ValuePhase → ℕ
 value_due (value.Block left) = left
 value_due v = 0
+
+-- how many pairs are to come at most
+abbrev pub pairs_due : TablePhase → ℕ
+pairs_due phase.PairCount = 255
+pairs_due (phase.ContentCode left code) = max 1 left
+pairs_due (phase.FormCode left content code) = max 1 left
+pairs_due p = 0
 
 -- one more than the column of the value at hand
 abbrev pub row_end : TablePhase → ℕ

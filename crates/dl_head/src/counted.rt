@@ -2,11 +2,10 @@
 
 ghost use Rattle.std.specs.Prelude.{◌≡◌, ◌<◌, ◌≤◌, ◌++◌, length, take, IfErr, IfNone, IfSome, OnOk};
 ghost use Rattle.std.specs.Io.KnownBytes.{Appends, Keeps};
-ghost use Rattle.dl_num.specs.Fixed.{fixed_bytes, little_bytes};
+ghost use Rattle.dl_num.specs.Fixed.{fixed_bytes as fixed_bytes_of};
 ghost use Rattle.dl_head.specs.Writing.{Writes};
 
-use arrayvec::ArrayVec;
-use dl_num::Order;
+use dl_num::{Order, fixed_bytes};
 use std::io::{ErrorKind, Write};
 use thiserror::Error;
 
@@ -44,8 +43,9 @@ fn write_some<W: Write>(output: &mut W, bytes: &[u8]) -> Option<usize>
     None
 }
 
-/// Writes all of the bytes, or answers how many of them are out.
-fn write_all<W: Write>(output: &mut W, bytes: &[u8]) -> Result<(), usize>
+/// Writes all of the bytes, or answers how many of them are out. A write that was interrupted is
+/// repeated, a thousand times in a row; one that takes nothing has failed.
+pub fn write_all<W: Write>(output: &mut W, bytes: &[u8]) -> Result<(), usize>
     ensures ok { OnOk result (Appends (W.contents output.old) (W.contents output.new) bytes.now) }
     ensures err { IfErr result (λ out.
         Appends (W.contents output.old) (W.contents output.new) (take out bytes.now)) }
@@ -61,8 +61,9 @@ fn write_all<W: Write>(output: &mut W, bytes: &[u8]) -> Result<(), usize>
     Ok(())
 }
 
-/// Writes the bytes on top of the `out` that are out, and answers how many are out then.
-pub(crate) fn put<W: Write>(output: &mut W, out: u64, bytes: &[u8]) -> Result<u64, HeadWrite>
+/// Writes the bytes on top of the `out` that are out, and answers how many are out then; 2^64 - 1
+/// where they are more.
+pub fn put<W: Write>(output: &mut W, out: u64, bytes: &[u8]) -> Result<u64, HeadWrite>
     ensures written { Writes (W.contents output.old) (W.contents output.new) out bytes.now result }
 {
     match write_all(output, bytes) {
@@ -83,36 +84,8 @@ pub(crate) fn put_number<W: Write>(
 ) -> Result<u64, HeadWrite>
     requires { size ≤ 8 }
     ensures written { Writes (W.contents output.old) (W.contents output.new) out
-        (fixed_bytes order size number) result }
+        (fixed_bytes_of order size number) result }
 {
-    let bytes = number_bytes(order, size, number);
+    let bytes = fixed_bytes(order, size, number);
     put(output, out, bytes.as_slice())
-}
-
-fn number_bytes(order: Order, size: usize, number: u64) -> ArrayVec<u8, 8>
-    requires { size ≤ 8 }
-    ensures { result.items ≡ fixed_bytes order size number }
-{
-    let mut bytes = low_bytes(size, number);
-    match order {
-        Order::Little => bytes,
-        Order::Big => {
-            bytes.as_mut_slice().reverse();
-            bytes
-        }
-    }
-}
-
-/// The lowest bytes of a number, so many of them, the lowest first.
-fn low_bytes(size: usize, number: u64) -> ArrayVec<u8, 8>
-    requires { size ≤ 8 }
-    ensures { result.items ≡ little_bytes size number }
-{
-    let mut bytes = ArrayVec::new();
-    let mut rest = number;
-    for _ in 0..size {
-        bytes.push((rest % 256) as u8);
-        rest /= 256;
-    }
-    bytes
 }

@@ -1,6 +1,8 @@
 //! Laws of the definitions of headers, each the contract of a function that does nothing. Section 6.2.4.
 
 ghost use Rattle.dl_head.specs.Laws.{FieldIsJudged, OneHeader, HeaderIsFound, FoundIsHeader, CutIsComputed, HeaderIsNotForeign, OneHeaderRefusal, RefusalIsComputed, HeaderIsNotRefused, ForeignIsNotRefused, FewCells, HeaderHoldsItsCells};
+ghost use Rattle.dl_head.specs.Reading.{OneAnswer};
+ghost use Rattle.dl_head.specs.WrittenLaws.{WrittenIsHeader, WrittenHasItsLength, ReadIsSound};
 
 /// The judgement of bytes as a field finds the good fields of sections 6.2.4, 7.4 and 7.5.6.
 pub fn good_fields()
@@ -39,9 +41,25 @@ pub fn header_or_refusal()
     ensures foreign { ForeignIsNotRefused }
 {}
 
+/// Bytes come to one thing alone: a header, a foreign unit, a fault, or nothing yet.
+pub fn one_answer()
+    ensures { OneAnswer }
+{}
+
 /// A header that is being read holds no more cells than it has bytes, and in the end those of its
 /// tables.
 pub fn few_cells()
     ensures few { FewCells }
     ensures whole { HeaderHoldsItsCells }
+{}
+
+/// The bytes that are written of a header are that header, and tell the unit's length.
+pub fn header_is_written()
+    ensures header { WrittenIsHeader }
+    ensures length { WrittenHasItsLength }
+{}
+
+/// A header that bytes spell is one that can be written.
+pub fn header_is_sound()
+    ensures { ReadIsSound }
 {}

@@ -1,7 +1,7 @@
 //! The header of a line table unit of DWARF 5: its forms, its tables, its reader and its writer. Section 6.2.4.
 #![tactic(auto)]
 
-mod counted;
+pub mod counted;
 pub mod fault;
 pub mod form;
 pub mod header;
@@ -17,7 +17,7 @@ pub use fault::{BuildFault, Fault, FaultKind, ParamFault};
 pub use form::{Form, Format};
 pub use header::{Header, Refused};
 pub use params::Params;
-pub use reader::{HeadReader, HeadStep};
+pub use reader::{HeadReader, HeadRun, HeadStep};
 pub use table::{Entry, Pair, Table, ValueRef, Values};
 pub use text::text_at;
 pub use write::{TooLong, header_len, write_header};

@@ -39,6 +39,7 @@ impl Params {
     pub(crate) fn least(format: Format) -> Params
         ensures usable { IsUsable result }
         ensures no_lengths { result.lengths.items ≡ [] }
+        ensures format { result.format ≡ format }
     {
         Params {
             format,

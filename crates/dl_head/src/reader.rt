@@ -1,13 +1,18 @@
 //! The header of a unit, byte by byte. Section 6.2.4.
 
-ghost use Rattle.std.specs.Prelude.{◌≡◌, ◌≤◌, ◌^◌, true, length};
+ghost use Rattle.std.specs.Prelude.{◌≡◌, ◌-◌, ◌≤◌, ◌^◌, ℕ, List, [], true, length, min, IfSome};
+ghost use Rattle.dl_head.specs.Header.{unit_len};
+ghost use Rattle.dl_head.specs.Cells.{cells};
+ghost use Rattle.std.specs.Option.{option_copied};
 ghost use Rattle.dl_num.specs.Fixed.{is_number_size};
-ghost use Rattle.dl_head.specs.HeadStep.{lengths_fit};
+ghost use Rattle.dl_head.specs.HeadStep.{end_near, lengths_fit, tables_fit};
+ghost use Rattle.dl_head.specs.TableCells.{table_cells};
 
 mod byte_field;
 mod fields;
 mod lengths;
 mod next;
+mod run;
 mod sixteen;
 mod table_reader;
 mod value_phase;
@@ -21,6 +26,7 @@ use crate::table::Table;
 use byte_field::ByteField;
 use dl_num::{Number, Order};
 use next::Next;
+pub use run::HeadRun;
 use std::alloc::Global;
 use std::mem;
 use table_reader::TableReader;
@@ -84,17 +90,25 @@ pub struct HeadReader {
     /// The header, once it is complete.
     header: Option<Header>,
     ghost short: { unit_length ≤ 2 ^ 40 },
+    ghost near: { end_near end ≡ true },
     ghost address_size: { is_number_size params.address_size ≡ true },
     ghost operations: { 1 ≤ params.maximum_operations_per_instruction },
     ghost lines: { 1 ≤ params.line_range },
     ghost lengths: { lengths_fit phase (length params.lengths.items) params.opcode_base ≡ true },
+    ghost tables: { tables_fit phase (table_cells directories) (table_cells files) ≡ true },
 }
 
 impl HeadReader {
     ghost use Rattle.dl_head.specs.declared.reader.Phase.TheVariants as phase;
+    ghost use Rattle.dl_head.specs.Place.{Keeps, PushFollows};
+    ghost use Rattle.dl_head.specs.Standing.{StandsFor, Settles, Fails, Completes};
+    ghost use Rattle.dl_head.specs.Reading.{Steps, Gives};
 
     /// No byte yet of a header whose numbers stand in this order. It takes no memory.
-    pub fn new(alloc: Global, order: Order) -> HeadReader {
+    pub fn new(alloc: Global, order: Order) -> HeadReader
+        ensures stands { StandsFor result [] }
+        ensures order { result.order ≡ order }
+    {
         HeadReader {
             alloc,
             order,
@@ -114,7 +128,10 @@ impl HeadReader {
 
     /// Takes the next byte, save where it answers NoMemory, or answered Done, Foreign or a fault
     /// before; it then answers the same again.
-    pub fn step(&mut self, byte: u8) -> HeadStep {
+    pub fn step(&mut self, byte: u8) -> HeadStep
+        ensures steps { (b : List ℕ) → StandsFor self.old b → Steps self.old.order b byte result self.new }
+        ensures order { self.new.order ≡ self.old.order }
+    {
         match self.phase {
             Phase::Done => return HeadStep::Done,
             Phase::Foreign(version) => return HeadStep::Foreign(version),
@@ -140,12 +157,17 @@ impl HeadReader {
     }
 
     /// How many bytes were taken.
-    pub fn taken(&self) -> u64 {
+    pub fn taken(&self) -> u64
+        ensures { (b : List ℕ) → StandsFor self.now b → result ≡ length b }
+    {
         self.taken
     }
 
     /// The unit's bytes, its initial length included, once that is read.
-    pub fn unit_len(&self) -> Option<u64> {
+    pub fn unit_len(&self) -> Option<u64>
+        ensures unit { (b : List ℕ) → StandsFor self.now b → result ≡ unit_len self.now.order b }
+        ensures within { (b : List ℕ) → StandsFor self.now b → IfSome result (λ n. length b ≤ n) }
+    {
         match self.end {
             Some(_) => Some(lengths::initial_size(self.params.format) + self.unit_length),
             None => None,
@@ -154,7 +176,9 @@ impl HeadReader {
 
     /// How many pairs, values, and bytes of texts and blocks are held; 2^64 - 1 where there are
     /// more.
-    pub fn cells(&self) -> u64 {
+    pub fn cells(&self) -> u64
+        ensures { (b : List ℕ) → StandsFor self.now b → result ≡ min (cells self.now.order b) (2 ^ 64 - 1) }
+    {
         match &self.header {
             Some(header) => header.cells(),
             None => self
@@ -166,17 +190,24 @@ impl HeadReader {
     }
 
     /// The header, from Done on.
-    pub fn header(&self) -> Option<&Header> {
+    pub fn header(&self) -> Option<&Header>
+        ensures { Gives self.now.order self.now (option_copied result) }
+    {
         self.header.as_ref()
     }
 
     /// The header, from Done on.
-    pub fn into_header(self) -> Option<Header> {
+    pub fn into_header(self) -> Option<Header>
+        ensures { Gives self.order self result }
+    {
         self.header
     }
 
     /// What the bytes come to that were taken.
-    fn settle(&mut self) -> HeadStep {
+    fn settle(&mut self) -> HeadStep
+        ensures settles { Settles self.old result self.new }
+        ensures order { self.new.order ≡ self.old.order }
+    {
         match self.phase {
             Phase::Foreign(version) => HeadStep::Foreign(version),
             _ if self.end != Some(self.taken) => HeadStep::More,
@@ -188,7 +219,9 @@ impl HeadReader {
         }
     }
 
-    fn fail(&mut self, kind: FaultKind) -> HeadStep {
+    fn fail(&mut self, kind: FaultKind) -> HeadStep
+        ensures { Fails self.old kind result self.new }
+    {
         let fault = Fault {
             offset: self.start,
             kind,
@@ -200,6 +233,7 @@ impl HeadReader {
     /// Makes the header of all that was read.
     fn complete(&mut self)
         requires { self.old.phase ≡ phase.Padding }
+        ensures { Completes self.old self.new }
     {
         let format = self.params.format;
         let params = mem::replace(&mut self.params, Params::least(format));
@@ -212,7 +246,10 @@ impl HeadReader {
     }
 
     /// What the byte makes of the field that it falls in.
-    fn push(&mut self, byte: u8) -> Next {
+    fn push(&mut self, byte: u8) -> Next
+        ensures follows { PushFollows self.old byte result self.new }
+        ensures kept { Keeps self.old result self.new }
+    {
         match self.phase {
             Phase::UnitLength(number) => self.unit_length(number, byte),
             Phase::LongUnitLength(number) => self.long_unit_length(number, byte),
@@ -229,6 +266,8 @@ impl HeadReader {
 
     fn directories(&mut self, byte: u8) -> Next
         requires { self.old.phase ≡ phase.Directories }
+        ensures follows { PushFollows self.old byte result self.new }
+        ensures kept { Keeps self.old result self.new }
     {
         let format = self.params.format;
         let next = self.table.push(self.order, format, byte);
@@ -241,6 +280,8 @@ impl HeadReader {
 
     fn files(&mut self, byte: u8) -> Next
         requires { self.old.phase ≡ phase.Files }
+        ensures follows { PushFollows self.old byte result self.new }
+        ensures kept { Keeps self.old result self.new }
     {
         let format = self.params.format;
         let next = self.table.push(self.order, format, byte);

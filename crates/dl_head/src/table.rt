@@ -152,19 +152,19 @@ impl Table {
         }
     }
 
-    /// A table of values whose bytes stand in the pool. Pairs after the 255th and values after the
-    /// last whole entry are left out.
+    /// A table of values whose bytes stand in the pool. Values after the last whole entry are left
+    /// out.
     pub(crate) fn of_parts(
         format: Format,
-        mut pairs: Vec<Pair>,
+        pairs: Vec<Pair>,
         mut values: Vec<Held>,
         pool: Vec<u8>,
     ) -> Table
-        requires { values_end values.items ≤ length pool.items }
-        ensures { length pairs.items ≤ 255 → IsWhole (length values.items) (length pairs.items)
+        requires few { length pairs.items ≤ 255 }
+        requires within { values_end values.items ≤ length pool.items }
+        ensures { IsWhole (length values.items) (length pairs.items)
             → result ≡ table_of format pairs.items values.items pool.items }
     {
-        pairs.truncate(MAX_PAIRS);
         let width = pairs.len();
         values.truncate(whole_rows(values.len(), width) * width);
         Table {

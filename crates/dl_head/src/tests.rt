@@ -3,6 +3,7 @@
 mod building;
 mod growths;
 mod reading;
+mod runs;
 mod streams;
 mod texts;
 mod vectors;

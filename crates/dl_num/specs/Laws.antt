@@ -2,8 +2,8 @@
 use Rattle.std.specs.Prelude.{◌≡◌, ℕ, ◌^◌, ◌<◌, ◌↔◌, ℤ, List, [], ◌∷◌, ◌++◌, length, Option, None, IsTrue}
 use Rattle.dl_num.specs.declared.fixed.Order.{Order}
 use Rattle.dl_num.specs.Fixed.{fixed, fixed_bytes}
-use Rattle.dl_num.specs.Leb.{groups, IsUleb, IsSleb, IsShortestUleb}
-use Rattle.dl_num.specs.Shortest.{shortest_uleb}
+use Rattle.dl_num.specs.Leb.{groups, IsUleb, IsSleb, IsShortestUleb, IsShortestSleb}
+use Rattle.dl_num.specs.Shortest.{shortest_uleb, shortest_sleb}
 use Rattle.dl_num.specs.LebFront.{is_leb, leb_front, behind_leb}
 use Rattle.dl_num.specs.Front.{IsCut, standing}
 use Rattle.dl_num.specs.Steps.{Verdict, EndsWith}
@@ -38,6 +38,9 @@ LebIsFront = (w v : List ℕ) (n : ℕ) → IsUleb w n → (leb_front (w ++ v) �
 -- the computed shortest spelling is one
 abbrev pub ComputedIsShortest : Type 0
 ComputedIsShortest = (n : ℕ) → IsShortestUleb (shortest_uleb n) n
+
+abbrev pub ComputedSlebIsShortest : Type 0
+ComputedSlebIsShortest = (i : ℤ) → IsShortestSleb (shortest_sleb i) i
 
 -- a number is spelled by its bytes, and bytes are those of the number that they spell
 abbrev pub FixedReadsBack : Type 0

@@ -1,8 +1,9 @@
 //! Numbers of fixed size, byte by byte. Sections 7.4 and 7.5.5.
 
 ghost use Rattle.std.specs.Prelude.{◌≡◌, ◌<◌, ◌≤◌, ◌↔◌, ◌++◌, ◌∷◌, [], length, take, IsTrue};
-ghost use Rattle.dl_num.specs.Fixed.{fixed, is_number_size};
+ghost use Rattle.dl_num.specs.Fixed.{fixed, is_number_size, fixed_bytes as fixed_bytes_of, little_bytes};
 
+use arrayvec::ArrayVec;
 use byteorder::{BigEndian, ByteOrder, LittleEndian};
 
 /// The order in which the bytes of a number of fixed size stand.
@@ -90,4 +91,33 @@ fn number_of(bytes: &[u8], order: Order) -> u64
         Order::Little => LittleEndian::read_uint(bytes, bytes.len()),
         Order::Big => BigEndian::read_uint(bytes, bytes.len()),
     }
+}
+
+/// The lowest bytes of a number in this order, so many of them.
+pub fn fixed_bytes(order: Order, size: usize, number: u64) -> ArrayVec<u8, 8>
+    requires { size ≤ 8 }
+    ensures { result.items ≡ fixed_bytes_of order size number }
+{
+    let mut bytes = low_bytes(size, number);
+    match order {
+        Order::Little => bytes,
+        Order::Big => {
+            bytes.as_mut_slice().reverse();
+            bytes
+        }
+    }
+}
+
+/// The lowest bytes of a number, so many of them, the lowest first.
+fn low_bytes(size: usize, number: u64) -> ArrayVec<u8, 8>
+    requires { size ≤ 8 }
+    ensures { result.items ≡ little_bytes size number }
+{
+    let mut bytes = ArrayVec::new();
+    let mut rest = number;
+    for _ in 0..size {
+        bytes.push((rest % 256) as u8);
+        rest /= 256;
+    }
+    bytes
 }

@@ -1,6 +1,6 @@
 //! Laws of the definitions of numbers, each the contract of a function that does nothing.
 
-ghost use Rattle.dl_num.specs.Laws.{OneUnsignedValue, OneSignedValue, NoUlebBeginsAnother, NoSlebBeginsAnother, LebIsTested, LebIsFront, ComputedIsShortest, FixedReadsBack, FixedHasItsSize, BytesReadBack, FixedIsBelow, CutIsStanding, OneEnd};
+ghost use Rattle.dl_num.specs.Laws.{OneUnsignedValue, OneSignedValue, NoUlebBeginsAnother, NoSlebBeginsAnother, LebIsTested, LebIsFront, ComputedIsShortest, ComputedSlebIsShortest, FixedReadsBack, FixedHasItsSize, BytesReadBack, FixedIsBelow, CutIsStanding, OneEnd};
 
 /// Bytes in LEB128 spell one number. Section 7.6.
 pub fn one_value()
@@ -22,7 +22,8 @@ pub fn leb_is_tested()
 
 /// The shortest spelling that is computed is one. Section 7.6.
 pub fn shortest_is_computed()
-    ensures { ComputedIsShortest }
+    ensures unsigned { ComputedIsShortest }
+    ensures signed { ComputedSlebIsShortest }
 {}
 
 /// Numbers of fixed size and their bytes stand for one another, in either order.

@@ -2,7 +2,7 @@
 
 ghost use Rattle.std.specs.Prelude.{◌≡◌, ◌<◌, ◌≤◌, ◌^◌};
 ghost use Rattle.dl_num.specs.Leb.{IsShortestUleb, IsShortestSleb};
-ghost use Rattle.dl_num.specs.Shortest.{shortest_uleb};
+ghost use Rattle.dl_num.specs.Shortest.{shortest_uleb, shortest_sleb};
 ghost use Rattle.dl_num.specs.Magnitude.{signed_value, byte_of};
 
 use arrayvec::ArrayVec;
@@ -24,7 +24,8 @@ pub fn uleb_bytes(number: u64) -> ArrayVec<u8, 10>
 
 /// The shortest spelling of a signed number.
 pub fn sleb_bytes(number: i64) -> ArrayVec<u8, 10>
-    ensures { IsShortestSleb result.items number }
+    ensures shortest { IsShortestSleb result.items number }
+    ensures value { result.items ≡ shortest_sleb number }
 {
     if number < 0 {
         signed_bytes((-1 - number) as u64, true)
@@ -36,7 +37,8 @@ pub fn sleb_bytes(number: i64) -> ArrayVec<u8, 10>
 /// The spelling whose groups, or the groups of whose complement, are those of the magnitude.
 fn signed_bytes(magnitude: u64, negative: bool) -> ArrayVec<u8, 10>
     requires { magnitude < 2 ^ 63 }
-    ensures { IsShortestSleb result.items (signed_value negative magnitude) }
+    ensures shortest { IsShortestSleb result.items (signed_value negative magnitude) }
+    ensures value { result.items ≡ shortest_sleb (signed_value negative magnitude) }
 {
     let mut bytes = ArrayVec::new();
     let mut rest = magnitude;

@@ -1,6 +1,6 @@
 use crate::{
-    Fixed, LebRange, Operand, Order, Skip, Sleb, Uleb, sleb_at_front, sleb_bytes, sleb_read_back,
-    uleb_at_front, uleb_bytes, uleb_read_back,
+    Fixed, LebRange, Operand, Order, Skip, Sleb, Uleb, fixed_bytes, sleb_at_front, sleb_bytes,
+    sleb_read_back, uleb_at_front, uleb_bytes, uleb_read_back,
 };
 use std::process::Abort;
 
@@ -123,6 +123,22 @@ fn fixed_sizes(rt: HostRuntime) {
     assert!(rt; number.is_full());
     assert_eq!(rt; number.number(Order::Little), 0x0403_0201);
     assert_eq!(rt; number.number(Order::Big), 0x0102_0304);
+}
+
+#[test]
+fn bytes_of_fixed_size(rt: HostRuntime) {
+    let rows: [(Order, usize, u64, &[u8]); 5] = [
+        (Order::Little, 2, 0x1234, &[0x34, 0x12]),
+        (Order::Big, 2, 0x1234, &[0x12, 0x34]),
+        (Order::Little, 1, 0xfe, &[0xfe]),
+        (Order::Big, 4, 0x0040_1000, &[0x00, 0x40, 0x10, 0x00]),
+        (Order::Little, 8, u64::MAX, &[0xff; 8]),
+    ];
+    for (order, size, number, bytes) in rows {
+        if size <= 8 {
+            assert_eq!(rt; fixed_bytes(order, size, number).as_slice(), bytes);
+        }
+    }
 }
 
 #[test]

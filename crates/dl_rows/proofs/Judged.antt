@@ -59,7 +59,7 @@ below n e = elim (cases_lt n (2 ^ 64)) [
   | inr le ↦ absurd (true_false (ap not (le-ltb n (2 ^ 64) le)) e)
 ]
 
-empty_is : (w : List ℕ) → is_empty w ≡ true → w ≡ []
+pub empty_is : (w : List ℕ) → is_empty w ≡ true → w ≡ []
 empty_is [] e = refl
 empty_is (b ∷ w) e = let l = eqb-true (length (b ∷ w)) 0 e in absurd (omega arith)
 

@@ -9,7 +9,8 @@ use Rattle.dl_rows.specs.declared.operation.Operation.{Operation}
 use Rattle.dl_rows.specs.declared.operation.Operation.TheVariants as op
 use Rattle.dl_rows.specs.Matrix.{is_end, appends_row, row, matrix}
 use Rattle.dl_rows.specs.Machine.{initial, applied, cleared, row_of}
-use Rattle.dl_rows.specs.Programs.{ends_open, Finishes}
+use Rattle.dl_rows.specs.LineUnit.{ends_open}
+use Rattle.dl_rows.specs.Programs.{Finishes}
 use Rattle.dl_rows.specs.Sums.{FitsProgram, HasRange, registers_after, settled}
 use Rattle.dl_rows.proofs.RegisterLemmas.{row_is, registers_after-push, matrix-push}
 

@@ -13,7 +13,8 @@ use Rattle.dl_rows.specs.declared.program.Program.{Program}
 use Rattle.dl_rows.specs.Matrix.{matrix}
 use Rattle.dl_rows.specs.OperationSpelt.{operation_spelt, operations_in}
 use Rattle.dl_rows.specs.Phases.{PhaseStands}
-use Rattle.dl_rows.specs.Programs.{row_list, rows_in, Finishes, ProgramStands, Unrefused}
+use Rattle.dl_rows.specs.LineUnit.{rows_in}
+use Rattle.dl_rows.specs.Programs.{row_list, Finishes, ProgramStands, Unrefused}
 use Rattle.dl_rows.proofs.FirstLemmas.{split_front, nowhere_nil}
 use Rattle.dl_rows.proofs.OperandLemmas.{Verdict}
 use Rattle.dl_rows.proofs.ProgramSteps.{found_within, found_one}

@@ -1,5 +1,5 @@
 -- A reader that goes through bytes of a program, operation by operation.
-use Rattle.std.proofs.Common.{◌≡◌, ℕ, List, [], ◌∷◌, ◌++◌, Option, Some, None, Ok, refl, sym, ap, subst, ◌∙◌, arith, append_assoc}
+use Rattle.std.proofs.Common.{◌≡◌, ◌↔◌, ◌==◌, not, false, ℕ, List, [], ◌∷◌, ◌++◌, Option, Some, None, Ok, refl, sym, ap, subst, ◌∙◌, arith, append_assoc}
 use Rattle.std.proofs.lemmas.List.{append-nil}
 use Rattle.dl_num.specs.declared.fixed.Order.{Order}
 use Rattle.dl_num.specs.Front.{SpellsFirst}
@@ -7,15 +7,21 @@ use Rattle.dl_num.specs.Laws.{AllBytes}
 use Rattle.dl_head.specs.declared.params.Params.{Params}
 use Rattle.dl_rows.specs.declared.row.Row.{Row}
 use Rattle.dl_rows.specs.declared.operation.Operation.{Operation}
+use Rattle.dl_rows.specs.declared.phase.Phase.{Phase}
+use Rattle.dl_rows.specs.declared.phase.Phase.TheVariants as phase
 use Rattle.dl_rows.specs.declared.program.Program.{Program}
+use Rattle.dl_rows.specs.Machine.{initial}
 use Rattle.dl_rows.specs.OperationSpelt.{operation_spelt, operations_in}
-use Rattle.dl_rows.specs.Programs.{rows_in, ProgramStands, Unrefused, Walked}
+use Rattle.dl_rows.specs.Phases.{PhaseStands}
+use Rattle.dl_rows.specs.LineUnit.{rows_in, ends_open}
+use Rattle.dl_rows.specs.Programs.{ProgramStands, Unrefused, Walked}
 use Rattle.dl_rows.specs.Sums.{FitsProgram, HasRange}
-use Rattle.dl_rows.proofs.FirstLemmas.{nil_front}
+use Rattle.dl_rows.proofs.FirstLemmas.{nil_front, nowhere_nil}
 use Rattle.dl_rows.proofs.Judged.{Judged, judged}
 use Rattle.dl_rows.proofs.OperandLemmas.{Verdict}
 use Rattle.dl_rows.proofs.OperandRanges.{range_of}
-use Rattle.dl_rows.proofs.ProgramTurns.{Turned, none_some, rest-found, unrefused_join}
+use Rattle.dl_rows.proofs.ProgramTurns.{Turned, none_some, rows-found, rest-found, unrefused_join}
+use Rattle.dl_rows.proofs.RegisterLemmas.{starts}
 
 pub walk_start : (order : Order) (h : Params) (b bytes : List ℕ) (p : Program) → ProgramStands order h p b → Walked order h b bytes p bytes
 walk_start order h b bytes p s =
@@ -68,3 +74,41 @@ walk_row order h b bytes rest front behind p new row w e t =
       ap (rows_in order h) (sym here) ∙ t.rows ∙ ap (λ (z : List Row). z ++ row ∷ []) w.rows,
       subst (λ (z : List ℕ). Unrefused order h b z) whole (unrefused_join order h b w.done front w.unrefused t.unrefused),
     )
+
+-- no byte of a program
+pub stands_nil : (order : Order) (h : Params) (p : Program) → p.registers ≡ initial (not (h.default_is_stmt == 0)) → p.phase ≡ phase.Start → p.begun ≡ 0 → p.in_sequence ≡ false
+    → ProgramStands order h p []
+stands_nil order h p registers at zero none = record {
+  operations = [];
+  begun = [];
+  bytes = tt;
+  found = refl;
+  pending = nowhere_nil (operation_spelt order h) refl;
+  registers = registers ∙ starts h;
+  phase = subst (λ (z : Phase). PhaseStands h z []) (sym at) refl;
+  count = zero;
+  in_sequence = none;
+}
+
+at_start : (h : Params) (at : Phase) → PhaseStands h at [] → at ≡ phase.Start
+at_start h phase.Start s = refl
+at_start h (phase.Unsigned o number) s = absurd cc
+at_start h (phase.Line number) s = absurd cc
+at_start h (phase.FixedAdd number) s = absurd cc
+at_start h (phase.Skipped left) s = absurd cc
+at_start h (phase.Length number) s = absurd cc
+at_start h (phase.Extended n) s = absurd cc
+at_start h (phase.Address number) s = absurd cc
+at_start h (phase.Discriminator left number) s = absurd cc
+at_start h (phase.Rest left) s = absurd cc
+
+-- no operation is begun exactly where nothing is left behind the complete ones
+pub between : (order : Order) (h : Params) (p : Program) (b : List ℕ) → ProgramStands order h p b → (p.phase ≡ phase.Start) ↔ ((operations_in order h b).rest ≡ [])
+between order h p b s =
+    let rest = rest-found order h b s.operations s.begun s.found in (
+      λ at. rest ∙ subst (λ (z : Phase). PhaseStands h z s.begun) at s.phase,
+      λ e. at_start h p.phase (subst (λ (z : List ℕ). PhaseStands h p.phase z) (sym rest ∙ e) s.phase),
+    )
+
+pub in_sequence_is : (order : Order) (h : Params) (p : Program) (b : List ℕ) → ProgramStands order h p b → p.in_sequence ≡ ends_open (rows_in order h b)
+in_sequence_is order h p b s = s.in_sequence ∙ ap ends_open (sym (rows-found order h b s.operations s.begun s.found))

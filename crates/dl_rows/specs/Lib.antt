@@ -1,11 +1,17 @@
 pub mod BadOperation
 pub mod Laws
 pub mod Left
+pub mod LineUnit
 pub mod Machine
 pub mod Matrix
 pub mod OperationSpelt
 pub mod Phases
 pub mod Programs
 pub mod Progress
+pub mod ReaderStands
+pub mod Reading
+pub mod Refusal
 pub mod Spelling
 pub mod Sums
+pub mod Tails
+pub mod UnitLaws

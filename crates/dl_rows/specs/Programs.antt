@@ -1,5 +1,5 @@
 -- What a reader that is inside a program stands for. No promise rests on this file.
-use Rattle.std.specs.Prelude.{◌≡◌, ℕ, ◌-◌, ◌^◌, Bool, false, not, List, [], ◌∷◌, ◌++◌, length, min, Option, Some, None, Err}
+use Rattle.std.specs.Prelude.{◌≡◌, ℕ, ◌-◌, ◌^◌, List, [], ◌∷◌, ◌++◌, length, min, Option, Some, None, Err}
 use Rattle.dl_num.specs.declared.fixed.Order.{Order}
 use Rattle.dl_num.specs.Front.{SpellsNowhere}
 use Rattle.dl_num.specs.Laws.{AllBytes}
@@ -10,16 +10,11 @@ use Rattle.dl_rows.specs.declared.operation.Operation.{Operation}
 use Rattle.dl_rows.specs.declared.program.Program.{Program}
 use Rattle.dl_rows.specs.declared.program.Given.{Given}
 use Rattle.dl_rows.specs.declared.program.Given.TheVariants as given
+use Rattle.dl_rows.specs.LineUnit.{rows_in, ends_open}
 use Rattle.dl_rows.specs.Matrix.{matrix}
 use Rattle.dl_rows.specs.OperationSpelt.{operation_spelt, operations_in}
 use Rattle.dl_rows.specs.Phases.{PhaseStands}
 use Rattle.dl_rows.specs.Sums.{registers_after}
-
--- there is a row, and the last one isn't an end row
-abbrev pub ends_open : List Row → Bool
-ends_open [] = false
-ends_open (r ∷ []) = not r.end_sequence
-ends_open (r ∷ s ∷ rows) = ends_open (s ∷ rows)
 
 -- the row, if there is one
 abbrev pub row_list : Option Row → List Row
@@ -31,10 +26,6 @@ pub record Finishes (h : Params) (before : List Operation) (o : Operation) (row 
   pub registers : new.registers ≡ registers_after h (before ++ o ∷ [])
   pub rows : matrix h (before ++ o ∷ []) ≡ matrix h before ++ row_list row
   pub in_sequence : new.in_sequence ≡ ends_open (matrix h (before ++ o ∷ []))
-
--- the rows of the operations that are complete in b
-abbrev pub rows_in : Order → Params → List ℕ → List Row
-rows_in order h b = matrix h (operations_in order h b).found
 
 -- the reader has taken the bytes b of a program
 pub record ProgramStands (order : Order) (h : Params) (p : Program) (b : List ℕ) : Type 0 where
@@ -64,6 +55,7 @@ GivenIs order h b bytes (given.Refuses k behind) new =
     (front : List ℕ) × (last : ℕ) × (bytes ≡ (front ++ last ∷ []) ++ behind.now) × (rows_in order h (b ++ (front ++ last ∷ [])) ≡ rows_in order h b)
     × Unrefused order h b front × (operation_spelt order h (operations_in order h (b ++ (front ++ last ∷ []))).rest ≡ Some (Err k))
     × (new.begun ≡ min (length (operations_in order h (b ++ (front ++ last ∷ []))).rest) (2 ^ 64 - 1))
+    × (new.in_sequence ≡ ends_open (rows_in order h (b ++ (front ++ last ∷ []))))
 
 -- the reader has gone on from b: bytes is what it took, without a row or a fault, and rest
 pub record Walked (order : Order) (h : Params) (b bytes : List ℕ) (p : Program) (rest : List ℕ) : Type 0 where

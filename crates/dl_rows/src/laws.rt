@@ -1,6 +1,7 @@
-//! Laws of the definitions of operations, programs and rows, each the contract of a function that does nothing.
+//! Laws of the definitions of operations, programs, rows and units, each the contract of a function that does nothing.
 
 ghost use Rattle.dl_rows.specs.Laws.{SpeltIsSpelled, BadIsFaulty, NoOperationBeginsAnother, OneOperation, NoSpellingIsFaulty, OneProgram, ProgramIsFound, FoundIsProgram, NoneBeginsRest, RowForByte};
+ghost use Rattle.dl_rows.specs.UnitLaws.{HeaderFits, LengthIsComputed, NoUnitBeginsAnother, ForeignComesTo, UnitComesTo, OneRefusal, RefusedInHeader, RefusedInProgram, UnitUnlessRefused, RowForProgramByte};
 
 /// What computes an operation of bytes agrees with the relations: on spellings, and on bad bytes
 /// with the kind of the fault. Sections 6.2.5.1 to 6.2.5.3.
@@ -25,7 +26,42 @@ pub fn program_is_found()
     ensures rest { NoneBeginsRest }
 {}
 
-/// A program has at most one row for each of its bytes. Section 6.2.2.
+/// A program has at most one row for each of its bytes, and so has the program of a unit. Section 6.2.2.
 pub fn a_row_for_a_byte()
-    ensures { RowForByte }
+    ensures program { RowForByte }
+    ensures unit { RowForProgramByte }
+{}
+
+/// The params of a header are usable, and its line_base is one byte. Section 6.2.4.
+pub fn params_of_a_header()
+    ensures { HeaderFits }
+{}
+
+/// A unit is as long as is computed of its initial length, and begins no other unit. Section 7.4.
+pub fn length_of_a_unit()
+    ensures computed { LengthIsComputed }
+    ensures end { NoUnitBeginsAnother }
+{}
+
+/// The computed events of a unit are its version, where that isn't 5, and else its header and the
+/// rows of its program.
+pub fn events_of_a_unit()
+    ensures foreign { ForeignComesTo }
+    ensures own { UnitComesTo }
+{}
+
+/// Of the fronts of a list at most one is refused, at one place, for one kind.
+pub fn one_refusal()
+    ensures { OneRefusal }
+{}
+
+/// Where the header isn't complete, it is refused; else an operation is, which is bad or cut short.
+pub fn refusals()
+    ensures header { RefusedInHeader }
+    ensures program { RefusedInProgram }
+{}
+
+/// Bytes as long as their initial length says are a unit, or one front of them is refused.
+pub fn unit_or_refusal()
+    ensures { UnitUnlessRefused }
 {}

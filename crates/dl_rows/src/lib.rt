@@ -8,6 +8,7 @@ pub mod program;
 pub mod reader;
 pub mod registers;
 pub mod row;
+mod tail;
 
 pub use operation::Operation;
 pub use reader::{Event, Fed, Finish, Reader};

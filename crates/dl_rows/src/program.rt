@@ -1,6 +1,7 @@
 //! The line number program of a unit, from bytes that come in pieces. Sections 6.2.5.1 to 6.2.5.3.
 
-ghost use Rattle.std.specs.Prelude.{◌≡◌, ◌≤◌, List, length, IfSome, IsTrue};
+ghost use Rattle.std.specs.Prelude.{false, ◌≡◌, ◌≤◌, ◌↔◌, ◌==◌, not, ℕ, List, [], length, IfSome, IsTrue};
+ghost use Rattle.dl_num.specs.Laws.{AllBytes};
 ghost use Rattle.dl_head.specs.Built.{IsUsable};
 
 use crate::operation::Operation;
@@ -35,12 +36,17 @@ impl Program {
     ghost use Rattle.dl_rows.specs.declared.operation.Operation.{Operation};
     ghost use Rattle.dl_rows.specs.Left.{GivenLeaves, rows_of};
     ghost use Rattle.dl_rows.specs.Matrix.{matrix};
-    ghost use Rattle.dl_rows.specs.Programs.{Finishes, ends_open};
+    ghost use Rattle.dl_rows.specs.OperationSpelt.{operations_in};
+    ghost use Rattle.dl_rows.specs.LineUnit.{ends_open, rows_in};
+    ghost use Rattle.dl_rows.specs.Programs.{Finishes, GivenIs, ProgramStands};
     ghost use Rattle.dl_rows.specs.Sums.{FitsProgram, HasRange, registers_after};
     ghost use Rattle.dl_rows.specs.declared.phase.Phase.TheVariants as phase;
 
     /// At the first operation.
-    pub fn new(default_is_stmt: bool) -> Self {
+    pub fn new(default_is_stmt: bool) -> Self
+        ensures stands { (order : Order) (h : Params) → default_is_stmt ≡ not (h.default_is_stmt == 0) → ProgramStands order h result [] }
+        ensures in_sequence { result.in_sequence ≡ false }
+    {
         Program {
             registers: Registers::new(default_is_stmt),
             phase: Phase::Start,
@@ -51,25 +57,34 @@ impl Program {
 
     /// Whether no operation is incomplete.
     pub fn is_between(&self) -> bool
-        ensures { IsTrue result → self.now.phase ≡ phase.Start }
+        ensures phase { IsTrue result → self.now.phase ≡ phase.Start }
+        ensures rest { (order : Order) (h : Params) (b : List ℕ) → ProgramStands order h self.now b
+            → IsTrue result ↔ ((operations_in order h b).rest ≡ []) }
     {
         matches!(self.phase, Phase::Start)
     }
 
     /// How many bytes of the operation at hand have come.
-    pub fn begun(&self) -> u64 {
+    pub fn begun(&self) -> u64
+        ensures { result ≡ self.now.begun }
+    {
         self.begun
     }
 
     /// Whether there was a row, and the last one isn't an end row.
-    pub fn in_sequence(&self) -> bool {
+    pub fn in_sequence(&self) -> bool
+        ensures field { result ≡ self.now.in_sequence }
+        ensures rows { (order : Order) (h : Params) (b : List ℕ) → ProgramStands order h self.now b → result ≡ ends_open (rows_in order h b) }
+    {
         self.in_sequence
     }
 
     /// Takes bytes up to the end of the next operation that appends a row.
     pub fn push<'a>(&mut self, order: Order, params: &Params, mut bytes: &'a [u8]) -> Given<'a>
         requires { IsUsable params.now }
-        ensures { GivenLeaves (length bytes.entry.now) result }
+        ensures left { GivenLeaves (length bytes.entry.now) result }
+        ensures given { (b : List ℕ) → FitsProgram params.now → AllBytes bytes.entry.now → ProgramStands order params.now self.old b
+            → GivenIs order params.now b bytes.entry.now result self.new }
     {
         while !bytes.is_empty() {
             if self.is_between()

@@ -1,9 +1,15 @@
 //! The reader of a unit, from bytes that come in pieces. Section 6.2.
 
-ghost use Rattle.std.specs.Prelude.{◌≡◌, ◌≢◌, ◌≤◌, ◌+◌, ◌⊎◌, length, IsTrue, IfOk};
+ghost use Rattle.std.specs.Prelude.{◌≡◌, ◌≢◌, ◌≤◌, ◌+◌, ◌-◌, ◌^◌, ◌⊎◌, ◌↔◌, ℕ, List, [], Some, None, length, min, IsTrue, IfOk};
+ghost use Rattle.std.specs.Option.{option_copied};
+ghost use Rattle.dl_head.specs.Cells.{cells};
+ghost use Rattle.dl_rows.specs.LineUnit.{IsUnit, unit_rows, ends_open};
+ghost use Rattle.dl_head.specs.Header.{unit_len};
+ghost use Rattle.dl_head.specs.Standing.{StandsFor as HeadStands};
 
-use crate::program::{Given, Program};
+use crate::program::Program;
 use crate::row::Row;
+use crate::tail::Tail;
 use dl_head::{Fault, FaultKind, HeadReader, HeadStep, Header};
 use dl_num::Order;
 use std::alloc::Global;
@@ -46,28 +52,31 @@ pub enum Finish {
 pub struct Reader {
     order: Order,
     head: HeadReader,
-    program: Program,
+    tail: Tail,
     is_foreign: bool,
-    taken: u64,
-    /// How many bytes of the unit are left, from the Header or Foreign event on.
-    left: u64,
     fault: Option<Fault>,
 }
 
 impl Reader {
-    ghost use Rattle.dl_rows.specs.Progress.{IsPause, taken_of};
+    ghost use Rattle.dl_rows.specs.Progress.{taken_of};
+    ghost use Rattle.dl_rows.specs.Reading.{IsPause};
+    ghost use Rattle.dl_rows.specs.ReaderStands.{StandsFor, HeaderIs, FinishIs, KnownIs, InHeader, ReaderFed, BeginsForeign, BeginsProgram};
 
     /// No byte yet of a unit whose numbers stand in this order. It takes no memory.
     pub fn new(alloc: Global, order: Order) -> Reader
-        ensures { taken_of result ≡ 0 }
+        ensures stands { StandsFor result [] }
+        ensures order { result.order ≡ order }
+        ensures taken { taken_of result ≡ 0 }
     {
         Reader {
             order,
             head: HeadReader::new(alloc, order),
-            program: Program::new(false),
+            tail: Tail {
+                program: Program::new(false),
+                taken: 0,
+                left: 0,
+            },
             is_foreign: false,
-            taken: 0,
-            left: 0,
             fault: None,
         }
     }
@@ -77,55 +86,42 @@ impl Reader {
         ensures used { IfOk result (λ fed. fed.used ≤ length piece.now) }
         ensures progress { IfOk result (λ fed. IsPause fed.event ⊎ (1 ≤ fed.used)) }
         ensures end { IfOk result (λ fed. fed.event ≡ Event.End → 1 ≤ taken_of self.old + fed.used) }
+        ensures fed { (b : List ℕ) → StandsFor self.old b
+            → ReaderFed self.old.order b piece.now result self.new }
+        ensures order { self.new.order ≡ self.old.order }
     {
         if let Some(fault) = self.fault {
             return Err(fault);
         }
         if self.is_foreign {
-            return Ok(self.pass_over(piece));
+            return Ok(self.tail.pass_over(piece));
         }
         let Some(header) = self.head.header() else {
             return self.feed_head(piece);
         };
-        let bytes = front(piece, self.left);
-        let given = self.program.push(self.order, header.params(), bytes);
-        match given {
-            Given::Row(row, behind) => {
-                let used = bytes.len() - behind.len();
-                self.count(used);
-                Ok(Fed {
-                    used,
-                    event: Event::Row(row),
-                })
-            }
-            Given::Nothing => {
-                self.count(bytes.len());
-                if self.left == 0 && !self.program.is_between() {
-                    return Err(self.fail(FaultKind::OpcodeOverrun));
-                }
-                Ok(self.pause(bytes.len(), piece))
-            }
-            Given::Refuses(kind, behind) => {
-                self.count(bytes.len() - behind.len());
-                Err(self.fail(kind))
-            }
+        let fed = self.tail.feed(self.order, header.params(), piece);
+        if let Err(fault) = fed {
+            self.fault = Some(fault);
         }
+        fed
     }
 
     /// The header, from the Header event on.
-    pub fn header(&self) -> Option<&Header> {
+    pub fn header(&self) -> Option<&Header>
+        ensures { HeaderIs self.now (option_copied result) }
+    {
         self.head.header()
     }
 
     /// The header, from the Header event on.
-    pub fn into_header(self) -> Option<Header> {
+    pub fn into_header(self) -> Option<Header>
+        ensures { HeaderIs self result }
+    {
         let Reader {
             order: _,
             head,
-            program: _,
+            tail: _,
             is_foreign: _,
-            taken: _,
-            left: _,
             fault: _,
         } = self;
         head.into_header()
@@ -133,35 +129,42 @@ impl Reader {
 
     /// How many bytes were taken.
     pub fn taken(&self) -> u64
-        ensures { result ≡ taken_of self.now }
+        ensures field { result ≡ taken_of self.now }
+        ensures bytes { (b : List ℕ) → StandsFor self.now b → result ≡ length b }
     {
-        self.taken
+        self.tail.taken
     }
 
     /// How many pairs, values, and bytes of texts and blocks the header holds; 2^64 - 1 where there
     /// are more.
-    pub fn cells(&self) -> u64 {
+    pub fn cells(&self) -> u64
+        ensures { (b : List ℕ) → StandsFor self.now b → result ≡ min (cells self.now.order b) (2 ^ 64 - 1) }
+    {
         self.head.cells()
     }
 
     /// Whether a row was handed out, and the last one isn't an end row.
-    pub fn in_sequence(&self) -> bool {
-        self.program.in_sequence()
+    pub fn in_sequence(&self) -> bool
+        ensures { (b : List ℕ) → StandsFor self.now b → result ≡ ends_open (unit_rows self.now.order b) }
+    {
+        self.tail.program.in_sequence()
     }
 
     /// How the unit stands where no more bytes come: Truncated where it isn't whole.
-    pub fn finish(&self) -> Result<Finish, Fault> {
+    pub fn finish(&self) -> Result<Finish, Fault>
+        ensures { (b : List ℕ) → StandsFor self.now b → FinishIs self.now.order b result }
+    {
         if let Some(fault) = self.fault {
             return Err(fault);
         }
-        if self.taken == 0 {
+        if self.tail.taken == 0 {
             return Ok(Finish::Empty);
         }
         if self.is_whole() {
             return Ok(Finish::Whole);
         }
         Err(Fault {
-            offset: self.taken,
+            offset: self.tail.taken,
             kind: FaultKind::Truncated,
         })
     }
@@ -171,105 +174,80 @@ impl Reader {
         ensures used { IfOk result (λ fed. fed.used ≤ length piece.now) }
         ensures progress { IfOk result (λ fed. IsPause fed.event ⊎ (1 ≤ fed.used)) }
         ensures not_end { IfOk result (λ fed. fed.event ≢ Event.End) }
+        ensures fed { (b : List ℕ) → self.old.fault ≡ None → self.old.head.order ≡ self.old.order
+            → InHeader self.old b → ReaderFed self.old.order b piece.now result self.new }
+        ensures order { self.new.order ≡ self.old.order }
     {
-        for (i, byte) in piece.iter().enumerate() {
-            let step = self.head.step(*byte);
-            let event = match step {
-                HeadStep::More => continue,
-                HeadStep::NoMemory => {
-                    self.taken = self.head.taken();
-                    return Ok(Fed {
-                        used: i,
-                        event: Event::NoMemory,
-                    });
-                }
-                HeadStep::Fault(fault) => {
-                    self.taken = self.head.taken();
-                    self.fault = Some(fault);
-                    return Err(fault);
-                }
-                HeadStep::Foreign(version) => {
-                    self.is_foreign = true;
-                    Event::Foreign(version)
-                }
-                HeadStep::Done => {
-                    self.begin_program();
-                    Event::Header
-                }
-            };
-            self.taken = self.head.taken();
-            let len = self.head.unit_len().unwrap_or(0);
-            self.left = len.saturating_sub(self.taken);
-            return Ok(Fed { used: i + 1, event });
-        }
-        self.taken = self.head.taken();
-        Ok(Fed {
-            used: piece.len(),
-            event: Event::More,
-        })
+        let (used, step) = self.head.offer(piece);
+        self.tail.taken = self.head.taken();
+        let event = match step {
+            HeadStep::More => Event::More,
+            HeadStep::NoMemory => Event::NoMemory,
+            HeadStep::Foreign(version) => {
+                self.begin_foreign();
+                Event::Foreign(version)
+            }
+            HeadStep::Done => {
+                self.begin_program();
+                Event::Header
+            }
+            HeadStep::Fault(fault) => {
+                self.fault = Some(fault);
+                return Err(fault);
+            }
+        };
+        Ok(Fed { used, event })
     }
 
-    fn begin_program(&mut self) {
+    /// Goes on behind a foreign version.
+    fn begin_foreign(&mut self)
+        ensures { BeginsForeign self.old self.new }
+    {
+        self.is_foreign = true;
+        self.tail.left = self.left();
+    }
+
+    /// Goes on behind the header.
+    fn begin_program(&mut self)
+        ensures { BeginsProgram self.old self.new }
+    {
+        self.tail.left = self.left();
         if let Some(header) = self.head.header() {
-            self.program = Program::new(header.params().default_is_stmt != 0);
+            self.tail.program = Program::new(header.params().default_is_stmt != 0);
         }
     }
 
-    /// Takes bytes of a unit of another version.
-    fn pass_over(&mut self, piece: &[u8]) -> Fed
-        ensures used { result.used ≤ length piece.now }
-        ensures pause { IsPause result.event }
-        ensures end { result.event ≡ Event.End → 1 ≤ taken_of self.old + result.used }
+    /// How many bytes of the unit are left.
+    fn left(&self) -> u64
+        ensures { (b : List ℕ) → HeadStands self.now.head b → (n : ℕ) → unit_len self.now.head.order b ≡ Some n
+            → (result ≡ n - self.now.tail.taken) × (length b ≤ n) }
     {
-        let used = front(piece, self.left).len();
-        self.count(used);
-        self.pause(used, piece)
+        let len = self.head.unit_len().unwrap_or(0);
+        len.saturating_sub(self.tail.taken)
     }
 
     /// Whether all of the unit's bytes were taken.
     fn is_whole(&self) -> bool
-        ensures { IsTrue result → 1 ≤ taken_of self.now }
+        ensures some { IsTrue result → 1 ≤ taken_of self.now }
+        ensures whole { (b : List ℕ) → self.now.fault ≡ None → StandsFor self.now b
+            → IsTrue result ↔ IsUnit self.now.order b }
     {
-        let is_known = self.is_foreign || self.head.header().is_some();
-        is_known && self.taken > 0 && self.left == 0
+        if !self.is_known() {
+            return false;
+        }
+        if self.tail.taken == 0 {
+            return false;
+        }
+        self.tail.left == 0
     }
 
-    /// What is told where a piece gave nothing.
-    fn pause(&self, used: usize, piece: &[u8]) -> Fed
-        requires { used ≤ length piece.now }
-        ensures used { result.used ≡ used }
-        ensures pause { IsPause result.event }
-        ensures end { result.event ≡ Event.End → 1 ≤ taken_of self.now }
+    /// Whether the header, or a foreign version, is complete.
+    fn is_known(&self) -> bool
+        ensures { (b : List ℕ) → self.now.fault ≡ None → StandsFor self.now b → KnownIs self.now.order b result }
     {
-        let ends = self.is_whole() && (used == 0 || used < piece.len());
-        let event = if ends { Event::End } else { Event::More };
-        Fed { used, event }
-    }
-
-    fn count(&mut self, used: usize)
-        ensures { taken_of self.new ≤ taken_of self.old + used }
-    {
-        self.taken = self.taken.saturating_add(used as u64);
-        self.left = self.left.saturating_sub(used as u64);
-    }
-
-    fn fail(&mut self, kind: FaultKind) -> Fault {
-        let fault = Fault {
-            offset: self.taken.saturating_sub(self.program.begun()),
-            kind,
-        };
-        self.fault = Some(fault);
-        fault
-    }
-}
-
-/// The first bytes of the piece, so many at the most.
-fn front<'a>(piece: &'a [u8], most: u64) -> &'a [u8]
-    ensures { length result.now ≤ length piece.entry.now }
-{
-    if most < piece.len() as u64 {
-        &piece[..most as usize]
-    } else {
-        piece
+        match self.header() {
+            Some(_) => true,
+            None => self.is_foreign,
+        }
     }
 }

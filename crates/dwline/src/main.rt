@@ -4,8 +4,8 @@
 ghost use Rattle.std.specs.Prelude.{◌≤◌, ◌^◌};
 
 use dl_cmd::{
-    Job, Options, RunFault, SECTION_LIMIT, check, dump, find, read_address, read_job, read_strings,
-    word_status,
+    Job, Options, RunFault, SECTION_LIMIT, check, copy, dump, find, read_address, read_job,
+    read_strings, word_status,
 };
 use dl_look::Place;
 use dl_num::Order;
@@ -109,14 +109,27 @@ fn run_find(rt: &HostRuntime, strings: &Strings, big: bool, place: Place) -> Res
     Ok(())
 }
 
-fn run_check(rt: &HostRuntime, big: bool) -> Result<(), Stop> {
-    let options = Options {
+/// The options of a command that looks into no string section.
+fn options(big: bool) -> Options<'static>
+    ensures { result.limit ≤ SECTION_LIMIT }
+{
+    Options {
         order: order(big),
         debug_line_str: None,
         debug_str: None,
         limit: SECTION_LIMIT,
-    };
+    }
+}
+
+fn run_check(rt: &HostRuntime, big: bool) -> Result<(), Stop> {
+    let options = options(big);
     check(rt.alloc(), &mut rt.stdin(), &mut rt.stdout(), &options)?;
+    Ok(())
+}
+
+fn run_copy(rt: &HostRuntime, big: bool) -> Result<(), Stop> {
+    let options = options(big);
+    copy(rt.alloc(), &mut rt.stdin(), &mut rt.stdout(), &options)?;
     Ok(())
 }
 
@@ -148,7 +161,8 @@ fn run_job(rt: &HostRuntime, job: Option<Job<'_>>) -> Result<(), Stop> {
             };
             run_find(rt, &Strings::read(rt, line_str, strings)?, big, place)
         }
-        Some(Job::Copy { .. }) | None => Err(Stop::NotUnderstood),
+        Some(Job::Copy { big }) => run_copy(rt, big),
+        None => Err(Stop::NotUnderstood),
     }
 }
 

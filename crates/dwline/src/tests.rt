@@ -10,7 +10,7 @@ fn statuses(rt: HostRuntime) -> Result<(), Fail> {
         (["dwline", "find"].as_slice(), 2),
         (["dwline", "find", "0x10", "--op", "256"].as_slice(), 2),
         (["dwline", "find", "0x"].as_slice(), 2),
-        (["dwline", "copy"].as_slice(), 2),
+        (["dwline", "copy", "--str", "a"].as_slice(), 2),
         (["dwline", "--help"].as_slice(), 0),
         (
             ["dwline", "dump", "--line-str", "no/such/file"].as_slice(),

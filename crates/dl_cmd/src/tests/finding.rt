@@ -2,15 +2,13 @@
 ghost use Rattle.std.specs.Prelude.{◌≤◌};
 
 use super::sections::{FOREIGN, MD5, SMALLEST, THREE_ROWS, bytes, damage, options};
-use super::streams::{Repeated, Sink, Source, hoard_but};
+use super::streams::{Hoarding, Repeated, Sink, Source};
 use crate::{Options, RunFault, SECTION_LIMIT, Summary, find};
 use dl_head::FaultKind;
 use dl_look::{Index, Place};
 use dl_num::Order;
 use dl_rows::{Event, Reader, Row};
 use std::alloc::{AllocError, Global};
-use std::io;
-use std::io::Read;
 use std::process::Abort;
 use std::test::Fail;
 
@@ -263,33 +261,6 @@ fn index_and_command(rt: HostRuntime) -> Result<(), Fail> {
     Ok(())
 }
 
-/// Gives bytes one at a time, and takes all memory before the byte at `at`.
-#[derive(Drop)]
-struct Hoarding<'a> {
-    alloc: Global,
-    bytes: &'a [u8],
-    at: usize,
-    given: usize,
-    blocks: Vec<Vec<u8>>,
-}
-
-impl Read for Hoarding<'_> {
-    fn read(&mut self, buf: &mut [u8]) -> io::Result<usize> {
-        let Some(byte) = self.bytes.get(self.given) else {
-            return Ok(0);
-        };
-        if self.given == self.at {
-            self.blocks = hoard_but(self.alloc, 1)?;
-        }
-        match buf.first_mut() {
-            Some(first) => *first = *byte,
-            None => return Ok(0),
-        }
-        self.given = self.given.saturating_add(1);
-        Ok(1)
-    }
-}
-
 /// Where a growth is refused, nothing is printed.
 #[test]
 fn wants_memory(rt: HostRuntime) -> Result<(), Fail> {
@@ -299,13 +270,7 @@ fn wants_memory(rt: HostRuntime) -> Result<(), Fail> {
     for at_byte in 0..section.len() {
         let mut output = Sink::new(alloc, 1 << 20, 1 << 20);
         output.held.reserve(1 << 10)?;
-        let mut input = Hoarding {
-            alloc,
-            bytes: section.as_slice(),
-            at: at_byte,
-            given: 0,
-            blocks: Vec::new(alloc),
-        };
+        let mut input = Hoarding::new(alloc, section.as_slice(), at_byte);
         let options = options(SECTION_LIMIT);
         let answered = find(alloc, &mut input, &mut output, at(2), &options);
         drop(input);

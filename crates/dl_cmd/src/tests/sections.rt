@@ -97,7 +97,7 @@ fn assert_check(
     }
 }
 
-fn counts(units: u64, skipped: u64, sequences: u64, rows: u64) -> Result<Summary, RunFault> {
+pub fn counts(units: u64, skipped: u64, sequences: u64, rows: u64) -> Result<Summary, RunFault> {
     Ok(Summary {
         units,
         skipped,

@@ -164,3 +164,42 @@ impl Read for Hoarder {
         Ok(1)
     }
 }
+
+/// Gives bytes one at a time, and takes all memory before the byte at `at`.
+#[derive(Drop)]
+pub struct Hoarding<'a> {
+    alloc: Global,
+    bytes: &'a [u8],
+    at: usize,
+    given: usize,
+    blocks: Vec<Vec<u8>>,
+}
+
+impl<'a> Hoarding<'a> {
+    pub fn new(alloc: Global, bytes: &'a [u8], at: usize) -> Hoarding<'a> {
+        Hoarding {
+            alloc,
+            bytes,
+            at,
+            given: 0,
+            blocks: Vec::new(alloc),
+        }
+    }
+}
+
+impl Read for Hoarding<'_> {
+    fn read(&mut self, buf: &mut [u8]) -> io::Result<usize> {
+        let Some(byte) = self.bytes.get(self.given) else {
+            return Ok(0);
+        };
+        if self.given == self.at {
+            self.blocks = hoard_but(self.alloc, 1)?;
+        }
+        match buf.first_mut() {
+            Some(first) => *first = *byte,
+            None => return Ok(0),
+        }
+        self.given = self.given.saturating_add(1);
+        Ok(1)
+    }
+}

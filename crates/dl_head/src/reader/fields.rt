@@ -14,11 +14,13 @@ use crate::reader::{HeadReader, Phase};
 use dl_num::Number;
 
 impl HeadReader {
-    ghost use Rattle.dl_head.specs.Place.{At, Follows, SameCounts};
+    ghost use Rattle.dl_head.specs.Place.{At, Follows, Keeps, SameCounts, held_cells};
 
     pub(super) fn byte_field(&mut self, field: ByteField, byte: u8) -> Next
         requires { self.old.phase ≡ phase.Byte field }
-        ensures { Follows self.old byte result self.new }
+        ensures follows { Follows self.old byte result self.new }
+        ensures kept { Keeps self.old result self.new }
+        ensures cells { held_cells self.new ≡ held_cells self.old }
     {
         if let Some(kind) = field.objection(byte) {
             return Next::Refuses(kind);
@@ -33,6 +35,7 @@ impl HeadReader {
         requires good { objection (byte_kind field) byte ≡ None }
         ensures counts { SameCounts self.old self.new }
         ensures at { (items : List Item) (rest : List ℕ) → At self.old items rest → At self.new (items ++ number_is byte ∷ []) [] }
+        ensures cells { held_cells self.new ≡ held_cells self.old }
     {
         match field {
             ByteField::AddressSize => {
@@ -72,7 +75,9 @@ impl HeadReader {
 
     pub(super) fn opcode_length(&mut self, byte: u8) -> Next
         requires { self.old.phase ≡ phase.OpcodeLength }
-        ensures { Follows self.old byte result self.new }
+        ensures follows { Follows self.old byte result self.new }
+        ensures kept { Keeps self.old result self.new }
+        ensures cells { held_cells self.new ≡ held_cells self.old }
     {
         let opcode_base = self.params.opcode_base;
         let opcode = self.params.lengths.len() + 1;

@@ -1,8 +1,9 @@
 //! The lengths and the version of a unit: its fields up to header_length. Sections 6.2.4 and 7.4.
 
-ghost use Rattle.std.specs.Prelude.{◌≡◌, ◌≤◌, ◌∷◌, []};
+ghost use Rattle.std.specs.Prelude.{◌≡◌, ◌+◌, ◌≤◌, ◌∷◌, []};
 ghost use Rattle.dl_num.specs.Fixed.{fixed};
 ghost use Rattle.dl_head.specs.Layout.{initial_size as initial_size_of, fixed_part as fixed_part_of};
+ghost use Rattle.dl_head.specs.TableCells.{table_cells};
 
 use crate::fault::FaultKind;
 use crate::form::Format;
@@ -36,11 +37,13 @@ fn fixed_part(format: Format) -> u64
 
 impl HeadReader {
     ghost use Rattle.dl_head.specs.declared.reader.Phase.TheVariants as phase;
-    ghost use Rattle.dl_head.specs.Place.{Follows, Starts, StartsHeader};
+    ghost use Rattle.dl_head.specs.Place.{Follows, Keeps, Starts, StartsHeader, held_cells};
 
     pub(super) fn unit_length(&mut self, number: Number, byte: u8) -> Next
         requires { self.old.phase ≡ phase.UnitLength number }
-        ensures { Follows self.old byte result self.new }
+        ensures follows { Follows self.old byte result self.new }
+        ensures kept { Keeps self.old result self.new }
+        ensures cells { held_cells self.new ≡ held_cells self.old }
     {
         match number.push(self.order, byte) {
             Err(number) => {
@@ -58,7 +61,9 @@ impl HeadReader {
 
     pub(super) fn long_unit_length(&mut self, number: Number, byte: u8) -> Next
         requires { self.old.phase ≡ phase.LongUnitLength number }
-        ensures { Follows self.old byte result self.new }
+        ensures follows { Follows self.old byte result self.new }
+        ensures kept { Keeps self.old result self.new }
+        ensures cells { held_cells self.new ≡ held_cells self.old }
     {
         match number.push(self.order, byte) {
             Err(number) => {
@@ -70,8 +75,11 @@ impl HeadReader {
     }
 
     fn start_unit(&mut self, format: Format, length: u64) -> Next
-        requires { self.old.params.lengths.items ≡ [] }
-        ensures { Starts self.old format length result self.new }
+        requires no_lengths { self.old.params.lengths.items ≡ [] }
+        requires no_tables { table_cells self.old.directories + table_cells self.old.files ≡ 0 }
+        ensures follows { Starts self.old format length result self.new }
+        ensures kept { Keeps self.old result self.new }
+        ensures cells { held_cells self.new ≡ held_cells self.old }
     {
         if length > UNIT_LENGTH_LIMIT {
             return Next::Refuses(FaultKind::UnitTooLong);
@@ -85,7 +93,9 @@ impl HeadReader {
 
     pub(super) fn version(&mut self, byte: u8) -> Next
         requires { self.old.phase ≡ phase.Version }
-        ensures { Follows self.old byte result self.new }
+        ensures follows { Follows self.old byte result self.new }
+        ensures kept { Keeps self.old result self.new }
+        ensures cells { held_cells self.new ≡ held_cells self.old }
     {
         self.phase = Phase::VersionEnd(byte);
         Next::Within
@@ -93,7 +103,9 @@ impl HeadReader {
 
     pub(super) fn version_end(&mut self, first: u8, byte: u8) -> Next
         requires { self.old.phase ≡ phase.VersionEnd first }
-        ensures { Follows self.old byte result self.new }
+        ensures follows { Follows self.old byte result self.new }
+        ensures kept { Keeps self.old result self.new }
+        ensures cells { held_cells self.new ≡ held_cells self.old }
     {
         let version = version_of(self.order, first, byte);
         if version == 5 {
@@ -106,7 +118,9 @@ impl HeadReader {
 
     pub(super) fn header_length(&mut self, number: Number, byte: u8) -> Next
         requires { self.old.phase ≡ phase.HeaderLength number }
-        ensures { Follows self.old byte result self.new }
+        ensures follows { Follows self.old byte result self.new }
+        ensures kept { Keeps self.old result self.new }
+        ensures cells { held_cells self.new ≡ held_cells self.old }
     {
         match number.push(self.order, byte) {
             Err(number) => {
@@ -118,8 +132,11 @@ impl HeadReader {
     }
 
     fn start_header(&mut self, length: u64) -> Next
-        requires { self.old.params.lengths.items ≡ [] }
-        ensures { StartsHeader self.old length result self.new }
+        requires no_lengths { self.old.params.lengths.items ≡ [] }
+        requires no_tables { table_cells self.old.directories + table_cells self.old.files ≡ 0 }
+        ensures follows { StartsHeader self.old length result self.new }
+        ensures kept { Keeps self.old result self.new }
+        ensures cells { held_cells self.new ≡ held_cells self.old }
     {
         let format = self.params.format;
         if length > self.unit_length.saturating_sub(fixed_part(format)) {

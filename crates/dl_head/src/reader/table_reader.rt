@@ -1,9 +1,9 @@
 //! A table of directories or files, byte by byte: its pairs and the count of its entries. Section
 //! 6.2.4.1.
 
-ghost use Rattle.std.specs.Prelude.{◌≡◌, ◌+◌, ◌≤◌, Ok, length};
+ghost use Rattle.std.specs.Prelude.{◌≡◌, ◌+◌, ◌-◌, ◌^◌, ◌≤◌, Ok, length, max, min};
 ghost use Rattle.dl_head.specs.Held.{values_end};
-ghost use Rattle.dl_head.specs.TableStep.{row_end, text_start, bytes_due};
+ghost use Rattle.dl_head.specs.TableStep.{pairs_due, row_end, text_start, bytes_due};
 
 use crate::fault::FaultKind;
 use crate::form::{Form, Format};
@@ -29,6 +29,25 @@ pub(crate) enum TablePhase {
     Whole,
 }
 
+impl TablePhase {
+    ghost use Rattle.dl_head.specs.TablePlace.{BeginsPair};
+
+    /// The next pair, so many being left, or the count of the entries.
+    fn of_pairs(left: u8) -> TablePhase
+        ensures due { pairs_due result ≡ left }
+        ensures no_row { row_end result ≡ 0 }
+        ensures no_text { text_start result ≡ 0 }
+        ensures no_block { bytes_due result ≡ 0 }
+        ensures begins { BeginsPair left result }
+    {
+        if left == 0 {
+            TablePhase::EntryCount(Uleb::new())
+        } else {
+            TablePhase::ContentCode(left, Uleb::new())
+        }
+    }
+}
+
 /// A table whose bytes come one at a time. The bytes of a text stand in the pool before the text is
 /// among the values, those of a block after it.
 #[derive(Drop)]
@@ -37,6 +56,7 @@ pub(crate) struct TableReader {
     pub(super) pairs: Vec<Pair>,
     pub(super) values: Vec<Held>,
     pub(super) pool: Vec<u8>,
+    ghost few: { pairs_due phase + length pairs.items ≤ 255 },
     ghost in_row: { row_end phase ≤ length pairs.items },
     ghost begun: { text_start phase ≤ length pool.items },
     ghost within: { values_end values.items ≤ length pool.items + bytes_due phase },
@@ -44,11 +64,13 @@ pub(crate) struct TableReader {
 
 impl TableReader {
     ghost use Rattle.dl_head.specs.declared.reader.table_reader.TablePhase.TheVariants as phase;
-    ghost use Rattle.dl_head.specs.TablePlace.{TableFollows, BeginsPair, TakesContent, TakesForm, TakesCount, PushFollows, ValueFollows};
+    ghost use Rattle.dl_head.specs.TablePlace.{IsFresh, reader_cells, Takes, TableFollows, TakesContent, TakesForm, TakesCount, KeepsCells, OneCell, PushFollows, ValueFollows};
     ghost use Rattle.dl_num.specs.declared.fixed.Order.{Order};
 
     /// No byte yet. It takes no memory.
-    pub fn new(alloc: Global) -> TableReader {
+    pub fn new(alloc: Global) -> TableReader
+        ensures { IsFresh result }
+    {
         TableReader {
             phase: TablePhase::PairCount,
             pairs: Vec::new(alloc),
@@ -58,12 +80,16 @@ impl TableReader {
     }
 
     /// How many cells the table holds so far; 2^64 - 1 where there are more.
-    pub fn cells(&self) -> u64 {
+    pub fn cells(&self) -> u64
+        ensures { result ≡ min (reader_cells self.now) (2 ^ 64 - 1) }
+    {
         cells_of(&self.pairs, &self.values, &self.pool)
     }
 
     /// The table, where its last entry is complete; the reader is then as new.
-    pub fn take(&mut self, alloc: Global, format: Format) -> Option<Table> {
+    pub fn take(&mut self, alloc: Global, format: Format) -> Option<Table>
+        ensures { Takes self.old format result self.new }
+    {
         match self.phase {
             TablePhase::Whole => {
                 let TableReader {
@@ -94,27 +120,17 @@ impl TableReader {
 
     fn pair_count(&mut self, byte: u8) -> Next
         requires { self.old.phase ≡ phase.PairCount }
-        ensures { TableFollows self.old byte result self.new }
+        ensures made { TableFollows self.old byte result self.new }
+        ensures cells { KeepsCells self.old result self.new }
     {
-        self.begin_pair(byte);
+        self.phase = TablePhase::of_pairs(byte);
         Next::Ends
-    }
-
-    /// Goes on to the next pair, so many being left, or to the count of the entries.
-    fn begin_pair(&mut self, left: u8)
-        requires { values_end self.old.values.items ≤ length self.old.pool.items }
-        ensures { BeginsPair self.old left self.new }
-    {
-        if left == 0 {
-            self.phase = TablePhase::EntryCount(Uleb::new());
-        } else {
-            self.phase = TablePhase::ContentCode(left, Uleb::new());
-        }
     }
 
     fn content_code(&mut self, left: u8, mut code: Uleb, byte: u8) -> Next
         requires { self.old.phase ≡ phase.ContentCode left code }
-        ensures { TableFollows self.old byte result self.new }
+        ensures made { TableFollows self.old byte result self.new }
+        ensures cells { KeepsCells self.old result self.new }
     {
         match code.push(byte) {
             None => {
@@ -128,8 +144,10 @@ impl TableReader {
 
     /// Goes on to the form code after a content code that is complete.
     fn take_content(&mut self, left: u8, content: u64) -> Next
-        requires { values_end self.old.values.items ≤ length self.old.pool.items }
-        ensures { TakesContent self.old left content result self.new }
+        requires few { max 1 left + length self.old.pairs.items ≤ 255 }
+        requires whole { values_end self.old.values.items ≤ length self.old.pool.items }
+        ensures made { TakesContent self.old left content result self.new }
+        ensures cells { KeepsCells self.old result self.new }
     {
         self.phase = TablePhase::FormCode(left, content, Uleb::new());
         Next::Ends
@@ -137,7 +155,8 @@ impl TableReader {
 
     fn form_code(&mut self, left: u8, content: u64, mut code: Uleb, byte: u8) -> Next
         requires { self.old.phase ≡ phase.FormCode left content code }
-        ensures { TableFollows self.old byte result self.new }
+        ensures made { TableFollows self.old byte result self.new }
+        ensures cells { OneCell self.old result self.new }
     {
         match code.push(byte) {
             None => {
@@ -151,8 +170,10 @@ impl TableReader {
 
     /// Enters the pair of a form code that is complete.
     fn take_form(&mut self, left: u8, content: u64, code: u64) -> Next
-        requires { values_end self.old.values.items ≤ length self.old.pool.items }
-        ensures { TakesForm self.old left content code result self.new }
+        requires few { max 1 left + length self.old.pairs.items ≤ 255 }
+        requires whole { values_end self.old.values.items ≤ length self.old.pool.items }
+        ensures made { TakesForm self.old left content code result self.new }
+        ensures cells { OneCell self.old result self.new }
     {
         let Some(form) = Form::from_code(code) else {
             return Next::Refuses(FaultKind::UnknownForm(code));
@@ -160,13 +181,14 @@ impl TableReader {
         if self.pairs.push(Pair { content, form }).is_err() {
             return Next::NoMemory;
         }
-        self.begin_pair(left.saturating_sub(1));
+        self.phase = TablePhase::of_pairs(left.saturating_sub(1));
         Next::Ends
     }
 
     fn entry_count(&mut self, mut count: Uleb, format: Format, byte: u8) -> Next
         requires { self.old.phase ≡ phase.EntryCount count }
-        ensures { (order : Order) → ValueFollows order format self.old byte result self.new }
+        ensures made { (order : Order) → ValueFollows order format self.old byte result self.new }
+        ensures cells { KeepsCells self.old result self.new }
     {
         match count.push(byte) {
             None => {
@@ -180,7 +202,8 @@ impl TableReader {
     /// Begins the entries of a count that is complete. Without pairs it has to be 0.
     fn take_count(&mut self, count: Result<u64, LebRange>, format: Format) -> Next
         requires { values_end self.old.values.items ≤ length self.old.pool.items }
-        ensures { TakesCount self.old count format result self.new }
+        ensures made { TakesCount self.old count format result self.new }
+        ensures cells { KeepsCells self.old result self.new }
     {
         match count {
             Ok(count) => self.begin_entries(count, format),
@@ -196,7 +219,8 @@ impl TableReader {
     /// Begins so many entries.
     fn begin_entries(&mut self, count: u64, format: Format) -> Next
         requires { values_end self.old.values.items ≤ length self.old.pool.items }
-        ensures { TakesCount self.old (Ok count) format result self.new }
+        ensures made { TakesCount self.old (Ok count) format result self.new }
+        ensures cells { KeepsCells self.old result self.new }
     {
         if count == 0 {
             self.phase = TablePhase::Whole;

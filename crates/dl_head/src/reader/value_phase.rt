@@ -59,11 +59,12 @@ pub(crate) enum ValuePhase {
 
 impl ValuePhase {
     ghost use Rattle.dl_head.specs.TablePlace.{ValueAt};
-    ghost use Rattle.dl_head.specs.TableStep.{value_start, value_due};
+    ghost use Rattle.dl_head.specs.TableStep.{value_start, value_due, value_filled};
 
     /// No byte yet of a value of the form, where the next byte of the pool has this place.
     pub fn new(form: Form, format: Format, pool_len: usize) -> ValuePhase
         ensures begun { value_start result ≤ pool_len }
+        ensures filled { value_filled result pool_len ≡ pool_len }
         ensures none_due { value_due result ≡ 0 }
         ensures at { (pool : List ℕ) → length pool ≡ pool_len → ValueAt format form result pool [] }
     {

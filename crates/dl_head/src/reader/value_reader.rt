@@ -2,7 +2,7 @@
 
 ghost use Rattle.std.specs.Prelude.{◌≡◌, ◌+◌, ◌<◌, ◌≤◌, ◌^◌, ℕ, List, length};
 ghost use Rattle.dl_num.specs.declared.fixed.Order.{Order};
-ghost use Rattle.dl_head.specs.Held.{held_end, values_end, value_held};
+ghost use Rattle.dl_head.specs.Held.{cells_held, held_end, values_end, value_held};
 ghost use Rattle.dl_head.specs.TablePlace.{number_value};
 
 use crate::fault::FaultKind;
@@ -17,7 +17,7 @@ use dl_num::{LebRange, Number, Order, Uleb};
 impl TableReader {
     ghost use Rattle.dl_head.specs.declared.reader.table_reader.TablePhase.TheVariants as phase;
     ghost use Rattle.dl_head.specs.declared.reader.value_phase.ValuePhase.TheVariants as value;
-    ghost use Rattle.dl_head.specs.TablePlace.{GoesOn, Enters, BeginsBlock, ValueFollows};
+    ghost use Rattle.dl_head.specs.TablePlace.{reader_cells, GoesOn, Enters, BeginsBlock, OneCell, EachCell, ValueFollows, ValueAdds};
 
     /// Takes the next byte of a value.
     pub(super) fn value(
@@ -29,7 +29,8 @@ impl TableReader {
         byte: u8,
     ) -> Next
         requires { self.old.phase ≡ phase.Value at value }
-        ensures { ValueFollows order format self.old byte result self.new }
+        ensures made { ValueFollows order format self.old byte result self.new }
+        ensures cells { ValueAdds order format self.old byte result self.new }
     {
         match value {
             ValuePhase::Number(form, number) => self.number(at, form, number, order, format, byte),
@@ -52,7 +53,8 @@ impl TableReader {
         byte: u8,
     ) -> Next
         requires { self.old.phase ≡ phase.Value at (value.Number form number) }
-        ensures { ValueFollows order format self.old byte result self.new }
+        ensures made { ValueFollows order format self.old byte result self.new }
+        ensures cells { OneCell self.old result self.new }
     {
         match number.push(order, byte) {
             Err(number) => {
@@ -65,7 +67,8 @@ impl TableReader {
 
     fn leb(&mut self, at: Cursor, mut number: Uleb, format: Format, byte: u8) -> Next
         requires { self.old.phase ≡ phase.Value at (value.Leb number) }
-        ensures { (order : Order) → ValueFollows order format self.old byte result self.new }
+        ensures made { (order : Order) → ValueFollows order format self.old byte result self.new }
+        ensures cells { OneCell self.old result self.new }
     {
         match number.push(byte) {
             None => {
@@ -79,7 +82,8 @@ impl TableReader {
 
     fn data16(&mut self, at: Cursor, sixteen: Sixteen, format: Format, byte: u8) -> Next
         requires { self.old.phase ≡ phase.Value at (value.Data16 sixteen) }
-        ensures { (order : Order) → ValueFollows order format self.old byte result self.new }
+        ensures made { (order : Order) → ValueFollows order format self.old byte result self.new }
+        ensures cells { OneCell self.old result self.new }
     {
         match sixteen.push(byte) {
             Err(sixteen) => {
@@ -92,7 +96,8 @@ impl TableReader {
 
     fn text(&mut self, at: Cursor, start: usize, format: Format, byte: u8) -> Next
         requires { self.old.phase ≡ phase.Value at (value.Text start) }
-        ensures { (order : Order) → ValueFollows order format self.old byte result self.new }
+        ensures made { (order : Order) → ValueFollows order format self.old byte result self.new }
+        ensures cells { EachCell self.old result self.new }
     {
         if byte == 0 {
             let len = self.pool.len() - start;
@@ -113,7 +118,8 @@ impl TableReader {
         byte: u8,
     ) -> Next
         requires { self.old.phase ≡ phase.Value at (value.BlockLength number) }
-        ensures { ValueFollows order format self.old byte result self.new }
+        ensures made { ValueFollows order format self.old byte result self.new }
+        ensures cells { ValueAdds order format self.old byte result self.new }
     {
         match number.push(order, byte) {
             Err(number) => {
@@ -126,7 +132,8 @@ impl TableReader {
 
     fn leb_block_length(&mut self, at: Cursor, mut number: Uleb, format: Format, byte: u8) -> Next
         requires { self.old.phase ≡ phase.Value at (value.LebBlockLength number) }
-        ensures { (order : Order) → ValueFollows order format self.old byte result self.new }
+        ensures made { (order : Order) → ValueFollows order format self.old byte result self.new }
+        ensures cells { (order : Order) → ValueAdds order format self.old byte result self.new }
     {
         match number.push(byte) {
             None => {
@@ -145,6 +152,7 @@ impl TableReader {
         requires whole { values_end self.old.values.items ≤ length self.old.pool.items }
         ensures small { size < 2 ^ 64 }
         ensures begins { BeginsBlock self.old at size format result self.new }
+        ensures cells { EachCell self.old result self.new }
     {
         let start = self.pool.len();
         let len = size as usize;
@@ -165,7 +173,8 @@ impl TableReader {
 
     fn block(&mut self, at: Cursor, left: u64, format: Format, byte: u8) -> Next
         requires { self.old.phase ≡ phase.Value at (value.Block left) }
-        ensures { (order : Order) → ValueFollows order format self.old byte result self.new }
+        ensures made { (order : Order) → ValueFollows order format self.old byte result self.new }
+        ensures cells { EachCell self.old result self.new }
     {
         if self.pool.push(byte).is_err() {
             return Next::NoMemory;
@@ -184,7 +193,8 @@ impl TableReader {
         requires in_row { at.column < length self.old.pairs.items }
         requires whole { values_end self.old.values.items ≤ length self.old.pool.items }
         requires held { held_end held ≤ length self.old.pool.items }
-        ensures { Enters self.old at held format result self.new }
+        ensures made { Enters self.old at held format result self.new }
+        ensures cells { OneCell self.old result self.new }
     {
         if self.values.push(held).is_err() {
             return Next::NoMemory;
@@ -197,7 +207,8 @@ impl TableReader {
     fn end_value(&mut self, at: Cursor, format: Format)
         requires in_row { at.column < length self.old.pairs.items }
         requires whole { values_end self.old.values.items ≤ length self.old.pool.items }
-        ensures { GoesOn self.old.pairs.items self.old.pool.items self.old.values.items (at.column + 1) at.left format self.new }
+        ensures goes { GoesOn self.old.pairs.items self.old.pool.items self.old.values.items (at.column + 1) at.left format self.new }
+        ensures cells { reader_cells self.new ≡ reader_cells self.old }
     {
         match at.next(self.pairs.len()) {
             Some(at) => self.begin_value(at, format),
@@ -209,7 +220,8 @@ impl TableReader {
     pub(super) fn begin_value(&mut self, at: Cursor, format: Format)
         requires in_row { at.column < length self.old.pairs.items }
         requires whole { values_end self.old.values.items ≤ length self.old.pool.items }
-        ensures { GoesOn self.old.pairs.items self.old.pool.items self.old.values.items at.column at.left format self.new }
+        ensures goes { GoesOn self.old.pairs.items self.old.pool.items self.old.values.items at.column at.left format self.new }
+        ensures cells { reader_cells self.new ≡ reader_cells self.old }
     {
         let form = self.pairs[at.column].form;
         let value = ValuePhase::new(form, format, self.pool.len());
@@ -220,6 +232,7 @@ impl TableReader {
 /// The number or offset of a form.
 fn held_number(form: Form, number: u64) -> Held
     ensures end { held_end result ≡ 0 }
+    ensures cell { cells_held result ≡ 1 }
     ensures small { number < 2 ^ 64 }
     ensures value { (pool : List ℕ) → value_held pool result ≡ number_value form number }
 {

@@ -8,5 +8,5 @@ returns-in-Err g c = record {
       let some = c.in-Err.ensures.part in
       let rest = ap length h.rest in
       let within = h.first.within in
-      (omega (arith, length-drop {A = ℕ}), HasOut-pending start _ _ text _ _ _ h c.in-Err.ensures.err);
+      (omega (arith, length-drop {A = ℕ}), HasOut-pending start _ _ text _ _ _ h (record { within = omega arith; written = c.in-Err.ensures.err }));
 }

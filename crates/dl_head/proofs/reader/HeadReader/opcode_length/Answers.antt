@@ -4,28 +4,28 @@ use Rattle.dl_head.specs.Layout.{number_is, judged, objection, opcode_length}
 use Rattle.dl_head.proofs.Places.{at_phase, late_on, length_judged, next_length, at_lengths, some_left, next_at}
 use Rattle.dl_head.proofs.reader.HeadReader.opcode_length.Goals as goal
 
-pub returns-then-is_wrong_length : goal.returns-then-is_wrong_length
-returns-then-is_wrong_length c = record {
+pub returns-then-is_wrong_length-clause-follows : goal.returns-then-is_wrong_length-clause-follows
+returns-then-is_wrong_length-clause-follows c = record {
   made = λ items rest at.
       let a = at_phase c.args.self.now _ items rest c.requires at in
       let p = c.args.self.now.params in
-      length_judged c.args.self.now.order p items rest c.args.byte a.0.follows (some_left c.args.self.now c.requires) a.1
+      length_judged c.args.self.now.order p items rest c.args.byte a.0.behind.follows (some_left c.args.self.now c.requires) a.1
       ∙ ap (λ (n : ℕ). judged (objection (opcode_length (n + 1)) c.args.byte) c.args.byte) (sym c.len-opcode.ensures.value)
       ∙ ap (λ (o : Option FaultKind). judged o c.args.byte) c.if-is_wrong_length.ensures.value;
-  counts = record { order = refl; start = refl; taken = refl };
+  counts = record { order = refl; start = refl; taken = refl; header = refl };
 }
 
-pub returns : goal.returns
-returns c = record {
+pub returns-clause-follows : goal.returns-clause-follows
+returns-clause-follows c = record {
   made = λ items rest at.
       let a = at_phase c.args.self.now _ items rest c.requires at in
       let p = c.args.self.now.params in (
         number_is c.args.byte,
-        length_judged c.args.self.now.order p items rest c.args.byte a.0.follows (some_left c.args.self.now c.requires) a.1
+        length_judged c.args.self.now.order p items rest c.args.byte a.0.behind.follows (some_left c.args.self.now c.requires) a.1
             ∙ ap (λ (n : ℕ). judged (objection (opcode_length (n + 1)) c.args.byte) c.args.byte) (sym c.len-opcode.ensures.value)
             ∙ ap (λ (o : Option FaultKind). judged o c.args.byte) c.if-is_wrong_length.ensures.value,
         at_lengths _ _ _ (late_on c.args.self.now _ items _ _ _ a.0 (next_length p c.args.byte _ (some_left c.args.self.now c.requires) c.push.ensures.items) refl refl refl a.0.fresh)
             (c.length_or_table-self.ensures.next ∙ next_at (c.len-opcode.result + 1) (length c.push.new.self.items) p.opcode_base (omega (arith, c.len-opcode.ensures.value, ap length c.push.ensures.items, length-append p.lengths.items (c.args.byte ∷ [])))),
       );
-  counts = record { order = refl; start = refl; taken = refl };
+  counts = record { order = refl; start = refl; taken = refl; header = refl };
 }

@@ -2,8 +2,8 @@ use Rattle.std.proofs.Common.{ℕ, Some, refl, ap, arith}
 use Rattle.dl_head.proofs.Starts.{header_length_late}
 use Rattle.dl_head.proofs.reader.HeadReader.start_header.Goals as goal
 
-pub returns : goal.returns
-returns c = (
+pub returns-clause-follows : goal.returns-clause-follows
+returns-clause-follows c = (
   omega (arith, c.saturating_sub.ensures, c.fixed_part.ensures, c.if-length-saturating_sub.false),
   λ items early. (
     header_length_late c.args.self.now _ items c.args.length early refl refl
@@ -11,5 +11,5 @@ returns c = (
     refl,
     early.before.no_lengths,
   ),
-  record { order = refl; start = refl; taken = refl },
+  record { order = refl; start = refl; taken = refl; header = refl },
 )

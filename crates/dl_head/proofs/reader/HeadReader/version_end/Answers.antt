@@ -1,11 +1,11 @@
 use Rattle.std.proofs.Common.{refl, ap}
 use Rattle.dl_head.specs.Layout.{number_is}
 use Rattle.dl_head.proofs.Places.{at_phase}
-use Rattle.dl_head.proofs.Starts.{version_spelt, foreign_follows, items_on}
+use Rattle.dl_head.proofs.Starts.{version_spelt, items_on}
 use Rattle.dl_head.proofs.reader.HeadReader.version_end.Goals as goal
 
-pub returns-then-version-eq5 : goal.returns-then-version-eq5
-returns-then-version-eq5 c = record {
+pub returns-then-version-eq5-clause-follows : goal.returns-then-version-eq5-clause-follows
+returns-then-version-eq5-clause-follows c = record {
   made = λ items rest at.
       let a = at_phase c.args.self.now _ items rest c.requires at in (
         number_is c.version_of-version.result,
@@ -20,16 +20,24 @@ returns-then-version-eq5 c = record {
           refl,
         ),
       );
-  counts = record { order = refl; start = refl; taken = refl };
+  counts = record { order = refl; start = refl; taken = refl; header = refl };
 }
 
-pub returns-else-version-eq5 : goal.returns-else-version-eq5
-returns-else-version-eq5 c = record {
+pub returns-else-version-eq5-clause-follows : goal.returns-else-version-eq5-clause-follows
+returns-else-version-eq5-clause-follows c = record {
   made = λ items rest at.
       let a = at_phase c.args.self.now _ items rest c.requires at in (
         number_is c.version_of-version.result,
         version_spelt c.args.self.now items rest c.args.first c.args.byte _ a.0.items_are a.1 c.version_of-version.ensures,
-        foreign_follows c.args.self.now items _ a.0.items_are c.if-version-eq5.false,
+        (
+          record {
+            items_are = items_on items _ _ _ a.0.items_are refl;
+            end = a.0.end;
+            overrun = a.0.overrun;
+            before = record { no_lengths = a.0.before.no_lengths; fresh = a.0.before.fresh };
+          },
+          c.if-version-eq5.false,
+        ),
       );
-  counts = record { order = refl; start = refl; taken = refl };
+  counts = record { order = refl; start = refl; taken = refl; header = refl };
 }

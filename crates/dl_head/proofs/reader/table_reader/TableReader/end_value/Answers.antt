@@ -3,12 +3,12 @@ use Rattle.dl_head.specs.TablePlace.{Moves}
 use Rattle.dl_head.proofs.ValueLemmas.{moved, ended}
 use Rattle.dl_head.proofs.reader.table_reader.TableReader.end_value.Goals as goal
 
-pub returns-in-Some : goal.returns-in-Some
-returns-in-Some c = λ order next layout entries before holds size is.
+pub returns-in-Some-clause-goes : goal.returns-in-Some-clause-goes
+returns-in-Some-clause-goes c = λ order next layout entries before holds summed size is.
     let moves = subst (λ (n : ℕ). Moves c.args.at n (Some c.in-Some.at)) (c.len.ensures ∙ c.args.self.now.pairs.ok.0) c.in-Some.ensures.moves in
-    moved order c.args.self.now.pairs.items c.args.self.now.pool.items c.args.self.now.values.items c.begin_value.new.self c.args.at c.in-Some.at c.args.format next layout entries before moves c.requires.in_row c.begin_value.ensures holds size is
+    moved order c.args.self.now.pairs.items c.args.self.now.pool.items c.args.self.now.values.items c.begin_value.new.self c.args.at c.in-Some.at c.args.format next layout entries before moves c.requires.in_row c.begin_value.ensures.goes holds summed size is
 
-pub returns-in-None : goal.returns-in-None
-returns-in-None c = λ order next layout entries before holds size is.
+pub returns-in-None-clause-goes : goal.returns-in-None-clause-goes
+returns-in-None-clause-goes c = λ order next layout entries before holds summed size is.
     let moves = subst (λ (n : ℕ). Moves c.args.at n None) (c.len.ensures ∙ c.args.self.now.pairs.ok.0) c.in-None.ensures.moves in
-    (ended _ c.args.at c.args.format next layout entries before moves c.requires.in_row holds size is, refl)
+    (ended _ c.args.at c.args.format next layout entries before moves c.requires.in_row holds summed size is, refl)

@@ -1,0 +1,10 @@
+pub mod GatherLemmas
+pub mod LengthLemmas
+pub mod ProgramLemmas
+pub mod ReadAgain
+pub mod RowRuns
+pub mod RunLemmas
+pub mod StepLemmas
+pub mod UnitLemmas
+pub mod WorkedRows
+pub mod WrittenOperations

@@ -1,0 +1,10 @@
+-- The program of the rows so far is out, but for what is held.
+use Rattle.std.proofs.Common.{ℕ, List, Option}
+use Rattle.dl_head.specs.Writing.{IsOut}
+use Rattle.dl_emit.proofs.GatherLemmas.{Gone}
+use Rattle.dl_emit.proofs.unit.write_program.Given as goal
+
+abbrev pub invariant-loop-row : goal.invariant-loop-row
+invariant-loop-row g l =
+    (start : Option (List ℕ)) (text : List ℕ) → IsOut start (g.W.Write.contents l.initial.output) text l.initial.out
+    → Gone l.order l.params l.rows start (g.W.Write.contents l.output) text l.held.items l.out l.row-index l.before

@@ -1,0 +1,14 @@
+//! Units of a line table of DWARF 5, written from their header and rows. Section 6.2.
+#![tactic(auto)]
+
+mod bytes;
+mod fault;
+pub mod laws;
+mod program;
+mod unit;
+
+pub use fault::EmitFault;
+pub use unit::{measure, write_unit};
+
+#[cfg(test)]
+mod tests;

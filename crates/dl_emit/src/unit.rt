@@ -1,0 +1,119 @@
+//! Units, measured and written. Section 6.2.4.
+
+ghost use Rattle.std.specs.Prelude.{◌≡◌, ◌<◌, ◌≤◌, ◌+◌, ◌^◌, ◌-◌, length, min, None, Some, IsTrue, IfOk, IfErr, OnOk};
+ghost use Rattle.dl_head.specs.Built.{IsUsable};
+ghost use Rattle.dl_head.specs.Writing.{Writes};
+ghost use Rattle.dl_emit.specs.WrittenUnit.{is_in_range as is_in_range_of, rows_refusal, program_bytes, program_len as program_len_of};
+ghost use Rattle.dl_emit.specs.Gathered.{Gathers};
+ghost use Rattle.dl_emit.specs.Writing.{Measures, WritesUnit};
+
+use crate::bytes::{Bytes, HELD};
+use crate::fault::EmitFault;
+use crate::program::{ROW, kept, put_row};
+use dl_head::counted::put;
+use dl_head::{HeadWrite, Header, Params, header_len, write_header};
+use dl_num::Order;
+use dl_rows::Row;
+use std::io::Write;
+
+/// How many bytes `write_unit` writes for this header and these rows, or why it writes none.
+pub fn measure(header: &Header, rows: &[Row]) -> Result<u64, EmitFault>
+    ensures { Measures header.now rows.now result }
+{
+    let program_len = program_len(header.params(), rows)?;
+    match header_len(header, program_len) {
+        Ok(len) => Ok(len + program_len),
+        Err(_) => Err(EmitFault::TooLong),
+    }
+}
+
+/// Writes a unit of this header and these rows, and answers how many bytes they are.
+///
+/// Before it writes anything it answers, in this order: `OpcodeBase` where opcode_base isn't 13,
+/// `RowRange` with the least place of a row whose op_index isn't below the maximum operations or
+/// whose address isn't below 2^(8 * address_size), and `TooLong` where unit_length would be above
+/// 0xffffffef in the 32-bit format or above 2^40 in the 64-bit format. After a write that failed
+/// exactly the first `out` bytes are out.
+pub fn write_unit<W: Write>(
+    output: &mut W,
+    order: Order,
+    header: &Header,
+    rows: &[Row],
+) -> Result<u64, EmitFault>
+    ensures { WritesUnit order header.now rows.now
+        (W.contents output.old) (W.contents output.new) result }
+{
+    let program_len = program_len(header.params(), rows)?;
+    let out = write_header(output, order, header, program_len)?;
+    Ok(write_program(output, out, order, header.params(), rows)?)
+}
+
+/// Whether the row can be one of a unit with these params.
+fn is_in_range(params: &Params, row: &Row) -> bool
+    requires { IsUsable params.now }
+    ensures { result ≡ is_in_range_of params.now row.now }
+{
+    let fits = params.address_size >= 8 || row.address < 1 << (8 * params.address_size);
+    row.op_index < params.maximum_operations_per_instruction && fits
+}
+
+/// How many bytes the program of these rows has; 2^64 - 1 where there are more.
+fn program_len(params: &Params, rows: &[Row]) -> Result<u64, EmitFault>
+    requires { IsUsable params.now }
+    ensures ok { OnOk result (rows_refusal params.now rows.now ≡ None) }
+    ensures len { IfOk result (λ n. n ≡ min (program_len_of params.now rows.now) (2 ^ 64 - 1)) }
+    ensures err { IfErr result (λ fault. rows_refusal params.now rows.now ≡ Some fault) }
+{
+    if params.opcode_base != 13 {
+        return Err(EmitFault::OpcodeBase);
+    }
+    let mut program = Bytes::new();
+    let mut before = None;
+    let mut len = 0u64;
+    for (i, row) in rows.iter().enumerate() {
+        if !is_in_range(params, row) {
+            return Err(EmitFault::RowRange(i));
+        }
+        program.clear();
+        put_row(&mut program, Order::Little, params, before, row);
+        len = len.saturating_add(program.len() as u64);
+        before = kept(row);
+    }
+    Ok(len)
+}
+
+/// Writes the program of these rows on top of the `out` bytes that are out.
+fn write_program<W: Write>(
+    output: &mut W,
+    mut out: u64,
+    order: Order,
+    params: &Params,
+    rows: &[Row],
+) -> Result<u64, HeadWrite>
+    requires usable { IsUsable params.now }
+    ensures written { Writes (W.contents output.old) (W.contents output.new) out
+        (program_bytes order params.now rows.now) result }
+{
+    let mut held = Bytes::new();
+    let mut before = None;
+    for row in rows {
+        out = make_room(output, out, &mut held)?;
+        put_row(&mut held, order, params, before, row);
+        before = kept(row);
+    }
+    put(output, out, held.as_slice())
+}
+
+/// Writes what is held where there is no room beside it for a row.
+fn make_room<W: Write>(output: &mut W, out: u64, held: &mut Bytes) -> Result<u64, HeadWrite>
+    ensures written { Gathers (W.contents output.old) (W.contents output.new) out
+        held.old.items held.new.items result }
+    ensures room { OnOk result (length held.new.items + ROW ≤ HELD) }
+{
+    if HELD - held.len() >= ROW {
+        return Ok(out);
+    }
+    let out = put(output, out, held.as_slice())?;
+    held.clear();
+    Ok(out)
+}

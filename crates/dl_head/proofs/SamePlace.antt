@@ -1,0 +1,75 @@
+-- Counting a byte changes no place of the header reader.
+use Rattle.std.proofs.Common.{◌≡◌, ℕ, ◌≤◌, ◌^◌, true, List, length}
+use Rattle.dl_num.specs.Fixed.{is_number_size}
+use Rattle.dl_head.specs.declared.reader.byte_field.ByteField.TheVariants as field
+use Rattle.dl_head.specs.declared.reader.Phase.{Phase}
+use Rattle.dl_head.specs.declared.reader.Phase.TheVariants as phase
+use Rattle.dl_head.specs.declared.reader.HeadReader.{HeadReader}
+use Rattle.dl_head.specs.TableData.{TableData}
+use Rattle.dl_head.specs.Layout.{Layout, Item}
+use Rattle.dl_head.specs.HeadStep.{end_near, lengths_fit, tables_fit}
+use Rattle.dl_head.specs.TableCells.{table_cells}
+use Rattle.dl_head.specs.Place.{AtStart, Early, Behind, Late, InTable, AtPhase}
+
+-- the ghost fields of a reader, which each write proves anew
+pub record Guards (r : HeadReader) : Type 0 where
+  pub short : r.unit_length ≤ 2 ^ 40
+  pub near : end_near r.end ≡ true
+  pub address_size : is_number_size r.params.address_size ≡ true
+  pub operations : 1 ≤ r.params.maximum_operations_per_instruction
+  pub lines : 1 ≤ r.params.line_range
+  pub lengths : lengths_fit r.phase (length r.params.lengths.items) r.params.opcode_base ≡ true
+  pub tables : tables_fit r.phase (table_cells r.directories) (table_cells r.files) ≡ true
+
+abbrev pub counted : (r : HeadReader) → Guards r → ℕ → ℕ → HeadReader
+counted r g start taken = record r {
+  short = g.short;
+  near = g.near;
+  address_size = g.address_size;
+  operations = g.operations;
+  lines = g.lines;
+  lengths = g.lengths;
+  tables = g.tables;
+  start = start;
+  taken = taken;
+}
+
+early_counted : (r : HeadReader) (g : Guards r) (s t : ℕ) (items is : List Item) → Early r items is → Early (counted r g s t) items is
+early_counted r g s t items is e =
+    record { items_are = e.items_are; end = e.end; overrun = e.overrun; before = record { no_lengths = e.before.no_lengths; fresh = e.before.fresh } }
+
+start_counted : (r : HeadReader) (g : Guards r) (s t : ℕ) (items : List Item) → AtStart r items → AtStart (counted r g s t) items
+start_counted r g s t items e =
+    record { none = e.none; end = e.end; overrun = e.overrun; before = record { no_lengths = e.before.no_lengths; fresh = e.before.fresh } }
+
+behind_counted : (r : HeadReader) (g : Guards r) (s t : ℕ) (items : List Item) (l : Layout) → Behind r items l → Behind (counted r g s t) items l
+behind_counted r g s t items l e =
+    record { follows = e.follows; unit = e.unit; header = e.header; header_ends = e.header_ends; end = e.end; overrun = e.overrun }
+
+late_counted : (r : HeadReader) (g : Guards r) (s t : ℕ) (items : List Item) (l : Layout) → Late r items l → Late (counted r g s t) items l
+late_counted r g s t items l e = record { behind = behind_counted r g s t items l e.behind; fresh = e.fresh }
+
+table_counted : (r : HeadReader) (g : Guards r) (s t : ℕ) (items : List Item) (rest : List ℕ) (next : TableData → Layout) → InTable r items rest next → InTable (counted r g s t) items rest next
+table_counted r g s t items rest next e = record { layout = e.layout; behind = behind_counted r g s t items e.layout e.behind; at = e.at; going = e.going }
+
+pub at_counted : (r : HeadReader) (g : Guards r) (s t : ℕ) (p : Phase) (items : List Item) (rest : List ℕ) → AtPhase r p items rest → AtPhase (counted r g s t) p items rest
+at_counted r g s t (phase.UnitLength n) items rest at = (start_counted r g s t items at.0, at.1, at.2)
+at_counted r g s t (phase.LongUnitLength n) items rest at = (start_counted r g s t items at.0, at.1, at.2)
+at_counted r g s t phase.Version items rest at = (early_counted r g s t items _ at.0, at.1)
+at_counted r g s t (phase.VersionEnd first) items rest at = (early_counted r g s t items _ at.0, at.1)
+at_counted r g s t (phase.HeaderLength n) items rest at = (early_counted r g s t items _ at.0, at.1, at.2)
+at_counted r g s t (phase.Byte field.AddressSize) items rest at = (early_counted r g s t items _ at.0, at.1)
+at_counted r g s t (phase.Byte field.SegmentSelectorSize) items rest at = (early_counted r g s t items _ at.0, at.1)
+at_counted r g s t (phase.Byte field.MinimumInstructionLength) items rest at = (late_counted r g s t items _ at.0, at.1, at.2)
+at_counted r g s t (phase.Byte field.MaximumOperations) items rest at = (late_counted r g s t items _ at.0, at.1, at.2)
+at_counted r g s t (phase.Byte field.DefaultIsStmt) items rest at = (late_counted r g s t items _ at.0, at.1, at.2)
+at_counted r g s t (phase.Byte field.LineBase) items rest at = (late_counted r g s t items _ at.0, at.1, at.2)
+at_counted r g s t (phase.Byte field.LineRange) items rest at = (late_counted r g s t items _ at.0, at.1, at.2)
+at_counted r g s t (phase.Byte field.OpcodeBase) items rest at = (late_counted r g s t items _ at.0, at.1, at.2)
+at_counted r g s t phase.OpcodeLength items rest at = (late_counted r g s t items _ at.0, at.1)
+at_counted r g s t phase.Directories items rest at = table_counted r g s t items rest _ at
+at_counted r g s t phase.Files items rest at = table_counted r g s t items rest _ at
+at_counted r g s t phase.Padding items rest at = behind_counted r g s t items _ at
+at_counted r g s t (phase.Foreign v) items rest at = (early_counted r g s t items _ at.0, at.1)
+at_counted r g s t phase.Done items rest at = absurd at
+at_counted r g s t (phase.Failed f) items rest at = absurd at

@@ -1,0 +1,243 @@
+-- The bytes that are written of a header are that header. DWARF 5, section 6.2.4.
+use Rattle.std.proofs.Common.{◌≡◌, ℕ, lit<, suc, ◌+◌, ◌-◌, ◌%◌, ◌^◌, ◌<◌, ◌≤◌, Bool, true, false, ◌==◌, ◌&&◌, nat_lt, if◌then◌else◌, ℤ, pos, negsuc, ◌-ℤ◌, List, [], ◌∷◌, ◌++◌, length, Option, Some, None, refl, sym, ap, subst, ◌∙◌, arith, append_assoc}
+use Rattle.std.specs.Prelude.{is_none}
+use Rattle.std.specs.Int.{w8}
+use Rattle.std.specs.Int.RustNames.{FitsSigned}
+use Rattle.std.specs.Option.{option_map, option_or}
+use Rattle.std.proofs.lemmas.List.{append-nil}
+use Rattle.std.proofs.lemmas.Int.{ints}
+use Rattle.std.proofs.lemmas.Bool.{leb-true, le-leb, ltb-true, lt-ltb, le-ltb, eqb-true, ne_eqb}
+use Rattle.dl_num.specs.declared.fixed.Order.{Order}
+use Rattle.dl_num.specs.Fixed.{fixed_bytes, is_number_size}
+use Rattle.dl_num.proofs.LebFrontLemmas.{true_false, and_left, and_right}
+use Rattle.dl_head.specs.declared.form.Format.{Format}
+use Rattle.dl_head.specs.declared.form.Format.TheVariants.{Dwarf32, Dwarf64}
+use Rattle.dl_head.specs.declared.params.Params.{Params}
+use Rattle.dl_head.specs.declared.fault.ParamFault.{ParamFault}
+use Rattle.dl_head.specs.declared.fault.ParamFault.TheVariants as param
+use Rattle.dl_head.specs.TableData.{TableData, HeaderData}
+use Rattle.dl_head.specs.Value.{offset_size}
+use Rattle.dl_head.specs.Layout.{Layout, number_then, last_entry, number_is, length_is, following, any_byte, address_size, maximum_operations, line_range, opcode_base, opcode_length, header_length, objection, NumberField, number_size, signed_byte, lengths_layout, table_layout, tables_layout, from_lengths, from_opcode_base, from_line_range, from_line_base, from_default_is_stmt, from_maximum_operations, from_minimum_length, from_header_length, from_segment_selector_size, from_address_size, format_alone, header_layout, fixed_part, initial_size}
+use Rattle.dl_head.specs.Header.{Cut, header_made, unit_end, IsHeader}
+use Rattle.dl_head.specs.Field.{IsInitialLength}
+use Rattle.dl_head.specs.Written.{table_bytes, byte_of, after_header_length, header_length_of, unit_length_of, initial_length_bytes, header_bytes, written_limit, is_within_limit}
+use Rattle.dl_head.specs.Built.{wrong_length, same_format, unless, param_fault}
+use Rattle.dl_head.specs.WrittenLaws.{IsSoundTable, IsSoundHeader, WrittenIsHeader, WrittenHasItsLength}
+use Rattle.dl_head.proofs.FieldLaws.{field_is_judged}
+use Rattle.dl_head.proofs.HeaderLaws.{header_cut}
+use Rattle.dl_head.proofs.OrderLemmas.{length-header}
+use Rattle.dl_head.proofs.WrittenTables.{Reaches, reach_one, reach_table, fixed_byte, fixed_written}
+
+-- ---- what no refusal says of the params
+
+neither : {A : Type 0} (a b : Option A) → option_or a b ≡ None → (a ≡ None) × (b ≡ None)
+neither None b e = (refl, e)
+neither (Some x) b e = absurd cc
+
+holds : (b : Bool) (f : ParamFault) → unless b f ≡ None → b ≡ true
+holds true f e = refl
+holds false f e = absurd cc
+
+no_length : (o : Option ℕ) → option_map param.StandardLength o ≡ None → o ≡ None
+no_length None e = refl
+no_length (Some n) e = absurd cc
+
+formats_same : (f g : Format) → same_format f g ≡ true → f ≡ g
+formats_same Dwarf32 Dwarf32 e = refl
+formats_same Dwarf64 Dwarf64 e = refl
+formats_same f g e = absurd (true_false e refl)
+
+pub record Good (p : Params) (d f : TableData) : Type 0 where
+  pub address_size : is_number_size p.address_size ≡ true
+  pub operations : p.maximum_operations_per_instruction ≡ 0 → ⊥
+  pub lines : p.line_range ≡ 0 → ⊥
+  pub opcodes : length p.lengths.items + 1 ≡ p.opcode_base
+  pub lengths : wrong_length 1 p.lengths.items ≡ None
+  pub directories : d.format ≡ p.format
+  pub files : f.format ≡ p.format
+
+pub all_good : (p : Params) (d f : TableData) → param_fault p d f ≡ None → Good p d f
+all_good p d f e =
+    let a = neither (unless (is_number_size p.address_size) param.AddressSize) _ e in
+    let b = neither (unless (nat_lt 0 p.maximum_operations_per_instruction) param.MaxOps) _ a.1 in
+    let c = neither (unless (nat_lt 0 p.line_range) param.LineRange) _ b.1 in
+    let g = neither (unless (length p.lengths.items + 1 == p.opcode_base) param.OpcodeBase) _ c.1 in
+    let l = neither (option_map param.StandardLength (wrong_length 1 p.lengths.items)) _ g.1 in
+    let formats = holds (same_format d.format p.format && same_format f.format p.format) param.TableFormat l.1 in
+    let some = ltb-true 0 p.maximum_operations_per_instruction (holds _ param.MaxOps b.0) in
+    let range = ltb-true 0 p.line_range (holds _ param.LineRange c.0) in
+    record {
+      address_size = holds _ param.AddressSize a.0;
+      operations = λ z. omega arith;
+      lines = λ z. omega arith;
+      opcodes = eqb-true _ _ (holds _ param.OpcodeBase g.0);
+      lengths = no_length _ l.0;
+      directories = formats_same d.format p.format (and_left _ (same_format f.format p.format) formats);
+      files = formats_same f.format p.format (and_right (same_format d.format p.format) _ formats);
+    }
+
+below_zero : (m n k : ℕ) → m + suc n ≡ k → pos m -ℤ pos k ≡ negsuc n
+below_zero m n k e = omega (arith, ints)
+
+-- a signed byte is read again
+signed_again : (z : ℤ) → FitsSigned w8 z → signed_byte (byte_of z) ≡ z
+signed_again (pos n) fits =
+    let small : n < 128 = omega (arith, ints) in
+    let same : n % 256 ≡ n = omega arith in
+    rw (same, lt-ltb n 128 small) refl
+signed_again (negsuc n) fits =
+    let small : n < 128 = omega (arith, ints) in
+    let same : n % 256 ≡ n = omega arith in
+    rw (same, le-ltb (255 - n) 128 (omega arith)) (below_zero (255 - n) n 256 (omega arith))
+
+-- ---- the fields behind header_length
+
+module _ (order : Order) (h : HeaderData) where
+  abbrev end : Layout
+  end = last_entry h
+
+  length_first : (b : Bool) (i : ℕ) (o : Option ℕ) → (if b then o else Some i) ≡ None → (b ≡ true) × (o ≡ None)
+  length_first true i o e = (refl, e)
+  length_first false i o e = absurd cc
+
+  is_nothing : {A : Type 0} (o : Option A) → is_none o ≡ true → o ≡ None
+  is_nothing None e = refl
+  is_nothing (Some x) e = absurd (true_false e refl)
+
+  reach_lengths : (opcode : ℕ) (ns before : List ℕ) (next : List ℕ → Layout) (v : List ℕ) → wrong_length opcode ns ≡ None → Reaches order (next (before ++ ns)) v end → Reaches order (lengths_layout opcode (length ns) before next) (ns ++ v) end
+  reach_lengths opcode [] before next v none rest = subst (λ (l : List ℕ). Reaches order (next l) v end) (append-nil before) rest
+  reach_lengths opcode (n ∷ ns) before next v none rest =
+      let t = length_first (is_none (objection (opcode_length opcode) n)) opcode (wrong_length (opcode + 1) ns) none in
+      let again = reach_lengths (opcode + 1) ns (before ++ n ∷ []) next v t.1 (subst (λ (l : List ℕ). Reaches order (next l) v end) (sym (append_assoc before (n ∷ []) ns)) rest) in
+      reach_one order end (lengths_layout opcode (length (n ∷ ns)) before next) (number_is n) (n ∷ []) (ns ++ v) (n, refl, (refl, fixed_byte order end n), is_nothing (objection (opcode_length opcode) n) t.0) again
+
+  -- the params that were read, but for the format
+  abbrev read_params : Params → Params
+  read_params p = record p { line_base = signed_byte (byte_of p.line_base); lengths = record { items = p.lengths.items } }
+
+  reach_tables : (p : Params) → (record { params = p; directories = h.directories; files = h.files }) ≡ h → h.directories.format ≡ p.format → h.files.format ≡ p.format → IsSoundTable h.directories → IsSoundTable h.files
+      → Reaches order (tables_layout p) (table_bytes order h.directories ++ (table_bytes order h.files ++ [])) end
+  reach_tables p same d f directories files =
+      let files_layout : TableData → Layout = λ g. last_entry (record { params = p; directories = h.directories; files = g }) in
+      let last : Reaches order (files_layout h.files) [] end = record { items = []; spelt = refl; ends = ap last_entry same } in
+      let second = subst (λ (g : Format). Reaches order (table_layout g files_layout) (table_bytes order h.files ++ []) end) f (reach_table order end h.files files_layout [] files last) in
+      let directories_layout : TableData → Layout = λ t. table_layout p.format λ g. last_entry (record { params = p; directories = t; files = g }) in
+      subst (λ (g : Format). Reaches order (table_layout g directories_layout) (table_bytes order h.directories ++ (table_bytes order h.files ++ [])) end) d
+      (reach_table order end h.directories directories_layout (table_bytes order h.files ++ []) directories second)
+
+  -- a field of one byte
+  reach_byte : (field : NumberField) (next : ℕ → Layout) (n : ℕ) (v : List ℕ) → number_size field ≡ Some 1 → objection field n ≡ None → Reaches order (next n) v end → Reaches order (number_then field next) (n ∷ v) end
+  reach_byte field next n v one none rest = reach_one order end (number_then field next) (number_is n) (n ∷ []) v (n, refl, rw one (refl, fixed_byte order end n), none) rest
+
+  -- not 0
+  some_operations : (n : ℕ) → (n ≡ 0 → ⊥) → objection maximum_operations n ≡ None
+  some_operations n some = rw (ne_eqb n 0 some) refl
+
+  some_lines : (n : ℕ) → (n ≡ 0 → ⊥) → objection line_range n ≡ None
+  some_lines n some = rw (ne_eqb n 0 some) refl
+
+  some_opcodes : (n : ℕ) → (n ≡ 0 → ⊥) → objection opcode_base n ≡ None
+  some_opcodes n some = rw (ne_eqb n 0 some) refl
+
+  reach_from_lengths : (p : Params) → h.params.opcode_base ≡ p.opcode_base → Good h.params h.directories h.files → IsSoundTable h.directories → IsSoundTable h.files → p.format ≡ h.params.format → (record p { lengths = h.params.lengths }) ≡ h.params
+      → Reaches order (from_lengths p) (h.params.lengths.items ++ (table_bytes order h.directories ++ (table_bytes order h.files ++ []))) end
+  reach_from_lengths p base good directories files format same =
+      let count : length h.params.lengths.items ≡ p.opcode_base - 1 = (let sum = good.opcodes in omega arith) in
+      let next : List ℕ → Layout = λ lengths. tables_layout (record p { lengths = record { items = lengths } }) in
+      let whole : (record { params = record p { lengths = h.params.lengths }; directories = h.directories; files = h.files }) ≡ h = ap (λ (q : Params). let g : HeaderData = record { params = q; directories = h.directories; files = h.files } in g) same in
+      let tables = reach_tables (record p { lengths = h.params.lengths }) whole (good.directories ∙ sym format) (good.files ∙ sym format) directories files in
+      subst (λ (n : ℕ). Reaches order (lengths_layout 1 n [] next) (h.params.lengths.items ++ (table_bytes order h.directories ++ (table_bytes order h.files ++ []))) end) count
+      (reach_lengths 1 h.params.lengths.items [] next (table_bytes order h.directories ++ (table_bytes order h.files ++ [])) good.lengths tables)
+
+  -- the fields behind header_length, of params whose fields before it are those of the header
+  reach_fields : IsSoundHeader h → Good h.params h.directories h.files
+      → Reaches order (from_minimum_length (record (format_alone h.params.format) { address_size = h.params.address_size; segment_selector_size = h.params.segment_selector_size })) (after_header_length order h) end
+  reach_fields sound good =
+      let p = h.params in
+      let tables = table_bytes order h.directories ++ (table_bytes order h.files ++ []) in
+      let base = byte_of p.line_base in
+      let p1 : Params = record (format_alone p.format) { address_size = p.address_size; segment_selector_size = p.segment_selector_size } in
+      let p2 : Params = record p1 { minimum_instruction_length = p.minimum_instruction_length } in
+      let p3 : Params = record p2 { maximum_operations_per_instruction = p.maximum_operations_per_instruction } in
+      let p4 : Params = record p3 { default_is_stmt = p.default_is_stmt } in
+      let p5 : Params = record p4 { line_base = signed_byte base } in
+      let p6 : Params = record p5 { line_range = p.line_range } in
+      let p7 : Params = record p6 { opcode_base = p.opcode_base } in
+      let same : (record p7 { lengths = p.lengths }) ≡ p = ap (λ (z : ℤ). let q : Params = record p { line_base = z } in q) (signed_again p.line_base sound.line_base) in
+      let a = reach_from_lengths p7 refl good sound.directories sound.files refl same in
+      let b = reach_byte opcode_base (λ n. from_lengths (record p6 { opcode_base = n })) p.opcode_base (p.lengths.items ++ tables) refl (some_opcodes p.opcode_base (λ z. let sum = good.opcodes in omega arith)) a in
+      let c = reach_byte line_range (λ n. from_opcode_base (record p5 { line_range = n })) p.line_range (p.opcode_base ∷ (p.lengths.items ++ tables)) refl (some_lines p.line_range good.lines) b in
+      let d = reach_byte any_byte (λ n. from_line_range (record p4 { line_base = signed_byte n })) base (p.line_range ∷ p.opcode_base ∷ (p.lengths.items ++ tables)) refl refl c in
+      let e = reach_byte any_byte (λ n. from_line_base (record p3 { default_is_stmt = n })) p.default_is_stmt (base ∷ p.line_range ∷ p.opcode_base ∷ (p.lengths.items ++ tables)) refl refl d in
+      let f = reach_byte maximum_operations (λ n. from_default_is_stmt (record p2 { maximum_operations_per_instruction = n })) p.maximum_operations_per_instruction (p.default_is_stmt ∷ base ∷ p.line_range ∷ p.opcode_base ∷ (p.lengths.items ++ tables)) refl
+      (some_operations p.maximum_operations_per_instruction good.operations) e in
+      let g = reach_byte any_byte (λ n. from_maximum_operations (record p1 { minimum_instruction_length = n })) p.minimum_instruction_length (p.maximum_operations_per_instruction ∷ p.default_is_stmt ∷ base ∷ p.line_range ∷ p.opcode_base ∷ (p.lengths.items ++ tables)) refl refl f in
+      subst (λ (w : List ℕ). Reaches order (from_minimum_length p1) w end) (ends_so (p.minimum_instruction_length ∷ p.maximum_operations_per_instruction ∷ p.default_is_stmt ∷ base ∷ p.line_range ∷ p.opcode_base ∷ p.lengths.items) (table_bytes order h.directories) (table_bytes order h.files)) g
+    where
+      ends_so : (a b c : List ℕ) → a ++ (b ++ (c ++ [])) ≡ (a ++ b) ++ c
+      ends_so a b c = rw append-nil (sym (append_assoc a b c))
+
+-- ---- the whole header
+
+initial_written : (order : Order) (format : Format) (n : ℕ) → n ≤ written_limit format → IsInitialLength order format n (initial_length_bytes order format n)
+initial_written order Dwarf32 n le = (fixed_written order 4 n (omega arith), omega arith)
+initial_written order Dwarf64 n le = (fixed_bytes order 4 0xffffffff, fixed_bytes order 8 n, refl, fixed_written order 4 0xffffffff (lit< tt), fixed_written order 8 n (omega arith), le)
+
+offset_fits : (format : Format) (n : ℕ) → n ≤ written_limit format → n < 256 ^ offset_size format
+offset_fits Dwarf32 n le = omega arith
+offset_fits Dwarf64 n le = omega arith
+
+usable_size : (n : ℕ) → is_number_size n ≡ true → objection address_size n ≡ None
+usable_size n e = rw e refl
+
+fits_unit : (format : Format) (n left : ℕ) → n ≤ left → objection (header_length format left) n ≡ None
+fits_unit format n left le = rw (le-leb n left le) refl
+
+regroup : (i v l w : List ℕ) (a s : ℕ) → i ++ v ++ a ∷ s ∷ [] ++ l ++ w ≡ (i ++ (v ++ ((a ∷ []) ++ ((s ∷ []) ++ (l ++ w))))) ++ []
+regroup i v l w a s = rw append-nil (simp append_assoc)
+
+-- the header, and the length that its first field tells
+written : (order : Order) (h : HeaderData) (program_len : ℕ) → IsSoundHeader h → is_within_limit h program_len ≡ true → (is : IsHeader order h (header_bytes order h program_len)) × (unit_end is.items ≡ Some (initial_size h.params.format + unit_length_of h program_len))
+written order h program_len sound limit =
+    let p = h.params in
+    let good = all_good p h.directories h.files sound.params in
+    let unit = unit_length_of h program_len in
+    let size = header_length_of h in
+    let after = after_header_length order h in
+    let short = leb-true unit (written_limit p.format) limit in
+    let tail = reach_fields order h sound good in
+    let initial = initial_length_bytes order p.format unit in
+    let version_bytes = fixed_bytes order 2 5 in
+    let size_bytes = fixed_bytes order (offset_size p.format) size in
+    let p0 = format_alone p.format in
+    let p1 : Params = record p0 { address_size = p.address_size } in
+    let p2 : Params = record p1 { segment_selector_size = p.segment_selector_size } in
+    let long = length-header order h program_len in
+    let a = (field_is_judged order header_layout (length_is p.format unit) initial).0 (p.format, unit, refl, initial_written order p.format unit short) in
+    let b = (field_is_judged order (following header_layout (length_is p.format unit)) (number_is 5) version_bytes).0 (5, refl, fixed_written order 2 5 (lit< tt), refl) in
+    let c = (field_is_judged order (from_address_size unit p0) (number_is p.address_size) (p.address_size ∷ [])).0 (p.address_size, refl, (refl, fixed_byte order (last_entry h) p.address_size), usable_size p.address_size good.address_size) in
+    let d = (field_is_judged order (from_segment_selector_size unit p1) (number_is p.segment_selector_size) (p.segment_selector_size ∷ [])).0 (p.segment_selector_size, refl, (refl, fixed_byte order (last_entry h) p.segment_selector_size), refl) in
+    let e = (field_is_judged order (from_header_length unit p2) (number_is size) size_bytes).0
+    (size, refl, fixed_written order (offset_size p.format) size (offset_fits p.format size (omega arith)), fits_unit p.format size (unit - fixed_part p.format) (omega arith)) in (
+      record {
+        items = length_is p.format unit ∷ number_is 5 ∷ number_is p.address_size ∷ number_is p.segment_selector_size ∷ number_is size ∷ tail.items;
+        fields = initial ++ (version_bytes ++ ((p.address_size ∷ []) ++ ((p.segment_selector_size ∷ []) ++ (size_bytes ++ after))));
+        padding = [];
+        whole = regroup initial version_bytes size_bytes after p.address_size p.segment_selector_size;
+        spelt = (initial, _, refl, a, (version_bytes, _, refl, b, (p.address_size ∷ [], _, refl, c, (p.segment_selector_size ∷ [], _, refl, d, (size_bytes, after, refl, e, tail.spelt)))));
+        made = ap header_made tail.ends;
+        end = ap (λ (n : ℕ). let o : Option ℕ = Some n in o) (omega arith);
+      },
+      refl,
+    )
+
+pub header_is_written : WrittenIsHeader
+header_is_written order h program_len sound limit = (written order h program_len sound limit).0
+
+pub length_is_written : WrittenHasItsLength
+length_is_written order h program_len rest sound limit =
+    let w = written order h program_len sound limit in
+    let bytes = header_bytes order h program_len in
+    let size = length-header order h program_len in
+    let cut_is = ap (λ (c : Cut). unit_end c.items) (header_cut order h bytes rest w.0) in
+    cut_is ∙ w.1 ∙ ap (λ (n : ℕ). let o : Option ℕ = Some n in o) (omega arith)

@@ -1,0 +1,12 @@
+use Rattle.std.proofs.Common.{Some, refl, ap, ◌∙◌}
+use Rattle.dl_head.proofs.Given.{header_parts}
+use Rattle.dl_head.proofs.reader.HeadReader.complete.Goals as goal
+
+pub returns : goal.returns
+returns c = record {
+  phase = refl;
+  header = ap (λ h. Some h) (c.of_parts.ensures ∙ header_parts c.replace-params.ensures.value c.replace-directories.ensures.value c.replace-files.ensures.value);
+  order = refl;
+  taken = refl;
+  unit = record { end = refl; unit_length = refl; format = ap (λ p. p.format) c.replace-params.ensures.after ∙ c.least.ensures.format };
+}

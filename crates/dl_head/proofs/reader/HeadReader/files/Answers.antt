@@ -1,0 +1,43 @@
+use Rattle.std.proofs.Common.{◌+◌, refl, ap, arith}
+use Rattle.dl_head.specs.declared.reader.Phase.TheVariants as phase
+use Rattle.dl_head.specs.declared.reader.table_reader.TableReader.{TableReader}
+use Rattle.dl_head.specs.TablePlace.{reader_cells}
+use Rattle.dl_head.specs.TableCells.{table_cells}
+use Rattle.dl_head.specs.Layout.{from_end}
+use Rattle.dl_head.proofs.Places.{at_phase, phase_at}
+use Rattle.dl_head.proofs.HeadTables.{table_goes_on, table_ends, table_adds, table_kept, fresh_cells, no_files}
+use Rattle.dl_head.proofs.reader.HeadReader.files.Goals as goal
+
+pub returns-in-Some-clause-follows : goal.returns-in-Some-clause-follows
+returns-in-Some-clause-follows c =
+    let old = c.args.self.now in
+    let mid = c.push-next.new.self in
+    let d = c.in-Some.table in
+    let next = from_end old.params old.directories in
+    let taken = c.in-Some.ensures in
+    record {
+      made = λ items rest at.
+          table_ends old _ mid d items rest c.args.byte c.push-next.result next (at_phase old _ items rest c.requires at) c.push-next.ensures taken.0 (taken.2 next)
+          (record { order = refl; format = refl; unit_length = refl; end = refl; overrun = refl }) (λ is behind. behind);
+      cells = λ items rest at.
+          let a = at_phase old _ items rest c.requires at in
+          let kept = table_kept old mid d items rest c.args.byte c.push-next.result next a c.push-next.ensures taken.0 (taken.2 next) in
+          table_adds old mid items rest c.args.byte c.push-next.result next (table_cells old.directories) _ a c.push-next.ensures (omega (arith, no_files old c.requires)) (omega (arith, kept, fresh_cells c.take.new.self taken.1));
+      counts = record { order = refl; start = refl; taken = refl; header = refl };
+    }
+
+pub returns-in_default-clause-follows : goal.returns-in_default-clause-follows
+returns-in_default-clause-follows c =
+    let old = c.args.self.now in
+    let mid = c.push-next.new.self in
+    let next = from_end old.params old.directories in
+    let none = c.in_default.ensures in
+    record {
+      made = λ items rest at.
+          table_goes_on old _ mid items rest c.args.byte c.push-next.result next (at_phase old _ items rest c.requires at) c.push-next.ensures none.0 none.1
+          (record { order = refl; format = refl; unit_length = refl; end = refl; overrun = refl }) (λ is w now. phase_at _ phase.Files is w c.requires now);
+      cells = λ items rest at.
+          table_adds old mid items rest c.args.byte c.push-next.result next (table_cells old.directories + table_cells old.files) _ (at_phase old _ items rest c.requires at) c.push-next.ensures refl
+          (ap (λ (t : TableReader). table_cells old.directories + table_cells old.files + reader_cells t) none.1);
+      counts = record { order = refl; start = refl; taken = refl; header = refl };
+    }

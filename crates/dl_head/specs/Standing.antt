@@ -1,0 +1,95 @@
+-- Which bytes a header reader has taken. No promise rests on how this is said.
+use Rattle.std.specs.Prelude.{◌≡◌, ℕ, ◌+◌, ◌<◌, ◌≤◌, ◌≢◌, List, length, Option, Some, None}
+use Rattle.dl_head.specs.declared.reader.Phase.{Phase}
+use Rattle.dl_head.specs.declared.reader.Phase.TheVariants as phase
+use Rattle.dl_head.specs.declared.reader.HeadReader.{HeadReader}
+use Rattle.dl_head.specs.declared.reader.HeadStep.{HeadStep}
+use Rattle.dl_head.specs.declared.reader.HeadStep.TheVariants as answer
+use Rattle.dl_head.specs.declared.fault.Fault.{Fault}
+use Rattle.dl_head.specs.declared.fault.FaultKind.{FaultKind}
+use Rattle.dl_head.specs.TableData.{HeaderData}
+use Rattle.dl_head.specs.Layout.{Item, following_all, field_spelt, header_layout}
+use Rattle.dl_head.specs.Header.{cut, unit_end, header_end, unit_len, IsHeader, foreign_in}
+use Rattle.dl_head.specs.Refusal.{header_decided, HeaderRefused, NothingBefore}
+use Rattle.dl_head.specs.Cells.{cells}
+use Rattle.dl_head.specs.Place.{At, SameCounts, SameUnit, end_of_unit, held_cells}
+
+-- so many bytes end before the end, as far as that is known
+abbrev pub Below : ℕ → Option ℕ → Type 0
+Below n None = Unit {0}
+Below n (Some end) = n < end
+
+-- the header goes on behind b
+pub record Live (r : HeadReader) (b : List ℕ) : Type 0 where
+  pub items : List Item
+  pub rest : List ℕ
+  pub cut_is : cut r.order b ≡ record { items = items; rest = rest }
+  pub at : At r items rest
+  pub unjudged : field_spelt r.order (following_all header_layout items) rest ≡ None
+  pub start_is : r.start + length rest ≡ length b
+  pub below : Below (length b) r.end
+  pub nothing_before : NothingBefore (header_decided r.order) b
+  pub ends_within : (n e : ℕ) → unit_end items ≡ Some n → header_end items ≡ Some e → e ≤ n
+
+-- there is no header yet, and so many cells are held
+pub record Unmade (r : HeadReader) (b : List ℕ) : Type 0 where
+  pub header : r.header ≡ None
+  pub cells_are : held_cells r ≡ cells r.order b
+
+-- what the header has come to, if anything
+abbrev pub ending : Phase → Option HeadStep
+ending phase.Done = Some answer.Done
+ending (phase.Foreign v) = Some (answer.Foreign v)
+ending (phase.Failed f) = Some (answer.Fault f)
+ending p = None
+
+abbrev pub Stands : HeadReader → Option HeadStep → List ℕ → Type 0
+Stands r None b = Live r b × Unmade r b
+Stands r (Some answer.Done) b = (h : HeaderData) × (r.header ≡ Some h) × IsHeader r.order h b
+Stands r (Some (answer.Foreign v)) b = (foreign_in r.order b ≡ Some v) × Unmade r b
+Stands r (Some (answer.Fault f)) b = HeaderRefused r.order b f.offset f.kind × Unmade r b
+Stands r (Some other) b = ⊥
+
+-- the unit's bytes, once they are known
+abbrev pub unit_known : ℕ → Option ℕ → Option ℕ
+unit_known unit None = None
+unit_known unit (Some end) = Some unit
+
+-- the reader has taken the bytes b
+pub record StandsFor (r : HeadReader) (b : List ℕ) : Type 0 where
+  pub stands : Stands r (ending r.phase) b
+  pub taken : r.taken ≡ length b
+  pub unit : unit_known (end_of_unit r) r.end ≡ unit_len r.order b
+  pub within : (n : ℕ) → unit_len r.order b ≡ Some n → length b ≤ n
+
+-- `fail`
+abbrev pub failed_at : ℕ → FaultKind → Fault
+failed_at start kind = record { offset = start; kind = kind }
+
+-- the tables are kept
+pub record SameTables (old new : HeadReader) : Type 0 where
+  pub counts : SameCounts old new
+  pub unit : SameUnit old new
+  pub cells : held_cells new ≡ held_cells old
+
+abbrev pub Fails : HeadReader → FaultKind → HeadStep → HeadReader → Type 0
+Fails old kind result new = (result ≡ answer.Fault (failed_at old.start kind)) × (new.phase ≡ phase.Failed (failed_at old.start kind)) × SameTables old new
+
+-- `complete`
+pub record Completes (old new : HeadReader) : Type 0 where
+  pub phase : new.phase ≡ phase.Done
+  pub header : new.header ≡ Some (record { params = old.params; directories = old.directories; files = old.files })
+  pub order : new.order ≡ old.order
+  pub taken : new.taken ≡ old.taken
+  pub unit : SameUnit old new
+
+-- `settle`, by the phase: where the bytes end, an end or a fault, else nothing
+abbrev pub SettlesAt : HeadReader → Phase → HeadStep → HeadReader → Type 0
+SettlesAt old (phase.Foreign v) result new = (result ≡ answer.Foreign v) × (new ≡ old)
+SettlesAt old phase.Padding result new =
+    (old.end ≢ Some old.taken → (result ≡ answer.More) × (new ≡ old)) × (old.end ≡ Some old.taken → (result ≡ answer.Done) × Completes old new)
+SettlesAt old p result new =
+    (old.end ≢ Some old.taken → (result ≡ answer.More) × (new ≡ old)) × (old.end ≡ Some old.taken → Fails old old.overrun result new)
+
+abbrev pub Settles : HeadReader → HeadStep → HeadReader → Type 0
+Settles old result new = SettlesAt old old.phase result new

@@ -1,0 +1,77 @@
+//! A header in pieces, where memory may be refused and asked for again.
+
+ghost use Rattle.std.specs.Prelude.{◌≡◌, ◌≢◌, ◌≤◌, ℕ, List, length, take, drop};
+
+use crate::reader::{HeadReader, HeadStep};
+
+/// What a run of turns came to.
+#[derive(Clone, Copy, Debug, PartialEq, Eq)]
+pub struct HeadRun {
+    /// How many bytes were taken.
+    pub taken: usize,
+    /// How many turns ended where memory was refused.
+    pub refused: usize,
+    /// The last answer; More where there was none.
+    pub last: HeadStep,
+}
+
+impl HeadReader {
+    ghost use Rattle.dl_head.specs.Reading.{Answers};
+    ghost use Rattle.dl_head.specs.declared.reader.HeadStep.TheVariants as answer;
+    ghost use Rattle.dl_head.specs.Standing.{StandsFor};
+    ghost use Rattle.dl_head.specs.Runs.{Runs, Offered};
+
+    /// Takes the bytes in turns, up to an end or a fault. A turn offers at most so many of the bytes
+    /// that aren't taken, and ends early where memory is refused; the next turn offers the same byte
+    /// again.
+    pub fn run(&mut self, bytes: &[u8], turns: &[usize]) -> HeadRun
+        ensures runs { (b : List ℕ) → StandsFor self.old b → Answers self.old.order b answer.More
+            → Runs self.old.order b bytes.now turns.now result self.new }
+        ensures order { self.new.order ≡ self.old.order }
+    {
+        let mut run = HeadRun {
+            taken: 0,
+            refused: 0,
+            last: HeadStep::More,
+        };
+        for turn in turns {
+            let (used, last) = self.offer(piece(bytes, run.taken, *turn));
+            run.taken += used;
+            run.last = last;
+            match last {
+                HeadStep::More => {}
+                HeadStep::NoMemory => run.refused += 1,
+                _ => return run,
+            }
+        }
+        run
+    }
+
+    /// Takes bytes up to an answer that isn't More; how many were taken, and that answer.
+    pub fn offer(&mut self, piece: &[u8]) -> (usize, HeadStep)
+        ensures offered { (b : List ℕ) → StandsFor self.old b → Answers self.old.order b answer.More
+            → Offered self.old.order b piece.now result.0 result.1 self.new }
+        ensures within { result.0 ≤ length piece.now }
+        ensures progress { result.1 ≢ answer.More → result.1 ≢ answer.NoMemory → 1 ≤ result.0 }
+        ensures order { self.new.order ≡ self.old.order }
+    {
+        let mut used = 0;
+        for byte in piece {
+            match self.step(*byte) {
+                HeadStep::More => used += 1,
+                HeadStep::NoMemory => return (used, HeadStep::NoMemory),
+                last => return (used + 1, last),
+            }
+        }
+        (used, HeadStep::More)
+    }
+}
+
+/// So many of the bytes from a place on, or all of these.
+fn piece(bytes: &[u8], start: usize, len: usize) -> &[u8]
+    requires { start ≤ length bytes.now }
+    ensures { result.now ≡ take len (drop start bytes.now) }
+{
+    let rest = &bytes[start..];
+    rest.get(..len).unwrap_or(rest)
+}

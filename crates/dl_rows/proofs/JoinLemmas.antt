@@ -1,0 +1,88 @@
+-- The bytes of a header, one more at a time, and the step to what is behind it.
+use Rattle.std.proofs.Common.{◌≡◌, ℕ, List, [], ◌∷◌, ◌++◌, length, Option, Some, None, refl, sym, ap, subst, ◌∙◌, append-nil}
+use Rattle.dl_num.specs.declared.fixed.Order.{Order}
+use Rattle.dl_num.specs.Laws.{AllBytes}
+use Rattle.dl_num.proofs.FrontLemmas.{front_before}
+use Rattle.dl_head.specs.declared.fault.FaultKind.{FaultKind}
+use Rattle.dl_head.specs.TableData.{HeaderData}
+use Rattle.dl_head.specs.Header.{IsHeader, foreign_in, header_in, unit_len}
+use Rattle.dl_head.specs.Refusal.{HeaderRefused}
+use Rattle.dl_head.proofs.FieldLemmas.{none_some}
+use Rattle.dl_head.proofs.HeaderLaws.{found_is_header, header_is_found}
+use Rattle.dl_head.proofs.QuietLemmas.{header_is_not_refused}
+use Rattle.dl_rows.specs.declared.reader.Event.{Event}
+use Rattle.dl_rows.specs.declared.reader.Event.TheVariants as event
+use Rattle.dl_rows.specs.declared.tail.Tail.{Tail}
+use Rattle.dl_rows.specs.LineUnit.{own_events, events_of, events}
+use Rattle.dl_rows.specs.OperationSpelt.{operations_in}
+use Rattle.dl_rows.specs.Programs.{ProgramStands}
+use Rattle.dl_rows.specs.Refusal.{decided_behind, operation_decided, Refused}
+use Rattle.dl_rows.specs.Tails.{Counts, InProgram}
+use Rattle.dl_rows.proofs.HeaderParams.{header_fits}
+use Rattle.dl_rows.proofs.TailLemmas.{events_here}
+use Rattle.dl_rows.proofs.UnitLemmas.{header_on, refused_in_header}
+use Rattle.dl_rows.proofs.UnitWhole.{NoneRefused}
+
+-- where a byte more doesn't complete a header, there is none
+pub no_header_on : (order : Order) (b : List ℕ) (x : ℕ) → header_in order b ≡ None → ((h : HeaderData) → IsHeader order h (b ++ x ∷ []) → ⊥) → header_in order (b ++ x ∷ []) ≡ None
+no_header_on order b x none not = on (header_in order (b ++ x ∷ [])) refl where
+  behind : (h : HeaderData) (w rest : List ℕ) → b ++ x ∷ [] ≡ w ++ rest → IsHeader order h w → ⊥
+  behind h w [] e is = not h (subst (λ (z : List ℕ). IsHeader order h z) (sym (e ∙ append-nil w)) is)
+  behind h w (y ∷ rest) e is =
+      let z = front_before b w x y rest e in
+      none_some none (ap (header_in order) z.1 ∙ header_is_found order h w z.0 is)
+
+  on : (o : Option (HeaderData × List ℕ)) → header_in order (b ++ x ∷ []) ≡ o → header_in order (b ++ x ∷ []) ≡ None
+  on None e = e
+  on (Some (h, rest)) e = let f = found_is_header order h (b ++ x ∷ []) rest e in absurd (behind h f.0 rest f.1 f.2)
+
+-- nor is anything refused, where the header isn't at the byte
+pub header_sound_on : (order : Order) (b : List ℕ) (x : ℕ) → NoneRefused order b → header_in order (b ++ x ∷ []) ≡ None → ((at : ℕ) (kind : FaultKind) → HeaderRefused order (b ++ x ∷ []) at kind → ⊥)
+    → NoneRefused order (b ++ x ∷ [])
+header_sound_on order b x sound none not front [] at kind e r =
+    let whole : front ≡ b ++ x ∷ [] = sym (e ∙ append-nil front) in
+    not at kind ((refused_in_header order (b ++ x ∷ []) at kind none).0 (subst (λ (w : List ℕ). Refused order w at kind) whole r))
+header_sound_on order b x sound none not front (y ∷ back) at kind e r = let z = front_before b front x y back e in sound front z.0 at kind z.1 r
+
+-- in a header there is no event
+pub no_events : (order : Order) (b : List ℕ) → header_in order b ≡ None → foreign_in order b ≡ None → ◌≡◌ {A = List Event} (events order b) []
+no_events order b none own = ap (λ (o : Option ℕ). events_of order o (header_in order b)) own ∙ ap (own_events order) none
+
+-- ---- the header's last byte
+
+nil_left : (v w : List ℕ) → v ++ w ≡ [] → v ≡ []
+nil_left [] w e = refl
+nil_left (x ∷ v) w e = absurd cc
+
+-- no front of a header is refused
+header_sound : (order : Order) (h : HeaderData) (w : List ℕ) → IsHeader order h w → NoneRefused order w
+header_sound order h w is front back at kind e r = on (header_in order front) refl where
+  whole : header_in order w ≡ Some (h, [])
+  whole = ap (header_in order) (sym (append-nil w)) ∙ header_is_found order h w [] is
+
+  on : (o : Option (HeaderData × List ℕ)) → header_in order front ≡ o → ⊥
+  on None none = header_is_not_refused order h w [] front back at kind is (append-nil w ∙ e) ((refused_in_header order front at kind none).0 r)
+  on (Some (g, begun)) found =
+      let all : ◌≡◌ {A = Option (HeaderData × List ℕ)} (Some (g, begun ++ back)) (Some (h, [])) = sym (header_on order front back g begun found) ∙ ap (header_in order) (sym e) ∙ whole in
+      let both : begun ++ back ≡ [] = ap (λ (o : Option (HeaderData × List ℕ)). elim o [ Some p ↦ p.1 | None ↦ [] ]) all in
+      let none : begun ≡ [] = nil_left begun back both in
+      none_some
+      (ap (decided_behind order front) found
+      ∙ ap (λ (v : List ℕ). operation_decided order g.params (operations_in order g.params v).rest (length front) (unit_len order front)) none) r.decided
+
+pub behind_header : (order : Order) (h : HeaderData) (t : Tail) (w : List ℕ) → IsHeader order h w → AllBytes w → Counts order t w → ProgramStands order h.params t.program [] → InProgram order h t w
+behind_header order h t w is all counts stands =
+    let fits = header_fits order h w all is in
+    record {
+      counts = counts;
+      header = w;
+      program = [];
+      whole = sym (append-nil w);
+      spells = is;
+      fits = record { usable = fits.0; line_base = fits.1 };
+      stands = stands;
+      sound = header_sound order h w is;
+    }
+
+pub header_event : (order : Order) (h : HeaderData) (w : List ℕ) → IsHeader order h w → events order w ≡ event.Header ∷ []
+header_event order h w is = ap (events order) (sym (append-nil w)) ∙ events_here order h w is []

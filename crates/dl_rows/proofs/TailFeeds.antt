@@ -1,0 +1,243 @@
+-- What a reader answers behind the header of a unit, or behind a foreign version.
+use Rattle.std.proofs.Common.{◌≡◌, ◌≢◌, ℕ, suc, get_or, ◌+◌, ◌-◌, ◌^◌, ◌<◌, ◌≤◌, ◌⊎◌, inl, inr, List, [], ◌∷◌, ◌++◌, length, take, drop, min, Some, Err, refl, sym, ap, subst, ◌∙◌, arith, length-append, append_assoc, append-nil, length-take}
+use Rattle.std.proofs.lemmas.Bool.{cases_eq, cases_lt, eq-eqb, ne_eqb, lt-ltb, le-ltb}
+use Rattle.std.proofs.lemmas.List.{take-append-drop}
+use Rattle.std.proofs.Math.Seq.{take-append_seam}
+use Rattle.dl_num.specs.declared.fixed.Order.{Order}
+use Rattle.dl_num.specs.Laws.{AllBytes}
+use Rattle.dl_num.proofs.FrontLemmas.{front_before}
+use Rattle.dl_head.specs.declared.fault.Fault.{Fault}
+use Rattle.dl_head.specs.declared.fault.FaultKind.{FaultKind}
+use Rattle.dl_head.specs.declared.fault.FaultKind.TheVariants as fault
+use Rattle.dl_head.specs.declared.params.Params.{Params}
+use Rattle.dl_head.specs.TableData.{HeaderData}
+use Rattle.dl_head.specs.Header.{header_in}
+use Rattle.dl_head.proofs.FieldLemmas.{none_some}
+use Rattle.dl_head.proofs.HeaderLaws.{header_is_found}
+use Rattle.dl_rows.specs.declared.program.Program.{Program}
+use Rattle.dl_rows.specs.declared.program.Given.{Given}
+use Rattle.dl_rows.specs.declared.reader.Event.{Event}
+use Rattle.dl_rows.specs.declared.reader.Event.TheVariants as event
+use Rattle.dl_rows.specs.declared.reader.Fed.{Fed}
+use Rattle.dl_rows.specs.declared.row.Row.{Row}
+use Rattle.dl_rows.specs.declared.tail.Tail.{Tail}
+use Rattle.dl_rows.specs.OperationSpelt.{operation_spelt, operations_in}
+use Rattle.dl_rows.specs.LineUnit.{IsUnit, rows_in, ends_open, events}
+use Rattle.dl_rows.specs.Programs.{ProgramStands, Unrefused, GivenIs}
+use Rattle.dl_rows.specs.Reading.{told, EventHolds, Feeds, Fails}
+use Rattle.dl_rows.specs.Refusal.{Refused}
+use Rattle.dl_rows.specs.Sums.{FitsProgram}
+use Rattle.dl_rows.specs.Tails.{Counts, InProgram, Stops, paused}
+use Rattle.dl_rows.proofs.OperandRanges.{bytes_front}
+use Rattle.dl_rows.proofs.ProgramTurns.{rest-found}
+use Rattle.dl_rows.proofs.ProgramWalks.{in_sequence_is}
+use Rattle.dl_rows.proofs.TailLemmas.{counts_on, program_on, events_same, events_row, refused_on, decides_bad, decides_overrun, rows_on, row_ends}
+use Rattle.dl_rows.proofs.UnitLengths.{some_same, length_of_unit}
+use Rattle.dl_rows.proofs.UnitWhole.{NoneRefused, unit_unless_refused}
+
+-- the fields of an answer
+abbrev fed_of : ℕ → Event → Fed
+fed_of used e = record { used = used; event = e }
+
+-- a front of the piece that is as long as what is taken
+take_front : (piece u z : List ℕ) (used : ℕ) → piece ≡ u ++ z → used ≡ length u → take used piece ≡ u
+take_front piece u z used e size = ap (λ (n : ℕ). take n piece) size ∙ ap (λ (w : List ℕ). take (length u) w) e ∙ take-append_seam u z
+
+piece_is : (piece u behind : List ℕ) (most : ℕ) → take most piece ≡ u ++ behind → piece ≡ u ++ (behind ++ drop most piece)
+piece_is piece u behind most e = sym (take-append-drop most piece) ∙ ap (λ (w : List ℕ). w ++ drop most piece) e ∙ append_assoc u behind (drop most piece)
+
+taken_le : (piece u behind : List ℕ) (most : ℕ) → take most piece ≡ u ++ behind → (length u ≤ most) × (length u ≤ length piece)
+taken_le piece u behind most e =
+    let l = ap length e in
+    let m = length-take most piece in
+    (omega (arith, l, m, length-append u behind), omega (arith, l, m, length-append u behind))
+
+-- ---- where nothing is told
+
+-- an end, or more is wanted
+paused_cases : (taken left used len : ℕ) → 1 ≤ taken
+    → ((paused taken left used len ≡ event.End) × (left ≡ 0) × ((used ≡ 0) ⊎ (used < len))) ⊎ ((paused taken left used len ≡ event.More) × (left ≡ 0 → (1 ≤ used) × (len ≤ used)))
+paused_cases taken left used len some = elim (cases_eq left 0) [
+  | inr other ↦ inr (rw (ne_eqb taken 0 any, ne_eqb left 0 other) refl, λ none. absurd (other none))
+  | inl none ↦ elim (cases_eq used 0) [
+    | inl nothing ↦ inl (rw (ne_eqb taken 0 any, eq-eqb left 0 none, eq-eqb used 0 nothing) refl, none, inl nothing)
+    | inr something ↦ elim (cases_lt used len) [
+      | inl lt ↦ inl (rw (ne_eqb taken 0 any, eq-eqb left 0 none, ne_eqb used 0 something, lt-ltb used len lt) refl, none, inr lt)
+      | inr le ↦ inr (rw (ne_eqb taken 0 any, eq-eqb left 0 none, ne_eqb used 0 something, le-ltb used len le) refl, λ same. (omega (arith, something), le))
+    ]
+  ]
+]
+  where
+    any : taken ≢ 0
+    any same = omega arith
+
+-- bytes that a header stands in are some
+some_bytes : (order : Order) (h : HeaderData) (t : Tail) (b : List ℕ) → InProgram order h t b → 1 ≤ length b
+some_bytes order h t [] is = absurd (none_some {a = (h, is.program)} refl (ap (header_in order) is.whole ∙ header_is_found order h is.header is.program is.spells))
+some_bytes order h t (x ∷ b) is = omega arith
+
+-- an answer, u being what is taken of the piece
+feeds_with : {S : Type 0} (StandsFor : S → List ℕ → Type 0) (order : Order) (b piece u : List ℕ) (s : S) (fed : Fed) (e : Event) → take fed.used piece ≡ u → fed.used ≤ length piece → fed.event ≡ e
+    → StandsFor s (b ++ u) → events order (b ++ u) ≡ events order b ++ told e → EventHolds order b piece fed.used e → NoneRefused order (b ++ u) → Feeds StandsFor order b piece fed s
+feeds_with StandsFor order b piece u s fed e same le is stands grows holds sound = record {
+  within = le;
+  stands = subst (λ (w : List ℕ). StandsFor s (b ++ w)) (sym same) stands;
+  grows = ap (λ (w : List ℕ). events order (b ++ w)) same ∙ grows ∙ ap (λ (x : Event). events order b ++ told x) (sym is);
+  holds = subst (λ (x : Event). EventHolds order b piece fed.used x) (sym is) holds;
+  sound = subst (λ (w : List ℕ). NoneRefused order (b ++ w)) (sym same) sound;
+}
+
+-- a pause, where the events stay the same and nothing is refused
+pub pauses : {S : Type 0} (StandsFor : S → List ℕ → Type 0) (order : Order) (b piece : List ℕ) (left : ℕ) (new : Tail) (s : S) (fed : Fed) → fed.used ≡ length (take left piece)
+    → fed.event ≡ paused new.taken new.left fed.used (length piece) → new.left ≡ left - fed.used → 1 ≤ length (b ++ take left piece)
+    → Counts order new (b ++ take left piece) → StandsFor s (b ++ take left piece) → events order (b ++ take left piece) ≡ events order b
+    → NoneRefused order (b ++ take left piece) → (new.left ≡ 0 → IsUnit order (b ++ take left piece)) → Feeds StandsFor order b piece fed s
+pauses StandsFor order b piece left new s fed size is left_is some counts stands same sound whole = elim (paused_cases new.taken new.left fed.used (length piece) (omega (arith, some, counts.taken))) [
+  | inl e ↦ feeds_with StandsFor order b piece u s fed event.End back within (is ∙ e.0) stands grows (subst (λ (w : List ℕ). IsUnit order (b ++ w)) (sym back) (whole e.1), e.2) sound
+  | inr m ↦ feeds_with StandsFor order b piece u s fed event.More back within (is ∙ m.0) stands grows (all m.1, λ unit. (m.1 (none_left unit)).0) sound
+]
+  where
+    u : List ℕ
+    u = take left piece
+
+    back : take fed.used piece ≡ take left piece
+    back = take_front piece (take left piece) (drop left piece) fed.used (sym (take-append-drop left piece)) size
+
+    long : length (take left piece) ≡ min left (length piece)
+    long = length-take left piece
+
+    within : fed.used ≤ length piece
+    within = omega (arith, size, long)
+
+    grows : events order (b ++ take left piece) ≡ events order b ++ []
+    grows = same ∙ sym (append-nil (events order b))
+
+    all : (new.left ≡ 0 → (1 ≤ fed.used) × (length piece ≤ fed.used)) → fed.used ≡ length piece
+    all more = elim (cases_eq new.left 0) [
+      | inl none ↦ (let m = more none in omega (arith, within, m.1))
+      | inr other ↦ omega (arith, other, left_is, size, long)
+    ]
+
+    none_left : IsUnit order (b ++ take fed.used piece) → new.left ≡ 0
+    none_left unit =
+        let len = length_of_unit order (b ++ take left piece) (subst (λ (w : List ℕ). IsUnit order (b ++ w)) back unit) in
+        let e : new.taken + new.left ≡ length (b ++ take left piece) = some_same (new.taken + new.left) (length (b ++ take left piece)) (sym counts.left ∙ len) in
+        omega (arith, e, counts.taken)
+
+-- ---- inside a program
+
+-- the elements of a list of bytes
+pub all_bytes : (w : List ℕ) → ((i : ℕ) → i < length w → get_or w i 0 < 256) → AllBytes w
+all_bytes [] h = tt
+all_bytes (b ∷ w) h = (h 0 (omega arith), all_bytes w (λ i lt. h (suc i) (omega arith)))
+
+-- what the reader of a program gives for the bytes that are left of the unit
+pub given_in : (order : Order) (h : HeaderData) (p : Params) (t new : Tail) (b piece bytes : List ℕ) (given : Given) (q : Program) (is : InProgram order h t b) → h.params ≡ p → bytes ≡ take t.left piece → AllBytes piece
+    → new.program ≡ q → ((c : List ℕ) → FitsProgram p → AllBytes bytes → ProgramStands order p t.program c → GivenIs order p c bytes given q) → GivenIs order h.params is.program (take t.left piece) given new.program
+given_in order h p t new b piece bytes given q is params front all program gives =
+    let some : AllBytes (take t.left piece) = bytes_front (take t.left piece) (drop t.left piece) (subst (λ (w : List ℕ). AllBytes w) (sym (take-append-drop t.left piece)) all) in
+    subst (λ (r : Program). GivenIs order h.params is.program (take t.left piece) given r) (sym program)
+    (subst (λ (w : List ℕ). GivenIs order h.params is.program w given q) front
+    (subst (λ (r : Params). FitsProgram r → AllBytes bytes → ProgramStands order r t.program is.program → GivenIs order r is.program bytes given q) (sym params) (gives is.program) is.fits (subst (λ (w : List ℕ). AllBytes w) (sym front) some) is.stands))
+
+-- what is said of bytes that give a row
+abbrev pub RowGiven : Order → HeaderData → List ℕ → List ℕ → Row → List ℕ → Program → Type 0
+RowGiven order h program bytes row behind new =
+    (front : List ℕ) × (last : ℕ) × (bytes ≡ (front ++ last ∷ []) ++ behind) × ProgramStands order h.params new (program ++ (front ++ last ∷ []))
+    × (rows_in order h.params (program ++ front) ≡ rows_in order h.params program) × (rows_in order h.params (program ++ (front ++ last ∷ [])) ≡ rows_in order h.params program ++ row ∷ [])
+    × Unrefused order h.params program (front ++ last ∷ [])
+
+pub feeds_row : (order : Order) (h : HeaderData) (t new : Tail) (b piece behind : List ℕ) (row : Row) (used : ℕ) (is : InProgram order h t b) → RowGiven order h is.program (take t.left piece) row behind new.program
+    → used ≡ length (take t.left piece) - length behind → new.taken ≡ min (t.taken + used) (2 ^ 64 - 1) → new.left ≡ t.left - used
+    → Feeds (InProgram order h) order b piece (fed_of used (event.Row row)) new
+feeds_row order h t new b piece behind row used is (front, last, e, stands, before, grown, unrefused) size taken left =
+    let u = front ++ last ∷ [] in
+    let le = taken_le piece u behind t.left e in
+    let exact : used ≡ length u = omega (arith, size, ap length e, length-append u behind) in
+    let whole = piece_is piece u behind t.left e in
+    let same = take_front piece u (behind ++ drop t.left piece) used whole exact in
+    let ends : (operations_in order h.params (is.program ++ u)).rest ≡ [] =
+    subst (λ (w : List ℕ). (operations_in order h.params w).rest ≡ []) (append_assoc is.program front (last ∷ []))
+    (row_ends order h.params (is.program ++ front) last row (ap (rows_in order h.params) (append_assoc is.program front (last ∷ [])) ∙ grown ∙ ap (λ (rows : List Row). rows ++ row ∷ []) (sym before))) in
+    let now : InProgram order h new (b ++ u) =
+    program_on order h t b u is le.0 new stands unrefused (λ full. ends) (taken ∙ ap (λ (n : ℕ). min (t.taken + n) (2 ^ 64 - 1)) exact) (left ∙ ap (λ (n : ℕ). t.left - n) exact) in
+    let one : 1 ≤ used = omega (arith, exact, length-append front (last ∷ [])) in
+    let fewer : used - 1 ≡ length front = omega (arith, exact, length-append front (last ∷ [])) in
+    let front_is = take_front piece front ((last ∷ []) ++ (behind ++ drop t.left piece)) (used - 1) (whole ∙ append_assoc front (last ∷ []) (behind ++ drop t.left piece)) fewer in
+    feeds_with (InProgram order h) order b piece u new (fed_of used (event.Row row)) (event.Row row) same (omega (arith, exact, le.1)) refl now (events_row order h t b u is le.0 row grown)
+    (one, ap (λ (w : List ℕ). events order (b ++ w)) front_is ∙ events_same order h t b front is (omega (arith, le.0, length-append front (last ∷ []))) front before)
+    now.sound
+
+-- what is said of bytes that give nothing
+abbrev pub NothingGiven : Order → HeaderData → List ℕ → List ℕ → Program → Type 0
+NothingGiven order h program bytes new =
+    ProgramStands order h.params new (program ++ bytes) × (rows_in order h.params (program ++ bytes) ≡ rows_in order h.params program) × Unrefused order h.params program bytes
+
+pub feeds_nothing : (order : Order) (h : HeaderData) (t new : Tail) (b piece : List ℕ) (fed : Fed) (is : InProgram order h t b) → NothingGiven order h is.program (take t.left piece) new.program
+    → fed.used ≡ length (take t.left piece) → fed.event ≡ paused new.taken new.left fed.used (length piece)
+    → new.taken ≡ min (t.taken + length (take t.left piece)) (2 ^ 64 - 1) → new.left ≡ t.left - length (take t.left piece)
+    → (new.left ≡ 0 → (operations_in order h.params (is.program ++ take t.left piece)).rest ≡ []) → Feeds (InProgram order h) order b piece fed new
+feeds_nothing order h t new b piece fed is (stands, rows, unrefused) size event taken left between =
+    let u = take t.left piece in
+    let le : length u ≤ t.left = (let l = length-take t.left piece in omega (arith, l)) in
+    let now : InProgram order h new (b ++ u) =
+    program_on order h t b u is le new stands unrefused (λ full. between (omega (arith, left, full, is.counts.taken, length-append b u))) taken left in
+    pauses (InProgram order h) order b piece t.left new new fed size event (left ∙ ap (λ (n : ℕ). t.left - n) (sym size)) (some_bytes order h new (b ++ u) now) now.counts now
+    (events_same order h t b u is le u rows) now.sound
+    (λ none. (unit_unless_refused order (b ++ u) (now.counts.left ∙ ap (λ (n : ℕ). Some n) (omega (arith, none, now.counts.taken)))).1 now.sound)
+
+abbrev fault_of : ℕ → FaultKind → Fault
+fault_of at kind = record { offset = at; kind = kind }
+
+-- a fault, u being what is taken of the piece
+fails_with : (order : Order) (b piece u : List ℕ) (used : ℕ) (new : Tail) (answer made : Fault) → take used piece ≡ u → used ≤ length piece → answer ≡ made → Refused order (b ++ u) made.offset made.kind
+    → events order (b ++ u) ≡ events order b → Stops order new (b ++ u) → (n : ℕ) × Fails order b piece answer n × Stops order new (b ++ take n piece)
+fails_with order b piece u used new answer made same le is refused events_are stops = (
+  used,
+  record {
+    within = le;
+    refused = subst (λ (f : Fault). Refused order (b ++ take used piece) f.offset f.kind) (sym is) (subst (λ (w : List ℕ). Refused order (b ++ w) made.offset made.kind) (sym same) refused);
+    no_event = ap (λ (w : List ℕ). events order (b ++ w)) same ∙ events_are;
+  },
+  subst (λ (w : List ℕ). Stops order new (b ++ w)) (sym same) stops,
+)
+
+-- the unit ends in an operation
+pub fails_overrun : (order : Order) (h : HeaderData) (t new : Tail) (b piece : List ℕ) (answer : Fault) (is : InProgram order h t b) → NothingGiven order h is.program (take t.left piece) new.program
+    → new.taken ≡ min (t.taken + length (take t.left piece)) (2 ^ 64 - 1) → new.left ≡ t.left - length (take t.left piece) → new.left ≡ 0
+    → ((operations_in order h.params (is.program ++ take t.left piece)).rest ≡ [] → ⊥) → answer ≡ record { offset = new.taken - new.program.begun; kind = fault.OpcodeOverrun }
+    → (n : ℕ) × Fails order b piece answer n × Stops order new (b ++ take n piece)
+fails_overrun order h t new b piece answer is (stands, rows, unrefused) taken left none begun answer_is =
+    let u = take t.left piece in
+    let long = length-take t.left piece in
+    let le : length u ≤ t.left = omega (arith, long) in
+    let full : length (b ++ u) ≡ t.taken + t.left = omega (arith, left, none, le, is.counts.taken, length-append b u) in
+    let decides = decides_overrun order h t b u is le full begun (λ k. unrefused u [] (sym (append-nil u)) k) in
+    let count = stands.count ∙ ap (λ (w : List ℕ). min (length w) (2 ^ 64 - 1)) (sym (rest-found order h.params (is.program ++ u) stands.operations stands.begun stands.found)) in
+    let refused = refused_on order h t b u is le fault.OpcodeOverrun decides (λ front x back e k. unrefused front (x ∷ back) e k) new.taken new.program.begun taken count in
+    fails_with order b piece u (length u) new answer (record { offset = new.taken - new.program.begun; kind = fault.OpcodeOverrun })
+    (take_front piece u (drop t.left piece) (length u) (sym (take-append-drop t.left piece)) refl) (omega (arith, long)) answer_is refused (events_same order h t b u is le u rows)
+    (record { taken = (counts_on order t new b u is.counts le taken left).taken; in_sequence = in_sequence_is order h.params new.program (is.program ++ u) stands ∙ ap ends_open (sym (rows_on order h t b u is le u)) })
+
+-- what is said of bytes that end in a bad operation
+abbrev pub BadGiven : Order → HeaderData → List ℕ → List ℕ → FaultKind → List ℕ → Program → Type 0
+BadGiven order h program bytes kind behind new =
+    (front : List ℕ) × (last : ℕ) × (bytes ≡ (front ++ last ∷ []) ++ behind) × (rows_in order h.params (program ++ (front ++ last ∷ [])) ≡ rows_in order h.params program)
+    × Unrefused order h.params program front × (operation_spelt order h.params (operations_in order h.params (program ++ (front ++ last ∷ []))).rest ≡ Some (Err kind))
+    × (new.begun ≡ min (length (operations_in order h.params (program ++ (front ++ last ∷ []))).rest) (2 ^ 64 - 1))
+    × (new.in_sequence ≡ ends_open (rows_in order h.params (program ++ (front ++ last ∷ []))))
+
+pub fails_bad : (order : Order) (h : HeaderData) (t new : Tail) (b piece behind : List ℕ) (kind : FaultKind) (answer : Fault) (used : ℕ) (is : InProgram order h t b)
+    → BadGiven order h is.program (take t.left piece) kind behind new.program → used ≡ length (take t.left piece) - length behind
+    → new.taken ≡ min (t.taken + used) (2 ^ 64 - 1) → new.left ≡ t.left - used → answer ≡ record { offset = new.taken - new.program.begun; kind = kind }
+    → (n : ℕ) × Fails order b piece answer n × Stops order new (b ++ take n piece)
+fails_bad order h t new b piece behind kind answer used is (front, last, e, rows, unrefused, spelt, count, open_is) size taken left answer_is =
+    let u = front ++ last ∷ [] in
+    let le = taken_le piece u behind t.left e in
+    let exact : used ≡ length u = omega (arith, size, ap length e, length-append u behind) in
+    let counted = taken ∙ ap (λ (n : ℕ). min (t.taken + n) (2 ^ 64 - 1)) exact in
+    let refused =
+    refused_on order h t b u is le.0 kind (decides_bad order h t b u is le.0 kind spelt) (λ f x back k. (let z = front_before front f last x back k in unrefused f z.0 z.1)) new.taken new.program.begun counted count in
+    fails_with order b piece u used new answer (record { offset = new.taken - new.program.begun; kind = kind })
+    (take_front piece u (behind ++ drop t.left piece) used (piece_is piece u behind t.left e) exact) (omega (arith, exact, le.1)) answer_is refused (events_same order h t b u is le.0 u rows)
+    (record { taken = (counts_on order t new b u is.counts le.0 counted (left ∙ ap (λ (n : ℕ). t.left - n) exact)).taken; in_sequence = open_is ∙ ap ends_open (sym (rows_on order h t b u is le.0 u)) })

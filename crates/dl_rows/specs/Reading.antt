@@ -1,0 +1,55 @@
+-- What a reader of a unit answers. Places count from the unit's first byte. DWARF 5, section 6.2.4.
+use Rattle.std.specs.Prelude.{◌≡◌, ◌<◌, ◌≤◌, ◌⊎◌, ◌-◌, ℕ, List, [], ◌∷◌, ◌++◌, length, take, Some, None, slice_get}
+use Rattle.dl_num.specs.declared.fixed.Order.{Order}
+use Rattle.dl_head.specs.declared.fault.Fault.{Fault}
+use Rattle.dl_head.specs.declared.fault.FaultKind.{FaultKind}
+use Rattle.dl_head.specs.Cells.{cells}
+use Rattle.dl_head.specs.Header.{header_in}
+use Rattle.dl_rows.specs.declared.reader.Event.{Event}
+use Rattle.dl_rows.specs.declared.reader.Event.TheVariants as event
+use Rattle.dl_rows.specs.declared.reader.Fed.{Fed}
+use Rattle.dl_rows.specs.LineUnit.{IsUnit, events}
+use Rattle.dl_rows.specs.Refusal.{Refused}
+
+-- an answer that may use no byte
+abbrev pub IsPause : Event → Type 0
+IsPause event.More = Unit {0}
+IsPause event.End = Unit {0}
+IsPause event.NoMemory = Unit {0}
+IsPause other = ⊥
+
+-- the events that an answer tells
+abbrev pub told : Event → List Event
+told event.More = []
+told event.End = []
+told event.NoMemory = []
+told other = other ∷ []
+
+-- What is said of an answer, b being the bytes taken before the call, and used bytes of the piece taken in it.
+abbrev pub EventHolds : Order → List ℕ → List ℕ → ℕ → Event → Type 0
+-- the whole piece is used; where it ends a unit, it isn't empty
+EventHolds order b piece used event.More = (used ≡ length piece) × (IsUnit order (b ++ take used piece) → 1 ≤ used)
+-- a unit is whole
+EventHolds order b piece used event.End = IsUnit order (b ++ take used piece) × ((used ≡ 0) ⊎ (used < length piece))
+-- the next byte of a header adds a cell
+EventHolds order b piece used event.NoMemory =
+    (byte : ℕ) × (slice_get piece used ≡ Some byte) × (header_in order (b ++ take used piece) ≡ None)
+    × (cells order (b ++ take used piece) < cells order ((b ++ take used piece) ++ byte ∷ []))
+-- what is told comes with the last byte used
+EventHolds order b piece used other = (1 ≤ used) × (events order (b ++ take (used - 1) piece) ≡ events order b)
+
+-- an answer of an event, the reader then being new
+pub record Feeds {S : Type 0} (StandsFor : S → List ℕ → Type 0) (order : Order) (b piece : List ℕ) (fed : Fed) (new : S) : Type 0 where
+  pub within : fed.used ≤ length piece
+  pub stands : StandsFor new (b ++ take fed.used piece)
+  -- the events grow by what is told, and by nothing else
+  pub grows : events order (b ++ take fed.used piece) ≡ events order b ++ told fed.event
+  pub holds : EventHolds order b piece fed.used fed.event
+  -- nothing that was taken is refused
+  pub sound : (front back : List ℕ) (at : ℕ) (kind : FaultKind) → b ++ take fed.used piece ≡ front ++ back → Refused order front at kind → ⊥
+
+-- an answer of a fault: the bytes up to the one that decides it are refused
+pub record Fails (order : Order) (b piece : List ℕ) (fault : Fault) (used : ℕ) : Type 0 where
+  pub within : used ≤ length piece
+  pub refused : Refused order (b ++ take used piece) fault.offset fault.kind
+  pub no_event : events order (b ++ take used piece) ≡ events order b

@@ -1,0 +1,78 @@
+-- Laws of the definitions of units and refusals. Each holds in either byte order, which is the same throughout a law.
+use Rattle.std.specs.Prelude.{◌^◌, ◌<◌, unsigned_abs, ◌⊎◌, ◌+◌, ◌≡◌, ℕ, ◌≤◌, ◌↔◌, List, [], ◌∷◌, ◌++◌, length, map, Some, None}
+use Rattle.dl_num.specs.declared.fixed.Order.{Order}
+use Rattle.dl_num.specs.Laws.{AllBytes}
+use Rattle.dl_head.specs.Built.{IsUsable}
+use Rattle.dl_head.specs.declared.fault.FaultKind.{FaultKind}
+use Rattle.dl_head.specs.declared.fault.FaultKind.TheVariants as fault
+use Rattle.dl_head.specs.declared.params.Params.{Params}
+use Rattle.dl_head.specs.TableData.{HeaderData}
+use Rattle.dl_head.specs.Header.{IsHeader, header_in, unit_len}
+use Rattle.dl_head.specs.Refusal.{HeaderRefused}
+use Rattle.dl_rows.specs.declared.operation.Operation.{Operation}
+use Rattle.dl_rows.specs.declared.reader.Event.TheVariants as event
+use Rattle.dl_rows.specs.BadOperation.{IsBadOperation}
+use Rattle.dl_rows.specs.Matrix.{matrix}
+use Rattle.dl_rows.specs.Spelling.{SpellsOperation, SpellsProgram}
+use Rattle.dl_rows.specs.LineUnit.{HasItsLength, IsForeignUnit, IsOwnUnit, IsUnit, unit_rows, events}
+use Rattle.dl_rows.specs.Refusal.{Refused}
+
+-- the params of a header are usable, and its line_base is one byte
+abbrev pub HeaderFits : Type 0
+HeaderFits = (order : Order) (h : HeaderData) (w : List ℕ) → AllBytes w → IsHeader order h w → IsUsable h.params × (unsigned_abs h.params.line_base < 2 ^ 62)
+
+-- bytes are as long as their good initial length says exactly where the computed length is theirs
+abbrev pub LengthIsComputed : Type 0
+LengthIsComputed = (order : Order) (u : List ℕ) → HasItsLength order u ↔ (unit_len order u ≡ Some (length u))
+
+-- no unit begins another
+abbrev pub NoUnitBeginsAnother : Type 0
+NoUnitBeginsAnother = (order : Order) (u v : List ℕ) → IsUnit order u → IsUnit order (u ++ v) → v ≡ []
+
+-- what a unit comes to
+abbrev pub ForeignComesTo : Type 0
+ForeignComesTo = (order : Order) (version : ℕ) (u : List ℕ) → IsForeignUnit order version u → events order u ≡ event.Foreign version ∷ []
+
+abbrev pub UnitComesTo : Type 0
+UnitComesTo = (order : Order) (h : HeaderData) (p : List Operation) (u : List ℕ) → IsOwnUnit order h p u
+    → events order u ≡ event.Header ∷ map event.Row (matrix h.params p)
+
+-- of the fronts of a list one alone is refused, at one place, for one kind
+abbrev pub OneRefusal : Type 0
+OneRefusal = (order : Order) (b c v u : List ℕ) (at at2 : ℕ) (kind kind2 : FaultKind) → b ++ v ≡ c ++ u
+    → Refused order b at kind → Refused order c at2 kind2 → (b ≡ c) × (at ≡ at2) × (kind ≡ kind2)
+
+-- bytes without a whole header are refused where they are in their header
+abbrev pub RefusedInHeader : Type 0
+RefusedInHeader = (order : Order) (b : List ℕ) (at : ℕ) (kind : FaultKind) → header_in order b ≡ None → Refused order b at kind ↔ HeaderRefused order b at kind
+
+-- b ends in the unit's last bytes, begun: they aren't none, no bad operation, and none stands at their front
+pub record IsCutShort (order : Order) (h : Params) (b begun : List ℕ) : Type 0 where
+  pub last : unit_len order b ≡ Some (length b)
+  pub some : 1 ≤ length begun
+  pub not_bad : (kind : FaultKind) → IsBadOperation h begun kind → ⊥
+  pub not_whole : (o : Operation) (front back : List ℕ) → begun ≡ front ++ back → SpellsOperation order h o front → ⊥
+
+-- the program of b is operations, and then bytes of one that is bad or cut short
+pub record RefusesOperation (order : Order) (h : Params) (b program : List ℕ) (at : ℕ) (kind : FaultKind) : Type 0 where
+  pub operations : List Operation
+  pub done : List ℕ
+  pub begun : List ℕ
+  pub whole : program ≡ done ++ begun
+  pub spells : SpellsProgram order h operations done
+  pub place : at + length begun ≡ length b
+  pub fault : IsBadOperation h begun kind ⊎ (IsCutShort order h b begun × (kind ≡ fault.OpcodeOverrun))
+
+-- where the header is complete, an operation is refused
+abbrev pub RefusedInProgram : Type 0
+RefusedInProgram = (order : Order) (b : List ℕ) (h : HeaderData) (program : List ℕ) (at : ℕ) (kind : FaultKind) → header_in order b ≡ Some (h, program)
+    → Refused order b at kind → RefusesOperation order h.params b program at kind
+
+-- bytes as long as their good initial length says are a unit exactly where no front of them is refused
+abbrev pub UnitUnlessRefused : Type 0
+UnitUnlessRefused = (order : Order) (b : List ℕ) → unit_len order b ≡ Some (length b)
+    → IsUnit order b ↔ ((front back : List ℕ) (at : ℕ) (kind : FaultKind) → b ≡ front ++ back → Refused order front at kind → ⊥)
+
+-- at most one row for each byte of the program
+abbrev pub RowForProgramByte : Type 0
+RowForProgramByte = (order : Order) (b : List ℕ) (h : HeaderData) (program : List ℕ) → header_in order b ≡ Some (h, program) → length (unit_rows order b) ≤ length program
