@@ -20,6 +20,7 @@ pub mod ProgramWalks
 pub mod ReaderFeeds
 pub mod ReaderLemmas
 pub mod RegisterLemmas
+pub mod RunLemmas
 pub mod SkipLemmas
 pub mod SpeltFirst
 pub mod TailFeeds

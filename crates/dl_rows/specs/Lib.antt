@@ -1,4 +1,5 @@
 pub mod BadOperation
+pub mod Heard
 pub mod Laws
 pub mod Left
 pub mod LineUnit
@@ -11,6 +12,7 @@ pub mod Progress
 pub mod ReaderStands
 pub mod Reading
 pub mod Refusal
+pub mod Runs
 pub mod Spelling
 pub mod Sums
 pub mod Tails

@@ -11,7 +11,7 @@ pub mod row;
 mod tail;
 
 pub use operation::Operation;
-pub use reader::{Event, Fed, Finish, Reader};
+pub use reader::{Event, Fed, Finish, Listener, Reader, Run};
 pub use row::Row;
 
 #[cfg(test)]

@@ -7,11 +7,14 @@ ghost use Rattle.dl_rows.specs.LineUnit.{IsUnit, unit_rows, ends_open};
 ghost use Rattle.dl_head.specs.Header.{unit_len};
 ghost use Rattle.dl_head.specs.Standing.{StandsFor as HeadStands};
 
+mod run;
+
 use crate::program::Program;
 use crate::row::Row;
 use crate::tail::Tail;
 use dl_head::{Fault, FaultKind, HeadReader, HeadStep, Header};
 use dl_num::Order;
+pub use run::{Listener, Run};
 use std::alloc::Global;
 
 /// What a piece of a unit gave.

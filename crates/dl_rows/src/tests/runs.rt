@@ -1,0 +1,85 @@
+//! Units in turns, and what a listener hears.
+
+ghost use Rattle.std.specs.Prelude.{◌≡◌, ◌-◌, ◌^◌, length, min};
+
+use crate::reader::Listener;
+use crate::tests::vectors::{THREE_ROWS, bytes, unit};
+use crate::{Event, Reader, Run};
+use dl_head::{Fault, FaultKind};
+use dl_num::Order;
+use std::alloc::Global;
+use std::process::Abort;
+use std::test::Fail;
+
+/// Counts what it hears.
+#[derive(Drop)]
+struct Counter {
+    events: u64,
+}
+
+impl Listener for Counter {
+    ghost heard = { λ counter events. counter.events ≡ min (length events) (2 ^ 64 - 1) };
+
+    fn hear(&mut self, _event: Event) {
+        self.events = self.events.saturating_add(1);
+    }
+}
+
+/// Asserts that a unit of three rows is heard whole in turns like these.
+fn assert_heard(rt: &impl Abort, alloc: Global, turns: &[usize]) -> Result<(), Fail> {
+    let three_rows = unit(alloc, THREE_ROWS)?;
+    let mut reader = Reader::new(alloc, Order::Little);
+    let mut counter = Counter { events: 0 };
+    let mut ended = false;
+    let mut taken = 0usize;
+    for _ in 0..8 {
+        let rest = three_rows
+            .as_slice()
+            .get(taken..)
+            .ok_or("bytes that are left")?;
+        let run = reader.run(rest, turns, &mut counter).expect(rt, "no fault");
+        taken = taken.saturating_add(run.taken);
+        ended = run.ended;
+        if ended {
+            break;
+        }
+    }
+    assert!(rt; ended);
+    assert_eq!(rt; taken, three_rows.len());
+    assert_eq!(rt; counter.events, 4);
+    Ok(())
+}
+
+#[test]
+fn a_unit_in_turns_is_heard_whole(rt: HostRuntime) -> Result<(), Fail> {
+    assert_heard(&rt, rt.alloc(), &[1; 80])?;
+    assert_heard(&rt, rt.alloc(), &[100, 1])?;
+    assert_heard(&rt, rt.alloc(), &[20, 0, 100, 1, 1, 1, 1])
+}
+
+#[test]
+fn a_run_stops_at_a_fault(rt: HostRuntime) -> Result<(), Fail> {
+    let reserved = bytes(rt.alloc(), "f0 ff ff ff 00")?;
+    let mut reader = Reader::new(rt.alloc(), Order::Little);
+    let mut counter = Counter { events: 0 };
+    let nothing = Run {
+        taken: 0,
+        refused: 0,
+        ended: false,
+    };
+    assert_eq!(rt;
+        reader.run(reserved.as_slice(), &[], &mut counter),
+        Ok(nothing)
+    );
+    let fault = Fault {
+        offset: 0,
+        kind: FaultKind::ReservedLength,
+    };
+    assert_eq!(rt;
+        reader.run(reserved.as_slice(), &[3, 3], &mut counter),
+        Err(fault)
+    );
+    assert_eq!(rt; reader.taken(), 4);
+    assert_eq!(rt; counter.events, 0);
+    Ok(())
+}
