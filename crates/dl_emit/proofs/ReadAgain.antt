@@ -1,5 +1,5 @@
 -- The program that is written for rows is read again as these rows.
-use Rattle.std.proofs.Common.{◌≡◌, ℕ, ◌+◌, ◌^◌, ◌<◌, ◌≤◌, Bool, true, false, nat_lt, if◌then◌else◌, ℤ, pos, negsuc, List, [], ◌∷◌, Option, Some, None, refl, inl, inr, sym, ap, ◌∙◌, arith}
+use Rattle.std.proofs.Common.{◌≡◌, ℕ, ◌+◌, ◌^◌, ◌<◌, ◌≤◌, Bool, true, false, nat_lt, if◌then◌else◌, ℤ, pos, negsuc, List, [], ◌∷◌, Option, Some, None, refl, inl, inr, sym, ap, subst, map, ◌∙◌, arith}
 use Rattle.std.specs.Option.{option_or}
 use Rattle.std.specs.Prelude.{unsigned_abs, ◌*◌, ◌==◌}
 use Rattle.std.specs.Int.{w8}
@@ -20,6 +20,11 @@ use Rattle.dl_head.proofs.WrittenHeaders.{all_good, header_is_written, length_is
 use Rattle.dl_rows.specs.declared.row.Row.{Row}
 use Rattle.dl_rows.specs.declared.operation.Operation.{Operation}
 use Rattle.dl_rows.specs.OperationSpelt.{operations_in}
+use Rattle.dl_rows.specs.declared.reader.Event.TheVariants as event
+use Rattle.dl_rows.specs.LineUnit.{IsOwnUnit}
+use Rattle.dl_rows.specs.Spelling.{SpellsProgram}
+use Rattle.dl_rows.proofs.UnitLaws.{unit_comes_to}
+use Rattle.dl_rows.proofs.UnitLengths.{length_is_computed}
 use Rattle.dl_rows.specs.Matrix.{matrix}
 use Rattle.dl_rows.specs.Sums.{HasRange, FitsProgram}
 use Rattle.dl_rows.proofs.ProgramLaws.{program_is_found}
@@ -27,7 +32,7 @@ use Rattle.dl_rows.proofs.RegisterLemmas.{size_cases}
 use Rattle.dl_emit.specs.declared.fault.EmitFault.{EmitFault}
 use Rattle.dl_emit.specs.declared.fault.EmitFault.TheVariants as fault
 use Rattle.dl_emit.specs.Program.{operations}
-use Rattle.dl_emit.specs.WrittenUnit.{program_len, rows_refusal, program_bytes, is_in_range, out_of_range, unless}
+use Rattle.dl_emit.specs.WrittenUnit.{unit_of, program_len, rows_refusal, program_bytes, is_in_range, out_of_range, unless}
 use Rattle.dl_emit.specs.Laws.{IsRow, IsParams, ProgramIsReadAgain, UnitIsReadAgain}
 use Rattle.dl_emit.proofs.RunLemmas.{matrix_is_run}
 use Rattle.dl_emit.proofs.RowRuns.{Fits, run_rows, starts_somewhere}
@@ -80,6 +85,7 @@ program_is_read_again order h rows params row none =
     let program : FitsProgram h = record { usable = params.usable; line_base = base_fits h.line_base params.line_base } in
     let rows_are = matrix_is_run h program os (all_map (IsWritten h) HasRange (has_range h) os written) in
     record {
+      spells = subst (λ (l : List Operation). SpellsProgram order h l bytes) (sym (ap (λ (s : Standing Operation). s.found) found)) spelled;
       all = ap (λ (s : Standing Operation). s.rest) found;
       same = ap (λ (s : Standing Operation). matrix h s.found) found ∙ rows_are ∙ run_rows h rows None base params.usable.operations fits (starts_somewhere h params.usable.operations);
     }
@@ -111,8 +117,21 @@ unit_is_read_again order h rows sound row none =
     let program = program_bytes order h.params rows in
     let t = nothing_left (is_within_limit h count) fault.TooLong (rows_refusal h.params rows) none in
     let size = length-unit h rows order in
+    let again = program_is_read_again order h.params rows (sound_params h sound) row t.0 in
+    let whole = length_is_written order h count program sound t.1 ∙ ap (λ (n : ℕ). let o : Option ℕ = Some n in o) (sym size) in
+    let header = header_is_written order h count sound t.1 in
+    let own : IsOwnUnit order h (operations_in order h.params program).found (unit_of order h rows) = record {
+      its_length = (length_is_computed order (unit_of order h rows)).1 whole;
+      header = header_bytes order h count;
+      program = program;
+      whole = refl;
+      spells_header = header;
+      spells_program = again.spells;
+    } in
     record {
-      whole = length_is_written order h count program sound t.1 ∙ ap (λ (n : ℕ). let o : Option ℕ = Some n in o) (sym size);
-      header = header_is_found order h (header_bytes order h count) program (header_is_written order h count sound t.1);
-      program = program_is_read_again order h.params rows (sound_params h sound) row t.0;
+      unit = own;
+      events_are = unit_comes_to order h (operations_in order h.params program).found (unit_of order h rows) own ∙ ap (λ (l : List Row). event.Header ∷ map event.Row l) again.same;
+      whole = whole;
+      header = header_is_found order h (header_bytes order h count) program header;
+      program = again;
     }

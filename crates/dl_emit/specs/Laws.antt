@@ -1,5 +1,5 @@
 -- Laws of the definitions of what is written.
-use Rattle.std.specs.Prelude.{◌≡◌, ◌^◌, ◌<◌, List, [], length, Some, None}
+use Rattle.std.specs.Prelude.{◌≡◌, ◌^◌, ◌<◌, List, [], ◌∷◌, map, length, Some, None}
 use Rattle.std.specs.Int.{w8}
 use Rattle.std.specs.Int.RustNames.{FitsSigned}
 use Rattle.std.specs.List.{AllByRecursion}
@@ -10,6 +10,9 @@ use Rattle.dl_head.specs.Built.{IsUsable}
 use Rattle.dl_head.specs.Header.{unit_len, header_in}
 use Rattle.dl_head.specs.WrittenLaws.{IsSoundHeader}
 use Rattle.dl_rows.specs.declared.row.Row.{Row}
+use Rattle.dl_rows.specs.declared.reader.Event.TheVariants as event
+use Rattle.dl_rows.specs.LineUnit.{IsOwnUnit, events}
+use Rattle.dl_rows.specs.Spelling.{SpellsProgram}
 use Rattle.dl_rows.specs.OperationSpelt.{operations_in}
 use Rattle.dl_rows.specs.Matrix.{matrix}
 use Rattle.dl_emit.specs.WrittenUnit.{unit_of, program_bytes, rows_refusal, refusal}
@@ -28,8 +31,9 @@ pub record IsParams (h : Params) : Type 0 where
   pub usable : IsUsable h
   pub line_base : FitsSigned w8 h.line_base
 
--- the bytes that are written for rows are read again as operations to the last byte, and the rows of these are the same
+-- the bytes that are written for rows are a program, and are read again as its operations to the last byte, whose rows are the same
 pub record IsReadAgain (order : Order) (h : Params) (rows : List Row) : Type 0 where
+  pub spells : SpellsProgram order h (operations_in order h (program_bytes order h rows)).found (program_bytes order h rows)
   pub all : (operations_in order h (program_bytes order h rows)).rest ≡ []
   pub same : matrix h (operations_in order h (program_bytes order h rows)).found ≡ rows
 
@@ -37,8 +41,10 @@ pub record IsReadAgain (order : Order) (h : Params) (rows : List Row) : Type 0 w
 abbrev pub ProgramIsReadAgain : Type 0
 ProgramIsReadAgain = (order : Order) (h : Params) (rows : List Row) → IsParams h → AllByRecursion IsRow rows → rows_refusal h rows ≡ None → IsReadAgain order h rows
 
--- the bytes that are written for a header and rows are as long as they tell, and begin with the header; what follows it is read again as the rows
+-- the bytes that are written for a header and rows are a unit of this header, and come to it and exactly these rows
 pub record IsUnitAgain (order : Order) (h : HeaderData) (rows : List Row) : Type 0 where
+  pub unit : IsOwnUnit order h (operations_in order h.params (program_bytes order h.params rows)).found (unit_of order h rows)
+  pub events_are : events order (unit_of order h rows) ≡ event.Header ∷ map event.Row rows
   pub whole : unit_len order (unit_of order h rows) ≡ Some (length (unit_of order h rows))
   pub header : header_in order (unit_of order h rows) ≡ Some (h, program_bytes order h.params rows)
   pub program : IsReadAgain order h.params rows
