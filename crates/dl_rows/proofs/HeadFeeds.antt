@@ -24,7 +24,7 @@ use Rattle.dl_rows.specs.declared.reader.Event.TheVariants as event
 use Rattle.dl_rows.specs.declared.reader.Fed.{Fed}
 use Rattle.dl_rows.specs.declared.reader.Reader.{Reader}
 use Rattle.dl_rows.specs.LineUnit.{IsUnit, unit_rows, ends_open, events_of, events}
-use Rattle.dl_rows.specs.Reading.{told, EventHolds, Feeds, Fails}
+use Rattle.dl_rows.specs.Reading.{WithinUnit, told, EventHolds, Feeds, Fails}
 use Rattle.dl_rows.specs.Refusal.{Refused}
 use Rattle.dl_rows.specs.ReaderStands.{InHeader, StandsAt, StandsFor, BeginsForeign, BeginsProgram}
 use Rattle.dl_rows.specs.Tails.{Counts, InProgram}
@@ -108,6 +108,9 @@ module _ (old new : Reader) (b piece : List ℕ) (used : ℕ) (step : HeadStep) 
   le : used ≤ length piece
   le = h.took.within
 
+  in_unit : WithinUnit old.order (b ++ take used piece)
+  in_unit n len = h.took.stands.within n (ap (λ (o : Order). unit_len o (b ++ take used piece)) (h.head_order ∙ h.order) ∙ len)
+
   -- ---- the header goes on
 
   module _ (goes : Answers old.order (b ++ take used piece) answer.More) where
@@ -138,6 +141,7 @@ module _ (old new : Reader) (b piece : List ℕ) (used : ℕ) (step : HeadStep) 
     pub feeds_goes : (fed : Fed) → StandsFor new (b ++ take used piece) → fed.used ≡ used → told fed.event ≡ [] → EventHolds old.order b piece used fed.event → Feeds StandsFor old.order b piece fed new
     feeds_goes fed stands same none holds = subst (λ (n : ℕ). Feeds StandsFor old.order b piece (record { used = n; event = fed.event }) new) (sym same) (record {
       within = h.took.within;
+      in_unit = in_unit;
       stands = stands;
       grows = no_events old.order (b ++ take used piece) incomplete goes.1 ∙ sym (ap (λ (l : List Event). l ++ told fed.event) no_event_before ∙ none);
       holds = holds;
@@ -188,6 +192,7 @@ module _ (old new : Reader) (b piece : List ℕ) (used : ℕ) (step : HeadStep) 
         let none = none_here no_header_here in
         record {
           within = h.took.within;
+          in_unit = in_unit;
           refused = (refused_in_header old.order (b ++ take used piece) f.offset f.kind none).1 refused;
           no_event = no_events old.order (b ++ take used piece) none (not_foreign_here (foreign_in old.order (b ++ take used piece)) refl) ∙ sym no_event_before;
         }
@@ -199,6 +204,7 @@ module _ (old new : Reader) (b piece : List ℕ) (used : ℕ) (step : HeadStep) 
         refused = subst (λ (o : Order). Refused o (b ++ take used piece) f.offset f.kind) (sym h.order) fails_head.refused;
         stops = record {
           taken = h.taken;
+          in_unit = subst (λ (o : Order). WithinUnit o (b ++ take used piece)) (sym h.order) in_unit;
           in_sequence = ap (λ p. p.in_sequence) program ∙ was.before ∙ sym (ap (λ (o : Order). ends_open (unit_rows o (b ++ take used piece))) h.order ∙ ap ends_open (no_rows old.order (b ++ take used piece) (none_here no_header_here)));
         };
         front = b ++ take used piece;
@@ -247,6 +253,7 @@ module _ (old new : Reader) (b piece : List ℕ) (used : ℕ) (step : HeadStep) 
         let none = foreign_no_header old.order (b ++ take used piece) v foreign in
         record {
           within = h.took.within;
+          in_unit = in_unit;
           stands = stands;
           grows = ap (λ (o : Option ℕ). events_of old.order o (header_in old.order (b ++ take used piece))) foreign ∙ sym (ap (λ (l : List Event). l ++ event.Foreign v ∷ []) no_event_before);
           holds = (some, last_event some);
@@ -301,6 +308,7 @@ module _ (old new : Reader) (b piece : List ℕ) (used : ℕ) (step : HeadStep) 
     pub feeds_header : 1 ≤ used → StandsFor fin (b ++ take used piece) → Feeds StandsFor old.order b piece (record { used = used; event = event.Header }) fin
     feeds_header some stands = record {
       within = h.took.within;
+      in_unit = in_unit;
       stands = stands;
       grows = header_event old.order g (b ++ take used piece) is ∙ sym (ap (λ (l : List Event). l ++ event.Header ∷ []) no_event_before);
       holds = (some, last_event some);

@@ -19,7 +19,7 @@ use Rattle.dl_rows.specs.declared.reader.Fed.{Fed}
 use Rattle.dl_rows.specs.declared.reader.Reader.{Reader}
 use Rattle.dl_rows.specs.declared.tail.Tail.{Tail}
 use Rattle.dl_rows.specs.LineUnit.{IsUnit, events}
-use Rattle.dl_rows.specs.Reading.{Feeds}
+use Rattle.dl_rows.specs.Reading.{WithinUnit, Feeds}
 use Rattle.dl_rows.specs.Refusal.{Refused}
 use Rattle.dl_rows.specs.ReaderStands.{InHeader, BehindVersion, BehindHeader, Stopped, StandsAt, StandsFor, HeaderIs, FinishIs, KnownIs, ReaderFed}
 use Rattle.dl_rows.specs.Tails.{InProgram, InForeign, ProgramFed}
@@ -40,6 +40,7 @@ feeds_fault r b piece fault is s =
       0,
       record {
         within = omega arith;
+        in_unit = subst (WithinUnit r.order) (sym (no_bytes b piece)) at.stops.in_unit;
         refused = subst (λ (w : List ℕ). Refused r.order w fault.offset fault.kind) (sym (no_bytes b piece)) at.refused;
         no_event = ap (events r.order) (no_bytes b piece);
       },
@@ -68,6 +69,7 @@ feeds_foreign r t b piece fed none foreign s program feeds =
     let f = feeds at.version at.foreign in
     record {
       within = f.within;
+      in_unit = f.in_unit;
       grows = f.grows;
       holds = f.holds;
       sound = f.sound;
@@ -120,6 +122,7 @@ feeds_program r t b piece fed h p none own s header params feeds =
     let f = fed_program r t b piece (Ok fed) h p at found.1 params feeds in
     record {
       within = f.within;
+      in_unit = f.in_unit;
       grows = f.grows;
       holds = f.holds;
       sound = f.sound;

@@ -3,14 +3,15 @@ use Rattle.std.proofs.Common.{◌≡◌, ◌≢◌, ◌⊎◌, inl, inr, ℕ, �
 use Rattle.dl_num.specs.declared.fixed.Order.{Order}
 use Rattle.dl_head.specs.declared.fault.Fault.{Fault}
 use Rattle.dl_head.specs.TableData.{HeaderData}
-use Rattle.dl_head.specs.Header.{foreign_in, header_in}
+use Rattle.dl_head.specs.Header.{foreign_in, header_in, unit_len}
 use Rattle.dl_head.proofs.FieldLemmas.{none_some}
 use Rattle.dl_head.proofs.HeaderLaws.{found_is_header, header_is_found, header_is_not_foreign}
 use Rattle.dl_rows.specs.declared.reader.Reader.{Reader}
 use Rattle.dl_rows.specs.LineUnit.{IsUnit, rows_behind, unit_rows, ends_open}
+use Rattle.dl_rows.specs.Reading.{WithinUnit}
 use Rattle.dl_rows.specs.ReaderStands.{StandsAt}
 use Rattle.dl_rows.proofs.ProgramWalks.{in_sequence_is}
-use Rattle.dl_rows.proofs.TailLemmas.{rows_on}
+use Rattle.dl_rows.proofs.TailLemmas.{counts_within, rows_on}
 use Rattle.dl_rows.proofs.UnitLengths.{foreign_of, foreign_unit, length_of_unit}
 use Rattle.dl_rows.proofs.UnitQuiet.{foreign_quiet}
 use Rattle.dl_rows.proofs.UnitWhole.{NoneRefused, unit_unless_refused}
@@ -42,6 +43,13 @@ module _ (r : Reader) (b : List ℕ) where
   taken_here None (inl s) = s.taken
   taken_here None (inr (inl s)) = s.foreign.counts.taken
   taken_here None (inr (inr s)) = s.program.counts.taken
+
+  -- no byte behind the unit is taken
+  pub within_here : (fault : Option Fault) → r.head.order ≡ r.order → StandsAt r fault b → WithinUnit r.order b
+  within_here (Some fault) same s = s.stops.in_unit
+  within_here None same (inl s) = λ n len. s.head.within n (ap (λ (o : Order). unit_len o b) same ∙ len)
+  within_here None same (inr (inl s)) = counts_within r.order r.tail b s.foreign.counts
+  within_here None same (inr (inr s)) = counts_within r.order r.tail b s.program.counts
 
   -- `finish` of a reader without a fault: none of the bytes is refused
   pub sound_here : StandsAt r None b → NoneRefused r.order b

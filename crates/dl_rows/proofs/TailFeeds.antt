@@ -24,14 +24,14 @@ use Rattle.dl_rows.specs.declared.tail.Tail.{Tail}
 use Rattle.dl_rows.specs.OperationSpelt.{operation_spelt, operations_in}
 use Rattle.dl_rows.specs.LineUnit.{IsUnit, rows_in, ends_open, events}
 use Rattle.dl_rows.specs.Programs.{ProgramStands, Unrefused, GivenIs}
-use Rattle.dl_rows.specs.Reading.{told, EventHolds, Feeds, Fails}
+use Rattle.dl_rows.specs.Reading.{WithinUnit, told, EventHolds, Feeds, Fails}
 use Rattle.dl_rows.specs.Refusal.{Refused}
 use Rattle.dl_rows.specs.Sums.{FitsProgram}
 use Rattle.dl_rows.specs.Tails.{Counts, InProgram, Stops, paused}
 use Rattle.dl_rows.proofs.OperandRanges.{bytes_front}
 use Rattle.dl_rows.proofs.ProgramTurns.{rest-found}
 use Rattle.dl_rows.proofs.ProgramWalks.{in_sequence_is}
-use Rattle.dl_rows.proofs.TailLemmas.{counts_on, program_on, events_same, events_row, refused_on, decides_bad, decides_overrun, rows_on, row_ends}
+use Rattle.dl_rows.proofs.TailLemmas.{counts_within, counts_on, program_on, events_same, events_row, refused_on, decides_bad, decides_overrun, rows_on, row_ends}
 use Rattle.dl_rows.proofs.UnitLengths.{some_same, length_of_unit}
 use Rattle.dl_rows.proofs.UnitWhole.{NoneRefused, unit_unless_refused}
 
@@ -78,9 +78,10 @@ some_bytes order h t (x ∷ b) is = omega arith
 
 -- an answer, u being what is taken of the piece
 feeds_with : {S : Type 0} (StandsFor : S → List ℕ → Type 0) (order : Order) (b piece u : List ℕ) (s : S) (fed : Fed) (e : Event) → take fed.used piece ≡ u → fed.used ≤ length piece → fed.event ≡ e
-    → StandsFor s (b ++ u) → events order (b ++ u) ≡ events order b ++ told e → EventHolds order b piece fed.used e → NoneRefused order (b ++ u) → Feeds StandsFor order b piece fed s
-feeds_with StandsFor order b piece u s fed e same le is stands grows holds sound = record {
+    → StandsFor s (b ++ u) → events order (b ++ u) ≡ events order b ++ told e → EventHolds order b piece fed.used e → NoneRefused order (b ++ u) → WithinUnit order (b ++ u) → Feeds StandsFor order b piece fed s
+feeds_with StandsFor order b piece u s fed e same le is stands grows holds sound in_unit = record {
   within = le;
+  in_unit = subst (λ (w : List ℕ). WithinUnit order (b ++ w)) (sym same) in_unit;
   stands = subst (λ (w : List ℕ). StandsFor s (b ++ w)) (sym same) stands;
   grows = ap (λ (w : List ℕ). events order (b ++ w)) same ∙ grows ∙ ap (λ (x : Event). events order b ++ told x) (sym is);
   holds = subst (λ (x : Event). EventHolds order b piece fed.used x) (sym is) holds;
@@ -93,8 +94,8 @@ pub pauses : {S : Type 0} (StandsFor : S → List ℕ → Type 0) (order : Order
     → Counts order new (b ++ take left piece) → StandsFor s (b ++ take left piece) → events order (b ++ take left piece) ≡ events order b
     → NoneRefused order (b ++ take left piece) → (new.left ≡ 0 → IsUnit order (b ++ take left piece)) → Feeds StandsFor order b piece fed s
 pauses StandsFor order b piece left new s fed size is left_is some counts stands same sound whole = elim (paused_cases new.taken new.left fed.used (length piece) (omega (arith, some, counts.taken))) [
-  | inl e ↦ feeds_with StandsFor order b piece u s fed event.End back within (is ∙ e.0) stands grows (subst (λ (w : List ℕ). IsUnit order (b ++ w)) (sym back) (whole e.1), e.2) sound
-  | inr m ↦ feeds_with StandsFor order b piece u s fed event.More back within (is ∙ m.0) stands grows (all m.1, λ unit. (m.1 (none_left unit)).0) sound
+  | inl e ↦ feeds_with StandsFor order b piece u s fed event.End back within (is ∙ e.0) stands grows (subst (λ (w : List ℕ). IsUnit order (b ++ w)) (sym back) (whole e.1), e.2) sound in_unit
+  | inr m ↦ feeds_with StandsFor order b piece u s fed event.More back within (is ∙ m.0) stands grows (all m.1, λ unit. (m.1 (none_left unit)).0) sound in_unit
 ]
   where
     u : List ℕ
@@ -108,6 +109,9 @@ pauses StandsFor order b piece left new s fed size is left_is some counts stands
 
     within : fed.used ≤ length piece
     within = omega (arith, size, long)
+
+    in_unit : WithinUnit order (b ++ take left piece)
+    in_unit = counts_within order new (b ++ take left piece) counts
 
     grows : events order (b ++ take left piece) ≡ events order b ++ []
     grows = same ∙ sym (append-nil (events order b))
@@ -166,7 +170,7 @@ feeds_row order h t new b piece behind row used is (front, last, e, stands, befo
     let front_is = take_front piece front ((last ∷ []) ++ (behind ++ drop t.left piece)) (used - 1) (whole ∙ append_assoc front (last ∷ []) (behind ++ drop t.left piece)) fewer in
     feeds_with (InProgram order h) order b piece u new (fed_of used (event.Row row)) (event.Row row) same (omega (arith, exact, le.1)) refl now (events_row order h t b u is le.0 row grown)
     (one, ap (λ (w : List ℕ). events order (b ++ w)) front_is ∙ events_same order h t b front is (omega (arith, le.0, length-append front (last ∷ []))) front before)
-    now.sound
+    now.sound (counts_within order new (b ++ u) now.counts)
 
 -- what is said of bytes that give nothing
 abbrev pub NothingGiven : Order → HeaderData → List ℕ → List ℕ → Program → Type 0
@@ -196,6 +200,7 @@ fails_with order b piece u used new answer made same le is refused events_are st
   used,
   record {
     within = le;
+    in_unit = subst (λ (w : List ℕ). WithinUnit order (b ++ w)) (sym same) stops.in_unit;
     refused = subst (λ (f : Fault). Refused order (b ++ take used piece) f.offset f.kind) (sym is) (subst (λ (w : List ℕ). Refused order (b ++ w) made.offset made.kind) (sym same) refused);
     no_event = ap (λ (w : List ℕ). events order (b ++ w)) same ∙ events_are;
   },
@@ -214,10 +219,11 @@ fails_overrun order h t new b piece answer is (stands, rows, unrefused) taken le
     let full : length (b ++ u) ≡ t.taken + t.left = omega (arith, left, none, le, is.counts.taken, length-append b u) in
     let decides = decides_overrun order h t b u is le full begun (λ k. unrefused u [] (sym (append-nil u)) k) in
     let count = stands.count ∙ ap (λ (w : List ℕ). min (length w) (2 ^ 64 - 1)) (sym (rest-found order h.params (is.program ++ u) stands.operations stands.begun stands.found)) in
+    let counts = counts_on order t new b u is.counts le taken left in
     let refused = refused_on order h t b u is le fault.OpcodeOverrun decides (λ front x back e k. unrefused front (x ∷ back) e k) new.taken new.program.begun taken count in
     fails_with order b piece u (length u) new answer (record { offset = new.taken - new.program.begun; kind = fault.OpcodeOverrun })
     (take_front piece u (drop t.left piece) (length u) (sym (take-append-drop t.left piece)) refl) (omega (arith, long)) answer_is refused (events_same order h t b u is le u rows)
-    (record { taken = (counts_on order t new b u is.counts le taken left).taken; in_sequence = in_sequence_is order h.params new.program (is.program ++ u) stands ∙ ap ends_open (sym (rows_on order h t b u is le u)) })
+    (record { taken = counts.taken; in_unit = counts_within order new (b ++ u) counts; in_sequence = in_sequence_is order h.params new.program (is.program ++ u) stands ∙ ap ends_open (sym (rows_on order h t b u is le u)) })
 
 -- what is said of bytes that end in a bad operation
 abbrev pub BadGiven : Order → HeaderData → List ℕ → List ℕ → FaultKind → List ℕ → Program → Type 0
@@ -236,8 +242,9 @@ fails_bad order h t new b piece behind kind answer used is (front, last, e, rows
     let le = taken_le piece u behind t.left e in
     let exact : used ≡ length u = omega (arith, size, ap length e, length-append u behind) in
     let counted = taken ∙ ap (λ (n : ℕ). min (t.taken + n) (2 ^ 64 - 1)) exact in
+    let counts = counts_on order t new b u is.counts le.0 counted (left ∙ ap (λ (n : ℕ). t.left - n) exact) in
     let refused =
     refused_on order h t b u is le.0 kind (decides_bad order h t b u is le.0 kind spelt) (λ f x back k. (let z = front_before front f last x back k in unrefused f z.0 z.1)) new.taken new.program.begun counted count in
     fails_with order b piece u used new answer (record { offset = new.taken - new.program.begun; kind = kind })
     (take_front piece u (behind ++ drop t.left piece) used (piece_is piece u behind t.left e) exact) (omega (arith, exact, le.1)) answer_is refused (events_same order h t b u is le.0 u rows)
-    (record { taken = (counts_on order t new b u is.counts le.0 counted (left ∙ ap (λ (n : ℕ). t.left - n) exact)).taken; in_sequence = open_is ∙ ap ends_open (sym (rows_on order h t b u is le.0 u)) })
+    (record { taken = counts.taken; in_unit = counts_within order new (b ++ u) counts; in_sequence = open_is ∙ ap ends_open (sym (rows_on order h t b u is le.0 u)) })

@@ -25,10 +25,11 @@ use Rattle.dl_rows.specs.Matrix.{matrix}
 use Rattle.dl_rows.specs.OperationSpelt.{good_one, operation_spelt, operations_in}
 use Rattle.dl_rows.specs.LineUnit.{rows_in, rows_behind, unit_rows, events_of, own_events, events}
 use Rattle.dl_rows.specs.Programs.{ProgramStands, Unrefused}
+use Rattle.dl_rows.specs.Reading.{WithinUnit}
 use Rattle.dl_rows.specs.Refusal.{left_behind, left_over, operation_decided, decided_behind, unit_decided, Refused}
 use Rattle.dl_rows.specs.Tails.{Counts, InProgram}
 use Rattle.dl_rows.proofs.UnitLemmas.{unit_len_on}
-use Rattle.dl_rows.proofs.UnitLengths.{unit_len_small}
+use Rattle.dl_rows.proofs.UnitLengths.{some_same, unit_len_small}
 use Rattle.dl_rows.proofs.UnitWhole.{NoneRefused, silent, left_le}
 
 -- ---- what stands behind a header
@@ -94,6 +95,9 @@ nothing_before order b u none quiet front x back e = elim (fronts b front u (x �
 ]
 
 -- ---- the counts
+
+pub counts_within : (order : Order) (t : Tail) (b : List ℕ) → Counts order t b → WithinUnit order b
+counts_within order t b c n len = let e = some_same n (t.taken + t.left) (sym len ∙ c.left) in omega (arith, e, c.taken)
 
 pub counts_on : (order : Order) (t new : Tail) (b u : List ℕ) → Counts order t b → length u ≤ t.left → new.taken ≡ min (t.taken + length u) (2 ^ 64 - 1) → new.left ≡ t.left - length u → Counts order new (b ++ u)
 counts_on order t new b u c le taken left =

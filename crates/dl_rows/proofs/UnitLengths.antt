@@ -72,7 +72,7 @@ pub length_of_unit : (order : Order) (u : List ℕ) → IsUnit order u → unit_
 length_of_unit order u (inl foreign) = length_of order u foreign.1.its_length
 length_of_unit order u (inr own) = length_of order u own.2.its_length
 
-nothing_left : (v : List ℕ) → length v ≡ 0 → v ≡ []
+pub nothing_left : (v : List ℕ) → length v ≡ 0 → v ≡ []
 nothing_left [] e = refl
 nothing_left (x ∷ v) e = absurd (omega arith)
 

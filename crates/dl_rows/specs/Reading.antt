@@ -4,12 +4,16 @@ use Rattle.dl_num.specs.declared.fixed.Order.{Order}
 use Rattle.dl_head.specs.declared.fault.Fault.{Fault}
 use Rattle.dl_head.specs.declared.fault.FaultKind.{FaultKind}
 use Rattle.dl_head.specs.Cells.{cells}
-use Rattle.dl_head.specs.Header.{header_in}
+use Rattle.dl_head.specs.Header.{header_in, unit_len}
 use Rattle.dl_rows.specs.declared.reader.Event.{Event}
 use Rattle.dl_rows.specs.declared.reader.Event.TheVariants as event
 use Rattle.dl_rows.specs.declared.reader.Fed.{Fed}
 use Rattle.dl_rows.specs.LineUnit.{IsUnit, events}
 use Rattle.dl_rows.specs.Refusal.{Refused}
+
+-- where the length of its unit is known, b is no longer
+abbrev pub WithinUnit : Order → List ℕ → Type 0
+WithinUnit order b = (n : ℕ) → unit_len order b ≡ Some n → length b ≤ n
 
 -- an answer that may use no byte
 abbrev pub IsPause : Event → Type 0
@@ -41,6 +45,7 @@ EventHolds order b piece used other = (1 ≤ used) × (events order (b ++ take (
 -- an answer of an event, the reader then being new
 pub record Feeds {S : Type 0} (StandsFor : S → List ℕ → Type 0) (order : Order) (b piece : List ℕ) (fed : Fed) (new : S) : Type 0 where
   pub within : fed.used ≤ length piece
+  pub in_unit : WithinUnit order (b ++ take fed.used piece)
   pub stands : StandsFor new (b ++ take fed.used piece)
   -- the events grow by what is told, and by nothing else
   pub grows : events order (b ++ take fed.used piece) ≡ events order b ++ told fed.event
@@ -51,5 +56,6 @@ pub record Feeds {S : Type 0} (StandsFor : S → List ℕ → Type 0) (order : O
 -- an answer of a fault: the bytes up to the one that decides it are refused
 pub record Fails (order : Order) (b piece : List ℕ) (fault : Fault) (used : ℕ) : Type 0 where
   pub within : used ≤ length piece
+  pub in_unit : WithinUnit order (b ++ take used piece)
   pub refused : Refused order (b ++ take used piece) fault.offset fault.kind
   pub no_event : events order (b ++ take used piece) ≡ events order b

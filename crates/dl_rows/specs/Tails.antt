@@ -11,7 +11,7 @@ use Rattle.dl_rows.specs.declared.reader.Fed.{Fed}
 use Rattle.dl_rows.specs.declared.tail.Tail.{Tail}
 use Rattle.dl_rows.specs.LineUnit.{unit_rows, ends_open}
 use Rattle.dl_rows.specs.Programs.{ProgramStands}
-use Rattle.dl_rows.specs.Reading.{Feeds, Fails}
+use Rattle.dl_rows.specs.Reading.{WithinUnit, Feeds, Fails}
 use Rattle.dl_rows.specs.Refusal.{Refused}
 use Rattle.dl_rows.specs.Sums.{FitsProgram}
 
@@ -36,9 +36,10 @@ pub record InForeign (order : Order) (version : ℕ) (t : Tail) (b : List ℕ) :
   pub counts : Counts order t b
   pub foreign : foreign_in order b ≡ Some version
 
--- a fault was answered at the last byte of b
+-- a fault was answered at the last byte of b, which is no byte behind the unit
 pub record Stops (order : Order) (t : Tail) (b : List ℕ) : Type 0 where
   pub taken : t.taken ≡ length b
+  pub in_unit : WithinUnit order b
   pub in_sequence : t.program.in_sequence ≡ ends_open (unit_rows order b)
 
 -- bytes of the program

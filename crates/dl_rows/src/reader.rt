@@ -130,10 +130,11 @@ impl Reader {
         head.into_header()
     }
 
-    /// How many bytes were taken.
+    /// How many bytes were taken, none of them behind the unit.
     pub fn taken(&self) -> u64
         ensures field { result ≡ taken_of self.now }
         ensures bytes { (b : List ℕ) → StandsFor self.now b → result ≡ length b }
+        ensures in_unit { (b : List ℕ) → StandsFor self.now b → (n : ℕ) → unit_len self.now.order b ≡ Some n → result ≤ n }
     {
         self.tail.taken
     }

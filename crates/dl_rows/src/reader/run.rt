@@ -31,7 +31,8 @@ pub struct Run {
 
 impl Reader {
     ghost use Rattle.dl_rows.specs.ReaderStands.{StandsFor};
-    ghost use Rattle.dl_rows.specs.Runs.{RunIs};
+    ghost use Rattle.dl_rows.specs.LineUnit.{IsUnit};
+    ghost use Rattle.dl_rows.specs.Runs.{RunIs, UnitRunIs};
 
     /// Takes the bytes in turns, up to the unit's end or a fault. A turn offers at most so many of
     /// the bytes that aren't taken, and ends behind an event, or early where memory is refused; the
@@ -44,6 +45,8 @@ impl Reader {
     ) -> Result<Run, Fault>
         ensures runs { (b : List ℕ) → StandsFor self.old b
             → RunIs self.old.order b bytes.now turns.now (Hears L.heard listener.old listener.new) result self.new }
+        ensures unit { (b u rest : List ℕ) → StandsFor self.old b → b ++ bytes.now ≡ u ++ rest → IsUnit self.old.order u
+            → UnitRunIs self.old.order b bytes.now turns.now u (Hears L.heard listener.old listener.new) result }
         ensures order { self.new.order ≡ self.old.order }
     {
         let mut run = Run {

@@ -58,6 +58,25 @@ fn a_unit_in_turns_is_heard_whole(rt: HostRuntime) -> Result<(), Fail> {
 }
 
 #[test]
+fn a_run_ends_with_its_unit(rt: HostRuntime) -> Result<(), Fail> {
+    let mut bytes = unit(rt.alloc(), THREE_ROWS)?;
+    let whole = Run {
+        taken: bytes.len(),
+        refused: 0,
+        ended: true,
+    };
+    bytes.extend_from_slice(&[0x2c, 0])?;
+    let mut reader = Reader::new(rt.alloc(), Order::Little);
+    let mut counter = Counter { events: 0 };
+    assert_eq!(rt;
+        reader.run(bytes.as_slice(), &[100; 8], &mut counter),
+        Ok(whole)
+    );
+    assert_eq!(rt; counter.events, 4);
+    Ok(())
+}
+
+#[test]
 fn a_run_stops_at_a_fault(rt: HostRuntime) -> Result<(), Fail> {
     let reserved = bytes(rt.alloc(), "f0 ff ff ff 00")?;
     let mut reader = Reader::new(rt.alloc(), Order::Little);

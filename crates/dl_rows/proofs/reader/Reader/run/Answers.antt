@@ -1,9 +1,10 @@
-use Rattle.std.proofs.Common.{true, false, ℕ, List, ◌≡◌, ◌≤◌, ◌+◌, ◌++◌, slice_index_or, refl, sym, ap, subst, ◌∙◌, arith, inr, take, drop, length, length-take, length-drop}
+use Rattle.std.proofs.Common.{true, false, ℕ, List, ◌≡◌, ◌≤◌, ◌+◌, ◌++◌, slice_index_or, refl, sym, ap, subst, ◌∙◌, arith, inl, inr, take, drop, length, length-take, length-drop}
 use Rattle.std.proofs.lemmas.Result.{err_from_is_err_and}
 use Rattle.std.proofs.lemmas.List.{take_all}
 use Rattle.dl_head.proofs.RunLemmas.{Moves, moves_refused}
-use Rattle.dl_rows.proofs.RunLemmas.{took_none, fed_on, failed_on, whole_on, advances, moves_by}
+use Rattle.dl_rows.proofs.RunLemmas.{took_none, fed_on, failed_on, whole_on, advances, moves_by, no_fault, MovesIn, moves_in, unit_runs}
 use Rattle.dl_rows.specs.declared.reader.Event.{Event}
+use Rattle.dl_rows.specs.declared.reader.Event.TheVariants as event
 use Rattle.dl_rows.specs.Reading.{EventHolds}
 use Rattle.dl_rows.specs.ReaderStands.{StandsFor}
 use Rattle.dl_rows.proofs.reader.Reader.run.Goals as goal
@@ -15,9 +16,10 @@ loop-turn-init g c = record {
   refusals = omega arith;
   goes = refl;
   order = refl;
-  took = λ b s. took_none c.args.self.now.order b c.args.bytes.now g.L.Listener.heard c.args.listener.now c.args.self.now s;
+  took = λ b s. took_none b c.args.bytes.now g.L.Listener.heard c.args.listener.now c.args.self.now s;
   sound = λ b s lt. absurd (omega (arith, lt));
   moved = λ b s. inr (omega arith);
+  moved_in = λ b s unit. omega arith;
 }
 
 pub piece-requires : goal.piece-requires
@@ -30,6 +32,15 @@ returns-in_err-fed-clause-runs g c b s =
     rw (p.1, p.2)
     (failed_on c.args.self.now.order b c.args.bytes.now c.piece.result.now c.loop-turn.run.taken _ g.L.Listener.heard c.args.listener.now c.loop-turn.listener c.loop-turn.self c.feed.new.self c.in_err-fed.field-0.0 c.piece.ensures i.order (i.took b s)
     (λ d at. c.in_err-fed.ensures.fed d at))
+
+pub returns-in_err-fed-clause-unit : goal.returns-in_err-fed-clause-unit
+returns-in_err-fed-clause-unit g c b u rest s e unit =
+    let i = c.loop-turn.invariant in
+    let p = err_from_is_err_and c.from_residual.result c.from_residual.ensures.1 in
+    rw (p.1)
+    (no_fault c.args.self.now.order b c.args.bytes.now u rest _ c.feed.new.self c.in_err-fed.field-0.0 e unit
+    (failed_on c.args.self.now.order b c.args.bytes.now c.piece.result.now c.loop-turn.run.taken _ g.L.Listener.heard c.args.listener.now c.loop-turn.listener c.loop-turn.self c.feed.new.self c.in_err-fed.field-0.0 c.piece.ensures i.order (i.took b s)
+    (λ d at. c.in_err-fed.ensures.fed d at)))
 
 pub returns-in_err-fed-clause-order : goal.returns-in_err-fed-clause-order
 returns-in_err-fed-clause-order g c = c.feed.ensures.order ∙ c.loop-turn.invariant.order
@@ -56,6 +67,13 @@ returns-in-End-clause-runs g c b s =
     no_end : true ≡ false → ⊥
     no_end e = absurd cc
 
+pub returns-in-End-clause-unit : goal.returns-in-End-clause-unit
+returns-in-End-clause-unit g c b u rest s e unit =
+    unit_runs c.args.self.now.order b c.args.bytes.now c.args.turns.now u rest _ _ c.feed.new.self e unit (returns-in-End-clause-runs g c b s) (λ goes. absurd (no_end goes))
+  where
+    no_end : true ≡ false → ⊥
+    no_end e = absurd cc
+
 pub returns-in-End-clause-order : goal.returns-in-End-clause-order
 returns-in-End-clause-order g c = c.feed.ensures.order ∙ c.loop-turn.invariant.order
 
@@ -66,6 +84,7 @@ loop-turn-preserved g c =
     let turn = λ (b : List ℕ) (s : StandsFor c.args.self.now b). fed_on c.args.self.now.order b c.args.bytes.now c.piece.result.now c.loop-turn.run.taken _ g.L.Listener.heard c.args.listener.now c.loop-turn.listener c.hand_on.new.listener c.loop-turn.self c.feed.new.self fed c.piece.ensures i.order
     (i.took b s) c.hand_on.ensures (λ d at. c.in_ok-fed.ensures.fed d at) in
     let piece_size : length c.piece.result.now ≡ _ = ap length c.piece.ensures ∙ length-take _ (drop c.loop-turn.run.taken c.args.bytes.now) in
+    let used : fed.used ≤ length (take _ (drop c.loop-turn.run.taken c.args.bytes.now)) = subst (λ (l : List ℕ). fed.used ≤ length l) c.piece.ensures c.in_ok-fed.ensures.used in
     let within : c.loop-turn.run.taken + fed.used ≤ length c.args.bytes.now =
     omega (arith, i.within, c.in_ok-fed.ensures.used, piece_size, length-drop c.loop-turn.run.taken c.args.bytes.now) in
     elim c.match-fed.branch [
@@ -77,6 +96,8 @@ loop-turn-preserved g c =
         took = λ b s. (turn b s).0;
         sound = λ b s some. (turn b s).1;
         moved = λ b s. moves_refused c.args.bytes.now c.args.turns.now c.loop-turn.turn-index c.loop-turn.run.taken c.loop-turn.run.refused fed.used c.loop-turn-test.true (i.moved b s) within;
+        moved_in = λ b s. moves_in c.args.self.now.order b c.args.bytes.now c.args.turns.now c.loop-turn.turn-index c.loop-turn.run.taken c.loop-turn.run.refused fed.used _ fed.event c.loop-turn-test.true (i.moved b s)
+            (λ ends. no_end (sym w.in-NoMemory.is ∙ ends)) used (turn b s).2 (inr refl);
       })
       | in_default w ↦ rw (w.run-is) (record {
         within = within;
@@ -87,8 +108,13 @@ loop-turn-preserved g c =
         sound = λ b s some. (turn b s).1;
         moved = λ b s. moves_by c.args.bytes.now c.args.turns.now c.loop-turn.turn-index c.loop-turn.run.taken c.loop-turn.run.refused fed.used c.loop-turn-test.true (i.moved b s) i.within within
             (advances c.args.self.now.order _ _ fed.used fed.event w.in_default.not-End w.in_default.not-NoMemory (turn b s).2);
+        moved_in = λ b s. moves_in c.args.self.now.order b c.args.bytes.now c.args.turns.now c.loop-turn.turn-index c.loop-turn.run.taken c.loop-turn.run.refused fed.used _ fed.event c.loop-turn-test.true (i.moved b s)
+            w.in_default.not-End used (turn b s).2 (inl (w.in_default.not-NoMemory, refl));
       })
     ]
+  where
+    no_end : event.NoMemory ≡ event.End → ⊥
+    no_end e = absurd cc
 
 pub returns-clause-runs : goal.returns-clause-runs
 returns-clause-runs g c b s =
@@ -103,6 +129,13 @@ returns-clause-runs g c b s =
   where
     no_end : true ≡ false → ⊥
     no_end e = absurd cc
+
+pub returns-clause-unit : goal.returns-clause-unit
+returns-clause-unit g c b u rest s e unit =
+    let i = c.loop-turn.invariant in
+    let all = take_all c.loop-turn.turn-index c.args.turns.now (omega (arith, c.loop-turn-test.false)) in
+    unit_runs c.args.self.now.order b c.args.bytes.now c.args.turns.now u rest _ _ c.loop-turn.self e unit (returns-clause-runs g c b s)
+    (λ goes. subst (λ (turns : List ℕ). MovesIn c.args.self.now.order b c.args.bytes.now turns c.loop-turn.run.taken c.loop-turn.run.refused) all (i.moved_in b s))
 
 pub returns-clause-order : goal.returns-clause-order
 returns-clause-order g c = c.loop-turn.invariant.order
