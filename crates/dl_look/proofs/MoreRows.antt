@@ -9,7 +9,8 @@ use Rattle.dl_rows.specs.declared.row.Row.{Row}
 use Rattle.dl_look.specs.declared.place.Place.{Place}
 use Rattle.dl_look.specs.declared.run.Run.{Run}
 use Rattle.dl_look.specs.Answer.{place_of, is_at_most, is_rising, last_place, covers, sequences_after, sequences, last_upto, answer}
-use Rattle.dl_look.specs.FinderRows.{unended_after, unended, run_of}
+use Rattle.dl_look.specs.FinderRows.{unended_after, unended}
+use Rattle.dl_look.specs.Spans.{run_of}
 use Rattle.dl_look.proofs.LastUpto.{some_upto}
 
 pub last_place-push : (s : List Row) (r : Row) → last_place (s ++ r ∷ []) ≡ place_of r
@@ -17,7 +18,7 @@ last_place-push [] r = refl
 last_place-push (q ∷ []) r = refl
 last_place-push (q ∷ t ∷ s) r = last_place-push (t ∷ s) r
 
-is_rising-push : (q : Row) (s : List Row) (r : Row) → is_rising (q ∷ s ++ r ∷ []) ≡ (is_rising (q ∷ s) && is_at_most (last_place (q ∷ s)) (place_of r))
+pub is_rising-push : (q : Row) (s : List Row) (r : Row) → is_rising (q ∷ s ++ r ∷ []) ≡ (is_rising (q ∷ s) && is_at_most (last_place (q ∷ s)) (place_of r))
 is_rising-push q [] r = and-true (is_at_most (place_of q) (place_of r))
 is_rising-push q (t ∷ s) r =
     ap (λ b. is_at_most (place_of q) (place_of t) && b) (is_rising-push t s r)

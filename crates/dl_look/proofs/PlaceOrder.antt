@@ -1,5 +1,5 @@
 -- The order of places.
-use Rattle.std.proofs.Common.{◌≡◌, true, false, arith}
+use Rattle.std.proofs.Common.{◌≡◌, ◌&&◌, true, false, arith}
 use Rattle.std.proofs.lemmas.Bool.Decides.{nat_tests}
 use Rattle.dl_look.specs.Answer.{is_below, is_at_most}
 use Rattle.dl_look.specs.declared.place.Place.{Place}
@@ -12,3 +12,9 @@ at_most-trans p q r a b = grind (arith, nat_tests)
 
 pub below_least : (p : Place) → is_below p (record { address = 0; op_index = 0 }) ≡ true → ⊥
 below_least p h = grind (arith, nat_tests)
+
+pub least_is_at_most : (p : Place) → is_at_most (record { address = 0; op_index = 0 }) p ≡ false → ⊥
+least_is_at_most p h = grind (arith, nat_tests)
+
+pub not_between : (p q : Place) → (is_at_most p q && is_below q p) ≡ false
+not_between p q = grind (arith, nat_tests)

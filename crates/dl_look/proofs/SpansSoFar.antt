@@ -5,8 +5,8 @@ use Rattle.dl_rows.specs.declared.row.Row.{Row}
 use Rattle.dl_look.specs.declared.probed.Span.{Span}
 use Rattle.dl_look.specs.declared.run.Run.{Run}
 use Rattle.dl_look.specs.Answer.{place_of, is_rising, last_place, sequences}
-use Rattle.dl_look.specs.FinderRows.{unended, run_of}
-use Rattle.dl_look.specs.Spans.{span_of, spans_from, spans}
+use Rattle.dl_look.specs.FinderRows.{unended}
+use Rattle.dl_look.specs.Spans.{span_of, spans_from, spans, run_of}
 use Rattle.dl_look.proofs.MoreRows.{sequences-push, sequences-push_end, unended-push, unended-push_end}
 use Rattle.dl_look.proofs.SpanLemmas.{joined, joined-sequences}
 

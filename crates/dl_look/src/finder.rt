@@ -1,27 +1,41 @@
 //! The look-up of one place in rows that come one behind the other. Section 6.2.2.
 
+ghost use Rattle.std.specs.Prelude.{◌≡◌, false};
+
 use crate::place::Place;
-use crate::run::Run;
 use dl_rows::Row;
 
 /// The look-up of one place in rows that come one behind the other, in fixed space.
 #[derive(Debug, Clone, Copy)]
 pub struct Finder {
     place: Place,
-    /// The answer of the sequences that have ended.
-    answer: Option<Row>,
-    /// The sequence at hand, None before its first row.
-    run: Option<Run>,
-    /// Its last row that isn't above the place.
-    found: Option<Row>,
+    state: State,
+}
+
+/// What is kept of the rows that came.
+#[derive(Debug, Clone, Copy)]
+enum State {
+    /// The next row is the first of a sequence.
+    Start,
+    /// The sequence at hand doesn't answer: it isn't rising, or its first row is above the place.
+    Passed,
+    /// The sequence at hand is rising, and its first row isn't above the place.
+    Open {
+        /// The place of its last row.
+        last: Place,
+        /// Its last row that isn't above the place.
+        found: Row,
+    },
+    /// This row of a sequence that has ended is the answer.
+    Answered(Row),
 }
 
 impl Finder {
-    ghost use Rattle.std.specs.Prelude.{◌≡◌, ◌&&◌, if◌then◌else◌, is_none, List, [], ◌∷◌, ◌++◌};
+    ghost use Rattle.std.specs.Prelude.{◌≡◌, true, false, List, [], ◌∷◌, ◌++◌};
     ghost use Rattle.dl_rows.specs.declared.row.Row.{Row};
     ghost use Rattle.dl_look.specs.declared.place.Place.{Place};
-    ghost use Rattle.dl_look.specs.Answer.{answer, is_at_most};
-    ghost use Rattle.dl_look.specs.FinderRows.{StandsFor, run_covers};
+    ghost use Rattle.dl_look.specs.Answer.{answer};
+    ghost use Rattle.dl_look.specs.FinderRows.{StandsFor};
 
     /// No row yet.
     pub fn new(place: Place) -> Finder
@@ -29,9 +43,7 @@ impl Finder {
     {
         Finder {
             place,
-            answer: None,
-            run: None,
-            found: None,
+            state: State::Start,
         }
     }
 
@@ -41,42 +53,57 @@ impl Finder {
         ensures { (x : Place) (rows : List Row) → StandsFor self.old x rows
             → StandsFor self.new x (rows ++ row.now ∷ []) }
     {
-        let place = Place::of(row);
-        let run = Run::extended(self.run, place);
-        self.note(row, place);
         if row.end_sequence {
-            self.end_sequence(run);
+            self.end_sequence(row);
         } else {
-            self.run = Some(run);
+            self.go_on(row);
         }
     }
 
-    /// Keeps the next row, at this place, where it isn't above the one that is looked for.
+    /// Takes a row behind which its sequence goes on.
     #[inline]
-    fn note(&mut self, row: &Row, place: Place)
-        ensures { self.new ≡ (record self.old {
-          found = if is_at_most place self.old.place then Some row.now else self.old.found;
-        }) }
+    fn go_on(&mut self, row: &Row)
+        requires { row.now.end_sequence ≡ false }
+        ensures { (x : Place) (rows : List Row) → StandsFor self.old x rows
+            → StandsFor self.new x (rows ++ row.now ∷ []) }
     {
-        if place.is_at_most(self.place) {
-            self.found = Some(*row);
+        let place = Place::of(row);
+        match &mut self.state {
+            State::Start if place.is_at_most(self.place) => {
+                self.state = State::Open {
+                    last: place,
+                    found: kept(row),
+                };
+            }
+            State::Open { last, found } if last.is_at_most(place) => {
+                *last = place;
+                if place.is_at_most(self.place) {
+                    *found = kept(row);
+                }
+            }
+            State::Start => self.state = State::Passed,
+            State::Open { .. } => self.state = State::Passed,
+            State::Passed => {}
+            State::Answered(_) => {}
         }
     }
 
-    /// Ends the sequence at hand.
-    fn end_sequence(&mut self, run: Run)
-        ensures answer { self.new.answer
-            ≡ (if is_none self.old.answer && run_covers self.old.place run then self.old.found
-            else self.old.answer) }
-        ensures place { self.new.place ≡ self.old.place }
-        ensures run { self.new.run ≡ None }
-        ensures found { self.new.found ≡ None }
+    /// Takes an end row.
+    fn end_sequence(&mut self, row: &Row)
+        requires { row.now.end_sequence ≡ true }
+        ensures { (x : Place) (rows : List Row) → StandsFor self.old x rows
+            → StandsFor self.new x (rows ++ row.now ∷ []) }
     {
-        if self.answer.is_none() && run.covers(self.place) {
-            self.answer = self.found;
+        let end = Place::of(row);
+        match self.state {
+            State::Open { last, found } if last.is_at_most(end) && self.place.is_below(end) => {
+                self.state = State::Answered(found);
+            }
+            State::Open { .. } => self.state = State::Start,
+            State::Passed => self.state = State::Start,
+            State::Start => {}
+            State::Answered(_) => {}
         }
-        self.run = None;
-        self.found = None;
     }
 
     /// The last row that isn't above the place, of the first rising sequence that covers it; None where
@@ -85,6 +112,24 @@ impl Finder {
     pub fn answer(&self) -> Option<Row>
         ensures { (x : Place) (rows : List Row) → StandsFor self.now x rows → result ≡ answer rows x }
     {
-        self.answer
+        match self.state {
+            State::Answered(row) => Some(row),
+            State::Start | State::Passed | State::Open { .. } => None,
+        }
+    }
+}
+
+/// A copy of a row that is no end row.
+///
+/// Its flags are copied one by one: one load of several bytes that were stored one by one a moment ago
+/// would wait until the stores are done.
+#[inline]
+fn kept(row: &Row) -> Row
+    requires { row.now.end_sequence ≡ false }
+    ensures { result ≡ row.now }
+{
+    Row {
+        end_sequence: false,
+        ..*row
     }
 }

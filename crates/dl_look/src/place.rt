@@ -35,6 +35,13 @@ impl Place {
         self <= other
     }
 
+    /// Whether this place is below the other.
+    pub(crate) fn is_below(self, other: Place) -> bool
+        ensures { result ≡ is_below self other }
+    {
+        self < other
+    }
+
     /// Whether this place is `first` or above it, and below `end`.
     pub(crate) fn is_within(self, first: Place, end: Place) -> bool
         ensures { result ≡ (is_at_most first self && is_below self end) }

@@ -15,7 +15,7 @@ impl Run {
     ghost use Rattle.std.specs.Prelude.{◌≡◌, ◌++◌, ◌∷◌, [], List, Some};
     ghost use Rattle.dl_rows.specs.declared.row.Row.{Row};
     ghost use Rattle.dl_look.specs.Answer.{place_of};
-    ghost use Rattle.dl_look.specs.FinderRows.{run_of, run_covers};
+    ghost use Rattle.dl_look.specs.Spans.{run_of};
 
     /// The rows of a run, None for none, and a row behind them.
     #[inline]
@@ -35,12 +35,5 @@ impl Run {
                 rising: true,
             },
         }
-    }
-
-    /// Whether the run is rising and covers the place, where its last row is an end row.
-    pub fn covers(&self, place: Place) -> bool
-        ensures { result ≡ run_covers place self.now }
-    {
-        self.rising && place.is_within(self.first, self.last)
     }
 }
