@@ -1,6 +1,8 @@
 //! The command that counts units, sequences and rows.
 
-ghost use Rattle.std.specs.Prelude.{◌≤◌};
+ghost use Rattle.std.specs.Prelude.{◌≤◌, ℕ, List};
+ghost use Rattle.std.specs.Io.KnownBytes.{Consumes};
+ghost use Rattle.dl_cmd.specs.Commands.{Checks};
 
 use crate::fault::RunFault;
 use crate::options::{Options, SECTION_LIMIT};
@@ -17,6 +19,10 @@ use std::io::{Read, Write};
 struct Checker;
 
 impl<W: Write> Visitor<W> for Checker {
+    ghost use Rattle.dl_cmd.specs.Checking.{check_story};
+
+    ghost story = { check_story };
+
     fn header(&mut self, _output: &mut W, _offset: u64, _header: &Header) -> Result<(), RunFault> {
         Ok(())
     }
@@ -54,6 +60,9 @@ pub fn check<R: Read, W: Write>(
     options: &Options<'_>,
 ) -> Result<Summary, RunFault>
     requires { options.now.limit ≤ SECTION_LIMIT }
+    ensures { (bs : List ℕ) × Consumes (R.remaining input.old) (R.remaining input.new) bs
+        × Checks options.now.order options.now.limit bs
+        (R.remaining input.new) (W.contents output.old) (W.contents output.new) result }
 {
     let summary = read_units(alloc, input, output, options, &mut Checker)?;
     let mut printer = Printer::new();

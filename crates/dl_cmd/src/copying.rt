@@ -1,13 +1,16 @@
 //! The command that writes all units anew.
 
-ghost use Rattle.std.specs.Prelude.{◌≤◌};
+ghost use Rattle.std.specs.Prelude.{◌≡◌, ◌≤◌, ℕ, List};
+ghost use Rattle.std.specs.Io.KnownBytes.{Consumes};
+ghost use Rattle.dl_cmd.specs.Commands.{Copies};
+ghost use Rattle.dl_cmd.specs.Copies.{PrintsUnit};
 
 use crate::fault::RunFault;
 use crate::options::{Options, SECTION_LIMIT};
-use crate::output::{Printer, Printing};
+use crate::output::Printer;
 use crate::section::{Next, Visitor, read_units};
 use crate::summary::Summary;
-use dl_emit::write_unit;
+use dl_emit::{EmitFault, write_unit};
 use dl_head::Header;
 use dl_num::Order;
 use dl_rows::Row;
@@ -23,9 +26,15 @@ struct Copier {
     unit: u64,
     /// The rows of the unit at hand.
     rows: Vec<Row>,
+    /// The bytes of the last unit that was written.
+    bytes: Vec<u8>,
 }
 
 impl<W: Write> Visitor<W> for Copier {
+    ghost use Rattle.dl_cmd.specs.Copying.{copy_story};
+
+    ghost story = { copy_story };
+
     fn header(&mut self, _output: &mut W, offset: u64, _header: &Header) -> Result<(), RunFault> {
         self.unit = offset;
         Ok(())
@@ -61,14 +70,20 @@ impl<W: Write> Visitor<W> for Copier {
 }
 
 impl Copier {
-    /// Writes the unit at hand.
-    fn write<W: Write>(&mut self, output: &mut W, header: &Header) -> Result<(), RunFault> {
-        let mut printing = Printing::new(&mut self.printer, output);
-        let written = write_unit(&mut printing, self.order, header, self.rows.as_slice());
-        match (written, printing.into_fault()) {
-            (Ok(_), _) => Ok(()),
-            (Err(_), Some(fault)) => Err(fault),
-            (Err(fault), None) => Err(RunFault::Emit {
+    /// Writes the unit at hand. It is printed once it is whole in memory.
+    fn write<W: Write>(&mut self, output: &mut W, header: &Header) -> Result<(), RunFault>
+        ensures printed { PrintsUnit (W.contents output.old) (W.contents output.new)
+            self.old.printer self.new.printer self.old.order header.now self.old.rows.items
+            self.old.unit result }
+        ensures rows { self.new.rows ≡ self.old.rows }
+        ensures order { self.new.order ≡ self.old.order }
+        ensures unit { self.new.unit ≡ self.old.unit }
+    {
+        self.bytes.clear();
+        match write_unit(&mut self.bytes, self.order, header, self.rows.as_slice()) {
+            Ok(_) => self.printer.put(output, self.bytes.as_slice()),
+            Err(EmitFault::Write { .. }) => Err(RunFault::NoMemory),
+            Err(fault) => Err(RunFault::Emit {
                 unit: self.unit,
                 fault,
             }),
@@ -79,8 +94,9 @@ impl Copier {
 /// Writes all units of the input anew: each under its header with opcode_base 13, with the same
 /// rows, its numbers shortest.
 ///
-/// What comes before a fault is written. The faults are those of `RunFault`. The rows of a unit are
-/// held in memory; each growth of it, and those of `Reader::feed`, come before the unit is written.
+/// What comes before a fault is written. The faults are those of `RunFault`. The rows of a unit and
+/// then its bytes are held in memory; each growth of it, and those of `Reader::feed`, come before the
+/// unit is written.
 pub fn copy<R: Read, W: Write>(
     alloc: Global,
     input: &mut R,
@@ -88,12 +104,16 @@ pub fn copy<R: Read, W: Write>(
     options: &Options<'_>,
 ) -> Result<Summary, RunFault>
     requires { options.now.limit ≤ SECTION_LIMIT }
+    ensures { (bs : List ℕ) × Consumes (R.remaining input.old) (R.remaining input.new) bs
+        × Copies options.now.order options.now.limit bs (R.remaining input.new)
+        (W.contents output.old) (W.contents output.new) result }
 {
     let mut copier = Copier {
         printer: Printer::new(),
         order: options.order,
         unit: 0,
         rows: Vec::new(alloc),
+        bytes: Vec::new(alloc),
     };
     read_units(alloc, input, output, options, &mut copier)
 }

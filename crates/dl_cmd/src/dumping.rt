@@ -1,13 +1,15 @@
 //! The command that prints a section.
 
-ghost use Rattle.std.specs.Prelude.{◌≤◌, length};
+ghost use Rattle.std.specs.Prelude.{◌≤◌, ℕ, List};
+ghost use Rattle.std.specs.Io.KnownBytes.{Consumes};
+ghost use Rattle.dl_cmd.specs.Commands.{Dumps, strings_in};
 
 use crate::fault::RunFault;
 use crate::options::{Options, SECTION_LIMIT};
 use crate::output::{Printer, StringSections};
 use crate::section::{Next, Visitor, read_units};
 use crate::summary::Summary;
-use dl_head::{Header, Table};
+use dl_head::Header;
 use dl_rows::Row;
 use std::alloc::Global;
 use std::io::{Read, Write};
@@ -20,12 +22,12 @@ struct Dumper<'a> {
 }
 
 impl<W: Write> Visitor<W> for Dumper<'_> {
+    ghost use Rattle.dl_cmd.specs.Dumping.{dump_story};
+
+    ghost story = { dump_story };
+
     fn header(&mut self, output: &mut W, offset: u64, header: &Header) -> Result<(), RunFault> {
-        let params = header.params();
-        self.printer
-            .unit(output, offset, params.format, params.address_size)?;
-        self.table(output, b"dir ", header.directories())?;
-        self.table(output, b"file ", header.files())
+        self.printer.header(output, &self.strings, offset, header)
     }
 
     fn foreign(&mut self, output: &mut W, offset: u64, version: u16) -> Result<(), RunFault> {
@@ -50,26 +52,6 @@ impl<W: Write> Visitor<W> for Dumper<'_> {
     }
 }
 
-impl Dumper<'_> {
-    /// Prints a line for each entry of a table.
-    fn table<W: Write>(
-        &mut self,
-        output: &mut W,
-        name: &[u8],
-        table: &Table,
-    ) -> Result<(), RunFault>
-        requires { length name.now ≤ 16 }
-    {
-        for i in 0..table.len() {
-            if let Some(entry) = table.entry(i) {
-                self.printer
-                    .entry(output, &self.strings, name, i as u64, entry)?;
-            }
-        }
-        Ok(())
-    }
-}
-
 /// Prints the lines of all units of the input.
 ///
 /// What comes before a fault is printed. The faults are those of `RunFault`; each growth of memory is
@@ -81,6 +63,9 @@ pub fn dump<R: Read, W: Write>(
     options: &Options<'_>,
 ) -> Result<Summary, RunFault>
     requires { options.now.limit ≤ SECTION_LIMIT }
+    ensures { (bs : List ℕ) × Consumes (R.remaining input.old) (R.remaining input.new) bs
+        × Dumps options.now.order (strings_in options.now) options.now.limit bs
+        (R.remaining input.new) (W.contents output.old) (W.contents output.new) result }
 {
     let mut dumper = Dumper {
         printer: Printer::new(),

@@ -1,13 +1,15 @@
 //! The command that looks an address up.
 
-ghost use Rattle.std.specs.Prelude.{◌≤◌};
+ghost use Rattle.std.specs.Prelude.{◌≤◌, ℕ, List};
+ghost use Rattle.std.specs.Io.KnownBytes.{Consumes};
+ghost use Rattle.dl_cmd.specs.Commands.{Finds, strings_in};
 
 use crate::fault::RunFault;
 use crate::options::{Options, SECTION_LIMIT};
 use crate::output::{Printer, StringSections};
 use crate::section::{Next, Visitor, read_units};
 use crate::summary::Summary;
-use dl_head::{Header, Table};
+use dl_head::Header;
 use dl_look::{Finder, Place};
 use dl_rows::Row;
 use std::alloc::Global;
@@ -25,6 +27,10 @@ struct Seeker<'a> {
 }
 
 impl<W: Write> Visitor<W> for Seeker<'_> {
+    ghost use Rattle.dl_cmd.specs.Finding.{find_story};
+
+    ghost story = { find_story };
+
     fn header(&mut self, _output: &mut W, _offset: u64, _header: &Header) -> Result<(), RunFault> {
         Ok(())
     }
@@ -49,7 +55,8 @@ impl<W: Write> Visitor<W> for Seeker<'_> {
         let (Some(row), Some(header)) = (answer, header) else {
             return Ok(Next::Unit);
         };
-        self.file(output, header.files(), row.file)?;
+        self.printer
+            .file(output, &self.strings, header.files(), row.file)?;
         self.printer.row(output, &row)?;
         self.found = true;
         Ok(Next::Nothing)
@@ -57,18 +64,6 @@ impl<W: Write> Visitor<W> for Seeker<'_> {
 
     fn settle(&mut self, output: &mut W) -> Result<(), RunFault> {
         self.printer.flush(output)
-    }
-}
-
-impl Seeker<'_> {
-    /// Prints the line of a file of the table, or that the table has no entry of this number.
-    fn file<W: Write>(&mut self, output: &mut W, files: &Table, file: u64) -> Result<(), RunFault> {
-        match files.entry(file as usize) {
-            Some(entry) => self
-                .printer
-                .entry(output, &self.strings, b"file ", file, entry),
-            None => self.printer.missing_file(output, file),
-        }
     }
 }
 
@@ -87,6 +82,9 @@ pub fn find<R: Read, W: Write>(
     options: &Options<'_>,
 ) -> Result<Summary, RunFault>
     requires { options.now.limit ≤ SECTION_LIMIT }
+    ensures { (bs : List ℕ) × Consumes (R.remaining input.old) (R.remaining input.new) bs
+        × Finds options.now.order (strings_in options.now) place options.now.limit bs
+        (R.remaining input.new) (W.contents output.old) (W.contents output.new) result }
 {
     let mut seeker = Seeker {
         printer: Printer::new(),

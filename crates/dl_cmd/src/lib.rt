@@ -8,6 +8,7 @@ mod dumping;
 mod fault;
 mod finding;
 mod input;
+pub mod laws;
 mod options;
 mod output;
 mod section;

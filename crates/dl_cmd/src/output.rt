@@ -1,6 +1,6 @@
 //! The output, printed through one buffer.
 mod lines;
-mod printing;
+mod tables;
 mod values;
 
 ghost use Rattle.std.specs.Prelude.{◌≡◌, ◌+◌, ◌^◌, ◌<◌, ◌≤◌, ℕ, List, [], ◌++◌, Option, length, take, IfSome, IfNone, IfOk, OnOk, IfErr, MatchResult};
@@ -10,7 +10,6 @@ ghost use Rattle.dl_cmd.specs.Output.{HasOut, HasPrinted, TellsOut, Flushes, Pri
 use crate::fault::RunFault;
 use crate::text::write_bytes;
 use dl_head::counted::write_all;
-pub use printing::Printing;
 use std::io::Write;
 use std::marker::Model;
 pub use values::StringSections;

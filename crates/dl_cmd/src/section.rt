@@ -1,11 +1,18 @@
 //! The units of a section, read one after the other. Section 6.2.4.
 
-ghost use Rattle.std.specs.Prelude.{◌≡◌, ◌≤◌, length, OnOk};
+ghost use Rattle.std.specs.Prelude.{◌≡◌, ◌≤◌, ◌<◌, ◌+◌, ◌^◌, ◌++◌, ◌∷◌, [], ℕ, List, Option, length, take, OnOk};
+ghost use Rattle.dl_num.specs.declared.fixed.Order.{Order};
+ghost use Rattle.std.specs.Io.KnownBytes.{Appends, Consumes};
+ghost use Rattle.dl_rows.specs.LineUnit.{IsUnit, ends_open, unit_rows};
 ghost use Rattle.dl_rows.specs.Progress.{taken_of};
+ghost use Rattle.dl_rows.specs.ReaderStands.{StandsFor};
+ghost use Rattle.dl_rows.specs.Runs.{Sound};
+ghost use Rattle.dl_cmd.specs.Section.{Visit, NoUnitBegins, event_visits, header_of, open_visit, end_visits, section_visits};
+ghost use Rattle.dl_cmd.specs.Visiting.{Hears, HearsEnd, UnitsAre, UnitsFed, Worked, Finishes, Ran, counted, is_failed_write};
 
 use crate::fault::RunFault;
 use crate::input::Input;
-use crate::options::Options;
+use crate::options::{Options, SECTION_LIMIT};
 use crate::summary::Summary;
 use dl_head::Header;
 use dl_num::Order;
@@ -25,23 +32,43 @@ pub enum Next {
 
 /// What a command does at the events of the units of a section.
 pub trait Visitor<W: Write> {
+    ghost use Rattle.std.specs.Prelude.{◌∷◌, []};
+    ghost use Rattle.dl_cmd.specs.declared.section.Next.{Next};
+    ghost use Rattle.dl_cmd.specs.Section.{of_header, of_version, of_row, of_open, of_end};
+    ghost use Rattle.dl_cmd.specs.Visiting.{Story, Hears, HearsEnd, Settles};
+
+    /// What is said of the visitor and of what it prints.
+    ghost story: { Story Self };
+
     /// A unit at this offset of the section has this header.
-    fn header(&mut self, output: &mut W, offset: u64, header: &Header) -> Result<(), RunFault>;
+    fn header(&mut self, output: &mut W, offset: u64, header: &Header) -> Result<(), RunFault>
+        ensures { Hears story self.old self.new (W.contents output.old) (W.contents output.new)
+            (of_header offset header.now ∷ []) result };
 
     /// A unit at this offset of the section is of this version, which isn't 5.
-    fn foreign(&mut self, output: &mut W, offset: u64, version: u16) -> Result<(), RunFault>;
+    fn foreign(&mut self, output: &mut W, offset: u64, version: u16) -> Result<(), RunFault>
+        ensures { Hears story self.old self.new (W.contents output.old) (W.contents output.new)
+            (of_version offset version ∷ []) result };
 
     /// The unit at hand has this row.
-    fn row(&mut self, output: &mut W, row: &Row) -> Result<(), RunFault>;
+    fn row(&mut self, output: &mut W, row: &Row) -> Result<(), RunFault>
+        ensures { Hears story self.old self.new (W.contents output.old) (W.contents output.new)
+            (of_row row.now ∷ []) result };
 
     /// The unit at hand is whole, and its last row isn't an end row.
-    fn open(&mut self, output: &mut W) -> Result<(), RunFault>;
+    fn open(&mut self, output: &mut W) -> Result<(), RunFault>
+        ensures { Hears story self.old self.new (W.contents output.old) (W.contents output.new)
+            (of_open ∷ []) result };
 
     /// The unit at hand is whole. Of another version than 5 it has no header.
-    fn end(&mut self, output: &mut W, header: Option<Header>) -> Result<Next, RunFault>;
+    fn end(&mut self, output: &mut W, header: Option<Header>) -> Result<Next, RunFault>
+        ensures { HearsEnd story self.old self.new (W.contents output.old) (W.contents output.new)
+            (of_end header ∷ []) result };
 
     /// All that was read is worked through.
-    fn settle(&mut self, output: &mut W) -> Result<(), RunFault>;
+    fn settle(&mut self, output: &mut W) -> Result<(), RunFault>
+        ensures { (next : Next) → Settles story self.old self.new
+            (W.contents output.old) (W.contents output.new) next result };
 }
 
 /// Where a reader is in a section.
@@ -61,7 +88,9 @@ struct Units {
 }
 
 impl Units {
-    fn new(alloc: Global, order: Order) -> Units {
+    fn new(alloc: Global, order: Order) -> Units
+        ensures units { UnitsAre order result [] [] [] }
+    {
         Units {
             alloc,
             order,
@@ -86,7 +115,12 @@ impl Units {
         output: &mut W,
         visitor: &mut V,
         piece: &[u8],
-    ) -> Result<Next, RunFault> {
+    ) -> Result<Next, RunFault>
+        ensures { (order : Order) (t : List ℕ) (units : List (List ℕ)) (b : List ℕ) (first : V) (start : Option (List ℕ))
+            → UnitsAre order self.old t units b → length t + length piece.now < 2 ^ 64
+            → V.story.tells first visitor.old start (W.contents output.old) (section_visits order units b)
+            → UnitsFed V.story order (t ++ piece.now) first visitor.new start (W.contents output.new) self.new result }
+    {
         let mut rest = piece;
         'events: loop {
             let fed = match self.reader.feed(rest) {
@@ -103,11 +137,10 @@ impl Units {
                 Event::More if fed.used == 0 => return Ok(Next::Unit),
                 Event::More => {}
                 Event::NoMemory => return Err(RunFault::NoMemory),
-                Event::End => {
-                    if self.end(output, visitor)? == Next::Nothing {
-                        return Ok(Next::Nothing);
-                    }
-                }
+                Event::End => match self.end(output, visitor)? {
+                    Next::Unit => {}
+                    Next::Nothing => return Ok(Next::Nothing),
+                },
                 event => self.tell(output, visitor, event)?,
             }
         }
@@ -121,7 +154,10 @@ impl Units {
         visitor: &mut V,
         event: Event,
     ) -> Result<(), RunFault>
-        ensures { taken_of self.new.reader ≡ taken_of self.old.reader }
+        ensures counted { self.new ≡ counted event self.old }
+        ensures heard { (b : List ℕ) → StandsFor self.old.reader b
+            → Hears V.story visitor.old visitor.new (W.contents output.old) (W.contents output.new)
+            (event_visits self.old.offset (header_of self.old.reader.order b) event) result }
     {
         match event {
             Event::Row(row) => {
@@ -141,36 +177,62 @@ impl Units {
         }
     }
 
-    /// Goes on behind a whole unit.
+    /// Tells the visitor that the unit at hand is whole, and goes on behind it.
     fn end<W: Write, V: Visitor<W>>(
         &mut self,
         output: &mut W,
         visitor: &mut V,
     ) -> Result<Next, RunFault>
-        ensures { OnOk result (taken_of self.new.reader ≡ 0) }
+        ensures taken { OnOk result (taken_of self.new.reader ≡ 0) }
+        ensures units { (order : Order) (t : List ℕ) (units : List (List ℕ)) (b : List ℕ) → UnitsAre order self.old t units b
+            → IsUnit order b → length t < 2 ^ 64 → OnOk result (UnitsAre order self.new t (units ++ b ∷ []) []) }
+        ensures heard { (b : List ℕ) → StandsFor self.old.reader b
+            → HearsEnd V.story visitor.old visitor.new (W.contents output.old) (W.contents output.new)
+            (end_visits self.old.reader.order b) result }
+    {
+        self.close(output, visitor)?;
+        visitor.end(output, self.leave())
+    }
+
+    /// Tells the visitor where the last row of the unit at hand isn't an end row.
+    fn close<W: Write, V: Visitor<W>>(
+        &self,
+        output: &mut W,
+        visitor: &mut V,
+    ) -> Result<(), RunFault>
+        ensures { (b : List ℕ) → StandsFor self.now.reader b
+            → Hears V.story visitor.old visitor.new (W.contents output.old) (W.contents output.new)
+            (open_visit (ends_open (unit_rows self.now.reader.order b))) result }
     {
         if self.reader.in_sequence() {
-            visitor.open(output)?;
+            visitor.open(output)
+        } else {
+            Ok(())
         }
+    }
+
+    /// Goes on behind the unit at hand, which is whole, and answers its header.
+    fn leave(&mut self) -> Option<Header>
+        ensures taken { taken_of self.new.reader ≡ 0 }
+        ensures header { (b : List ℕ) → StandsFor self.old.reader b → result ≡ header_of self.old.reader.order b }
+        ensures units { (order : Order) (t : List ℕ) (units : List (List ℕ)) (b : List ℕ) → UnitsAre order self.old t units b
+            → IsUnit order b → length t < 2 ^ 64 → UnitsAre order self.new t (units ++ b ∷ []) [] }
+    {
         let reader = mem::replace(&mut self.reader, Reader::new(self.alloc, self.order));
         self.offset = self.offset.saturating_add(reader.taken());
-        let next = visitor.end(output, reader.into_header())?;
-        let summary = &mut self.summary;
-        if self.is_foreign {
-            summary.skipped = summary.skipped.saturating_add(1);
-        } else {
-            summary.units = summary.units.saturating_add(1);
-        }
-        summary.sequences = summary.sequences.saturating_add(self.sequences);
-        summary.rows = summary.rows.saturating_add(self.rows);
+        self.summary
+            .add_unit(self.is_foreign, self.sequences, self.rows);
         self.is_foreign = false;
         self.sequences = 0;
         self.rows = 0;
-        Ok(next)
+        reader.into_header()
     }
 
     /// What the section comes to where its bytes are over.
-    fn finish(&self) -> Result<Summary, RunFault> {
+    fn finish(&self) -> Result<Summary, RunFault>
+        ensures { (order : Order) (t : List ℕ) (units : List (List ℕ)) (b : List ℕ) → UnitsAre order self.now t units b
+            → NoUnitBegins order b → Sound order b → length t < 2 ^ 64 → Finishes order t units b result }
+    {
         match self.reader.finish() {
             Ok(_) => Ok(self.summary),
             Err(fault) => Err(RunFault::Damage {
@@ -192,7 +254,14 @@ pub fn read_units<R: Read, W: Write, V: Visitor<W>>(
     output: &mut W,
     options: &Options<'_>,
     visitor: &mut V,
-) -> Result<Summary, RunFault> {
+) -> Result<Summary, RunFault>
+    requires { options.now.limit ≤ SECTION_LIMIT }
+    ensures { (bs : List ℕ) × Consumes (R.remaining input.old) (R.remaining input.new) bs
+        × (V.story.tells visitor.old visitor.old (W.contents output.old) (W.contents output.old) []
+        → Appends (W.contents output.old) (W.contents output.old) (V.story.text visitor.old [])
+        → Ran V.story options.now.order options.now.limit bs (R.remaining input.new) visitor.old visitor.new
+        (W.contents output.old) (W.contents output.new) result) }
+{
     let mut buffer = Input::new();
     let mut units = Units::new(alloc, options.order);
     let mut left = options.limit;
@@ -204,8 +273,9 @@ pub fn read_units<R: Read, W: Write, V: Visitor<W>>(
             return units.finish();
         }
         let known = front(piece, left);
-        if work_through(&mut units, output, visitor, known)? == Next::Nothing {
-            return Ok(units.summary);
+        match work_through(&mut units, output, visitor, known)? {
+            Next::Unit => {}
+            Next::Nothing => return Ok(units.summary),
         }
         if known.len() < piece.len() {
             return Err(RunFault::SectionTooLong);
@@ -220,20 +290,31 @@ fn work_through<W: Write, V: Visitor<W>>(
     output: &mut W,
     visitor: &mut V,
     piece: &[u8],
-) -> Result<Next, RunFault> {
-    match units.feed(output, visitor, piece) {
-        Err(RunFault::Write { out }) => Err(RunFault::Write { out }),
-        result => {
-            visitor.settle(output)?;
-            result
-        }
+) -> Result<Next, RunFault>
+    ensures { (order : Order) (t : List ℕ) (done : List (List ℕ)) (b : List ℕ) (first : V) (start : Option (List ℕ))
+        → UnitsAre order units.old t done b → length t + length piece.now < 2 ^ 64
+        → V.story.tells first visitor.old start (W.contents output.old) (section_visits order done b)
+        → Worked V.story order (t ++ piece.now) first visitor.new start (W.contents output.new) units.new result }
+{
+    let answer = units.feed(output, visitor, piece);
+    if !is_failed_write(&answer) {
+        visitor.settle(output)?;
     }
+    answer
+}
+
+/// Whether a write failed, behind which nothing more is written.
+fn is_failed_write(answer: &Result<Next, RunFault>) -> bool
+    ensures { result ≡ is_failed_write answer.now }
+{
+    matches!(answer, Err(RunFault::Write { .. }))
 }
 
 /// The first bytes of the piece, so many at the most.
 fn front<'a>(piece: &'a [u8], most: u64) -> &'a [u8]
     ensures short { length result.now ≤ most }
     ensures whole { length piece.entry.now ≤ length result.now → length piece.entry.now ≤ most }
+    ensures front { result.now ≡ take most piece.entry.now }
 {
     if most < piece.len() as u64 {
         &piece[..most as usize]

@@ -1,5 +1,7 @@
 //! What a command that ended well has gone through.
 
+ghost use Rattle.std.specs.Prelude.{◌≡◌};
+
 /// What the units that were read whole come to.
 #[derive(Clone, Copy, Debug, PartialEq, Eq)]
 pub struct Summary {
@@ -11,4 +13,18 @@ pub struct Summary {
     pub sequences: u64,
     /// Rows, end rows among them.
     pub rows: u64,
+}
+
+impl Summary {
+    ghost use Rattle.dl_cmd.specs.Counts.{with_unit};
+
+    /// Counts a unit that has so many end rows and rows.
+    pub(crate) fn add_unit(&mut self, is_foreign: bool, sequences: u64, rows: u64)
+        ensures { self.new ≡ with_unit is_foreign sequences rows self.old }
+    {
+        self.units = self.units.saturating_add(u64::from(!is_foreign));
+        self.skipped = self.skipped.saturating_add(u64::from(is_foreign));
+        self.sequences = self.sequences.saturating_add(sequences);
+        self.rows = self.rows.saturating_add(rows);
+    }
 }

@@ -11,7 +11,7 @@ use crate::fault::RunFault;
 use crate::text::{
     write_hexadecimal_bytes, write_number, write_offset, write_quoted_bytes, write_value_start,
 };
-use dl_head::{Entry, ValueRef, text_at};
+use dl_head::{ValueRef, text_at};
 use std::io::Write;
 
 /// How many bytes of a value are printed in one go.
@@ -196,23 +196,5 @@ impl Printer {
         self.make_room(output)?;
         self.held = write_value_start(&mut self.buffer, self.held, content);
         Ok(())
-    }
-
-    /// Prints the line of an entry of a table: its name, its number and its values.
-    pub fn entry<W: Write>(
-        &mut self,
-        output: &mut W,
-        strings: &StringSections<'_>,
-        name: &[u8],
-        number: u64,
-        entry: Entry<'_>,
-    ) -> Result<(), RunFault>
-        requires { length name.now ≤ 16 }
-    {
-        self.number(output, name, number)?;
-        for (content, value) in entry.values() {
-            self.named_value(output, strings, content, value)?;
-        }
-        self.put(output, b"\n")
     }
 }

@@ -1,0 +1,53 @@
+-- What a check comes to.
+use Rattle.std.proofs.Common.{inl, inr, ℕ, List, [], Option, Ok, Err, arith, refl}
+use Rattle.std.specs.Io.KnownBytes.{Appends}
+use Rattle.dl_num.specs.declared.fixed.Order.{Order}
+use Rattle.dl_cmd.specs.declared.checking.Checker.{Checker}
+use Rattle.dl_cmd.specs.declared.fault.RunFault.{RunFault}
+use Rattle.dl_cmd.specs.declared.fault.RunFault.TheVariants as fault
+use Rattle.dl_cmd.specs.declared.summary.Summary.{Summary}
+use Rattle.dl_cmd.specs.Checking.{check_story}
+use Rattle.dl_cmd.specs.Commands.{Checks}
+use Rattle.dl_cmd.specs.Output.{TellsOut}
+use Rattle.dl_cmd.specs.Section.{EndsAs}
+use Rattle.dl_cmd.specs.Text.{summary_line}
+use Rattle.dl_cmd.specs.Visiting.{Ran}
+use Rattle.dl_cmd.proofs.Outs.{keeps_by_nothing}
+
+module _ (order : Order) (limit : ℕ) (bytes : List ℕ) (left : Option (List ℕ)) (first new : Checker) (start mid now : Option (List ℕ)) where
+  -- the section is units to its end, and nothing is written yet
+  pub counted : (summary : Summary) → Ran check_story order limit bytes left first new start mid (Ok summary) → ((units : List (List ℕ)) × EndsAs order limit bytes left units [] [] (Ok summary)) × Appends start mid []
+  counted summary (inl (units, ends, settled)) = ((units, ends), settled.out)
+  counted summary (inr done) = absurd done.4.tells
+
+  -- the line isn't out
+  pub line_lost : (summary : Summary) (f : RunFault) → Ran check_story order limit bytes left first new start mid (Ok summary) → TellsOut start now (summary_line summary) f → Checks order limit bytes left start now (Err f)
+  line_lost summary (fault.Write out) ran t = let c = counted summary ran in (c.0.0, summary, c.0.1, t)
+  line_lost summary (fault.Damage offset kind) ran t = absurd t
+  line_lost summary fault.NoMemory ran t = absurd t
+  line_lost summary fault.Read ran t = absurd t
+  line_lost summary fault.SectionTooLong ran t = absurd t
+  line_lost summary fault.NotFound ran t = absurd t
+  line_lost summary (fault.ForeignUnit unit) ran t = absurd t
+  line_lost summary (fault.Emit unit f) ran t = absurd t
+
+  pub failed : (f : RunFault) → Ran check_story order limit bytes left first new start mid (Err f) → Checks order limit bytes left start mid (Err f)
+  failed (fault.Write out) (units, b, back, has, writes) = absurd (omega (arith, writes.3.0))
+  failed (fault.Damage offset kind) (units, b, back, inl (ends, settled)) = (units, b, back, ends, keeps_by_nothing start mid [] refl settled.out)
+  failed fault.NoMemory (units, b, back, inl (ends, settled)) = (units, b, back, ends, keeps_by_nothing start mid [] refl settled.out)
+  failed fault.Read (units, b, back, inl (ends, settled)) = (units, b, back, ends, keeps_by_nothing start mid [] refl settled.out)
+  failed fault.SectionTooLong (units, b, back, inl (ends, settled)) = (units, b, back, ends, keeps_by_nothing start mid [] refl settled.out)
+  failed fault.NotFound (units, b, back, inl (ends, settled)) = absurd ends
+  failed (fault.ForeignUnit unit) (units, b, back, inl (ends, settled)) = absurd ends
+  failed (fault.Emit unit f) (units, b, back, inl (ends, settled)) = absurd ends
+  failed (fault.Damage offset kind) (units, b, back, inr (has, stops)) = absurd stops.reason
+  failed fault.NoMemory (units, b, back, inr (has, stops)) = absurd stops.reason
+  failed fault.Read (units, b, back, inr (has, stops)) = absurd stops.reason
+  failed fault.SectionTooLong (units, b, back, inr (has, stops)) = absurd stops.reason
+  failed fault.NotFound (units, b, back, inr (has, stops)) = absurd stops.reason
+  failed (fault.ForeignUnit unit) (units, b, back, inr (has, stops)) = absurd stops.reason
+  failed (fault.Emit unit f) (units, b, back, inr (has, stops)) = absurd stops.reason
+
+  -- the line is out
+  pub line_out : (summary : Summary) → Ran check_story order limit bytes left first new start mid (Ok summary) → Appends start now (summary_line summary) → Checks order limit bytes left start now (Ok summary)
+  line_out summary ran out = let c = counted summary ran in (c.0.0, c.0.1, out)

@@ -1,0 +1,54 @@
+-- Options one behind the other, and the fronts of lists.
+use Rattle.std.proofs.Common.{◌≡◌, ◌⊎◌, inl, inr, List, [], ◌∷◌, ◌++◌, length, Option, Some, None, arith, refl, sym, ap, length-append}
+use Rattle.std.specs.Prelude.{option_map}
+use Rattle.std.specs.List.{AllByRecursion}
+use Rattle.std.specs.Option.{option_or}
+
+-- ---- options
+
+pub or_assoc : {A : Type 0} (a b c : Option A) → option_or (option_or a b) c ≡ option_or a (option_or b c)
+or_assoc None b c = refl
+or_assoc (Some x) b c = refl
+
+pub or_none : {A : Type 0} (a : Option A) → option_or a None ≡ a
+or_none None = refl
+or_none (Some x) = refl
+
+pub none_is_some : {A : Type 0} {x : A} → ◌≡◌ {A = Option A} None (Some x) → ⊥
+none_is_some e = cc
+
+pub value_same : {A : Type 0} (a b : A) → ◌≡◌ {A = Option A} (Some a) (Some b) → a ≡ b
+value_same a b e = cc
+
+pub neither : {A : Type 0} (a b : Option A) → option_or a b ≡ None → (a ≡ None) × (b ≡ None)
+neither None b e = (refl, e)
+neither (Some x) b e = absurd (none_is_some (sym e))
+
+pub map_none : {A B : Type 0} (f : A → B) (a : Option A) → option_map f a ≡ None → a ≡ None
+map_none f None e = refl
+map_none f (Some x) e = absurd (none_is_some (sym e))
+
+-- ---- lists
+
+pub all_front : {A : Type 0} (P : A → Type 0) (xs ys : List A) → AllByRecursion P (xs ++ ys) → AllByRecursion P xs
+all_front P [] ys all = tt
+all_front P (x ∷ xs) ys all = (all.0, all_front P xs ys all.1)
+
+-- of two fronts of a list one is a front of the other
+pub fronts_of : {A : Type 0} (front : List A) (last : A) (rest heard more : List A) → front ++ last ∷ rest ≡ heard ++ more
+    → ((x : List A) × (heard ≡ front ++ last ∷ x) × (rest ≡ x ++ more)) ⊎ ((x : List A) × (front ≡ heard ++ x) × (more ≡ x ++ last ∷ rest))
+fronts_of [] last rest [] more e = inr ([], refl, sym e)
+fronts_of [] last rest (y ∷ heard) more e = inl (heard, cc, cc)
+fronts_of (z ∷ front) last rest [] more e = inr (z ∷ front, refl, sym e)
+fronts_of {A} (z ∷ front) last rest (y ∷ heard) more e = by (fronts_of front last rest heard more cc) where
+  same : z ≡ y
+  same = cc
+
+  by : ((x : List A) × (heard ≡ front ++ last ∷ x) × (rest ≡ x ++ more)) ⊎ ((x : List A) × (front ≡ heard ++ x) × (more ≡ x ++ last ∷ rest))
+      → ((x : List A) × (y ∷ heard ≡ z ∷ front ++ last ∷ x) × (rest ≡ x ++ more)) ⊎ ((x : List A) × (z ∷ front ≡ y ∷ heard ++ x) × (more ≡ x ++ last ∷ rest))
+  by (inl (x, own, left)) = inl (x, rw (same, own) refl, left)
+  by (inr (x, own, left)) = inr (x, rw (same, own) refl, left)
+
+pub empty_both : {A : Type 0} (xs ys : List A) → xs ++ ys ≡ [] → (xs ≡ []) × (ys ≡ [])
+empty_both [] ys e = (refl, e)
+empty_both (x ∷ xs) ys e = absurd (omega (arith, ap length e, length-append xs ys))

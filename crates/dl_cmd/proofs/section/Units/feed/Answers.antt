@@ -1,0 +1,103 @@
+use Rattle.std.proofs.Common.{ℕ, List, arith, refl, sym, subst, append-nil}
+use Rattle.std.proofs.lemmas.Result.{err_from_is_err_and}
+use Rattle.dl_cmd.specs.Section.{section_visits}
+use Rattle.dl_cmd.specs.Visiting.{UnitsAre}
+use Rattle.dl_cmd.proofs.FeedLemmas.{damaged, idle, unmet, goes_on, stops_told, next_unit, no_more, stops_at_end, goes_on_quietly, is_unit, feeds, are_ended, still_small}
+use Rattle.dl_cmd.proofs.section.Units.feed.Goals as goal
+
+pub events-init : goal.events-init
+events-init g c = record {
+  fed = λ order t units b first start are short tells. record {
+    n = 0;
+    within = omega arith;
+    rest_is = refl;
+    units = units;
+    b = b;
+    are = subst (λ (l : List ℕ). UnitsAre order c.args.self.now l units b) (sym (append-nil t)) are;
+    tells = tells;
+  };
+}
+
+pub returns-in-Err : goal.returns-in-Err
+returns-in-Err g c order t units b first start are short tells =
+    let l = c.events in
+    let so = l.invariant.fed order t units b first start are short tells in
+    damaged g.V.Visitor.story order t c.args.piece.now first start l.self l.visitor (g.W.Write.contents l.output) l.rest.now so short c.feed.new.self c.feed.ensures.order c.in-Err.fault _ l.self c.in-Err.ensures.fed c.saturating_add.ensures
+
+pub returns-in-More : goal.returns-in-More
+returns-in-More g c order t units b first start are short tells =
+    let l = c.events in
+    let so = l.invariant.fed order t units b first start are short tells in
+    idle g.V.Visitor.story order t c.args.piece.now first start l.self l.visitor (g.W.Write.contents l.output) l.rest.now so short c.feed.new.self c.feed.ensures.order c.in-Ok.fed c.in-Ok.ensures.fed c.in-More.is c.if-fed-eq0.true
+
+pub events-preserved-else-fed-eq0 : goal.events-preserved-else-fed-eq0
+events-preserved-else-fed-eq0 g c = record {
+  fed = λ order t units b first start are short tells.
+      let l = c.events in
+      let so = l.invariant.fed order t units b first start are short tells in
+      goes_on_quietly g.V.Visitor.story order t c.args.piece.now first start l.self l.visitor (g.W.Write.contents l.output) l.rest.now so short c.feed.new.self c.feed.ensures.order c.in-Ok.fed c.in-Ok.ensures.fed c.in-More.is;
+}
+
+pub returns-in-NoMemory : goal.returns-in-NoMemory
+returns-in-NoMemory g c order t units b first start are short tells =
+    let l = c.events in
+    let so = l.invariant.fed order t units b first start are short tells in
+    unmet g.V.Visitor.story order t c.args.piece.now first start l.self l.visitor (g.W.Write.contents l.output) l.rest.now so short c.feed.new.self c.feed.ensures.order c.in-Ok.fed c.in-Ok.ensures.fed c.in-NoMemory.is l.self
+
+pub returns-in_err-end-in-End : goal.returns-in_err-end-in-End
+returns-in_err-end-in-End g c order t units b first start are short tells =
+    let p = err_from_is_err_and c.from_residual.result c.from_residual.ensures.1 in
+    let l = c.events in
+    let so = l.invariant.fed order t units b first start are short tells in
+    let story = g.V.Visitor.story in
+    let now = g.W.Write.contents l.output in
+    let stands = (feeds story order t c.args.piece.now first start l.self l.visitor now l.rest.now so short c.feed.new.self c.feed.ensures.order c.in-Ok.fed c.in-Ok.ensures.fed).stands in
+    let heard = c.in_err-end-in-End.ensures.heard _ stands first start (section_visits order so.units so.b) so.tells in
+    rw (p.1, p.2) (stops_at_end story order t c.args.piece.now first start l.self l.visitor now l.rest.now so short c.feed.new.self c.feed.ensures.order c.in-Ok.fed c.in-Ok.ensures.fed c.in-End.is c.end.new.visitor (g.W.Write.contents c.end.new.output) c.end.new.self _ heard)
+
+pub events-preserved-in-Unit : goal.events-preserved-in-Unit
+events-preserved-in-Unit g c = record {
+  fed = λ order t units b first start are short tells.
+      let l = c.events in
+      let so = l.invariant.fed order t units b first start are short tells in
+      let story = g.V.Visitor.story in
+      let now = g.W.Write.contents l.output in
+      let f = feeds story order t c.args.piece.now first start l.self l.visitor now l.rest.now so short c.feed.new.self c.feed.ensures.order c.in-Ok.fed c.in-Ok.ensures.fed in
+      let heard = c.in_ok-end-in-End.ensures.heard _ f.stands first start (section_visits order so.units so.b) so.tells in
+      let behind = c.in_ok-end-in-End.ensures.units order _ so.units _ (are_ended story order t c.args.piece.now first start l.self l.visitor now l.rest.now so short c.feed.new.self c.feed.ensures.order c.in-Ok.fed c.in-Ok.ensures.fed c.in-End.is) (is_unit story order t c.args.piece.now first start l.self l.visitor now l.rest.now so short c.feed.new.self c.feed.ensures.order c.in-Ok.fed c.in-Ok.ensures.fed c.in-End.is) (still_small story order t c.args.piece.now first start l.self l.visitor now l.rest.now so short c.feed.new.self c.feed.ensures.order c.in-Ok.fed c.in-Ok.ensures.fed) in
+      next_unit story order t c.args.piece.now first start l.self l.visitor now l.rest.now so short c.feed.new.self c.feed.ensures.order c.in-Ok.fed c.in-Ok.ensures.fed c.in-End.is c.end.new.visitor (g.W.Write.contents c.end.new.output) c.end.new.self behind c.in_ok-end-in-End.field-0 c.in-Unit.is heard;
+}
+
+pub returns-in-Nothing : goal.returns-in-Nothing
+returns-in-Nothing g c order t units b first start are short tells =
+    let l = c.events in
+    let so = l.invariant.fed order t units b first start are short tells in
+    let story = g.V.Visitor.story in
+    let now = g.W.Write.contents l.output in
+    let f = feeds story order t c.args.piece.now first start l.self l.visitor now l.rest.now so short c.feed.new.self c.feed.ensures.order c.in-Ok.fed c.in-Ok.ensures.fed in
+    let heard = c.in_ok-end-in-End.ensures.heard _ f.stands first start (section_visits order so.units so.b) so.tells in
+    let behind = c.in_ok-end-in-End.ensures.units order _ so.units _ (are_ended story order t c.args.piece.now first start l.self l.visitor now l.rest.now so short c.feed.new.self c.feed.ensures.order c.in-Ok.fed c.in-Ok.ensures.fed c.in-End.is) (is_unit story order t c.args.piece.now first start l.self l.visitor now l.rest.now so short c.feed.new.self c.feed.ensures.order c.in-Ok.fed c.in-Ok.ensures.fed c.in-End.is) (still_small story order t c.args.piece.now first start l.self l.visitor now l.rest.now so short c.feed.new.self c.feed.ensures.order c.in-Ok.fed c.in-Ok.ensures.fed) in
+    no_more story order t c.args.piece.now first start l.self l.visitor now l.rest.now so short c.feed.new.self c.feed.ensures.order c.in-Ok.fed c.in-Ok.ensures.fed c.in-End.is c.end.new.visitor (g.W.Write.contents c.end.new.output) c.end.new.self behind c.in_ok-end-in-End.field-0 c.in-Nothing.is heard
+
+pub events-preserved : goal.events-preserved
+events-preserved g c = record {
+  fed = λ order t units b first start are short tells.
+      let l = c.events in
+      let so = l.invariant.fed order t units b first start are short tells in
+      let story = g.V.Visitor.story in
+      let now = g.W.Write.contents l.output in
+      let f = feeds story order t c.args.piece.now first start l.self l.visitor now l.rest.now so short c.feed.new.self c.feed.ensures.order c.in-Ok.fed c.in-Ok.ensures.fed in
+      let heard = c.in_ok-tell-in_default.ensures.heard _ f.stands first start (section_visits order so.units so.b) so.tells in
+      goes_on story order t c.args.piece.now first start l.self l.visitor now l.rest.now so short c.feed.new.self c.feed.ensures.order c.in-Ok.fed c.in-Ok.ensures.fed c.tell.new.visitor (g.W.Write.contents c.tell.new.output) heard c.tell.new.self c.tell.ensures.counted;
+}
+
+pub returns-in_err-tell-in_default : goal.returns-in_err-tell-in_default
+returns-in_err-tell-in_default g c order t units b first start are short tells =
+    let p = err_from_is_err_and c.from_residual-in_err-tell-in_default.result c.from_residual-in_err-tell-in_default.ensures.1 in
+    let l = c.events in
+    let so = l.invariant.fed order t units b first start are short tells in
+    let story = g.V.Visitor.story in
+    let now = g.W.Write.contents l.output in
+    let f = feeds story order t c.args.piece.now first start l.self l.visitor now l.rest.now so short c.feed.new.self c.feed.ensures.order c.in-Ok.fed c.in-Ok.ensures.fed in
+    let heard = c.in_err-tell-in_default.ensures.heard _ f.stands first start (section_visits order so.units so.b) so.tells in
+    rw (p.1, p.2) (stops_told story order t c.args.piece.now first start l.self l.visitor now l.rest.now so short c.feed.new.self c.feed.ensures.order c.in-Ok.fed c.in-Ok.ensures.fed c.tell.new.visitor (g.W.Write.contents c.tell.new.output) c.tell.new.self _ heard)

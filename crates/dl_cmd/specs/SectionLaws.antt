@@ -1,0 +1,53 @@
+-- Laws of the definitions of sections. Each holds in either byte order, which is the same throughout a law. DWARF 5, section 6.2.4.
+use Rattle.std.specs.Prelude.{◌≡◌, ◌≢◌, ℕ, List, Option, Result, Err, ◌++◌}
+use Rattle.dl_num.specs.declared.fixed.Order.{Order}
+use Rattle.dl_head.specs.TableData.{HeaderData}
+use Rattle.dl_rows.specs.declared.row.Row.{Row}
+use Rattle.dl_look.specs.declared.place.Place.{Place}
+use Rattle.dl_cmd.specs.declared.fault.RunFault.{RunFault}
+use Rattle.dl_cmd.specs.declared.fault.RunFault.TheVariants as fault
+use Rattle.dl_cmd.specs.declared.summary.Summary.{Summary}
+use Rattle.dl_cmd.specs.Commands.{Checks, IsFound, Finds}
+use Rattle.dl_cmd.specs.ValueText.{Strings}
+use Rattle.dl_cmd.specs.Section.{Visit, HasUnits, NoUnitBegins, EndsAs, section_visits}
+
+-- bytes are cut into units, up to bytes that no unit begins, in one way alone
+abbrev pub OneCut : Type 0
+OneCut = (order : Order) (s : List ℕ) (units units2 : List (List ℕ)) (rest rest2 : List ℕ) → HasUnits order s units rest → NoUnitBegins order rest
+    → HasUnits order s units2 rest2 → NoUnitBegins order rest2 → (units ≡ units2) × (rest ≡ rest2)
+
+-- an answer for which neither memory nor input nor output is the reason
+abbrev pub IsOfBytes : Result Summary RunFault → Type 0
+IsOfBytes (Err fault.NoMemory) = ⊥
+IsOfBytes (Err fault.Read) = ⊥
+IsOfBytes (Err (fault.Write out)) = ⊥
+IsOfBytes other = Unit {0}
+
+-- the units of bytes, the bytes behind them and the answer are settled by the bytes and the limit
+abbrev pub OneEnd : Type 0
+OneEnd = (order : Order) (limit : ℕ) (bytes : List ℕ) (left left2 : Option (List ℕ)) (units units2 : List (List ℕ)) (b b2 back back2 : List ℕ) (result result2 : Result Summary RunFault)
+    → IsOfBytes result → IsOfBytes result2 → EndsAs order limit bytes left units b back result → EndsAs order limit bytes left2 units2 b2 back2 result2
+    → (units ≡ units2) × (b ≡ b2) × (back ≡ back2) × (result ≡ result2)
+
+-- what is told of the front of a section is the front of what is told of the section, where memory is refused in neither
+abbrev pub MoreIsTold : Type 0
+MoreIsTold = (order : Order) (limit : ℕ) (bytes more : List ℕ) (left left2 : Option (List ℕ)) (units units2 : List (List ℕ)) (b b2 back back2 : List ℕ) (result result2 : Result Summary RunFault)
+    → result ≢ Err fault.NoMemory → result2 ≢ Err fault.NoMemory → EndsAs order limit bytes left units b back result → EndsAs order limit (bytes ++ more) left2 units2 b2 back2 result2
+    → (others : List Visit) × (section_visits order units2 b2 ≡ section_visits order units b ++ others)
+
+-- ---- the commands
+
+-- what `check` answers is settled by the bytes and the limit
+abbrev pub OneChecking : Type 0
+OneChecking = (order : Order) (limit : ℕ) (bytes : List ℕ) (left left2 start start2 now now2 : Option (List ℕ)) (result result2 : Result Summary RunFault) → IsOfBytes result → IsOfBytes result2
+    → Checks order limit bytes left start now result → Checks order limit bytes left2 start2 now2 result2 → result ≡ result2
+
+-- one unit alone is the first that has an answer, with one header and one row
+abbrev pub OneFound : Type 0
+OneFound = (order : Order) (x : Place) (bytes : List ℕ) (units units2 : List (List ℕ)) (u u2 back back2 : List ℕ) (h h2 : HeaderData) (r r2 : Row) → IsFound order x bytes units u back h r
+    → IsFound order x bytes units2 u2 back2 h2 r2 → (units ≡ units2) × (u ≡ u2) × (back ≡ back2) × (h ≡ h2) × (r ≡ r2)
+
+-- what `find` answers is settled by the bytes, the limit and the place, whatever the string sections
+abbrev pub OneFinding : Type 0
+OneFinding = (order : Order) (strings strings2 : Strings) (x : Place) (limit : ℕ) (bytes : List ℕ) (left left2 start start2 now now2 : Option (List ℕ)) (result result2 : Result Summary RunFault)
+    → IsOfBytes result → IsOfBytes result2 → Finds order strings x limit bytes left start now result → Finds order strings2 x limit bytes left2 start2 now2 result2 → result ≡ result2
