@@ -8,7 +8,7 @@ use Rattle.dl_rows.specs.declared.row.Row.{Row}
 use Rattle.dl_emit.specs.WrittenUnit.{unit_of, refusal}
 use Rattle.dl_cmd.specs.Printed.{Printed}
 use Rattle.dl_cmd.specs.Output.{HasPrinted, Prints}
-use Rattle.dl_cmd.specs.Copies.{PrintsUnit}
+use Rattle.dl_cmd.specs.UnitPrinted.{PrintsUnit}
 use Rattle.dl_cmd.specs.declared.fault.RunFault.{RunFault}
 use Rattle.dl_cmd.specs.declared.fault.RunFault.TheVariants.{Damage, NoMemory, Read, Write, SectionTooLong, NotFound, ForeignUnit, Emit}
 

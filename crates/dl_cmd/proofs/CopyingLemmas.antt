@@ -14,7 +14,8 @@ use Rattle.dl_rows.specs.declared.row.Row.{Row}
 use Rattle.dl_rows.specs.declared.reader.Event.TheVariants as event
 use Rattle.dl_rows.specs.LineUnit.{IsUnit, rows_behind, unit_rows, ends_open, events_of}
 use Rattle.dl_rows.proofs.ReaderLemmas.{foreign_no_header}
-use Rattle.dl_rows.proofs.UnitLengths.{foreign_of}
+use Rattle.dl_rows.specs.Reading.{WithinUnit}
+use Rattle.dl_rows.proofs.UnitLengths.{foreign_of, length_of_unit, some_same}
 use Rattle.dl_emit.specs.declared.fault.EmitFault.{EmitFault}
 use Rattle.dl_emit.specs.WrittenUnit.{unit_of, refusal}
 use Rattle.dl_cmd.specs.declared.copying.Copier.{Copier}
@@ -22,12 +23,12 @@ use Rattle.dl_cmd.specs.declared.fault.RunFault.{RunFault}
 use Rattle.dl_cmd.specs.declared.fault.RunFault.TheVariants as fault
 use Rattle.dl_cmd.specs.declared.summary.Summary.{Summary}
 use Rattle.dl_cmd.specs.Commands.{Copies, HasCopied, AreCopied, copied_unit, copied_units}
-use Rattle.dl_cmd.specs.Copies.{PrintsUnit}
+use Rattle.dl_cmd.specs.UnitPrinted.{PrintsUnit}
 use Rattle.dl_cmd.specs.Copying.{Copying, offset_after, end_stop, stop_after, end_text, text_after, copy_story}
 use Rattle.dl_cmd.specs.Output.{HasPrinted, TellsOut}
 use Rattle.dl_cmd.specs.Printed.{Printed}
 use Rattle.dl_cmd.specs.RowsTold.{rows_after}
-use Rattle.dl_cmd.specs.Section.{Visit, of_header, of_version, of_row, of_open, of_end, HasUnits, header_of, event_visits, visits, open_visit, units_visits, section_visits}
+use Rattle.dl_cmd.specs.Section.{Visit, of_header, of_version, of_row, of_open, of_end, HasUnits, HasBegun, header_of, event_visits, visits, open_visit, units_visits, section_visits}
 use Rattle.dl_cmd.specs.Visiting.{Ran, Settled, StopsIn, VisitorStops}
 use Rattle.dl_cmd.proofs.Fronts.{or_assoc, none_is_some, value_same, neither, map_none, fronts_of, empty_both}
 use Rattle.dl_cmd.proofs.Outs.{HasPrinted-nothing}
@@ -223,14 +224,14 @@ module _ (order : Order) (n : ℕ) (c : List ℕ) where
 -- the fault is that of what stands behind the units that are done, the first of which is at n
 abbrev StopIs : Order → (n : ℕ) (done after : List (List ℕ)) (b : List ℕ) → RunFault → Type 0
 StopIs order n done after b (fault.ForeignUnit offset) =
-    (c : List ℕ) × (back : List ℕ) × (version : ℕ) × (concat after ++ b ≡ c ++ back) × (offset ≡ n + length (concat done)) × (foreign_in order c ≡ Some version)
+    (c : List ℕ) × (back : List ℕ) × (version : ℕ) × (concat after ++ b ≡ c ++ back) × (offset ≡ n + length (concat done)) × WithinUnit order c × (foreign_in order c ≡ Some version)
 StopIs order n done after b (fault.Emit offset f) =
     (u : List ℕ) × (later : List (List ℕ)) × (h : HeaderData) × (after ≡ u ∷ later) × (offset ≡ n + length (concat done)) × (header_of order u ≡ Some h) × (refusal (with_standard_opcodes h) (unit_rows order u) ≡ Some f)
 StopIs order n done after b other = ⊥
 
 -- one unit more is done
 stop_behind : (order : Order) (n : ℕ) (u : List ℕ) (done after : List (List ℕ)) (b : List ℕ) (f : RunFault) → StopIs order (n + length u) done after b f → StopIs order n (u ∷ done) after b f
-stop_behind order n u done after b (fault.ForeignUnit offset) (c, back, version, whole, at, foreign) = (c, back, version, whole, omega (arith, at, length-append u (concat done)), foreign)
+stop_behind order n u done after b (fault.ForeignUnit offset) (c, back, version, whole, at, within, foreign) = (c, back, version, whole, omega (arith, at, length-append u (concat done)), within, foreign)
 stop_behind order n u done after b (fault.Emit offset f) (v, later, h, whole, at, header, refused) = (v, later, h, whole, omega (arith, at, length-append u (concat done)), header, refused)
 stop_behind order n u done after b (fault.Damage at kind) s = absurd s
 stop_behind order n u done after b fault.NoMemory s = absurd s
@@ -239,15 +240,15 @@ stop_behind order n u done after b (fault.Write out) s = absurd s
 stop_behind order n u done after b fault.SectionTooLong s = absurd s
 stop_behind order n u done after b fault.NotFound s = absurd s
 
--- of the units some first ones are copied, all where all is told and there is no fault; m: the offset before the visits
+-- of the units some first ones are copied, all where all is told and there is no fault, and then b isn't of another version; m: the offset before the visits
 record Heard (order : Order) (m n : ℕ) (units : List (List ℕ)) (b : List ℕ) (heard more : List Visit) : Type 0 where
   done : List (List ℕ)
   after : List (List ℕ)
   whole : units ≡ done ++ after
   copied : AreCopied order done
   text : text_after order [] heard ≡ copied_units order done
-  stop : (f : RunFault) → stop_after m [] heard ≡ Some f → StopIs order n done after b f
-  all : more ≡ [] → stop_after m [] heard ≡ None → after ≡ []
+  stop : WithinUnit order b → (f : RunFault) → stop_after m [] heard ≡ Some f → StopIs order n done after b f
+  all : more ≡ [] → stop_after m [] heard ≡ None → (after ≡ []) × (foreign_in order b ≡ None)
 
 no_middle : {A : Type 0} (xs : List A) (x : A) (ys : List A) → xs ++ x ∷ ys ≡ [] → ⊥
 no_middle xs x ys e = omega (arith, ap length e, length-append xs (x ∷ ys))
@@ -262,16 +263,20 @@ module _ (order : Order) where
   unit_kind u (inl (version, is)) = inl (version, foreign_of order version u is)
   unit_kind u (inr (h, p, is)) = inr (h, is.program, ap (header_in order) is.whole ∙ header_is_found order h is.header is.program is.spells_header)
 
+  -- a unit doesn't go beyond its end
+  unit_within : (u : List ℕ) → IsUnit order u → WithinUnit order u
+  unit_within u is n len = omega (arith, some_same (length u) n (sym (length_of_unit order u is) ∙ len))
+
   -- where the first unit is of another version
-  stops_foreign : (m n : ℕ) (u : List ℕ) (units : List (List ℕ)) (b : List ℕ) (heard more : List Visit) (v : Foreign order 0 u)
+  stops_foreign : (m n : ℕ) (u : List ℕ) (units : List (List ℕ)) (b : List ℕ) (heard more : List Visit) → IsUnit order u → (v : Foreign order 0 u)
       → text_after order [] heard ≡ [] → ((f : RunFault) → stop_after m [] heard ≡ Some f → f ≡ fault.ForeignUnit n) → (more ≡ [] → stop_after m [] heard ≡ None → ⊥) → Heard order m n (u ∷ units) b heard more
-  stops_foreign m n u units b heard more v text stop all = record {
+  stops_foreign m n u units b heard more unit v text stop all = record {
     done = [];
     after = u ∷ units;
     whole = refl;
     copied = tt;
     text = text;
-    stop = λ f is. subst (StopIs order n [] (u ∷ units) b) (sym (stop f is)) (u, concat units ++ b, v.0, append_assoc u (concat units) b, omega arith, v.1);
+    stop = λ within f is. subst (StopIs order n [] (u ∷ units) b) (sym (stop f is)) (u, concat units ++ b, v.0, append_assoc u (concat units) b, omega arith, unit_within u unit, v.1);
     all = λ none quiet. absurd (all none quiet);
   }
 
@@ -308,7 +313,7 @@ module _ (order : Order) where
       whole = refl;
       copied = tt;
       text = text_is (Some f) r;
-      stop = λ g is. subst (StopIs order n [] (u ∷ units) b) (value_same (fault.Emit n f) g (sym (stop_is (Some f) r) ∙ is)) (u, units, own.0, refl, omega arith, header_is order n u own, r);
+      stop = λ within g is. subst (StopIs order n [] (u ∷ units) b) (value_same (fault.Emit n f) g (sym (stop_is (Some f) r) ∙ is)) (u, units, own.0, refl, omega arith, header_is order n u own, r);
       all = λ none quiet. absurd (none_is_some (sym quiet ∙ stop_is (Some f) r));
     }
 
@@ -322,7 +327,7 @@ module _ (order : Order) where
       whole = ap (λ (l : List (List ℕ)). u ∷ l) later.whole;
       copied = ((own.0, header_is order n u own, r), later.copied);
       text = text_is None r ∙ ap₂ (λ (v w : List ℕ). v ++ w) its_copy later.text;
-      stop = λ f is. stop_behind order n u later.done later.after b f (later.stop f (sym (stop_is None r) ∙ is));
+      stop = λ within f is. stop_behind order n u later.done later.after b f (later.stop within f (sym (stop_is None r) ∙ is));
       all = λ none quiet. later.all none (sym (stop_is None r) ∙ quiet);
     }
 
@@ -340,11 +345,15 @@ module _ (order : Order) where
         whole = refl;
         copied = tt;
         text = nothing_before order k b false heard more cut;
-        stop = λ f is. by f (foreign_before order k b false m heard more f cut is);
-        all = λ none quiet. refl;
+        stop = λ within f is. by within f (foreign_before order k b false m heard more f cut is);
+        all = λ none quiet. (refl, not_version (foreign_in order b) refl (ap (stop_after m []) (append-nil (visits order k b ++ open_visit false) ∙ cut ∙ ap (λ (l : List Visit). heard ++ l) none ∙ append-nil heard) ∙ quiet));
       } where
-        by : (f : RunFault) → (v : Foreign order k b) × (f ≡ fault.ForeignUnit k) → StopIs order n [] [] b f
-        by f (v, same) = subst (StopIs order n [] [] b) (sym same) (b, [], v.0, sym (append-nil b), at, v.1)
+        not_version : (v : Option ℕ) → foreign_in order b ≡ v → stop_after m [] ((visits order k b ++ open_visit false) ++ []) ≡ None → foreign_in order b ≡ None
+        not_version None is quiet = is
+        not_version (Some v) is quiet = absurd (none_is_some (sym quiet ∙ stop_of_foreign order k b false m (v, is) []))
+
+        by : WithinUnit order b → (f : RunFault) → (v : Foreign order k b) × (f ≡ fault.ForeignUnit k) → StopIs order n [] [] b f
+        by within f (v, same) = subst (StopIs order n [] [] b) (sym same) (b, [], v.0, sym (append-nil b), at, within, v.1)
   heard_of m n k (u ∷ units) b heard more all at e = on_half (fronts_of own_front end_is rest heard more (sym (regroup (visits order n u) (open_visit is_open) end_is (units_visits order (n + length u) units) (visits order k b)) ∙ e)) (heard_of n (n + length u) k units b) where
     is_open : Bool
     is_open = ends_open (unit_rows order u)
@@ -369,16 +378,16 @@ module _ (order : Order) where
         whole = refl;
         copied = tt;
         text = nothing_before order n u is_open heard x half;
-        stop = λ f is. within f (foreign_before order n u is_open m heard x f half is);
+        stop = λ in_unit f is. within f (foreign_before order n u is_open m heard x f half is);
         all = λ none quiet. absurd (no_middle x end_is rest (sym left ∙ none));
       } where
         within : (f : RunFault) → (v : Foreign order n u) × (f ≡ fault.ForeignUnit n) → StopIs order n [] (u ∷ units) b f
-        within f (v, same) = subst (StopIs order n [] (u ∷ units) b) (sym same) (u, concat units ++ b, v.0, append_assoc u (concat units) b, omega arith, v.1)
+        within f (v, same) = subst (StopIs order n [] (u ∷ units) b) (sym same) (u, concat units ++ b, v.0, append_assoc u (concat units) b, omega arith, unit_within u all.0, v.1)
     on_half (inl (x, half, left)) later = by (unit_kind u all.0) where
       by : Foreign order 0 u ⊎ Own order 0 u → Heard order m n (u ∷ units) b heard more
       by (inl v) =
           let stop : stop_after m [] heard ≡ Some (fault.ForeignUnit n) = ap (stop_after m []) half ∙ stop_of_foreign order n u is_open m v (end_is ∷ x) in
-          stops_foreign m n u units b heard more v (ap (text_after order []) half ∙ text_of_foreign order n u is_open v (end_is ∷ x))
+          stops_foreign m n u units b heard more all.0 v (ap (text_after order []) half ∙ text_of_foreign order n u is_open v (end_is ∷ x))
           (λ f is. value_same f (fault.ForeignUnit n) (sym is ∙ stop)) (λ none quiet. none_is_some (sym quiet ∙ stop))
       by (inr own) = by_refusal m n u units b heard more x own half (refusal (with_standard_opcodes own.0) (unit_rows order u)) refl
           (later x more all.1 (omega (arith, at, length-append u (concat units))) left)
@@ -408,9 +417,15 @@ module _ (order : Order) (limit : ℕ) (bytes : List ℕ) (left : Option (List �
   all_copied units b each settled =
       let visits = section_visits order units b in
       let f = heard_in units b visits [] each (sym (append-nil visits)) in
-      let same : units ≡ f.done = f.whole ∙ ap (λ (l : List (List ℕ)). f.done ++ l) (f.all refl settled.tells.goes_on) ∙ append-nil f.done in
+      let same : units ≡ f.done = f.whole ∙ ap (λ (l : List (List ℕ)). f.done ++ l) (f.all refl settled.tells.goes_on).0 ∙ append-nil f.done in
       let out : Appends start now (text_after order [] visits) = subst (λ (o : Order). Appends start now (text_after o [] visits)) own settled.out in
       subst (λ (l : List (List ℕ)). HasCopied order l start now) (sym same) (f.copied, subst (Appends start now) f.text out)
+
+  -- without a fault b isn't of another version
+  not_version : (units : List (List ℕ)) (b : List ℕ) → AllByRecursion (IsUnit order) units → Settled copy_story first start now (section_visits order units b) (Copying first new start now) → foreign_in order b ≡ None
+  not_version units b each settled =
+      let visits = section_visits order units b in
+      ((heard_in units b visits [] each (sym (append-nil visits))).all refl settled.tells.goes_on).1
 
   failed_write : (units : List (List ℕ)) (b back : List ℕ) (heard more : List Visit) (out : ℕ) → HasUnits order s units (b ++ back) → section_visits order units b ≡ heard ++ more
       → TellsOut start now (text_after first.order [] heard) (fault.Write out) → Copies order limit bytes left start now (Err (fault.Write out))
@@ -419,7 +434,10 @@ module _ (order : Order) (limit : ℕ) (bytes : List ℕ) (left : Option (List �
       let tells_own : TellsOut start now (text_after order [] heard) (fault.Write out) = subst (λ (o : Order). TellsOut start now (text_after o [] heard) (fault.Write out)) own tells in
       (f.done, concat f.after ++ (b ++ back), has_front order s units f.done f.after (b ++ back) f.whole has, f.copied, subst (λ (l : List ℕ). TellsOut start now l (fault.Write out)) f.text tells_own)
 
-  module _ (units : List (List ℕ)) (b back : List ℕ) (has : HasUnits order s units (b ++ back)) (f : RunFault) (stops : VisitorStops copy_story first new start now (section_visits order units b) f) where
+  module _ (units : List (List ℕ)) (b back : List ℕ) (begun : HasBegun order s units b back) (f : RunFault) (stops : VisitorStops copy_story first new start now (section_visits order units b) f) where
+    has : HasUnits order s units (b ++ back)
+    has = begun.has
+
     out_before : Appends start now (text_after order [] stops.before)
     out_before = subst (λ (o : Order). Appends start now (text_after o [] stops.before)) own stops.out
 
@@ -455,9 +473,9 @@ module _ (order : Order) (limit : ℕ) (bytes : List ℕ) (left : Option (List �
       done_in = has_front order s units told.done told.after (b ++ back) told.whole has
 
       by_stop : (g : RunFault) → StopIs order 0 told.done told.after b g → Copies order limit bytes left start now (Err g)
-      by_stop (fault.ForeignUnit offset) (c, more, version, whole, at, foreign) =
+      by_stop (fault.ForeignUnit offset) (c, more, version, whole, at, within, foreign) =
           let rest : concat told.after ++ (b ++ back) ≡ c ++ (more ++ back) = sym (append_assoc (concat told.after) b back) ∙ ap (λ (l : List ℕ). l ++ back) whole ∙ append_assoc c more back in
-          (told.done, c, more ++ back, version, subst (HasUnits order s told.done) rest done_in, at ∙ omega arith, foreign, copied_before)
+          (told.done, c, more ++ back, version, record { has = subst (HasUnits order s told.done) rest done_in; in_unit = within }, at ∙ omega arith, foreign, copied_before)
       by_stop (fault.Emit offset g) (u, later, h, whole, at, header, refused) =
           let all : units ≡ (told.done ++ u ∷ []) ++ later = told.whole ∙ ap (λ (l : List (List ℕ)). told.done ++ l) whole ∙ sym (append_assoc told.done (u ∷ []) later) in
           (told.done, u, concat later ++ (b ++ back), h, has_front order s units (told.done ++ u ∷ []) later (b ++ back) all has, at ∙ omega arith, header, refused, too_long order u h g header refused, copied_before)
@@ -469,26 +487,26 @@ module _ (order : Order) (limit : ℕ) (bytes : List ℕ) (left : Option (List �
       by_stop fault.NotFound stop = absurd stop
 
       stopped : Copies order limit bytes left start now (Err f)
-      stopped = by_stop f (told.stop f reason)
+      stopped = by_stop f (told.stop begun.in_unit f reason)
 
   pub copies : (result : Result Summary RunFault) → Ran copy_story order limit bytes left first new start now result → Copies order limit bytes left start now result
   copies (Ok summary) (inl (units, ends, settled)) = (units, ends, all_copied units [] ends.0.each settled)
   copies (Ok summary) (inr (units, back, has, counts, settled)) = absurd settled.tells
   copies (Err (fault.Write out)) (units, b, back, has, (heard, more, whole, tells)) = failed_write units b back heard more out has.has whole tells
   copies (Err fault.NoMemory) (units, b, back, inl (ends, settled)) = (units, b ++ back, ends.0.has, all_copied units b ends.0.has.each settled)
-  copies (Err fault.NoMemory) (units, b, back, inr (has, stops)) = no_memory units b back has.has fault.NoMemory stops
+  copies (Err fault.NoMemory) (units, b, back, inr (has, stops)) = no_memory units b back has fault.NoMemory stops
   copies (Err (fault.ForeignUnit offset)) (units, b, back, inl (ends, settled)) = absurd ends
-  copies (Err (fault.ForeignUnit offset)) (units, b, back, inr (has, stops)) = stopped units b back has.has (fault.ForeignUnit offset) stops stops.reason
+  copies (Err (fault.ForeignUnit offset)) (units, b, back, inr (has, stops)) = stopped units b back has (fault.ForeignUnit offset) stops stops.reason
   copies (Err (fault.Emit offset f)) (units, b, back, inl (ends, settled)) = absurd ends
-  copies (Err (fault.Emit offset f)) (units, b, back, inr (has, stops)) = stopped units b back has.has (fault.Emit offset f) stops stops.reason
+  copies (Err (fault.Emit offset f)) (units, b, back, inr (has, stops)) = stopped units b back has (fault.Emit offset f) stops stops.reason
   copies (Err fault.NotFound) (units, b, back, inl (ends, settled)) = absurd ends
-  copies (Err fault.NotFound) (units, b, back, inr (has, stops)) = stopped units b back has.has fault.NotFound stops stops.reason
-  copies (Err (fault.Damage at kind)) (units, b, back, inl (ends, settled)) = (units, b, back, ends, all_copied units b ends.0.each settled)
-  copies (Err (fault.Damage at kind)) (units, b, back, inr (has, stops)) = stopped units b back has.has (fault.Damage at kind) stops stops.reason
-  copies (Err fault.Read) (units, b, back, inl (ends, settled)) = (units, b, back, ends, all_copied units b ends.0.each settled)
-  copies (Err fault.Read) (units, b, back, inr (has, stops)) = stopped units b back has.has fault.Read stops stops.reason
-  copies (Err fault.SectionTooLong) (units, b, back, inl (ends, settled)) = (units, b, back, ends, all_copied units b ends.0.each settled)
-  copies (Err fault.SectionTooLong) (units, b, back, inr (has, stops)) = stopped units b back has.has fault.SectionTooLong stops stops.reason
+  copies (Err fault.NotFound) (units, b, back, inr (has, stops)) = stopped units b back has fault.NotFound stops stops.reason
+  copies (Err (fault.Damage at kind)) (units, b, back, inl (ends, settled)) = (units, b, back, ends, not_version units b ends.0.each settled, all_copied units b ends.0.each settled)
+  copies (Err (fault.Damage at kind)) (units, b, back, inr (has, stops)) = stopped units b back has (fault.Damage at kind) stops stops.reason
+  copies (Err fault.Read) (units, b, back, inl (ends, settled)) = (units, b, back, ends, not_version units b ends.0.each settled, all_copied units b ends.0.each settled)
+  copies (Err fault.Read) (units, b, back, inr (has, stops)) = stopped units b back has fault.Read stops stops.reason
+  copies (Err fault.SectionTooLong) (units, b, back, inl (ends, settled)) = (units, b, back, ends, not_version units b ends.0.each settled, all_copied units b ends.0.each settled)
+  copies (Err fault.SectionTooLong) (units, b, back, inr (has, stops)) = stopped units b back has fault.SectionTooLong stops stops.reason
 
 -- ---- the copier
 

@@ -100,24 +100,26 @@ module _ {S : Type 0} (story : Story S) (order : Order) (t piece : List ℕ) (fi
   same_visits used same = visits_after used [] (same ∙ sym (append-nil (events order so.b))) ∙ append-nil (section_visits order so.units so.b)
 
   -- a fault
-  pub damaged : (f : Fault) (offset : ℕ) (v : Units) → ((c : List ℕ) → StandsFor u.reader c → ReaderFed u.reader.order c rest (Err f) reader) → offset ≡ add u.offset f.offset
-      → UnitsFed story order (t ++ piece) first new start now v (Err (fault.Damage offset f.kind))
-  damaged f offset v feed at =
-      let fed = fed_as (Err f) feed in
-      let used = fed.0 in
-      let fails = fed.1 in
-      let place = fails.refused.place in
-      let has = parted used in
-      let size : length (concat so.units) + f.offset < 2 ^ 64 = omega (arith, place, short, ap length has.whole, length-append t piece, length-append (concat so.units) (with_bytes used ++ drop used rest), length-append (with_bytes used) (drop used rest)) in (
-        so.units,
-        with_bytes used,
-        drop used rest,
-        begun used fails.in_unit,
-        inl (
-          (f.offset, omega (arith, at, so.are.offset, size), fails.refused, no_unit_refused order (with_bytes used) (drop used rest) f.offset f.kind fails.in_unit fails.refused),
-          subst (λ (l : List Visit). story.tells first new start now l) (sym (same_visits used fails.no_event)) so.tells,
-        ),
-      )
+  pub damaged : (f : Fault) (g : RunFault) (v : Units) → ((c : List ℕ) → StandsFor u.reader c → ReaderFed u.reader.order c rest (Err f) reader) → g ≡ fault.Damage (add u.offset f.offset) f.kind
+      → UnitsFed story order (t ++ piece) first new start now v (Err g)
+  damaged f g v feed is = subst (λ (h : RunFault). UnitsFed story order (t ++ piece) first new start now v (Err h)) (sym is) at_place where
+    at_place : UnitsFed story order (t ++ piece) first new start now v (Err (fault.Damage (add u.offset f.offset) f.kind))
+    at_place =
+        let fed = fed_as (Err f) feed in
+        let used = fed.0 in
+        let fails = fed.1 in
+        let place = fails.refused.place in
+        let has = parted used in
+        let size : length (concat so.units) + f.offset < 2 ^ 64 = omega (arith, place, short, ap length has.whole, length-append t piece, length-append (concat so.units) (with_bytes used ++ drop used rest), length-append (with_bytes used) (drop used rest)) in (
+          so.units,
+          with_bytes used,
+          drop used rest,
+          begun used fails.in_unit,
+          inl (
+            (f.offset, omega (arith, so.are.offset, size), fails.refused, no_unit_refused order (with_bytes used) (drop used rest) f.offset f.kind fails.in_unit fails.refused),
+            subst (λ (l : List Visit). story.tells first new start now l) (sym (same_visits used fails.no_event)) so.tells,
+          ),
+        )
 
   module _ (fed : Fed) (feed : (c : List ℕ) → StandsFor u.reader c → ReaderFed u.reader.order c rest (Ok fed) reader) where
     pub feeds : Feeds StandsFor order so.b rest fed reader

@@ -12,6 +12,8 @@ pub mod SectionLemmas
 pub mod SectionCuts
 pub mod SectionGrowth
 pub mod OneAnswers
+pub mod OneCopying
+pub mod DumpFronts
 pub mod UnitsLemmas
 pub mod VisitLemmas
 pub mod CountLemmas

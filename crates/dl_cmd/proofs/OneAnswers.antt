@@ -1,5 +1,6 @@
--- What `check` and `find` answer of bytes is one thing alone.
-use Rattle.std.proofs.Common.{◌≡◌, ℕ, List, [], ◌∷◌, ◌++◌, take, Option, Some, None, Result, Ok, Err, refl, sym, ap, ap₂, ◌∙◌, append_assoc}
+-- What `check`, `dump` and `find` answer of bytes is one thing alone.
+use Rattle.std.proofs.Common.{◌≡◌, ℕ, List, [], ◌∷◌, ◌++◌, take, Option, Some, None, Result, Ok, Err, refl, sym, ap, ap₂, ◌∙◌, subst, append_assoc}
+use Rattle.std.specs.Io.KnownBytes.{Appends}
 use Rattle.std.specs.List.{AllByRecursion, concat}
 use Rattle.dl_num.specs.declared.fixed.Order.{Order}
 use Rattle.dl_head.specs.TableData.{HeaderData}
@@ -10,9 +11,10 @@ use Rattle.dl_look.specs.Answer.{answer}
 use Rattle.dl_cmd.specs.declared.fault.RunFault.{RunFault}
 use Rattle.dl_cmd.specs.declared.fault.RunFault.TheVariants as fault
 use Rattle.dl_cmd.specs.declared.summary.Summary.{Summary}
-use Rattle.dl_cmd.specs.Commands.{Checks, NoneAnswers, IsFound, Finds}
+use Rattle.dl_cmd.specs.Commands.{Checks, Dumps, NoneAnswers, IsFound, Finds}
 use Rattle.dl_cmd.specs.Section.{NoUnitBegins, EndsAs, header_of, summary_of}
-use Rattle.dl_cmd.specs.SectionLaws.{IsOfBytes, OneChecking, OneFound, OneFinding}
+use Rattle.dl_cmd.specs.SectionLaws.{IsOfBytes, OneChecking, OneFound, OneFinding, OneDumping, OneDump}
+use Rattle.dl_cmd.specs.SectionText.{section_text}
 use Rattle.dl_cmd.specs.ValueText.{Strings}
 use Rattle.dl_cmd.proofs.SectionCuts.{one_front, one_end, ended}
 
@@ -38,6 +40,42 @@ one_checking order limit bytes left left2 start start2 now now2 result result2 o
     let s = checked order limit bytes left start now result of checks in
     let s2 = checked order limit bytes left2 start2 now2 result2 of2 checks2 in
     (one_end order limit bytes left left2 s.0 s2.0 s.1 s2.1 s.2 s2.2 result result2 of of2 s.3 s2.3).3
+
+-- ---- `dump`
+
+-- the section ends so, and the text is out
+pub record Dumped (order : Order) (strings : Strings) (limit : ℕ) (bytes : List ℕ) (left start now : Option (List ℕ)) (result : Result Summary RunFault) : Type 0 where
+  pub units : List (List ℕ)
+  pub b : List ℕ
+  pub back : List ℕ
+  pub ends : EndsAs order limit bytes left units b back result
+  pub out : Appends start now (section_text order strings units b)
+
+module _ (order : Order) (strings : Strings) (limit : ℕ) (bytes : List ℕ) (left start now : Option (List ℕ)) where
+  pub dumped : (result : Result Summary RunFault) → IsOfBytes result → Dumps order strings limit bytes left start now result → Dumped order strings limit bytes left start now result
+  dumped (Ok summary) of (units, b, back, ends, out) = record { units = units; b = b; back = back; ends = ends; out = out }
+  dumped (Err (fault.Write n)) of dumps = absurd of
+  dumped (Err fault.NoMemory) of dumps = absurd of
+  dumped (Err fault.Read) of dumps = absurd of
+  dumped (Err (fault.Damage offset kind)) of (units, b, back, ends, out) = record { units = units; b = b; back = back; ends = ends; out = out }
+  dumped (Err fault.SectionTooLong) of (units, b, back, ends, out) = record { units = units; b = b; back = back; ends = ends; out = out }
+  dumped (Err fault.NotFound) of (units, b, back, ends, out) = absurd ends
+  dumped (Err (fault.ForeignUnit unit)) of (units, b, back, ends, out) = absurd ends
+  dumped (Err (fault.Emit unit f)) of (units, b, back, ends, out) = absurd ends
+
+pub one_dumping : OneDumping
+one_dumping order strings strings2 limit bytes left left2 start start2 now now2 result result2 of of2 dumps dumps2 =
+    let d = dumped order strings limit bytes left start now result of dumps in
+    let d2 = dumped order strings2 limit bytes left2 start2 now2 result2 of2 dumps2 in
+    (one_end order limit bytes left left2 d.units d2.units d.b d2.b d.back d2.back result result2 of of2 d.ends d2.ends).3
+
+pub one_dump : OneDump
+one_dump order strings limit bytes left left2 start start2 now now2 result result2 of of2 dumps dumps2 =
+    let d = dumped order strings limit bytes left start now result of dumps in
+    let d2 = dumped order strings limit bytes left2 start2 now2 result2 of2 dumps2 in
+    let same = one_end order limit bytes left left2 d.units d2.units d.b d2.b d.back d2.back result result2 of of2 d.ends d2.ends in
+    let text : section_text order strings d2.units d2.b ≡ section_text order strings d.units d.b = ap₂ (section_text order strings) (sym same.0) (sym same.1) in
+    (section_text order strings d.units d.b, d.out, subst (Appends start2 now2) text d2.out)
 
 -- ---- `find`
 

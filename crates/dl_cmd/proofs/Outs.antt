@@ -92,3 +92,10 @@ pub keeps_by_nothing : (a b : Option (List ℕ)) (text : List ℕ) → text ≡ 
 keeps_by_nothing None b text e out = tt
 keeps_by_nothing (Some xs) None text e out = absurd out
 keeps_by_nothing (Some xs) (Some ys) text e out = out ∙ ap (λ (l : List ℕ). xs ++ l) e ∙ append-nil xs
+
+-- of a longer text no more is out
+pub tells_more : (start now : Option (List ℕ)) (text more : List ℕ) (out : ℕ) → TellsOut start now text (Write out) → TellsOut start now (text ++ more) (Write out)
+tells_more start now text more out (less, has) = (
+  omega (arith, less, length-append text more),
+  record { within = omega (arith, has.within, length-append text more); written = subst (Appends start now) (sym (take-append-le out text more has.within)) has.written },
+)

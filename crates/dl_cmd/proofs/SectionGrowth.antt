@@ -69,7 +69,7 @@ no_items : (order : Order) (version : ℕ) (begun b : List ℕ) → (cut_after o
 no_items order version begun [] = refl
 no_items order version begun (x ∷ b) = no_items order version (begun ++ x ∷ []) b
 
-foreign_on : (order : Order) (b x : List ℕ) (version : ℕ) → foreign_in order b ≡ Some version → foreign_in order (b ++ x) ≡ Some version
+pub foreign_on : (order : Order) (b x : List ℕ) (version : ℕ) → foreign_in order b ≡ Some version → foreign_in order (b ++ x) ≡ Some version
 foreign_on order b x version foreign =
     let items = (cut order b).items in
     let last = foreign_last (following_all header_layout items) version foreign in
@@ -80,7 +80,7 @@ foreign_on order b x version foreign =
     ∙ ap (λ (l : List Item). foreign_made (following_all header_layout l)) (append-nil items)
     ∙ foreign
 
-own : (order : Order) (b : List ℕ) (h : HeaderData) (program : List ℕ) → header_in order b ≡ Some (h, program) → events order b ≡ event.Header ∷ map event.Row (rows_in order h.params program)
+pub own : (order : Order) (b : List ℕ) (h : HeaderData) (program : List ℕ) → header_in order b ≡ Some (h, program) → events order b ≡ event.Header ∷ map event.Row (rows_in order h.params program)
 own order b h program is =
     let f = found_is_header order h b program is in
     let none : foreign_in order b ≡ None = ap (foreign_in order) f.1 ∙ header_is_not_foreign order h f.0 program f.2 in
@@ -113,7 +113,7 @@ more_visits order offset b c (x, is) =
 -- ---- the visits of a section that goes on
 
 -- of two fronts of a list the shorter is a front of the longer
-longer_front : (b m c back : List ℕ) → b ++ m ≡ c ++ back → length b ≤ length c → (x : List ℕ) × (c ≡ b ++ x)
+pub longer_front : (b m c back : List ℕ) → b ++ m ≡ c ++ back → length b ≤ length c → (x : List ℕ) × (c ≡ b ++ x)
 longer_front b m c back e le = elim (fronts b c m back e) [
   | inl same ↦ ([], sym same ∙ sym (append-nil b))
   | inr (inl g) ↦ (g.0 ∷ g.1, g.2)
@@ -121,7 +121,7 @@ longer_front b m c back e le = elim (fronts b c m back e) [
 ]
 
 -- b goes no further than a unit at the front of the same list
-begun_unit : (order : Order) (b m u back : List ℕ) → WithinUnit order b → IsUnit order u → b ++ m ≡ u ++ back → (x : List ℕ) × (u ≡ b ++ x)
+pub begun_unit : (order : Order) (b m u back : List ℕ) → WithinUnit order b → IsUnit order u → b ++ m ≡ u ++ back → (x : List ℕ) × (u ≡ b ++ x)
 begun_unit order b m u back within is e = elim (fronts b u m back e) [
   | inl same ↦ ([], sym same ∙ sym (append-nil b))
   | inr (inl g) ↦ (g.0 ∷ g.1, g.2)
@@ -134,7 +134,7 @@ regroup : (a t e r v : List Visit) → (((a ++ t) ++ e) ++ r) ++ v ≡ a ++ (((t
 regroup [] t e r v = refl
 regroup (x ∷ a) t e r v = ap (λ (l : List Visit). x ∷ l) (regroup a t e r v)
 
-visits_from : Order → ℕ → List (List ℕ) → List ℕ → List Visit
+pub visits_from : Order → ℕ → List (List ℕ) → List ℕ → List Visit
 visits_from order offset units b = units_visits order offset units ++ visits order (offset + length (concat units)) b
 
 visits_from-unit : (order : Order) (offset : ℕ) (u : List ℕ) (units : List (List ℕ)) (b : List ℕ) → visits_from order offset (u ∷ units) b ≡ unit_visits order offset u ++ visits_from order (offset + length u) units b
@@ -143,7 +143,7 @@ visits_from-unit order offset u units b =
     ap (λ (n : ℕ). (unit_visits order offset u ++ units_visits order (offset + length u) units) ++ visits order n b) (omega (arith, length-append u (concat units)))
     ∙ append_assoc (unit_visits order offset u) (units_visits order (offset + length u) units) (visits order ((offset + length u) + length (concat units)) b)
 
-told : (order : Order) (offset : ℕ) (units units2 : List (List ℕ)) (b m b2 back2 : List ℕ) → AllByRecursion (IsUnit order) units → AllByRecursion (IsUnit order) units2
+pub told : (order : Order) (offset : ℕ) (units units2 : List (List ℕ)) (b m b2 back2 : List ℕ) → AllByRecursion (IsUnit order) units → AllByRecursion (IsUnit order) units2
     → WithinUnit order b → NoUnitBegins order (b2 ++ back2) → concat units ++ (b ++ m) ≡ concat units2 ++ (b2 ++ back2) → length (concat units ++ b) ≤ length (concat units2 ++ b2)
     → (others : List Visit) × (visits_from order offset units2 b2 ≡ visits_from order offset units b ++ others)
 unfolding visits_from
@@ -171,6 +171,11 @@ told order offset (u ∷ units) (v ∷ units2) b m b2 back2 all all2 within none
           ∙ sym (append_assoc (unit_visits order offset u) (visits_from order (offset + length u) units b) later.0)
           ∙ sym (ap (λ (l : List Visit). l ++ later.0) (visits_from-unit order offset u units b)),
     )
+
+-- at the offset 0
+pub from_zero : (order : Order) (us : List (List ℕ)) (c : List ℕ) → visits_from order 0 us c ≡ section_visits order us c
+unfolding visits_from
+from_zero order us c = ap (λ (n : ℕ). units_visits order 0 us ++ visits order n c) (omega arith)
 
 -- ---- no further than a unit
 
@@ -228,10 +233,10 @@ none_before order b at kind refused front back at2 kind2 e some refused2 =
 -- ---- two ends
 
 -- how the reading of a section stops: at a refusal, or where the bytes end
-record Stops (order : Order) (t : List ℕ) (units : List (List ℕ)) (b back : List ℕ) : Type 0 where
-  has : HasUnits order t units (b ++ back)
-  none : NoUnitBegins order (b ++ back)
-  how : ((at : ℕ) × (kind : FaultKind) × Refused order b at kind) ⊎ ((back ≡ []) × Sound order b)
+pub record Stops (order : Order) (t : List ℕ) (units : List (List ℕ)) (b back : List ℕ) : Type 0 where
+  pub has : HasUnits order t units (b ++ back)
+  pub none : NoUnitBegins order (b ++ back)
+  pub how : ((at : ℕ) × (kind : FaultKind) × Refused order b at kind) ⊎ ((back ≡ []) × Sound order b)
 
 behind_nothing : (b back : List ℕ) → back ≡ [] → b ++ back ≡ b
 behind_nothing b back nothing = ap (λ (l : List ℕ). b ++ l) nothing ∙ append-nil b
@@ -247,7 +252,7 @@ module _ (order : Order) (limit : ℕ) (bytes : List ℕ) (left : Option (List �
   within_limit : length bytes ≤ limit → (rest : List ℕ) → HasUnits order bytes units rest → HasUnits order (take limit bytes) units rest
   within_limit fits rest has = subst (λ (l : List ℕ). HasUnits order l units rest) (sym (take_all limit bytes fits)) has
 
-  stops : (result : Result Summary RunFault) → result ≢ Err fault.NoMemory → EndsAs order limit bytes left units b back result → Stops order (take limit bytes) units b back
+  pub stops : (result : Result Summary RunFault) → result ≢ Err fault.NoMemory → EndsAs order limit bytes left units b back result → Stops order (take limit bytes) units b back
   stops (Ok summary) not (has, empty, nothing, fits, at_end, is) =
       stops_at_end order (take limit bytes) units b back (subst (HasUnits order (take limit bytes) units) (sym empty) (within_limit fits [] has)) nothing
       (subst (NoUnitBegins order) (sym empty) (none_begins order)) (subst (Sound order) (sym empty) (none_refused order))
@@ -320,17 +325,12 @@ module _ (order : Order) (t m : List ℕ) (units units2 : List (List ℕ)) (b b2
       | inr (inr g) ↦ absurd (no_earlier at kind refused g)
     ]
 
-    -- at the offset 0
-    from_zero : (us : List (List ℕ)) (c : List ℕ) → visits_from order 0 us c ≡ section_visits order us c
-    unfolding visits_from
-    from_zero us c = ap (λ (n : ℕ). units_visits order 0 us ++ visits order n c) (omega arith)
-
     at_end : ((at : ℕ) × (kind : FaultKind) × Refused order b2 at kind) ⊎ ((back2 ≡ []) × Sound order b2) → Grows
     at_end how2 =
         let within = within_unit order b back s.none (λ front more at kind e some refused. sound front more at kind e refused) in
         let e : concat units ++ (b ++ m) ≡ concat units2 ++ (b2 ++ back2) = ap (λ (l : List ℕ). concat units ++ (b ++ (l ++ m))) (sym nothing) ∙ whole in
         let more = told order 0 units units2 b m b2 back2 s.has.each s2.has.each within s2.none e (no_further how2) in
-        (more.0, sym (from_zero units2 b2) ∙ more.1 ∙ ap (λ (l : List Visit). l ++ more.0) (from_zero units b))
+        (more.0, sym (from_zero order units2 b2) ∙ more.1 ∙ ap (λ (l : List Visit). l ++ more.0) (from_zero order units b))
 
   grows : Grows
   grows = elim s.how [

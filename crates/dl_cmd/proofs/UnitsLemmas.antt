@@ -17,6 +17,7 @@ use Rattle.dl_rows.specs.ReaderStands.{StandsFor, HeaderIs, FinishIs}
 use Rattle.dl_rows.specs.Reading.{WithinUnit}
 use Rattle.dl_rows.specs.Runs.{Sound}
 use Rattle.dl_rows.proofs.ReaderLemmas.{within_here}
+use Rattle.dl_cmd.specs.declared.fault.RunFault.{RunFault}
 use Rattle.dl_cmd.specs.declared.fault.RunFault.TheVariants as fault
 use Rattle.dl_cmd.specs.declared.section.Units.{Units}
 use Rattle.dl_cmd.specs.declared.summary.Summary.{Summary}
@@ -118,14 +119,14 @@ module _ (order : Order) (u : Units) (t : List ℕ) (units : List (List ℕ)) (b
   cut_off f (inl refused) = absurd (sound b [] f.offset f.kind (sym (append-nil b)) refused)
   cut_off f (inr over) = (over.1, over.0)
 
-  pub ends_begun : (f : Fault) (offset : ℕ) → ((c : List ℕ) → StandsFor u.reader c → FinishIs u.reader.order c (Err f)) → length t < 2 ^ 64 → offset ≡ add u.offset f.offset
-      → (b ≢ []) × (fault.Damage offset f.kind ≡ fault.Damage (length t) Truncated)
-  ends_begun f offset is short at =
+  pub ends_begun : (f : Fault) (g : RunFault) → ((c : List ℕ) → StandsFor u.reader c → FinishIs u.reader.order c (Err f)) → length t < 2 ^ 64 → g ≡ fault.Damage (add u.offset f.offset) f.kind
+      → (b ≢ []) × (g ≡ fault.Damage (length t) Truncated)
+  ends_begun f g is short at =
       let over = cut_off f (finish_is (Err f) is) in
       let size = ap length are.has.whole ∙ length-append (concat units) b in
       let place : f.offset ≡ length b = ap (λ (q : Fault). q.offset) over.1 in
-      let sum : offset ≡ length t = at ∙ exact u.offset f.offset (omega (arith, are.offset, place, size, short)) ∙ omega (arith, are.offset, place, size) in
-      (over.0, ap₂ fault.Damage sum (ap (λ (q : Fault). q.kind) over.1))
+      let sum : add u.offset f.offset ≡ length t = exact u.offset f.offset (omega (arith, are.offset, place, size, short)) ∙ omega (arith, are.offset, place, size) in
+      (over.0, at ∙ ap₂ fault.Damage sum (ap (λ (q : Fault). q.kind) over.1))
 
 -- the unit at hand isn't over-read
 pub within_unit : (order : Order) (u : Units) (t : List ℕ) (units : List (List ℕ)) (b : List ℕ) → UnitsAre order u t units b → WithinUnit order b

@@ -1,4 +1,4 @@
--- What `check` prints.
+-- What `check` is told and prints. No promise rests on this file.
 use Rattle.std.specs.Prelude.{[]}
 use Rattle.std.specs.Io.KnownBytes.{Appends}
 use Rattle.dl_cmd.specs.declared.checking.Checker.{Checker}

@@ -1,4 +1,5 @@
--- What the commands answer and write. The bytes were read from a reader, which has some left; the writer held the first bytes at the start, and holds the second now.
+-- What the commands answer and write. bytes: what was read from a reader, which has `left` left. start, now: what the writer held at
+-- first, and holds now. None: it isn't known.
 use Rattle.std.specs.Prelude.{◌≡◌, ℕ, List, [], ◌∷◌, ◌++◌, length, take, flat_map, Option, Some, None, Result, Ok, Err}
 use Rattle.std.specs.List.{AllByRecursion, concat}
 use Rattle.std.specs.Option.{option_copied, option_map_or}
@@ -37,7 +38,7 @@ Checks order limit bytes left start now (Err (fault.Write out)) =
 Checks order limit bytes left start now (Err f) =
     (units : List (List ℕ)) × (b : List ℕ) × (back : List ℕ) × EndsAs order limit bytes left units b back (Err f) × Keeps start now
 
--- `dump`: the text of all that is read, also where it ends in a fault
+-- `dump`: the text of the units, and of what follows them up to the fault
 abbrev pub Dumps : Order → Strings → (limit : ℕ) (bytes : List ℕ) (left start now : Option (List ℕ)) → Result Summary RunFault → Type 0
 Dumps order strings limit bytes left start now (Err (fault.Write out)) =
     (units : List (List ℕ)) × (b : List ℕ) × (back : List ℕ) × HasBegun order (take limit bytes) units b back
@@ -102,7 +103,7 @@ abbrev pub Copies : Order → (limit : ℕ) (bytes : List ℕ) (left start now :
 Copies order limit bytes left start now (Ok summary) =
     (units : List (List ℕ)) × EndsAs order limit bytes left units [] [] (Ok summary) × HasCopied order units start now
 Copies order limit bytes left start now (Err (fault.ForeignUnit offset)) =
-    (units : List (List ℕ)) × (b : List ℕ) × (back : List ℕ) × (version : ℕ) × HasUnits order (take limit bytes) units (b ++ back)
+    (units : List (List ℕ)) × (b : List ℕ) × (back : List ℕ) × (version : ℕ) × HasBegun order (take limit bytes) units b back
     × (offset ≡ length (concat units)) × (foreign_in order b ≡ Some version) × HasCopied order units start now
 Copies order limit bytes left start now (Err (fault.Emit offset f)) =
     (units : List (List ℕ)) × (u : List ℕ) × (back : List ℕ) × (h : HeaderData) × HasUnits order (take limit bytes) (units ++ u ∷ []) back
@@ -114,5 +115,7 @@ Copies order limit bytes left start now (Err fault.NoMemory) =
 Copies order limit bytes left start now (Err (fault.Write out)) =
     (units : List (List ℕ)) × (back : List ℕ) × HasUnits order (take limit bytes) units back × AreCopied order units
     × TellsOut start now (copied_units order units) (fault.Write out)
+-- b isn't the front of a unit of another version
 Copies order limit bytes left start now (Err f) =
-    (units : List (List ℕ)) × (b : List ℕ) × (back : List ℕ) × EndsAs order limit bytes left units b back (Err f) × HasCopied order units start now
+    (units : List (List ℕ)) × (b : List ℕ) × (back : List ℕ) × EndsAs order limit bytes left units b back (Err f) × (foreign_in order b ≡ None)
+    × HasCopied order units start now

@@ -5,7 +5,7 @@ pub mod ValueText
 pub mod HeaderText
 pub mod Printed
 pub mod Output
-pub mod Copies
+pub mod UnitPrinted
 pub mod Strings
 pub mod CommandLine
 pub mod Job

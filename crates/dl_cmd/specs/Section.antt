@@ -45,7 +45,7 @@ summary_of order units = record {
 
 -- ---- how the reading of a section ends: bytes were read, of which the first `limit` are looked at, and a reader has some left
 
--- these are units, and b of one more, where a fault is decided or which goes no further
+-- the last byte of b decides a fault; or none does, and the input ends in b
 abbrev pub IsDamaged : Order → (limit : ℕ) (bytes : List ℕ) (left : Option (List ℕ)) (units : List (List ℕ)) (b back : List ℕ) → (offset : ℕ) (kind : FaultKind) → Type 0
 IsDamaged order limit bytes left units b back offset kind =
     ((at : ℕ) × (offset ≡ length (concat units) + at) × Refused order b at kind)
@@ -55,7 +55,7 @@ IsDamaged order limit bytes left units b back offset kind =
 abbrev pub AddsCell : Order → (b back : List ℕ) → Type 0
 AddsCell order b back = (byte : ℕ) × (others : List ℕ) × (back ≡ byte ∷ others) × (cells order b < cells order (b ++ byte ∷ []))
 
--- where no write fails. The first `limit` bytes are units, and then b and others, which no unit begins.
+-- where no write fails. The first `limit` bytes are units, and then b and back, which no unit begins, but where memory is refused.
 abbrev pub EndsAs : Order → (limit : ℕ) (bytes : List ℕ) (left : Option (List ℕ)) (units : List (List ℕ)) (b back : List ℕ) → Result Summary RunFault → Type 0
 EndsAs order limit bytes left units b back (Ok summary) =
     HasUnits order bytes units [] × (b ≡ []) × (back ≡ []) × (length bytes ≤ limit) × IsAtEnd left × (summary ≡ summary_of order units)

@@ -1,5 +1,6 @@
 -- Laws of the definitions of sections. Each holds in either byte order, which is the same throughout a law. DWARF 5, section 6.2.4.
 use Rattle.std.specs.Prelude.{◌≡◌, ◌≢◌, ℕ, List, Option, Result, Err, ◌++◌}
+use Rattle.std.specs.Io.KnownBytes.{Appends}
 use Rattle.dl_num.specs.declared.fixed.Order.{Order}
 use Rattle.dl_head.specs.TableData.{HeaderData}
 use Rattle.dl_rows.specs.declared.row.Row.{Row}
@@ -7,7 +8,8 @@ use Rattle.dl_look.specs.declared.place.Place.{Place}
 use Rattle.dl_cmd.specs.declared.fault.RunFault.{RunFault}
 use Rattle.dl_cmd.specs.declared.fault.RunFault.TheVariants as fault
 use Rattle.dl_cmd.specs.declared.summary.Summary.{Summary}
-use Rattle.dl_cmd.specs.Commands.{Checks, IsFound, Finds}
+use Rattle.dl_cmd.specs.Commands.{Checks, Dumps, IsFound, Finds, Copies}
+use Rattle.dl_cmd.specs.Output.{TellsOut}
 use Rattle.dl_cmd.specs.ValueText.{Strings}
 use Rattle.dl_cmd.specs.Section.{Visit, HasUnits, NoUnitBegins, EndsAs, section_visits}
 
@@ -51,3 +53,37 @@ OneFound = (order : Order) (x : Place) (bytes : List ℕ) (units units2 : List (
 abbrev pub OneFinding : Type 0
 OneFinding = (order : Order) (strings strings2 : Strings) (x : Place) (limit : ℕ) (bytes : List ℕ) (left left2 start start2 now now2 : Option (List ℕ)) (result result2 : Result Summary RunFault)
     → IsOfBytes result → IsOfBytes result2 → Finds order strings x limit bytes left start now result → Finds order strings2 x limit bytes left2 start2 now2 result2 → result ≡ result2
+
+-- what `dump` answers is settled by the bytes and the limit, whatever the string sections
+abbrev pub OneDumping : Type 0
+OneDumping = (order : Order) (strings strings2 : Strings) (limit : ℕ) (bytes : List ℕ) (left left2 start start2 now now2 : Option (List ℕ)) (result result2 : Result Summary RunFault)
+    → IsOfBytes result → IsOfBytes result2 → Dumps order strings limit bytes left start now result → Dumps order strings2 limit bytes left2 start2 now2 result2 → result ≡ result2
+
+-- with the string sections, so is the text that it writes
+abbrev pub OneDump : Type 0
+OneDump = (order : Order) (strings : Strings) (limit : ℕ) (bytes : List ℕ) (left left2 start start2 now now2 : Option (List ℕ)) (result result2 : Result Summary RunFault)
+    → IsOfBytes result → IsOfBytes result2 → Dumps order strings limit bytes left start now result → Dumps order strings limit bytes left2 start2 now2 result2
+    → (text : List ℕ) × Appends start now text × Appends start2 now2 text
+
+-- what a failed write leaves of it is the first `out` bytes, not all
+abbrev pub DumpIsFront : Type 0
+DumpIsFront = (order : Order) (strings : Strings) (limit : ℕ) (bytes : List ℕ) (left left2 start start2 now now2 : Option (List ℕ)) (out : ℕ) (result2 : Result Summary RunFault) → IsOfBytes result2
+    → Dumps order strings limit bytes left start now (Err (fault.Write out)) → Dumps order strings limit bytes left2 start2 now2 result2
+    → (text : List ℕ) × TellsOut start now text (fault.Write out) × Appends start2 now2 text
+
+-- what `copy` answers is settled by the bytes and the limit
+abbrev pub OneCopying : Type 0
+OneCopying = (order : Order) (limit : ℕ) (bytes : List ℕ) (left left2 start start2 now now2 : Option (List ℕ)) (result result2 : Result Summary RunFault) → IsOfBytes result → IsOfBytes result2
+    → Copies order limit bytes left start now result → Copies order limit bytes left2 start2 now2 result2 → result ≡ result2
+
+-- and so are the bytes that it writes
+abbrev pub OneCopy : Type 0
+OneCopy = (order : Order) (limit : ℕ) (bytes : List ℕ) (left left2 start start2 now now2 : Option (List ℕ)) (result result2 : Result Summary RunFault) → IsOfBytes result → IsOfBytes result2
+    → Copies order limit bytes left start now result → Copies order limit bytes left2 start2 now2 result2
+    → (text : List ℕ) × Appends start now text × Appends start2 now2 text
+
+-- what a failed write leaves of them is the first `out` bytes, not all
+abbrev pub CopyIsFront : Type 0
+CopyIsFront = (order : Order) (limit : ℕ) (bytes : List ℕ) (left left2 start start2 now now2 : Option (List ℕ)) (out : ℕ) (result2 : Result Summary RunFault) → IsOfBytes result2
+    → Copies order limit bytes left start now (Err (fault.Write out)) → Copies order limit bytes left2 start2 now2 result2
+    → (text : List ℕ) × TellsOut start now text (fault.Write out) × Appends start2 now2 text

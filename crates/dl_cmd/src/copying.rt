@@ -3,7 +3,7 @@
 ghost use Rattle.std.specs.Prelude.{◌≡◌, ◌≤◌, ℕ, List};
 ghost use Rattle.std.specs.Io.KnownBytes.{Consumes};
 ghost use Rattle.dl_cmd.specs.Commands.{Copies};
-ghost use Rattle.dl_cmd.specs.Copies.{PrintsUnit};
+ghost use Rattle.dl_cmd.specs.UnitPrinted.{PrintsUnit};
 
 use crate::fault::RunFault;
 use crate::options::{Options, SECTION_LIMIT};
@@ -26,7 +26,7 @@ struct Copier {
     unit: u64,
     /// The rows of the unit at hand.
     rows: Vec<Row>,
-    /// The bytes of the last unit that was written.
+    /// A unit's bytes, before they are printed; their room is kept.
     bytes: Vec<u8>,
 }
 
@@ -95,7 +95,7 @@ impl Copier {
 /// rows, its numbers shortest.
 ///
 /// What comes before a fault is written. The faults are those of `RunFault`. The rows of a unit and
-/// then its bytes are held in memory; each growth of it, and those of `Reader::feed`, come before the
+/// then its bytes are held in memory; each growth of these, and those of `Reader::feed`, come before the
 /// unit is written.
 pub fn copy<R: Read, W: Write>(
     alloc: Global,

@@ -1,6 +1,6 @@
 //! Laws of the definitions of sections, each the contract of a function that does nothing.
 
-ghost use Rattle.dl_cmd.specs.SectionLaws.{OneCut, OneEnd, MoreIsTold, OneChecking, OneFound, OneFinding};
+ghost use Rattle.dl_cmd.specs.SectionLaws.{OneCut, OneEnd, MoreIsTold, OneChecking, OneFound, OneFinding, OneDumping, OneDump, DumpIsFront, OneCopying, OneCopy, CopyIsFront};
 
 /// Bytes are cut into units, up to bytes that no unit begins, in one way alone. Section 6.2.4.
 pub fn one_cut()
@@ -30,4 +30,21 @@ pub fn one_checking()
 pub fn one_finding()
     ensures answer { OneFinding }
     ensures row { OneFound }
+{}
+
+/// What `dump` answers is settled by the bytes and the limit, but where memory, input or output is the
+/// reason; and so, with the string sections, is what it writes. What a failed write leaves is a front of
+/// that text.
+pub fn one_dumping()
+    ensures answer { OneDumping }
+    ensures text { OneDump }
+    ensures front { DumpIsFront }
+{}
+
+/// What `copy` answers and writes is settled by the bytes and the limit, but where memory, input or
+/// output is the reason. What a failed write leaves is a front of those bytes.
+pub fn one_copying()
+    ensures answer { OneCopying }
+    ensures text { OneCopy }
+    ensures front { CopyIsFront }
 {}

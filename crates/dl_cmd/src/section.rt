@@ -7,6 +7,7 @@ ghost use Rattle.dl_rows.specs.LineUnit.{IsUnit, ends_open, unit_rows};
 ghost use Rattle.dl_rows.specs.Progress.{taken_of};
 ghost use Rattle.dl_rows.specs.ReaderStands.{StandsFor};
 ghost use Rattle.dl_rows.specs.Runs.{Sound};
+ghost use Rattle.dl_cmd.specs.Counts.{add};
 ghost use Rattle.dl_cmd.specs.Section.{Visit, NoUnitBegins, event_visits, header_of, open_visit, end_visits, section_visits};
 ghost use Rattle.dl_cmd.specs.Visiting.{Hears, HearsEnd, UnitsAre, UnitsFed, Worked, Finishes, Ran, counted, is_failed_write};
 
@@ -14,7 +15,7 @@ use crate::fault::RunFault;
 use crate::input::Input;
 use crate::options::{Options, SECTION_LIMIT};
 use crate::summary::Summary;
-use dl_head::Header;
+use dl_head::{Fault, Header};
 use dl_num::Order;
 use dl_rows::{Event, Reader, Row};
 use std::alloc::Global;
@@ -125,12 +126,7 @@ impl Units {
         'events: loop {
             let fed = match self.reader.feed(rest) {
                 Ok(fed) => fed,
-                Err(fault) => {
-                    return Err(RunFault::Damage {
-                        offset: self.offset.saturating_add(fault.offset),
-                        kind: fault.kind,
-                    });
-                }
+                Err(fault) => return Err(self.damage(fault)),
             };
             rest = &rest[fed.used..];
             match fed.event {
@@ -235,10 +231,17 @@ impl Units {
     {
         match self.reader.finish() {
             Ok(_) => Ok(self.summary),
-            Err(fault) => Err(RunFault::Damage {
-                offset: self.offset.saturating_add(fault.offset),
-                kind: fault.kind,
-            }),
+            Err(fault) => Err(self.damage(fault)),
+        }
+    }
+
+    /// The fault of the unit at hand, by its offset in the section.
+    fn damage(&self, fault: Fault) -> RunFault
+        ensures { result ≡ RunFault.Damage (add self.now.offset fault.offset) fault.kind }
+    {
+        RunFault::Damage {
+            offset: self.offset.saturating_add(fault.offset),
+            kind: fault.kind,
         }
     }
 }
@@ -272,12 +275,12 @@ pub fn read_units<R: Read, W: Write, V: Visitor<W>>(
         if piece.is_empty() {
             return units.finish();
         }
-        let known = front(piece, left);
-        match work_through(&mut units, output, visitor, known)? {
+        let within = front(piece, left);
+        match work_through(&mut units, output, visitor, within)? {
             Next::Unit => {}
             Next::Nothing => return Ok(units.summary),
         }
-        if known.len() < piece.len() {
+        if within.len() < piece.len() {
             return Err(RunFault::SectionTooLong);
         }
         left -= piece.len() as u64;

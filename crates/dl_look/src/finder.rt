@@ -121,8 +121,8 @@ impl Finder {
 
 /// A copy of a row that is no end row.
 ///
-/// Its flags are copied one by one: one load of several bytes that were stored one by one a moment ago
-/// would wait until the stores are done.
+/// `end_sequence` is set anew, so that the flags aren't copied by one load: that would wait until the
+/// stores of single bytes a moment ago are done.
 #[inline]
 fn kept(row: &Row) -> Row
     requires { row.now.end_sequence ≡ false }

@@ -102,7 +102,7 @@ fn big_section(rt: HostRuntime) -> Result<(), Fail> {
 #[test]
 fn faults(rt: HostRuntime) -> Result<(), Fail> {
     let alloc = rt.alloc();
-    let cases: [(&[&str], u64, usize, RunFault); 7] = [
+    let cases: [(&[&str], u64, usize, RunFault); 9] = [
         (
             &[FOREIGN],
             SECTION_LIMIT,
@@ -120,6 +120,18 @@ fn faults(rt: HostRuntime) -> Result<(), Fail> {
             SECTION_LIMIT,
             52,
             RunFault::ForeignUnit { unit: 52 },
+        ),
+        (
+            &["06 00 00 00 04 00 aa"],
+            6,
+            0,
+            RunFault::ForeignUnit { unit: 0 },
+        ),
+        (
+            &["00 00 00 00 04 00"],
+            SECTION_LIMIT,
+            0,
+            damage(4, FaultKind::UnitOverrun),
         ),
         (
             &[THREE_ROWS, "05"],

@@ -39,22 +39,22 @@ returns-in_err-work_through g c =
     let p = err_from_is_err_and c.from_residual.result c.from_residual.ensures.1 in
     let l = c.pieces in
     rw (p.1, p.2) (stops g.V.Visitor.story c.args.options.now.order c.args.options.now.limit (g.R.Read.remaining c.args.input.now) (g.R.Read.remaining l.input) c.args.visitor.now l.visitor (g.W.Write.contents c.args.output.now) (g.W.Write.contents l.output) l.units l.left l.invariant
-    (g.R.Read.remaining c.next_piece.new.reader) c.in-Ok.piece.now c.in-Ok.ensures.ok c.work_through.new.visitor (g.W.Write.contents c.work_through.new.output) c.work_through.new.units _ _ c.front-known.ensures.front (λ told. c.in_err-work_through.ensures c.args.options.now.order l.invariant.t told.units told.b c.args.visitor.now (g.W.Write.contents c.args.output.now) told.are (omega (arith, c.requires, l.invariant.within, c.front-known.ensures.short)) told.settled.tells))
+    (g.R.Read.remaining c.next_piece.new.reader) c.in-Ok.piece.now c.in-Ok.ensures.ok c.work_through.new.visitor (g.W.Write.contents c.work_through.new.output) c.work_through.new.units _ _ c.front-within.ensures.front (λ told. c.in_err-work_through.ensures c.args.options.now.order l.invariant.t told.units told.b c.args.visitor.now (g.W.Write.contents c.args.output.now) told.are (omega (arith, c.requires, l.invariant.within, c.front-within.ensures.short)) told.settled.tells))
 
 pub returns-in-Nothing : goal.returns-in-Nothing
 returns-in-Nothing g c =
     let l = c.pieces in
     wants_no_more g.V.Visitor.story c.args.options.now.order c.args.options.now.limit (g.R.Read.remaining c.args.input.now) (g.R.Read.remaining l.input) c.args.visitor.now l.visitor (g.W.Write.contents c.args.output.now) (g.W.Write.contents l.output) l.units l.left l.invariant
-    (g.R.Read.remaining c.next_piece.new.reader) c.in-Ok.piece.now c.in-Ok.ensures.ok c.work_through.new.visitor (g.W.Write.contents c.work_through.new.output) c.work_through.new.units c.in_ok-work_through.field-0 _ c.in-Nothing.is c.front-known.ensures.front (λ told. c.in_ok-work_through.ensures c.args.options.now.order l.invariant.t told.units told.b c.args.visitor.now (g.W.Write.contents c.args.output.now) told.are (omega (arith, c.requires, l.invariant.within, c.front-known.ensures.short)) told.settled.tells)
+    (g.R.Read.remaining c.next_piece.new.reader) c.in-Ok.piece.now c.in-Ok.ensures.ok c.work_through.new.visitor (g.W.Write.contents c.work_through.new.output) c.work_through.new.units c.in_ok-work_through.field-0 _ c.in-Nothing.is c.front-within.ensures.front (λ told. c.in_ok-work_through.ensures c.args.options.now.order l.invariant.t told.units told.b c.args.visitor.now (g.W.Write.contents c.args.output.now) told.are (omega (arith, c.requires, l.invariant.within, c.front-within.ensures.short)) told.settled.tells)
 
-pub returns-then-known-piece : goal.returns-then-known-piece
-returns-then-known-piece g c =
+pub returns-then-within-piece : goal.returns-then-within-piece
+returns-then-within-piece g c =
     let l = c.pieces in
     too_long g.V.Visitor.story c.args.options.now.order c.args.options.now.limit (g.R.Read.remaining c.args.input.now) (g.R.Read.remaining l.input) c.args.visitor.now l.visitor (g.W.Write.contents c.args.output.now) (g.W.Write.contents l.output) l.units l.left l.invariant
-    (g.R.Read.remaining c.next_piece.new.reader) c.in-Ok.piece.now c.in-Ok.ensures.ok c.work_through.new.visitor (g.W.Write.contents c.work_through.new.output) c.work_through.new.units c.in_ok-work_through.field-0 _ c.in-Unit.is c.front-known.ensures.front (λ told. c.in_ok-work_through.ensures c.args.options.now.order l.invariant.t told.units told.b c.args.visitor.now (g.W.Write.contents c.args.output.now) told.are (omega (arith, c.requires, l.invariant.within, c.front-known.ensures.short)) told.settled.tells) c.if-known-piece.true
+    (g.R.Read.remaining c.next_piece.new.reader) c.in-Ok.piece.now c.in-Ok.ensures.ok c.work_through.new.visitor (g.W.Write.contents c.work_through.new.output) c.work_through.new.units c.in_ok-work_through.field-0 _ c.in-Unit.is c.front-within.ensures.front (λ told. c.in_ok-work_through.ensures c.args.options.now.order l.invariant.t told.units told.b c.args.visitor.now (g.W.Write.contents c.args.output.now) told.are (omega (arith, c.requires, l.invariant.within, c.front-within.ensures.short)) told.settled.tells) c.if-within-piece.true
 
 pub pieces-preserved : goal.pieces-preserved
 pieces-preserved g c =
     let l = c.pieces in
     reads_on g.V.Visitor.story c.args.options.now.order c.args.options.now.limit (g.R.Read.remaining c.args.input.now) (g.R.Read.remaining l.input) c.args.visitor.now l.visitor (g.W.Write.contents c.args.output.now) (g.W.Write.contents l.output) l.units l.left l.invariant
-    (g.R.Read.remaining c.next_piece.new.reader) c.in-Ok.piece.now c.in-Ok.ensures.ok c.work_through.new.visitor (g.W.Write.contents c.work_through.new.output) c.work_through.new.units c.in_ok-work_through.field-0 _ c.in-Unit.is c.front-known.ensures.front (λ told. c.in_ok-work_through.ensures c.args.options.now.order l.invariant.t told.units told.b c.args.visitor.now (g.W.Write.contents c.args.output.now) told.are (omega (arith, c.requires, l.invariant.within, c.front-known.ensures.short)) told.settled.tells) (c.front-known.ensures.whole (omega (arith, c.if-known-piece.false)))
+    (g.R.Read.remaining c.next_piece.new.reader) c.in-Ok.piece.now c.in-Ok.ensures.ok c.work_through.new.visitor (g.W.Write.contents c.work_through.new.output) c.work_through.new.units c.in_ok-work_through.field-0 _ c.in-Unit.is c.front-within.ensures.front (λ told. c.in_ok-work_through.ensures c.args.options.now.order l.invariant.t told.units told.b c.args.visitor.now (g.W.Write.contents c.args.output.now) told.are (omega (arith, c.requires, l.invariant.within, c.front-within.ensures.short)) told.settled.tells) (c.front-within.ensures.whole (omega (arith, c.if-within-piece.false)))

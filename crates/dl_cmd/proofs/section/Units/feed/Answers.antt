@@ -22,7 +22,7 @@ pub returns-in-Err : goal.returns-in-Err
 returns-in-Err g c order t units b first start are short tells =
     let l = c.events in
     let so = l.invariant.fed order t units b first start are short tells in
-    damaged g.V.Visitor.story order t c.args.piece.now first start l.self l.visitor (g.W.Write.contents l.output) l.rest.now so short c.feed.new.self c.feed.ensures.order c.in-Err.fault _ l.self c.in-Err.ensures.fed c.saturating_add.ensures
+    damaged g.V.Visitor.story order t c.args.piece.now first start l.self l.visitor (g.W.Write.contents l.output) l.rest.now so short c.feed.new.self c.feed.ensures.order c.in-Err.fault c.damage.result l.self c.in-Err.ensures.fed c.damage.ensures
 
 pub returns-in-More : goal.returns-in-More
 returns-in-More g c order t units b first start are short tells =
