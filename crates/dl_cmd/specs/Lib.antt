@@ -21,3 +21,5 @@ pub mod RowsTold
 pub mod Finding
 pub mod Copying
 pub mod Commands
+pub mod Work
+pub mod StringFiles

@@ -16,6 +16,7 @@ mod strings;
 mod summary;
 mod text;
 mod words;
+mod working;
 
 pub use address::read_address;
 pub use checking::check;
@@ -27,6 +28,7 @@ pub use options::{Options, SECTION_LIMIT};
 pub use strings::read_strings;
 pub use summary::Summary;
 pub use words::{Job, read_job, word_status};
+pub use working::{FileSource, Stop, work};
 
 #[cfg(test)]
 mod tests;

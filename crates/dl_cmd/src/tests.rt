@@ -8,4 +8,5 @@ mod reading;
 mod sections;
 mod streams;
 mod words;
+mod working;
 mod writing;

@@ -1,204 +1,93 @@
 //! The program `dwline`: its words, its files and streams, and its status.
 #![tactic(auto)]
 
-ghost use Rattle.std.specs.Prelude.{◌≤◌, ◌^◌};
-
-use dl_cmd::{
-    Job, Options, RunFault, SECTION_LIMIT, check, copy, dump, find, read_address, read_job,
-    read_strings, word_status,
-};
-use dl_look::Place;
-use dl_num::Order;
+use dl_cmd::{FileSource, RunFault, Stop, read_job, read_strings, word_status, work};
 use std::alloc::{AllocError, Global};
 use std::env;
 use std::fs::File;
+use std::io::ErrorKind;
 use std::process::ExitCode;
 
-/// How many bytes a string section may have.
-const STRINGS_LIMIT: u64 = 1 << 32;
-
 /// Why the program ends before its work is done.
-enum Stop {
+enum Ending {
+    /// Help was asked for, or the words were refused.
     Words(clap::Error),
-    NotUnderstood,
-    Run(RunFault),
+    Stop(Stop),
 }
 
-impl From<AllocError> for Stop {
-    fn from(_error: AllocError) -> Stop {
-        Stop::Run(RunFault::NoMemory)
+impl From<AllocError> for Ending {
+    fn from(_error: AllocError) -> Ending {
+        Ending::Stop(Stop::Run(RunFault::NoMemory))
     }
 }
 
-impl From<clap::Error> for Stop {
-    fn from(error: clap::Error) -> Stop {
-        Stop::Words(error)
+impl From<clap::Error> for Ending {
+    fn from(error: clap::Error) -> Ending {
+        match error.kind() {
+            clap::error::ErrorKind::OutOfMemory => Ending::from(AllocError),
+            _ => Ending::Words(error),
+        }
     }
 }
 
-impl From<RunFault> for Stop {
-    fn from(fault: RunFault) -> Stop {
-        Stop::Run(fault)
+impl From<Stop> for Ending {
+    fn from(stop: Stop) -> Ending {
+        Ending::Stop(stop)
     }
 }
 
-/// The bytes of a string section, where a path was given.
-fn read_file(rt: &HostRuntime, path: Option<&str>) -> Result<Option<Vec<u8>>, RunFault> {
-    let Some(path) = path else {
-        return Ok(None);
-    };
-    let Ok(mut file) = File::open(rt, path) else {
-        return Err(RunFault::Read);
-    };
-    match read_strings(rt.alloc(), &mut file, STRINGS_LIMIT) {
-        Ok(bytes) => Ok(Some(bytes)),
-        Err(fault) => Err(fault),
-    }
-}
-
-fn order(big: bool) -> Order {
-    if big { Order::Big } else { Order::Little }
-}
-
-/// The string sections that the words name.
+/// The files of the system.
 #[derive(Drop)]
-struct Strings {
-    debug_line_str: Option<Vec<u8>>,
-    debug_str: Option<Vec<u8>>,
+struct System<'a> {
+    rt: &'a HostRuntime,
 }
 
-impl Strings {
-    fn read(
-        rt: &HostRuntime,
-        line_str: Option<&str>,
-        strings: Option<&str>,
-    ) -> Result<Strings, RunFault> {
-        Ok(Strings {
-            debug_line_str: read_file(rt, line_str)?,
-            debug_str: read_file(rt, strings)?,
-        })
-    }
+impl FileSource for System<'_> {
+    ghost use Rattle.std.specs.Prelude.{None};
 
-    fn options(&self, big: bool) -> Options<'_>
-        ensures { result.limit ≤ SECTION_LIMIT }
-    {
-        Options {
-            order: order(big),
-            debug_line_str: self.debug_line_str.as_ref().map(|bytes| bytes.as_slice()),
-            debug_str: self.debug_str.as_ref().map(|bytes| bytes.as_slice()),
-            limit: SECTION_LIMIT,
+    ghost held = { λ system path. None };
+
+    fn read_file(&self, alloc: Global, path: &str, limit: u64) -> Result<Vec<u8>, RunFault> {
+        match File::open(self.rt, path) {
+            Ok(mut file) => read_strings(alloc, &mut file, limit),
+            Err(_) => Err(RunFault::Read),
         }
     }
 }
 
-fn run_dump(rt: &HostRuntime, strings: &Strings, big: bool) -> Result<(), Stop> {
-    let options = strings.options(big);
-    dump(rt.alloc(), &mut rt.stdin(), &mut rt.stdout(), &options)?;
-    Ok(())
-}
-
-fn run_find(rt: &HostRuntime, strings: &Strings, big: bool, place: Place) -> Result<(), Stop> {
-    let options = strings.options(big);
-    find(
-        rt.alloc(),
-        &mut rt.stdin(),
-        &mut rt.stdout(),
-        place,
-        &options,
-    )?;
-    Ok(())
-}
-
-/// The options of a command that looks into no string section.
-fn options(big: bool) -> Options<'static>
-    ensures { result.limit ≤ SECTION_LIMIT }
-{
-    Options {
-        order: order(big),
-        debug_line_str: None,
-        debug_str: None,
-        limit: SECTION_LIMIT,
+/// The program's words, its name first. One that isn't UTF-8 isn't understood.
+fn read_words(rt: &HostRuntime) -> Result<Vec<String>, Ending> {
+    match env::args(rt) {
+        Ok(args) => Ok(args.collect(rt.alloc())?),
+        Err(error) if error.kind() == ErrorKind::OutOfMemory => Err(Ending::from(AllocError)),
+        Err(_) => Err(Ending::Stop(Stop::NotUnderstood)),
     }
 }
 
-fn run_check(rt: &HostRuntime, big: bool) -> Result<(), Stop> {
-    let options = options(big);
-    check(rt.alloc(), &mut rt.stdin(), &mut rt.stdout(), &options)?;
-    Ok(())
-}
-
-fn run_copy(rt: &HostRuntime, big: bool) -> Result<(), Stop> {
-    let options = options(big);
-    copy(rt.alloc(), &mut rt.stdin(), &mut rt.stdout(), &options)?;
-    Ok(())
-}
-
-fn run_job(rt: &HostRuntime, job: Option<Job<'_>>) -> Result<(), Stop> {
-    match job {
-        Some(
-            Job::Dump {
-                big,
-                line_str,
-                strings,
-            },
-        ) => run_dump(rt, &Strings::read(rt, line_str, strings)?, big),
-        Some(Job::Check { big }) => run_check(rt, big),
-        Some(
-            Job::Find {
-                big,
-                address,
-                op,
-                line_str,
-                strings,
-            },
-        ) => {
-            let Some(address) = address.and_then(|text| read_address(text)) else {
-                return Err(Stop::NotUnderstood);
-            };
-            let place = Place {
-                address,
-                op_index: op,
-            };
-            run_find(rt, &Strings::read(rt, line_str, strings)?, big, place)
-        }
-        Some(Job::Copy { big }) => run_copy(rt, big),
-        None => Err(Stop::NotUnderstood),
-    }
-}
-
-fn texts<'a>(alloc: Global, words: &'a [String]) -> Result<Vec<&'a str>, AllocError> {
-    words.iter().map(|word| word.as_str()).collect(alloc)
-}
-
-/// Does what the words say, the program's name first.
-fn run_words(rt: &HostRuntime, words: &[&str]) -> Result<(), Stop> {
+/// Does what the words say, the program's name first, over standard input and output.
+fn run_words(rt: &HostRuntime, words: &[&str]) -> Result<(), Ending> {
     let job = read_job(rt.alloc(), words)?;
-    run_job(rt, job)
+    let files = System { rt };
+    work(rt.alloc(), job, &files, &mut rt.stdin(), &mut rt.stdout())?;
+    Ok(())
 }
 
-fn run(rt: &HostRuntime) -> Result<(), Stop> {
-    let Ok(args) = env::args(rt) else {
-        return Err(Stop::Run(RunFault::NoMemory));
-    };
-    let words: Vec<String> = args.collect(rt.alloc())?;
-    let words = texts(rt.alloc(), words.as_slice())?;
+fn run(rt: &HostRuntime) -> Result<(), Ending> {
+    let words = read_words(rt)?;
+    let words: Vec<&str> = words.iter().map(|word| word.as_str()).collect(rt.alloc())?;
     run_words(rt, words.as_slice())
 }
 
-/// Says why the program stopped, and answers its status.
-fn report(rt: &HostRuntime, stop: Stop) -> u8 {
-    match stop {
-        Stop::Words(error) => {
+/// Says why the program ended, and answers its status.
+fn report(rt: &HostRuntime, ending: Ending) -> u8 {
+    match ending {
+        Ending::Words(error) => {
             let _ = error.print(rt);
             word_status(&error)
         }
-        Stop::NotUnderstood => {
-            let _ = eprintln!(rt; "dwline: words not understood");
-            2
-        }
-        Stop::Run(fault) => {
-            let _ = eprintln!(rt; "dwline: {fault}");
-            fault.status()
+        Ending::Stop(stop) => {
+            let _ = stop.write_line(&mut rt.stderr());
+            stop.status()
         }
     }
 }
@@ -206,7 +95,7 @@ fn report(rt: &HostRuntime, stop: Stop) -> u8 {
 fn main(rt: HostRuntime) -> ExitCode {
     match run(&rt) {
         Ok(()) => ExitCode::SUCCESS,
-        Err(stop) => ExitCode::from(report(&rt, stop)),
+        Err(ending) => ExitCode::from(report(&rt, ending)),
     }
 }
 

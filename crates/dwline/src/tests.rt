@@ -1,5 +1,7 @@
 //! The statuses of words that name no work, and of files that aren't there.
-use crate::{report, run_words};
+use crate::{Ending, report, run_words};
+use dl_cmd::{RunFault, Stop};
+use std::alloc::AllocError;
 use std::test::Fail;
 
 #[test]
@@ -10,6 +12,7 @@ fn statuses(rt: HostRuntime) -> Result<(), Fail> {
         (["dwline", "find"].as_slice(), 2),
         (["dwline", "find", "0x10", "--op", "256"].as_slice(), 2),
         (["dwline", "find", "0x"].as_slice(), 2),
+        (["dwline", "find", "0x", "--str", "no/such/file"].as_slice(), 2),
         (["dwline", "copy", "--str", "a"].as_slice(), 2),
         (["dwline", "--help"].as_slice(), 0),
         (
@@ -20,8 +23,19 @@ fn statuses(rt: HostRuntime) -> Result<(), Fail> {
     ] {
         match run_words(&rt, words) {
             Ok(()) => assert!(rt; false, "{words:?}"),
-            Err(stop) => assert_eq!(rt; report(&rt, stop), status, "{words:?}"),
+            Err(ending) => assert_eq!(rt; report(&rt, ending), status, "{words:?}"),
         }
+    }
+    Ok(())
+}
+
+/// Want of memory while the words are read is told as want of memory elsewhere is.
+#[test]
+fn memory_for_the_words(rt: HostRuntime) -> Result<(), Fail> {
+    let wanted = Stop::Run(RunFault::NoMemory);
+    match Ending::from(clap::Error::from(AllocError)) {
+        Ending::Stop(stop) => assert!(rt; stop == wanted),
+        Ending::Words(_) => assert!(rt; false),
     }
     Ok(())
 }
