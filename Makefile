@@ -12,8 +12,9 @@ test:
 	rt ci
 	$(MAKE) compare
 
-# Every section of examples/, printed and compared with its expected dump.
+# Every section of examples/, printed and compared with its expected dump; then every option of every command.
 compare: dwline
 	examples/compare-with-dwline
+	examples/try-dwline
 
 .PHONY: dwline example test compare
