@@ -47,8 +47,7 @@ module _ {A : Type 0} (May : List ℕ → List ℕ → Answer A → Type 0) (goe
       let more = goes_first goes_on c answers t.1 goes in
       let used = used_in answers in
       let behind = subst (λ (k : ℕ). May (b ++ take k bytes) (take n (drop k bytes)) a) (used_cons c answers) may in
-      let here = subst (λ (l : List ℕ). May l (take n (drop (c.used + used) bytes)) a) (sym (joined b bytes c.used used)) behind in
-      (
+      let here = subst (λ (l : List ℕ). May l (take n (drop (c.used + used) bytes)) a) (sym (joined b bytes c.used used)) behind in (
         t.0,
         λ ends. absurd (true_false more ends),
         λ is. trace_on (b ++ take c.used bytes) (drop c.used bytes) turns answers n later a c.gave (t.2 is) goes
@@ -69,6 +68,39 @@ module _ {A : Type 0} (May : List ℕ → List ℕ → Answer A → Type 0) (goe
         let whole : take i turns ++ slice_index_or turns i 0 ∷ later ≡ turns = ap (λ (l : List ℕ). take i turns ++ l) (sym (drop_more turns i 0 lt)) ∙ take-append-drop i turns in
         subst (λ (l : List ℕ). IsTrace May goes_on b bytes l (answers ++ a ∷ [])) whole
         (trace_on b bytes (take i turns) answers (slice_index_or turns i 0) later a first t goes may (λ is. absurd (true_false is ends)))
+
+module _ {A : Type 0} (May : List ℕ → List ℕ → Answer A → Type 0) (goes_on : A → Bool) where
+  -- behind the first answer
+  pub trace_rest : (b bytes turns : List ℕ) (a : Answer A) (answers : List (Answer A)) → IsTrace May goes_on b bytes turns (a ∷ answers)
+      → (n : ℕ) × (later : List ℕ) × May b (take n bytes) a × IsTrace May goes_on (b ++ take a.used bytes) (drop a.used bytes) later answers
+  trace_rest b bytes [] a answers t = absurd cc
+  trace_rest b bytes (n ∷ turns) a answers t = elim (true_or_false (goes_on a.gave)) [ inl is ↦ (n, turns, t.0, t.2 is) | inr is ↦ (n, [], t.0, t.1 is) ]
+
+  -- the turn that was answered last
+  pub record LastTurn (b bytes : List ℕ) (answers : List (Answer A)) (first : A) : Type 0 where
+    pub behind : ℕ
+    pub n : ℕ
+    pub answer : Answer A
+    pub may : May (b ++ take behind bytes) (take n (drop behind bytes)) answer
+    pub total : used_in answers ≡ behind + answer.used
+    pub is_last : last_given first answers ≡ answer.gave
+
+  pub last_turn : (b bytes turns : List ℕ) (a : Answer A) (answers : List (Answer A)) (first : A) → IsTrace May goes_on b bytes turns (a ∷ answers) → LastTurn b bytes (a ∷ answers) first
+  last_turn b bytes turns a [] first t =
+      let r = trace_rest b bytes turns a [] t in
+      record { behind = 0; n = r.0; answer = a; may = subst (λ (l : List ℕ). May l (take r.0 bytes) a) (sym (append-nil b)) r.2; total = used_cons a [] ∙ omega arith; is_last = refl }
+  last_turn b bytes turns a (c ∷ answers) first t =
+      let r = trace_rest b bytes turns a (c ∷ answers) t in
+      let l = last_turn (b ++ take a.used bytes) (drop a.used bytes) r.1 c answers a.gave r.3 in
+      record {
+        behind = a.used + l.behind;
+        n = l.n;
+        answer = l.answer;
+        may = subst (λ (d : List ℕ). May (b ++ take (a.used + l.behind) bytes) (take l.n d) l.answer) (drop-drop l.behind a.used bytes)
+            (subst (λ (d : List ℕ). May d (take l.n (drop l.behind (drop a.used bytes))) l.answer) (joined b bytes a.used l.behind) l.may);
+        total = used_cons a (c ∷ answers) ∙ ap (λ (k : ℕ). a.used + k) l.total ∙ omega arith;
+        is_last = l.is_last;
+      }
 
 -- each turn that offered anything used a byte or was refused memory, or all bytes are taken
 abbrev pub Moves : (bytes turns : List ℕ) → (taken refused : ℕ) → Type 0

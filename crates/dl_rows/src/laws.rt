@@ -1,6 +1,7 @@
 //! Laws of the definitions of operations, programs, rows and units, each the contract of a function that does nothing.
 
 ghost use Rattle.dl_rows.specs.Laws.{SpeltIsSpelled, BadIsFaulty, NoOperationBeginsAnother, OneOperation, NoSpellingIsFaulty, OneProgram, ProgramIsFound, FoundIsProgram, NoneBeginsRest, RowForByte};
+ghost use Rattle.dl_rows.specs.Runs.{TraceRuns, TraceOfUnit};
 ghost use Rattle.dl_rows.specs.UnitLaws.{HeaderFits, LengthIsComputed, NoUnitBeginsAnother, ForeignComesTo, UnitComesTo, OneRefusal, RefusedInHeader, RefusedInProgram, UnitUnlessRefused, RowForProgramByte};
 
 /// What computes an operation of bytes agrees with the relations: on spellings, and on bad bytes
@@ -64,4 +65,11 @@ pub fn refusals()
 /// Bytes as long as their initial length says are a unit, or one front of them is refused.
 pub fn unit_or_refusal()
     ensures { UnitUnlessRefused }
+{}
+
+/// What is heard in turns is what the bytes taken come to, however long the turns are and wherever
+/// memory is refused; of bytes that complete a unit nothing is refused, and enough turns take it whole.
+pub fn turns()
+    ensures trace { TraceRuns }
+    ensures unit { TraceOfUnit }
 {}
