@@ -2,7 +2,7 @@
 
 ghost use Rattle.dl_rows.specs.Laws.{SpeltIsSpelled, BadIsFaulty, NoOperationBeginsAnother, OneOperation, NoSpellingIsFaulty, OneProgram, ProgramIsFound, FoundIsProgram, NoneBeginsRest, RowForByte};
 ghost use Rattle.dl_rows.specs.Runs.{TraceRuns, TraceOfUnit};
-ghost use Rattle.dl_rows.specs.UnitLaws.{HeaderFits, LengthIsComputed, NoUnitBeginsAnother, ForeignComesTo, UnitComesTo, OneRefusal, RefusedInHeader, RefusedInProgram, UnitUnlessRefused, RowForProgramByte};
+ghost use Rattle.dl_rows.specs.UnitLaws.{HeaderFits, LengthIsComputed, NoUnitBeginsAnother, ForeignComesTo, UnitComesTo, OneRefusal, RefusedInHeader, RefusedInProgram, OperationIsRefused, UnitUnlessRefused, RowForProgramByte};
 
 /// What computes an operation of bytes agrees with the relations: on spellings, and on bad bytes
 /// with the kind of the fault. Sections 6.2.5.1 to 6.2.5.3.
@@ -56,10 +56,12 @@ pub fn one_refusal()
     ensures { OneRefusal }
 {}
 
-/// Where the header isn't complete, it is refused; else an operation is, which is bad or cut short.
+/// Where the header isn't complete, it is refused; else an operation is, which is bad or cut short, and
+/// is no more than begun by any shorter front of its bytes.
 pub fn refusals()
     ensures header { RefusedInHeader }
     ensures program { RefusedInProgram }
+    ensures operation { OperationIsRefused }
 {}
 
 /// Bytes as long as their initial length says are a unit, or one front of them is refused.
