@@ -1,5 +1,5 @@
 -- Bytes of a unit offered in turns.
-use Rattle.std.proofs.Common.{◌≡◌, ◌+◌, ◌<◌, ◌≤◌, ◌⊎◌, inl, inr, ℕ, Bool, true, false, cond, List, [], ◌∷◌, ◌++◌, length, min, take, drop, slice_get, slice_index_or, flat_map, Some, Result, Ok, Err, refl, sym, ap, subst, ◌∙◌, arith, length-append, append_assoc, append-nil, length-take, length-drop}
+use Rattle.std.proofs.Common.{◌≡◌, ◌+◌, ◌<◌, ◌≤◌, ◌⊎◌, inl, inr, ℕ, Bool, true, false, cond, List, [], ◌∷◌, ◌++◌, length, min, take, drop, slice_get, slice_index_or, Some, Result, Ok, Err, refl, sym, ap, subst, ◌∙◌, arith, length-append, append_assoc, append-nil, length-take, length-drop}
 use Rattle.std.proofs.lemmas.Bool.{cases_eq}
 use Rattle.std.proofs.lemmas.List.{take-take, take-append-drop, take_all, length-take-le}
 use Rattle.std.proofs.lemmas.List.Sums.{sum_by-cons, sum_by_push}
@@ -10,7 +10,7 @@ use Rattle.dl_head.specs.Header.{unit_len}
 use Rattle.dl_head.specs.Turns.{Answer, used_in, last_given, IsTrace, some_turns}
 use Rattle.dl_head.proofs.FieldLemmas.{none_some}
 use Rattle.dl_head.proofs.FrontLemmas.{fronts}
-use Rattle.dl_head.proofs.TurnLemmas.{joined, used_cons, true_or_false, goes_first, last_of_push, trace_more, trace_last, trace_rest, LastTurn, last_turn, Moves, moves_first}
+use Rattle.dl_head.proofs.TurnLemmas.{joined, used_cons, goes_first, last_of_push, trace_more, trace_last, trace_rest, LastTurn, last_turn, Moves, moves_first}
 use Rattle.dl_rows.specs.declared.reader.Event.{Event}
 use Rattle.dl_rows.specs.declared.reader.Event.TheVariants as event
 use Rattle.dl_rows.specs.declared.reader.Fed.{Fed}
@@ -18,7 +18,7 @@ use Rattle.dl_rows.specs.declared.reader.Reader.{Reader}
 use Rattle.dl_rows.specs.declared.reader.run.Run.{Run}
 use Rattle.dl_rows.specs.Heard.{Hears}
 use Rattle.dl_rows.specs.LineUnit.{IsUnit, events}
-use Rattle.dl_rows.specs.Reading.{WithinUnit, Answered, Fails, told, EventHolds}
+use Rattle.dl_rows.specs.Reading.{WithinUnit, told, EventHolds}
 use Rattle.dl_rows.specs.ReaderStands.{StandsFor, ReaderFed}
 use Rattle.dl_rows.specs.Refusal.{Refused}
 use Rattle.dl_rows.specs.Runs.{MayGive, May, is_end, goes_on, is_refusal, refusals, told_by, heard_in, outcome, Traced, Took, Sound, Runs, RunIs, TookUnit, UnitRuns, UnitRunIs, TraceRuns, TraceOfUnit}

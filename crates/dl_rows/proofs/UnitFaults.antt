@@ -2,7 +2,7 @@
 use Rattle.std.proofs.Common.{◌≡◌, ℕ, ◌+◌, ◌<◌, ◌≤◌, Bool, if◌then◌else◌, List, [], ◌∷◌, ◌++◌, length, Option, Some, None, Ok, Err, refl, sym, ap, subst, ◌∙◌, arith, inl, inr, ◌⊎◌, append_assoc, append-nil, length-append}
 use Rattle.std.proofs.lemmas.Bool.{cases_eq, eq-eqb, ne_eqb}
 use Rattle.dl_num.specs.declared.fixed.Order.{Order}
-use Rattle.dl_num.specs.Front.{SpellsNowhere, Standing, standing}
+use Rattle.dl_num.specs.Front.{SpellsNowhere, Standing}
 use Rattle.dl_num.proofs.FrontLemmas.{one_cut}
 use Rattle.dl_head.specs.declared.fault.FaultKind.{FaultKind}
 use Rattle.dl_head.specs.declared.fault.FaultKind.TheVariants as fault

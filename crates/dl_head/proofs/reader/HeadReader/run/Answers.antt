@@ -1,4 +1,4 @@
-use Rattle.std.proofs.Common.{◌≡◌, ◌+◌, ℕ, List, true, false, cond, refl, sym, ap, ◌∙◌, arith, drop, length, length-take, length-drop}
+use Rattle.std.proofs.Common.{◌≡◌, ◌+◌, ℕ, List, cond, refl, ap, ◌∙◌, arith, drop, length, length-take, length-drop}
 use Rattle.dl_head.specs.declared.reader.HeadStep.{HeadStep}
 use Rattle.dl_head.specs.declared.reader.run.HeadRun.{HeadRun}
 use Rattle.dl_head.specs.declared.reader.HeadStep.TheVariants as answer

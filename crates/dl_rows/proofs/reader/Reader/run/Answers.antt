@@ -1,13 +1,9 @@
-use Rattle.std.proofs.Common.{◌≡◌, ◌≤◌, ◌+◌, ℕ, Bool, false, cond, List, slice_index_or, Ok, refl, sym, ap, subst, ◌∙◌, arith, take, drop, length, length-take, length-drop}
+use Rattle.std.proofs.Common.{◌≡◌, ◌≤◌, ◌+◌, ℕ, Bool, false, cond, Ok, refl, ap, ◌∙◌, arith, drop, length, length-take, length-drop}
 use Rattle.std.proofs.lemmas.Result.{err_from_is_err_and}
-use Rattle.dl_head.specs.declared.fault.Fault.{Fault}
 use Rattle.dl_rows.proofs.RunLemmas.{hears_none, going_none, going_on, traced_end, traced_fault, traced_all, other_event, runs_of, unit_of}
 use Rattle.dl_rows.specs.declared.reader.Event.{Event}
-use Rattle.dl_rows.specs.declared.reader.Event.TheVariants as event
 use Rattle.dl_rows.specs.declared.reader.run.Run.{Run}
-use Rattle.dl_rows.specs.Runs.{goes_on, is_refusal, Traced}
-use Rattle.dl_rows.specs.Heard.{Hears}
-use Rattle.dl_rows.specs.ReaderStands.{StandsFor}
+use Rattle.dl_rows.specs.Runs.{goes_on, is_refusal}
 use Rattle.dl_rows.proofs.reader.Reader.run.Goals as goal
 use Rattle.dl_rows.proofs.reader.Reader.run.Goals.{in-NoMemory, in_default}
 
