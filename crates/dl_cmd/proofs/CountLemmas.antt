@@ -106,15 +106,15 @@ module _ (order : Order) (u : Units) (t piece : List ℕ) (units : List (List �
       let c = b ++ x in
       let e = fed.event in
       let v : Units = record u { reader = new } in
-      let rows_are = ap rows_told f.grows ∙ rows_told-append (events order b) (told e) in
-      let size : length (rows_told (events order c)) < 2 ^ 64 = omega (arith, short, f.within, length-take fed.used piece, ap length are.has.whole, length-append (concat units) b, length-append b x, few_told order c) in
+      let rows_are = ap rows_told f.answered.grows ∙ rows_told-append (events order b) (told e) in
+      let size : length (rows_told (events order c)) < 2 ^ 64 = omega (arith, short, f.answered.within, length-take fed.used piece, ap length are.has.whole, length-append (concat units) b, length-append b x, few_told order c) in
       record {
         has = record { whole = ap (λ (l : List ℕ). l ++ x) are.has.whole ∙ append_assoc (concat units) b x; each = are.has.each };
         order_is = same_order v e ∙ are.order_is;
         reader_order = ap (λ (r : Reader). r.order) (same_reader v e) ∙ own;
         stands = subst (λ (r : Reader). StandsFor r c) (sym (same_reader v e)) f.stands;
         offset = same_offset v e ∙ are.offset;
-        foreign = foreign_more v e _ are.foreign ∙ sym (foreign-append (events order b) (told e)) ∙ ap is_foreign (sym f.grows);
+        foreign = foreign_more v e _ are.foreign ∙ sym (foreign-append (events order b) (told e)) ∙ ap is_foreign (sym f.answered.grows);
         sequences = ends_more v e _ are.sequences (omega (arith, size, ap ends rows_are, ends-append (rows_told (events order b)) (rows_told (told e)), count_by-le-length (λ (r : Row). r.end_sequence) (rows_told (events order c))))
             ∙ sym (ends-append (rows_told (events order b)) (rows_told (told e))) ∙ sym (ap ends rows_are);
         rows = rows_more v e _ are.rows (omega (arith, size, ap length rows_are, length-append (rows_told (events order b)) (rows_told (told e))))

@@ -135,14 +135,14 @@ module _ {S : Type 0} (story : Story S) (order : Order) (t piece : List ℕ) (fi
     are_after = more_read order u read_so_far rest so.units so.b so.are reader (own ∙ so.are.reader_order) small fed feeds
 
     pub visits_told : section_visits order so.units (with_bytes fed.used) ≡ section_visits order so.units so.b ++ event_visits u.offset (header_of reader.order (with_bytes fed.used)) fed.event
-    visits_told = visits_after fed.used (told fed.event) feeds.grows ∙ ap (λ (l : List Visit). section_visits order so.units so.b ++ l) (told_visits u.offset (header_of reader.order (with_bytes fed.used)) fed.event)
+    visits_told = visits_after fed.used (told fed.event) feeds.answered.grows ∙ ap (λ (l : List Visit). section_visits order so.units so.b ++ l) (told_visits u.offset (header_of reader.order (with_bytes fed.used)) fed.event)
 
     -- an event was told
     pub goes_on : (new2 : S) (now2 : Option (List ℕ)) → story.tells first new2 start now2 (section_visits order so.units so.b ++ event_visits u.offset (header_of reader.order (with_bytes fed.used)) fed.event)
         → (v : Units) → v ≡ u_after → FedUpTo story order t piece first start v new2 now2 (take (length rest - fed.used) (drop fed.used rest))
     goes_on new2 now2 tells v same = record {
       n = so.n + fed.used;
-      within = omega (arith, so.within, feeds.within, ap length so.rest_is, length-drop so.n piece);
+      within = omega (arith, so.within, feeds.answered.within, ap length so.rest_is, length-drop so.n piece);
       rest_is = left ∙ ap (drop fed.used) so.rest_is ∙ drop-drop fed.used so.n piece;
       units = so.units;
       b = with_bytes fed.used;
@@ -157,13 +157,13 @@ module _ {S : Type 0} (story : Story S) (order : Order) (t piece : List ℕ) (fi
       so.units,
       with_bytes fed.used,
       drop fed.used rest,
-      begun fed.used feeds.in_unit,
+      begun fed.used feeds.answered.in_unit,
       inr (section_visits order so.units so.b ++ s.0, s.1, visits_told ∙ ap (λ (l : List Visit). section_visits order so.units so.b ++ l) s.2 ∙ sym (append_assoc (section_visits order so.units so.b) s.0 s.1), s.3),
     )
 
     -- nothing was told
     quiet : told fed.event ≡ [] → section_visits order so.units (with_bytes fed.used) ≡ section_visits order so.units so.b
-    quiet none = same_visits fed.used (feeds.grows ∙ ap (λ (l : List Event). events order so.b ++ l) none ∙ append-nil (events order so.b))
+    quiet none = same_visits fed.used (feeds.answered.grows ∙ ap (λ (l : List Event). events order so.b ++ l) none ∙ append-nil (events order so.b))
 
     pub same_told : told fed.event ≡ [] → story.tells first new start now (section_visits order so.units (with_bytes fed.used))
     same_told none = subst (λ (l : List Visit). story.tells first new start now l) (sym (quiet none)) so.tells
@@ -171,27 +171,27 @@ module _ {S : Type 0} (story : Story S) (order : Order) (t piece : List ℕ) (fi
     -- the piece is over
     pub idle : fed.event ≡ event.More → fed.used ≡ 0 → UnitsFed story order (t ++ piece) first new start now (record u { reader = reader }) (Ok next.Unit)
     idle is zero =
-        let holds = subst (λ (e : Event). EventHolds order so.b rest fed.used e) is feeds.holds in
+        let holds = subst (λ (e : Event). EventHolds order so.b rest fed.used e) is feeds.answered.holds in
         let after : u_after ≡ record u { reader = reader } = ap (λ (e : Event). counted e (record u { reader = reader })) is in
         let over : read_so_far ++ take fed.used rest ≡ t ++ piece = ap (λ (l : List ℕ). read_so_far ++ l) (take_all fed.used rest (omega (arith, holds.0))) ∙ all_read in (
           so.units,
           with_bytes fed.used,
           subst (λ (v : Units). UnitsAre order v (t ++ piece) so.units (with_bytes fed.used)) after (subst (λ (l : List ℕ). UnitsAre order u_after l so.units (with_bytes fed.used)) over are_after),
-          no_unit_begins order (with_bytes fed.used) feeds.in_unit (λ unit. let some = holds.1 unit in omega (arith, some, zero)),
-          λ front back at kind e refused. feeds.sound front back at kind e refused,
+          no_unit_begins order (with_bytes fed.used) feeds.answered.in_unit (λ unit. let some = holds.1 unit in omega (arith, some, zero)),
+          λ front back at kind e refused. feeds.answered.sound front back at kind e refused,
           same_told (ap told is),
         )
 
     -- memory was refused
     pub unmet : fed.event ≡ event.NoMemory → (v : Units) → UnitsFed story order (t ++ piece) first new start now v (Err fault.NoMemory)
     unmet is v =
-        let holds = subst (λ (e : Event). EventHolds order so.b rest fed.used e) is feeds.holds in
+        let holds = subst (λ (e : Event). EventHolds order so.b rest fed.used e) is feeds.answered.holds in
         let wants : AddsCell order (with_bytes fed.used) (drop fed.used rest) = (holds.0, drop (fed.used + 1) rest, dropped rest fed.used holds.0 holds.1, holds.3) in
-        (so.units, with_bytes fed.used, drop fed.used rest, begun fed.used feeds.in_unit, inl ((λ front back at kind e refused. feeds.sound front back at kind e refused, wants), same_told (ap told is)))
+        (so.units, with_bytes fed.used, drop fed.used rest, begun fed.used feeds.answered.in_unit, inl ((λ front back at kind e refused. feeds.answered.sound front back at kind e refused, wants), same_told (ap told is)))
 
     -- the unit is whole
     pub is_unit : fed.event ≡ event.End → IsUnit order (with_bytes fed.used)
-    is_unit is = (subst (λ (e : Event). EventHolds order so.b rest fed.used e) is feeds.holds).0
+    is_unit is = (subst (λ (e : Event). EventHolds order so.b rest fed.used e) is feeds.answered.holds).0
 
     abbrev pub units_after : List (List ℕ)
     units_after = so.units ++ with_bytes fed.used ∷ []
@@ -218,7 +218,7 @@ module _ {S : Type 0} (story : Story S) (order : Order) (t piece : List ℕ) (fi
         → FedUpTo story order t piece first start v new2 now2 (take (length rest - fed.used) (drop fed.used rest))
     next_unit is new2 now2 v are n unit goes = record {
       n = so.n + fed.used;
-      within = omega (arith, so.within, feeds.within, ap length so.rest_is, length-drop so.n piece);
+      within = omega (arith, so.within, feeds.answered.within, ap length so.rest_is, length-drop so.n piece);
       rest_is = left ∙ ap (drop fed.used) so.rest_is ∙ drop-drop fed.used so.n piece;
       units = units_after;
       b = [];

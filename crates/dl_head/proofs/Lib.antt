@@ -9,6 +9,7 @@ pub mod EqualLemmas
 pub mod FieldCells
 pub mod FieldLaws
 pub mod FieldLemmas
+pub mod ForeignLemmas
 pub mod FrontLemmas
 pub mod Given
 pub mod Growth
@@ -38,6 +39,7 @@ pub mod StepCells
 pub mod Stepped
 pub mod TakenLemmas
 pub mod TextLemmas
+pub mod TurnLemmas
 pub mod ValueFields
 pub mod ValueLemmas
 pub mod WriteLemmas

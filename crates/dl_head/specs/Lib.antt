@@ -1,3 +1,4 @@
+pub mod Turns
 pub mod Value
 pub mod TableData
 pub mod TableCells

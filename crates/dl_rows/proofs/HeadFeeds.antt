@@ -69,7 +69,8 @@ sound_up_to order b piece (suc n) le none sound not quiet =
 
 -- so many bytes of the piece are taken, and counted
 pub record HeadTook (old new : Reader) (b piece : List ℕ) (used : ℕ) (step : HeadStep) : Type 0 where
-  pub took : Took old.order b piece used step new.head
+  pub took : Took old.order b piece used step
+  pub stands : HeadStands new.head (b ++ take used piece)
   pub whole : step ≡ answer.More → used ≡ length piece
   pub order : new.order ≡ old.order
   pub head_order : new.head.order ≡ new.order
@@ -109,7 +110,7 @@ module _ (old new : Reader) (b piece : List ℕ) (used : ℕ) (step : HeadStep) 
   le = h.took.within
 
   in_unit : WithinUnit old.order (b ++ take used piece)
-  in_unit n len = h.took.stands.within n (ap (λ (o : Order). unit_len o (b ++ take used piece)) (h.head_order ∙ h.order) ∙ len)
+  in_unit n len = h.stands.within n (ap (λ (o : Order). unit_len o (b ++ take used piece)) (h.head_order ∙ h.order) ∙ len)
 
   -- ---- the header goes on
 
@@ -127,7 +128,7 @@ module _ (old new : Reader) (b piece : List ℕ) (used : ℕ) (step : HeadStep) 
     goes_stands foreign program fault = record {
       order = h.head_order;
       at = subst (λ (o : Option Fault). StandsAt new o (b ++ take used piece)) (sym fault) (inl (record {
-        head = h.took.stands;
+        head = h.stands;
         more = subst (λ (o : Order). Answers o (b ++ take used piece) answer.More) (sym h.order) goes;
         bytes = taken_bytes b piece used was.bytes h.bytes;
         own = foreign ∙ was.own;
@@ -140,12 +141,14 @@ module _ (old new : Reader) (b piece : List ℕ) (used : ℕ) (step : HeadStep) 
 
     pub feeds_goes : (fed : Fed) → StandsFor new (b ++ take used piece) → fed.used ≡ used → told fed.event ≡ [] → EventHolds old.order b piece used fed.event → Feeds StandsFor old.order b piece fed new
     feeds_goes fed stands same none holds = subst (λ (n : ℕ). Feeds StandsFor old.order b piece (record { used = n; event = fed.event }) new) (sym same) (record {
-      within = h.took.within;
-      in_unit = in_unit;
+      answered = record {
+        within = h.took.within;
+        in_unit = in_unit;
+        grows = no_events old.order (b ++ take used piece) incomplete goes.1 ∙ sym (ap (λ (l : List Event). l ++ told fed.event) no_event_before ∙ none);
+        holds = holds;
+        sound = sound;
+      };
       stands = stands;
-      grows = no_events old.order (b ++ take used piece) incomplete goes.1 ∙ sym (ap (λ (l : List Event). l ++ told fed.event) no_event_before ∙ none);
-      holds = holds;
-      sound = sound;
     })
 
     pub holds_more : used ≡ length piece → EventHolds old.order b piece used event.More
@@ -210,7 +213,7 @@ module _ (old new : Reader) (b piece : List ℕ) (used : ℕ) (step : HeadStep) 
         front = b ++ take used piece;
         back = [];
         whole = sym (append-nil (b ++ take used piece));
-        head = h.took.stands;
+        head = h.stands;
         header = inl (refl, ap (λ (o : Order). header_in o (b ++ take used piece)) h.order ∙ none_here no_header_here);
       });
     }
@@ -221,7 +224,7 @@ module _ (old new : Reader) (b piece : List ℕ) (used : ℕ) (step : HeadStep) 
     counts : Counts fin.order fin.tail (b ++ take used piece)
     counts =
         let n = foreign_known old.order (b ++ take used piece) v foreign in
-        let left = begins.same.left (b ++ take used piece) h.took.stands n.0 (ap (λ (o : Order). unit_len o (b ++ take used piece)) (h.head_order ∙ h.order) ∙ n.1) in
+        let left = begins.same.left (b ++ take used piece) h.stands n.0 (ap (λ (o : Order). unit_len o (b ++ take used piece)) (h.head_order ∙ h.order) ∙ n.1) in
         record {
           taken = begins.same.taken ∙ h.taken;
           left = ap (λ (o : Order). unit_len o (b ++ take used piece)) (begins.same.order ∙ h.order) ∙ n.1 ∙ ap (λ (k : ℕ). Some k) (omega (arith, left.0, left.1, begins.same.taken, h.taken));
@@ -243,7 +246,7 @@ module _ (old new : Reader) (b piece : List ℕ) (used : ℕ) (step : HeadStep) 
         front = b ++ take used piece;
         back = [];
         whole = sym (append-nil (b ++ take used piece));
-        head = subst (λ (r : HeadReader). HeadStands r (b ++ take used piece)) (sym begins.same.head) h.took.stands;
+        head = subst (λ (r : HeadReader). HeadStands r (b ++ take used piece)) (sym begins.same.head) h.stands;
         told = ap (λ (o : Order). foreign_in o (b ++ take used piece)) (begins.same.order ∙ h.order) ∙ foreign;
       })));
     }
@@ -252,12 +255,14 @@ module _ (old new : Reader) (b piece : List ℕ) (used : ℕ) (step : HeadStep) 
     feeds_version some stands =
         let none = foreign_no_header old.order (b ++ take used piece) v foreign in
         record {
-          within = h.took.within;
-          in_unit = in_unit;
+          answered = record {
+            within = h.took.within;
+            in_unit = in_unit;
+            grows = ap (λ (o : Option ℕ). events_of old.order o (header_in old.order (b ++ take used piece))) foreign ∙ sym (ap (λ (l : List Event). l ++ event.Foreign v ∷ []) no_event_before);
+            holds = (some, last_event some);
+            sound = sound_up_to old.order b piece used h.took.within was.incomplete was.sound headers refusals;
+          };
           stands = stands;
-          grows = ap (λ (o : Option ℕ). events_of old.order o (header_in old.order (b ++ take used piece))) foreign ∙ sym (ap (λ (l : List Event). l ++ event.Foreign v ∷ []) no_event_before);
-          holds = (some, last_event some);
-          sound = sound_up_to old.order b piece used h.took.within was.incomplete was.sound headers refusals;
         }
       where
         headers : NoHeaders old.order b piece used
@@ -282,13 +287,13 @@ module _ (old new : Reader) (b piece : List ℕ) (used : ℕ) (step : HeadStep) 
         let same : fin.order ≡ old.order = begins.same.order ∙ h.order in
         let here : IsHeader new.head.order g (b ++ take used piece) = subst (λ (o : Order). IsHeader o g (b ++ take used piece)) (sym (h.head_order ∙ h.order)) is in
         let n = header_known old.order g (b ++ take used piece) is in
-        let left = begins.same.left (b ++ take used piece) h.took.stands n.0 (ap (λ (o : Order). unit_len o (b ++ take used piece)) (h.head_order ∙ h.order) ∙ n.1) in
+        let left = begins.same.left (b ++ take used piece) h.stands n.0 (ap (λ (o : Order). unit_len o (b ++ take used piece)) (h.head_order ∙ h.order) ∙ n.1) in
         behind_header fin.order g fin.tail (b ++ take used piece) (subst (λ (o : Order). IsHeader o g (b ++ take used piece)) (sym same) is) (taken_bytes b piece used was.bytes h.bytes)
         (record {
           taken = begins.same.taken ∙ h.taken;
           left = ap (λ (o : Order). unit_len o (b ++ take used piece)) same ∙ n.1 ∙ ap (λ (k : ℕ). Some k) (omega (arith, left.0, left.1, begins.same.taken, h.taken));
         })
-        (begins.program fin.order (b ++ take used piece) g h.took.stands here)
+        (begins.program fin.order (b ++ take used piece) g h.stands here)
 
     pub header_stands : new.is_foreign ≡ old.is_foreign → new.fault ≡ None → StandsFor fin (b ++ take used piece)
     header_stands own fault = record {
@@ -301,18 +306,20 @@ module _ (old new : Reader) (b piece : List ℕ) (used : ℕ) (step : HeadStep) 
         back = [];
         whole = sym (append-nil (b ++ take used piece));
         is = subst (λ (o : Order). IsHeader o g (b ++ take used piece)) (sym (begins.same.order ∙ h.order)) is;
-        head = subst (λ (r : HeadReader). HeadStands r (b ++ take used piece)) (sym begins.same.head) h.took.stands;
+        head = subst (λ (r : HeadReader). HeadStands r (b ++ take used piece)) (sym begins.same.head) h.stands;
       })));
     }
 
     pub feeds_header : 1 ≤ used → StandsFor fin (b ++ take used piece) → Feeds StandsFor old.order b piece (record { used = used; event = event.Header }) fin
     feeds_header some stands = record {
-      within = h.took.within;
-      in_unit = in_unit;
+      answered = record {
+        within = h.took.within;
+        in_unit = in_unit;
+        grows = header_event old.order g (b ++ take used piece) is ∙ sym (ap (λ (l : List Event). l ++ event.Header ∷ []) no_event_before);
+        holds = (some, last_event some);
+        sound = subst (λ (o : Order). NoneRefused o (b ++ take used piece)) (begins.same.order ∙ h.order) in_program.sound;
+      };
       stands = stands;
-      grows = header_event old.order g (b ++ take used piece) is ∙ sym (ap (λ (l : List Event). l ++ event.Header ∷ []) no_event_before);
-      holds = (some, last_event some);
-      sound = subst (λ (o : Order). NoneRefused o (b ++ take used piece)) (begins.same.order ∙ h.order) in_program.sound;
     }
 
 -- the reader with the bytes of its header counted
@@ -325,7 +332,7 @@ pub head_took : (old : Reader) (head : HeadReader) (taken : ℕ) (b piece : List
 head_took old head taken b piece used step was order all offered head_order counts =
     let o : Offered old.order b piece used step head =
     subst (λ (p : Order). Offered p b piece used step head) order (offered b was.head (subst (λ (p : Order). Answers p b answer.More) (sym order) was.more)) in
-    record { took = o.took; whole = o.whole; order = refl; head_order = head_order ∙ order; taken = counts (b ++ take used piece) o.took.stands; bytes = all }
+    record { took = o.answered.took; stands = o.stands; whole = o.answered.whole; order = refl; head_order = head_order ∙ order; taken = counts (b ++ take used piece) o.stands; bytes = all }
 
 -- what the bytes come to, by the step
 pub come_to : {old new : Reader} {b piece : List ℕ} {used : ℕ} {step : HeadStep} (h : HeadTook old new b piece used step) (a : HeadStep) → step ≡ a → Answers old.order (b ++ take used piece) (so_far a)
@@ -334,4 +341,4 @@ come_to {old} {new} {b} {piece} {used} {step} h a is = subst (λ (s : HeadStep).
 pub took_stopped : (old : Reader) (head : HeadReader) (taken : ℕ) (b piece : List ℕ) (used : ℕ) (step : HeadStep) (fault : Option Fault) → HeadTook old (read_on old head taken) b piece used step
     → HeadTook old (record (read_on old head taken) { fault = fault }) b piece used step
 took_stopped old head taken b piece used step fault h =
-    record { took = h.took; whole = h.whole; order = h.order; head_order = h.head_order; taken = h.taken; bytes = h.bytes }
+    record { took = h.took; stands = h.stands; whole = h.whole; order = h.order; head_order = h.head_order; taken = h.taken; bytes = h.bytes }

@@ -15,7 +15,7 @@ use Rattle.dl_rows.proofs.SpeltFirst.{spells_first}
 use Rattle.dl_rows.proofs.OperationLaws.{spelt_is_spelled}
 
 -- the operation that bytes spell, if they do
-abbrev spelt : Order → Params → List ℕ → Option Operation
+abbrev pub spelt : Order → Params → List ℕ → Option Operation
 spelt order h w = good_one (operation_spelt order h w)
 
 first_of : (order : Order) (h : Params) (o : Operation) (w : List ℕ) → 1 ≤ h.opcode_base → SpellsOperation order h o w → SpellsFirst (spelt order h) w o
@@ -29,7 +29,7 @@ good_one_is (Some (Ok p)) o e = cc
 good_one_is (Some (Err kind)) o e = absurd cc
 
 -- a program, and then what is cut off the bytes behind it
-program_cut : (order : Order) (h : Params) (p : List Operation) (w v : List ℕ) (found : List Operation) (rest : List ℕ) → 1 ≤ h.opcode_base
+pub program_cut : (order : Order) (h : Params) (p : List Operation) (w v : List ℕ) (found : List Operation) (rest : List ℕ) → 1 ≤ h.opcode_base
     → SpellsProgram order h p w → IsCut (spelt order h) v found rest → IsCut (spelt order h) (w ++ v) (p ++ found) rest
 program_cut order h [] w v found rest some e c = subst (λ (z : List ℕ). IsCut (spelt order h) (z ++ v) found rest) (sym e) c
 program_cut order h (o ∷ p) w v found rest some (front, back, e, s, q) c = (

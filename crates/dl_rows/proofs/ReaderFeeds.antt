@@ -68,11 +68,7 @@ feeds_foreign r t b piece fed none foreign s program feeds =
     let at = version_of r b none foreign s in
     let f = feeds at.version at.foreign in
     record {
-      within = f.within;
-      in_unit = f.in_unit;
-      grows = f.grows;
-      holds = f.holds;
-      sound = f.sound;
+      answered = f.answered;
       stands = record {
         order = s.order;
         at = subst (λ (o : Option Fault). StandsAt (record r { tail = t }) o (b ++ take fed.used piece)) (sym none) (inr (inl (record {
@@ -121,11 +117,7 @@ feeds_program r t b piece fed h p none own s header params feeds =
     let at = found.0 in
     let f = fed_program r t b piece (Ok fed) h p at found.1 params feeds in
     record {
-      within = f.within;
-      in_unit = f.in_unit;
-      grows = f.grows;
-      holds = f.holds;
-      sound = f.sound;
+      answered = f.answered;
       stands = record {
         order = s.order;
         at = subst (λ (o : Option Fault). StandsAt (record r { tail = t }) o (b ++ take fed.used piece)) (sym none) (inr (inr (record {

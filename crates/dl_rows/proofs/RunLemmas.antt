@@ -1,15 +1,16 @@
 -- Bytes of a unit offered in turns.
-use Rattle.std.proofs.Common.{◌≡◌, ◌+◌, ◌<◌, ◌≤◌, ◌⊎◌, inl, inr, ℕ, Bool, true, false, List, [], ◌∷◌, ◌++◌, length, min, take, drop, slice_get, slice_index_or, Some, Ok, Err, refl, sym, ap, subst, ◌∙◌, arith, length-append, append_assoc, append-nil, length-take, length-drop}
-use Rattle.std.proofs.lemmas.List.{take_more, take-take, take-append-drop, length-take-le}
-use Rattle.std.proofs.lemmas.List.Sums.{sum_by_push}
-use Rattle.std.proofs.Math.Seq.{take-add}
+use Rattle.std.proofs.Common.{◌≡◌, ◌+◌, ◌<◌, ◌≤◌, ◌⊎◌, inl, inr, ℕ, Bool, true, false, cond, List, [], ◌∷◌, ◌++◌, length, min, take, drop, slice_get, slice_index_or, Some, Result, Ok, Err, refl, sym, ap, subst, ◌∙◌, arith, length-append, append_assoc, append-nil, length-take, length-drop}
+use Rattle.std.proofs.lemmas.Bool.{cases_eq}
+use Rattle.std.proofs.lemmas.List.{take-take, take-append-drop, take_all, length-take-le}
+use Rattle.std.proofs.lemmas.List.Sums.{sum_by-cons, sum_by_push}
+use Rattle.std.proofs.lemmas.Grind.{flat_map-append}
 use Rattle.dl_num.specs.declared.fixed.Order.{Order}
 use Rattle.dl_head.specs.declared.fault.Fault.{Fault}
 use Rattle.dl_head.specs.Header.{unit_len}
-use Rattle.dl_head.specs.Runs.{some_turns}
+use Rattle.dl_head.specs.Turns.{Answer, used_in, last_given, IsTrace, some_turns}
 use Rattle.dl_head.proofs.FieldLemmas.{none_some}
 use Rattle.dl_head.proofs.FrontLemmas.{fronts}
-use Rattle.dl_head.proofs.RunLemmas.{Moves, moves_on}
+use Rattle.dl_head.proofs.TurnLemmas.{joined, used_cons, goes_first, last_of_push, trace_more, trace_last, trace_rest, LastTurn, last_turn, Moves, moves_first}
 use Rattle.dl_rows.specs.declared.reader.Event.{Event}
 use Rattle.dl_rows.specs.declared.reader.Event.TheVariants as event
 use Rattle.dl_rows.specs.declared.reader.Fed.{Fed}
@@ -17,101 +18,99 @@ use Rattle.dl_rows.specs.declared.reader.Reader.{Reader}
 use Rattle.dl_rows.specs.declared.reader.run.Run.{Run}
 use Rattle.dl_rows.specs.Heard.{Hears}
 use Rattle.dl_rows.specs.LineUnit.{IsUnit, events}
-use Rattle.dl_rows.specs.Reading.{WithinUnit, told, Feeds, EventHolds}
+use Rattle.dl_rows.specs.Reading.{WithinUnit, told, EventHolds}
 use Rattle.dl_rows.specs.ReaderStands.{StandsFor, ReaderFed}
 use Rattle.dl_rows.specs.Refusal.{Refused}
-use Rattle.dl_rows.specs.Runs.{Took, Sound, Runs, TookUnit, UnitRuns}
+use Rattle.dl_rows.specs.Runs.{MayGive, May, is_end, goes_on, is_refusal, refusals, told_by, heard_in, outcome, Traced, Took, Sound, Runs, RunIs, TookUnit, UnitRuns, UnitRunIs, TraceRuns, TraceOfUnit}
 use Rattle.dl_rows.proofs.ReaderLemmas.{within_here}
 use Rattle.dl_rows.proofs.UnitLemmas.{unit_len_on}
 use Rattle.dl_rows.proofs.UnitLengths.{length_of_unit, nothing_left, no_unit_begins_another}
 use Rattle.dl_rows.proofs.UnitQuiet.{unit_is_not_refused}
 
-pub took_none : (b bytes : List ℕ) {S : Type 0} (Heard : S → List Event → Type 0) (l : S) (r : Reader) → StandsFor r b → Took r.order b bytes 0 (Hears Heard l l) r
-took_none b bytes {S} Heard l r s = record {
-  within = omega arith;
-  in_unit = subst (WithinUnit r.order) (sym (append-nil b)) (within_here r b r.fault s.order s.at);
-  stands = subst (λ (l : List ℕ). StandsFor r l) (sym (append-nil b)) s;
-  heard = [];
-  hears = λ es h. subst (λ (q : List Event). Heard l q) (sym (append-nil es)) h;
-  grows = ap (λ (l : List ℕ). events r.order l) (append-nil b) ∙ sym (append-nil (events r.order b));
-}
+abbrev Given : Type 0
+Given = Answer (Result Event Fault)
+
+-- ---- what was taken
 
 -- the bytes of a turn
-joined : (b bytes : List ℕ) (taken n used : ℕ) → used ≤ length (take n (drop taken bytes)) → (b ++ take taken bytes) ++ take used (take n (drop taken bytes)) ≡ b ++ take (taken + used) bytes
-joined b bytes taken n used le =
-    append_assoc b (take taken bytes) (take used (take n (drop taken bytes)))
-    ∙ ap (λ (l : List ℕ). b ++ (take taken bytes ++ l)) (take-take used n (drop taken bytes) (omega (arith, le, length-take n (drop taken bytes))))
-    ∙ ap (λ (l : List ℕ). b ++ l) (sym (take-add taken used bytes))
+turned : (b bytes : List ℕ) (taken n used : ℕ) → used ≤ length (take n (drop taken bytes)) → (b ++ take taken bytes) ++ take used (take n (drop taken bytes)) ≡ b ++ take (taken + used) bytes
+turned b bytes taken n used le =
+    ap (λ (l : List ℕ). (b ++ take taken bytes) ++ l) (take-take used n (drop taken bytes) (omega (arith, le, length-take n (drop taken bytes)))) ∙ joined b bytes taken used
 
--- a turn more, of which a listener hears some events
-pub took_on : (order : Order) (b bytes : List ℕ) (taken n used : ℕ) {S : Type 0} (Heard : S → List Event → Type 0) (before mid after : S) (new_heard : List Event) (r new : Reader)
-    → Took order b bytes taken (Hears Heard before mid) r → Hears Heard mid after new_heard → used ≤ length (take n (drop taken bytes))
-    → WithinUnit order ((b ++ take taken bytes) ++ take used (take n (drop taken bytes))) → StandsFor new ((b ++ take taken bytes) ++ take used (take n (drop taken bytes)))
-    → events order ((b ++ take taken bytes) ++ take used (take n (drop taken bytes))) ≡ events order (b ++ take taken bytes) ++ new_heard
-    → Took order b bytes (taken + used) (Hears Heard before after) new
-took_on order b bytes taken n used {S} Heard before mid after new_heard r new t hears le in_unit stands grows = record {
-  within = omega (arith, t.within, le, length-take n (drop taken bytes), length-drop taken bytes);
-  in_unit = subst (WithinUnit order) (joined b bytes taken n used le) in_unit;
-  stands = subst (λ (l : List ℕ). StandsFor new l) (joined b bytes taken n used le) stands;
-  heard = t.heard ++ new_heard;
-  hears = λ es h. subst (λ (q : List Event). Heard after q) (append_assoc es t.heard new_heard) (hears (es ++ t.heard) (t.hears es h));
-  grows = ap (λ (l : List ℕ). events order l) (sym (joined b bytes taken n used le)) ∙ grows ∙ ap (λ (l : List Event). l ++ new_heard) t.grows ∙ append_assoc (events order b) t.heard new_heard;
+took_none : (order : Order) (b bytes : List ℕ) → WithinUnit order b → Took order b bytes 0 []
+took_none order b bytes in_unit = record {
+  within = omega arith;
+  in_unit = subst (WithinUnit order) (sym (append-nil b)) in_unit;
+  grows = ap (λ (l : List ℕ). events order l) (append-nil b) ∙ sym (append-nil (events order b));
 }
 
--- a turn that answered an event
-pub fed_on : (order : Order) (b bytes piece : List ℕ) (taken n : ℕ) {S : Type 0} (Heard : S → List Event → Type 0) (before mid after : S) (r new : Reader) (fed : Fed) → piece ≡ take n (drop taken bytes) → r.order ≡ order
-    → Took order b bytes taken (Hears Heard before mid) r → Hears Heard mid after (told fed.event) → ((d : List ℕ) → StandsFor r d → ReaderFed r.order d piece (Ok fed) new)
-    → Took order b bytes (taken + fed.used) (Hears Heard before after) new × Sound order (b ++ take (taken + fed.used) bytes) × EventHolds order (b ++ take taken bytes) (take n (drop taken bytes)) fed.used fed.event
-fed_on order b bytes piece taken n {S} Heard before mid after r new fed is same t hears feed =
-    let d = b ++ take taken bytes in
-    let f = subst (λ (l : List ℕ). Feeds StandsFor order d l fed new) is (subst (λ (o : Order). Feeds StandsFor o d piece fed new) same (feed d t.stands)) in (
-      took_on order b bytes taken n fed.used Heard before mid after (told fed.event) r new t hears f.within f.in_unit f.stands f.grows,
-      subst (λ (l : List ℕ). Sound order l) (joined b bytes taken n fed.used f.within) f.sound,
-      f.holds,
-    )
+-- the first turn
+took_first : (order : Order) (b bytes : List ℕ) (n used : ℕ) (gave : Result Event Fault) → MayGive order b (take n bytes) used gave → Took order b bytes used (told_by gave)
+took_first order b bytes n used gave may = on gave may where
+  of_piece : (heard : List Event) → used ≤ length (take n bytes) → WithinUnit order (b ++ take used (take n bytes)) → events order (b ++ take used (take n bytes)) ≡ events order b ++ heard → Took order b bytes used heard
+  of_piece heard le in_unit grows =
+      let same : b ++ take used (take n bytes) ≡ b ++ take used bytes = ap (λ (l : List ℕ). b ++ l) (take-take used n bytes (omega (arith, le, length-take n bytes))) in
+      record { within = omega (arith, le, length-take n bytes); in_unit = subst (WithinUnit order) same in_unit; grows = ap (λ (l : List ℕ). events order l) (sym same) ∙ grows }
 
--- a turn that answered a fault
-pub failed_on : (order : Order) (b bytes piece : List ℕ) (taken n : ℕ) {S : Type 0} (Heard : S → List Event → Type 0) (before mid : S) (r new : Reader) (fault : Fault) → piece ≡ take n (drop taken bytes) → r.order ≡ order
-    → Took order b bytes taken (Hears Heard before mid) r → ((d : List ℕ) → StandsFor r d → ReaderFed r.order d piece (Err fault) new)
-    → (used : ℕ) × Took order b bytes used (Hears Heard before mid) new × Refused order (b ++ take used bytes) fault.offset fault.kind
-failed_on order b bytes piece taken n {S} Heard before mid r new fault is same t feed =
-    let d = b ++ take taken bytes in
-    let f = subst (λ (l : List ℕ). ReaderFed order d l (Err fault) new) is (subst (λ (o : Order). ReaderFed o d piece (Err fault) new) same (feed d t.stands)) in
-    let used = f.0 in
-    let fails = f.1 in (
-      taken + used,
-      took_on order b bytes taken n used Heard before mid mid [] r new t (λ es h. subst (λ (q : List Event). Heard mid q) (sym (append-nil es)) h) fails.within fails.in_unit f.2 (fails.no_event ∙ sym (append-nil (events order d))),
-      subst (λ (l : List ℕ). Refused order l fault.offset fault.kind) (joined b bytes taken n used fails.within) fails.refused,
-    )
+  on : (gave : Result Event Fault) → MayGive order b (take n bytes) used gave → Took order b bytes used (told_by gave)
+  on (Ok event) may = of_piece (told event) may.within may.in_unit may.grows
+  on (Err fault) may = of_piece [] may.within may.in_unit (may.no_event ∙ sym (append-nil (events order b)))
 
--- the whole unit
-pub whole_on : (order : Order) (b bytes : List ℕ) (taken n used : ℕ) → used ≤ length (take n (drop taken bytes)) → EventHolds order (b ++ take taken bytes) (take n (drop taken bytes)) used event.End
-    → IsUnit order (b ++ take (taken + used) bytes)
-whole_on order b bytes taken n used le holds = subst (λ (l : List ℕ). IsUnit order l) (joined b bytes taken n used le) holds.0
+-- k bytes, and then more
+took_behind : (order : Order) (b bytes : List ℕ) (k used : ℕ) (first heard : List Event) → Took order b bytes k first → Took order (b ++ take k bytes) (drop k bytes) used heard
+    → Took order b bytes (k + used) (first ++ heard)
+took_behind order b bytes k used first heard t o = record {
+  within = omega (arith, t.within, o.within, length-drop k bytes);
+  in_unit = subst (WithinUnit order) (joined b bytes k used) o.in_unit;
+  grows = ap (λ (l : List ℕ). events order l) (sym (joined b bytes k used)) ∙ o.grows ∙ ap (λ (l : List Event). l ++ heard) t.grows ∙ append_assoc (events order b) first heard;
+}
 
--- what a turn that was refused no memory used
-pub advances : (order : Order) (d piece : List ℕ) (used : ℕ) (e : Event) → (e ≡ event.End → ⊥) → (e ≡ event.NoMemory → ⊥) → EventHolds order d piece used e → (used ≡ length piece) ⊎ (1 ≤ used)
-advances order d piece used event.More goes fed holds = inl holds.0
-advances order d piece used event.End goes fed holds = absurd (goes refl)
-advances order d piece used event.NoMemory goes fed holds = absurd (fed refl)
-advances order d piece used event.Header goes fed holds = inr holds.0
-advances order d piece used (event.Foreign version) goes fed holds = inr holds.0
-advances order d piece used (event.Row row) goes fed holds = inr holds.0
+trace_took : (order : Order) (b bytes turns : List ℕ) (answers : List Given) → WithinUnit order b → IsTrace (May order) goes_on b bytes turns answers → Took order b bytes (used_in answers) (heard_in answers)
+trace_took order b bytes turns [] in_unit t = took_none order b bytes in_unit
+trace_took order b bytes turns (a ∷ answers) in_unit t =
+    let r = trace_rest (May order) goes_on b bytes turns a answers t in
+    let first = took_first order b bytes r.0 a.used a.gave r.2 in
+    subst (λ (k : ℕ). Took order b bytes k (heard_in (a ∷ answers))) (sym (used_cons a answers))
+    (took_behind order b bytes a.used (used_in answers) (told_by a.gave) (heard_in answers) first (trace_took order (b ++ take a.used bytes) (drop a.used bytes) r.1 answers first.in_unit r.3))
 
-pub moves_by : (bytes turns : List ℕ) (i taken refused used : ℕ) → i < length turns → Moves bytes (take i turns) taken refused → taken ≤ length bytes → taken + used ≤ length bytes
-    → (used ≡ length (take (slice_index_or turns i 0) (drop taken bytes))) ⊎ (1 ≤ used) → Moves bytes (take (i + 1) turns) (taken + used) refused
-moves_by bytes turns i taken refused used lt m le within (inl all) = moves_on bytes turns i taken refused used lt m le all
-moves_by bytes turns i taken refused used lt (inl all) le within (inr some) = inl (omega (arith, all, within))
-moves_by bytes turns i taken refused used lt (inr moved) le within (inr some) =
-    let more : some_turns (take (i + 1) turns) ≡ some_turns (take i turns) + min (slice_index_or turns i 0) 1 = ap some_turns (take_more turns i 0 lt) ∙ sum_by_push (λ k. min k 1) (take i turns) (slice_index_or turns i 0) in
-    inr (omega (arith, moved, more, some))
+-- ---- what the last answer says
 
--- ---- a unit in turns
+module _ (order : Order) (b bytes turns : List ℕ) (first : Result Event Fault) (a : Given) (answers : List Given) (t : IsTrace (May order) goes_on b bytes turns (a ∷ answers)) where
+  last : LastTurn (May order) goes_on b bytes (a ∷ answers) first
+  last = last_turn (May order) goes_on b bytes turns a answers first t
+
+  -- the last turn gave this
+  given : (gave : Result Event Fault) → last_given first (a ∷ answers) ≡ gave → MayGive order (b ++ take last.behind bytes) (take last.n (drop last.behind bytes)) last.answer.used gave
+  given gave is = subst (λ (g : Result Event Fault). MayGive order (b ++ take last.behind bytes) (take last.n (drop last.behind bytes)) last.answer.used g) (sym last.is_last ∙ is) last.may
+
+  -- all that was taken
+  all : last.answer.used ≤ length (take last.n (drop last.behind bytes)) → (b ++ take last.behind bytes) ++ take last.answer.used (take last.n (drop last.behind bytes)) ≡ b ++ take (used_in (a ∷ answers)) bytes
+  all le = turned b bytes last.behind last.n last.answer.used le ∙ ap (λ (k : ℕ). b ++ take k bytes) (sym last.total)
+
+  pub last_sound : (event : Event) → last_given first (a ∷ answers) ≡ Ok event → Sound order (b ++ take (used_in (a ∷ answers)) bytes)
+  last_sound event is = (let g = given (Ok event) is in subst (λ (l : List ℕ). Sound order l) (all g.within) g.sound)
+
+  pub last_whole : last_given first (a ∷ answers) ≡ Ok event.End → IsUnit order (b ++ take (used_in (a ∷ answers)) bytes)
+  last_whole is = (let g = given (Ok event.End) is in subst (λ (l : List ℕ). IsUnit order l) (all g.within) g.holds.0)
+
+  pub last_refused : (fault : Fault) → last_given first (a ∷ answers) ≡ Err fault → Refused order (b ++ take (used_in (a ∷ answers)) bytes) fault.offset fault.kind
+  last_refused fault is = (let g = given (Err fault) is in subst (λ (l : List ℕ). Refused order l fault.offset fault.kind) (all g.within) g.refused)
+
+-- ---- how far turns go
+
+-- what an answer that others follow used
+advances : (order : Order) (d piece : List ℕ) (used : ℕ) (e : Event) → goes_on (Ok e) ≡ true → EventHolds order d piece used e → (used ≡ length piece) ⊎ (1 ≤ used + cond (is_refusal (Ok e)) 1 0)
+advances order d piece used event.More goes holds = inl holds.0
+advances order d piece used event.End goes holds = absurd cc
+advances order d piece used event.NoMemory goes holds = inr (omega arith)
+advances order d piece used event.Header goes holds = inr (omega (arith, holds.0))
+advances order d piece used (event.Foreign version) goes holds = inr (omega (arith, holds.0))
+advances order d piece used (event.Row row) goes holds = inr (omega (arith, holds.0))
 
 -- a turn that leaves a unit whole, and doesn't tell its end, offered a byte
-unit_advances : (order : Order) (d piece : List ℕ) (used : ℕ) (e : Event) → (e ≡ event.End → ⊥) → EventHolds order d piece used e → IsUnit order (d ++ take used piece) → used ≤ length piece → 1 ≤ length piece
+unit_advances : (order : Order) (d piece : List ℕ) (used : ℕ) (e : Event) → goes_on (Ok e) ≡ true → EventHolds order d piece used e → IsUnit order (d ++ take used piece) → used ≤ length piece → 1 ≤ length piece
 unit_advances order d piece used event.More goes holds unit le = (let some = holds.1 unit in omega (arith, some, le))
-unit_advances order d piece used event.End goes holds unit le = absurd (goes refl)
+unit_advances order d piece used event.End goes holds unit le = absurd cc
 unit_advances order d piece used event.NoMemory goes holds unit le = some_piece piece holds.1 where
   some_piece : (w : List ℕ) → slice_get w used ≡ Some holds.0 → 1 ≤ length w
   some_piece [] e = absurd (none_some {a = holds.0} refl e)
@@ -119,6 +118,143 @@ unit_advances order d piece used event.NoMemory goes holds unit le = some_piece 
 unit_advances order d piece used event.Header goes holds unit le = omega (arith, holds.0, le)
 unit_advances order d piece used (event.Foreign version) goes holds unit le = omega (arith, holds.0, le)
 unit_advances order d piece used (event.Row row) goes holds unit le = omega (arith, holds.0, le)
+
+-- how a turn that others follow advances
+module _ (order : Order) (b bytes : List ℕ) (n used : ℕ) where
+  pub first_advances : (gave : Result Event Fault) → goes_on gave ≡ true → MayGive order b (take n bytes) used gave → (used ≡ length (take n bytes)) ⊎ (1 ≤ used + cond (is_refusal gave) 1 0)
+  first_advances (Ok e) goes may = advances order b (take n bytes) used e goes may.holds
+  first_advances (Err fault) goes may = absurd cc
+
+  -- it offered a byte, where the bytes are a unit behind it
+  pub first_offers : (gave : Result Event Fault) → goes_on gave ≡ true → MayGive order b (take n bytes) used gave → IsUnit order (b ++ take used bytes) → 1 ≤ length (take n bytes)
+  first_offers (Ok e) goes may unit =
+      let same : take used (take n bytes) ≡ take used bytes = take-take used n bytes (omega (arith, may.within, length-take n bytes)) in
+      unit_advances order b (take n bytes) used e goes may.holds (subst (λ (l : List ℕ). IsUnit order (b ++ l)) (sym same) unit) may.within
+  first_offers (Err fault) goes may unit = absurd cc
+
+refusals_cons : (a : Given) (answers : List Given) → refusals (a ∷ answers) ≡ cond (is_refusal a.gave) 1 0 + refusals answers
+refusals_cons a answers = sum_by-cons (λ (c : Given). cond (is_refusal c.gave) 1 0) a answers
+
+trace_moves : (order : Order) (b bytes turns : List ℕ) (answers : List Given) (first : Result Event Fault) → WithinUnit order b → IsTrace (May order) goes_on b bytes turns answers
+    → goes_on (last_given first answers) ≡ true → Moves bytes turns (used_in answers) (refusals answers)
+trace_moves order b bytes [] answers first in_unit t goes = inr (omega arith)
+trace_moves order b bytes (n ∷ turns) [] first in_unit t goes = absurd t
+trace_moves order b bytes (n ∷ turns) (a ∷ answers) first in_unit t goes =
+    let is = goes_first goes_on a answers t.1 goes in
+    let here = took_first order b bytes n a.used a.gave t.0 in
+    let later = trace_took order (b ++ take a.used bytes) (drop a.used bytes) turns answers here.in_unit (t.2 is) in
+    subst (λ (k : ℕ). Moves bytes (n ∷ turns) k (refusals (a ∷ answers))) (sym (used_cons a answers))
+    (subst (λ (k : ℕ). Moves bytes (n ∷ turns) (a.used + used_in answers) k) (sym (refusals_cons a answers))
+    (moves_first bytes turns n a.used (cond (is_refusal a.gave) 1 0) (used_in answers) (refusals answers) (used_of a.gave t.0) (first_advances order b bytes n a.used a.gave is t.0) later.within
+    (trace_moves order (b ++ take a.used bytes) (drop a.used bytes) turns answers a.gave here.in_unit (t.2 is) goes)))
+  where
+    used_of : (gave : Result Event Fault) → MayGive order b (take n bytes) a.used gave → a.used ≤ length (take n bytes)
+    used_of (Ok e) may = may.within
+    used_of (Err fault) may = may.within
+
+-- the first of turns over bytes that are a unit when all of them are answered
+module _ (order : Order) (b bytes turns : List ℕ) (n : ℕ) (a : Given) (answers : List Given) (in_unit : WithinUnit order b) (may : May order b (take n bytes) a) (is : goes_on a.gave ≡ true)
+    (t : IsTrace (May order) goes_on (b ++ take a.used bytes) (drop a.used bytes) turns answers) (unit : IsUnit order (b ++ take (used_in (a ∷ answers)) bytes)) where
+  first_took : Took order b bytes a.used (told_by a.gave)
+  first_took = took_first order b bytes n a.used a.gave may
+
+  pub unit_behind : IsUnit order ((b ++ take a.used bytes) ++ take (used_in answers) (drop a.used bytes))
+  unit_behind = subst (λ (l : List ℕ). IsUnit order l) (ap (λ (k : ℕ). b ++ take k bytes) (used_cons a answers) ∙ sym (joined b bytes a.used (used_in answers))) unit
+
+  -- no bytes are left where it used none
+  pub advanced : min n 1 ≤ a.used + cond (is_refusal a.gave) 1 0
+  advanced = elim (first_advances order b bytes n a.used a.gave is may) [
+    | inr some ↦ omega (arith, some)
+    | inl all ↦ elim (cases_eq a.used 0) [
+      | inr some ↦ omega (arith, some)
+      | inl none ↦ elim (cases_eq (length bytes) 0) [
+        | inr bytes_left ↦ omega (arith, all, none, bytes_left, length-take n bytes)
+        | inl no_bytes ↦
+            let later = trace_took order (b ++ take a.used bytes) (drop a.used bytes) turns answers first_took.in_unit t in
+            let nothing : used_in answers ≡ 0 = omega (arith, later.within, length-drop a.used bytes, no_bytes) in
+            let same : (b ++ take a.used bytes) ++ take (used_in answers) (drop a.used bytes) ≡ b ++ take a.used bytes =
+            ap (λ (k : ℕ). (b ++ take a.used bytes) ++ take k (drop a.used bytes)) nothing ∙ append-nil (b ++ take a.used bytes) in
+            let offered = first_offers order b bytes n a.used a.gave is may (subst (λ (l : List ℕ). IsUnit order l) same unit_behind) in
+            absurd (omega (arith, all, none, offered))
+      ]
+    ]
+  ]
+
+-- each turn that offered anything took a byte or was refused memory, where the unit is whole and its end isn't told
+trace_moves_in : (order : Order) (b bytes turns : List ℕ) (answers : List Given) (first : Result Event Fault) → WithinUnit order b → IsTrace (May order) goes_on b bytes turns answers
+    → goes_on (last_given first answers) ≡ true → IsUnit order (b ++ take (used_in answers) bytes) → some_turns turns ≤ used_in answers + refusals answers
+trace_moves_in order b bytes [] answers first in_unit t goes unit = omega arith
+trace_moves_in order b bytes (n ∷ turns) [] first in_unit t goes unit = absurd t
+trace_moves_in order b bytes (n ∷ turns) (a ∷ answers) first in_unit t goes unit =
+    let is = goes_first goes_on a answers t.1 goes in
+    let here = took_first order b bytes n a.used a.gave t.0 in
+    let behind = trace_moves_in order (b ++ take a.used bytes) (drop a.used bytes) turns answers a.gave here.in_unit (t.2 is) goes (unit_behind order b bytes turns n a answers in_unit t.0 is (t.2 is) unit) in
+    omega (arith, used_cons a answers, refusals_cons a answers, sum_by-cons (λ k. min k 1) n turns, advanced order b bytes turns n a answers in_unit t.0 is (t.2 is) unit, behind)
+
+-- ---- what a trace comes to
+
+-- neither End nor want of memory
+pub other_event : (e : Event) → (e ≡ event.End → ⊥) → (e ≡ event.NoMemory → ⊥) → (goes_on (Ok e) ≡ true) × (is_refusal (Ok e) ≡ false)
+other_event event.More goes fed = (refl, refl)
+other_event event.End goes fed = absurd (goes refl)
+other_event event.NoMemory goes fed = absurd (fed refl)
+other_event event.Header goes fed = (refl, refl)
+other_event (event.Foreign version) goes fed = (refl, refl)
+other_event (event.Row row) goes fed = (refl, refl)
+
+going_event : (e : Event) → is_end e ≡ false → goes_on (Ok e) ≡ true
+going_event event.More goes = refl
+going_event event.End goes = absurd cc
+going_event event.NoMemory goes = refl
+going_event event.Header goes = refl
+going_event (event.Foreign version) goes = refl
+going_event (event.Row row) goes = refl
+
+end_event : (e : Event) → is_end e ≡ true → e ≡ event.End
+end_event event.More ends = absurd cc
+end_event event.End ends = refl
+end_event event.NoMemory ends = absurd cc
+end_event event.Header ends = absurd cc
+end_event (event.Foreign version) ends = absurd cc
+end_event (event.Row row) ends = absurd cc
+
+module _ (order : Order) (b bytes turns : List ℕ) where
+  runs_to : (answers : List Given) (gave : Result Event Fault) → WithinUnit order b → IsTrace (May order) goes_on b bytes turns answers → last_given (Ok event.More) answers ≡ gave
+      → RunIs order b bytes turns (heard_in answers) (outcome answers gave)
+  runs_to [] (Ok e) in_unit t is = record {
+    took = took_none order b bytes in_unit;
+    sound = λ some. absurd (no_turns turns t some);
+    whole = λ ends. absurd (goes_yet e is ends);
+    moved = λ goes. trace_moves order b bytes turns [] (Ok event.More) in_unit t refl;
+  } where
+    no_turns : (turns : List ℕ) → IsTrace (May order) goes_on b bytes turns [] → 1 ≤ length turns → ⊥
+    no_turns [] t some = omega (arith, some)
+    no_turns (n ∷ turns) t some = t
+
+    goes_yet : (e : Event) → ◌≡◌ {A = Result Event Fault} (Ok event.More) (Ok e) → is_end e ≡ true → ⊥
+    goes_yet event.More is ends = absurd cc
+    goes_yet event.End is ends = absurd cc
+    goes_yet event.NoMemory is ends = absurd cc
+    goes_yet event.Header is ends = absurd cc
+    goes_yet (event.Foreign version) is ends = absurd cc
+    goes_yet (event.Row row) is ends = absurd cc
+  runs_to [] (Err fault) in_unit t is = absurd cc
+  runs_to (a ∷ answers) (Ok e) in_unit t is = record {
+    took = trace_took order b bytes turns (a ∷ answers) in_unit t;
+    sound = λ some. last_sound order b bytes turns (Ok event.More) a answers t e is;
+    whole = λ ends. last_whole order b bytes turns (Ok event.More) a answers t (is ∙ ap (λ (e : Event). Ok e) (end_event e ends));
+    moved = λ goes. trace_moves order b bytes turns (a ∷ answers) (Ok event.More) in_unit t (ap goes_on is ∙ going_event e goes);
+  }
+  runs_to (a ∷ answers) (Err fault) in_unit t is = (
+    used_in (a ∷ answers),
+    trace_took order b bytes turns (a ∷ answers) in_unit t,
+    last_refused order b bytes turns (Ok event.More) a answers t fault is,
+  )
+
+pub trace_runs : TraceRuns
+trace_runs order b bytes turns answers in_unit t = runs_to order b bytes turns answers (last_given (Ok event.More) answers) in_unit t refl
+
+-- ---- a unit in turns
 
 -- of a unit and any bytes behind it, what is taken is a front of the unit
 unit_front : (order : Order) (c u more rest : List ℕ) → c ++ more ≡ u ++ rest → IsUnit order u → WithinUnit order c → (v : List ℕ) × (u ≡ c ++ v)
@@ -137,43 +273,13 @@ taken_front order b bytes u rest taken e unit within =
     unit_front order (b ++ take taken bytes) u (drop taken bytes) rest
     (append_assoc b (take taken bytes) (drop taken bytes) ∙ ap (λ (w : List ℕ). b ++ w) (take-append-drop taken bytes) ∙ e) unit within
 
-pub no_fault : (order : Order) (b bytes u rest : List ℕ) (Hears : List Event → Type 0) (new : Reader) (fault : Fault) → b ++ bytes ≡ u ++ rest → IsUnit order u
-    → (used : ℕ) × Took order b bytes used Hears new × Refused order (b ++ take used bytes) fault.offset fault.kind → ⊥
-no_fault order b bytes u rest Hears new fault e unit r =
+no_fault : (order : Order) (b bytes u rest : List ℕ) (heard : List Event) (fault : Fault) → b ++ bytes ≡ u ++ rest → IsUnit order u
+    → (used : ℕ) × Took order b bytes used heard × Refused order (b ++ take used bytes) fault.offset fault.kind → ⊥
+no_fault order b bytes u rest heard fault e unit r =
     let f = taken_front order b bytes u rest r.0 e unit r.1.in_unit in unit_is_not_refused order u unit (b ++ take r.0 bytes) f.0 fault.offset fault.kind f.1 r.2
 
--- each turn that offered anything took a byte or was refused memory, where the unit is whole and its end isn't told
-abbrev pub MovesIn : Order → List ℕ → List ℕ → List ℕ → ℕ → ℕ → Type 0
-MovesIn order b bytes turns taken refused = IsUnit order (b ++ take taken bytes) → some_turns turns ≤ taken + refused
-
-pub moves_in : (order : Order) (b bytes turns : List ℕ) (i taken refused used after : ℕ) (e : Event) → i < length turns → Moves bytes (take i turns) taken refused → (e ≡ event.End → ⊥)
-    → used ≤ length (take (slice_index_or turns i 0) (drop taken bytes)) → EventHolds order (b ++ take taken bytes) (take (slice_index_or turns i 0) (drop taken bytes)) used e
-    → ((e ≡ event.NoMemory → ⊥) × (after ≡ refused)) ⊎ (after ≡ refused + 1) → MovesIn order b bytes (take (i + 1) turns) (taken + used) after
-moves_in order b bytes turns i taken refused used after e lt m goes le holds fed unit = on m where
-  n : ℕ
-  n = slice_index_or turns i 0
-
-  more : some_turns (take (i + 1) turns) ≡ some_turns (take i turns) + min n 1
-  more = ap some_turns (take_more turns i 0 lt) ∙ sum_by_push (λ k. min k 1) (take i turns) n
-
-  some : 1 ≤ length (take n (drop taken bytes))
-  some = unit_advances order (b ++ take taken bytes) (take n (drop taken bytes)) used e goes holds (subst (IsUnit order) (sym (joined b bytes taken n used le)) unit) le
-
-  counted : 1 + refused ≤ used + after
-  counted = elim fed [
-    | inl other ↦ elim (advances order (b ++ take taken bytes) (take n (drop taken bytes)) used e goes other.0 holds) [
-      | inl all ↦ omega (arith, all, some, other.1)
-      | inr one ↦ omega (arith, one, other.1)
-    ]
-    | inr same ↦ omega (arith, same)
-  ]
-
-  on : Moves bytes (take i turns) taken refused → some_turns (take (i + 1) turns) ≤ taken + used + after
-  on (inl all) = absurd (omega (arith, all, some, length-take n (drop taken bytes), length-drop taken bytes))
-  on (inr moved) = omega (arith, moved, more, counted)
-
-module _ (order : Order) (b bytes turns u rest : List ℕ) (Hears : List Event → Type 0) (run : Run) (new : Reader) (e : b ++ bytes ≡ u ++ rest) (unit : IsUnit order u)
-    (r : Runs order b bytes turns Hears run new) (moves : run.ended ≡ false → MovesIn order b bytes turns run.taken run.refused) where
+module _ (order : Order) (b bytes turns u rest : List ℕ) (heard : List Event) (run : Run) (e : b ++ bytes ≡ u ++ rest) (unit : IsUnit order u)
+    (r : Runs order b bytes turns heard run) (moves : run.ended ≡ false → IsUnit order (b ++ take run.taken bytes) → some_turns turns ≤ run.taken + run.refused) where
   front : (v : List ℕ) × (u ≡ (b ++ take run.taken bytes) ++ v)
   front = taken_front order b bytes u rest run.taken e unit r.took.in_unit
 
@@ -189,14 +295,12 @@ module _ (order : Order) (b bytes turns u rest : List ℕ) (Hears : List Event �
     | inr some ↦ omega (arith, some, enough, size)
   ]
 
-  took_unit : length front.0 ≡ 0 → TookUnit order b bytes u run.taken Hears
+  took_unit : length front.0 ≡ 0 → TookUnit order b bytes u run.taken heard
   took_unit none =
       let same : b ++ take run.taken bytes ≡ u = sym (append-nil (b ++ take run.taken bytes)) ∙ ap (λ (w : List ℕ). (b ++ take run.taken bytes) ++ w) (sym (nothing_left front.0 none)) ∙ sym front.1 in
       record {
         count = omega (arith, size, none);
         is = same;
-        heard = r.took.heard;
-        hears = r.took.hears;
         grows = ap (events order) (sym same) ∙ r.took.grows;
       }
 
@@ -207,9 +311,179 @@ module _ (order : Order) (b bytes turns u rest : List ℕ) (Hears : List Event �
       let moved = moves is (subst (IsUnit order) (sym t.is) unit) in
       absurd (omega (arith, moved, more, t.count))
 
-  pub unit_runs : UnitRuns order b bytes turns u Hears run
+  pub unit_runs : UnitRuns order b bytes turns u heard run
   unit_runs = record {
     within = omega (arith, size);
     whole = λ k. took_unit (none_left run.ended refl k);
     ended = λ more. told_end run.ended refl more;
   }
+
+unit_run : (order : Order) (b bytes turns u rest : List ℕ) (answers : List Given) (gave : Result Event Fault) → WithinUnit order b → IsTrace (May order) goes_on b bytes turns answers
+    → b ++ bytes ≡ u ++ rest → IsUnit order u → last_given (Ok event.More) answers ≡ gave → RunIs order b bytes turns (heard_in answers) (outcome answers gave)
+    → UnitRunIs order b bytes turns u (heard_in answers) (outcome answers gave)
+unit_run order b bytes turns u rest answers (Ok told) in_unit t e unit is r =
+    unit_runs order b bytes turns u rest (heard_in answers) (record { taken = used_in answers; refused = refusals answers; ended = is_end told }) e unit r (λ goes. trace_moves_in order b bytes turns answers (Ok event.More) in_unit t (ap goes_on is ∙ going_event told goes))
+unit_run order b bytes turns u rest answers (Err fault) in_unit t e unit is r = no_fault order b bytes u rest (heard_in answers) fault e unit r
+
+pub trace_of_unit : TraceOfUnit
+trace_of_unit order b bytes turns u rest answers in_unit t e unit =
+    unit_run order b bytes turns u rest answers (last_given (Ok event.More) answers) in_unit t e unit refl (trace_runs order b bytes turns answers in_unit t)
+
+-- ---- the loop
+
+-- the turns so far, which others follow
+pub record Going {S : Type 0} (Heard : S → List Event → Type 0) (order : Order) (b bytes turns : List ℕ) (run : Run) (before now : S) (r : Reader) : Type 0 where
+  pub answers : List Given
+  pub trace : IsTrace (May order) goes_on b bytes turns answers
+  pub goes : goes_on (last_given (Ok event.More) answers) ≡ true
+  pub run_is : run ≡ record { taken = used_in answers; refused = refusals answers; ended = false }
+  pub hears : Hears Heard before now (heard_in answers)
+  pub stands : StandsFor r (b ++ take (used_in answers) bytes)
+
+pub hears_none : {S : Type 0} (Heard : S → List Event → Type 0) (l : S) → Hears Heard l l []
+hears_none {S} Heard l = λ es h. subst (λ (q : List Event). Heard l q) (sym (append-nil es)) h
+
+pub going_none : {S : Type 0} (Heard : S → List Event → Type 0) (b bytes : List ℕ) (l : S) (r : Reader) → StandsFor r b
+    → Going Heard r.order b bytes [] (record { taken = 0; refused = 0; ended = false }) l l r
+going_none {S} Heard b bytes l r s = record {
+  answers = [];
+  trace = refl;
+  goes = refl;
+  run_is = refl;
+  hears = hears_none Heard l;
+  stands = subst (λ (l : List ℕ). StandsFor r l) (sym (append-nil b)) s;
+}
+
+pub hears_on : {S : Type 0} (Heard : S → List Event → Type 0) (before mid after : S) (heard more : List Event) → Hears Heard before mid heard → Hears Heard mid after more → Hears Heard before after (heard ++ more)
+hears_on {S} Heard before mid after heard more first then = λ es h. subst (λ (q : List Event). Heard after q) (append_assoc es heard more) (then (es ++ heard) (first es h))
+
+-- one turn more
+module _ {S : Type 0} (Heard : S → List Event → Type 0) (order : Order) (b bytes turns : List ℕ) (i : ℕ) (run : Run) (before now after : S) (r new : Reader) (piece : List ℕ)
+    (lt : i < length turns) (g : Going Heard order b bytes (take i turns) run before now r) (same : r.order ≡ order) (is : piece ≡ take (slice_index_or turns i 0) (drop run.taken bytes)) where
+  abbrev pub n : ℕ
+  n = slice_index_or turns i 0
+
+  abbrev pub d : List ℕ
+  d = b ++ take (used_in g.answers) bytes
+
+  piece_is : piece ≡ take n (drop (used_in g.answers) bytes)
+  piece_is = is ∙ ap (λ (r : Run). take n (drop r.taken bytes)) g.run_is
+
+  -- what was answered, the reader standing for what was taken in it
+  module _ (used : ℕ) (gave : Result Event Fault) (may : MayGive order d piece used gave) (le : used ≤ length piece) (stands : StandsFor new (d ++ take used piece)) (hears : Hears Heard now after (told_by gave)) where
+    abbrev given_now : Given
+    given_now = record { used = used; gave = gave }
+
+    abbrev answers_now : List Given
+    answers_now = g.answers ++ given_now ∷ []
+
+    may_here : May order d (take n (drop (used_in g.answers) bytes)) given_now
+    may_here = subst (λ (l : List ℕ). MayGive order d l used gave) piece_is may
+
+    used_now : used_in answers_now ≡ used_in g.answers + used
+    used_now = sum_by_push (λ (a : Given). a.used) g.answers given_now
+
+    refused_now : refusals answers_now ≡ refusals g.answers + cond (is_refusal gave) 1 0
+    refused_now = sum_by_push (λ (a : Given). cond (is_refusal a.gave) 1 0) g.answers given_now
+
+    last_now : last_given (Ok event.More) answers_now ≡ gave
+    last_now = last_of_push (Ok event.More) g.answers given_now
+
+    hears_now : Hears Heard before after (heard_in answers_now)
+    hears_now =
+        let more : heard_in answers_now ≡ heard_in g.answers ++ told_by gave = flat_map-append (λ (a : Given). told_by a.gave) g.answers (given_now ∷ []) ∙ ap (λ (l : List Event). heard_in g.answers ++ l) (append-nil (told_by gave)) in
+        subst (λ (l : List Event). Hears Heard before after l) (sym more) (hears_on Heard before now after (heard_in g.answers) (told_by gave) g.hears hears)
+
+    stands_now : StandsFor new (b ++ take (used_in answers_now) bytes)
+    stands_now =
+        let taken : d ++ take used piece ≡ b ++ take (used_in g.answers + used) bytes =
+        ap (λ (l : List ℕ). d ++ take used l) piece_is ∙ turned b bytes (used_in g.answers) n used (subst (λ (l : List ℕ). used ≤ length l) piece_is le) in
+        subst (λ (l : List ℕ). StandsFor new l) (taken ∙ ap (λ (k : ℕ). b ++ take k bytes) (sym used_now)) stands
+
+    pub goes_to : (next : Run) (more : ℕ) → next ≡ record { taken = run.taken + used; refused = more; ended = false } → more ≡ run.refused + cond (is_refusal gave) 1 0 → goes_on gave ≡ true
+        → Going Heard order b bytes (take (i + 1) turns) next before after new
+    goes_to next more next_is counted goes = record {
+      answers = answers_now;
+      trace = trace_more (May order) goes_on b bytes turns i g.answers given_now (Ok event.More) lt g.trace g.goes may_here;
+      goes = ap goes_on last_now ∙ goes;
+      run_is =
+          next_is
+          ∙ ap (λ (k : ℕ). record { taken = k; refused = more; ended = false }) (ap (λ (r : Run). r.taken + used) g.run_is ∙ sym used_now)
+          ∙ ap (λ (k : ℕ). record { taken = used_in answers_now; refused = k; ended = false }) (counted ∙ ap (λ (r : Run). r.refused + cond (is_refusal gave) 1 0) g.run_is ∙ sym refused_now);
+      hears = hears_now;
+      stands = stands_now;
+    }
+
+    pub ends_with : (result : Result Run Fault) → result ≡ outcome answers_now gave → goes_on gave ≡ false → Traced order b bytes turns (Hears Heard before after) result new
+    ends_with result is_outcome ends = record {
+      answers = answers_now;
+      trace = trace_last (May order) goes_on b bytes turns i g.answers given_now (Ok event.More) lt g.trace g.goes may_here ends;
+      result_is = is_outcome ∙ ap (λ (g : Result Event Fault). outcome answers_now g) (sym last_now);
+      hears = hears_now;
+      stands = stands_now;
+    }
+
+  -- by what the reader answered
+  module _ (fed : Fed) (feed : (d : List ℕ) → StandsFor r d → ReaderFed r.order d piece (Ok fed) new) (hears : Hears Heard now after (told fed.event)) where
+    fed_here : ReaderFed order d piece (Ok fed) new
+    fed_here = subst (λ (o : Order). ReaderFed o d piece (Ok fed) new) same (feed d g.stands)
+
+    pub going_on : (next : Run) (more : ℕ) → next ≡ record { taken = run.taken + fed.used; refused = more; ended = false } → more ≡ run.refused + cond (is_refusal (Ok fed.event)) 1 0
+        → goes_on (Ok fed.event) ≡ true → Going Heard order b bytes (take (i + 1) turns) next before after new
+    going_on next more next_is counted goes = goes_to fed.used (Ok fed.event) fed_here.answered fed_here.answered.within fed_here.stands hears next more next_is counted goes
+
+    abbrev behind : List Given
+    behind = g.answers ++ (record { used = fed.used; gave = Ok fed.event }) ∷ []
+
+    taken_now : used_in behind ≡ used_in g.answers + fed.used
+    taken_now = sum_by_push (λ (a : Given). a.used) g.answers (record { used = fed.used; gave = Ok fed.event })
+
+    refusals_now : fed.event ≡ event.End → refusals behind ≡ refusals g.answers
+    refusals_now ends =
+        sum_by_push (λ (a : Given). cond (is_refusal a.gave) 1 0) g.answers (record { used = fed.used; gave = Ok fed.event })
+        ∙ ap (λ (e : Event). refusals g.answers + cond (is_refusal (Ok e)) 1 0) ends ∙ omega arith
+
+    pub traced_end : fed.event ≡ event.End → Traced order b bytes turns (Hears Heard before after) (Ok (record { taken = run.taken + fed.used; refused = run.refused; ended = true })) new
+    traced_end ends = ends_with fed.used (Ok fed.event) fed_here.answered fed_here.answered.within fed_here.stands hears _
+        (ap {B = Result Run Fault} (λ (k : ℕ). Ok (record { taken = k; refused = run.refused; ended = true })) (ap (λ (r : Run). r.taken + fed.used) g.run_is ∙ sym taken_now)
+        ∙ ap {B = Result Run Fault} (λ (k : ℕ). Ok (record { taken = used_in behind; refused = k; ended = true })) (ap (λ (r : Run). r.refused) g.run_is ∙ sym (refusals_now ends))
+        ∙ ap {B = Result Run Fault} (λ (v : Bool). Ok (record { taken = used_in behind; refused = refusals behind; ended = v })) (sym (ap is_end ends)))
+        (ap (λ (e : Event). goes_on (Ok e)) ends)
+
+  pub traced_fault : (fault : Fault) → ((d : List ℕ) → StandsFor r d → ReaderFed r.order d piece (Err fault) new) → Hears Heard now after [] → Traced order b bytes turns (Hears Heard before after) (Err fault) new
+  traced_fault fault feed hears =
+      let f = subst (λ (o : Order). ReaderFed o d piece (Err fault) new) same (feed d g.stands) in
+      ends_with f.0 (Err fault) f.1 f.1.within f.2 hears (Err fault) refl refl
+
+pub traced_all : {S : Type 0} (Heard : S → List Event → Type 0) (order : Order) (b bytes turns : List ℕ) (i : ℕ) (run : Run) (before now : S) (r : Reader) → length turns ≤ i
+    → Going Heard order b bytes (take i turns) run before now r → Traced order b bytes turns (Hears Heard before now) (Ok run) r
+traced_all {S} Heard order b bytes turns i run before now r le g = record {
+  answers = g.answers;
+  trace = subst (λ (l : List ℕ). IsTrace (May order) goes_on b bytes l g.answers) (take_all i turns le) g.trace;
+  result_is = ap (λ (r : Run). Ok r) g.run_is ∙ not_ended g.answers (last_given (Ok event.More) g.answers) g.goes;
+  hears = g.hears;
+  stands = g.stands;
+} where
+  not_ended : (answers : List Given) (gave : Result Event Fault) → goes_on gave ≡ true → Ok (record { taken = used_in answers; refused = refusals answers; ended = false }) ≡ outcome answers gave
+  not_ended answers (Ok event.More) goes = refl
+  not_ended answers (Ok event.End) goes = absurd cc
+  not_ended answers (Ok event.NoMemory) goes = refl
+  not_ended answers (Ok event.Header) goes = refl
+  not_ended answers (Ok (event.Foreign version)) goes = refl
+  not_ended answers (Ok (event.Row row)) goes = refl
+  not_ended answers (Err fault) goes = absurd cc
+
+-- what a reader that stands for b makes of a trace
+module _ (r : Reader) (b bytes turns : List ℕ) (stands : StandsFor r b) (Heard : List Event → Type 0) (result : Result Run Fault) (new : Reader) (t : Traced r.order b bytes turns Heard result new) where
+  in_unit : WithinUnit r.order b
+  in_unit = within_here r b r.fault stands.order stands.at
+
+  pub runs_of : (heard : List Event) × Heard heard × RunIs r.order b bytes turns heard result
+  runs_of = (heard_in t.answers, t.hears, subst (λ (o : Result Run Fault). RunIs r.order b bytes turns (heard_in t.answers) o) (sym t.result_is) (trace_runs r.order b bytes turns t.answers in_unit t.trace))
+
+  pub unit_of : (u rest : List ℕ) → b ++ bytes ≡ u ++ rest → IsUnit r.order u → (heard : List Event) × Heard heard × UnitRunIs r.order b bytes turns u heard result
+  unit_of u rest e unit = (
+    heard_in t.answers,
+    t.hears,
+    subst (λ (o : Result Run Fault). UnitRunIs r.order b bytes turns u (heard_in t.answers) o) (sym t.result_is) (trace_of_unit r.order b bytes turns u rest t.answers in_unit t.trace e unit),
+  )

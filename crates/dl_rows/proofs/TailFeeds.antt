@@ -80,12 +80,14 @@ some_bytes order h t (x ∷ b) is = omega arith
 feeds_with : {S : Type 0} (StandsFor : S → List ℕ → Type 0) (order : Order) (b piece u : List ℕ) (s : S) (fed : Fed) (e : Event) → take fed.used piece ≡ u → fed.used ≤ length piece → fed.event ≡ e
     → StandsFor s (b ++ u) → events order (b ++ u) ≡ events order b ++ told e → EventHolds order b piece fed.used e → NoneRefused order (b ++ u) → WithinUnit order (b ++ u) → Feeds StandsFor order b piece fed s
 feeds_with StandsFor order b piece u s fed e same le is stands grows holds sound in_unit = record {
-  within = le;
-  in_unit = subst (λ (w : List ℕ). WithinUnit order (b ++ w)) (sym same) in_unit;
+  answered = record {
+    within = le;
+    in_unit = subst (λ (w : List ℕ). WithinUnit order (b ++ w)) (sym same) in_unit;
+    grows = ap (λ (w : List ℕ). events order (b ++ w)) same ∙ grows ∙ ap (λ (x : Event). events order b ++ told x) (sym is);
+    holds = subst (λ (x : Event). EventHolds order b piece fed.used x) (sym is) holds;
+    sound = subst (λ (w : List ℕ). NoneRefused order (b ++ w)) (sym same) sound;
+  };
   stands = subst (λ (w : List ℕ). StandsFor s (b ++ w)) (sym same) stands;
-  grows = ap (λ (w : List ℕ). events order (b ++ w)) same ∙ grows ∙ ap (λ (x : Event). events order b ++ told x) (sym is);
-  holds = subst (λ (x : Event). EventHolds order b piece fed.used x) (sym is) holds;
-  sound = subst (λ (w : List ℕ). NoneRefused order (b ++ w)) (sym same) sound;
 }
 
 -- a pause, where the events stay the same and nothing is refused

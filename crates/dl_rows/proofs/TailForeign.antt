@@ -1,11 +1,9 @@
 -- A reader of a unit of another version.
-use Rattle.std.proofs.Common.{◌≡◌, ℕ, ◌+◌, ◌-◌, ◌^◌, ◌≤◌, inl, List, [], ◌∷◌, ◌++◌, length, take, min, Option, Some, None, refl, sym, ap, ◌∙◌, arith, append-nil, length-take}
+use Rattle.std.proofs.Common.{◌≡◌, ℕ, ◌+◌, ◌-◌, ◌^◌, ◌≤◌, inl, List, [], ◌∷◌, ◌++◌, length, take, min, Option, Some, None, refl, sym, ap, ◌∙◌, arith, length-take}
 use Rattle.dl_num.specs.declared.fixed.Order.{Order}
-use Rattle.dl_head.specs.Layout.{Layout, foreign_version, Item, following_all, header_layout}
-use Rattle.dl_head.specs.Header.{Cut, cut_after, cut, foreign_made, foreign_in, header_in}
+use Rattle.dl_head.specs.Header.{foreign_in, header_in}
 use Rattle.dl_head.proofs.FieldLemmas.{none_some}
-use Rattle.dl_head.proofs.CutLemmas.{cut-append}
-use Rattle.dl_head.proofs.RefusalLaws.{foreign_last}
+use Rattle.dl_head.proofs.ForeignLemmas.{foreign_on}
 use Rattle.dl_rows.specs.declared.reader.Fed.{Fed}
 use Rattle.dl_rows.specs.declared.tail.Tail.{Tail}
 use Rattle.dl_rows.specs.LineUnit.{events_of, events}
@@ -15,22 +13,6 @@ use Rattle.dl_rows.proofs.TailFeeds.{pauses}
 use Rattle.dl_rows.proofs.TailLemmas.{counts_on}
 use Rattle.dl_rows.proofs.UnitLengths.{foreign_unit}
 use Rattle.dl_rows.proofs.UnitQuiet.{foreign_quiet}
-
--- behind a foreign version nothing is cut off
-no_items : (order : Order) (version : ℕ) (begun b : List ℕ) → (cut_after order (foreign_version version) begun b).items ≡ []
-no_items order version begun [] = refl
-no_items order version begun (x ∷ b) = no_items order version (begun ++ x ∷ []) b
-
-foreign_on : (order : Order) (b u : List ℕ) (version : ℕ) → foreign_in order b ≡ Some version → foreign_in order (b ++ u) ≡ Some version
-foreign_on order b u version foreign =
-    let items = (cut order b).items in
-    let last = foreign_last (following_all header_layout items) version foreign in
-    let none : (cut_after order (following_all header_layout items) (cut order b).rest u).items ≡ [] =
-    ap (λ (l : Layout). (cut_after order l (cut order b).rest u).items) last ∙ no_items order version (cut order b).rest u in
-    ap (λ (c : Cut). foreign_made (following_all header_layout c.items)) (cut-append order b u)
-    ∙ ap (λ (l : List Item). foreign_made (following_all header_layout (items ++ l))) none
-    ∙ ap (λ (l : List Item). foreign_made (following_all header_layout l)) (append-nil items)
-    ∙ foreign
 
 foreign_events : (order : Order) (b : List ℕ) (version : ℕ) → foreign_in order b ≡ Some version → events order b ≡ events_of order (Some version) None
 foreign_events order b version foreign = ap (λ (o : Option ℕ). events_of order o (header_in order b)) foreign

@@ -77,8 +77,8 @@ completed order h p b back begun some s e long = on next.0 next.1 where
   ]
 
 -- a front of a program in its unit decides nothing
-operation_quiet : (order : Order) (h : Params) (p : List Operation) (b back begun : List ℕ) (n : ℕ) (end : Option ℕ) → 1 ≤ h.opcode_base → SpellsProgram order h p (b ++ back)
-    → (operations_in order h b).rest ≡ begun → ((e : ℕ) → end ≡ Some e → n + length back ≡ e) → operation_decided order h begun n end ≡ None
+pub operation_quiet : (order : Order) (h : Params) (p : List Operation) (b back begun : List ℕ) (n : ℕ) (end : Option ℕ) → 1 ≤ h.opcode_base → SpellsProgram order h p (b ++ back)
+    → (operations_in order h b).rest ≡ begun → ((e : ℕ) → end ≡ Some e → n + length back ≤ e) → operation_decided order h begun n end ≡ None
 operation_quiet order h p b back [] n end some s e ends = refl
 operation_quiet order h p b back (x ∷ w) n end some s e ends = on (operation_spelt order h (x ∷ w)) refl where
   c : Completed order h (x ∷ w) back
@@ -95,7 +95,7 @@ operation_quiet order h p b back (x ∷ w) n end some s e ends = on (operation_s
 
 -- ---- fronts of a unit
 
-parts_same : (g h : HeaderData) (v w : List ℕ) → ◌≡◌ {A = Option (HeaderData × List ℕ)} (Some (g, v)) (Some (h, w)) → (g ≡ h) × (v ≡ w)
+pub parts_same : (g h : HeaderData) (v w : List ℕ) → ◌≡◌ {A = Option (HeaderData × List ℕ)} (Some (g, v)) (Some (h, w)) → (g ≡ h) × (v ≡ w)
 parts_same g h v w e =
     (ap (λ (o : Option (HeaderData × List ℕ)). elim o [ Some p ↦ p.0 | None ↦ g ]) e, ap (λ (o : Option (HeaderData × List ℕ)). elim o [ Some p ↦ p.1 | None ↦ v ]) e)
 
@@ -112,7 +112,7 @@ own_quiet order h p u front back g begun is e found =
     ap (decided_behind order front) found
     ∙ operation_quiet order g.params p begun back (operations_in order g.params begun).rest (length front) (unit_len order front) some program refl ends
   where
-    ends : (n : ℕ) → unit_len order front ≡ Some n → length front + length back ≡ n
+    ends : (n : ℕ) → unit_len order front ≡ Some n → length front + length back ≤ n
     ends n k =
         let len = length_of_unit order u (inr (h, p, is)) in
         let same : Some (length u) ≡ Some n = sym len ∙ ap (unit_len order) e ∙ unit_len_on order front back n k in

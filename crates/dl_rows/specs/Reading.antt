@@ -42,16 +42,20 @@ EventHolds order b piece used event.NoMemory =
 -- what is told comes with the last byte used
 EventHolds order b piece used other = (1 ≤ used) × (events order (b ++ take (used - 1) piece) ≡ events order b)
 
--- an answer of an event, the reader then being new
-pub record Feeds {S : Type 0} (StandsFor : S → List ℕ → Type 0) (order : Order) (b piece : List ℕ) (fed : Fed) (new : S) : Type 0 where
+-- what a piece may be answered behind b, where that is an event
+pub record Answered (order : Order) (b piece : List ℕ) (fed : Fed) : Type 0 where
   pub within : fed.used ≤ length piece
   pub in_unit : WithinUnit order (b ++ take fed.used piece)
-  pub stands : StandsFor new (b ++ take fed.used piece)
   -- the events grow by what is told, and by nothing else
   pub grows : events order (b ++ take fed.used piece) ≡ events order b ++ told fed.event
   pub holds : EventHolds order b piece fed.used fed.event
   -- nothing that was taken is refused
   pub sound : (front back : List ℕ) (at : ℕ) (kind : FaultKind) → b ++ take fed.used piece ≡ front ++ back → Refused order front at kind → ⊥
+
+-- an answer of an event, the reader then being new
+pub record Feeds {S : Type 0} (StandsFor : S → List ℕ → Type 0) (order : Order) (b piece : List ℕ) (fed : Fed) (new : S) : Type 0 where
+  pub answered : Answered order b piece fed
+  pub stands : StandsFor new (b ++ take fed.used piece)
 
 -- an answer of a fault: the bytes up to the one that decides it are refused
 pub record Fails (order : Order) (b piece : List ℕ) (fault : Fault) (used : ℕ) : Type 0 where

@@ -1,60 +1,121 @@
 -- What turns over the bytes of a unit come to. DWARF 5, section 6.2.4.
-use Rattle.std.specs.Prelude.{◌≡◌, ◌+◌, ◌<◌, ◌≤◌, ◌⊎◌, ℕ, true, false, List, ◌++◌, length, take, Result, Ok, Err}
+use Rattle.std.specs.Prelude.{◌≡◌, ◌+◌, ◌<◌, ◌≤◌, ◌⊎◌, ℕ, Bool, true, false, List, [], ◌++◌, length, take, count_by, flat_map, Result, Ok, Err}
 use Rattle.dl_num.specs.declared.fixed.Order.{Order}
 use Rattle.dl_head.specs.declared.fault.Fault.{Fault}
 use Rattle.dl_head.specs.declared.fault.FaultKind.{FaultKind}
-use Rattle.dl_head.specs.Runs.{some_turns}
+use Rattle.dl_head.specs.Turns.{Answer, used_in, last_given, IsTrace, some_turns}
 use Rattle.dl_rows.specs.declared.reader.Event.{Event}
+use Rattle.dl_rows.specs.declared.reader.Event.TheVariants as event
 use Rattle.dl_rows.specs.declared.reader.Reader.{Reader}
 use Rattle.dl_rows.specs.declared.reader.run.Run.{Run}
 use Rattle.dl_rows.specs.LineUnit.{IsUnit, events}
-use Rattle.dl_rows.specs.Reading.{WithinUnit}
+use Rattle.dl_rows.specs.Reading.{WithinUnit, Answered, Fails, told}
 use Rattle.dl_rows.specs.ReaderStands.{StandsFor}
 use Rattle.dl_rows.specs.Refusal.{Refused}
 
--- behind b a reader took the first used of some bytes, and a listener heard what they came to
-pub record Took (order : Order) (b bytes : List ℕ) (used : ℕ) (Hears : List Event → Type 0) (new : Reader) : Type 0 where
+-- ---- the answers
+
+-- what a piece may be answered behind b, so many of its bytes being used: an event, or a fault
+abbrev pub MayGive : Order → (b piece : List ℕ) → ℕ → Result Event Fault → Type 0
+MayGive order b piece used (Ok event) = Answered order b piece (record { used = used; event = event })
+MayGive order b piece used (Err fault) = Fails order b piece fault used
+
+abbrev pub May : Order → (b piece : List ℕ) → Answer (Result Event Fault) → Type 0
+May order b piece answer = MayGive order b piece answer.used answer.gave
+
+abbrev pub is_end : Event → Bool
+is_end event.End = true
+is_end other = false
+
+-- whether another turn follows
+abbrev pub goes_on : Result Event Fault → Bool
+goes_on (Ok event.End) = false
+goes_on (Ok other) = true
+goes_on (Err fault) = false
+
+abbrev pub is_refusal : Result Event Fault → Bool
+is_refusal (Ok event.NoMemory) = true
+is_refusal other = false
+
+-- how often memory was refused
+abbrev pub refusals : List (Answer (Result Event Fault)) → ℕ
+refusals answers = count_by (λ a. is_refusal a.gave) answers
+
+abbrev pub told_by : Result Event Fault → List Event
+told_by (Ok event) = told event
+told_by (Err fault) = []
+
+-- the events that were told, in their order
+abbrev pub heard_in : List (Answer (Result Event Fault)) → List Event
+heard_in answers = flat_map (λ a. told_by a.gave) answers
+
+-- what a run says of its answers, by the last one
+abbrev pub outcome : List (Answer (Result Event Fault)) → Result Event Fault → Result Run Fault
+outcome answers (Ok event) = Ok (record { taken = used_in answers; refused = refusals answers; ended = is_end event })
+outcome answers (Err fault) = Err fault
+
+-- bytes offered in turns: what was answered, what a listener heard, and what the run says of it
+pub record Traced (order : Order) (b bytes turns : List ℕ) (Hears : List Event → Type 0) (result : Result Run Fault) (new : Reader) : Type 0 where
+  pub answers : List (Answer (Result Event Fault))
+  pub trace : IsTrace (May order) goes_on b bytes turns answers
+  pub result_is : result ≡ outcome answers (last_given (Ok event.More) answers)
+  pub hears : Hears (heard_in answers)
+  pub stands : StandsFor new (b ++ take (used_in answers) bytes)
+
+-- ---- what comes of the bytes that were taken
+
+-- behind b the first used of some bytes were taken, and these events heard, which are what they came to
+pub record Took (order : Order) (b bytes : List ℕ) (used : ℕ) (heard : List Event) : Type 0 where
   pub within : used ≤ length bytes
   pub in_unit : WithinUnit order (b ++ take used bytes)
-  pub stands : StandsFor new (b ++ take used bytes)
-  pub heard : List Event
-  pub hears : Hears heard
   pub grows : events order (b ++ take used bytes) ≡ events order b ++ heard
 
 -- no front of b is refused
 abbrev pub Sound : Order → List ℕ → Type 0
 Sound order b = (front back : List ℕ) (at : ℕ) (kind : FaultKind) → b ≡ front ++ back → Refused order front at kind → ⊥
 
--- bytes offered in turns, without a fault
-pub record Runs (order : Order) (b bytes turns : List ℕ) (Hears : List Event → Type 0) (run : Run) (new : Reader) : Type 0 where
-  pub took : Took order b bytes run.taken Hears new
+-- without a fault
+pub record Runs (order : Order) (b bytes turns : List ℕ) (heard : List Event) (run : Run) : Type 0 where
+  pub took : Took order b bytes run.taken heard
   pub sound : 1 ≤ length turns → Sound order (b ++ take run.taken bytes)
   pub whole : run.ended ≡ true → IsUnit order (b ++ take run.taken bytes)
   -- where the unit goes on, each turn that offered anything took a byte or was refused memory, or all bytes are taken
   pub moved : run.ended ≡ false → (run.taken ≡ length bytes) ⊎ (some_turns turns ≤ run.taken + run.refused)
 
--- bytes offered in turns, up to a fault
-abbrev pub RunIs : Order → List ℕ → List ℕ → List ℕ → (List Event → Type 0) → Result Run Fault → Reader → Type 0
-RunIs order b bytes turns Hears (Ok run) new = Runs order b bytes turns Hears run new
-RunIs order b bytes turns Hears (Err fault) new = (used : ℕ) × Took order b bytes used Hears new × Refused order (b ++ take used bytes) fault.offset fault.kind
+-- or up to a fault
+abbrev pub RunIs : Order → (b bytes turns : List ℕ) → List Event → Result Run Fault → Type 0
+RunIs order b bytes turns heard (Ok run) = Runs order b bytes turns heard run
+RunIs order b bytes turns heard (Err fault) = (used : ℕ) × Took order b bytes used heard × Refused order (b ++ take used bytes) fault.offset fault.kind
 
--- behind b exactly the bytes of u were taken, and a listener heard what they came to
-pub record TookUnit (order : Order) (b bytes u : List ℕ) (taken : ℕ) (Hears : List Event → Type 0) : Type 0 where
+-- ---- where the bytes complete a unit
+
+-- behind b exactly the bytes of u were taken, and what they came to was heard
+pub record TookUnit (order : Order) (b bytes u : List ℕ) (taken : ℕ) (heard : List Event) : Type 0 where
   pub count : length b + taken ≡ length u
   pub is : b ++ take taken bytes ≡ u
-  pub heard : List Event
-  pub hears : Hears heard
   pub grows : events order u ≡ events order b ++ heard
 
 -- turns over the bytes that complete the unit u behind b, and over any that follow it
-pub record UnitRuns (order : Order) (b bytes turns u : List ℕ) (Hears : List Event → Type 0) (run : Run) : Type 0 where
+pub record UnitRuns (order : Order) (b bytes turns u : List ℕ) (heard : List Event) (run : Run) : Type 0 where
   pub within : length b + run.taken ≤ length u
   -- where the end is told, or there are as many turns that offer anything as bytes of u behind b and refusals of memory
-  pub whole : (run.ended ≡ true) ⊎ (length u + run.refused ≤ length b + some_turns turns) → TookUnit order b bytes u run.taken Hears
+  pub whole : (run.ended ≡ true) ⊎ (length u + run.refused ≤ length b + some_turns turns) → TookUnit order b bytes u run.taken heard
   -- with one turn more the end is told
   pub ended : length u + run.refused < length b + some_turns turns → run.ended ≡ true
 
 -- there is no fault
-abbrev pub UnitRunIs : Order → List ℕ → List ℕ → List ℕ → List ℕ → (List Event → Type 0) → Result Run Fault → Type 0
-UnitRunIs order b bytes turns u Hears (Ok run) = UnitRuns order b bytes turns u Hears run
-UnitRunIs order b bytes turns u Hears (Err fault) = ⊥
+abbrev pub UnitRunIs : Order → (b bytes turns u : List ℕ) → List Event → Result Run Fault → Type 0
+UnitRunIs order b bytes turns u heard (Ok run) = UnitRuns order b bytes turns u heard run
+UnitRunIs order b bytes turns u heard (Err fault) = ⊥
+
+-- ---- laws of traces, b being no longer than its unit
+
+-- the events that are heard are those of the bytes that are used, of which no front is refused; at a fault they are
+abbrev pub TraceRuns : Type 0
+TraceRuns = (order : Order) (b bytes turns : List ℕ) (answers : List (Answer (Result Event Fault))) → WithinUnit order b → IsTrace (May order) goes_on b bytes turns answers
+    → RunIs order b bytes turns (heard_in answers) (outcome answers (last_given (Ok event.More) answers))
+
+-- where the bytes complete a unit, whatever follows it: no fault, no byte behind it, and with enough turns exactly its bytes and events
+abbrev pub TraceOfUnit : Type 0
+TraceOfUnit = (order : Order) (b bytes turns u rest : List ℕ) (answers : List (Answer (Result Event Fault))) → WithinUnit order b → IsTrace (May order) goes_on b bytes turns answers
+    → b ++ bytes ≡ u ++ rest → IsUnit order u → UnitRunIs order b bytes turns u (heard_in answers) (outcome answers (last_given (Ok event.More) answers))

@@ -15,6 +15,7 @@ use Rattle.dl_rows.specs.BadOperation.{IsBadOperation}
 use Rattle.dl_rows.specs.Matrix.{matrix}
 use Rattle.dl_rows.specs.Spelling.{SpellsOperation, SpellsProgram}
 use Rattle.dl_rows.specs.LineUnit.{HasItsLength, IsForeignUnit, IsOwnUnit, IsUnit, unit_rows, events}
+use Rattle.dl_rows.specs.Reading.{WithinUnit}
 use Rattle.dl_rows.specs.Refusal.{Refused}
 
 -- the params of a header are usable, and its line_base is one byte
@@ -46,14 +47,17 @@ OneRefusal = (order : Order) (b c v u : List ℕ) (at at2 : ℕ) (kind kind2 : F
 abbrev pub RefusedInHeader : Type 0
 RefusedInHeader = (order : Order) (b : List ℕ) (at : ℕ) (kind : FaultKind) → header_in order b ≡ None → Refused order b at kind ↔ HeaderRefused order b at kind
 
--- b ends in the unit's last bytes, begun: they aren't none, no bad operation, and none stands at their front
+-- w is no operation, and no bad one
+abbrev pub IsIncomplete : Order → Params → List ℕ → Type 0
+IsIncomplete order h w = ((o : Operation) → SpellsOperation order h o w → ⊥) × ((kind : FaultKind) → IsBadOperation h w kind → ⊥)
+
+-- b ends in the unit's last bytes, begun, which are some, and incomplete
 pub record IsCutShort (order : Order) (h : Params) (b begun : List ℕ) : Type 0 where
   pub last : unit_len order b ≡ Some (length b)
   pub some : 1 ≤ length begun
-  pub not_bad : (kind : FaultKind) → IsBadOperation h begun kind → ⊥
-  pub not_whole : (o : Operation) (front back : List ℕ) → begun ≡ front ++ back → SpellsOperation order h o front → ⊥
+  pub incomplete : IsIncomplete order h begun
 
--- the program of b is operations, and then bytes of one that is bad or cut short
+-- the program of b is operations, and then bytes of one that is bad or cut short, as no shorter front of them is
 pub record RefusesOperation (order : Order) (h : Params) (b program : List ℕ) (at : ℕ) (kind : FaultKind) : Type 0 where
   pub operations : List Operation
   pub done : List ℕ
@@ -61,12 +65,18 @@ pub record RefusesOperation (order : Order) (h : Params) (b program : List ℕ) 
   pub whole : program ≡ done ++ begun
   pub spells : SpellsProgram order h operations done
   pub place : at + length begun ≡ length b
+  pub shortest : (front : List ℕ) (x : ℕ) (back : List ℕ) → begun ≡ front ++ x ∷ back → IsIncomplete order h front
   pub fault : IsBadOperation h begun kind ⊎ (IsCutShort order h b begun × (kind ≡ fault.OpcodeOverrun))
 
 -- where the header is complete, an operation is refused
 abbrev pub RefusedInProgram : Type 0
 RefusedInProgram = (order : Order) (b : List ℕ) (h : HeaderData) (program : List ℕ) (at : ℕ) (kind : FaultKind) → header_in order b ≡ Some (h, program)
     → Refused order b at kind → RefusesOperation order h.params b program at kind
+
+-- and where one is, in bytes that are no longer than their unit, they are refused
+abbrev pub OperationIsRefused : Type 0
+OperationIsRefused = (order : Order) (b : List ℕ) (h : HeaderData) (program : List ℕ) (at : ℕ) (kind : FaultKind) → header_in order b ≡ Some (h, program) → WithinUnit order b
+    → RefusesOperation order h.params b program at kind → Refused order b at kind
 
 -- bytes as long as their good initial length says are a unit exactly where no front of them is refused
 abbrev pub UnitUnlessRefused : Type 0

@@ -1,7 +1,8 @@
 //! Laws of the definitions of operations, programs, rows and units, each the contract of a function that does nothing.
 
 ghost use Rattle.dl_rows.specs.Laws.{SpeltIsSpelled, BadIsFaulty, NoOperationBeginsAnother, OneOperation, NoSpellingIsFaulty, OneProgram, ProgramIsFound, FoundIsProgram, NoneBeginsRest, RowForByte};
-ghost use Rattle.dl_rows.specs.UnitLaws.{HeaderFits, LengthIsComputed, NoUnitBeginsAnother, ForeignComesTo, UnitComesTo, OneRefusal, RefusedInHeader, RefusedInProgram, UnitUnlessRefused, RowForProgramByte};
+ghost use Rattle.dl_rows.specs.Runs.{TraceRuns, TraceOfUnit};
+ghost use Rattle.dl_rows.specs.UnitLaws.{HeaderFits, LengthIsComputed, NoUnitBeginsAnother, ForeignComesTo, UnitComesTo, OneRefusal, RefusedInHeader, RefusedInProgram, OperationIsRefused, UnitUnlessRefused, RowForProgramByte};
 
 /// What computes an operation of bytes agrees with the relations: on spellings, and on bad bytes
 /// with the kind of the fault. Sections 6.2.5.1 to 6.2.5.3.
@@ -55,13 +56,22 @@ pub fn one_refusal()
     ensures { OneRefusal }
 {}
 
-/// Where the header isn't complete, it is refused; else an operation is, which is bad or cut short.
+/// Where the header isn't complete, it is refused; else an operation is, which is bad or cut short, and
+/// is no more than begun by any shorter front of its bytes.
 pub fn refusals()
     ensures header { RefusedInHeader }
     ensures program { RefusedInProgram }
+    ensures operation { OperationIsRefused }
 {}
 
 /// Bytes as long as their initial length says are a unit, or one front of them is refused.
 pub fn unit_or_refusal()
     ensures { UnitUnlessRefused }
+{}
+
+/// What is heard in turns is what the bytes taken come to, however long the turns are and wherever
+/// memory is refused; of bytes that complete a unit nothing is refused, and enough turns take it whole.
+pub fn turns()
+    ensures trace { TraceRuns }
+    ensures unit { TraceOfUnit }
 {}

@@ -3,10 +3,10 @@
 
 pub mod laws;
 pub mod operation;
-pub mod phase;
-pub mod program;
+mod phase;
+mod program;
 pub mod reader;
-pub mod registers;
+mod registers;
 pub mod row;
 mod tail;
 

@@ -19,14 +19,16 @@ impl HeadReader {
     ghost use Rattle.dl_head.specs.Reading.{Answers};
     ghost use Rattle.dl_head.specs.declared.reader.HeadStep.TheVariants as answer;
     ghost use Rattle.dl_head.specs.Standing.{StandsFor};
-    ghost use Rattle.dl_head.specs.Runs.{Runs, Offered};
+    ghost use Rattle.dl_head.specs.Runs.{Traced, Runs, Offered};
 
     /// Takes the bytes in turns, up to an end or a fault. A turn offers at most so many of the bytes
     /// that aren't taken, and ends early where memory is refused; the next turn offers the same byte
     /// again.
     pub fn run(&mut self, bytes: &[u8], turns: &[usize]) -> HeadRun
+        ensures traced { (b : List ℕ) → StandsFor self.old b → Answers self.old.order b answer.More
+            → Traced self.old.order b bytes.now turns.now result self.new }
         ensures runs { (b : List ℕ) → StandsFor self.old b → Answers self.old.order b answer.More
-            → Runs self.old.order b bytes.now turns.now result self.new }
+            → Runs self.old.order b bytes.now turns.now result }
         ensures order { self.new.order ≡ self.old.order }
     {
         let mut run = HeadRun {

@@ -32,7 +32,7 @@ pub struct Run {
 impl Reader {
     ghost use Rattle.dl_rows.specs.ReaderStands.{StandsFor};
     ghost use Rattle.dl_rows.specs.LineUnit.{IsUnit};
-    ghost use Rattle.dl_rows.specs.Runs.{RunIs, UnitRunIs};
+    ghost use Rattle.dl_rows.specs.Runs.{Traced, RunIs, UnitRunIs};
 
     /// Takes the bytes in turns, up to the unit's end or a fault. A turn offers at most so many of
     /// the bytes that aren't taken, and ends behind an event, or early where memory is refused; the
@@ -43,10 +43,12 @@ impl Reader {
         turns: &[usize],
         listener: &mut L,
     ) -> Result<Run, Fault>
+        ensures traced { (b : List ℕ) → StandsFor self.old b
+            → Traced self.old.order b bytes.now turns.now (Hears L.heard listener.old listener.new) result self.new }
         ensures runs { (b : List ℕ) → StandsFor self.old b
-            → RunIs self.old.order b bytes.now turns.now (Hears L.heard listener.old listener.new) result self.new }
+            → (heard : List Event) × Hears L.heard listener.old listener.new heard × RunIs self.old.order b bytes.now turns.now heard result }
         ensures unit { (b u rest : List ℕ) → StandsFor self.old b → b ++ bytes.now ≡ u ++ rest → IsUnit self.old.order u
-            → UnitRunIs self.old.order b bytes.now turns.now u (Hears L.heard listener.old listener.new) result }
+            → (heard : List Event) × Hears L.heard listener.old listener.new heard × UnitRunIs self.old.order b bytes.now turns.now u heard result }
         ensures order { self.new.order ≡ self.old.order }
     {
         let mut run = Run {

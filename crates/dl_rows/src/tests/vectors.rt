@@ -20,14 +20,17 @@ const HEADER: &str = "05 00 08 00 16 00 00 00 01 01 01 fb 0e 0d \
 
 /// The unit of this header with a program.
 pub fn unit(alloc: Global, program: &str) -> Result<Vec<u8>, Fail> {
+    unit_of(alloc, bytes(alloc, program)?.as_slice())
+}
+
+/// The same with the bytes of a program.
+pub fn unit_of(alloc: Global, program: &[u8]) -> Result<Vec<u8>, Fail> {
     let header = bytes(alloc, HEADER)?;
-    let program = bytes(alloc, program)?;
-    let len = header.len().saturating_add(program.len());
-    let mut unit = bytes(alloc, "")?;
-    unit.push(u8::try_from(len)?)?;
-    unit.extend_from_slice(&[0, 0, 0])?;
+    let len = u32::try_from(header.len().saturating_add(program.len()))?;
+    let mut unit = Vec::with_capacity(alloc, 4)?;
+    unit.extend_from_slice(&len.to_le_bytes())?;
     unit.extend_from_slice(header.as_slice())?;
-    unit.extend_from_slice(program.as_slice())?;
+    unit.extend_from_slice(program)?;
     Ok(unit)
 }
 
