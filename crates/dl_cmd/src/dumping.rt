@@ -69,10 +69,7 @@ pub fn dump<R: Read, W: Write>(
 {
     let mut dumper = Dumper {
         printer: Printer::new(),
-        strings: StringSections {
-            debug_line_str: options.debug_line_str,
-            debug_str: options.debug_str,
-        },
+        strings: StringSections::new(options),
     };
     read_units(alloc, input, output, options, &mut dumper)
 }

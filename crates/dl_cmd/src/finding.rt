@@ -88,10 +88,7 @@ pub fn find<R: Read, W: Write>(
 {
     let mut seeker = Seeker {
         printer: Printer::new(),
-        strings: StringSections {
-            debug_line_str: options.debug_line_str,
-            debug_str: options.debug_str,
-        },
+        strings: StringSections::new(options),
         place,
         finder: Finder::new(place),
         found: false,

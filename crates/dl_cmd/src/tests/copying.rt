@@ -216,17 +216,19 @@ fn interruptions(rt: HostRuntime) -> Result<(), Fail> {
     Ok(())
 }
 
-/// Where a growth is refused, the units before the one at hand are written.
+/// Where a growth is refused, exactly the units before the one at hand are written: those that end before
+/// the last byte that was read, or with it, but for the unit that this byte is of.
 #[test]
 fn wants_memory(rt: HostRuntime) -> Result<(), Fail> {
     let alloc = rt.alloc();
     let section = bytes(alloc, &[THREE_ROWS, MD5, THREE_ROWS])?;
-    let mut refusals = 0u32;
+    let mut refusals = [0u32; 3];
     for at_byte in 0..section.len() {
         let mut output = Sink::new(alloc, 1 << 20, 1 << 20);
         output.held.reserve(1 << 10)?;
         let mut input = Hoarding::new(alloc, section.as_slice(), at_byte);
         let answered = copy(alloc, &mut input, &mut output, &options(SECTION_LIMIT));
+        let given = input.given;
         drop(input);
         let written = output.held.as_slice();
         match answered {
@@ -235,13 +237,18 @@ fn wants_memory(rt: HostRuntime) -> Result<(), Fail> {
                 assert_eq!(rt; written, section.as_slice());
             }
             Err(fault) => {
+                let (unit, out) = match given {
+                    0..=52 => (0, 0),
+                    53..=130 => (1, 52),
+                    _ => (2, 130),
+                };
                 assert_eq!(rt; fault, RunFault::NoMemory);
-                assert!(rt; matches!(written.len(), 0 | 52 | 130));
-                assert_eq!(rt; Some(written), section.get(..written.len()));
-                refusals = refusals.saturating_add(1);
+                assert!(rt; at_byte < given);
+                assert_eq!(rt; Some(written), section.get(..out));
+                refusals[unit] = refusals[unit].saturating_add(1);
             }
         }
     }
-    assert!(rt; 4 < refusals);
+    assert!(rt; refusals.iter().all(|count| 2 < *count));
     Ok(())
 }

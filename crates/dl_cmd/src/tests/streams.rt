@@ -171,7 +171,7 @@ pub struct Hoarding<'a> {
     alloc: Global,
     bytes: &'a [u8],
     at: usize,
-    given: usize,
+    pub given: usize,
     blocks: Vec<Vec<u8>>,
 }
 

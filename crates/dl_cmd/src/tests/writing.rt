@@ -1,7 +1,8 @@
 //! Writers that are short, are interrupted, fail or take nothing.
+use super::sections::options;
 use super::streams::Sink;
-use crate::RunFault;
 use crate::output::{Printer, StringSections};
+use crate::{RunFault, SECTION_LIMIT};
 use dl_head::{Format, ValueRef};
 use std::test::Fail;
 
@@ -44,10 +45,7 @@ fn interruptions(rt: HostRuntime) -> Result<(), Fail> {
 
 /// Prints a text of 100,000 bytes in quotes, then as many bytes as they are.
 fn print_long(output: &mut Sink, bytes: &[u8]) -> Result<(), RunFault> {
-    let strings = StringSections {
-        debug_line_str: None,
-        debug_str: None,
-    };
+    let strings = StringSections::new(&options(SECTION_LIMIT));
     let mut printer = Printer::new();
     printer.named_value(output, &strings, 1, ValueRef::Text(bytes))?;
     printer.put(output, bytes)?;
