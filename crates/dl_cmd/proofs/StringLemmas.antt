@@ -1,5 +1,5 @@
 -- The texts of a string section end at its zero bytes.
-use Rattle.std.proofs.Common.{◌≡◌, ℕ, ◌+◌, ◌<◌, ◌≤◌, ◌⊎◌, inl, inr, eqb, cond, List, [], ◌∷◌, ◌++◌, length, drop, Option, Some, option_map, arith, sym, ap, ◌∙◌, length-append}
+use Rattle.std.proofs.Common.{◌≡◌, ℕ, inl, inr, eqb, cond, List, [], ◌∷◌, ◌++◌, length, drop, Option, Some, option_map, arith, sym, ap, ◌∙◌, length-append}
 use Rattle.std.proofs.lemmas.Bool.{ne_eqb, cases_lt}
 use Rattle.std.proofs.lemmas.List.{drop-append-le}
 use Rattle.std.proofs.Math.ListN.{drop_of_length-le}

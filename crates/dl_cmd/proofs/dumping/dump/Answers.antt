@@ -10,7 +10,7 @@ use Rattle.dl_cmd.proofs.dumping.dump.Goals as goal
 pub returns : goal.returns
 returns g c =
     let options = c.args.options.now in
-    let first : Dumper = record { printer = c.new.result; strings = c.new-2.result } in
+    let first : Dumper = record { printer = c.new.result; strings = c.new-strings.result } in
     let start = g.W.Write.contents c.args.output.now in
     let read = c.read_units.ensures in
     let nothing = HasPrinted-nothing start start c.new.result (Appends-nil start) c.new.ensures.nothing_pending c.new.ensures.nothing_out in
@@ -18,4 +18,4 @@ returns g c =
     let remaining = g.R.Read.remaining c.read_units.new.input in
     let now = g.W.Write.contents c.read_units.new.output in
     let told = dumps options.order options.limit read.0 remaining first c.read_units.new.visitor start now c.read_units.result ran in
-    (read.0, read.1, subst (λ (s : Strings). Dumps options.order s options.limit read.0 remaining start now c.read_units.result) c.new-2.ensures told)
+    (read.0, read.1, subst (λ (s : Strings). Dumps options.order s options.limit read.0 remaining start now c.read_units.result) c.new-strings.ensures told)
