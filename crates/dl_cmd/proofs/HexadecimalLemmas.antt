@@ -8,7 +8,7 @@ use Rattle.std.proofs.lemmas.Bool.{ne_eqb, cases_lt}
 use Rattle.std.proofs.lemmas.List.{replicate-append-replicate}
 use Rattle.std.specs.Int.{w64, to_be_bytes}
 use Rattle.dl_cmd.specs.Digits.{last_digit, hexadecimal, hexadecimal_of, hexadecimal_bytes}
-use Rattle.dl_cmd.specs.declared.text.digits.TheConstants.{DIGITS}
+use Rattle.dl_cmd.specs.declared.text.digits.TheConstants.{BYTE_DIGITS}
 use Rattle.hex.specs.Hex.{encode_lower, encode_with, lower_digits}
 use lib.Ieee.Fits.{and_l, and_r}
 
@@ -113,21 +113,24 @@ sixteen_digits n fits =
       first,
     ) (simp (append_assoc, append-nil))
 
--- ---- tables of digits
+-- ---- the table
 
-abbrev are_digits : List ℕ → ℕ → Bool
-are_digits table zero = true
-are_digits table (suc d) = eqb (get_or table d 0) (last_digit d) && are_digits table d
+abbrev are_digits : ℕ → Bool
+are_digits zero = true
+are_digits (suc b) = (eqb (get_or BYTE_DIGITS (2 * b) 0) (last_digit (b / 16)) && eqb (get_or BYTE_DIGITS (2 * b + 1) 0) (last_digit b)) && are_digits b
 
-digits_below : (table : List ℕ) (n d : ℕ) → T (are_digits table n) → d < n → get_or table d 0 ≡ last_digit d
-digits_below table zero d t h = absurd (omega arith)
-digits_below table (suc n) d t h = elim (cases_lt d n) [
-  | inl below ↦ digits_below table n d (and_r _ (are_digits table n) t) below
-  | inr above ↦ let e : d ≡ n = omega arith in rw e (eqb→eq _ _ (and_l _ (are_digits table n) t))
+digits_below : (n b : ℕ) → T (are_digits n) → b < n → (get_or BYTE_DIGITS (2 * b) 0 ≡ last_digit (b / 16)) × (get_or BYTE_DIGITS (2 * b + 1) 0 ≡ last_digit b)
+digits_below zero b t h = absurd (omega arith)
+digits_below (suc n) b t h = elim (cases_lt b n) [
+  | inl below ↦ digits_below n b (and_r _ (are_digits n) t) below
+  | inr above ↦
+      let e : b ≡ n = omega arith in
+      let both = and_l _ (are_digits n) t in
+      rw e (eqb→eq _ _ (and_l _ _ both), eqb→eq _ _ (and_r _ _ both))
 ]
 
-pub get_or-DIGITS : (d : ℕ) → d < 16 → get_or DIGITS d 0 ≡ last_digit d
-get_or-DIGITS d h = digits_below DIGITS 16 d tt h
+pub get_or-BYTE_DIGITS : (b : ℕ) → b < 256 → (get_or BYTE_DIGITS (2 * b) 0 ≡ last_digit (b / 16)) × (get_or BYTE_DIGITS (2 * b + 1) 0 ≡ last_digit b)
+get_or-BYTE_DIGITS b h = digits_below 256 b tt h
 
 -- ---- the digits of the crate hex
 
@@ -135,12 +138,23 @@ pub on_ok : {A E P : Type 0} (result : Result A E) → IsOk result → OnOk resu
 on_ok (Ok x) is p = p
 on_ok (Err e) is p = cc
 
+abbrev are_lower : ℕ → Bool
+are_lower zero = true
+are_lower (suc d) = eqb (get_or lower_digits d 0) (digit_glyph false d) && are_lower d
+
+lower_below : (n d : ℕ) → T (are_lower n) → d < n → get_or lower_digits d 0 ≡ digit_glyph false d
+lower_below zero d t h = absurd (omega arith)
+lower_below (suc n) d t h = elim (cases_lt d n) [
+  | inl below ↦ lower_below n d (and_r _ (are_lower n) t) below
+  | inr above ↦ let e : d ≡ n = omega arith in rw e (eqb→eq _ _ (and_l _ (are_lower n) t))
+]
+
 pub encode_lower-digits : (w : List ℕ) → ((i : ℕ) → get_or w i 0 < 256) → encode_lower w ≡ hexadecimal_bytes w
 unfolding encode_with
 encode_lower-digits [] small = refl
 encode_lower-digits (b ∷ w) small =
     let fits : b < 256 = small 0 in
-    let same : b % 16 % 16 ≡ b % 16 = omega arith in
-    let high = digits_below lower_digits 16 (b / 16) tt (omega arith) in
-    let low = digits_below lower_digits 16 (b % 16) tt (omega arith) ∙ ap (digit_glyph false) same in
+    let same : b / 16 % 16 ≡ b / 16 = omega arith in
+    let high = lower_below 16 (b / 16) tt (omega arith) ∙ ap (digit_glyph false) (sym same) in
+    let low = lower_below 16 (b % 16) tt (omega arith) in
     rw (two_digits b fits, high, low, encode_lower-digits w (λ i. small (suc i)))

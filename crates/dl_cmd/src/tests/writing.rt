@@ -1,6 +1,6 @@
 //! Writers that are short, are interrupted, fail or take nothing.
 use super::sections::options;
-use super::streams::Sink;
+use super::streams::{Fault, Sink};
 use crate::output::{Printer, StringSections};
 use crate::{RunFault, SECTION_LIMIT};
 use dl_head::{Format, ValueRef};
@@ -36,8 +36,8 @@ fn writer_that_takes_nothing(rt: HostRuntime) -> Result<(), Fail> {
 #[test]
 fn interruptions(rt: HostRuntime) -> Result<(), Fail> {
     for (interruptions, want) in [(1000, Ok(())), (1001, Err(RunFault::Write { out: 0 }))] {
-        let mut output = Sink::new(rt.alloc(), 100, 7);
-        output.interruptions = interruptions;
+        let fault = Fault::Interrupted(interruptions);
+        let mut output = Sink::with_fault(rt.alloc(), 7, 0, fault);
         assert_eq!(rt; print_unit(&mut output), want);
     }
     Ok(())

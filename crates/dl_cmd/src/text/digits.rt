@@ -2,8 +2,24 @@
 ghost use Rattle.std.specs.Prelude.{◌≡◌, ◌+◌, ◌*◌, ◌<◌, ◌≤◌, [], ◌∷◌, ◌++◌, length, take, decimal};
 ghost use Rattle.dl_cmd.specs.Digits.{hexadecimal, hexadecimal_of, hexadecimal_bytes, last_digit, digit_if, four_digits};
 
-/// The hexadecimal digits.
-static DIGITS: [u8; 16] = *b"0123456789abcdef";
+/// The two hexadecimal digits of each byte.
+static BYTE_DIGITS: [u8; 512] = *b"\
+    000102030405060708090a0b0c0d0e0f\
+    101112131415161718191a1b1c1d1e1f\
+    202122232425262728292a2b2c2d2e2f\
+    303132333435363738393a3b3c3d3e3f\
+    404142434445464748494a4b4c4d4e4f\
+    505152535455565758595a5b5c5d5e5f\
+    606162636465666768696a6b6c6d6e6f\
+    707172737475767778797a7b7c7d7e7f\
+    808182838485868788898a8b8c8d8e8f\
+    909192939495969798999a9b9c9d9e9f\
+    a0a1a2a3a4a5a6a7a8a9aaabacadaeaf\
+    b0b1b2b3b4b5b6b7b8b9babbbcbdbebf\
+    c0c1c2c3c4c5c6c7c8c9cacbcccdcecf\
+    d0d1d2d3d4d5d6d7d8d9dadbdcdddedf\
+    e0e1e2e3e4e5e6e7e8e9eaebecedeeef\
+    f0f1f2f3f4f5f6f7f8f9fafbfcfdfeff";
 
 /// Writes the byte, and answers where it ends.
 #[inline]
@@ -104,7 +120,7 @@ pub fn write_number(buffer: &mut [u8], at: usize, name: &[u8], number: u64) -> u
 fn last_digit(number: u64) -> u8
     ensures { result ≡ last_digit number }
 {
-    DIGITS[(number % 16) as usize]
+    BYTE_DIGITS[2 * (number % 16) as usize + 1]
 }
 
 /// Writes a number in hexadecimal without leading zeros, and answers where it ends.
@@ -142,7 +158,9 @@ pub fn write_byte_digits(buffer: &mut [u8], at: usize, byte: u8) -> usize
     ensures written { take result buffer.new ≡ take at buffer.old ++ hexadecimal_of 2 byte }
     ensures end { result ≡ at + 2 }
 {
-    write_hexadecimal_bytes(buffer, at, &[byte])
+    let from = 2 * byte as usize;
+    let at = write_byte(buffer, at, BYTE_DIGITS[from]);
+    write_byte(buffer, at, BYTE_DIGITS[from + 1])
 }
 
 /// Writes a number in sixteen hexadecimal digits, and answers where they end.
@@ -153,5 +171,10 @@ pub fn write_sixteen_digits(buffer: &mut [u8], at: usize, number: u64) -> usize
         ≡ take at buffer.old ++ hexadecimal_of 16 number }
     ensures end { result ≡ at + 16 }
 {
-    write_hexadecimal_bytes(buffer, at, &number.to_be_bytes())
+    let bytes = number.to_be_bytes();
+    let mut at = at;
+    for byte in &bytes {
+        at = write_byte_digits(buffer, at, *byte);
+    }
+    at
 }
