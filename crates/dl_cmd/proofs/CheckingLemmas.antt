@@ -40,13 +40,13 @@ module _ (order : Order) (limit : ℕ) (bytes : List ℕ) (left : Option (List �
   failed fault.NotFound (units, b, back, inl (ends, settled)) = absurd ends
   failed (fault.ForeignUnit unit) (units, b, back, inl (ends, settled)) = absurd ends
   failed (fault.Emit unit f) (units, b, back, inl (ends, settled)) = absurd ends
-  failed (fault.Damage offset kind) (units, b, back, inr (has, stops)) = absurd stops.reason
-  failed fault.NoMemory (units, b, back, inr (has, stops)) = absurd stops.reason
-  failed fault.Read (units, b, back, inr (has, stops)) = absurd stops.reason
-  failed fault.SectionTooLong (units, b, back, inr (has, stops)) = absurd stops.reason
-  failed fault.NotFound (units, b, back, inr (has, stops)) = absurd stops.reason
-  failed (fault.ForeignUnit unit) (units, b, back, inr (has, stops)) = absurd stops.reason
-  failed (fault.Emit unit f) (units, b, back, inr (has, stops)) = absurd stops.reason
+  failed (fault.Damage offset kind) (units, b, back, inr (has, sound, stops)) = absurd stops.reason
+  failed fault.NoMemory (units, b, back, inr (has, sound, stops)) = absurd stops.reason
+  failed fault.Read (units, b, back, inr (has, sound, stops)) = absurd stops.reason
+  failed fault.SectionTooLong (units, b, back, inr (has, sound, stops)) = absurd stops.reason
+  failed fault.NotFound (units, b, back, inr (has, sound, stops)) = absurd stops.reason
+  failed (fault.ForeignUnit unit) (units, b, back, inr (has, sound, stops)) = absurd stops.reason
+  failed (fault.Emit unit f) (units, b, back, inr (has, sound, stops)) = absurd stops.reason
 
   -- the line is out
   pub line_out : (summary : Summary) → Ran check_story order limit bytes left first new start mid (Ok summary) → Appends start now (summary_line summary) → Checks order limit bytes left start now (Ok summary)

@@ -1,6 +1,6 @@
 -- What is copied of the units of a section, and how a copier goes on.
 use Rattle.std.proofs.Common.{◌≡◌, ◌⊎◌, inl, inr, ℕ, ◌+◌, Bool, true, false, List, [], ◌∷◌, ◌++◌, length, map, flat_map, take, Option, Some, None, Result, Ok, Err, arith, refl, sym, ap, ap₂, ◌∙◌, subst, append_assoc, append-nil, length-append}
-use Rattle.std.specs.Prelude.{⊤, option_map}
+use Rattle.std.specs.Prelude.{⊤, ◌≢◌, option_map}
 use Rattle.std.proofs.KnownBytes.{Appends-nil}
 use Rattle.std.specs.Io.KnownBytes.{Appends}
 use Rattle.std.specs.List.{AllByRecursion, concat}
@@ -16,6 +16,8 @@ use Rattle.dl_rows.specs.LineUnit.{IsUnit, rows_behind, unit_rows, ends_open, ev
 use Rattle.dl_rows.proofs.ReaderLemmas.{foreign_no_header}
 use Rattle.dl_rows.specs.Reading.{WithinUnit}
 use Rattle.dl_rows.proofs.UnitLengths.{foreign_of, length_of_unit, some_same}
+use Rattle.dl_rows.proofs.UnitQuiet.{unit_is_not_refused}
+use Rattle.dl_rows.specs.Runs.{Sound}
 use Rattle.dl_emit.specs.declared.fault.EmitFault.{EmitFault}
 use Rattle.dl_emit.specs.WrittenUnit.{unit_of, refusal}
 use Rattle.dl_cmd.specs.declared.copying.Copier.{Copier}
@@ -24,7 +26,7 @@ use Rattle.dl_cmd.specs.declared.fault.RunFault.TheVariants as fault
 use Rattle.dl_cmd.specs.declared.summary.Summary.{Summary}
 use Rattle.dl_cmd.specs.Commands.{Copies, HasCopied, AreCopied, copied_unit, copied_units}
 use Rattle.dl_cmd.specs.UnitPrinted.{PrintsUnit}
-use Rattle.dl_cmd.specs.Copying.{Copying, offset_after, end_stop, stop_after, end_text, text_after, copy_story}
+use Rattle.dl_cmd.specs.Copying.{Copying, IsGrowth, StopsAt, offset_after, end_stop, stop_after, end_text, text_after, copy_story}
 use Rattle.dl_cmd.specs.Output.{HasPrinted, TellsOut}
 use Rattle.dl_cmd.specs.Printed.{Printed}
 use Rattle.dl_cmd.specs.RowsTold.{rows_after}
@@ -240,6 +242,16 @@ stop_behind order n u done after b (fault.Write out) s = absurd s
 stop_behind order n u done after b fault.SectionTooLong s = absurd s
 stop_behind order n u done after b fault.NotFound s = absurd s
 
+-- of the units that aren't copied, or of b behind them, the bytes at hand are at fault in no way, and memory grows for them
+record AtHand (order : Order) (after : List (List ℕ)) (b : List ℕ) : Type 0 where
+  c : List ℕ
+  behind : List ℕ
+  whole : concat after ++ b ≡ c ++ behind
+  within : WithinUnit order c
+  sound : Sound order c
+  not_foreign : foreign_in order c ≡ None
+  grows : (unit_rows order c ≢ []) ⊎ IsUnit order c
+
 -- of the units some first ones are copied, all where all is told and there is no fault, and then b isn't of another version; m: the offset before the visits
 record Heard (order : Order) (m n : ℕ) (units : List (List ℕ)) (b : List ℕ) (heard more : List Visit) : Type 0 where
   done : List (List ℕ)
@@ -249,9 +261,28 @@ record Heard (order : Order) (m n : ℕ) (units : List (List ℕ)) (b : List ℕ
   text : text_after order [] heard ≡ copied_units order done
   stop : WithinUnit order b → (f : RunFault) → stop_after m [] heard ≡ Some f → StopIs order n done after b f
   all : more ≡ [] → stop_after m [] heard ≡ None → (after ≡ []) × (foreign_in order b ≡ None)
+  at_hand : (visit : Visit) (others : List Visit) → more ≡ visit ∷ others → IsGrowth visit → WithinUnit order b → Sound order b → stop_after m [] heard ≡ None → AtHand order after b
 
 no_middle : {A : Type 0} (xs : List A) (x : A) (ys : List A) → xs ++ x ∷ ys ≡ [] → ⊥
 no_middle xs x ys e = omega (arith, ap length e, length-append xs (x ∷ ys))
+
+-- one alone
+single : {A : Type 0} (xs : List A) (x : A) (ys : List A) (y : A) → xs ++ x ∷ ys ≡ y ∷ [] → x ≡ y
+single [] x ys y e = cc
+single (z ∷ xs) x ys y e = absurd (no_middle xs x ys cc)
+
+-- the last ones
+same_last : {A : Type 0} (xs ys : List A) (x y : A) → xs ++ x ∷ [] ≡ ys ++ y ∷ [] → x ≡ y
+same_last [] ys x y e = sym (single ys y [] x (sym e))
+same_last (z ∷ xs) [] x y e = absurd (no_middle xs x [] cc)
+same_last (z ∷ xs) (w ∷ ys) x y e = same_last xs ys x y cc
+
+-- where the first of visits is that of a version, and those heard are no reason to stop, the next one is no growth
+not_at_version : (m n version : ℕ) (own heard : List Visit) (visit : Visit) (others : List Visit) → of_version n version ∷ own ≡ heard ++ visit ∷ others → stop_after m [] heard ≡ None → IsGrowth visit → ⊥
+not_at_version m n version own [] visit others e quiet growth = let same : visit ≡ of_version n version = cc in subst IsGrowth same growth
+not_at_version m n version own (v ∷ heard) visit others e quiet growth =
+    let same : v ≡ of_version n version = cc in
+    none_is_some (sym quiet ∙ ap (λ (w : Visit). stop_after m [] (w ∷ heard)) same)
 
 -- the end of a unit apart
 regroup : {A : Type 0} (v o : List A) (e : A) (u b : List A) → ((v ++ (o ++ e ∷ [])) ++ u) ++ b ≡ (v ++ o) ++ e ∷ (u ++ b)
@@ -269,15 +300,16 @@ module _ (order : Order) where
 
   -- where the first unit is of another version
   stops_foreign : (m n : ℕ) (u : List ℕ) (units : List (List ℕ)) (b : List ℕ) (heard more : List Visit) → IsUnit order u → (v : Foreign order 0 u)
-      → text_after order [] heard ≡ [] → ((f : RunFault) → stop_after m [] heard ≡ Some f → f ≡ fault.ForeignUnit n) → (more ≡ [] → stop_after m [] heard ≡ None → ⊥) → Heard order m n (u ∷ units) b heard more
-  stops_foreign m n u units b heard more unit v text stop all = record {
+      → text_after order [] heard ≡ [] → ((f : RunFault) → stop_after m [] heard ≡ Some f → f ≡ fault.ForeignUnit n) → (stop_after m [] heard ≡ None → ⊥) → Heard order m n (u ∷ units) b heard more
+  stops_foreign m n u units b heard more unit v text stop loud = record {
     done = [];
     after = u ∷ units;
     whole = refl;
     copied = tt;
     text = text;
     stop = λ within f is. subst (StopIs order n [] (u ∷ units) b) (sym (stop f is)) (u, concat units ++ b, v.0, append_assoc u (concat units) b, omega arith, unit_within u unit, v.1);
-    all = λ none quiet. absurd (all none quiet);
+    all = λ none quiet. absurd (loud quiet);
+    at_hand = λ visit others next growth within sound quiet. absurd (loud quiet);
   }
 
   -- where the first unit is told to its end, and has a header
@@ -315,6 +347,7 @@ module _ (order : Order) where
       text = text_is (Some f) r;
       stop = λ within g is. subst (StopIs order n [] (u ∷ units) b) (value_same (fault.Emit n f) g (sym (stop_is (Some f) r) ∙ is)) (u, units, own.0, refl, omega arith, header_is order n u own, r);
       all = λ none quiet. absurd (none_is_some (sym quiet ∙ stop_is (Some f) r));
+      at_hand = λ visit others next growth within sound quiet. absurd (none_is_some (sym quiet ∙ stop_is (Some f) r));
     }
 
     its_copy : unit_of order its_header its_rows ≡ copied_unit order u
@@ -329,6 +362,7 @@ module _ (order : Order) where
       text = text_is None r ∙ ap₂ (λ (v w : List ℕ). v ++ w) its_copy later.text;
       stop = λ within f is. stop_behind order n u later.done later.after b f (later.stop within f (sym (stop_is None r) ∙ is));
       all = λ none quiet. later.all none (sym (stop_is None r) ∙ quiet);
+      at_hand = λ visit others next growth within sound quiet. later.at_hand visit others next growth within sound (sym (stop_is None r) ∙ quiet);
     }
 
     by_refusal : (o : Option EmitFault) → refusal its_header its_rows ≡ o → Heard order n (n + length u) units b x more → Heard order m n (u ∷ units) b heard more
@@ -347,7 +381,22 @@ module _ (order : Order) where
         text = nothing_before order k b false heard more cut;
         stop = λ within f is. by within f (foreign_before order k b false m heard more f cut is);
         all = λ none quiet. (refl, not_version (foreign_in order b) refl (ap (stop_after m []) (append-nil (visits order k b ++ open_visit false) ∙ cut ∙ ap (λ (l : List Visit). heard ++ l) none ∙ append-nil heard) ∙ quiet));
+        at_hand = λ visit others next growth within sound quiet. last_at_hand (one_of order k b) visit others (sym (append-nil (visits order k b)) ∙ cut ∙ ap (λ (l : List Visit). heard ++ l) next) growth within sound quiet;
       } where
+        last_at_hand : Foreign order k b ⊎ (Own order k b ⊎ Neither order k b) → (visit : Visit) (others : List Visit) → visits order k b ≡ heard ++ visit ∷ others → IsGrowth visit
+            → WithinUnit order b → Sound order b → stop_after m [] heard ≡ None → AtHand order [] b
+        last_at_hand (inl v) visit others at growth within sound quiet = absurd (not_at_version m k v.0 [] heard visit others (sym (foreign_visits order k b v) ∙ at) quiet growth)
+        last_at_hand (inr (inl own)) visit others at growth within sound quiet = record {
+          c = b;
+          behind = [];
+          whole = sym (append-nil b);
+          within = within;
+          sound = sound;
+          not_foreign = not_foreign order k b own (foreign_in order b) refl;
+          grows = inl (λ none. subst IsGrowth (single heard visit others (of_header k own.0) (sym at ∙ own_visits order k b own ∙ ap (λ (l : List Row). of_header k own.0 ∷ map of_row l) none)) growth);
+        }
+        last_at_hand (inr (inr none)) visit others at growth within sound quiet = absurd (no_middle heard visit others (sym at ∙ no_visits order k b none))
+
         not_version : (v : Option ℕ) → foreign_in order b ≡ v → stop_after m [] ((visits order k b ++ open_visit false) ++ []) ≡ None → foreign_in order b ≡ None
         not_version None is quiet = is
         not_version (Some v) is quiet = absurd (none_is_some (sym quiet ∙ stop_of_foreign order k b false m (v, is) []))
@@ -380,7 +429,22 @@ module _ (order : Order) where
         text = nothing_before order n u is_open heard x half;
         stop = λ in_unit f is. within f (foreign_before order n u is_open m heard x f half is);
         all = λ none quiet. absurd (no_middle x end_is rest (sym left ∙ none));
+        at_hand = λ visit others next growth in_unit sound quiet. unit_at_hand kind visit others (ap (λ (l : List Visit). l ++ end_is ∷ rest) half ∙ append_assoc heard x (end_is ∷ rest) ∙ ap (λ (l : List Visit). heard ++ l) (sym left ∙ next)) growth quiet;
       } where
+        unit_at_hand : Foreign order 0 u ⊎ Own order 0 u → (visit : Visit) (others : List Visit) → own_front ++ end_is ∷ rest ≡ heard ++ visit ∷ others → IsGrowth visit → stop_after m [] heard ≡ None
+            → AtHand order (u ∷ units) b
+        unit_at_hand (inl v) visit others at growth quiet =
+            absurd (not_at_version m n v.0 (open_visit is_open ++ end_is ∷ rest) heard visit others (ap (λ (l : List Visit). (l ++ open_visit is_open) ++ end_is ∷ rest) (sym (foreign_visits order n u v)) ∙ at) quiet growth)
+        unit_at_hand (inr own) visit others at growth quiet = record {
+          c = u;
+          behind = concat units ++ b;
+          whole = append_assoc u (concat units) b;
+          within = unit_within u all.0;
+          sound = unit_is_not_refused order u all.0;
+          not_foreign = not_foreign order n u own (foreign_in order u) refl;
+          grows = inr all.0;
+        }
+
         within : (f : RunFault) → (v : Foreign order n u) × (f ≡ fault.ForeignUnit n) → StopIs order n [] (u ∷ units) b f
         within f (v, same) = subst (StopIs order n [] (u ∷ units) b) (sym same) (u, concat units ++ b, v.0, append_assoc u (concat units) b, omega arith, unit_within u all.0, v.1)
     on_half (inl (x, half, left)) later = by (unit_kind u all.0) where
@@ -388,7 +452,7 @@ module _ (order : Order) where
       by (inl v) =
           let stop : stop_after m [] heard ≡ Some (fault.ForeignUnit n) = ap (stop_after m []) half ∙ stop_of_foreign order n u is_open m v (end_is ∷ x) in
           stops_foreign m n u units b heard more all.0 v (ap (text_after order []) half ∙ text_of_foreign order n u is_open v (end_is ∷ x))
-          (λ f is. value_same f (fault.ForeignUnit n) (sym is ∙ stop)) (λ none quiet. none_is_some (sym quiet ∙ stop))
+          (λ f is. value_same f (fault.ForeignUnit n) (sym is ∙ stop)) (λ quiet. none_is_some (sym quiet ∙ stop))
       by (inr own) = by_refusal m n u units b heard more x own half (refusal (with_standard_opcodes own.0) (unit_rows order u)) refl
           (later x more all.1 (omega (arith, at, length-append u (concat units))) left)
 
@@ -441,10 +505,20 @@ module _ (order : Order) (limit : ℕ) (bytes : List ℕ) (left : Option (List �
     out_before : Appends start now (text_after order [] stops.before)
     out_before = subst (λ (o : Order). Appends start now (text_after o [] stops.before)) own stops.out
 
-    no_memory : Copies order limit bytes left start now (Err fault.NoMemory)
-    no_memory =
+    no_memory : Sound order b → StopsAt first (stops.before ++ stops.visit ∷ []) fault.NoMemory → Copies order limit bytes left start now (Err fault.NoMemory)
+    no_memory sound (before, visit, same, growth) =
         let h = heard_in units b stops.before (stops.visit ∷ stops.more) has.each stops.whole in
-        (h.done, concat h.after ++ (b ++ back), has_front order s units h.done h.after (b ++ back) h.whole has, (h.copied, subst (Appends start now) h.text out_before))
+        let a = h.at_hand stops.visit stops.more refl (subst IsGrowth (same_last before stops.before visit stops.visit (sym same)) growth) begun.in_unit sound stops.tells.goes_on in
+        let rest : concat h.after ++ (b ++ back) ≡ a.c ++ (a.behind ++ back) = sym (append_assoc (concat h.after) b back) ∙ ap (λ (l : List ℕ). l ++ back) a.whole ∙ append_assoc a.c a.behind back in (
+          h.done,
+          a.c,
+          a.behind ++ back,
+          record { has = subst (HasUnits order s h.done) rest (has_front order s units h.done h.after (b ++ back) h.whole has); in_unit = a.within },
+          a.sound,
+          a.not_foreign,
+          inr a.grows,
+          (h.copied, subst (Appends start now) h.text out_before),
+        )
 
     abbrev heard : List Visit
     heard = stops.before ++ stops.visit ∷ []
@@ -491,22 +565,23 @@ module _ (order : Order) (limit : ℕ) (bytes : List ℕ) (left : Option (List �
 
   pub copies : (result : Result Summary RunFault) → Ran copy_story order limit bytes left first new start now result → Copies order limit bytes left start now result
   copies (Ok summary) (inl (units, ends, settled)) = (units, ends, all_copied units [] ends.0.each settled)
-  copies (Ok summary) (inr (units, back, has, counts, settled)) = absurd settled.tells
+  copies (Ok summary) (inr (_, _, _, _, settled)) = absurd settled.tells
   copies (Err (fault.Write out)) (units, b, back, has, (heard, more, whole, tells)) = failed_write units b back heard more out has.has whole tells
-  copies (Err fault.NoMemory) (units, b, back, inl (ends, settled)) = (units, b ++ back, ends.0.has, all_copied units b ends.0.has.each settled)
-  copies (Err fault.NoMemory) (units, b, back, inr (has, stops)) = no_memory units b back has fault.NoMemory stops
+  copies (Err fault.NoMemory) (units, b, back, inl (ends, settled)) =
+      (units, b, back, ends.0, ends.1, not_version units b ends.0.has.each settled, inl ends.2, all_copied units b ends.0.has.each settled)
+  copies (Err fault.NoMemory) (units, b, back, inr (begun, sound, stops)) = no_memory units b back begun fault.NoMemory stops sound stops.reason
   copies (Err (fault.ForeignUnit offset)) (units, b, back, inl (ends, settled)) = absurd ends
-  copies (Err (fault.ForeignUnit offset)) (units, b, back, inr (has, stops)) = stopped units b back has (fault.ForeignUnit offset) stops stops.reason
+  copies (Err (fault.ForeignUnit offset)) (units, b, back, inr (has, sound, stops)) = stopped units b back has (fault.ForeignUnit offset) stops stops.reason
   copies (Err (fault.Emit offset f)) (units, b, back, inl (ends, settled)) = absurd ends
-  copies (Err (fault.Emit offset f)) (units, b, back, inr (has, stops)) = stopped units b back has (fault.Emit offset f) stops stops.reason
+  copies (Err (fault.Emit offset f)) (units, b, back, inr (has, sound, stops)) = stopped units b back has (fault.Emit offset f) stops stops.reason
   copies (Err fault.NotFound) (units, b, back, inl (ends, settled)) = absurd ends
-  copies (Err fault.NotFound) (units, b, back, inr (has, stops)) = stopped units b back has fault.NotFound stops stops.reason
+  copies (Err fault.NotFound) (units, b, back, inr (has, sound, stops)) = stopped units b back has fault.NotFound stops stops.reason
   copies (Err (fault.Damage at kind)) (units, b, back, inl (ends, settled)) = (units, b, back, ends, not_version units b ends.0.each settled, all_copied units b ends.0.each settled)
-  copies (Err (fault.Damage at kind)) (units, b, back, inr (has, stops)) = stopped units b back has (fault.Damage at kind) stops stops.reason
+  copies (Err (fault.Damage at kind)) (units, b, back, inr (has, sound, stops)) = stopped units b back has (fault.Damage at kind) stops stops.reason
   copies (Err fault.Read) (units, b, back, inl (ends, settled)) = (units, b, back, ends, not_version units b ends.0.each settled, all_copied units b ends.0.each settled)
-  copies (Err fault.Read) (units, b, back, inr (has, stops)) = stopped units b back has fault.Read stops stops.reason
+  copies (Err fault.Read) (units, b, back, inr (has, sound, stops)) = stopped units b back has fault.Read stops stops.reason
   copies (Err fault.SectionTooLong) (units, b, back, inl (ends, settled)) = (units, b, back, ends, not_version units b ends.0.each settled, all_copied units b ends.0.each settled)
-  copies (Err fault.SectionTooLong) (units, b, back, inr (has, stops)) = stopped units b back has fault.SectionTooLong stops stops.reason
+  copies (Err fault.SectionTooLong) (units, b, back, inr (has, sound, stops)) = stopped units b back has fault.SectionTooLong stops stops.reason
 
 -- ---- the copier
 
@@ -561,8 +636,8 @@ module _ (first old new : Copier) (start held after : Option (List ℕ)) (visits
   pub stops_at_version : (offset version : ℕ) → Copying first new start after visits → StopsIn copy_story first new start after visits (of_version offset version ∷ []) (fault.ForeignUnit offset)
   stops_at_version offset version t = (of_version offset version ∷ [], [], refl, (visits, of_version offset version, refl, t, stop_here (of_version offset version)))
 
-  pub stops_for_memory : (visit : Visit) → Copying first new start after visits → StopsIn copy_story first new start after visits (visit ∷ []) fault.NoMemory
-  stops_for_memory visit t = (visit ∷ [], [], refl, (visits, visit, refl, t, tt))
+  pub stops_for_memory : (visit : Visit) → IsGrowth visit → Copying first new start after visits → StopsIn copy_story first new start after visits (visit ∷ []) fault.NoMemory
+  stops_for_memory visit growth t = (visit ∷ [], [], refl, (visits, visit, refl, t, (visits, visit, refl, growth)))
 
 -- a unit ended that has no header
 pub no_header_stop : (n : ℕ) (rows : List Row) (header : Option HeaderData) → header ≡ None → stop_after n rows (of_end header ∷ []) ≡ None
@@ -609,7 +684,7 @@ module _ (first old : Copier) (start held : Option (List ℕ)) (visits : List Vi
         ∙ ap₂ (λ (o : Order) (l : List Row). text_after first.order [] visits ++ text_after o l (of_end header ∷ [])) s.order s.rows
         ∙ sym (text_after-append first.order first.unit [] visits (of_end header ∷ []) s.goes_on)
   stops_by new after fault.NoMemory printed order unit_is rows =
-      stops_for_memory first old new start held after visits s (of_end header)
+      stops_for_memory first old new start held after visits s (of_end header) (subst (λ (g : Option HeaderData). IsGrowth (of_end g)) (sym is) tt)
       (subst (λ (w : Option (List ℕ)). Copying first new start w visits) (sym printed.1.0) (still first old new start held visits s order unit_is rows printed.1.1))
   stops_by new after (fault.Emit offset f) printed order unit_is rows = (
     of_end header ∷ [],

@@ -59,10 +59,10 @@ module _ (order : Order) (limit : ℕ) (bytes : List ℕ) (left : Option (List �
   dumps (Err fault.NotFound) (units, b, back, inl (ends, settled)) = (units, b, back, ends, settled.out)
   dumps (Err (fault.ForeignUnit unit)) (units, b, back, inl (ends, settled)) = (units, b, back, ends, settled.out)
   dumps (Err (fault.Emit unit f)) (units, b, back, inl (ends, settled)) = (units, b, back, ends, settled.out)
-  dumps (Err (fault.Damage offset kind)) (units, b, back, inr (has, stops)) = absurd stops.reason
-  dumps (Err fault.NoMemory) (units, b, back, inr (has, stops)) = absurd stops.reason
-  dumps (Err fault.Read) (units, b, back, inr (has, stops)) = absurd stops.reason
-  dumps (Err fault.SectionTooLong) (units, b, back, inr (has, stops)) = absurd stops.reason
-  dumps (Err fault.NotFound) (units, b, back, inr (has, stops)) = absurd stops.reason
-  dumps (Err (fault.ForeignUnit unit)) (units, b, back, inr (has, stops)) = absurd stops.reason
-  dumps (Err (fault.Emit unit f)) (units, b, back, inr (has, stops)) = absurd stops.reason
+  dumps (Err (fault.Damage offset kind)) (units, b, back, inr (has, sound, stops)) = absurd stops.reason
+  dumps (Err fault.NoMemory) (units, b, back, inr (has, sound, stops)) = absurd stops.reason
+  dumps (Err fault.Read) (units, b, back, inr (has, sound, stops)) = absurd stops.reason
+  dumps (Err fault.SectionTooLong) (units, b, back, inr (has, sound, stops)) = absurd stops.reason
+  dumps (Err fault.NotFound) (units, b, back, inr (has, sound, stops)) = absurd stops.reason
+  dumps (Err (fault.ForeignUnit unit)) (units, b, back, inr (has, sound, stops)) = absurd stops.reason
+  dumps (Err (fault.Emit unit f)) (units, b, back, inr (has, sound, stops)) = absurd stops.reason

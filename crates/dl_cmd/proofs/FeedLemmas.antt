@@ -24,7 +24,7 @@ use Rattle.dl_cmd.specs.Counts.{add}
 use Rattle.dl_cmd.specs.Section.{Visit, HasUnits, HasBegun, AddsCell, header_of, event_visits, visits, units_visits, end_visits, section_visits}
 use Rattle.dl_cmd.specs.Visiting.{Story, StopsIn, GoesOn, UnitsAre, counted, UnitsFed}
 use Rattle.dl_cmd.proofs.EventLemmas.{visits_grow}
-use Rattle.dl_cmd.proofs.SectionLemmas.{no_unit_begins, no_unit_refused, has_push, section_visits-push}
+use Rattle.dl_cmd.proofs.SectionLemmas.{no_unit_begins, no_unit_refused, none_refused, has_push, section_visits-push}
 use Rattle.dl_cmd.proofs.CountLemmas.{more_read}
 
 -- of the piece all but the rest were read
@@ -158,7 +158,7 @@ module _ {S : Type 0} (story : Story S) (order : Order) (t piece : List ℕ) (fi
       with_bytes fed.used,
       drop fed.used rest,
       begun fed.used feeds.answered.in_unit,
-      inr (section_visits order so.units so.b ++ s.0, s.1, visits_told ∙ ap (λ (l : List Visit). section_visits order so.units so.b ++ l) s.2 ∙ sym (append_assoc (section_visits order so.units so.b) s.0 s.1), s.3),
+      inr (λ front back at kind e refused. feeds.answered.sound front back at kind e refused, section_visits order so.units so.b ++ s.0, s.1, visits_told ∙ ap (λ (l : List Visit). section_visits order so.units so.b ++ l) s.2 ∙ sym (append_assoc (section_visits order so.units so.b) s.0 s.1), s.3),
     )
 
     -- nothing was told
@@ -245,7 +245,7 @@ module _ {S : Type 0} (story : Story S) (order : Order) (t piece : List ℕ) (fi
       [],
       drop fed.used rest,
       record { has = all_units is; in_unit = λ n known. omega arith },
-      inr (section_visits order so.units so.b ++ s.0, s.1, end_told is ∙ ap (λ (l : List Visit). section_visits order so.units so.b ++ l) s.2 ∙ sym (append_assoc (section_visits order so.units so.b) s.0 s.1), s.3),
+      inr (none_refused order, section_visits order so.units so.b ++ s.0, s.1, end_told is ∙ ap (λ (l : List Visit). section_visits order so.units so.b ++ l) s.2 ∙ sym (append_assoc (section_visits order so.units so.b) s.0 s.1), s.3),
     )
 
     -- bytes were taken, and nothing came of them yet

@@ -12,6 +12,7 @@ use Rattle.dl_rows.specs.declared.row.Row.{Row}
 use Rattle.dl_rows.specs.declared.reader.Event.{Event}
 use Rattle.dl_rows.specs.declared.reader.Event.TheVariants as event
 use Rattle.dl_rows.specs.LineUnit.{rows_in, rows_behind, unit_rows, ends_open, events}
+use Rattle.dl_rows.specs.Runs.{Sound}
 use Rattle.dl_look.specs.declared.place.Place.{Place}
 use Rattle.dl_look.specs.Answer.{answer}
 use Rattle.dl_look.specs.FinderRows.{StandsFor}
@@ -249,14 +250,14 @@ module _ (order : Order) (limit : ℕ) (bytes : List ℕ) (left : Option (List �
   abbrev strings : Strings
   strings = strings_of first.strings
 
-  pub not_found : (summary : Summary) → new.found ≡ false → Ran find_story order limit bytes left first new start now (Ok summary) → Finds order strings first.place limit bytes left start now (Err fault.NotFound)
-  not_found summary is (inl (units, ends, settled)) =
+  nothing_found : (summary : Summary) → new.found ≡ false → Ran find_story order limit bytes left first new start now (Ok summary) → Finds order strings first.place limit bytes left start now (Err fault.NotFound)
+  nothing_found summary is (inl (units, ends, settled)) =
       (units, summary, ends, none_answers order first.place units [] settled.tells.none, keeps_by_nothing start now _ (ap (text_found strings) settled.tells.none) settled.out)
-  not_found summary is (inr (units, back, has, counts, settled)) = absurd (true≢false (sym settled.tells.found ∙ is))
+  nothing_found summary is (inr (units, back, has, counts, settled)) = absurd (true≢false (sym settled.tells.found ∙ is))
 
-  pub found : (summary : Summary) → new.found ≡ true → Ran find_story order limit bytes left first new start now (Ok summary) → Finds order strings first.place limit bytes left start now (Ok summary)
-  found summary is (inl (units, ends, settled)) = absurd (true≢false (sym is ∙ settled.tells.not_found))
-  found summary is (inr (units, back, has, counts, settled)) =
+  is_found : (summary : Summary) → new.found ≡ true → Ran find_story order limit bytes left first new start now (Ok summary) → Finds order strings first.place limit bytes left start now (Ok summary)
+  is_found summary is (inl (units, ends, settled)) = absurd (true≢false (sym is ∙ settled.tells.not_found))
+  is_found summary is (inr (units, back, has, counts, settled)) =
       let t = settled.tells in
       let last = last_first order first.place units t.before t.last t.h t.r t.whole t.none_before t.finds in
       let f = last.0 in
@@ -275,15 +276,33 @@ module _ (order : Order) (limit : ℕ) (bytes : List ℕ) (left : Option (List �
 
   refused : (f : RunFault) (units : List (List ℕ)) (b back : List ℕ)
       → (EndsAs order limit bytes left units b back (Err f) × Settled find_story first start now (section_visits order units b) (Seeks first new start now))
-      ⊎ (HasBegun order (take limit bytes) units b back × VisitorStops find_story first new start now (section_visits order units b) f) → NothingFound f
+      ⊎ (HasBegun order (take limit bytes) units b back × Sound order b × VisitorStops find_story first new start now (section_visits order units b) f) → NothingFound f
   refused f units b back (inl (ends, settled)) =
       (units, b, back, ends, none_answers order first.place units b settled.tells.none, keeps_by_nothing start now _ (ap (text_found strings) settled.tells.none) settled.out)
-  refused f units b back (inr (has, stops)) = absurd stops.reason
+  refused f units b back (inr (has, sound, stops)) = absurd stops.reason
 
-  pub failed : (f : RunFault) → Ran find_story order limit bytes left first new start now (Err f) → Finds order strings first.place limit bytes left start now (Err f)
-  failed (fault.Write out) (units, b, back, has, (heard, more, whole, tells)) = wrote units b back heard more out has whole (found_after first.place [] heard) refl tells
-  failed fault.NotFound ran = absurd (refused fault.NotFound ran.0 ran.1 ran.2 ran.3).3
-  failed f ran = refused f ran.0 ran.1 ran.2 ran.3
+  fails : (f : RunFault) → Ran find_story order limit bytes left first new start now (Err f) → Finds order strings first.place limit bytes left start now (Err f)
+  fails (fault.Write out) (units, b, back, has, (heard, more, whole, tells)) = wrote units b back heard more out has whole (found_after first.place [] heard) refl tells
+  fails fault.NotFound ran = absurd (refused fault.NotFound ran.0 ran.1 ran.2 ran.3).3
+  fails f ran = refused f ran.0 ran.1 ran.2 ran.3
+
+  -- ---- the same of string sections that are known
+
+  module _ (own : Strings) (is : strings ≡ own) where
+    abbrev Found : Result Summary RunFault → Type 0
+    Found result = Finds order own first.place limit bytes left start now result
+
+    abbrev seen : (result : Result Summary RunFault) → Finds order strings first.place limit bytes left start now result → Found result
+    seen result finds = subst (λ (s : Strings). Finds order s first.place limit bytes left start now result) is finds
+
+    pub not_found : (summary : Summary) → new.found ≡ false → Ran find_story order limit bytes left first new start now (Ok summary) → Found (Err fault.NotFound)
+    not_found summary none ran = seen (Err fault.NotFound) (nothing_found summary none ran)
+
+    pub found : (summary : Summary) → new.found ≡ true → Ran find_story order limit bytes left first new start now (Ok summary) → Found (Ok summary)
+    found summary some ran = seen (Ok summary) (is_found summary some ran)
+
+    pub failed : (f : RunFault) → Ran find_story order limit bytes left first new start now (Err f) → Found (Err f)
+    failed f ran = seen (Err f) (fails f ran)
 
 -- ---- the seeker
 

@@ -1,13 +1,15 @@
 -- Hexadecimal digits, one and two at a time.
 use Rattle.std.proofs.Common.{◌≡◌, ℕ, zero, suc, ◌+◌, ◌-◌, ◌*◌, ◌/◌, ◌%◌, ◌^◌, ◌<◌, ◌≤◌, Bool, true, false, cond, eqb, List, [], ◌∷◌, ◌++◌, length, get_or, eqb→eq, ◌&&◌, T, replicate, refl, sym, ap, ◌∙◌, arith, inl, inr, pow-suc, append_assoc, append-nil, length-append}
 use Rattle.std.proofs.Math.Nat.{div-div-eq-div-mul, div-le_self}
-use Rattle.std.specs.Fmt.{digits_onto, digits}
+use Rattle.std.specs.Prelude.{Result, Ok, Err, IsOk, OnOk}
+use Rattle.std.specs.Fmt.{digit_glyph, digits_onto, digits}
 use Rattle.std.proofs.lemmas.Fmt.{hex_one_digit}
 use Rattle.std.proofs.lemmas.Bool.{ne_eqb, cases_lt}
 use Rattle.std.proofs.lemmas.List.{replicate-append-replicate}
 use Rattle.std.specs.Int.{w64, to_be_bytes}
 use Rattle.dl_cmd.specs.Digits.{last_digit, hexadecimal, hexadecimal_of, hexadecimal_bytes}
 use Rattle.dl_cmd.specs.declared.text.digits.TheConstants.{BYTE_DIGITS}
+use Rattle.hex.specs.Hex.{encode_lower, encode_with, lower_digits}
 use lib.Ieee.Fits.{and_l, and_r}
 
 -- the last k digits at most, followed by those of acc
@@ -129,3 +131,30 @@ digits_below (suc n) b t h = elim (cases_lt b n) [
 
 pub get_or-BYTE_DIGITS : (b : ℕ) → b < 256 → (get_or BYTE_DIGITS (2 * b) 0 ≡ last_digit (b / 16)) × (get_or BYTE_DIGITS (2 * b + 1) 0 ≡ last_digit b)
 get_or-BYTE_DIGITS b h = digits_below 256 b tt h
+
+-- ---- the digits of the crate hex
+
+pub on_ok : {A E P : Type 0} (result : Result A E) → IsOk result → OnOk result P → P
+on_ok (Ok x) is p = p
+on_ok (Err e) is p = cc
+
+abbrev are_lower : ℕ → Bool
+are_lower zero = true
+are_lower (suc d) = eqb (get_or lower_digits d 0) (digit_glyph false d) && are_lower d
+
+lower_below : (n d : ℕ) → T (are_lower n) → d < n → get_or lower_digits d 0 ≡ digit_glyph false d
+lower_below zero d t h = absurd (omega arith)
+lower_below (suc n) d t h = elim (cases_lt d n) [
+  | inl below ↦ lower_below n d (and_r _ (are_lower n) t) below
+  | inr above ↦ let e : d ≡ n = omega arith in rw e (eqb→eq _ _ (and_l _ (are_lower n) t))
+]
+
+pub encode_lower-digits : (w : List ℕ) → ((i : ℕ) → get_or w i 0 < 256) → encode_lower w ≡ hexadecimal_bytes w
+unfolding encode_with
+encode_lower-digits [] small = refl
+encode_lower-digits (b ∷ w) small =
+    let fits : b < 256 = small 0 in
+    let same : b / 16 % 16 ≡ b / 16 = omega arith in
+    let high = lower_below 16 (b / 16) tt (omega arith) ∙ ap (digit_glyph false) (sym same) in
+    let low = lower_below 16 (b % 16) tt (omega arith) in
+    rw (two_digits b fits, high, low, encode_lower-digits w (λ i. small (suc i)))

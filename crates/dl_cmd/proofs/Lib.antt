@@ -3,6 +3,7 @@ pub mod HexadecimalLemmas
 pub mod Outs
 pub mod Pieces
 pub mod HeaderLemmas
+pub mod StringLemmas
 pub mod CopyLemmas
 pub mod CommandLineLemmas
 pub mod AddressLemmas

@@ -102,16 +102,16 @@ module _ {S : Type 0} (story : Story S) (order : Order) (limit : ℕ) (old input
       abbrev Stop : RunFault → Type 0
       Stop f = (units : List (List ℕ)) × (b : List ℕ) × (back : List ℕ) × HasBegun order (so.t ++ take left piece) units b back
           × ((ReaderStops order units b back f × Settled story first start now2 (section_visits order units b) (story.tells first new2 start now2))
-          ⊎ VisitorStops story first new2 start now2 (section_visits order units b) f)
+          ⊎ (Sound order b × VisitorStops story first new2 start now2 (section_visits order units b) f))
 
       abbrev Stopping : RunFault → Type 0
       Stopping f = (units : List (List ℕ)) × (b : List ℕ) × (back : List ℕ)
           × ((EndsAs order limit (so.t ++ piece) input2 units b back (Err f) × Settled story first start now2 (section_visits order units b) (story.tells first new2 start now2))
-          ⊎ (HasBegun order (take limit (so.t ++ piece)) units b back × VisitorStops story first new2 start now2 (section_visits order units b) f))
+          ⊎ (HasBegun order (take limit (so.t ++ piece)) units b back × Sound order b × VisitorStops story first new2 start now2 (section_visits order units b) f))
 
       stopping : (f : RunFault) → ((units : List (List ℕ)) (b back : List ℕ) → HasBegun order (take limit (so.t ++ piece)) units b back → ReaderStops order units b back f → EndsAs order limit (so.t ++ piece) input2 units b back (Err f)) → Stop f → Stopping f
       stopping f ends (units, b, back, has, inl (stops, settled)) = (units, b, back, inl (ends units b back (begun_cut units b back has) stops, settled))
-      stopping f ends (units, b, back, has, inr stops) = (units, b, back, inr (begun_cut units b back has, stops))
+      stopping f ends (units, b, back, has, inr (sound, stops)) = (units, b, back, inr (begun_cut units b back has, sound, stops))
 
       stopped : (f : RunFault) → Worked story order (so.t ++ take left piece) first new2 start now2 u2 (Err f) → Ran story order limit (so.t ++ piece) input2 first new2 start now2 (Err f)
       stopped (fault.Write out) (units, b, back, has, writes) = (units, b, back, begun_cut units b back has, writes)

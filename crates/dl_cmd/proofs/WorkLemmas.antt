@@ -2,6 +2,7 @@
 use Rattle.std.proofs.Common.{◌≡◌, ◌⊎◌, inl, inr, ℕ, true, false, List, [], ◌∷◌, ◌++◌, Option, Result, Ok, Err, arith, sym, ap, ◌∙◌, subst, append_assoc, append-nil}
 use Rattle.std.specs.Io.KnownBytes.{Appends}
 use Rattle.dl_num.specs.declared.fixed.Order.{Order}
+use Rattle.dl_rows.specs.Runs.{Sound}
 use Rattle.dl_cmd.specs.declared.fault.RunFault.{RunFault}
 use Rattle.dl_cmd.specs.declared.fault.RunFault.TheVariants as fault
 use Rattle.dl_cmd.specs.declared.section.Next.{Next}
@@ -35,12 +36,12 @@ module _ {S : Type 0} (story : Story S) (order : Order) (s : List ℕ) (first mi
   abbrev Cause : RunFault → Type 0
   Cause f = (units : List (List ℕ)) × (b : List ℕ) × (back : List ℕ) × HasBegun order s units b back
       × ((ReaderStops order units b back f × story.tells first mid start before (section_visits order units b))
-      ⊎ ((heard : List Visit) × (more : List Visit) × (section_visits order units b ≡ heard ++ more) × HasReason story first mid start before heard f))
+      ⊎ (Sound order b × (heard : List Visit) × (more : List Visit) × (section_visits order units b ≡ heard ++ more) × HasReason story first mid start before heard f))
 
   abbrev Stop : RunFault → Type 0
   Stop f = (units : List (List ℕ)) × (b : List ℕ) × (back : List ℕ) × HasBegun order s units b back
       × ((ReaderStops order units b back f × Settled story first start after (section_visits order units b) (story.tells first new start after))
-      ⊎ VisitorStops story first new start after (section_visits order units b) f)
+      ⊎ (Sound order b × VisitorStops story first new start after (section_visits order units b) f))
 
   -- the visits up to the one at which there was a reason
   parted : (visits heard more before : List Visit) (visit : Visit) → visits ≡ heard ++ more → heard ≡ before ++ visit ∷ [] → visits ≡ before ++ visit ∷ more
@@ -52,21 +53,24 @@ module _ {S : Type 0} (story : Story S) (order : Order) (s : List ℕ) (first mi
 
     stopped : (f : RunFault) → Cause f → Stop f
     stopped f (units, b, back, has, inl (stops, tells)) = (units, b, back, has, inl (stops, settled (section_visits order units b) tells))
-    stopped f (units, b, back, has, inr (heard, more, is, why)) =
+    stopped f (units, b, back, has, inr (sound, heard, more, is, why)) =
         let out = settled why.0 why.3 in (
           units,
           b,
           back,
           has,
-          inr (record {
-            before = why.0;
-            visit = why.1;
-            more = more;
-            whole = parted (section_visits order units b) heard more why.0 why.1 is why.2;
-            tells = out.tells;
-            reason = subst (λ (l : List Visit). story.refuses first l f) why.2 why.4;
-            out = out.out;
-          }),
+          inr (
+            sound,
+            record {
+              before = why.0;
+              visit = why.1;
+              more = more;
+              whole = parted (section_visits order units b) heard more why.0 why.1 is why.2;
+              tells = out.tells;
+              reason = subst (λ (l : List Visit). story.refuses first l f) why.2 why.4;
+              out = out.out;
+            },
+          ),
         )
 
     pub all_out : (answer : Result Next RunFault) → is_failed_write answer ≡ false → UnitsFed story order s first mid start before u answer → Worked story order s first new start after u answer
@@ -84,7 +88,7 @@ module _ {S : Type 0} (story : Story S) (order : Order) (s : List ℕ) (first mi
   module _ (f : RunFault) (fails : (n : Next) (visits : List Visit) → GoesOn story first mid start before visits n → TellsOut start after (story.text first visits) f) where
     lost_at : (g : RunFault) → Cause g → Worked story order s first new start after u (Err f)
     lost_at g (units, b, back, has, inl (stops, tells)) = lost_all units b back has f (fails next.Unit (section_visits order units b) tells)
-    lost_at g (units, b, back, has, inr (heard, more, is, why)) =
+    lost_at g (units, b, back, has, inr (sound, heard, more, is, why)) =
         lost units b back has why.0 (why.1 ∷ more) (parted (section_visits order units b) heard more why.0 why.1 is why.2) f (fails next.Unit why.0 why.3)
 
     pub not_out : (answer : Result Next RunFault) → is_failed_write answer ≡ false → UnitsFed story order s first mid start before u answer → Worked story order s first new start after u (Err f)

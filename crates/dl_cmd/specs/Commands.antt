@@ -1,6 +1,6 @@
 -- What the commands answer and write. bytes: what was read from a reader, which has `left` left. start, now: what the writer held at
 -- first, and holds now. None: it isn't known.
-use Rattle.std.specs.Prelude.{◌≡◌, ℕ, List, [], ◌∷◌, ◌++◌, length, take, flat_map, Option, Some, None, Result, Ok, Err}
+use Rattle.std.specs.Prelude.{◌≡◌, ◌≢◌, ◌⊎◌, ℕ, List, [], ◌∷◌, ◌++◌, length, take, flat_map, Option, Some, None, Result, Ok, Err}
 use Rattle.std.specs.List.{AllByRecursion, concat}
 use Rattle.std.specs.Option.{option_copied, option_map_or}
 use Rattle.std.specs.Io.KnownBytes.{Appends, Keeps}
@@ -9,7 +9,8 @@ use Rattle.dl_head.specs.Built.{with_standard_opcodes}
 use Rattle.dl_head.specs.Header.{foreign_in}
 use Rattle.dl_head.specs.TableData.{HeaderData}
 use Rattle.dl_rows.specs.declared.row.Row.{Row}
-use Rattle.dl_rows.specs.LineUnit.{unit_rows}
+use Rattle.dl_rows.specs.LineUnit.{IsUnit, unit_rows}
+use Rattle.dl_rows.specs.Runs.{Sound}
 use Rattle.dl_look.specs.declared.place.Place.{Place}
 use Rattle.dl_look.specs.Answer.{answer}
 use Rattle.dl_emit.specs.declared.fault.EmitFault.TheVariants.{TooLong}
@@ -19,7 +20,7 @@ use Rattle.dl_cmd.specs.declared.fault.RunFault.TheVariants as fault
 use Rattle.dl_cmd.specs.declared.options.Options.{Options}
 use Rattle.dl_cmd.specs.declared.summary.Summary.{Summary}
 use Rattle.dl_cmd.specs.Output.{TellsOut}
-use Rattle.dl_cmd.specs.Section.{HasUnits, HasBegun, EndsAs, header_of, summary_of}
+use Rattle.dl_cmd.specs.Section.{HasUnits, HasBegun, AddsCell, EndsAs, header_of, summary_of}
 use Rattle.dl_cmd.specs.SectionText.{section_text}
 use Rattle.dl_cmd.specs.Text.{row_line, summary_line}
 use Rattle.dl_cmd.specs.ValueText.{Strings}
@@ -97,6 +98,10 @@ AreCopied order units = AllByRecursion (IsCopied order) units
 abbrev pub HasCopied : Order → List (List ℕ) → (start now : Option (List ℕ)) → Type 0
 HasCopied order units start now = AreCopied order units × Appends start now (copied_units order units)
 
+-- memory grows: for a cell of b's header, which the byte behind b adds; for a row; or for the copy of a unit that is whole
+abbrev pub Grows : Order → (b back : List ℕ) → Type 0
+Grows order b back = AddsCell order b back ⊎ ((unit_rows order b ≢ []) ⊎ IsUnit order b)
+
 -- `copy`: the copies of all units, or of those before the fault. A unit of another version is a fault, also where it is cut off, and so is
 -- a whole unit whose copy would be too long. The fault's offset is that of the unit.
 abbrev pub Copies : Order → (limit : ℕ) (bytes : List ℕ) (left start now : Option (List ℕ)) → Result Summary RunFault → Type 0
@@ -109,9 +114,10 @@ Copies order limit bytes left start now (Err (fault.Emit offset f)) =
     (units : List (List ℕ)) × (u : List ℕ) × (back : List ℕ) × (h : HeaderData) × HasUnits order (take limit bytes) (units ++ u ∷ []) back
     × (offset ≡ length (concat units)) × (header_of order u ≡ Some h) × (refusal (with_standard_opcodes h) (unit_rows order u) ≡ Some f) × (f ≡ TooLong)
     × HasCopied order units start now
--- a growth was refused behind these units
+-- a growth was refused for b, which is in no other way at fault
 Copies order limit bytes left start now (Err fault.NoMemory) =
-    (units : List (List ℕ)) × (back : List ℕ) × HasUnits order (take limit bytes) units back × HasCopied order units start now
+    (units : List (List ℕ)) × (b : List ℕ) × (back : List ℕ) × HasBegun order (take limit bytes) units b back × Sound order b × (foreign_in order b ≡ None)
+    × Grows order b back × HasCopied order units start now
 Copies order limit bytes left start now (Err (fault.Write out)) =
     (units : List (List ℕ)) × (back : List ℕ) × HasUnits order (take limit bytes) units back × AreCopied order units
     × TellsOut start now (copied_units order units) (fault.Write out)

@@ -60,9 +60,15 @@ pub record Copying (first now : Copier) (start held : Option (List ℕ)) (visits
   pub goes_on : stop_after first.unit [] visits ≡ None
   pub printed : HasPrinted start held (text_after first.order [] visits) now.printer
 
--- a growth may be refused at any visit
+-- memory grows for a row, and for the bytes of a unit that has a header
+abbrev pub IsGrowth : Visit → Type 0
+IsGrowth (of_row r) = ⊤
+IsGrowth (of_end (Some h)) = ⊤
+IsGrowth other = ⊥
+
+-- a growth is refused at the last visit
 abbrev pub StopsAt : (first : Copier) (visits : List Visit) → RunFault → Type 0
-StopsAt first visits fault.NoMemory = ⊤
+StopsAt first visits fault.NoMemory = (before : List Visit) × (visit : Visit) × (visits ≡ before ++ visit ∷ []) × IsGrowth visit
 StopsAt first visits f = stop_after first.unit [] visits ≡ Some f
 
 -- unit after unit

@@ -2,8 +2,7 @@
 use Rattle.std.specs.Prelude.{ℕ, Bool, ◌||◌, List, [], ◌∷◌, ◌++◌, Option, Some, None, nat_lt, ◌==◌, if◌then◌else◌, flat_map, codes, decimal, option_and_then}
 use Rattle.dl_cmd.specs.Digits.{hexadecimal, hexadecimal_of, hexadecimal_bytes}
 use Rattle.dl_head.specs.Text.{text_at}
-use Rattle.std.specs.Option.{option_copied}
-use Rattle.dl_cmd.specs.declared.output.values.StringSections.{StringSections}
+use Rattle.dl_cmd.specs.declared.output.string_sections.StringSections.{StringSections}
 use Rattle.dl_head.specs.Value.{Value, text, line_str, str, str_sup, number, block, data16}
 
 -- the bytes that are written by their numbers: those below 0x20, 0x7f, a quote and a backslash
@@ -26,7 +25,7 @@ pub record Strings : Type 0 where
   pub strings : Option (List ℕ)
 
 abbrev pub strings_of : StringSections → Strings
-strings_of s = record { line_strings = option_copied s.debug_line_str; strings = option_copied s.debug_str }
+strings_of s = record { line_strings = s.debug_line_str; strings = s.debug_str }
 
 -- an offset into a section that wasn't handed in, or that has no text there
 abbrev pub offset_text : List ℕ → ℕ → List ℕ

@@ -110,7 +110,7 @@ ReaderStops order units b back (fault.Damage offset kind) =
 ReaderStops order units b back fault.NoMemory = Sound order b × AddsCell order b back
 ReaderStops order units b back other = ⊥
 
--- `feed`: s is what was read before and the piece
+-- `feed`: s is what was read before and the piece. Where the visitor stops, nothing that was read is refused.
 abbrev pub UnitsFed : {S : Type 0} → Story S → Order → (s : List ℕ) → (first new : S) (start now : Option (List ℕ)) → Units → Result Next RunFault → Type 0
 UnitsFed story order s first new start now u (Ok next.Unit) =
     (units : List (List ℕ)) × (b : List ℕ) × UnitsAre order u s units b × NoUnitBegins order b × Sound order b × story.tells first new start now (section_visits order units b)
@@ -119,7 +119,7 @@ UnitsFed story order s first new start now u (Ok next.Nothing) =
 UnitsFed story order s first new start now u (Err f) =
     (units : List (List ℕ)) × (b : List ℕ) × (back : List ℕ) × HasBegun order s units b back
     × ((ReaderStops order units b back f × story.tells first new start now (section_visits order units b))
-    ⊎ ((heard : List Visit) × (more : List Visit) × (section_visits order units b ≡ heard ++ more) × Stopped story first new start now heard f))
+    ⊎ (Sound order b × (heard : List Visit) × (more : List Visit) × (section_visits order units b ≡ heard ++ more) × Stopped story first new start now heard f))
 
 -- the writer holds what is printed of the visits up to some one
 abbrev pub WritesFront : {S : Type 0} → Story S → (first : S) (start now : Option (List ℕ)) (visits : List Visit) → RunFault → Type 0
@@ -155,7 +155,7 @@ Worked story order s first new start now u (Err (fault.Write out)) =
 Worked story order s first new start now u (Err f) =
     (units : List (List ℕ)) × (b : List ℕ) × (back : List ℕ) × HasBegun order s units b back
     × ((ReaderStops order units b back f × Settled story first start now (section_visits order units b) (story.tells first new start now))
-    ⊎ VisitorStops story first new start now (section_visits order units b) f)
+    ⊎ (Sound order b × VisitorStops story first new start now (section_visits order units b) f))
 
 -- `finish`: t is units, or it ends in the midst of one
 abbrev pub Finishes : Order → (t : List ℕ) (units : List (List ℕ)) (b : List ℕ) → Result Summary RunFault → Type 0
@@ -173,4 +173,4 @@ Ran story order limit bytes left first new start now (Err (fault.Write out)) =
 Ran story order limit bytes left first new start now (Err f) =
     (units : List (List ℕ)) × (b : List ℕ) × (back : List ℕ)
     × ((EndsAs order limit bytes left units b back (Err f) × Settled story first start now (section_visits order units b) (story.tells first new start now))
-    ⊎ (HasBegun order (take limit bytes) units b back × VisitorStops story first new start now (section_visits order units b) f))
+    ⊎ (HasBegun order (take limit bytes) units b back × Sound order b × VisitorStops story first new start now (section_visits order units b) f))

@@ -67,12 +67,10 @@ pub fn dump<R: Read, W: Write>(
         × Dumps options.now.order (strings_in options.now) options.now.limit bs
         (R.remaining input.new) (W.contents output.old) (W.contents output.new) result }
 {
+    let strings = StringSections::new(options);
     let mut dumper = Dumper {
         printer: Printer::new(),
-        strings: StringSections {
-            debug_line_str: options.debug_line_str,
-            debug_str: options.debug_str,
-        },
+        strings,
     };
     read_units(alloc, input, output, options, &mut dumper)
 }

@@ -86,12 +86,10 @@ pub fn find<R: Read, W: Write>(
         × Finds options.now.order (strings_in options.now) place options.now.limit bs
         (R.remaining input.new) (W.contents output.old) (W.contents output.new) result }
 {
+    let strings = StringSections::new(options);
     let mut seeker = Seeker {
         printer: Printer::new(),
-        strings: StringSections {
-            debug_line_str: options.debug_line_str,
-            debug_str: options.debug_str,
-        },
+        strings,
         place,
         finder: Finder::new(place),
         found: false,

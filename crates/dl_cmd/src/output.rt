@@ -1,5 +1,6 @@
 //! The output, printed through one buffer.
 mod lines;
+mod string_sections;
 mod tables;
 mod values;
 
@@ -12,7 +13,7 @@ use crate::text::write_bytes;
 use dl_head::counted::write_all;
 use std::io::Write;
 use std::marker::Model;
-pub use values::StringSections;
+pub use string_sections::StringSections;
 
 /// How many bytes a printer holds at most.
 const HELD: usize = 65536;

@@ -1,6 +1,7 @@
 //! Texts, readers and writers from outside.
 mod addresses;
 mod copying;
+mod each_call;
 mod faults;
 mod finding;
 mod printing;

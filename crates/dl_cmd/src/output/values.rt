@@ -7,32 +7,16 @@ ghost use Rattle.dl_head.specs.Held.{value_lent};
 ghost use Rattle.dl_cmd.specs.ValueText.{quoted, quoted_bytes, offset_text, quoted_or_offset, text_in_section, value_text, named_value, content_name, strings_of};
 
 use super::Printer;
+use super::string_sections::{StringSection, StringSections, text_in_section};
 use crate::fault::RunFault;
 use crate::text::{
     write_hexadecimal_bytes, write_number, write_offset, write_quoted_bytes, write_value_start,
 };
-use dl_head::{ValueRef, text_at};
+use dl_head::ValueRef;
 use std::io::Write;
 
 /// How many bytes of a value are printed in one go.
 const PART: usize = 64;
-
-/// The string sections that were handed in.
-#[derive(Clone, Copy)]
-pub struct StringSections<'a> {
-    pub debug_line_str: Option<&'a [u8]>,
-    pub debug_str: Option<&'a [u8]>,
-}
-
-/// The text at an offset of a section, where the section was handed in.
-fn text_in_section(section: Option<&[u8]>, offset: u64) -> Option<&[u8]>
-    ensures { option_copied result ≡ text_in_section (option_copied section.entry) offset }
-{
-    match section {
-        Some(bytes) => text_at(bytes, offset),
-        None => None,
-    }
-}
 
 impl Printer {
     /// Prints two digits for each of a few bytes.
@@ -136,7 +120,7 @@ impl Printer {
         &mut self,
         output: &mut W,
         name: &[u8],
-        section: Option<&[u8]>,
+        section: Option<&StringSection<'_>>,
         offset: u64,
     ) -> Result<(), RunFault>
         requires short { length name.now ≤ 16 }
@@ -163,9 +147,9 @@ impl Printer {
         match value {
             ValueRef::Text(text) => self.quoted(output, text),
             ValueRef::LineStr(at) => {
-                self.string(output, b"line_strp", strings.debug_line_str, at)
+                self.string(output, b"line_strp", strings.debug_line_str.as_ref(), at)
             }
-            ValueRef::Str(at) => self.string(output, b"strp", strings.debug_str, at),
+            ValueRef::Str(at) => self.string(output, b"strp", strings.debug_str.as_ref(), at),
             ValueRef::StrSup(at) => self.offset(output, b"strp_sup", at),
             ValueRef::Number(number) => self.number(output, b"", number),
             ValueRef::Block(bytes) => self.block(output, bytes),

@@ -2,7 +2,7 @@
 ghost use Rattle.std.specs.Prelude.{◌≤◌};
 
 use super::sections::{FOREIGN, MD5, THREE_ROWS, bytes, counts, damage, options};
-use super::streams::{Hoarding, Sink, Source};
+use super::streams::{Sink, Source};
 use crate::{Options, RunFault, SECTION_LIMIT, Summary, copy};
 use dl_head::FaultKind;
 use dl_num::Order;
@@ -160,88 +160,5 @@ fn faults(rt: HostRuntime) -> Result<(), Fail> {
             Err(fault),
         );
     }
-    Ok(())
-}
-
-#[test]
-fn reader_that_fails(rt: HostRuntime) -> Result<(), Fail> {
-    let alloc = rt.alloc();
-    let section = bytes(alloc, &[THREE_ROWS, THREE_ROWS])?;
-    for (len, out) in [(51, 0), (52, 52), (60, 52), (104, 104)] {
-        let mut input = Source::new(section.get(..len).ok_or("a front")?, 4096);
-        input.fails = true;
-        let mut output = Sink::new(alloc, 1 << 20, 1 << 20);
-        let answered = copy(alloc, &mut input, &mut output, &options(SECTION_LIMIT));
-        assert_eq!(rt; answered, Err(RunFault::Read));
-        assert_eq!(rt; Some(output.held.as_slice()), section.get(..out));
-    }
-    Ok(())
-}
-
-/// Exactly the bytes that are told are out.
-#[test]
-fn output_that_fails(rt: HostRuntime) -> Result<(), Fail> {
-    let alloc = rt.alloc();
-    let section = bytes(alloc, &[THREE_ROWS, THREE_ROWS])?;
-    for room in 0..104usize {
-        for fails in [true, false] {
-            let mut output = Sink::new(alloc, room, 7);
-            output.fails = fails;
-            let mut input = Source::new(section.as_slice(), 4096);
-            let answered = copy(alloc, &mut input, &mut output, &options(SECTION_LIMIT));
-            assert_eq!(rt; answered, Err(RunFault::Write { out: room as u128 }));
-            assert_eq!(rt; Some(output.held.as_slice()), section.get(..room));
-        }
-    }
-    Ok(())
-}
-
-#[test]
-fn interruptions(rt: HostRuntime) -> Result<(), Fail> {
-    let alloc = rt.alloc();
-    let section = bytes(alloc, &[THREE_ROWS])?;
-    let cases = [
-        (1000, 1000, counts(1, 0, 1, 3)),
-        (1001, 0, Err(RunFault::Read)),
-        (0, 1001, Err(RunFault::Write { out: 0 })),
-    ];
-    for (reads, writes, answer) in cases {
-        let mut input = Source::new(section.as_slice(), 4096);
-        input.interruptions = reads;
-        let mut output = Sink::new(alloc, 1 << 20, 1 << 20);
-        output.interruptions = writes;
-        let answered = copy(alloc, &mut input, &mut output, &options(SECTION_LIMIT));
-        assert_eq!(rt; answered, answer);
-    }
-    Ok(())
-}
-
-/// Where a growth is refused, the units before the one at hand are written.
-#[test]
-fn wants_memory(rt: HostRuntime) -> Result<(), Fail> {
-    let alloc = rt.alloc();
-    let section = bytes(alloc, &[THREE_ROWS, MD5, THREE_ROWS])?;
-    let mut refusals = 0u32;
-    for at_byte in 0..section.len() {
-        let mut output = Sink::new(alloc, 1 << 20, 1 << 20);
-        output.held.reserve(1 << 10)?;
-        let mut input = Hoarding::new(alloc, section.as_slice(), at_byte);
-        let answered = copy(alloc, &mut input, &mut output, &options(SECTION_LIMIT));
-        drop(input);
-        let written = output.held.as_slice();
-        match answered {
-            Ok(summary) => {
-                assert_eq!(rt; summary.rows, 6);
-                assert_eq!(rt; written, section.as_slice());
-            }
-            Err(fault) => {
-                assert_eq!(rt; fault, RunFault::NoMemory);
-                assert!(rt; matches!(written.len(), 0 | 52 | 130));
-                assert_eq!(rt; Some(written), section.get(..written.len()));
-                refusals = refusals.saturating_add(1);
-            }
-        }
-    }
-    assert!(rt; 4 < refusals);
     Ok(())
 }

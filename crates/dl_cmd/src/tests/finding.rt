@@ -2,7 +2,7 @@
 ghost use Rattle.std.specs.Prelude.{◌≤◌};
 
 use super::sections::{FOREIGN, MD5, SMALLEST, THREE_ROWS, bytes, damage, options};
-use super::streams::{Hoarding, Repeated, Sink, Source};
+use super::streams::{Repeated, Sink, Source};
 use crate::{Options, RunFault, SECTION_LIMIT, Summary, find};
 use dl_head::FaultKind;
 use dl_look::{Index, Place};
@@ -196,28 +196,6 @@ fn rest_of_the_input(rt: HostRuntime) -> Result<(), Fail> {
     Ok(())
 }
 
-/// Exactly the bytes that are told are out.
-#[test]
-fn output_that_fails(rt: HostRuntime) -> Result<(), Fail> {
-    let alloc = rt.alloc();
-    let section = bytes(alloc, &[THREE_ROWS])?;
-    for room in [0, 1, 14, 15, 50] {
-        for fails in [true, false] {
-            let mut output = Sink::new(alloc, room, 7);
-            output.fails = fails;
-            let mut input = Source::new(section.as_slice(), 5);
-            let options = options(SECTION_LIMIT);
-            let answered = find(alloc, &mut input, &mut output, at(0x401000), &options);
-            assert_eq!(rt; answered, Err(RunFault::Write { out: room as u128 }));
-            assert_eq!(rt;
-                Some(output.held.as_slice()),
-                FIRST_LINES.as_bytes().get(..room)
-            );
-        }
-    }
-    Ok(())
-}
-
 /// The rows of a unit, fed whole.
 fn rows_of(alloc: Global, unit: &[u8]) -> Result<Vec<Row>, AllocError> {
     let mut rows = Vec::new(alloc);
@@ -258,31 +236,5 @@ fn index_and_command(rt: HostRuntime) -> Result<(), Fail> {
         let answer = answer.ok_or(RunFault::NotFound);
         assert_find(&rt, alloc, section.as_slice(), at(address), text, answer);
     }
-    Ok(())
-}
-
-/// Where a growth is refused, nothing is printed.
-#[test]
-fn wants_memory(rt: HostRuntime) -> Result<(), Fail> {
-    let alloc = rt.alloc();
-    let section = bytes(alloc, &[WITH_FILE])?;
-    let mut refusals = 0u32;
-    for at_byte in 0..section.len() {
-        let mut output = Sink::new(alloc, 1 << 20, 1 << 20);
-        output.held.reserve(1 << 10)?;
-        let mut input = Hoarding::new(alloc, section.as_slice(), at_byte);
-        let options = options(SECTION_LIMIT);
-        let answered = find(alloc, &mut input, &mut output, at(2), &options);
-        drop(input);
-        match answered {
-            Ok(summary) => assert_eq!(rt; summary.rows, 2),
-            Err(fault) => {
-                assert_eq!(rt; fault, RunFault::NoMemory);
-                assert!(rt; output.held.is_empty());
-                refusals = refusals.saturating_add(1);
-            }
-        }
-    }
-    assert!(rt; 4 < refusals);
     Ok(())
 }

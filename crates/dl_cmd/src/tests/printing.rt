@@ -1,7 +1,8 @@
 //! Printed lines and values.
+use super::sections::options;
 use super::streams::Sink;
-use crate::Summary;
 use crate::output::{Printer, StringSections};
+use crate::{Options, SECTION_LIMIT, Summary};
 use dl_head::{Format, ValueRef};
 use dl_rows::Row;
 use std::test::Fail;
@@ -110,10 +111,10 @@ fn other_lines(rt: HostRuntime) -> Result<(), Fail> {
 
 #[test]
 fn values(rt: HostRuntime) -> Result<(), Fail> {
-    let strings = StringSections {
+    let strings = StringSections::new(&Options {
         debug_line_str: Some(b"a\0/s\0"),
-        debug_str: None,
-    };
+        ..options(SECTION_LIMIT)
+    });
     let md5 = [0, 1, 2, 3, 4, 5, 6, 7, 8, 9, 10, 11, 12, 13, 14, 15];
     for (content, value, want) in [
         (1, ValueRef::Text(b"a.c"), " path=\"a.c\""),
@@ -152,12 +153,38 @@ fn values(rt: HostRuntime) -> Result<(), Fail> {
     Ok(())
 }
 
+/// Behind the last zero byte of a section there is no text, nor in a section without one.
+#[test]
+fn bytes_behind_all_texts(rt: HostRuntime) -> Result<(), Fail> {
+    let strings = StringSections::new(&Options {
+        debug_line_str: Some(b"a\0\0bcd"),
+        debug_str: Some(b"abc"),
+        ..options(SECTION_LIMIT)
+    });
+    for (value, want) in [
+        (ValueRef::LineStr(0), " path=\"a\""),
+        (ValueRef::LineStr(1), " path=\"\""),
+        (ValueRef::LineStr(2), " path=\"\""),
+        (ValueRef::LineStr(3), " path=line_strp+0x3"),
+        (ValueRef::LineStr(5), " path=line_strp+0x5"),
+        (ValueRef::LineStr(6), " path=line_strp+0x6"),
+        (ValueRef::Str(0), " path=strp+0x0"),
+        (ValueRef::Str(2), " path=strp+0x2"),
+        (ValueRef::Str(3), " path=strp+0x3"),
+    ] {
+        let mut output = Sink::new(rt.alloc(), 1000, 1000);
+        let mut printer = Printer::new();
+        let printed = printer.named_value(&mut output, &strings, 1, value);
+        assert_eq!(rt; printed, Ok(()));
+        assert_eq!(rt; printer.flush(&mut output), Ok(()));
+        assert_eq!(rt; output.held.as_slice(), want.as_bytes());
+    }
+    Ok(())
+}
+
 #[test]
 fn bytes_past_ascii(rt: HostRuntime) -> Result<(), Fail> {
-    let strings = StringSections {
-        debug_line_str: None,
-        debug_str: None,
-    };
+    let strings = StringSections::new(&options(SECTION_LIMIT));
     let mut output = Sink::new(rt.alloc(), 1000, 1000);
     let mut printer = Printer::new();
     let value = ValueRef::Text(b"\x7e\x7f\x80\xff");

@@ -1,5 +1,5 @@
 //! Reading a string section.
-use super::streams::{Endless, Hoarder, Source};
+use super::streams::{Endless, Fault, Hoarding, Source};
 use crate::{RunFault, read_strings};
 use std::test::Fail;
 
@@ -18,43 +18,44 @@ fn limits(rt: HostRuntime) -> Result<(), Fail> {
     Ok(())
 }
 
+/// A fault at each read in turn.
 #[test]
-fn reader_that_fails(rt: HostRuntime) {
-    for most in [1, 2, 4096] {
-        let mut input = Source::new(b"hello", most);
-        input.fails = true;
-        assert_eq!(rt;
-            read_strings(rt.alloc(), &mut input, 9).err(),
-            Some(RunFault::Read)
-        );
+fn each_read(rt: HostRuntime) -> Result<(), Fail> {
+    let text = b"hello, world";
+    for (before, front) in [(0, 0), (1, 5), (2, 10), (3, 12)] {
+        let front = text.get(..front).ok_or("a front")?;
+        for (fault, want) in [
+            (Fault::Fails, None),
+            (Fault::Interrupted(1001), None),
+            (Fault::Interrupted(1000), Some(text.as_slice())),
+            (Fault::Short, Some(text.as_slice())),
+            (Fault::Nothing, Some(front)),
+        ] {
+            let mut input = Source::new(text, 5).with_fault(before, fault);
+            let read = read_strings(rt.alloc(), &mut input, 12);
+            match want {
+                Some(bytes) => assert_eq!(rt; read.ok().ok_or("bytes")?.as_slice(), bytes),
+                None => assert_eq!(rt; read.err(), Some(RunFault::Read)),
+            }
+        }
     }
+    Ok(())
 }
 
-#[test]
-fn interruptions(rt: HostRuntime) {
-    for (interruptions, want) in [(1000, None), (1001, Some(RunFault::Read))] {
-        let mut input = Source::new(b"hello", 2);
-        input.interruptions = interruptions;
-        assert_eq!(rt; read_strings(rt.alloc(), &mut input, 9).err(), want);
-    }
-}
-
+/// Each growth refused in turn, which isn't tried again.
 #[test]
 fn wants_memory(rt: HostRuntime) {
     let mut refusals = 0u32;
-    for at in 0..65 {
-        let mut input = Hoarder {
-            alloc: rt.alloc(),
-            at,
-            given: 0,
-            blocks: Vec::new(rt.alloc()),
-        };
+    for at in 0..64 {
+        let mut input = Hoarding::new(rt.alloc(), &[7; 64], at);
         let read = read_strings(rt.alloc(), &mut input, 100);
+        let given = input.given;
         drop(input);
         match read {
-            Ok(bytes) => assert_eq!(rt; bytes.len(), 64),
+            Ok(bytes) => assert_eq!(rt; bytes.as_slice(), [7; 64].as_slice()),
             Err(fault) => {
                 assert_eq!(rt; fault, RunFault::NoMemory);
+                assert_eq!(rt; given, at + 1);
                 refusals = refusals.saturating_add(1);
             }
         }

@@ -3,13 +3,54 @@ use std::alloc::{AllocError, Global};
 use std::io;
 use std::io::{ErrorKind, Read, Write};
 
-/// Gives its bytes `most` at a time, each time after some interruptions, and then ends or fails.
+/// What becomes of one call of a reader or writer. The calls behind it are as without it.
+#[derive(Clone, Copy, Debug, PartialEq, Eq)]
+pub enum Fault {
+    /// It fails.
+    Fails,
+    /// It gives or takes one byte.
+    Short,
+    /// It is interrupted so often.
+    Interrupted(u32),
+    /// It gives or takes no byte.
+    Nothing,
+}
+
+/// A fault at the call behind so many others.
+#[derive(Drop)]
+struct Plan {
+    before: u32,
+    fault: Option<Fault>,
+}
+
+impl Plan {
+    /// How many bytes the next call gives or takes, of which there may be `most`.
+    fn next(&mut self, most: usize) -> io::Result<usize> {
+        if self.before > 0 {
+            self.before -= 1;
+            return Ok(most);
+        }
+        let fault = self.fault;
+        self.fault = None;
+        match fault {
+            None | Some(Fault::Interrupted(0)) => Ok(most),
+            Some(Fault::Fails) => Err(io::Error::from(ErrorKind::BrokenPipe)),
+            Some(Fault::Short) => Ok(most.min(1)),
+            Some(Fault::Nothing) => Ok(0),
+            Some(Fault::Interrupted(times)) => {
+                self.fault = Some(Fault::Interrupted(times - 1));
+                Err(io::Error::from(ErrorKind::Interrupted))
+            }
+        }
+    }
+}
+
+/// Gives its bytes `most` at a time, and then ends or fails.
 #[derive(Drop)]
 pub struct Source<'a> {
-    pub bytes: &'a [u8],
-    pub most: usize,
-    pub interruptions: u32,
-    pub waited: u32,
+    bytes: &'a [u8],
+    most: usize,
+    plan: Plan,
     pub fails: bool,
 }
 
@@ -18,24 +59,33 @@ impl<'a> Source<'a> {
         Source {
             bytes,
             most,
-            interruptions: 0,
-            waited: 0,
+            plan: Plan {
+                before: 0,
+                fault: None,
+            },
             fails: false,
+        }
+    }
+
+    /// The same with a fault at the call behind so many others.
+    pub fn with_fault(self, before: u32, fault: Fault) -> Source<'a> {
+        Source {
+            plan: Plan {
+                before,
+                fault: Some(fault),
+            },
+            ..self
         }
     }
 }
 
 impl Read for Source<'_> {
     fn read(&mut self, buf: &mut [u8]) -> io::Result<usize> {
-        if self.waited < self.interruptions {
-            self.waited += 1;
-            return Err(io::Error::from(ErrorKind::Interrupted));
-        }
-        self.waited = 0;
+        let most = self.plan.next(self.most)?;
         if self.bytes.is_empty() && self.fails {
             return Err(io::Error::from(ErrorKind::BrokenPipe));
         }
-        let n = self.most.min(self.bytes.len()).min(buf.len());
+        let n = most.min(self.bytes.len()).min(buf.len());
         buf[..n].copy_from_slice(&self.bytes[..n]);
         self.bytes = &self.bytes[n..];
         Ok(n)
@@ -78,15 +128,13 @@ impl Read for Repeated<'_> {
     }
 }
 
-/// Takes `room` bytes in all, `most` at a time, each time after some interruptions, and then fails
-/// or takes nothing.
+/// Takes `room` bytes in all, `most` at a time, and then fails or takes nothing.
 #[derive(Drop)]
 pub struct Sink {
     pub held: Vec<u8>,
-    pub room: usize,
-    pub most: usize,
-    pub interruptions: u32,
-    pub waited: u32,
+    room: usize,
+    most: usize,
+    plan: Plan,
     pub fails: bool,
 }
 
@@ -96,25 +144,34 @@ impl Sink {
             held: Vec::new(alloc),
             room,
             most,
-            interruptions: 0,
-            waited: 0,
+            plan: Plan {
+                before: 0,
+                fault: None,
+            },
             fails: true,
+        }
+    }
+
+    /// Room for a megabyte, and a fault at the call behind so many others.
+    pub fn with_fault(alloc: Global, most: usize, before: u32, fault: Fault) -> Sink {
+        Sink {
+            plan: Plan {
+                before,
+                fault: Some(fault),
+            },
+            ..Sink::new(alloc, 1 << 20, most)
         }
     }
 }
 
 impl Write for Sink {
     fn write(&mut self, buf: &[u8]) -> io::Result<usize> {
-        if self.waited < self.interruptions {
-            self.waited += 1;
-            return Err(io::Error::from(ErrorKind::Interrupted));
-        }
-        self.waited = 0;
+        let most = self.plan.next(self.most)?;
         if self.held.len() >= self.room && self.fails {
             return Err(io::Error::from(ErrorKind::BrokenPipe));
         }
         let left = self.room.saturating_sub(self.held.len());
-        let n = self.most.min(left).min(buf.len());
+        let n = most.min(left).min(buf.len());
         self.held.extend_from_slice(&buf[..n])?;
         Ok(n)
     }
@@ -125,7 +182,7 @@ impl Write for Sink {
 }
 
 /// Takes all the memory that the process can get, but for one block of `spare` bytes.
-pub fn hoard_but(alloc: Global, spare: usize) -> Result<Vec<Vec<u8>>, AllocError> {
+fn hoard_but(alloc: Global, spare: usize) -> Result<Vec<Vec<u8>>, AllocError> {
     let mut blocks = Vec::with_capacity(alloc, 1 << 17)?;
     let free: Vec<u8> = Vec::with_capacity(alloc, spare)?;
     let mut size = 1usize << 46;
@@ -142,36 +199,13 @@ pub fn hoard_but(alloc: Global, spare: usize) -> Result<Vec<Vec<u8>>, AllocError
     Ok(blocks)
 }
 
-/// Gives one byte at a time, 64 in all, and takes all memory before the byte at `at`.
-#[derive(Drop)]
-pub struct Hoarder {
-    pub alloc: Global,
-    pub at: usize,
-    pub given: usize,
-    pub blocks: Vec<Vec<u8>>,
-}
-
-impl Read for Hoarder {
-    fn read(&mut self, buf: &mut [u8]) -> io::Result<usize> {
-        if self.given >= 64 || buf.is_empty() {
-            return Ok(0);
-        }
-        if self.given == self.at {
-            self.blocks = hoard_but(self.alloc, 1)?;
-        }
-        self.given += 1;
-        buf[0] = 7;
-        Ok(1)
-    }
-}
-
-/// Gives bytes one at a time, and takes all memory before the byte at `at`.
+/// Gives bytes one at a time, and has all memory from the byte at `at` to the next call.
 #[derive(Drop)]
 pub struct Hoarding<'a> {
     alloc: Global,
     bytes: &'a [u8],
     at: usize,
-    given: usize,
+    pub given: usize,
     blocks: Vec<Vec<u8>>,
 }
 
@@ -192,6 +226,7 @@ impl Read for Hoarding<'_> {
         let Some(byte) = self.bytes.get(self.given) else {
             return Ok(0);
         };
+        self.blocks = Vec::new(self.alloc);
         if self.given == self.at {
             self.blocks = hoard_but(self.alloc, 1)?;
         }

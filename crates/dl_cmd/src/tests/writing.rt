@@ -1,7 +1,8 @@
 //! Writers that are short, are interrupted, fail or take nothing.
-use super::streams::Sink;
-use crate::RunFault;
+use super::sections::options;
+use super::streams::{Fault, Sink};
 use crate::output::{Printer, StringSections};
+use crate::{RunFault, SECTION_LIMIT};
 use dl_head::{Format, ValueRef};
 use std::test::Fail;
 
@@ -35,8 +36,8 @@ fn writer_that_takes_nothing(rt: HostRuntime) -> Result<(), Fail> {
 #[test]
 fn interruptions(rt: HostRuntime) -> Result<(), Fail> {
     for (interruptions, want) in [(1000, Ok(())), (1001, Err(RunFault::Write { out: 0 }))] {
-        let mut output = Sink::new(rt.alloc(), 100, 7);
-        output.interruptions = interruptions;
+        let fault = Fault::Interrupted(interruptions);
+        let mut output = Sink::with_fault(rt.alloc(), 7, 0, fault);
         assert_eq!(rt; print_unit(&mut output), want);
     }
     Ok(())
@@ -44,10 +45,7 @@ fn interruptions(rt: HostRuntime) -> Result<(), Fail> {
 
 /// Prints a text of 100,000 bytes in quotes, then as many bytes as they are.
 fn print_long(output: &mut Sink, bytes: &[u8]) -> Result<(), RunFault> {
-    let strings = StringSections {
-        debug_line_str: None,
-        debug_str: None,
-    };
+    let strings = StringSections::new(&options(SECTION_LIMIT));
     let mut printer = Printer::new();
     printer.named_value(output, &strings, 1, ValueRef::Text(bytes))?;
     printer.put(output, bytes)?;

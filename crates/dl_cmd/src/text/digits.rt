@@ -137,6 +137,20 @@ pub fn write_hexadecimal(buffer: &mut [u8], at: usize, number: u64) -> usize
     write_byte(buffer, at, last_digit(number))
 }
 
+/// Writes two hexadecimal digits for each byte, and answers where they end.
+#[inline]
+pub fn write_hexadecimal_bytes(buffer: &mut [u8], at: usize, bytes: &[u8]) -> usize
+    requires { at + 2 * length bytes.now ≤ length buffer.old }
+    ensures written { take result buffer.new
+        ≡ take at buffer.old ++ hexadecimal_bytes bytes.now }
+    ensures end { result ≡ at + 2 * length bytes.now }
+{
+    let end = at + 2 * bytes.len();
+    // The digits fit, so there is no error.
+    let _ = hex::encode_to_slice(bytes, &mut buffer[at..end]);
+    end
+}
+
 /// Writes the two hexadecimal digits of a byte, and answers where they end.
 #[inline]
 pub fn write_byte_digits(buffer: &mut [u8], at: usize, byte: u8) -> usize
@@ -149,21 +163,6 @@ pub fn write_byte_digits(buffer: &mut [u8], at: usize, byte: u8) -> usize
     write_byte(buffer, at, BYTE_DIGITS[from + 1])
 }
 
-/// Writes two hexadecimal digits for each byte, and answers where they end.
-#[inline]
-pub fn write_hexadecimal_bytes(buffer: &mut [u8], at: usize, bytes: &[u8]) -> usize
-    requires { at + 2 * length bytes.now ≤ length buffer.old }
-    ensures written { take result buffer.new
-        ≡ take at buffer.old ++ hexadecimal_bytes bytes.now }
-    ensures end { result ≡ at + 2 * length bytes.now }
-{
-    let mut at = at;
-    for byte in bytes {
-        at = write_byte_digits(buffer, at, *byte);
-    }
-    at
-}
-
 /// Writes a number in sixteen hexadecimal digits, and answers where they end.
 #[inline]
 pub fn write_sixteen_digits(buffer: &mut [u8], at: usize, number: u64) -> usize
@@ -172,5 +171,10 @@ pub fn write_sixteen_digits(buffer: &mut [u8], at: usize, number: u64) -> usize
         ≡ take at buffer.old ++ hexadecimal_of 16 number }
     ensures end { result ≡ at + 16 }
 {
-    write_hexadecimal_bytes(buffer, at, &number.to_be_bytes())
+    let bytes = number.to_be_bytes();
+    let mut at = at;
+    for byte in &bytes {
+        at = write_byte_digits(buffer, at, *byte);
+    }
+    at
 }

@@ -12,4 +12,4 @@ pub returns-in-Err : goal.returns-in-Err
 returns-in-Err g c first start visits s =
     let held = g.W.Write.contents c.args._output.now in
     let new = record c.args.self.now { rows = c.push.new.self } in
-    stops_for_memory first c.args.self.now new start held held visits s (of_row c.args.row.now) (still first c.args.self.now new start held visits s refl refl c.in-Err.ensures.items refl)
+    stops_for_memory first c.args.self.now new start held held visits s (of_row c.args.row.now) tt (still first c.args.self.now new start held visits s refl refl c.in-Err.ensures.items refl)
