@@ -182,7 +182,7 @@ impl Write for Sink {
 }
 
 /// Takes all the memory that the process can get, but for one block of `spare` bytes.
-fn hoard_but(alloc: Global, spare: usize) -> Result<Vec<Vec<u8>>, AllocError> {
+pub fn hoard_but(alloc: Global, spare: usize) -> Result<Vec<Vec<u8>>, AllocError> {
     let mut blocks = Vec::with_capacity(alloc, 1 << 17)?;
     let free: Vec<u8> = Vec::with_capacity(alloc, spare)?;
     let mut size = 1usize << 46;
