@@ -16,6 +16,7 @@ pub mod EntryData
 pub mod EntryHeld
 pub mod ValuesLeft
 pub mod Built
+pub mod Sound
 pub mod Building
 pub mod Equal
 pub mod EqualLaws
@@ -27,6 +28,7 @@ pub mod Spelled
 pub mod Writing
 pub mod Place
 pub mod TablePlace
+pub mod TableSpelt
 pub mod Standing
 pub mod Reading
 pub mod Runs
