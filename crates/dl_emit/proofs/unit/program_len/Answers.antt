@@ -22,7 +22,7 @@ loop-i-preserved c =
     let bytes = c.len.ensures.value ∙ ap length (rw c.clear.ensures at c.put_row.ensures.items) in
     record {
       in_range = row_in_range h rows i _ c.loop-i-test.true (sym c.is_in_range.ensures.value ∙ c.if-not-is_in_range.false) ∙ c.loop-i.invariant.in_range;
-      ranged = subst (AllByRecursion IsRow) (take_more rows i _ c.loop-i-test.true) (all_push IsRow (take i rows) _ c.loop-i.invariant.ranged c.is_in_range.ensures.row);
+      ranged = subst (AllByRecursion IsRow) (sym (take_more rows i _ c.loop-i-test.true)) (all_push IsRow (take i rows) _ c.loop-i.invariant.ranged c.is_in_range.ensures.row);
       counted = rw c.kept-before.ensures (counts_more h rows c.loop-i.len c.saturating_add-len.result c.len.result i _ c.loop-i.before c.loop-i-test.true bytes c.saturating_add-len.ensures c.loop-i.invariant.counted);
     }
 
