@@ -1,12 +1,12 @@
 -- The program that is written for rows is read again as these rows.
-use Rattle.std.proofs.Common.{◌≡◌, ℕ, ◌+◌, ◌^◌, ◌<◌, ◌≤◌, Bool, true, false, nat_lt, if◌then◌else◌, ℤ, pos, negsuc, List, [], ◌∷◌, Option, Some, None, refl, inl, inr, sym, ap, subst, map, ◌∙◌, arith}
+use Rattle.std.proofs.Common.{◌≡◌, ℕ, ◌+◌, ◌^◌, ◌<◌, ◌≤◌, Bool, true, false, nat_lt, if◌then◌else◌, ℤ, pos, negsuc, List, [], ◌∷◌, Option, Some, None, refl, sym, ap, subst, map, ◌∙◌, arith}
 use Rattle.std.specs.Option.{option_or}
 use Rattle.std.specs.Prelude.{unsigned_abs, ◌*◌, ◌==◌}
 use Rattle.std.specs.Int.{w8}
 use Rattle.std.specs.Int.RustNames.{FitsSigned}
 use Rattle.std.specs.List.{AllByRecursion}
 use Rattle.std.proofs.lemmas.List.{append-nil}
-use Rattle.std.proofs.lemmas.Bool.{ltb-true, eqb-true, cases_lt}
+use Rattle.std.proofs.lemmas.Bool.{ltb-true, eqb-true}
 use Rattle.std.proofs.lemmas.Int.{ints}
 use Rattle.dl_num.specs.Fixed.{is_number_size}
 use Rattle.dl_num.specs.Front.{Standing}
@@ -14,9 +14,10 @@ use Rattle.dl_num.proofs.LebFrontLemmas.{and_left, and_right}
 use Rattle.dl_head.specs.declared.params.Params.{Params}
 use Rattle.dl_head.specs.TableData.{HeaderData}
 use Rattle.dl_head.specs.Written.{header_bytes, is_within_limit}
-use Rattle.dl_head.specs.WrittenLaws.{IsSoundHeader}
+use Rattle.dl_head.specs.Sound.{IsSoundHeader}
 use Rattle.dl_head.proofs.HeaderLaws.{header_is_found}
-use Rattle.dl_head.proofs.WrittenHeaders.{all_good, header_is_written, length_is_written}
+use Rattle.dl_head.proofs.HeaderSound.{usable}
+use Rattle.dl_head.proofs.WrittenHeaders.{header_is_written, length_is_written}
 use Rattle.dl_rows.specs.declared.row.Row.{Row}
 use Rattle.dl_rows.specs.declared.operation.Operation.{Operation}
 use Rattle.dl_rows.specs.OperationSpelt.{operations_in}
@@ -94,17 +95,7 @@ program_is_read_again order h rows params row none =
 
 module _ (h : HeaderData) (sound : IsSoundHeader h) where
   sound_params : IsParams h.params
-  sound_params =
-      let good = all_good h.params h.directories h.files sound.params in
-      let operations = good.operations in
-      let lines = good.lines in
-      record {
-        usable = record { address_size = good.address_size; operations = some h.params.maximum_operations_per_instruction operations; lines = some h.params.line_range lines; opcodes = good.opcodes };
-        line_base = sound.line_base;
-      }
-    where
-      some : (n : ℕ) → (n ≡ 0 → ⊥) → 1 ≤ n
-      some n differs = elim (cases_lt 0 n) [ inl lt ↦ omega arith | inr le ↦ absurd (differs (omega arith)) ]
+  sound_params = record { usable = usable h.params h.directories h.files sound.params; line_base = sound.line_base }
 
 nothing_left : (b : Bool) (f : EmitFault) (o : Option EmitFault) → option_or o (unless b f) ≡ None → (o ≡ None) × (b ≡ true)
 nothing_left true f None e = (refl, refl)

@@ -8,7 +8,7 @@ use Rattle.dl_head.specs.declared.params.Params.{Params}
 use Rattle.dl_head.specs.TableData.{HeaderData}
 use Rattle.dl_head.specs.Built.{IsUsable}
 use Rattle.dl_head.specs.Header.{unit_len, header_in}
-use Rattle.dl_head.specs.WrittenLaws.{IsSoundHeader}
+use Rattle.dl_head.specs.Sound.{IsSoundHeader}
 use Rattle.dl_rows.specs.declared.row.Row.{Row}
 use Rattle.dl_rows.specs.declared.reader.Event.TheVariants as event
 use Rattle.dl_rows.specs.LineUnit.{IsOwnUnit, events}

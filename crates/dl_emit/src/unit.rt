@@ -6,6 +6,8 @@ ghost use Rattle.dl_head.specs.Writing.{Writes};
 ghost use Rattle.dl_emit.specs.WrittenUnit.{is_in_range as is_in_range_of, rows_refusal, program_bytes, program_len as program_len_of};
 ghost use Rattle.dl_emit.specs.Gathered.{Gathers};
 ghost use Rattle.dl_emit.specs.Writing.{Measures, WritesUnit};
+ghost use Rattle.dl_emit.specs.Laws.{IsRow, IsUnitAgain};
+ghost use Rattle.std.specs.List.{AllByRecursion};
 
 use crate::bytes::{Bytes, HELD};
 use crate::fault::EmitFault;
@@ -33,15 +35,17 @@ pub fn measure(header: &Header, rows: &[Row]) -> Result<u64, EmitFault>
 /// `RowRange` with the least place of a row whose op_index isn't below the maximum operations or
 /// whose address isn't below 2^(8 * address_size), and `TooLong` where unit_length would be above
 /// 0xffffffef in the 32-bit format or above 2^40 in the 64-bit format. After a write that failed
-/// exactly the first `out` bytes are out.
+/// exactly the first `out` bytes are out. What was written is read again as a unit of this header,
+/// which comes to exactly these rows.
 pub fn write_unit<W: Write>(
     output: &mut W,
     order: Order,
     header: &Header,
     rows: &[Row],
 ) -> Result<u64, EmitFault>
-    ensures { WritesUnit order header.now rows.now
+    ensures written { WritesUnit order header.now rows.now
         (W.contents output.old) (W.contents output.new) result }
+    ensures readable { OnOk result (IsUnitAgain order header.now rows.now) }
 {
     let program_len = program_len(header.params(), rows)?;
     let out = write_header(output, order, header, program_len)?;
@@ -49,9 +53,10 @@ pub fn write_unit<W: Write>(
 }
 
 /// Whether the row can be one of a unit with these params.
-fn is_in_range(params: &Params, row: &Row) -> bool
+fn is_in_range(params: &Params, row: Row) -> bool
     requires { IsUsable params.now }
-    ensures { result ≡ is_in_range_of params.now row.now }
+    ensures value { result ≡ is_in_range_of params.now row }
+    ensures row { IsRow row }
 {
     let fits = params.address_size >= 8 || row.address < 1 << (8 * params.address_size);
     row.op_index < params.maximum_operations_per_instruction && fits
@@ -61,6 +66,7 @@ fn is_in_range(params: &Params, row: &Row) -> bool
 fn program_len(params: &Params, rows: &[Row]) -> Result<u64, EmitFault>
     requires { IsUsable params.now }
     ensures ok { OnOk result (rows_refusal params.now rows.now ≡ None) }
+    ensures rows { OnOk result (AllByRecursion IsRow rows.now) }
     ensures len { IfOk result (λ n. n ≡ min (program_len_of params.now rows.now) (2 ^ 64 - 1)) }
     ensures err { IfErr result (λ fault. rows_refusal params.now rows.now ≡ Some fault) }
 {
@@ -71,7 +77,7 @@ fn program_len(params: &Params, rows: &[Row]) -> Result<u64, EmitFault>
     let mut before = None;
     let mut len = 0u64;
     for (i, row) in rows.iter().enumerate() {
-        if !is_in_range(params, row) {
+        if !is_in_range(params, *row) {
             return Err(EmitFault::RowRange(i));
         }
         program.clear();

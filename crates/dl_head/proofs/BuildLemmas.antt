@@ -58,7 +58,9 @@ wrong_value-length format i (p ∷ pairs) (v ∷ values) h =
       | false ↦ λ e. cc
     ]) h
 
--- the same, of a test that found nothing wrong
+-- a test that found nothing wrong
+pub nothing_wrong : (format : Format) (pairs seen : List Pair) (values : List Value) (found : Option ℕ) → seen ≡ pairs → found ≡ wrong_value format 0 seen values → found ≡ None → wrong_value format 0 pairs values ≡ None
+nothing_wrong format pairs seen values found same is none = sym (is ∙ ap (λ (ps : List Pair). wrong_value format 0 ps values) same) ∙ none
+
 pub values_counted : (format : Format) (pairs seen : List Pair) (values : List Value) (found : Option ℕ) → seen ≡ pairs → found ≡ wrong_value format 0 seen values → found ≡ None → length values ≡ length pairs
-values_counted format pairs seen values found same is none =
-    wrong_value-length format 0 pairs values (sym (is ∙ ap (λ (ps : List Pair). wrong_value format 0 ps values) same) ∙ none)
+values_counted format pairs seen values found same is none = wrong_value-length format 0 pairs values (nothing_wrong format pairs seen values found same is none)

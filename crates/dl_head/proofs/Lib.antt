@@ -16,6 +16,7 @@ pub mod Growth
 pub mod HeadTables
 pub mod HeaderCells
 pub mod HeaderLaws
+pub mod HeaderSound
 pub mod HeldLemmas
 pub mod Moved
 pub mod OneAnswer
@@ -32,11 +33,13 @@ pub mod Rows
 pub mod RunLemmas
 pub mod SamePlace
 pub mod Settled
+pub mod SoundLemmas
 pub mod SpelledLemmas
 pub mod Standings
 pub mod Starts
 pub mod StepCells
 pub mod Stepped
+pub mod TableSpellings
 pub mod TakenLemmas
 pub mod TextLemmas
 pub mod TurnLemmas

@@ -22,15 +22,19 @@ use Rattle.dl_head.specs.Value.{Value, offset_size}
 use Rattle.dl_head.specs.Field.{IsFixed, HasNoZero, IsValue, IsNumber, IsField}
 use Rattle.dl_head.specs.Layout.{NumberField, version, address_size, any_byte, header_length, maximum_operations, line_range, opcode_base, opcode_length, content_code, entry_count, number_size, objection, Layout, number_then, form_then, value_then, foreign_version, last_entry, Item, following, following_all, pairs_layout, entry_layout, entries_layout, table_layout, tables_layout, lengths_layout, from_minimum_length, from_address_size, format_alone, header_layout, signed_byte, fixed_part}
 use Rattle.dl_head.specs.Header.{SpellsFields, header_made}
-use Rattle.dl_head.specs.Built.{fits_offset, fits_form, wrong_value, entry_fault_of, wrong_length, same_format, param_fault}
-use Rattle.dl_head.specs.WrittenLaws.{IsSoundTable, IsSoundHeader, ReadIsSound}
+use Rattle.dl_head.specs.TableSpelt.{alone}
+use Rattle.dl_head.specs.Built.{fits_offset, fits_form, wrong_value, entry_fault_of, wrong_length}
+use Rattle.dl_head.specs.Sound.{AreContents, IsSoundTable, IsSoundHeader}
+use Rattle.dl_head.specs.WrittenLaws.{ReadIsSound}
 use Rattle.dl_head.proofs.FieldLemmas.{none_some}
 use Rattle.dl_head.proofs.FieldLaws.{field_is_judged}
 use Rattle.dl_head.proofs.Places.{sfits_signed}
+use Rattle.dl_head.proofs.HeaderSound.{no_fault}
+use Rattle.dl_head.proofs.SoundLemmas.{all_push, right_entry}
 
 -- ---- bytes
 
-front_bytes : (v w : List ℕ) → AllBytes (v ++ w) → AllBytes v
+pub front_bytes : (v w : List ℕ) → AllBytes (v ++ w) → AllBytes v
 front_bytes [] w all = tt
 front_bytes (b ∷ v) w all = (all.0, front_bytes v w all.1)
 
@@ -137,27 +141,20 @@ module _ (order : Order) (h : HeaderData) where
 
   -- ---- tables
 
-  all_push : {A : Type 0} (P : A → Type 0) (xs : List A) (x : A) → AllByRecursion P xs → P x → AllByRecursion P (xs ++ x ∷ [])
-  all_push P [] x all p = (p, tt)
-  all_push P (y ∷ xs) x all p = (all.0, all_push P xs x all.1 p)
-
-  abbrev Content : Pair → Type 0
-  Content p = p.content < 2 ^ 64
-
   small_content : (n : ℕ) → objection content_code n ≡ None → n < 2 ^ 64
   small_content n e = below (nat_lt n (2 ^ 64)) (λ t. ltb-true n (2 ^ 64) t) e where
     below : (b : Bool) → (b ≡ true → n < 2 ^ 64) → (if b then None else Some fault.LebRange) ≡ None → n < 2 ^ 64
     below true lt e = lt refl
     below false lt e = absurd cc
 
-  after_pairs : (count : ℕ) (before : List Pair) (next : List Pair → Layout) (items : List Item) → AllByRecursion Content before → Makes (pairs_layout count before next) items
-      → (pairs : List Pair) × AllByRecursion Content pairs × (length pairs ≡ length before + count) × (later : List Item) × Makes (next pairs) later
+  after_pairs : (count : ℕ) (before : List Pair) (next : List Pair → Layout) (items : List Item) → AreContents before → Makes (pairs_layout count before next) items
+      → (pairs : List Pair) × AreContents pairs × (length pairs ≡ length before + count) × (later : List Item) × Makes (next pairs) later
   after_pairs zero before next items all m = (before, all, omega arith, items, m)
   after_pairs (suc count) before next items all m =
       let code = after_number content_code _ items m in
       let f = after_form _ code.later code.makes in
       let pair : Pair = record { content = code.number; form = f.0 } in
-      let more = after_pairs count (before ++ pair ∷ []) next f.1 (all_push Content before pair all (small_content code.number code.right)) f.2 in
+      let more = after_pairs count (before ++ pair ∷ []) next f.1 (all_push (λ (p : Pair). p.content < 2 ^ 64) before pair all (small_content code.number code.right)) f.2 in
       (more.0, more.1, omega (arith, more.2, length-append before (pair ∷ [])), more.3, more.4)
 
   after_entry : (format : Format) (i : ℕ) (pairs : List Pair) (before : List Value) (next : List Value → Layout) (items : List Item) → Makes (entry_layout format pairs before next) items
@@ -170,10 +167,6 @@ module _ (order : Order) (h : HeaderData) where
 
   abbrev Right : Format → List Pair → List Value → Type 0
   Right format pairs values = entry_fault_of pairs (wrong_value format 0 pairs values) ≡ None
-
-  right_entry : (pairs : List Pair) (o : Option ℕ) → (pairs ≡ [] → ⊥) → o ≡ None → entry_fault_of pairs o ≡ None
-  right_entry [] o some e = absurd (some refl)
-  right_entry (p ∷ pairs) o some e = rw e refl
 
   after_entries : (format : Format) (pairs : List Pair) (count : ℕ) (before : List (List Value)) (next : List (List Value) → Layout) (items : List Item) → (pairs ≡ [] → count ≡ 0) → AllByRecursion (Right format pairs) before → Makes (entries_layout format pairs count before next) items
       → (entries : List (List Value)) × AllByRecursion (Right format pairs) entries × (length entries ≡ length before + count) × (later : List Item) × Makes (next entries) later
@@ -250,21 +243,13 @@ module _ (order : Order) (h : HeaderData) where
     right true e = refl
     right false e = absurd cc
 
-  format_itself : (f : Format) → same_format f f ≡ true
-  format_itself Dwarf32 = refl
-  format_itself Dwarf64 = refl
-
-  no_fault : (p : Params) (d f : TableData) → is_number_size p.address_size ≡ true → nat_lt 0 p.maximum_operations_per_instruction ≡ true → nat_lt 0 p.line_range ≡ true → length p.lengths.items + 1 ≡ p.opcode_base → wrong_length 1 p.lengths.items ≡ None
-      → d.format ≡ p.format → f.format ≡ p.format → param_fault p d f ≡ None
-  no_fault p d f size operations lines count lengths same_d same_f = rw (size, operations, lines, eq-eqb (length p.lengths.items + 1) p.opcode_base count, lengths, same_d, same_f, format_itself p.format) refl
-
   tables_sound : (p : Params) (items : List Item) → is_number_size p.address_size ≡ true → nat_lt 0 p.maximum_operations_per_instruction ≡ true → nat_lt 0 p.line_range ≡ true → length p.lengths.items + 1 ≡ p.opcode_base → wrong_length 1 p.lengths.items ≡ None
-      → FitsSigned w8 p.line_base → Makes (tables_layout p) items → IsSoundHeader h
-  tables_sound p items size operations lines count lengths base m =
+      → p.maximum_operations_per_instruction < 2 ^ 8 → FitsSigned w8 p.line_base → Makes (tables_layout p) items → IsSoundHeader h
+  tables_sound p items size operations lines count lengths most base m =
       let d = after_table p.format (λ directories. table_layout p.format λ files. last_entry (record { params = p; directories = directories; files = files })) items m in
       let f = after_table p.format (λ files. last_entry (record { params = p; directories = d.table; files = files })) d.later d.makes in
       let e = last (record { params = p; directories = d.table; files = f.table }) f.later f.makes in
-      subst IsSoundHeader e (record { params = no_fault p d.table f.table size operations lines count lengths d.same f.same; line_base = base; directories = d.sound; files = f.sound })
+      subst IsSoundHeader e (record { params = no_fault p d.table f.table size operations lines count lengths d.same f.same; maximum_operations = most; line_base = base; directories = d.sound; files = f.sound })
 
   late_sound : (p : Params) (items : List Item) → is_number_size p.address_size ≡ true → Makes (from_minimum_length p) items → IsSoundHeader h
   late_sound p items size m =
@@ -285,7 +270,7 @@ module _ (order : Order) (h : HeaderData) where
       let lengths = after_lengths 1 (opcodes.number - 1) [] (λ ns. tables_layout (record q { lengths = record { items = ns } })) opcodes.later opcodes.makes in
       let positive = ltb-true 0 opcodes.number (some_left opcodes.number fault.OpcodeBase opcodes.right) in
       tables_sound (record q { lengths = record { items = lengths.0 } }) lengths.3 size (some_left maximum.number fault.MaxOps maximum.right) (some_left range.number fault.LineRange range.right) (omega (arith, lengths.1)) lengths.2
-      (sfits_signed base.number (base.byte refl)) lengths.4
+      (maximum.byte refl) (sfits_signed base.number (base.byte refl)) lengths.4
 
   fields_sound : (unit : ℕ) (p : Params) (items : List Item) → Makes (from_address_size unit p) items → IsSoundHeader h
   fields_sound unit p items m =
@@ -308,6 +293,15 @@ module _ (order : Order) (h : HeaderData) where
       let next = subst (λ (i : Item). Makes (following header_layout i) f.later) f.is.2 f.makes in
       let v = after_number version (λ n. if n == 5 then from_address_size f.is.1 (format_alone f.is.0) else foreign_version n) f.later next in
       version_sound (v.number == 5) f.is.0 f.is.1 v.number v.later v.makes
+
+-- a table that is read alone
+pub table_is_sound : (order : Order) (format : Format) (t : TableData) (items : List Item) (w : List ℕ) → AllBytes w → SpellsFields order (table_layout format (alone format)) items w
+    → following_all (table_layout format (alone format)) items ≡ alone format t → IsSoundTable t
+table_is_sound order format t items w all spelt whole =
+    let h : HeaderData = record { params = format_alone format; directories = t; files = t } in
+    let read = after_table order h format (alone format) items (record { bytes = w; all = all; spelt = spelt; made = ap header_made whole }) in
+    let same = last order h (record { params = format_alone format; directories = read.table; files = read.table }) read.later read.makes in
+    subst IsSoundTable (ap (λ (g : HeaderData). g.directories) same) read.sound
 
 pub header_is_sound : ReadIsSound
 header_is_sound order h w is all =

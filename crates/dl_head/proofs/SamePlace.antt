@@ -7,8 +7,9 @@ use Rattle.dl_head.specs.declared.reader.Phase.TheVariants as phase
 use Rattle.dl_head.specs.declared.reader.HeadReader.{HeadReader}
 use Rattle.dl_head.specs.TableData.{TableData}
 use Rattle.dl_head.specs.Layout.{Layout, Item}
-use Rattle.dl_head.specs.HeadStep.{end_near, lengths_fit, tables_fit}
+use Rattle.dl_head.specs.HeadStep.{end_near, lengths_fit, tables_fit, formats_fit, AreStandard}
 use Rattle.dl_head.specs.TableCells.{table_cells}
+use Rattle.dl_head.specs.TableSpelt.{TableStands}
 use Rattle.dl_head.specs.Place.{AtStart, Early, Behind, Late, InTable, AtPhase}
 
 -- the ghost fields of a reader, which each write proves anew
@@ -20,6 +21,9 @@ pub record Guards (r : HeadReader) : Type 0 where
   pub lines : 1 ≤ r.params.line_range
   pub lengths : lengths_fit r.phase (length r.params.lengths.items) r.params.opcode_base ≡ true
   pub tables : tables_fit r.phase (table_cells r.directories) (table_cells r.files) ≡ true
+  pub formats : formats_fit r.phase r.params.format r.directories.format r.files.format ≡ true
+  pub standard : AreStandard r.params.lengths.items
+  pub read : ∥ TableStands r.phase r.order r.params.format r.table ∥₁
 
 abbrev pub counted : (r : HeadReader) → Guards r → ℕ → ℕ → HeadReader
 counted r g start taken = record r {
@@ -30,6 +34,9 @@ counted r g start taken = record r {
   lines = g.lines;
   lengths = g.lengths;
   tables = g.tables;
+  formats = g.formats;
+  standard = g.standard;
+  read = g.read;
   start = start;
   taken = taken;
 }

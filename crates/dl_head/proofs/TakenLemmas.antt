@@ -29,7 +29,7 @@ rows_joined width (e ∷ entries) wide =
     ∙ ap (λ (l : List (List Value)). e ∷ l) (rows_joined width entries wide.1)
 
 -- the values are whole rows, which are these entries
-record AreEntries (pairs : List Pair) (pool : List ℕ) (values : List Held) (entries : List (List Value)) : Type 0 where
+pub record AreEntries (pairs : List Pair) (pool : List ℕ) (values : List Held) (entries : List (List Value)) : Type 0 where
   pub whole : AreRows (length values) (length pairs)
   pub rows_are : rows (length values / length pairs) (length pairs) (map (value_held pool) values) ≡ entries
 
@@ -59,7 +59,7 @@ height_held values width entries count none = elim (cases_lt 0 width) [
       ap (λ (n : ℕ). n / width) v ∙ ap (λ (n : ℕ). 0 / n) w ∙ sym e
 ]
 
-whole_held : (t : TableReader) (format : Format) (next : TableData → Layout) (layout : Layout) (is : IsWhole t format next layout) → AreEntries t.pairs.items t.pool.items t.values.items is.entries
+pub whole_held : (t : TableReader) (format : Format) (next : TableData → Layout) (layout : Layout) (is : IsWhole t format next layout) → AreEntries t.pairs.items t.pool.items t.values.items is.entries
 whole_held t format next layout is =
     rows_held t.pairs.items t.pool.items t.values.items is.entries
     (height_held (length t.values.items) (length t.pairs.items) (length is.entries) (count_held t.pairs.items t.pool.items t.values.items is.entries is.holds) (λ none. ap length (is.some_pairs none)))
@@ -67,9 +67,9 @@ whole_held t format next layout is =
 
 -- the table that is made of the values: it is what was read, and as many cells as the reader held
 pub table_taken : (t : TableReader) (format : Format) (next : TableData → Layout) (layout : Layout) (d : TableData) → IsWhole t format next layout
-    → (AreRows (length t.values.items) (length t.pairs.items) → d ≡ table_of format t.pairs.items t.values.items t.pool.items) → (layout ≡ next d) × (table_cells d ≡ reader_cells t)
+    → d ≡ table_of format t.pairs.items t.values.items t.pool.items → (layout ≡ next d) × (table_cells d ≡ reader_cells t)
 table_taken t format next layout d is made =
     let e = whole_held t format next layout is in (
-      is.layout_is ∙ ap next (ap (λ (es : List (List Value)). record { format = format; pairs = t.pairs.items; entries = es }) (sym e.rows_are) ∙ sym (made e.whole)),
-      omega (arith, ap table_cells (made e.whole), cells_table format t.pairs.items t.values.items t.pool.items is.holds.within e.whole, is.summed),
+      is.layout_is ∙ ap next (ap (λ (es : List (List Value)). record { format = format; pairs = t.pairs.items; entries = es }) (sym e.rows_are) ∙ sym made),
+      omega (arith, ap table_cells made, cells_table format t.pairs.items t.values.items t.pool.items is.holds.within e.whole, is.summed),
     )

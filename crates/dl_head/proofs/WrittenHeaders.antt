@@ -1,80 +1,31 @@
 -- The bytes that are written of a header are that header. DWARF 5, section 6.2.4.
-use Rattle.std.proofs.Common.{◌≡◌, ℕ, lit<, suc, ◌+◌, ◌-◌, ◌%◌, ◌^◌, ◌<◌, ◌≤◌, Bool, true, false, ◌==◌, ◌&&◌, nat_lt, if◌then◌else◌, ℤ, pos, negsuc, ◌-ℤ◌, List, [], ◌∷◌, ◌++◌, length, Option, Some, None, refl, sym, ap, subst, ◌∙◌, arith, append_assoc}
+use Rattle.std.proofs.Common.{◌≡◌, ℕ, lit<, suc, ◌+◌, ◌-◌, ◌%◌, ◌^◌, ◌<◌, ◌≤◌, Bool, true, false, if◌then◌else◌, ℤ, pos, negsuc, ◌-ℤ◌, List, [], ◌∷◌, ◌++◌, length, Option, Some, None, refl, sym, ap, subst, ◌∙◌, arith, append_assoc}
 use Rattle.std.specs.Prelude.{is_none}
 use Rattle.std.specs.Int.{w8}
 use Rattle.std.specs.Int.RustNames.{FitsSigned}
-use Rattle.std.specs.Option.{option_map, option_or}
 use Rattle.std.proofs.lemmas.List.{append-nil}
 use Rattle.std.proofs.lemmas.Int.{ints}
-use Rattle.std.proofs.lemmas.Bool.{leb-true, le-leb, ltb-true, lt-ltb, le-ltb, eqb-true, ne_eqb}
+use Rattle.std.proofs.lemmas.Bool.{leb-true, le-leb, lt-ltb, le-ltb, ne_eqb}
 use Rattle.dl_num.specs.declared.fixed.Order.{Order}
 use Rattle.dl_num.specs.Fixed.{fixed_bytes, is_number_size}
-use Rattle.dl_num.proofs.LebFrontLemmas.{true_false, and_left, and_right}
+use Rattle.dl_num.proofs.LebFrontLemmas.{true_false}
 use Rattle.dl_head.specs.declared.form.Format.{Format}
 use Rattle.dl_head.specs.declared.form.Format.TheVariants.{Dwarf32, Dwarf64}
 use Rattle.dl_head.specs.declared.params.Params.{Params}
-use Rattle.dl_head.specs.declared.fault.ParamFault.{ParamFault}
-use Rattle.dl_head.specs.declared.fault.ParamFault.TheVariants as param
 use Rattle.dl_head.specs.TableData.{TableData, HeaderData}
 use Rattle.dl_head.specs.Value.{offset_size}
 use Rattle.dl_head.specs.Layout.{Layout, number_then, last_entry, number_is, length_is, following, any_byte, address_size, maximum_operations, line_range, opcode_base, opcode_length, header_length, objection, NumberField, number_size, signed_byte, lengths_layout, table_layout, tables_layout, from_lengths, from_opcode_base, from_line_range, from_line_base, from_default_is_stmt, from_maximum_operations, from_minimum_length, from_header_length, from_segment_selector_size, from_address_size, format_alone, header_layout, fixed_part, initial_size}
 use Rattle.dl_head.specs.Header.{Cut, header_made, unit_end, IsHeader}
 use Rattle.dl_head.specs.Field.{IsInitialLength}
 use Rattle.dl_head.specs.Written.{table_bytes, byte_of, after_header_length, header_length_of, unit_length_of, initial_length_bytes, header_bytes, written_limit, is_within_limit}
-use Rattle.dl_head.specs.Built.{wrong_length, same_format, unless, param_fault}
-use Rattle.dl_head.specs.WrittenLaws.{IsSoundTable, IsSoundHeader, WrittenIsHeader, WrittenHasItsLength}
+use Rattle.dl_head.specs.Built.{wrong_length}
+use Rattle.dl_head.specs.Sound.{IsSoundTable, IsSoundHeader}
+use Rattle.dl_head.specs.WrittenLaws.{WrittenIsHeader, WrittenHasItsLength}
 use Rattle.dl_head.proofs.FieldLaws.{field_is_judged}
 use Rattle.dl_head.proofs.HeaderLaws.{header_cut}
+use Rattle.dl_head.proofs.HeaderSound.{Good, all_good}
 use Rattle.dl_head.proofs.OrderLemmas.{length-header}
 use Rattle.dl_head.proofs.WrittenTables.{Reaches, reach_one, reach_table, fixed_byte, fixed_written}
-
--- ---- what no refusal says of the params
-
-neither : {A : Type 0} (a b : Option A) → option_or a b ≡ None → (a ≡ None) × (b ≡ None)
-neither None b e = (refl, e)
-neither (Some x) b e = absurd cc
-
-holds : (b : Bool) (f : ParamFault) → unless b f ≡ None → b ≡ true
-holds true f e = refl
-holds false f e = absurd cc
-
-no_length : (o : Option ℕ) → option_map param.StandardLength o ≡ None → o ≡ None
-no_length None e = refl
-no_length (Some n) e = absurd cc
-
-formats_same : (f g : Format) → same_format f g ≡ true → f ≡ g
-formats_same Dwarf32 Dwarf32 e = refl
-formats_same Dwarf64 Dwarf64 e = refl
-formats_same f g e = absurd (true_false e refl)
-
-pub record Good (p : Params) (d f : TableData) : Type 0 where
-  pub address_size : is_number_size p.address_size ≡ true
-  pub operations : p.maximum_operations_per_instruction ≡ 0 → ⊥
-  pub lines : p.line_range ≡ 0 → ⊥
-  pub opcodes : length p.lengths.items + 1 ≡ p.opcode_base
-  pub lengths : wrong_length 1 p.lengths.items ≡ None
-  pub directories : d.format ≡ p.format
-  pub files : f.format ≡ p.format
-
-pub all_good : (p : Params) (d f : TableData) → param_fault p d f ≡ None → Good p d f
-all_good p d f e =
-    let a = neither (unless (is_number_size p.address_size) param.AddressSize) _ e in
-    let b = neither (unless (nat_lt 0 p.maximum_operations_per_instruction) param.MaxOps) _ a.1 in
-    let c = neither (unless (nat_lt 0 p.line_range) param.LineRange) _ b.1 in
-    let g = neither (unless (length p.lengths.items + 1 == p.opcode_base) param.OpcodeBase) _ c.1 in
-    let l = neither (option_map param.StandardLength (wrong_length 1 p.lengths.items)) _ g.1 in
-    let formats = holds (same_format d.format p.format && same_format f.format p.format) param.TableFormat l.1 in
-    let some = ltb-true 0 p.maximum_operations_per_instruction (holds _ param.MaxOps b.0) in
-    let range = ltb-true 0 p.line_range (holds _ param.LineRange c.0) in
-    record {
-      address_size = holds _ param.AddressSize a.0;
-      operations = λ z. omega arith;
-      lines = λ z. omega arith;
-      opcodes = eqb-true _ _ (holds _ param.OpcodeBase g.0);
-      lengths = no_length _ l.0;
-      directories = formats_same d.format p.format (and_left _ (same_format f.format p.format) formats);
-      files = formats_same f.format p.format (and_right (same_format d.format p.format) _ formats);
-    }
 
 below_zero : (m n k : ℕ) → m + suc n ≡ k → pos m -ℤ pos k ≡ negsuc n
 below_zero m n k e = omega (arith, ints)

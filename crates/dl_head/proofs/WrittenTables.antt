@@ -22,7 +22,7 @@ use Rattle.dl_head.specs.Header.{SpellsFields}
 use Rattle.dl_head.specs.Field.{IsFixed, HasNoZero, IsValue, IsField}
 use Rattle.dl_head.specs.Written.{value_bytes, pair_bytes, entry_bytes, table_bytes}
 use Rattle.dl_head.specs.Built.{fits_offset, fits_form, wrong_value, entry_fault_of}
-use Rattle.dl_head.specs.WrittenLaws.{IsSoundTable}
+use Rattle.dl_head.specs.Sound.{IsSoundTable}
 use Rattle.dl_head.proofs.FieldLaws.{field_is_judged}
 
 -- ---- values

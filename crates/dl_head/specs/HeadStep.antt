@@ -1,7 +1,9 @@
 -- What the phases of the header reader say of its params and tables, and how far its end is. No promise rests on this file.
-use Rattle.std.specs.Prelude.{ℕ, ◌+◌, ◌^◌, Bool, true, nat_le, nat_lt, ◌==◌, Option, Some, None}
+use Rattle.std.specs.Prelude.{◌≡◌, List, ℕ, ◌+◌, ◌^◌, Bool, true, nat_le, nat_lt, ◌==◌, ◌&&◌, Option, Some, None}
+use Rattle.dl_head.specs.declared.form.Format.{Format}
 use Rattle.dl_head.specs.declared.reader.Phase.{Phase}
 use Rattle.dl_head.specs.declared.reader.Phase.TheVariants as phase
+use Rattle.dl_head.specs.Built.{same_format, wrong_length}
 
 -- whether so many opcode lengths fit the phase and opcode_base
 abbrev pub lengths_fit : Phase → ℕ → ℕ → Bool
@@ -27,3 +29,13 @@ tables_fit phase.Done directories files = true
 tables_fit (phase.Foreign v) directories files = true
 tables_fit (phase.Failed f) directories files = true
 tables_fit p directories files = directories + files == 0
+
+-- whether the tables that are read have the format
+abbrev pub formats_fit : Phase → (unit directories files : Format) → Bool
+formats_fit phase.Files unit directories files = same_format directories unit
+formats_fit phase.Padding unit directories files = same_format directories unit && same_format files unit
+formats_fit p unit directories files = true
+
+-- no standard opcode has a wrong number of operands
+pub record AreStandard (lengths : List ℕ) : Type 0 where
+  pub none_wrong : wrong_length 1 lengths ≡ None

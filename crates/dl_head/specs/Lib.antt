@@ -17,6 +17,7 @@ pub mod EntryData
 pub mod EntryHeld
 pub mod ValuesLeft
 pub mod Built
+pub mod Sound
 pub mod Building
 pub mod Equal
 pub mod EqualLaws
@@ -28,6 +29,7 @@ pub mod Spelled
 pub mod Writing
 pub mod Place
 pub mod TablePlace
+pub mod TableSpelt
 pub mod Standing
 pub mod Reading
 pub mod Runs

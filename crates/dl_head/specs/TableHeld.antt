@@ -2,6 +2,7 @@
 use Rattle.std.specs.Prelude.{◌≤◌, length}
 use Rattle.dl_head.specs.declared.table.Table.TheInside.{Inside}
 use Rattle.dl_head.specs.TableData.{TableData}
+use Rattle.dl_head.specs.Sound.{IsSoundTable}
 use Rattle.dl_head.specs.Held.{values_end, IsWhole, table_of}
 
 abbrev pub table_held : Inside → TableData
@@ -12,3 +13,4 @@ pub record IsHeld (t : Inside) : Type 0 where
   pub within : values_end t.values.items ≤ length t.pool.items
   pub whole : IsWhole (length t.values.items) (length t.pairs.items)
   pub few : length t.pairs.items ≤ 255
+  pub sound : IsSoundTable (table_held t)

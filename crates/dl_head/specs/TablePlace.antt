@@ -22,7 +22,9 @@ use Rattle.dl_head.specs.TableData.{TableData}
 use Rattle.dl_head.specs.TableCells.{table_cells}
 use Rattle.dl_num.specs.NumberBytes.{number_size, number_bytes}
 use Rattle.dl_num.specs.OperandBytes.{operand_bytes}
-use Rattle.dl_head.specs.Held.{value_held, values_end, cells_held}
+use Rattle.dl_head.specs.Held.{value_held, values_end, cells_held, table_of}
+use Rattle.dl_head.specs.Held.{IsWhole as AreRows}
+use Rattle.dl_head.specs.Sound.{IsSoundTable}
 use Rattle.dl_head.specs.TableStep.{value_filled}
 use Rattle.dl_head.specs.Cells.{item_cells, rest_cells}
 use Rattle.dl_head.specs.Field.{IsFixed, IsUleb64, HasNoZero}
@@ -305,9 +307,15 @@ pub record PushFollows (order : Order) (format : Format) (old : TableReader) (by
   pub made : (old.phase ≡ phase.Whole → ⊥) → ValueFollows order format old byte result new
   pub cells : (old.phase ≡ phase.Whole → ⊥) → ValueAdds order format old byte result new
 
+-- what is held makes a table
+pub record MakesTable (t : TableReader) (format : Format) : Type 0 where
+  pub rows : AreRows (length t.values.items) (length t.pairs.items)
+  pub sound : IsSoundTable (table_of format t.pairs.items t.values.items t.pool.items)
+
 -- `take`: the table and a fresh reader, where the last entry is complete
 abbrev pub Takes : TableReader → Format → Option TableData → TableReader → Type 0
 Takes old format None new = (old.phase ≡ phase.Whole → ⊥) × (new ≡ old)
 Takes old format (Some t) new =
     (old.phase ≡ phase.Whole) × IsFresh new
     × ((next : TableData → Layout) (layout : Layout) → IsWhole old format next layout → (layout ≡ next t) × (table_cells t ≡ reader_cells old))
+    × (t.format ≡ format)

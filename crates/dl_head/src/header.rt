@@ -3,6 +3,7 @@
 ghost use Rattle.std.specs.Prelude.{◌≡◌, ◌↔◌, IsTrue, ◌-◌, ◌^◌, None, Some, IfErr, IfOk, IfNone, OnOk, min};
 ghost use Rattle.std.specs.Option.{option_map};
 ghost use Rattle.dl_head.specs.Built.{IsUsable, param_fault as param_fault_of, with_standard_opcodes as standard, wrong_length as wrong_length_of};
+ghost use Rattle.dl_head.specs.Sound.{IsSoundHeader, IsSoundTable};
 ghost use Rattle.dl_head.specs.TableCells.{header_cells};
 
 use crate::fault::ParamFault;
@@ -24,11 +25,12 @@ impl Model for Header {
 
     ghost Value = { HeaderData };
 
-    ghost use Rattle.dl_head.specs.Built.{IsUsable};
+    ghost use Rattle.dl_head.specs.Sound.{IsSoundHeader};
 
     ghost view = { λ h. record { params = h.params; directories = h.directories; files = h.files } };
 
-    ghost invariant = { λ h. IsUsable h.params };
+    ghost invariant = { λ h. IsSoundHeader
+        (record { params = h.params; directories = h.directories; files = h.files }) };
 }
 
 impl PartialEq for Header {
@@ -94,10 +96,11 @@ impl Header {
 
     /// The header of parts that were read.
     pub(crate) fn of_parts(params: Params, directories: Table, files: Table) -> Header
-        requires { IsUsable params }
+        requires { param_fault_of params directories files ≡ None }
         ensures { result
             ≡ record { params = params; directories = directories; files = files } }
     {
+        prove!(directories.format() == params.format && files.format() == params.format);
         Header {
             params,
             directories,
@@ -109,6 +112,7 @@ impl Header {
     pub fn params(&self) -> &Params
         ensures value { result.now ≡ self.now.params }
         ensures usable { IsUsable self.now.params }
+        ensures sound { IsSoundHeader self.now }
     {
         &self.params
     }
@@ -157,7 +161,8 @@ impl Header {
 /// The first reason for which the parts make no header.
 fn param_fault(params: &Params, directories: &Table, files: &Table) -> Option<ParamFault>
     ensures value { result ≡ param_fault_of params.now directories.now files.now }
-    ensures usable { IfNone result (IsUsable params.now) }
+    ensures sound_directories { IfNone result (IsSoundTable directories.now) }
+    ensures sound_files { IfNone result (IsSoundTable files.now) }
 {
     if !matches!(params.address_size, 1 | 2 | 4 | 8) {
         return Some(ParamFault::AddressSize);

@@ -5,8 +5,10 @@ ghost use Rattle.dl_head.specs.Header.{unit_len};
 ghost use Rattle.dl_head.specs.Cells.{cells};
 ghost use Rattle.std.specs.Option.{option_copied};
 ghost use Rattle.dl_num.specs.Fixed.{is_number_size};
-ghost use Rattle.dl_head.specs.HeadStep.{end_near, lengths_fit, tables_fit};
+ghost use Rattle.dl_head.specs.HeadStep.{AreStandard, end_near, formats_fit, lengths_fit, tables_fit};
 ghost use Rattle.dl_head.specs.TableCells.{table_cells};
+ghost use Rattle.dl_head.specs.TableSpelt.{TableStands};
+ghost use Rattle.std.proofs.Props.{props};
 
 mod byte_field;
 mod fields;
@@ -96,6 +98,9 @@ pub struct HeadReader {
     ghost lines: { 1 ≤ params.line_range },
     ghost lengths: { lengths_fit phase (length params.lengths.items) params.opcode_base ≡ true },
     ghost tables: { tables_fit phase (table_cells directories) (table_cells files) ≡ true },
+    ghost formats: { formats_fit phase params.format directories.format files.format ≡ true },
+    ghost standard: { AreStandard params.lengths.items } by { Prim.hlevel props },
+    ghost read: { ∥ TableStands phase order params.format table ∥₁ },
 }
 
 impl HeadReader {

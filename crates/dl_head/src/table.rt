@@ -5,6 +5,7 @@ ghost use Rattle.std.specs.Option.{option_map};
 ghost use Rattle.dl_head.specs.Built.{entry_fault, format_fault, Refuses};
 ghost use Rattle.std.specs.List.{sum_by};
 ghost use Rattle.dl_head.specs.Held.{cells_held, value_lent, values_end, IsWhole, table_of};
+ghost use Rattle.dl_head.specs.Sound.{AreContents, IsSoundTable};
 ghost use Rattle.dl_head.specs.TableCells.{table_cells};
 ghost use Rattle.dl_head.specs.EntryData.{with_content};
 
@@ -20,7 +21,7 @@ use crate::form::{Form, Format};
 pub use entry::{Entry, Values};
 use held::Held;
 pub use held::ValueRef;
-use std::alloc::Global;
+use std::alloc::{AllocError, Global};
 use std::marker::Model;
 
 /// The greatest number of pairs of a format.
@@ -31,6 +32,15 @@ const MAX_PAIRS: usize = 255;
 pub struct Pair {
     pub content: u64,
     pub form: Form,
+}
+
+impl Pair {
+    fn new(content: u64, form: Form) -> Pair
+        ensures made { result ≡ record { content = content; form = form } }
+        ensures content { content < 2 ^ 64 }
+    {
+        Pair { content, form }
+    }
 }
 
 /// A table of directories or files: a list of pairs, and entries of one value for each pair. The
@@ -72,7 +82,7 @@ impl Table {
         if pairs.is_empty() {
             return Ok(Table::without_pairs(alloc, format));
         }
-        match Vec::from_slice(alloc, pairs) {
+        match copied(alloc, pairs) {
             Ok(pairs) => Ok(Table {
                 format,
                 pairs,
@@ -152,21 +162,19 @@ impl Table {
         }
     }
 
-    /// A table of values whose bytes stand in the pool. Values after the last whole entry are left
-    /// out.
+    /// A table of values whose bytes stand in the pool.
     pub(crate) fn of_parts(
         format: Format,
         pairs: Vec<Pair>,
-        mut values: Vec<Held>,
+        values: Vec<Held>,
         pool: Vec<u8>,
     ) -> Table
         requires few { length pairs.items ≤ 255 }
         requires within { values_end values.items ≤ length pool.items }
-        ensures { IsWhole (length values.items) (length pairs.items)
-            → result ≡ table_of format pairs.items values.items pool.items }
+        requires whole { IsWhole (length values.items) (length pairs.items) }
+        requires sound { IsSoundTable (table_of format pairs.items values.items pool.items) }
+        ensures { result ≡ table_of format pairs.items values.items pool.items }
     {
-        let width = pairs.len();
-        values.truncate(whole_rows(values.len(), width) * width);
         Table {
             format,
             pairs,
@@ -176,7 +184,8 @@ impl Table {
     }
 
     pub(crate) fn format(&self) -> Format
-        ensures { result ≡ self.now.format }
+        ensures value { result ≡ self.now.format }
+        ensures sound { IsSoundTable self.now }
     {
         self.format
     }
@@ -188,6 +197,18 @@ impl Table {
     {
         (self.pairs.len() as u64).saturating_add(held_cells(self.values.as_slice()))
     }
+}
+
+/// The pairs, copied.
+fn copied(alloc: Global, pairs: &[Pair]) -> Result<Vec<Pair>, AllocError>
+    ensures same { IfOk result (λ copy. copy.items ≡ pairs.now) }
+    ensures contents { OnOk result (AreContents pairs.now) }
+{
+    let mut copy = Vec::with_capacity(alloc, pairs.len())?;
+    for pair in pairs {
+        copy.push(Pair::new(pair.content, pair.form))?;
+    }
+    Ok(copy)
 }
 
 /// How many whole rows so many values have; none where a row has no values.

@@ -37,6 +37,8 @@ fn fixed_part(format: Format) -> u64
 
 impl HeadReader {
     ghost use Rattle.dl_head.specs.declared.reader.Phase.TheVariants as phase;
+    ghost use Rattle.dl_head.specs.TablePlace.{IsFresh};
+    ghost use Rattle.dl_head.specs.TableSpelt.{TableReads};
     ghost use Rattle.dl_head.specs.Place.{Follows, Keeps, Starts, StartsHeader, held_cells};
 
     pub(super) fn unit_length(&mut self, number: Number, byte: u8) -> Next
@@ -77,6 +79,7 @@ impl HeadReader {
     fn start_unit(&mut self, format: Format, length: u64) -> Next
         requires no_lengths { self.old.params.lengths.items ≡ [] }
         requires no_tables { table_cells self.old.directories + table_cells self.old.files ≡ 0 }
+        requires fresh { ∥ IsFresh self.old.table ∥₁ }
         ensures follows { Starts self.old format length result self.new }
         ensures kept { Keeps self.old result self.new }
         ensures cells { held_cells self.new ≡ held_cells self.old }
@@ -134,6 +137,7 @@ impl HeadReader {
     fn start_header(&mut self, length: u64) -> Next
         requires no_lengths { self.old.params.lengths.items ≡ [] }
         requires no_tables { table_cells self.old.directories + table_cells self.old.files ≡ 0 }
+        requires read { ∥ TableReads self.old.order self.old.params.format self.old.table ∥₁ }
         ensures follows { StartsHeader self.old length result self.new }
         ensures kept { Keeps self.old result self.new }
         ensures cells { held_cells self.new ≡ held_cells self.old }

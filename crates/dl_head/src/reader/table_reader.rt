@@ -64,7 +64,7 @@ pub(crate) struct TableReader {
 
 impl TableReader {
     ghost use Rattle.dl_head.specs.declared.reader.table_reader.TablePhase.TheVariants as phase;
-    ghost use Rattle.dl_head.specs.TablePlace.{IsFresh, reader_cells, Takes, TableFollows, TakesContent, TakesForm, TakesCount, KeepsCells, OneCell, PushFollows, ValueFollows};
+    ghost use Rattle.dl_head.specs.TablePlace.{IsFresh, reader_cells, MakesTable, Takes, TableFollows, TakesContent, TakesForm, TakesCount, KeepsCells, OneCell, PushFollows, ValueFollows};
     ghost use Rattle.dl_num.specs.declared.fixed.Order.{Order};
 
     /// No byte yet. It takes no memory.
@@ -88,6 +88,7 @@ impl TableReader {
 
     /// The table, where its last entry is complete; the reader is then as new.
     pub fn take(&mut self, alloc: Global, format: Format) -> Option<Table>
+        requires { self.old.phase ≡ phase.Whole → MakesTable self.old format }
         ensures { Takes self.old format result self.new }
     {
         match self.phase {

@@ -1,4 +1,4 @@
-use Rattle.std.proofs.Common.{◌+◌, refl, ap, arith}
+use Rattle.std.proofs.Common.{sym, subst, ◌+◌, refl, ap, arith}
 use Rattle.dl_head.specs.declared.reader.Phase.TheVariants as phase
 use Rattle.dl_head.specs.declared.reader.table_reader.TableReader.{TableReader}
 use Rattle.dl_head.specs.TablePlace.{reader_cells}
@@ -6,6 +6,8 @@ use Rattle.dl_head.specs.TableCells.{table_cells}
 use Rattle.dl_head.specs.Layout.{from_files, from_end}
 use Rattle.dl_head.proofs.Places.{at_phase, phase_at}
 use Rattle.dl_head.proofs.HeadTables.{table_goes_on, table_ends, table_adds, table_kept, fresh_cells, no_directories, at_files}
+use Rattle.dl_head.specs.TableSpelt.{TableReads}
+use Rattle.dl_head.proofs.TableSpellings.{makes_table_pushed, reads_on, fresh_reads, stands_at}
 use Rattle.dl_head.proofs.reader.HeadReader.directories.Goals as goal
 
 pub returns-in-Some-clause-follows : goal.returns-in-Some-clause-follows
@@ -42,3 +44,20 @@ returns-in_default-clause-follows c =
           (ap (λ (t : TableReader). table_cells old.directories + table_cells old.files + reader_cells t) none.1);
       counts = record { order = refl; start = refl; taken = refl; header = refl };
     }
+
+pub take-requires : goal.take-requires
+take-requires c =
+    let old = c.args.self.now in
+    let read = stands_at old.phase phase.Directories old.order old.params.format old.table c.requires old.read in
+    makes_table_pushed old.order old.params.format old.table c.push-next.new.self c.args.byte c.push-next.result (omega arith) read c.push-next.ensures
+
+pub invariant_of-self-clause-read : goal.invariant_of-self-clause-read
+invariant_of-self-clause-read c = fresh_reads c.args.self.now.order c.args.self.now.params.format c.take.new.self c.in-Some.ensures.1
+
+pub invariant_of-self-in_default-clause-read : goal.invariant_of-self-in_default-clause-read
+invariant_of-self-in_default-clause-read c =
+    let old = c.args.self.now in
+    let read = stands_at old.phase phase.Directories old.order old.params.format old.table c.requires old.read in
+    let same = c.in_default.ensures in
+    stands_at phase.Directories old.phase old.order old.params.format c.take.new.self (sym c.requires)
+    (subst (λ (t : TableReader). ∥ TableReads old.order old.params.format t ∥₁) (sym same.1) (reads_on old.order old.params.format old.table c.push-next.new.self c.args.byte c.push-next.result (omega arith) read c.push-next.ensures same.0))

@@ -1,7 +1,11 @@
-use Rattle.std.proofs.Common.{ℕ, Option, ◌∷◌, [], ◌+◌, refl, sym, ap, ◌∙◌, arith, length, length-append}
+use Rattle.std.proofs.Common.{nat_lt, subst, None, ◌≡◌, List, ℕ, Option, ◌∷◌, [], ◌+◌, refl, sym, ap, ◌∙◌, arith, length, length-append}
 use Rattle.dl_head.specs.declared.fault.FaultKind.{FaultKind}
 use Rattle.dl_head.specs.Layout.{number_is, judged, objection, opcode_length}
 use Rattle.dl_head.proofs.Places.{at_phase, late_on, length_judged, next_length, at_lengths, some_left, next_at}
+use Rattle.dl_head.specs.declared.reader.Phase.TheVariants as phase
+use Rattle.dl_head.specs.Built.{wrong_length}
+use Rattle.dl_head.proofs.HeaderSound.{lengths_push}
+use Rattle.dl_head.proofs.TableSpellings.{stands_at, length_or_table_stands}
 use Rattle.dl_head.proofs.reader.HeadReader.opcode_length.Goals as goal
 
 pub returns-then-is_wrong_length-clause-follows : goal.returns-then-is_wrong_length-clause-follows
@@ -29,3 +33,18 @@ returns-clause-follows c = record {
       );
   counts = record { order = refl; start = refl; taken = refl; header = refl };
 }
+
+pub invariant_of-self-clause-standard : goal.invariant_of-self-clause-standard
+invariant_of-self-clause-standard c =
+    let lengths = c.args.self.now.params.lengths.items in
+    let right = c.if-is_wrong_length.ensures.value in
+    record {
+      none_wrong = subst (λ (l : List ℕ). wrong_length 1 l ≡ None) (sym c.push.ensures.items)
+          (lengths_push 1 lengths c.args.byte c.args.self.now.standard.none_wrong (subst (λ (n : ℕ). objection (opcode_length n) c.args.byte ≡ None) (omega (arith, c.len-opcode.ensures.value)) right));
+    }
+
+pub invariant_of-self-clause-read : goal.invariant_of-self-clause-read
+invariant_of-self-clause-read c =
+    let old = c.args.self.now in
+    let read = stands_at old.phase phase.OpcodeLength old.order old.params.format old.table c.requires old.read in
+    stands_at _ _ old.order old.params.format old.table (sym c.length_or_table-self.ensures.next) (length_or_table_stands (nat_lt (c.len-opcode.result + 1 + 1) old.params.opcode_base) old.order old.params.format old.table read)

@@ -13,3 +13,6 @@ returns-clause-follows c = (
   ),
   record { order = refl; start = refl; taken = refl; header = refl },
 )
+
+pub invariant_of-self-clause-read : goal.invariant_of-self-clause-read
+invariant_of-self-clause-read c = c.requires.read

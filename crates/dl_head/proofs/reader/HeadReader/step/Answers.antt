@@ -18,7 +18,7 @@ returns-in-Within-clause-steps c b s =
     let goes = goes_of c.args.self.now.phase c.in_default.not-Done c.in_default.not-Foreign c.in_default.not-Failed in
     let live = live_of c.args.self.now b goes s in
     within_step c.args.self.now c.push.new.self c.settle.new.self
-    (record { short = _; near = _; address_size = _; operations = _; lines = _; lengths = _; tables = _ }) b c.args.byte c.saturating_add-self.result c.settle.result goes live c.in-Within.ensures.follows
+    (record { short = _; near = _; address_size = _; operations = _; lines = _; lengths = _; tables = _; formats = _; standard = _; read = _ }) b c.args.byte c.saturating_add-self.result c.settle.result goes live c.in-Within.ensures.follows
     (counts_on c.args.self.now c.push.new.self b _ live.0 s.taken c.in-Within.ensures.follows.counts.taken c.saturating_add-self.ensures) c.settle.ensures.settles
 
 pub returns-in-Ends-clause-steps : goal.returns-in-Ends-clause-steps
@@ -26,7 +26,7 @@ returns-in-Ends-clause-steps c b s =
     let goes = goes_of c.args.self.now.phase c.in_default.not-Done c.in_default.not-Foreign c.in_default.not-Failed in
     let live = live_of c.args.self.now b goes s in
     ends_step c.args.self.now c.push.new.self c.settle-in-Ends.new.self
-    (record { short = _; near = _; address_size = _; operations = _; lines = _; lengths = _; tables = _ }) b c.args.byte c.saturating_add-self-in-Ends.result c.settle-in-Ends.result goes live c.in-Ends.ensures.follows
+    (record { short = _; near = _; address_size = _; operations = _; lines = _; lengths = _; tables = _; formats = _; standard = _; read = _ }) b c.args.byte c.saturating_add-self-in-Ends.result c.settle-in-Ends.result goes live c.in-Ends.ensures.follows
     (counts_on c.args.self.now c.push.new.self b _ live.0 s.taken c.in-Ends.ensures.follows.counts.taken c.saturating_add-self-in-Ends.ensures) c.settle-in-Ends.ensures.settles
 
 pub returns-in-Refuses-clause-steps : goal.returns-in-Refuses-clause-steps
@@ -34,7 +34,7 @@ returns-in-Refuses-clause-steps c b s =
     let goes = goes_of c.args.self.now.phase c.in_default.not-Done c.in_default.not-Foreign c.in_default.not-Failed in
     let live = live_of c.args.self.now b goes s in
     refused_step c.args.self.now c.push.new.self c.fail.new.self
-    (record { short = _; near = _; address_size = _; operations = _; lines = _; lengths = _; tables = _ }) b c.args.byte c.saturating_add-self-in-Refuses.result c.in-Refuses.kind c.fail.result goes s live
+    (record { short = _; near = _; address_size = _; operations = _; lines = _; lengths = _; tables = _; formats = _; standard = _; read = _ }) b c.args.byte c.saturating_add-self-in-Refuses.result c.in-Refuses.kind c.fail.result goes s live
     c.in-Refuses.ensures.follows c.in-Refuses.ensures.kept
     (counts_on c.args.self.now c.push.new.self b _ live.0 s.taken c.in-Refuses.ensures.follows.counts.taken c.saturating_add-self-in-Refuses.ensures) c.fail.ensures
 
