@@ -130,8 +130,8 @@ fn each_read(rt: HostRuntime) -> Result<(), Fail> {
     let section = bytes(alloc, &UNITS)?;
     let section = section.as_slice();
     for command in COMMANDS {
-        for before in 0..15u32 {
-            let read = READ.saturating_mul(before as usize);
+        for before in 0..15usize {
+            let read = READ.saturating_mul(before);
             for fault in [
                 Fault::Fails,
                 Fault::Interrupted(1001),
@@ -179,7 +179,7 @@ fn each_write(rt: HostRuntime) -> Result<(), Fail> {
                 (Fault::Short, false),
             ] {
                 let mut input = Source::new(section, 4096);
-                let mut output = Sink::with_fault(alloc, WRITTEN, before as u32, fault);
+                let mut output = Sink::with_fault(alloc, WRITTEN, before, fault);
                 let answered = run(command, alloc, &mut input, &mut output);
                 if is_failed {
                     assert_eq!(rt; answered, Err(RunFault::Write { out: out as u128 }));
@@ -202,10 +202,10 @@ fn each_growth(rt: HostRuntime) -> Result<(), Fail> {
     let section = bytes(alloc, &UNITS)?;
     let section = section.as_slice();
     for (command, least) in [
-        (Command::Dump, 4),
-        (Command::Check, 4),
-        (Command::Find, 4),
-        (Command::Copy, 8),
+        (Command::Dump, 5),
+        (Command::Check, 5),
+        (Command::Find, 5),
+        (Command::Copy, 7),
     ] {
         let (answer, text) = ended(command, alloc, section, 182)?;
         let mut refusals = 0u32;

@@ -19,7 +19,7 @@ pub enum Fault {
 /// A fault at the call behind so many others.
 #[derive(Drop)]
 struct Plan {
-    before: u32,
+    before: usize,
     fault: Option<Fault>,
 }
 
@@ -68,7 +68,7 @@ impl<'a> Source<'a> {
     }
 
     /// The same with a fault at the call behind so many others.
-    pub fn with_fault(self, before: u32, fault: Fault) -> Source<'a> {
+    pub fn with_fault(self, before: usize, fault: Fault) -> Source<'a> {
         Source {
             plan: Plan {
                 before,
@@ -153,7 +153,7 @@ impl Sink {
     }
 
     /// Room for a megabyte, and a fault at the call behind so many others.
-    pub fn with_fault(alloc: Global, most: usize, before: u32, fault: Fault) -> Sink {
+    pub fn with_fault(alloc: Global, most: usize, before: usize, fault: Fault) -> Sink {
         Sink {
             plan: Plan {
                 before,
