@@ -25,3 +25,4 @@ pub mod DumpingLemmas
 pub mod CheckingLemmas
 pub mod RangeLemmas
 pub mod CopyingLemmas
+pub mod CopiedUnits

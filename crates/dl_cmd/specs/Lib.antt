@@ -21,3 +21,4 @@ pub mod RowsTold
 pub mod Finding
 pub mod Copying
 pub mod Commands
+pub mod CopyLaws
