@@ -27,3 +27,4 @@ pub mod CheckingLemmas
 pub mod RangeLemmas
 pub mod CopyingLemmas
 pub mod WorkStops
+pub mod CopiedUnits

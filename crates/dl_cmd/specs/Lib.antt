@@ -23,3 +23,4 @@ pub mod Copying
 pub mod Commands
 pub mod Work
 pub mod StringFiles
+pub mod CopyLaws

@@ -1,5 +1,6 @@
 //! Laws of the definitions of sections, each the contract of a function that does nothing.
 
+ghost use Rattle.dl_cmd.specs.CopyLaws.{CopiesAreUnits};
 ghost use Rattle.dl_cmd.specs.SectionLaws.{OneCut, OneEnd, MoreIsTold, OneChecking, OneFound, OneFinding, OneDumping, OneDump, DumpIsFront, OneCopying, OneCopy, CopyIsFront};
 
 /// Bytes are cut into units, up to bytes that no unit begins, in one way alone. Section 6.2.4.
@@ -39,6 +40,12 @@ pub fn one_dumping()
     ensures answer { OneDumping }
     ensures text { OneDump }
     ensures front { DumpIsFront }
+{}
+
+/// What `copy` writes for units that were read is a section of as many units: each has the header of its
+/// unit, with the standard opcodes, and comes to the same rows. Sections 6.2 and 6.2.4.
+pub fn copies_are_units()
+    ensures { CopiesAreUnits }
 {}
 
 /// What `copy` answers and writes is settled by the bytes and the limit, but where memory, input or

@@ -7,7 +7,7 @@ pub returns-in-Ok-clause-printed : goal.returns-in-Ok-clause-printed
 returns-in-Ok-clause-printed g c =
     let copier = c.args.self.now in
     let h = c.args.header.now in
-    let written = c.in-Ok.ensures in
+    let written = c.in-Ok.ensures.written in
     let rows : c.as_slice.result.now ≡ copier.rows.items = c.as_slice.ensures.value in
     let unit = unit_of copier.order h in
     let bytes : c.as_slice-in-Ok.result.now ≡ unit copier.rows.items =
