@@ -1,6 +1,7 @@
 use crate::{
-    Fixed, LebRange, Operand, Order, Skip, Sleb, Uleb, fixed_bytes, sleb_at_front, sleb_bytes,
-    sleb_read_back, uleb_at_front, uleb_bytes, uleb_read_back,
+    Fixed, LebRange, Number, Operand, Order, Skip, Sleb, Uleb, fixed_bytes, short_sleb_at_front,
+    short_uleb_at_front, sleb_at_front, sleb_bytes, sleb_read_back, uleb_at_front, uleb_bytes,
+    uleb_read_back,
 };
 use std::process::Abort;
 
@@ -154,4 +155,97 @@ fn sixteen_bytes(rt: HostRuntime) {
     let (last, fixed) = whole.expect(&rt, "sixteen bytes");
     assert_eq!(rt; last, 15);
     assert!(rt; fixed.is_full());
+}
+
+/// The MD5 of no bytes, RFC 1321.
+#[test]
+fn sixteen_bytes_stand_as_they_came(rt: HostRuntime) {
+    let sum = [
+        0xd4, 0x1d, 0x8c, 0xd9, 0x8f, 0x00, 0xb2, 0x04, 0xe9, 0x80, 0x09, 0x98, 0xec, 0xf8, 0x42,
+        0x7e,
+    ];
+    let mut operand = Operand::new(16);
+    let mut whole = None;
+    for byte in sum {
+        match operand.push(byte) {
+            Ok(fixed) => whole = Some(fixed.bytes16()),
+            Err(more) => operand = more,
+        }
+    }
+    assert_eq!(rt; whole, Some(sum));
+}
+
+/// Numbers in both orders, byte by byte and in one piece, with bytes behind them.
+#[test]
+fn numbers_of_fixed_size(rt: HostRuntime) {
+    let rows: [(Order, usize, &[u8], u64); 6] = [
+        (Order::Little, 1, &[0xfb], 0xfb),
+        (Order::Little, 2, &[0x34, 0x12], 0x1234),
+        (Order::Big, 2, &[0x34, 0x12], 0x3412),
+        (Order::Little, 4, &[0x78, 0x56, 0x34, 0x12], 305_419_896),
+        (Order::Big, 4, &[0x12, 0x34, 0x56, 0x78], 305_419_896),
+        (Order::Big, 8, &[0, 0, 0, 1, 0, 0, 0, 0], 4_294_967_296),
+    ];
+    for (order, size, bytes, value) in rows {
+        if !matches!(size, 1 | 2 | 4 | 8) {
+            continue;
+        }
+        let mut number = Number::new(size);
+        let mut last = None;
+        for byte in bytes {
+            assert_eq!(rt; last, None);
+            match number.push(order, *byte) {
+                Ok(whole) => last = Some(whole),
+                Err(more) => number = more,
+            }
+        }
+        assert_eq!(rt; last, Some(value));
+        let whole = Number::new(size).take_from(order, bytes);
+        let (found, behind) = whole.ok().expect(&rt, "a number");
+        assert_eq!(rt; found, value);
+        assert!(rt; behind.is_empty());
+    }
+    let lacking = Number::new(4).take_from(Order::Big, &[0x12, 0x34]).err();
+    let lacking = lacking.expect(&rt, "a number that lacks bytes");
+    let whole = lacking.take_from(Order::Big, &[0x56, 0x78, 0xaa]).ok();
+    let (found, behind) = whole.expect(&rt, "a number");
+    assert_eq!(rt; found, 0x1234_5678);
+    assert_eq!(rt; behind, [0xaa].as_slice());
+}
+
+/// The examples of figures 7.7 and 7.8 of section 7.6, with a byte behind each.
+#[test]
+fn short_spellings(rt: HostRuntime) {
+    let unsigned: [(u64, &[u8]); 6] = [
+        (2, &[0x02, 0xff]),
+        (127, &[0x7f, 0xff]),
+        (128, &[0x80, 0x01, 0xff]),
+        (129, &[0x81, 0x01, 0xff]),
+        (130, &[0x82, 0x01, 0xff]),
+        (12857, &[0xb9, 0x64, 0xff]),
+    ];
+    for (number, bytes) in unsigned {
+        let (found, behind) = short_uleb_at_front(bytes).expect(&rt, "a number");
+        assert_eq!(rt; found, number);
+        assert_eq!(rt; behind, [0xff].as_slice());
+    }
+    let signed: [(i64, &[u8]); 8] = [
+        (2, &[0x02, 0xff]),
+        (-2, &[0x7e, 0xff]),
+        (127, &[0xff, 0x00, 0xff]),
+        (-127, &[0x81, 0x7f, 0xff]),
+        (128, &[0x80, 0x01, 0xff]),
+        (-128, &[0x80, 0x7f, 0xff]),
+        (129, &[0x81, 0x01, 0xff]),
+        (-129, &[0xff, 0x7e, 0xff]),
+    ];
+    for (number, bytes) in signed {
+        let (found, behind) = short_sleb_at_front(bytes).expect(&rt, "a number");
+        assert_eq!(rt; found, number);
+        assert_eq!(rt; behind, [0xff].as_slice());
+    }
+    for bytes in [[].as_slice(), &[0x80], &[0x80, 0x80, 0x01]] {
+        assert!(rt; short_uleb_at_front(bytes).is_none());
+        assert!(rt; short_sleb_at_front(bytes).is_none());
+    }
 }

@@ -233,3 +233,21 @@ fn entries_past_the_header_are_refused(rt: HostRuntime) {
     assert_ends(&rt, &mut reader, &BLOCK_PAST_THE_HEADER, answer);
     assert_eq!(rt; reader.cells(), 2);
 }
+
+/// The cells of a header that is cut off anywhere are those of the bytes before.
+#[test]
+fn a_huge_count_is_cut_off_anywhere(rt: HostRuntime) {
+    for len in 0..HUGE_DIRECTORY_COUNT.len() {
+        let mut reader = HeadReader::new(rt.alloc(), Order::Little);
+        let (piece, _) = HUGE_DIRECTORY_COUNT.split_at(len);
+        assert_ends(&rt, &mut reader, piece, HeadStep::More);
+        assert!(rt; reader.header().is_none());
+        let cells = match len {
+            0..33 => 0,
+            33..43 => 1,
+            43 => 2,
+            _ => 3,
+        };
+        assert_eq!(rt; reader.cells(), cells, "cut off at {len}");
+    }
+}

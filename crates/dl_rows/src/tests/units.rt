@@ -338,6 +338,7 @@ fn header_faults(rt: HostRuntime) -> Result<(), Fail> {
     for (words, wanted) in cases {
         let unit = bytes(rt.alloc(), words)?;
         assert_told(&rt, rt.alloc(), Order::Little, unit.as_slice(), &[wanted])?;
+        assert_truncated(&rt, rt.alloc(), Order::Little, unit.as_slice())?;
     }
     for words in [
         "ff ff ff ff 01 00 00 00 00 00 00 00",
