@@ -21,6 +21,7 @@ pub mod ReaderFeeds
 pub mod ReaderLemmas
 pub mod RegisterLemmas
 pub mod RunLemmas
+pub mod RunTurns
 pub mod SkipLemmas
 pub mod SpeltFirst
 pub mod TailFeeds

@@ -79,7 +79,10 @@ fn behind_a_header_nothing_grows(rt: HostRuntime) -> Result<(), Fail> {
     let mut reader = Reader::new(rt.alloc(), Order::Little);
     let blocks = hoard(rt.alloc())?;
     assert!(rt; Vec::<u8>::with_capacity(rt.alloc(), 1).is_err());
-    assert_eq!(rt; next_event(&rt, &mut reader, unit.as_slice())?, Event::Header);
+    assert_eq!(rt;
+        next_event(&rt, &mut reader, unit.as_slice())?,
+        Event::Header
+    );
     for n in 1..=99_997u64 {
         let event = next_event(&rt, &mut reader, unit.as_slice())?;
         assert_eq!(rt; event, Event::Row(row(n, 0, 1)));

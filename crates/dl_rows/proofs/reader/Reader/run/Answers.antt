@@ -1,6 +1,7 @@
 use Rattle.std.proofs.Common.{◌≡◌, ◌≤◌, ◌+◌, ℕ, Bool, false, cond, Ok, refl, ap, ◌∙◌, arith, drop, length, length-take, length-drop}
 use Rattle.std.proofs.lemmas.Result.{err_from_is_err_and}
-use Rattle.dl_rows.proofs.RunLemmas.{hears_none, going_none, going_on, traced_end, traced_fault, traced_all, other_event, runs_of, unit_of}
+use Rattle.dl_rows.proofs.RunLemmas.{other_event}
+use Rattle.dl_rows.proofs.RunTurns.{hears_none, going_none, going_on, traced_end, traced_fault, traced_all, runs_of, unit_of}
 use Rattle.dl_rows.specs.declared.reader.Event.{Event}
 use Rattle.dl_rows.specs.declared.reader.run.Run.{Run}
 use Rattle.dl_rows.specs.Runs.{goes_on, is_refusal}

@@ -1,6 +1,6 @@
 use Rattle.std.proofs.Common.{◌≡◌, ◌≤◌, ℕ, List, length, take, false}
 use Rattle.dl_rows.specs.ReaderStands.{StandsFor}
-use Rattle.dl_rows.proofs.RunLemmas.{Going}
+use Rattle.dl_rows.proofs.RunTurns.{Going}
 use Rattle.dl_rows.proofs.reader.Reader.run.Given as goal
 
 abbrev pub invariant-loop-turn : goal.invariant-loop-turn
