@@ -6,6 +6,7 @@ use dl_head::FaultKind;
 use dl_look::Place;
 use std::alloc::Global;
 use std::io::Read;
+use std::process::Abort;
 use std::test::Fail;
 
 /// Units of 78, 52 and 52 bytes.
@@ -194,39 +195,58 @@ fn each_write(rt: HostRuntime) -> Result<(), Fail> {
     Ok(())
 }
 
-/// Where a growth is refused, what comes before the byte at hand is written, and the growth isn't tried
-/// again: memory is there when the next byte is read, which none is.
-#[test]
-fn each_growth(rt: HostRuntime) -> Result<(), Fail> {
-    let alloc = rt.alloc();
+/// Refuses each growth at one of the first bytes. What comes before the byte at hand is written, and the
+/// growth isn't tried again: memory is there when the next byte is read, which none is. Both tables of the
+/// first unit's header grow at their first cells.
+fn assert_growths(
+    rt: &impl Abort,
+    alloc: Global,
+    command: Command,
+    first: usize,
+    least: u32,
+) -> Result<(), Fail> {
     let section = bytes(alloc, &UNITS)?;
     let section = section.as_slice();
-    for (command, least) in [
-        (Command::Dump, 5),
-        (Command::Check, 5),
-        (Command::Find, 5),
-        (Command::Copy, 7),
-    ] {
-        let (answer, text) = ended(command, alloc, section, 182)?;
-        let mut refusals = 0u32;
-        for at in 0..section.len() {
-            let before = written(command, alloc, section, at)?;
-            let mut output = Sink::new(alloc, 1 << 20, 1 << 20);
-            output.held.reserve(1 << 10)?;
-            let mut input = Hoarding::new(alloc, section, at);
-            let answered = run(command, alloc, &mut input, &mut output);
-            let given = input.given;
-            drop(input);
-            if answered == Err(RunFault::NoMemory) {
-                assert_eq!(rt; given, at + 1);
-                assert_eq!(rt; output.held.as_slice(), before.as_slice());
-                refusals = refusals.saturating_add(1);
-            } else {
-                assert_eq!(rt; answered, answer);
-                assert_eq!(rt; output.held.as_slice(), text.as_slice());
-            }
+    let (answer, text) = ended(command, alloc, section, 182)?;
+    let mut refusals = 0u32;
+    for at in 0..first {
+        let before = written(command, alloc, section, at)?;
+        let mut output = Sink::new(alloc, 1 << 20, 1 << 20);
+        output.held.reserve(1 << 10)?;
+        let mut input = Hoarding::new(alloc, section, at);
+        let answered = run(command, alloc, &mut input, &mut output);
+        let given = input.given;
+        drop(input);
+        if answered == Err(RunFault::NoMemory) {
+            assert_eq!(rt; given, at + 1);
+            assert_eq!(rt; output.held.as_slice(), before.as_slice());
+            refusals = refusals.saturating_add(1);
+        } else {
+            assert_eq!(rt; answered, answer);
+            assert_eq!(rt; output.held.as_slice(), text.as_slice());
         }
-        assert!(rt; least <= refusals);
     }
+    assert!(rt; least <= refusals);
     Ok(())
+}
+
+#[test]
+fn each_growth_of_dump(rt: HostRuntime) -> Result<(), Fail> {
+    assert_growths(&rt, rt.alloc(), Command::Dump, 78, 2)
+}
+
+#[test]
+fn each_growth_of_check(rt: HostRuntime) -> Result<(), Fail> {
+    assert_growths(&rt, rt.alloc(), Command::Check, 78, 2)
+}
+
+#[test]
+fn each_growth_of_find(rt: HostRuntime) -> Result<(), Fail> {
+    assert_growths(&rt, rt.alloc(), Command::Find, 78, 2)
+}
+
+/// The first copy and the first row are held too.
+#[test]
+fn each_growth_of_copy(rt: HostRuntime) -> Result<(), Fail> {
+    assert_growths(&rt, rt.alloc(), Command::Copy, 130, 4)
 }
