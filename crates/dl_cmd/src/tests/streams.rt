@@ -67,6 +67,11 @@ impl<'a> Source<'a> {
         }
     }
 
+    /// How many bytes weren't given.
+    pub fn left(&self) -> usize {
+        self.bytes.len()
+    }
+
     /// The same with a fault at the call behind so many others.
     pub fn with_fault(self, before: usize, fault: Fault) -> Source<'a> {
         Source {

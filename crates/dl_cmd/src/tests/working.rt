@@ -49,7 +49,7 @@ fn done(
     let mut input = Source::new(section.as_slice(), 4096);
     let mut output = Sink::new(alloc, 1 << 20, 1 << 20);
     let answer = work(alloc, job, &Shelf, &mut input, &mut output);
-    let left = input.bytes.len();
+    let left = input.left();
     Ok((answer.map(|_| ()), output.held, left))
 }
 
