@@ -143,6 +143,7 @@ fn the_first_cell_needs_memory(rt: HostRuntime) -> Result<(), Fail> {
         TWO_THOUSAND_DIRECTORIES.as_slice(),
         HUGE_DIRECTORY_COUNT.as_slice(),
     ] {
+        assert!(rt; header.len() > 36);
         let (before, claim) = header.split_at(33);
         let (count, entry) = claim.split_at(claim.len() - 3);
         let mut reader = HeadReader::new(rt.alloc(), Order::Little);
