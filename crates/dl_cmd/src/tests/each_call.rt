@@ -208,6 +208,10 @@ fn assert_growths(
     let section = bytes(alloc, &UNITS)?;
     let section = section.as_slice();
     let (answer, text) = ended(command, alloc, section, 182)?;
+    let mut input = Source::new(section, 1);
+    let mut output = Sink::new(alloc, 1 << 20, 1 << 20);
+    // The stack grows here, while there is memory.
+    assert_eq!(rt; run(command, alloc, &mut input, &mut output), answer);
     let mut refusals = 0u32;
     for at in 0..first {
         let before = written(command, alloc, section, at)?;
@@ -226,7 +230,7 @@ fn assert_growths(
             assert_eq!(rt; output.held.as_slice(), text.as_slice());
         }
     }
-    assert!(rt; least <= refusals);
+    assert!(rt; least <= refusals, "{refusals}");
     Ok(())
 }
 
