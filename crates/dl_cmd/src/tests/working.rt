@@ -152,9 +152,9 @@ fn check_and_copy(rt: HostRuntime) -> Result<(), Fail> {
     let (answer, output, _) = done(alloc, Some(Job::Check { big: false }), THREE_ROWS)?;
     assert!(rt; answer == Ok(()));
     assert_eq!(rt; output.as_slice(), counts.as_bytes());
-    let (answer, output, _) = done(alloc, Some(Job::Copy { big: false }), SMALLEST)?;
+    let (answer, output, _) = done(alloc, Some(Job::Copy { big: false }), THREE_ROWS)?;
     assert!(rt; answer == Ok(()));
-    let copied = bytes(alloc, &[SMALLEST])?;
+    let copied = bytes(alloc, &[THREE_ROWS])?;
     assert_eq!(rt; output.as_slice(), copied.as_slice());
     for job in [Job::Check { big: true }, Job::Copy { big: true }] {
         let (answer, output, _) = done(alloc, Some(job), SMALLEST)?;
