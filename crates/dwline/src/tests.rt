@@ -12,7 +12,10 @@ fn statuses(rt: HostRuntime) -> Result<(), Fail> {
         (["dwline", "find"].as_slice(), 2),
         (["dwline", "find", "0x10", "--op", "256"].as_slice(), 2),
         (["dwline", "find", "0x"].as_slice(), 2),
-        (["dwline", "find", "0x", "--str", "no/such/file"].as_slice(), 2),
+        (
+            ["dwline", "find", "0x", "--str", "no/such/file"].as_slice(),
+            2,
+        ),
         (["dwline", "copy", "--str", "a"].as_slice(), 2),
         (["dwline", "--help"].as_slice(), 0),
         (
