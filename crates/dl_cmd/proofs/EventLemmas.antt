@@ -12,12 +12,13 @@ use Rattle.dl_rows.specs.declared.reader.Event.TheVariants as event
 use Rattle.dl_rows.specs.LineUnit.{rows_in, rows_behind, unit_rows, own_events, events_of, events}
 use Rattle.dl_rows.proofs.UnitLemmas.{header_on}
 use Rattle.dl_rows.proofs.ReaderLemmas.{foreign_no_header, no_rows}
-use Rattle.dl_cmd.specs.Section.{Visit, header_of, event_visits, visits}
+use Rattle.dl_rows.specs.Reading.{told}
+use Rattle.dl_cmd.specs.Section.{Visit, of_row, header_of, event_visits, visits}
 use Rattle.dl_cmd.specs.Visiting.{row_told, rows_told, is_foreign}
 
 -- ---- rows
 
-rows_told-rows : (rows : List Row) → rows_told (map event.Row rows) ≡ rows
+pub rows_told-rows : (rows : List Row) → rows_told (map event.Row rows) ≡ rows
 rows_told-rows [] = refl
 rows_told-rows (r ∷ rows) = ap (λ (l : List Row). r ∷ l) (rows_told-rows rows)
 
@@ -37,9 +38,23 @@ rows_by order b (Some v) is = sym (no_rows order b (foreign_no_header order b v 
 pub rows_of_events : (order : Order) (b : List ℕ) → rows_told (events order b) ≡ unit_rows order b
 rows_of_events order b = rows_by order b (foreign_in order b) refl
 
+-- an event that tells no row
+pub none_told : (e : Event) → row_told e ≡ [] → rows_told (told e) ≡ []
+none_told (event.Row r) none = none
+none_told event.More none = refl
+none_told event.Header none = refl
+none_told (event.Foreign version) none = refl
+none_told event.End none = refl
+none_told event.NoMemory none = refl
+
+-- rows are visits of their own, whatever the header
+pub rows_visited : (offset : ℕ) (h : Option HeaderData) (rows : List Row) → flat_map (event_visits offset h) (map event.Row rows) ≡ map of_row rows
+rows_visited offset h [] = refl
+rows_visited offset h (r ∷ rows) = ap (λ (l : List Visit). of_row r ∷ l) (rows_visited offset h rows)
+
 -- ---- versions
 
-no_version : (rows : List Row) → is_foreign (map event.Row rows) ≡ false
+pub no_version : (rows : List Row) → is_foreign (map event.Row rows) ≡ false
 no_version [] = refl
 no_version (r ∷ rows) = no_version rows
 

@@ -17,6 +17,7 @@ pub mod OneCopying
 pub mod DumpFronts
 pub mod UnitsLemmas
 pub mod VisitLemmas
+pub mod ToldLemmas
 pub mod CountLemmas
 pub mod FeedLemmas
 pub mod WorkLemmas
@@ -26,5 +27,4 @@ pub mod DumpingLemmas
 pub mod CheckingLemmas
 pub mod RangeLemmas
 pub mod CopyingLemmas
-pub mod WorkStops
 pub mod CopiedUnits

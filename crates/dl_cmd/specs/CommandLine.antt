@@ -1,6 +1,7 @@
 -- The command line of the program, as clap reads it.
-use Rattle.std.specs.Prelude.{◌≡◌, false, [], ◌∷◌, Some, codes, true, pos}
-use Rattle.clap.specs.Words.{App, app_of, rule_of, Rule, new_app, new_rule, with_rule, with_subcommand}
+use Rattle.std.specs.Prelude.{◌≡◌, List, false, [], ◌∷◌, Some, codes, true, pos}
+use Rattle.clap.specs.Words.{App, app_of, rule_of, Rule, Text, new_app, new_rule, with_rule, with_subcommand}
+use Rattle.clap.specs.Walk.{texts}
 use Rattle.clap.specs.declared.builder.arg.Arg.{Arg}
 use Rattle.clap.specs.declared.builder.command.Command.{Command}
 use Rattle.clap.specs.declared.builder.command.Command.TheViews.{out-Command}
@@ -32,28 +33,37 @@ op_rule = record (new_rule (codes "op")) {
   defaults = codes "0" ∷ [];
 }
 
-abbrev pub with_strings : App → App
-with_strings a = with_rule (with_rule (with_rule a big_rule) line_str_rule) str_rule
+-- `FILE`, which excludes other arguments
+abbrev pub file_rule : Rule
+file_rule = record (new_rule (codes "file")) { value_names = 1; is_free = false }
 
--- `dump [--big] [--line-str PATH] [--str PATH]`
+-- where the section comes from
+abbrev pub with_input : App → App
+with_input a = with_rule (with_rule a big_rule) file_rule
+
+-- the same, and where its string sections come from
+abbrev pub with_strings : App → App
+with_strings a = with_rule (with_rule (with_rule (with_rule a big_rule) line_str_rule) str_rule) file_rule
+
+-- `dump [--big] [--line-str PATH] [--str PATH] [FILE]`
 abbrev pub dump_app : App
 dump_app = with_strings (new_app (codes "dump"))
 
--- `check [--big]`
+-- `check [--big] [FILE]`
 abbrev pub check_app : App
-check_app = with_rule (new_app (codes "check")) big_rule
+check_app = with_input (new_app (codes "check"))
 
--- `find ADDRESS [--op N] [--big] [--line-str PATH] [--str PATH]`
+-- `find ADDRESS [--op N] [--big] [--line-str PATH] [--str PATH] [FILE]`
 abbrev pub find_app : App
 find_app = with_strings (with_rule (with_rule (new_app (codes "find")) address_rule) op_rule)
 
--- `copy [--big]`
+-- `copy [--big] [FILE]`
 abbrev pub copy_app : App
-copy_app = with_rule (new_app (codes "copy")) big_rule
+copy_app = with_input (new_app (codes "copy"))
 
--- `dwline`, which wants a subcommand
+-- `dwline`, which has a version and wants a subcommand
 abbrev pub top_app : App
-top_app = let a = new_app (codes "dwline") in record a { top = record a.top { subcommand_required = true } }
+top_app = let a = new_app (codes "dwline") in record a { top = record a.top { has_version = true; subcommand_required = true } }
 
 -- the whole program
 abbrev pub command_line : App
@@ -66,3 +76,7 @@ IsApp a c = (app_of c ≡ a) × ((out-Command c).has_globals ≡ false)
 -- an argument that isn't global, of which a parse reads this
 abbrev pub IsRule : Rule → Arg → Type 0
 IsRule r a = (rule_of a ≡ r) × (a.global ≡ false)
+
+-- it may not be used with those of these ids
+abbrev pub Excludes : List Text → Arg → Type 0
+Excludes ids a = texts a.conflicts.items ≡ ids

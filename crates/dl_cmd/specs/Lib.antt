@@ -14,6 +14,7 @@ pub mod Section
 pub mod SectionLaws
 pub mod Counts
 pub mod Visiting
+pub mod Told
 pub mod SectionText
 pub mod Checking
 pub mod Dumping
@@ -21,6 +22,4 @@ pub mod RowsTold
 pub mod Finding
 pub mod Copying
 pub mod Commands
-pub mod Work
-pub mod StringFiles
 pub mod CopyLaws

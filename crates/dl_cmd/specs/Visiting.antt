@@ -97,9 +97,8 @@ pub record UnitsAre (order : Order) (u : Units) (t : List ℕ) (units : List (Li
   pub rows : u.rows ≡ length (rows_told (events order b))
   pub summary : u.summary ≡ summary_of order units
 
--- the counts, one higher where an event says so
+-- what an event that is no row says of the unit at hand
 abbrev pub counted : Event → Units → Units
-counted (event.Row r) u = record u { rows = add u.rows 1; sequences = add u.sequences (cond r.end_sequence 1 0) }
 counted (event.Foreign version) u = record u { is_foreign = true }
 counted other u = u
 

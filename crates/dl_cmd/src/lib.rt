@@ -16,7 +16,6 @@ mod strings;
 mod summary;
 mod text;
 mod words;
-mod working;
 
 pub use address::read_address;
 pub use checking::check;
@@ -28,7 +27,3 @@ pub use options::{Options, SECTION_LIMIT};
 pub use strings::read_strings;
 pub use summary::Summary;
 pub use words::{Job, read_job, word_status};
-pub use working::{FileSource, Stop, work};
-
-#[cfg(test)]
-mod tests;

@@ -1,15 +1,17 @@
 //! The units of a section, read one after the other. Section 6.2.4.
 
-ghost use Rattle.std.specs.Prelude.{◌≡◌, ◌≤◌, ◌<◌, ◌+◌, ◌^◌, ◌++◌, ◌∷◌, [], ℕ, List, Option, length, take, OnOk};
+ghost use Rattle.std.specs.Prelude.{◌≡◌, ◌≤◌, ◌<◌, ◌+◌, ◌^◌, ◌++◌, ◌∷◌, ◌⊎◌, [], ℕ, List, Option, length, take, IfOk, OnOk};
 ghost use Rattle.dl_num.specs.declared.fixed.Order.{Order};
 ghost use Rattle.std.specs.Io.KnownBytes.{Appends, Consumes};
 ghost use Rattle.dl_rows.specs.LineUnit.{IsUnit, ends_open, unit_rows};
 ghost use Rattle.dl_rows.specs.Progress.{taken_of};
+ghost use Rattle.dl_rows.specs.Reading.{IsPause};
 ghost use Rattle.dl_rows.specs.ReaderStands.{StandsFor};
 ghost use Rattle.dl_rows.specs.Runs.{Sound};
 ghost use Rattle.dl_cmd.specs.Counts.{add};
 ghost use Rattle.dl_cmd.specs.Section.{Visit, NoUnitBegins, event_visits, header_of, open_visit, end_visits, section_visits};
-ghost use Rattle.dl_cmd.specs.Visiting.{Hears, HearsEnd, UnitsAre, UnitsFed, Worked, Finishes, Ran, counted, is_failed_write};
+ghost use Rattle.dl_cmd.specs.Told.{FeedsTold};
+ghost use Rattle.dl_cmd.specs.Visiting.{Hears, HearsEnd, UnitsAre, UnitsFed, Worked, Finishes, Ran, counted, row_told, is_failed_write};
 
 use crate::fault::RunFault;
 use crate::input::Input;
@@ -17,7 +19,7 @@ use crate::options::{Options, SECTION_LIMIT};
 use crate::summary::Summary;
 use dl_head::{Fault, Header};
 use dl_num::Order;
-use dl_rows::{Event, Reader, Row};
+use dl_rows::{Event, Fed, Flow, Reader, Row, RowSink};
 use std::alloc::Global;
 use std::io::{Read, Write};
 use std::mem;
@@ -72,6 +74,37 @@ pub trait Visitor<W: Write> {
             (W.contents output.old) (W.contents output.new) next result };
 }
 
+/// Tells a visitor the rows of a unit, and counts them.
+#[derive(Drop)]
+struct Told<'a, W, V> {
+    output: &'a mut W,
+    visitor: &'a mut V,
+    /// End rows and rows.
+    sequences: u64,
+    rows: u64,
+    /// Why the visitor stopped.
+    failed: Option<RunFault>,
+}
+
+impl<W: Write, V: Visitor<W>> RowSink for Told<'_, W, V> {
+    ghost use Rattle.dl_cmd.specs.Told.{told_story};
+
+    ghost story = { told_story V.story W.contents };
+
+    #[inline(always)]
+    fn row(&mut self, row: &Row) -> Flow {
+        self.rows = self.rows.saturating_add(1);
+        self.sequences = self.sequences.saturating_add(u64::from(row.end_sequence));
+        match self.visitor.row(self.output, row) {
+            Ok(()) => Flow::On,
+            Err(fault) => {
+                self.failed = Some(fault);
+                Flow::Stop
+            }
+        }
+    }
+}
+
 /// Where a reader is in a section.
 #[derive(Drop)]
 struct Units {
@@ -124,7 +157,7 @@ impl Units {
     {
         let mut rest = piece;
         'events: loop {
-            let fed = match self.reader.feed(rest) {
+            let fed = match self.feed_rows(output, visitor, rest)? {
                 Ok(fed) => fed,
                 Err(fault) => return Err(self.damage(fault)),
             };
@@ -142,7 +175,44 @@ impl Units {
         }
     }
 
-    /// Tells the visitor what came of the unit at hand.
+    /// Feeds the reader, and tells the visitor the rows that come before its answer, and that of its
+    /// answer. `Err` where the visitor stopped.
+    fn feed_rows<W: Write, V: Visitor<W>>(
+        &mut self,
+        output: &mut W,
+        visitor: &mut V,
+        piece: &[u8],
+    ) -> Result<Result<Fed, Fault>, RunFault>
+        ensures used { IfOk result (λ fed. IfOk fed (λ f. f.used ≤ length piece.now)) }
+        ensures progress { IfOk result (λ fed. IfOk fed (λ f. IsPause f.event ⊎ (1 ≤ f.used))) }
+        ensures end { IfOk result (λ fed. IfOk fed (λ f. f.event ≡ Event.End → 1 ≤ taken_of self.old.reader + f.used)) }
+        ensures told { (b : List ℕ) → StandsFor self.old.reader b
+            → FeedsTold V.story b piece.now self.old self.new visitor.old visitor.new (W.contents output.old) (W.contents output.new) result }
+    {
+        let mut told = Told {
+            output,
+            visitor,
+            sequences: self.sequences,
+            rows: self.rows,
+            failed: None,
+        };
+        let fed = self.reader.feed_rows(piece, &mut told);
+        let Told {
+            output: _,
+            visitor: _,
+            sequences,
+            rows,
+            failed,
+        } = told;
+        self.sequences = sequences;
+        self.rows = rows;
+        match failed {
+            Some(fault) => Err(fault),
+            None => Ok(fed),
+        }
+    }
+
+    /// Tells the visitor what came of the unit at hand, but for a row.
     #[inline]
     fn tell<W: Write, V: Visitor<W>>(
         &mut self,
@@ -151,16 +221,11 @@ impl Units {
         event: Event,
     ) -> Result<(), RunFault>
         ensures counted { self.new ≡ counted event self.old }
-        ensures heard { (b : List ℕ) → StandsFor self.old.reader b
+        ensures heard { (b : List ℕ) → row_told event ≡ [] → StandsFor self.old.reader b
             → Hears V.story visitor.old visitor.new (W.contents output.old) (W.contents output.new)
             (event_visits self.old.offset (header_of self.old.reader.order b) event) result }
     {
         match event {
-            Event::Row(row) => {
-                self.rows = self.rows.saturating_add(1);
-                self.sequences = self.sequences.saturating_add(u64::from(row.end_sequence));
-                visitor.row(output, &row)
-            }
             Event::Header => match self.reader.header() {
                 Some(header) => visitor.header(output, self.offset, header),
                 None => Ok(()),
@@ -169,7 +234,7 @@ impl Units {
                 self.is_foreign = true;
                 visitor.foreign(output, self.offset, version)
             }
-            Event::More | Event::NoMemory | Event::End => Ok(()),
+            Event::More | Event::NoMemory | Event::End | Event::Row(_) => Ok(()),
         }
     }
 

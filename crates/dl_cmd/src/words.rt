@@ -12,10 +12,14 @@ use command_line::make_command_line;
 use std::alloc::Global;
 
 /// What the program is to do. Paths and addresses are the words as they stand.
+///
+/// Where the path of an ELF file is given, its words say neither an order nor the path of a string section.
 #[derive(Clone, Copy, Debug, PartialEq, Eq)]
 pub enum Job<'a> {
     /// Print all units.
     Dump {
+        /// The path of the ELF file; None where the section comes on standard input.
+        file: Option<&'a str>,
         /// The section is big-endian.
         big: bool,
         /// The path of the section `.debug_line_str`.
@@ -25,10 +29,12 @@ pub enum Job<'a> {
     },
     /// Count units, sequences and rows.
     Check {
+        file: Option<&'a str>,
         big: bool,
     },
     /// Look up an address.
     Find {
+        file: Option<&'a str>,
         big: bool,
         address: Option<&'a str>,
         /// The operation index.
@@ -38,6 +44,7 @@ pub enum Job<'a> {
     },
     /// Write all units anew.
     Copy {
+        file: Option<&'a str>,
         big: bool,
     },
 }
@@ -69,14 +76,17 @@ fn job_of<'a>(name: &str, matches: &ArgMatches<'a>) -> Option<Job<'a>>
 {
     match name {
         "dump" => Some(Job::Dump {
+            file: text(matches, "file"),
             big: flag(matches, "big"),
             line_str: text(matches, "line-str"),
             strings: text(matches, "str"),
         }),
         "check" => Some(Job::Check {
+            file: text(matches, "file"),
             big: flag(matches, "big"),
         }),
         "find" => Some(Job::Find {
+            file: text(matches, "file"),
             big: flag(matches, "big"),
             address: text(matches, "address"),
             op: byte(matches, "op"),
@@ -84,6 +94,7 @@ fn job_of<'a>(name: &str, matches: &ArgMatches<'a>) -> Option<Job<'a>>
             strings: text(matches, "str"),
         }),
         "copy" => Some(Job::Copy {
+            file: text(matches, "file"),
             big: flag(matches, "big"),
         }),
         _ => None,
@@ -104,12 +115,12 @@ pub fn read_job<'a>(alloc: Global, words: &'a [&'a str]) -> Result<Option<Job<'a
     }
 }
 
-/// The program's status where the words gave no job: 0 for help, 3 for want of memory, else 2.
+/// The program's status where the words gave no job: 0 for help and for the version, 3 for want of memory, else 2.
 pub fn word_status(error: &Error) -> u8
     ensures { result ≡ word_status_of (kind_of error.now) }
 {
     match error.kind() {
-        ErrorKind::DisplayHelp => 0,
+        ErrorKind::DisplayHelp | ErrorKind::DisplayVersion => 0,
         ErrorKind::OutOfMemory => 3,
         _ => 2,
     }

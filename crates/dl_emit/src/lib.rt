@@ -9,6 +9,3 @@ mod unit;
 
 pub use fault::EmitFault;
 pub use unit::{measure, write_unit};
-
-#[cfg(test)]
-mod tests;

@@ -21,6 +21,3 @@ pub use reader::{HeadReader, HeadRun, HeadStep};
 pub use table::{Entry, Pair, Table, ValueRef, Values};
 pub use text::text_at;
 pub use write::{TooLong, header_len, write_header};
-
-#[cfg(test)]
-mod tests;

@@ -15,11 +15,11 @@ use Rattle.dl_look.proofs.MoreRows.{last_place-push, answers_for}
 use Rattle.dl_look.proofs.SpanLemmas.{joined, joined-sequences}
 
 -- all elements are of the kind
-abbrev Every : {A : Type 0} → (A → Type 0) → List A → Type 0
+abbrev pub Every : {A : Type 0} → (A → Type 0) → List A → Type 0
 Every P [] = Unit {0}
 Every P (x ∷ xs) = P x × Every P xs
 
-Every-append : {A : Type 0} (P : A → Type 0) (xs ys : List A) → Every P xs → Every P ys → Every P (xs ++ ys)
+pub Every-append : {A : Type 0} (P : A → Type 0) (xs ys : List A) → Every P xs → Every P ys → Every P (xs ++ ys)
 Every-append P [] ys a b = b
 Every-append P (x ∷ xs) ys a b = (a.0, Every-append P xs ys a.1 b)
 
@@ -68,21 +68,22 @@ upto rows x r e =
 
 -- ---- no end row
 
-abbrev NoEnd : Row → Type 0
+abbrev pub NoEnd : Row → Type 0
 NoEnd r = r.end_sequence ≡ false
 
--- rows that don't end a sequence, and one behind them
-record IsSequence (s : List Row) : Type 0 where
-  inner : List Row
-  last : Row
-  is : s ≡ inner ++ last ∷ []
-  no_end : Every NoEnd inner
+-- rows that don't end a sequence, and one behind them that does
+pub record IsSequence (s : List Row) : Type 0 where
+  pub inner : List Row
+  pub last : Row
+  pub is : s ≡ inner ++ last ∷ []
+  pub no_end : Every NoEnd inner
+  pub ends : last.end_sequence ≡ true
 
-sequences-are : (begun rows : List Row) → Every NoEnd begun → Every IsSequence (sequences_after begun rows)
+pub sequences-are : (begun rows : List Row) → Every NoEnd begun → Every IsSequence (sequences_after begun rows)
 sequences-are begun [] a = tt
 sequences-are begun (r ∷ rows) a =
     elim r.end_sequence as (λ b. r.end_sequence ≡ b → Every IsSequence (if b then (begun ++ r ∷ []) ∷ sequences_after [] rows else sequences_after (begun ++ r ∷ []) rows)) [
-      | true ↦ λ e. (record { inner = begun; last = r; is = refl; no_end = a }, sequences-are [] rows tt)
+      | true ↦ λ e. (record { inner = begun; last = r; is = refl; no_end = a; ends = e }, sequences-are [] rows tt)
       | false ↦ λ e. sequences-are (begun ++ r ∷ []) rows (Every-append NoEnd begun (r ∷ []) a (e, tt))
     ] refl
 

@@ -53,7 +53,7 @@ if_upto_below : (x : Place) (r : Row) → is_at_most (place_of r) x ≡ true →
 if_upto_below x r h = ap (λ (b : Bool). if b then Some r else None) h
 
 -- what isn't below a place above x is above x
-stays_above : (p q x : Place) → is_at_most p q ≡ true → is_at_most p x ≡ false → is_at_most q x ≡ false
+pub stays_above : (p q x : Place) → is_at_most p q ≡ true → is_at_most p x ≡ false → is_at_most q x ≡ false
 stays_above p q x le above =
     elim (is_at_most q x) as (λ b. is_at_most q x ≡ b → b ≡ false) [
       | true ↦ λ e. (let t = at_most-trans p q x le e in cc)

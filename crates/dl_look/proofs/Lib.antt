@@ -1,9 +1,17 @@
 pub mod AnswerLaws
+pub mod AnsweredLemmas
+pub mod CutAnswers
+pub mod CutLemmas
 pub mod FinderLemmas
+pub mod FindersLemmas
 pub mod Halving
 pub mod LastUpto
+pub mod LiveLemmas
 pub mod MoreRows
+pub mod LedgerLemmas
 pub mod PlaceOrder
+pub mod SlotLemmas
 pub mod SpanLemmas
 pub mod SpansSoFar
+pub mod TrailLemmas
 pub mod WorkedRows

@@ -74,7 +74,7 @@ pub all_passed : (rows now : List Row) (x : Place) (i probes : ℕ) → Passed r
 all_passed rows now x i probes p all =
     sym (p.others ∙ ap (λ ss. answer_among ss x) (drop_of_length-le (sequences rows) all))
 
-among_next : (s : List Row) (ss : List (List Row)) (x : Place) → answer_among (s ∷ ss) x ≡ (if answers_for x s then last_upto x s else answer_among ss x)
+pub among_next : (s : List Row) (ss : List (List Row)) (x : Place) → answer_among (s ∷ ss) x ≡ (if answers_for x s then last_upto x s else answer_among ss x)
 among_next s ss x =
     elim (answers_for x s) as (λ b. option_and_then (last_upto x) (if b then Some s else find (answers_for x) ss) ≡ (if b then last_upto x s else answer_among ss x)) [
       | true ↦ refl

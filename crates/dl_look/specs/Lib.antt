@@ -1,4 +1,13 @@
 pub mod Answer
+pub mod Cuts
 pub mod FinderRows
 pub mod Laws
+pub mod Ledgers
+pub mod Links
+pub mod LiveRows
+pub mod Slots
 pub mod Spans
+pub mod Trails
+pub mod FindersRows
+pub mod SequenceState
+pub mod Units

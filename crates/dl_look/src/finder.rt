@@ -124,7 +124,7 @@ impl Finder {
 /// `end_sequence` is set anew, so that the flags aren't copied by one load: that would wait until the
 /// stores of single bytes a moment ago are done.
 #[inline]
-fn kept(row: &Row) -> Row
+pub(crate) fn kept(row: &Row) -> Row
     requires { row.now.end_sequence ≡ false }
     ensures { result ≡ row.now }
 {

@@ -4,10 +4,11 @@ ghost use Rattle.std.specs.Prelude.{◌≡◌, IfOk};
 ghost use Rattle.dl_look.specs.Answer.{answer};
 ghost use Rattle.dl_look.specs.Spans as Spans;
 
+use crate::cuts::{Cut, cuts_of, cuts_upto};
 use crate::place::Place;
 use crate::probed::{Probed, Span};
 use crate::run::Run;
-use crate::searching::search;
+use crate::searching::search_between;
 use dl_rows::Row;
 use std::alloc::Global;
 use std::marker::Model;
@@ -21,6 +22,7 @@ pub struct NoMemory;
 pub struct Index {
     rows: Vec<Row>,
     spans: Vec<Span>,
+    cuts: Vec<Cut>,
 }
 
 // An index is seen as its rows.
@@ -28,12 +30,13 @@ impl Model for Index {
     ghost use Rattle.std.specs.Prelude.{◌≡◌, List};
     ghost use Rattle.dl_rows.specs.declared.row.Row.{Row};
     ghost use Rattle.dl_look.specs.Spans as Spans;
+    ghost use Rattle.dl_look.specs.Cuts.{AreCuts};
 
     ghost Value = { List Row };
 
     ghost view = { λ kept. kept.rows.items };
 
-    ghost invariant = { λ kept. kept.spans.items ≡ Spans.spans kept.rows.items };
+    ghost invariant = { λ kept. (kept.spans.items ≡ Spans.spans kept.rows.items) × AreCuts kept.spans.items kept.cuts.items };
 }
 
 impl Index {
@@ -42,8 +45,9 @@ impl Index {
         ensures { IfOk result (λ built. built ≡ rows.now) }
     {
         let spans = spans_of(alloc, rows)?;
+        let cuts = cuts_of(alloc, spans.as_slice())?;
         match Vec::from_slice(alloc, rows) {
-            Ok(rows) => Ok(Index { rows, spans }),
+            Ok(rows) => Ok(Index { rows, spans, cuts }),
             Err(_) => Err(NoMemory),
         }
     }
@@ -52,7 +56,13 @@ impl Index {
     pub fn find(&self, place: Place) -> Option<Row>
         ensures { result ≡ answer self.now place }
     {
-        search(&mut self.probe(), place)
+        let after = cuts_upto(self.cuts.as_slice(), place);
+        if after == 0 {
+            return None;
+        }
+        let sequence = self.cuts[after - 1].sequence?;
+        let span = self.spans[sequence];
+        Some(search_between(&mut self.probe(), span.start, span.len, place))
     }
 
     /// The rows, to be seen by counted calls; no probe was made yet.

@@ -4,7 +4,7 @@ ghost use Rattle.std.specs.Prelude.{◌≡◌};
 ghost use Rattle.std.specs.Ordering.{partial_lt, partial_le};
 ghost use Rattle.dl_look.specs.declared.place.Place as place;
 ghost use Rattle.dl_look.specs.Answer.{is_below, is_at_most};
-ghost use Rattle.dl_look.specs.Laws.{AnswersAreRows, AnswersAreUpto, AnswersAreNoEndRows};
+ghost use Rattle.dl_look.specs.Laws.{AnswersAreRows, AnswersAreUpto, AnswersAreNoEndRows, AnswersOfLiveRows};
 
 use crate::place::Place;
 
@@ -21,4 +21,9 @@ pub fn answers_are_rows()
     ensures rows { AnswersAreRows }
     ensures upto { AnswersAreUpto }
     ensures no_end_rows { AnswersAreNoEndRows }
+{}
+
+/// The answer of the rows of live sequences is that of the first live rising sequence that covers the place.
+pub fn answers_of_live_rows()
+    ensures { AnswersOfLiveRows }
 {}

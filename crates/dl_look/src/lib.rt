@@ -1,19 +1,26 @@
 //! Look-up of addresses in the rows of a line table. Section 6.2.2.
 #![tactic(auto)]
 
+mod cuts;
 mod finder;
+mod finders;
 mod index;
 pub mod laws;
+mod ledger;
+mod links;
+mod live;
 mod place;
 mod probed;
 mod run;
 mod searching;
+mod slots;
+mod trail;
 
 pub use finder::Finder;
+pub use finders::Finders;
 pub use index::{Index, NoMemory, Probe};
+pub use ledger::Answered;
+pub use live::LiveRows;
 pub use place::Place;
 pub use probed::{Probed, Span};
 pub use searching::search;
-
-#[cfg(test)]
-mod tests;

@@ -30,7 +30,12 @@ pub fn search<T: Probed>(table: &mut T, place: Place) -> Option<Row>
 }
 
 /// The answer of a rising sequence that covers the place.
-fn search_between<T: Probed>(table: &mut T, start: usize, len: usize, place: Place) -> Row
+pub(crate) fn search_between<T: Probed>(
+    table: &mut T,
+    start: usize,
+    len: usize,
+    place: Place,
+) -> Row
     requires within { start + len ≤ length (T.list table.old) }
     requires small { length (T.list table.old) < 2 ^ 64 }
     requires countable { T.probes table.old < 2 ^ 65 }

@@ -1,6 +1,6 @@
 //! Numbers of fixed size, byte by byte. Sections 7.4 and 7.5.5.
 
-ghost use Rattle.std.specs.Prelude.{◌≡◌, ◌<◌, ◌≤◌, ◌↔◌, ◌++◌, ◌∷◌, [], length, take, IsTrue};
+ghost use Rattle.std.specs.Prelude.{◌≡◌, ◌<◌, ◌≤◌, ◌↔◌, ◌++◌, ◌∷◌, [], ℕ, List, length, take, IsTrue, MatchOption};
 ghost use Rattle.dl_num.specs.Fixed.{fixed, is_number_size, fixed_bytes as fixed_bytes_of, little_bytes};
 
 use arrayvec::ArrayVec;
@@ -82,8 +82,8 @@ impl Fixed {
     }
 }
 
-/// The number that all of the bytes spell.
-fn number_of(bytes: &[u8], order: Order) -> u64
+/// The number that all of the bytes spell in this order. Section 7.4.
+pub fn number_of(bytes: &[u8], order: Order) -> u64
     requires { IsTrue (is_number_size (length bytes.now)) }
     ensures { result ≡ fixed order bytes.now }
 {
@@ -91,6 +91,18 @@ fn number_of(bytes: &[u8], order: Order) -> u64
         Order::Little => LittleEndian::read_uint(bytes, bytes.len()),
         Order::Big => BigEndian::read_uint(bytes, bytes.len()),
     }
+}
+
+/// The number of this size that the bytes begin with, and the bytes behind it; None where they are fewer.
+pub fn fixed_at_front(order: Order, size: usize, bytes: &[u8]) -> Option<(u64, &[u8])>
+    requires { IsTrue (is_number_size size) }
+    ensures { MatchOption result (length bytes.entry.now < size)
+        (λ found. (w : List ℕ) × (bytes.entry.now ≡ w ++ found.1.now) × (length w ≡ size) × (found.0 ≡ fixed order w)) }
+{
+    if bytes.len() < size {
+        return None;
+    }
+    Some((number_of(&bytes[..size], order), &bytes[size..]))
 }
 
 /// The lowest bytes of a number in this order, so many of them.

@@ -9,7 +9,7 @@ pub mod number;
 pub mod operand;
 pub mod spell;
 
-pub use fixed::{Fixed, Order, fixed_bytes};
+pub use fixed::{Fixed, Order, fixed_at_front, fixed_bytes, number_of};
 pub use front::{
     short_sleb_at_front, short_uleb_at_front, sleb_at_front, sleb_read_back, uleb_at_front,
     uleb_read_back,

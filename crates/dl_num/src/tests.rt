@@ -213,7 +213,8 @@ fn numbers_of_fixed_size(rt: HostRuntime) {
     assert_eq!(rt; behind, [0xaa].as_slice());
 }
 
-/// The examples of figures 7.7 and 7.8 of section 7.6, with a byte behind each.
+/// The examples of figures 7.7 and 7.8 of section 7.6, and spellings of three bytes by Python's
+/// integers, with a byte behind each.
 #[test]
 fn short_spellings(rt: HostRuntime) {
     let unsigned: [(u64, &[u8]); 6] = [
@@ -229,7 +230,7 @@ fn short_spellings(rt: HostRuntime) {
         assert_eq!(rt; found, number);
         assert_eq!(rt; behind, [0xff].as_slice());
     }
-    let signed: [(i64, &[u8]); 8] = [
+    let signed: [(i64, &[u8]); 12] = [
         (2, &[0x02, 0xff]),
         (-2, &[0x7e, 0xff]),
         (127, &[0xff, 0x00, 0xff]),
@@ -238,6 +239,10 @@ fn short_spellings(rt: HostRuntime) {
         (-128, &[0x80, 0x7f, 0xff]),
         (129, &[0x81, 0x01, 0xff]),
         (-129, &[0xff, 0x7e, 0xff]),
+        (8192, &[0x80, 0xc0, 0x00, 0xff]),
+        (-8193, &[0xff, 0xbf, 0x7f, 0xff]),
+        (1_048_575, &[0xff, 0xff, 0x3f, 0xff]),
+        (-1_048_576, &[0x80, 0x80, 0x40, 0xff]),
     ];
     for (number, bytes) in signed {
         let (found, behind) = short_sleb_at_front(bytes).expect(&rt, "a number");
@@ -246,6 +251,8 @@ fn short_spellings(rt: HostRuntime) {
     }
     for bytes in [[].as_slice(), &[0x80], &[0x80, 0x80, 0x01]] {
         assert!(rt; short_uleb_at_front(bytes).is_none());
+    }
+    for bytes in [[].as_slice(), &[0x80, 0x80], &[0x80, 0x80, 0x80, 0x01]] {
         assert!(rt; short_sleb_at_front(bytes).is_none());
     }
 }

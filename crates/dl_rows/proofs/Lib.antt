@@ -15,6 +15,7 @@ pub mod ProgramEnds
 pub mod ProgramLaws
 pub mod ProgramLemmas
 pub mod ProgramSteps
+pub mod ProgramTold
 pub mod ProgramTurns
 pub mod ProgramWalks
 pub mod ReaderFeeds
@@ -22,6 +23,7 @@ pub mod ReaderLemmas
 pub mod RegisterLemmas
 pub mod RunLemmas
 pub mod RunTurns
+pub mod ShortExtended
 pub mod SkipLemmas
 pub mod SpeltFirst
 pub mod TailFeeds

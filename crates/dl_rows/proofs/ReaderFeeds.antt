@@ -1,5 +1,5 @@
 -- What a reader of a unit answers, by what it stands for.
-use Rattle.std.proofs.Common.{◌≡◌, ◌≢◌, ◌↔◌, inl, inr, ◌+◌, ◌-◌, ◌^◌, min, ℕ, Bool, true, false, List, [], ◌∷◌, ◌++◌, length, take, Option, Some, None, Result, Ok, Err, refl, sym, ap, subst, ◌∙◌, arith, append-nil, append_assoc, sum_by}
+use Rattle.std.proofs.Common.{◌≡◌, ◌≢◌, ◌↔◌, inl, inr, ◌+◌, ◌-◌, ◌^◌, min, ℕ, Bool, true, false, List, [], ◌∷◌, ◌++◌, length, length-append, map, IfOk, take, Option, Some, None, Result, Ok, Err, refl, sym, ap, subst, ◌∙◌, arith, append-nil, append_assoc, sum_by}
 use Rattle.dl_num.specs.declared.fixed.Order.{Order}
 use Rattle.dl_head.specs.declared.fault.Fault.{Fault}
 use Rattle.dl_head.specs.declared.params.Params.{Params}
@@ -17,12 +17,18 @@ use Rattle.dl_head.proofs.HeaderLaws.{one_header, header_is_found}
 use Rattle.dl_head.proofs.RefusalLaws.{foreign_last}
 use Rattle.dl_rows.specs.declared.reader.Fed.{Fed}
 use Rattle.dl_rows.specs.declared.reader.Reader.{Reader}
+use Rattle.dl_rows.specs.declared.reader.Event.{Event}
+use Rattle.dl_rows.specs.declared.reader.Event.TheVariants as event
+use Rattle.dl_rows.specs.declared.row.Row.{Row}
+use Rattle.dl_rows.specs.declared.sink.EachRow.{EachRow}
 use Rattle.dl_rows.specs.declared.tail.Tail.{Tail}
+use Rattle.dl_rows.specs.Each.{each_row}
+use Rattle.dl_rows.specs.Sinks.{Story}
 use Rattle.dl_rows.specs.LineUnit.{IsUnit, events}
-use Rattle.dl_rows.specs.Reading.{WithinUnit, Feeds}
+use Rattle.dl_rows.specs.Reading.{WithinUnit, Feeds, FeedsBehind, IsPause, SinkAt, SinkBehind}
 use Rattle.dl_rows.specs.Refusal.{Refused}
-use Rattle.dl_rows.specs.ReaderStands.{InHeader, BehindVersion, BehindHeader, Stopped, StandsAt, StandsFor, HeaderIs, FinishIs, KnownIs, ReaderFed}
-use Rattle.dl_rows.specs.Tails.{InProgram, InForeign, ProgramFed}
+use Rattle.dl_rows.specs.ReaderStands.{InHeader, BehindVersion, BehindHeader, Stopped, StandsAt, StandsFor, HeaderIs, FinishIs, KnownIs, ReaderFed, FedBehind, RowsFed}
+use Rattle.dl_rows.specs.Tails.{InProgram, InForeign, ProgramTells}
 use Rattle.dl_rows.proofs.HeadFeeds.{no_unit}
 use Rattle.dl_rows.proofs.UnitWhole.{NoneRefused}
 use Rattle.dl_rows.proofs.ReaderLemmas.{foreign_no_header, taken_here, sound_here, whole_here, not_whole_here}
@@ -104,26 +110,26 @@ behind_of r b h none own s header = on (subst (λ (o : Option Fault). StandsAt r
       let mine = subst (λ (o : Order). IsHeader o h at.front) s.order (header at.front at.head) in
       (at, (one_header r.order at.h h at.front [] at.is (subst (λ (w : List ℕ). IsHeader r.order h w) (sym (append-nil at.front)) mine)).1)
 
-fed_program : (r : Reader) (t : Tail) (b piece : List ℕ) (result : Result Fed Fault) (h : HeaderData) (p : Params) (at : BehindHeader r b) → at.h ≡ h → p ≡ h.params
-    → ((g : HeaderData) (d : List ℕ) → g.params ≡ p → InProgram r.order g r.tail d → ProgramFed r.order g d piece result t) → ProgramFed r.order at.h b piece result t
-fed_program r t b piece result h p at same params feeds = feeds at.h b (ap (λ (g : HeaderData). g.params) same ∙ sym params) at.program
+told_program : {S : Type 0} (story : Story S) (r : Reader) (t : Tail) (b piece : List ℕ) (before : List Row) (result : Result Fed Fault) (sink : S) (h : HeaderData) (p : Params) (at : BehindHeader r b) → at.h ≡ h → p ≡ h.params
+    → ((g : HeaderData) (d : List ℕ) → g.params ≡ p → InProgram r.order g r.tail d → ProgramTells story r.order g d piece before result t sink) → ProgramTells story r.order at.h b piece before result t sink
+told_program story r t b piece before result sink h p at same params feeds = feeds at.h b (ap (λ (g : HeaderData). g.params) same ∙ sym params) at.program
 
 -- bytes of the program
-pub feeds_program : (r : Reader) (t : Tail) (b piece : List ℕ) (fed : Fed) (h : HeaderData) (p : Params) → r.fault ≡ None → r.is_foreign ≡ false → StandsFor r b
+pub feeds_program : {S : Type 0} (story : Story S) (r : Reader) (t : Tail) (b piece : List ℕ) (before : List Row) (fed : Fed) (sink : S) (h : HeaderData) (p : Params) → r.fault ≡ None → r.is_foreign ≡ false → StandsFor r b
     → ((d : List ℕ) → HeadStands r.head d → IsHeader r.head.order h d) → p ≡ h.params
-    → ((g : HeaderData) (d : List ℕ) → g.params ≡ p → InProgram r.order g r.tail d → ProgramFed r.order g d piece (Ok fed) t) → Feeds StandsFor r.order b piece fed (record r { tail = t })
-feeds_program r t b piece fed h p none own s header params feeds =
+    → ((g : HeaderData) (d : List ℕ) → g.params ≡ p → InProgram r.order g r.tail d → ProgramTells story r.order g d piece before (Ok fed) t sink) → RowsFed story r.order b piece before (Ok fed) (record r { tail = t }) sink
+feeds_program story r t b piece before fed sink h p none own s header params feeds =
     let found = behind_of r b h none own s header in
     let at = found.0 in
-    let f = fed_program r t b piece (Ok fed) h p at found.1 params feeds in
-    record {
-      answered = f.answered;
+    let f = told_program story r t b piece before (Ok fed) sink h p at found.1 params feeds in
+    let fed_behind : FeedsBehind StandsFor r.order (events r.order b ++ map event.Row f.rows) b piece fed (record r { tail = t }) = record {
+      answered = f.fed.answered;
       stands = record {
         order = s.order;
         at = subst (λ (o : Option Fault). StandsAt (record r { tail = t }) o (b ++ take fed.used piece)) (sym none) (inr (inr (record {
           h = at.h;
           own = own;
-          program = f.stands;
+          program = f.fed.stands;
           front = at.front;
           back = at.back ++ take fed.used piece;
           whole = behind b at.front at.back (take fed.used piece) at.whole;
@@ -131,32 +137,39 @@ feeds_program r t b piece fed h p none own s header params feeds =
           is = at.is;
         })));
       };
-    }
+    } in
+    record { rows = f.rows; fed = fed_behind; sink = f.sink }
 
 -- an operation that is refused
-pub fails_program : (r : Reader) (t : Tail) (b piece : List ℕ) (fault : Fault) (h : HeaderData) (p : Params) → r.fault ≡ None → r.is_foreign ≡ false → StandsFor r b
+pub fails_program : {S : Type 0} (story : Story S) (r : Reader) (t : Tail) (b piece : List ℕ) (before : List Row) (fault : Fault) (sink : S) (h : HeaderData) (p : Params) → r.fault ≡ None → r.is_foreign ≡ false → StandsFor r b
     → ((d : List ℕ) → HeadStands r.head d → IsHeader r.head.order h d) → p ≡ h.params
-    → ((g : HeaderData) (d : List ℕ) → g.params ≡ p → InProgram r.order g r.tail d → ProgramFed r.order g d piece (Err fault) t)
-    → ReaderFed r.order b piece (Err fault) (record r { tail = t; fault = Some fault })
-fails_program r t b piece fault h p none own s header params feeds =
+    → ((g : HeaderData) (d : List ℕ) → g.params ≡ p → InProgram r.order g r.tail d → ProgramTells story r.order g d piece before (Err fault) t sink)
+    → RowsFed story r.order b piece before (Err fault) (record r { tail = t; fault = Some fault }) sink
+fails_program story r t b piece before fault sink h p none own s header params feeds =
     let found = behind_of r b h none own s header in
     let at = found.0 in
-    let f = fed_program r t b piece (Err fault) h p at found.1 params feeds in (
-      f.0,
-      f.1,
-      record {
-        order = s.order;
-        at = record {
-          refused = f.1.refused;
-          stops = f.2;
-          front = at.front;
-          back = at.back ++ take f.0 piece;
-          whole = behind b at.front at.back (take f.0 piece) at.whole;
-          head = at.head;
-          header = inr (at.h, at.is);
-        };
-      },
-    )
+    let g = told_program story r t b piece before (Err fault) sink h p at found.1 params feeds in
+    let f = g.fed in
+    record {
+      rows = g.rows;
+      sink = g.sink;
+      fed = (
+        f.0,
+        f.1,
+        record {
+          order = s.order;
+          at = record {
+            refused = f.1.refused;
+            stops = f.2;
+            front = at.front;
+            back = at.back ++ take f.0 piece;
+            whole = behind b at.front at.back (take f.0 piece) at.whole;
+            head = at.head;
+            header = inr (at.h, at.is);
+          };
+        },
+      );
+    }
 
 -- ---- the header and the cells
 
@@ -284,3 +297,65 @@ none_refused order front back at kind e r = none_some refl (subst (λ (w : List 
   nil_of : (front back : List ℕ) → ◌≡◌ {A = List ℕ} [] (front ++ back) → front ≡ []
   nil_of [] back e = refl
   nil_of (x ∷ front) back e = absurd cc
+
+-- ---- `feed_rows`, where no row comes, and `feed`
+
+-- an answer that is no row
+pub sink_goes_on : {S : Type 0} (story : Story S) (s : S) (rows : List Row) (e : Event) → ((r : Row) → e ≢ event.Row r) → story.hears s rows → SinkAt story s rows e
+sink_goes_on story s rows event.More none hears = hears
+sink_goes_on story s rows event.End none hears = hears
+sink_goes_on story s rows event.NoMemory none hears = hears
+sink_goes_on story s rows event.Header none hears = hears
+sink_goes_on story s rows (event.Foreign version) none hears = hears
+sink_goes_on story s rows (event.Row r) none hears = absurd (none r refl)
+
+pub sink_behind : {S : Type 0} (story : Story S) (s : S) (rows : List Row) (result : Result Fed Fault) → IfOk result (λ fed. (r : Row) → fed.event ≢ event.Row r) → story.hears s rows → SinkBehind story s rows result
+sink_behind story s rows (Ok fed) none hears = sink_goes_on story s rows fed.event none hears
+sink_behind story s rows (Err fault) none hears = hears
+
+pub no_row_paused : (e : Event) → IsPause e → (r : Row) → e ≢ event.Row r
+no_row_paused event.More pause r e = absurd cc
+no_row_paused event.End pause r e = absurd cc
+no_row_paused event.NoMemory pause r e = absurd cc
+no_row_paused event.Header pause r e = absurd pause
+no_row_paused (event.Foreign version) pause r e = absurd pause
+no_row_paused (event.Row x) pause r e = absurd pause
+
+behind_of_fed : (order : Order) (b piece : List ℕ) (result : Result Fed Fault) (new : Reader) → ReaderFed order b piece result new → FedBehind order (events order b) b piece result new
+behind_of_fed order b piece (Ok fed) new f = f
+behind_of_fed order b piece (Err fault) new f = f
+
+fed_of_behind : (order : Order) (b piece : List ℕ) (result : Result Fed Fault) (new : Reader) → FedBehind order (events order b) b piece result new → ReaderFed order b piece result new
+fed_of_behind order b piece (Ok fed) new f = f
+fed_of_behind order b piece (Err fault) new f = f
+
+pub no_rows : {S : Type 0} (story : Story S) (order : Order) (b piece : List ℕ) (before : List Row) (result : Result Fed Fault) (new : Reader) (s : S) → ReaderFed order b piece result new
+    → SinkBehind story s before result → RowsFed story order b piece before result new s
+no_rows story order b piece before result new s fed sink = record {
+  rows = [];
+  fed = subst (λ (es : List Event). FedBehind order es b piece result new) (sym (append-nil (events order b))) (behind_of_fed order b piece result new fed);
+  sink = subst (λ (rows : List Row). SinkBehind story s rows result) (sym (append-nil before)) sink;
+}
+
+none_before : (rows : List Row) (r row : Row) → rows ++ r ∷ [] ≡ row ∷ [] → rows ≡ []
+none_before [] r row e = refl
+none_before (x ∷ rows) r row e = let l : length (x ∷ (rows ++ r ∷ [])) ≡ 1 = ap length e in absurd (omega (arith, l, length-append rows (r ∷ [])))
+
+each_none : (s : EachRow) (rows : List Row) (e : Event) → SinkAt each_row s rows e → rows ≡ []
+each_none s rows event.More at = at
+each_none s rows event.End at = at
+each_none s rows event.NoMemory at = at
+each_none s rows event.Header at = at
+each_none s rows (event.Foreign version) at = at
+each_none s rows (event.Row r) at = none_before rows r at.0 at.1
+
+each_result : (s : EachRow) (rows : List Row) (result : Result Fed Fault) → SinkBehind each_row s rows result → rows ≡ []
+each_result s rows (Ok fed) at = each_none s rows fed.event at
+each_result s rows (Err fault) at = at
+
+-- a sink that stops at each row hears none on the way
+pub fed_alone : (order : Order) (b piece : List ℕ) (result : Result Fed Fault) (new : Reader) (s : EachRow) → RowsFed each_row order b piece [] result new s → ReaderFed order b piece result new
+fed_alone order b piece result new s f =
+    let none = each_result s f.rows result f.sink in
+    fed_of_behind order b piece result new
+    (subst (λ (es : List Event). FedBehind order es b piece result new) (ap (λ (rows : List Row). events order b ++ map event.Row rows) none ∙ append-nil (events order b)) f.fed)

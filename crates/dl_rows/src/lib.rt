@@ -8,11 +8,10 @@ mod program;
 pub mod reader;
 mod registers;
 pub mod row;
+pub mod sink;
 mod tail;
 
 pub use operation::Operation;
 pub use reader::{Event, Fed, Finish, Listener, Reader, Run};
 pub use row::Row;
-
-#[cfg(test)]
-mod tests;
+pub use sink::{Flow, RowSink};

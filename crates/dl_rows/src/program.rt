@@ -8,6 +8,7 @@ use crate::operation::Operation;
 use crate::phase::{Phase, Step, short_operation};
 use crate::registers::Registers;
 use crate::row::Row;
+use crate::sink::{Flow, RowSink};
 use dl_head::{FaultKind, Params};
 use dl_num::Order;
 
@@ -34,11 +35,12 @@ pub struct Program {
 
 impl Program {
     ghost use Rattle.dl_rows.specs.declared.operation.Operation.{Operation};
+    ghost use Rattle.dl_rows.specs.declared.row.Row.{Row};
     ghost use Rattle.dl_rows.specs.Left.{GivenLeaves, rows_of};
     ghost use Rattle.dl_rows.specs.Matrix.{matrix};
     ghost use Rattle.dl_rows.specs.OperationSpelt.{operations_in};
     ghost use Rattle.dl_rows.specs.LineUnit.{ends_open, rows_in};
-    ghost use Rattle.dl_rows.specs.Programs.{Finishes, GivenIs, ProgramStands};
+    ghost use Rattle.dl_rows.specs.Programs.{Finishes, ProgramStands, Tells};
     ghost use Rattle.dl_rows.specs.Sums.{FitsProgram, HasRange, registers_after};
     ghost use Rattle.dl_rows.specs.declared.phase.Phase.TheVariants as phase;
 
@@ -79,20 +81,50 @@ impl Program {
         self.in_sequence
     }
 
-    /// Takes bytes up to the end of the next operation that appends a row.
-    pub fn push<'a>(&mut self, order: Order, params: &Params, mut bytes: &'a [u8]) -> Given<'a>
+    /// Takes bytes, and lets the sink hear each row, up to the end of the operation of the row at which it stops.
+    #[inline(always)]
+    pub fn push<'a, S: RowSink>(
+        &mut self,
+        order: Order,
+        params: &Params,
+        bytes: &'a [u8],
+        sink: &mut S,
+    ) -> Given<'a>
         requires { IsUsable params.now }
         ensures left { GivenLeaves (length bytes.entry.now) result }
-        ensures given { (b : List ℕ) → FitsProgram params.now → AllBytes bytes.entry.now → ProgramStands order params.now self.old b
-            → GivenIs order params.now b bytes.entry.now result self.new }
+        ensures given { (b : List ℕ) (before : List Row) (first : S) → FitsProgram params.now → AllBytes bytes.entry.now → ProgramStands order params.now self.old b
+            → (S.story first).hears sink.old before → Tells (S.story first) order params.now b bytes.entry.now before result self.new sink.new }
+    {
+        let mut program = *self;
+        let given = program.walk(order, params, bytes, sink);
+        *self = program;
+        given
+    }
+
+    /// `push`, where the program stands in a local of its own, so that its registers need no memory.
+    #[inline(always)]
+    fn walk<'a, S: RowSink>(
+        &mut self,
+        order: Order,
+        params: &Params,
+        mut bytes: &'a [u8],
+        sink: &mut S,
+    ) -> Given<'a>
+        requires { IsUsable params.now }
+        ensures left { GivenLeaves (length bytes.entry.now) result }
+        ensures given { (b : List ℕ) (before : List Row) (first : S) → FitsProgram params.now → AllBytes bytes.entry.now → ProgramStands order params.now self.old b
+            → (S.story first).hears sink.old before → Tells (S.story first) order params.now b bytes.entry.now before result self.new sink.new }
     {
         while !bytes.is_empty() {
             if self.is_between()
-                && let Some((operation, behind)) = short_operation(params, bytes)
+                && let Some((operation, behind)) = short_operation(order, params, bytes)
             {
                 bytes = behind;
                 if let Some(row) = self.finish(params, operation) {
-                    return Given::Row(row, behind);
+                    match sink.row(&row) {
+                        Flow::On => continue,
+                        Flow::Stop => return Given::Row(row, behind),
+                    }
                 }
                 continue;
             }
@@ -107,7 +139,10 @@ impl Program {
                     self.begun = 0;
                     bytes = behind;
                     if let Some(row) = self.finish(params, operation) {
-                        return Given::Row(row, behind);
+                        match sink.row(&row) {
+                            Flow::On => {}
+                            Flow::Stop => return Given::Row(row, behind),
+                        }
                     }
                 }
                 Step::Refuses(kind, behind) => {

@@ -11,6 +11,7 @@ mod run;
 
 use crate::program::Program;
 use crate::row::Row;
+use crate::sink::{EachRow, RowSink};
 use crate::tail::Tail;
 use dl_head::{Fault, FaultKind, HeadReader, HeadStep, Header};
 use dl_num::Order;
@@ -63,7 +64,8 @@ pub struct Reader {
 impl Reader {
     ghost use Rattle.dl_rows.specs.Progress.{taken_of};
     ghost use Rattle.dl_rows.specs.Reading.{IsPause};
-    ghost use Rattle.dl_rows.specs.ReaderStands.{StandsFor, HeaderIs, FinishIs, KnownIs, InHeader, ReaderFed, BeginsForeign, BeginsProgram};
+    ghost use Rattle.dl_rows.specs.ReaderStands.{StandsFor, HeaderIs, FinishIs, KnownIs, InHeader, ReaderFed, RowsFed, BeginsForeign, BeginsProgram};
+    ghost use Rattle.dl_rows.specs.declared.row.Row.{Row};
 
     /// No byte yet of a unit whose numbers stand in this order. It takes no memory.
     pub fn new(alloc: Global, order: Order) -> Reader
@@ -93,6 +95,20 @@ impl Reader {
             → ReaderFed self.old.order b piece.now result self.new }
         ensures order { self.new.order ≡ self.old.order }
     {
+        self.feed_rows(piece, &mut EachRow)
+    }
+
+    /// Takes bytes of the piece up to the next event that is no row, or up to the row at which the sink
+    /// stops, and lets the sink hear each row on the way, that one too. After a fault it answers the
+    /// fault again.
+    pub fn feed_rows<S: RowSink>(&mut self, piece: &[u8], sink: &mut S) -> Result<Fed, Fault>
+        ensures used { IfOk result (λ fed. fed.used ≤ length piece.now) }
+        ensures progress { IfOk result (λ fed. IsPause fed.event ⊎ (1 ≤ fed.used)) }
+        ensures end { IfOk result (λ fed. fed.event ≡ Event.End → 1 ≤ taken_of self.old + fed.used) }
+        ensures fed { (b : List ℕ) (before : List Row) (first : S) → StandsFor self.old b → (S.story first).hears sink.old before
+            → RowsFed (S.story first) self.old.order b piece.now before result self.new sink.new }
+        ensures order { self.new.order ≡ self.old.order }
+    {
         if let Some(fault) = self.fault {
             return Err(fault);
         }
@@ -102,7 +118,7 @@ impl Reader {
         let Some(header) = self.head.header() else {
             return self.feed_head(piece);
         };
-        let fed = self.tail.feed(self.order, header.params(), piece);
+        let fed = self.tail.feed(self.order, header.params(), piece, sink);
         if let Err(fault) = fed {
             self.fault = Some(fault);
         }
@@ -178,6 +194,7 @@ impl Reader {
         ensures used { IfOk result (λ fed. fed.used ≤ length piece.now) }
         ensures progress { IfOk result (λ fed. IsPause fed.event ⊎ (1 ≤ fed.used)) }
         ensures not_end { IfOk result (λ fed. fed.event ≢ Event.End) }
+        ensures no_row { IfOk result (λ fed. (r : Row) → fed.event ≢ Event.Row r) }
         ensures fed { (b : List ℕ) → self.old.fault ≡ None → self.old.head.order ≡ self.old.order
             → InHeader self.old b → ReaderFed self.old.order b piece.now result self.new }
         ensures order { self.new.order ≡ self.old.order }

@@ -7,6 +7,7 @@ ghost use Rattle.dl_rows.specs.Reading.{IsPause};
 
 use crate::program::{Given, Program};
 use crate::reader::{Event, Fed};
+use crate::sink::RowSink;
 use dl_head::{Fault, FaultKind, Params};
 use dl_num::Order;
 
@@ -21,20 +22,27 @@ pub struct Tail {
 }
 
 impl Tail {
+    ghost use Rattle.dl_rows.specs.declared.row.Row.{Row};
     ghost use Rattle.dl_rows.specs.Reading.{Feeds};
-    ghost use Rattle.dl_rows.specs.Tails.{InProgram, InForeign, ProgramFed, paused};
+    ghost use Rattle.dl_rows.specs.Tails.{InProgram, InForeign, ProgramTells, paused};
 
     /// Takes bytes of the program up to the next event.
-    pub fn feed(&mut self, order: Order, params: &Params, piece: &[u8]) -> Result<Fed, Fault>
+    pub fn feed<S: RowSink>(
+        &mut self,
+        order: Order,
+        params: &Params,
+        piece: &[u8],
+        sink: &mut S,
+    ) -> Result<Fed, Fault>
         requires { IsUsable params.now }
         ensures used { IfOk result (λ fed. fed.used ≤ length piece.now) }
         ensures progress { IfOk result (λ fed. IsPause fed.event ⊎ (1 ≤ fed.used)) }
         ensures end { IfOk result (λ fed. fed.event ≡ Event.End → 1 ≤ self.old.taken + fed.used) }
-        ensures fed { (h : HeaderData) (b : List ℕ) → h.params ≡ params.now → InProgram order h self.old b
-            → ProgramFed order h b piece.now result self.new }
+        ensures fed { (h : HeaderData) (b : List ℕ) (before : List Row) (first : S) → h.params ≡ params.now → InProgram order h self.old b
+            → (S.story first).hears sink.old before → ProgramTells (S.story first) order h b piece.now before result self.new sink.new }
     {
         let bytes = front(piece, self.left);
-        match self.program.push(order, params, bytes) {
+        match self.program.push(order, params, bytes, sink) {
             Given::Row(row, behind) => {
                 let used = bytes.len() - behind.len();
                 self.count(used);

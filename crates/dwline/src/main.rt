@@ -1,28 +1,29 @@
 //! The program `dwline`: its words, its files and streams, and its status.
 #![tactic(auto)]
 
-use dl_cmd::{FileSource, RunFault, Stop, read_job, read_strings, word_status, work};
+use dl_cmd::{RunFault, read_job, read_strings, word_status};
+use dl_work::{FileSource, Stop, work};
 use std::alloc::{AllocError, Global};
-use std::env;
 use std::fs::File;
 use std::io::ErrorKind;
 use std::process::ExitCode;
+use std::{env, io};
 
 /// Why the program ends before its work is done.
-enum Ending {
-    /// Help was asked for, or the words were refused.
+enum Ending<'a> {
+    /// Help or the version was asked for, or the words were refused.
     Words(clap::Error),
-    Stop(Stop),
+    Stop(Stop<'a>),
 }
 
-impl From<AllocError> for Ending {
-    fn from(_error: AllocError) -> Ending {
+impl From<AllocError> for Ending<'_> {
+    fn from(_error: AllocError) -> Self {
         Ending::Stop(Stop::Run(RunFault::NoMemory))
     }
 }
 
-impl From<clap::Error> for Ending {
-    fn from(error: clap::Error) -> Ending {
+impl From<clap::Error> for Ending<'_> {
+    fn from(error: clap::Error) -> Self {
         match error.kind() {
             clap::error::ErrorKind::OutOfMemory => Ending::from(AllocError),
             _ => Ending::Words(error),
@@ -30,8 +31,8 @@ impl From<clap::Error> for Ending {
     }
 }
 
-impl From<Stop> for Ending {
-    fn from(stop: Stop) -> Ending {
+impl<'a> From<Stop<'a>> for Ending<'a> {
+    fn from(stop: Stop<'a>) -> Self {
         Ending::Stop(stop)
     }
 }
@@ -45,7 +46,15 @@ struct System<'a> {
 impl FileSource for System<'_> {
     ghost use Rattle.std.specs.Prelude.{None};
 
+    type File = File;
+
     ghost held = { λ system path. None };
+
+    ghost fails_with = { λ system path error. Unit {0} };
+
+    fn open(&self, path: &str) -> io::Result<File> {
+        File::open(self.rt, path)
+    }
 
     fn read_file(&self, alloc: Global, path: &str, limit: u64) -> Result<Vec<u8>, RunFault> {
         match File::open(self.rt, path) {
@@ -56,7 +65,7 @@ impl FileSource for System<'_> {
 }
 
 /// The program's words, its name first. One that isn't UTF-8 isn't understood.
-fn read_words(rt: &HostRuntime) -> Result<Vec<String>, Ending> {
+fn read_words(rt: &HostRuntime) -> Result<Vec<String>, Ending<'static>> {
     match env::args(rt) {
         Ok(args) => Ok(args.collect(rt.alloc())?),
         Err(error) if error.kind() == ErrorKind::OutOfMemory => Err(Ending::from(AllocError)),
@@ -64,22 +73,16 @@ fn read_words(rt: &HostRuntime) -> Result<Vec<String>, Ending> {
     }
 }
 
-/// Does what the words say, the program's name first, over standard input and output.
-fn run_words(rt: &HostRuntime, words: &[&str]) -> Result<(), Ending> {
+/// Does what the words say, the program's name first, over the system's files and streams.
+fn run_words<'a>(rt: &HostRuntime, words: &'a [&'a str]) -> Result<(), Ending<'a>> {
     let job = read_job(rt.alloc(), words)?;
     let files = System { rt };
     work(rt.alloc(), job, &files, &mut rt.stdin(), &mut rt.stdout())?;
     Ok(())
 }
 
-fn run(rt: &HostRuntime) -> Result<(), Ending> {
-    let words = read_words(rt)?;
-    let words: Vec<&str> = words.iter().map(|word| word.as_str()).collect(rt.alloc())?;
-    run_words(rt, words.as_slice())
-}
-
 /// Says why the program ended, and answers its status.
-fn report(rt: &HostRuntime, ending: Ending) -> u8 {
+fn report(rt: &HostRuntime, ending: Ending<'_>) -> u8 {
     match ending {
         Ending::Words(error) => {
             let _ = error.print(rt);
@@ -92,9 +95,21 @@ fn report(rt: &HostRuntime, ending: Ending) -> u8 {
     }
 }
 
+/// Does what these words say, and answers the program's status.
+fn run(rt: &HostRuntime, words: &Vec<String>) -> u8 {
+    let words: Vec<&str> = match words.iter().map(|word| word.as_str()).collect(rt.alloc()) {
+        Ok(words) => words,
+        Err(error) => return report(rt, Ending::from(error)),
+    };
+    match run_words(rt, words.as_slice()) {
+        Ok(()) => 0,
+        Err(ending) => report(rt, ending),
+    }
+}
+
 fn main(rt: HostRuntime) -> ExitCode {
-    match run(&rt) {
-        Ok(()) => ExitCode::SUCCESS,
+    match read_words(&rt) {
+        Ok(words) => ExitCode::from(run(&rt, &words)),
         Err(ending) => ExitCode::from(report(&rt, ending)),
     }
 }

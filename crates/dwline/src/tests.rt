@@ -1,6 +1,7 @@
 //! The statuses of words that name no work, and of files that aren't there.
 use crate::{Ending, report, run_words};
-use dl_cmd::{RunFault, Stop};
+use dl_cmd::RunFault;
+use dl_work::Stop;
 use std::alloc::AllocError;
 use std::test::Fail;
 
@@ -18,6 +19,9 @@ fn statuses(rt: HostRuntime) -> Result<(), Fail> {
         ),
         (["dwline", "copy", "--str", "a"].as_slice(), 2),
         (["dwline", "--help"].as_slice(), 0),
+        (["dwline", "--version"].as_slice(), 0),
+        (["dwline", "check", "no/such/file"].as_slice(), 3),
+        (["dwline", "check", "no/such/file", "--big"].as_slice(), 2),
         (
             ["dwline", "dump", "--line-str", "no/such/file"].as_slice(),
             3,
@@ -35,9 +39,11 @@ fn statuses(rt: HostRuntime) -> Result<(), Fail> {
 /// Want of memory while the words are read is told as want of memory elsewhere is.
 #[test]
 fn memory_for_the_words(rt: HostRuntime) -> Result<(), Fail> {
-    let wanted = Stop::Run(RunFault::NoMemory);
     match Ending::from(clap::Error::from(AllocError)) {
-        Ending::Stop(stop) => assert!(rt; stop == wanted),
+        Ending::Stop(stop) => match stop {
+            Stop::Run(fault) => assert!(rt; fault == RunFault::NoMemory),
+            _ => assert!(rt; false),
+        },
         Ending::Words(_) => assert!(rt; false),
     }
     Ok(())

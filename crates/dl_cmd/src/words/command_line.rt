@@ -1,10 +1,37 @@
 //! The command line: its subcommands and arguments, with their help.
-ghost use Rattle.std.specs.Prelude.{IfOk};
+ghost use Rattle.std.specs.Prelude.{IfOk, [], ◌∷◌, codes};
 ghost use Rattle.clap.specs.Words.{App};
-ghost use Rattle.dl_cmd.specs.CommandLine.{IsApp, IsRule, line_str_rule, str_rule, big_rule, address_rule, op_rule, with_strings, dump_app, check_app, find_app, copy_app, command_line};
+ghost use Rattle.dl_cmd.specs.CommandLine.{Excludes, IsApp, IsRule, file_rule, line_str_rule, str_rule, big_rule, address_rule, op_rule, with_input, with_strings, dump_app, check_app, find_app, copy_app, command_line};
 
 use clap::{Arg, ArgAction, Command};
 use std::alloc::{AllocError, Global};
+
+/// The version of the program and of its crates.
+const VERSION: &str = "0.1.0";
+
+/// The ELF file that is read. It says its order, so `--big` may not be used with it.
+fn file<'a>(alloc: Global) -> Result<Arg<'a>, AllocError>
+    ensures rule { IfOk result (IsRule file_rule) }
+    ensures excludes { IfOk result (Excludes (codes "big" ∷ [])) }
+{
+    Arg::new(alloc, "file")
+        .value_name("FILE")
+        .help(
+            "ELF file to read; without it the bytes of a section .debug_line are read from \
+             standard input",
+        )
+        .conflicts_with("big")
+}
+
+/// The same of a command that looks into string sections. It has these too.
+fn file_with_strings<'a>(alloc: Global) -> Result<Arg<'a>, AllocError>
+    ensures rule { IfOk result (IsRule file_rule) }
+    ensures excludes { IfOk result (Excludes (codes "big" ∷ codes "line-str" ∷ codes "str" ∷ [])) }
+{
+    file(alloc)?
+        .conflicts_with("line-str")?
+        .conflicts_with("str")
+}
 
 fn big<'a>(alloc: Global) -> Arg<'a>
     ensures { IsRule big_rule result }
@@ -12,7 +39,7 @@ fn big<'a>(alloc: Global) -> Arg<'a>
     Arg::new(alloc, "big")
         .long("big")
         .action(ArgAction::SetTrue)
-        .help("Read the section as big-endian (it is little-endian else)")
+        .help("Read the section on standard input as big-endian (it is little-endian else)")
 }
 
 fn line_str<'a>(alloc: Global) -> Arg<'a>
@@ -53,30 +80,40 @@ fn op<'a>(alloc: Global) -> Arg<'a>
         .help("Operation within the instruction at ADDRESS, from 0 to 255")
 }
 
+fn add_input<'a>(alloc: Global, command: Command<'a>) -> Result<Command<'a>, AllocError>
+    ensures { (a : App) → IsApp a command.entry → IfOk result (IsApp (with_input a)) }
+{
+    command.arg(big(alloc))?.arg(file(alloc)?)
+}
+
 fn add_strings<'a>(alloc: Global, command: Command<'a>) -> Result<Command<'a>, AllocError>
     ensures { (a : App) → IsApp a command.entry → IfOk result (IsApp (with_strings a)) }
 {
     command
         .arg(big(alloc))?
         .arg(line_str(alloc))?
-        .arg(strings(alloc))
+        .arg(strings(alloc))?
+        .arg(file_with_strings(alloc)?)
 }
 
 fn dump<'a>(alloc: Global) -> Result<Command<'a>, AllocError>
     ensures { IfOk result (IsApp dump_app) }
 {
-    let command = Command::new(alloc, "dump").about(
-        "Print each unit with its directories, files and rows",
-    );
+    let command = Command::new(alloc, "dump")
+        .about("Print each unit with its directories, files and rows")
+        .after_help(
+            "Examples:\n  dwline dump program\n  dwline dump --line-str debug_line_str < debug_line",
+        );
     add_strings(alloc, command)
 }
 
 fn check<'a>(alloc: Global) -> Result<Command<'a>, AllocError>
     ensures { IfOk result (IsApp check_app) }
 {
-    Command::new(alloc, "check")
+    let command = Command::new(alloc, "check")
         .about("Read all units, and print how many units, sequences and rows there are")
-        .arg(big(alloc))
+        .after_help("Examples:\n  dwline check program\n  dwline check --big < debug_line");
+    add_input(alloc, command)
 }
 
 fn find<'a>(alloc: Global) -> Result<Command<'a>, AllocError>
@@ -84,6 +121,7 @@ fn find<'a>(alloc: Global) -> Result<Command<'a>, AllocError>
 {
     let command = Command::new(alloc, "find")
         .about("Print the source file and the row of an address")
+        .after_help("Examples:\n  dwline find 0x401136 program\n  dwline find 4198710 < debug_line")
         .arg(address(alloc))?
         .arg(op(alloc))?;
     add_strings(alloc, command)
@@ -92,9 +130,12 @@ fn find<'a>(alloc: Global) -> Result<Command<'a>, AllocError>
 fn copy<'a>(alloc: Global) -> Result<Command<'a>, AllocError>
     ensures { IfOk result (IsApp copy_app) }
 {
-    Command::new(alloc, "copy")
-        .about("Write each unit anew, with the same header and rows")
-        .arg(big(alloc))
+    let command = Command::new(alloc, "copy")
+        .about("Write each unit anew, with the same header and rows, as the bytes of a section")
+        .after_help(
+            "Examples:\n  dwline copy program > debug_line\n  dwline copy < debug_line > copied",
+        );
+    add_input(alloc, command)
 }
 
 /// The whole command line.
@@ -103,9 +144,14 @@ pub fn make_command_line<'a>(alloc: Global) -> Result<Command<'a>, AllocError>
 {
     Command::new(alloc, "dwline")
         .about(
-            "Read line tables of DWARF 5: the bytes of a section .debug_line come on standard \
-             input, and what is asked for goes to standard output",
+            "Read line tables of DWARF 5: those of FILE, an ELF file, or without it of the bytes \
+             of a section .debug_line on standard input. What is asked for goes to standard output.",
         )
+        .after_help(
+            "Examples:\n  dwline dump program\n  dwline find 0x401136 program\n  \
+             dwline dump --line-str debug_line_str < debug_line",
+        )
+        .version(VERSION)
         .subcommand_required(true)
         .subcommand(dump(alloc)?)?
         .subcommand(check(alloc)?)?

@@ -1,0 +1,37 @@
+# Completion of dwline for bash. It stands in PREFIX/share/bash-completion/completions/dwline.
+
+_dwline() {
+    local current=${COMP_WORDS[COMP_CWORD]}
+    local before=${COMP_WORDS[COMP_CWORD - 1]}
+    COMPREPLY=()
+    if [ "$COMP_CWORD" = 1 ]; then
+        mapfile -t COMPREPLY < <(compgen -W "dump check find copy help -h --help -V --version" -- "$current")
+        return
+    fi
+    case $before in
+        --line-str | --str)
+            mapfile -t COMPREPLY < <(compgen -f -- "$current")
+            return
+            ;;
+        --op)
+            return
+            ;;
+    esac
+    local options
+    case ${COMP_WORDS[1]} in
+        dump) options="--big --line-str --str -h --help" ;;
+        check | copy) options="--big -h --help" ;;
+        find) options="--op --big --line-str --str -h --help" ;;
+        help)
+            mapfile -t COMPREPLY < <(compgen -W "dump check find copy help" -- "$current")
+            return
+            ;;
+        *) return ;;
+    esac
+    case $current in
+        -*) mapfile -t COMPREPLY < <(compgen -W "$options" -- "$current") ;;
+        *) mapfile -t COMPREPLY < <(compgen -f -- "$current") ;;
+    esac
+}
+
+complete -o filenames -F _dwline dwline

@@ -1,0 +1,9 @@
+pub mod Ranges
+pub mod Headers
+pub mod Windows
+pub mod NameLemmas
+pub mod FoundLemmas
+pub mod NoteLemmas
+pub mod RelocationLemmas
+pub mod LineTableLemmas
+pub mod WorkedFile

@@ -1,0 +1,12 @@
+-- What a window shows of a file.
+use Rattle.std.specs.Prelude.{◌≡◌, ℕ, List, take, drop, Option}
+use Rattle.dl_elf.specs.declared.window.Window.{Window}
+use Rattle.dl_elf.specs.Source.{ForBytes}
+
+-- it holds the bytes of the file from its start on, where they are known
+abbrev pub Shows : Option (List ℕ) → Window → Type 0
+Shows known w = ForBytes known (λ f. take w.filled w.buffer ≡ take w.filled (drop w.start f))
+
+-- as many of them as it has room for
+abbrev pub IsFull : Option (List ℕ) → Window → Type 0
+IsFull known w = ForBytes known (λ f. take w.filled w.buffer ≡ take 4096 (drop w.start f))

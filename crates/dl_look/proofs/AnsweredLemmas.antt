@@ -1,0 +1,131 @@
+-- What finders answer, and which answers are new.
+use Rattle.std.proofs.Common.{◌≡◌, ℕ, ◌+◌, ◌-◌, ◌<◌, ◌≤◌, Bool, List, [], ◌∷◌, ◌++◌, length, take, drop, get_or, Option, Some, None, arith, refl, sym, ap, ap₂, subst, ◌∙◌, ⊎_elim, length-take, length-drop}
+use Rattle.std.specs.Prelude.{if◌then◌else◌, nat_lt, slice_get}
+use Rattle.std.specs.Option.{option_and_then, option_or}
+use Rattle.std.proofs.lemmas.Bool.{cases_lt, le-ltb, lt-ltb}
+use Rattle.std.proofs.lemmas.List.{get_or_default, get_or_past, get_or-take, get_or-drop}
+use Rattle.std.proofs.lemmas.Option.{slice_get-get_or, slice_get_past, slice_get_within}
+use Rattle.dl_rows.specs.declared.row.Row.{Row}
+use Rattle.dl_look.specs.declared.place.Place.{Place}
+use Rattle.dl_look.specs.declared.slots.Slot.{Slot}
+use Rattle.dl_look.specs.declared.ledger.Answered.{Answered}
+use Rattle.dl_look.specs.declared.ledger.Ledger.{Ledger}
+use Rattle.dl_look.specs.declared.finders.Finders.{Finders}
+use Rattle.dl_look.specs.Answer.{answer}
+use Rattle.dl_look.specs.FindersRows.{Stand}
+use Rattle.dl_look.specs.Ledgers.{no_answer, answered_at, entry_at, answer_upto}
+use Rattle.dl_look.specs.Slots.{no_place, slot_place, slot_number}
+use Rattle.dl_look.specs.Units.{answer_of_units, FirstAnswer, AreFirstAnswers}
+use Rattle.dl_look.proofs.FindersLemmas.{answer_of_units-push}
+
+entry_within : (entries : List (Option ℕ)) (i e : ℕ) → get_or entries i None ≡ Some e → i < length entries
+entry_within entries i e h =
+    ⊎_elim (λ lt. lt) (λ le. absurd (let past = get_or_past entries i None le in cc)) (cases_lt i (length entries))
+
+upto_entry : (ledger : Ledger) (limit i e : ℕ) → entry_at ledger i ≡ Some e → answer_upto limit ledger i ≡ (if nat_lt e limit then Some (answered_at ledger e).row else None)
+upto_entry ledger limit i e h = ap (option_and_then (λ e. if nat_lt e limit then Some (answered_at ledger e).row else None)) h
+
+-- an answer among the first so many has an entry there
+record Entry (ledger : Ledger) (limit i : ℕ) (r : Row) : Type 0 where
+  entry : ℕ
+  is : entry_at ledger i ≡ Some entry
+  under : entry < limit
+  row : (answered_at ledger entry).row ≡ r
+
+entry_of : (ledger : Ledger) (limit i : ℕ) (r : Row) → answer_upto limit ledger i ≡ Some r → Entry ledger limit i r
+entry_of ledger limit i r h =
+    elim (entry_at ledger i) as (λ o. entry_at ledger i ≡ o → option_and_then (λ e. if nat_lt e limit then Some (answered_at ledger e).row else None) o ≡ Some r → Entry ledger limit i r) [
+      | None ↦ λ is h. cc
+      | Some e ↦ λ is h. ⊎_elim
+          (λ lt. record {
+            entry = e;
+            is = is;
+            under = lt;
+            row = let z = sym (ap (λ (b : Bool). if b then Some (answered_at ledger e).row else None) (lt-ltb e limit lt)) ∙ h in cc;
+          })
+          (λ le. absurd (let z = sym (ap (λ (b : Bool). if b then Some (answered_at ledger e).row else None) (le-ltb e limit le)) ∙ h in cc))
+          (cases_lt e limit)
+    ] refl h
+
+not_before : (ledger : Ledger) (limit i e : ℕ) → entry_at ledger i ≡ Some e → answer_upto limit ledger i ≡ None → limit ≤ e
+not_before ledger limit i e is none =
+    ⊎_elim
+    (λ lt. absurd (let z = sym (ap (λ (b : Bool). if b then Some (answered_at ledger e).row else None) (lt-ltb e limit lt)) ∙ sym (upto_entry ledger limit i e is) ∙ none in cc))
+    (λ le. le)
+    (cases_lt e limit)
+
+module _ (f : Finders) (places : List Place) (units : List (List Row)) (rows : List Row) (st : Stand f places units rows) where
+  abbrev slots : List Slot
+  slots = f.slots.items
+
+  -- the slot of a place
+  place_of_slot : (i j : ℕ) → i < length places → j < length slots → slot_number slots j ≡ i → slice_get places i ≡ Some (slot_place slots j)
+  place_of_slot i j lt less is =
+      slice_get-get_or places i no_place lt ∙ ap Some (sym (st.slots.place j less ∙ ap (λ k. get_or places k no_place) is))
+
+  pub answer_is : (i : ℕ) → answer_upto f.whole f.ledger i ≡ option_and_then (answer_of_units units) (slice_get places i)
+  answer_is i =
+      ⊎_elim
+      (λ lt. (
+      let j = st.slots.each i lt in
+      ap (answer_upto f.whole f.ledger) (sym j.2) ∙ st.ended j.0 j.1 ∙ sym (ap (option_and_then (answer_of_units units)) (place_of_slot i j.0 lt j.1 j.2))))
+      (λ le. (
+      let past = get_or_past f.ledger.entries.items i None (omega (arith, f.sound.count, st.slots.count)) in
+      ap (option_and_then (λ e. if nat_lt e f.whole then Some (answered_at f.ledger e).row else None)) past
+      ∙ sym (ap (option_and_then (answer_of_units units)) (slice_get_past places i le))))
+      (cases_lt i (length places))
+
+module _ (f : Finders) (places : List Place) (units : List (List Row)) (last rows : List Row) (st : Stand f places (units ++ last ∷ []) rows) where
+  abbrev new : List Answered
+  new = take (f.whole - f.before) (drop f.before f.ledger.log.items)
+
+  count : length new ≡ f.whole - f.before
+  count = omega (arith, length-take (f.whole - f.before) (drop f.before f.ledger.log.items), length-drop f.before f.ledger.log.items, f.ended, f.earlier)
+
+  new_at : (k : ℕ) (d : Answered) → k < length new → get_or new k d ≡ answered_at f.ledger (f.before + k)
+  new_at k d lt =
+      get_or-take (f.whole - f.before) (drop f.before f.ledger.log.items) k d (omega (arith, count))
+      ∙ get_or-drop f.before f.ledger.log.items k d
+      ∙ get_or_default f.ledger.log.items (f.before + k) d no_answer (omega (arith, count, f.ended))
+
+  entry_is : (k : ℕ) → k < length new → entry_at f.ledger (answered_at f.ledger (f.before + k)).number ≡ Some (f.before + k)
+  entry_is k lt = f.sound.kept (f.before + k) (omega (arith, count, f.ended))
+
+  first : (i e : ℕ) (r : Row) → entry_at f.ledger i ≡ Some e → f.before ≤ e → e < f.whole → (answered_at f.ledger e).row ≡ r → FirstAnswer places units last i r
+  first i e r is from under row =
+      let lt : i < length places = omega (arith, entry_within f.ledger.entries.items i e is, f.sound.count, st.slots.count) in
+      let j = st.slots.each i lt in
+      let x = slot_place f.slots.items j.0 in
+      let none = sym (ap (answer_upto f.before f.ledger) (sym j.2) ∙ st.earlier units last refl j.0 j.1) ∙ upto_entry f.ledger f.before i e is ∙ ap (λ (b : Bool). if b then Some (answered_at f.ledger e).row else None) (le-ltb e f.before from) in
+      let some = sym (ap (answer_upto f.whole f.ledger) (sym j.2) ∙ st.ended j.0 j.1) ∙ upto_entry f.ledger f.whole i e is ∙ ap₂ (λ (b : Bool) (q : Row). if b then Some q else None) (lt-ltb e f.whole under) row in
+      (x, place_of_slot f places (units ++ last ∷ []) rows st i j.0 lt j.1 j.2, none, sym (answer_of_units-push units last x ∙ ap (λ o. option_or o (answer last x)) none) ∙ some)
+
+  pub are_new : AreFirstAnswers places units last new
+  are_new =
+      record {
+        right = λ k d lt. subst (λ (a : Answered). FirstAnswer places units last a.number a.row) (sym (new_at k d lt)) (
+            first (answered_at f.ledger (f.before + k)).number (f.before + k) (answered_at f.ledger (f.before + k)).row (entry_is k lt) (omega arith) (omega (arith, count)) refl);
+        all = λ i r (x, at, none, some). (
+            let lt = slice_get_within places i x at in
+            let j = st.slots.each i lt in
+            let here : slot_place f.slots.items j.0 ≡ x = (let z = place_of_slot f places (units ++ last ∷ []) rows st i j.0 lt j.1 j.2 in cc) in
+            let was : answer_upto f.before f.ledger i ≡ None = ap (answer_upto f.before f.ledger) (sym j.2) ∙ st.earlier units last refl j.0 j.1 ∙ ap (answer_of_units units) here ∙ none in
+            let now : answer_upto f.whole f.ledger i ≡ Some r =
+            ap (answer_upto f.whole f.ledger) (sym j.2) ∙ st.ended j.0 j.1 ∙ ap (answer_of_units (units ++ last ∷ [])) here ∙ answer_of_units-push units last x ∙ ap₂ option_or none some in
+            let e = entry_of f.ledger f.whole i r now in
+            let under = e.under in
+            let from = not_before f.ledger f.before i e.entry e.is was in
+            let less : e.entry - f.before < length new = omega (arith, count) in
+            let back : f.before + (e.entry - f.before) ≡ e.entry = omega arith in (
+              e.entry - f.before,
+              less,
+              λ d. (
+                  new_at (e.entry - f.before) d less
+                  ∙ ap (answered_at f.ledger) back
+                  ∙ ap₂ (λ (n : ℕ) (q : Row). record { number = n; row = q }) (f.sound.logged i e.entry e.is).1 e.row),
+            ));
+        once = λ k m d lt lt' same. (
+            let z = sym (entry_is k lt) ∙ ap (entry_at f.ledger) (sym (ap (λ (a : Answered). a.number) (new_at k d lt)) ∙ same ∙ ap (λ (a : Answered). a.number) (new_at m d lt')) ∙ entry_is m lt' in
+            let e : f.before + k ≡ f.before + m = cc in
+            omega arith);
+      }

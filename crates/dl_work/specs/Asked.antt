@@ -1,0 +1,68 @@
+-- What a request asks: which command, of which file, or of which section on the input.
+use Rattle.std.specs.Prelude.{ℕ, Bool, true, false, List, Option, Some, None, option_map, option_and_then, Result}
+use Rattle.clap.specs.Words.{Text}
+use Rattle.dl_num.specs.declared.fixed.Order.{Order}
+use Rattle.dl_num.specs.declared.fixed.Order.TheVariants.{Little, Big}
+use Rattle.dl_look.specs.declared.place.Place.{Place}
+use Rattle.dl_elf.specs.declared.line_file.Wanted.{Wanted}
+use Rattle.dl_elf.specs.declared.line_file.Wanted.TheVariants.{LineSection, LineAndStringSections}
+use Rattle.dl_cmd.specs.declared.fault.RunFault.{RunFault}
+use Rattle.dl_cmd.specs.declared.summary.Summary.{Summary}
+use Rattle.dl_cmd.specs.Address.{address_in}
+use Rattle.dl_cmd.specs.Commands.{Checks, Copies, Dumps, Finds}
+use Rattle.dl_cmd.specs.Job.{Request, dump, check, find, copy}
+use Rattle.dl_cmd.specs.ValueText.{Strings}
+use Rattle.dl_work.specs.declared.command.Command.{Command}
+use Rattle.dl_work.specs.declared.command.Command.TheVariants.{Dump, Check, Find, Copy}
+
+-- the place of `find`; none where ADDRESS is no address
+abbrev pub place_of : (address : Option Text) (op : ℕ) → Option Place
+place_of address op = option_map (λ n. record { address = n; op_index = op }) (option_and_then address_in address)
+
+-- the command; none where ADDRESS is no address
+abbrev pub command_of : Request → Option Command
+command_of (dump file big line_str str) = Some Dump
+command_of (check file big) = Some Check
+command_of (find file big address op line_str str) = option_map Find (place_of address op)
+command_of (copy file big) = Some Copy
+
+-- the path of the ELF file
+abbrev pub file_of : Request → Option Text
+file_of (dump file big line_str str) = file
+file_of (check file big) = file
+file_of (find file big address op line_str str) = file
+file_of (copy file big) = file
+
+-- what is said of a section on the input
+pub record SectionWords : Type 0 where
+  pub big : Bool
+  pub line_str : Option Text
+  pub strings : Option Text
+
+abbrev pub section_of : Request → SectionWords
+section_of (dump file big line_str str) = record { big = big; line_str = line_str; strings = str }
+section_of (check file big) = record { big = big; line_str = None; strings = None }
+section_of (find file big address op line_str str) = record { big = big; line_str = line_str; strings = str }
+section_of (copy file big) = record { big = big; line_str = None; strings = None }
+
+abbrev pub order_of : (big : Bool) → Order
+order_of true = Big
+order_of false = Little
+
+abbrev pub is_copy : Command → Bool
+is_copy Copy = true
+is_copy other = false
+
+-- the sections of a file that a command looks into
+abbrev pub wanted_of : Command → Wanted
+wanted_of Dump = LineAndStringSections
+wanted_of Check = LineSection
+wanted_of (Find place) = LineAndStringSections
+wanted_of Copy = LineSection
+
+-- what the command answers and writes. bytes: what was read of a section, which has `left` left
+abbrev pub Does : Command → Order → Strings → (limit : ℕ) (bytes : List ℕ) (left start now : Option (List ℕ)) → Result Summary RunFault → Type 0
+Does Dump order s limit bytes left start now answer = Dumps order s limit bytes left start now answer
+Does Check order s limit bytes left start now answer = Checks order limit bytes left start now answer
+Does (Find place) order s limit bytes left start now answer = Finds order s place limit bytes left start now answer
+Does Copy order s limit bytes left start now answer = Copies order limit bytes left start now answer

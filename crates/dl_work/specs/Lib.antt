@@ -1,0 +1,6 @@
+pub mod Stops
+pub mod Asked
+pub mod Files
+pub mod Held
+pub mod Tables
+pub mod Work

@@ -1,0 +1,55 @@
+-- How the program stops: its text, its status, and the stops at an ELF file.
+use Rattle.std.specs.Prelude.{◌≡◌, ℕ, List, ◌++◌, codes, Option, Some, None, option_map}
+use Rattle.std.specs.declared.io.Error.{Error}
+use Rattle.clap.specs.Words.{Text}
+use Rattle.dl_elf.specs.FaultText.{fault_text}
+use Rattle.dl_elf.specs.declared.fault.ElfFault.TheVariants.{Read}
+use Rattle.dl_cmd.specs.RunText.{run_fault_text, status}
+use Rattle.dl_cmd.specs.declared.fault.RunFault.{RunFault}
+use Rattle.dl_cmd.specs.declared.fault.RunFault.TheVariants as fault
+use Rattle.dl_work.specs.declared.stop.FileFault.{FileFault}
+use Rattle.dl_work.specs.declared.stop.FileFault.TheVariants.{Open, Elf, ObjectCopy, NoMemory}
+use Rattle.dl_work.specs.declared.stop.Stop.{Stop}
+use Rattle.dl_work.specs.declared.stop.Stop.TheVariants.{NotUnderstood, Run, File}
+
+-- the text of a fault; None where the system words it
+abbrev pub file_fault_text : FileFault → Option (List ℕ)
+file_fault_text (Open error) = None
+file_fault_text (Elf f) = fault_text f
+file_fault_text ObjectCopy = Some (codes "an object file; its copy would lose its relocations")
+file_fault_text NoMemory = Some (codes "out of memory")
+
+abbrev pub stop_text : Stop → Option (List ℕ)
+stop_text NotUnderstood = Some (codes "words not understood")
+stop_text (Run f) = Some (run_fault_text f)
+stop_text (File path f) = option_map (λ text. path.now ++ codes ": " ++ text) (file_fault_text f)
+
+-- the line on standard error, of this text
+abbrev pub stop_line : List ℕ → List ℕ
+stop_line text = codes "dwline: " ++ text ++ codes "\n"
+
+-- 1 where the file is to blame, 3 for memory and reads
+abbrev pub file_fault_status : FileFault → ℕ
+file_fault_status (Open error) = 3
+file_fault_status (Elf (Read error)) = 3
+file_fault_status (Elf f) = 1
+file_fault_status ObjectCopy = 1
+file_fault_status NoMemory = 3
+
+abbrev pub stop_status : Stop → ℕ
+stop_status NotUnderstood = 2
+stop_status (Run f) = status f
+stop_status (File path f) = file_fault_status f
+
+-- ---- stops at the ELF file of a path
+
+-- it is this fault of the file
+abbrev pub IsAt : (path : Text) → FileFault → Stop → Type 0
+IsAt path f (File p g) = (p.now ≡ path) × (g ≡ f)
+IsAt path f stop = ⊥
+
+-- the fault of a run over the file. Reads and memory are told with its path, and what is wrong with a section without
+abbrev pub StopsAt : (path : Text) → RunFault → Stop → Type 0
+StopsAt path fault.Read stop = (error : Error) × IsAt path (Elf (Read error)) stop
+StopsAt path fault.NoMemory stop = IsAt path NoMemory stop
+StopsAt path f stop = stop ≡ Run f

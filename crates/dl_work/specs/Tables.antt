@@ -1,0 +1,92 @@
+-- What the program does with the ELF file of a path. f: its bytes; t: its line table, as dl_elf defines it. start, now: what the output
+-- held at first, and holds now.
+use Rattle.std.specs.Prelude.{◌≡◌, ◌⊎◌, ◌≤◌, ℕ, Bool, true, false, ◌&&◌, List, length, Option, Some, IfSome, Result, Ok, Err, MatchResult}
+use Rattle.std.specs.Io.KnownBytes.{Consumes, Keeps}
+use Rattle.std.specs.declared.io.Error.{Error}
+use Rattle.clap.specs.Words.{Text}
+use Rattle.dl_elf.specs.declared.line_file.Wanted.{Wanted}
+use Rattle.dl_elf.specs.declared.fault.ElfFault.TheVariants.{Read}
+use Rattle.dl_elf.specs.LineTable.{HasLineTable, LineTable}
+use Rattle.dl_cmd.specs.declared.options.TheConstants.{SECTION_LIMIT}
+use Rattle.dl_cmd.specs.declared.fault.RunFault.{RunFault}
+use Rattle.dl_cmd.specs.declared.summary.Summary.{Summary}
+use Rattle.dl_cmd.specs.ValueText.{Strings}
+use Rattle.dl_work.specs.declared.strings.TheConstants.{STRINGS_LIMIT}
+use Rattle.dl_work.specs.declared.command.Command.{Command}
+use Rattle.dl_work.specs.declared.stop.FileFault.{FileFault}
+use Rattle.dl_work.specs.declared.stop.FileFault.TheVariants.{Open, Elf, ObjectCopy}
+use Rattle.dl_work.specs.declared.stop.Stop.{Stop}
+use Rattle.dl_work.specs.Asked.{Does, is_copy, wanted_of}
+use Rattle.dl_work.specs.Files.{FileStops}
+use Rattle.dl_work.specs.Stops.{IsAt, StopsAt}
+
+-- ---- string sections of the file
+
+-- one that is there has no more than 2^32 bytes
+abbrev pub Fits : Option (List ℕ) → Type 0
+Fits section = IfSome section (λ bytes. length bytes ≤ STRINGS_LIMIT)
+
+-- s is both sections, whole
+pub record IsWhole (line_str str : Option (List ℕ)) (s : Strings) : Type 0 where
+  pub line_strings : s.line_strings ≡ line_str
+  pub strings : s.strings ≡ str
+  pub line_fits : Fits line_str
+  pub fits : Fits str
+
+-- a section with these bytes stops the program: a read or a growth failed, or it is too long
+abbrev pub SectionStops : (path : Text) (bytes : List ℕ) → Stop → Type 0
+SectionStops path bytes stop = (f : RunFault) × FileStops (Some bytes) STRINGS_LIMIT f × StopsAt path f stop
+
+-- one of both does
+abbrev pub StringsStop : (path : Text) (line_str str : Option (List ℕ)) → Stop → Type 0
+StringsStop path line_str str stop =
+    (bytes : List ℕ) × ((line_str ≡ Some bytes) ⊎ (str ≡ Some bytes)) × SectionStops path bytes stop
+
+-- ---- the command over the line section
+
+-- the program answers what its command answered
+abbrev pub EndsAt : (path : Text) → Result Summary RunFault → Result Summary Stop → Type 0
+EndsAt path answer result =
+    MatchResult answer (λ summary. result ≡ Ok summary) (λ f. (stop : Stop) × (result ≡ Err stop) × StopsAt path f stop)
+
+abbrev pub strings_of : LineTable → Strings
+strings_of t = record { line_strings = t.line_str_bytes; strings = t.str_bytes }
+
+-- the command is done, over the bytes of the line section in the file's order, with the file's string sections. read: the bytes that
+-- it read, of which `left` are left
+pub record RunsOn (path : Text) (command : Command) (t : LineTable) (start now : Option (List ℕ)) (result : Result Summary Stop) : Type 0 where
+  pub line_fits : Fits t.line_str_bytes
+  pub fits : Fits t.str_bytes
+  pub read : List ℕ
+  pub left : Option (List ℕ)
+  pub bytes : Consumes (Some t.line_bytes) left read
+  pub answer : Result Summary RunFault
+  pub done : Does command t.order (strings_of t) SECTION_LIMIT read left start now answer
+  pub ends : EndsAt path answer result
+
+-- the program stops before its command, and nothing is written
+abbrev pub StopsEarly : (Stop → Type 0) → (start now : Option (List ℕ)) → Result Summary Stop → Type 0
+StopsEarly Reason start now result = (stop : Stop) × (result ≡ Err stop) × Reason stop × Keeps start now
+
+-- an object file isn't copied
+abbrev pub OnTableWhere : (is_object_copy : Bool) → (path : Text) → Command → LineTable → (start now : Option (List ℕ)) → Result Summary Stop → Type 0
+OnTableWhere true path command t start now result = StopsEarly (IsAt path ObjectCopy) start now result
+OnTableWhere false path command t start now result =
+    StopsEarly (StringsStop path t.line_str_bytes t.str_bytes) start now result ⊎ RunsOn path command t start now result
+
+abbrev pub OnTable : (path : Text) → Command → LineTable → (start now : Option (List ℕ)) → Result Summary Stop → Type 0
+OnTable path command t = OnTableWhere (is_copy command && t.is_object_file) path command t
+
+-- ---- the file. fails: the errors that opening and reading it may give
+
+-- why its line table can't be had
+abbrev pub Refuses : (fails : Error → Type 0) (f : List ℕ) → Wanted → FileFault → Type 0
+Refuses fails f wanted (Open error) = fails error
+Refuses fails f wanted (Elf (Read error)) = fails error
+Refuses fails f wanted (Elf fault) = HasLineTable f wanted (Err fault)
+Refuses fails f wanted other = ⊥
+
+abbrev pub OnFile : (fails : Error → Type 0) (path : Text) → Command → (f : List ℕ) (start now : Option (List ℕ)) → Result Summary Stop → Type 0
+OnFile fails path command f start now result =
+    StopsEarly (λ stop. (fault : FileFault) × Refuses fails f (wanted_of command) fault × IsAt path fault stop) start now result
+    ⊎ ((t : LineTable) × HasLineTable f (wanted_of command) (Ok t) × OnTable path command t start now result)

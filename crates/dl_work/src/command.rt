@@ -1,0 +1,91 @@
+//! What is asked of a line table.
+ghost use Rattle.std.specs.Prelude.{◌≡◌, ◌≤◌, ◌&&◌, ℕ, List};
+ghost use Rattle.std.specs.Option.{option_copied};
+ghost use Rattle.std.specs.Io.KnownBytes.{Consumes};
+ghost use Rattle.dl_cmd.specs.Commands.{strings_in};
+ghost use Rattle.dl_cmd.specs.Job.{request_made};
+ghost use Rattle.dl_work.specs.Asked.{Does, command_of, is_copy, place_of, wanted_of};
+
+use dl_cmd::{
+    Job, Options, RunFault, SECTION_LIMIT, Summary, check, copy, dump, find, read_address,
+};
+use dl_elf::Wanted;
+use dl_look::Place;
+use std::alloc::Global;
+use std::io::{Read, Write};
+
+/// What is asked of a line table.
+#[derive(Clone, Copy, Debug, PartialEq, Eq)]
+pub enum Command {
+    /// Print all units.
+    Dump,
+    /// Count units, sequences and rows.
+    Check,
+    /// Look up a place.
+    Find(Place),
+    /// Write all units anew.
+    Copy,
+}
+
+/// The place that the words name; None where ADDRESS is no address.
+fn place(address: Option<&str>, op: u8) -> Option<Place>
+    ensures { result ≡ place_of (option_copied address.entry) op }
+{
+    Some(Place {
+        address: read_address(address?)?,
+        op_index: op,
+    })
+}
+
+impl Command {
+    /// What a job asks; None where its ADDRESS is no address.
+    pub fn of(job: &Job<'_>) -> Option<Command>
+        ensures { result ≡ command_of (request_made job.now) }
+    {
+        match *job {
+            Job::Dump { .. } => Some(Command::Dump),
+            Job::Check { .. } => Some(Command::Check),
+            Job::Find { address, op, .. } => Some(Command::Find(place(address, op)?)),
+            Job::Copy { .. } => Some(Command::Copy),
+        }
+    }
+
+    /// The sections of a file that the command looks into.
+    pub fn wanted(self) -> Wanted
+        ensures { result ≡ wanted_of self }
+    {
+        match self {
+            Command::Dump | Command::Find(_) => Wanted::LineAndStringSections,
+            Command::Check | Command::Copy => Wanted::LineSection,
+        }
+    }
+
+    /// Whether it would lose what belongs to a file: `copy` would lose the relocations of an object
+    /// file.
+    pub fn loses(self, is_object: bool) -> bool
+        ensures { result ≡ (is_copy self && is_object) }
+    {
+        matches!(self, Command::Copy) && is_object
+    }
+
+    /// Works through the section.
+    pub fn run<R: Read, W: Write>(
+        self,
+        alloc: Global,
+        input: &mut R,
+        output: &mut W,
+        options: &Options<'_>,
+    ) -> Result<Summary, RunFault>
+        requires { options.now.limit ≤ SECTION_LIMIT }
+        ensures { (bytes : List ℕ) × Consumes (R.remaining input.old) (R.remaining input.new) bytes
+            × Does self options.now.order (strings_in options.now) options.now.limit bytes (R.remaining input.new)
+            (W.contents output.old) (W.contents output.new) result }
+    {
+        match self {
+            Command::Dump => dump(alloc, input, output, options),
+            Command::Check => check(alloc, input, output, options),
+            Command::Find(place) => find(alloc, input, output, place, options),
+            Command::Copy => copy(alloc, input, output, options),
+        }
+    }
+}

@@ -1,0 +1,14 @@
+//! What the program does for a job, over files, an input and an output.
+#![tactic(auto)]
+
+mod command;
+mod files;
+mod over_file;
+mod over_input;
+mod stop;
+mod strings;
+mod working;
+
+pub use files::FileSource;
+pub use stop::{FileFault, Stop};
+pub use working::work;

@@ -1,0 +1,74 @@
+//! Commands over an ELF file.
+ghost use Rattle.std.specs.Prelude.{◌≡◌};
+ghost use Rattle.dl_elf.specs.Source.{ForBytes};
+ghost use Rattle.dl_elf.specs.LineTable.{GivesTable, LineTable};
+ghost use Rattle.dl_work.specs.Tables.{OnFile, OnTable};
+
+use crate::command::Command;
+use crate::files::FileSource;
+use crate::stop::{FileFault, Stop};
+use crate::strings::StringSections;
+use dl_cmd::Summary;
+use dl_elf::{LineFile, ReadAt, open_line_file};
+use std::alloc::Global;
+use std::io::Write;
+
+/// Does what is asked of the line table of the file at this path, which is opened.
+fn on_table<'p, S: ReadAt, W: Write>(
+    alloc: Global,
+    path: &'p str,
+    command: Command,
+    table: LineFile<'_, S>,
+    output: &mut W,
+) -> Result<Summary, Stop<'p>>
+    ensures { (t : LineTable) → GivesTable S.all_bytes table.entry t → OnTable path.entry.now command t
+        (W.contents output.old) (W.contents output.new) result }
+{
+    let LineFile {
+        order,
+        is_object,
+        mut line,
+        debug_line_str,
+        debug_str,
+    } = table;
+    if command.loses(is_object) {
+        return Err(Stop::File {
+            path,
+            fault: FileFault::ObjectCopy,
+        });
+    }
+    let strings = StringSections::of_table(alloc, path, debug_line_str, debug_str)?;
+    match command.run(alloc, &mut line, output, &strings.options(order)) {
+        Ok(summary) => Ok(summary),
+        Err(fault) => Err(Stop::at(path, fault, line.last_error())),
+    }
+}
+
+/// Does what is asked of the line table of the file at this path.
+pub fn on_file<'p, F: FileSource, W: Write>(
+    alloc: Global,
+    files: &F,
+    path: &'p str,
+    command: Command,
+    output: &mut W,
+) -> Result<Summary, Stop<'p>>
+    ensures { ForBytes (F.held files.now path.entry.now) (λ f. OnFile (F.fails_with files.now path.entry.now)
+        path.entry.now command f (W.contents output.old) (W.contents output.new) result) }
+{
+    let file = match files.open(path) {
+        Ok(file) => file,
+        Err(error) => {
+            return Err(Stop::File {
+                path,
+                fault: FileFault::Open(error),
+            });
+        }
+    };
+    match open_line_file(&file, command.wanted()) {
+        Ok(table) => on_table(alloc, path, command, table, output),
+        Err(fault) => Err(Stop::File {
+            path,
+            fault: FileFault::Elf(fault),
+        }),
+    }
+}

@@ -1,0 +1,61 @@
+//! Commands over a section that comes on the input.
+ghost use Rattle.std.specs.Prelude.{◌≡◌, ℕ, List};
+ghost use Rattle.std.specs.Io.KnownBytes.{Consumes};
+ghost use Rattle.dl_work.specs.Asked.{order_of};
+ghost use Rattle.dl_work.specs.Held.{section_seen};
+ghost use Rattle.dl_work.specs.Work.{OnInput, stopped};
+
+use crate::command::Command;
+use crate::files::FileSource;
+use crate::stop::Stop;
+use crate::strings::StringSections;
+use dl_cmd::{RunFault, Summary};
+use dl_num::Order;
+use std::alloc::Global;
+use std::io::{Read, Write};
+
+/// What the words say of a section on the input.
+#[derive(Clone, Copy, Debug, PartialEq, Eq)]
+pub struct Section<'a> {
+    pub big: bool,
+    pub line_str: Option<&'a str>,
+    pub strings: Option<&'a str>,
+}
+
+fn order(big: bool) -> Order
+    ensures { result ≡ order_of big }
+{
+    if big { Order::Big } else { Order::Little }
+}
+
+/// A command's answer, its fault being the reason to stop.
+fn stopped<'a>(answer: Result<Summary, RunFault>) -> Result<Summary, Stop<'a>>
+    ensures { result ≡ stopped answer }
+{
+    match answer {
+        Ok(summary) => Ok(summary),
+        Err(fault) => Err(Stop::Run(fault)),
+    }
+}
+
+/// Does what is asked of the section on the input. The string sections are read first.
+pub fn on_input<'p, F: FileSource, R: Read, W: Write>(
+    alloc: Global,
+    files: &F,
+    section: Section<'_>,
+    command: Command,
+    input: &mut R,
+    output: &mut W,
+) -> Result<Summary, Stop<'p>>
+    ensures { (bytes : List ℕ) × Consumes (R.remaining input.old) (R.remaining input.new) bytes
+        × OnInput (F.held files.now) (section_seen section.entry) command bytes (R.remaining input.new)
+        (W.contents output.old) (W.contents output.new) result }
+{
+    match StringSections::of_files(alloc, files, section.line_str, section.strings) {
+        Ok(strings) => {
+            let options = strings.options(order(section.big));
+            stopped(command.run(alloc, input, output, &options))
+        }
+        Err(fault) => Err(Stop::Run(fault)),
+    }
+}

@@ -1,0 +1,116 @@
+//! Why the program stops before its work is done.
+ghost use Rattle.std.specs.Prelude.{◌≡◌, IfSome, OnOk};
+ghost use Rattle.std.specs.Io.KnownBytes.{Appends};
+ghost use Rattle.dl_work.specs.Stops.{StopsAt, file_fault_status, file_fault_text, stop_line, stop_status, stop_text};
+
+use dl_cmd::RunFault;
+use dl_elf::ElfFault;
+use std::io::Write;
+use std::{fmt, io};
+
+/// Why the program stops before its work is done.
+#[derive(Debug, Drop)]
+pub enum Stop<'a> {
+    /// The words name no work, or what they name isn't an address.
+    NotUnderstood,
+    /// A string section couldn't be read, or the command stopped.
+    Run(RunFault),
+    /// The ELF file at this path stops it.
+    File { path: &'a str, fault: FileFault },
+}
+
+/// What is wrong with an ELF file, or with reading it.
+#[derive(Debug, Drop)]
+pub enum FileFault {
+    /// It can't be opened.
+    Open(io::Error),
+    /// It has no line table that is read, or a read of it failed.
+    Elf(ElfFault),
+    /// It is an object file, which isn't copied.
+    ObjectCopy,
+    /// A growth was refused.
+    NoMemory,
+}
+
+impl FileFault {
+    /// The program's status: 1 where the file is to blame, 3 for memory and reads.
+    fn status(&self) -> u8
+        ensures { result ≡ file_fault_status self.now }
+    {
+        match self {
+            FileFault::Open(_) | FileFault::Elf(ElfFault::Read(_)) | FileFault::NoMemory => 3,
+            FileFault::Elf(_) | FileFault::ObjectCopy => 1,
+        }
+    }
+}
+
+impl fmt::Display for FileFault {
+    ghost output = { file_fault_text };
+
+    fn fmt<W: fmt::Write>(&self, f: &mut fmt::Formatter<W>) -> fmt::Result {
+        match self {
+            FileFault::Open(error) => write!(f, "cannot open: {error}"),
+            FileFault::Elf(fault) => write!(f, "{fault}"),
+            FileFault::ObjectCopy => {
+                write!(f, "an object file; its copy would lose its relocations")
+            }
+            FileFault::NoMemory => write!(f, "out of memory"),
+        }
+    }
+}
+
+impl<'a> Stop<'a> {
+    /// The stop of a run over the file at this path. `read` is the error of its last read, where
+    /// that failed.
+    ///
+    /// What is wrong with a section is told without the path, as of a section that isn't in a file.
+    pub(crate) fn at(path: &'a str, fault: RunFault, read: Option<io::Error>) -> Stop<'a>
+        ensures { StopsAt path.entry.now fault result }
+    {
+        match fault {
+            RunFault::Read => {
+                let error = read.unwrap_or(io::Error::from(io::ErrorKind::Other));
+                Stop::File {
+                    path,
+                    fault: FileFault::Elf(ElfFault::Read(error)),
+                }
+            }
+            RunFault::NoMemory => Stop::File {
+                path,
+                fault: FileFault::NoMemory,
+            },
+            fault => Stop::Run(fault),
+        }
+    }
+
+    /// The program's status: 2 where the words are to blame, else that of the fault.
+    pub fn status(&self) -> u8
+        ensures { result ≡ stop_status self.now }
+    {
+        match self {
+            Stop::NotUnderstood => 2,
+            Stop::Run(fault) => fault.status(),
+            Stop::File { fault, .. } => fault.status(),
+        }
+    }
+
+    /// Writes the line that says why the program stopped.
+    pub fn write_line<W: Write>(&self, errors: &mut W) -> io::Result<()>
+        ensures { OnOk result (IfSome (stop_text self.now) (λ text.
+            Appends (W.contents errors.old) (W.contents errors.new) (stop_line text))) }
+    {
+        writeln!(errors, "dwline: {self}")
+    }
+}
+
+impl fmt::Display for Stop<'_> {
+    ghost output = { stop_text };
+
+    fn fmt<W: fmt::Write>(&self, f: &mut fmt::Formatter<W>) -> fmt::Result {
+        match self {
+            Stop::NotUnderstood => write!(f, "words not understood"),
+            Stop::Run(fault) => write!(f, "{fault}"),
+            Stop::File { path, fault } => write!(f, "{path}: {fault}"),
+        }
+    }
+}

@@ -1,0 +1,114 @@
+//! The string sections that a command looks into.
+ghost use Rattle.std.specs.Prelude.{◌≡◌, ◌≤◌, ℕ, List, Option, IfErr, IfOk, IfSome, MatchResult, length, option_map};
+ghost use Rattle.std.specs.Option.{option_copied};
+ghost use Rattle.dl_cmd.specs.Commands.{strings_in};
+ghost use Rattle.dl_elf.specs.LineTable.{GivesOption};
+ghost use Rattle.dl_work.specs.Files.{FilesStop, IsSectionOf, StringsAre};
+ghost use Rattle.dl_work.specs.Held.{strings_held};
+ghost use Rattle.dl_work.specs.Tables.{IsWhole, SectionStops, StringsStop};
+
+use crate::files::FileSource;
+use crate::stop::Stop;
+use dl_cmd::{Options, RunFault, SECTION_LIMIT, read_strings};
+use dl_elf::{ReadAt, SectionReader};
+use dl_num::Order;
+use std::alloc::Global;
+
+/// How many bytes a string section may have: 2^32.
+pub const STRINGS_LIMIT: u64 = 1 << 32;
+
+/// The string sections that a command looks into, read whole.
+#[derive(Drop)]
+pub struct StringSections {
+    debug_line_str: Option<Vec<u8>>,
+    debug_str: Option<Vec<u8>>,
+}
+
+impl StringSections {
+    /// The files at these paths, read in this order.
+    pub fn of_files<F: FileSource>(
+        alloc: Global,
+        files: &F,
+        line_str: Option<&str>,
+        strings: Option<&str>,
+    ) -> Result<StringSections, RunFault>
+        ensures { MatchResult result
+            (λ s. StringsAre (F.held files.now) (option_copied line_str.entry) (option_copied strings.entry) (strings_held s))
+            (FilesStop (F.held files.now) (option_copied line_str.entry) (option_copied strings.entry)) }
+    {
+        let debug_line_str = read_named(alloc, files, line_str)?;
+        let debug_str = read_named(alloc, files, strings)?;
+        Ok(StringSections {
+            debug_line_str,
+            debug_str,
+        })
+    }
+
+    /// The sections of an ELF file, read in this order.
+    pub fn of_table<'p, S: ReadAt>(
+        alloc: Global,
+        path: &'p str,
+        line_str: Option<SectionReader<'_, S>>,
+        strings: Option<SectionReader<'_, S>>,
+    ) -> Result<StringSections, Stop<'p>>
+        ensures { (line_bytes : Option (List ℕ)) → (bytes : Option (List ℕ))
+            → GivesOption S.all_bytes line_str.entry line_bytes → GivesOption S.all_bytes strings.entry bytes
+            → MatchResult result (λ s. IsWhole line_bytes bytes (strings_held s)) (StringsStop path.entry.now line_bytes bytes) }
+    {
+        let debug_line_str = read_section(alloc, path, line_str)?;
+        let debug_str = read_section(alloc, path, strings)?;
+        Ok(StringSections {
+            debug_line_str,
+            debug_str,
+        })
+    }
+
+    /// The options of a command that looks into them.
+    pub fn options(&self, order: Order) -> Options<'_>
+        ensures order { result.order ≡ order }
+        ensures strings { strings_in result ≡ strings_held self.now }
+        ensures limit { result.limit ≡ SECTION_LIMIT }
+    {
+        Options {
+            order,
+            debug_line_str: self.debug_line_str.as_ref().map(|bytes| bytes.as_slice()),
+            debug_str: self.debug_str.as_ref().map(|bytes| bytes.as_slice()),
+            limit: SECTION_LIMIT,
+        }
+    }
+}
+
+/// All bytes of the file at a path, where one was given.
+fn read_named<F: FileSource>(
+    alloc: Global,
+    files: &F,
+    path: Option<&str>,
+) -> Result<Option<Vec<u8>>, RunFault>
+    ensures section { IfOk result (λ found. IsSectionOf (F.held files.now) (option_copied path.entry)
+        (option_map (λ v. v.items) found)) }
+    ensures stops { IfErr result (λ f. FilesStop (F.held files.now) (option_copied path.entry) None f) }
+{
+    match path {
+        Some(path) => Ok(Some(files.read_file(alloc, path, STRINGS_LIMIT)?)),
+        None => Ok(None),
+    }
+}
+
+/// All bytes of a section of the ELF file at this path, where it has the section.
+fn read_section<'p, S: ReadAt>(
+    alloc: Global,
+    path: &'p str,
+    section: Option<SectionReader<'_, S>>,
+) -> Result<Option<Vec<u8>>, Stop<'p>>
+    ensures { (bytes : Option (List ℕ)) → GivesOption S.all_bytes section.entry bytes → MatchResult result
+        (λ found. (option_map (λ v. v.items) found ≡ bytes) × IfSome bytes (λ bs. length bs ≤ STRINGS_LIMIT))
+        (λ stop. (bs : List ℕ) × (bytes ≡ Some bs) × SectionStops path.entry.now bs stop) }
+{
+    let Some(mut section) = section else {
+        return Ok(None);
+    };
+    match read_strings(alloc, &mut section, STRINGS_LIMIT) {
+        Ok(bytes) => Ok(Some(bytes)),
+        Err(fault) => Err(Stop::at(path, fault, section.last_error())),
+    }
+}

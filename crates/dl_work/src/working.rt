@@ -1,0 +1,89 @@
+//! What the program does for a job.
+ghost use Rattle.std.specs.Prelude.{◌≡◌, ℕ, List, option_map};
+ghost use Rattle.std.specs.Io.KnownBytes.{Consumes};
+ghost use Rattle.dl_cmd.specs.Job.{request_made};
+ghost use Rattle.dl_work.specs.Asked.{file_of, section_of};
+ghost use Rattle.dl_work.specs.Held.{section_seen};
+ghost use Rattle.dl_work.specs.Work.{Works};
+
+use crate::command::Command;
+use crate::files::FileSource;
+use crate::over_file::on_file;
+use crate::over_input::{Section, on_input};
+use crate::stop::Stop;
+use dl_cmd::{Job, Summary};
+use std::alloc::Global;
+use std::io::{Read, Write};
+
+/// The path of the ELF file that a job names.
+fn file<'a>(job: &Job<'a>) -> Option<&'a str>
+    ensures { option_map (λ s. s.now) result ≡ file_of (request_made job.now) }
+{
+    match *job {
+        Job::Dump { file, .. }
+        | Job::Check { file, .. }
+        | Job::Find { file, .. }
+        | Job::Copy { file, .. } => file,
+    }
+}
+
+/// What a job says of a section on the input.
+fn section<'a>(job: &Job<'a>) -> Section<'a>
+    ensures { section_seen result ≡ section_of (request_made job.now) }
+{
+    match *job {
+        Job::Dump {
+            big,
+            line_str,
+            strings,
+            ..
+        }
+        | Job::Find {
+            big,
+            line_str,
+            strings,
+            ..
+        } => Section {
+            big,
+            line_str,
+            strings,
+        },
+        Job::Check { big, .. } | Job::Copy { big, .. } => Section {
+            big,
+            line_str: None,
+            strings: None,
+        },
+    }
+}
+
+/// Does what a job asks for, of the ELF file that it names, or where it names none of the section on
+/// the input.
+///
+/// ADDRESS is read first. Of an ELF file then the sections are found, and the string sections read
+/// by the commands that look into them; else the files of `--line-str` and `--str` are read, in this
+/// order. Then the command works through the section.
+///
+/// `NotUnderstood` where there is no job, or ADDRESS is no address; then, and at each fault before
+/// the command, nothing is written. Of the input nothing is read then, nor where a file is named.
+pub fn work<'a, F: FileSource, R: Read, W: Write>(
+    alloc: Global,
+    job: Option<Job<'a>>,
+    files: &F,
+    input: &mut R,
+    output: &mut W,
+) -> Result<Summary, Stop<'a>>
+    ensures { (bytes : List ℕ) × Consumes (R.remaining input.old) (R.remaining input.new) bytes
+        × Works (F.held files.now) (F.fails_with files.now) (option_map request_made job.entry) bytes (R.remaining input.new)
+        (W.contents output.old) (W.contents output.new) result }
+{
+    let Some(job) = job else {
+        return Err(Stop::NotUnderstood);
+    };
+    let Some(command) = Command::of(&job) else {
+        return Err(Stop::NotUnderstood);
+    };
+    match file(&job) {
+        Some(path) => on_file(alloc, files, path, command, output),
+        None => on_input(alloc, files, section(&job), command, input, output),
+    }
+}

@@ -1,0 +1,11 @@
+//! Files made by hand from the tables of the System V ABI, chapter 4.
+#![tactic(auto)]
+
+#[cfg(test)]
+mod faults;
+#[cfg(test)]
+mod image;
+#[cfg(test)]
+mod reads;
+#[cfg(test)]
+mod sections;

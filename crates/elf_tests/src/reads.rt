@@ -1,0 +1,166 @@
+//! Sources that are short, are interrupted, fail, or end while they are read.
+use crate::image::{LITTLE_64, image, section};
+use dl_elf::{ElfFault, ReadAt, Wanted, open_line_file};
+use std::alloc::Global;
+use std::cell::Cell;
+use std::io;
+use std::io::{ErrorKind, Read};
+use std::test::Fail;
+
+/// What a source does besides giving its bytes.
+#[derive(Clone, Copy, Debug)]
+enum Habit {
+    /// It gives one byte a read.
+    Short,
+    /// Each read is interrupted this often before it gives anything.
+    Interrupted(u32),
+    /// The read after this many others fails.
+    Fails(u32),
+    /// After this many reads the file is empty.
+    Shrinks(u32),
+}
+
+#[derive(Drop)]
+struct Source<'a> {
+    bytes: &'a [u8],
+    habit: Habit,
+    /// How many reads there were, or how often the one that is tried now was interrupted.
+    count: Cell<u32>,
+}
+
+impl ReadAt for Source<'_> {
+    fn read_at(&self, offset: u64, buffer: &mut [u8]) -> io::Result<usize> {
+        let count = self.count.get();
+        self.count.set(count.wrapping_add(1));
+        let most = match self.habit {
+            Habit::Short => 1,
+            Habit::Interrupted(times) => {
+                if count < times {
+                    return Err(io::Error::from(ErrorKind::Interrupted));
+                }
+                self.count.set(0);
+                usize::MAX
+            }
+            Habit::Fails(before) => {
+                if count == before {
+                    return Err(io::Error::from(ErrorKind::BrokenPipe));
+                }
+                usize::MAX
+            }
+            Habit::Shrinks(before) => {
+                if before <= count {
+                    return Ok(0);
+                }
+                usize::MAX
+            }
+        };
+        let from = offset.min(self.bytes.len() as u64) as usize;
+        let rest = &self.bytes[from..];
+        let n = rest.len().min(buffer.len()).min(most);
+        buffer[..n].copy_from_slice(&rest[..n]);
+        Ok(n)
+    }
+}
+
+/// What is found and read through a source: the line section's bytes, or the fault.
+fn read_through(alloc: Global, bytes: &[u8], habit: Habit) -> Result<String, Fail> {
+    let source = Source {
+        bytes,
+        habit,
+        count: Cell::new(0),
+    };
+    let file = match open_line_file(&source, Wanted::LineSection) {
+        Ok(file) => file,
+        Err(fault) => return Ok(format!(in alloc; "{fault}")?),
+    };
+    let mut line = file.line;
+    let mut read = Vec::new(alloc);
+    let mut piece = [0; 3];
+    for _ in 0..u64::MAX {
+        match line.read(&mut piece) {
+            Ok(0) => break,
+            Ok(n) => read.extend_from_slice(&piece[..n])?,
+            Err(error) => {
+                let kept = line.last_error().map(|error| error.kind());
+                let kind = error.kind();
+                return Ok(format!(in alloc; "{kind:?} {kept:?}")?);
+            }
+        }
+    }
+    Ok(String::from_utf8(read)?)
+}
+
+#[test]
+fn habits(rt: HostRuntime) -> Result<(), Fail> {
+    let alloc = rt.alloc();
+    let bytes = image(
+        alloc,
+        LITTLE_64,
+        &[section(".debug_line", "the line section")],
+    )?;
+    for (habit, want) in [
+        (Habit::Short, "the line section"),
+        (Habit::Interrupted(0), "the line section"),
+        (Habit::Interrupted(1), "Interrupted Some(Interrupted)"),
+        (Habit::Interrupted(1000), "Interrupted Some(Interrupted)"),
+        (
+            Habit::Interrupted(1001),
+            "cannot read: operation interrupted",
+        ),
+        (Habit::Fails(0), "cannot read: broken pipe"),
+        (Habit::Fails(3), "cannot read: broken pipe"),
+        (Habit::Shrinks(0), "not an ELF file"),
+        (Habit::Shrinks(1), "damaged ELF file: section headers"),
+    ] {
+        let found = read_through(alloc, bytes.as_slice(), habit)?;
+        assert_eq!(rt; found.as_str(), want, "{habit:?}");
+    }
+    Ok(())
+}
+
+/// Each read fails in turn, and the file ends before each read: nothing but the fault is told, and
+/// no part of the section is taken for all of it.
+#[test]
+fn each_read_fails(rt: HostRuntime) -> Result<(), Fail> {
+    let alloc = rt.alloc();
+    let sections = [section(".debug_line", "the line section")];
+    let bytes = image(alloc, LITTLE_64, &sections)?;
+    for count in 0..40 {
+        let failed = read_through(alloc, bytes.as_slice(), Habit::Fails(count))?;
+        let told = matches!(
+            failed.as_str(),
+            "the line section" | "cannot read: broken pipe" | "BrokenPipe Some(BrokenPipe)"
+        );
+        assert!(rt; told, "{count} {failed}");
+        let ended = read_through(alloc, bytes.as_slice(), Habit::Shrinks(count))?;
+        let told = ended.as_str() == "the line section" || !ended.starts_with("the");
+        assert!(rt; told, "{count} {ended}");
+    }
+    for (habit, want) in [
+        (Habit::Fails(14), "BrokenPipe Some(BrokenPipe)"),
+        (Habit::Shrinks(14), "UnexpectedEof Some(UnexpectedEof)"),
+        (Habit::Fails(39), "the line section"),
+    ] {
+        let found = read_through(alloc, bytes.as_slice(), habit)?;
+        assert_eq!(rt; found.as_str(), want, "{habit:?}");
+    }
+    Ok(())
+}
+
+/// A fault of a read is no other fault.
+#[test]
+fn the_fault_of_a_read(rt: HostRuntime) -> Result<(), Fail> {
+    let alloc = rt.alloc();
+    let bytes = image(alloc, LITTLE_64, &[section(".debug_line", "line")])?;
+    let source = Source {
+        bytes: bytes.as_slice(),
+        habit: Habit::Fails(0),
+        count: Cell::new(0),
+    };
+    let told = match open_line_file(&source, Wanted::LineSection) {
+        Err(ElfFault::Read(error)) => error.kind() == ErrorKind::BrokenPipe,
+        _ => false,
+    };
+    assert!(rt; told);
+    Ok(())
+}

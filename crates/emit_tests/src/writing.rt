@@ -1,0 +1,181 @@
+//! Worked units.
+
+use crate::vectors::{header, plain, rows, three_rows};
+use dl_emit::{measure, write_unit};
+use dl_head::{Form, Format, Header, Pair, Params, Table, ValueRef};
+use dl_num::Order;
+use dl_rows::Row;
+use std::alloc::Global;
+use std::process::Abort;
+use std::test::Fail;
+use test_support::{
+    BIG_THREE_ROWS, DWARF64_WITH_MD5, Sink, THREE_ROWS, bytes, row, unit, unit_with,
+};
+
+/// Asserts that the unit of this header and these rows is these bytes, and is read again.
+fn assert_unit(
+    rt: &impl Abort,
+    alloc: Global,
+    order: Order,
+    head: &Header,
+    written: &[Row],
+    unit: &[u8],
+) -> Result<(), Fail> {
+    let len = unit.len() as u64;
+    assert_eq!(rt; measure(head, written), Ok(len));
+    for most in [1, 7, 1000] {
+        let mut output = Sink::new(alloc, 1000, most);
+        assert_eq!(rt; write_unit(&mut output, order, head, written), Ok(len));
+        assert_eq!(rt; output.held.as_slice(), unit);
+    }
+    let again = header(alloc, order, unit)?;
+    assert!(rt; again == *head);
+    let read = rows(alloc, order, unit)?;
+    assert_eq!(rt; read.as_slice(), written);
+    Ok(())
+}
+
+#[test]
+fn three_rows_in_both_orders(rt: HostRuntime) -> Result<(), Fail> {
+    let alloc = rt.alloc();
+    let head = plain(alloc)?;
+    let little = unit(alloc, THREE_ROWS)?;
+    assert_eq!(rt; little.len(), 52);
+    let big = bytes(alloc, BIG_THREE_ROWS)?;
+    for (order, unit) in [(Order::Little, &little), (Order::Big, &big)] {
+        assert_unit(&rt, alloc, order, &head, &three_rows(), unit.as_slice())?;
+    }
+    Ok(())
+}
+
+/// Three operations fill an instruction of 16 bytes.
+#[test]
+fn op_indexes(rt: HostRuntime) -> Result<(), Fail> {
+    let alloc = rt.alloc();
+    let program = "00 09 02 00 10 00 00 00 00 00 00 20 20 20";
+    let unit = unit_with(alloc, &[(12, 0x10), (13, 3)], program)?;
+    let head = header(alloc, Order::Little, unit.as_slice())?;
+    let written = [row(0x1000, 1, 1), row(0x1000, 2, 1), row(0x1010, 0, 1)];
+    assert_unit(&rt, alloc, Order::Little, &head, &written, unit.as_slice())
+}
+
+/// A line below 1 is one near 2^64.
+#[test]
+fn four_byte_addresses(rt: HostRuntime) -> Result<(), Fail> {
+    let alloc = rt.alloc();
+    let unit = unit_with(alloc, &[(6, 4)], "00 05 02 00 00 00 00 12 10")?;
+    let head = header(alloc, Order::Little, unit.as_slice())?;
+    let written = [row(0, 0, 1), row(0, 0, u64::MAX)];
+    assert_unit(&rt, alloc, Order::Little, &head, &written, unit.as_slice())
+}
+
+#[test]
+fn steps(rt: HostRuntime) -> Result<(), Fail> {
+    let alloc = rt.alloc();
+    let head = plain(alloc)?;
+    let written = [
+        row(8, 0, 1),
+        row(4, 0, 10),
+        row(4, 0, 18),
+        row(0x15, 0, 17),
+        row(0x26, 0, 17),
+    ];
+    let unit = unit(
+        alloc,
+        "00 09 02 08 00 00 00 00 00 00 00 12 00 09 02 04 00 00 00 00 00 00 00 03 09 01 1a ff 02 11 01",
+    )?;
+    assert_eq!(rt; unit.len(), 65);
+    assert_unit(&rt, alloc, Order::Little, &head, &written, unit.as_slice())
+}
+
+/// What holds for one row alone, and what holds to the end of a sequence.
+#[test]
+fn settings_and_marks(rt: HostRuntime) -> Result<(), Fail> {
+    let alloc = rt.alloc();
+    let head = plain(alloc)?;
+    let set = Row {
+        file: 2,
+        column: 200,
+        isa: 3,
+        discriminator: 300,
+        is_stmt: false,
+        basic_block: true,
+        prologue_end: true,
+        epilogue_begin: true,
+        ..row(0, 0, 1)
+    };
+    let kept = Row {
+        file: 2,
+        column: 200,
+        isa: 3,
+        is_stmt: false,
+        ..row(1, 0, 1)
+    };
+    let end = Row {
+        end_sequence: true,
+        ..kept
+    };
+    let unit = unit(
+        alloc,
+        "04 02 05 c8 01 06 0c 03 00 03 04 ac 02 07 0a 0b 00 09 02 00 00 00 00 00 00 00 00 12 \
+         20 00 01 01 00 09 02 00 00 00 00 00 00 00 00 12",
+    )?;
+    assert_unit(
+        &rt,
+        alloc,
+        Order::Little,
+        &head,
+        &[set, kept, end, row(0, 0, 1)],
+        unit.as_slice(),
+    )
+}
+
+/// The directory and the file of `DWARF64_WITH_MD5`.
+fn built(alloc: Global) -> Result<Header, Fail> {
+    let path = Pair {
+        content: 1,
+        form: Form::String,
+    };
+    let index = Pair {
+        content: 2,
+        form: Form::Udata,
+    };
+    let sum = Pair {
+        content: 5,
+        form: Form::Data16,
+    };
+    let md5 = [0, 1, 2, 3, 4, 5, 6, 7, 8, 9, 10, 11, 12, 13, 14, 15];
+    let mut directories = Table::new(alloc, Format::Dwarf64, &[path])?;
+    directories.push_entry(&[ValueRef::Text(b"/s")])?;
+    let mut files = Table::new(alloc, Format::Dwarf64, &[path, index, sum])?;
+    files.push_entry(&[
+        ValueRef::Text(b"a.c"),
+        ValueRef::Number(0),
+        ValueRef::Data16(md5),
+    ])?;
+    let params = Params {
+        format: Format::Dwarf64,
+        address_size: 8,
+        segment_selector_size: 0,
+        minimum_instruction_length: 1,
+        maximum_operations_per_instruction: 1,
+        default_is_stmt: 1,
+        line_base: -5,
+        line_range: 14,
+        opcode_base: 13,
+        lengths: [0, 1, 1, 1, 1, 0, 0, 0, 1, 0, 0, 1].as_slice().try_into()?,
+    };
+    match Header::new(params, directories, files) {
+        Ok(header) => Ok(header),
+        Err(_) => Err("a header".into()),
+    }
+}
+
+#[test]
+fn built_header(rt: HostRuntime) -> Result<(), Fail> {
+    let alloc = rt.alloc();
+    let unit = bytes(alloc, DWARF64_WITH_MD5)?;
+    assert_eq!(rt; unit.len(), 78);
+    let head = built(alloc)?;
+    assert_unit(&rt, alloc, Order::Little, &head, &[], unit.as_slice())
+}

@@ -1,0 +1,17 @@
+//! Worked headers and tables.
+#![tactic(auto)]
+
+#[cfg(test)]
+mod building;
+#[cfg(test)]
+mod growths;
+#[cfg(test)]
+mod reading;
+#[cfg(test)]
+mod runs;
+#[cfg(test)]
+mod texts;
+#[cfg(test)]
+mod vectors;
+#[cfg(test)]
+mod writing;

@@ -1,0 +1,142 @@
+//! Headers that are written.
+
+use crate::building::{pair, params};
+use crate::vectors::{
+    BIG_DWARF64_WITH_MD5, DWARF64_WITH_MD5, EMPTY_PROGRAM, LINE_STRP_DIRECTORY, MD5, read,
+};
+use dl_head::{
+    BuildFault, Form, Format, HeadWrite, Header, Table, TooLong, ValueRef, header_len, write_header,
+};
+use dl_num::Order;
+use std::alloc::Global;
+use std::process::Abort;
+use std::test::Fail;
+use test_support::Sink;
+
+#[test]
+fn unit_lengths_that_are_written_have_limits(rt: HostRuntime) {
+    let header = read(rt.alloc(), &EMPTY_PROGRAM).expect(&rt, "a header");
+    assert_eq!(rt; header_len(&header, 0), Ok(34));
+    assert_eq!(rt; header_len(&header, 4_294_967_249), Ok(34));
+    assert_eq!(rt; header_len(&header, 4_294_967_250), Err(TooLong));
+    let header = read(rt.alloc(), &DWARF64_WITH_MD5).expect(&rt, "a header");
+    assert_eq!(rt; header_len(&header, 1_099_511_627_710), Ok(78));
+    assert_eq!(rt; header_len(&header, 1_099_511_627_711), Err(TooLong));
+    assert_eq!(rt; header_len(&header, u64::MAX), Err(TooLong));
+}
+
+/// Asserts that the header that these bytes spell is written as them.
+fn assert_written(rt: &impl Abort, alloc: Global, spelled: &[u8], order: Order, bytes: &[u8]) {
+    match read(alloc, spelled) {
+        Some(header) => {
+            let mut output = Sink::new(alloc, 100, 7);
+            let written = write_header(&mut output, order, &header, 0);
+            assert_eq!(rt; written, Ok(bytes.len() as u64));
+            assert_eq!(rt; output.held.as_slice(), bytes);
+        }
+        None => assert!(rt; false),
+    }
+}
+
+#[test]
+fn headers_are_written_in_both_orders(rt: HostRuntime) {
+    let little = Order::Little;
+    assert_written(&rt, rt.alloc(), &EMPTY_PROGRAM, little, &EMPTY_PROGRAM);
+    assert_written(
+        &rt,
+        rt.alloc(),
+        &LINE_STRP_DIRECTORY,
+        little,
+        &LINE_STRP_DIRECTORY,
+    );
+    assert_written(
+        &rt,
+        rt.alloc(),
+        &DWARF64_WITH_MD5,
+        little,
+        &DWARF64_WITH_MD5,
+    );
+    assert_written(
+        &rt,
+        rt.alloc(),
+        &DWARF64_WITH_MD5,
+        Order::Big,
+        &BIG_DWARF64_WITH_MD5,
+    );
+}
+
+/// A table with a value of each form.
+fn all_forms(alloc: Global) -> Result<Table, BuildFault> {
+    let rows = [
+        (Form::Block2, ValueRef::Block(b"ab")),
+        (Form::Block4, ValueRef::Block(b"")),
+        (Form::Data2, ValueRef::Number(0x1234)),
+        (Form::Data4, ValueRef::Number(0x1234_5678)),
+        (Form::Data8, ValueRef::Number(u64::MAX)),
+        (Form::String, ValueRef::Text(b"a text")),
+        (Form::Block, ValueRef::Block(b"block")),
+        (Form::Block1, ValueRef::Block(&[0xff])),
+        (Form::Data1, ValueRef::Number(0xfe)),
+        (Form::Strp, ValueRef::Str(3)),
+        (Form::Udata, ValueRef::Number(300)),
+        (Form::StrpSup, ValueRef::StrSup(4)),
+        (Form::Data16, ValueRef::Data16(MD5)),
+        (Form::LineStrp, ValueRef::LineStr(5)),
+    ];
+    let mut pairs = [pair(0x2000, Form::Udata); 14];
+    let mut values = [ValueRef::Number(0); 14];
+    for (i, (form, value)) in rows.iter().enumerate() {
+        pairs[i] = pair(0x2000 + i as u64, *form);
+        values[i] = *value;
+    }
+    let mut table = Table::new(alloc, Format::Dwarf32, &pairs)?;
+    table.push_entry(&values)?;
+    table.push_entry(&values)?;
+    Ok(table)
+}
+
+#[test]
+fn written_headers_are_read_again(rt: HostRuntime) -> Result<(), Fail> {
+    let tables = (all_forms(rt.alloc())?, all_forms(rt.alloc())?);
+    match Header::new(params(), tables.0, tables.1) {
+        Ok(header) => {
+            let mut output = Sink::new(rt.alloc(), 1000, 5);
+            let written = write_header(&mut output, Order::Little, &header, 0);
+            assert_eq!(rt; written, Ok(output.held.len() as u64));
+            assert_eq!(rt; header_len(&header, 0), Ok(output.held.len() as u64));
+            let again = read(rt.alloc(), output.held.as_slice()).expect(&rt, "a header");
+            assert!(rt; again == header);
+        }
+        Err(_) => assert!(rt; false),
+    }
+    Ok(())
+}
+
+#[test]
+fn failed_writes_are_told(rt: HostRuntime) {
+    let header = read(rt.alloc(), &DWARF64_WITH_MD5).expect(&rt, "a header");
+    for fails in [true, false] {
+        for room in 0..78usize {
+            let mut output = Sink::new(rt.alloc(), room, 3);
+            output.fails = fails;
+            let written = write_header(&mut output, Order::Little, &header, 0);
+            assert_eq!(rt; written, Err(HeadWrite::Write { out: room as u64 }));
+            assert_eq!(rt; output.held.as_slice(), &DWARF64_WITH_MD5[..room]);
+        }
+    }
+    let mut output = Sink::new(rt.alloc(), 100, 100);
+    let written = write_header(&mut output, Order::Little, &header, 1 << 40);
+    assert_eq!(rt; written, Err(HeadWrite::TooLong));
+    assert_eq!(rt; output.held.len(), 0);
+}
+
+#[test]
+fn interrupted_writes_are_repeated(rt: HostRuntime) {
+    let header = read(rt.alloc(), &DWARF64_WITH_MD5).expect(&rt, "a header");
+    let rows = [(1000, Ok(78)), (1001, Err(HeadWrite::Write { out: 0 }))];
+    for (interruptions, want) in rows {
+        let mut output = Sink::interrupted(rt.alloc(), 7, interruptions);
+        let written = write_header(&mut output, Order::Little, &header, 0);
+        assert_eq!(rt; written, want);
+    }
+}

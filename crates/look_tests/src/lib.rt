@@ -1,0 +1,17 @@
+//! Tests of look-up: worked rows, sequences of every kind, and refused growths.
+#![tactic(auto)]
+
+#[cfg(test)]
+mod agreement;
+#[cfg(test)]
+mod live;
+#[cfg(test)]
+mod many;
+#[cfg(test)]
+mod memory;
+#[cfg(test)]
+mod rows;
+#[cfg(test)]
+mod sequences;
+#[cfg(test)]
+mod worked;

@@ -1,0 +1,20 @@
+//! What the tests of several crates share: readers and writers that aren't perfect, want of memory,
+//! worked units, and rows.
+#![tactic(auto)]
+
+mod fault;
+mod memory;
+mod readers;
+mod rows;
+mod units;
+mod writers;
+
+pub use fault::Fault;
+pub use memory::{hoard, hoard_but};
+pub use readers::{Endless, Hoarding, Repeated, Source};
+pub use rows::{end, row};
+pub use units::{
+    BIG_SMALLEST, BIG_THREE_ROWS, DWARF64_WITH_MD5, SMALLEST, THREE_ROWS, bytes, unit, unit_of,
+    unit_with,
+};
+pub use writers::Sink;

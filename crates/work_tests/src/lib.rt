@@ -1,0 +1,11 @@
+//! Jobs over sections and over files in memory, and what stops them.
+#![tactic(auto)]
+
+#[cfg(test)]
+mod elf;
+#[cfg(test)]
+mod file;
+#[cfg(test)]
+mod input;
+#[cfg(test)]
+mod shelf;
