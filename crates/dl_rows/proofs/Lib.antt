@@ -1,5 +1,6 @@
 pub mod Arithmetic
 pub mod BodyLemmas
+pub mod CallLemmas
 pub mod ExtendedLemmas
 pub mod FirstLemmas
 pub mod HeadFeeds
@@ -21,6 +22,7 @@ pub mod ProgramWalks
 pub mod ReaderFeeds
 pub mod ReaderLemmas
 pub mod RegisterLemmas
+pub mod RowBytes
 pub mod RunLemmas
 pub mod RunTurns
 pub mod ShortExtended

@@ -1,6 +1,7 @@
 //! Laws of the definitions of operations, programs, rows and units, each the contract of a function that does nothing.
 
 ghost use Rattle.dl_rows.specs.Laws.{SpeltIsSpelled, BadIsFaulty, NoOperationBeginsAnother, OneOperation, NoSpellingIsFaulty, OneProgram, ProgramIsFound, FoundIsProgram, NoneBeginsRest, RowForByte};
+ghost use Rattle.dl_rows.specs.Calls.{RowsAreCalls};
 ghost use Rattle.dl_rows.specs.Runs.{TraceRuns, TraceOfUnit};
 ghost use Rattle.dl_rows.specs.UnitLaws.{HeaderFits, LengthIsComputed, NoUnitBeginsAnother, ForeignComesTo, UnitComesTo, OneRefusal, RefusedInHeader, RefusedInProgram, OperationIsRefused, UnitUnlessRefused, RowForProgramByte};
 
@@ -74,4 +75,10 @@ pub fn unit_or_refusal()
 pub fn turns()
     ensures trace { TraceRuns }
     ensures unit { TraceOfUnit }
+{}
+
+/// What `feed_rows` may answer, and the rows that it may tell on the way, are what calls of `feed` may
+/// answer, one after the other.
+pub fn rows_are_calls()
+    ensures { RowsAreCalls }
 {}
