@@ -1,4 +1,5 @@
 pub mod RunText
+pub mod RunOutput
 pub mod UnitPrinted
 pub mod Strings
 pub mod CommandLine
