@@ -31,7 +31,8 @@ use Rattle.dl_print.specs.declared.fault.WriteFault.{WriteFault}
 use Rattle.dl_cmd.specs.RowsTold.{rows_after}
 use Rattle.dl_cmd.specs.Section.{Visit, EndsAs, of_header, of_version, of_row, of_open, of_end, HasUnits, HasBegun, header_of, header_visit, event_visits, visits, open_visit, end_visits, unit_visits, units_visits, section_visits, summary_of}
 use Rattle.dl_print.specs.ValueText.{Strings, strings_of}
-use Rattle.dl_cmd.specs.Visiting.{GoesOn, Ran, Settled, Stopped, VisitorStops, rows_told}
+use Rattle.dl_cmd.specs.Visiting.{GoesOn, Ran, Settled, Stopped, VisitorStops}
+use Rattle.dl_cmd.specs.UnitsRead.{rows_told}
 use Rattle.dl_cmd.proofs.EventLemmas.{rows_of_events}
 use Rattle.dl_cmd.proofs.Fronts.{or_assoc, or_none, none_is_some, value_same, neither, map_none}
 use Rattle.dl_print.proofs.Outs.{HasPrinted-out, HasPrinted-nothing, keeps_by_nothing}

@@ -8,6 +8,7 @@ pub mod Address
 pub mod Section
 pub mod SectionLaws
 pub mod Visiting
+pub mod UnitsRead
 pub mod Told
 pub mod SectionText
 pub mod Checking
