@@ -1,6 +1,5 @@
 -- How a dump goes on, and what it comes to.
 use Rattle.std.proofs.Common.{◌≡◌, inl, inr, ℕ, List, [], ◌∷◌, ◌++◌, Option, Result, Ok, Err, refl, sym, ap, ◌∙◌, subst, append-nil}
-use Rattle.std.specs.Prelude.{MatchResult}
 use Rattle.std.proofs.lemmas.Grind.{flat_map-append}
 use Rattle.dl_num.specs.declared.fixed.Order.{Order}
 use Rattle.dl_cmd.specs.declared.dumping.Dumper.{Dumper}

@@ -1,6 +1,6 @@
 -- What is found in the units of a section, and how a seeker goes on.
 use Rattle.std.proofs.Common.{◌≡◌, ◌⊎◌, inl, inr, ℕ, ◌+◌, Bool, true, false, List, [], ◌∷◌, ◌++◌, length, flat_map, take, Option, Some, None, Result, Ok, Err, arith, refl, sym, ap, ◌∙◌, subst, append_assoc, append-nil, length-append, true≢false}
-use Rattle.std.specs.Prelude.{⊤, OnOk, MatchResult, option_map}
+use Rattle.std.specs.Prelude.{⊤, option_map}
 use Rattle.std.specs.Io.KnownBytes.{Appends, Keeps}
 use Rattle.std.specs.List.{concat}
 use Rattle.std.specs.Option.{option_or}
