@@ -1,10 +1,4 @@
-pub mod DecimalLemmas
-pub mod HexadecimalLemmas
-pub mod Outs
-pub mod Pieces
-pub mod HeaderLemmas
-pub mod StringLemmas
-pub mod CopyLemmas
+pub mod OutLemmas
 pub mod CommandLineLemmas
 pub mod AddressLemmas
 pub mod EventLemmas

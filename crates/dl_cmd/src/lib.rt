@@ -1,4 +1,5 @@
-//! The commands over a section of line tables: what they read, print and answer.
+//! The commands over a section of line tables: what they read, print and answer; and the reading of
+//! its units for further ones.
 #![tactic(auto)]
 
 mod address;
@@ -10,20 +11,18 @@ mod finding;
 mod input;
 pub mod laws;
 mod options;
-mod output;
 mod section;
 mod strings;
-mod summary;
-mod text;
 mod words;
 
 pub use address::read_address;
 pub use checking::check;
 pub use copying::copy;
+pub use dl_print::Summary;
 pub use dumping::dump;
 pub use fault::RunFault;
 pub use finding::find;
 pub use options::{Options, SECTION_LIMIT};
+pub use section::{Next, Visitor, read_units};
 pub use strings::read_strings;
-pub use summary::Summary;
 pub use words::{Job, read_job, word_status};
