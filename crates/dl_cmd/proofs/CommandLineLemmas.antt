@@ -1,5 +1,5 @@
 -- How a command grows.
-use Rattle.std.proofs.Common.{◌≡◌, ◌∙◌, ◌&&◌, ◌||◌, ◌++◌, ◌∷◌, [], Bool, true, false, not, List, ℕ, Bor, Option, Some, None, sym, Result, Ok, Err, arith, refl, ap, ap₂, length-append}
+use Rattle.std.proofs.Common.{◌≡◌, ◌∙◌, ◌&&◌, ◌||◌, ◌++◌, ◌∷◌, [], Bool, true, false, not, List, ℕ, Bor, Vec, Global, map, Option, Some, None, sym, Result, Ok, Err, arith, refl, ap, ap₂, length-append}
 use Rattle.std.proofs.lemmas.List.{map-append}
 use Rattle.std.specs.Prelude.{IfOk}
 use Rattle.std.specs.declared.alloc.AllocError.{AllocError}
@@ -56,3 +56,10 @@ pub request_read : {Z : Type 0} {X : Type 0} (app : App) (words : List Text) (o 
 request_read app words o name rows request is matches named has e =
     let met = (matches (rw is refl)).1 ∙ ap (λ (a : App). subcommand_of a words) is in
     e ∙ ap requested (sym (subcommand_entered o name rows named has) ∙ met)
+
+-- texts that were copied
+pub texts_copied : {E : Type 0} (clone : Bor (List ℕ) → Bor (List ℕ) → Type 0) (found : List (Bor (List ℕ))) (rows : Option (List Text)) (r : Result (Vec (Bor (List ℕ)) Global) E)
+    → IfOk r (λ v. ((x y : Bor (List ℕ)) → clone x y → y ≡ x) → v.items ≡ found) → Some (map (λ s. s.now) found) ≡ rows → ((x y : Bor (List ℕ)) → clone x y → y ≡ x)
+    → IfOk r (λ v. map (λ s. s.now) v.items ≡ unwrap_or rows [])
+texts_copied clone found rows (Ok v) copied said same = ap (λ (l : List (Bor (List ℕ))). map (λ s. s.now) l) (copied same) ∙ ap (λ (o : Option (List Text)). unwrap_or o []) said
+texts_copied clone found rows (Err error) copied said same = tt

@@ -1,11 +1,11 @@
 -- The command line of the program, as clap reads it.
-use Rattle.std.specs.Prelude.{◌≡◌, List, false, [], ◌∷◌, Some, codes, true, pos}
+use Rattle.std.specs.Prelude.{◌≡◌, ℕ, List, false, [], ◌∷◌, Some, codes, true, pos}
 use Rattle.clap.specs.Words.{App, app_of, rule_of, Rule, Text, new_app, new_rule, with_rule, with_subcommand}
 use Rattle.clap.specs.Walk.{texts}
 use Rattle.clap.specs.declared.builder.arg.Arg.{Arg}
 use Rattle.clap.specs.declared.builder.command.Command.{Command}
 use Rattle.clap.specs.declared.builder.command.Command.TheViews.{out-Command}
-use Rattle.clap.specs.declared.builder.ArgAction.TheVariants.{SetTrue}
+use Rattle.clap.specs.declared.builder.ArgAction.TheVariants.{Append, SetTrue}
 use Rattle.clap.specs.declared.builder.value_parser.ValueParser.TheVariants as vp
 
 -- `--big`
@@ -37,6 +37,26 @@ op_rule = record (new_rule (codes "op")) {
 abbrev pub file_rule : Rule
 file_rule = record (new_rule (codes "file")) { value_names = 1; is_free = false }
 
+-- `FILE` of `addr`, which is wanted
+abbrev pub addr_file_rule : Rule
+addr_file_rule = record (new_rule (codes "file")) { required = true; value_names = 1 }
+
+-- `ADDRESS`, any number of them
+abbrev pub addresses_rule : Rule
+addresses_rule = record (new_rule (codes "address")) { action = Some Append; value_names = 1 }
+
+-- `--base ADDRESS`
+abbrev pub base_rule : Rule
+base_rule = record (new_rule (codes "base")) { long = Some (codes "base"); value_names = 1 }
+
+-- `--id`, without a value
+abbrev pub switch_rule : Text → Rule
+switch_rule id = record (new_rule id) { long = Some id; action = Some SetTrue }
+
+-- the same, or by its letter
+abbrev pub letter_rule : Text → (letter : ℕ) → Rule
+letter_rule id letter = record (switch_rule id) { short = Some letter }
+
 -- where the section comes from
 abbrev pub with_input : App → App
 with_input a = with_rule (with_rule a big_rule) file_rule
@@ -44,6 +64,17 @@ with_input a = with_rule (with_rule a big_rule) file_rule
 -- the same, and where its string sections come from
 abbrev pub with_strings : App → App
 with_strings a = with_rule (with_rule (with_rule (with_rule a big_rule) line_str_rule) str_rule) file_rule
+
+-- what addresses are asked for, and how they are answered
+abbrev pub with_settings : App → App
+with_settings a = with_rule (with_rule (with_rule (with_rule (with_rule a (letter_rule (codes "addresses") 97)) (letter_rule (codes "basenames") 115)) (switch_rule (codes "hex"))) base_rule) (switch_rule (codes "all"))
+
+abbrev pub with_addresses : App → App
+with_addresses a = with_rule (with_rule (with_rule (with_rule (with_rule (with_settings a) big_rule) line_str_rule) str_rule) addr_file_rule) addresses_rule
+
+-- `addr [-a] [-s] [--hex] [--base ADDRESS] [--all] [--big] [--line-str PATH] [--str PATH] FILE [ADDRESS]..`
+abbrev pub addr_app : App
+addr_app = with_addresses (new_app (codes "addr"))
 
 -- `dump [--big] [--line-str PATH] [--str PATH] [FILE]`
 abbrev pub dump_app : App
@@ -67,7 +98,8 @@ top_app = let a = new_app (codes "dwline") in record a { top = record a.top { ha
 
 -- the whole program
 abbrev pub command_line : App
-command_line = with_subcommand (with_subcommand (with_subcommand (with_subcommand top_app dump_app.top) check_app.top) find_app.top) copy_app.top
+command_line =
+    with_subcommand (with_subcommand (with_subcommand (with_subcommand (with_subcommand top_app addr_app.top) dump_app.top) check_app.top) find_app.top) copy_app.top
 
 -- a command without global arguments, of which a parse reads this
 abbrev pub IsApp : App → Command → Type 0

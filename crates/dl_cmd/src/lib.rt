@@ -25,4 +25,4 @@ pub use finding::find;
 pub use options::{Options, SECTION_LIMIT};
 pub use section::{Next, Visitor, read_units};
 pub use strings::read_strings;
-pub use words::{Job, read_job, word_status};
+pub use words::{AddrWords, Job, read_job, word_status};

@@ -4,17 +4,17 @@ mod command_line;
 ghost use Rattle.std.specs.Prelude.{◌≡◌, Option, IfOk, map, option_map};
 ghost use Rattle.clap.specs.Words.{found_of, kind_of, rows_of, subcommand_of};
 ghost use Rattle.dl_cmd.specs.CommandLine.{command_line};
-ghost use Rattle.dl_cmd.specs.Job.{requested, request_of, request_made, word_status_of, text_of, byte_of, flag_of};
+ghost use Rattle.dl_cmd.specs.Job.{addr_words_of, addr_words_made, byte_of, flag_of, request_made, request_of, requested, text_of, texts_of, word_status_of};
 
 use clap::error::ErrorKind;
 use clap::{ArgMatches, Error};
 use command_line::make_command_line;
-use std::alloc::Global;
+use std::alloc::{AllocError, Global};
 
 /// What the program is to do. Paths and addresses are the words as they stand.
 ///
 /// Where the path of an ELF file is given, its words say neither an order nor the path of a string section.
-#[derive(Clone, Copy, Debug, PartialEq, Eq)]
+#[derive(Debug, Drop, PartialEq, Eq)]
 pub enum Job<'a> {
     /// Print all units.
     Dump {
@@ -47,6 +47,29 @@ pub enum Job<'a> {
         file: Option<&'a str>,
         big: bool,
     },
+    /// Print where addresses are in the source.
+    Addr(AddrWords<'a>),
+}
+
+/// The words of `addr`. A path `-` of an ELF file stands for a section on standard input.
+#[derive(Debug, Drop, PartialEq, Eq)]
+pub struct AddrWords<'a> {
+    pub file: Option<&'a str>,
+    /// The addresses; where there is none, they come on standard input.
+    pub addresses: Vec<&'a str>,
+    /// Digits without `0x` are hexadecimal too.
+    pub hex: bool,
+    /// What is subtracted from each address.
+    pub base: Option<&'a str>,
+    /// Each address is printed before its location.
+    pub with_addresses: bool,
+    /// Paths are printed by their last component alone.
+    pub basenames: bool,
+    /// Sequences that begin outside executable sections count too.
+    pub all: bool,
+    pub big: bool,
+    pub line_str: Option<&'a str>,
+    pub strings: Option<&'a str>,
 }
 
 fn text<'a>(matches: &ArgMatches<'a>, id: &str) -> Option<&'a str>
@@ -70,35 +93,67 @@ fn flag(matches: &ArgMatches<'_>, id: &str) -> bool
     }
 }
 
-fn job_of<'a>(name: &str, matches: &ArgMatches<'a>) -> Option<Job<'a>>
-    ensures { option_map request_made result
-        ≡ request_of name.now (rows_of (found_of matches.now)) }
+fn texts<'a>(alloc: Global, matches: &ArgMatches<'a>, id: &str) -> Result<Vec<&'a str>, AllocError>
+    ensures { IfOk result (λ v. map (λ s. s.now) v.items ≡ texts_of id.now (rows_of (found_of matches.now))) }
 {
-    match name {
-        "dump" => Some(Job::Dump {
+    match matches.get_strs(id) {
+        Some(found) => found.to_vec(alloc),
+        None => Ok(Vec::new(alloc)),
+    }
+}
+
+fn addr_words<'a>(alloc: Global, matches: &ArgMatches<'a>) -> Result<AddrWords<'a>, AllocError>
+    ensures { IfOk result (λ w. addr_words_made w ≡ addr_words_of (rows_of (found_of matches.now))) }
+{
+    Ok(AddrWords {
+        file: text(matches, "file"),
+        addresses: texts(alloc, matches, "address")?,
+        hex: flag(matches, "hex"),
+        base: text(matches, "base"),
+        with_addresses: flag(matches, "addresses"),
+        basenames: flag(matches, "basenames"),
+        all: flag(matches, "all"),
+        big: flag(matches, "big"),
+        line_str: text(matches, "line-str"),
+        strings: text(matches, "str"),
+    })
+}
+
+fn job_of<'a>(
+    alloc: Global,
+    name: &str,
+    matches: &ArgMatches<'a>,
+) -> Result<Option<Job<'a>>, AllocError>
+    ensures { IfOk result (λ job. option_map request_made job
+        ≡ request_of name.now (rows_of (found_of matches.now))) }
+{
+    let job = match name {
+        "addr" => Job::Addr(addr_words(alloc, matches)?),
+        "dump" => Job::Dump {
             file: text(matches, "file"),
             big: flag(matches, "big"),
             line_str: text(matches, "line-str"),
             strings: text(matches, "str"),
-        }),
-        "check" => Some(Job::Check {
+        },
+        "check" => Job::Check {
             file: text(matches, "file"),
             big: flag(matches, "big"),
-        }),
-        "find" => Some(Job::Find {
+        },
+        "find" => Job::Find {
             file: text(matches, "file"),
             big: flag(matches, "big"),
             address: text(matches, "address"),
             op: byte(matches, "op"),
             line_str: text(matches, "line-str"),
             strings: text(matches, "str"),
-        }),
-        "copy" => Some(Job::Copy {
+        },
+        "copy" => Job::Copy {
             file: text(matches, "file"),
             big: flag(matches, "big"),
-        }),
-        _ => None,
-    }
+        },
+        _ => return Ok(None),
+    };
+    Ok(Some(job))
 }
 
 /// The job that the words ask for, the program's name first.
@@ -110,7 +165,7 @@ pub fn read_job<'a>(alloc: Global, words: &'a [&'a str]) -> Result<Option<Job<'a
 {
     let matches = make_command_line(alloc)?.try_get_matches_from(words)?;
     match matches.subcommand() {
-        Some((name, inner)) => Ok(job_of(name, inner)),
+        Some((name, inner)) => Ok(job_of(alloc, name, inner)?),
         None => Ok(None),
     }
 }

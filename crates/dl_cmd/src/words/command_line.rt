@@ -1,7 +1,7 @@
 //! The command line: its subcommands and arguments, with their help.
 ghost use Rattle.std.specs.Prelude.{IfOk, [], ◌∷◌, codes};
 ghost use Rattle.clap.specs.Words.{App};
-ghost use Rattle.dl_cmd.specs.CommandLine.{Excludes, IsApp, IsRule, file_rule, line_str_rule, str_rule, big_rule, address_rule, op_rule, with_input, with_strings, dump_app, check_app, find_app, copy_app, command_line};
+ghost use Rattle.dl_cmd.specs.CommandLine.{Excludes, IsApp, IsRule, file_rule, line_str_rule, str_rule, big_rule, address_rule, op_rule, addr_file_rule, addresses_rule, base_rule, switch_rule, letter_rule, addr_app, with_addresses, with_input, with_strings, dump_app, check_app, find_app, copy_app, command_line};
 
 use clap::{Arg, ArgAction, Command};
 use std::alloc::{AllocError, Global};
@@ -80,6 +80,54 @@ fn op<'a>(alloc: Global) -> Arg<'a>
         .help("Operation within the instruction at ADDRESS, from 0 to 255")
 }
 
+/// The file of `addr`, which may be `-` beside `--big`, `--line-str` and `--str`.
+fn addr_file<'a>(alloc: Global) -> Arg<'a>
+    ensures { IsRule addr_file_rule result }
+{
+    Arg::new(alloc, "file")
+        .required(true)
+        .value_name("FILE")
+        .help("ELF file to read, or - for the bytes of a section .debug_line on standard input")
+}
+
+fn addresses<'a>(alloc: Global) -> Arg<'a>
+    ensures { IsRule addresses_rule result }
+{
+    Arg::new(alloc, "address")
+        .action(ArgAction::Append)
+        .value_name("ADDRESS")
+        .help(
+            "Addresses to look up: 0x and hexadecimal digits, or decimal digits; without one they \
+             are read from standard input, one a line",
+        )
+}
+
+fn base<'a>(alloc: Global) -> Arg<'a>
+    ensures { IsRule base_rule result }
+{
+    Arg::new(alloc, "base")
+        .long("base")
+        .value_name("ADDRESS")
+        .help("Load address, which is subtracted from each address first")
+}
+
+/// An option `--id` without a value.
+fn switch<'a>(alloc: Global, id: &'a str, help: &'a str) -> Arg<'a>
+    ensures { IsRule (switch_rule id.entry.now) result }
+{
+    Arg::new(alloc, id)
+        .long(id)
+        .action(ArgAction::SetTrue)
+        .help(help)
+}
+
+/// An option `--id`, or by its letter, without a value.
+fn letter<'a>(alloc: Global, id: &'a str, short: char, help: &'a str) -> Arg<'a>
+    ensures { IsRule (letter_rule id.entry.now short) result }
+{
+    switch(alloc, id, help).short(short)
+}
+
 fn add_input<'a>(alloc: Global, command: Command<'a>) -> Result<Command<'a>, AllocError>
     ensures { (a : App) → IsApp a command.entry → IfOk result (IsApp (with_input a)) }
 {
@@ -138,6 +186,37 @@ fn copy<'a>(alloc: Global) -> Result<Command<'a>, AllocError>
     add_input(alloc, command)
 }
 
+fn add_addresses<'a>(alloc: Global, command: Command<'a>) -> Result<Command<'a>, AllocError>
+    ensures { (a : App) → IsApp a command.entry → IfOk result (IsApp (with_addresses a)) }
+{
+    command
+        .arg(letter(alloc, "addresses", 'a', "Print each address before its location"))?
+        .arg(letter(alloc, "basenames", 's', "Print the last component of each path alone"))?
+        .arg(switch(alloc, "hex", "Read digits without 0x as hexadecimal too"))?
+        .arg(base(alloc))?
+        .arg(switch(
+            alloc,
+            "all",
+            "Look into sequences too that begin outside executable sections",
+        ))?
+        .arg(big(alloc))?
+        .arg(line_str(alloc))?
+        .arg(strings(alloc))?
+        .arg(addr_file(alloc))?
+        .arg(addresses(alloc))
+}
+
+fn addr<'a>(alloc: Global) -> Result<Command<'a>, AllocError>
+    ensures { IfOk result (IsApp addr_app) }
+{
+    let command = Command::new(alloc, "addr")
+        .about("Print path, line and column of each address")
+        .after_help(
+            "Examples:\n  dwline addr program 0x401136 0x40113a\n  dwline addr program < addresses",
+        );
+    add_addresses(alloc, command)
+}
+
 /// The whole command line.
 pub fn make_command_line<'a>(alloc: Global) -> Result<Command<'a>, AllocError>
     ensures { IfOk result (IsApp command_line) }
@@ -148,11 +227,12 @@ pub fn make_command_line<'a>(alloc: Global) -> Result<Command<'a>, AllocError>
              of a section .debug_line on standard input. What is asked for goes to standard output.",
         )
         .after_help(
-            "Examples:\n  dwline dump program\n  dwline find 0x401136 program\n  \
+            "Examples:\n  dwline addr program 0x401136\n  dwline dump program\n  \
              dwline dump --line-str debug_line_str < debug_line",
         )
         .version(VERSION)
         .subcommand_required(true)
+        .subcommand(addr(alloc)?)?
         .subcommand(dump(alloc)?)?
         .subcommand(check(alloc)?)?
         .subcommand(find(alloc)?)?
