@@ -5,14 +5,14 @@ use Rattle.dl_num.specs.declared.fixed.Order.{Order}
 use Rattle.dl_cmd.specs.declared.checking.Checker.{Checker}
 use Rattle.dl_cmd.specs.declared.fault.RunFault.{RunFault}
 use Rattle.dl_cmd.specs.declared.fault.RunFault.TheVariants as fault
-use Rattle.dl_cmd.specs.declared.summary.Summary.{Summary}
+use Rattle.dl_print.specs.declared.summary.Summary.{Summary}
 use Rattle.dl_cmd.specs.Checking.{check_story}
 use Rattle.dl_cmd.specs.Commands.{Checks}
-use Rattle.dl_cmd.specs.Output.{TellsOut}
+use Rattle.dl_cmd.specs.RunOutput.{TellsOut}
 use Rattle.dl_cmd.specs.Section.{EndsAs}
-use Rattle.dl_cmd.specs.Text.{summary_line}
+use Rattle.dl_print.specs.Text.{summary_line}
 use Rattle.dl_cmd.specs.Visiting.{Ran}
-use Rattle.dl_cmd.proofs.Outs.{keeps_by_nothing}
+use Rattle.dl_print.proofs.Outs.{keeps_by_nothing}
 
 module _ (order : Order) (limit : ℕ) (bytes : List ℕ) (left : Option (List ℕ)) (first new : Checker) (start mid now : Option (List ℕ)) where
   -- the section is units to its end, and nothing is written yet

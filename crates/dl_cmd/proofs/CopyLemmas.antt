@@ -6,8 +6,8 @@ use Rattle.dl_num.specs.declared.fixed.Order.{Order}
 use Rattle.dl_head.specs.TableData.{HeaderData}
 use Rattle.dl_rows.specs.declared.row.Row.{Row}
 use Rattle.dl_emit.specs.WrittenUnit.{unit_of, refusal}
-use Rattle.dl_cmd.specs.Printed.{Printed}
-use Rattle.dl_cmd.specs.Output.{HasPrinted, Prints}
+use Rattle.dl_print.specs.Printed.{Printed}
+use Rattle.dl_print.specs.Output.{HasPrinted, Prints}
 use Rattle.dl_cmd.specs.UnitPrinted.{PrintsUnit}
 use Rattle.dl_cmd.specs.declared.fault.RunFault.{RunFault}
 use Rattle.dl_cmd.specs.declared.fault.RunFault.TheVariants.{Damage, NoMemory, Read, Write, SectionTooLong, NotFound, ForeignUnit, Emit}

@@ -23,17 +23,18 @@ use Rattle.dl_emit.specs.WrittenUnit.{unit_of, refusal}
 use Rattle.dl_cmd.specs.declared.copying.Copier.{Copier}
 use Rattle.dl_cmd.specs.declared.fault.RunFault.{RunFault}
 use Rattle.dl_cmd.specs.declared.fault.RunFault.TheVariants as fault
-use Rattle.dl_cmd.specs.declared.summary.Summary.{Summary}
+use Rattle.dl_print.specs.declared.summary.Summary.{Summary}
 use Rattle.dl_cmd.specs.Commands.{Copies, HasCopied, AreCopied, copied_unit, copied_units}
 use Rattle.dl_cmd.specs.UnitPrinted.{PrintsUnit}
 use Rattle.dl_cmd.specs.Copying.{Copying, IsGrowth, StopsAt, offset_after, end_stop, stop_after, end_text, text_after, copy_story}
-use Rattle.dl_cmd.specs.Output.{HasPrinted, TellsOut}
-use Rattle.dl_cmd.specs.Printed.{Printed}
+use Rattle.dl_print.specs.Output.{HasPrinted}
+use Rattle.dl_cmd.specs.RunOutput.{TellsOut}
+use Rattle.dl_print.specs.Printed.{Printed}
 use Rattle.dl_cmd.specs.RowsTold.{rows_after}
 use Rattle.dl_cmd.specs.Section.{Visit, of_header, of_version, of_row, of_open, of_end, HasUnits, HasBegun, header_of, event_visits, visits, open_visit, units_visits, section_visits}
 use Rattle.dl_cmd.specs.Visiting.{Ran, Settled, StopsIn, VisitorStops}
 use Rattle.dl_cmd.proofs.Fronts.{or_assoc, none_is_some, value_same, neither, map_none, fronts_of, empty_both}
-use Rattle.dl_cmd.proofs.Outs.{HasPrinted-nothing}
+use Rattle.dl_print.proofs.Outs.{HasPrinted-nothing}
 use Rattle.dl_cmd.proofs.RangeLemmas.{too_long}
 use Rattle.dl_cmd.proofs.SectionLemmas.{has_front}
 use Rattle.dl_cmd.proofs.VisitLemmas.{rows_after-append}

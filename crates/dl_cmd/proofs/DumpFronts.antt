@@ -35,14 +35,14 @@ use Rattle.dl_rows.proofs.UnitFaults.{refused_in_program}
 use Rattle.dl_rows.proofs.UnitKnown.{foreign_known}
 use Rattle.dl_rows.proofs.UnitLemmas.{header_on, refused_in_header, unit_len_on}
 use Rattle.dl_cmd.specs.declared.fault.RunFault.TheVariants as fault
-use Rattle.dl_cmd.specs.Output.{TellsOut}
+use Rattle.dl_cmd.specs.RunOutput.{TellsOut}
 use Rattle.dl_cmd.specs.Section.{Visit, HasBegun, NoUnitBegins, units_visits, visits, section_visits}
 use Rattle.dl_cmd.specs.SectionLaws.{IsOfBytes, DumpIsFront}
 use Rattle.dl_cmd.specs.SectionText.{visit_text, visits_text, section_text}
 use Rattle.dl_cmd.proofs.EventLemmas.{visits_grow}
 use Rattle.dl_cmd.proofs.Fronts.{none_is_some}
 use Rattle.dl_cmd.proofs.OneAnswers.{dumped}
-use Rattle.dl_cmd.proofs.Outs.{tells_more}
+use Rattle.dl_cmd.proofs.OutLemmas.{TellsOut-more}
 use Rattle.dl_cmd.proofs.SectionCuts.{one_front}
 use Rattle.dl_cmd.proofs.SectionGrowth.{own, foreign_on, longer_front, begun_unit, told, from_zero, Stops, stops}
 
@@ -186,6 +186,6 @@ dump_is_front order strings limit bytes left left2 start start2 now now2 out res
     let text : section_text order strings d2.units d2.b ≡ section_text order strings units b ++ visits_text strings more.0 =
     ap (visits_text strings) more.1 ∙ flat_map-append (visit_text strings) (section_visits order units b) more.0 in (
       section_text order strings d2.units d2.b,
-      subst (λ (l : List ℕ). TellsOut start now l (fault.Write out)) (sym text) (tells_more start now (section_text order strings units b) (visits_text strings more.0) out tells),
+      subst (λ (l : List ℕ). TellsOut start now l (fault.Write out)) (sym text) (TellsOut-more start now (section_text order strings units b) (visits_text strings more.0) (fault.Write out) tells),
       d2.out,
     )

@@ -6,15 +6,16 @@ use Rattle.dl_num.specs.declared.fixed.Order.{Order}
 use Rattle.dl_cmd.specs.declared.dumping.Dumper.{Dumper}
 use Rattle.dl_cmd.specs.declared.fault.RunFault.{RunFault}
 use Rattle.dl_cmd.specs.declared.fault.RunFault.TheVariants as fault
-use Rattle.dl_cmd.specs.declared.summary.Summary.{Summary}
+use Rattle.dl_print.specs.declared.summary.Summary.{Summary}
 use Rattle.dl_cmd.specs.Commands.{Dumps}
 use Rattle.dl_cmd.specs.Dumping.{HasDumped, dump_story}
-use Rattle.dl_cmd.specs.Output.{HasPrinted, TellsOut}
+use Rattle.dl_print.specs.Output.{HasPrinted}
+use Rattle.dl_cmd.specs.RunOutput.{TellsOut}
 use Rattle.dl_cmd.specs.Section.{Visit, section_visits}
 use Rattle.dl_cmd.specs.SectionText.{visit_text, visits_text}
-use Rattle.dl_cmd.specs.ValueText.{Strings, strings_of}
+use Rattle.dl_print.specs.ValueText.{Strings, strings_of}
 use Rattle.dl_cmd.specs.Visiting.{StopsIn, Ran}
-use Rattle.dl_cmd.proofs.Outs.{TellsOut-more}
+use Rattle.dl_cmd.proofs.OutLemmas.{TellsOut-more}
 
 text-push : (s : Strings) (visits : List Visit) (v : Visit) → visits_text s (visits ++ v ∷ []) ≡ visits_text s visits ++ visit_text s v
 text-push s visits v = flat_map-append (visit_text s) visits (v ∷ []) ∙ ap (λ (l : List ℕ). visits_text s visits ++ l) (append-nil (visit_text s v))

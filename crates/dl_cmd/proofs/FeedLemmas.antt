@@ -21,7 +21,7 @@ use Rattle.dl_cmd.specs.declared.fault.RunFault.TheVariants as fault
 use Rattle.dl_cmd.specs.declared.section.Next.{Next}
 use Rattle.dl_cmd.specs.declared.section.Next.TheVariants as next
 use Rattle.dl_cmd.specs.declared.section.Units.{Units}
-use Rattle.dl_cmd.specs.Counts.{add}
+use Rattle.dl_print.specs.Counts.{add}
 use Rattle.dl_cmd.specs.Section.{Visit, of_row, HasUnits, HasBegun, AddsCell, header_of, event_visits, visits, units_visits, end_visits, section_visits}
 use Rattle.dl_cmd.specs.Told.{RowsOf, StopsAtRow}
 use Rattle.dl_cmd.specs.Visiting.{Story, StopsIn, GoesOn, UnitsAre, counted, UnitsFed}

@@ -18,21 +18,22 @@ use Rattle.dl_look.specs.Answer.{answer}
 use Rattle.dl_look.specs.FinderRows.{StandsFor}
 use Rattle.dl_cmd.specs.declared.fault.RunFault.{RunFault}
 use Rattle.dl_cmd.specs.declared.fault.RunFault.TheVariants as fault
-use Rattle.dl_cmd.specs.declared.summary.Summary.{Summary}
+use Rattle.dl_print.specs.declared.summary.Summary.{Summary}
 use Rattle.dl_cmd.specs.Commands.{Finds, IsFound, NoneAnswers, found_text}
 use Rattle.dl_cmd.specs.declared.finding.Seeker.{Seeker}
 use Rattle.dl_cmd.specs.declared.section.Next.{Next}
 use Rattle.dl_cmd.specs.declared.section.Next.TheVariants as next
 use Rattle.dl_cmd.specs.Finding.{answer_under, found_after, text_found, SeeksOn, Seeks, HasFound, find_story}
-use Rattle.dl_cmd.specs.Output.{Flushes, HasPrinted, TellsOut}
-use Rattle.dl_cmd.specs.Printed.{Printed}
+use Rattle.dl_print.specs.Output.{Flushes, HasPrinted}
+use Rattle.dl_cmd.specs.RunOutput.{TellsOut}
+use Rattle.dl_print.specs.Printed.{Printed}
 use Rattle.dl_cmd.specs.RowsTold.{rows_after}
 use Rattle.dl_cmd.specs.Section.{Visit, EndsAs, of_header, of_version, of_row, of_open, of_end, HasUnits, HasBegun, header_of, header_visit, event_visits, visits, open_visit, end_visits, unit_visits, units_visits, section_visits, summary_of}
-use Rattle.dl_cmd.specs.ValueText.{Strings, strings_of}
+use Rattle.dl_print.specs.ValueText.{Strings, strings_of}
 use Rattle.dl_cmd.specs.Visiting.{GoesOn, Ran, Settled, Stopped, VisitorStops, rows_told}
 use Rattle.dl_cmd.proofs.EventLemmas.{rows_of_events}
 use Rattle.dl_cmd.proofs.Fronts.{or_assoc, or_none, none_is_some, value_same, neither, map_none}
-use Rattle.dl_cmd.proofs.Outs.{HasPrinted-out, HasPrinted-nothing, keeps_by_nothing}
+use Rattle.dl_print.proofs.Outs.{HasPrinted-out, HasPrinted-nothing, keeps_by_nothing}
 use Rattle.dl_cmd.proofs.SectionLemmas.{section_visits-push, has_front}
 use Rattle.dl_cmd.proofs.VisitLemmas.{rows_after-append}
 

@@ -1,9 +1,3 @@
-pub mod DecimalLemmas
-pub mod HexadecimalLemmas
-pub mod Outs
-pub mod Pieces
-pub mod HeaderLemmas
-pub mod StringLemmas
 pub mod CopyLemmas
 pub mod CommandLineLemmas
 pub mod AddressLemmas

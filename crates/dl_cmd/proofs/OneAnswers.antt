@@ -10,12 +10,12 @@ use Rattle.dl_look.specs.declared.place.Place.{Place}
 use Rattle.dl_look.specs.Answer.{answer}
 use Rattle.dl_cmd.specs.declared.fault.RunFault.{RunFault}
 use Rattle.dl_cmd.specs.declared.fault.RunFault.TheVariants as fault
-use Rattle.dl_cmd.specs.declared.summary.Summary.{Summary}
+use Rattle.dl_print.specs.declared.summary.Summary.{Summary}
 use Rattle.dl_cmd.specs.Commands.{Checks, Dumps, NoneAnswers, IsFound, Finds}
 use Rattle.dl_cmd.specs.Section.{NoUnitBegins, EndsAs, header_of, summary_of}
 use Rattle.dl_cmd.specs.SectionLaws.{IsOfBytes, OneChecking, OneFound, OneFinding, OneDumping, OneDump}
 use Rattle.dl_cmd.specs.SectionText.{section_text}
-use Rattle.dl_cmd.specs.ValueText.{Strings}
+use Rattle.dl_print.specs.ValueText.{Strings}
 use Rattle.dl_cmd.proofs.SectionCuts.{one_front, one_end, ended}
 
 -- ---- `check`

@@ -21,13 +21,13 @@ use Rattle.dl_emit.specs.declared.fault.EmitFault.TheVariants.{TooLong}
 use Rattle.dl_emit.specs.WrittenUnit.{refusal}
 use Rattle.dl_cmd.specs.declared.fault.RunFault.{RunFault}
 use Rattle.dl_cmd.specs.declared.fault.RunFault.TheVariants as fault
-use Rattle.dl_cmd.specs.declared.summary.Summary.{Summary}
+use Rattle.dl_print.specs.declared.summary.Summary.{Summary}
 use Rattle.dl_cmd.specs.Commands.{IsCopied, AreCopied, Copies, copied_unit, copied_units}
-use Rattle.dl_cmd.specs.Output.{TellsOut}
+use Rattle.dl_cmd.specs.RunOutput.{TellsOut}
 use Rattle.dl_cmd.specs.Section.{HasUnits, EndsAs, header_of}
 use Rattle.dl_cmd.specs.SectionLaws.{IsOfBytes, OneCopying, OneCopy, CopyIsFront}
 use Rattle.dl_cmd.proofs.Fronts.{none_is_some, value_same}
-use Rattle.dl_cmd.proofs.Outs.{tells_more}
+use Rattle.dl_cmd.proofs.OutLemmas.{TellsOut-more}
 use Rattle.dl_cmd.proofs.SectionCuts.{one_front, one_end, Ending, is_whole, is_refused, is_short, is_long, ended}
 use Rattle.dl_cmd.proofs.SectionGrowth.{foreign_on}
 use Rattle.dl_cmd.proofs.SectionLemmas.{has_front}
@@ -232,6 +232,6 @@ copy_is_front order limit bytes left left2 start start2 now now2 out result2 of2
     let fewer = fewer_copies order units c2.units back c2.w has.each c2.has.each copied (no_copy order limit bytes left2 c2.units c2.w result2 c2.how) (sym has.whole ∙ c2.has.whole) in
     let text : copied_units order c2.units ≡ copied_units order units ++ copied_units order fewer.0 = ap (copied_units order) fewer.1 ∙ copied_units-append order units fewer.0 in (
       copied_units order c2.units,
-      subst (λ (l : List ℕ). TellsOut start now l (fault.Write out)) (sym text) (tells_more start now (copied_units order units) (copied_units order fewer.0) out tells),
+      subst (λ (l : List ℕ). TellsOut start now l (fault.Write out)) (sym text) (TellsOut-more start now (copied_units order units) (copied_units order fewer.0) (fault.Write out) tells),
       c2.out,
     )

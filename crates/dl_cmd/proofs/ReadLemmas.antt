@@ -11,7 +11,7 @@ use Rattle.dl_cmd.specs.declared.fault.RunFault.TheVariants as fault
 use Rattle.dl_cmd.specs.declared.section.Next.{Next}
 use Rattle.dl_cmd.specs.declared.section.Next.TheVariants as next
 use Rattle.dl_cmd.specs.declared.section.Units.{Units}
-use Rattle.dl_cmd.specs.declared.summary.Summary.{Summary}
+use Rattle.dl_print.specs.declared.summary.Summary.{Summary}
 use Rattle.dl_cmd.specs.Section.{HasUnits, HasBegun, NoUnitBegins, EndsAs, section_visits}
 use Rattle.dl_cmd.specs.Visiting.{Story, UnitsAre, ReaderStops, VisitorStops, Settled, Worked, Finishes, Ran}
 

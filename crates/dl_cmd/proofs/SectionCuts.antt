@@ -13,7 +13,7 @@ use Rattle.dl_rows.proofs.UnitLengths.{no_unit_begins_another}
 use Rattle.dl_rows.proofs.UnitLaws.{one_refusal}
 use Rattle.dl_cmd.specs.declared.fault.RunFault.{RunFault}
 use Rattle.dl_cmd.specs.declared.fault.RunFault.TheVariants as fault
-use Rattle.dl_cmd.specs.declared.summary.Summary.{Summary}
+use Rattle.dl_print.specs.declared.summary.Summary.{Summary}
 use Rattle.dl_cmd.specs.Section.{HasUnits, NoUnitBegins, EndsAs, summary_of}
 use Rattle.dl_cmd.specs.SectionLaws.{OneCut, IsOfBytes, OneEnd}
 use Rattle.dl_cmd.proofs.SectionLemmas.{none_begins, none_refused}

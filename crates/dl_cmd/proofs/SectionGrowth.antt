@@ -37,7 +37,7 @@ use Rattle.dl_rows.proofs.UnitLaws.{one_refusal}
 use Rattle.dl_rows.proofs.UnitWhole.{unit_unless_refused}
 use Rattle.dl_cmd.specs.declared.fault.RunFault.{RunFault}
 use Rattle.dl_cmd.specs.declared.fault.RunFault.TheVariants as fault
-use Rattle.dl_cmd.specs.declared.summary.Summary.{Summary}
+use Rattle.dl_print.specs.declared.summary.Summary.{Summary}
 use Rattle.dl_cmd.specs.Section.{Visit, HasUnits, NoUnitBegins, EndsAs, event_visits, header_of, visits, end_visits, unit_visits, units_visits, section_visits}
 use Rattle.dl_cmd.specs.SectionLaws.{MoreIsTold}
 use Rattle.dl_cmd.proofs.EventLemmas.{visits_grow}

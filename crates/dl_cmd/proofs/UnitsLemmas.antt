@@ -20,8 +20,8 @@ use Rattle.dl_rows.proofs.ReaderLemmas.{within_here}
 use Rattle.dl_cmd.specs.declared.fault.RunFault.{RunFault}
 use Rattle.dl_cmd.specs.declared.fault.RunFault.TheVariants as fault
 use Rattle.dl_cmd.specs.declared.section.Units.{Units}
-use Rattle.dl_cmd.specs.declared.summary.Summary.{Summary}
-use Rattle.dl_cmd.specs.Counts.{add, with_unit}
+use Rattle.dl_print.specs.declared.summary.Summary.{Summary}
+use Rattle.dl_print.specs.Counts.{add, with_unit}
 use Rattle.dl_cmd.specs.Section.{HasUnits, NoUnitBegins, header_of, summary_of}
 use Rattle.dl_cmd.specs.Visiting.{UnitsAre}
 use Rattle.dl_cmd.proofs.EventLemmas.{rows_of_events, foreign_of_events}

@@ -8,7 +8,7 @@ use Rattle.dl_cmd.specs.declared.fault.RunFault.TheVariants as fault
 use Rattle.dl_cmd.specs.declared.section.Next.{Next}
 use Rattle.dl_cmd.specs.declared.section.Next.TheVariants as next
 use Rattle.dl_cmd.specs.declared.section.Units.{Units}
-use Rattle.dl_cmd.specs.Output.{TellsOut}
+use Rattle.dl_cmd.specs.RunOutput.{TellsOut}
 use Rattle.dl_cmd.specs.Section.{Visit, HasUnits, HasBegun, section_visits}
 use Rattle.dl_cmd.proofs.UnitsLemmas.{within_unit}
 use Rattle.dl_cmd.specs.Visiting.{Story, HasReason, GoesOn, Settled, VisitorStops, UnitsFed, ReaderStops, Worked, is_failed_write}

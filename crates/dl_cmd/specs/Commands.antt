@@ -18,13 +18,13 @@ use Rattle.dl_emit.specs.WrittenUnit.{unit_of, refusal}
 use Rattle.dl_cmd.specs.declared.fault.RunFault.{RunFault}
 use Rattle.dl_cmd.specs.declared.fault.RunFault.TheVariants as fault
 use Rattle.dl_cmd.specs.declared.options.Options.{Options}
-use Rattle.dl_cmd.specs.declared.summary.Summary.{Summary}
-use Rattle.dl_cmd.specs.Output.{TellsOut}
+use Rattle.dl_print.specs.declared.summary.Summary.{Summary}
+use Rattle.dl_cmd.specs.RunOutput.{TellsOut}
 use Rattle.dl_cmd.specs.Section.{HasUnits, HasBegun, AddsCell, EndsAs, header_of, summary_of}
 use Rattle.dl_cmd.specs.SectionText.{section_text}
-use Rattle.dl_cmd.specs.Text.{row_line, summary_line}
-use Rattle.dl_cmd.specs.ValueText.{Strings}
-use Rattle.dl_cmd.specs.HeaderText.{file_text}
+use Rattle.dl_print.specs.Text.{row_line, summary_line}
+use Rattle.dl_print.specs.ValueText.{Strings}
+use Rattle.dl_print.specs.HeaderText.{file_text}
 
 -- the string sections that the options hand in
 abbrev pub strings_in : Options → Strings

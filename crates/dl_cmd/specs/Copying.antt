@@ -9,7 +9,7 @@ use Rattle.dl_emit.specs.WrittenUnit.{unit_of, refusal}
 use Rattle.dl_cmd.specs.declared.copying.Copier.{Copier}
 use Rattle.dl_cmd.specs.declared.fault.RunFault.{RunFault}
 use Rattle.dl_cmd.specs.declared.fault.RunFault.TheVariants as fault
-use Rattle.dl_cmd.specs.Output.{HasPrinted}
+use Rattle.dl_print.specs.Output.{HasPrinted}
 use Rattle.dl_cmd.specs.RowsTold.{rows_after}
 use Rattle.dl_cmd.specs.Section.{Visit, of_header, of_version, of_row, of_end}
 use Rattle.dl_cmd.specs.Visiting.{Story}

@@ -1,10 +1,10 @@
 -- What `dump` is told and prints. No promise rests on this file.
 use Rattle.std.specs.Prelude.{◌≡◌, ℕ, List, Option}
 use Rattle.dl_cmd.specs.declared.dumping.Dumper.{Dumper}
-use Rattle.dl_cmd.specs.Output.{HasPrinted}
+use Rattle.dl_print.specs.Output.{HasPrinted}
 use Rattle.dl_cmd.specs.Section.{Visit}
 use Rattle.dl_cmd.specs.SectionText.{visits_text}
-use Rattle.dl_cmd.specs.ValueText.{strings_of}
+use Rattle.dl_print.specs.ValueText.{strings_of}
 use Rattle.dl_cmd.specs.Visiting.{Story}
 
 -- the text of the visits is printed, with the same string sections

@@ -8,10 +8,10 @@ use Rattle.dl_look.specs.Answer.{answer}
 use Rattle.dl_look.specs.FinderRows.{StandsFor}
 use Rattle.dl_cmd.specs.declared.finding.Seeker.{Seeker}
 use Rattle.dl_cmd.specs.Commands.{found_text}
-use Rattle.dl_cmd.specs.Output.{HasPrinted}
+use Rattle.dl_print.specs.Output.{HasPrinted}
 use Rattle.dl_cmd.specs.RowsTold.{rows_after}
 use Rattle.dl_cmd.specs.Section.{Visit, of_row, of_end}
-use Rattle.dl_cmd.specs.ValueText.{Strings, strings_of}
+use Rattle.dl_print.specs.ValueText.{Strings, strings_of}
 use Rattle.dl_cmd.specs.Visiting.{Story}
 
 -- ---- what visits give

@@ -1,10 +1,4 @@
-pub mod Digits
 pub mod RunText
-pub mod Text
-pub mod ValueText
-pub mod HeaderText
-pub mod Printed
-pub mod Output
 pub mod UnitPrinted
 pub mod Strings
 pub mod CommandLine
@@ -12,7 +6,6 @@ pub mod Job
 pub mod Address
 pub mod Section
 pub mod SectionLaws
-pub mod Counts
 pub mod Visiting
 pub mod Told
 pub mod SectionText

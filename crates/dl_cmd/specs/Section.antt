@@ -18,7 +18,7 @@ use Rattle.dl_rows.specs.Refusal.{Refused}
 use Rattle.dl_rows.specs.Runs.{Sound}
 use Rattle.dl_cmd.specs.declared.fault.RunFault.{RunFault}
 use Rattle.dl_cmd.specs.declared.fault.RunFault.TheVariants as fault
-use Rattle.dl_cmd.specs.declared.summary.Summary.{Summary}
+use Rattle.dl_print.specs.declared.summary.Summary.{Summary}
 
 -- s is units one behind the other, and then other bytes
 pub record HasUnits (order : Order) (s : List ℕ) (units : List (List ℕ)) (rest : List ℕ) : Type 0 where

@@ -7,10 +7,10 @@ use Rattle.dl_rows.specs.declared.row.Row.{Row}
 use Rattle.dl_look.specs.declared.place.Place.{Place}
 use Rattle.dl_cmd.specs.declared.fault.RunFault.{RunFault}
 use Rattle.dl_cmd.specs.declared.fault.RunFault.TheVariants as fault
-use Rattle.dl_cmd.specs.declared.summary.Summary.{Summary}
+use Rattle.dl_print.specs.declared.summary.Summary.{Summary}
 use Rattle.dl_cmd.specs.Commands.{Checks, Dumps, IsFound, Finds, Copies}
-use Rattle.dl_cmd.specs.Output.{TellsOut}
-use Rattle.dl_cmd.specs.ValueText.{Strings}
+use Rattle.dl_cmd.specs.RunOutput.{TellsOut}
+use Rattle.dl_print.specs.ValueText.{Strings}
 use Rattle.dl_cmd.specs.Section.{Visit, HasUnits, NoUnitBegins, EndsAs, section_visits}
 
 -- bytes are cut into units, up to bytes that no unit begins, in one way alone

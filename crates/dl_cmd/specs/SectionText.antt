@@ -2,9 +2,9 @@
 use Rattle.std.specs.Prelude.{ℕ, List, [], flat_map}
 use Rattle.dl_num.specs.declared.fixed.Order.{Order}
 use Rattle.dl_cmd.specs.Section.{Visit, of_header, of_version, of_row, of_open, of_end, section_visits}
-use Rattle.dl_cmd.specs.Text.{row_line, foreign_line, open_line}
-use Rattle.dl_cmd.specs.ValueText.{Strings}
-use Rattle.dl_cmd.specs.HeaderText.{header_text}
+use Rattle.dl_print.specs.Text.{row_line, foreign_line, open_line}
+use Rattle.dl_print.specs.ValueText.{Strings}
+use Rattle.dl_print.specs.HeaderText.{header_text}
 
 abbrev pub visit_text : Strings → Visit → List ℕ
 visit_text strings (of_header offset h) = header_text strings offset h

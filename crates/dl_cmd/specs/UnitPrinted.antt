@@ -4,8 +4,9 @@ use Rattle.dl_num.specs.declared.fixed.Order.{Order}
 use Rattle.dl_head.specs.TableData.{HeaderData}
 use Rattle.dl_rows.specs.declared.row.Row.{Row}
 use Rattle.dl_emit.specs.WrittenUnit.{unit_of, refusal}
-use Rattle.dl_cmd.specs.Printed.{Printed}
-use Rattle.dl_cmd.specs.Output.{HasPrinted, TellsOut, PrintsMore}
+use Rattle.dl_print.specs.Printed.{Printed}
+use Rattle.dl_print.specs.Output.{HasPrinted, PrintsMore}
+use Rattle.dl_cmd.specs.RunOutput.{TellsOut}
 use Rattle.dl_cmd.specs.declared.fault.RunFault.{RunFault}
 use Rattle.dl_cmd.specs.declared.fault.RunFault.TheVariants.{NoMemory, Write, Emit}
 

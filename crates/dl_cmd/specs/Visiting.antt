@@ -15,10 +15,10 @@ use Rattle.dl_cmd.specs.declared.fault.RunFault.TheVariants as fault
 use Rattle.dl_cmd.specs.declared.section.Next.{Next}
 use Rattle.dl_cmd.specs.declared.section.Next.TheVariants as next
 use Rattle.dl_cmd.specs.declared.section.Units.{Units}
-use Rattle.dl_cmd.specs.declared.summary.Summary.{Summary}
+use Rattle.dl_print.specs.declared.summary.Summary.{Summary}
 use Rattle.dl_head.specs.declared.fault.FaultKind.TheVariants.{Truncated}
-use Rattle.dl_cmd.specs.Output.{TellsOut}
-use Rattle.dl_cmd.specs.Counts.{add}
+use Rattle.dl_cmd.specs.RunOutput.{TellsOut}
+use Rattle.dl_print.specs.Counts.{add}
 use Rattle.dl_cmd.specs.Section.{Visit, HasUnits, HasBegun, NoUnitBegins, AddsCell, EndsAs, section_visits, summary_of}
 
 -- What is said of a visitor. The first of two visitors is the one at the beginning, the first of two lists what the writer held then.

@@ -6,10 +6,9 @@ ghost use Rattle.dl_cmd.specs.Commands.{Checks};
 
 use crate::fault::RunFault;
 use crate::options::{Options, SECTION_LIMIT};
-use crate::output::Printer;
 use crate::section::{Next, Visitor, read_units};
-use crate::summary::Summary;
 use dl_head::Header;
+use dl_print::{Printer, Summary};
 use dl_rows::Row;
 use std::alloc::Global;
 use std::io::{Read, Write};

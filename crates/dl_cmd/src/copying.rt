@@ -7,12 +7,11 @@ ghost use Rattle.dl_cmd.specs.UnitPrinted.{PrintsUnit};
 
 use crate::fault::RunFault;
 use crate::options::{Options, SECTION_LIMIT};
-use crate::output::Printer;
 use crate::section::{Next, Visitor, read_units};
-use crate::summary::Summary;
 use dl_emit::{EmitFault, write_unit};
 use dl_head::Header;
 use dl_num::Order;
+use dl_print::{Printer, Summary};
 use dl_rows::Row;
 use std::alloc::Global;
 use std::io::{Read, Write};
@@ -65,7 +64,7 @@ impl<W: Write> Visitor<W> for Copier {
     }
 
     fn settle(&mut self, output: &mut W) -> Result<(), RunFault> {
-        self.printer.flush(output)
+        Ok(self.printer.flush(output)?)
     }
 }
 
@@ -81,7 +80,7 @@ impl Copier {
     {
         self.bytes.clear();
         match write_unit(&mut self.bytes, self.order, header, self.rows.as_slice()) {
-            Ok(_) => self.printer.put(output, self.bytes.as_slice()),
+            Ok(_) => Ok(self.printer.put(output, self.bytes.as_slice())?),
             Err(EmitFault::Write { .. }) => Err(RunFault::NoMemory),
             Err(fault) => Err(RunFault::Emit {
                 unit: self.unit,

@@ -6,10 +6,9 @@ ghost use Rattle.dl_cmd.specs.Commands.{Dumps, strings_in};
 
 use crate::fault::RunFault;
 use crate::options::{Options, SECTION_LIMIT};
-use crate::output::{Printer, StringSections};
 use crate::section::{Next, Visitor, read_units};
-use crate::summary::Summary;
 use dl_head::Header;
+use dl_print::{Printer, StringSections, Summary};
 use dl_rows::Row;
 use std::alloc::Global;
 use std::io::{Read, Write};
@@ -27,20 +26,20 @@ impl<W: Write> Visitor<W> for Dumper<'_> {
     ghost story = { dump_story };
 
     fn header(&mut self, output: &mut W, offset: u64, header: &Header) -> Result<(), RunFault> {
-        self.printer.header(output, &self.strings, offset, header)
+        Ok(self.printer.header(output, &self.strings, offset, header)?)
     }
 
     fn foreign(&mut self, output: &mut W, offset: u64, version: u16) -> Result<(), RunFault> {
-        self.printer.foreign_unit(output, offset, version)
+        Ok(self.printer.foreign_unit(output, offset, version)?)
     }
 
     #[inline]
     fn row(&mut self, output: &mut W, row: &Row) -> Result<(), RunFault> {
-        self.printer.row(output, row)
+        Ok(self.printer.row(output, row)?)
     }
 
     fn open(&mut self, output: &mut W) -> Result<(), RunFault> {
-        self.printer.open_sequence(output)
+        Ok(self.printer.open_sequence(output)?)
     }
 
     fn end(&mut self, _output: &mut W, _header: Option<Header>) -> Result<Next, RunFault> {
@@ -48,7 +47,7 @@ impl<W: Write> Visitor<W> for Dumper<'_> {
     }
 
     fn settle(&mut self, output: &mut W) -> Result<(), RunFault> {
-        self.printer.flush(output)
+        Ok(self.printer.flush(output)?)
     }
 }
 
@@ -67,7 +66,7 @@ pub fn dump<R: Read, W: Write>(
         × Dumps options.now.order (strings_in options.now) options.now.limit bs
         (R.remaining input.new) (W.contents output.old) (W.contents output.new) result }
 {
-    let strings = StringSections::new(options);
+    let strings = StringSections::new(options.debug_line_str, options.debug_str);
     let mut dumper = Dumper {
         printer: Printer::new(),
         strings,

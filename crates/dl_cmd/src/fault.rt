@@ -2,6 +2,7 @@
 
 use dl_emit::EmitFault;
 use dl_head::FaultKind;
+use dl_print::WriteFault;
 use std::fmt;
 
 /// The first fault that a command met.
@@ -65,5 +66,16 @@ impl fmt::Display for RunFault {
                 write!(f, "cannot write unit 0x{unit:x}: unit too long")
             }
         }
+    }
+}
+
+impl From<WriteFault> for RunFault {
+    ghost use Rattle.std.specs.Prelude.{◌≡◌};
+    ghost use Rattle.dl_cmd.specs.declared.fault.RunFault.TheVariants.{Write};
+
+    ghost from_gives = { λ lost fault. fault ≡ Write lost.out };
+
+    fn from(fault: WriteFault) -> RunFault {
+        RunFault::Write { out: fault.out }
     }
 }

@@ -6,11 +6,10 @@ ghost use Rattle.dl_cmd.specs.Commands.{Finds, strings_in};
 
 use crate::fault::RunFault;
 use crate::options::{Options, SECTION_LIMIT};
-use crate::output::{Printer, StringSections};
 use crate::section::{Next, Visitor, read_units};
-use crate::summary::Summary;
 use dl_head::Header;
 use dl_look::{Finder, Place};
+use dl_print::{Printer, StringSections, Summary};
 use dl_rows::Row;
 use std::alloc::Global;
 use std::io::{Read, Write};
@@ -63,7 +62,7 @@ impl<W: Write> Visitor<W> for Seeker<'_> {
     }
 
     fn settle(&mut self, output: &mut W) -> Result<(), RunFault> {
-        self.printer.flush(output)
+        Ok(self.printer.flush(output)?)
     }
 }
 
@@ -86,7 +85,7 @@ pub fn find<R: Read, W: Write>(
         × Finds options.now.order (strings_in options.now) place options.now.limit bs
         (R.remaining input.new) (W.contents output.old) (W.contents output.new) result }
 {
-    let strings = StringSections::new(options);
+    let strings = StringSections::new(options.debug_line_str, options.debug_str);
     let mut seeker = Seeker {
         printer: Printer::new(),
         strings,

@@ -6,8 +6,8 @@ use Rattle.dl_num.specs.declared.fixed.Order.{Order}
 use Rattle.dl_elf.specs.LineTable.{LineTable}
 use Rattle.dl_cmd.specs.declared.options.TheConstants.{SECTION_LIMIT}
 use Rattle.dl_cmd.specs.declared.fault.RunFault.{RunFault}
-use Rattle.dl_cmd.specs.declared.summary.Summary.{Summary}
-use Rattle.dl_cmd.specs.ValueText.{Strings}
+use Rattle.dl_print.specs.declared.summary.Summary.{Summary}
+use Rattle.dl_print.specs.ValueText.{Strings}
 use Rattle.dl_work.specs.declared.command.Command.{Command}
 use Rattle.dl_work.specs.declared.stop.Stop.{Stop}
 use Rattle.dl_work.specs.Asked.{Does, is_copy}

@@ -7,11 +7,11 @@ use Rattle.dl_look.specs.declared.place.Place.{Place}
 use Rattle.dl_elf.specs.declared.line_file.Wanted.{Wanted}
 use Rattle.dl_elf.specs.declared.line_file.Wanted.TheVariants.{LineSection, LineAndStringSections}
 use Rattle.dl_cmd.specs.declared.fault.RunFault.{RunFault}
-use Rattle.dl_cmd.specs.declared.summary.Summary.{Summary}
+use Rattle.dl_print.specs.declared.summary.Summary.{Summary}
 use Rattle.dl_cmd.specs.Address.{address_in}
 use Rattle.dl_cmd.specs.Commands.{Checks, Copies, Dumps, Finds}
 use Rattle.dl_cmd.specs.Job.{Request, dump, check, find, copy}
-use Rattle.dl_cmd.specs.ValueText.{Strings}
+use Rattle.dl_print.specs.ValueText.{Strings}
 use Rattle.dl_work.specs.declared.command.Command.{Command}
 use Rattle.dl_work.specs.declared.command.Command.TheVariants.{Dump, Check, Find, Copy}
 

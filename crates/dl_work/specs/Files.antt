@@ -4,7 +4,7 @@ use Rattle.clap.specs.Words.{Text}
 use Rattle.dl_work.specs.declared.strings.TheConstants.{STRINGS_LIMIT}
 use Rattle.dl_cmd.specs.declared.fault.RunFault.{RunFault}
 use Rattle.dl_cmd.specs.declared.fault.RunFault.TheVariants as fault
-use Rattle.dl_cmd.specs.ValueText.{Strings}
+use Rattle.dl_print.specs.ValueText.{Strings}
 
 -- these are all bytes of a file, and not more than the limit
 abbrev pub FileHolds : (known : Option (List ℕ)) (limit : ℕ) (found : List ℕ) → Type 0

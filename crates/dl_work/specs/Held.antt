@@ -1,6 +1,6 @@
 -- What a job says of a section on the input, and the string sections that were read for it, as contracts see them.
 use Rattle.std.specs.Option.{option_map, option_copied}
-use Rattle.dl_cmd.specs.ValueText.{Strings}
+use Rattle.dl_print.specs.ValueText.{Strings}
 use Rattle.dl_work.specs.declared.over_input.Section.{Section}
 use Rattle.dl_work.specs.declared.strings.StringSections.{StringSections}
 use Rattle.dl_work.specs.Asked.{SectionWords}

@@ -9,8 +9,8 @@ use Rattle.dl_elf.specs.declared.fault.ElfFault.TheVariants.{Read}
 use Rattle.dl_elf.specs.LineTable.{HasLineTable, LineTable}
 use Rattle.dl_cmd.specs.declared.options.TheConstants.{SECTION_LIMIT}
 use Rattle.dl_cmd.specs.declared.fault.RunFault.{RunFault}
-use Rattle.dl_cmd.specs.declared.summary.Summary.{Summary}
-use Rattle.dl_cmd.specs.ValueText.{Strings}
+use Rattle.dl_print.specs.declared.summary.Summary.{Summary}
+use Rattle.dl_print.specs.ValueText.{Strings}
 use Rattle.dl_work.specs.declared.strings.TheConstants.{STRINGS_LIMIT}
 use Rattle.dl_work.specs.declared.command.Command.{Command}
 use Rattle.dl_work.specs.declared.stop.FileFault.{FileFault}

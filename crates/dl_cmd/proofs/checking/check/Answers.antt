@@ -2,9 +2,9 @@ use Rattle.std.proofs.Common.{[]}
 use Rattle.std.proofs.KnownBytes.{Appends-nil}
 use Rattle.std.proofs.lemmas.Result.{err_from_is_err_and}
 use Rattle.dl_cmd.specs.declared.checking.Checker.{Checker}
-use Rattle.dl_cmd.specs.Text.{summary_line}
+use Rattle.dl_print.specs.Text.{summary_line}
 use Rattle.dl_cmd.proofs.CheckingLemmas.{counted, line_lost, line_out, failed}
-use Rattle.dl_cmd.proofs.Outs.{HasPrinted-nothing, HasPrinted-out}
+use Rattle.dl_print.proofs.Outs.{HasPrinted-nothing, HasPrinted-out}
 use Rattle.dl_cmd.proofs.checking.check.Goals as goal
 
 pub returns-in_err-summary : goal.returns-in_err-summary

@@ -2,9 +2,9 @@ use Rattle.std.proofs.Common.{refl, subst}
 use Rattle.std.proofs.KnownBytes.{Appends-nil}
 use Rattle.dl_cmd.specs.declared.dumping.Dumper.{Dumper}
 use Rattle.dl_cmd.specs.Commands.{Dumps}
-use Rattle.dl_cmd.specs.ValueText.{Strings}
+use Rattle.dl_print.specs.ValueText.{Strings}
 use Rattle.dl_cmd.proofs.DumpingLemmas.{dumps}
-use Rattle.dl_cmd.proofs.Outs.{HasPrinted-nothing}
+use Rattle.dl_print.proofs.Outs.{HasPrinted-nothing}
 use Rattle.dl_cmd.proofs.dumping.dump.Goals as goal
 
 pub returns : goal.returns

@@ -3,9 +3,9 @@ use Rattle.std.proofs.KnownBytes.{Appends-nil}
 use Rattle.std.proofs.lemmas.Result.{err_from_is_err_and}
 use Rattle.dl_look.specs.declared.finder.Finder.{Finder}
 use Rattle.dl_look.specs.declared.place.Place.{Place}
-use Rattle.dl_cmd.specs.Printed.{Printed}
+use Rattle.dl_print.specs.Printed.{Printed}
 use Rattle.dl_cmd.specs.declared.finding.Seeker.{Seeker}
-use Rattle.dl_cmd.specs.declared.output.string_sections.StringSections.{StringSections}
+use Rattle.dl_print.specs.declared.output.string_sections.StringSections.{StringSections}
 use Rattle.dl_cmd.proofs.FindingLemmas.{begins, failed, found, not_found}
 use Rattle.dl_cmd.proofs.finding.find.Goals as goal
 

@@ -1,7 +1,7 @@
 use Rattle.std.proofs.Common.{refl}
 use Rattle.dl_cmd.specs.Section.{of_version}
 use Rattle.dl_cmd.specs.SectionText.{visits_text}
-use Rattle.dl_cmd.specs.ValueText.{strings_of}
+use Rattle.dl_print.specs.ValueText.{strings_of}
 use Rattle.dl_cmd.proofs.DumpingLemmas.{prints_visit}
 use Rattle.dl_cmd.proofs.dumping.DumperVisitor.foreign.Goals as goal
 

@@ -2,9 +2,10 @@ use Rattle.std.proofs.Common.{◌++◌, refl, ap, subst}
 use Rattle.std.specs.Prelude.{MatchResult}
 use Rattle.dl_cmd.specs.Section.{of_header}
 use Rattle.dl_cmd.specs.SectionText.{visits_text}
-use Rattle.dl_cmd.specs.ValueText.{Strings, strings_of}
-use Rattle.dl_cmd.specs.HeaderText.{header_text}
-use Rattle.dl_cmd.specs.Output.{HasPrinted, TellsOut}
+use Rattle.dl_print.specs.ValueText.{Strings, strings_of}
+use Rattle.dl_print.specs.HeaderText.{header_text}
+use Rattle.dl_print.specs.Output.{HasPrinted}
+use Rattle.dl_cmd.specs.RunOutput.{TellsOut}
 use Rattle.dl_cmd.proofs.DumpingLemmas.{prints_visit}
 use Rattle.dl_cmd.proofs.dumping.DumperVisitor.header.Goals as goal
 

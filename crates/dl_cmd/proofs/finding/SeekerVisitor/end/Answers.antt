@@ -1,13 +1,13 @@
 use Rattle.std.proofs.Common.{◌≡◌, [], ◌∷◌, None, true, refl, sym, ◌∙◌}
 use Rattle.std.proofs.lemmas.Result.{err_from_is_err_and}
 use Rattle.dl_cmd.specs.Finding.{answer_under}
-use Rattle.dl_cmd.specs.HeaderText.{file_text}
+use Rattle.dl_print.specs.HeaderText.{file_text}
 use Rattle.dl_cmd.specs.RowsTold.{rows_after}
 use Rattle.dl_cmd.specs.Section.{of_end}
-use Rattle.dl_cmd.specs.Text.{row_line}
-use Rattle.dl_cmd.specs.ValueText.{strings_of}
+use Rattle.dl_print.specs.Text.{row_line}
+use Rattle.dl_print.specs.ValueText.{strings_of}
 use Rattle.dl_cmd.proofs.FindingLemmas.{seeks_behind, has_found, stops_printing, no_answer, no_header}
-use Rattle.dl_cmd.proofs.Outs.{TellsOut-more}
+use Rattle.dl_cmd.proofs.OutLemmas.{TellsOut-more}
 use Rattle.dl_cmd.proofs.finding.SeekerVisitor.end.Goals.{in_default-via-in-Some+in_default, in_default-via-in_default}
 use Rattle.dl_cmd.proofs.finding.SeekerVisitor.end.Goals as goal
 

@@ -1,7 +1,7 @@
 use Rattle.std.proofs.Common.{refl, sym, ap, subst, ◌∙◌, ℕ, []}
 use Rattle.dl_rows.specs.declared.reader.Reader.{Reader}
 use Rattle.dl_rows.specs.ReaderStands.{StandsFor}
-use Rattle.dl_cmd.specs.Counts.{add}
+use Rattle.dl_print.specs.Counts.{add}
 use Rattle.dl_cmd.proofs.UnitsLemmas.{header_is, left_behind}
 use Rattle.dl_cmd.proofs.section.Units.leave.Goals as goal
 

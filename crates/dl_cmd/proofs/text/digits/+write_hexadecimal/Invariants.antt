@@ -1,4 +1,0 @@
-use Rattle.dl_cmd.proofs.text.digits.+write_hexadecimal.Given as goal
-
-abbrev pub decreases-write_hexadecimal : goal.decreases-write_hexadecimal
-decreases-write_hexadecimal l = l.number

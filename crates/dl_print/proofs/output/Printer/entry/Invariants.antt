@@ -1,0 +1,15 @@
+-- The values so far were printed, and the iterator has the others.
+use Rattle.std.proofs.Common.{◌≡◌, ℕ, List, ◌++◌}
+use Rattle.dl_head.specs.Value.{Value}
+use Rattle.dl_head.specs.ValuesLeft.{values_left}
+use Rattle.dl_print.specs.HeaderText.{items_text}
+use Rattle.dl_print.specs.Output.{PrintsMore}
+use Rattle.dl_print.specs.ValueText.{strings_of}
+use Rattle.dl_print.proofs.output.Printer.entry.Given as goal
+
+abbrev pub invariant-loop-content : goal.invariant-loop-content
+invariant-loop-content g l = record {
+  done : List (ℕ × Value);
+  split : values_left l.initial.content-iterator ≡ done ++ values_left l.content-iterator;
+  printed : PrintsMore (g.W.Write.contents l.initial.output) (g.W.Write.contents l.output) l.initial.self l.self (items_text (strings_of l.strings) done);
+}

@@ -1,0 +1,7 @@
+pub mod Digits
+pub mod Counts
+pub mod Text
+pub mod ValueText
+pub mod HeaderText
+pub mod Printed
+pub mod Output

@@ -1,0 +1,127 @@
+//! The output, printed through one buffer.
+mod lines;
+mod string_sections;
+mod tables;
+mod values;
+
+ghost use Rattle.std.specs.Prelude.{◌≡◌, ◌+◌, ◌^◌, ◌<◌, ◌≤◌, ℕ, List, [], ◌++◌, Option, length, take, IfSome, IfNone, IfOk, OnOk, IfErr, MatchResult};
+ghost use Rattle.std.specs.Io.KnownBytes.{Appends, Keeps};
+ghost use Rattle.dl_print.specs.Output.{HasOut, HasPrinted, TellsOut, Flushes, Prints, printed_len};
+
+use crate::fault::WriteFault;
+use crate::text::write_bytes;
+use dl_head::counted::write_all;
+use std::io::Write;
+use std::marker::Model;
+pub use string_sections::{StringSection, StringSections, text_in_section};
+
+/// How many bytes a printer holds at most.
+const HELD: usize = 65536;
+
+/// How many bytes a text has at most that is written into the buffer itself.
+const PIECE: usize = 256;
+
+/// Prints through one buffer, and counts the bytes that are out.
+///
+/// The writer is lent at each call. After a fault nothing more is to be printed.
+#[derive(Drop)]
+pub struct Printer {
+    buffer: [u8; HELD],
+    held: usize,
+    out: u128,
+}
+
+impl Model for Printer {
+    ghost use Rattle.std.specs.Prelude.{◌≤◌, take};
+    ghost use Rattle.dl_print.specs.Printed.{Printed};
+    ghost use Rattle.dl_print.specs.declared.output.TheConstants.{HELD};
+
+    ghost Value = { Printed };
+
+    ghost view = { λ p. record { pending = take p.held p.buffer; out = p.out } };
+
+    ghost invariant = { λ p. p.held ≤ HELD };
+}
+
+/// Writes bytes on top of the `out` that are out, and answers how many are out then. Where a count
+/// of 128 bits can't tell that, it writes none of them.
+fn write_on<W: Write>(output: &mut W, out: u128, bytes: &[u8]) -> Result<u128, WriteFault>
+    ensures printed { (start : Option (List ℕ)) (text : List ℕ)
+        → HasPrinted start (W.contents output.old) text (record { pending = bytes.now; out = out })
+        → MatchResult result
+        (λ n. HasPrinted start (W.contents output.new) text (record { pending = []; out = n }))
+        (λ f. TellsOut start (W.contents output.new) text f) }
+{
+    let Some(all) = out.checked_add(bytes.len() as u128) else {
+        return Err(WriteFault { out });
+    };
+    match write_all(output, bytes) {
+        Ok(()) => Ok(all),
+        Err(part) => Err(WriteFault {
+            out: out + part as u128,
+        }),
+    }
+}
+
+impl Printer {
+    /// Nothing was printed.
+    pub fn new() -> Printer
+        ensures nothing_pending { result.pending ≡ [] }
+        ensures nothing_out { result.out ≡ 0 }
+    {
+        Printer {
+            buffer: [0; HELD],
+            held: 0,
+            out: 0,
+        }
+    }
+
+    /// Writes what is held.
+    pub fn flush<W: Write>(&mut self, output: &mut W) -> Result<(), WriteFault>
+        ensures printed { Flushes (W.contents output.old) (W.contents output.new)
+            self.old self.new result }
+        ensures empty { OnOk result (self.new.pending ≡ []) }
+    {
+        self.out = write_on(output, self.out, &self.buffer[..self.held])?;
+        self.held = 0;
+        Ok(())
+    }
+
+    /// Writes the bytes themselves, where nothing is held.
+    fn pass<W: Write>(&mut self, output: &mut W, bytes: &[u8]) -> Result<(), WriteFault>
+        requires empty { self.old.pending ≡ [] }
+        ensures printed { Prints (W.contents output.old) (W.contents output.new)
+            self.old self.new bytes.now result }
+    {
+        self.out = write_on(output, self.out, bytes)?;
+        Ok(())
+    }
+
+    /// Prints the bytes, and first writes what is held where they don't fit beside it.
+    pub fn put<W: Write>(&mut self, output: &mut W, bytes: &[u8]) -> Result<(), WriteFault>
+        ensures printed { Prints (W.contents output.old) (W.contents output.new)
+            self.old self.new bytes.now result }
+    {
+        if HELD - self.held < bytes.len() {
+            self.flush(output)?;
+            if HELD < bytes.len() {
+                return self.pass(output, bytes);
+            }
+        }
+        self.held = write_bytes(&mut self.buffer, self.held, bytes);
+        Ok(())
+    }
+
+    /// Writes what is held where the buffer has no room beside it for `PIECE` bytes.
+    #[inline]
+    fn make_room<W: Write>(&mut self, output: &mut W) -> Result<(), WriteFault>
+        ensures printed { Flushes (W.contents output.old) (W.contents output.new)
+            self.old self.new result }
+        ensures room { OnOk result (length self.new.pending + PIECE ≤ HELD) }
+    {
+        if HELD - self.held < PIECE {
+            self.flush(output)?;
+        }
+        Ok(())
+    }
+}

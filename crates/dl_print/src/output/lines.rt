@@ -1,0 +1,86 @@
+//! Printing lines of fixed parts.
+ghost use Rattle.std.specs.Prelude.{◌+◌, ◌^◌, ◌<◌, ◌≤◌, OnOk};
+ghost use Rattle.dl_print.specs.Output.{Prints, printed_len};
+ghost use Rattle.dl_print.specs.Text.{row_line, unit_line, foreign_line, open_line, missing_line, summary_line};
+
+use super::Printer;
+use crate::fault::WriteFault;
+use crate::summary::Summary;
+use crate::text::{
+    write_foreign_line, write_missing_line, write_row, write_summary_line, write_unit_line,
+};
+use dl_head::Format;
+use dl_rows::Row;
+use std::io::Write;
+
+impl Printer {
+    /// Prints the line of a row.
+    #[inline]
+    pub fn row<W: Write>(&mut self, output: &mut W, row: &Row) -> Result<(), WriteFault>
+        ensures printed { Prints (W.contents output.old) (W.contents output.new)
+            self.old self.new (row_line row.now) result }
+    {
+        self.make_room(output)?;
+        self.held = write_row(&mut self.buffer, self.held, row);
+        Ok(())
+    }
+
+    /// Prints the line of a unit of version 5, which begins at `offset` of its section.
+    pub fn unit<W: Write>(
+        &mut self,
+        output: &mut W,
+        offset: u64,
+        format: Format,
+        address_size: u8,
+    ) -> Result<(), WriteFault>
+        ensures printed { Prints (W.contents output.old) (W.contents output.new)
+            self.old self.new (unit_line offset format address_size) result }
+    {
+        self.make_room(output)?;
+        self.held = write_unit_line(&mut self.buffer, self.held, offset, format, address_size);
+        Ok(())
+    }
+
+    /// Prints the line of a unit of another version, which begins at `offset` of its section.
+    pub fn foreign_unit<W: Write>(
+        &mut self,
+        output: &mut W,
+        offset: u64,
+        version: u16,
+    ) -> Result<(), WriteFault>
+        ensures printed { Prints (W.contents output.old) (W.contents output.new)
+            self.old self.new (foreign_line offset version) result }
+    {
+        self.make_room(output)?;
+        self.held = write_foreign_line(&mut self.buffer, self.held, offset, version);
+        Ok(())
+    }
+
+    /// Prints that a unit's last sequence has no end row.
+    pub fn open_sequence<W: Write>(&mut self, output: &mut W) -> Result<(), WriteFault>
+        ensures printed { Prints (W.contents output.old) (W.contents output.new)
+            self.old self.new open_line result }
+    {
+        self.put(output, b"open\n")
+    }
+
+    /// Prints that the table of files has no entry of this number.
+    pub fn missing_file<W: Write>(&mut self, output: &mut W, file: u64) -> Result<(), WriteFault>
+        ensures printed { Prints (W.contents output.old) (W.contents output.new)
+            self.old self.new (missing_line file) result }
+    {
+        self.make_room(output)?;
+        self.held = write_missing_line(&mut self.buffer, self.held, file);
+        Ok(())
+    }
+
+    /// Prints the counts.
+    pub fn summary<W: Write>(&mut self, output: &mut W, summary: &Summary) -> Result<(), WriteFault>
+        ensures printed { Prints (W.contents output.old) (W.contents output.new)
+            self.old self.new (summary_line summary.now) result }
+    {
+        self.make_room(output)?;
+        self.held = write_summary_line(&mut self.buffer, self.held, summary);
+        Ok(())
+    }
+}

@@ -1,0 +1,200 @@
+//! Printing values, of any length.
+ghost use Rattle.std.specs.Prelude.{◌≡◌, ◌+◌, ◌*◌, ◌^◌, ◌<◌, ◌≤◌, ◌++◌, length, OnOk, codes, decimal};
+ghost use Rattle.std.specs.Option.{option_copied};
+ghost use Rattle.dl_print.specs.Digits.{hexadecimal_bytes, hexadecimal_of};
+ghost use Rattle.dl_print.specs.Output.{Prints, printed_len};
+ghost use Rattle.dl_head.specs.Held.{value_lent};
+ghost use Rattle.dl_print.specs.ValueText.{quoted, quoted_bytes, offset_text, quoted_or_offset, text_in_section, value_text, named_value, content_name, strings_of};
+
+use super::Printer;
+use super::string_sections::{StringSection, StringSections, text_in_section};
+use crate::fault::WriteFault;
+use crate::text::{
+    write_address, write_hexadecimal_bytes, write_number, write_offset, write_quoted_bytes,
+    write_value_start,
+};
+use dl_head::ValueRef;
+use std::io::Write;
+
+/// How many bytes of a value are printed in one go.
+const PART: usize = 64;
+
+impl Printer {
+    /// Prints two digits for each of a few bytes.
+    fn hexadecimal_part<W: Write>(&mut self, output: &mut W, bytes: &[u8]) -> Result<(), WriteFault>
+        requires short { length bytes.now ≤ 64 }
+        ensures printed { Prints (W.contents output.old) (W.contents output.new)
+            self.old self.new (hexadecimal_bytes bytes.now) result }
+    {
+        self.make_room(output)?;
+        self.held = write_hexadecimal_bytes(&mut self.buffer, self.held, bytes);
+        Ok(())
+    }
+
+    /// Prints two digits for each byte.
+    fn hexadecimal<W: Write>(&mut self, output: &mut W, bytes: &[u8]) -> Result<(), WriteFault>
+        ensures printed { Prints (W.contents output.old) (W.contents output.new)
+            self.old self.new (hexadecimal_bytes bytes.now) result }
+    {
+        let mut done = 0;
+        while done < bytes.len() {
+            let end = bytes.len().min(done + PART);
+            self.hexadecimal_part(output, &bytes[done..end])?;
+            done = end;
+        }
+        Ok(())
+    }
+
+    /// Prints the bytes of a block.
+    fn block<W: Write>(&mut self, output: &mut W, bytes: &[u8]) -> Result<(), WriteFault>
+        ensures printed { Prints (W.contents output.old) (W.contents output.new)
+            self.old self.new (codes "block:" ++ hexadecimal_bytes bytes.now) result }
+    {
+        self.put(output, b"block:")?;
+        self.hexadecimal(output, bytes)
+    }
+
+    /// Prints a name and a number.
+    pub fn number<W: Write>(
+        &mut self,
+        output: &mut W,
+        name: &[u8],
+        number: u64,
+    ) -> Result<(), WriteFault>
+        requires short { length name.now ≤ 16 }
+        ensures printed { Prints (W.contents output.old) (W.contents output.new)
+            self.old self.new (name.now ++ decimal number) result }
+    {
+        self.make_room(output)?;
+        self.held = write_number(&mut self.buffer, self.held, name, number);
+        Ok(())
+    }
+
+    /// Prints an address in sixteen hexadecimal digits behind `0x`.
+    pub fn address<W: Write>(&mut self, output: &mut W, address: u64) -> Result<(), WriteFault>
+        ensures printed { Prints (W.contents output.old) (W.contents output.new)
+            self.old self.new (codes "0x" ++ hexadecimal_of 16 address) result }
+    {
+        self.make_room(output)?;
+        self.held = write_address(&mut self.buffer, self.held, address);
+        Ok(())
+    }
+
+    /// Prints a few bytes as they stand between quotes.
+    fn quoted_part<W: Write>(&mut self, output: &mut W, bytes: &[u8]) -> Result<(), WriteFault>
+        requires short { length bytes.now ≤ 64 }
+        ensures printed { Prints (W.contents output.old) (W.contents output.new)
+            self.old self.new (quoted_bytes bytes.now) result }
+    {
+        self.make_room(output)?;
+        self.held = write_quoted_bytes(&mut self.buffer, self.held, bytes);
+        Ok(())
+    }
+
+    /// Prints bytes as they stand between quotes.
+    fn quoted_bytes<W: Write>(&mut self, output: &mut W, bytes: &[u8]) -> Result<(), WriteFault>
+        ensures printed { Prints (W.contents output.old) (W.contents output.new)
+            self.old self.new (quoted_bytes bytes.now) result }
+    {
+        let mut done = 0;
+        while done < bytes.len() {
+            let end = bytes.len().min(done + PART);
+            self.quoted_part(output, &bytes[done..end])?;
+            done = end;
+        }
+        Ok(())
+    }
+
+    /// Prints a text in quotes.
+    fn quoted<W: Write>(&mut self, output: &mut W, text: &[u8]) -> Result<(), WriteFault>
+        ensures printed { Prints (W.contents output.old) (W.contents output.new)
+            self.old self.new (quoted text.now) result }
+    {
+        self.put(output, b"\"")?;
+        self.quoted_bytes(output, text)?;
+        self.put(output, b"\"")
+    }
+
+    /// Prints an offset into a section, after the name of its form.
+    fn offset<W: Write>(
+        &mut self,
+        output: &mut W,
+        name: &[u8],
+        offset: u64,
+    ) -> Result<(), WriteFault>
+        requires short { length name.now ≤ 16 }
+        ensures printed { Prints (W.contents output.old) (W.contents output.new)
+            self.old self.new (offset_text name.now offset) result }
+    {
+        self.make_room(output)?;
+        self.held = write_offset(&mut self.buffer, self.held, name, offset);
+        Ok(())
+    }
+
+    /// Prints the text at an offset of a section, or the offset where there is none.
+    fn string<W: Write>(
+        &mut self,
+        output: &mut W,
+        name: &[u8],
+        section: Option<&StringSection<'_>>,
+        offset: u64,
+    ) -> Result<(), WriteFault>
+        requires short { length name.now ≤ 16 }
+        ensures printed { Prints (W.contents output.old) (W.contents output.new) self.old self.new
+            (quoted_or_offset name.now offset
+            (text_in_section (option_copied section.entry) offset)) result }
+    {
+        match text_in_section(section, offset) {
+            Some(text) => self.quoted(output, text),
+            None => self.offset(output, name, offset),
+        }
+    }
+
+    /// Prints a value. Texts are looked up in the string sections.
+    fn value<W: Write>(
+        &mut self,
+        output: &mut W,
+        strings: &StringSections<'_>,
+        value: ValueRef<'_>,
+    ) -> Result<(), WriteFault>
+        ensures printed { Prints (W.contents output.old) (W.contents output.new) self.old self.new
+            (value_text (strings_of strings.now) (value_lent value.entry)) result }
+    {
+        match value {
+            ValueRef::Text(text) => self.quoted(output, text),
+            ValueRef::LineStr(at) => {
+                self.string(output, b"line_strp", strings.debug_line_str.as_ref(), at)
+            }
+            ValueRef::Str(at) => self.string(output, b"strp", strings.debug_str.as_ref(), at),
+            ValueRef::StrSup(at) => self.offset(output, b"strp_sup", at),
+            ValueRef::Number(number) => self.number(output, b"", number),
+            ValueRef::Block(bytes) => self.block(output, bytes),
+            ValueRef::Data16(bytes) => self.hexadecimal(output, &bytes),
+        }
+    }
+
+    /// Prints a value after the name of its content code.
+    pub fn named_value<W: Write>(
+        &mut self,
+        output: &mut W,
+        strings: &StringSections<'_>,
+        content: u64,
+        value: ValueRef<'_>,
+    ) -> Result<(), WriteFault>
+        ensures printed { Prints (W.contents output.old) (W.contents output.new) self.old self.new
+            (named_value (strings_of strings.now) content (value_lent value.entry)) result }
+    {
+        self.value_start(output, content)?;
+        self.value(output, strings, value)
+    }
+
+    /// Prints what stands before a value of that content code.
+    fn value_start<W: Write>(&mut self, output: &mut W, content: u64) -> Result<(), WriteFault>
+        ensures printed { Prints (W.contents output.old) (W.contents output.new) self.old self.new
+            (codes " " ++ content_name content ++ codes "=") result }
+    {
+        self.make_room(output)?;
+        self.held = write_value_start(&mut self.buffer, self.held, content);
+        Ok(())
+    }
+}
