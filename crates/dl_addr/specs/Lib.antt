@@ -1,0 +1,4 @@
+pub mod Asked
+pub mod Paths
+pub mod Parts
+pub mod Shown

@@ -1,0 +1,13 @@
+//! Paths, lines and columns of addresses, of all units of a section in one pass.
+#![tactic(auto)]
+
+mod asked;
+mod basename;
+mod path;
+mod question;
+mod shown;
+mod style;
+
+pub use asked::Asked;
+pub use question::{Found, Question};
+pub use style::Style;
