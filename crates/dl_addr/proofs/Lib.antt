@@ -1,0 +1,2 @@
+pub mod BasenameLemmas
+pub mod TextLemmas

@@ -1,6 +1,6 @@
 //! The last component of a path.
 
-ghost use Rattle.std.specs.Prelude.{◌≡◌, ◌-◌, length, drop, any, false};
+ghost use Rattle.std.specs.Prelude.{◌≡◌};
 ghost use Rattle.dl_addr.specs.Shown.{basename, separates};
 
 use crate::path::{has_drive, is_slash};
@@ -12,13 +12,16 @@ pub fn basename(path: &[u8]) -> &[u8]
 {
     let with_drive = has_drive(path);
     let mut start = path.len();
-    while start > 0 && !separates(with_drive, path[start - 1]) {
+    while start > 0 {
+        if separates(with_drive, path[start - 1]) {
+            return &path[start..];
+        }
         start -= 1;
     }
-    &path[start..]
+    path
 }
 
-/// Whether a byte separates components of a path that begins with a drive or doesn't.
+/// Whether a byte stands between components, in a path that begins with a drive or doesn't.
 fn separates(with_drive: bool, byte: u8) -> bool
     ensures { result ≡ separates with_drive byte }
 {

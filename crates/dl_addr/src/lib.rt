@@ -7,6 +7,7 @@ mod path;
 mod question;
 mod shown;
 mod style;
+mod texts;
 
 pub use asked::Asked;
 pub use question::{Found, Question};

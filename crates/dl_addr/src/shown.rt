@@ -1,6 +1,6 @@
 //! The texts of paths, as they are printed.
 
-ghost use Rattle.std.specs.Prelude.{◌≡◌, ◌++◌, IfOk, OnOk};
+ghost use Rattle.std.specs.Prelude.{◌≡◌, [], ◌∷◌, ◌++◌, IfOk, OnOk};
 ghost use Rattle.dl_print.specs.Digits.{last_digit};
 ghost use Rattle.dl_addr.specs.Shown.{is_control, shown_byte, shown, path_text};
 ghost use Rattle.dl_addr.specs.Parts.{path_seen};
