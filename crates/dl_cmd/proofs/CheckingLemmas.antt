@@ -21,15 +21,9 @@ module _ (order : Order) (limit : ℕ) (bytes : List ℕ) (left : Option (List �
   counted summary (inr done) = absurd done.4.tells
 
   -- the line isn't out
-  pub line_lost : (summary : Summary) (f : RunFault) → Ran check_story order limit bytes left first new start mid (Ok summary) → TellsOut start now (summary_line summary) f → Checks order limit bytes left start now (Err f)
-  line_lost summary (fault.Write out) ran t = let c = counted summary ran in (c.0.0, summary, c.0.1, t)
-  line_lost summary (fault.Damage offset kind) ran t = absurd t
-  line_lost summary fault.NoMemory ran t = absurd t
-  line_lost summary fault.Read ran t = absurd t
-  line_lost summary fault.SectionTooLong ran t = absurd t
-  line_lost summary fault.NotFound ran t = absurd t
-  line_lost summary (fault.ForeignUnit unit) ran t = absurd t
-  line_lost summary (fault.Emit unit f) ran t = absurd t
+  pub line_lost : (summary : Summary) (out : ℕ) → Ran check_story order limit bytes left first new start mid (Ok summary) → TellsOut start now (summary_line summary) (fault.Write out)
+      → Checks order limit bytes left start now (Err (fault.Write out))
+  line_lost summary out ran t = let c = counted summary ran in (c.0.0, summary, c.0.1, t)
 
   pub failed : (f : RunFault) → Ran check_story order limit bytes left first new start mid (Err f) → Checks order limit bytes left start mid (Err f)
   failed (fault.Write out) (units, b, back, has, writes) = absurd (omega (arith, writes.3.0))

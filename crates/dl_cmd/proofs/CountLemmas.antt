@@ -14,7 +14,7 @@ use Rattle.dl_rows.specs.Reading.{told, FeedsBehind}
 use Rattle.dl_rows.specs.ReaderStands.{StandsFor}
 use Rattle.dl_cmd.specs.declared.section.Units.{Units}
 use Rattle.dl_cmd.specs.Told.{ends, Counted}
-use Rattle.dl_cmd.specs.Visiting.{UnitsAre, counted, row_told, rows_told, is_foreign}
+use Rattle.dl_cmd.specs.UnitsRead.{UnitsAre, counted, row_told, rows_told, is_foreign}
 use Rattle.dl_cmd.proofs.EventLemmas.{rows_told-append, rows_told-rows, none_told, no_version}
 use Rattle.dl_cmd.proofs.ToldLemmas.{ends-append}
 use Rattle.dl_cmd.proofs.SectionLemmas.{few_told}

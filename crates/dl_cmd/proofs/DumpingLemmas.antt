@@ -1,6 +1,5 @@
 -- How a dump goes on, and what it comes to.
 use Rattle.std.proofs.Common.{◌≡◌, inl, inr, ℕ, List, [], ◌∷◌, ◌++◌, Option, Result, Ok, Err, refl, sym, ap, ◌∙◌, subst, append-nil}
-use Rattle.std.specs.Prelude.{MatchResult}
 use Rattle.std.proofs.lemmas.Grind.{flat_map-append}
 use Rattle.dl_num.specs.declared.fixed.Order.{Order}
 use Rattle.dl_cmd.specs.declared.dumping.Dumper.{Dumper}
@@ -24,24 +23,16 @@ module _ (first old new : Dumper) (start before after : Option (List ℕ)) (visi
   abbrev shown : List ℕ
   shown = visits_text (strings_of first.strings) visits ++ visit_text (strings_of first.strings) v
 
-  stops : (f : RunFault) → TellsOut start after shown f → StopsIn dump_story first new start after visits (v ∷ []) f
-  stops (fault.Write out) t = (v ∷ [], [], refl, subst (λ (l : List ℕ). TellsOut start after l (fault.Write out)) (sym (text-push (strings_of first.strings) visits v)) t)
-  stops (fault.Damage offset kind) t = absurd t
-  stops fault.NoMemory t = absurd t
-  stops fault.Read t = absurd t
-  stops fault.SectionTooLong t = absurd t
-  stops fault.NotFound t = absurd t
-  stops (fault.ForeignUnit unit) t = absurd t
-  stops (fault.Emit unit f) t = absurd t
-
   -- the text of a visit is printed
-  pub prints_visit : {A : Type 0} (result : Result A RunFault) → MatchResult result (λ _. HasPrinted start after shown new.printer) (TellsOut start after shown)
-      → MatchResult result (λ _. HasDumped first new start after (visits ++ v ∷ [])) (StopsIn dump_story first new start after visits (v ∷ []))
-  prints_visit (Ok a) printed = record {
+  pub prints_visit : HasPrinted start after shown new.printer → HasDumped first new start after (visits ++ v ∷ [])
+  prints_visit printed = record {
     strings = same ∙ dumped.strings;
     printed = subst (λ (l : List ℕ). HasPrinted start after l new.printer) (sym (text-push (strings_of first.strings) visits v)) printed;
   }
-  prints_visit (Err f) t = stops f t
+
+  -- or a write failed
+  pub loses_visit : (out : ℕ) → TellsOut start after shown (fault.Write out) → StopsIn dump_story first new start after visits (v ∷ []) (fault.Write out)
+  loses_visit out t = (v ∷ [], [], refl, subst (λ (l : List ℕ). TellsOut start after l (fault.Write out)) (sym (text-push (strings_of first.strings) visits v)) t)
 
 -- what is out of the text of some visits is out of that of all
 pub out_of_all : (s : Strings) (start now : Option (List ℕ)) (visits heard more : List Visit) (f : RunFault) → visits ≡ heard ++ more → TellsOut start now (visits_text s heard) f → TellsOut start now (visits_text s visits) f

@@ -14,7 +14,7 @@ use Rattle.dl_rows.proofs.UnitLemmas.{header_on}
 use Rattle.dl_rows.proofs.ReaderLemmas.{foreign_no_header, no_rows}
 use Rattle.dl_rows.specs.Reading.{told}
 use Rattle.dl_cmd.specs.Section.{Visit, of_row, header_of, event_visits, visits}
-use Rattle.dl_cmd.specs.Visiting.{row_told, rows_told, is_foreign}
+use Rattle.dl_cmd.specs.UnitsRead.{row_told, rows_told, is_foreign}
 
 -- ---- rows
 

@@ -24,7 +24,8 @@ use Rattle.dl_cmd.specs.declared.section.Units.{Units}
 use Rattle.dl_print.specs.Counts.{add}
 use Rattle.dl_cmd.specs.Section.{Visit, of_row, HasUnits, HasBegun, AddsCell, header_of, event_visits, visits, units_visits, end_visits, section_visits}
 use Rattle.dl_cmd.specs.Told.{RowsOf, StopsAtRow}
-use Rattle.dl_cmd.specs.Visiting.{Story, StopsIn, GoesOn, UnitsAre, counted, UnitsFed}
+use Rattle.dl_cmd.specs.Visiting.{Story, StopsIn, GoesOn}
+use Rattle.dl_cmd.specs.UnitsRead.{UnitsAre, counted, UnitsFed}
 use Rattle.dl_cmd.proofs.EventLemmas.{visits_grow, rows_visited}
 use Rattle.dl_cmd.proofs.SectionLemmas.{no_unit_begins, no_unit_refused, none_refused, has_push, section_visits-push}
 use Rattle.dl_cmd.proofs.CountLemmas.{more_read}

@@ -1,6 +1,6 @@
 -- What is found in the units of a section, and how a seeker goes on.
 use Rattle.std.proofs.Common.{◌≡◌, ◌⊎◌, inl, inr, ℕ, ◌+◌, Bool, true, false, List, [], ◌∷◌, ◌++◌, length, flat_map, take, Option, Some, None, Result, Ok, Err, arith, refl, sym, ap, ◌∙◌, subst, append_assoc, append-nil, length-append, true≢false}
-use Rattle.std.specs.Prelude.{⊤, OnOk, MatchResult, option_map}
+use Rattle.std.specs.Prelude.{⊤, option_map}
 use Rattle.std.specs.Io.KnownBytes.{Appends, Keeps}
 use Rattle.std.specs.List.{concat}
 use Rattle.std.specs.Option.{option_or}
@@ -27,10 +27,12 @@ use Rattle.dl_cmd.specs.Finding.{answer_under, found_after, text_found, SeeksOn,
 use Rattle.dl_print.specs.Output.{Flushes, HasPrinted}
 use Rattle.dl_cmd.specs.RunOutput.{TellsOut}
 use Rattle.dl_print.specs.Printed.{Printed}
+use Rattle.dl_print.specs.declared.fault.WriteFault.{WriteFault}
 use Rattle.dl_cmd.specs.RowsTold.{rows_after}
 use Rattle.dl_cmd.specs.Section.{Visit, EndsAs, of_header, of_version, of_row, of_open, of_end, HasUnits, HasBegun, header_of, header_visit, event_visits, visits, open_visit, end_visits, unit_visits, units_visits, section_visits, summary_of}
 use Rattle.dl_print.specs.ValueText.{Strings, strings_of}
-use Rattle.dl_cmd.specs.Visiting.{GoesOn, Ran, Settled, Stopped, VisitorStops, rows_told}
+use Rattle.dl_cmd.specs.Visiting.{GoesOn, Ran, Settled, Stopped, VisitorStops}
+use Rattle.dl_cmd.specs.UnitsRead.{rows_told}
 use Rattle.dl_cmd.proofs.EventLemmas.{rows_of_events}
 use Rattle.dl_cmd.proofs.Fronts.{or_assoc, or_none, none_is_some, value_same, neither, map_none}
 use Rattle.dl_print.proofs.Outs.{HasPrinted-out, HasPrinted-nothing, keeps_by_nothing}
@@ -363,45 +365,48 @@ module _ (first old : Seeker) (start held : Option (List ℕ)) (visits : List Vi
     printed = subst (λ (l : Strings). HasPrinted start after (found_text l h r) new.printer) own_strings printed;
   }
 
-  pub stops_printing : (new : Seeker) (after : Option (List ℕ)) (f : RunFault) → TellsOut start after (found_text (strings_of old.strings) h r) f → Stopped find_story first new start after (visits ++ of_end header ∷ []) f
-  stops_printing new after (fault.Write out) t = subst (λ (l : List ℕ). TellsOut start after l (fault.Write out)) (ap (λ (l : Strings). found_text l h r) own_strings ∙ sym (ap (text_found (strings_of first.strings)) now_found)) t
-  stops_printing new after _ t = absurd t
+  pub stops_printing : (new : Seeker) (after : Option (List ℕ)) (out : ℕ) → TellsOut start after (found_text (strings_of old.strings) h r) (fault.Write out) → Stopped find_story first new start after (visits ++ of_end header ∷ []) (fault.Write out)
+  stops_printing new after out t = subst (λ (l : List ℕ). TellsOut start after l (fault.Write out)) (ap (λ (l : Strings). found_text l h r) own_strings ∙ sym (ap (text_found (strings_of first.strings)) now_found)) t
 
--- it stands as before, and all that was printed is out
-pub settles : (first old : Seeker) (printer : Printed) (start held after : Option (List ℕ)) (visits : List Visit) (next : Next) (result : Result ⊤ RunFault) → GoesOn find_story first old start held visits next
-    → Flushes held after old.printer printer result → OnOk result (printer.pending ≡ [])
-    → MatchResult result (λ _. GoesOn find_story first (record old { printer = printer }) start after visits next × Appends start after (find_story.text first visits)) (TellsOut start after (find_story.text first visits))
-settles first old printer start held after visits next.Unit (Ok u) s flushes empty =
-    let printed = flushes start [] s.printed in (
-      record {
-        same = record { place = s.same.place; strings = s.same.strings };
-        none = s.none;
-        not_found = s.not_found;
-        stands = s.stands;
-        printed = printed;
-      },
-      subst (Appends start after) (sym (ap (text_found (strings_of first.strings)) s.none)) (HasPrinted-out start after [] printer printed empty),
-    )
-settles first old printer start held after visits next.Unit (Err f) s flushes empty =
-    subst (λ (l : List ℕ). TellsOut start after l f) (sym (ap (text_found (strings_of first.strings)) s.none)) (flushes start [] s.printed)
-settles first old printer start held after visits next.Nothing (Ok u) s flushes empty =
-    let text = found_text (strings_of first.strings) s.h s.r in
-    let printed = flushes start text s.printed in (
-      record {
-        before = s.before;
-        last = s.last;
-        whole = s.whole;
-        none_before = s.none_before;
-        h = s.h;
-        r = s.r;
-        finds = s.finds;
-        found = s.found;
-        printed = printed;
-      },
-      subst (Appends start after) (sym (ap (text_found (strings_of first.strings)) s.finds)) (HasPrinted-out start after text printer printed empty),
-    )
-settles first old printer start held after visits next.Nothing (Err f) s flushes empty =
-    subst (λ (l : List ℕ). TellsOut start after l f) (sym (ap (text_found (strings_of first.strings)) s.finds)) (flushes start (found_text (strings_of first.strings) s.h s.r) s.printed)
+module _ (first old : Seeker) (printer : Printed) (start held after : Option (List ℕ)) (visits : List Visit) where
+  -- it stands as before, and all that was printed is out
+  pub settles : (next : Next) → GoesOn find_story first old start held visits next → Flushes {A = ⊤} held after old.printer printer (Ok tt) → printer.pending ≡ []
+      → GoesOn find_story first (record old { printer = printer }) start after visits next × Appends start after (find_story.text first visits)
+  settles next.Unit s flushes empty =
+      let printed = flushes start [] s.printed in (
+        record {
+          same = record { place = s.same.place; strings = s.same.strings };
+          none = s.none;
+          not_found = s.not_found;
+          stands = s.stands;
+          printed = printed;
+        },
+        subst (Appends start after) (sym (ap (text_found (strings_of first.strings)) s.none)) (HasPrinted-out start after [] printer printed empty),
+      )
+  settles next.Nothing s flushes empty =
+      let text = found_text (strings_of first.strings) s.h s.r in
+      let printed = flushes start text s.printed in (
+        record {
+          before = s.before;
+          last = s.last;
+          whole = s.whole;
+          none_before = s.none_before;
+          h = s.h;
+          r = s.r;
+          finds = s.finds;
+          found = s.found;
+          printed = printed;
+        },
+        subst (Appends start after) (sym (ap (text_found (strings_of first.strings)) s.finds)) (HasPrinted-out start after text printer printed empty),
+      )
+
+  -- a write failed
+  pub loses : (next : Next) (f : WriteFault) → GoesOn find_story first old start held visits next → Flushes {A = ⊤} held after old.printer printer (Err f)
+      → TellsOut start after (find_story.text first visits) (fault.Write f.out)
+  loses next.Unit f s flushes =
+      subst (λ (l : List ℕ). TellsOut start after l (fault.Write f.out)) (sym (ap (text_found (strings_of first.strings)) s.none)) (flushes start [] s.printed)
+  loses next.Nothing f s flushes =
+      subst (λ (l : List ℕ). TellsOut start after l (fault.Write f.out)) (sym (ap (text_found (strings_of first.strings)) s.finds)) (flushes start (found_text (strings_of first.strings) s.h s.r) s.printed)
 
 -- no visit was told yet
 pub begins : (first : Seeker) (start : Option (List ℕ)) → first.printer.pending ≡ [] → first.printer.out ≡ 0 → first.found ≡ false → StandsFor first.finder first.place [] → Seeks first first start start []

@@ -1,4 +1,4 @@
-pub mod CopyLemmas
+pub mod OutLemmas
 pub mod CommandLineLemmas
 pub mod AddressLemmas
 pub mod EventLemmas

@@ -13,7 +13,8 @@ use Rattle.dl_cmd.specs.declared.section.Next.TheVariants as next
 use Rattle.dl_cmd.specs.declared.section.Units.{Units}
 use Rattle.dl_print.specs.declared.summary.Summary.{Summary}
 use Rattle.dl_cmd.specs.Section.{HasUnits, HasBegun, NoUnitBegins, EndsAs, section_visits}
-use Rattle.dl_cmd.specs.Visiting.{Story, UnitsAre, ReaderStops, VisitorStops, Settled, Worked, Finishes, Ran}
+use Rattle.dl_cmd.specs.Visiting.{Story, VisitorStops, Settled, Ran}
+use Rattle.dl_cmd.specs.UnitsRead.{UnitsAre, ReaderStops, Worked, Finishes}
 
 -- the visitor was told of t
 pub record ToldOf {S : Type 0} (story : Story S) (order : Order) (t : List ℕ) (first new : S) (start now : Option (List ℕ)) (u : Units) : Type 0 where

@@ -21,7 +21,7 @@ use Rattle.dl_rows.proofs.UnitLaws.{row_for_program_byte}
 use Rattle.dl_rows.proofs.UnitQuiet.{unit_is_not_refused}
 use Rattle.dl_rows.proofs.ReaderLemmas.{no_rows}
 use Rattle.dl_cmd.specs.Section.{Visit, HasUnits, NoUnitBegins, visits, end_visits, unit_visits, units_visits, section_visits, summary_of}
-use Rattle.dl_cmd.specs.Visiting.{rows_told}
+use Rattle.dl_cmd.specs.UnitsRead.{rows_told}
 use Rattle.dl_cmd.proofs.EventLemmas.{rows_of_events}
 use Rattle.dl_cmd.proofs.Fronts.{all_front}
 

@@ -20,7 +20,8 @@ use Rattle.dl_cmd.specs.declared.section.Told.{Told}
 use Rattle.dl_cmd.specs.declared.section.Units.{Units}
 use Rattle.dl_cmd.specs.Section.{Visit, of_row}
 use Rattle.dl_cmd.specs.Told.{ends, Counted, HeardRows, told_story, NoRow, RowsOf, StopsAtRow, FeedsTold}
-use Rattle.dl_cmd.specs.Visiting.{Story, Stopped, Hears, row_told}
+use Rattle.dl_cmd.specs.Visiting.{Story, Stopped, Hears}
+use Rattle.dl_cmd.specs.UnitsRead.{row_told}
 
 pub ends-append : (xs ys : List Row) → ends (xs ++ ys) ≡ ends xs + ends ys
 ends-append xs ys = sum_by-append (λ (r : Row). cond r.end_sequence 1 0) xs ys

@@ -23,7 +23,7 @@ use Rattle.dl_cmd.specs.declared.section.Units.{Units}
 use Rattle.dl_print.specs.declared.summary.Summary.{Summary}
 use Rattle.dl_print.specs.Counts.{add, with_unit}
 use Rattle.dl_cmd.specs.Section.{HasUnits, NoUnitBegins, header_of, summary_of}
-use Rattle.dl_cmd.specs.Visiting.{UnitsAre}
+use Rattle.dl_cmd.specs.UnitsRead.{UnitsAre}
 use Rattle.dl_cmd.proofs.EventLemmas.{rows_of_events, foreign_of_events}
 use Rattle.dl_cmd.proofs.SectionLemmas.{concat-push, has_push, summary-push, few_units, few_ends, few_of_all}
 

@@ -11,7 +11,8 @@ use Rattle.dl_cmd.specs.declared.section.Units.{Units}
 use Rattle.dl_cmd.specs.RunOutput.{TellsOut}
 use Rattle.dl_cmd.specs.Section.{Visit, HasUnits, HasBegun, section_visits}
 use Rattle.dl_cmd.proofs.UnitsLemmas.{within_unit}
-use Rattle.dl_cmd.specs.Visiting.{Story, HasReason, GoesOn, Settled, VisitorStops, UnitsFed, ReaderStops, Worked, is_failed_write}
+use Rattle.dl_cmd.specs.Visiting.{Story, HasReason, GoesOn, Settled, VisitorStops}
+use Rattle.dl_cmd.specs.UnitsRead.{UnitsFed, ReaderStops, Worked, is_failed_write}
 
 true_false : true ≡ false → ⊥
 true_false e = cc

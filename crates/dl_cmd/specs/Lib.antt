@@ -1,4 +1,5 @@
 pub mod RunText
+pub mod RunOutput
 pub mod UnitPrinted
 pub mod Strings
 pub mod CommandLine
@@ -7,6 +8,7 @@ pub mod Address
 pub mod Section
 pub mod SectionLaws
 pub mod Visiting
+pub mod UnitsRead
 pub mod Told
 pub mod SectionText
 pub mod Checking

@@ -12,7 +12,8 @@ use Rattle.dl_cmd.specs.declared.fault.RunFault.{RunFault}
 use Rattle.dl_cmd.specs.declared.section.Told.{Told}
 use Rattle.dl_cmd.specs.declared.section.Units.{Units}
 use Rattle.dl_cmd.specs.Section.{Visit, of_row}
-use Rattle.dl_cmd.specs.Visiting.{Story, Hears, row_told}
+use Rattle.dl_cmd.specs.Visiting.{Story, Hears}
+use Rattle.dl_cmd.specs.UnitsRead.{row_told}
 
 abbrev pub ends : List Row → ℕ
 ends rows = count_by (λ r. r.end_sequence) rows

@@ -1,4 +1,5 @@
-//! The commands over a section of line tables: what they read, print and answer.
+//! The commands over a section of line tables: what they read, print and answer; and the reading of
+//! its units for further ones.
 #![tactic(auto)]
 
 mod address;

@@ -11,7 +11,8 @@ ghost use Rattle.dl_rows.specs.Runs.{Sound};
 ghost use Rattle.dl_print.specs.Counts.{add};
 ghost use Rattle.dl_cmd.specs.Section.{Visit, NoUnitBegins, event_visits, header_of, open_visit, end_visits, section_visits};
 ghost use Rattle.dl_cmd.specs.Told.{FeedsTold};
-ghost use Rattle.dl_cmd.specs.Visiting.{Hears, HearsEnd, UnitsAre, UnitsFed, Worked, Finishes, Ran, counted, row_told, is_failed_write};
+ghost use Rattle.dl_cmd.specs.Visiting.{Hears, HearsEnd, Ran};
+ghost use Rattle.dl_cmd.specs.UnitsRead.{UnitsAre, UnitsFed, Worked, Finishes, counted, row_told, is_failed_write};
 
 use crate::fault::RunFault;
 use crate::input::Input;
@@ -33,7 +34,10 @@ pub enum Next {
     Nothing,
 }
 
-/// What a command does at the events of the units of a section.
+/// What a command does at the events of the units of a section, which `read_units` tells it in the
+/// order of their bytes. Sections 6.2.2 to 6.2.5.
+///
+/// An `Err` stops the reading, and is what `read_units` answers.
 pub trait Visitor<W: Write> {
     ghost use Rattle.std.specs.Prelude.{◌∷◌, []};
     ghost use Rattle.dl_cmd.specs.declared.section.Next.{Next};
@@ -68,7 +72,7 @@ pub trait Visitor<W: Write> {
         ensures { HearsEnd story self.old self.new (W.contents output.old) (W.contents output.new)
             (of_end header ∷ []) result };
 
-    /// All that was read is worked through.
+    /// All that was read is worked through: what was printed of it goes out.
     fn settle(&mut self, output: &mut W) -> Result<(), RunFault>
         ensures { (next : Next) → Settles story self.old self.new
             (W.contents output.old) (W.contents output.new) next result };
@@ -314,8 +318,10 @@ impl Units {
 /// Reads the units of the input to its end, or to where the visitor wants nothing more, and tells the
 /// visitor of each event.
 ///
-/// The first fault in the order of the bytes is answered; before it the visitor was told of all that
-/// the bytes before the fault give.
+/// The first fault in the order of the bytes is answered, be it the section's or the visitor's; before
+/// it the visitor was told of all that the bytes before the fault give. `SectionTooLong` where the
+/// section goes past the limit, `Read` where the reader fails, `NoMemory` where a growth of
+/// `Reader::feed` is refused. The counts are those of the units that were read whole.
 pub fn read_units<R: Read, W: Write, V: Visitor<W>>(
     alloc: Global,
     input: &mut R,

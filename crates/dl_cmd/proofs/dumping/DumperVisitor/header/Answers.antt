@@ -1,16 +1,20 @@
-use Rattle.std.proofs.Common.{◌++◌, refl, ap, subst}
-use Rattle.std.specs.Prelude.{MatchResult}
+use Rattle.std.proofs.Common.{refl, ap}
+use Rattle.std.proofs.lemmas.Result.{err_from_is_err_and}
 use Rattle.dl_cmd.specs.Section.{of_header}
 use Rattle.dl_cmd.specs.SectionText.{visits_text}
-use Rattle.dl_print.specs.ValueText.{Strings, strings_of}
-use Rattle.dl_print.specs.HeaderText.{header_text}
-use Rattle.dl_print.specs.Output.{HasPrinted}
-use Rattle.dl_cmd.specs.RunOutput.{TellsOut}
-use Rattle.dl_cmd.proofs.DumpingLemmas.{prints_visit}
+use Rattle.dl_print.specs.ValueText.{strings_of}
+use Rattle.dl_cmd.proofs.DumpingLemmas.{prints_visit, loses_visit}
 use Rattle.dl_cmd.proofs.dumping.DumperVisitor.header.Goals as goal
+
+pub returns-in_err-header : goal.returns-in_err-header
+returns-in_err-header g c first start visits dumped =
+    let p = err_from_is_err_and c.from_residual.result c.from_residual.ensures.1 in
+    let new = record c.args.self.now { printer = c.header.new.self } in
+    let tells = rw (ap strings_of dumped.strings) at (c.in_err-header.ensures.printed start (visits_text (strings_of first.strings) visits) dumped.printed) in
+    rw (p.1, p.2) (loses_visit first c.args.self.now new start (g.W.Write.contents c.args.output.now) (g.W.Write.contents c.header.new.output) visits (of_header c.args.offset c.args.header.now) dumped refl _ tells)
 
 pub returns : goal.returns
 returns g c first start visits dumped =
-    prints_visit first c.args.self.now (record c.args.self.now { printer = c.header.new.self }) start (g.W.Write.contents c.args.output.now) (g.W.Write.contents c.header.new.output) visits (of_header c.args.offset c.args.header.now) dumped refl c.header.result
-    (subst (λ (s : Strings). MatchResult c.header.result (λ _. HasPrinted start (g.W.Write.contents c.header.new.output) (visits_text (strings_of first.strings) visits ++ header_text s c.args.offset c.args.header.now) c.header.new.self)
-    (TellsOut start (g.W.Write.contents c.header.new.output) (visits_text (strings_of first.strings) visits ++ header_text s c.args.offset c.args.header.now))) (ap strings_of dumped.strings) (c.header.ensures.printed start (visits_text (strings_of first.strings) visits) dumped.printed))
+    let new = record c.args.self.now { printer = c.header.new.self } in
+    let printed = rw (ap strings_of dumped.strings) at (c.in_ok-header.ensures.printed start (visits_text (strings_of first.strings) visits) dumped.printed) in
+    prints_visit first c.args.self.now new start (g.W.Write.contents c.args.output.now) (g.W.Write.contents c.header.new.output) visits (of_header c.args.offset c.args.header.now) dumped refl printed

@@ -7,7 +7,7 @@ use Rattle.dl_cmd.specs.Section.{of_end}
 use Rattle.dl_print.specs.Text.{row_line}
 use Rattle.dl_print.specs.ValueText.{strings_of}
 use Rattle.dl_cmd.proofs.FindingLemmas.{seeks_behind, has_found, stops_printing, no_answer, no_header}
-use Rattle.dl_cmd.proofs.OutLemmas.{TellsOut-more}
+use Rattle.dl_print.proofs.Outs.{TellsOut-more}
 use Rattle.dl_cmd.proofs.finding.SeekerVisitor.end.Goals.{in_default-via-in-Some+in_default, in_default-via-in_default}
 use Rattle.dl_cmd.proofs.finding.SeekerVisitor.end.Goals as goal
 

@@ -1,6 +1,12 @@
-use Rattle.dl_cmd.proofs.FindingLemmas.{settles}
+use Rattle.std.proofs.lemmas.Result.{err_from_is_err_and}
+use Rattle.dl_cmd.proofs.FindingLemmas.{settles, loses}
 use Rattle.dl_cmd.proofs.finding.SeekerVisitor.settle.Goals as goal
+
+pub returns-in_err-flush : goal.returns-in_err-flush
+returns-in_err-flush g c next first start visits s =
+    let p = err_from_is_err_and c.from_residual.result c.from_residual.ensures.1 in
+    rw (p.1, p.2) (loses first c.args.self.now c.flush.new.self start (g.W.Write.contents c.args.output.now) (g.W.Write.contents c.flush.new.output) visits next _ s c.in_err-flush.ensures.printed)
 
 pub returns : goal.returns
 returns g c next first start visits s =
-    settles first c.args.self.now c.flush.new.self start (g.W.Write.contents c.args.output.now) (g.W.Write.contents c.flush.new.output) visits next c.flush.result s c.flush.ensures.printed c.flush.ensures.empty
+    settles first c.args.self.now c.flush.new.self start (g.W.Write.contents c.args.output.now) (g.W.Write.contents c.flush.new.output) visits next s c.in_ok-flush.ensures.printed c.in_ok-flush.ensures.empty

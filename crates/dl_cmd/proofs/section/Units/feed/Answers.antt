@@ -3,7 +3,7 @@ use Rattle.std.proofs.lemmas.Result.{err_from_is_err_and}
 use Rattle.dl_head.specs.declared.fault.Fault.{Fault}
 use Rattle.dl_rows.specs.declared.reader.Fed.{Fed}
 use Rattle.dl_cmd.specs.Told.{RowsOf}
-use Rattle.dl_cmd.specs.Visiting.{UnitsAre}
+use Rattle.dl_cmd.specs.UnitsRead.{UnitsAre}
 use Rattle.dl_cmd.proofs.FeedLemmas.{stops_at_row, damaged, idle, unmet, goes_on, stops_told, next_unit, no_more, stops_at_end, goes_on_quietly, is_unit, feeds, are_ended, still_small, visits_so_far, rows_told}
 use Rattle.dl_cmd.proofs.section.Units.feed.Goals as goal
 

@@ -2,7 +2,7 @@ use Rattle.std.proofs.Common.{◌+◌, ◌<◌, ◌*◌, ◌^◌, length, min, �
 use Rattle.dl_num.specs.declared.fixed.Order.{Order}
 use Rattle.dl_rows.specs.Progress.{taken_of}
 use Rattle.dl_cmd.specs.Section.{section_visits}
-use Rattle.dl_cmd.specs.Visiting.{UnitsAre}
+use Rattle.dl_cmd.specs.UnitsRead.{UnitsAre}
 use Rattle.dl_cmd.proofs.FeedLemmas.{FedUpTo}
 use Rattle.dl_cmd.proofs.section.Units.feed.Given as goal
 
