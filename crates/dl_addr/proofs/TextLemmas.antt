@@ -1,5 +1,5 @@
 -- Texts that are kept stay, and a file's text is that of its entry.
-use Rattle.std.proofs.Common.{◌≡◌, ◌≢◌, ◌⊎◌, inl, inr, ℕ, zero, suc, ◌<◌, ◌≤◌, List, [], ◌∷◌, ◌++◌, length, min, slice_get, Option, Some, None, refl, sym, ap, ◌∙◌, subst, arith, append_assoc, append-nil, ⊎_elim}
+use Rattle.std.proofs.Common.{◌≡◌, ◌≢◌, ◌⊎◌, inl, inr, ℕ, zero, suc, ◌<◌, ◌≤◌, List, [], ◌∷◌, ◌++◌, length, min, replicate, slice_get, Option, Some, None, refl, sym, ap, ◌∙◌, subst, arith, append_assoc, append-nil, ⊎_elim}
 use Rattle.std.specs.Prelude.{codes, option_map}
 use Rattle.std.specs.Option.{option_and_then, option_copied, option_map_or}
 use Rattle.std.proofs.lemmas.Bool.{cases_lt}
@@ -69,3 +69,9 @@ seen_more u old new texts entry number only is are file k has = by (only file k 
   by : (slice_get old file ≡ Some (Some k)) ⊎ ((file ≡ entry) × (k ≡ number)) → text_at texts k ≡ Some (text_of_file u file)
   by (inl was) = are file k was
   by (inr (e, f)) = ap (text_at texts) f ∙ is ∙ ap (λ (n : ℕ). Some (text_of_file u n)) (sym e)
+
+-- no file was seen yet
+pub none_seen : (n file k : ℕ) → slice_get (replicate n None) file ≡ Some (Some k) → ⊥
+none_seen zero file k e = none_is_some e
+none_seen (suc n) zero k e = none_is_some (some_same None (Some k) e)
+none_seen (suc n) (suc file) k e = none_seen n file k e

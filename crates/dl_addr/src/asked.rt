@@ -2,6 +2,12 @@
 
 use dl_look::Place;
 
+/// The last of all places, which no sequence covers.
+const LAST: Place = Place {
+    address: u64::MAX,
+    op_index: u8::MAX,
+};
+
 /// An address that is asked for.
 #[derive(Clone, Copy, Debug, PartialEq, Eq)]
 pub struct Asked {
@@ -11,7 +17,7 @@ pub struct Asked {
 
 impl Asked {
     ghost use Rattle.std.specs.Prelude.{◌≡◌};
-    ghost use Rattle.dl_addr.specs.Asked.{place_of};
+    ghost use Rattle.dl_addr.specs.Asked.{looked_up, place_of};
 
     /// The place that is looked up; None where there is no address, or it is below the base.
     pub fn place(self, base: u64) -> Option<Place>
@@ -22,5 +28,15 @@ impl Asked {
             address,
             op_index: 0,
         })
+    }
+
+    /// The place that is looked up, or the last of all places.
+    pub(crate) fn looked_up(self, base: u64) -> Place
+        ensures { result ≡ looked_up base self }
+    {
+        match self.place(base) {
+            Some(place) => place,
+            None => LAST,
+        }
     }
 }

@@ -55,11 +55,7 @@ fn path_under<'a>(strings: &'a StringSections<'_>, header: &'a Header, file: u64
 }
 
 /// None where one of the texts isn't there.
-fn file_path<'a>(
-    strings: &'a StringSections<'_>,
-    header: &'a Header,
-    file: u64,
-) -> Option<Path<'a>>
+fn file_path<'a>(strings: &'a StringSections<'_>, header: &'a Header, file: u64) -> Option<Path<'a>>
     ensures { option_map path_seen result
         ≡ option_and_then (file_path (strings_of strings.now) header.now) (entry_of header.now.files file) }
 {
@@ -99,7 +95,8 @@ fn text_of<'a>(strings: &'a StringSections<'_>, value: ValueRef<'a>) -> Option<&
         ValueRef::Text(text) => Some(text),
         ValueRef::LineStr(at) => text_in_section(strings.debug_line_str.as_ref(), at),
         ValueRef::Str(at) => text_in_section(strings.debug_str.as_ref(), at),
-        ValueRef::StrSup(_) | ValueRef::Number(_) | ValueRef::Block(_) | ValueRef::Data16(_) => None,
+        ValueRef::StrSup(_) | ValueRef::Number(_) | ValueRef::Block(_) | ValueRef::Data16(_) =>
+            None,
     }
 }
 

@@ -74,7 +74,10 @@ fn append_shown(text: &mut Vec<u8>, byte: u8) -> Result<(), NoMemory>
     ensures { OnOk result (text.new.items ≡ text.old.items ++ shown_byte byte) }
 {
     if is_control(byte) {
-        append(text, &[b'\\', b'x', last_digit(byte / 16), last_digit(byte)])
+        append(
+            text,
+            &[b'\\', b'x', last_digit(byte / 16), last_digit(byte)],
+        )
     } else {
         append(text, &[byte])
     }
