@@ -1,13 +1,12 @@
 -- What `addr` answers and writes.
-use Rattle.std.proofs.Common.{◌≡◌, ◌⊎◌, inl, inr, ℕ, ◌<◌, Bool, true, false, List, [], ◌∷◌, ◌++◌, length, flat_map, map, take, slice_get, Option, Some, None, Result, Ok, Err, arith, refl, sym, ap, ap₂, ◌∙◌, subst, append_assoc, append-nil, length-append}
+use Rattle.std.proofs.Common.{◌≡◌, inl, inr, ℕ, Bool, List, [], ◌∷◌, ◌++◌, length, flat_map, map, take, slice_get, Option, Some, None, Result, Ok, Err, arith, refl, sym, ap, ap₂, ◌∙◌, subst, append_assoc, length-append}
 use Rattle.std.specs.Prelude.{if◌then◌else◌, ◌&&◌, is_some, option_map}
 use Rattle.std.specs.Io.KnownBytes.{Appends}
 use Rattle.std.specs.List.{concat, list_all}
-use Rattle.std.specs.Option.{option_and_then, option_copied, option_map_or}
+use Rattle.std.specs.Option.{option_and_then, option_copied}
 use Rattle.std.proofs.KnownBytes.{Appends-trans}
 use Rattle.std.proofs.lemmas.Option.{slice_get-map}
 use Rattle.dl_num.specs.declared.fixed.Order.{Order}
-use Rattle.dl_head.specs.TableData.{HeaderData}
 use Rattle.dl_look.specs.declared.place.Place.{Place}
 use Rattle.dl_print.specs.declared.fault.WriteFault.{WriteFault}
 use Rattle.dl_print.specs.declared.summary.Summary.{Summary}
@@ -15,8 +14,8 @@ use Rattle.dl_print.specs.Output.{TellsOut}
 use Rattle.dl_print.specs.ValueText.{Strings, strings_of}
 use Rattle.dl_cmd.specs.declared.fault.RunFault.{RunFault}
 use Rattle.dl_cmd.specs.declared.fault.RunFault.TheVariants as fault
-use Rattle.dl_cmd.specs.Section.{Visit, HasBegun, HasUnits, EndsAs, of_end, section_visits}
-use Rattle.dl_cmd.specs.Visiting.{Ran, Settled, VisitorStops}
+use Rattle.dl_cmd.specs.Section.{Visit, HasBegun, EndsAs, of_end, section_visits}
+use Rattle.dl_cmd.specs.Visiting.{Ran, VisitorStops}
 use Rattle.dl_cmd.proofs.SectionLemmas.{has_front}
 use Rattle.dl_addr.specs.declared.asked.Asked.{Asked}
 use Rattle.dl_addr.specs.declared.locating.Locator.{Locator}
@@ -27,14 +26,14 @@ use Rattle.dl_addr.specs.declared.style.Style.{Style}
 use Rattle.dl_addr.specs.Answers.{located_seen}
 use Rattle.dl_addr.specs.Asked.{looked_up, place_of}
 use Rattle.dl_addr.specs.Code.{is_code}
-use Rattle.dl_addr.specs.Commands.{AnswersFirst, Ends, Locates, answer_in, answer_lines, found_in}
+use Rattle.dl_addr.specs.Commands.{Ends, Locates, answer_in, answer_lines, found_in}
 use Rattle.dl_addr.specs.Knowing.{Knows}
 use Rattle.dl_addr.specs.Locating.{IsMadeFor, Locating, StopsAt, code_of, locate_story, located_by}
 use Rattle.dl_addr.specs.Locations.{Located, address_text, located, location_text, row_text}
 use Rattle.dl_addr.specs.Paths.{path_of}
 use Rattle.dl_addr.specs.Printing.{PrintsAll, answer_for, found_by, seen_lines, seen_text, told}
 use Rattle.dl_addr.specs.Shown.{path_text}
-use Rattle.dl_addr.proofs.EndLemmas.{SplitsAt, splits_section}
+use Rattle.dl_addr.proofs.EndLemmas.{splits_section}
 use Rattle.dl_addr.proofs.LocatedLemmas.{located_of_section}
 
 -- ---- lists

@@ -1,5 +1,5 @@
 -- At which unit a locator stops.
-use Rattle.std.proofs.Common.{◌≡◌, ◌⊎◌, inl, inr, ℕ, ◌+◌, Bool, true, false, List, [], ◌∷◌, ◌++◌, length, flat_map, Option, Some, None, refl, sym, ap, ap₂, ◌∙◌, append_assoc, append-nil, true≢false}
+use Rattle.std.proofs.Common.{◌≡◌, ◌⊎◌, inl, inr, ℕ, ◌+◌, Bool, true, false, List, [], ◌∷◌, ◌++◌, length, flat_map, Option, Some, None, refl, sym, ap, ◌∙◌, append_assoc, append-nil, true≢false}
 use Rattle.std.specs.Prelude.{◌||◌}
 use Rattle.std.specs.List.{concat, list_any}
 use Rattle.std.specs.Option.{option_or}
@@ -8,7 +8,7 @@ use Rattle.dl_head.specs.TableData.{HeaderData}
 use Rattle.dl_rows.specs.declared.reader.Event.{Event}
 use Rattle.dl_rows.specs.declared.reader.Event.TheVariants as event
 use Rattle.dl_rows.specs.LineUnit.{ends_open, events, unit_rows}
-use Rattle.dl_cmd.specs.Section.{Visit, of_header, of_version, of_row, of_open, of_end, header_of, header_visit, event_visits, visits, open_visit, end_visits, unit_visits, units_visits, section_visits}
+use Rattle.dl_cmd.specs.Section.{Visit, of_header, of_version, of_row, of_open, of_end, header_of, header_visit, event_visits, visits, open_visit, unit_visits, units_visits, section_visits}
 use Rattle.dl_cmd.specs.Copying.{offset_after}
 use Rattle.dl_cmd.proofs.Fronts.{fronts_of, or_none}
 use Rattle.dl_rows.specs.declared.row.Row.{Row}

@@ -1,16 +1,15 @@
 -- Lines that are printed one behind the other.
-use Rattle.std.proofs.Common.{◌≡◌, ℕ, ◌+◌, ◌<◌, ◌≤◌, Bool, true, false, List, [], ◌∷◌, ◌++◌, length, flat_map, take, drop, get_or, Option, Some, None, arith, refl, sym, ap, ap₂, ◌∙◌, subst, append_assoc, append-nil, length-drop}
+use Rattle.std.proofs.Common.{◌≡◌, ℕ, ◌+◌, ◌<◌, ◌≤◌, Bool, true, false, List, [], ◌∷◌, ◌++◌, length, take, drop, get_or, Option, Some, None, refl, sym, ap, ap₂, ◌∙◌, subst, append-nil}
 use Rattle.std.specs.Prelude.{if◌then◌else◌, ◌&&◌, is_some, option_map}
 use Rattle.std.specs.Io.KnownBytes.{Appends}
 use Rattle.std.specs.List.{list_all}
-use Rattle.std.proofs.KnownBytes.{Appends-nil}
 use Rattle.std.proofs.lemmas.List.{take-append-drop, take_more, take_all}
 use Rattle.std.proofs.lemmas.Grind.{flat_map-append}
 use Rattle.dl_rows.specs.declared.row.Row.{Row}
 use Rattle.dl_print.specs.declared.fault.WriteFault.{WriteFault}
 use Rattle.dl_print.specs.Printed.{Printed}
 use Rattle.dl_print.specs.Output.{HasPrinted, PrintsMore, TellsOut}
-use Rattle.dl_print.proofs.Outs.{HasPrinted-nothing, HasPrinted-out, TellsOut-more}
+use Rattle.dl_print.proofs.Outs.{HasPrinted-out, TellsOut-more}
 use Rattle.dl_addr.specs.declared.asked.Asked.{Asked}
 use Rattle.dl_addr.specs.declared.question.Found.{Found}
 use Rattle.dl_addr.specs.declared.question.Found.TheVariants as found

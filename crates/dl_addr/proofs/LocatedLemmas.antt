@@ -13,7 +13,7 @@ use Rattle.dl_rows.specs.LineUnit.{rows_in, rows_behind, unit_rows, ends_open, e
 use Rattle.dl_rows.proofs.ReaderLemmas.{foreign_no_header}
 use Rattle.dl_look.specs.declared.place.Place.{Place}
 use Rattle.dl_look.specs.Answer.{answer}
-use Rattle.dl_look.specs.LiveRows.{live_answer, live_rows}
+use Rattle.dl_look.specs.LiveRows.{live_rows}
 use Rattle.dl_look.specs.Units.{answer_of_units}
 use Rattle.dl_look.proofs.LiveLemmas.{of_live_rows}
 use Rattle.dl_cmd.specs.Copying.{offset_after}

@@ -1,7 +1,7 @@
 -- How a locator goes on with visits.
-use Rattle.std.proofs.Common.{◌≡◌, ◌⊎◌, inl, inr, ℕ, Bool, true, false, List, [], ◌∷◌, ◌++◌, length, slice_get, Option, Some, None, Result, Ok, Err, refl, sym, ap, ap₂, ◌∙◌, subst, append-nil}
-use Rattle.std.specs.Prelude.{⊤, if◌then◌else◌, is_some, option_map, OnErr, OnOk}
-use Rattle.std.specs.Option.{option_and_then, option_copied, option_or}
+use Rattle.std.proofs.Common.{◌≡◌, ℕ, Bool, true, List, [], ◌∷◌, ◌++◌, length, slice_get, Option, Some, None, Result, Ok, Err, refl, sym, ap, ap₂, ◌∙◌, subst, append-nil}
+use Rattle.std.specs.Prelude.{⊤, is_some, option_map, OnErr, OnOk}
+use Rattle.std.specs.Option.{option_and_then, option_or}
 use Rattle.std.specs.Io.KnownBytes.{Appends}
 use Rattle.dl_head.specs.TableData.{HeaderData}
 use Rattle.dl_rows.specs.declared.row.Row.{Row}
@@ -17,7 +17,7 @@ use Rattle.dl_print.specs.ValueText.{strings_of}
 use Rattle.dl_cmd.specs.declared.fault.RunFault.TheVariants as fault
 use Rattle.dl_cmd.specs.Copying.{offset_after}
 use Rattle.dl_cmd.specs.RowsTold.{rows_after}
-use Rattle.dl_cmd.specs.Section.{Visit, of_header, of_version, of_row, of_open, of_end}
+use Rattle.dl_cmd.specs.Section.{Visit, of_end}
 use Rattle.dl_cmd.specs.declared.section.Next.{Next}
 use Rattle.dl_cmd.specs.declared.section.Next.TheVariants as next
 use Rattle.dl_cmd.specs.Visiting.{GoesOn, StopsIn}
@@ -27,7 +27,7 @@ use Rattle.dl_addr.specs.declared.locating.Locator.{Locator}
 use Rattle.dl_addr.specs.declared.texts.FileText.{FileText}
 use Rattle.dl_addr.specs.Answers.{located_seen}
 use Rattle.dl_addr.specs.Keeping.{Keeps, text_under}
-use Rattle.dl_addr.specs.Locating.{IsMadeFor, Locating, LooksFor, StopsAt, code_of, ended_rows, locate_story, located_after, located_by, located_under, text_of_located}
+use Rattle.dl_addr.specs.Locating.{IsMadeFor, Locating, LooksFor, code_of, ended_rows, locate_story, located_after, located_by, located_under, text_of_located}
 use Rattle.dl_addr.specs.Locations.{Located}
 use Rattle.dl_addr.specs.Paths.{path_of}
 use Rattle.dl_addr.specs.Shown.{path_text}

@@ -1,5 +1,5 @@
 -- Texts that are printed one behind the other.
-use Rattle.std.proofs.Common.{◌≡◌, ℕ, List, ◌++◌, Option, Result, append_assoc, subst}
+use Rattle.std.proofs.Common.{ℕ, List, ◌++◌, Option, Result, append_assoc, subst}
 use Rattle.std.specs.Prelude.{MatchResult}
 use Rattle.dl_print.specs.Printed.{Printed}
 use Rattle.dl_print.specs.declared.fault.WriteFault.{WriteFault}

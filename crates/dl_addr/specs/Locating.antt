@@ -1,6 +1,6 @@
 -- What `addr` is told, and what it keeps of it. No promise rests on this file.
-use Rattle.std.specs.Prelude.{◌≡◌, ℕ, Bool, true, if◌then◌else◌, List, [], ◌∷◌, ◌++◌, length, is_some, slice_get, Option, Some, None, option_map}
-use Rattle.std.specs.Option.{option_and_then, option_copied, option_map_or, option_or}
+use Rattle.std.specs.Prelude.{◌≡◌, ℕ, Bool, true, List, [], ◌∷◌, ◌++◌, length, is_some, slice_get, Option, Some, None, option_map}
+use Rattle.std.specs.Option.{option_copied, option_or}
 use Rattle.std.specs.Io.KnownBytes.{Appends}
 use Rattle.dl_head.specs.TableData.{HeaderData}
 use Rattle.dl_rows.specs.declared.row.Row.{Row}
@@ -8,7 +8,7 @@ use Rattle.dl_look.specs.declared.place.Place.{Place}
 use Rattle.dl_look.specs.Answer.{answer}
 use Rattle.dl_look.specs.FindersRows.{Stand}
 use Rattle.dl_look.specs.LiveRows.{live_rows, Tells}
-use Rattle.dl_print.specs.ValueText.{Strings, strings_of}
+use Rattle.dl_print.specs.ValueText.{strings_of}
 use Rattle.dl_cmd.specs.declared.fault.RunFault.{RunFault}
 use Rattle.dl_cmd.specs.declared.fault.RunFault.TheVariants.{NoMemory}
 use Rattle.dl_cmd.specs.Copying.{offset_after}
@@ -16,7 +16,6 @@ use Rattle.dl_cmd.specs.RowsTold.{rows_after}
 use Rattle.dl_cmd.specs.Section.{Visit, of_header, of_row, of_end}
 use Rattle.dl_cmd.specs.Visiting.{Story}
 use Rattle.dl_addr.specs.declared.locating.Locator.{Locator}
-use Rattle.dl_addr.specs.declared.style.Style.{Style}
 use Rattle.dl_addr.specs.Code.{is_code}
 use Rattle.dl_addr.specs.Locations.{Located}
 use Rattle.dl_addr.specs.Paths.{path_of}

@@ -1,4 +1,4 @@
-use Rattle.std.proofs.Common.{◌-◌, ◌≡◌, ◌≤◌, vec_len, vec_capacity}
+use Rattle.std.proofs.Common.{◌-◌, ◌≤◌, vec_len, vec_capacity}
 use Rattle.dl_addr.proofs.locating.no_numbers.Given as goal
 
 abbrev pub invariant-loop-numbers : goal.invariant-loop-numbers

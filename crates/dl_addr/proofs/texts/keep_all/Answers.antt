@@ -1,4 +1,4 @@
-use Rattle.std.proofs.Common.{◌≡◌, ℕ, ◌+◌, List, Option, None, Some, slice_get, slice_index_or, refl, sym, ap, ◌∙◌, subst, arith, ⊎_elim}
+use Rattle.std.proofs.Common.{◌≡◌, ℕ, List, Option, Some, slice_get, slice_index_or, refl, ◌∙◌, subst, arith, ⊎_elim}
 use Rattle.std.proofs.lemmas.Bool.{cases_lt}
 use Rattle.dl_look.specs.Ledgers.{no_answer}
 use Rattle.dl_addr.specs.Texts.{IsKept, text_of_file}

@@ -1,6 +1,6 @@
-use Rattle.std.proofs.Common.{◌≡◌, ℕ, min, Some, slice_get, sym, ap, ◌∙◌, subst}
-use Rattle.dl_addr.specs.Texts.{text_at, text_of_file}
-use Rattle.dl_addr.proofs.TextLemmas.{grows_none, seen_more, seen_stays, text_clamped, text_stays}
+use Rattle.std.proofs.Common.{◌≡◌, ℕ, Some, slice_get, ap, ◌∙◌, subst}
+use Rattle.dl_addr.specs.Texts.{text_of_file}
+use Rattle.dl_addr.proofs.TextLemmas.{seen_more, seen_stays, text_clamped}
 use Rattle.dl_addr.proofs.texts.number_of.Goals as goal
 
 pub returns-in-Some-clause-right : goal.returns-in-Some-clause-right

@@ -1,5 +1,4 @@
-use Rattle.std.proofs.Common.{[], ◌∷◌, ◌++◌, refl, sym, ap, ◌∙◌, subst}
-use Rattle.std.specs.Option.{option_copied}
+use Rattle.std.proofs.Common.{subst}
 use Rattle.dl_addr.specs.Keeping.{Keeps}
 use Rattle.dl_addr.proofs.LocatorLemmas.{behind, stops}
 use Rattle.dl_addr.proofs.locating.LocatorVisitor.end.Goals as goal
