@@ -11,3 +11,4 @@ pub mod Trails
 pub mod FindersRows
 pub mod SequenceState
 pub mod Units
+pub mod CodeRanges

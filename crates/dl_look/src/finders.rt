@@ -172,6 +172,14 @@ impl Finders {
         &self.ledger.log()[self.before..self.whole]
     }
 
+    /// The places that the rows of the unit at hand are the first to answer so far, each once.
+    pub fn answered_so_far(&self) -> &[Answered]
+        ensures { (places : List Place) (units : List (List Row)) (rows : List Row)
+            → Stand self.now places units rows → AreFirstAnswers places units rows result.now }
+    {
+        &self.ledger.log()[self.whole..]
+    }
+
     /// The answer of the place of this number among those that were given, in the units that have ended:
     /// that of the first unit whose rows have one, as `Finder::answer` gives it of a unit's rows. None
     /// where none has, and where there is no place of this number.

@@ -1,0 +1,5 @@
+//! Locations of addresses in worked sections.
+#![tactic(auto)]
+
+#[cfg(test)]
+mod locations;

@@ -1,0 +1,9 @@
+pub mod BasenameLemmas
+pub mod TextLemmas
+pub mod LocatedLemmas
+pub mod LocatorLemmas
+pub mod KeepLemmas
+pub mod PrintLemmas
+pub mod EndLemmas
+pub mod LinesLemmas
+pub mod AnsweringLemmas

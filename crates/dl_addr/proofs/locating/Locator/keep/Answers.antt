@@ -1,0 +1,47 @@
+use Rattle.std.proofs.Common.{◌≡◌, ◌<◌, length, arith, refl, sym, ◌∙◌}
+use Rattle.std.specs.Option.{option_copied}
+use Rattle.std.proofs.lemmas.Bool.{eqb-false, eqb-true}
+use Rattle.dl_addr.specs.Keeping.{text_under}
+use Rattle.dl_addr.proofs.KeepLemmas.{is_kept, is_other, none_kept, numbers, on_err, on_ok, some_first}
+use Rattle.dl_addr.proofs.TextLemmas.{grows_none}
+use Rattle.dl_addr.proofs.locating.Locator.keep.Goals as goal
+
+pub returns-then-is_empty : goal.returns-then-is_empty
+returns-then-is_empty c =
+    let answered = c.answered_so_far-answered.result.now in
+    let empty : length answered ≡ 0 = eqb-true (length answered) 0 (sym c.is_empty.ensures ∙ c.if-is_empty.true) in
+    record {
+      code = refl;
+      style = refl;
+      strings = refl;
+      unit = refl;
+      live = refl;
+      finders = refl;
+      grows = grows_none c.args.self.now.texts.items;
+      count = refl;
+      others = λ places units rows st i none. refl;
+      right = λ places units rows st count i r f. absurd (none_kept places units rows answered (c.answered_so_far-answered.ensures places units rows st) empty i r f);
+      some = tt;
+    }
+
+pub returns : goal.returns
+returns c =
+    let answered = c.answered_so_far-answered.result.now in
+    let old = c.args.self.now in
+    let h = option_copied c.args.header in
+    let some : 0 < length answered = let not_zero = eqb-false (length answered) 0 (sym c.is_empty.ensures ∙ c.if-is_empty.false) in omega (arith, not_zero) in
+    record {
+      code = refl;
+      style = refl;
+      strings = refl;
+      unit = refl;
+      live = refl;
+      finders = refl;
+      grows = c.keep_all.ensures.grows;
+      count = c.keep_all.ensures.len;
+      others = λ places units rows st i none. c.keep_all.ensures.others i (is_other places units rows answered (c.answered_so_far-answered.ensures places units rows st) i none);
+      right = on_ok c.keep_all.result c.keep_all.ensures.right (λ each places units rows st count.
+          is_kept places units rows answered (c.answered_so_far-answered.ensures places units rows st) c.keep_all.new.texts.items c.keep_all.new.kept.items (text_under old h)
+          (each (numbers places units rows answered (c.answered_so_far-answered.ensures places units rows st) old.kept.items count)));
+      some = on_err c.keep_all.result (λ places units rows st. some_first places units rows answered (c.answered_so_far-answered.ensures places units rows st) some);
+    }

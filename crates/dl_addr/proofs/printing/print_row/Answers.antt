@@ -1,0 +1,26 @@
+use Rattle.std.proofs.Common.{◌++◌, codes, decimal}
+use Rattle.std.proofs.lemmas.Result.{err_from_is_err_and}
+use Rattle.dl_addr.specs.Locations.{column_text}
+use Rattle.dl_addr.proofs.PrintLemmas.{loses_front, loses_then}
+use Rattle.dl_addr.proofs.printing.print_row.Goals as goal
+
+pub returns-in_err-put : goal.returns-in_err-put
+returns-in_err-put g c start text h =
+    let p = err_from_is_err_and c.from_residual.result c.from_residual.ensures.1 in
+    let path = c.args.path.now in
+    let row = c.args.row.now in
+    let old = g.W.Write.contents c.args.output.now in
+    let new = g.W.Write.contents c.put.new.output in
+    let line = codes ":" ++ decimal row.line in
+    rw (p.1, p.2) (loses_front old new c.args.printer.now (path ++ line) (column_text row.column) _ (loses_front old new c.args.printer.now path line _ c.in_err-put.ensures.printed) start text h)
+
+pub returns-in_err-number : goal.returns-in_err-number
+returns-in_err-number g c start text h =
+    let p = err_from_is_err_and c.from_residual-in_err-number.result c.from_residual-in_err-number.ensures.1 in
+    let path = c.args.path.now in
+    let row = c.args.row.now in
+    let old = g.W.Write.contents c.args.output.now in
+    let mid = g.W.Write.contents c.put.new.output in
+    let new = g.W.Write.contents c.number.new.output in
+    let line = codes ":" ++ decimal row.line in
+    rw (p.1, p.2) (loses_front old new c.args.printer.now (path ++ line) (column_text row.column) _ (loses_then old mid new c.args.printer.now c.put.new.self path line _ c.in_ok-put.ensures.printed c.in_err-number.ensures.printed) start text h)

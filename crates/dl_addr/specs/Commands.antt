@@ -1,0 +1,64 @@
+-- What `addr` answers and writes. bytes: what was read from a reader, which has `left` left. start, now: what the writer held at
+-- first, and holds now. None: it isn't known.
+use Rattle.std.specs.Prelude.{◌≡◌, ◌⊎◌, ℕ, true, if◌then◌else◌, List, [], ◌∷◌, ◌++◌, take, flat_map, is_some, slice_get, Option, Some, None, Result, Ok, Err}
+use Rattle.std.specs.List.{list_all}
+use Rattle.std.specs.Option.{option_and_then, option_copied}
+use Rattle.std.specs.Io.KnownBytes.{Appends, Keeps}
+use Rattle.dl_num.specs.declared.fixed.Order.{Order}
+use Rattle.dl_print.specs.Output.{TellsOut}
+use Rattle.dl_print.specs.ValueText.{Strings}
+use Rattle.dl_cmd.specs.declared.fault.RunFault.{RunFault}
+use Rattle.dl_cmd.specs.declared.fault.RunFault.TheVariants as fault
+use Rattle.dl_print.specs.declared.summary.Summary.{Summary}
+use Rattle.dl_cmd.specs.Section.{EndsAs, HasUnits}
+use Rattle.dl_addr.specs.declared.asked.Asked.{Asked}
+use Rattle.dl_addr.specs.declared.question.Found.{Found}
+use Rattle.dl_addr.specs.declared.question.Found.TheVariants as found
+use Rattle.dl_addr.specs.declared.question.Question.{Question}
+use Rattle.dl_addr.specs.Asked.{looked_up, place_of}
+use Rattle.dl_addr.specs.Code.{is_code}
+use Rattle.dl_addr.specs.Locations.{Located, located, asked_line}
+
+-- what the units answer for what is asked
+abbrev pub answer_in : Order → Question → List (List ℕ) → Asked → Option Located
+answer_in order q units a = option_and_then (located order (is_code (option_copied q.code)) units) (place_of q.base a)
+
+-- a line for each address, in the order in which they are asked
+abbrev pub answer_lines : Order → Strings → Question → List (List ℕ) → List ℕ
+answer_lines order s q units = flat_map (λ a. asked_line q.style s a (answer_in order q units a)) q.asked.now
+
+-- whether each has an answer
+abbrev pub found_in : Order → Question → List (List ℕ) → Found
+found_in order q units = if list_all (λ a. is_some (answer_in order q units a)) q.asked.now then found.All else found.NotAll
+
+-- u is a unit that is the first to answer for a place that is looked up
+pub record AnswersFirst (order : Order) (q : Question) (units : List (List ℕ)) (u : List ℕ) : Type 0 where
+  pub a : Asked
+  pub number : ℕ
+  pub is_asked : slice_get q.asked.now number ≡ Some a
+  pub not_before : located order (is_code (option_copied q.code)) units (looked_up q.base a) ≡ None
+  pub answers : is_some (located order (is_code (option_copied q.code)) (units ++ u ∷ []) (looked_up q.base a)) ≡ true
+
+-- how the reading ends: as that of `check`, or memory is refused for the answers of u, the unit behind these units
+abbrev pub Ends : Order → (limit : ℕ) (bytes : List ℕ) (left : Option (List ℕ)) → Question → (units : List (List ℕ)) (b back : List ℕ) → Result Summary RunFault → Type 0
+Ends order limit bytes left q units b back (Err fault.NoMemory) =
+    EndsAs order limit bytes left units b back (Err fault.NoMemory)
+    ⊎ (HasUnits order (take limit bytes) (units ++ b ∷ []) back × AnswersFirst order q units b)
+Ends order limit bytes left q units b back result = EndsAs order limit bytes left units b back result
+
+-- `addr`: the lines of what is asked, answered by the units before the end or the fault. Where memory is refused for the places, nothing is
+-- read or written.
+abbrev pub Locates : Order → Strings → Question → (limit : ℕ) (bytes : List ℕ) (left start now : Option (List ℕ)) → Result Found RunFault → Type 0
+Locates order s q limit bytes left start now (Ok all_found) =
+    (units : List (List ℕ)) × (summary : Summary) × EndsAs order limit bytes left units [] [] (Ok summary)
+    × (all_found ≡ found_in order q units) × Appends start now (answer_lines order s q units)
+Locates order s q limit bytes left start now (Err (fault.Write out)) =
+    (units : List (List ℕ)) × (b : List ℕ) × (back : List ℕ) × (ending : Result Summary RunFault) × Ends order limit bytes left q units b back ending
+    × TellsOut start now (answer_lines order s q units) (record { out = out })
+Locates order s q limit bytes left start now (Err fault.NoMemory) =
+    ((bytes ≡ []) × Keeps start now)
+    ⊎ ((units : List (List ℕ)) × (b : List ℕ) × (back : List ℕ) × Ends order limit bytes left q units b back (Err fault.NoMemory)
+    × Appends start now (answer_lines order s q units))
+Locates order s q limit bytes left start now (Err f) =
+    (units : List (List ℕ)) × (b : List ℕ) × (back : List ℕ) × Ends order limit bytes left q units b back (Err f)
+    × Appends start now (answer_lines order s q units)

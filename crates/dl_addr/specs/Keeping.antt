@@ -1,0 +1,34 @@
+-- What a locator keeps at the end of a unit. No promise rests on this file.
+use Rattle.std.specs.Prelude.{⊤, ◌≡◌, ℕ, List, length, slice_get, Option, OnOk, OnErr, Result}
+use Rattle.dl_head.specs.TableData.{HeaderData}
+use Rattle.dl_rows.specs.declared.row.Row.{Row}
+use Rattle.dl_look.specs.declared.index.NoMemory.{NoMemory}
+use Rattle.dl_look.specs.declared.place.Place.{Place}
+use Rattle.dl_look.specs.FindersRows.{Stand}
+use Rattle.dl_look.specs.Units.{FirstAnswer}
+use Rattle.dl_print.specs.ValueText.{strings_of}
+use Rattle.dl_addr.specs.declared.locating.Locator.{Locator}
+use Rattle.dl_addr.specs.Paths.{path_of}
+use Rattle.dl_addr.specs.Shown.{path_text}
+use Rattle.dl_addr.specs.Texts.{Grows, IsKept}
+
+abbrev pub text_under : Locator → Option HeaderData → Row → List ℕ × ℕ
+text_under l h r = (path_text l.style (path_of (strings_of l.strings) h r.file), l.unit)
+
+-- of the places that the unit at hand is the first to answer the texts are kept, and of the others what was
+pub record Keeps (old new : Locator) (h : Option HeaderData) (result : Result ⊤ NoMemory) : Type 0 where
+  pub code : new.code ≡ old.code
+  pub style : new.style ≡ old.style
+  pub strings : new.strings ≡ old.strings
+  pub unit : new.unit ≡ old.unit
+  pub live : new.live ≡ old.live
+  pub finders : new.finders ≡ old.finders
+  pub grows : Grows old.texts.items new.texts.items
+  pub count : length new.kept.items ≡ length old.kept.items
+  pub others : (places : List Place) (units : List (List Row)) (rows : List Row) → Stand old.finders places units rows
+      → (i : ℕ) → ((r : Row) → FirstAnswer places units rows i r → ⊥) → slice_get new.kept.items i ≡ slice_get old.kept.items i
+  pub right : OnOk result ((places : List Place) (units : List (List Row)) (rows : List Row) → Stand old.finders places units rows
+      → length old.kept.items ≡ length places → (i : ℕ) (r : Row) → FirstAnswer places units rows i r
+      → IsKept new.texts.items new.kept.items i (text_under old h r))
+  pub some : OnErr result ((places : List Place) (units : List (List Row)) (rows : List Row) → Stand old.finders places units rows
+      → (i : ℕ) × (r : Row) × FirstAnswer places units rows i r)

@@ -1,0 +1,10 @@
+-- What a locator is made of. No promise rests on this file.
+use Rattle.std.specs.Prelude.{◌≡◌}
+use Rattle.dl_print.specs.ValueText.{Strings, strings_of}
+use Rattle.dl_addr.specs.declared.locating.Locator.{Locator}
+use Rattle.dl_addr.specs.declared.question.Question.{Question}
+
+pub record Knows (l : Locator) (q : Question) (s : Strings) : Type 0 where
+  pub code : l.code ≡ q.code
+  pub style : l.style ≡ q.style
+  pub strings : strings_of l.strings ≡ s

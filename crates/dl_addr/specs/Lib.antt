@@ -1,0 +1,13 @@
+pub mod Asked
+pub mod Paths
+pub mod Parts
+pub mod Shown
+pub mod Code
+pub mod Locations
+pub mod Commands
+pub mod Texts
+pub mod Keeping
+pub mod Locating
+pub mod Answers
+pub mod Printing
+pub mod Knowing

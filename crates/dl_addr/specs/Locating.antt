@@ -1,0 +1,95 @@
+-- What `addr` is told, and what it keeps of it. No promise rests on this file.
+use Rattle.std.specs.Prelude.{◌≡◌, ℕ, Bool, true, List, [], ◌∷◌, ◌++◌, length, is_some, slice_get, Option, Some, None, option_map}
+use Rattle.std.specs.Option.{option_copied, option_or}
+use Rattle.std.specs.Io.KnownBytes.{Appends}
+use Rattle.dl_head.specs.TableData.{HeaderData}
+use Rattle.dl_rows.specs.declared.row.Row.{Row}
+use Rattle.dl_look.specs.declared.place.Place.{Place}
+use Rattle.dl_look.specs.Answer.{answer}
+use Rattle.dl_look.specs.FindersRows.{Stand}
+use Rattle.dl_look.specs.LiveRows.{live_rows, Tells}
+use Rattle.dl_print.specs.ValueText.{strings_of}
+use Rattle.dl_cmd.specs.declared.fault.RunFault.{RunFault}
+use Rattle.dl_cmd.specs.declared.fault.RunFault.TheVariants.{NoMemory}
+use Rattle.dl_cmd.specs.Copying.{offset_after}
+use Rattle.dl_cmd.specs.RowsTold.{rows_after}
+use Rattle.dl_cmd.specs.Section.{Visit, of_header, of_row, of_end}
+use Rattle.dl_cmd.specs.Visiting.{Story}
+use Rattle.dl_addr.specs.declared.locating.Locator.{Locator}
+use Rattle.dl_addr.specs.Code.{is_code}
+use Rattle.dl_addr.specs.Locations.{Located}
+use Rattle.dl_addr.specs.Paths.{path_of}
+use Rattle.dl_addr.specs.Shown.{path_text}
+use Rattle.dl_addr.specs.Texts.{IsKept}
+
+-- ---- what visits give; rows, offset: of the unit at hand before the visits
+
+-- the live rows of the units that ended
+abbrev pub ended_rows : (live : ℕ → Bool) → List Row → List Visit → List (List Row)
+ended_rows live rows [] = []
+ended_rows live rows (of_row r ∷ visits) = ended_rows live (rows ++ r ∷ []) visits
+ended_rows live rows (of_end h ∷ visits) = live_rows live rows ∷ ended_rows live [] visits
+ended_rows live rows (visit ∷ visits) = ended_rows live rows visits
+
+-- the answer of a unit
+abbrev pub located_under : (live : ℕ → Bool) → Place → List Row → (offset : ℕ) → Option HeaderData → Option Located
+located_under live x rows offset h = option_map (λ r. record { row = r; header = h; unit = offset }) (answer (live_rows live rows) x)
+
+-- the answer of the first unit that ended and has one
+abbrev pub located_after : (live : ℕ → Bool) → Place → List Row → (offset : ℕ) → List Visit → Option Located
+located_after live x rows offset [] = None
+located_after live x rows offset (of_header n h ∷ visits) = located_after live x rows n visits
+located_after live x rows offset (of_row r ∷ visits) = located_after live x (rows ++ r ∷ []) offset visits
+located_after live x rows offset (of_end h ∷ visits) = option_or (located_under live x rows offset h) (located_after live x [] offset visits)
+located_after live x rows offset (visit ∷ visits) = located_after live x rows offset visits
+
+-- ---- the locator
+
+abbrev pub code_of : Locator → ℕ → Bool
+code_of l = is_code (option_copied l.code)
+
+abbrev pub located_by : Locator → Place → List Visit → Option Located
+located_by first x visits = located_after (code_of first) x [] first.unit visits
+
+-- the text of the path, with the offset of its unit
+abbrev pub text_of_located : Locator → Located → List ℕ × ℕ
+text_of_located first l = (path_text first.style (path_of (strings_of first.strings) l.header l.row.file), l.unit)
+
+-- it looks for these places
+pub record LooksFor (first now : Locator) (places : List Place) (visits : List Visit) : Type 0 where
+  pub stand : Stand now.finders places (ended_rows (code_of first) [] visits) (live_rows (code_of first) (rows_after [] visits))
+  pub count : length now.kept.items ≡ length places
+  pub kept : (i : ℕ) (x : Place) (l : Located) → slice_get places i ≡ Some x → located_by first x visits ≡ Some l
+      → IsKept now.texts.items now.kept.items i (text_of_located first l)
+
+-- it was made for these places
+pub record IsMadeFor (first : Locator) (places : List Place) : Type 0 where
+  pub stand : Stand first.finders places [] []
+  pub count : length first.kept.items ≡ length places
+
+pub record Locating (first now : Locator) (start held : Option (List ℕ)) (visits : List Visit) : Type 0 where
+  pub code : now.code ≡ first.code
+  pub style : now.style ≡ first.style
+  pub strings : now.strings ≡ first.strings
+  pub unit : now.unit ≡ offset_after first.unit visits
+  pub live : Tells now.live (code_of first) (rows_after [] visits)
+  pub looks : (places : List Place) → IsMadeFor first places → LooksFor first now places visits
+  pub nothing : Appends start held []
+
+-- the last visit ends a unit that is the first to answer for a place
+pub record StopsAt (first : Locator) (visits : List Visit) (fault : RunFault) : Type 0 where
+  pub is : fault ≡ NoMemory
+  pub before : List Visit
+  pub h : Option HeaderData
+  pub whole : visits ≡ before ++ of_end h ∷ []
+  pub answers : (places : List Place) → IsMadeFor first places
+      → (i : ℕ) × (x : Place) × (slice_get places i ≡ Some x) × (located_by first x before ≡ None) × (is_some (located_by first x visits) ≡ true)
+
+-- nothing is printed while it reads
+abbrev pub locate_story : Story Locator
+locate_story = record {
+  text = λ first visits. [];
+  tells = Locating;
+  is_done = λ first new start now visits. ⊥;
+  refuses = StopsAt;
+}

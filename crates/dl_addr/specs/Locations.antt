@@ -1,0 +1,65 @@
+-- What is answered for an address, and its text.
+use Rattle.std.specs.Prelude.{ℕ, ◌+◌, Bool, ◌==◌, if◌then◌else◌, List, [], ◌∷◌, ◌++◌, length, Option, None, codes, decimal, option_map}
+use Rattle.std.specs.Option.{option_map_or, option_or}
+use Rattle.dl_num.specs.declared.fixed.Order.{Order}
+use Rattle.dl_head.specs.TableData.{HeaderData}
+use Rattle.dl_rows.specs.declared.row.Row.{Row}
+use Rattle.dl_rows.specs.LineUnit.{unit_rows}
+use Rattle.dl_look.specs.declared.place.Place.{Place}
+use Rattle.dl_look.specs.LiveRows.{live_answer}
+use Rattle.dl_print.specs.Digits.{hexadecimal_of}
+use Rattle.dl_print.specs.Text.{line}
+use Rattle.dl_print.specs.ValueText.{Strings}
+use Rattle.dl_cmd.specs.Section.{header_of}
+use Rattle.dl_addr.specs.declared.asked.Asked.{Asked}
+use Rattle.dl_addr.specs.declared.style.Style.{Style}
+use Rattle.dl_addr.specs.Paths.{path_of}
+use Rattle.dl_addr.specs.Shown.{path_text}
+
+-- ---- answers
+
+-- the row that answers for a place, the header of its unit, and the offset of that unit
+pub record Located : Type 0 where
+  pub row : Row
+  pub header : Option HeaderData
+  pub unit : ℕ
+
+-- of the unit u at that offset: the row of its first live rising sequence that covers x
+abbrev pub located_in : Order → (live : ℕ → Bool) → (offset : ℕ) → List ℕ → Place → Option Located
+located_in order live offset u x =
+    option_map (λ r. record { row = r; header = header_of order u; unit = offset }) (live_answer live (unit_rows order u) x)
+
+-- of units one behind the other, the first at that offset: of the first that has an answer
+abbrev pub located_from : Order → (live : ℕ → Bool) → (offset : ℕ) → List (List ℕ) → Place → Option Located
+located_from order live offset [] x = None
+located_from order live offset (u ∷ units) x =
+    option_or (located_in order live offset u x) (located_from order live (offset + length u) units x)
+
+-- of the units of a section
+abbrev pub located : Order → (live : ℕ → Bool) → List (List ℕ) → Place → Option Located
+located order live units x = located_from order live 0 units x
+
+-- ---- texts
+
+-- the column, where it isn't 0
+abbrev pub column_text : ℕ → List ℕ
+column_text column = if column == 0 then [] else codes ":" ++ decimal column
+
+-- under the text of a path
+abbrev pub row_text : List ℕ → Row → List ℕ
+row_text path r = path ++ (codes ":" ++ decimal r.line) ++ column_text r.column
+
+abbrev pub located_text : Style → Strings → Located → List ℕ
+located_text style s l = row_text (path_text style (path_of s l.header l.row.file)) l.row
+
+abbrev pub location_text : Style → Strings → Option Located → List ℕ
+location_text style s answer = option_map_or (located_text style s) answer (codes "??:0")
+
+-- the address as it was given; nothing of a line that is no address
+abbrev pub address_text : Style → Asked → List ℕ
+address_text style a =
+    if style.addresses then option_map_or (λ address. codes "0x" ++ hexadecimal_of 16 address ++ codes " ") a.address [] else []
+
+-- the line of what is asked, where this is its answer
+abbrev pub asked_line : Style → Strings → Asked → Option Located → List ℕ
+asked_line style s a answer = line (address_text style a ++ location_text style s answer)

@@ -1,0 +1,32 @@
+-- The texts of paths, as they are printed.
+use Rattle.std.specs.Prelude.{ℕ, ◌/◌, Bool, ◌||◌, ◌&&◌, nat_lt, ◌==◌, if◌then◌else◌, List, [], ◌∷◌, ◌++◌, flat_map, codes}
+use Rattle.std.specs.List.{list_any}
+use Rattle.dl_print.specs.Digits.{last_digit}
+use Rattle.dl_addr.specs.declared.style.Style.{Style}
+use Rattle.dl_addr.specs.Paths.{has_drive, is_slash}
+
+-- the bytes that are written by their numbers: those below 0x20, and 0x7f
+abbrev pub is_control : ℕ → Bool
+is_control b = nat_lt b 0x20 || (b == 0x7f)
+
+abbrev pub shown_byte : ℕ → List ℕ
+shown_byte b = if is_control b then codes "\\x" ++ last_digit (b / 16) ∷ last_digit b ∷ [] else b ∷ []
+
+abbrev pub shown : List ℕ → List ℕ
+shown path = flat_map shown_byte path
+
+-- what stands behind the last separator; all of it where there is none
+abbrev pub behind_last : (is_separator : ℕ → Bool) → List ℕ → List ℕ
+behind_last is_separator [] = []
+behind_last is_separator (b ∷ path) = if list_any is_separator (b ∷ path) then behind_last is_separator path else b ∷ path
+
+-- a slash; in a path that begins with a drive a backslash too
+abbrev pub separates : (with_drive : Bool) → ℕ → Bool
+separates with_drive b = (b == 0x2f) || (with_drive && is_slash b)
+
+-- the last component
+abbrev pub basename : List ℕ → List ℕ
+basename path = behind_last (separates (has_drive path)) path
+
+abbrev pub path_text : Style → List ℕ → List ℕ
+path_text style path = shown (if style.basenames then basename path else path)

@@ -1,0 +1,149 @@
+//! The command that answers addresses with locations.
+
+ghost use Rattle.std.specs.Prelude.{◌≡◌, ◌≤◌, ℕ, List, [], Option, Some, IfOk, if◌then◌else◌, map, option_map, slice_get};
+ghost use Rattle.std.specs.Io.KnownBytes.{Consumes};
+ghost use Rattle.dl_look.specs.declared.place.Place as place;
+ghost use Rattle.dl_cmd.specs.Commands.{strings_in};
+ghost use Rattle.dl_cmd.specs.Section.{Visit};
+ghost use Rattle.dl_addr.specs.declared.locating.Locator as locators;
+ghost use Rattle.dl_addr.specs.declared.question.Found.TheVariants as all_found;
+ghost use Rattle.dl_addr.specs.Answers.{answer_seen};
+ghost use Rattle.dl_addr.specs.Asked.{looked_up};
+ghost use Rattle.dl_addr.specs.Commands.{Locates};
+ghost use Rattle.dl_addr.specs.Knowing.{Knows};
+ghost use Rattle.dl_addr.specs.Locating.{IsMadeFor, Locating};
+ghost use Rattle.dl_addr.specs.Printing.{PrintsAll, answer_for, told};
+
+use crate::asked::Asked;
+use crate::locating::{Answer, Locator};
+use crate::printing::print_line;
+use crate::question::{Found, Question};
+use dl_cmd::{Options, RunFault, SECTION_LIMIT, read_units};
+use dl_look::{NoMemory, Place};
+use dl_print::{Printer, StringSections, Summary, WriteFault};
+use std::alloc::Global;
+use std::io::{Read, Write};
+
+/// Answers each address with a line, in the order in which they are asked: its location, by the first
+/// unit whose sequences cover it, or that there is none.
+///
+/// The lines are printed once all units are read, or up to a fault: then the units before it answer, and
+/// the fault is answered. Where memory is refused before anything is read, nothing is printed. The places
+/// are held in memory, the tables of one header, and the texts of the paths that answer.
+pub fn addr<R: Read, W: Write>(
+    alloc: Global,
+    input: &mut R,
+    output: &mut W,
+    question: &Question<'_>,
+    options: &Options<'_>,
+) -> Result<Found, RunFault>
+    requires { options.now.limit ≤ SECTION_LIMIT }
+    ensures { (bs : List ℕ) × Consumes (R.remaining input.old) (R.remaining input.new) bs
+        × Locates options.now.order (strings_in options.now) question.now options.now.limit bs
+        (R.remaining input.new) (W.contents output.old) (W.contents output.new) result }
+{
+    let Ok(mut locator) = locator_of(alloc, question, options) else {
+        return Err(RunFault::NoMemory);
+    };
+    let ended = read_units(alloc, input, output, options, &mut locator);
+    let printed = print_all(&locator, output, question);
+    told(ended, printed)
+}
+
+/// What is answered where the reading ended so, and then the lines were printed.
+fn told(
+    ended: Result<Summary, RunFault>,
+    printed: Result<Found, WriteFault>,
+) -> Result<Found, RunFault>
+    ensures { result ≡ told ended printed }
+{
+    match printed {
+        Ok(found) => match ended {
+            Ok(_) => Ok(found),
+            Err(fault) => Err(fault),
+        },
+        Err(fault) => Err(RunFault::Write { out: fault.out }),
+    }
+}
+
+/// A locator for the places of what is asked.
+fn locator_of<'a>(
+    alloc: Global,
+    question: &Question<'a>,
+    options: &Options<'a>,
+) -> Result<Locator<'a>, NoMemory>
+    ensures made { IfOk result (λ l. IsMadeFor l (map (looked_up question.now.base) question.now.asked.now)) }
+    ensures begins { IfOk result (λ l. (start : Option (List ℕ)) → Locating l l start start []) }
+    ensures knows { IfOk result (λ l. Knows l question.now (strings_in options.now)) }
+{
+    let places = places_of(alloc, question.asked, question.base)?;
+    let strings = StringSections::new(options.debug_line_str, options.debug_str);
+    Locator::build(
+        alloc,
+        strings,
+        question.code,
+        question.style,
+        places.as_slice(),
+    )
+}
+
+/// The places that are looked up.
+fn places_of(alloc: Global, asked: &[Asked], base: u64) -> Result<Vec<Place>, NoMemory>
+    ensures { IfOk result (λ places. places.items ≡ map (looked_up base) asked.now) }
+{
+    let Ok(mut places) = Vec::with_capacity(alloc, asked.len()) else {
+        return Err(NoMemory);
+    };
+    for each in asked {
+        places.push_reserved(each.looked_up(base));
+    }
+    Ok(places)
+}
+
+/// Prints the line of each address that is asked for.
+fn print_all<W: Write>(
+    locator: &Locator<'_>,
+    output: &mut W,
+    question: &Question<'_>,
+) -> Result<Found, WriteFault>
+    ensures { (first : locators.Locator) (start held : Option (List ℕ)) (visits : List Visit)
+        → Locating first locator.now start held visits → IsMadeFor first (map (looked_up question.now.base) question.now.asked.now)
+        → PrintsAll (W.contents output.old) (W.contents output.new) question.now (answer_for first visits question.now.base) result }
+{
+    let mut printer = Printer::new();
+    let mut found = Found::All;
+    let mut number = 0;
+    while number < question.asked.len() {
+        let asked = question.asked[number];
+        let answer = answer_to(locator, asked, question.base, number);
+        found = also(found, answer.is_some());
+        print_line(&mut printer, output, question.style, asked, answer)?;
+        number += 1;
+    }
+    printer.flush(output)?;
+    Ok(found)
+}
+
+/// The answer to the address of this number among those that are asked for.
+fn answer_to<'a>(
+    locator: &'a Locator<'_>,
+    asked: Asked,
+    base: u64,
+    number: usize,
+) -> Option<Answer<'a>>
+    ensures { (first : locators.Locator) (start held : Option (List ℕ)) (visits : List Visit) (places : List place.Place)
+        → Locating first locator.now start held visits → IsMadeFor first places
+        → slice_get places number ≡ Some (looked_up base asked) → option_map answer_seen result ≡ answer_for first visits base asked }
+{
+    match asked.place(base) {
+        Some(_) => locator.answer(number),
+        None => None,
+    }
+}
+
+/// Whether all are found, with one more.
+fn also(found: Found, is_found: bool) -> Found
+    ensures { result ≡ (if is_found then found else all_found.NotAll) }
+{
+    if is_found { found } else { Found::NotAll }
+}

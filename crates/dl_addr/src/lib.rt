@@ -1,0 +1,18 @@
+//! Paths, lines and columns of addresses, of all units of a section in one pass.
+#![tactic(auto)]
+
+mod answering;
+mod asked;
+mod basename;
+mod locating;
+mod path;
+mod printing;
+mod question;
+mod shown;
+mod style;
+mod texts;
+
+pub use answering::addr;
+pub use asked::Asked;
+pub use question::{Found, Question};
+pub use style::Style;

@@ -1,0 +1,216 @@
+//! The look-up of many places in the units of a section, with the texts of their paths.
+
+ghost use Rattle.std.specs.Prelude.{◌≡◌, IfOk, length};
+ghost use Rattle.std.specs.Option.{option_copied};
+ghost use Rattle.dl_addr.specs.Code.{is_code};
+
+use crate::style::Style;
+use crate::texts::{FileText, UnitFiles, keep_all};
+use dl_cmd::{Next, RunFault, Visitor};
+use dl_head::Header;
+use dl_look::{CodeRanges, Finders, LiveRows, NoMemory, Place};
+use dl_print::StringSections;
+use dl_rows::Row;
+use std::alloc::Global;
+use std::io::Write;
+
+/// Looks places up in the rows of live sequences, unit by unit, and keeps the texts of the paths of
+/// those that it finds.
+#[derive(Drop)]
+pub struct Locator<'a> {
+    alloc: Global,
+    strings: StringSections<'a>,
+    code: Option<&'a CodeRanges>,
+    style: Style,
+    /// Was given the live rows of the units.
+    finders: Finders,
+    /// Was given the rows of the unit at hand.
+    live: LiveRows,
+    /// The offset of the unit at hand.
+    unit: u64,
+    texts: Vec<FileText>,
+    /// For each place that was answered the number of its text.
+    kept: Vec<usize>,
+}
+
+impl<W: Write> Visitor<W> for Locator<'_> {
+    ghost use Rattle.dl_addr.specs.Locating.{locate_story};
+
+    ghost story = { locate_story };
+
+    fn header(&mut self, _output: &mut W, offset: u64, _header: &Header) -> Result<(), RunFault> {
+        self.unit = offset;
+        Ok(())
+    }
+
+    fn foreign(&mut self, _output: &mut W, _offset: u64, _version: u16) -> Result<(), RunFault> {
+        Ok(())
+    }
+
+    #[inline]
+    fn row(&mut self, _output: &mut W, row: &Row) -> Result<(), RunFault> {
+        let is_live = self.begins_live(row.address);
+        if self.live.takes(row, is_live) {
+            self.finders.row(row);
+        }
+        Ok(())
+    }
+
+    fn open(&mut self, _output: &mut W) -> Result<(), RunFault> {
+        Ok(())
+    }
+
+    fn end(&mut self, _output: &mut W, header: Option<Header>) -> Result<Next, RunFault> {
+        match self.keep(header.as_ref()) {
+            Ok(()) => {
+                self.finders.end_unit();
+                self.live = LiveRows::new();
+                Ok(Next::Unit)
+            }
+            Err(NoMemory) => Err(RunFault::NoMemory),
+        }
+    }
+
+    fn settle(&mut self, _output: &mut W) -> Result<(), RunFault> {
+        Ok(())
+    }
+}
+
+/// The answer for a place.
+#[derive(Clone, Copy)]
+pub struct Answer<'a> {
+    pub row: Row,
+    /// The text of the row's file.
+    pub file: &'a FileText,
+}
+
+/// Whether there is code at an address, as far as it is known.
+#[inline]
+fn is_code(code: Option<&CodeRanges>, address: u64) -> bool
+    ensures { result ≡ is_code (option_copied code.entry) address }
+{
+    match code {
+        Some(ranges) => ranges.has(address),
+        None => true,
+    }
+}
+
+impl<'a> Locator<'a> {
+    ghost use Rattle.std.specs.Prelude.{◌≡◌, ℕ, List, IfOk, slice_get};
+    ghost use Rattle.std.specs.Prelude.{Bool, Option, option_map, []};
+    ghost use Rattle.std.specs.Option.{option_and_then, option_copied};
+    ghost use Rattle.dl_addr.specs.declared.locating.Locator as locator;
+    ghost use Rattle.dl_cmd.specs.Section.{Visit};
+    ghost use Rattle.dl_look.specs.FinderRows.{unended};
+    ghost use Rattle.dl_addr.specs.Code.{is_code};
+    ghost use Rattle.dl_addr.specs.Locating.{Locating, located_by};
+    ghost use Rattle.dl_addr.specs.Answers.{answer_seen, located_seen};
+    ghost use Rattle.dl_rows.specs.declared.row.Row.{Row};
+    ghost use Rattle.dl_look.specs.declared.place.Place.{Place};
+    ghost use Rattle.dl_look.specs.FindersRows.{Stand};
+    ghost use Rattle.dl_look.specs.Units.{AreFirstAnswers};
+    ghost use Rattle.dl_look.specs.LiveRows.{Tells};
+    ghost use Rattle.dl_addr.specs.Keeping.{Keeps};
+    ghost use Rattle.dl_addr.specs.Locating.{IsMadeFor};
+
+    /// A locator of these places.
+    pub fn build(
+        alloc: Global,
+        strings: StringSections<'a>,
+        code: Option<&'a CodeRanges>,
+        style: Style,
+        places: &[Place],
+    ) -> Result<Locator<'a>, NoMemory>
+        ensures made { IfOk result (λ l. IsMadeFor l places.now) }
+        ensures live { IfOk result (λ l. (is_live : ℕ → Bool) → Tells l.live is_live []) }
+        ensures unit { IfOk result (λ l. l.unit ≡ 0) }
+        ensures strings { IfOk result (λ l. l.strings ≡ strings.entry) }
+        ensures code { IfOk result (λ l. l.code ≡ code.entry) }
+        ensures style { IfOk result (λ l. l.style ≡ style) }
+    {
+        let finders = Finders::build(alloc, places)?;
+        Ok(Locator {
+            alloc,
+            strings,
+            code,
+            style,
+            finders,
+            live: LiveRows::new(),
+            unit: 0,
+            texts: Vec::new(alloc),
+            kept: no_numbers(alloc, places.len())?,
+        })
+    }
+
+    /// Whether a sequence that begins at this address is live. Only where one begins it is looked up.
+    #[inline]
+    fn begins_live(&self, address: u64) -> bool
+        ensures { (live : ℕ → Bool) (rows : List Row) → Tells self.now.live live rows → unended rows ≡ []
+            → result ≡ is_code (option_copied self.now.code) address }
+    {
+        if self.live.begins() {
+            is_code(self.code, address)
+        } else {
+            false
+        }
+    }
+
+    /// What the place of this number is answered, by the units that have ended.
+    pub fn answer(&self, number: usize) -> Option<Answer<'_>>
+        ensures { (first : locator.Locator) (start held : Option (List ℕ)) (visits : List Visit) (places : List Place)
+            → Locating first self.now start held visits → IsMadeFor first places
+            → option_map answer_seen result ≡ option_map (located_seen first) (option_and_then (λ x. located_by first x visits) (slice_get places number)) }
+    {
+        match self.finders.answer(number) {
+            Some(row) => self.answer_of(row, number),
+            None => None,
+        }
+    }
+
+    /// The row, with the text that is kept for the place of this number.
+    fn answer_of(&self, row: Row, number: usize) -> Option<Answer<'_>>
+        ensures { option_map answer_seen result ≡ option_map (λ f. (row, f.text.items))
+            (option_and_then (slice_get self.now.texts.items) (slice_get self.now.kept.items number)) }
+    {
+        let file = self.file(number)?;
+        Some(Answer { row, file })
+    }
+
+    /// The text that is kept for the place of this number.
+    fn file(&self, number: usize) -> Option<&FileText>
+        ensures { option_copied result ≡ option_and_then (slice_get self.now.texts.items) (slice_get self.now.kept.items number) }
+    {
+        let text = self.kept.as_slice().get(number)?;
+        self.texts.as_slice().get(*text)
+    }
+
+    /// Keeps the texts of the places that the unit at hand is the first to answer.
+    fn keep(&mut self, header: Option<&Header>) -> Result<(), NoMemory>
+        ensures { Keeps self.old self.new (option_copied header.entry) result }
+    {
+        let unit = UnitFiles {
+            strings: &self.strings,
+            header,
+            style: self.style,
+            offset: self.unit,
+        };
+        let answered = self.finders.answered_so_far();
+        if answered.is_empty() {
+            return Ok(());
+        }
+        keep_all(self.alloc, &mut self.texts, &mut self.kept, &unit, answered)
+    }
+}
+
+/// So many zeros.
+fn no_numbers(alloc: Global, count: usize) -> Result<Vec<usize>, NoMemory>
+    ensures { IfOk result (λ numbers. length numbers.items ≡ count) }
+{
+    let Ok(mut numbers) = Vec::with_capacity(alloc, count) else {
+        return Err(NoMemory);
+    };
+    while numbers.len() < count {
+        numbers.push_reserved(0);
+    }
+    Ok(numbers)
+}

@@ -1,0 +1,26 @@
+//! What is asked of a section.
+
+use crate::asked::Asked;
+use crate::style::Style;
+use dl_look::CodeRanges;
+
+/// What is asked of a section.
+#[derive(Clone, Copy)]
+pub struct Question<'a> {
+    /// The addresses, in the order in which they are answered.
+    pub asked: &'a [Asked],
+    /// What is subtracted from each address before it is looked up.
+    pub base: u64,
+    /// Where there is code: a sequence answers where its first address is one of these. None: each
+    /// sequence answers.
+    pub code: Option<&'a CodeRanges>,
+    /// How the answers are printed.
+    pub style: Style,
+}
+
+/// Whether each address was answered.
+#[derive(Clone, Copy, Debug, PartialEq, Eq)]
+pub enum Found {
+    All,
+    NotAll,
+}

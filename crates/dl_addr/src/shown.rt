@@ -1,0 +1,103 @@
+//! The texts of paths, as they are printed.
+
+ghost use Rattle.std.specs.Prelude.{◌≡◌, [], ◌∷◌, ◌++◌, IfOk, OnOk};
+ghost use Rattle.dl_print.specs.Digits.{last_digit};
+ghost use Rattle.dl_addr.specs.Shown.{is_control, shown_byte, shown, path_text};
+ghost use Rattle.dl_addr.specs.Parts.{path_seen};
+
+use crate::basename::basename;
+use crate::path::Path;
+use crate::style::Style;
+use dl_look::NoMemory;
+use std::alloc::Global;
+
+/// The text of a path.
+pub fn path_text(alloc: Global, style: Style, path: Path<'_>) -> Result<Vec<u8>, NoMemory>
+    ensures { IfOk result (λ text. text.items ≡ path_text style (path_seen path.entry)) }
+{
+    let path = joined(alloc, path)?;
+    if style.basenames {
+        shown(alloc, basename(path.as_slice()))
+    } else {
+        shown(alloc, path.as_slice())
+    }
+}
+
+/// The parts of a path, one behind the other.
+fn joined(alloc: Global, path: Path<'_>) -> Result<Vec<u8>, NoMemory>
+    ensures { IfOk result (λ text. text.items ≡ path_seen path.entry) }
+{
+    let mut joined = Vec::new(alloc);
+    match path {
+        Path::Whole(name) => append(&mut joined, name)?,
+        Path::Under(directory, name) => {
+            append_directory(&mut joined, directory)?;
+            append(&mut joined, name)?;
+        }
+        Path::Deep(base, directory, name) => {
+            append_directory(&mut joined, base)?;
+            append_directory(&mut joined, directory)?;
+            append(&mut joined, name)?;
+        }
+    }
+    Ok(joined)
+}
+
+fn append_directory(text: &mut Vec<u8>, directory: &[u8]) -> Result<(), NoMemory>
+    ensures { OnOk result (text.new.items ≡ (text.old.items ++ directory.now) ++ 0x2f ∷ []) }
+{
+    append(text, directory)?;
+    append(text, b"/")
+}
+
+fn append(text: &mut Vec<u8>, bytes: &[u8]) -> Result<(), NoMemory>
+    ensures { OnOk result (text.new.items ≡ text.old.items ++ bytes.now) }
+{
+    match text.extend_from_slice(bytes) {
+        Ok(()) => Ok(()),
+        Err(_) => Err(NoMemory),
+    }
+}
+
+/// A path as it stands in a location: control bytes by their numbers.
+fn shown(alloc: Global, path: &[u8]) -> Result<Vec<u8>, NoMemory>
+    ensures { IfOk result (λ text. text.items ≡ shown path.now) }
+{
+    let mut text = Vec::new(alloc);
+    for byte in path {
+        append_shown(&mut text, *byte)?;
+    }
+    Ok(text)
+}
+
+fn append_shown(text: &mut Vec<u8>, byte: u8) -> Result<(), NoMemory>
+    ensures { OnOk result (text.new.items ≡ text.old.items ++ shown_byte byte) }
+{
+    if is_control(byte) {
+        append(
+            text,
+            &[b'\\', b'x', last_digit(byte / 16), last_digit(byte)],
+        )
+    } else {
+        append(text, &[byte])
+    }
+}
+
+/// Whether a byte is below 0x20, or is 0x7f.
+fn is_control(byte: u8) -> bool
+    ensures { result ≡ is_control byte }
+{
+    byte < 0x20 || byte == 0x7f
+}
+
+/// The last hexadecimal digit of a byte.
+fn last_digit(byte: u8) -> u8
+    ensures { result ≡ last_digit byte }
+{
+    let digit = byte % 16;
+    if digit < 10 {
+        b'0' + digit
+    } else {
+        b'a' + (digit - 10)
+    }
+}
