@@ -1,4 +1,6 @@
 pub mod Answer
+pub mod Ranges
+pub mod CodeRanges
 pub mod Cuts
 pub mod FinderRows
 pub mod Laws

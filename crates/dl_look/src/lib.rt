@@ -1,6 +1,7 @@
 //! Look-up of addresses in the rows of a line table. Section 6.2.2.
 #![tactic(auto)]
 
+mod code_ranges;
 mod cuts;
 mod finder;
 mod finders;
@@ -16,6 +17,7 @@ mod searching;
 mod slots;
 mod trail;
 
+pub use code_ranges::{AddressRange, CodeRanges};
 pub use finder::Finder;
 pub use finders::Finders;
 pub use index::{Index, NoMemory, Probe};

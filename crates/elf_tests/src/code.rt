@@ -1,6 +1,6 @@
 //! At which addresses a file has code.
 use crate::image::{BIG_32, Form, LITTLE_64, NewSection, image, section};
-use dl_elf::{Code, CodeFault, find_code};
+use dl_elf::{CodeFault, ExecutableRange, find_code};
 use std::alloc::Global;
 use std::io::Cursor;
 use std::test::Fail;
@@ -14,21 +14,37 @@ fn placed<'a>(flags: u64, address: u64, text: &'a str) -> NewSection<'a> {
     }
 }
 
-/// What is found, as one line.
-fn told(alloc: Global, bytes: &Vec<u8>) -> Result<String, Fail> {
+/// Whether these ranges are found, in a file that is linked or not.
+fn finds(alloc: Global, bytes: &Vec<u8>, linked: bool, want: &[ExecutableRange]) -> bool {
     match find_code(alloc, &Cursor::new(bytes)) {
-        Ok(Code { is_linked, ranges }) => {
-            let mut line = format!(in alloc; "{is_linked}")?;
-            for range in &ranges {
-                let (start, size) = (range.start, range.size);
-                line.push_str(format!(in alloc; " {start:x}+{size}")?.as_str())?;
-            }
-            Ok(line)
-        }
-        Err(CodeFault::Elf(fault)) => Ok(format!(in alloc; "{fault}")?),
-        Err(CodeFault::NoMemory) => Ok(format!(in alloc; "out of memory")?),
+        Ok(code) => code.is_linked == linked && code.ranges.as_slice() == want,
+        Err(_) => false,
     }
 }
+
+/// The fault's text.
+fn fault(alloc: Global, bytes: &Vec<u8>) -> Result<String, Fail> {
+    match find_code(alloc, &Cursor::new(bytes)) {
+        Err(CodeFault::Elf(fault)) => Ok(format!(in alloc; "{fault}")?),
+        Err(CodeFault::NoMemory) => Ok(format!(in alloc; "out of memory")?),
+        Ok(_) => Ok(format!(in alloc; "none")?),
+    }
+}
+
+const RANGES: &[ExecutableRange] = &[
+    ExecutableRange {
+        start: 0x401000,
+        size: 4,
+    },
+    ExecutableRange {
+        start: 0x1000,
+        size: 13,
+    },
+    ExecutableRange {
+        start: 0xffff_fff0,
+        size: 0,
+    },
+];
 
 /// SHF_WRITE is 1, SHF_ALLOC 2, SHF_EXECINSTR 4.
 #[test]
@@ -41,27 +57,14 @@ fn sections_with_code(rt: HostRuntime) -> Result<(), Fail> {
         placed(4, 0, "note"),
         placed(6, 0xffff_fff0, ""),
     ];
-    for (form, want) in [
-        (LITTLE_64, "true 401000+4 1000+13 fffffff0+0"),
-        (BIG_32, "true 401000+4 1000+13 fffffff0+0"),
-        (
-            Form {
-                file_type: 3,
-                escapes: true,
-                ..LITTLE_64
-            },
-            "true 401000+4 1000+13 fffffff0+0",
-        ),
-        (
-            Form {
-                file_type: 1,
-                ..BIG_32
-            },
-            "false 401000+4 1000+13 fffffff0+0",
-        ),
+    for (form, file_type, linked) in [
+        (LITTLE_64, 2, true),
+        (BIG_32, 3, true),
+        (BIG_32, 1, false),
+        (LITTLE_64, 4, false),
     ] {
-        let bytes = image(alloc, form, &sections)?;
-        assert_eq!(rt; told(alloc, &bytes)?.as_str(), want);
+        let bytes = image(alloc, Form { file_type, ..form }, &sections)?;
+        assert!(rt; finds(alloc, &bytes, linked, RANGES));
     }
     Ok(())
 }
@@ -70,14 +73,19 @@ fn sections_with_code(rt: HostRuntime) -> Result<(), Fail> {
 fn files_without_code(rt: HostRuntime) -> Result<(), Fail> {
     let alloc = rt.alloc();
     let bytes = image(alloc, LITTLE_64, &[section(".text", "code")])?;
-    assert_eq!(rt; told(alloc, &bytes)?.as_str(), "true");
-    let mut short = image(alloc, BIG_32, &[placed(6, 0, "code")])?;
-    short.truncate(short.len().saturating_sub(1));
-    assert_eq!(rt;
-        told(alloc, &short)?.as_str(),
-        "damaged ELF file: section headers"
-    );
-    short.truncate(51);
-    assert_eq!(rt; told(alloc, &short)?.as_str(), "not an ELF file");
+    assert!(rt; finds(alloc, &bytes, true, &[]));
+    Ok(())
+}
+
+#[test]
+fn damaged_files_with_code(rt: HostRuntime) -> Result<(), Fail> {
+    let alloc = rt.alloc();
+    let mut bytes = image(alloc, BIG_32, &[placed(6, 0, "code")])?;
+    bytes.truncate(bytes.len().saturating_sub(1));
+    let found = fault(alloc, &bytes)?;
+    assert_eq!(rt; found.as_str(), "damaged ELF file: section headers");
+    bytes.truncate(51);
+    let found = fault(alloc, &bytes)?;
+    assert_eq!(rt; found.as_str(), "not an ELF file");
     Ok(())
 }
