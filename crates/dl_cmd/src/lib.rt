@@ -17,12 +17,13 @@ mod summary;
 mod text;
 mod words;
 
-pub use address::read_address;
+pub use address::{digit_of, read_address, read_hex_address};
 pub use checking::check;
 pub use copying::copy;
 pub use dumping::dump;
 pub use fault::RunFault;
 pub use finding::find;
+pub use input::{Input, ReadFailed};
 pub use options::{Options, SECTION_LIMIT};
 pub use strings::read_strings;
 pub use summary::Summary;

@@ -1,0 +1,26 @@
+//! The addresses that are asked for.
+
+use dl_look::Place;
+
+/// An address that is asked for.
+#[derive(Clone, Copy, Debug, PartialEq, Eq)]
+pub struct Asked {
+    /// As it was given, before the base is subtracted; None for a line that is no address.
+    pub address: Option<u64>,
+}
+
+impl Asked {
+    ghost use Rattle.std.specs.Prelude.{◌≡◌};
+    ghost use Rattle.dl_addr.specs.Asked.{place_of};
+
+    /// The place that is looked up; None where there is no address, or it is below the base.
+    pub fn place(self, base: u64) -> Option<Place>
+        ensures { result ≡ place_of base self }
+    {
+        let address = self.address?.checked_sub(base)?;
+        Some(Place {
+            address,
+            op_index: 0,
+        })
+    }
+}
