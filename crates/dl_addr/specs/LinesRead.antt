@@ -1,5 +1,5 @@
 -- What contracts see of the lines that were read so far. done: their bytes.
-use Rattle.std.specs.Prelude.{◌≡◌, ◌<◌, ◌≤◌, ◌+◌, ◌^◌, ℕ, List, [], ◌∷◌, ◌++◌, length, Option, Some, None}
+use Rattle.std.specs.Prelude.{⊤, ◌≡◌, ◌<◌, ◌≤◌, ◌+◌, ◌^◌, ℕ, List, [], ◌++◌, length, Option}
 use Rattle.std.specs.Option.{option_or}
 use Rattle.dl_cmd.specs.declared.fault.RunFault.{RunFault}
 use Rattle.dl_cmd.specs.declared.fault.RunFault.TheVariants as fault
@@ -10,7 +10,7 @@ use Rattle.dl_addr.specs.AskedLines.{and_asked, asked_from, asked_in, if_no_addr
 
 -- whatever follows, what it all asks for is what was taken and what the line at hand and the rest ask for
 pub record Stands (base : ℕ) (done : List ℕ) (s : Lines) : Type 0 where
-  pub base : s.base ≡ base
+  pub own : s.base ≡ base
   pub asked : (rest : List ℕ) → asked_in base (done ++ rest) ≡ s.asked.items ++ asked_from base s.line rest
   pub counted : length done < 2 ^ 63 → s.number ≤ length done + 1
   pub no_address : length done < 2 ^ 63 → (rest : List ℕ) → no_address_in base (done ++ rest) ≡ option_or s.no_address (no_address_from base s.line s.number rest)

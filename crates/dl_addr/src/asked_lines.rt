@@ -33,7 +33,7 @@ struct Lines {
 }
 
 impl Lines {
-    ghost use Rattle.std.specs.Prelude.{◌≡◌, ◌++◌, ◌∷◌, [], ℕ, List, OnOk};
+    ghost use Rattle.std.specs.Prelude.{◌≡◌, ◌++◌, ◌∷◌, [], ℕ, List, IfErr, IfOk, OnOk};
     ghost use Rattle.dl_addr.specs.LinesRead.{Stands, Adds};
 
     /// Nothing was read yet.
@@ -51,7 +51,8 @@ impl Lines {
 
     /// Takes what the line at hand asks for.
     fn add(&mut self, asked: Option<Asked>) -> Result<(), RunFault>
-        ensures { OnOk result (Adds asked self.old self.new) }
+        ensures added { OnOk result (Adds asked self.old self.new) }
+        ensures memory { IfErr result StopsAsking }
     {
         let Some(asked) = asked else {
             return Ok(());
@@ -67,13 +68,15 @@ impl Lines {
 
     /// Takes a byte.
     fn take(&mut self, byte: u8) -> Result<(), RunFault>
-        ensures { (base : ℕ) (done : List ℕ) → Stands base done self.old → OnOk result (Stands base (done ++ byte ∷ []) self.new) }
+        ensures taken { (base : ℕ) (done : List ℕ) → Stands base done self.old → OnOk result (Stands base (done ++ byte ∷ []) self.new) }
+        ensures memory { IfErr result StopsAsking }
     {
         if byte != b'\n' {
             self.line = self.line.after(self.base, byte);
             return Ok(());
         }
-        self.add(self.line.text.asked())?;
+        let asked = self.line.text.asked();
+        self.add(asked)?;
         self.line = Line::new();
         self.number = self.number.wrapping_add(1);
         Ok(())
@@ -81,7 +84,8 @@ impl Lines {
 
     /// Takes bytes.
     fn take_all(&mut self, bytes: &[u8]) -> Result<(), RunFault>
-        ensures { (base : ℕ) (done : List ℕ) → Stands base done self.old → OnOk result (Stands base (done ++ bytes.now) self.new) }
+        ensures taken { (base : ℕ) (done : List ℕ) → Stands base done self.old → OnOk result (Stands base (done ++ bytes.now) self.new) }
+        ensures memory { IfErr result StopsAsking }
     {
         for byte in bytes {
             self.take(*byte)?;
@@ -91,13 +95,20 @@ impl Lines {
 
     /// What is asked for, where the input ends here.
     fn end(self) -> Result<AskedLines, RunFault>
+        ensures asked { (base : ℕ) (done : List ℕ) → Stands base done self → IfOk result (IsAsked base done) }
+        ensures memory { IfErr result StopsAsking }
     {
         let mut lines = self;
-        lines.add(lines.line.asked_at_end())?;
-        Ok(AskedLines {
-            asked: lines.asked,
-            no_address: lines.no_address,
-        })
+        let last = lines.line.asked_at_end();
+        lines.add(last)?;
+        let Lines {
+            base: _,
+            line: _,
+            number: _,
+            asked,
+            no_address,
+        } = lines;
+        Ok(AskedLines { asked, no_address })
     }
 }
 
@@ -113,7 +124,7 @@ pub fn read_asked<R: Read>(alloc: Global, input: &mut R, hex: bool) -> Result<As
 {
     let mut lines = Lines::new(alloc, hex);
     let mut buffer = Input::new();
-    loop {
+    for _ in 0..u64::MAX {
         let Ok(piece) = buffer.next_piece(input) else {
             return Err(RunFault::Read);
         };
@@ -122,4 +133,5 @@ pub fn read_asked<R: Read>(alloc: Global, input: &mut R, hex: bool) -> Result<As
         }
         lines.take_all(piece)?;
     }
+    Err(RunFault::Read)
 }

@@ -25,9 +25,11 @@ fn finds(alloc: Global, bytes: &Vec<u8>, linked: bool, want: &[ExecutableRange])
 /// The fault's text.
 fn fault(alloc: Global, bytes: &Vec<u8>) -> Result<String, Fail> {
     match find_code(alloc, &Cursor::new(bytes)) {
-        Err(CodeFault::Elf(fault)) => Ok(format!(in alloc; "{fault}")?),
-        Err(CodeFault::NoMemory) => Ok(format!(in alloc; "out of memory")?),
-        Ok(_) => Ok(format!(in alloc; "none")?),
+        Err(fault) => match fault {
+            CodeFault::Elf(fault) => Ok(format!(in alloc; "{fault}")?),
+            CodeFault::NoMemory => Ok(format!(in alloc; "out of memory")?),
+        },
+        Ok(_code) => Ok(format!(in alloc; "none")?),
     }
 }
 
