@@ -7,3 +7,5 @@ pub mod PrintLemmas
 pub mod EndLemmas
 pub mod LinesLemmas
 pub mod AnsweringLemmas
+pub mod LineLemmas
+pub mod WorkedLines

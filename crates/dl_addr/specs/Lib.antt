@@ -11,3 +11,6 @@ pub mod Locating
 pub mod Answers
 pub mod Printing
 pub mod Knowing
+pub mod Line
+pub mod AskedLines
+pub mod LinesRead

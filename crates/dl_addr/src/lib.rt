@@ -3,7 +3,9 @@
 
 mod answering;
 mod asked;
+mod asked_lines;
 mod basename;
+mod line;
 mod locating;
 mod path;
 mod printing;
@@ -14,5 +16,6 @@ mod texts;
 
 pub use answering::addr;
 pub use asked::Asked;
+pub use asked_lines::{AskedLines, read_asked};
 pub use question::{Found, Question};
 pub use style::Style;

@@ -26,3 +26,9 @@ abbrev pub address_in : List ℕ → Option ℕ
 address_in [] = None
 address_in (c ∷ []) = number_in 10 (c ∷ [])
 address_in (c ∷ x ∷ text) = if (c == 48) && (x == 120) then number_in 16 text else number_in 10 (c ∷ x ∷ text)
+
+-- the same where digits without `0x` are hexadecimal too
+abbrev pub hex_address_in : List ℕ → Option ℕ
+hex_address_in [] = None
+hex_address_in (c ∷ []) = number_in 16 (c ∷ [])
+hex_address_in (c ∷ x ∷ text) = if (c == 48) && (x == 120) then number_in 16 text else number_in 16 (c ∷ x ∷ text)

@@ -1,8 +1,9 @@
 //! Reading an address.
 ghost use Rattle.std.specs.Prelude.{◌≡◌, ◌≤◌};
-ghost use Rattle.dl_cmd.specs.Address.{address_in, number_in, digit_of};
+ghost use Rattle.dl_cmd.specs.Address.{address_in, hex_address_in, number_in, digit_of};
 
-fn digit_of(base: u64, byte: u8) -> Option<u64>
+/// The value of a digit: `0` to `9`, and in base 16 `a` to `f` and `A` to `F`.
+pub fn digit_of(base: u64, byte: u8) -> Option<u64>
     ensures { result ≡ digit_of base byte }
 {
     match byte {
@@ -38,5 +39,15 @@ pub fn read_address(text: &str) -> Option<u64>
     match text.as_bytes() {
         [b'0', b'x', digits @ ..] => number_in(16, digits),
         digits => number_in(10, digits),
+    }
+}
+
+/// The same where digits without `0x` are hexadecimal too.
+pub fn read_hex_address(text: &str) -> Option<u64>
+    ensures { result ≡ hex_address_in text.now }
+{
+    match text.as_bytes() {
+        [b'0', b'x', digits @ ..] => number_in(16, digits),
+        digits => number_in(16, digits),
     }
 }

@@ -15,13 +15,14 @@ mod section;
 mod strings;
 mod words;
 
-pub use address::read_address;
+pub use address::{digit_of, read_address, read_hex_address};
 pub use checking::check;
 pub use copying::copy;
 pub use dl_print::Summary;
 pub use dumping::dump;
 pub use fault::RunFault;
 pub use finding::find;
+pub use input::{Input, ReadFailed};
 pub use options::{Options, SECTION_LIMIT};
 pub use section::{Next, Visitor, read_units};
 pub use strings::read_strings;

@@ -7,3 +7,4 @@ pub mod NoteLemmas
 pub mod RelocationLemmas
 pub mod LineTableLemmas
 pub mod WorkedFile
+pub mod CodeLemmas

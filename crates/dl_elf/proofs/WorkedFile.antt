@@ -31,7 +31,7 @@ abbrev pub worked_header : FileHeader
 worked_header = record { class = Bits32; order = Big; file_type = 1; table_offset = 82; entry_size = 40; entry_count = 5; names_number = 4 }
 
 abbrev pub worked_section : SectionHeader
-worked_section = record { name_offset = 1; section_type = 1; flags = 0; offset = 52; size = 5; link = 0; info = 0 }
+worked_section = record { name_offset = 1; section_type = 1; flags = 0; address = 0; offset = 52; size = 5; link = 0; info = 0 }
 
 abbrev pub worked_elf : Elf
 worked_elf = record { header = worked_header; count = 5; names = record { offset = 59; size = 23 } }

@@ -1,5 +1,5 @@
 -- ELF files: the file header and the section headers, in either class and order. System V ABI, chapter 4. f: the bytes of a file.
-use Rattle.std.specs.Prelude.{◌≡◌, ◌⊎◌, ℕ, Bool, ◌&&◌, ◌==◌, nat_le, if◌then◌else◌, List, length, take, drop, slice_index, Option, Some, None, option_and_then}
+use Rattle.std.specs.Prelude.{◌≡◌, ◌⊎◌, ℕ, Bool, ◌&&◌, ◌||◌, not, ◌==◌, nat_le, bit_and, if◌then◌else◌, List, length, take, drop, slice_index, Option, Some, None, option_and_then}
 use Rattle.dl_num.specs.declared.fixed.Order.{Order}
 use Rattle.dl_num.specs.declared.fixed.Order.TheVariants.{Little, Big}
 use Rattle.dl_num.specs.Fixed.{fixed}
@@ -77,12 +77,13 @@ abbrev pub section_header_size : Class → ℕ
 section_header_size Bits32 = 40
 section_header_size Bits64 = 64
 
--- sh_name, sh_type, sh_flags, sh_offset, sh_size, sh_link and sh_info
+-- sh_name, sh_type, sh_flags, sh_addr, sh_offset, sh_size, sh_link and sh_info
 abbrev pub section_fields : Class → Order → List ℕ → SectionHeader
 section_fields Bits32 order b = record {
   name_offset = number_at order 0 4 b;
   section_type = number_at order 4 4 b;
   flags = number_at order 8 4 b;
+  address = number_at order 12 4 b;
   offset = number_at order 16 4 b;
   size = number_at order 20 4 b;
   link = number_at order 24 4 b;
@@ -92,6 +93,7 @@ section_fields Bits64 order b = record {
   name_offset = number_at order 0 4 b;
   section_type = number_at order 4 4 b;
   flags = number_at order 8 8 b;
+  address = number_at order 16 8 b;
   offset = number_at order 24 8 b;
   size = number_at order 32 8 b;
   link = number_at order 40 4 b;
@@ -101,3 +103,13 @@ section_fields Bits64 order b = record {
 -- s is of relocations (RELA or REL) that change section `number`
 abbrev pub IsRelocationOf : ℕ → SectionHeader → Type 0
 IsRelocationOf number s = (s.info ≡ number) × ((s.section_type ≡ 4) ⊎ (s.section_type ≡ 9))
+
+-- its flags have SHF_ALLOC and SHF_EXECINSTR
+abbrev pub is_executable : SectionHeader → Bool
+is_executable s = not (bit_and s.flags 2 == 0) && not (bit_and s.flags 4 == 0)
+
+-- ---- kinds of files
+
+-- ET_EXEC or ET_DYN
+abbrev pub is_linked : FileHeader → Bool
+is_linked h = (h.file_type == 2) || (h.file_type == 3)

@@ -1,7 +1,7 @@
 //! The header of an ELF file. System V ABI, chapter 4, "ELF Header".
 ghost use Rattle.std.specs.Prelude.{◌≡◌, ◌+◌, ◌≤◌, ◌<◌, length, IsTrue};
 ghost use Rattle.dl_num.specs.Fixed.{is_number_size};
-ghost use Rattle.dl_elf.specs.Elf.{number_at, class_of, order_of, header_size, header_fields, header_in, is_magic};
+ghost use Rattle.dl_elf.specs.Elf.{number_at, class_of, order_of, header_size, header_fields, header_in, is_linked, is_magic};
 
 use dl_num::{Order, number_of};
 
@@ -16,6 +16,12 @@ pub enum Class {
 
 /// The type of an object file that a linker reads (ET_REL).
 pub const ET_REL: u64 = 1;
+
+/// The type of a program (ET_EXEC).
+const ET_EXEC: u64 = 2;
+
+/// The type of a shared object, as programs are too that may stand at any address (ET_DYN).
+const ET_DYN: u64 = 3;
 
 /// What the header of a file says. The names that the ABI gives the fields stand in parentheses.
 #[derive(Clone, Copy)]
@@ -124,5 +130,11 @@ impl FileHeader {
             return None;
         }
         Some(header_fields(class, order, bytes))
+    }
+    /// Whether the file is linked: a program or a shared object.
+    pub fn is_linked(&self) -> bool
+        ensures { result ≡ is_linked self.now }
+    {
+        self.file_type == ET_EXEC || self.file_type == ET_DYN
     }
 }

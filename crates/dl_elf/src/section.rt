@@ -14,6 +14,12 @@ pub const RELA: u64 = 4;
 /// The type of a section of relocations without addends (SHT_REL).
 pub const REL: u64 = 9;
 
+/// The bit in `flags` of a section that takes memory while the program runs (SHF_ALLOC).
+const ALLOC: u64 = 2;
+
+/// The bit in `flags` of a section with instructions (SHF_EXECINSTR).
+const EXECINSTR: u64 = 4;
+
 /// The bit in `flags` of a section whose bytes are compressed (SHF_COMPRESSED).
 pub const COMPRESSED: u64 = 0x800;
 
@@ -26,6 +32,8 @@ pub struct SectionHeader {
     pub section_type: u64,
     /// A bit for each of its attributes (sh_flags).
     pub flags: u64,
+    /// The address of its first byte while the program runs (sh_addr).
+    pub address: u64,
     /// Where its bytes begin, from the file's first (sh_offset).
     pub offset: u64,
     /// How many bytes it has (sh_size).
@@ -39,13 +47,20 @@ pub struct SectionHeader {
 
 impl SectionHeader {
     ghost use Rattle.std.specs.Prelude.{MatchBool};
-    ghost use Rattle.dl_elf.specs.Elf.{IsRelocationOf};
+    ghost use Rattle.dl_elf.specs.Elf.{IsRelocationOf, is_executable};
 
     /// Whether the section has relocations of section `number`.
     pub fn relocates(&self, number: u64) -> bool
         ensures { MatchBool result (IsRelocationOf number self.now) (¬ IsRelocationOf number self.now) }
     {
         self.info == number && (self.section_type == RELA || self.section_type == REL)
+    }
+
+    /// Whether the section has instructions that stand in memory while the program runs.
+    pub fn is_executable(&self) -> bool
+        ensures { result ≡ is_executable self.now }
+    {
+        self.flags & ALLOC != 0 && self.flags & EXECINSTR != 0
     }
 }
 
@@ -69,6 +84,7 @@ pub fn section_fields(class: Class, order: Order, bytes: &[u8]) -> SectionHeader
             name_offset: number_at(order, 0, 4, bytes),
             section_type: number_at(order, 4, 4, bytes),
             flags: number_at(order, 8, 4, bytes),
+            address: number_at(order, 12, 4, bytes),
             offset: number_at(order, 16, 4, bytes),
             size: number_at(order, 20, 4, bytes),
             link: number_at(order, 24, 4, bytes),
@@ -78,6 +94,7 @@ pub fn section_fields(class: Class, order: Order, bytes: &[u8]) -> SectionHeader
             name_offset: number_at(order, 0, 4, bytes),
             section_type: number_at(order, 4, 4, bytes),
             flags: number_at(order, 8, 8, bytes),
+            address: number_at(order, 16, 8, bytes),
             offset: number_at(order, 24, 8, bytes),
             size: number_at(order, 32, 8, bytes),
             link: number_at(order, 40, 4, bytes),

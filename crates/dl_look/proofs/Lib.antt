@@ -10,6 +10,7 @@ pub mod LiveLemmas
 pub mod MoreRows
 pub mod LedgerLemmas
 pub mod PlaceOrder
+pub mod RangeLemmas
 pub mod SlotLemmas
 pub mod SpanLemmas
 pub mod SpansSoFar

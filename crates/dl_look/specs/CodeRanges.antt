@@ -1,14 +1,9 @@
--- Stands in for the ranges of code until they come.
-use Rattle.std.specs.Prelude.{ℕ, ◌-◌, Bool, false, ◌&&◌, nat_le, nat_lt, List, [], ◌∷◌}
-use Rattle.dl_look.specs.declared.code_ranges.AddressRange.{AddressRange}
+-- Whether an address is one of code.
+use Rattle.std.specs.Prelude.{ℕ, Bool}
+use Rattle.std.specs.List.{list_any}
 use Rattle.dl_look.specs.declared.code_ranges.CodeRanges.{CodeRanges}
+use Rattle.dl_look.specs.Ranges.{is_reached}
 
-abbrev pub is_in : ℕ → AddressRange → Bool
-is_in a r = nat_le r.start a && nat_lt (a - r.start) r.size
-
-abbrev pub in_first : ℕ → List AddressRange → Bool
-in_first a [] = false
-in_first a (r ∷ ranges) = is_in a r
-
+-- one of the ranges has the address a
 abbrev pub has_code : CodeRanges → ℕ → Bool
-has_code code a = in_first a code.ranges.items
+has_code code a = list_any (is_reached a) code.reaches.items

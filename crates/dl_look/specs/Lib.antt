@@ -1,4 +1,6 @@
 pub mod Answer
+pub mod Ranges
+pub mod CodeRanges
 pub mod Cuts
 pub mod FinderRows
 pub mod Laws
@@ -11,4 +13,3 @@ pub mod Trails
 pub mod FindersRows
 pub mod SequenceState
 pub mod Units
-pub mod CodeRanges

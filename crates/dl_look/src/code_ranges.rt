@@ -1,39 +1,107 @@
-//! Where there is code.
+//! Ranges of addresses of code, and whether an address lies in one of them.
+ghost use Rattle.std.specs.Prelude.{◌≡◌, Bool, ℕ, ◌<◌, ◌≤◌, IfOk, length};
+ghost use Rattle.std.specs.List.{list_any};
+ghost use Rattle.dl_look.specs.declared.code_ranges.AddressRange as range;
+ghost use Rattle.dl_look.specs.Ranges.{AreReaches, AreRising, StartsRise, reach_start};
 
-ghost use Rattle.std.specs.Prelude.{◌≡◌};
-ghost use Rattle.dl_look.specs.CodeRanges.{is_in};
+use crate::NoMemory;
+use std::alloc::Global;
 
-/// A range of addresses: `start + size` may pass 2^64.
-#[derive(Debug, Clone, Copy, PartialEq, Eq)]
+/// Addresses that stand in a row: `size` of them, from `start` on.
+///
+/// The sum of both may pass 2^64; it doesn't wrap around.
+#[derive(Debug, Clone, Copy, PartialEq, Eq, PartialOrd, Ord)]
 pub struct AddressRange {
     pub start: u64,
     pub size: u64,
 }
 
-/// Ranges of addresses where there is code.
-#[derive(Drop)]
+/// A range, in the order of their starts, with how far it and the ranges before it reach.
+#[derive(Debug, Clone, Copy, PartialEq, Eq)]
+struct Reach {
+    start: u64,
+    /// Behind the last address. At most 2^65.
+    end: u128,
+}
+
+/// Ranges of addresses of code.
+#[derive(Debug, Drop)]
 pub struct CodeRanges {
-    ranges: Vec<AddressRange>,
+    reaches: Vec<Reach>,
+    ghost rising: { AreRising reaches.items },
 }
 
 impl CodeRanges {
-    ghost use Rattle.std.specs.Prelude.{◌≡◌};
+    ghost use Rattle.std.specs.Prelude.{◌≡◌, ℕ, IfOk};
+    ghost use Rattle.std.specs.List.{list_any};
     ghost use Rattle.dl_look.specs.CodeRanges.{has_code};
+    ghost use Rattle.dl_look.specs.Ranges.{is_in};
 
-    /// Whether there is code at the address.
+    /// The ranges, in any order; they may overlap. It takes 48 bytes for each.
+    pub fn build(alloc: Global, ranges: &[AddressRange]) -> Result<CodeRanges, NoMemory>
+        ensures { IfOk result (λ code. (a : ℕ) → has_code code a ≡ list_any (is_in a) ranges.now) }
+    {
+        let sorted = sorted(alloc, ranges)?;
+        let reaches = reaches_of(alloc, sorted.as_slice())?;
+        Ok(CodeRanges { reaches })
+    }
+
+    /// Whether one of the ranges has the address. It takes time in proportion to the logarithm of their number.
     pub fn has(&self, address: u64) -> bool
         ensures { result ≡ has_code self.now address }
     {
-        let ranges = self.ranges.as_slice();
-        if ranges.is_empty() {
-            return false;
-        }
-        is_in(&ranges[0], address)
+        let count = starts_upto(self.reaches.as_slice(), address);
+        count > 0 && u128::from(address) < self.reaches[count - 1].end
     }
 }
 
-fn is_in(range: &AddressRange, address: u64) -> bool
-    ensures { result ≡ is_in address range.now }
+/// The ranges in the order of their starts.
+fn sorted(alloc: Global, ranges: &[AddressRange]) -> Result<Vec<AddressRange>, NoMemory>
+    ensures rise { IfOk result (λ sorted. StartsRise sorted.items) }
+    ensures same { IfOk result (λ sorted. (p : range.AddressRange → Bool) → list_any p sorted.items ≡ list_any p ranges.now) }
 {
-    range.start <= address && address - range.start < range.size
+    let Ok(mut sorted) = ranges.to_vec(alloc) else {
+        return Err(NoMemory);
+    };
+    sorted.sort_unstable();
+    Ok(sorted)
+}
+
+/// How far ranges reach that stand in the order of their starts.
+fn reaches_of(alloc: Global, ranges: &[AddressRange]) -> Result<Vec<Reach>, NoMemory>
+    requires { StartsRise ranges.now }
+    ensures { IfOk result (λ reaches. AreReaches ranges.now reaches.items) }
+{
+    let Ok(mut reaches) = Vec::with_capacity(alloc, ranges.len()) else {
+        return Err(NoMemory);
+    };
+    let mut end = 0;
+    for range in ranges {
+        end = (u128::from(range.start) + u128::from(range.size)).max(end);
+        reaches.push_reserved(Reach {
+            start: range.start,
+            end,
+        });
+    }
+    Ok(reaches)
+}
+
+/// How many begin at the address or before it.
+fn starts_upto(reaches: &[Reach], address: u64) -> usize
+    requires { AreRising reaches.now }
+    ensures within { result ≤ length reaches.now }
+    ensures upto { (k : ℕ) → k < result → reach_start reaches.now k ≤ address }
+    ensures above { (k : ℕ) → result ≤ k → k < length reaches.now → address < reach_start reaches.now k }
+{
+    let mut low = 0;
+    let mut high = reaches.len();
+    while low < high {
+        let middle = low + (high - low) / 2;
+        if reaches[middle].start <= address {
+            low = middle + 1;
+        } else {
+            high = middle;
+        }
+    }
+    low
 }

@@ -40,6 +40,8 @@ pub struct NewSection<'a> {
     /// sh_type; 1 is PROGBITS.
     pub section_type: u64,
     pub flags: u64,
+    /// sh_addr
+    pub address: u64,
     pub info: u64,
     pub bytes: &'a [u8],
 }
@@ -50,6 +52,7 @@ pub fn section<'a>(name: &'a str, text: &'a str) -> NewSection<'a> {
         name,
         section_type: 1,
         flags: 0,
+        address: 0,
         info: 0,
         bytes: text.as_bytes(),
     }
@@ -77,16 +80,16 @@ fn header_sizes(form: Form) -> (u64, u64) {
     if form.wide { (64, 64) } else { (52, 40) }
 }
 
-/// Appends a section header. `numbers` are sh_name, sh_type, sh_flags, sh_offset, sh_size, sh_link
-/// and sh_info.
-fn put_section(bytes: &mut Vec<u8>, form: Form, numbers: [u64; 7]) -> Result<(), Fail> {
-    let [name, section_type, flags, offset, size, link, info] = numbers;
+/// Appends a section header. `numbers` are sh_name, sh_type, sh_flags, sh_addr, sh_offset, sh_size,
+/// sh_link and sh_info.
+fn put_section(bytes: &mut Vec<u8>, form: Form, numbers: [u64; 8]) -> Result<(), Fail> {
+    let [name, section_type, flags, address, offset, size, link, info] = numbers;
     let word = word(form);
     for (size, number) in [
         (4, name),
         (4, section_type),
         (word, flags),
-        (word, 0),
+        (word, address),
         (word, offset),
         (word, size),
         (4, link),
@@ -147,9 +150,9 @@ pub fn image(alloc: Global, form: Form, sections: &[NewSection<'_>]) -> Result<V
     } else {
         (0, 0)
     };
-    put_section(&mut headers, form, [0, 0, 0, 0, size, link, 0])?;
+    put_section(&mut headers, form, [0, 0, 0, 0, 0, size, link, 0])?;
     for _ in 0..form.empty {
-        put_section(&mut headers, form, [0, 1, 0, 0, 0, 0, 0])?;
+        put_section(&mut headers, form, [0, 1, 0, 0, 0, 0, 0, 0])?;
     }
     for section in sections {
         let at = start.wrapping_add(contents.len() as u64);
@@ -165,6 +168,7 @@ pub fn image(alloc: Global, form: Form, sections: &[NewSection<'_>]) -> Result<V
                 name,
                 section.section_type,
                 section.flags,
+                section.address,
                 at,
                 size,
                 0,
@@ -173,7 +177,11 @@ pub fn image(alloc: Global, form: Form, sections: &[NewSection<'_>]) -> Result<V
         )?;
     }
     let at = start.wrapping_add(contents.len() as u64);
-    put_section(&mut headers, form, [0, 3, 0, at, names.len() as u64, 0, 0])?;
+    put_section(
+        &mut headers,
+        form,
+        [0, 3, 0, 0, at, names.len() as u64, 0, 0],
+    )?;
     contents.extend_from_slice(names.as_slice())?;
     let table = start.wrapping_add(contents.len() as u64);
     let mut bytes = Vec::new(alloc);

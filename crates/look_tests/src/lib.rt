@@ -4,6 +4,8 @@
 #[cfg(test)]
 mod agreement;
 #[cfg(test)]
+mod code;
+#[cfg(test)]
 mod live;
 #[cfg(test)]
 mod many;

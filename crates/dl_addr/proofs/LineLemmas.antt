@@ -1,0 +1,106 @@
+-- Lines that are read byte by byte.
+use Rattle.std.proofs.Common.{◌≡◌, ℕ, suc, ◌+◌, ◌<◌, ◌≤◌, ◌^◌, Bool, true, false, ◌==◌, if◌then◌else◌, List, [], ◌∷◌, ◌++◌, length, take, get_or, subst, Option, Some, None, arith, refl, sym, ap, ap₂, ◌∙◌, append-nil, append_assoc}
+use Rattle.std.proofs.Common.{Result, Ok, Err, IfOk, IfErr, MatchResult}
+use Rattle.std.specs.Option.{option_or}
+use Rattle.std.proofs.lemmas.Bool.Decides.{nat_tests}
+use Rattle.std.proofs.lemmas.List.{length_push, take_all, take_more}
+use Rattle.dl_cmd.specs.declared.fault.RunFault.{RunFault}
+use Rattle.dl_addr.specs.declared.asked.Asked.{Asked}
+use Rattle.dl_addr.specs.declared.asked_lines.AskedLines.{AskedLines}
+use Rattle.dl_addr.specs.declared.asked_lines.Lines.{Lines}
+use Rattle.dl_addr.specs.Line.{after_byte, asked_at_end, asked_of, new_line}
+use Rattle.dl_addr.specs.AskedLines.{and_asked, asked_from, asked_in, if_no_address, no_address_from, no_address_in}
+use Rattle.dl_addr.specs.LinesRead.{Adds, IsAsked, Stands, StopsAsking}
+
+and_asked_front : (a : Option Asked) (xs : List Asked) → and_asked a xs ≡ and_asked a [] ++ xs
+and_asked_front None xs = refl
+and_asked_front (Some a) xs = refl
+
+or_none : (o : Option ℕ) → option_or o None ≡ o
+or_none None = refl
+or_none (Some n) = refl
+
+-- the line at hand takes a byte
+pub byte_taken : (base : ℕ) (done : List ℕ) (c : ℕ) (old new : Lines) → Stands base done old → (c == 10) ≡ false → new.base ≡ old.base → new.line ≡ after_byte old.base old.line c
+    → new.number ≡ old.number → new.asked.items ≡ old.asked.items → new.no_address ≡ old.no_address → Stands base (done ++ c ∷ []) new
+byte_taken base done c old new s not_end own line number items no_address =
+    let now : new.line ≡ after_byte base old.line c = line ∙ ap (λ b. after_byte b old.line c) s.own in
+    let len = length_push done c in
+    record {
+      own = own ∙ s.own;
+      asked = λ rest. ap (asked_in base) (append_assoc done (c ∷ []) rest) ∙ (s.asked (c ∷ rest)
+          ∙ (ap (λ (b : Bool). old.asked.items ++ (if b then and_asked (asked_of old.line.text) (asked_from base new_line rest) else asked_from base (after_byte base old.line c) rest)) not_end
+          ∙ ap₂ (λ xs l. xs ++ asked_from base l rest) (sym items) (sym now)));
+      counted = λ few. (let before = s.counted (omega (arith, len, few)) in omega (arith, len, before, number));
+      no_address = λ few rest. ap (no_address_in base) (append_assoc done (c ∷ []) rest) ∙ (s.no_address (omega (arith, len, few)) (c ∷ rest)
+          ∙ (ap (λ (b : Bool). option_or old.no_address (if b then if_no_address (asked_of old.line.text) old.number (no_address_from base new_line (suc old.number) rest)
+          else no_address_from base (after_byte base old.line c) old.number rest)) not_end
+          ∙ (ap₂ (λ o l. option_or o (no_address_from base l old.number rest)) (sym no_address) (sym now)
+          ∙ ap (λ n. option_or new.no_address (no_address_from base new.line n rest)) (sym number))));
+    }
+
+-- the line at hand ends
+pub line_taken : (base : ℕ) (done : List ℕ) (c : ℕ) (old mid new : Lines) → Stands base done old → (c == 10) ≡ true → Adds (asked_of old.line.text) old mid
+    → new.base ≡ mid.base → new.line ≡ new_line → (mid.number + 1 < 2 ^ 64 → new.number ≡ mid.number + 1) → new.asked.items ≡ mid.asked.items → new.no_address ≡ mid.no_address
+    → Stands base (done ++ c ∷ []) new
+line_taken base done c old mid new s is_end adds own line number items no_address =
+    let a = asked_of old.line.text in
+    let len = length_push done c in
+    let same = adds.number in
+    record {
+      own = own ∙ (adds.base ∙ s.own);
+      asked = λ rest. ap (asked_in base) (append_assoc done (c ∷ []) rest) ∙ (s.asked (c ∷ rest)
+          ∙ (ap (λ (b : Bool). old.asked.items ++ (if b then and_asked a (asked_from base new_line rest) else asked_from base (after_byte base old.line c) rest)) is_end
+          ∙ (ap (λ xs. old.asked.items ++ xs) (and_asked_front a (asked_from base new_line rest))
+          ∙ (sym (append_assoc old.asked.items (and_asked a []) (asked_from base new_line rest))
+          ∙ ap₂ (λ xs l. xs ++ asked_from base l rest) (sym (items ∙ adds.asked)) (sym line)))));
+      counted = λ few. (let before = s.counted (omega (arith, len, few)) in let n = number (omega (arith, len, few, before, same)) in omega (arith, len, before, same, n));
+      no_address = λ few rest. (
+          let before = s.counted (omega (arith, len, few)) in
+          let n : new.number ≡ suc old.number = (let n = number (omega (arith, len, few, before, same)) in omega (arith, n, same)) in
+          ap (no_address_in base) (append_assoc done (c ∷ []) rest) ∙ (s.no_address (omega (arith, len, few)) (c ∷ rest)
+          ∙ (ap (λ (b : Bool). option_or old.no_address (if b then if_no_address a old.number (no_address_from base new_line (suc old.number) rest)
+          else no_address_from base (after_byte base old.line c) old.number rest)) is_end
+          ∙ (sym (adds.no_address (no_address_from base new_line (suc old.number) rest))
+          ∙ (ap₂ (λ o l. option_or o (no_address_from base l (suc old.number) rest)) (sym no_address) (sym line)
+          ∙ ap (λ k. option_or new.no_address (no_address_from base new.line k rest)) (sym n))))));
+    }
+
+-- the input ends
+pub all_taken : (base : ℕ) (done : List ℕ) (old new : Lines) (lines : AskedLines) → Stands base done old → Adds (asked_at_end old.line) old new
+    → lines.asked.items ≡ new.asked.items → lines.no_address ≡ new.no_address → IsAsked base done lines
+all_taken base done old new lines s adds items no_address = record {
+  asked = items ∙ (adds.asked ∙ (sym (s.asked []) ∙ ap (asked_in base) (append-nil done)));
+  no_address = λ few. no_address ∙ (sym (or_none new.no_address) ∙ (adds.no_address None ∙ (sym (s.no_address few []) ∙ ap (no_address_in base) (append-nil done))));
+}
+
+pub none_taken : (base : ℕ) (s : Lines) → s.base ≡ base → s.line ≡ new_line → s.number ≡ 1 → s.asked.items ≡ [] → s.no_address ≡ None → Stands base [] s
+none_taken base s own line number items no_address = record {
+  own = own;
+  asked = λ rest. ap₂ (λ xs l. xs ++ asked_from base l rest) (sym items) (sym line);
+  counted = λ few. omega (arith, number);
+  no_address = λ few rest. ap₂ (λ l n. no_address_from base l n rest) (sym line) (sym number) ∙ ap (λ o. option_or o (no_address_from base s.line s.number rest)) (sym no_address);
+}
+
+-- no bytes more
+pub nothing_more : (base : ℕ) (done : List ℕ) (s : Lines) → Stands base done s → Stands base (done ++ []) s
+nothing_more base done s stands = rw (append-nil done) stands
+
+-- a byte of those that are taken in a row
+pub byte_of : (base : ℕ) (done bytes : List ℕ) (i c : ℕ) (s : Lines) → i < length bytes → c ≡ get_or bytes i 0 → Stands base ((done ++ take i bytes) ++ c ∷ []) s → Stands base (done ++ take (i + 1) bytes) s
+byte_of base done bytes i c s lt is stands =
+    let e : (done ++ take i bytes) ++ c ∷ [] ≡ done ++ take (i + 1) bytes = append_assoc done (take i bytes) (c ∷ []) ∙ ap (λ xs. done ++ xs) (ap (λ d. take i bytes ++ d ∷ []) is ∙ sym (take_more bytes i 0 lt)) in
+    subst (λ b. Stands base b s) e stands
+
+pub bytes_whole : (base : ℕ) (done bytes : List ℕ) (i : ℕ) (s : Lines) → length bytes ≤ i → Stands base (done ++ take i bytes) s → Stands base (done ++ bytes) s
+bytes_whole base done bytes i s past stands = subst (λ b. Stands base (done ++ b) s) (take_all i bytes past) stands
+
+pub ended : (base : ℕ) (b : List ℕ) (End : Type 0) (result : Result AskedLines RunFault) → End → IfOk result (IsAsked base b) → IfErr result StopsAsking
+    → MatchResult result (λ lines. IsAsked base b lines × End) StopsAsking
+ended base b End (Ok lines) end asked memory = (asked, end)
+ended base b End (Err fault) end asked memory = memory
+
+-- a piece that is empty ends the input
+pub nothing_of : (piece : List ℕ) → true ≡ (length piece == 0) → piece ≡ []
+nothing_of [] is = refl
+nothing_of (c ∷ piece) is = absurd (grind (arith, nat_tests, is))
