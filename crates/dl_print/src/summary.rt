@@ -1,4 +1,4 @@
-//! What a command that ended well has gone through.
+//! The counts of what was read.
 
 ghost use Rattle.std.specs.Prelude.{◌≡◌};
 

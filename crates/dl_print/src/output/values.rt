@@ -54,7 +54,7 @@ impl Printer {
         self.hexadecimal(output, bytes)
     }
 
-    /// Prints a name and a number.
+    /// Prints a name, of at most 16 bytes, and behind it a number in decimal.
     pub fn number<W: Write>(
         &mut self,
         output: &mut W,
