@@ -1,5 +1,5 @@
 -- What a request asks: which command, of which file, or of which section on the input.
-use Rattle.std.specs.Prelude.{ℕ, Bool, true, false, List, Option, Some, None, option_map, option_and_then, Result}
+use Rattle.std.specs.Prelude.{ℕ, Bool, true, false, List, Option, Some, None, option_map, option_and_then, Result, Ok, Err, ◌≡◌}
 use Rattle.clap.specs.Words.{Text}
 use Rattle.dl_num.specs.declared.fixed.Order.{Order}
 use Rattle.dl_num.specs.declared.fixed.Order.TheVariants.{Little, Big}
@@ -10,21 +10,27 @@ use Rattle.dl_cmd.specs.declared.fault.RunFault.{RunFault}
 use Rattle.dl_print.specs.declared.summary.Summary.{Summary}
 use Rattle.dl_cmd.specs.Address.{address_in}
 use Rattle.dl_cmd.specs.Commands.{Checks, Copies, Dumps, Finds}
-use Rattle.dl_cmd.specs.Job.{Request, dump, check, find, copy}
+use Rattle.dl_cmd.specs.Job.{Request, addr, dump, check, find, copy}
 use Rattle.dl_print.specs.ValueText.{Strings}
 use Rattle.dl_work.specs.declared.command.Command.{Command}
-use Rattle.dl_work.specs.declared.command.Command.TheVariants.{Dump, Check, Find, Copy}
+use Rattle.dl_work.specs.declared.command.Command.TheVariants.{Addr, Dump, Check, Find, Copy}
+use Rattle.dl_work.specs.declared.command.TheConstants.{NOTHING}
+use Rattle.dl_addr.specs.declared.question.Found.{Found}
+use Rattle.dl_addr.specs.declared.question.Found.TheVariants as found
+use Rattle.dl_addr.specs.Commands.{Locates}
+use Rattle.dl_cmd.specs.declared.fault.RunFault.TheVariants.{NotFound}
 
 -- the place of `find`; none where ADDRESS is no address
 abbrev pub place_of : (address : Option Text) (op : ℕ) → Option Place
 place_of address op = option_map (λ n. record { address = n; op_index = op }) (option_and_then address_in address)
 
--- the command; none where ADDRESS is no address
+-- the command; none where ADDRESS is no address, and of `addr`, which asks for many
 abbrev pub command_of : Request → Option Command
 command_of (dump file big line_str str) = Some Dump
 command_of (check file big) = Some Check
 command_of (find file big address op line_str str) = option_map Find (place_of address op)
 command_of (copy file big) = Some Copy
+command_of (addr words) = None
 
 -- the path of the ELF file
 abbrev pub file_of : Request → Option Text
@@ -32,6 +38,7 @@ file_of (dump file big line_str str) = file
 file_of (check file big) = file
 file_of (find file big address op line_str str) = file
 file_of (copy file big) = file
+file_of (addr words) = words.file
 
 -- what is said of a section on the input
 pub record SectionWords : Type 0 where
@@ -44,6 +51,7 @@ section_of (dump file big line_str str) = record { big = big; line_str = line_st
 section_of (check file big) = record { big = big; line_str = None; strings = None }
 section_of (find file big address op line_str str) = record { big = big; line_str = line_str; strings = str }
 section_of (copy file big) = record { big = big; line_str = None; strings = None }
+section_of (addr words) = record { big = words.big; line_str = words.line_str; strings = words.strings }
 
 abbrev pub order_of : (big : Bool) → Order
 order_of true = Big
@@ -59,6 +67,13 @@ wanted_of Dump = LineAndStringSections
 wanted_of Check = LineSection
 wanted_of (Find place) = LineAndStringSections
 wanted_of Copy = LineSection
+wanted_of (Addr question) = LineAndStringSections
+
+-- what `addr` answered, as the other commands answer
+abbrev pub answered : Result Found RunFault → Result Summary RunFault
+answered (Ok found.All) = Ok NOTHING
+answered (Ok found.NotAll) = Err NotFound
+answered (Err f) = Err f
 
 -- what the command answers and writes. bytes: what was read of a section, which has `left` left
 abbrev pub Does : Command → Order → Strings → (limit : ℕ) (bytes : List ℕ) (left start now : Option (List ℕ)) → Result Summary RunFault → Type 0
@@ -66,3 +81,5 @@ Does Dump order s limit bytes left start now answer = Dumps order s limit bytes 
 Does Check order s limit bytes left start now answer = Checks order limit bytes left start now answer
 Does (Find place) order s limit bytes left start now answer = Finds order s place limit bytes left start now answer
 Does Copy order s limit bytes left start now answer = Copies order limit bytes left start now answer
+Does (Addr question) order s limit bytes left start now answer =
+    (found : Result Found RunFault) × (answer ≡ answered found) × Locates order s question limit bytes left start now found

@@ -4,3 +4,4 @@ pub mod Files
 pub mod Held
 pub mod Tables
 pub mod Work
+pub mod Located

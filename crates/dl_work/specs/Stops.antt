@@ -1,5 +1,5 @@
 -- How the program stops: its text, its status, and the stops at an ELF file.
-use Rattle.std.specs.Prelude.{◌≡◌, ℕ, List, ◌++◌, codes, Option, Some, None, option_map}
+use Rattle.std.specs.Prelude.{◌≡◌, ℕ, List, ◌++◌, codes, decimal, Option, Some, None, option_map}
 use Rattle.std.specs.declared.io.Error.{Error}
 use Rattle.clap.specs.Words.{Text}
 use Rattle.dl_elf.specs.FaultText.{fault_text}
@@ -10,7 +10,7 @@ use Rattle.dl_cmd.specs.declared.fault.RunFault.TheVariants as fault
 use Rattle.dl_work.specs.declared.stop.FileFault.{FileFault}
 use Rattle.dl_work.specs.declared.stop.FileFault.TheVariants.{Open, Elf, ObjectCopy, NoMemory}
 use Rattle.dl_work.specs.declared.stop.Stop.{Stop}
-use Rattle.dl_work.specs.declared.stop.Stop.TheVariants.{NotUnderstood, Run, File}
+use Rattle.dl_work.specs.declared.stop.Stop.TheVariants.{NoAddress, NotUnderstood, Run, File}
 
 -- the text of a fault; None where the system words it
 abbrev pub file_fault_text : FileFault → Option (List ℕ)
@@ -23,6 +23,7 @@ abbrev pub stop_text : Stop → Option (List ℕ)
 stop_text NotUnderstood = Some (codes "words not understood")
 stop_text (Run f) = Some (run_fault_text f)
 stop_text (File path f) = option_map (λ text. path.now ++ codes ": " ++ text) (file_fault_text f)
+stop_text (NoAddress line) = Some (codes "line " ++ decimal line ++ codes ": words not understood")
 
 -- the line on standard error, of this text
 abbrev pub stop_line : List ℕ → List ℕ
@@ -40,6 +41,7 @@ abbrev pub stop_status : Stop → ℕ
 stop_status NotUnderstood = 2
 stop_status (Run f) = status f
 stop_status (File path f) = file_fault_status f
+stop_status (NoAddress line) = 1
 
 -- ---- stops at the ELF file of a path
 

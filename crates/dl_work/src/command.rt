@@ -4,8 +4,9 @@ ghost use Rattle.std.specs.Option.{option_copied};
 ghost use Rattle.std.specs.Io.KnownBytes.{Consumes};
 ghost use Rattle.dl_cmd.specs.Commands.{strings_in};
 ghost use Rattle.dl_cmd.specs.Job.{request_made};
-ghost use Rattle.dl_work.specs.Asked.{Does, command_of, is_copy, place_of, wanted_of};
+ghost use Rattle.dl_work.specs.Asked.{Does, answered, command_of, is_copy, place_of, wanted_of};
 
+use dl_addr::{Found, Question, addr};
 use dl_cmd::{
     Job, Options, RunFault, SECTION_LIMIT, Summary, check, copy, dump, find, read_address,
 };
@@ -14,9 +15,17 @@ use dl_look::Place;
 use std::alloc::Global;
 use std::io::{Read, Write};
 
+/// What `addr` counts.
+pub const NOTHING: Summary = Summary {
+    units: 0,
+    skipped: 0,
+    sequences: 0,
+    rows: 0,
+};
+
 /// What is asked of a line table.
-#[derive(Clone, Copy, Debug, PartialEq, Eq)]
-pub enum Command {
+#[derive(Clone, Copy)]
+pub enum Command<'a> {
     /// Print all units.
     Dump,
     /// Count units, sequences and rows.
@@ -25,6 +34,8 @@ pub enum Command {
     Find(Place),
     /// Write all units anew.
     Copy,
+    /// Print where addresses are in the source.
+    Addr(Question<'a>),
 }
 
 /// The place that the words name; None where ADDRESS is no address.
@@ -37,25 +48,37 @@ fn place(address: Option<&str>, op: u8) -> Option<Place>
     })
 }
 
-impl Command {
-    /// What a job asks; None where its ADDRESS is no address.
-    pub fn of(job: &Job<'_>) -> Option<Command>
+/// What `addr` answered, as the other commands answer.
+fn answered(found: Result<Found, RunFault>) -> Result<Summary, RunFault>
+    ensures { result ≡ answered found }
+{
+    match found {
+        Ok(Found::All) => Ok(NOTHING),
+        Ok(Found::NotAll) => Err(RunFault::NotFound),
+        Err(fault) => Err(fault),
+    }
+}
+
+impl<'a> Command<'a> {
+    /// What a job asks; None where its ADDRESS is no address, and of `addr`, which asks for many.
+    pub fn of(job: &Job<'_>) -> Option<Command<'a>>
         ensures { result ≡ command_of (request_made job.now) }
     {
-        match *job {
+        match job {
             Job::Dump { .. } => Some(Command::Dump),
             Job::Check { .. } => Some(Command::Check),
-            Job::Find { address, op, .. } => Some(Command::Find(place(address, op)?)),
+            Job::Find { address, op, .. } => Some(Command::Find(place(*address, *op)?)),
             Job::Copy { .. } => Some(Command::Copy),
+            Job::Addr(_) => None,
         }
     }
 
     /// The sections of a file that the command looks into.
     pub fn wanted(self) -> Wanted
-        ensures { result ≡ wanted_of self }
+        ensures { result ≡ wanted_of self.entry }
     {
         match self {
-            Command::Dump | Command::Find(_) => Wanted::LineAndStringSections,
+            Command::Dump | Command::Find(_) | Command::Addr(_) => Wanted::LineAndStringSections,
             Command::Check | Command::Copy => Wanted::LineSection,
         }
     }
@@ -63,7 +86,7 @@ impl Command {
     /// Whether it would lose what belongs to a file: `copy` would lose the relocations of an object
     /// file.
     pub fn loses(self, is_object: bool) -> bool
-        ensures { result ≡ (is_copy self && is_object) }
+        ensures { result ≡ (is_copy self.entry && is_object) }
     {
         matches!(self, Command::Copy) && is_object
     }
@@ -78,7 +101,7 @@ impl Command {
     ) -> Result<Summary, RunFault>
         requires { options.now.limit ≤ SECTION_LIMIT }
         ensures { (bytes : List ℕ) × Consumes (R.remaining input.old) (R.remaining input.new) bytes
-            × Does self options.now.order (strings_in options.now) options.now.limit bytes (R.remaining input.new)
+            × Does self.entry options.now.order (strings_in options.now) options.now.limit bytes (R.remaining input.new)
             (W.contents output.old) (W.contents output.new) result }
     {
         match self {
@@ -86,6 +109,7 @@ impl Command {
             Command::Check => check(alloc, input, output, options),
             Command::Find(place) => find(alloc, input, output, place, options),
             Command::Copy => copy(alloc, input, output, options),
+            Command::Addr(question) => answered(addr(alloc, input, output, &question, options)),
         }
     }
 }

@@ -3,6 +3,7 @@
 
 mod command;
 mod files;
+mod locating;
 mod over_file;
 mod over_input;
 mod stop;
@@ -10,5 +11,6 @@ mod strings;
 mod working;
 
 pub use files::FileSource;
+pub use locating::locate;
 pub use stop::{FileFault, Stop};
 pub use working::work;

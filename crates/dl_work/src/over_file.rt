@@ -17,11 +17,11 @@ use std::io::Write;
 fn on_table<'p, S: ReadAt, W: Write>(
     alloc: Global,
     path: &'p str,
-    command: Command,
+    command: Command<'_>,
     table: LineFile<'_, S>,
     output: &mut W,
 ) -> Result<Summary, Stop<'p>>
-    ensures { (t : LineTable) → GivesTable S.all_bytes table.entry t → OnTable path.entry.now command t
+    ensures { (t : LineTable) → GivesTable S.all_bytes table.entry t → OnTable path.entry.now command.entry t
         (W.contents output.old) (W.contents output.new) result }
 {
     let LineFile {
@@ -49,11 +49,11 @@ pub fn on_file<'p, F: FileSource, W: Write>(
     alloc: Global,
     files: &F,
     path: &'p str,
-    command: Command,
+    command: Command<'_>,
     output: &mut W,
 ) -> Result<Summary, Stop<'p>>
     ensures { ForBytes (F.held files.now path.entry.now) (λ f. OnFile (F.fails_with files.now path.entry.now)
-        path.entry.now command f (W.contents output.old) (W.contents output.new) result) }
+        path.entry.now command.entry f (W.contents output.old) (W.contents output.new) result) }
 {
     let file = match files.open(path) {
         Ok(file) => file,

@@ -43,12 +43,12 @@ pub fn on_input<'p, F: FileSource, R: Read, W: Write>(
     alloc: Global,
     files: &F,
     section: Section<'_>,
-    command: Command,
+    command: Command<'_>,
     input: &mut R,
     output: &mut W,
 ) -> Result<Summary, Stop<'p>>
     ensures { (bytes : List ℕ) × Consumes (R.remaining input.old) (R.remaining input.new) bytes
-        × OnInput (F.held files.now) (section_seen section.entry) command bytes (R.remaining input.new)
+        × OnInput (F.held files.now) (section_seen section.entry) command.entry bytes (R.remaining input.new)
         (W.contents output.old) (W.contents output.new) result }
 {
     match StringSections::of_files(alloc, files, section.line_str, section.strings) {

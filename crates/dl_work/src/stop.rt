@@ -17,6 +17,8 @@ pub enum Stop<'a> {
     Run(RunFault),
     /// The ELF file at this path stops it.
     File { path: &'a str, fault: FileFault },
+    /// A line of the input, counted from 1 on, is no address. Only `locate` answers it.
+    NoAddress { line: u64 },
 }
 
 /// What is wrong with an ELF file, or with reading it.
@@ -83,7 +85,7 @@ impl<'a> Stop<'a> {
         }
     }
 
-    /// The program's status: 2 where the words are to blame, else that of the fault.
+    /// The program's status: 2 where the words are to blame, 1 where a line is, else that of the fault.
     pub fn status(&self) -> u8
         ensures { result ≡ stop_status self.now }
     {
@@ -91,6 +93,7 @@ impl<'a> Stop<'a> {
             Stop::NotUnderstood => 2,
             Stop::Run(fault) => fault.status(),
             Stop::File { fault, .. } => fault.status(),
+            Stop::NoAddress { .. } => 1,
         }
     }
 
@@ -111,6 +114,7 @@ impl fmt::Display for Stop<'_> {
             Stop::NotUnderstood => write!(f, "words not understood"),
             Stop::Run(fault) => write!(f, "{fault}"),
             Stop::File { path, fault } => write!(f, "{path}: {fault}"),
+            Stop::NoAddress { line } => write!(f, "line {line}: words not understood"),
         }
     }
 }

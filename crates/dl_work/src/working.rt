@@ -19,11 +19,12 @@ use std::io::{Read, Write};
 fn file<'a>(job: &Job<'a>) -> Option<&'a str>
     ensures { option_map (λ s. s.now) result ≡ file_of (request_made job.now) }
 {
-    match *job {
+    match job {
         Job::Dump { file, .. }
         | Job::Check { file, .. }
         | Job::Find { file, .. }
-        | Job::Copy { file, .. } => file,
+        | Job::Copy { file, .. } => *file,
+        Job::Addr(words) => words.file,
     }
 }
 
@@ -31,7 +32,7 @@ fn file<'a>(job: &Job<'a>) -> Option<&'a str>
 fn section<'a>(job: &Job<'a>) -> Section<'a>
     ensures { section_seen result ≡ section_of (request_made job.now) }
 {
-    match *job {
+    match job {
         Job::Dump {
             big,
             line_str,
@@ -44,14 +45,19 @@ fn section<'a>(job: &Job<'a>) -> Section<'a>
             strings,
             ..
         } => Section {
-            big,
-            line_str,
-            strings,
+            big: *big,
+            line_str: *line_str,
+            strings: *strings,
         },
         Job::Check { big, .. } | Job::Copy { big, .. } => Section {
-            big,
+            big: *big,
             line_str: None,
             strings: None,
+        },
+        Job::Addr(words) => Section {
+            big: words.big,
+            line_str: words.line_str,
+            strings: words.strings,
         },
     }
 }
@@ -63,7 +69,7 @@ fn section<'a>(job: &Job<'a>) -> Section<'a>
 /// by the commands that look into them; else the files of `--line-str` and `--str` are read, in this
 /// order. Then the command works through the section.
 ///
-/// `NotUnderstood` where there is no job, or ADDRESS is no address; then, and at each fault before
+/// `NotUnderstood` where there is no job, ADDRESS is no address, or the job is `addr`, which `locate` does; then, and at each fault before
 /// the command, nothing is written. Of the input nothing is read then, nor where a file is named.
 pub fn work<'a, F: FileSource, R: Read, W: Write>(
     alloc: Global,

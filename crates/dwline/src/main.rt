@@ -1,8 +1,9 @@
 //! The program `dwline`: its words, its files and streams, and its status.
 #![tactic(auto)]
 
-use dl_cmd::{RunFault, read_job, read_strings, word_status};
-use dl_work::{FileSource, Stop, work};
+use dl_addr::Found;
+use dl_cmd::{Job, RunFault, read_job, read_strings, word_status};
+use dl_work::{FileSource, Stop, locate, work};
 use std::alloc::{AllocError, Global};
 use std::fs::File;
 use std::io::ErrorKind;
@@ -73,12 +74,20 @@ fn read_words(rt: &HostRuntime) -> Result<Vec<String>, Ending<'static>> {
     }
 }
 
-/// Does what the words say, the program's name first, over the system's files and streams.
-fn run_words<'a>(rt: &HostRuntime, words: &'a [&'a str]) -> Result<(), Ending<'a>> {
+/// Does what the words say, the program's name first, over the system's files and streams, and answers
+/// the program's status.
+fn run_words<'a>(rt: &HostRuntime, words: &'a [&'a str]) -> Result<u8, Ending<'a>> {
     let job = read_job(rt.alloc(), words)?;
     let files = System { rt };
-    work(rt.alloc(), job, &files, &mut rt.stdin(), &mut rt.stdout())?;
-    Ok(())
+    let (alloc, input, output) = (rt.alloc(), &mut rt.stdin(), &mut rt.stdout());
+    if let Some(Job::Addr(words)) = &job {
+        return match locate(alloc, words, &files, input, output)? {
+            Found::All => Ok(0),
+            Found::NotAll => Ok(1),
+        };
+    }
+    work(alloc, job, &files, input, output)?;
+    Ok(0)
 }
 
 /// Says why the program ended, and answers its status.
@@ -102,7 +111,7 @@ fn run(rt: &HostRuntime, words: &Vec<String>) -> u8 {
         Err(error) => return report(rt, Ending::from(error)),
     };
     match run_words(rt, words.as_slice()) {
-        Ok(()) => 0,
+        Ok(status) => status,
         Err(ending) => report(rt, ending),
     }
 }

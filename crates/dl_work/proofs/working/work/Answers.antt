@@ -4,8 +4,8 @@ use Rattle.dl_work.specs.Held.{section_seen}
 use Rattle.dl_work.proofs.WorkLemmas.{works_on_input}
 use Rattle.dl_work.proofs.working.work.Goals as goal
 
-pub returns-in-None : goal.returns-in-None
-returns-in-None g c =
+pub returns : goal.returns
+returns g c =
     let done = c.on_input.ensures in (
       done.0,
       done.1,
