@@ -5,7 +5,7 @@ _dwline() {
     local before=${COMP_WORDS[COMP_CWORD - 1]}
     COMPREPLY=()
     if [ "$COMP_CWORD" = 1 ]; then
-        mapfile -t COMPREPLY < <(compgen -W "dump check find copy help -h --help -V --version" -- "$current")
+        mapfile -t COMPREPLY < <(compgen -W "addr dump check find copy help -h --help -V --version" -- "$current")
         return
     fi
     case $before in
@@ -13,17 +13,18 @@ _dwline() {
             mapfile -t COMPREPLY < <(compgen -f -- "$current")
             return
             ;;
-        --op)
+        --op | --base)
             return
             ;;
     esac
     local options
     case ${COMP_WORDS[1]} in
+        addr) options="-a --addresses -s --basenames --hex --base --all --big --line-str --str -h --help" ;;
         dump) options="--big --line-str --str -h --help" ;;
         check | copy) options="--big -h --help" ;;
         find) options="--op --big --line-str --str -h --help" ;;
         help)
-            mapfile -t COMPREPLY < <(compgen -W "dump check find copy help" -- "$current")
+            mapfile -t COMPREPLY < <(compgen -W "addr dump check find copy help" -- "$current")
             return
             ;;
         *) return ;;
