@@ -53,18 +53,19 @@ fn asked_words<'a>(alloc: Global, words: &AddrWords<'a>) -> Result<AskedLines, S
     })
 }
 
-/// The addresses among the words, or where there are none those on the input.
-fn asked_for<'a, R: Read>(
+/// The addresses that were given among the words, or where there are none those on the input.
+fn given_or_read<'a, R: Read>(
     alloc: Global,
-    words: &AddrWords<'a>,
+    given: AskedLines,
+    hex: bool,
     input: &mut R,
 ) -> Result<AskedLines, Stop<'a>>
     ensures { (bytes : List ℕ) × Consumes (R.remaining input.old) (R.remaining input.new) bytes }
 {
-    if !words.addresses.is_empty() {
-        return asked_words(alloc, words);
+    if !given.asked.is_empty() {
+        return Ok(given);
     }
-    match read_asked(alloc, input, words.hex) {
+    match read_asked(alloc, input, hex) {
         Ok(lines) => Ok(lines),
         Err(fault) => Err(Stop::Run(fault)),
     }
@@ -203,11 +204,12 @@ fn in_file<'a, F: FileSource, R: Read, W: Write>(
         return Err(Stop::NotUnderstood);
     }
     let base = base(words)?;
+    let given = asked_words(alloc, words)?;
     let code = match code_of(alloc, files, path) {
         Ok(code) => code,
         Err(fault) => return Err(Stop::File { path, fault }),
     };
-    let lines = asked_for(alloc, words, input)?;
+    let lines = given_or_read(alloc, given, words.hex, input)?;
     let code = if words.all { None } else { code.as_ref() };
     let command = Command::Addr(question(words, base, lines.asked.as_slice(), code));
     let answer = on_file(alloc, files, path, command, output);
@@ -218,7 +220,7 @@ fn in_file<'a, F: FileSource, R: Read, W: Write>(
 /// of the section on the input.
 ///
 /// The addresses are among the words; where there are none, they are read from the input, which a section
-/// excludes. Beside an ELF file the words say neither an order nor string sections. In a linked file that
+/// excludes, once the file has shown where it has code. Beside an ELF file the words say neither an order nor string sections. In a linked file that
 /// has code the sequences count that begin in it, unless all are asked for.
 ///
 /// `NoAddress` names the first line of the input that is no address, where nothing else is wrong.
