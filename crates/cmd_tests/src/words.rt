@@ -5,30 +5,32 @@ use std::test::Fail;
 use test_support::hoard_but;
 
 #[test]
-fn find(rt: HostRuntime) -> Result<(), Fail> {
-    let words = ["dwline", "find", "0x10", "--op", "2"];
-    let want = Job::Find {
-        file: None,
-        big: false,
-        address: Some("0x10"),
-        op: 2,
-        line_str: None,
-        strings: None,
-    };
-    assert!(rt; read_job(rt.alloc(), words.as_slice())? == Some(want));
-    Ok(())
-}
-
-#[test]
-fn dump(rt: HostRuntime) -> Result<(), Fail> {
-    let words = ["dwline", "dump", "--str", "b", "--line-str=a", "--big"];
-    let want = Job::Dump {
-        file: None,
-        big: true,
-        line_str: Some("a"),
-        strings: Some("b"),
-    };
-    assert!(rt; read_job(rt.alloc(), words.as_slice())? == Some(want));
+fn dump_and_find(rt: HostRuntime) -> Result<(), Fail> {
+    let file = None;
+    for (words, want) in [
+        (
+            ["dwline", "find", "0x10", "--op", "2"].as_slice(),
+            Job::Find {
+                file,
+                big: false,
+                address: Some("0x10"),
+                op: 2,
+                line_str: None,
+                strings: None,
+            },
+        ),
+        (
+            ["dwline", "dump", "--str", "b", "--line-str=a", "--big"].as_slice(),
+            Job::Dump {
+                file,
+                big: true,
+                line_str: Some("a"),
+                strings: Some("b"),
+            },
+        ),
+    ] {
+        assert!(rt; read_job(rt.alloc(), words)? == Some(want), "{words:?}");
+    }
     Ok(())
 }
 
