@@ -219,9 +219,10 @@ fn in_file<'a, F: FileSource, R: Read, W: Write>(
 /// Prints where addresses are in the source, of the ELF file that the words name, or where that is `-`
 /// of the section on the input.
 ///
-/// The addresses are among the words; where there are none, they are read from the input, which a section
-/// excludes, once the file has shown where it has code. Beside an ELF file the words say neither an order nor string sections. In a linked file that
-/// has code the sequences count that begin in it, unless all are asked for.
+/// The addresses are among the words. Where there are none, they are read from the input, once the file has
+/// shown where it has code; a section on the input wants one among the words. Beside an ELF file the words say
+/// neither an order nor string sections. In a linked file that has code the sequences count that begin in it,
+/// unless all are asked for.
 ///
 /// `NoAddress` names the first line of the input that is no address, where nothing else is wrong.
 pub fn locate<'a, F: FileSource, R: Read, W: Write>(

@@ -69,8 +69,9 @@ fn section<'a>(job: &Job<'a>) -> Section<'a>
 /// by the commands that look into them; else the files of `--line-str` and `--str` are read, in this
 /// order. Then the command works through the section.
 ///
-/// `NotUnderstood` where there is no job, ADDRESS is no address, or the job is `addr`, which `locate` does; then, and at each fault before
-/// the command, nothing is written. Of the input nothing is read then, nor where a file is named.
+/// `NotUnderstood` where there is no job, ADDRESS is no address, or the job is `addr`, which is that of
+/// `locate`; then, and at each fault before the command, nothing is written. Of the input nothing is read
+/// then, nor where a file is named.
 pub fn work<'a, F: FileSource, R: Read, W: Write>(
     alloc: Global,
     job: Option<Job<'a>>,
