@@ -27,9 +27,12 @@ fn statuses(rt: HostRuntime) -> Result<(), Fail> {
             3,
         ),
         (["dwline", "dump", "--str", "no/such/file"].as_slice(), 3),
+        (["dwline", "addr"].as_slice(), 2),
+        (["dwline", "addr", "-"].as_slice(), 2),
+        (["dwline", "addr", "no/such/file", "1"].as_slice(), 3),
     ] {
         match run_words(&rt, words) {
-            Ok(()) => assert!(rt; false, "{words:?}"),
+            Ok(_status) => assert!(rt; false, "{words:?}"),
             Err(ending) => assert_eq!(rt; report(&rt, ending), status, "{words:?}"),
         }
     }
