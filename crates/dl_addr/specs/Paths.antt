@@ -19,7 +19,7 @@ entry_of t n = option_map (with_content t.pairs) (slice_get t.entries n)
 
 -- content 1 (DW_LNCT_path)
 abbrev pub own_path : Strings → List (ℕ × Value) → Option (List ℕ)
-own_path s items = option_and_then (text_of s) (value_of items 1)
+own_path s entry = option_and_then (text_of s) (value_of entry 1)
 
 abbrev pub number_or_zero : Option Value → ℕ
 number_or_zero (Some (number n)) = n
@@ -27,7 +27,7 @@ number_or_zero other = 0
 
 -- content 2 (DW_LNCT_directory_index), 0 where there is none
 abbrev pub directory_of : List (ℕ × Value) → ℕ
-directory_of items = number_or_zero (value_of items 2)
+directory_of entry = number_or_zero (value_of entry 2)
 
 abbrev pub is_letter : ℕ → Bool
 is_letter b = (nat_le 0x41 b && nat_le b 0x5a) || (nat_le 0x61 b && nat_le b 0x7a)
@@ -60,9 +60,9 @@ directory_path s directories n =
 
 -- a file that isn't whole is under its directory
 abbrev pub file_path : Strings → HeaderData → List (ℕ × Value) → Option (List ℕ)
-file_path s h items =
-    option_and_then (λ path. if is_whole path then Some path else option_map (λ directory. under directory path) (directory_path s h.directories (directory_of items)))
-    (own_path s items)
+file_path s h entry =
+    option_and_then (λ path. if is_whole path then Some path else option_map (λ directory. under directory path) (directory_path s h.directories (directory_of entry)))
+    (own_path s entry)
 
 -- `??` where one of the texts isn't there
 abbrev pub path_of : Strings → Option HeaderData → (file : ℕ) → List ℕ
