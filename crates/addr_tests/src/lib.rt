@@ -1,5 +1,13 @@
-//! Locations of addresses in worked sections.
+//! Addresses looked up in worked sections, through public calls alone.
 #![tactic(auto)]
 
 #[cfg(test)]
+mod answers;
+#[cfg(test)]
+mod each_call;
+#[cfg(test)]
 mod locations;
+#[cfg(test)]
+mod paths;
+#[cfg(test)]
+mod sections;
