@@ -190,8 +190,18 @@ fn add_addresses<'a>(alloc: Global, command: Command<'a>) -> Result<Command<'a>,
     ensures { (a : App) → IsApp a command.entry → IfOk result (IsApp (with_addresses a)) }
 {
     command
-        .arg(letter(alloc, "addresses", 'a', "Print each address before its location"))?
-        .arg(letter(alloc, "basenames", 's', "Print the last component of each path alone"))?
+        .arg(letter(
+            alloc,
+            "addresses",
+            'a',
+            "Print each address before its location",
+        ))?
+        .arg(letter(
+            alloc,
+            "basenames",
+            's',
+            "Print the last component of each path alone",
+        ))?
         .arg(switch(alloc, "hex", "Read digits without 0x as hexadecimal too"))?
         .arg(base(alloc))?
         .arg(switch(
