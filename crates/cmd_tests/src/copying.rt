@@ -94,7 +94,7 @@ fn big_section(rt: HostRuntime) -> Result<(), Fail> {
     Ok(())
 }
 
-/// The units before a fault are written, and nothing of the unit at hand.
+/// The units before a fault are written, and nothing of the current unit.
 #[test]
 fn faults(rt: HostRuntime) -> Result<(), Fail> {
     let alloc = rt.alloc();

@@ -48,7 +48,7 @@ enum Command {
 
 const COMMANDS: [Command; 4] = [Command::Dump, Command::Check, Command::Find, Command::Copy];
 
-/// `find` is answered by the second unit, behind which nothing is read.
+/// `find` is answered by the second unit, after which nothing is read.
 fn run<R: Read>(
     command: Command,
     alloc: Global,
@@ -98,7 +98,7 @@ fn written(command: Command, alloc: Global, section: &[u8], read: usize) -> Resu
     Ok(text)
 }
 
-/// What a command answers where the input ends behind so many bytes, and what it has written then.
+/// What a command answers where the input ends after so many bytes, and what it has written then.
 fn ended(
     command: Command,
     alloc: Global,
@@ -195,7 +195,7 @@ fn each_write(rt: HostRuntime) -> Result<(), Fail> {
     Ok(())
 }
 
-/// Refuses each growth at one of the first bytes. What comes before the byte at hand is written, and the
+/// Refuses each growth at one of the first bytes. What comes before the current byte is written, and the
 /// growth isn't tried again: memory is there when the next byte is read, which none is. Both tables of the
 /// first unit's header grow at their first cells.
 fn assert_growths(

@@ -137,7 +137,7 @@ module _ (h : Params) (some : 1 ≤ h.maximum_operations_per_instruction) (most 
 standard_sound : (h : HeaderData) → IsSoundHeader h → IsSoundHeader (with_standard_opcodes h)
 standard_sound h sound = record { params = standard_fault h sound.params; maximum_operations = sound.maximum_operations; line_base = sound.line_base; directories = sound.directories; files = sound.files }
 
--- the header of bytes, and the rows behind it
+-- the header of bytes, and the rows after it
 record HasHeader (order : Order) (u : List ℕ) (h : HeaderData) : Type 0 where
   sound : IsSoundHeader h
   rows : AllByRecursion IsRow (unit_rows order u)

@@ -39,7 +39,7 @@ use Rattle.dl_cmd.proofs.RangeLemmas.{too_long}
 use Rattle.dl_cmd.proofs.SectionLemmas.{has_front}
 use Rattle.dl_cmd.proofs.VisitLemmas.{rows_after-append}
 
--- ---- visits one behind the other
+-- ---- visits one after the other
 
 offset_after-append : (n : ℕ) (a b : List Visit) → offset_after n (a ++ b) ≡ offset_after (offset_after n a) b
 offset_after-append n [] b = refl
@@ -174,7 +174,7 @@ module _ (order : Order) (n : ℕ) (c : List ℕ) where
     abbrev front : List Visit
     front = visits order n c ++ open_visit is_open
 
-    -- the visits behind the rows
+    -- the visits after the rows
     stop_of_own : (m : ℕ) (own : Own) (more : List Visit) → stop_after m [] (front ++ more) ≡ stop_after n (unit_rows order c) more
     stop_of_own m own more =
         ap (stop_after m []) (append_assoc (visits order n c) (open_visit is_open) more)
@@ -224,7 +224,7 @@ module _ (order : Order) (n : ℕ) (c : List ℕ) where
 
 -- ---- the visits of a section, or some of the first of them
 
--- the fault is that of what stands behind the units that are done, the first of which is at n
+-- the fault is that of what stands after the units that are done, the first of which is at n
 abbrev StopIs : Order → (n : ℕ) (done after : List (List ℕ)) (b : List ℕ) → RunFault → Type 0
 StopIs order n done after b (fault.ForeignUnit offset) =
     (c : List ℕ) × (back : List ℕ) × (version : ℕ) × (concat after ++ b ≡ c ++ back) × (offset ≡ n + length (concat done)) × WithinUnit order c × (foreign_in order c ≡ Some version)
@@ -243,7 +243,7 @@ stop_behind order n u done after b (fault.Write out) s = absurd s
 stop_behind order n u done after b fault.SectionTooLong s = absurd s
 stop_behind order n u done after b fault.NotFound s = absurd s
 
--- of the units that aren't copied, or of b behind them, the bytes at hand are at fault in no way, and memory grows for them
+-- of the units that aren't copied, or of b after them, the current bytes are at fault in no way, and memory grows for them
 record AtHand (order : Order) (after : List (List ℕ)) (b : List ℕ) : Type 0 where
   c : List ℕ
   behind : List ℕ

@@ -1,4 +1,4 @@
--- Counts of the unit at hand, where its reader tells an event.
+-- Counts of the current unit, where its reader tells an event.
 use Rattle.std.proofs.Common.{◌≡◌, ◌<◌, ℕ, ◌+◌, ◌^◌, Bool, true, false, List, [], ◌∷◌, ◌++◌, length, map, take, append-nil, arith, refl, sym, ap, ◌∙◌, subst, append_assoc, length-append, length-take}
 use Rattle.std.specs.Prelude.{◌||◌}
 use Rattle.std.proofs.lemmas.List.Sums.{count_by-le-length}

@@ -46,9 +46,9 @@ use Rattle.dl_cmd.proofs.OutLemmas.{TellsOut-more}
 use Rattle.dl_cmd.proofs.SectionCuts.{one_front}
 use Rattle.dl_cmd.proofs.SectionGrowth.{own, foreign_on, longer_front, begun_unit, told, from_zero, Stops, stops}
 
--- ---- behind a refusal nothing is told
+-- ---- after a refusal nothing is told
 
--- behind a bad operation there is none
+-- after a bad operation there is none
 no_more_found : (order : Order) (h : Params) (program x : List ℕ) (kind : FaultKind) → 1 ≤ h.opcode_base → IsBadOperation h (operations_in order h program).rest kind
     → (operations_in order h (program ++ x)).found ≡ (operations_in order h program).found
 no_more_found order h program x kind some faulty =

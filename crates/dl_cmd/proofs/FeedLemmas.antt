@@ -40,7 +40,7 @@ pub record FedUpTo {S : Type 0} (story : Story S) (order : Order) (t piece : Lis
   pub are : UnitsAre order u (t ++ take n piece) units b
   pub tells : story.tells first new start now (section_visits order units b)
 
--- an element, and those behind it
+-- an element, and those after it
 dropped : (xs : List ℕ) (i x : ℕ) → slice_get xs i ≡ Some x → drop i xs ≡ x ∷ drop (i + 1) xs
 dropped xs i x at = drop_more xs i x (slice_get_within xs i x at) ∙ ap (λ (y : ℕ). y ∷ drop (i + 1) xs) (get_or_from_slice_get xs i x x at)
 
@@ -57,7 +57,7 @@ module _ {S : Type 0} (story : Story S) (order : Order) (t piece : List ℕ) (fi
   abbrev pub read_so_far : List ℕ
   read_so_far = t ++ take so.n piece
 
-  -- the unit at hand, with so many bytes more
+  -- the current unit, with so many bytes more
   abbrev pub with_bytes : ℕ → List ℕ
   with_bytes used = so.b ++ take used rest
 
@@ -73,7 +73,7 @@ module _ {S : Type 0} (story : Story S) (order : Order) (t piece : List ℕ) (fi
   all_read : read_so_far ++ rest ≡ t ++ piece
   all_read = append_assoc t (take so.n piece) rest ∙ ap (λ (l : List ℕ). t ++ (take so.n piece ++ l)) so.rest_is ∙ ap (λ (l : List ℕ). t ++ l) (take-append-drop so.n piece)
 
-  -- the bytes of a call, and those behind
+  -- the bytes of a call, and those after
   parted : (used : ℕ) → HasUnits order (t ++ piece) so.units (with_bytes used ++ drop used rest)
   parted used = record {
     whole =
@@ -92,7 +92,7 @@ module _ {S : Type 0} (story : Story S) (order : Order) (t piece : List ℕ) (fi
   abbrev pub visits_before : List Visit
   visits_before = section_visits order so.units so.b
 
-  -- the visits of an event behind the bytes of a call
+  -- the visits of an event after the bytes of a call
   abbrev pub visits_of : ℕ → Event → List Visit
   visits_of used e = event_visits u.offset (header_of v.reader.order (with_bytes used)) e
 
@@ -178,7 +178,7 @@ module _ {S : Type 0} (story : Story S) (order : Order) (t piece : List ℕ) (fi
       pub visits_told : section_visits order so.units (with_bytes fed.used) ≡ visits_so_far ++ visits_of fed.used fed.event
       visits_told = visits_more fed.used r.rows (told fed.event) feeds.answered.grows ∙ ap (λ (l : List Visit). visits_so_far ++ l) (told_visits u.offset (header_of v.reader.order (with_bytes fed.used)) fed.event)
 
-      -- the same, by the offset that stands behind the call
+      -- the same, by the offset that stands after the call
       pub told_event : event_visits v.offset (header_of v.reader.order (with_bytes fed.used)) fed.event ≡ visits_of fed.used fed.event
       told_event = ap (λ (z : Units). event_visits z.offset (header_of v.reader.order (with_bytes fed.used)) fed.event) r.same
 

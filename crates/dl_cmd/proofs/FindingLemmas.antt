@@ -39,7 +39,7 @@ use Rattle.dl_print.proofs.Outs.{HasPrinted-out, HasPrinted-nothing, keeps_by_no
 use Rattle.dl_cmd.proofs.SectionLemmas.{section_visits-push, has_front}
 use Rattle.dl_cmd.proofs.VisitLemmas.{rows_after-append}
 
--- ---- visits one behind the other
+-- ---- visits one after the other
 
 pub found_after-append : (x : Place) (rows : List Row) (a b : List Visit) → found_after x rows (a ++ b) ≡ option_or (found_after x rows a) (found_after x (rows_after rows a) b)
 found_after-append x rows [] b = refl

@@ -77,7 +77,7 @@ module _ (order : Order) where
 
 -- ---- how copying ends
 
--- w, behind the units: no unit begins it, or another version does, or a unit whose copy would be too long
+-- w, after the units: no unit begins it, or another version does, or a unit whose copy would be too long
 data How (order : Order) (limit : ℕ) (bytes : List ℕ) (left : Option (List ℕ)) (units : List (List ℕ)) (w : List ℕ) (result : Result Summary RunFault) : Type 0 where
   at_end : (b back : List ℕ) → w ≡ b ++ back → IsOfBytes result → EndsAs order limit bytes left units b back result → foreign_in order b ≡ None → How order limit bytes left units w result
   at_version : (b back : List ℕ) (version : ℕ) → w ≡ b ++ back → WithinUnit order b → foreign_in order b ≡ Some version → result ≡ Err (fault.ForeignUnit (length (concat units)))
@@ -174,7 +174,7 @@ module _ (order : Order) (limit : ℕ) (bytes : List ℕ) where
       | inr (inr g) ↦ none_is_some (sym none ∙ ap (foreign_in order) g.2 ∙ foreign_on order b2 (g.0 ∷ g.1) version foreign)
     ]
 
-  -- two ends behind the same units
+  -- two ends after the same units
   module _ (units : List (List ℕ)) (w : List ℕ) where
     apart : (left : Option (List ℕ)) (result : Result Summary RunFault) (b back b2 back2 : List ℕ) (version : ℕ) → w ≡ b ++ back → w ≡ b2 ++ back2 → IsOfBytes result
         → EndsAs order limit bytes left units b back result → foreign_in order b ≡ None → WithinUnit order b2 → foreign_in order b2 ≡ Some version → ⊥

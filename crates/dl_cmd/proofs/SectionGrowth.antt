@@ -64,7 +64,7 @@ rows_grow order h p x =
     let after = (standing_after spelt (operations_in order h p).rest x).found in
     (rows_after h before after, ap (λ (s : Standing Operation). matrix h s.found) (standing-append spelt p x) ∙ rows_after-append h [] before after)
 
--- behind a foreign version nothing is cut off
+-- after a foreign version nothing is cut off
 no_items : (order : Order) (version : ℕ) (begun b : List ℕ) → (cut_after order (foreign_version version) begun b).items ≡ []
 no_items order version begun [] = refl
 no_items order version begun (x ∷ b) = no_items order version (begun ++ x ∷ []) b

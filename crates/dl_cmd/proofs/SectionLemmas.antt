@@ -92,7 +92,7 @@ no_unit_begins order b within none u back e is =
     let empty : back ≡ [] = nil_from_length back (omega (arith, short, ap length e, length-append u back)) in
     none (subst (IsUnit order) (sym (e ∙ ap (λ (l : List ℕ). u ++ l) empty ∙ append-nil u)) is)
 
--- where bytes are refused, no unit begins those bytes and others behind them
+-- where bytes are refused, no unit begins those bytes and others after them
 pub no_unit_refused : (order : Order) (b back : List ℕ) (at : ℕ) (kind : FaultKind) → ((n : ℕ) → unit_len order b ≡ Some n → length b ≤ n) → Refused order b at kind → NoUnitBegins order (b ++ back)
 no_unit_refused order b back at kind within refused u more e is = by_length (cases_lt (length u) (length b)) where
   front : (length b ≤ length u) → b ≡ take (length b) u

@@ -1,4 +1,4 @@
--- The reader of a section, behind a unit.
+-- The reader of a section, after a unit.
 use Rattle.std.proofs.Common.{◌≡◌, ◌≢◌, inl, inr, Result, Ok, Err, ◌<◌, ℕ, ◌+◌, ◌^◌, Bool, not, false, List, [], ◌∷◌, ◌++◌, length, Option, Some, None, arith, refl, sym, ap, ap₂, ◌∙◌, subst, append-nil, length-append}
 use Rattle.std.specs.Prelude.{is_some, is_none, count_by, cond}
 use Rattle.std.specs.List.{concat}
@@ -90,7 +90,7 @@ module _ (order : Order) (u : Units) (t : List ℕ) (units : List (List ℕ)) (b
   pub offset_more : add u.offset (length b) ≡ length (concat (units ++ b ∷ []))
   offset_more = exact u.offset (length b) (omega (arith, are.offset, size, ap length (concat-push units b), length-append (concat units) b)) ∙ ap (λ (n : ℕ). n + length b) are.offset ∙ sym (length-append (concat units) b) ∙ sym (ap length (concat-push units b))
 
-  -- behind the unit
+  -- after the unit
   pub left_behind : (new : Units) → new.order ≡ order → StandsFor new.reader [] → new.reader.order ≡ order → new.offset ≡ add u.offset (length b) → new.is_foreign ≡ false → new.sequences ≡ 0 → new.rows ≡ 0
       → new.summary ≡ with_unit u.is_foreign u.sequences u.rows u.summary → UnitsAre order new t (units ++ b ∷ []) []
   left_behind new own stands same offset foreign sequences rows summary = record {
@@ -128,6 +128,6 @@ module _ (order : Order) (u : Units) (t : List ℕ) (units : List (List ℕ)) (b
       let sum : add u.offset f.offset ≡ length t = exact u.offset f.offset (omega (arith, are.offset, place, size, short)) ∙ omega (arith, are.offset, place, size) in
       (over.0, at ∙ ap₂ fault.Damage sum (ap (λ (q : Fault). q.kind) over.1))
 
--- the unit at hand isn't over-read
+-- the current unit isn't over-read
 pub within_unit : (order : Order) (u : Units) (t : List ℕ) (units : List (List ℕ)) (b : List ℕ) → UnitsAre order u t units b → WithinUnit order b
 within_unit order u t units b are = subst (λ (o : Order). WithinUnit o b) are.reader_order (within_here u.reader b u.reader.fault are.stands.order are.stands.at)

@@ -1,4 +1,4 @@
--- Visits that a visitor is told one behind the other.
+-- Visits that a visitor is told one after the other.
 use Rattle.std.proofs.Common.{◌≡◌, ℕ, List, [], ◌∷◌, ◌++◌, Option, Result, Ok, Err, refl, sym, ap, ◌∙◌, subst, append_assoc}
 use Rattle.std.specs.Prelude.{MatchResult}
 use Rattle.dl_rows.specs.declared.row.Row.{Row}

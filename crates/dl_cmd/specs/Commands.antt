@@ -98,7 +98,7 @@ AreCopied order units = AllByRecursion (IsCopied order) units
 abbrev pub HasCopied : Order → List (List ℕ) → (start now : Option (List ℕ)) → Type 0
 HasCopied order units start now = AreCopied order units × Appends start now (copied_units order units)
 
--- memory grows: for a cell of b's header, which the byte behind b adds; for a row; or for the copy of a unit that is whole
+-- memory grows: for a cell of b's header, which the byte after b adds; for a row; or for the copy of a unit that is whole
 abbrev pub Grows : Order → (b back : List ℕ) → Type 0
 Grows order b back = AddsCell order b back ⊎ ((unit_rows order b ≢ []) ⊎ IsUnit order b)
 

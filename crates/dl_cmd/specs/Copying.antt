@@ -14,7 +14,7 @@ use Rattle.dl_cmd.specs.RowsTold.{rows_after}
 use Rattle.dl_cmd.specs.Section.{Visit, of_header, of_version, of_row, of_end}
 use Rattle.dl_cmd.specs.Visiting.{Story}
 
--- ---- what visits give; rows: those of the unit at hand before the visits
+-- ---- what visits give; rows: those of the current unit before the visits
 
 -- the offset of the last unit with a header; offset: that before the visits
 abbrev pub offset_after : ℕ → List Visit → ℕ
@@ -36,7 +36,7 @@ stop_after offset rows (of_row r ∷ visits) = stop_after offset (rows ++ r ∷ 
 stop_after offset rows (of_end h ∷ visits) = option_or (end_stop offset rows h) (stop_after offset [] visits)
 stop_after offset rows (visit ∷ visits) = stop_after offset rows visits
 
--- the unit of this header and what stands behind it, or nothing where it isn't written
+-- the unit of this header and what stands after it, or nothing where it isn't written
 abbrev pub end_text : Order → List Row → Option HeaderData → (behind : List ℕ) → List ℕ
 end_text order rows None behind = behind
 end_text order rows (Some h) behind =

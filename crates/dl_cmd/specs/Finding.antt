@@ -21,7 +21,7 @@ abbrev pub answer_under : Place → List Row → Option HeaderData → Option (H
 answer_under x rows None = None
 answer_under x rows (Some h) = option_map (λ r. (h, r)) (answer rows x)
 
--- the first answer; rows: those of the unit at hand before the visits
+-- the first answer; rows: those of the current unit before the visits
 abbrev pub found_after : Place → List Row → List Visit → Option (HeaderData × Row)
 found_after x rows [] = None
 found_after x rows (of_row r ∷ visits) = found_after x (rows ++ r ∷ []) visits
@@ -59,7 +59,7 @@ pub record HasFound (first now : Seeker) (start held : Option (List ℕ)) (visit
   pub found : now.found ≡ true
   pub printed : HasPrinted start held (found_text (strings_of first.strings) h r) now.printer
 
--- nothing before the first answer, and nothing more behind it
+-- nothing before the first answer, and nothing more after it
 abbrev pub find_story : Story Seeker
 find_story = record {
   text = λ first visits. text_found (strings_of first.strings) (found_after first.place [] visits);

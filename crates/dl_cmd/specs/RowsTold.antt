@@ -1,4 +1,4 @@
--- The rows that visits tell of the unit at hand. No promise rests on this file.
+-- The rows that visits tell of the current unit. No promise rests on this file.
 use Rattle.std.specs.Prelude.{List, [], ◌∷◌, ◌++◌}
 use Rattle.dl_rows.specs.declared.row.Row.{Row}
 use Rattle.dl_cmd.specs.Section.{Visit, of_row, of_end}

@@ -20,7 +20,7 @@ use Rattle.dl_cmd.specs.declared.fault.RunFault.{RunFault}
 use Rattle.dl_cmd.specs.declared.fault.RunFault.TheVariants as fault
 use Rattle.dl_print.specs.declared.summary.Summary.{Summary}
 
--- s is units one behind the other, and then other bytes
+-- s is units one after the other, and then other bytes
 pub record HasUnits (order : Order) (s : List ℕ) (units : List (List ℕ)) (rest : List ℕ) : Type 0 where
   pub whole : s ≡ concat units ++ rest
   pub each : AllByRecursion (IsUnit order) units
@@ -51,7 +51,7 @@ IsDamaged order limit bytes left units b back offset kind =
     ((at : ℕ) × (offset ≡ length (concat units) + at) × Refused order b at kind)
     ⊎ ((back ≡ []) × (b ≢ []) × Sound order b × (length bytes ≤ limit) × IsAtEnd left × (offset ≡ length bytes) × (kind ≡ Truncated))
 
--- by the byte behind b its header holds a cell more, for which memory may be refused
+-- by the byte after b its header holds a cell more, for which memory may be refused
 abbrev pub AddsCell : Order → (b back : List ℕ) → Type 0
 AddsCell order b back = (byte : ℕ) × (others : List ℕ) × (back ≡ byte ∷ others) × (cells order b < cells order (b ++ byte ∷ []))
 
@@ -110,7 +110,7 @@ end_visits order u = open_visit (ends_open (unit_rows order u)) ++ of_end (heade
 abbrev pub unit_visits : Order → ℕ → List ℕ → List Visit
 unit_visits order offset u = visits order offset u ++ end_visits order u
 
--- of units one behind the other, the first at that offset
+-- of units one after the other, the first at that offset
 abbrev pub units_visits : Order → ℕ → List (List ℕ) → List Visit
 units_visits order offset [] = []
 units_visits order offset (u ∷ units) = unit_visits order offset u ++ units_visits order (offset + length u) units

@@ -25,7 +25,7 @@ IsOfBytes (Err fault.Read) = ⊥
 IsOfBytes (Err (fault.Write out)) = ⊥
 IsOfBytes other = Unit {0}
 
--- the units of bytes, the bytes behind them and the answer are settled by the bytes and the limit
+-- the units of bytes, the bytes after them and the answer are settled by the bytes and the limit
 abbrev pub OneEnd : Type 0
 OneEnd = (order : Order) (limit : ℕ) (bytes : List ℕ) (left left2 : Option (List ℕ)) (units units2 : List (List ℕ)) (b b2 back back2 : List ℕ) (result result2 : Result Summary RunFault)
     → IsOfBytes result → IsOfBytes result2 → EndsAs order limit bytes left units b back result → EndsAs order limit bytes left2 units2 b2 back2 result2

@@ -44,7 +44,7 @@ pub record UnitsAre (order : Order) (u : Units) (t : List ℕ) (units : List (Li
   pub rows : u.rows ≡ length (rows_told (events order b))
   pub summary : u.summary ≡ summary_of order units
 
--- what an event that is no row says of the unit at hand
+-- what an event that is no row says of the current unit
 abbrev pub counted : Event → Units → Units
 counted (event.Foreign version) u = record u { is_foreign = true }
 counted other u = u

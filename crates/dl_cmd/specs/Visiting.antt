@@ -32,7 +32,7 @@ abbrev pub Stopped : {S : Type 0} → Story S → (first new : S) (start now : O
 Stopped story first new start now visits (fault.Write out) = TellsOut start now (story.text first visits) (fault.Write out)
 Stopped story first new start now visits other = HasReason story first new start now visits other
 
--- it stopped at one of these visits, behind others
+-- it stopped at one of these visits, after others
 abbrev pub StopsIn : {S : Type 0} → Story S → (first new : S) (start now : Option (List ℕ)) (visits more : List Visit) → RunFault → Type 0
 StopsIn story first new start now visits more f = (heard : List Visit) × (back : List Visit) × (more ≡ heard ++ back) × Stopped story first new start now (visits ++ heard) f
 
@@ -42,7 +42,7 @@ Hears {S} story old new before after more result =
     (first : S) (start : Option (List ℕ)) (visits : List Visit) → story.tells first old start before visits
     → MatchResult result (λ _. story.tells first new start after (visits ++ more)) (StopsIn story first new start after visits more)
 
--- how it stands behind a unit
+-- how it stands after a unit
 abbrev pub GoesOn : {S : Type 0} → Story S → (first new : S) (start now : Option (List ℕ)) (visits : List Visit) → Next → Type 0
 GoesOn story first new start now visits next.Unit = story.tells first new start now visits
 GoesOn story first new start now visits next.Nothing = story.is_done first new start now visits
@@ -79,7 +79,7 @@ pub record Settled {S : Type 0} (story : Story S) (first : S) (start now : Optio
   pub tells : Tells visits
   pub out : Appends start now (story.text first visits)
 
--- `read_units`: the units to the end, or up to one behind which the visitor wants nothing more; or a write failed; or the first fault, or the visitor had a reason
+-- `read_units`: the units to the end, or up to one after which the visitor wants nothing more; or a write failed; or the first fault, or the visitor had a reason
 abbrev pub Ran : {S : Type 0} → Story S → Order → (limit : ℕ) (bytes : List ℕ) (left : Option (List ℕ)) (first new : S) (start now : Option (List ℕ)) → Result Summary RunFault → Type 0
 Ran story order limit bytes left first new start now (Ok summary) =
     ((units : List (List ℕ)) × EndsAs order limit bytes left units [] [] (Ok summary) × Settled story first start now (section_visits order units []) (story.tells first new start now))

@@ -21,9 +21,9 @@ use std::io::{Read, Write};
 struct Copier {
     printer: Printer,
     order: Order,
-    /// The offset of the unit at hand.
+    /// The offset of the current unit.
     unit: u64,
-    /// The rows of the unit at hand.
+    /// The rows of the current unit.
     rows: Vec<Row>,
     /// A unit's bytes, before they are printed; their room is kept.
     bytes: Vec<u8>,
@@ -69,7 +69,7 @@ impl<W: Write> Visitor<W> for Copier {
 }
 
 impl Copier {
-    /// Writes the unit at hand. It is printed once it is whole in memory.
+    /// Writes the current unit. It is printed once it is whole in memory.
     fn write<W: Write>(&mut self, output: &mut W, header: &Header) -> Result<(), RunFault>
         ensures printed { PrintsUnit (W.contents output.old) (W.contents output.new)
             self.old.printer self.new.printer self.old.order header.now self.old.rows.items

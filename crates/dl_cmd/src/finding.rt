@@ -20,7 +20,7 @@ struct Seeker<'a> {
     printer: Printer,
     strings: StringSections<'a>,
     place: Place,
-    /// Was given the rows of the unit at hand.
+    /// Was given the rows of the current unit.
     finder: Finder,
     found: bool,
 }

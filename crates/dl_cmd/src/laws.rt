@@ -9,7 +9,7 @@ pub fn one_cut()
 {}
 
 /// How a section ends is settled by its bytes and the limit, but where a read fails or memory is
-/// refused: its units, the bytes behind them, and the answer.
+/// refused: its units, the bytes after them, and the answer.
 pub fn one_end()
     ensures { OneEnd }
 {}

@@ -25,7 +25,7 @@ use std::alloc::Global;
 use std::io::{Read, Write};
 use std::mem;
 
-/// What a command reads behind a whole unit.
+/// What a command reads after a whole unit.
 #[derive(Clone, Copy, Debug, PartialEq, Eq)]
 pub enum Next {
     /// The next unit.
@@ -57,17 +57,17 @@ pub trait Visitor<W: Write> {
         ensures { Hears story self.old self.new (W.contents output.old) (W.contents output.new)
             (of_version offset version ∷ []) result };
 
-    /// The unit at hand has this row.
+    /// The current unit has this row.
     fn row(&mut self, output: &mut W, row: &Row) -> Result<(), RunFault>
         ensures { Hears story self.old self.new (W.contents output.old) (W.contents output.new)
             (of_row row.now ∷ []) result };
 
-    /// The unit at hand is whole, and its last row isn't an end row.
+    /// The current unit is whole, and its last row isn't an end row.
     fn open(&mut self, output: &mut W) -> Result<(), RunFault>
         ensures { Hears story self.old self.new (W.contents output.old) (W.contents output.new)
             (of_open ∷ []) result };
 
-    /// The unit at hand is whole. Of another version than 5 it has no header.
+    /// The current unit is whole. Of another version than 5 it has no header.
     fn end(&mut self, output: &mut W, header: Option<Header>) -> Result<Next, RunFault>
         ensures { HearsEnd story self.old self.new (W.contents output.old) (W.contents output.new)
             (of_end header ∷ []) result };
@@ -115,10 +115,10 @@ struct Units {
     alloc: Global,
     order: Order,
     reader: Reader,
-    /// The offset of the unit at hand.
+    /// The offset of the current unit.
     offset: u64,
     is_foreign: bool,
-    /// End rows and rows of the unit at hand.
+    /// End rows and rows of the current unit.
     sequences: u64,
     rows: u64,
     /// What the units before it come to.
@@ -216,7 +216,7 @@ impl Units {
         }
     }
 
-    /// Tells the visitor what came of the unit at hand, but for a row.
+    /// Tells the visitor what came of the current unit, but for a row.
     #[inline]
     fn tell<W: Write, V: Visitor<W>>(
         &mut self,
@@ -242,7 +242,7 @@ impl Units {
         }
     }
 
-    /// Tells the visitor that the unit at hand is whole, and goes on behind it.
+    /// Tells the visitor that the current unit is whole, and goes on after it.
     fn end<W: Write, V: Visitor<W>>(
         &mut self,
         output: &mut W,
@@ -259,7 +259,7 @@ impl Units {
         visitor.end(output, self.leave())
     }
 
-    /// Tells the visitor where the last row of the unit at hand isn't an end row.
+    /// Tells the visitor where the last row of the current unit isn't an end row.
     fn close<W: Write, V: Visitor<W>>(
         &self,
         output: &mut W,
@@ -276,7 +276,7 @@ impl Units {
         }
     }
 
-    /// Goes on behind the unit at hand, which is whole, and answers its header.
+    /// Goes on after the current unit, which is whole, and answers its header.
     fn leave(&mut self) -> Option<Header>
         ensures taken { taken_of self.new.reader ≡ 0 }
         ensures header { (b : List ℕ) → StandsFor self.old.reader b → result ≡ header_of self.old.reader.order b }
@@ -304,7 +304,7 @@ impl Units {
         }
     }
 
-    /// The fault of the unit at hand, by its offset in the section.
+    /// The fault of the current unit, by its offset in the section.
     fn damage(&self, fault: Fault) -> RunFault
         ensures { result ≡ RunFault.Damage (add self.now.offset fault.offset) fault.kind }
     {
@@ -377,7 +377,7 @@ fn work_through<W: Write, V: Visitor<W>>(
     answer
 }
 
-/// Whether a write failed, behind which nothing more is written.
+/// Whether a write failed, after which nothing more is written.
 fn is_failed_write(answer: &Result<Next, RunFault>) -> bool
     ensures { result ≡ is_failed_write answer.now }
 {

@@ -51,7 +51,7 @@ index_of-small ZdebugStr = lit< tt
 index_of-small DebugStrDwo = lit< tt
 index_of-small BuildIdNote = lit< tt
 
--- a text that stands at the front of the first room items, and an item behind it
+-- a text that stands at the front of the first room items, and an item after it
 behind_front : (t b xs : List ℕ) (room x : ℕ) → b ≡ take room xs → length t < length b → take (length t) b ≡ t → get_or b (length t) 0 ≡ x
     → (length t < room) × (take (length t + 1) xs ≡ t ++ x ∷ [])
 behind_front t b xs room x is long front next =

@@ -36,7 +36,7 @@ enough (suc m) (suc k) order b l l' = elim (cases_Bool (has_note order b)) [
   | inr none ↦ no_more_notes (suc m) order b none ∙ sym (no_more_notes (suc k) order b none)
 ]
 
--- the notes behind one that has no build ID
+-- the notes after one that has no build ID
 pub notes_after : (order : Order) (b rest : List ℕ) → has_note order b ≡ true → is_build_id order b ≡ false → rest ≡ after_note order b
     → build_id_from (length b) order b ≡ build_id_from (length rest) order rest
 notes_after order b rest has none is =

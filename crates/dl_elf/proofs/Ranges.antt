@@ -18,7 +18,7 @@ range_consumed (Some f) offset left n buffer rest h w e =
     let front : take n (buffer ++ rest) ≡ take n (drop offset f) = take-append-le n buffer rest w ∙ e.0 in
     rw (front, two, drop-drop n offset f) refl
 
--- n more bytes are put behind the first ones of a buffer
+-- n more bytes are put after the first ones of a buffer
 pub fill_more : (offset filled n : ℕ) (f buffer part : List ℕ) → filled ≤ length buffer → n ≤ length part
     → take filled buffer ≡ take filled (drop offset f) → take n part ≡ take n (drop (offset + filled) f)
     → take (filled + n) (put_mid filled (length buffer - filled) buffer part) ≡ take (filled + n) (drop offset f)

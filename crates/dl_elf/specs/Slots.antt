@@ -18,7 +18,7 @@ abbrev pub begins_with_name : List ℕ → SectionName → Bool
 begins_with_name b name = let n = length (name_bytes name) in
     nat_lt n (length b) && bytes_eq (take n b) (name_bytes name) && (slice_index_or b n 0 == 0)
 
--- a slot behind a section, where b begins with the section's name: the first section of the name stays
+-- a slot after a section, where b begins with the section's name: the first section of the name stays
 abbrev pub noted : List ℕ → ℕ → SectionHeader → SectionName → Option NamedSection → Option NamedSection
 noted b number header name slot =
     if is_none slot && begins_with_name b name then Some (record { name = name; number = number; header = header }) else slot

@@ -46,7 +46,7 @@ impl<'a, S: ReadAt> SectionReader<'a, S> {
         self.error
     }
 
-    /// Reads bytes into the front of the buffer, and moves behind them.
+    /// Reads bytes into the front of the buffer, and moves after them.
     fn read_next(&mut self, buffer: &mut [u8]) -> io::Result<usize>
         ensures bound { ReadsAtMost result buffer.new }
         ensures bytes { ReadConsumes (reader_remaining S.all_bytes self.old) (reader_remaining S.all_bytes self.new) result buffer.new }

@@ -13,7 +13,7 @@ use Rattle.dl_emit.specs.WrittenUnit.{operations_bytes, program_bytes}
 use Rattle.dl_emit.proofs.ProgramLemmas.{program_cons, rows_from}
 
 module _ (order : Order) (h : Params) (rows : List Row) where
-  -- behind the text, what is done of the program is out or held, and the rows from i on are left
+  -- after the text, what is done of the program is out or held, and the rows from i on are left
   pub record Gone (start now : Option (List ℕ)) (text held : List ℕ) (count i : ℕ) (before : Option Row) : Type 0 where
     pub done : List ℕ
     pub gathered : IsGathered start now (text ++ done) held count

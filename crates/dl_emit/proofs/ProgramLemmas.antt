@@ -13,7 +13,7 @@ use Rattle.dl_emit.specs.OperationBytes.{operation_bytes}
 use Rattle.dl_emit.specs.Program.{row_operations, operations_from, kept}
 use Rattle.dl_emit.specs.WrittenUnit.{operations_bytes, program_len, is_in_range, out_of_range, rows_refusal}
 
--- the bytes of a row and of those behind it
+-- the bytes of a row and of those after it
 pub program_cons : (order : Order) (h : Params) (before : Option Row) (r : Row) (rows : List Row) → operations_bytes order h (operations_from h before (r ∷ rows)) ≡ operations_bytes order h (row_operations h before r) ++ operations_bytes order h (operations_from h (kept r) rows)
 program_cons order h before r rows = flat_map-append (operation_bytes order h.address_size) (row_operations h before r) (operations_from h (kept r) rows)
 

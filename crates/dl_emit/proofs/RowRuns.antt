@@ -14,7 +14,7 @@ use Rattle.dl_emit.specs.Program.{start, when, differs, settings, marks, is_zero
 use Rattle.dl_emit.proofs.RunLemmas.{run}
 use Rattle.dl_emit.proofs.StepLemmas.{Leads, advance_leads, address_is, op_index_is, line_is, IsSpecial, special_is}
 
--- the registers behind a row of a sequence
+-- the registers after a row of a sequence
 abbrev pub behind : Row → Registers
 behind r = record {
   address = r.address;
@@ -161,7 +161,7 @@ module _ (h : Params) where
 
   -- ---- what appends the row
 
-  -- the registers behind a row that is appended with these
+  -- the registers after a row that is appended with these
   abbrev next : Bool → Registers → Registers
   next true q = initial (not (h.default_is_stmt == 0))
   next false q = cleared q

@@ -110,7 +110,7 @@ abbrev pub row_operations : Params → Option Row → Row → List Operation
 row_operations h None r = settings (start h) r ++ marks r ++ placed h r (line_advance 1 r.line) None
 row_operations h (Some before) r = settings before r ++ marks r ++ placed h r (line_advance before.line r.line) (advance h before r)
 
--- the row before, for the row behind r
+-- the row before, for the row after r
 abbrev pub kept : Row → Option Row
 kept r = if r.end_sequence then None else Some r
 

@@ -44,7 +44,7 @@ pub fn put_row(bytes: &mut Bytes, order: Order, params: &Params, before: Option<
     }
 }
 
-/// The row before, for the row behind this one.
+/// The row before, for the row after this one.
 pub fn kept(row: &Row) -> Option<Row>
     ensures { result ≡ kept_of row.now }
 {

@@ -93,7 +93,7 @@ pub fn number_of(bytes: &[u8], order: Order) -> u64
     }
 }
 
-/// The number of this size that the bytes begin with, and the bytes behind it; None where they are fewer.
+/// The number of this size that the bytes begin with, and the bytes after it; None where they are fewer.
 pub fn fixed_at_front(order: Order, size: usize, bytes: &[u8]) -> Option<(u64, &[u8])>
     requires { IsTrue (is_number_size size) }
     ensures { MatchOption result (length bytes.entry.now < size)

@@ -47,7 +47,7 @@ impl Uleb {
     }
 
     /// Takes bytes up to the number's last one: the number, as `push` answers it, and the bytes
-    /// behind it. None where all bytes are taken, and more are needed.
+    /// after it. None where all bytes are taken, and more are needed.
     pub fn take_from<'a>(&mut self, bytes: &'a [u8]) -> Option<(Result<u64, LebRange>, &'a [u8])>
         ensures used { IfSome result (λ found. length found.1.now < length bytes.entry.now) }
         ensures fits { IfSome result (λ found. IfOk found.0 (λ n. n < 2 ^ 64)) }
@@ -105,7 +105,7 @@ impl Sleb {
     }
 
     /// Takes bytes up to the number's last one: the number, as `push` answers it, and the bytes
-    /// behind it. None where all bytes are taken, and more are needed.
+    /// after it. None where all bytes are taken, and more are needed.
     pub fn take_from<'a>(&mut self, bytes: &'a [u8]) -> Option<(Result<i64, LebRange>, &'a [u8])>
         ensures used { IfSome result (λ found. length found.1.now < length bytes.entry.now) }
         ensures fits { IfSome result (λ found. IfOk found.0 IsSigned64) }

@@ -42,7 +42,7 @@ impl Number {
         }
     }
 
-    /// Takes bytes up to the number's last one: the number in this order and the bytes behind it,
+    /// Takes bytes up to the number's last one: the number in this order and the bytes after it,
     /// else the number with all of them.
     pub fn take_from<'a>(self, order: Order, bytes: &'a [u8]) -> Result<(u64, &'a [u8]), Self>
         ensures whole { IfOk result (λ found. (front : List ℕ) × (bytes.entry.now ≡ front ++ found.1.now)

@@ -81,7 +81,7 @@ fn out_of_range(rt: HostRuntime) {
     assert!(rt; skip.push(0x02));
 }
 
-/// Padding of any length, and the bits behind the sixty-fourth.
+/// Padding of any length, and the bits after the sixty-fourth.
 #[test]
 fn padded(rt: HostRuntime) {
     let column = [
@@ -175,7 +175,7 @@ fn sixteen_bytes_stand_as_they_came(rt: HostRuntime) {
     assert_eq!(rt; whole, Some(sum));
 }
 
-/// Numbers in both orders, byte by byte and in one piece, with bytes behind them.
+/// Numbers in both orders, byte by byte and in one piece, with bytes after them.
 #[test]
 fn numbers_of_fixed_size(rt: HostRuntime) {
     let rows: [(Order, usize, &[u8], u64); 6] = [
@@ -214,7 +214,7 @@ fn numbers_of_fixed_size(rt: HostRuntime) {
 }
 
 /// The examples of figures 7.7 and 7.8 of section 7.6, and spellings of three bytes by Python's
-/// integers, with a byte behind each.
+/// integers, with a byte after each.
 #[test]
 fn short_spellings(rt: HostRuntime) {
     let unsigned: [(u64, &[u8]); 6] = [

@@ -9,7 +9,7 @@ use std::marker::Model;
 
 /// A string section.
 ///
-/// Behind its last zero byte no text begins, so these bytes aren't looked at more than once.
+/// After its last zero byte no text begins, so these bytes aren't looked at more than once.
 #[derive(Drop)]
 pub struct StringSection<'a> {
     bytes: &'a [u8],

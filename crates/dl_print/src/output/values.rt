@@ -54,7 +54,7 @@ impl Printer {
         self.hexadecimal(output, bytes)
     }
 
-    /// Prints a name, of at most 16 bytes, and behind it a number in decimal.
+    /// Prints a name, of at most 16 bytes, and after it a number in decimal.
     pub fn number<W: Write>(
         &mut self,
         output: &mut W,
@@ -70,7 +70,7 @@ impl Printer {
         Ok(())
     }
 
-    /// Prints an address in sixteen hexadecimal digits behind `0x`.
+    /// Prints an address in sixteen hexadecimal digits after `0x`.
     pub fn address<W: Write>(&mut self, output: &mut W, address: u64) -> Result<(), WriteFault>
         ensures printed { Prints (W.contents output.old) (W.contents output.new)
             self.old self.new (codes "0x" ++ hexadecimal_of 16 address) result }

@@ -6,7 +6,7 @@ use Rattle.dl_cmd.specs.UnitsRead.{UnitsAre}
 use Rattle.dl_cmd.proofs.FeedLemmas.{FedUpTo}
 use Rattle.dl_cmd.proofs.section.Units.feed.Given as goal
 
--- each event uses a byte, but for a unit's end, which comes behind at least one
+-- each event uses a byte, but for a unit's end, which comes after at least one
 abbrev pub decreases-events : goal.decreases-events
 decreases-events g l = 2 * length l.rest + min (taken_of l.self.reader) 1
 
