@@ -1,5 +1,4 @@
-//! Lists the address, file and line of each row of a line table: of little-endian units on standard
-//! input.
+//! Lists the address, file and line of each row of little-endian units on standard input.
 #![tactic(auto)]
 
 use dl_head::Fault;
