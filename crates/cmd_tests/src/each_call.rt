@@ -68,7 +68,7 @@ fn run<R: Read>(
     }
 }
 
-/// What a command has written when it was told of so many bytes, and of no end.
+/// What a command has written when it was told of the first `read` bytes, and of no end.
 fn written(command: Command, alloc: Global, section: &[u8], read: usize) -> Result<Vec<u8>, Fail> {
     let mut text = Vec::new(alloc);
     match command {
@@ -98,7 +98,7 @@ fn written(command: Command, alloc: Global, section: &[u8], read: usize) -> Resu
     Ok(text)
 }
 
-/// What a command answers where the input ends after so many bytes, and what it has written then.
+/// What a command answers where the input ends after some bytes, and what it has written then.
 fn ended(
     command: Command,
     alloc: Global,

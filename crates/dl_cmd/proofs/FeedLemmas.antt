@@ -57,7 +57,7 @@ module _ {S : Type 0} (story : Story S) (order : Order) (t piece : List ℕ) (fi
   abbrev pub read_so_far : List ℕ
   read_so_far = t ++ take so.n piece
 
-  -- the current unit, with so many bytes more
+  -- the current unit, with `used` bytes more
   abbrev pub with_bytes : ℕ → List ℕ
   with_bytes used = so.b ++ take used rest
 

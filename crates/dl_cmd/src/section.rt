@@ -384,7 +384,7 @@ fn is_failed_write(answer: &Result<Next, RunFault>) -> bool
     matches!(answer, Err(RunFault::Write { .. }))
 }
 
-/// The first bytes of the piece, so many at the most.
+/// The first bytes of the piece, `most` of them or all.
 fn front<'a>(piece: &'a [u8], most: u64) -> &'a [u8]
     ensures short { length result.now ≤ most }
     ensures whole { length piece.entry.now ≤ length result.now → length piece.entry.now ≤ most }

@@ -36,7 +36,7 @@ advance_by_is h from to q k e =
     let is = t.1 in
     (omega arith, omega arith)
 
--- so many instructions and operations lead from a row to the next
+-- k operations lead from a row to the next, by whole instructions
 pub record Leads (h : Params) (before r : Row) (k : ℕ) : Type 0 where
   pub count : ℕ
   pub size : before.address + h.minimum_instruction_length * count ≡ r.address

@@ -10,7 +10,7 @@ use Rattle.dl_rows.specs.declared.operation.Operation.TheVariants as op
 abbrev pub extended : List ℕ → List ℕ
 extended body = 0 ∷ shortest_uleb (length body) ++ body
 
--- an operation, where addresses have so many bytes; const_add_pc, fixed_advance_pc and unknown opcodes aren't written
+-- an operation, by how many bytes an address has; const_add_pc, fixed_advance_pc and unknown opcodes aren't written
 abbrev pub operation_bytes : Order → ℕ → Operation → List ℕ
 operation_bytes order address_size (op.Special b) = b ∷ []
 operation_bytes order address_size op.Copy = 1 ∷ []

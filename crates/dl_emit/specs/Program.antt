@@ -48,13 +48,13 @@ marks r =
 
 -- ---- the step from a row to the next one of its sequence, section 6.2.5.1
 
--- the least number of instructions that are so many bytes long together, if there is one
+-- the least number of instructions of `minimum` bytes that are `size` bytes long together, if there is one
 abbrev pub instructions : ℕ → ℕ → Option ℕ
 instructions minimum size =
     if minimum == 0 then (if size == 0 then Some 0 else None) else
     if size % minimum == 0 then Some (size / minimum) else None
 
--- the operation advance by so many instructions, and from one op_index to another
+-- the operation advance by `count` instructions, and from one op_index to another
 abbrev pub advance_by : Params → ℕ → ℕ → ℕ → Option ℕ
 advance_by h from to count =
     let end = count * h.maximum_operations_per_instruction + to in

@@ -15,7 +15,7 @@ pub const HELD: usize = 4096;
 /// Bytes of a program, gathered.
 pub type Bytes = ArrayVec<u8, HELD>;
 
-/// Appends an operation, where addresses have so many bytes.
+/// Appends an operation, whose address has `address_size` bytes.
 #[inline(always)]
 pub fn put_operation(bytes: &mut Bytes, order: Order, address_size: u8, operation: Operation)
     requires size { address_size ≤ 8 }

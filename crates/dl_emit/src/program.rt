@@ -193,7 +193,7 @@ fn put_advances(bytes: &mut Bytes, order: Order, params: &Params, line: i64, adv
     put_if(bytes, order, params, advance != 0, operations);
 }
 
-/// The least number of instructions that are so many bytes long together.
+/// The least number of instructions that are `size` bytes long together, each of `minimum` bytes.
 fn instructions(minimum: u8, size: u64) -> Option<u64>
     ensures { result ≡ instructions_of minimum size }
 {
@@ -208,7 +208,7 @@ fn instructions(minimum: u8, size: u64) -> Option<u64>
     }
 }
 
-/// The operation advance by so many instructions, and from one op_index to another. Section
+/// The operation advance by this many instructions, and from one op_index to another. Section
 /// 6.2.5.1.
 fn advance_by(params: &Params, from: u8, to: u8, instructions: u64) -> Option<u64>
     ensures { result ≡ advance_by_of params.now from to instructions }

@@ -1,3 +1,4 @@
+-- What the promises of this crate rest on, in reading order.
 pub mod Fixed
 pub mod FixedBytes
 pub mod OperandBytes

@@ -105,7 +105,7 @@ pub fn fixed_at_front(order: Order, size: usize, bytes: &[u8]) -> Option<(u64, &
     Some((number_of(&bytes[..size], order), &bytes[size..]))
 }
 
-/// The lowest bytes of a number in this order, so many of them.
+/// The lowest `size` bytes of a number in this order.
 pub fn fixed_bytes(order: Order, size: usize, number: u64) -> ArrayVec<u8, 8>
     requires { size ≤ 8 }
     ensures { result.items ≡ fixed_bytes_of order size number }
@@ -120,7 +120,7 @@ pub fn fixed_bytes(order: Order, size: usize, number: u64) -> ArrayVec<u8, 8>
     }
 }
 
-/// The lowest bytes of a number, so many of them, the lowest first.
+/// The lowest `size` bytes of a number, the lowest first.
 fn low_bytes(size: usize, number: u64) -> ArrayVec<u8, 8>
     requires { size ≤ 8 }
     ensures { result.items ≡ little_bytes size number }

@@ -18,7 +18,7 @@ pub struct Summary {
 impl Summary {
     ghost use Rattle.dl_print.specs.Counts.{with_unit};
 
-    /// Counts a unit that has so many end rows and rows.
+    /// Counts a unit with its end rows and rows.
     pub fn add_unit(&mut self, is_foreign: bool, sequences: u64, rows: u64)
         ensures { self.new ≡ with_unit is_foreign sequences rows self.old }
     {
