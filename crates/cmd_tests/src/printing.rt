@@ -2,15 +2,14 @@
 ghost use Rattle.std.specs.Prelude.{◌≤◌};
 
 use crate::sections::options;
-use arrayvec::ArrayVec;
 use dl_cmd::{Options, RunFault, SECTION_LIMIT, dump};
 use dl_emit::write_unit;
-use dl_head::{Form, Format, Header, Pair, Params, Table, ValueRef};
+use dl_head::{Form, Format, Header, Pair, Table, ValueRef};
 use dl_num::Order;
 use std::alloc::Global;
 use std::process::Abort;
 use std::test::Fail;
-use test_support::{DWARF64_WITH_MD5, Sink, Source, bytes, unit_with};
+use test_support::{DWARF64_WITH_MD5, Sink, Source, bytes, params, unit_with};
 
 /// Asserts what `dump` prints of a section.
 fn assert_printed(
@@ -88,24 +87,7 @@ fn unit_of_values(alloc: Global, values: &[(u64, Form, ValueRef<'_>)]) -> Result
     let files = Table::new(alloc, Format::Dwarf32, &[])
         .ok()
         .ok_or("no format")?;
-    let mut lengths = ArrayVec::new();
-    lengths
-        .try_extend_from_slice(&[0, 1, 1, 1, 1, 0, 0, 0, 1, 0, 0, 1])
-        .ok()
-        .ok_or("room")?;
-    let params = Params {
-        format: Format::Dwarf32,
-        address_size: 8,
-        segment_selector_size: 0,
-        minimum_instruction_length: 1,
-        maximum_operations_per_instruction: 1,
-        default_is_stmt: 1,
-        line_base: -5,
-        line_range: 14,
-        opcode_base: 13,
-        lengths,
-    };
-    let header = Header::new(params, directories, files)
+    let header = Header::new(params(Format::Dwarf32), directories, files)
         .ok()
         .ok_or("a header")?;
     let mut unit = Sink::new(alloc, 1 << 20, 1 << 20);

@@ -2,14 +2,14 @@
 
 use crate::vectors::{header, plain, rows, three_rows};
 use dl_emit::{measure, write_unit};
-use dl_head::{Form, Format, Header, Pair, Params, Table, ValueRef};
+use dl_head::{Form, Format, Header, Pair, Table, ValueRef};
 use dl_num::Order;
 use dl_rows::Row;
 use std::alloc::Global;
 use std::process::Abort;
 use std::test::Fail;
 use test_support::{
-    BIG_THREE_ROWS, DWARF64_WITH_MD5, Sink, THREE_ROWS, bytes, row, unit, unit_with,
+    BIG_THREE_ROWS, DWARF64_WITH_MD5, Sink, THREE_ROWS, bytes, params, row, unit, unit_with,
 };
 
 /// Asserts that the unit of this header and these rows is these bytes, and is read again.
@@ -153,19 +153,7 @@ fn built(alloc: Global) -> Result<Header, Fail> {
         ValueRef::Number(0),
         ValueRef::Data16(md5),
     ])?;
-    let params = Params {
-        format: Format::Dwarf64,
-        address_size: 8,
-        segment_selector_size: 0,
-        minimum_instruction_length: 1,
-        maximum_operations_per_instruction: 1,
-        default_is_stmt: 1,
-        line_base: -5,
-        line_range: 14,
-        opcode_base: 13,
-        lengths: [0, 1, 1, 1, 1, 0, 0, 0, 1, 0, 0, 1].as_slice().try_into()?,
-    };
-    match Header::new(params, directories, files) {
+    match Header::new(params(Format::Dwarf64), directories, files) {
         Ok(header) => Ok(header),
         Err(_) => Err("a header".into()),
     }

@@ -1,37 +1,14 @@
 //! Tables and headers that are built.
 
 use crate::vectors::{DWARF64_WITH_MD5, EMPTY_PROGRAM, MD5, read};
-use arrayvec::ArrayVec;
 use dl_head::{BuildFault, Form, Format, Header, Pair, ParamFault, Params, Table, ValueRef};
 use std::alloc::Global;
 use std::process::Abort;
 use std::test::Fail;
+use test_support::{opcode_lengths, params};
 
 pub fn pair(content: u64, form: Form) -> Pair {
     Pair { content, form }
-}
-
-/// The params of an empty program's header.
-pub fn params() -> Params {
-    Params {
-        format: Format::Dwarf32,
-        address_size: 8,
-        segment_selector_size: 0,
-        minimum_instruction_length: 1,
-        maximum_operations_per_instruction: 1,
-        default_is_stmt: 1,
-        line_base: -5,
-        line_range: 14,
-        opcode_base: 13,
-        lengths: lengths(&[0, 1, 1, 1, 1, 0, 0, 0, 1, 0, 0, 1]),
-    }
-}
-
-/// The lengths of the standard opcodes.
-pub fn lengths(of: &[u8]) -> ArrayVec<u8, 254> {
-    let mut lengths = ArrayVec::new();
-    let _room = lengths.try_extend_from_slice(of);
-    lengths
 }
 
 #[test]
@@ -201,7 +178,7 @@ fn values_are_pooled(rt: HostRuntime) -> Result<(), Fail> {
 #[test]
 fn cells_of_a_built_header(rt: HostRuntime) -> Result<(), Fail> {
     let files = Table::new(rt.alloc(), Format::Dwarf32, &[])?;
-    match Header::new(params(), pooled(rt.alloc())?, files) {
+    match Header::new(params(Format::Dwarf32), pooled(rt.alloc())?, files) {
         Ok(header) => assert_eq!(rt; header.cells(), 10),
         Err(_) => assert!(rt; false),
     }
@@ -233,7 +210,7 @@ fn assert_refused(
 #[test]
 fn wrong_params_are_refused(rt: HostRuntime) -> Result<(), Fail> {
     for place in 0..6 {
-        let mut params = params();
+        let mut params = params(Format::Dwarf32);
         let fault = match place {
             0 => {
                 params.address_size = 3;
@@ -252,11 +229,11 @@ fn wrong_params_are_refused(rt: HostRuntime) -> Result<(), Fail> {
                 ParamFault::OpcodeBase
             }
             4 => {
-                params.lengths = lengths(&[0, 1, 1, 1, 1, 0, 0, 0, 1, 0, 0]);
+                params.lengths = opcode_lengths(&[0, 1, 1, 1, 1, 0, 0, 0, 1, 0, 0]);
                 ParamFault::OpcodeBase
             }
             _ => {
-                params.lengths = lengths(&[0, 0, 1, 1, 1, 0, 0, 0, 1, 0, 0, 1]);
+                params.lengths = opcode_lengths(&[0, 0, 1, 1, 1, 0, 0, 0, 1, 0, 0, 1]);
                 ParamFault::StandardLength(2)
             }
         };
@@ -265,17 +242,29 @@ fn wrong_params_are_refused(rt: HostRuntime) -> Result<(), Fail> {
     }
     let files = Table::new(rt.alloc(), Format::Dwarf64, &[])?;
     let fault = ParamFault::TableFormat;
-    assert_refused(&rt, params(), pooled(rt.alloc())?, files, fault);
+    assert_refused(
+        &rt,
+        params(Format::Dwarf32),
+        pooled(rt.alloc())?,
+        files,
+        fault,
+    );
     let directories = Table::new(rt.alloc(), Format::Dwarf64, &[])?;
-    assert_refused(&rt, params(), directories, pooled(rt.alloc())?, fault);
+    assert_refused(
+        &rt,
+        params(Format::Dwarf32),
+        directories,
+        pooled(rt.alloc())?,
+        fault,
+    );
     Ok(())
 }
 
 #[test]
 fn standard_opcodes_replace_others(rt: HostRuntime) -> Result<(), Fail> {
-    let mut params = params();
+    let mut params = params(Format::Dwarf32);
     params.opcode_base = 10;
-    params.lengths = lengths(&[0, 1, 1, 1, 1, 0, 0, 0, 1]);
+    params.lengths = opcode_lengths(&[0, 1, 1, 1, 1, 0, 0, 0, 1]);
     let files = Table::new(rt.alloc(), Format::Dwarf32, &[])?;
     match Header::new(params, pooled(rt.alloc())?, files) {
         Ok(header) => {
@@ -312,7 +301,7 @@ fn tables_with_md5(alloc: Global) -> Result<(Table, Table), BuildFault> {
 #[test]
 fn a_built_header_is_the_one_that_is_read(rt: HostRuntime) -> Result<(), Fail> {
     let (directories, files) = tables_with_md5(rt.alloc())?;
-    let mut params = params();
+    let mut params = params(Format::Dwarf32);
     params.format = Format::Dwarf64;
     match Header::new(params, directories, files) {
         Ok(header) => {

@@ -1,6 +1,6 @@
 //! Headers that are read byte by byte.
 
-use crate::building::{assert_entry, lengths, params};
+use crate::building::assert_entry;
 use crate::vectors::{
     BIG_DWARF64_WITH_MD5, BLOCK_PAST_THE_HEADER, DWARF64_WITH_MD5, EMPTY_PROGRAM,
     HUGE_DIRECTORY_COUNT, LINE_STRP_DIRECTORY, MD5, OPCODE_BASE_10, changed,
@@ -8,6 +8,7 @@ use crate::vectors::{
 use dl_head::{Fault, FaultKind, Format, HeadReader, HeadStep, Header, Params, ValueRef};
 use dl_num::Order;
 use std::process::Abort;
+use test_support::{opcode_lengths, params};
 
 /// The first answer that isn't More, or More.
 fn feed(reader: &mut HeadReader, bytes: &[u8]) -> HeadStep {
@@ -53,7 +54,7 @@ fn an_empty_program_has_a_header(rt: HostRuntime) {
 
 fn assert_empty_program(rt: &impl Abort, header: Option<&Header>) {
     let header = header.expect(rt, "a header");
-    assert!(rt; *header.params() == params());
+    assert!(rt; *header.params() == params(Format::Dwarf32));
     assert!(rt; header.directories().is_empty() && header.files().is_empty());
 }
 
@@ -64,8 +65,8 @@ fn opcode_base_10_has_nine_lengths(rt: HostRuntime) {
     let header = reader.header().expect(&rt, "a header");
     let wanted = Params {
         opcode_base: 10,
-        lengths: lengths(&[0, 1, 1, 1, 1, 0, 0, 0, 1]),
-        ..params()
+        lengths: opcode_lengths(&[0, 1, 1, 1, 1, 0, 0, 0, 1]),
+        ..params(Format::Dwarf32)
     };
     assert!(rt; *header.params() == wanted);
 }

@@ -1,6 +1,6 @@
 //! Headers that are written.
 
-use crate::building::{pair, params};
+use crate::building::pair;
 use crate::vectors::{
     BIG_DWARF64_WITH_MD5, DWARF64_WITH_MD5, EMPTY_PROGRAM, LINE_STRP_DIRECTORY, MD5, read,
 };
@@ -11,7 +11,7 @@ use dl_num::Order;
 use std::alloc::Global;
 use std::process::Abort;
 use std::test::Fail;
-use test_support::Sink;
+use test_support::{Sink, params};
 
 #[test]
 fn unit_lengths_that_are_written_have_limits(rt: HostRuntime) {
@@ -98,7 +98,7 @@ fn all_forms(alloc: Global) -> Result<Table, BuildFault> {
 #[test]
 fn written_headers_are_read_again(rt: HostRuntime) -> Result<(), Fail> {
     let tables = (all_forms(rt.alloc())?, all_forms(rt.alloc())?);
-    match Header::new(params(), tables.0, tables.1) {
+    match Header::new(params(Format::Dwarf32), tables.0, tables.1) {
         Ok(header) => {
             let mut output = Sink::new(rt.alloc(), 1000, 5);
             let written = write_header(&mut output, Order::Little, &header, 0);

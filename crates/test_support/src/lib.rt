@@ -1,8 +1,9 @@
 //! What the tests of several crates share: readers and writers that aren't perfect, want of memory,
-//! worked units, and rows.
+//! worked units, params of headers, and rows.
 #![tactic(auto)]
 
 mod fault;
+mod headers;
 mod memory;
 mod readers;
 mod rows;
@@ -10,6 +11,7 @@ mod units;
 mod writers;
 
 pub use fault::Fault;
+pub use headers::{opcode_lengths, params};
 pub use memory::{hoard, hoard_but};
 pub use readers::{Endless, Hoarding, Repeated, Source};
 pub use rows::{end, row};
