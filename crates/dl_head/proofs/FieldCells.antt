@@ -20,7 +20,7 @@ use Rattle.dl_head.specs.TableCells.{value_cells}
 use Rattle.dl_head.specs.Cells.{item_cells, begun_block, begun_leb_block, begun_cells, rest_cells}
 use Rattle.dl_head.specs.Value.{Value, text, line_str, str, str_sup, number, block, data16, Judgement, good, bad, is_text, text_spelt, block_spelt, leb_spelt, leb_block_spelt, value_spelt}
 use Rattle.dl_head.specs.Layout.{NumberField, Layout, number_then, form_then, value_then, Item, value_is, field_spelt, number_size, sized_spelt, number_judged, judged, objection, value_judged}
-use Rattle.dl_head.specs.TablePlace.{field_cells, number_bytes_of, length_bytes_of, IsLengthOf}
+use Rattle.dl_head.specs.TablePlace.{field_cells, has_bytes, number_bytes_of, length_bytes_of, IsLengthOf}
 use Rattle.dl_head.proofs.FieldLemmas.{none_some, some_same}
 use Rattle.dl_head.proofs.CellLemmas.{good_if, good_value, bad_good, value_item, is_form}
 
@@ -67,15 +67,6 @@ pub form_cell : (order : Order) (next : Form → Layout) (w : List ℕ) (i : Ite
 form_cell order next w i e = ap item_cells (is_form w i e).1
 
 -- ---- values of one cell
-
--- whether the bytes of the form are cells
-abbrev pub has_bytes : Form → Bool
-has_bytes form.String = true
-has_bytes form.Block1 = true
-has_bytes form.Block2 = true
-has_bytes form.Block4 = true
-has_bytes form.Block = true
-has_bytes f = false
 
 true_is_false : {A : Type 0} → true ≡ false → A
 true_is_false e = absurd cc

@@ -13,8 +13,8 @@ use Rattle.dl_head.specs.TableData.{TableData}
 use Rattle.dl_head.specs.Value.{Value, good}
 use Rattle.dl_head.specs.Cells.{item_cells, begun_cells, rest_cells}
 use Rattle.dl_head.specs.Layout.{NumberField, Layout, number_then, form_then, value_then, Item, field_spelt}
-use Rattle.dl_head.specs.TablePlace.{reader_cells, field_cells, Adds, KeepsCells, OneCell, EachCell, IsLengthOf, InValue, InBlock, TableMade}
-use Rattle.dl_head.proofs.FieldCells.{cells_good, cells_open, cells_bad, number_cells, form_cell, has_bytes, no_bytes, value_item_cell, value_bytes, begun_with}
+use Rattle.dl_head.specs.TablePlace.{reader_cells, field_cells, has_bytes, Adds, KeepsCells, OneCell, EachCell, IsLengthOf, InValue, InBlock, TableMade}
+use Rattle.dl_head.proofs.FieldCells.{cells_good, cells_open, cells_bad, number_cells, form_cell, no_bytes, value_item_cell, value_bytes, begun_with}
 use Rattle.dl_head.proofs.BlockLemmas.{one_more}
 use Rattle.dl_head.proofs.ValueLemmas.{at_value}
 use Rattle.dl_head.proofs.ValueFields.{value_layout}
@@ -70,14 +70,14 @@ pub bytes_field : (order : Order) (format : Format) (f : Form) (k : Value → La
 bytes_field order format f k layout rest w n is some more =
     ap (λ (l : Layout). field_cells order l w) is ∙ value_bytes order format f k w some ∙ more ∙ sym (ap (λ (l : Layout). rest_cells l rest + n) is)
 
--- a byte more of a text
-pub text_field : (order : Order) (t : TableReader) (at : Cursor) (v : ValuePhase) (format : Format) (next : TableData → Layout) (layout : Layout) (rest : List ℕ) (byte : ℕ)
-    → (is : InValue t at v format next layout rest) → is.pair.form ≡ form.String → field_cells order layout (rest ++ byte ∷ []) ≡ rest_cells layout rest + 1
-text_field order t at v format next layout rest byte is f =
+-- more bytes of a text
+pub text_field : (order : Order) (t : TableReader) (at : Cursor) (v : ValuePhase) (format : Format) (next : TableData → Layout) (layout : Layout) (rest more : List ℕ)
+    → (is : InValue t at v format next layout rest) → is.pair.form ≡ form.String → field_cells order layout (rest ++ more) ≡ rest_cells layout rest + length more
+text_field order t at v format next layout rest more is f =
     let l = value_layout t at v format next layout rest is in
-    let w = rest ++ byte ∷ [] in
-    bytes_field order format is.pair.form l.0 layout rest w 1 l.1 (ap has_bytes f)
-    (ap (λ (g : Form). begun_cells g w) f ∙ length-append rest (byte ∷ []) ∙ sym (ap (λ (g : Form). begun_cells g rest + 1) f))
+    let w = rest ++ more in
+    bytes_field order format is.pair.form l.0 layout rest w (length more) l.1 (ap has_bytes f)
+    (ap (λ (g : Form). begun_cells g w) f ∙ length-append rest more ∙ sym (ap (λ (g : Form). begun_cells g rest + length more) f))
 
 -- the last byte of the length of a block
 pub length_field : (order : Order) (t : TableReader) (at : Cursor) (v : ValuePhase) (size : ℕ) (format : Format) (next : TableData → Layout) (layout : Layout) (rest w : List ℕ)

@@ -19,11 +19,11 @@ use Rattle.dl_head.specs.declared.reader.value_phase.ValuePhase.TheVariants as v
 use Rattle.dl_head.specs.TableData.{TableData}
 use Rattle.dl_head.specs.Value.{Value, good}
 use Rattle.dl_head.specs.Layout.{Layout, number_then, content_code, Item, following, following_all, header_layout, field_spelt, table_layout, initial_size}
-use Rattle.dl_head.specs.TablePlace.{IsFresh, NoValues, form_left, after_pairs, values_left, Holds, Summed, InValue, InBlock, IsWhole, reader_cells, Adds, ValueAt, TableAt, SameTable, PushFollows}
+use Rattle.dl_head.specs.TablePlace.{IsFresh, NoValues, form_left, after_pairs, values_left, Holds, Summed, InValue, InBlock, IsWhole, reader_cells, Adds, ValueAt, TableAt, SameTable, BytesFollow, PushFollows}
 use Rattle.dl_head.specs.TableCells.{table_cells}
 use Rattle.dl_head.specs.TableStep.{value_filled}
 use Rattle.dl_head.specs.HeadStep.{tables_fit}
-use Rattle.dl_head.specs.Place.{Behind, InTable, At, end_of_unit, held_cells, ByteMade}
+use Rattle.dl_head.specs.Place.{Behind, InTable, At, end_of_unit, held_cells, BytesMade}
 use Rattle.dl_head.proofs.Places.{behind_on}
 use Rattle.dl_head.proofs.PairLemmas.{table_at}
 
@@ -150,31 +150,38 @@ in_table old new mid items layout rest next s e going behind at = record {
 }
 
 -- the table goes on
-pub table_goes_on : (old new : HeadReader) (mid : TableReader) (items : List Item) (rest : List ℕ) (byte : ℕ) (result : Next) (next : TableData → Layout) → InTable old items rest next
-    → PushFollows old.order old.params.format old.table byte result mid → (mid.phase ≡ table.Whole → ⊥) → new.table ≡ mid → SameFields old new
-    → ((is : List Item) (w : List ℕ) → InTable new is w next → At new is w) → ByteMade old items rest byte result new
-table_goes_on old new mid items rest byte byte_makes.Within next in_old push going e s to =
+pub table_goes_on : (old new : HeadReader) (mid : TableReader) (items : List Item) (rest : List ℕ) (bytes : List ℕ) (result : Next) (next : TableData → Layout) → InTable old items rest next
+    → BytesFollow old.order old.params.format old.table bytes result mid → (mid.phase ≡ table.Whole → ⊥) → new.table ≡ mid → SameFields old new
+    → ((is : List Item) (w : List ℕ) → InTable new is w next → At new is w) → BytesMade old items rest bytes result new
+table_goes_on old new mid items rest bytes byte_makes.Within next in_old push going e s to =
     let made = push.made in_old.going next in_old.layout rest in_old.at in
-    let w = rest ++ byte ∷ [] in (
+    let w = rest ++ bytes in (
       ap (λ (l : Layout). field_spelt old.order l w) in_old.behind.follows ∙ made.0,
       to items w (in_table old new mid items in_old.layout w next s e going (behind_same old new items in_old.layout s in_old.behind) made.1),
     )
-table_goes_on old new mid items rest byte byte_makes.Ends next in_old push going e s to =
+table_goes_on old new mid items rest bytes byte_makes.Ends next in_old push going e s to =
     let made = push.made in_old.going next in_old.layout rest in_old.at in (
       made.0,
-      ap (λ (l : Layout). field_spelt old.order l (rest ++ byte ∷ [])) in_old.behind.follows ∙ made.1,
+      ap (λ (l : Layout). field_spelt old.order l (rest ++ bytes)) in_old.behind.follows ∙ made.1,
       to (items ++ made.0 ∷ []) []
           (in_table old new mid (items ++ made.0 ∷ []) (following in_old.layout made.0) [] next s e going
           (behind_on old new items in_old.layout (following in_old.layout made.0) made.0 in_old.behind refl s.end s.overrun (same_end old new s)) made.2),
     )
-table_goes_on old new mid items rest byte (byte_makes.Refuses kind) next in_old push going e s to =
+table_goes_on old new mid items rest bytes (byte_makes.Refuses kind) next in_old push going e s to =
     let made = push.made in_old.going next in_old.layout rest in_old.at in
-    ap (λ (l : Layout). field_spelt old.order l (rest ++ byte ∷ [])) in_old.behind.follows ∙ made.0
-table_goes_on old new mid items rest byte byte_makes.NoMemory next in_old push going e s to =
+    ap (λ (l : Layout). field_spelt old.order l (rest ++ bytes)) in_old.behind.follows ∙ made.0
+table_goes_on old new mid items rest bytes byte_makes.NoMemory next in_old push going e s to =
     let made = push.made in_old.going next in_old.layout rest in_old.at in
     to items rest
     (in_table old new mid items in_old.layout rest next s e going (behind_same old new items in_old.layout s in_old.behind)
     (table_same old.order old.table mid old.params.format next in_old.layout rest made.0 in_old.at))
+
+-- the table is as it was
+pub table_stays : (old new : HeadReader) (mid : TableReader) (items : List Item) (rest : List ℕ) (next : TableData → Layout) → InTable old items rest next → SameTable old.table mid → new.table ≡ mid → SameFields old new
+    → InTable new items rest next
+table_stays old new mid items rest next in_old same e s =
+    in_table old new mid items in_old.layout rest next s e (λ whole. in_old.going (sym same.phase ∙ whole)) (behind_same old new items in_old.layout s in_old.behind)
+    (table_same old.order old.table mid old.params.format next in_old.layout rest same in_old.at)
 
 some_byte : (rest : List ℕ) (byte : ℕ) → rest ++ byte ∷ [] ≡ [] → ⊥
 some_byte [] byte e = absurd cc
@@ -200,10 +207,10 @@ Gives old mid next d = (layout : Layout) → IsWhole mid old.params.format next 
 -- the table is whole, and taken
 pub table_ends : (old new : HeadReader) (mid : TableReader) (d : TableData) (items : List Item) (rest : List ℕ) (byte : ℕ) (result : Next) (next : TableData → Layout) → InTable old items rest next
     → PushFollows old.order old.params.format old.table byte result mid → mid.phase ≡ table.Whole → Gives old mid next d → SameFields old new
-    → ((is : List Item) → Behind new is (next d) → At new is []) → ByteMade old items rest byte result new
+    → ((is : List Item) → Behind new is (next d) → At new is []) → BytesMade old items rest (byte ∷ []) result new
 table_ends old new mid d items rest byte result next is push whole taken s to =
     let e = table_whole old mid items rest byte result next is push whole in
-    subst (λ (n : Next). ByteMade old items rest byte n new) (sym e.1) (
+    subst (λ (n : Next). BytesMade old items rest (byte ∷ []) n new) (sym e.1) (
       e.0,
       ap (λ (l : Layout). field_spelt old.order l (rest ++ byte ∷ [])) is.behind.follows ∙ e.2,
       to (items ++ e.0 ∷ []) (behind_on old new items is.layout (next d) e.0 is.behind (taken (following is.layout e.0) e.3).0 s.end s.overrun (same_end old new s)),
@@ -219,12 +226,12 @@ adds_beside order layout rest w byte_makes.Ends n before after old new e f adds 
 adds_beside order layout rest w (byte_makes.Refuses kind) n before after old new e f adds = omega (arith, e, f, adds)
 adds_beside order layout rest w byte_makes.NoMemory n before after old new e f adds = (f ∙ ap (λ (k : ℕ). n + k) adds.0 ∙ sym e, adds.1)
 
--- the byte of the table at hand
-pub table_adds : (old : HeadReader) (mid : TableReader) (items : List Item) (rest : List ℕ) (byte : ℕ) (result : Next) (next : TableData → Layout) (n held : ℕ) → InTable old items rest next
-    → PushFollows old.order old.params.format old.table byte result mid → held_cells old ≡ n + reader_cells old.table → held ≡ n + reader_cells mid
-    → Adds old.order (following_all header_layout items) rest (rest ++ byte ∷ []) result (held_cells old) held
-table_adds old mid items rest byte result next n held in_old push before after =
-    let w = rest ++ byte ∷ [] in
+-- bytes of the table at hand
+pub table_adds : (old : HeadReader) (mid : TableReader) (items : List Item) (rest : List ℕ) (bytes : List ℕ) (result : Next) (next : TableData → Layout) (n held : ℕ) → InTable old items rest next
+    → BytesFollow old.order old.params.format old.table bytes result mid → held_cells old ≡ n + reader_cells old.table → held ≡ n + reader_cells mid
+    → Adds old.order (following_all header_layout items) rest (rest ++ bytes) result (held_cells old) held
+table_adds old mid items rest bytes result next n held in_old push before after =
+    let w = rest ++ bytes in
     let adds = adds_beside old.order in_old.layout rest w result n (reader_cells old.table) (reader_cells mid) (held_cells old) held before after (push.cells in_old.going next in_old.layout rest in_old.at) in
     subst (λ (l : Layout). Adds old.order l rest w result (held_cells old) held) (sym in_old.behind.follows) adds
 

@@ -45,6 +45,8 @@ pub mod TextLemmas
 pub mod TurnLemmas
 pub mod ValueFields
 pub mod ValueLemmas
+pub mod WholeSteps
+pub mod WholeValues
 pub mod WriteLemmas
 pub mod WritingLemmas
 pub mod WrittenHeaders

@@ -13,7 +13,7 @@ use Rattle.dl_head.specs.Value.{Judgement}
 use Rattle.dl_head.specs.Cells.{item_cells, rest_cells}
 use Rattle.dl_head.specs.Layout.{Layout, initial_length_then, number_then, form_then, value_then, foreign_version, last_entry, Item, following_all, header_layout, field_spelt, initial_length_spelt}
 use Rattle.dl_head.specs.TablePlace.{field_cells, Adds}
-use Rattle.dl_head.specs.Place.{from_byte, At, AtPhase, held_cells, Made, ByteMade, Follows, PushFollows}
+use Rattle.dl_head.specs.Place.{from_byte, At, AtPhase, held_cells, Made, BytesMade, Follows, PushFollows}
 use Rattle.dl_head.proofs.Openings.{is_length}
 use Rattle.dl_head.proofs.FieldCells.{cells_good, cells_open, cells_bad, number_cells}
 use Rattle.dl_head.proofs.Places.{byte_follows, lengths_open, some_left}
@@ -71,7 +71,7 @@ length_no_cell r items rest e at =
 
 -- ---- what the byte makes
 
-byte_made : (old new : HeadReader) (items : List Item) (rest : List ℕ) (byte : ℕ) (result : Next) → Made old.order items (rest ++ byte ∷ []) result new → ByteMade old items rest byte result new
+byte_made : (old new : HeadReader) (items : List Item) (rest : List ℕ) (byte : ℕ) (result : Next) → Made old.order items (rest ++ byte ∷ []) result new → BytesMade old items rest (byte ∷ []) result new
 byte_made old new items rest byte byte_makes.Within made = made
 byte_made old new items rest byte byte_makes.Ends made = made
 byte_made old new items rest byte (byte_makes.Refuses kind) made = made

@@ -175,7 +175,8 @@ countable r b l = on r.end refl l.below r.near where
 some_same : (a b : ℕ) → ◌≡◌ {A = Option ℕ} (Some a) (Some b) → a ≡ b
 some_same a b e = cc
 
-quiet_at : (r : HeadReader) (b : List ℕ) (items : List Item) (rest : List ℕ) → cut r.order b ≡ cut_of items rest → EndIs r items
+-- bytes that end inside a field, before the end, decide nothing
+pub quiet_at : (r : HeadReader) (b : List ℕ) (items : List Item) (rest : List ℕ) → cut r.order b ≡ cut_of items rest → EndIs r items
     → field_spelt r.order (following_all header_layout items) rest ≡ None → Below (length b) r.end → header_decided r.order b ≡ None
 quiet_at r b items rest e end none below =
     quiet r.order b items rest e none
@@ -217,6 +218,15 @@ pub not_foreign : (r : HeadReader) (p : Phase) (items : List Item) → ending p 
 not_foreign r p items goes (in_field none out next) = next_not_foreign (following_all header_layout items) next
 not_foreign r p items goes (in_padding is behind) = ap foreign_made behind.follows
 not_foreign r p items goes (in_foreign v is follows) = absurd (none_some goes (ap ending is))
+
+-- bytes that end inside a field, before the end, come to nothing
+pub field_more : (r : HeadReader) (b : List ℕ) (items : List Item) (rest : List ℕ) → cut r.order b ≡ cut_of items rest → EndIs r items → IsNext (following_all header_layout items)
+    → field_spelt r.order (following_all header_layout items) rest ≡ None → Below (length b) r.end → Answers r.order b answer.More
+field_more r b items rest e end next none below = (
+  λ h w. not_header r b items rest h e end below w,
+  foreign_of r.order b items rest e ∙ next_not_foreign (following_all header_layout items) next,
+  λ at kind w. none_some (quiet_at r b items rest e end none below) w.decided,
+)
 
 pub live_more : (r : HeadReader) (b : List ℕ) → ending r.phase ≡ None → Live r b → Answers r.order b answer.More
 live_more r b goes l = (

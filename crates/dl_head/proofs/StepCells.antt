@@ -59,3 +59,14 @@ cells_on order b x items rest e = on (field_spelt order layout w) refl where
   on (Some (Ok i)) is =
       let after : cells order (b ++ x ∷ []) ≡ sum_by item_cells (items ++ i ∷ []) + rest_cells (following_all header_layout (items ++ i ∷ [])) [] = ap cut_cells (cut_good order b x items rest i e is) in
       omega (arith, before, after, told (good i) is, none_held (following_all header_layout (items ++ i ∷ [])), sum_by_push item_cells items i)
+
+-- b ends inside a field, and c with it
+pub cells_good_on : (order : Order) (b c : List ℕ) (items : List Item) (rest w : List ℕ) (i : Item) → cut order b ≡ cut_of items rest → cut order c ≡ cut_of (items ++ i ∷ []) []
+    → field_spelt order (following_all header_layout items) w ≡ good i
+    → cells order c + rest_cells (following_all header_layout items) rest ≡ cells order b + field_cells order (following_all header_layout items) w
+cells_good_on order b c items rest w i e f is =
+    let layout : Layout = following_all header_layout items in
+    let before : cells order b ≡ sum_by item_cells items + rest_cells layout rest = ap cut_cells e in
+    let after : cells order c ≡ sum_by item_cells (items ++ i ∷ []) + rest_cells (following_all header_layout (items ++ i ∷ [])) [] = ap cut_cells f in
+    let told : field_cells order layout w ≡ item_cells i = ap (λ (j : Judgement Item). judged_cells layout w j) is in
+    omega (arith, before, after, told, none_held (following_all header_layout (items ++ i ∷ [])), sum_by_push item_cells items i)

@@ -18,7 +18,7 @@ use Rattle.dl_head.specs.Refusal.{or_else, bad_kind, header_overrun, cut_decided
 use Rattle.dl_head.specs.Cells.{cells}
 use Rattle.dl_head.specs.TableCells.{table_cells}
 use Rattle.dl_head.specs.TablePlace.{IsFresh}
-use Rattle.dl_head.specs.Place.{AtStart, AtPhase, At, SameUnit, PushFollows, end_of_unit}
+use Rattle.dl_head.specs.Place.{AtStart, AtPhase, At, SameCounts, SameUnit, PushFollows, end_of_unit, held_cells}
 use Rattle.dl_head.specs.Standing.{Below, Live, Unmade, ending, Stands, StandsFor, unit_known, Fails, Settles}
 use Rattle.dl_head.specs.Reading.{Answers, AddsCell, Steps}
 use Rattle.dl_head.proofs.FieldLemmas.{none_some}
@@ -104,25 +104,19 @@ refused_step r new fin g b x t kind result goes stands l f unit count fails =
     (unit_kept r mid (b ++ x ∷ []) (record { end = unit.end; unit_length = unit.unit_length; format = unit.format }) f.counts.order length_known)
     (fits_kept r.order new.order (b ++ x ∷ []) f.counts.order (fits_of r.order (b ++ x ∷ []) l.0.items (l.0.rest ++ x ∷ []) cut_is l.0.ends_within up)) fails)
 
--- memory was refused
-pub unfed_step : (r new : HeadReader) (b : List ℕ) (x : ℕ) → ending r.phase ≡ None → StandsFor r b → Live r b × Unmade r b → PushFollows r x byte_makes.NoMemory new
-    → Steps r.order b x answer.NoMemory new
-unfed_step r new b x goes stands l f = record {
-  ended = λ q a other. absurd (other (one_answer r.order b q answer.More a (live_more r b goes l.0)));
-  unfed = λ none. (adds_cell, again);
-  taken = λ more fed. absurd (fed refl);
+-- a reader that has taken nothing, though its vectors may have moved
+pub kept_stands : (r new : HeadReader) (b : List ℕ) → ending r.phase ≡ None → StandsFor r b → (l : Live r b × Unmade r b) → At new l.0.items l.0.rest → SameCounts r new → held_cells new ≡ held_cells r → StandsFor new b
+kept_stands r new b goes stands l at counts same_cells = record {
+  stands = subst (λ (o : Option HeadStep). Stands new o b) (sym (ends_not (place_of new new.phase items rest refl at))) (live, unmade);
+  taken = counts.taken ∙ stands.taken;
+  unit = unit_of new b items rest cut_is (end_is new new.phase items rest at);
+  within = fits_kept r.order new.order b counts.order stands.within;
 } where
   items : List Item
   items = l.0.items
 
   rest : List ℕ
   rest = l.0.rest
-
-  at : At new items rest
-  at = f.made items rest l.0.at
-
-  adds_cell : AddsCell r.order b x
-  adds_cell = let adds = f.cells items rest l.0.at in omega (arith, adds.1, cells_on r.order b x items rest l.0.cut_is)
 
   ends_not : Place new new.phase items → ending new.phase ≡ None
   ends_not (in_field none out next) = none
@@ -132,11 +126,8 @@ unfed_step r new b x goes stands l f = record {
   end_same : new.end ≡ r.end
   end_same = (end_is new new.phase items rest at).end ∙ sym (end_is r r.phase items rest l.0.at).end
 
-  order_same : new.order ≡ r.order
-  order_same = f.counts.order
-
   cut_is : cut new.order b ≡ cut_of items rest
-  cut_is = ap (λ (o : Order). cut o b) order_same ∙ l.0.cut_is
+  cut_is = ap (λ (o : Order). cut o b) counts.order ∙ l.0.cut_is
 
   live : Live new b
   live = record {
@@ -144,26 +135,29 @@ unfed_step r new b x goes stands l f = record {
     rest = rest;
     cut_is = cut_is;
     at = at;
-    unjudged = ap (λ (o : Order). field_spelt o (following_all header_layout items) rest) order_same ∙ l.0.unjudged;
-    start_is = omega (arith, f.counts.start, l.0.start_is);
+    unjudged = ap (λ (o : Order). field_spelt o (following_all header_layout items) rest) counts.order ∙ l.0.unjudged;
+    start_is = omega (arith, counts.start, l.0.start_is);
     below = subst (λ (o : Option ℕ). Below (length b) o) (sym end_same) l.0.below;
-    nothing_before = subst (λ (o : Order). NothingBefore (header_decided o) b) (sym order_same) l.0.nothing_before;
+    nothing_before = subst (λ (o : Order). NothingBefore (header_decided o) b) (sym counts.order) l.0.nothing_before;
     ends_within = l.0.ends_within;
   }
 
   unmade : Unmade new b
   unmade = record {
-    header = f.counts.header ∙ l.1.header;
-    cells_are = (f.cells items rest l.0.at).0 ∙ l.1.cells_are ∙ ap (λ (o : Order). cells o b) (sym order_same);
+    header = counts.header ∙ l.1.header;
+    cells_are = same_cells ∙ l.1.cells_are ∙ ap (λ (o : Order). cells o b) (sym counts.order);
   }
 
-  again : StandsFor new b
-  again = record {
-    stands = subst (λ (o : Option HeadStep). Stands new o b) (sym (ends_not (place_of new new.phase items rest refl at))) (live, unmade);
-    taken = f.counts.taken ∙ stands.taken;
-    unit = unit_of new b items rest cut_is (end_is new new.phase items rest at);
-    within = fits_kept r.order new.order b order_same stands.within;
-  }
+-- memory was refused
+pub unfed_step : (r new : HeadReader) (b : List ℕ) (x : ℕ) → ending r.phase ≡ None → StandsFor r b → Live r b × Unmade r b → PushFollows r x byte_makes.NoMemory new
+    → Steps r.order b x answer.NoMemory new
+unfed_step r new b x goes stands l f = record {
+  ended = λ q a other. absurd (other (one_answer r.order b q answer.More a (live_more r b goes l.0)));
+  unfed = λ none. (adds_cell, kept_stands r new b goes stands l (f.made l.0.items l.0.rest l.0.at) f.counts (f.cells l.0.items l.0.rest l.0.at).0);
+  taken = λ more fed. absurd (fed refl);
+} where
+  adds_cell : AddsCell r.order b x
+  adds_cell = let adds = f.cells l.0.items l.0.rest l.0.at in omega (arith, adds.1, cells_on r.order b x l.0.items l.0.rest l.0.cut_is)
 
 -- a reader whose phase is none of an end goes on
 pub goes_of : (p : Phase) → (p ≡ phase.Done → ⊥) → ((v : ℕ) → p ≡ phase.Foreign v → ⊥) → ((f : Fault) → p ≡ phase.Failed f → ⊥) → ending p ≡ None

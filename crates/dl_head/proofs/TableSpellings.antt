@@ -16,7 +16,7 @@ use Rattle.dl_head.specs.TableData.{TableData}
 use Rattle.dl_head.specs.Value.{Value, good}
 use Rattle.dl_head.specs.Layout.{Layout, Item, following_all, field_spelt, table_layout}
 use Rattle.dl_head.specs.Header.{SpellsFields}
-use Rattle.dl_head.specs.TablePlace.{IsFresh, TableAt, SameTable, MakesTable, PushFollows}
+use Rattle.dl_head.specs.TablePlace.{IsFresh, TableAt, SameTable, MakesTable, BytesFollow, PushFollows}
 use Rattle.dl_head.specs.TableSpelt.{alone, TableSpelt, TableReads, TableStands}
 use Rattle.dl_head.proofs.CutLemmas.{following_all-append}
 use Rattle.dl_head.proofs.HeadTables.{table_same}
@@ -34,9 +34,9 @@ fields_push order layout [] fields w i none is = (w, [], ap (λ (l : List ℕ). 
 fields_push order layout (j ∷ items) fields w i s is =
     (s.0, s.1 ++ w, ap (λ (l : List ℕ). l ++ w) s.2 ∙ append_assoc s.0 s.1 w, s.3, fields_push order _ items s.1 w i s.4 is)
 
-bytes_push : (w : List ℕ) (byte : ℕ) → AllBytes w → byte < 256 → AllBytes (w ++ byte ∷ [])
-bytes_push [] byte all lt = (lt, tt)
-bytes_push (b ∷ w) byte all lt = (all.0, bytes_push w byte all.1 lt)
+bytes_join : (v w : List ℕ) → AllBytes v → AllBytes w → AllBytes (v ++ w)
+bytes_join [] w front back = back
+bytes_join (b ∷ v) w front back = (front.0, bytes_join v w front.1 back)
 
 pub fresh_spelt : (order : Order) (format : Format) (t : TableReader) → IsFresh t → TableSpelt order format t
 fresh_spelt order format t is = record {
@@ -50,29 +50,29 @@ fresh_spelt order format t is = record {
   table_same_phase : table.PairCount ≡ t.phase → TableAt order t table.PairCount format (alone format) (table_layout format (alone format)) [] → TableAt order t t.phase format (alone format) (table_layout format (alone format)) []
   table_same_phase e at = subst (λ (p : TablePhase). TableAt order t p format (alone format) (table_layout format (alone format)) []) e at
 
-module _ (order : Order) (format : Format) (old : TableReader) (byte : ℕ) (new : TableReader) (small : byte < 256) (s : TableSpelt order format old) where
+module _ (order : Order) (format : Format) (old : TableReader) (bytes : List ℕ) (new : TableReader) (small : AllBytes bytes) (s : TableSpelt order format old) where
   abbrev first : Layout
   first = table_layout format (alone format)
 
-  more : AllBytes (s.fields ++ (s.rest ++ byte ∷ []))
-  more = subst AllBytes (append_assoc s.fields s.rest (byte ∷ [])) (bytes_push (s.fields ++ s.rest) byte s.bytes small)
+  more : AllBytes (s.fields ++ (s.rest ++ bytes))
+  more = subst AllBytes (append_assoc s.fields s.rest bytes) (bytes_join (s.fields ++ s.rest) bytes s.bytes small)
 
   same : SameTable old new → TableSpelt order format new
   same kept = record { items = s.items; fields = s.fields; rest = s.rest; bytes = s.bytes; spelt = s.spelt; at = table_same order old new format (alone format) (following_all first s.items) s.rest kept s.at }
 
-  -- a byte more
-  pub spelt_push : (result : Next) → (old.phase ≡ table.Whole → ⊥) → PushFollows order format old byte result new → TableSpelt order format new
+  -- bytes more
+  pub spelt_push : (result : Next) → (old.phase ≡ table.Whole → ⊥) → BytesFollow order format old bytes result new → TableSpelt order format new
   spelt_push byte_makes.Within going f =
       let made = f.made going (alone format) (following_all first s.items) s.rest s.at in
-      record { items = s.items; fields = s.fields; rest = s.rest ++ byte ∷ []; bytes = more; spelt = s.spelt; at = made.1 }
+      record { items = s.items; fields = s.fields; rest = s.rest ++ bytes; bytes = more; spelt = s.spelt; at = made.1 }
   spelt_push byte_makes.Ends going f =
       let made = f.made going (alone format) (following_all first s.items) s.rest s.at in
       record {
         items = s.items ++ made.0 ∷ [];
-        fields = s.fields ++ (s.rest ++ byte ∷ []);
+        fields = s.fields ++ (s.rest ++ bytes);
         rest = [];
-        bytes = subst AllBytes (sym (append-nil (s.fields ++ (s.rest ++ byte ∷ [])))) more;
-        spelt = fields_push order first s.items s.fields (s.rest ++ byte ∷ []) made.0 s.spelt made.1;
+        bytes = subst AllBytes (sym (append-nil (s.fields ++ (s.rest ++ bytes)))) more;
+        spelt = fields_push order first s.items s.fields (s.rest ++ bytes) made.0 s.spelt made.1;
         at = subst (λ (l : Layout). TableAt order new new.phase format (alone format) l []) (sym (following_all-append first s.items (made.0 ∷ []))) made.2;
       }
   spelt_push (byte_makes.Refuses kind) going f = same (f.made going (alone format) (following_all first s.items) s.rest s.at).1
@@ -92,16 +92,24 @@ module _ (order : Order) (format : Format) (t : TableReader) (s : TableSpelt ord
 pub makes_table_pushed : (order : Order) (format : Format) (old new : TableReader) (byte : ℕ) (result : Next) → byte < 256 → ∥ TableReads order format old ∥₁ → PushFollows order format old byte result new
     → new.phase ≡ table.Whole → MakesTable new format
 makes_table_pushed order format old new byte result small read follows e =
-    ∥∥₁_elim read makes_prop (λ s. makes_table order format new (spelt_push order format old byte new small s.0 result s.1 follows) e)
+    ∥∥₁_elim read makes_prop (λ s. makes_table order format new (spelt_push order format old (byte ∷ []) new (small, tt) s.0 result s.1 follows) e)
   where
     makes_prop : IsProp (MakesTable new format)
     makes_prop = let sound = sound_prop (table_of format new.pairs.items new.values.items new.pool.items) in hlevel (props, sound)
 
 -- it isn't
-pub reads_on : (order : Order) (format : Format) (old new : TableReader) (byte : ℕ) (result : Next) → byte < 256 → ∥ TableReads order format old ∥₁ → PushFollows order format old byte result new
+pub reads_on : (order : Order) (format : Format) (old new : TableReader) (bytes : List ℕ) (result : Next) → AllBytes bytes → ∥ TableReads order format old ∥₁ → BytesFollow order format old bytes result new
     → (new.phase ≡ table.Whole → ⊥) → ∥ TableReads order format new ∥₁
-reads_on order format old new byte result small read follows going =
-    ∥∥₁_elim read ∥∥₁_prop (λ s. ∣ (spelt_push order format old byte new small s.0 result s.1 follows, going) ∣₁)
+reads_on order format old new bytes result small read follows going =
+    ∥∥₁_elim read ∥∥₁_prop (λ s. ∣ (spelt_push order format old bytes new small s.0 result s.1 follows, going) ∣₁)
+
+-- it is as it was
+pub reads_same : (order : Order) (format : Format) (old new : TableReader) → SameTable old new → ∥ TableReads order format old ∥₁ → ∥ TableReads order format new ∥₁
+reads_same order format old new same read =
+    ∥∥₁_elim read ∥∥₁_prop (λ s. ∣ (
+      record { items = s.0.items; fields = s.0.fields; rest = s.0.rest; bytes = s.0.bytes; spelt = s.0.spelt; at = table_same order old new format (alone format) _ s.0.rest same s.0.at },
+      λ whole. s.1 (sym same.phase ∙ whole),
+    ) ∣₁)
 
 pub fresh_reads : (order : Order) (format : Format) (t : TableReader) → IsFresh t → ∥ TableReads order format t ∥₁
 fresh_reads order format t is = ∣ (fresh_spelt order format t is, λ e. other (sym is.phase ∙ e)) ∣₁ where

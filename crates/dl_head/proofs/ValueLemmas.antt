@@ -160,15 +160,15 @@ pub holds_grown : (pairs : List Pair) (pool more : List ℕ) (values : List Held
 holds_grown pairs pool more values entries before holds =
     record { held = holds.held ∙ sym (values_held-more pool more values holds.within); wide = holds.wide; within = omega (arith, holds.within, length-append pool more) }
 
--- a byte more of a text
-pub text_grown : (order : Order) (old new : TableReader) (at : Cursor) (start byte : ℕ) (format : Format) (next : TableData → Layout) (layout : Layout) (rest : List ℕ)
+-- more bytes of a text
+pub text_grown : (order : Order) (old new : TableReader) (at : Cursor) (start : ℕ) (more : List ℕ) (format : Format) (next : TableData → Layout) (layout : Layout) (rest : List ℕ)
     → InValue old at (value.Text start) format next layout rest → new.phase ≡ phase.Value at (value.Text start) → new.pairs.items ≡ old.pairs.items → new.values.items ≡ old.values.items
-    → new.pool.items ≡ old.pool.items ++ byte ∷ [] → HasNoZero (rest ++ byte ∷ []) → TableAt order new new.phase format next layout (rest ++ byte ∷ [])
-text_grown order old new at start byte format next layout rest is phase_is pairs values pool none =
-    let grown = holds_grown old.pairs.items old.pool.items (byte ∷ []) old.values.items is.entries is.before is.holds in
-    let dropped : drop start new.pool.items ≡ rest ++ byte ∷ [] =
-    ap (λ (l : List ℕ). drop start l) pool ∙ drop-append-le start old.pool.items (byte ∷ []) is.value.1 ∙ ap (λ (l : List ℕ). l ++ byte ∷ []) is.value.2 in
-    let now : InValue new at (value.Text start) format next layout (rest ++ byte ∷ []) = record {
+    → new.pool.items ≡ old.pool.items ++ more → HasNoZero (rest ++ more) → TableAt order new new.phase format next layout (rest ++ more)
+text_grown order old new at start more format next layout rest is phase_is pairs values pool none =
+    let grown = holds_grown old.pairs.items old.pool.items more old.values.items is.entries is.before is.holds in
+    let dropped : drop start new.pool.items ≡ rest ++ more =
+    ap (λ (l : List ℕ). drop start l) pool ∙ drop-append-le start old.pool.items more is.value.1 ∙ ap (λ (l : List ℕ). l ++ more) is.value.2 in
+    let now : InValue new at (value.Text start) format next layout (rest ++ more) = record {
       entries = is.entries;
       before = is.before;
       column = is.column;
@@ -178,9 +178,9 @@ text_grown order old new at start byte format next layout rest is phase_is pairs
       holds =
           subst (λ (ps : List Pair). Holds ps new.pool.items new.values.items is.entries is.before) (sym pairs)
           (subst (λ (w : List ℕ). Holds old.pairs.items w new.values.items is.entries is.before) (sym pool)
-          (subst (λ (hs : List Held). Holds old.pairs.items (old.pool.items ++ byte ∷ []) hs is.entries is.before) (sym values) grown));
+          (subst (λ (hs : List Held). Holds old.pairs.items (old.pool.items ++ more) hs is.entries is.before) (sym values) grown));
       summed = subst (λ (hs : List Held). Summed hs start) (sym values) is.summed;
       layout_is = is.layout_is ∙ ap (λ (ps : List Pair). values_left format next ps is.entries is.before at.left) (sym pairs);
-      value = (is.value.0, omega (arith, is.value.1, ap length pool, length-append old.pool.items (byte ∷ [])), dropped, none);
+      value = (is.value.0, omega (arith, is.value.1, ap length pool, length-append old.pool.items more), dropped, none);
     } in
-    subst (λ (p : TablePhase). TableAt order new p format next layout (rest ++ byte ∷ [])) (sym phase_is) now
+    subst (λ (p : TablePhase). TableAt order new p format next layout (rest ++ more)) (sym phase_is) now

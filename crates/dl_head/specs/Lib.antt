@@ -26,6 +26,7 @@ pub mod HeadStep
 pub mod FaultText
 pub mod Text
 pub mod Spelled
+pub mod Whole
 pub mod Writing
 pub mod Place
 pub mod TablePlace

@@ -170,14 +170,18 @@ Keeps old result new = Unit {0}
 abbrev pub held_cells : HeadReader → ℕ
 held_cells r = table_cells r.directories + table_cells r.files + reader_cells r.table
 
--- what a byte makes of the field, or of the padding, that it falls in
-abbrev pub ByteMade : HeadReader → List Item → List ℕ → ℕ → Next → HeadReader → Type 0
-ByteMade old items rest byte byte_makes.NoMemory new = At new items rest
-ByteMade old items rest byte result new = Made old.order items (rest ++ byte ∷ []) result new
+-- what bytes make of the field, or of the padding, that they fall in
+abbrev pub BytesMade : HeadReader → List Item → List ℕ → List ℕ → Next → HeadReader → Type 0
+BytesMade old items rest bytes byte_makes.NoMemory new = At new items rest
+BytesMade old items rest bytes result new = Made old.order items (rest ++ bytes) result new
 
--- `push`: a byte of a header that isn't whole
-pub record PushFollows (old : HeadReader) (byte : ℕ) (result : Next) (new : HeadReader) : Type 0 where
-  pub made : (items : List Item) (rest : List ℕ) → At old items rest → ByteMade old items rest byte result new
+-- bytes of a header that isn't whole
+pub record BytesFollow (old : HeadReader) (bytes : List ℕ) (result : Next) (new : HeadReader) : Type 0 where
+  pub made : (items : List Item) (rest : List ℕ) → At old items rest → BytesMade old items rest bytes result new
   pub cells : (items : List Item) (rest : List ℕ) → At old items rest
-      → Adds old.order (following_all header_layout items) rest (rest ++ byte ∷ []) result (held_cells old) (held_cells new)
+      → Adds old.order (following_all header_layout items) rest (rest ++ bytes) result (held_cells old) (held_cells new)
   pub counts : SameCounts old new
+
+-- `push`
+abbrev pub PushFollows : HeadReader → ℕ → Next → HeadReader → Type 0
+PushFollows old byte result new = BytesFollow old (byte ∷ []) result new

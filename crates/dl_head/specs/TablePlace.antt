@@ -1,5 +1,5 @@
 -- Where the reader of a table is: in which bytes of which field. `next` is what follows the table. No promise rests on this file.
-use Rattle.std.specs.Prelude.{◌≡◌, ℕ, ◌+◌, ◌-◌, ◌^◌, ◌<◌, ◌≤◌, drop, Bool, true, not, ◌==◌, List, [], ◌∷◌, ◌++◌, length, Some, None, Option, map, ◌⊎◌, Result, Ok, Err, sum_by}
+use Rattle.std.specs.Prelude.{◌≡◌, ℕ, ◌+◌, ◌-◌, ◌^◌, ◌<◌, ◌≤◌, drop, Bool, true, false, not, ◌==◌, List, [], ◌∷◌, ◌++◌, length, Some, None, Option, map, ◌⊎◌, Result, Ok, Err, sum_by}
 use Rattle.dl_num.specs.declared.fixed.Order.{Order}
 use Rattle.dl_num.specs.LebReader.{UlebTook, UlebIs}
 use Rattle.dl_num.specs.declared.leb.LebRange.{LebRange}
@@ -22,13 +22,13 @@ use Rattle.dl_head.specs.TableData.{TableData}
 use Rattle.dl_head.specs.TableCells.{table_cells}
 use Rattle.dl_num.specs.NumberBytes.{number_size, number_bytes}
 use Rattle.dl_num.specs.OperandBytes.{operand_bytes}
-use Rattle.dl_head.specs.Held.{value_held, values_end, cells_held, table_of}
+use Rattle.dl_head.specs.Held.{value_held, values_end, held_end, cells_held, table_of}
 use Rattle.dl_head.specs.Held.{IsWhole as AreRows}
 use Rattle.dl_head.specs.Sound.{IsSoundTable}
-use Rattle.dl_head.specs.TableStep.{value_filled}
+use Rattle.dl_head.specs.TableStep.{value_due, value_filled}
 use Rattle.dl_head.specs.Cells.{item_cells, rest_cells}
 use Rattle.dl_head.specs.Field.{IsFixed, IsUleb64, HasNoZero}
-use Rattle.dl_head.specs.Value.{Value, line_str, str, str_sup, number, block, good, bad, form_of_code, offset_size}
+use Rattle.dl_head.specs.Value.{Value, line_str, str, str_sup, number, block, good, bad, form_of_code, offset_size, value_spelt}
 use Rattle.dl_head.specs.Layout.{Layout, number_then, form_then, content_code, entry_count, Item, value_is, following, field_spelt, pairs_layout, entry_layout, entries_layout, table_layout}
 
 -- the reader of a table has taken nothing
@@ -258,6 +258,10 @@ Moves old width None = (width ≤ old.column + 1) × (old.left ≤ 1)
 Moves old width (Some new) =
     ((old.column + 1 < width) × (new.column ≡ old.column + 1) × (new.left ≡ old.left)) ⊎ ((width ≤ old.column + 1) × (2 ≤ old.left) × (new.column ≡ 0) × (new.left ≡ old.left - 1))
 
+-- no value follows the one at the place, where an entry has so many
+abbrev pub IsLast : Cursor → ℕ → Type 0
+IsLast at width = (width ≤ at.column + 1) × (at.left ≤ 1)
+
 -- `begin_value`, `end_value`: the values before the place are complete
 abbrev pub GoesOn : List Pair → List ℕ → List Held → ℕ → ℕ → Format → TableReader → Type 0
 GoesOn pairs pool values column left format new =
@@ -302,10 +306,43 @@ TakesCount old count format result new =
     (order : Order) (next : TableData → Layout) (layout : Layout) (w : List ℕ) → NoValues old → layout ≡ after_pairs format next (not (length old.pairs.items == 0)) old.pairs.items
     → UlebIs w count → TableMade order old format next layout w result new
 
--- `push`: a byte of a table that isn't whole
-pub record PushFollows (order : Order) (format : Format) (old : TableReader) (byte : ℕ) (result : Next) (new : TableReader) : Type 0 where
-  pub made : (old.phase ≡ phase.Whole → ⊥) → ValueFollows order format old byte result new
-  pub cells : (old.phase ≡ phase.Whole → ⊥) → ValueAdds order format old byte result new
+-- what bytes make of the field that they fall in, of a table that isn't whole
+pub record BytesFollow (order : Order) (format : Format) (old : TableReader) (bytes : List ℕ) (result : Next) (new : TableReader) : Type 0 where
+  pub made : (old.phase ≡ phase.Whole → ⊥) → (next : TableData → Layout) (layout : Layout) (rest : List ℕ) → TableAt order old old.phase format next layout rest
+      → TableMade order old format next layout (rest ++ bytes) result new
+  pub cells : (old.phase ≡ phase.Whole → ⊥) → (next : TableData → Layout) (layout : Layout) (rest : List ℕ) → TableAt order old old.phase format next layout rest
+      → Adds order layout rest (rest ++ bytes) result (reader_cells old) (reader_cells new)
+
+-- `push`
+abbrev pub PushFollows : Order → Format → TableReader → ℕ → Next → TableReader → Type 0
+PushFollows order format old byte result new = BytesFollow order format old (byte ∷ []) result new
+
+-- whether the bytes of a value of this form are cells
+abbrev pub has_bytes : Form → Bool
+has_bytes form.String = true
+has_bytes form.Block1 = true
+has_bytes form.Block2 = true
+has_bytes form.Block4 = true
+has_bytes form.Block = true
+has_bytes f = false
+
+-- `at_front`: the bytes in front of behind are those of the value, of which none came before
+pub record InFront (order : Order) (v : ValuePhase) (bytes : List ℕ) (h : Held) (behind : List ℕ) : Type 0 where
+  pub front : List ℕ
+  pub bytes_are : bytes ≡ front ++ behind
+  pub spelt : (format : Format) (f : Form) (pool rest : List ℕ) → ValueAt format f v pool rest → value_spelt order format f (rest ++ front) ≡ good (value_held pool h)
+  pub one : (format : Format) (f : Form) (pool rest : List ℕ) → ValueAt format f v pool rest → has_bytes f ≡ false
+  pub filled : (n : ℕ) → value_filled v n ≡ n
+  pub none_due : value_due v ≡ 0
+  pub cell : cells_held h ≡ 1
+  pub within : held_end h ≡ 0
+
+-- `whole_value`: the bytes in front of behind are those of the value at hand, and another one follows it
+pub record TakesValue (order : Order) (format : Format) (old : TableReader) (bytes behind : List ℕ) (new : TableReader) : Type 0 where
+  pub front : List ℕ
+  pub bytes_are : bytes ≡ front ++ behind
+  pub follows : BytesFollow order format old front byte_makes.Ends new
+  pub going : new.phase ≡ phase.Whole → ⊥
 
 -- what is held makes a table
 pub record MakesTable (t : TableReader) (format : Format) : Type 0 where

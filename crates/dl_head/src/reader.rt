@@ -19,6 +19,7 @@ mod sixteen;
 mod table_reader;
 mod value_phase;
 mod value_reader;
+mod whole_value;
 
 use crate::fault::{Fault, FaultKind};
 use crate::form::Format;
@@ -68,6 +69,17 @@ enum Phase {
     Done,
     Foreign(u16),
     Failed(Fault),
+}
+
+impl Phase {
+    ghost use Rattle.dl_head.specs.Whole.{in_table};
+
+    #[inline(always)]
+    fn is_table(&self) -> bool
+        ensures { result ≡ in_table self.now }
+    {
+        matches!(self, Phase::Directories | Phase::Files)
+    }
 }
 
 /// A reader of the header of a unit, whose bytes come one at a time.

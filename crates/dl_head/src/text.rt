@@ -4,7 +4,8 @@ ghost use Rattle.std.specs.Prelude.{◌≡◌, ◌<◌, ◌==◌, length, positi
 ghost use Rattle.std.specs.Option.{option_copied};
 ghost use Rattle.dl_head.specs.Text.{text_at};
 
-fn first_zero(bytes: &[u8]) -> Option<usize>
+/// Where the first zero byte stands.
+pub(crate) fn first_zero(bytes: &[u8]) -> Option<usize>
     ensures value { result ≡ position (λ b. b == 0) bytes.now }
     ensures within { IfSome result (λ n. n < length bytes.now) }
 {

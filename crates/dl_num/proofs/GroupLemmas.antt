@@ -1,8 +1,9 @@
 -- The groups of a number, and one byte more at its end.
-use Rattle.std.proofs.Common.{◌≡◌, ℕ, ◌+◌, ◌*◌, ◌^◌, ◌%◌, ◌-◌, ◌<◌, ◌≤◌, List, [], ◌∷◌, ◌++◌, length, refl, sym, ap, ◌∙◌, arith, ℤ, pos, negsuc, true, false, leb, Option, Some, None, Result, Ok, Err, inl, inr}
+use Rattle.std.specs.Option.{option_eq}
+use Rattle.std.proofs.Common.{◌≡◌, ℕ, ◌+◌, ◌*◌, ◌^◌, ◌%◌, ◌-◌, ◌<◌, ◌≤◌, List, [], ◌∷◌, ◌++◌, length, refl, sym, ap, ◌∙◌, arith, ℤ, pos, negsuc, Bool, IsTrue, ◌↔◌, eqb, true, false, leb, Option, Some, None, Result, Ok, Err, inl, inr}
 use Rattle.std.proofs.Math.Nat.{pow-suc}
 use Rattle.std.proofs.lemmas.Int.{ints}
-use Rattle.std.proofs.lemmas.Bool.{cases_lt, lt-ltb, le-ltb, lt-leb, le-leb}
+use Rattle.std.proofs.lemmas.Bool.{cases_lt, lt-ltb, le-ltb, lt-leb, le-leb, ne_eqb}
 use Rattle.dl_num.specs.Leb.{groups, AllContinue, IsLeb, IsUleb, signed_groups}
 use Rattle.dl_num.specs.LebReader.{turned_groups, fitting, signed_of, UlebTook, SlebTook, SlebAnswer}
 use Rattle.dl_num.specs.declared.leb.Uleb.{Uleb}
@@ -108,3 +109,24 @@ sleb_ends w b took lt r new e fresh = elim (cases_lt b 64) [
   | inl small ↦ let t = lt-leb 64 b small in below w b _ (turned_groups w + (127 - b % 128) * 128 ^ length w) took.continue small (sym (groups-push w b)) r (rw t at e) new fresh
   | inr big ↦ let t = le-leb 64 b big in above w b (groups w + b % 128 * 128 ^ length w) _ took.continue big lt (sym (turned-push w b)) r (rw t at e) new fresh
 ]
+
+-- a weight of 1 is that of no byte
+pub weight_new : (w : List ℕ) (o : Option ℕ) (r : Bool) → o ≡ fitting (128 ^ length w) → r ≡ option_eq eqb o (Some 1) → IsTrue r ↔ (w ≡ [])
+weight_new [] o r is same =
+    let e : r ≡ true = same ∙ ap (λ (p : Option ℕ). option_eq eqb p (Some 1)) is in
+    (λ t. refl, λ none. e)
+weight_new (x ∷ w) o r is same = (λ t. absurd (false_true (sym not_one ∙ t)), λ none. absurd cc) where
+  false_true : ◌≡◌ {A = Bool} false true → ⊥
+  false_true e = cc
+
+  n : ℕ
+  n = 128 ^ length (x ∷ w)
+
+  large : 128 ≤ n
+  large = omega (arith, groups_lt w, pow-suc 128 (length w))
+
+  not_one : r ≡ false
+  not_one = same ∙ ap (λ (p : Option ℕ). option_eq eqb p (Some 1)) is ∙ elim (cases_lt n (2 ^ 64)) [
+    | inl lt ↦ rw (lt-ltb n (2 ^ 64) lt) (ne_eqb n 1 (λ one. omega (arith, large, one)))
+    | inr le ↦ rw (le-ltb n (2 ^ 64) le) refl
+  ]

@@ -56,6 +56,20 @@ impl Fixed {
         self.is_full()
     }
 
+    /// How many bytes the number has.
+    pub fn size(&self) -> usize
+        ensures { result ≡ size_of self.now }
+    {
+        self.len
+    }
+
+    /// Whether no byte has come.
+    pub fn is_new(&self) -> bool
+        ensures { IsTrue result ↔ (taken_by self.now ≡ []) }
+    {
+        self.filled == 0
+    }
+
     /// Whether all the bytes have come.
     pub fn is_full(&self) -> bool
         ensures { IsTrue result ↔ IsFull self.now }

@@ -26,6 +26,13 @@ impl Uleb {
         }
     }
 
+    /// Whether no byte has come.
+    pub fn is_new(&self) -> bool
+        ensures { (w : List ℕ) → UlebTook self.now w → IsTrue result ↔ (w ≡ []) }
+    {
+        self.weight == Some(1)
+    }
+
     /// Takes the next byte. At the number's last byte it answers the number, where it is below
     /// 2^64, and is as new; before it answers None.
     pub fn push(&mut self, byte: u8) -> Option<Result<u64, LebRange>>

@@ -1,6 +1,6 @@
 //! Numbers of 1, 2, 4 or 8 bytes that lack at least one byte.
 
-ghost use Rattle.std.specs.Prelude.{◌≡◌, ◌<◌, ◌++◌, ◌∷◌, [], List, ℕ, length, IsTrue, IfOk, IfErr};
+ghost use Rattle.std.specs.Prelude.{◌≡◌, ◌<◌, ◌↔◌, ◌++◌, ◌∷◌, [], List, ℕ, length, IsTrue, IfOk, IfErr};
 ghost use Rattle.dl_num.specs.Fixed.{fixed, is_number_size};
 ghost use Rattle.dl_num.specs.OperandBytes.{operand_size, operand_bytes};
 
@@ -26,6 +26,21 @@ impl Number {
         Number {
             operand: Operand::new(len),
         }
+    }
+
+    /// How many bytes it has.
+    pub fn size(&self) -> usize
+        ensures size { result ≡ number_size self.now }
+        ensures number { IsTrue (is_number_size result) }
+    {
+        self.operand.size()
+    }
+
+    /// Whether no byte has come.
+    pub fn is_new(&self) -> bool
+        ensures { IsTrue result ↔ (number_bytes self.now ≡ []) }
+    {
+        self.operand.is_new()
     }
 
     /// Takes the next byte: the number in this order where it is the last one, else the number

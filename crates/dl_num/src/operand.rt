@@ -1,6 +1,6 @@
 //! Numbers of fixed size that lack at least one byte.
 
-ghost use Rattle.std.specs.Prelude.{◌≡◌, ◌<◌, ◌≤◌, ◌++◌, ◌∷◌, [], length, IfOk, IfErr};
+ghost use Rattle.std.specs.Prelude.{◌≡◌, ◌<◌, ◌≤◌, ◌↔◌, ◌++◌, ◌∷◌, [], length, IsTrue, IfOk, IfErr};
 ghost use Rattle.dl_num.specs.FixedBytes.{size_of, taken_by, IsFull};
 
 use crate::fixed::Fixed;
@@ -25,6 +25,20 @@ impl Operand {
         Operand {
             fixed: Fixed::new(len),
         }
+    }
+
+    /// How many bytes the number has.
+    pub fn size(&self) -> usize
+        ensures { result ≡ operand_size self.now }
+    {
+        self.fixed.size()
+    }
+
+    /// Whether no byte has come.
+    pub fn is_new(&self) -> bool
+        ensures { IsTrue result ↔ (operand_bytes self.now ≡ []) }
+    {
+        self.fixed.is_new()
     }
 
     /// Takes the next byte: the whole number where it is the last one, else the operand with it.

@@ -20,6 +20,7 @@ impl HeadReader {
     ghost use Rattle.dl_head.specs.declared.reader.HeadStep.TheVariants as answer;
     ghost use Rattle.dl_head.specs.Standing.{StandsFor};
     ghost use Rattle.dl_head.specs.Runs.{Traced, Runs, Offered};
+    ghost use Rattle.dl_head.specs.Whole.{IsInside, TakesAll};
 
     /// Takes the bytes in turns, up to an end or a fault. A turn offers at most so many of the bytes
     /// that aren't taken, and ends early where memory is refused; the next turn offers the same byte
@@ -58,14 +59,59 @@ impl HeadReader {
         ensures order { self.new.order ≡ self.old.order }
     {
         let mut used = 0;
-        for byte in piece {
-            match self.step(*byte) {
+        while used < piece.len() {
+            let whole = self.whole_value(&piece[used..]);
+            if whole > 0 {
+                used += whole;
+                continue;
+            }
+            match self.step(piece[used]) {
                 HeadStep::More => used += 1,
                 HeadStep::NoMemory => return (used, HeadStep::NoMemory),
                 last => return (used + 1, last),
             }
         }
         (used, HeadStep::More)
+    }
+
+    /// Takes a value of the table at hand with which the piece begins, where the header goes on behind
+    /// it: how many bytes it has. 0, and nothing is taken, where it begins with no such value, or memory
+    /// is refused.
+    #[inline(always)]
+    fn whole_value(&mut self, piece: &[u8]) -> usize
+        ensures within { result ≤ length piece.now }
+        ensures order { self.new.order ≡ self.old.order }
+        ensures takes { (b : List ℕ) → StandsFor self.old b → Answers self.old.order b answer.More
+            → TakesAll self.old.order b (take result piece.now) self.new }
+    {
+        if !self.phase.is_table() {
+            return 0;
+        }
+        let bytes = self.inside(piece);
+        let format = self.params.format;
+        let Some(behind) = self.table.whole_value(self.order, format, bytes) else {
+            return 0;
+        };
+        let used = bytes.len() - behind.len();
+        self.taken = self.taken.saturating_add(used as u64);
+        self.start = self.taken;
+        used
+    }
+
+    /// The first bytes of the piece, up to the one before the last of the header.
+    #[inline(always)]
+    fn inside<'a>(&self, piece: &'a [u8]) -> &'a [u8]
+        ensures { IsInside self.now piece.entry.now result.now }
+    {
+        let Some(end) = self.end else {
+            return &piece[..0];
+        };
+        let left = end.saturating_sub(self.taken).saturating_sub(1);
+        if left < piece.len() as u64 {
+            &piece[..left as usize]
+        } else {
+            piece
+        }
     }
 }
 

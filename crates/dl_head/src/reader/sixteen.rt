@@ -1,6 +1,6 @@
 //! Sixteen bytes of a value, as they come. Section 7.5.5, form data16.
 
-ghost use Rattle.std.specs.Prelude.{◌≡◌, ◌++◌, ◌∷◌, [], length, IfOk, IfErr};
+ghost use Rattle.std.specs.Prelude.{◌≡◌, ◌↔◌, ◌++◌, ◌∷◌, [], length, IsTrue, IfOk, IfErr};
 ghost use Rattle.dl_num.specs.OperandBytes.{operand_size, operand_bytes};
 
 use dl_num::Operand;
@@ -20,6 +20,13 @@ impl Sixteen {
         Sixteen {
             operand: Operand::new(16),
         }
+    }
+
+    /// Whether no byte has come.
+    pub fn is_new(&self) -> bool
+        ensures { IsTrue result ↔ (operand_bytes self.now.operand ≡ []) }
+    {
+        self.operand.is_new()
     }
 
     /// Takes the next byte: all sixteen where it is the last one, else what has come of them.

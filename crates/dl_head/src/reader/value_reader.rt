@@ -1,6 +1,6 @@
 //! The values of a table, byte by byte. Section 7.5.5.
 
-ghost use Rattle.std.specs.Prelude.{◌≡◌, ◌+◌, ◌<◌, ◌≤◌, ◌^◌, ℕ, List, length};
+ghost use Rattle.std.specs.Prelude.{◌≡◌, ◌≢◌, ◌+◌, ◌<◌, ◌≤◌, ◌^◌, ℕ, List, length, vec_len, vec_capacity};
 ghost use Rattle.dl_num.specs.declared.fixed.Order.{Order};
 ghost use Rattle.dl_head.specs.Held.{cells_held, held_end, values_end, value_held};
 ghost use Rattle.dl_head.specs.TablePlace.{number_value};
@@ -17,7 +17,8 @@ use dl_num::{LebRange, Number, Order, Uleb};
 impl TableReader {
     ghost use Rattle.dl_head.specs.declared.reader.table_reader.TablePhase.TheVariants as phase;
     ghost use Rattle.dl_head.specs.declared.reader.value_phase.ValuePhase.TheVariants as value;
-    ghost use Rattle.dl_head.specs.TablePlace.{reader_cells, GoesOn, Enters, BeginsBlock, OneCell, EachCell, ValueFollows, ValueAdds};
+    ghost use Rattle.dl_head.specs.declared.reader.next.Next.TheVariants as byte_makes;
+    ghost use Rattle.dl_head.specs.TablePlace.{reader_cells, GoesOn, Enters, IsLast, BeginsBlock, OneCell, EachCell, ValueFollows, ValueAdds};
 
     /// Takes the next byte of a value.
     pub(super) fn value(
@@ -189,12 +190,14 @@ impl TableReader {
 
     /// Enters a value that is complete.
     #[tactic(auto, using(crate::proofs::HeldLemmas::pushes))]
-    fn enter(&mut self, at: Cursor, held: Held, format: Format) -> Next
+    pub(super) fn enter(&mut self, at: Cursor, held: Held, format: Format) -> Next
         requires in_row { at.column < length self.old.pairs.items }
         requires whole { values_end self.old.values.items ≤ length self.old.pool.items }
         requires held { held_end held ≤ length self.old.pool.items }
         ensures made { Enters self.old at held format result self.new }
         ensures cells { OneCell self.old result self.new }
+        ensures room { vec_len self.old.values < vec_capacity self.old.values → result ≡ byte_makes.Ends }
+        ensures last { self.new.phase ≡ phase.Whole → self.old.phase ≢ phase.Whole → IsLast at (length self.old.pairs.items) }
     {
         if self.values.push(held).is_err() {
             return Next::NoMemory;
@@ -209,6 +212,7 @@ impl TableReader {
         requires whole { values_end self.old.values.items ≤ length self.old.pool.items }
         ensures goes { GoesOn self.old.pairs.items self.old.pool.items self.old.values.items (at.column + 1) at.left format self.new }
         ensures cells { reader_cells self.new ≡ reader_cells self.old }
+        ensures last { self.new.phase ≡ phase.Whole → IsLast at (length self.old.pairs.items) }
     {
         match at.next(self.pairs.len()) {
             Some(at) => self.begin_value(at, format),
@@ -222,6 +226,7 @@ impl TableReader {
         requires whole { values_end self.old.values.items ≤ length self.old.pool.items }
         ensures goes { GoesOn self.old.pairs.items self.old.pool.items self.old.values.items at.column at.left format self.new }
         ensures cells { reader_cells self.new ≡ reader_cells self.old }
+        ensures going { self.new.phase ≢ phase.Whole }
     {
         let form = self.pairs[at.column].form;
         let value = ValuePhase::new(form, format, self.pool.len());
@@ -230,7 +235,8 @@ impl TableReader {
 }
 
 /// The number or offset of a form.
-fn held_number(form: Form, number: u64) -> Held
+#[inline(always)]
+pub(super) fn held_number(form: Form, number: u64) -> Held
     ensures end { held_end result ≡ 0 }
     ensures cell { cells_held result ≡ 1 }
     ensures small { number < 2 ^ 64 }

@@ -1,4 +1,4 @@
-use Rattle.std.proofs.Common.{sym, subst, ◌+◌, refl, ap, arith}
+use Rattle.std.proofs.Common.{[], ◌∷◌, sym, subst, ◌+◌, refl, ap, arith}
 use Rattle.dl_head.specs.declared.reader.Phase.TheVariants as phase
 use Rattle.dl_head.specs.declared.reader.table_reader.TableReader.{TableReader}
 use Rattle.dl_head.specs.TablePlace.{reader_cells}
@@ -25,7 +25,7 @@ returns-in-Some-clause-follows c =
       cells = λ items rest at.
           let a = at_phase old _ items rest c.requires at in
           let kept = table_kept old mid d items rest c.args.byte c.push-next.result next a c.push-next.ensures taken.0 (taken.2 next) in
-          table_adds old mid items rest c.args.byte c.push-next.result next (table_cells old.files) _ a c.push-next.ensures (omega (arith, none)) (omega (arith, kept, fresh_cells c.take.new.self taken.1));
+          table_adds old mid items rest (c.args.byte ∷ []) c.push-next.result next (table_cells old.files) _ a c.push-next.ensures (omega (arith, none)) (omega (arith, kept, fresh_cells c.take.new.self taken.1));
       counts = record { order = refl; start = refl; taken = refl; header = refl };
     }
 
@@ -37,10 +37,10 @@ returns-in_default-clause-follows c =
     let none = c.in_default.ensures in
     record {
       made = λ items rest at.
-          table_goes_on old _ mid items rest c.args.byte c.push-next.result next (at_phase old _ items rest c.requires at) c.push-next.ensures none.0 none.1
+          table_goes_on old _ mid items rest (c.args.byte ∷ []) c.push-next.result next (at_phase old _ items rest c.requires at) c.push-next.ensures none.0 none.1
           (record { order = refl; format = refl; unit_length = refl; end = refl; overrun = refl }) (λ is w now. phase_at _ phase.Directories is w c.requires now);
       cells = λ items rest at.
-          table_adds old mid items rest c.args.byte c.push-next.result next (table_cells old.directories + table_cells old.files) _ (at_phase old _ items rest c.requires at) c.push-next.ensures refl
+          table_adds old mid items rest (c.args.byte ∷ []) c.push-next.result next (table_cells old.directories + table_cells old.files) _ (at_phase old _ items rest c.requires at) c.push-next.ensures refl
           (ap (λ (t : TableReader). table_cells old.directories + table_cells old.files + reader_cells t) none.1);
       counts = record { order = refl; start = refl; taken = refl; header = refl };
     }
@@ -60,4 +60,4 @@ invariant_of-self-in_default-clause-read c =
     let read = stands_at old.phase phase.Directories old.order old.params.format old.table c.requires old.read in
     let same = c.in_default.ensures in
     stands_at phase.Directories old.phase old.order old.params.format c.take.new.self (sym c.requires)
-    (subst (λ (t : TableReader). ∥ TableReads old.order old.params.format t ∥₁) (sym same.1) (reads_on old.order old.params.format old.table c.push-next.new.self c.args.byte c.push-next.result (omega arith) read c.push-next.ensures same.0))
+    (subst (λ (t : TableReader). ∥ TableReads old.order old.params.format t ∥₁) (sym same.1) (reads_on old.order old.params.format old.table c.push-next.new.self (c.args.byte ∷ []) c.push-next.result (omega arith, tt) read c.push-next.ensures same.0))

@@ -1,54 +1,67 @@
-use Rattle.std.proofs.Common.{refl, ◌∙◌, arith}
+use Rattle.std.proofs.Common.{refl, ◌∙◌, arith, length-drop, ap, length}
+use Rattle.std.proofs.lemmas.List.{take_rest}
 use Rattle.dl_head.proofs.RunLemmas.{offering_none, offering_on, offered_unfed, offered_last, offered_all, steps_as}
+use Rattle.dl_head.proofs.WholeSteps.{offering_tried, offering_still}
 use Rattle.dl_head.proofs.reader.HeadReader.offer.Goals as goal
 
-pub loop-byte-init : goal.loop-byte-init
-loop-byte-init c = record { counted = refl; order = refl; goes = λ b s more. offering_none c.args.self.now.order b c.args.piece.now c.args.self.now s more }
+pub loop-used-init : goal.loop-used-init
+loop-used-init c = record { within = omega arith; order = refl; goes = λ b s more. offering_none c.args.self.now.order b c.args.piece.now c.args.self.now s more }
 
-pub overflow_add-used : goal.overflow_add-used
-overflow_add-used c = omega (arith, c.loop-byte.invariant.counted, c.loop-byte-test.true)
+pub loop-used-preserved-then-whole-gt0 : goal.loop-used-preserved-then-whole-gt0
+loop-used-preserved-then-whole-gt0 c =
+    let i = c.loop-used.invariant in
+    let w = c.whole_value-whole in
+    let rest = take_rest c.args.piece.now c.loop-used.used in
+    record {
+      within = omega (arith, w.ensures.within, ap length rest, length-drop c.loop-used.used c.args.piece.now, i.within);
+      order = w.ensures.order ∙ i.order;
+      goes = λ b s more.
+          offering_tried c.args.self.now.order b c.args.piece.now _ c.loop-used.used w.result c.loop-used.self w.new.self (i.goes b s more) i.order rest w.ensures.within w.ensures.takes;
+    }
+
+pub loop-used-preserved : goal.loop-used-preserved
+loop-used-preserved c =
+    let i = c.loop-used.invariant in
+    let w = c.whole_value-whole in
+    let order = w.ensures.order ∙ i.order in
+    record {
+      within = omega (arith, c.loop-used-test.true);
+      order = c.step.ensures.order ∙ order;
+      goes = λ b s more.
+          let tried = offering_tried c.args.self.now.order b c.args.piece.now _ c.loop-used.used w.result c.loop-used.self w.new.self (i.goes b s more) i.order (take_rest c.args.piece.now c.loop-used.used)
+          w.ensures.within w.ensures.takes in
+          let o = offering_still c.args.self.now.order b c.args.piece.now c.loop-used.used w.result w.new.self (omega (arith, c.if-whole-gt0.false)) tried in
+          offering_on c.args.self.now.order b c.args.piece.now c.loop-used.used w.new.self c.step.new.self c.step.result o c.loop-used-test.true c.in-More.is (steps_as order (c.step.ensures.steps _ o.stands));
+    }
 
 pub returns-in-NoMemory-clause-offered : goal.returns-in-NoMemory-clause-offered
 returns-in-NoMemory-clause-offered c b s more =
-    let i = c.loop-byte.invariant in
-    let o = i.goes b s more in
-    offered_unfed c.args.self.now.order b c.args.piece.now c.loop-byte.byte-index c.loop-byte.used c.loop-byte.self c.step.new.self c.step.result o c.loop-byte-test.true i.counted c.in-NoMemory.is
-    (steps_as i.order (c.step.ensures.steps _ o.stands))
-
-pub returns-in-NoMemory-clause-order : goal.returns-in-NoMemory-clause-order
-returns-in-NoMemory-clause-order c = c.step.ensures.order ∙ c.loop-byte.invariant.order
-
-pub overflow_add-result : goal.overflow_add-result
-overflow_add-result c = omega (arith, c.loop-byte.invariant.counted, c.loop-byte-test.true)
+    let i = c.loop-used.invariant in
+    let w = c.whole_value-whole in
+    let tried = offering_tried c.args.self.now.order b c.args.piece.now _ c.loop-used.used w.result c.loop-used.self w.new.self (i.goes b s more) i.order (take_rest c.args.piece.now c.loop-used.used)
+    w.ensures.within w.ensures.takes in
+    let o = offering_still c.args.self.now.order b c.args.piece.now c.loop-used.used w.result w.new.self (omega (arith, c.if-whole-gt0.false)) tried in
+    offered_unfed c.args.self.now.order b c.args.piece.now c.loop-used.used c.loop-used.used w.new.self c.step.new.self c.step.result o c.loop-used-test.true refl c.in-NoMemory.is
+    (steps_as (w.ensures.order ∙ i.order) (c.step.ensures.steps _ o.stands))
 
 pub returns-in_default : goal.returns-in_default
-returns-in_default c = record {
-  offered = λ b s more.
-      let i = c.loop-byte.invariant in
-      let o = i.goes b s more in
-      offered_last c.args.self.now.order b c.args.piece.now c.loop-byte.byte-index c.loop-byte.used c.loop-byte.self c.step.new.self c.step.result o c.loop-byte-test.true i.counted
-      c.in_default.not-More c.in_default.not-NoMemory (steps_as i.order (c.step.ensures.steps _ o.stands));
-  within = omega (arith, c.loop-byte.invariant.counted, c.loop-byte-test.true);
-  progress = λ goes fed. omega arith;
-  order = c.step.ensures.order ∙ c.loop-byte.invariant.order;
-}
-
-pub loop-byte-preserved : goal.loop-byte-preserved
-loop-byte-preserved c =
-    let i = c.loop-byte.invariant in
+returns-in_default c =
+    let i = c.loop-used.invariant in
+    let w = c.whole_value-whole in
+    let order = w.ensures.order ∙ i.order in
     record {
-      counted = omega (arith, i.counted);
-      order = c.step.ensures.order ∙ i.order;
-      goes = λ b s more.
-          let o = i.goes b s more in
-          offering_on c.args.self.now.order b c.args.piece.now c.loop-byte.byte-index c.loop-byte.self c.step.new.self c.step.result o c.loop-byte-test.true c.in-More.is
-          (steps_as i.order (c.step.ensures.steps _ o.stands));
+      offered = λ b s more.
+          let tried = offering_tried c.args.self.now.order b c.args.piece.now _ c.loop-used.used w.result c.loop-used.self w.new.self (i.goes b s more) i.order (take_rest c.args.piece.now c.loop-used.used)
+          w.ensures.within w.ensures.takes in
+          let o = offering_still c.args.self.now.order b c.args.piece.now c.loop-used.used w.result w.new.self (omega (arith, c.if-whole-gt0.false)) tried in
+          offered_last c.args.self.now.order b c.args.piece.now c.loop-used.used c.loop-used.used w.new.self c.step.new.self c.step.result o c.loop-used-test.true refl
+          c.in_default.not-More c.in_default.not-NoMemory (steps_as order (c.step.ensures.steps _ o.stands));
+      within = omega (arith, c.loop-used-test.true);
+      progress = λ goes fed. omega arith;
+      order = c.step.ensures.order ∙ order;
     }
 
 pub returns-clause-offered : goal.returns-clause-offered
 returns-clause-offered c b s more =
-    let i = c.loop-byte.invariant in
-    offered_all c.args.self.now.order b c.args.piece.now c.loop-byte.byte-index c.loop-byte.used c.loop-byte.self (i.goes b s more) c.loop-byte.auto.byte-index-end (omega (arith, c.loop-byte-test.false)) i.counted
-
-pub returns-clause-order : goal.returns-clause-order
-returns-clause-order c = c.loop-byte.invariant.order
+    let i = c.loop-used.invariant in
+    offered_all c.args.self.now.order b c.args.piece.now c.loop-used.used c.loop-used.used c.loop-used.self (i.goes b s more) i.within (omega (arith, c.loop-used-test.false)) refl

@@ -5,7 +5,8 @@ use Rattle.dl_head.specs.TablePlace.{BeginsBlock}
 use Rattle.dl_head.proofs.PairLemmas.{table_at, same_table, answered_none, answered_ok, answered_err}
 use Rattle.dl_head.proofs.ValueFields.{value_field}
 use Rattle.dl_head.proofs.BlockLemmas.{leb_length_of, leb_length_open, leb_length_large}
-use Rattle.dl_head.proofs.FieldCells.{has_bytes, leb_unbegun, leb_large_unbegun}
+use Rattle.dl_head.specs.TablePlace.{has_bytes}
+use Rattle.dl_head.proofs.FieldCells.{leb_unbegun, leb_large_unbegun}
 use Rattle.dl_head.proofs.Growth.{adds_one, open_field, length_field}
 use Rattle.dl_head.proofs.BlockSteps.{block_made}
 use Rattle.dl_head.proofs.reader.table_reader.TableReader.leb_block_length.Goals as goal

@@ -21,6 +21,6 @@ returns-clause-made c = λ order next layout rest at.
     let w = rest ++ c.args.byte ∷ [] in
     let more = no_zero-push rest c.args.byte a.value.3 c.if-byte-eq0.false in (
       value_field order c.args.self.now c.args.at (value.Text c.args.start) c.args.format next layout rest w a ∙ ap value_judged (text_form order c.args.format a.pair.form w _ a.value.0 (text_goes_on w more)),
-      text_grown order c.args.self.now _ c.args.at c.args.start c.args.byte c.args.format next layout rest a c.requires refl refl
+      text_grown order c.args.self.now _ c.args.at c.args.start (c.args.byte ∷ []) c.args.format next layout rest a c.requires refl refl
           (c.push.ensures.items ∙ pushed _ _ c.push.result (sym c.is_err.ensures.value ∙ c.if-is_err.false)) more,
     )

@@ -3,7 +3,8 @@ use Rattle.dl_head.specs.declared.reader.value_phase.ValuePhase.{ValuePhase}
 use Rattle.dl_head.specs.declared.reader.value_phase.ValuePhase.TheVariants as value
 use Rattle.dl_head.specs.declared.reader.table_reader.TablePhase.TheVariants as phase
 use Rattle.dl_head.proofs.PairLemmas.{table_at}
-use Rattle.dl_head.proofs.FieldCells.{has_bytes, number_no_bytes}
+use Rattle.dl_head.specs.TablePlace.{has_bytes}
+use Rattle.dl_head.proofs.FieldCells.{number_no_bytes}
 use Rattle.dl_head.proofs.Growth.{adds_one, adds_value, text_field, block_field}
 use Rattle.dl_head.proofs.reader.table_reader.TableReader.value.Goals as goal
 
@@ -29,7 +30,7 @@ pub returns-in-Text-clause-cells : goal.returns-in-Text-clause-cells
 returns-in-Text-clause-cells c = λ next layout rest at.
     let a = table_at c.args.order c.args.self.now _ c.args.format next layout rest (c.requires ∙ ap (λ (v : ValuePhase). phase.Value c.args.at v) c.in-Text.is) at in
     adds_one c.args.order c.args.self.now c.text.new.self layout rest (rest ++ c.args.byte ∷ []) c.text.result
-    (text_field c.args.order c.args.self.now c.args.at (value.Text c.in-Text.start) c.args.format next layout rest c.args.byte a a.value.0) c.text.ensures.cells
+    (text_field c.args.order c.args.self.now c.args.at (value.Text c.in-Text.start) c.args.format next layout rest (c.args.byte ∷ []) a a.value.0) c.text.ensures.cells
 
 pub returns-in-Block-clause-cells : goal.returns-in-Block-clause-cells
 returns-in-Block-clause-cells c = λ next layout rest at.
