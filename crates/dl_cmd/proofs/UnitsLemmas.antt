@@ -13,8 +13,8 @@ use Rattle.dl_rows.specs.LineUnit.{IsUnit, unit_rows}
 use Rattle.dl_rows.specs.declared.reader.Reader.{Reader}
 use Rattle.dl_rows.specs.declared.reader.Finish.{Finish}
 use Rattle.dl_rows.specs.declared.reader.Finish.TheVariants as finish
-use Rattle.dl_rows.specs.ReaderStands.{StandsFor, HeaderIs, FinishIs}
-use Rattle.dl_rows.specs.Reading.{WithinUnit}
+use Rattle.dl_rows.specs.ReaderStands.{StandsFor, HeaderIs}
+use Rattle.dl_rows.specs.Reading.{WithinUnit, FinishIs}
 use Rattle.dl_rows.specs.Runs.{Sound}
 use Rattle.dl_rows.proofs.ReaderLemmas.{within_here}
 use Rattle.dl_cmd.specs.declared.fault.RunFault.{RunFault}
@@ -130,4 +130,4 @@ module _ (order : Order) (u : Units) (t : List ℕ) (units : List (List ℕ)) (b
 
 -- the current unit isn't over-read
 pub within_unit : (order : Order) (u : Units) (t : List ℕ) (units : List (List ℕ)) (b : List ℕ) → UnitsAre order u t units b → WithinUnit order b
-within_unit order u t units b are = subst (λ (o : Order). WithinUnit o b) are.reader_order (within_here u.reader b u.reader.fault are.stands.order are.stands.at)
+within_unit order u t units b are = subst (λ (o : Order). WithinUnit o b) are.reader_order (within_here u.reader.order b u.reader.state are.stands)

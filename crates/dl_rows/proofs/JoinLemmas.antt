@@ -12,14 +12,14 @@ use Rattle.dl_head.proofs.HeaderLaws.{found_is_header, header_is_found}
 use Rattle.dl_head.proofs.QuietLemmas.{header_is_not_refused}
 use Rattle.dl_rows.specs.declared.reader.Event.{Event}
 use Rattle.dl_rows.specs.declared.reader.Event.TheVariants as event
-use Rattle.dl_rows.specs.declared.tail.Tail.{Tail}
+use Rattle.dl_rows.specs.declared.unit_body.UnitBody.{UnitBody}
 use Rattle.dl_rows.specs.LineUnit.{own_events, events_of, events}
 use Rattle.dl_rows.specs.OperationSpelt.{operations_in}
 use Rattle.dl_rows.specs.Programs.{ProgramStands}
 use Rattle.dl_rows.specs.Refusal.{decided_behind, operation_decided, Refused}
-use Rattle.dl_rows.specs.Tails.{Counts, InProgram}
+use Rattle.dl_rows.specs.UnitBodies.{Counts, InProgram}
 use Rattle.dl_rows.proofs.HeaderParams.{header_fits}
-use Rattle.dl_rows.proofs.TailLemmas.{events_here}
+use Rattle.dl_rows.proofs.UnitBodyLemmas.{events_here}
 use Rattle.dl_rows.proofs.UnitLemmas.{header_on, refused_in_header}
 use Rattle.dl_rows.proofs.UnitWhole.{NoneRefused}
 
@@ -55,7 +55,7 @@ nil_left [] w e = refl
 nil_left (x ∷ v) w e = absurd cc
 
 -- no front of a header is refused
-header_sound : (order : Order) (h : HeaderData) (w : List ℕ) → IsHeader order h w → NoneRefused order w
+pub header_sound : (order : Order) (h : HeaderData) (w : List ℕ) → IsHeader order h w → NoneRefused order w
 header_sound order h w is front back at kind e r = on (header_in order front) refl where
   whole : header_in order w ≡ Some (h, [])
   whole = ap (header_in order) (sym (append-nil w)) ∙ header_is_found order h w [] is
@@ -70,7 +70,7 @@ header_sound order h w is front back at kind e r = on (header_in order front) re
       (ap (decided_behind order front) found
       ∙ ap (λ (v : List ℕ). operation_decided order g.params (operations_in order g.params v).rest (length front) (unit_len order front)) none) r.decided
 
-pub behind_header : (order : Order) (h : HeaderData) (t : Tail) (w : List ℕ) → IsHeader order h w → AllBytes w → Counts order t w → ProgramStands order h.params t.program [] → InProgram order h t w
+pub behind_header : (order : Order) (h : HeaderData) (t : UnitBody) (w : List ℕ) → IsHeader order h w → AllBytes w → Counts order t.bytes w → ProgramStands order h.params t.program [] → InProgram order h t w
 behind_header order h t w is all counts stands =
     let fits = header_fits order h w all is in
     record {

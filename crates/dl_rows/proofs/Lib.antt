@@ -1,9 +1,13 @@
 pub mod Arithmetic
 pub mod BodyLemmas
+pub mod BodyStops
 pub mod CallLemmas
 pub mod ExtendedLemmas
 pub mod FirstLemmas
+pub mod ForeignCells
+pub mod ForeignFeeds
 pub mod HeadFeeds
+pub mod HeaderBegun
 pub mod HeaderParams
 pub mod JoinLemmas
 pub mod Judged
@@ -28,9 +32,8 @@ pub mod RunTurns
 pub mod ShortExtended
 pub mod SkipLemmas
 pub mod SpeltFirst
-pub mod TailFeeds
-pub mod TailForeign
-pub mod TailLemmas
+pub mod UnitBodyFeeds
+pub mod UnitBodyLemmas
 pub mod UnitFaults
 pub mod UnitKnown
 pub mod UnitLaws

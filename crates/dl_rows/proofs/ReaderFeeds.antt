@@ -1,245 +1,86 @@
 -- What a reader of a unit answers, by what it stands for.
-use Rattle.std.proofs.Common.{◌≡◌, ◌≢◌, ◌↔◌, inl, inr, ◌+◌, ◌-◌, ◌^◌, min, ℕ, Bool, true, false, List, [], ◌∷◌, ◌++◌, length, length-append, map, IfOk, take, Option, Some, None, Result, Ok, Err, refl, sym, ap, subst, ◌∙◌, arith, append-nil, append_assoc, sum_by}
+use Rattle.std.proofs.Common.{◌≡◌, ◌≢◌, inr, ℕ, List, [], ◌∷◌, ◌++◌, length, length-append, map, IfOk, take, Result, Ok, Err, refl, sym, ap, subst, ◌∙◌, arith, append-nil}
 use Rattle.dl_num.specs.declared.fixed.Order.{Order}
 use Rattle.dl_head.specs.declared.fault.Fault.{Fault}
-use Rattle.dl_head.specs.declared.params.Params.{Params}
+use Rattle.dl_head.specs.declared.fault.FaultKind.TheVariants.{Truncated}
+use Rattle.dl_head.specs.declared.reader.HeadReader.{HeadReader}
 use Rattle.dl_head.specs.declared.reader.HeadStep.TheVariants as answer
+use Rattle.dl_head.specs.Reading.{Answers}
 use Rattle.dl_head.specs.TableData.{HeaderData}
-use Rattle.dl_head.specs.Layout.{Layout, Item, foreign_version, following_all, header_layout}
-use Rattle.dl_head.specs.Header.{cut, cut_after, IsHeader, foreign_in, header_in}
-use Rattle.dl_head.specs.Cells.{item_cells, rest_cells, cut_cells, cells}
-use Rattle.dl_head.specs.Reading.{Answers, Gives}
 use Rattle.dl_head.specs.Standing.{StandsFor as HeadStands}
-use Rattle.dl_head.proofs.CutLemmas.{cut_of, then_cut, cut-append}
 use Rattle.dl_head.proofs.FieldLemmas.{none_some}
-use Rattle.dl_head.proofs.HeaderCells.{header_holds_its_cells}
-use Rattle.dl_head.proofs.HeaderLaws.{one_header, header_is_found}
-use Rattle.dl_head.proofs.RefusalLaws.{foreign_last}
+use Rattle.dl_head.proofs.HeaderLaws.{header_is_found}
 use Rattle.dl_rows.specs.declared.reader.Fed.{Fed}
+use Rattle.dl_rows.specs.declared.reader.Finish.TheVariants as finish
+use Rattle.dl_rows.specs.declared.reader.HeaderStop.{HeaderStop}
 use Rattle.dl_rows.specs.declared.reader.Reader.{Reader}
+use Rattle.dl_rows.specs.declared.reader.State.{State}
+use Rattle.dl_rows.specs.declared.reader.State.TheVariants as state
 use Rattle.dl_rows.specs.declared.reader.Event.{Event}
 use Rattle.dl_rows.specs.declared.reader.Event.TheVariants as event
 use Rattle.dl_rows.specs.declared.row.Row.{Row}
 use Rattle.dl_rows.specs.declared.sink.EachRow.{EachRow}
-use Rattle.dl_rows.specs.declared.tail.Tail.{Tail}
+use Rattle.dl_rows.specs.declared.unit_body.BodyState.{BodyState}
+use Rattle.dl_rows.specs.declared.unit_body.UnitBytes.{UnitBytes}
 use Rattle.dl_rows.specs.Each.{each_row}
 use Rattle.dl_rows.specs.Sinks.{Story}
-use Rattle.dl_rows.specs.LineUnit.{IsUnit, events}
-use Rattle.dl_rows.specs.Reading.{WithinUnit, Feeds, FeedsBehind, IsPause, SinkAt, SinkBehind}
+use Rattle.dl_rows.specs.LineUnit.{events}
+use Rattle.dl_rows.specs.Reading.{Feeds, IsPause, SinkAt, SinkBehind, FinishIs}
 use Rattle.dl_rows.specs.Refusal.{Refused}
-use Rattle.dl_rows.specs.ReaderStands.{InHeader, BehindVersion, BehindHeader, Stopped, StandsAt, StandsFor, HeaderIs, FinishIs, KnownIs, ReaderFed, FedBehind, RowsFed}
-use Rattle.dl_rows.specs.Tails.{InProgram, InForeign, ProgramTells}
+use Rattle.dl_rows.specs.ReaderStands.{StandsFor, ReaderFed, FedBehind, RowsFed}
+use Rattle.dl_rows.specs.ReaderStates.{InHeader, StandsAt}
+use Rattle.dl_rows.specs.UnitBodies.{InForeign, BodyFedBehind, BodyTells}
+use Rattle.dl_rows.proofs.BodyStops.{fails_again}
 use Rattle.dl_rows.proofs.HeadFeeds.{no_unit}
 use Rattle.dl_rows.proofs.UnitWhole.{NoneRefused}
-use Rattle.dl_rows.proofs.ReaderLemmas.{foreign_no_header, taken_here, sound_here, whole_here, not_whole_here}
-use Rattle.dl_head.specs.declared.fault.FaultKind.TheVariants.{Truncated}
 
--- ---- `feed`
+-- ---- `feed_rows`, by the state
 
 no_bytes : (b piece : List ℕ) → b ++ take 0 piece ≡ b
 no_bytes b piece = append-nil b
 
--- after a fault
-pub feeds_fault : (r : Reader) (b piece : List ℕ) (fault : Fault) → r.fault ≡ Some fault → StandsFor r b → ReaderFed r.order b piece (Err fault) r
-feeds_fault r b piece fault is s =
-    let at : Stopped r b fault = subst (λ (o : Option Fault). StandsAt r o b) is s.at in (
+-- after a fault in the header
+feeds_stopped : (r new : Reader) (b piece : List ℕ) (stop : HeaderStop) → r.state ≡ state.StoppedInHeader stop → new.order ≡ r.order → new.state ≡ state.StoppedInHeader stop → StandsFor r b
+    → ReaderFed r.order b piece (Err stop.fault) new
+feeds_stopped r new b piece stop is same made s =
+    let at : StandsAt r.order (state.StoppedInHeader stop) b = subst (λ (x : State). StandsAt r.order x b) is s in (
       0,
-      record {
-        within = omega arith;
-        in_unit = subst (WithinUnit r.order) (sym (no_bytes b piece)) at.stops.in_unit;
-        refused = subst (λ (w : List ℕ). Refused r.order w fault.offset fault.kind) (sym (no_bytes b piece)) at.refused;
-        no_event = ap (events r.order) (no_bytes b piece);
-      },
-      subst (λ (w : List ℕ). StandsFor r w) (sym (no_bytes b piece)) s,
+      fails_again r.order b piece stop.fault at.in_unit at.refused,
+      subst (λ (o : Order). StandsAt o new.state (b ++ take 0 piece)) (sym same)
+          (subst (λ (x : State). StandsAt r.order x (b ++ take 0 piece)) (sym made) (subst (λ (w : List ℕ). StandsAt r.order (state.StoppedInHeader stop) w) (sym (no_bytes b piece)) at)),
     )
 
--- the bytes behind a front
-behind : (b front back u : List ℕ) → b ≡ front ++ back → b ++ u ≡ front ++ (back ++ u)
-behind b front back u e = ap (λ (w : List ℕ). w ++ u) e ∙ append_assoc front back u
-
-pub true_not : {A : Type 0} (b : Bool) → b ≡ true → b ≡ false → A
-true_not b t f = let e : true ≡ false = sym t ∙ f in absurd cc
-
-version_of : (r : Reader) (b : List ℕ) → r.fault ≡ None → r.is_foreign ≡ true → StandsFor r b → BehindVersion r b
-version_of r b none foreign s = on (subst (λ (o : Option Fault). StandsAt r o b) none s.at) where
-  on : StandsAt r None b → BehindVersion r b
-  on (inl at) = true_not r.is_foreign foreign at.own
-  on (inr (inl at)) = at
-  on (inr (inr at)) = true_not r.is_foreign foreign at.own
-
 -- behind a foreign version
-pub feeds_foreign : (r : Reader) (t : Tail) (b piece : List ℕ) (fed : Fed) → r.fault ≡ None → r.is_foreign ≡ true → StandsFor r b → t.program ≡ r.tail.program
-    → ((version : ℕ) → InForeign r.order version r.tail b → Feeds (InForeign r.order version) r.order b piece fed t) → Feeds StandsFor r.order b piece fed (record r { tail = t })
-feeds_foreign r t b piece fed none foreign s program feeds =
-    let at = version_of r b none foreign s in
-    let f = feeds at.version at.foreign in
+pub feeds_foreign : (r new : Reader) (t u : UnitBytes) (b piece : List ℕ) (fed : Fed) → r.state ≡ state.Foreign t → new.order ≡ r.order → new.state ≡ state.Foreign u → StandsFor r b
+    → ((version : ℕ) → InForeign r.order version t b → Feeds (InForeign r.order version) r.order b piece fed u) → Feeds StandsFor r.order b piece fed new
+feeds_foreign r new t u b piece fed is order made s feeds =
+    let at : StandsAt r.order (state.Foreign t) b = subst (λ (x : State). StandsAt r.order x b) is s in
+    let f = feeds at.0 at.1 in
+    let stands : StandsAt r.order (state.Foreign u) (b ++ take fed.used piece) = (at.0, f.stands) in
     record {
       answered = f.answered;
-      stands = record {
-        order = s.order;
-        at = subst (λ (o : Option Fault). StandsAt (record r { tail = t }) o (b ++ take fed.used piece)) (sym none) (inr (inl (record {
-          version = at.version;
-          is_foreign = at.is_foreign;
-          before = ap (λ p. p.in_sequence) program ∙ at.before;
-          foreign = f.stands;
-          front = at.front;
-          back = at.back ++ take fed.used piece;
-          whole = behind b at.front at.back (take fed.used piece) at.whole;
-          head = at.head;
-          told = at.told;
-        })));
-      };
+      stands = subst (λ (o : Order). StandsAt o new.state (b ++ take fed.used piece)) (sym order) (subst (λ (x : State). StandsAt r.order x (b ++ take fed.used piece)) (sym made) stands);
     }
 
--- in the header, where its reader has none
-pub in_header_of : (r : Reader) (b : List ℕ) → r.fault ≡ None → r.is_foreign ≡ false → StandsFor r b → ((d : List ℕ) → HeadStands r.head d → (h : HeaderData) → IsHeader r.head.order h d → ⊥) → InHeader r b
-in_header_of r b none own s no_header = on (subst (λ (o : Option Fault). StandsAt r o b) none s.at) where
-  on : StandsAt r None b → InHeader r b
-  on (inl at) = at
-  on (inr (inl at)) = true_not r.is_foreign at.is_foreign own
-  on (inr (inr at)) = absurd (no_header at.front at.head at.h (subst (λ (o : Order). IsHeader o at.h at.front) (sym s.order) at.is))
-
--- behind it, where its reader has this one
-pub behind_of : (r : Reader) (b : List ℕ) (h : HeaderData) → r.fault ≡ None → r.is_foreign ≡ false → StandsFor r b → ((d : List ℕ) → HeadStands r.head d → IsHeader r.head.order h d)
-    → (at : BehindHeader r b) × (at.h ≡ h)
-behind_of r b h none own s header = on (subst (λ (o : Option Fault). StandsAt r o b) none s.at) where
-  on : StandsAt r None b → (at : BehindHeader r b) × (at.h ≡ h)
-  on (inl at) = absurd (at.more.0 h (subst (λ (o : Order). IsHeader o h b) s.order (header b at.head)))
-  on (inr (inl at)) = true_not r.is_foreign at.is_foreign own
-  on (inr (inr at)) =
-      let mine = subst (λ (o : Order). IsHeader o h at.front) s.order (header at.front at.head) in
-      (at, (one_header r.order at.h h at.front [] at.is (subst (λ (w : List ℕ). IsHeader r.order h w) (sym (append-nil at.front)) mine)).1)
-
-told_program : {S : Type 0} (story : Story S) (r : Reader) (t : Tail) (b piece : List ℕ) (before : List Row) (result : Result Fed Fault) (sink : S) (h : HeaderData) (p : Params) (at : BehindHeader r b) → at.h ≡ h → p ≡ h.params
-    → ((g : HeaderData) (d : List ℕ) → g.params ≡ p → InProgram r.order g r.tail d → ProgramTells story r.order g d piece before result t sink) → ProgramTells story r.order at.h b piece before result t sink
-told_program story r t b piece before result sink h p at same params feeds = feeds at.h b (ap (λ (g : HeaderData). g.params) same ∙ sym params) at.program
-
--- bytes of the program
-pub feeds_program : {S : Type 0} (story : Story S) (r : Reader) (t : Tail) (b piece : List ℕ) (before : List Row) (fed : Fed) (sink : S) (h : HeaderData) (p : Params) → r.fault ≡ None → r.is_foreign ≡ false → StandsFor r b
-    → ((d : List ℕ) → HeadStands r.head d → IsHeader r.head.order h d) → p ≡ h.params
-    → ((g : HeaderData) (d : List ℕ) → g.params ≡ p → InProgram r.order g r.tail d → ProgramTells story r.order g d piece before (Ok fed) t sink) → RowsFed story r.order b piece before (Ok fed) (record r { tail = t }) sink
-feeds_program story r t b piece before fed sink h p none own s header params feeds =
-    let found = behind_of r b h none own s header in
-    let at = found.0 in
-    let f = told_program story r t b piece before (Ok fed) sink h p at found.1 params feeds in
-    let fed_behind : FeedsBehind StandsFor r.order (events r.order b ++ map event.Row f.rows) b piece fed (record r { tail = t }) = record {
-      answered = f.fed.answered;
-      stands = record {
-        order = s.order;
-        at = subst (λ (o : Option Fault). StandsAt (record r { tail = t }) o (b ++ take fed.used piece)) (sym none) (inr (inr (record {
-          h = at.h;
-          own = own;
-          program = f.fed.stands;
-          front = at.front;
-          back = at.back ++ take fed.used piece;
-          whole = behind b at.front at.back (take fed.used piece) at.whole;
-          head = at.head;
-          is = at.is;
-        })));
-      };
-    } in
-    record { rows = f.rows; fed = fed_behind; sink = f.sink }
-
--- an operation that is refused
-pub fails_program : {S : Type 0} (story : Story S) (r : Reader) (t : Tail) (b piece : List ℕ) (before : List Row) (fault : Fault) (sink : S) (h : HeaderData) (p : Params) → r.fault ≡ None → r.is_foreign ≡ false → StandsFor r b
-    → ((d : List ℕ) → HeadStands r.head d → IsHeader r.head.order h d) → p ≡ h.params
-    → ((g : HeaderData) (d : List ℕ) → g.params ≡ p → InProgram r.order g r.tail d → ProgramTells story r.order g d piece before (Err fault) t sink)
-    → RowsFed story r.order b piece before (Err fault) (record r { tail = t; fault = Some fault }) sink
-fails_program story r t b piece before fault sink h p none own s header params feeds =
-    let found = behind_of r b h none own s header in
-    let at = found.0 in
-    let g = told_program story r t b piece before (Err fault) sink h p at found.1 params feeds in
-    let f = g.fed in
-    record {
-      rows = g.rows;
-      sink = g.sink;
-      fed = (
-        f.0,
-        f.1,
-        record {
-          order = s.order;
-          at = record {
-            refused = f.1.refused;
-            stops = f.2;
-            front = at.front;
-            back = at.back ++ take f.0 piece;
-            whole = behind b at.front at.back (take f.0 piece) at.whole;
-            head = at.head;
-            header = inr (at.h, at.is);
-          };
-        },
-      );
-    }
-
--- ---- the header and the cells
-
--- the bytes that the reader of the header has taken
-record HeadPart (r : Reader) (b : List ℕ) : Type 0 where
-  front : List ℕ
-  back : List ℕ
-  whole : b ≡ front ++ back
-  head : HeadStands r.head front
-  none : ((h : HeaderData) → IsHeader r.order h front → ⊥) → header_in r.order b ≡ None
-  same_cells : cells r.order b ≡ cells r.order front
-
-header_cells_same : (order : Order) (h : HeaderData) (b front back : List ℕ) → b ≡ front ++ back → IsHeader order h front → cells order b ≡ cells order front
-header_cells_same order h b front back e is =
-    ap (cells order) e ∙ (header_holds_its_cells order h front back is).0 ∙ sym (ap (cells order) (sym (append-nil front)) ∙ (header_holds_its_cells order h front [] is).0)
-
-cut_foreign : (order : Order) (v : ℕ) (begun y : List ℕ) → cut_after order (foreign_version v) begun y ≡ cut_of [] (begun ++ y)
-cut_foreign order v begun [] = ap (λ (z : List ℕ). cut_of [] z) (sym (append-nil begun))
-cut_foreign order v begun (x ∷ y) = cut_foreign order v (begun ++ x ∷ []) y ∙ ap (λ (z : List ℕ). cut_of [] z) (append_assoc begun (x ∷ []) y)
-
-foreign_cells_same : (order : Order) (v : ℕ) (b front back : List ℕ) → b ≡ front ++ back → foreign_in order front ≡ Some v → cells order b ≡ cells order front
-foreign_cells_same order v b front back e foreign =
-    let c = cut order front in
-    let next : following_all header_layout c.items ≡ foreign_version v = foreign_last (following_all header_layout c.items) v foreign in
-    ap (cells order) e
-    ∙ ap cut_cells (cut-append order front back
-    ∙ ap (λ (l : Layout). then_cut c (cut_after order l c.rest back)) next
-    ∙ ap (then_cut c) (cut_foreign order v c.rest back)
-    ∙ ap (λ (l : List Item). cut_of l (c.rest ++ back)) (append-nil c.items))
-    ∙ ap (λ (l : Layout). sum_by item_cells c.items + rest_cells l (c.rest ++ back)) next
-    ∙ sym (ap (λ (l : Layout). sum_by item_cells c.items + rest_cells l c.rest) next)
-
-head_part : (r : Reader) (b : List ℕ) (fault : Option Fault) → StandsAt r fault b → HeadPart r b
-head_part r b (Some fault) s = record {
-  front = s.front;
-  back = s.back;
-  whole = s.whole;
-  head = s.head;
-  none = λ not. elim s.header [ inl in_head ↦ in_head.1 | inr g ↦ absurd (not g.0 g.1) ];
-  same_cells = elim s.header [ inl in_head ↦ ap (cells r.order) in_head.0 | inr g ↦ header_cells_same r.order g.0 b s.front s.back s.whole g.1 ];
+-- behind the header
+body_fed : (order : Order) (h : HeaderData) (before : List Event) (b piece : List ℕ) (result : Result Fed Fault) (now : BodyState) (new : Reader) → new.order ≡ order → new.state ≡ state.AfterHeader h now
+    → BodyFedBehind order h before b piece result now → FedBehind order before b piece result new
+body_fed order h before b piece (Ok fed) now new same made f = record {
+  answered = f.answered;
+  stands = subst (λ (o : Order). StandsAt o new.state (b ++ take fed.used piece)) (sym same) (subst (λ (x : State). StandsAt order x (b ++ take fed.used piece)) (sym made) f.stands);
 }
-head_part r b None (inl s) = record { front = b; back = []; whole = sym (append-nil b); head = s.head; none = λ not. s.incomplete; same_cells = refl }
-head_part r b None (inr (inl s)) = record {
-  front = s.front;
-  back = s.back;
-  whole = s.whole;
-  head = s.head;
-  none = λ not. foreign_no_header r.order b s.version s.foreign.foreign;
-  same_cells = foreign_cells_same r.order s.version b s.front s.back s.whole s.told;
-}
-head_part r b None (inr (inr s)) = record {
-  front = s.front;
-  back = s.back;
-  whole = s.whole;
-  head = s.head;
-  none = λ not. absurd (not s.h s.is);
-  same_cells = header_cells_same r.order s.h b s.front s.back s.whole s.is;
-}
+body_fed order h before b piece (Err fault) now new same made f = (
+  f.0,
+  f.1,
+  subst (λ (o : Order). StandsAt o new.state (b ++ take f.0 piece)) (sym same) (subst (λ (x : State). StandsAt order x (b ++ take f.0 piece)) (sym made) f.2),
+)
 
-pub header_given : (r : Reader) (o : Option HeaderData) → Gives r.head.order r.head o → HeaderIs r o
-header_given r (Some h) gives = λ b s.
-    let p = head_part r b r.fault s.at in
-    (p.back, ap (header_in r.order) p.whole ∙ header_is_found r.order h p.front p.back (subst (λ (o : Order). IsHeader o h p.front) s.order (gives p.front p.head)))
-header_given r None gives = λ b s.
-    let p = head_part r b r.fault s.at in p.none (λ h is. gives p.front p.head h (subst (λ (o : Order). IsHeader o h p.front) (sym s.order) is))
-
-pub cells_held : (r : Reader) (b : List ℕ) (n : ℕ) → StandsFor r b → ((d : List ℕ) → HeadStands r.head d → n ≡ min (cells r.head.order d) (2 ^ 64 - 1)) → n ≡ min (cells r.order b) (2 ^ 64 - 1)
-cells_held r b n s tells =
-    let p = head_part r b r.fault s.at in
-    tells p.front p.head ∙ ap (λ (o : Order). min (cells o p.front) (2 ^ 64 - 1)) s.order ∙ ap (λ (k : ℕ). min k (2 ^ 64 - 1)) (sym p.same_cells)
+pub feeds_body : {S : Type 0} (story : Story S) (r new : Reader) (h : HeaderData) (old now : BodyState) (b piece : List ℕ) (before : List Row) (result : Result Fed Fault) (sink : S) → r.state ≡ state.AfterHeader h old
+    → new.order ≡ r.order → new.state ≡ state.AfterHeader h now → StandsFor r b → (StandsAt r.order (state.AfterHeader h old) b → BodyTells story r.order h b piece before result now sink)
+    → RowsFed story r.order b piece before result new sink
+feeds_body story r new h old now b piece before result sink is same made s tells =
+    let f = tells (subst (λ (x : State). StandsAt r.order x b) is s) in
+    record { rows = f.rows; fed = body_fed r.order h (events r.order b ++ map event.Row f.rows) b piece result now new same made f.fed; sink = f.sink }
 
 -- ---- a new reader
 
@@ -250,53 +91,31 @@ nothing_yet order = (
   λ at kind r. none_some refl r.decided,
 )
 
--- ---- whether a unit is whole
-
-pub known_none : (r : Reader) (b : List ℕ) → r.fault ≡ None → StandsFor r b → header_in r.order b ≡ None → KnownIs r.order b r.is_foreign
-known_none r b none s incomplete = on r.is_foreign refl (subst (λ (o : Option Fault). StandsAt r o b) none s.at) where
-  on : (foreign : Bool) → r.is_foreign ≡ foreign → StandsAt r None b → KnownIs r.order b foreign
-  on true is (inl at) = true_not r.is_foreign is at.own
-  on true is (inr (inl at)) = inr (λ e. none_some e at.foreign.foreign)
-  on true is (inr (inr at)) = true_not r.is_foreign is at.own
-  on false is (inl at) = (incomplete, at.more.1)
-  on false is (inr (inl at)) = true_not r.is_foreign at.is_foreign is
-  on false is (inr (inr at)) = absurd (none_some incomplete (ap (header_in r.order) at.whole ∙ header_is_found r.order at.h at.front at.back at.is))
-
-pub not_known : (r : Reader) (b : List ℕ) → KnownIs r.order b false → IsUnit r.order b → ⊥
-not_known r b known unit = no_unit r.order b known.0 known.1 unit
-
-empty_of : (b : List ℕ) → length b ≡ 0 → b ≡ []
-empty_of [] e = refl
-empty_of (x ∷ b) e = absurd (omega (arith, e))
-
--- nothing is known of no bytes
-pub none_known : (r : Reader) (b : List ℕ) → r.tail.taken ≡ 0 → StandsFor r b → KnownIs r.order b true → ⊥
-none_known r b none s known =
-    let nil : b ≡ [] = empty_of b (omega (arith, taken_here r b r.fault s.at, none)) in
-    elim known [ inl header ↦ header (ap (header_in r.order) nil) | inr foreign ↦ foreign (ap (foreign_in r.order) nil) ]
-
-pub whole_of : (r : Reader) (b : List ℕ) → r.fault ≡ None → StandsFor r b → KnownIs r.order b true → (r.tail.left ≡ 0) ↔ IsUnit r.order b
-whole_of r b none s known =
-    let at = subst (λ (o : Option Fault). StandsAt r o b) none s.at in
-    (λ left. whole_here r b at known left, λ unit. not_whole_here r b at unit)
-
--- `finish` of bytes that are no unit
-pub truncated : (r : Reader) (b : List ℕ) → r.fault ≡ None → StandsFor r b → r.tail.taken ≢ 0 → (IsUnit r.order b → ⊥) → FinishIs r.order b (Err (record { offset = r.tail.taken; kind = Truncated }))
-truncated r b none s some no_unit =
-    let at = subst (λ (o : Option Fault). StandsAt r o b) none s.at in
-    let taken = taken_here r b r.fault s.at in
-    inr (
-      ap (λ (n : ℕ). record { offset = n; kind = Truncated }) taken,
-      λ nil. some (taken ∙ ap length nil),
-      no_unit,
-      λ place kind refused. sound_here r b at b [] place kind (sym (append-nil b)) refused,
-    )
-
 pub none_refused : (order : Order) → NoneRefused order []
 none_refused order front back at kind e r = none_some refl (subst (λ (w : List ℕ). Refused order w at kind) (nil_of front back e) r).decided where
   nil_of : (front back : List ℕ) → ◌≡◌ {A = List ℕ} [] (front ++ back) → front ≡ []
   nil_of [] back e = refl
   nil_of (x ∷ front) back e = absurd cc
+
+pub new_stands : (order : Order) (head : HeadReader) → head.order ≡ order → HeadStands head [] → InHeader order head []
+new_stands order head same stands = record { same_order = same; stands = stands; more = nothing_yet order; bytes = tt; incomplete = refl; sound = none_refused order }
+
+-- ---- `finish` in a header
+
+empty_of : (b : List ℕ) → length b ≡ 0 → b ≡ []
+empty_of [] e = refl
+empty_of (x ∷ b) e = absurd (omega (arith, e))
+
+pub finish_empty : (order : Order) (b : List ℕ) (taken : ℕ) → taken ≡ length b → taken ≡ 0 → FinishIs order b (Ok finish.Empty)
+finish_empty order b taken is none = empty_of b (omega (arith, is, none))
+
+pub finish_cut : (order : Order) (head : HeadReader) (b : List ℕ) (taken : ℕ) → taken ≡ length b → taken ≢ 0 → InHeader order head b → FinishIs order b (Err (record { offset = taken; kind = Truncated }))
+finish_cut order head b taken is some s = inr (
+  ap (λ (n : ℕ). record { offset = n; kind = Truncated }) is,
+  λ nil. some (is ∙ ap length nil),
+  no_unit order b s.incomplete s.more.1,
+  λ place kind refused. s.sound b [] place kind (sym (append-nil b)) refused,
+)
 
 -- ---- `feed_rows`, where no row comes, and `feed`
 
@@ -336,6 +155,11 @@ no_rows story order b piece before result new s fed sink = record {
   fed = subst (λ (es : List Event). FedBehind order es b piece result new) (sym (append-nil (events order b))) (behind_of_fed order b piece result new fed);
   sink = subst (λ (rows : List Row). SinkBehind story s rows result) (sym (append-nil before)) sink;
 }
+
+-- the same after a fault in the header
+pub rows_stopped : {S : Type 0} (story : Story S) (r new : Reader) (b piece : List ℕ) (before : List Row) (stop : HeaderStop) (s : S) → r.state ≡ state.StoppedInHeader stop → new.order ≡ r.order
+    → new.state ≡ state.StoppedInHeader stop → StandsFor r b → story.hears s before → RowsFed story r.order b piece before (Err stop.fault) new s
+rows_stopped story r new b piece before stop s is same made stands hears = no_rows story r.order b piece before (Err stop.fault) new s (feeds_stopped r new b piece stop is same made stands) hears
 
 none_before : (rows : List Row) (r row : Row) → rows ++ r ∷ [] ≡ row ∷ [] → rows ≡ []
 none_before [] r row e = refl

@@ -1,18 +1,32 @@
 -- What the public clauses of a reader need of what it stands for.
-use Rattle.std.proofs.Common.{◌≡◌, ◌≢◌, ◌⊎◌, inl, inr, ℕ, ◌+◌, List, [], length, Option, Some, None, refl, sym, ap, ◌∙◌, arith, append-nil}
+use Rattle.std.proofs.Common.{◌≡◌, ◌≢◌, ◌≤◌, ◌^◌, inl, inr, ℕ, ◌+◌, ◌-◌, min, List, [], ◌∷◌, length, Option, Some, None, Result, Ok, Err, refl, sym, ap, subst, ◌∙◌, arith, append-nil}
+use Rattle.std.proofs.lemmas.Bool.{cases_eq}
 use Rattle.dl_num.specs.declared.fixed.Order.{Order}
 use Rattle.dl_head.specs.declared.fault.Fault.{Fault}
+use Rattle.dl_head.specs.declared.fault.FaultKind.TheVariants.{Truncated}
+use Rattle.dl_head.specs.declared.reader.HeadReader.{HeadReader}
+use Rattle.dl_head.specs.Cells.{cells}
+use Rattle.dl_head.specs.TableCells.{header_cells}
 use Rattle.dl_head.specs.TableData.{HeaderData}
 use Rattle.dl_head.specs.Header.{foreign_in, header_in, unit_len}
 use Rattle.dl_head.proofs.FieldLemmas.{none_some}
+use Rattle.dl_head.proofs.HeaderCells.{header_holds_its_cells}
 use Rattle.dl_head.proofs.HeaderLaws.{found_is_header, header_is_found, header_is_not_foreign}
-use Rattle.dl_rows.specs.declared.reader.Reader.{Reader}
-use Rattle.dl_rows.specs.LineUnit.{IsUnit, rows_behind, unit_rows, ends_open}
-use Rattle.dl_rows.specs.Reading.{WithinUnit}
-use Rattle.dl_rows.specs.ReaderStands.{StandsAt}
-use Rattle.dl_rows.proofs.ProgramWalks.{in_sequence_is}
-use Rattle.dl_rows.proofs.TailLemmas.{counts_within, rows_on}
-use Rattle.dl_rows.proofs.UnitLengths.{foreign_of, foreign_unit, length_of_unit}
+use Rattle.dl_rows.specs.declared.reader.Finish.{Finish}
+use Rattle.dl_rows.specs.declared.reader.Finish.TheVariants as finish
+use Rattle.dl_rows.specs.declared.reader.State.{State}
+use Rattle.dl_rows.specs.declared.reader.State.TheVariants as state
+use Rattle.dl_rows.specs.declared.unit_body.BodyState.{BodyState}
+use Rattle.dl_rows.specs.declared.unit_body.BodyState.TheVariants as body
+use Rattle.dl_rows.specs.declared.unit_body.UnitBody.{UnitBody}
+use Rattle.dl_rows.specs.declared.unit_body.UnitBytes.{UnitBytes}
+use Rattle.dl_rows.specs.LineUnit.{IsUnit, rows_in, rows_behind, unit_rows}
+use Rattle.dl_rows.specs.Reading.{WithinUnit, FinishIs}
+use Rattle.dl_rows.specs.ReaderStates.{StandsAt, taken_in}
+use Rattle.dl_rows.specs.UnitBodies.{Counts, InProgram, InForeign, BodyStands}
+use Rattle.dl_rows.proofs.ForeignCells.{foreign_no_cells}
+use Rattle.dl_rows.proofs.UnitBodyLemmas.{counts_within, rows_on}
+use Rattle.dl_rows.proofs.UnitLengths.{foreign_unit, length_of_unit, some_same}
 use Rattle.dl_rows.proofs.UnitQuiet.{foreign_quiet}
 use Rattle.dl_rows.proofs.UnitWhole.{NoneRefused, unit_unless_refused}
 
@@ -25,57 +39,79 @@ foreign_no_header order b version foreign = on (header_in order b) refl where
       let f = found_is_header order h b rest e in
       absurd (none_some (header_is_not_foreign order h f.0 rest f.2) (ap (foreign_in order) (sym f.1) ∙ foreign))
 
+-- where there is no header, there are no rows
 pub no_rows : (order : Order) (b : List ℕ) → header_in order b ≡ None → unit_rows order b ≡ []
 no_rows order b none = ap (rows_behind order) none
 
-module _ (r : Reader) (b : List ℕ) where
-  pub in_sequence_here : (fault : Option Fault) → StandsAt r fault b → r.tail.program.in_sequence ≡ ends_open (unit_rows r.order b)
-  in_sequence_here (Some fault) s = s.stops.in_sequence
-  in_sequence_here None (inl s) = s.before ∙ ap ends_open (sym (no_rows r.order b s.incomplete))
-  in_sequence_here None (inr (inl s)) = s.before ∙ ap ends_open (sym (no_rows r.order b (foreign_no_header r.order b s.version s.foreign.foreign)))
-  in_sequence_here None (inr (inr s)) =
-      let is = s.program in
-      let rows = ap (unit_rows r.order) (sym (append-nil b)) ∙ rows_on r.order s.h r.tail b [] is (omega arith) [] in
-      in_sequence_is r.order s.h.params r.tail.program is.program is.stands ∙ ap ends_open (sym (rows ∙ ap (λ (w : List ℕ). rows_behind r.order (Some (s.h, w))) (append-nil is.program)))
+-- the rows behind a header
+pub rows_here : (order : Order) (h : HeaderData) (t : UnitBody) (b : List ℕ) (is : InProgram order h t b) → unit_rows order b ≡ rows_in order h.params is.program
+rows_here order h t b is =
+    ap (unit_rows order) (sym (append-nil b)) ∙ rows_on order h t b [] is (omega arith) [] ∙ ap (λ (w : List ℕ). rows_in order h.params w) (append-nil is.program)
 
-  pub taken_here : (fault : Option Fault) → StandsAt r fault b → r.tail.taken ≡ length b
-  taken_here (Some fault) s = s.stops.taken
-  taken_here None (inl s) = s.taken
-  taken_here None (inr (inl s)) = s.foreign.counts.taken
-  taken_here None (inr (inr s)) = s.program.counts.taken
+-- the header that a reader behind it has
+pub header_here : (order : Order) (h : HeaderData) (s : BodyState) (b : List ℕ) → BodyStands order h s b → (program : List ℕ) × (header_in order b ≡ Some (h, program))
+header_here order h (body.InProgram t) b is = (is.program, ap (header_in order) is.whole ∙ header_is_found order h is.header is.program is.spells)
+header_here order h (body.Stopped stop) b is = (is.program, ap (header_in order) is.whole ∙ header_is_found order h is.header is.program is.spells)
+
+-- its cells are those of the bytes
+pub cells_here : (order : Order) (h : HeaderData) (s : BodyState) (b : List ℕ) → BodyStands order h s b → cells order b ≡ header_cells h
+cells_here order h (body.InProgram t) b is = ap (cells order) is.whole ∙ (header_holds_its_cells order h is.header is.program is.spells).0
+cells_here order h (body.Stopped stop) b is = ap (cells order) is.whole ∙ (header_holds_its_cells order h is.header is.program is.spells).0
+
+module _ (order : Order) (b : List ℕ) where
+  -- how many bytes were taken
+  pub taken_here : (s : State) → StandsAt order s b → taken_in s ≡ length b
+  taken_here (state.InHeader head) s = s.stands.taken
+  taken_here (state.StoppedInHeader stop) s = s.taken
+  taken_here (state.Foreign bytes) s = s.1.counts.taken
+  taken_here (state.AfterHeader h (body.InProgram t)) s = s.counts.taken
+  taken_here (state.AfterHeader h (body.Stopped stop)) s = s.taken
 
   -- no byte behind the unit is taken
-  pub within_here : (fault : Option Fault) → r.head.order ≡ r.order → StandsAt r fault b → WithinUnit r.order b
-  within_here (Some fault) same s = s.stops.in_unit
-  within_here None same (inl s) = λ n len. s.head.within n (ap (λ (o : Order). unit_len o b) same ∙ len)
-  within_here None same (inr (inl s)) = counts_within r.order r.tail b s.foreign.counts
-  within_here None same (inr (inr s)) = counts_within r.order r.tail b s.program.counts
+  pub within_here : (s : State) → StandsAt order s b → WithinUnit order b
+  within_here (state.InHeader head) s = λ n len. s.stands.within n (ap (λ (o : Order). unit_len o b) s.same_order ∙ len)
+  within_here (state.StoppedInHeader stop) s = s.in_unit
+  within_here (state.Foreign bytes) s = counts_within order bytes b s.1.counts
+  within_here (state.AfterHeader h (body.InProgram t)) s = counts_within order t.bytes b s.counts
+  within_here (state.AfterHeader h (body.Stopped stop)) s = s.in_unit
 
-  -- `finish` of a reader without a fault: none of the bytes is refused
-  pub sound_here : StandsAt r None b → NoneRefused r.order b
-  sound_here (inl s) = s.sound
-  sound_here (inr (inl s)) = foreign_quiet r.order b s.version (r.tail.taken + r.tail.left) s.foreign.foreign s.foreign.counts.left (omega (arith, s.foreign.counts.taken))
-  sound_here (inr (inr s)) = s.program.sound
+-- the cells that a reader of the header holds
+pub cells_at : (order : Order) (head : HeadReader) (b : List ℕ) (n : ℕ) → head.order ≡ order → n ≡ min (cells head.order b) (2 ^ 64 - 1) → n ≡ min (cells order b) (2 ^ 64 - 1)
+cells_at order head b n same is = is ∙ ap (λ (o : Order). min (cells o b) (2 ^ 64 - 1)) same
 
-  -- a reader that is behind a header or a version, and of whose unit nothing is left, has taken a unit
-  pub whole_here : StandsAt r None b → (header_in r.order b ≢ None) ⊎ (foreign_in r.order b ≢ None) → r.tail.left ≡ 0 → IsUnit r.order b
-  whole_here (inl s) known none = elim known [ inl k ↦ absurd (k s.incomplete) | inr k ↦ absurd (k s.more.1) ]
-  whole_here (inr (inl s)) known none =
-      inl (s.version, foreign_unit r.order s.version b (s.foreign.counts.left ∙ ap (λ (n : ℕ). Some n) (omega (arith, none, s.foreign.counts.taken))) s.foreign.foreign)
-  whole_here (inr (inr s)) known none =
-      (unit_unless_refused r.order b (s.program.counts.left ∙ ap (λ (n : ℕ). Some n) (omega (arith, none, s.program.counts.taken)))).1 s.program.sound
+-- those of a foreign unit
+pub no_cells : (order : Order) (version : ℕ) (b : List ℕ) → foreign_in order b ≡ Some version → 0 ≡ min (cells order b) (2 ^ 64 - 1)
+no_cells order version b foreign = sym (ap (λ (n : ℕ). min n (2 ^ 64 - 1)) (foreign_no_cells order version b foreign))
 
-  -- and no other has
-  pub not_whole_here : StandsAt r None b → IsUnit r.order b → r.tail.left ≡ 0
-  not_whole_here (inl s) (inl foreign) = absurd (none_some s.more.1 (foreign_of r.order foreign.0 b foreign.1))
-  not_whole_here (inl s) (inr own) = absurd (none_some s.incomplete (ap (header_in r.order) own.2.whole ∙ header_is_found r.order own.0 own.2.header own.2.program own.2.spells_header))
-  not_whole_here (inr (inl s)) unit =
-      let len = length_of_unit r.order b unit in
-      let e : Some (r.tail.taken + r.tail.left) ≡ Some (length b) = sym s.foreign.counts.left ∙ len in
-      let n : r.tail.taken + r.tail.left ≡ length b = cc in
-      omega (arith, n, s.foreign.counts.taken)
-  not_whole_here (inr (inr s)) unit =
-      let len = length_of_unit r.order b unit in
-      let e : Some (r.tail.taken + r.tail.left) ≡ Some (length b) = sym s.program.counts.left ∙ len in
-      let n : r.tail.taken + r.tail.left ≡ length b = cc in
-      omega (arith, n, s.program.counts.taken)
+-- ---- `finish`
+
+some_bytes : (b : List ℕ) → b ≢ [] → 1 ≤ length b
+some_bytes [] some = absurd (some refl)
+some_bytes (x ∷ b) some = omega arith
+
+-- bytes that are counted, and of which none is refused
+pub finish_counted : (order : Order) (t : UnitBytes) (b : List ℕ) (result : Result Finish Fault) → Counts order t b → b ≢ [] → NoneRefused order b → (t.left ≡ 0 → IsUnit order b)
+    → (t.left ≡ 0 → result ≡ Ok finish.Whole) → (t.left ≢ 0 → result ≡ Err (record { offset = t.taken; kind = Truncated })) → FinishIs order b result
+finish_counted order t b result counts some sound whole is_whole is_cut = elim (cases_eq t.left 0) [
+  | inl none ↦ subst (FinishIs order b) (sym (is_whole none)) (whole none)
+  | inr more ↦ subst (FinishIs order b) (sym (is_cut more)) (inr (
+    ap (λ (n : ℕ). record { offset = n; kind = Truncated }) counts.taken,
+    some,
+    λ unit. (let e = some_same (t.taken + t.left) (length b) (sym counts.left ∙ length_of_unit order b unit) in more (omega (arith, e, counts.taken))),
+    λ place kind refused. sound b [] place kind (sym (append-nil b)) refused,
+  ))
+]
+
+pub finish_foreign : (order : Order) (version : ℕ) (t : UnitBytes) (b : List ℕ) (result : Result Finish Fault) → InForeign order version t b
+    → (t.left ≡ 0 → result ≡ Ok finish.Whole) → (t.left ≢ 0 → result ≡ Err (record { offset = t.taken; kind = Truncated })) → FinishIs order b result
+finish_foreign order version t b result is = finish_counted order t b result is.counts
+    (λ none. none_some {a = version} refl (ap (foreign_in order) (sym none) ∙ is.foreign))
+    (foreign_quiet order b version (t.taken + t.left) is.foreign is.counts.left (omega (arith, is.counts.taken)))
+    (λ none. inl (version, foreign_unit order version b (is.counts.left ∙ ap (λ (n : ℕ). Some n) (omega (arith, none, is.counts.taken))) is.foreign))
+
+pub finish_program : (order : Order) (h : HeaderData) (t : UnitBody) (b : List ℕ) (result : Result Finish Fault) → InProgram order h t b
+    → (t.bytes.left ≡ 0 → result ≡ Ok finish.Whole) → (t.bytes.left ≢ 0 → result ≡ Err (record { offset = t.bytes.taken; kind = Truncated })) → FinishIs order b result
+finish_program order h t b result is = finish_counted order t.bytes b result is.counts
+    (λ none. none_some {a = (h, is.program)} (ap (header_in order) none) (ap (header_in order) is.whole ∙ header_is_found order h is.header is.program is.spells))
+    is.sound
+    (λ none. (unit_unless_refused order b (is.counts.left ∙ ap (λ (n : ℕ). Some n) (omega (arith, none, is.counts.taken)))).1 is.sound)

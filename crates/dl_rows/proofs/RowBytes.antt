@@ -18,7 +18,7 @@ use Rattle.dl_rows.specs.Matrix.{appends_row, row, matrix}
 use Rattle.dl_rows.specs.OperationSpelt.{good_one, operation_spelt, operations_in}
 use Rattle.dl_rows.specs.Refusal.{operation_decided, unit_decided}
 use Rattle.dl_rows.proofs.RegisterLemmas.{matrix-push}
-use Rattle.dl_rows.proofs.TailLemmas.{events_here, decided_here, row_ends}
+use Rattle.dl_rows.proofs.UnitBodyLemmas.{events_here, decided_here, row_ends}
 
 -- ---- one byte more of a program
 

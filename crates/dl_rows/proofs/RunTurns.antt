@@ -165,7 +165,7 @@ traced_all {S} Heard order b bytes turns i run before now r le g = record {
 -- what a reader that stands for b makes of a trace
 module _ (r : Reader) (b bytes turns : List ℕ) (stands : StandsFor r b) (Heard : List Event → Type 0) (result : Result Run Fault) (new : Reader) (t : Traced r.order b bytes turns Heard result new) where
   in_unit : WithinUnit r.order b
-  in_unit = within_here r b r.fault stands.order stands.at
+  in_unit = within_here r.order b r.state stands
 
   pub runs_of : (heard : List Event) × Heard heard × RunIs r.order b bytes turns heard result
   runs_of = (heard_in t.answers, t.hears, subst (λ (o : Result Run Fault). RunIs r.order b bytes turns (heard_in t.answers) o) (sym t.result_is) (trace_runs r.order b bytes turns t.answers in_unit t.trace))

@@ -1,13 +1,16 @@
 -- What a reader of a unit answers. Places count from the unit's first byte. DWARF 5, section 6.2.4.
-use Rattle.std.specs.Prelude.{◌≡◌, ◌<◌, ◌≤◌, ◌⊎◌, ◌-◌, ℕ, List, [], ◌∷◌, ◌++◌, length, take, Some, None, slice_get, Result, Ok, Err}
+use Rattle.std.specs.Prelude.{◌≡◌, ◌≢◌, ◌<◌, ◌≤◌, ◌⊎◌, ◌-◌, ℕ, List, [], ◌∷◌, ◌++◌, length, take, Some, None, slice_get, Result, Ok, Err}
 use Rattle.dl_num.specs.declared.fixed.Order.{Order}
 use Rattle.dl_head.specs.declared.fault.Fault.{Fault}
 use Rattle.dl_head.specs.declared.fault.FaultKind.{FaultKind}
+use Rattle.dl_head.specs.declared.fault.FaultKind.TheVariants.{Truncated}
 use Rattle.dl_head.specs.Cells.{cells}
 use Rattle.dl_head.specs.Header.{header_in, unit_len}
 use Rattle.dl_rows.specs.declared.reader.Event.{Event}
 use Rattle.dl_rows.specs.declared.reader.Event.TheVariants as event
 use Rattle.dl_rows.specs.declared.reader.Fed.{Fed}
+use Rattle.dl_rows.specs.declared.reader.Finish.{Finish}
+use Rattle.dl_rows.specs.declared.reader.Finish.TheVariants as finish
 use Rattle.dl_rows.specs.declared.row.Row.{Row}
 use Rattle.dl_rows.specs.LineUnit.{IsUnit, events}
 use Rattle.dl_rows.specs.Sinks.{Story}
@@ -92,3 +95,11 @@ SinkAt story s rows other = story.hears s rows
 abbrev pub SinkBehind : {S : Type 0} → Story S → S → List Row → Result Fed Fault → Type 0
 SinkBehind story s rows (Ok fed) = SinkAt story s rows fed.event
 SinkBehind story s rows (Err fault) = story.hears s rows
+
+-- `finish`: no byte was taken; a unit was; b is refused; or it is none of these
+abbrev pub FinishIs : Order → List ℕ → Result Finish Fault → Type 0
+FinishIs order b (Ok finish.Empty) = b ≡ []
+FinishIs order b (Ok finish.Whole) = IsUnit order b
+FinishIs order b (Err f) =
+    Refused order b f.offset f.kind
+    ⊎ ((f ≡ record { offset = length b; kind = Truncated }) × (b ≢ []) × (IsUnit order b → ⊥) × ((at : ℕ) (kind : FaultKind) → Refused order b at kind → ⊥))

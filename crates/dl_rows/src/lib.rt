@@ -9,7 +9,7 @@ pub mod reader;
 mod registers;
 pub mod row;
 pub mod sink;
-mod tail;
+mod unit_body;
 
 pub use operation::Operation;
 pub use reader::{Event, Fed, Finish, Listener, Reader, Run};

@@ -1,22 +1,27 @@
 //! The reader of a unit, from bytes that come in pieces. Section 6.2.
 
-ghost use Rattle.std.specs.Prelude.{◌≡◌, ◌≢◌, ◌≤◌, ◌+◌, ◌-◌, ◌^◌, ◌⊎◌, ◌↔◌, ℕ, List, [], Some, None, length, min, IsTrue, IfOk};
+ghost use Rattle.std.specs.Prelude.{◌≡◌, ◌≢◌, ◌≤◌, ◌+◌, ◌^◌, ◌-◌, ◌⊎◌, ℕ, List, [], true, Some, length, min, IfOk};
 ghost use Rattle.std.specs.Option.{option_copied};
+ghost use Rattle.dl_num.specs.Laws.{AllBytes};
 ghost use Rattle.dl_head.specs.Cells.{cells};
-ghost use Rattle.dl_rows.specs.LineUnit.{IsUnit, unit_rows, ends_open};
 ghost use Rattle.dl_head.specs.Header.{unit_len};
 ghost use Rattle.dl_head.specs.Standing.{StandsFor as HeadStands};
+ghost use Rattle.dl_rows.specs.LineUnit.{unit_rows, ends_open};
+ghost use Rattle.dl_rows.specs.Reading.{FinishIs};
+ghost use Rattle.dl_rows.specs.ReaderStates.{InHeader, IsBegun, KnowsLength, HasHeader, StandsAt, is_in_header};
+ghost use Rattle.dl_rows.specs.UnitBodies.{Counts};
 
 mod run;
 
 use crate::program::Program;
 use crate::row::Row;
 use crate::sink::{EachRow, RowSink};
-use crate::tail::Tail;
+use crate::unit_body::{BodyState, UnitBody, UnitBytes};
 use dl_head::{Fault, FaultKind, HeadReader, HeadStep, Header};
 use dl_num::Order;
 pub use run::{Listener, Run};
 use std::alloc::Global;
+use std::mem;
 
 /// What a piece of a unit gave.
 #[derive(Debug, Clone, Copy, PartialEq, Eq)]
@@ -51,20 +56,42 @@ pub enum Finish {
     Whole,
 }
 
+/// What is kept of a header that a fault stopped.
+#[derive(Clone, Copy)]
+struct HeaderStop {
+    fault: Fault,
+    /// How many bytes of the unit were taken.
+    taken: u64,
+    /// The cells of these bytes; 2^64 - 1 where there are more.
+    cells: u64,
+}
+
+/// Where a reader is in its unit.
+#[derive(Drop)]
+enum State {
+    /// The header isn't complete, and no version other than 5 is.
+    InHeader(HeadReader),
+    /// A fault was answered in the header.
+    StoppedInHeader(HeaderStop),
+    /// The version is complete, and isn't 5.
+    Foreign(UnitBytes),
+    /// The header is complete.
+    AfterHeader(Header, BodyState),
+}
+
 /// A reader of one unit.
 #[derive(Drop)]
 pub struct Reader {
+    alloc: Global,
     order: Order,
-    head: HeadReader,
-    tail: Tail,
-    is_foreign: bool,
-    fault: Option<Fault>,
+    state: State,
+    ghost begun: { ∥ IsBegun state ∥₁ },
 }
 
 impl Reader {
     ghost use Rattle.dl_rows.specs.Progress.{taken_of};
     ghost use Rattle.dl_rows.specs.Reading.{IsPause};
-    ghost use Rattle.dl_rows.specs.ReaderStands.{StandsFor, HeaderIs, FinishIs, KnownIs, InHeader, ReaderFed, RowsFed, BeginsForeign, BeginsProgram};
+    ghost use Rattle.dl_rows.specs.ReaderStands.{StandsFor, HeaderIs, ReaderFed, RowsFed};
     ghost use Rattle.dl_rows.specs.declared.row.Row.{Row};
 
     /// No byte yet of a unit whose numbers stand in this order. It takes no memory.
@@ -74,15 +101,9 @@ impl Reader {
         ensures taken { taken_of result ≡ 0 }
     {
         Reader {
+            alloc,
             order,
-            head: HeadReader::new(alloc, order),
-            tail: Tail {
-                program: Program::new(false),
-                taken: 0,
-                left: 0,
-            },
-            is_foreign: false,
-            fault: None,
+            state: State::InHeader(HeadReader::new(alloc, order)),
         }
     }
 
@@ -109,27 +130,24 @@ impl Reader {
             → RowsFed (S.story first) self.old.order b piece.now before result self.new sink.new }
         ensures order { self.new.order ≡ self.old.order }
     {
-        if let Some(fault) = self.fault {
-            return Err(fault);
+        match &mut self.state {
+            State::InHeader(_) => self.feed_head(piece),
+            State::StoppedInHeader(stop) => Err(stop.fault),
+            State::Foreign(bytes) => Ok(bytes.pass_over(piece)),
+            State::AfterHeader(header, body) => {
+                body.feed(self.order, header.params(), piece, sink)
+            }
         }
-        if self.is_foreign {
-            return Ok(self.tail.pass_over(piece));
-        }
-        let Some(header) = self.head.header() else {
-            return self.feed_head(piece);
-        };
-        let fed = self.tail.feed(self.order, header.params(), piece, sink);
-        if let Err(fault) = fed {
-            self.fault = Some(fault);
-        }
-        fed
     }
 
     /// The header, from the Header event on.
     pub fn header(&self) -> Option<&Header>
         ensures { HeaderIs self.now (option_copied result) }
     {
-        self.head.header()
+        let State::AfterHeader(header, _) = &self.state else {
+            return None;
+        };
+        Some(header)
     }
 
     /// The header, from the Header event on.
@@ -137,13 +155,14 @@ impl Reader {
         ensures { HeaderIs self result }
     {
         let Reader {
+            alloc: _,
             order: _,
-            head,
-            tail: _,
-            is_foreign: _,
-            fault: _,
+            state,
         } = self;
-        head.into_header()
+        match state {
+            State::AfterHeader(header, _) => Some(header),
+            State::InHeader(_) | State::StoppedInHeader(_) | State::Foreign(_) => None,
+        }
     }
 
     /// How many bytes were taken, none of them behind the unit.
@@ -152,7 +171,12 @@ impl Reader {
         ensures bytes { (b : List ℕ) → StandsFor self.now b → result ≡ length b }
         ensures in_unit { (b : List ℕ) → StandsFor self.now b → (n : ℕ) → unit_len self.now.order b ≡ Some n → result ≤ n }
     {
-        self.tail.taken
+        match &self.state {
+            State::InHeader(head) => head.taken(),
+            State::StoppedInHeader(stop) => stop.taken,
+            State::Foreign(bytes) => bytes.taken,
+            State::AfterHeader(_, body) => body.taken(),
+        }
     }
 
     /// How many pairs, values, and bytes of texts and blocks the header holds; 2^64 - 1 where there
@@ -160,115 +184,115 @@ impl Reader {
     pub fn cells(&self) -> u64
         ensures { (b : List ℕ) → StandsFor self.now b → result ≡ min (cells self.now.order b) (2 ^ 64 - 1) }
     {
-        self.head.cells()
+        match &self.state {
+            State::InHeader(head) => head.cells(),
+            State::StoppedInHeader(stop) => stop.cells,
+            State::Foreign(_) => 0,
+            State::AfterHeader(header, _) => header.cells(),
+        }
     }
 
     /// Whether a row was handed out, and the last one isn't an end row.
     pub fn in_sequence(&self) -> bool
         ensures { (b : List ℕ) → StandsFor self.now b → result ≡ ends_open (unit_rows self.now.order b) }
     {
-        self.tail.program.in_sequence()
+        match &self.state {
+            State::InHeader(_) | State::StoppedInHeader(_) | State::Foreign(_) => false,
+            State::AfterHeader(_, body) => body.in_sequence(),
+        }
     }
 
     /// How the unit stands where no more bytes come: Truncated where it isn't whole.
     pub fn finish(&self) -> Result<Finish, Fault>
         ensures { (b : List ℕ) → StandsFor self.now b → FinishIs self.now.order b result }
     {
-        if let Some(fault) = self.fault {
-            return Err(fault);
+        match &self.state {
+            State::InHeader(head) => finish_in_header(head),
+            State::StoppedInHeader(stop) => Err(stop.fault),
+            State::Foreign(bytes) => bytes.finish(),
+            State::AfterHeader(_, body) => body.finish(),
         }
-        if self.tail.taken == 0 {
-            return Ok(Finish::Empty);
-        }
-        if self.is_whole() {
-            return Ok(Finish::Whole);
-        }
-        Err(Fault {
-            offset: self.tail.taken,
-            kind: FaultKind::Truncated,
-        })
     }
 
     /// Takes bytes of the header.
     fn feed_head(&mut self, piece: &[u8]) -> Result<Fed, Fault>
+        requires { is_in_header self.old.state ≡ true }
         ensures used { IfOk result (λ fed. fed.used ≤ length piece.now) }
         ensures progress { IfOk result (λ fed. IsPause fed.event ⊎ (1 ≤ fed.used)) }
         ensures not_end { IfOk result (λ fed. fed.event ≢ Event.End) }
         ensures no_row { IfOk result (λ fed. (r : Row) → fed.event ≢ Event.Row r) }
-        ensures fed { (b : List ℕ) → self.old.fault ≡ None → self.old.head.order ≡ self.old.order
-            → InHeader self.old b → ReaderFed self.old.order b piece.now result self.new }
+        ensures fed { (b : List ℕ) → StandsFor self.old b → ReaderFed self.old.order b piece.now result self.new }
         ensures order { self.new.order ≡ self.old.order }
     {
-        let (used, step) = self.head.offer(piece);
-        self.tail.taken = self.head.taken();
+        let State::InHeader(head) = &mut self.state else {
+            unreachable!()
+        };
+        let (used, step) = head.offer(piece);
         let event = match step {
             HeadStep::More => Event::More,
             HeadStep::NoMemory => Event::NoMemory,
             HeadStep::Foreign(version) => {
-                self.begin_foreign();
+                self.state = State::Foreign(bytes_of(head));
                 Event::Foreign(version)
             }
             HeadStep::Done => {
-                self.begin_program();
+                let read = mem::replace(head, HeadReader::new(self.alloc, self.order));
+                self.state = after_header(read);
                 Event::Header
             }
             HeadStep::Fault(fault) => {
-                self.fault = Some(fault);
+                self.state = State::StoppedInHeader(HeaderStop {
+                    fault,
+                    taken: head.taken(),
+                    cells: head.cells(),
+                });
                 return Err(fault);
             }
         };
         Ok(Fed { used, event })
     }
+}
 
-    /// Goes on behind a foreign version.
-    fn begin_foreign(&mut self)
-        ensures { BeginsForeign self.old self.new }
-    {
-        self.is_foreign = true;
-        self.tail.left = self.left();
+/// How many bytes a reader took that is at the end of a header or of a version, and how many of the unit
+/// are left.
+fn bytes_of(head: &HeadReader) -> UnitBytes
+    requires { ∥ KnowsLength head.now ∥₁ }
+    ensures { (b : List ℕ) → HeadStands head.now b → Counts head.now.order result b }
+{
+    let Some(len) = head.unit_len() else {
+        unreachable!()
+    };
+    let taken = head.taken();
+    UnitBytes {
+        taken,
+        left: len - taken,
     }
+}
 
-    /// Goes on behind the header.
-    fn begin_program(&mut self)
-        ensures { BeginsProgram self.old self.new }
-    {
-        self.tail.left = self.left();
-        if let Some(header) = self.head.header() {
-            self.tail.program = Program::new(header.params().default_is_stmt != 0);
-        }
-    }
+/// The state after the header that this reader has read.
+fn after_header(head: HeadReader) -> State
+    requires { ∥ HasHeader head ∥₁ }
+    ensures stands { (b : List ℕ) → HeadStands head b → AllBytes b → StandsAt head.order result b }
+    ensures begun { ∥ IsBegun result ∥₁ }
+{
+    let bytes = bytes_of(&head);
+    let Some(header) = head.into_header() else {
+        unreachable!()
+    };
+    let program = Program::new(header.params().default_is_stmt != 0);
+    State::AfterHeader(header, BodyState::InProgram(UnitBody { program, bytes }))
+}
 
-    /// How many bytes of the unit are left.
-    fn left(&self) -> u64
-        ensures { (b : List ℕ) → HeadStands self.now.head b → (n : ℕ) → unit_len self.now.head.order b ≡ Some n
-            → (result ≡ n - self.now.tail.taken) × (length b ≤ n) }
-    {
-        let len = self.head.unit_len().unwrap_or(0);
-        len.saturating_sub(self.tail.taken)
+/// How a unit stands whose header isn't complete, where no more bytes come.
+fn finish_in_header(head: &HeadReader) -> Result<Finish, Fault>
+    ensures { (order : Order) (b : List ℕ) → InHeader order head.now b → FinishIs order b result }
+{
+    let taken = head.taken();
+    if taken == 0 {
+        return Ok(Finish::Empty);
     }
-
-    /// Whether all of the unit's bytes were taken.
-    fn is_whole(&self) -> bool
-        ensures some { IsTrue result → 1 ≤ taken_of self.now }
-        ensures whole { (b : List ℕ) → self.now.fault ≡ None → StandsFor self.now b
-            → IsTrue result ↔ IsUnit self.now.order b }
-    {
-        if !self.is_known() {
-            return false;
-        }
-        if self.tail.taken == 0 {
-            return false;
-        }
-        self.tail.left == 0
-    }
-
-    /// Whether the header, or a foreign version, is complete.
-    fn is_known(&self) -> bool
-        ensures { (b : List ℕ) → self.now.fault ≡ None → StandsFor self.now b → KnownIs self.now.order b result }
-    {
-        match self.header() {
-            Some(_) => true,
-            None => self.is_foreign,
-        }
-    }
+    Err(Fault {
+        offset: taken,
+        kind: FaultKind::Truncated,
+    })
 }

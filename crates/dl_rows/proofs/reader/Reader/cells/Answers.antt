@@ -1,5 +1,18 @@
-use Rattle.dl_rows.proofs.ReaderFeeds.{cells_held}
+use Rattle.std.proofs.Common.{ℕ, ◌-◌, ◌^◌, min, sym, ap, subst, ◌∙◌}
+use Rattle.dl_rows.specs.declared.reader.State.{State}
+use Rattle.dl_rows.specs.declared.reader.State.TheVariants as state
+use Rattle.dl_rows.specs.ReaderStates.{StandsAt}
+use Rattle.dl_rows.proofs.ReaderLemmas.{cells_here, no_cells}
 use Rattle.dl_rows.proofs.reader.Reader.cells.Goals as goal
 
-pub returns : goal.returns
-returns c b s = cells_held c.args.self.now b _ s c.cells.ensures
+pub returns-in-Foreign : goal.returns-in-Foreign
+returns-in-Foreign c b s =
+    let order = c.args.self.now.order in
+    let at : StandsAt order (state.Foreign c.in-Foreign.field-0) b = subst (λ (x : State). StandsAt order x b) c.in-Foreign.is s in
+    no_cells order at.0 b at.1.foreign
+
+pub returns-in-AfterHeader : goal.returns-in-AfterHeader
+returns-in-AfterHeader c b s =
+    let order = c.args.self.now.order in
+    let same = cells_here order c.in-AfterHeader.header c.in-AfterHeader.field-1 b (subst (λ (x : State). StandsAt order x b) c.in-AfterHeader.is s) in
+    c.cells-in-AfterHeader.ensures ∙ ap (λ (n : ℕ). min n (2 ^ 64 - 1)) (sym same)

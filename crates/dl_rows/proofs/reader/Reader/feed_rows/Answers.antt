@@ -1,37 +1,24 @@
-use Rattle.std.proofs.Common.{Result, Ok, Err, sym, subst}
-use Rattle.dl_head.specs.declared.fault.Fault.{Fault}
-use Rattle.dl_rows.specs.declared.reader.Fed.{Fed}
-use Rattle.dl_rows.specs.declared.reader.Reader.{Reader}
-use Rattle.dl_rows.specs.ReaderStands.{RowsFed}
-use Rattle.dl_rows.proofs.ReaderFeeds.{feeds_fault, feeds_foreign, in_header_of, feeds_program, fails_program, no_rows, sink_behind, no_row_paused}
+use Rattle.std.proofs.Common.{Ok, refl, sym}
+use Rattle.dl_rows.proofs.ReaderFeeds.{rows_stopped, feeds_foreign, feeds_body, no_rows, sink_behind, no_row_paused}
 use Rattle.dl_rows.proofs.reader.Reader.feed_rows.Goals as goal
 
-pub returns-in-Some-clause-fed : goal.returns-in-Some-clause-fed
-returns-in-Some-clause-fed g c b before first s hears =
-    no_rows (g.S.RowSink.story first) c.args.self.now.order b c.args.piece.now before (Err c.in-Some.fault) c.args.self.now c.args.sink.now
-    (feeds_fault c.args.self.now b c.args.piece.now c.in-Some.fault c.in-Some.is s) hears
+pub returns-in-InHeader-clause-fed : goal.returns-in-InHeader-clause-fed
+returns-in-InHeader-clause-fed g c b before first s hears =
+    no_rows (g.S.RowSink.story first) c.args.self.now.order b c.args.piece.now before c.feed_head.result c.feed_head.new.self c.args.sink.now (c.feed_head.ensures.fed b s)
+    (sink_behind (g.S.RowSink.story first) c.args.sink.now before c.feed_head.result c.feed_head.ensures.no_row hears)
 
-pub returns-then-self-clause-fed : goal.returns-then-self-clause-fed
-returns-then-self-clause-fed g c b before first s hears =
-    no_rows (g.S.RowSink.story first) c.args.self.now.order b c.args.piece.now before (Ok c.pass_over.result) (record (c.args.self.now) { tail = c.pass_over.new.self }) c.args.sink.now
-    (feeds_foreign c.args.self.now c.pass_over.new.self b c.args.piece.now c.pass_over.result c.in_default.is c.if-self.true s c.pass_over.ensures.program
+pub returns-in-StoppedInHeader-clause-fed : goal.returns-in-StoppedInHeader-clause-fed
+returns-in-StoppedInHeader-clause-fed g c b before first s hears =
+    rows_stopped (g.S.RowSink.story first) c.args.self.now _ b c.args.piece.now before c.in-StoppedInHeader.stop c.args.sink.now c.in-StoppedInHeader.is refl refl s hears
+
+pub returns-in-Foreign-clause-fed : goal.returns-in-Foreign-clause-fed
+returns-in-Foreign-clause-fed g c b before first s hears =
+    no_rows (g.S.RowSink.story first) c.args.self.now.order b c.args.piece.now before (Ok c.pass_over.result) _ c.args.sink.now
+    (feeds_foreign c.args.self.now _ c.in-Foreign.bytes c.pass_over.new.self b c.args.piece.now c.pass_over.result c.in-Foreign.is refl refl s
     (λ version in_foreign. c.pass_over.ensures.fed c.args.self.now.order version b in_foreign))
     (sink_behind (g.S.RowSink.story first) c.args.sink.now before (Ok c.pass_over.result) (no_row_paused c.pass_over.result.event c.pass_over.ensures.pause) hears)
 
-pub returns-in_default-header-clause-fed : goal.returns-in_default-header-clause-fed
-returns-in_default-header-clause-fed g c b before first s hears =
-    no_rows (g.S.RowSink.story first) c.args.self.now.order b c.args.piece.now before c.feed_head.result c.feed_head.new.self c.args.sink.now
-    (c.feed_head.ensures.fed b c.in_default.is s.order (in_header_of c.args.self.now b c.in_default.is c.if-self.false s c.in_default-header.ensures))
-    (sink_behind (g.S.RowSink.story first) c.args.sink.now before c.feed_head.result c.feed_head.ensures.no_row hears)
-
-pub returns-in-Err-clause-fed : goal.returns-in-Err-clause-fed
-returns-in-Err-clause-fed g c b before first s hears =
-    fails_program (g.S.RowSink.story first) c.args.self.now c.feed-fed.new.self b c.args.piece.now before c.in-Err.fault c.feed-fed.new.sink c.in-Some-header.header.now c.params.result.now c.in_default.is c.if-self.false s c.in-Some-header.ensures c.params.ensures.value
-    (λ h d params at. c.in-Err.ensures.fed h d before first params at hears)
-
-pub returns-in_default-fed-clause-fed : goal.returns-in_default-fed-clause-fed
-returns-in_default-fed-clause-fed g c b before first s hears =
-    let new : Reader = record (c.args.self.now) { tail = c.feed-fed.new.self } in
-    subst (λ (result : Result Fed Fault). RowsFed (g.S.RowSink.story first) c.args.self.now.order b c.args.piece.now before result new c.feed-fed.new.sink) (sym c.in_default-fed.is)
-    (feeds_program (g.S.RowSink.story first) c.args.self.now c.feed-fed.new.self b c.args.piece.now before c.in_default-fed.field-0 c.feed-fed.new.sink c.in-Some-header.header.now c.params.result.now c.in_default.is c.if-self.false s c.in-Some-header.ensures c.params.ensures.value
-    (λ h d params at. c.in_default-fed.ensures.fed h d before first params at hears))
+pub returns-in-AfterHeader-clause-fed : goal.returns-in-AfterHeader-clause-fed
+returns-in-AfterHeader-clause-fed g c b before first s hears =
+    feeds_body (g.S.RowSink.story first) c.args.self.now _ c.in-AfterHeader.header c.in-AfterHeader.body c.feed.new.self b c.args.piece.now before c.feed.result c.feed.new.sink c.in-AfterHeader.is refl refl s
+    (λ at. c.feed.ensures.fed c.in-AfterHeader.header b before first (sym c.params.ensures.value) at hears)

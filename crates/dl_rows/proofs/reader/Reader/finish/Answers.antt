@@ -1,7 +1,12 @@
-use Rattle.dl_rows.proofs.ReaderFeeds.{truncated, true_not}
+use Rattle.std.proofs.Common.{subst}
+use Rattle.dl_rows.specs.declared.reader.State.{State}
+use Rattle.dl_rows.specs.declared.reader.State.TheVariants as state
+use Rattle.dl_rows.specs.ReaderStates.{StandsAt}
+use Rattle.dl_rows.proofs.ReaderLemmas.{finish_foreign}
 use Rattle.dl_rows.proofs.reader.Reader.finish.Goals as goal
 
-pub returns : goal.returns
-returns c b s =
-    truncated c.args.self.now b c.in_default.is s c.if-self-eq0.false
-    (λ unit. true_not c.is_whole.result ((c.is_whole.ensures.whole b c.in_default.is s).1 unit) c.if-is_whole.false)
+pub returns-in-Foreign : goal.returns-in-Foreign
+returns-in-Foreign c b s =
+    let order = c.args.self.now.order in
+    let at : StandsAt order (state.Foreign c.in-Foreign.bytes) b = subst (λ (x : State). StandsAt order x b) c.in-Foreign.is s in
+    finish_foreign order at.0 c.in-Foreign.bytes b c.finish.result at.1 c.finish.ensures.whole c.finish.ensures.truncated

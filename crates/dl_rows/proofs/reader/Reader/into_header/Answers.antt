@@ -1,5 +1,10 @@
-use Rattle.dl_rows.proofs.ReaderFeeds.{header_given}
+use Rattle.std.proofs.Common.{subst}
+use Rattle.dl_rows.specs.declared.reader.State.{State}
+use Rattle.dl_rows.specs.ReaderStates.{StandsAt}
+use Rattle.dl_rows.proofs.ReaderLemmas.{header_here}
 use Rattle.dl_rows.proofs.reader.Reader.into_header.Goals as goal
 
-pub returns : goal.returns
-returns c = header_given c.args.self _ c.into_header.ensures
+pub returns-in-AfterHeader : goal.returns-in-AfterHeader
+returns-in-AfterHeader c b s =
+    let order = c.args.self.order in
+    header_here order c.in-AfterHeader.header c.in-AfterHeader.field-1 b (subst (λ (x : State). StandsAt order x b) c.in-AfterHeader.is s)

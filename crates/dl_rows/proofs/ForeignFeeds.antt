@@ -5,12 +5,12 @@ use Rattle.dl_head.specs.Header.{foreign_in, header_in}
 use Rattle.dl_head.proofs.FieldLemmas.{none_some}
 use Rattle.dl_head.proofs.ForeignLemmas.{foreign_on}
 use Rattle.dl_rows.specs.declared.reader.Fed.{Fed}
-use Rattle.dl_rows.specs.declared.tail.Tail.{Tail}
+use Rattle.dl_rows.specs.declared.unit_body.UnitBytes.{UnitBytes}
 use Rattle.dl_rows.specs.LineUnit.{events_of, events}
 use Rattle.dl_rows.specs.Reading.{Feeds}
-use Rattle.dl_rows.specs.Tails.{InForeign, paused}
-use Rattle.dl_rows.proofs.TailFeeds.{pauses}
-use Rattle.dl_rows.proofs.TailLemmas.{counts_on}
+use Rattle.dl_rows.specs.UnitBodies.{InForeign, paused}
+use Rattle.dl_rows.proofs.UnitBodyFeeds.{pauses}
+use Rattle.dl_rows.proofs.UnitBodyLemmas.{counts_on}
 use Rattle.dl_rows.proofs.UnitLengths.{foreign_unit}
 use Rattle.dl_rows.proofs.UnitQuiet.{foreign_quiet}
 
@@ -21,7 +21,7 @@ some_bytes : (order : Order) (b : List ℕ) (version : ℕ) → foreign_in order
 some_bytes order [] version foreign = absurd (none_some {a = version} refl foreign)
 some_bytes order (x ∷ b) version foreign = omega arith
 
-pub feeds_foreign : (order : Order) (version : ℕ) (t new : Tail) (b piece : List ℕ) (fed : Fed) → InForeign order version t b → fed.used ≡ length (take t.left piece)
+pub feeds_foreign : (order : Order) (version : ℕ) (t new : UnitBytes) (b piece : List ℕ) (fed : Fed) → InForeign order version t b → fed.used ≡ length (take t.left piece)
     → fed.event ≡ paused new.taken new.left fed.used (length piece) → new.taken ≡ min (t.taken + length (take t.left piece)) (2 ^ 64 - 1) → new.left ≡ t.left - length (take t.left piece)
     → Feeds (InForeign order version) order b piece fed new
 feeds_foreign order version t new b piece fed is size event taken left =

@@ -1,7 +1,7 @@
 use Rattle.std.proofs.Common.{ℕ, ◌+◌, ◌-◌, ◌^◌, List, length, min, sym, ap, ◌∙◌}
-use Rattle.dl_rows.specs.Tails.{paused}
-use Rattle.dl_rows.proofs.TailForeign.{feeds_foreign}
-use Rattle.dl_rows.proofs.tail.Tail.pass_over.Goals as goal
+use Rattle.dl_rows.specs.UnitBodies.{paused}
+use Rattle.dl_rows.proofs.ForeignFeeds.{feeds_foreign}
+use Rattle.dl_rows.proofs.unit_body.UnitBytes.pass_over.Goals as goal
 
 pub returns-clause-fed : goal.returns-clause-fed
 returns-clause-fed c order version b is =

@@ -20,7 +20,8 @@ use Rattle.dl_rows.specs.declared.reader.Event.{Event}
 use Rattle.dl_rows.specs.declared.reader.Event.TheVariants as event
 use Rattle.dl_rows.specs.declared.reader.Fed.{Fed}
 use Rattle.dl_rows.specs.declared.row.Row.{Row}
-use Rattle.dl_rows.specs.declared.tail.Tail.{Tail}
+use Rattle.dl_rows.specs.declared.unit_body.UnitBody.{UnitBody}
+use Rattle.dl_rows.specs.declared.unit_body.UnitBytes.{UnitBytes}
 use Rattle.dl_rows.specs.OperationSpelt.{operation_spelt, operations_in}
 use Rattle.dl_rows.specs.LineUnit.{IsUnit, rows_in, ends_open, events}
 use Rattle.dl_rows.specs.Programs.{ProgramStands, Unrefused, Told, Tells}
@@ -28,11 +29,11 @@ use Rattle.dl_rows.specs.Reading.{WithinUnit, told, EventHoldsBehind, Feeds, Fee
 use Rattle.dl_rows.specs.Refusal.{Refused}
 use Rattle.dl_rows.specs.Sinks.{Story}
 use Rattle.dl_rows.specs.Sums.{FitsProgram}
-use Rattle.dl_rows.specs.Tails.{Counts, InProgram, Stops, paused}
+use Rattle.dl_rows.specs.UnitBodies.{Counts, InProgram, Stops, paused}
 use Rattle.dl_rows.proofs.OperandRanges.{bytes_front}
 use Rattle.dl_rows.proofs.ProgramTurns.{rest-found, unrefused_join}
 use Rattle.dl_rows.proofs.ProgramWalks.{in_sequence_is}
-use Rattle.dl_rows.proofs.TailLemmas.{counts_within, counts_on, program_on, events_more, refused_on, decides_bad, decides_overrun, rows_on, row_ends}
+use Rattle.dl_rows.proofs.UnitBodyLemmas.{counts_within, counts_on, program_on, events_more, refused_on, decides_bad, decides_overrun, rows_on, row_ends}
 use Rattle.dl_rows.proofs.UnitLengths.{some_same, length_of_unit}
 use Rattle.dl_rows.proofs.UnitWhole.{NoneRefused, unit_unless_refused}
 
@@ -73,7 +74,7 @@ paused_cases taken left used len some = elim (cases_eq left 0) [
     any same = omega arith
 
 -- bytes that a header stands in are some
-some_bytes : (order : Order) (h : HeaderData) (t : Tail) (b : List ℕ) → InProgram order h t b → 1 ≤ length b
+some_bytes : (order : Order) (h : HeaderData) (t : UnitBody) (b : List ℕ) → InProgram order h t b → 1 ≤ length b
 some_bytes order h t [] is = absurd (none_some {a = (h, is.program)} refl (ap (header_in order) is.whole ∙ header_is_found order h is.header is.program is.spells))
 some_bytes order h t (x ∷ b) is = omega arith
 
@@ -92,7 +93,7 @@ feeds_with StandsFor order before b piece u s fed e same le is stands grows hold
 }
 
 -- a pause behind the events before, where nothing is refused
-pub pauses_behind : {S : Type 0} (StandsFor : S → List ℕ → Type 0) (order : Order) (before : List Event) (b piece : List ℕ) (left : ℕ) (new : Tail) (s : S) (fed : Fed) → fed.used ≡ length (take left piece)
+pub pauses_behind : {S : Type 0} (StandsFor : S → List ℕ → Type 0) (order : Order) (before : List Event) (b piece : List ℕ) (left : ℕ) (new : UnitBytes) (s : S) (fed : Fed) → fed.used ≡ length (take left piece)
     → fed.event ≡ paused new.taken new.left fed.used (length piece) → new.left ≡ left - fed.used → 1 ≤ length (b ++ take left piece)
     → Counts order new (b ++ take left piece) → StandsFor s (b ++ take left piece) → events order (b ++ take left piece) ≡ before
     → NoneRefused order (b ++ take left piece) → (new.left ≡ 0 → IsUnit order (b ++ take left piece)) → FeedsBehind StandsFor order before b piece fed s
@@ -132,7 +133,7 @@ pauses_behind StandsFor order before b piece left new s fed size is left_is some
         omega (arith, e, counts.taken)
 
 -- the same, where the events stay the same
-pub pauses : {S : Type 0} (StandsFor : S → List ℕ → Type 0) (order : Order) (b piece : List ℕ) (left : ℕ) (new : Tail) (s : S) (fed : Fed) → fed.used ≡ length (take left piece)
+pub pauses : {S : Type 0} (StandsFor : S → List ℕ → Type 0) (order : Order) (b piece : List ℕ) (left : ℕ) (new : UnitBytes) (s : S) (fed : Fed) → fed.used ≡ length (take left piece)
     → fed.event ≡ paused new.taken new.left fed.used (length piece) → new.left ≡ left - fed.used → 1 ≤ length (b ++ take left piece)
     → Counts order new (b ++ take left piece) → StandsFor s (b ++ take left piece) → events order (b ++ take left piece) ≡ events order b
     → NoneRefused order (b ++ take left piece) → (new.left ≡ 0 → IsUnit order (b ++ take left piece)) → Feeds StandsFor order b piece fed s
@@ -146,12 +147,12 @@ all_bytes [] h = tt
 all_bytes (b ∷ w) h = (h 0 (omega arith), all_bytes w (λ i lt. h (suc i) (omega arith)))
 
 -- what the reader of a program gives for the bytes that are left of the unit
-pub tells_in : {S : Type 0} (story : Story S) (order : Order) (h : HeaderData) (p : Params) (t new : Tail) (b piece bytes : List ℕ) (before : List Row) (given : Given) (q : Program) (s : S) (is : InProgram order h t b) → h.params ≡ p
-    → bytes ≡ take t.left piece → AllBytes piece → new.program ≡ q
-    → ((c : List ℕ) → FitsProgram p → AllBytes bytes → ProgramStands order p t.program c → Tells story order p c bytes before given q s) → Tells story order h.params is.program (take t.left piece) before given new.program s
+pub tells_in : {S : Type 0} (story : Story S) (order : Order) (h : HeaderData) (p : Params) (t new : UnitBody) (b piece bytes : List ℕ) (before : List Row) (given : Given) (q : Program) (s : S) (is : InProgram order h t b) → h.params ≡ p
+    → bytes ≡ take t.bytes.left piece → AllBytes piece → new.program ≡ q
+    → ((c : List ℕ) → FitsProgram p → AllBytes bytes → ProgramStands order p t.program c → Tells story order p c bytes before given q s) → Tells story order h.params is.program (take t.bytes.left piece) before given new.program s
 tells_in story order h p t new b piece bytes before given q s is params front all program gives =
-    let some : AllBytes (take t.left piece) = bytes_front (take t.left piece) (drop t.left piece) (subst (λ (w : List ℕ). AllBytes w) (sym (take-append-drop t.left piece)) all) in
-    subst (λ (r : Program). Tells story order h.params is.program (take t.left piece) before given r s) (sym program)
+    let some : AllBytes (take t.bytes.left piece) = bytes_front (take t.bytes.left piece) (drop t.bytes.left piece) (subst (λ (w : List ℕ). AllBytes w) (sym (take-append-drop t.bytes.left piece)) all) in
+    subst (λ (r : Program). Tells story order h.params is.program (take t.bytes.left piece) before given r s) (sym program)
     (subst (λ (w : List ℕ). Tells story order h.params is.program w before given q s) front
     (subst (λ (r : Params). FitsProgram r → AllBytes bytes → ProgramStands order r t.program is.program → Tells story order r is.program bytes before given q s) (sym params) (gives is.program) is.fits (subst (λ (w : List ℕ). AllBytes w) (sym front) some) is.stands))
 
@@ -222,37 +223,37 @@ flat_bad order h program bytes rows since kind behind new t (front, last, e, qui
       subst (λ (w : List ℕ). new.in_sequence ≡ ends_open (rows_in order h.params w)) here open_is,
     )
 
-pub feeds_row : (order : Order) (h : HeaderData) (t new : Tail) (b piece behind : List ℕ) (rows : List Row) (row : Row) (used : ℕ) (is : InProgram order h t b) → RowGiven order h is.program (take t.left piece) rows row behind new.program
-    → used ≡ length (take t.left piece) - length behind → new.taken ≡ min (t.taken + used) (2 ^ 64 - 1) → new.left ≡ t.left - used
+pub feeds_row : (order : Order) (h : HeaderData) (t new : UnitBody) (b piece behind : List ℕ) (rows : List Row) (row : Row) (used : ℕ) (is : InProgram order h t b) → RowGiven order h is.program (take t.bytes.left piece) rows row behind new.program
+    → used ≡ length (take t.bytes.left piece) - length behind → new.bytes.taken ≡ min (t.bytes.taken + used) (2 ^ 64 - 1) → new.bytes.left ≡ t.bytes.left - used
     → FeedsBehind (InProgram order h) order (events order b ++ map event.Row rows) b piece (fed_of used (event.Row row)) new
 feeds_row order h t new b piece behind rows row used is (front, last, e, stands, before, grown, unrefused) size taken left =
     let u = front ++ last ∷ [] in
-    let le = taken_le piece u behind t.left e in
+    let le = taken_le piece u behind t.bytes.left e in
     let exact : used ≡ length u = omega (arith, size, ap length e, length-append u behind) in
-    let whole = piece_is piece u behind t.left e in
-    let same = take_front piece u (behind ++ drop t.left piece) used whole exact in
+    let whole = piece_is piece u behind t.bytes.left e in
+    let same = take_front piece u (behind ++ drop t.bytes.left piece) used whole exact in
     let ends : (operations_in order h.params (is.program ++ u)).rest ≡ [] =
     subst (λ (w : List ℕ). (operations_in order h.params w).rest ≡ []) (append_assoc is.program front (last ∷ []))
     (row_ends order h.params (is.program ++ front) last row (ap (rows_in order h.params) (append_assoc is.program front (last ∷ [])) ∙ grown ∙ ap (λ (rs : List Row). rs ++ row ∷ []) (sym before))) in
     let now : InProgram order h new (b ++ u) =
-    program_on order h t b u is le.0 new stands unrefused (λ full. ends) (taken ∙ ap (λ (n : ℕ). min (t.taken + n) (2 ^ 64 - 1)) exact) (left ∙ ap (λ (n : ℕ). t.left - n) exact) in
+    program_on order h t b u is le.0 new stands unrefused (λ full. ends) (taken ∙ ap (λ (n : ℕ). min (t.bytes.taken + n) (2 ^ 64 - 1)) exact) (left ∙ ap (λ (n : ℕ). t.bytes.left - n) exact) in
     let one : 1 ≤ used = omega (arith, exact, length-append front (last ∷ [])) in
     let fewer : used - 1 ≡ length front = omega (arith, exact, length-append front (last ∷ [])) in
-    let front_is = take_front piece front ((last ∷ []) ++ (behind ++ drop t.left piece)) (used - 1) (whole ∙ append_assoc front (last ∷ []) (behind ++ drop t.left piece)) fewer in
+    let front_is = take_front piece front ((last ∷ []) ++ (behind ++ drop t.bytes.left piece)) (used - 1) (whole ∙ append_assoc front (last ∷ []) (behind ++ drop t.bytes.left piece)) fewer in
     feeds_with (InProgram order h) order (events order b ++ map event.Row rows) b piece u new (fed_of used (event.Row row)) (event.Row row) same (omega (arith, exact, le.1)) refl now (events_more order h t b u is le.0 u (rows ++ row ∷ []) (grown ∙ append_assoc (rows_in order h.params is.program) rows (row ∷ [])) ∙ ap (λ (es : List Event). events order b ++ es) (map-append event.Row rows (row ∷ [])) ∙ sym (append_assoc (events order b) (map event.Row rows) (event.Row row ∷ [])))
     (one, ap (λ (w : List ℕ). events order (b ++ w)) front_is ∙ events_more order h t b front is (omega (arith, le.0, length-append front (last ∷ []))) front rows before)
-    now.sound (counts_within order new (b ++ u) now.counts)
+    now.sound (counts_within order new.bytes (b ++ u) now.counts)
 
-pub feeds_nothing : (order : Order) (h : HeaderData) (t new : Tail) (b piece : List ℕ) (rows : List Row) (fed : Fed) (is : InProgram order h t b) → NothingGiven order h is.program (take t.left piece) rows new.program
-    → fed.used ≡ length (take t.left piece) → fed.event ≡ paused new.taken new.left fed.used (length piece)
-    → new.taken ≡ min (t.taken + length (take t.left piece)) (2 ^ 64 - 1) → new.left ≡ t.left - length (take t.left piece)
-    → (new.left ≡ 0 → (operations_in order h.params (is.program ++ take t.left piece)).rest ≡ []) → FeedsBehind (InProgram order h) order (events order b ++ map event.Row rows) b piece fed new
+pub feeds_nothing : (order : Order) (h : HeaderData) (t new : UnitBody) (b piece : List ℕ) (rows : List Row) (fed : Fed) (is : InProgram order h t b) → NothingGiven order h is.program (take t.bytes.left piece) rows new.program
+    → fed.used ≡ length (take t.bytes.left piece) → fed.event ≡ paused new.bytes.taken new.bytes.left fed.used (length piece)
+    → new.bytes.taken ≡ min (t.bytes.taken + length (take t.bytes.left piece)) (2 ^ 64 - 1) → new.bytes.left ≡ t.bytes.left - length (take t.bytes.left piece)
+    → (new.bytes.left ≡ 0 → (operations_in order h.params (is.program ++ take t.bytes.left piece)).rest ≡ []) → FeedsBehind (InProgram order h) order (events order b ++ map event.Row rows) b piece fed new
 feeds_nothing order h t new b piece rows fed is (stands, grown, unrefused) size answer taken left between =
-    let u = take t.left piece in
-    let le : length u ≤ t.left = (let l = length-take t.left piece in omega (arith, l)) in
+    let u = take t.bytes.left piece in
+    let le : length u ≤ t.bytes.left = (let l = length-take t.bytes.left piece in omega (arith, l)) in
     let now : InProgram order h new (b ++ u) =
     program_on order h t b u is le new stands unrefused (λ full. between (omega (arith, left, full, is.counts.taken, length-append b u))) taken left in
-    pauses_behind (InProgram order h) order (events order b ++ map event.Row rows) b piece t.left new new fed size answer (left ∙ ap (λ (n : ℕ). t.left - n) (sym size)) (some_bytes order h new (b ++ u) now) now.counts now
+    pauses_behind (InProgram order h) order (events order b ++ map event.Row rows) b piece t.bytes.left new.bytes new fed size answer (left ∙ ap (λ (n : ℕ). t.bytes.left - n) (sym size)) (some_bytes order h new (b ++ u) now) now.counts now
     (events_more order h t b u is le u rows grown) now.sound
     (λ none. (unit_unless_refused order (b ++ u) (now.counts.left ∙ ap (λ (n : ℕ). Some n) (omega (arith, none, now.counts.taken)))).1 now.sound)
 
@@ -260,7 +261,7 @@ abbrev fault_of : ℕ → FaultKind → Fault
 fault_of at kind = record { offset = at; kind = kind }
 
 -- a fault, u being what is taken of the piece
-fails_with : (order : Order) (before : List Event) (b piece u : List ℕ) (used : ℕ) (new : Tail) (answer made : Fault) → take used piece ≡ u → used ≤ length piece → answer ≡ made → Refused order (b ++ u) made.offset made.kind
+fails_with : (order : Order) (before : List Event) (b piece u : List ℕ) (used : ℕ) (new : UnitBody) (answer made : Fault) → take used piece ≡ u → used ≤ length piece → answer ≡ made → Refused order (b ++ u) made.offset made.kind
     → events order (b ++ u) ≡ before → Stops order new (b ++ u) → (n : ℕ) × FailsBehind order before b piece answer n × Stops order new (b ++ take n piece)
 fails_with order before b piece u used new answer made same le is refused events_are stops = (
   used,
@@ -274,38 +275,38 @@ fails_with order before b piece u used new answer made same le is refused events
 )
 
 -- the unit ends in an operation
-pub fails_overrun : (order : Order) (h : HeaderData) (t new : Tail) (b piece : List ℕ) (rows : List Row) (answer : Fault) (is : InProgram order h t b) → NothingGiven order h is.program (take t.left piece) rows new.program
-    → new.taken ≡ min (t.taken + length (take t.left piece)) (2 ^ 64 - 1) → new.left ≡ t.left - length (take t.left piece) → new.left ≡ 0
-    → ((operations_in order h.params (is.program ++ take t.left piece)).rest ≡ [] → ⊥) → answer ≡ record { offset = new.taken - new.program.begun; kind = fault.OpcodeOverrun }
+pub fails_overrun : (order : Order) (h : HeaderData) (t new : UnitBody) (b piece : List ℕ) (rows : List Row) (answer : Fault) (is : InProgram order h t b) → NothingGiven order h is.program (take t.bytes.left piece) rows new.program
+    → new.bytes.taken ≡ min (t.bytes.taken + length (take t.bytes.left piece)) (2 ^ 64 - 1) → new.bytes.left ≡ t.bytes.left - length (take t.bytes.left piece) → new.bytes.left ≡ 0
+    → ((operations_in order h.params (is.program ++ take t.bytes.left piece)).rest ≡ [] → ⊥) → answer ≡ record { offset = new.bytes.taken - new.program.begun; kind = fault.OpcodeOverrun }
     → (n : ℕ) × FailsBehind order (events order b ++ map event.Row rows) b piece answer n × Stops order new (b ++ take n piece)
 fails_overrun order h t new b piece rows answer is (stands, grown, unrefused) taken left none begun answer_is =
-    let u = take t.left piece in
-    let long = length-take t.left piece in
-    let le : length u ≤ t.left = omega (arith, long) in
-    let full : length (b ++ u) ≡ t.taken + t.left = omega (arith, left, none, le, is.counts.taken, length-append b u) in
+    let u = take t.bytes.left piece in
+    let long = length-take t.bytes.left piece in
+    let le : length u ≤ t.bytes.left = omega (arith, long) in
+    let full : length (b ++ u) ≡ t.bytes.taken + t.bytes.left = omega (arith, left, none, le, is.counts.taken, length-append b u) in
     let decides = decides_overrun order h t b u is le full begun (λ k. unrefused u [] (sym (append-nil u)) k) in
     let count = stands.count ∙ ap (λ (w : List ℕ). min (length w) (2 ^ 64 - 1)) (sym (rest-found order h.params (is.program ++ u) stands.operations stands.begun stands.found)) in
-    let counts = counts_on order t new b u is.counts le taken left in
-    let refused = refused_on order h t b u is le fault.OpcodeOverrun decides (λ front x back e k. unrefused front (x ∷ back) e k) new.taken new.program.begun taken count in
-    fails_with order (events order b ++ map event.Row rows) b piece u (length u) new answer (record { offset = new.taken - new.program.begun; kind = fault.OpcodeOverrun })
-    (take_front piece u (drop t.left piece) (length u) (sym (take-append-drop t.left piece)) refl) (omega (arith, long)) answer_is refused (events_more order h t b u is le u rows grown)
-    (record { taken = counts.taken; in_unit = counts_within order new (b ++ u) counts; in_sequence = in_sequence_is order h.params new.program (is.program ++ u) stands ∙ ap ends_open (sym (rows_on order h t b u is le u)) })
+    let counts = counts_on order t.bytes new.bytes b u is.counts le taken left in
+    let refused = refused_on order h t b u is le fault.OpcodeOverrun decides (λ front x back e k. unrefused front (x ∷ back) e k) new.bytes.taken new.program.begun taken count in
+    fails_with order (events order b ++ map event.Row rows) b piece u (length u) new answer (record { offset = new.bytes.taken - new.program.begun; kind = fault.OpcodeOverrun })
+    (take_front piece u (drop t.bytes.left piece) (length u) (sym (take-append-drop t.bytes.left piece)) refl) (omega (arith, long)) answer_is refused (events_more order h t b u is le u rows grown)
+    (record { taken = counts.taken; in_unit = counts_within order new.bytes (b ++ u) counts; in_sequence = in_sequence_is order h.params new.program (is.program ++ u) stands ∙ ap ends_open (sym (rows_on order h t b u is le u)) })
 
-pub fails_bad : (order : Order) (h : HeaderData) (t new : Tail) (b piece behind : List ℕ) (rows : List Row) (kind : FaultKind) (answer : Fault) (used : ℕ) (is : InProgram order h t b)
-    → BadGiven order h is.program (take t.left piece) rows kind behind new.program → used ≡ length (take t.left piece) - length behind
-    → new.taken ≡ min (t.taken + used) (2 ^ 64 - 1) → new.left ≡ t.left - used → answer ≡ record { offset = new.taken - new.program.begun; kind = kind }
+pub fails_bad : (order : Order) (h : HeaderData) (t new : UnitBody) (b piece behind : List ℕ) (rows : List Row) (kind : FaultKind) (answer : Fault) (used : ℕ) (is : InProgram order h t b)
+    → BadGiven order h is.program (take t.bytes.left piece) rows kind behind new.program → used ≡ length (take t.bytes.left piece) - length behind
+    → new.bytes.taken ≡ min (t.bytes.taken + used) (2 ^ 64 - 1) → new.bytes.left ≡ t.bytes.left - used → answer ≡ record { offset = new.bytes.taken - new.program.begun; kind = kind }
     → (n : ℕ) × FailsBehind order (events order b ++ map event.Row rows) b piece answer n × Stops order new (b ++ take n piece)
 fails_bad order h t new b piece behind rows kind answer used is (front, last, e, grown, unrefused, spelt, count, open_is) size taken left answer_is =
     let u = front ++ last ∷ [] in
-    let le = taken_le piece u behind t.left e in
+    let le = taken_le piece u behind t.bytes.left e in
     let exact : used ≡ length u = omega (arith, size, ap length e, length-append u behind) in
-    let counted = taken ∙ ap (λ (n : ℕ). min (t.taken + n) (2 ^ 64 - 1)) exact in
-    let counts = counts_on order t new b u is.counts le.0 counted (left ∙ ap (λ (n : ℕ). t.left - n) exact) in
+    let counted = taken ∙ ap (λ (n : ℕ). min (t.bytes.taken + n) (2 ^ 64 - 1)) exact in
+    let counts = counts_on order t.bytes new.bytes b u is.counts le.0 counted (left ∙ ap (λ (n : ℕ). t.bytes.left - n) exact) in
     let refused =
-    refused_on order h t b u is le.0 kind (decides_bad order h t b u is le.0 kind spelt) (λ f x back k. (let z = front_before front f last x back k in unrefused f z.0 z.1)) new.taken new.program.begun counted count in
-    fails_with order (events order b ++ map event.Row rows) b piece u used new answer (record { offset = new.taken - new.program.begun; kind = kind })
-    (take_front piece u (behind ++ drop t.left piece) used (piece_is piece u behind t.left e) exact) (omega (arith, exact, le.1)) answer_is refused (events_more order h t b u is le.0 u rows grown)
-    (record { taken = counts.taken; in_unit = counts_within order new (b ++ u) counts; in_sequence = open_is ∙ ap ends_open (sym (rows_on order h t b u is le.0 u)) })
+    refused_on order h t b u is le.0 kind (decides_bad order h t b u is le.0 kind spelt) (λ f x back k. (let z = front_before front f last x back k in unrefused f z.0 z.1)) new.bytes.taken new.program.begun counted count in
+    fails_with order (events order b ++ map event.Row rows) b piece u used new answer (record { offset = new.bytes.taken - new.program.begun; kind = kind })
+    (take_front piece u (behind ++ drop t.bytes.left piece) used (piece_is piece u behind t.bytes.left e) exact) (omega (arith, exact, le.1)) answer_is refused (events_more order h t b u is le.0 u rows grown)
+    (record { taken = counts.taken; in_unit = counts_within order new.bytes (b ++ u) counts; in_sequence = open_is ∙ ap ends_open (sym (rows_on order h t b u is le.0 u)) })
 
 -- behind a pause a sink goes on
 pub sink_paused : {S : Type 0} (story : Story S) (s : S) (rows : List Row) (e : Event) → IsPause e → story.hears s rows → SinkAt story s rows e

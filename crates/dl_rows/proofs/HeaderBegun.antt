@@ -1,0 +1,67 @@
+-- What a reader of a header has taken, where it is known that it has taken something.
+use Rattle.std.proofs.Common.{◌≡◌, ◌++◌, ◌≤◌, ℕ, List, length, take, Option, None, sym, subst, ◌∙◌, arith}
+use Rattle.std.proofs.Props.{props}
+use Rattle.std.proofs.Math.Logic.{∥∥₁_elim, ∥∥₁_prop}
+use Rattle.dl_num.specs.declared.fixed.Order.{Order}
+use Rattle.dl_head.specs.declared.reader.HeadReader.{HeadReader}
+use Rattle.dl_head.specs.declared.reader.HeadStep.{HeadStep}
+use Rattle.dl_head.specs.declared.reader.HeadStep.TheVariants as answer
+use Rattle.dl_head.specs.TableData.{HeaderData}
+use Rattle.dl_head.specs.Header.{unit_len}
+use Rattle.dl_head.specs.Reading.{Answers, Gives}
+use Rattle.dl_head.specs.Runs.{so_far, Offered}
+use Rattle.dl_head.specs.Standing.{StandsFor as HeadStands}
+use Rattle.dl_head.proofs.FieldLemmas.{none_some}
+use Rattle.dl_rows.specs.declared.reader.State.{State}
+use Rattle.dl_rows.specs.declared.reader.State.TheVariants as state
+use Rattle.dl_rows.specs.ReaderStates.{GoesOn, IsBegun, KnowsLength, HasHeader}
+use Rattle.dl_rows.proofs.UnitKnown.{foreign_known, header_known}
+
+-- a header that is begun
+pub begun_in : (s : State) (head : HeadReader) → s ≡ state.InHeader head → ∥ IsBegun s ∥₁ → ∥ GoesOn head ∥₁
+begun_in s head is begun = subst (λ (x : State). ∥ IsBegun x ∥₁) is begun
+
+-- how many bytes were taken
+pub taken_is : (head : HeadReader) (n : ℕ) → ∥ GoesOn head ∥₁ → ((b : List ℕ) → HeadStands head b → n ≡ length b) → n ≡ head.taken
+taken_is head n begun counts = ∥∥₁_elim begun (hlevel props) (λ g. counts g.0 g.1 ∙ sym g.1.taken)
+
+-- a reader that knows how long the unit is answers that
+pub length_known : (head : HeadReader) (o : Option ℕ) → ∥ KnowsLength head ∥₁ → ((b : List ℕ) → HeadStands head b → o ≡ unit_len head.order b) → o ≡ None → ⊥
+length_known head o known tells none = ∥∥₁_elim known (hlevel props) (λ k. none_some none (tells k.0 k.1 ∙ k.2.1))
+
+-- and has taken no more
+pub taken_within : (head : HeadReader) (taken len : ℕ) → ∥ KnowsLength head ∥₁ → ((b : List ℕ) → HeadStands head b → taken ≡ length b) → ((b : List ℕ) → HeadStands head b → length b ≤ len) → taken ≤ len
+taken_within head taken len known counts within = ∥∥₁_elim known (hlevel props) (λ k. (let w = within k.0 k.1 in omega (arith, w, counts k.0 k.1)))
+
+-- a reader that has taken a header does so
+pub header_knows : (head : HeadReader) → ∥ HasHeader head ∥₁ → ∥ KnowsLength head ∥₁
+header_knows head has = ∥∥₁_elim has ∥∥₁_prop (λ k. ∣ (k.0, k.1, header_known head.order k.2.0 k.0 k.2.1) ∣₁)
+
+-- and gives it
+pub header_given : (head : HeadReader) (o : Option HeaderData) → ∥ HasHeader head ∥₁ → Gives head.order head o → o ≡ None → ⊥
+header_given head o has gives none =
+    ∥∥₁_elim has (hlevel props) (λ k. (let n : Gives head.order head None = subst (λ (p : Option HeaderData). Gives head.order head p) none gives in n k.0 k.1 k.2.0 k.2.1))
+
+-- a piece was offered to the reader of a header
+module _ (old new : HeadReader) (piece : List ℕ) (used : ℕ) (step : HeadStep) (begun : ∥ GoesOn old ∥₁)
+    (offered : (b : List ℕ) → HeadStands old b → Answers old.order b answer.More → Offered old.order b piece used step new) (same : new.order ≡ old.order) where
+  answers : (s : HeadStep) → step ≡ s → (b : List ℕ) → Offered old.order b piece used step new → Answers new.order (b ++ take used piece) (so_far s)
+  answers s is b o =
+      subst (λ (order : Order). Answers order (b ++ take used piece) (so_far s)) (sym same) (subst (λ (t : HeadStep). Answers old.order (b ++ take used piece) (so_far t)) is o.answered.took.answers)
+
+  -- the header still goes on
+  pub goes_more : step ≡ answer.More → ∥ GoesOn new ∥₁
+  goes_more is = ∥∥₁_elim begun ∥∥₁_prop (λ g. (let o = offered g.0 g.1 g.2 in ∣ (g.0 ++ take used piece, o.stands, answers answer.More is g.0 o) ∣₁))
+
+  pub goes_refused : step ≡ answer.NoMemory → ∥ GoesOn new ∥₁
+  goes_refused is = ∥∥₁_elim begun ∥∥₁_prop (λ g. (let o = offered g.0 g.1 g.2 in ∣ (g.0 ++ take used piece, o.stands, answers answer.NoMemory is g.0 o) ∣₁))
+
+  -- a foreign version is complete
+  pub knows_foreign : (version : ℕ) → step ≡ answer.Foreign version → ∥ KnowsLength new ∥₁
+  knows_foreign version is = ∥∥₁_elim begun ∥∥₁_prop (λ g.
+      (let o = offered g.0 g.1 g.2 in
+      ∣ (g.0 ++ take used piece, o.stands, foreign_known new.order (g.0 ++ take used piece) version (answers (answer.Foreign version) is g.0 o)) ∣₁))
+
+  -- the header is complete
+  pub has_header : step ≡ answer.Done → ∥ HasHeader new ∥₁
+  has_header is = ∥∥₁_elim begun ∥∥₁_prop (λ g. (let o = offered g.0 g.1 g.2 in ∣ (g.0 ++ take used piece, o.stands, answers answer.Done is g.0 o) ∣₁))

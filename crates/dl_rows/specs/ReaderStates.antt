@@ -1,0 +1,69 @@
+-- What the states of a reader of a unit stand for. No promise rests on this file.
+use Rattle.std.specs.Prelude.{◌≡◌, ◌-◌, ◌^◌, ℕ, Bool, true, false, List, ◌++◌, length, min, Some, None}
+use Rattle.dl_num.specs.declared.fixed.Order.{Order}
+use Rattle.dl_num.specs.Laws.{AllBytes}
+use Rattle.dl_head.specs.declared.fault.FaultKind.{FaultKind}
+use Rattle.dl_head.specs.declared.reader.HeadReader.{HeadReader}
+use Rattle.dl_head.specs.declared.reader.HeadStep.TheVariants as answer
+use Rattle.dl_head.specs.Cells.{cells}
+use Rattle.dl_head.specs.TableData.{HeaderData}
+use Rattle.dl_head.specs.Header.{IsHeader, header_in, unit_len}
+use Rattle.dl_head.specs.Reading.{Answers}
+use Rattle.dl_head.specs.Standing.{StandsFor as HeadStands}
+use Rattle.dl_rows.specs.declared.reader.HeaderStop.{HeaderStop}
+use Rattle.dl_rows.specs.declared.reader.State.{State}
+use Rattle.dl_rows.specs.declared.reader.State.TheVariants as state
+use Rattle.dl_rows.specs.Reading.{WithinUnit}
+use Rattle.dl_rows.specs.Refusal.{Refused}
+use Rattle.dl_rows.specs.UnitBodies.{InForeign, BodyStands, taken_in_body}
+
+-- the header isn't complete, and no foreign version is
+pub record InHeader (order : Order) (head : HeadReader) (b : List ℕ) : Type 0 where
+  pub same_order : head.order ≡ order
+  pub stands : HeadStands head b
+  pub more : Answers order b answer.More
+  pub bytes : AllBytes b
+  pub incomplete : header_in order b ≡ None
+  pub sound : (front back : List ℕ) (at : ℕ) (kind : FaultKind) → b ≡ front ++ back → Refused order front at kind → ⊥
+
+-- a fault was answered in the header, at the last byte of b
+pub record StoppedInHeader (order : Order) (stop : HeaderStop) (b : List ℕ) : Type 0 where
+  pub refused : Refused order b stop.fault.offset stop.fault.kind
+  pub taken : stop.taken ≡ length b
+  pub in_unit : WithinUnit order b
+  pub incomplete : header_in order b ≡ None
+  pub cells : stop.cells ≡ min (cells order b) (2 ^ 64 - 1)
+
+-- in this state a reader has taken the bytes b
+abbrev pub StandsAt : Order → State → List ℕ → Type 0
+StandsAt order (state.InHeader head) b = InHeader order head b
+StandsAt order (state.StoppedInHeader stop) b = StoppedInHeader order stop b
+StandsAt order (state.Foreign bytes) b = (version : ℕ) × InForeign order version bytes b
+StandsAt order (state.AfterHeader h body) b = BodyStands order h body b
+
+-- how many bytes were taken
+abbrev pub taken_in : State → ℕ
+taken_in (state.InHeader head) = head.taken
+taken_in (state.StoppedInHeader stop) = stop.taken
+taken_in (state.Foreign bytes) = bytes.taken
+taken_in (state.AfterHeader h body) = taken_in_body body
+
+abbrev pub is_in_header : State → Bool
+is_in_header (state.InHeader head) = true
+is_in_header other = false
+
+-- a reader of the header has taken some bytes, behind which the header goes on
+abbrev pub GoesOn : HeadReader → Type 0
+GoesOn head = (b : List ℕ) × HeadStands head b × Answers head.order b answer.More
+
+abbrev pub IsBegun : State → Type 0
+IsBegun (state.InHeader head) = GoesOn head
+IsBegun other = Unit {0}
+
+-- it has taken bytes that say how long the unit is
+abbrev pub KnowsLength : HeadReader → Type 0
+KnowsLength head = (b : List ℕ) × HeadStands head b × ((n : ℕ) × (unit_len head.order b ≡ Some n))
+
+-- it has taken a header
+abbrev pub HasHeader : HeadReader → Type 0
+HasHeader head = (b : List ℕ) × HeadStands head b × ((h : HeaderData) × IsHeader head.order h b)

@@ -1,0 +1,238 @@
+//! A unit after its header, or after a version that isn't 5. Section 6.2.4.
+
+ghost use Rattle.std.specs.Prelude.{◌≡◌, ◌≢◌, ◌≤◌, ◌+◌, ◌-◌, ◌^◌, ◌⊎◌, ℕ, List, Ok, Err, length, min, take, IfOk};
+ghost use Rattle.dl_head.specs.Built.{IsUsable};
+ghost use Rattle.dl_head.specs.TableData.{HeaderData};
+ghost use Rattle.dl_rows.specs.Reading.{IsPause};
+
+use crate::program::{Given, Program};
+use crate::reader::{Event, Fed, Finish};
+use crate::sink::RowSink;
+use dl_head::{Fault, FaultKind, Params};
+use dl_num::Order;
+
+/// How many bytes of a unit were taken, and how many are left.
+#[derive(Clone, Copy)]
+pub struct UnitBytes {
+    pub taken: u64,
+    pub left: u64,
+}
+
+/// The part of a unit that follows its header.
+#[derive(Clone, Copy)]
+pub struct UnitBody {
+    pub program: Program,
+    pub bytes: UnitBytes,
+}
+
+/// The fault that stopped a reader after the header, and what is still asked of it.
+#[derive(Clone, Copy)]
+pub struct BodyStop {
+    pub fault: Fault,
+    /// How many bytes of the unit were taken.
+    pub taken: u64,
+    pub in_sequence: bool,
+}
+
+/// Where a reader is after the header.
+#[derive(Clone, Copy)]
+pub enum BodyState {
+    InProgram(UnitBody),
+    Stopped(BodyStop),
+}
+
+impl UnitBytes {
+    ghost use Rattle.dl_rows.specs.Reading.{Feeds};
+    ghost use Rattle.dl_rows.specs.UnitBodies.{InForeign, paused};
+    ghost use Rattle.dl_rows.specs.declared.reader.Finish.TheVariants as finish;
+    ghost use Rattle.dl_head.specs.declared.fault.FaultKind.TheVariants as kind;
+
+    /// Takes bytes of a unit of another version.
+    pub fn pass_over(&mut self, piece: &[u8]) -> Fed
+        ensures used { result.used ≤ length piece.now }
+        ensures pause { IsPause result.event }
+        ensures end { result.event ≡ Event.End → 1 ≤ self.old.taken + result.used }
+        ensures fed { (order : Order) (version : ℕ) (b : List ℕ) → InForeign order version self.old b
+            → Feeds (InForeign order version) order b piece.now result self.new }
+    {
+        let used = front(piece, self.left).len();
+        self.count(used);
+        self.pause(used, piece)
+    }
+
+    /// How a unit stands of which these bytes were taken, where no more come.
+    pub fn finish(&self) -> Result<Finish, Fault>
+        ensures whole { self.now.left ≡ 0 → result ≡ Ok finish.Whole }
+        ensures truncated { self.now.left ≢ 0 → result ≡ Err (record { offset = self.now.taken; kind = kind.Truncated }) }
+    {
+        if self.left == 0 {
+            return Ok(Finish::Whole);
+        }
+        Err(Fault {
+            offset: self.taken,
+            kind: FaultKind::Truncated,
+        })
+    }
+
+    /// What is told where a piece gave nothing.
+    fn pause(&self, used: usize, piece: &[u8]) -> Fed
+        requires { used ≤ length piece.now }
+        ensures used { result.used ≡ used }
+        ensures event { result.event ≡ paused self.now.taken self.now.left used (length piece.now) }
+        ensures pause { IsPause result.event }
+        ensures end { result.event ≡ Event.End → 1 ≤ self.now.taken }
+    {
+        let is_whole = self.taken > 0 && self.left == 0;
+        let ends = is_whole && (used == 0 || used < piece.len());
+        let event = if ends { Event::End } else { Event::More };
+        Fed { used, event }
+    }
+
+    fn count(&mut self, used: usize)
+        ensures taken { self.new.taken ≡ min (self.old.taken + used) (2 ^ 64 - 1) }
+        ensures left { self.new.left ≡ self.old.left - used }
+    {
+        self.taken = self.taken.saturating_add(used as u64);
+        self.left = self.left.saturating_sub(used as u64);
+    }
+}
+
+impl UnitBody {
+    ghost use Rattle.dl_rows.specs.declared.row.Row.{Row};
+    ghost use Rattle.dl_rows.specs.UnitBodies.{InProgram, ProgramTells};
+
+    /// Takes bytes of the program up to the next event.
+    pub fn feed<S: RowSink>(
+        &mut self,
+        order: Order,
+        params: &Params,
+        piece: &[u8],
+        sink: &mut S,
+    ) -> Result<Fed, Fault>
+        requires { IsUsable params.now }
+        ensures used { IfOk result (λ fed. fed.used ≤ length piece.now) }
+        ensures progress { IfOk result (λ fed. IsPause fed.event ⊎ (1 ≤ fed.used)) }
+        ensures end { IfOk result (λ fed. fed.event ≡ Event.End → 1 ≤ self.old.bytes.taken + fed.used) }
+        ensures fed { (h : HeaderData) (b : List ℕ) (before : List Row) (first : S) → h.params ≡ params.now → InProgram order h self.old b
+            → (S.story first).hears sink.old before → ProgramTells (S.story first) order h b piece.now before result self.new sink.new }
+    {
+        let bytes = front(piece, self.bytes.left);
+        match self.program.push(order, params, bytes, sink) {
+            Given::Row(row, behind) => {
+                let used = bytes.len() - behind.len();
+                self.bytes.count(used);
+                Ok(Fed {
+                    used,
+                    event: Event::Row(row),
+                })
+            }
+            Given::Nothing => {
+                self.bytes.count(bytes.len());
+                if self.bytes.left == 0 && !self.program.is_between() {
+                    return Err(self.fault(FaultKind::OpcodeOverrun));
+                }
+                Ok(self.bytes.pause(bytes.len(), piece))
+            }
+            Given::Refuses(kind, behind) => {
+                self.bytes.count(bytes.len() - behind.len());
+                Err(self.fault(kind))
+            }
+        }
+    }
+
+    /// What is kept behind this fault.
+    fn stop(&self, fault: Fault) -> BodyStop
+        ensures { result ≡ record { fault = fault; taken = self.now.bytes.taken; in_sequence = self.now.program.in_sequence } }
+    {
+        BodyStop {
+            fault,
+            taken: self.bytes.taken,
+            in_sequence: self.program.in_sequence(),
+        }
+    }
+
+    /// A fault of the operation at hand.
+    fn fault(&self, kind: FaultKind) -> Fault
+        ensures { result ≡ record { offset = self.now.bytes.taken - self.now.program.begun; kind = kind } }
+    {
+        Fault {
+            offset: self.bytes.taken.saturating_sub(self.program.begun()),
+            kind,
+        }
+    }
+}
+
+impl BodyState {
+    ghost use Rattle.dl_rows.specs.declared.row.Row.{Row};
+    ghost use Rattle.dl_rows.specs.LineUnit.{ends_open, unit_rows};
+    ghost use Rattle.dl_rows.specs.Reading.{FinishIs};
+    ghost use Rattle.dl_rows.specs.UnitBodies.{BodyStands, BodyTells, taken_in_body};
+
+    /// Takes bytes up to the next event. After a fault it answers the fault again.
+    pub fn feed<S: RowSink>(
+        &mut self,
+        order: Order,
+        params: &Params,
+        piece: &[u8],
+        sink: &mut S,
+    ) -> Result<Fed, Fault>
+        requires { IsUsable params.now }
+        ensures used { IfOk result (λ fed. fed.used ≤ length piece.now) }
+        ensures progress { IfOk result (λ fed. IsPause fed.event ⊎ (1 ≤ fed.used)) }
+        ensures end { IfOk result (λ fed. fed.event ≡ Event.End → 1 ≤ taken_in_body self.old + fed.used) }
+        ensures fed { (h : HeaderData) (b : List ℕ) (before : List Row) (first : S) → h.params ≡ params.now → BodyStands order h self.old b
+            → (S.story first).hears sink.old before → BodyTells (S.story first) order h b piece.now before result self.new sink.new }
+    {
+        match self {
+            BodyState::InProgram(body) => {
+                let fed = body.feed(order, params, piece, sink);
+                if let Err(fault) = fed {
+                    *self = BodyState::Stopped(body.stop(fault));
+                }
+                fed
+            }
+            BodyState::Stopped(stop) => Err(stop.fault),
+        }
+    }
+
+    /// How many bytes of the unit were taken.
+    pub fn taken(&self) -> u64
+        ensures { result ≡ taken_in_body self.now }
+    {
+        match self {
+            BodyState::InProgram(body) => body.bytes.taken,
+            BodyState::Stopped(stop) => stop.taken,
+        }
+    }
+
+    /// Whether there was a row, and the last one isn't an end row.
+    pub fn in_sequence(&self) -> bool
+        ensures { (order : Order) (h : HeaderData) (b : List ℕ) → BodyStands order h self.now b → result ≡ ends_open (unit_rows order b) }
+    {
+        match self {
+            BodyState::InProgram(body) => body.program.in_sequence(),
+            BodyState::Stopped(stop) => stop.in_sequence,
+        }
+    }
+
+    /// How the unit stands where no more bytes come.
+    pub fn finish(&self) -> Result<Finish, Fault>
+        ensures { (order : Order) (h : HeaderData) (b : List ℕ) → BodyStands order h self.now b → FinishIs order b result }
+    {
+        match self {
+            BodyState::InProgram(body) => body.bytes.finish(),
+            BodyState::Stopped(stop) => Err(stop.fault),
+        }
+    }
+}
+
+/// The first bytes of the piece, so many at the most.
+fn front<'a>(piece: &'a [u8], most: u64) -> &'a [u8]
+    ensures { result.now ≡ take most piece.entry.now }
+{
+    if most < piece.len() as u64 {
+        &piece[..most as usize]
+    } else {
+        piece
+    }
+}
