@@ -1,6 +1,7 @@
 pub mod Asked
 pub mod Paths
 pub mod Parts
+pub mod Json
 pub mod Shown
 pub mod Code
 pub mod Locations
