@@ -12,6 +12,6 @@ pub mod Locating
 pub mod Answers
 pub mod Printing
 pub mod Knowing
-pub mod Line
 pub mod AskedLines
+pub mod Line
 pub mod LinesRead
