@@ -11,6 +11,7 @@ complete -c dwline -n "not __fish_seen_subcommand_from $commands" -s V -l versio
 complete -c dwline -s h -l help -d "Print help"
 complete -c dwline -n "__fish_seen_subcommand_from addr" -s a -l addresses -d "Print each address before its location"
 complete -c dwline -n "__fish_seen_subcommand_from addr" -s s -l basenames -d "Print the last component of each path alone"
+complete -c dwline -n "__fish_seen_subcommand_from addr" -l json -d "Print a JSON object for each address, one a line"
 complete -c dwline -n "__fish_seen_subcommand_from addr" -l hex -d "Read digits without 0x as hexadecimal too"
 complete -c dwline -n "__fish_seen_subcommand_from addr" -l base -x -d "Load address, which is subtracted from each address first"
 complete -c dwline -n "__fish_seen_subcommand_from addr" -l all -d "Look into sequences too that begin outside executable sections"

@@ -29,7 +29,7 @@ use Rattle.dl_addr.specs.Code.{is_code}
 use Rattle.dl_addr.specs.Commands.{Ends, Locates, answer_in, answer_lines, found_in}
 use Rattle.dl_addr.specs.Knowing.{Knows}
 use Rattle.dl_addr.specs.Locating.{IsMadeFor, Locating, StopsAt, code_of, locate_story, located_by}
-use Rattle.dl_addr.specs.Locations.{Located, address_text, located, location_text, row_text}
+use Rattle.dl_addr.specs.Locations.{Located, answer_text, asked_text, located, row_text}
 use Rattle.dl_addr.specs.Paths.{path_of}
 use Rattle.dl_addr.specs.Printing.{PrintsAll, answer_for, found_by, seen_lines, seen_text, told}
 use Rattle.dl_addr.specs.Shown.{path_text}
@@ -61,11 +61,11 @@ module _ (order : Order) (q : Question) (s : Strings) (first : Locator) (knows :
   pub live_is : (x : Place) (visits : List Visit) (units : List (List ℕ)) → ((l : ℕ → Bool) → Rattle.dl_addr.specs.Locating.located_after l x [] first.unit visits ≡ located order l units x) → located_by first x visits ≡ located order live units x
   live_is x visits units is = is (code_of first) ∙ ap (λ code. located order (is_code (option_copied code)) units x) knows.code
 
-  text_seen : (o : Option Located) → seen_text (option_map (located_seen first) o) ≡ location_text q.style s o
+  text_seen : (o : Option Located) → seen_text q.style.form (option_map (located_seen first) o) ≡ answer_text q.style s o
   text_seen None = refl
   text_seen (Some l) =
-      ap (λ (st : Style). row_text (path_text st (path_of (strings_of first.strings) l.header l.row.file)) l.row) knows.style
-      ∙ ap (λ (ss : Strings). row_text (path_text q.style (path_of ss l.header l.row.file)) l.row) knows.strings
+      ap (λ (st : Style). row_text q.style.form (path_text st (path_of (strings_of first.strings) l.header l.row.file)) l.row l.unit) knows.style
+      ∙ ap (λ (ss : Strings). row_text q.style.form (path_text q.style (path_of ss l.header l.row.file)) l.row l.unit) knows.strings
 
   module _ (visits : List Visit) (units : List (List ℕ)) (is : (x : Place) → located_by first x visits ≡ located order live units x) where
     place_same : (o : Option Place) → option_and_then (λ x. located_by first x visits) o ≡ option_and_then (located order live units) o
@@ -77,7 +77,7 @@ module _ (order : Order) (q : Question) (s : Strings) (first : Locator) (knows :
 
     pub lines_same : seen_lines q.style (answer_for first visits q.base) q.asked.now ≡ answer_lines order s q units
     lines_same =
-        flat_same _ _ (λ (a : Asked). ap (λ (t : List ℕ). (address_text q.style a ++ t) ++ 10 ∷ []) (ap seen_text (answer_same a) ∙ text_seen (answer_in order q units a))) q.asked.now
+        flat_same _ _ (λ (a : Asked). ap (λ (t : List ℕ). (asked_text q.style.form a ++ t) ++ 10 ∷ []) (ap (seen_text q.style.form) (answer_same a) ∙ text_seen (answer_in order q units a))) q.asked.now
 
     some_same : (o : Option Located) → is_some (option_map (located_seen first) o) ≡ is_some o
     some_same None = refl

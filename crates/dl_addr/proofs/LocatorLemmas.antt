@@ -25,7 +25,7 @@ use Rattle.dl_cmd.proofs.VisitLemmas.{rows_after-append}
 use Rattle.dl_cmd.proofs.Fronts.{map_none, or_none}
 use Rattle.dl_addr.specs.declared.locating.Locator.{Locator}
 use Rattle.dl_addr.specs.declared.texts.FileText.{FileText}
-use Rattle.dl_addr.specs.Answers.{located_seen}
+use Rattle.dl_addr.specs.Answers.{SeenRow, located_seen}
 use Rattle.dl_addr.specs.Keeping.{Keeps, text_under}
 use Rattle.dl_addr.specs.Locating.{IsMadeFor, Locating, LooksFor, code_of, ended_rows, locate_story, located_after, located_by, located_under, text_of_located}
 use Rattle.dl_addr.specs.Locations.{Located}
@@ -233,13 +233,13 @@ pub settles : (first now : Locator) (start held : Option (List ℕ)) (visits : L
 settles first now start held visits next.Unit s = (s, s.nothing)
 settles first now start held visits next.Nothing s = absurd s
 
-abbrev row_with : Row → List ℕ → Option (Row × List ℕ)
+abbrev row_with : Row → List ℕ × ℕ → Option SeenRow
 row_with r text = Some (r, text)
 
 -- what a place is answered
 module _ (first now : Locator) (start held : Option (List ℕ)) (visits : List Visit) (places : List Place) (s : Locating first now start held visits) (made : IsMadeFor first places)
     (n : ℕ) (answered : Option Row) (given : answered ≡ option_and_then (answer_of_units (ended_rows (code_of first) [] visits)) (slice_get places n)) where
-  abbrev Seen : Option (Row × List ℕ) → Type 0
+  abbrev Seen : Option SeenRow → Type 0
   Seen o = o ≡ option_map (located_seen first) (option_and_then (λ x. located_by first x visits) (slice_get places n))
 
   row_is : (x : Place) → slice_get places n ≡ Some x → answered ≡ option_map (λ (l : Located). l.row) (located_by first x visits)
@@ -257,14 +257,14 @@ module _ (first now : Locator) (start held : Option (List ℕ)) (visits : List V
     by (Some x) at = sym (seen_is x None at (map_none (λ (l : Located). l.row) (located_by first x visits) (sym (row_is x at) ∙ none)))
 
   text_is : (row : Row) (d : Located) (t : List ℕ × ℕ) (file : Option FileText) → row ≡ d.row → t ≡ text_of_located first d → option_map {U = List ℕ × ℕ} (λ (f : FileText). (f.text.items, f.unit)) file ≡ Some t
-      → option_map {U = Row × List ℕ} (λ (f : FileText). (row, f.text.items)) file ≡ Some (located_seen first d)
+      → option_map {U = SeenRow} (λ (f : FileText). (row, (f.text.items, f.unit))) file ≡ Some (located_seen first d)
   text_is row d t None e e' is = absurd (none_is_some is)
-  text_is row d t (Some f) e e' is = ap₂ (λ (r : Row) (u : List ℕ × ℕ). row_with r u.0) e (some_same (f.text.items, f.unit) t is ∙ e')
+  text_is row d t (Some f) e e' is = ap₂ (λ (r : Row) (u : List ℕ × ℕ). row_with r u) e (some_same (f.text.items, f.unit) t is ∙ e')
 
   pub something_seen : (row : Row) (file : Option FileText) → answered ≡ Some row → file ≡ option_and_then (slice_get now.texts.items) (slice_get now.kept.items n)
-      → Seen (option_map (λ (f : FileText). (row, f.text.items)) file)
+      → Seen (option_map (λ (f : FileText). (row, (f.text.items, f.unit))) file)
   something_seen row file some is = by (slice_get places n) refl where
-    at_located : (x : Place) → slice_get places n ≡ Some x → (o : Option Located) → located_by first x visits ≡ o → Seen (option_map (λ (f : FileText). (row, f.text.items)) file)
+    at_located : (x : Place) → slice_get places n ≡ Some x → (o : Option Located) → located_by first x visits ≡ o → Seen (option_map (λ (f : FileText). (row, (f.text.items, f.unit))) file)
     at_located x at None none = absurd (none_is_some (sym (row_is x at ∙ ap (option_map (λ (l : Located). l.row)) none) ∙ some))
     at_located x at (Some d) found =
         let k = (s.looks places made).kept n x d at found in
@@ -272,6 +272,6 @@ module _ (first now : Locator) (start held : Option (List ℕ)) (visits : List V
         let here : file ≡ slice_get now.texts.items k.number = is ∙ ap (option_and_then (slice_get now.texts.items)) k.entry in
         text_is row d (text_of_located first d) file own refl (ap (option_map (λ (f : FileText). (f.text.items, f.unit))) here ∙ k.is) ∙ sym (seen_is x (Some d) at found)
 
-    by : (o : Option Place) → slice_get places n ≡ o → Seen (option_map (λ (f : FileText). (row, f.text.items)) file)
+    by : (o : Option Place) → slice_get places n ≡ o → Seen (option_map (λ (f : FileText). (row, (f.text.items, f.unit))) file)
     by None at = absurd (none_is_some (sym (given ∙ ap (option_and_then (answer_of_units (ended_rows (code_of first) [] visits))) at) ∙ some))
     by (Some x) at = at_located x at (located_by first x visits) refl

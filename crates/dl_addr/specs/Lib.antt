@@ -1,6 +1,7 @@
 pub mod Asked
 pub mod Paths
 pub mod Parts
+pub mod Json
 pub mod Shown
 pub mod Code
 pub mod Locations
@@ -11,6 +12,6 @@ pub mod Locating
 pub mod Answers
 pub mod Printing
 pub mod Knowing
-pub mod Line
 pub mod AskedLines
+pub mod Line
 pub mod LinesRead

@@ -1,4 +1,4 @@
--- A line that says an address: spaces and tabs (32 and 9), an address, spaces and tabs. Before its 0x0a one 0x0d is dropped.
+-- A line that says an address, byte by byte. No promise rests on this file.
 use Rattle.std.specs.Prelude.{ℕ, ◌+◌, ◌*◌, true, false, ◌||◌, ◌==◌, if◌then◌else◌, Option, Some, None, option_and_then}
 use Rattle.dl_cmd.specs.Address.{below_2_64, digit_of}
 use Rattle.dl_addr.specs.declared.asked.Asked.{Asked}

@@ -12,7 +12,10 @@ use Rattle.dl_print.specs.Text.{line}
 use Rattle.dl_print.specs.ValueText.{Strings}
 use Rattle.dl_cmd.specs.Section.{header_of}
 use Rattle.dl_addr.specs.declared.asked.Asked.{Asked}
+use Rattle.dl_addr.specs.declared.style.Form.{Form}
+use Rattle.dl_addr.specs.declared.style.Form.TheVariants.{Location, AddressAndLocation, Json}
 use Rattle.dl_addr.specs.declared.style.Style.{Style}
+use Rattle.dl_addr.specs.Json.{json_address, json_row}
 use Rattle.dl_addr.specs.Paths.{path_of}
 use Rattle.dl_addr.specs.Shown.{path_text}
 
@@ -46,20 +49,37 @@ abbrev pub column_text : ℕ → List ℕ
 column_text column = if column == 0 then [] else codes ":" ++ decimal column
 
 -- under the text of a path
-abbrev pub row_text : List ℕ → Row → List ℕ
-row_text path r = path ++ (codes ":" ++ decimal r.line) ++ column_text r.column
+abbrev pub place_text : List ℕ → Row → List ℕ
+place_text path r = path ++ (codes ":" ++ decimal r.line) ++ column_text r.column
+
+-- the row that answers, under the text of its path, and the offset of its unit
+abbrev pub row_text : Form → (path : List ℕ) → Row → (unit : ℕ) → List ℕ
+row_text Location path r unit = place_text path r
+row_text AddressAndLocation path r unit = place_text path r
+row_text Json path r unit = json_row path r unit ++ codes "}"
+
+-- where there is no answer
+abbrev pub no_row_text : Form → List ℕ
+no_row_text Location = codes "??:0"
+no_row_text AddressAndLocation = codes "??:0"
+no_row_text Json = codes "}"
 
 abbrev pub located_text : Style → Strings → Located → List ℕ
-located_text style s l = row_text (path_text style (path_of s l.header l.row.file)) l.row
+located_text style s l = row_text style.form (path_text style (path_of s l.header l.row.file)) l.row l.unit
 
-abbrev pub location_text : Style → Strings → Option Located → List ℕ
-location_text style s answer = option_map_or (located_text style s) answer (codes "??:0")
+abbrev pub answer_text : Style → Strings → Option Located → List ℕ
+answer_text style s answer = option_map_or (located_text style s) answer (no_row_text style.form)
 
 -- the address as it was given; nothing of a line that is no address
-abbrev pub address_text : Style → Asked → List ℕ
-address_text style a =
-    if style.addresses then option_map_or (λ address. codes "0x" ++ hexadecimal_of 16 address ++ codes " ") a.address [] else []
+abbrev pub address_text : Option ℕ → List ℕ
+address_text address = option_map_or (λ n. codes "0x" ++ hexadecimal_of 16 n ++ codes " ") address []
+
+-- what stands before the answer
+abbrev pub asked_text : Form → Asked → List ℕ
+asked_text Location a = []
+asked_text AddressAndLocation a = address_text a.address
+asked_text Json a = json_address a.address
 
 -- the line of what is asked, where this is its answer
 abbrev pub asked_line : Style → Strings → Asked → Option Located → List ℕ
-asked_line style s a answer = line (address_text style a ++ location_text style s answer)
+asked_line style s a answer = line (asked_text style.form a ++ answer_text style s answer)

@@ -1,9 +1,8 @@
 -- The lines of what is asked, of what is kept of their answers.
-use Rattle.std.specs.Prelude.{◌≡◌, ℕ, if◌then◌else◌, List, ◌++◌, flat_map, codes, is_some, Option, Some, None, option_map, Result, Ok, Err}
+use Rattle.std.specs.Prelude.{◌≡◌, ℕ, if◌then◌else◌, List, ◌++◌, flat_map, is_some, Option, Some, None, option_map, Result, Ok, Err}
 use Rattle.std.specs.Io.KnownBytes.{Appends}
 use Rattle.std.specs.List.{list_all}
 use Rattle.std.specs.Option.{option_and_then}
-use Rattle.dl_rows.specs.declared.row.Row.{Row}
 use Rattle.dl_print.specs.declared.fault.WriteFault.{WriteFault}
 use Rattle.dl_print.specs.Output.{TellsOut}
 use Rattle.dl_print.specs.Text.{line}
@@ -16,33 +15,33 @@ use Rattle.dl_addr.specs.declared.locating.Locator.{Locator}
 use Rattle.dl_addr.specs.declared.question.Found.{Found}
 use Rattle.dl_addr.specs.declared.question.Found.TheVariants as found
 use Rattle.dl_addr.specs.declared.question.Question.{Question}
+use Rattle.dl_addr.specs.declared.style.Form.{Form}
 use Rattle.dl_addr.specs.declared.style.Style.{Style}
-use Rattle.dl_addr.specs.Answers.{located_seen}
+use Rattle.dl_addr.specs.Answers.{SeenRow, located_seen}
 use Rattle.dl_addr.specs.Asked.{place_of}
 use Rattle.dl_addr.specs.Locating.{located_by}
-use Rattle.dl_addr.specs.Locations.{address_text, row_text}
+use Rattle.dl_addr.specs.Locations.{asked_text, no_row_text, row_text}
 
--- of a row, and the text of its path
-abbrev pub seen_text : Option (Row × List ℕ) → List ℕ
-seen_text None = codes "??:0"
-seen_text (Some (r, path)) = row_text path r
+abbrev pub seen_text : Form → Option SeenRow → List ℕ
+seen_text form None = no_row_text form
+seen_text form (Some (r, (path, unit))) = row_text form path r unit
 
-abbrev pub seen_line : Style → Asked → Option (Row × List ℕ) → List ℕ
-seen_line style a seen = line (address_text style a ++ seen_text seen)
+abbrev pub seen_line : Style → Asked → Option SeenRow → List ℕ
+seen_line style a seen = line (asked_text style.form a ++ seen_text style.form seen)
 
 -- for each that is asked, where f is what is kept of its answer
-abbrev pub seen_lines : Style → (f : Asked → Option (Row × List ℕ)) → List Asked → List ℕ
+abbrev pub seen_lines : Style → (f : Asked → Option SeenRow) → List Asked → List ℕ
 seen_lines style f asked = flat_map (λ a. seen_line style a (f a)) asked
 
-abbrev pub found_by : (f : Asked → Option (Row × List ℕ)) → List Asked → Found
+abbrev pub found_by : (f : Asked → Option SeenRow) → List Asked → Found
 found_by f asked = if list_all (λ a. is_some (f a)) asked then found.All else found.NotAll
 
 -- what a locator that was told these visits is asked
-abbrev pub answer_for : Locator → List Visit → (base : ℕ) → Asked → Option (Row × List ℕ)
+abbrev pub answer_for : Locator → List Visit → (base : ℕ) → Asked → Option SeenRow
 answer_for first visits base a = option_map (located_seen first) (option_and_then (λ x. located_by first x visits) (place_of base a))
 
 -- the lines of all, or not all of them
-abbrev pub PrintsAll : (old new : Option (List ℕ)) → Question → (f : Asked → Option (Row × List ℕ)) → Result Found WriteFault → Type 0
+abbrev pub PrintsAll : (old new : Option (List ℕ)) → Question → (f : Asked → Option SeenRow) → Result Found WriteFault → Type 0
 PrintsAll old new q f (Ok all_found) = (all_found ≡ found_by f q.asked.now) × Appends old new (seen_lines q.style f q.asked.now)
 PrintsAll old new q f (Err lost) = TellsOut old new (seen_lines q.style f q.asked.now) lost
 

@@ -2,7 +2,10 @@
 use Rattle.std.specs.Prelude.{ℕ, ◌/◌, Bool, ◌||◌, ◌&&◌, nat_lt, ◌==◌, if◌then◌else◌, List, [], ◌∷◌, ◌++◌, flat_map, codes}
 use Rattle.std.specs.List.{list_any}
 use Rattle.dl_print.specs.Digits.{last_digit}
+use Rattle.dl_addr.specs.declared.style.Form.{Form}
+use Rattle.dl_addr.specs.declared.style.Form.TheVariants.{Location, AddressAndLocation, Json}
 use Rattle.dl_addr.specs.declared.style.Style.{Style}
+use Rattle.dl_addr.specs.Json.{json_string}
 use Rattle.dl_addr.specs.Paths.{has_drive, is_slash}
 
 -- the bytes that are written by their numbers: those below 0x20, and 0x7f
@@ -28,5 +31,11 @@ separates with_drive b = (b == 0x2f) || (with_drive && is_slash b)
 abbrev pub basename : List ℕ → List ℕ
 basename path = behind_last (separates (has_drive path)) path
 
+-- as the form of the line has it
+abbrev pub text_in : Form → List ℕ → List ℕ
+text_in Location path = shown path
+text_in AddressAndLocation path = shown path
+text_in Json path = json_string path
+
 abbrev pub path_text : Style → List ℕ → List ℕ
-path_text style path = shown (if style.basenames then basename path else path)
+path_text style path = text_in style.form (if style.basenames then basename path else path)

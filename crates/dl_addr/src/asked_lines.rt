@@ -1,8 +1,7 @@
 //! The addresses that are asked for on an input, one a line.
-ghost use Rattle.std.specs.Prelude.{◌≡◌, ◌<◌, ◌^◌, ℕ, List, length, MatchResult};
+ghost use Rattle.std.specs.Prelude.{ℕ, List, MatchResult};
 ghost use Rattle.std.specs.Io.KnownBytes.{Consumes, IsAtEnd};
-ghost use Rattle.dl_addr.specs.AskedLines.{asked_in, base_of, no_address_in};
-ghost use Rattle.dl_addr.specs.LinesRead.{IsAsked, StopsAsking};
+ghost use Rattle.dl_addr.specs.AskedLines.{IsAsked, StopsAsking};
 
 use crate::asked::Asked;
 use crate::line::Line;
@@ -33,8 +32,10 @@ struct Lines {
 }
 
 impl Lines {
-    ghost use Rattle.std.specs.Prelude.{◌≡◌, ◌++◌, ◌∷◌, [], ℕ, List, IfErr, IfOk, OnOk};
-    ghost use Rattle.dl_addr.specs.LinesRead.{Stands, Adds};
+    ghost use Rattle.std.specs.Prelude.{◌≡◌, ◌≢◌, ◌++◌, ◌∷◌, [], ℕ, Bool, List, IfErr, IfOk, OnOk, is_some, true};
+    ghost use Rattle.dl_cmd.specs.declared.fault.RunFault.TheVariants.{NoMemory};
+    ghost use Rattle.dl_addr.specs.AskedLines.{IsAsked, StopsAsking};
+    ghost use Rattle.dl_addr.specs.LinesRead.{Adds, RefusesAsked, Stands, base_of};
 
     /// Nothing was read yet.
     fn new(alloc: Global, hex: bool) -> Lines
@@ -52,7 +53,7 @@ impl Lines {
     /// Takes what the line at hand asks for.
     fn add(&mut self, asked: Option<Asked>) -> Result<(), RunFault>
         ensures added { OnOk result (Adds asked self.old self.new) }
-        ensures memory { IfErr result StopsAsking }
+        ensures memory { IfErr result (λ fault. (fault ≡ NoMemory) × (is_some asked ≡ true)) }
     {
         let Some(asked) = asked else {
             return Ok(());
@@ -69,7 +70,7 @@ impl Lines {
     /// Takes a byte.
     fn take(&mut self, byte: u8) -> Result<(), RunFault>
         ensures taken { (base : ℕ) (done : List ℕ) → Stands base done self.old → OnOk result (Stands base (done ++ byte ∷ []) self.new) }
-        ensures memory { IfErr result StopsAsking }
+        ensures memory { (base : ℕ) (done : List ℕ) → Stands base done self.old → IfErr result (RefusesAsked base (done ++ byte ∷ [])) }
     {
         if byte != b'\n' {
             self.line = self.line.after(self.base, byte);
@@ -85,7 +86,7 @@ impl Lines {
     /// Takes bytes.
     fn take_all(&mut self, bytes: &[u8]) -> Result<(), RunFault>
         ensures taken { (base : ℕ) (done : List ℕ) → Stands base done self.old → OnOk result (Stands base (done ++ bytes.now) self.new) }
-        ensures memory { IfErr result StopsAsking }
+        ensures memory { (base : ℕ) (done : List ℕ) → Stands base done self.old → IfErr result (RefusesAsked base (done ++ bytes.now)) }
     {
         for byte in bytes {
             self.take(*byte)?;
@@ -95,8 +96,8 @@ impl Lines {
 
     /// What is asked for, where the input ends here.
     fn end(self) -> Result<AskedLines, RunFault>
-        ensures asked { (base : ℕ) (done : List ℕ) → Stands base done self → IfOk result (IsAsked base done) }
-        ensures memory { IfErr result StopsAsking }
+        ensures asked { (hex : Bool) (done : List ℕ) → Stands (base_of hex) done self → IfOk result (IsAsked hex done) }
+        ensures memory { (hex : Bool) (done : List ℕ) → Stands (base_of hex) done self → IfErr result (StopsAsking hex done) }
     {
         let mut lines = self;
         let last = lines.line.asked_at_end();
@@ -116,11 +117,11 @@ impl Lines {
 /// 0x0d is dropped; the last line may lack its 0x0a. Spaces and tabs around an address are dropped, and so are
 /// empty lines. With `hex` digits without `0x` are hexadecimal too.
 ///
-/// `Read` where the reader fails, `NoMemory` where a growth is refused. Memory is taken for what is asked
-/// alone.
+/// `Read` where the reader fails, `NoMemory` where a growth is refused for what was read. Memory is taken for
+/// what is asked alone.
 pub fn read_asked<R: Read>(alloc: Global, input: &mut R, hex: bool) -> Result<AskedLines, RunFault>
     ensures { (bs : List ℕ) × Consumes (R.remaining input.old) (R.remaining input.new) bs
-        × MatchResult result (λ lines. IsAsked (base_of hex) bs lines × IsAtEnd (R.remaining input.new)) StopsAsking }
+        × MatchResult result (λ lines. IsAsked hex bs lines × IsAtEnd (R.remaining input.new)) (StopsAsking hex bs) }
 {
     let mut lines = Lines::new(alloc, hex);
     let mut buffer = Input::new();

@@ -169,7 +169,7 @@ impl<'a> Locator<'a> {
 
     /// The row, with the text that is kept for the place of this number.
     fn answer_of(&self, row: Row, number: usize) -> Option<Answer<'_>>
-        ensures { option_map answer_seen result ≡ option_map (λ f. (row, f.text.items))
+        ensures { option_map answer_seen result ≡ option_map (λ f. (row, (f.text.items, f.unit)))
             (option_and_then (slice_get self.now.texts.items) (slice_get self.now.kept.items number)) }
     {
         let file = self.file(number)?;

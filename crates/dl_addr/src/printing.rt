@@ -4,12 +4,13 @@ ghost use Rattle.std.specs.Prelude.{◌≡◌, []};
 ghost use Rattle.std.specs.Option.{option_map};
 ghost use Rattle.dl_print.specs.Output.{Prints};
 ghost use Rattle.dl_addr.specs.Answers.{answer_seen};
-ghost use Rattle.dl_addr.specs.Locations.{address_text, column_text, row_text};
+ghost use Rattle.dl_addr.specs.Locations.{address_text, asked_text, column_text, no_row_text, place_text, row_text};
 ghost use Rattle.dl_addr.specs.Printing.{seen_line, seen_text};
 
 use crate::asked::Asked;
+use crate::json_line::{print_json_address, print_json_row};
 use crate::locating::Answer;
-use crate::style::Style;
+use crate::style::{Form, Style};
 use dl_print::{Printer, WriteFault};
 use dl_rows::Row;
 use std::io::Write;
@@ -25,53 +26,112 @@ pub fn print_line<W: Write>(
     ensures { Prints (W.contents output.old) (W.contents output.new) printer.old printer.new
         (seen_line style asked (option_map answer_seen answer.entry)) result }
 {
-    print_address(printer, output, style, asked)?;
-    print_answer(printer, output, answer)?;
+    print_asked(printer, output, style.form, asked)?;
+    print_answer(printer, output, style.form, answer)?;
     printer.put(output, b"\n")
 }
 
-/// Prints the address as it was given, where it is wanted and there is one.
-fn print_address<W: Write>(
+/// Prints what stands before an answer.
+fn print_asked<W: Write>(
     printer: &mut Printer,
     output: &mut W,
-    style: Style,
+    form: Form,
     asked: Asked,
 ) -> Result<(), WriteFault>
     ensures { Prints (W.contents output.old) (W.contents output.new) printer.old printer.new
-        (address_text style asked) result }
+        (asked_text form asked) result }
 {
-    match asked.address {
-        Some(address) if style.addresses => {
+    match form {
+        Form::Location => printer.put(output, b""),
+        Form::AddressAndLocation => print_address(printer, output, asked.address),
+        Form::Json => print_json_address(printer, output, asked.address),
+    }
+}
+
+/// Prints the address as it was given, where there is one.
+fn print_address<W: Write>(
+    printer: &mut Printer,
+    output: &mut W,
+    address: Option<u64>,
+) -> Result<(), WriteFault>
+    ensures { Prints (W.contents output.old) (W.contents output.new) printer.old printer.new
+        (address_text address) result }
+{
+    match address {
+        Some(address) => {
             printer.address(output, address)?;
             printer.put(output, b" ")
         }
-        _ => printer.put(output, b""),
+        None => printer.put(output, b""),
     }
 }
 
 fn print_answer<W: Write>(
     printer: &mut Printer,
     output: &mut W,
+    form: Form,
     answer: Option<Answer<'_>>,
 ) -> Result<(), WriteFault>
     ensures { Prints (W.contents output.old) (W.contents output.new) printer.old printer.new
-        (seen_text (option_map answer_seen answer.entry)) result }
+        (seen_text form (option_map answer_seen answer.entry)) result }
 {
     match answer {
-        Some(answer) => print_row(printer, output, answer.file.text.as_slice(), &answer.row),
-        None => printer.put(output, b"??:0"),
+        Some(answer) => print_row(
+            printer,
+            output,
+            form,
+            answer.file.text.as_slice(),
+            &answer.row,
+            answer.file.unit,
+        ),
+        None => print_no_row(printer, output, form),
+    }
+}
+
+/// Prints a row under the text of its path, with the offset of its unit.
+fn print_row<W: Write>(
+    printer: &mut Printer,
+    output: &mut W,
+    form: Form,
+    path: &[u8],
+    row: &Row,
+    unit: u64,
+) -> Result<(), WriteFault>
+    ensures { Prints (W.contents output.old) (W.contents output.new) printer.old printer.new
+        (row_text form path.now row.now unit) result }
+{
+    match form {
+        Form::Location | Form::AddressAndLocation => print_place(printer, output, path, row),
+        Form::Json => {
+            print_json_row(printer, output, path, row, unit)?;
+            printer.put(output, b"}")
+        }
+    }
+}
+
+fn print_no_row<W: Write>(
+    printer: &mut Printer,
+    output: &mut W,
+    form: Form,
+) -> Result<(), WriteFault>
+    ensures { Prints (W.contents output.old) (W.contents output.new) printer.old printer.new
+        (no_row_text form) result }
+{
+    match form {
+        Form::Location | Form::AddressAndLocation => printer.put(output, b"??:0"),
+        Form::Json => printer.put(output, b"}"),
     }
 }
 
 /// Prints a path, a line, and a column where it isn't 0.
-fn print_row<W: Write>(
+fn print_place<W: Write>(
     printer: &mut Printer,
     output: &mut W,
     path: &[u8],
     row: &Row,
 ) -> Result<(), WriteFault>
     ensures { Prints (W.contents output.old) (W.contents output.new) printer.old printer.new
-        (row_text path.now row.now) result }
+        (place_text path.now row.now) result }
 {
     printer.put(output, path)?;
     printer.number(output, b":", row.line)?;

@@ -2,12 +2,13 @@
 
 ghost use Rattle.std.specs.Prelude.{◌≡◌, [], ◌∷◌, ◌++◌, IfOk, OnOk};
 ghost use Rattle.dl_print.specs.Digits.{last_digit};
-ghost use Rattle.dl_addr.specs.Shown.{is_control, shown_byte, shown, path_text};
+ghost use Rattle.dl_addr.specs.Shown.{is_control, shown_byte, shown, text_in, path_text};
 ghost use Rattle.dl_addr.specs.Parts.{path_seen};
 
 use crate::basename::basename;
+use crate::json::json_string;
 use crate::path::Path;
-use crate::style::Style;
+use crate::style::{Form, Style};
 use dl_look::NoMemory;
 use std::alloc::Global;
 
@@ -17,9 +18,19 @@ pub fn path_text(alloc: Global, style: Style, path: Path<'_>) -> Result<Vec<u8>,
 {
     let path = joined(alloc, path)?;
     if style.basenames {
-        shown(alloc, basename(path.as_slice()))
+        text_in(alloc, style.form, basename(path.as_slice()))
     } else {
-        shown(alloc, path.as_slice())
+        text_in(alloc, style.form, path.as_slice())
+    }
+}
+
+/// A path as it stands in a line of this form.
+fn text_in(alloc: Global, form: Form, path: &[u8]) -> Result<Vec<u8>, NoMemory>
+    ensures { IfOk result (λ text. text.items ≡ text_in form path.now) }
+{
+    match form {
+        Form::Location | Form::AddressAndLocation => shown(alloc, path),
+        Form::Json => json_string(alloc, path),
     }
 }
 

@@ -65,14 +65,18 @@ with_input a = with_rule (with_rule a big_rule) file_rule
 abbrev pub with_strings : App → App
 with_strings a = with_rule (with_rule (with_rule (with_rule a big_rule) line_str_rule) str_rule) file_rule
 
+-- how answers are printed
+abbrev pub with_printing : App → App
+with_printing a = with_rule (with_rule (with_rule a (letter_rule (codes "addresses") 97)) (letter_rule (codes "basenames") 115)) (switch_rule (codes "json"))
+
 -- what addresses are asked for, and how they are answered
 abbrev pub with_settings : App → App
-with_settings a = with_rule (with_rule (with_rule (with_rule (with_rule a (letter_rule (codes "addresses") 97)) (letter_rule (codes "basenames") 115)) (switch_rule (codes "hex"))) base_rule) (switch_rule (codes "all"))
+with_settings a = with_rule (with_rule (with_rule (with_printing a) (switch_rule (codes "hex"))) base_rule) (switch_rule (codes "all"))
 
 abbrev pub with_addresses : App → App
 with_addresses a = with_rule (with_rule (with_rule (with_rule (with_rule (with_settings a) big_rule) line_str_rule) str_rule) addr_file_rule) addresses_rule
 
--- `addr [-a] [-s] [--hex] [--base ADDRESS] [--all] [--big] [--line-str PATH] [--str PATH] FILE [ADDRESS]..`
+-- `addr [-a] [-s] [--json] [--hex] [--base ADDRESS] [--all] [--big] [--line-str PATH] [--str PATH] FILE [ADDRESS]..`
 abbrev pub addr_app : App
 addr_app = with_addresses (new_app (codes "addr"))
 

@@ -18,6 +18,7 @@ pub record AddrTexts : Type 0 where
   pub base : Option Text
   pub with_addresses : Bool
   pub basenames : Bool
+  pub json : Bool
   pub all : Bool
   pub big : Bool
   pub line_str : Option Text
@@ -39,6 +40,7 @@ addr_words_made w = record {
   base = option_map (λ s. s.now) w.base;
   with_addresses = w.with_addresses;
   basenames = w.basenames;
+  json = w.json;
   all = w.all;
   big = w.big;
   line_str = option_map (λ s. s.now) w.line_str;
@@ -75,6 +77,7 @@ addr_words_of rows = record {
   base = text_of (codes "base") rows;
   with_addresses = flag_of (codes "addresses") rows;
   basenames = flag_of (codes "basenames") rows;
+  json = flag_of (codes "json") rows;
   all = flag_of (codes "all") rows;
   big = flag_of (codes "big") rows;
   line_str = text_of (codes "line-str") rows;

@@ -65,6 +65,8 @@ pub struct AddrWords<'a> {
     pub with_addresses: bool,
     /// Paths are printed by their last component alone.
     pub basenames: bool,
+    /// Answers are printed as JSON objects, each with its address.
+    pub json: bool,
     /// Sequences that begin outside executable sections count too.
     pub all: bool,
     pub big: bool,
@@ -112,6 +114,7 @@ fn addr_words<'a>(alloc: Global, matches: &ArgMatches<'a>) -> Result<AddrWords<'
         base: text(matches, "base"),
         with_addresses: flag(matches, "addresses"),
         basenames: flag(matches, "basenames"),
+        json: flag(matches, "json"),
         all: flag(matches, "all"),
         big: flag(matches, "big"),
         line_str: text(matches, "line-str"),

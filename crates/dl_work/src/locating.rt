@@ -8,7 +8,7 @@ use crate::files::FileSource;
 use crate::over_file::on_file;
 use crate::over_input::{Section, on_input};
 use crate::stop::{FileFault, Stop};
-use dl_addr::{Asked, AskedLines, Found, Question, Style, read_asked};
+use dl_addr::{Asked, AskedLines, Form, Found, Question, Style, read_asked};
 use dl_cmd::{AddrWords, RunFault, Summary, read_address, read_hex_address};
 use dl_elf::{CodeFault, ExecutableRange, find_code};
 use dl_look::{AddressRange, CodeRanges};
@@ -110,6 +110,15 @@ fn code_of<F: FileSource>(
     Ok(Some(ranges_of(alloc, code.ranges.as_slice())?))
 }
 
+/// What the line of an address says. A JSON object has the address, whether or not it is asked for.
+fn form(words: &AddrWords<'_>) -> Form {
+    match (words.json, words.with_addresses) {
+        (true, _) => Form::Json,
+        (false, true) => Form::AddressAndLocation,
+        (false, false) => Form::Location,
+    }
+}
+
 /// What is asked of a section.
 fn question<'q>(
     words: &AddrWords<'_>,
@@ -122,7 +131,7 @@ fn question<'q>(
         base,
         code,
         style: Style {
-            addresses: words.with_addresses,
+            form: form(words),
             basenames: words.basenames,
         },
     }

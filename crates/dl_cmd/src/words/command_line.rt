@@ -1,7 +1,7 @@
 //! The command line: its subcommands and arguments, with their help.
 ghost use Rattle.std.specs.Prelude.{IfOk, [], ◌∷◌, codes};
 ghost use Rattle.clap.specs.Words.{App};
-ghost use Rattle.dl_cmd.specs.CommandLine.{Excludes, IsApp, IsRule, file_rule, line_str_rule, str_rule, big_rule, address_rule, op_rule, addr_file_rule, addresses_rule, base_rule, switch_rule, letter_rule, addr_app, with_addresses, with_input, with_strings, dump_app, check_app, find_app, copy_app, command_line};
+ghost use Rattle.dl_cmd.specs.CommandLine.{Excludes, IsApp, IsRule, file_rule, line_str_rule, str_rule, big_rule, address_rule, op_rule, addr_file_rule, addresses_rule, base_rule, switch_rule, letter_rule, addr_app, with_addresses, with_input, with_printing, with_strings, dump_app, check_app, find_app, copy_app, command_line};
 
 use clap::{Arg, ArgAction, Command};
 use std::alloc::{AllocError, Global};
@@ -186,8 +186,9 @@ fn copy<'a>(alloc: Global) -> Result<Command<'a>, AllocError>
     add_input(alloc, command)
 }
 
-fn add_addresses<'a>(alloc: Global, command: Command<'a>) -> Result<Command<'a>, AllocError>
-    ensures { (a : App) → IsApp a command.entry → IfOk result (IsApp (with_addresses a)) }
+/// How answers are printed.
+fn add_printing<'a>(alloc: Global, command: Command<'a>) -> Result<Command<'a>, AllocError>
+    ensures { (a : App) → IsApp a command.entry → IfOk result (IsApp (with_printing a)) }
 {
     command
         .arg(letter(
@@ -202,6 +203,17 @@ fn add_addresses<'a>(alloc: Global, command: Command<'a>) -> Result<Command<'a>,
             's',
             "Print the last component of each path alone",
         ))?
+        .arg(switch(
+            alloc,
+            "json",
+            "Print a JSON object for each address, one a line",
+        ))
+}
+
+fn add_addresses<'a>(alloc: Global, command: Command<'a>) -> Result<Command<'a>, AllocError>
+    ensures { (a : App) → IsApp a command.entry → IfOk result (IsApp (with_addresses a)) }
+{
+    add_printing(alloc, command)?
         .arg(switch(alloc, "hex", "Read digits without 0x as hexadecimal too"))?
         .arg(base(alloc))?
         .arg(switch(

@@ -1,7 +1,7 @@
 //! Printing values, of any length.
 ghost use Rattle.std.specs.Prelude.{◌≡◌, ◌+◌, ◌*◌, ◌^◌, ◌<◌, ◌≤◌, ◌++◌, length, OnOk, codes, decimal};
 ghost use Rattle.std.specs.Option.{option_copied};
-ghost use Rattle.dl_print.specs.Digits.{hexadecimal_bytes, hexadecimal_of};
+ghost use Rattle.dl_print.specs.Digits.{hexadecimal, hexadecimal_bytes, hexadecimal_of};
 ghost use Rattle.dl_print.specs.Output.{Prints, printed_len};
 ghost use Rattle.dl_head.specs.Held.{value_lent};
 ghost use Rattle.dl_print.specs.ValueText.{quoted, quoted_bytes, offset_text, quoted_or_offset, text_in_section, value_text, named_value, content_name, strings_of};
@@ -10,8 +10,8 @@ use super::Printer;
 use super::string_sections::{StringSection, StringSections, text_in_section};
 use crate::fault::WriteFault;
 use crate::text::{
-    write_address, write_hexadecimal_bytes, write_number, write_offset, write_quoted_bytes,
-    write_value_start,
+    write_address, write_hexadecimal_bytes, write_hexadecimal_number, write_number, write_offset,
+    write_quoted_bytes, write_value_start,
 };
 use dl_head::ValueRef;
 use std::io::Write;
@@ -67,6 +67,22 @@ impl Printer {
     {
         self.make_room(output)?;
         self.held = write_number(&mut self.buffer, self.held, name, number);
+        Ok(())
+    }
+
+    /// Prints a name, of at most 16 bytes, and after it a number in hexadecimal without leading zeros.
+    pub fn hexadecimal_number<W: Write>(
+        &mut self,
+        output: &mut W,
+        name: &[u8],
+        number: u64,
+    ) -> Result<(), WriteFault>
+        requires short { length name.now ≤ 16 }
+        ensures printed { Prints (W.contents output.old) (W.contents output.new)
+            self.old self.new (name.now ++ hexadecimal number) result }
+    {
+        self.make_room(output)?;
+        self.held = write_hexadecimal_number(&mut self.buffer, self.held, name, number);
         Ok(())
     }
 

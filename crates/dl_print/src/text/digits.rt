@@ -137,6 +137,17 @@ pub fn write_hexadecimal(buffer: &mut [u8], at: usize, number: u64) -> usize
     write_byte(buffer, at, last_digit(number))
 }
 
+/// Writes a name and a number in hexadecimal without leading zeros, and answers where they end.
+#[tactic(auto, using(crate::proofs::HexadecimalLemmas::hexadecimal_room))]
+pub fn write_hexadecimal_number(buffer: &mut [u8], at: usize, name: &[u8], number: u64) -> usize
+    requires { at + length name.now + 16 ≤ length buffer.old }
+    ensures written { take result buffer.new ≡ take at buffer.old ++ name.now ++ hexadecimal number }
+    ensures room { result ≤ at + length name.now + 16 }
+{
+    let at = write_bytes(buffer, at, name);
+    write_hexadecimal(buffer, at, number)
+}
+
 /// Writes two hexadecimal digits for each byte, and answers where they end.
 #[inline]
 pub fn write_hexadecimal_bytes(buffer: &mut [u8], at: usize, bytes: &[u8]) -> usize

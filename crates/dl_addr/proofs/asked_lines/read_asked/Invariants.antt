@@ -1,7 +1,6 @@
 use Rattle.std.proofs.Common.{ℕ, List}
 use Rattle.std.specs.Io.KnownBytes.{Consumes}
-use Rattle.dl_addr.specs.AskedLines.{base_of}
-use Rattle.dl_addr.specs.LinesRead.{Stands}
+use Rattle.dl_addr.specs.LinesRead.{Stands, base_of}
 use Rattle.dl_addr.proofs.asked_lines.read_asked.Given as goal
 
 abbrev pub invariant-loop : goal.invariant-loop

@@ -2,26 +2,26 @@ use Rattle.std.proofs.Common.{[], ◌∷◌, ◌++◌}
 use Rattle.std.specs.Prelude.{option_map}
 use Rattle.std.proofs.lemmas.Result.{err_from_is_err_and}
 use Rattle.dl_addr.specs.Answers.{answer_seen}
-use Rattle.dl_addr.specs.Locations.{address_text}
+use Rattle.dl_addr.specs.Locations.{asked_text}
 use Rattle.dl_addr.specs.Printing.{seen_text}
 use Rattle.dl_addr.proofs.PrintLemmas.{loses_front, loses_then}
 use Rattle.dl_addr.proofs.printing.print_line.Goals as goal
 
-pub returns-in_err-print_address : goal.returns-in_err-print_address
-returns-in_err-print_address g c start text h =
+pub returns-in_err-print_asked : goal.returns-in_err-print_asked
+returns-in_err-print_asked g c start text h =
     let p = err_from_is_err_and c.from_residual.result c.from_residual.ensures.1 in
-    let a = address_text c.args.style c.args.asked in
-    let b = seen_text (option_map answer_seen c.args.answer) in
+    let a = asked_text c.args.style.form c.args.asked in
+    let b = seen_text c.args.style.form (option_map answer_seen c.args.answer) in
     let old = g.W.Write.contents c.args.output.now in
-    let new = g.W.Write.contents c.print_address.new.output in
-    rw (p.1, p.2) (loses_front old new c.args.printer.now (a ++ b) (10 ∷ []) _ (loses_front old new c.args.printer.now a b _ c.in_err-print_address.ensures) start text h)
+    let new = g.W.Write.contents c.print_asked.new.output in
+    rw (p.1, p.2) (loses_front old new c.args.printer.now (a ++ b) (10 ∷ []) _ (loses_front old new c.args.printer.now a b _ c.in_err-print_asked.ensures) start text h)
 
 pub returns-in_err-print_answer : goal.returns-in_err-print_answer
 returns-in_err-print_answer g c start text h =
     let p = err_from_is_err_and c.from_residual-in_err-print_answer.result c.from_residual-in_err-print_answer.ensures.1 in
-    let a = address_text c.args.style c.args.asked in
-    let b = seen_text (option_map answer_seen c.args.answer) in
+    let a = asked_text c.args.style.form c.args.asked in
+    let b = seen_text c.args.style.form (option_map answer_seen c.args.answer) in
     let old = g.W.Write.contents c.args.output.now in
-    let mid = g.W.Write.contents c.print_address.new.output in
+    let mid = g.W.Write.contents c.print_asked.new.output in
     let new = g.W.Write.contents c.print_answer.new.output in
-    rw (p.1, p.2) (loses_front old new c.args.printer.now (a ++ b) (10 ∷ []) _ (loses_then old mid new c.args.printer.now c.print_address.new.printer a b _ c.in_ok-print_address.ensures c.in_err-print_answer.ensures) start text h)
+    rw (p.1, p.2) (loses_front old new c.args.printer.now (a ++ b) (10 ∷ []) _ (loses_then old mid new c.args.printer.now c.print_asked.new.printer a b _ c.in_ok-print_asked.ensures c.in_err-print_answer.ensures) start text h)

@@ -4,13 +4,11 @@ use Rattle.dl_cmd.proofs.words.command_line.add_addresses.Goals as goal
 
 pub returns : goal.returns
 returns c = λ a none.
-    let one = IsApp-arg _ _ _ _ _ c.in_ok-arg.ensures none c.letter.ensures in
-    let two = IsApp-arg _ _ _ _ _ c.in_ok-arg-2.ensures one c.letter-2.ensures in
-    let three = IsApp-arg _ _ _ _ _ c.in_ok-arg-3.ensures two c.switch.ensures in
-    let four = IsApp-arg _ _ _ _ _ c.in_ok-arg-4.ensures three c.base.ensures in
-    let five = IsApp-arg _ _ _ _ _ c.in_ok-arg-5.ensures four c.switch-2.ensures in
-    let six = IsApp-arg _ _ _ _ _ c.in_ok-arg-6.ensures five c.big.ensures in
-    let seven = IsApp-arg _ _ _ _ _ c.in_ok-arg-7.ensures six c.line_str.ensures in
-    let eight = IsApp-arg _ _ _ _ _ c.in_ok-arg-8.ensures seven c.strings.ensures in
-    let nine = IsApp-arg _ _ _ _ _ c.in_ok-arg-9.ensures eight c.addr_file.ensures in
-    IfOk-weaker _ _ _ (λ r added. IsApp-arg _ _ r _ _ added nine c.addresses.ensures) c.arg-10.ensures
+    let one = IsApp-arg _ _ _ _ _ c.in_ok-arg.ensures (c.in_ok-add_printing.ensures a none) c.switch.ensures in
+    let two = IsApp-arg _ _ _ _ _ c.in_ok-arg-2.ensures one c.base.ensures in
+    let three = IsApp-arg _ _ _ _ _ c.in_ok-arg-3.ensures two c.switch-2.ensures in
+    let four = IsApp-arg _ _ _ _ _ c.in_ok-arg-4.ensures three c.big.ensures in
+    let five = IsApp-arg _ _ _ _ _ c.in_ok-arg-5.ensures four c.line_str.ensures in
+    let six = IsApp-arg _ _ _ _ _ c.in_ok-arg-6.ensures five c.strings.ensures in
+    let seven = IsApp-arg _ _ _ _ _ c.in_ok-arg-7.ensures six c.addr_file.ensures in
+    IfOk-weaker _ _ _ (λ r added. IsApp-arg _ _ r _ _ added seven c.addresses.ensures) c.arg-8.ensures

@@ -2,7 +2,7 @@ use Rattle.std.proofs.Common.{◌++◌, codes, decimal}
 use Rattle.std.proofs.lemmas.Result.{err_from_is_err_and}
 use Rattle.dl_addr.specs.Locations.{column_text}
 use Rattle.dl_addr.proofs.PrintLemmas.{loses_front, loses_then}
-use Rattle.dl_addr.proofs.printing.print_row.Goals as goal
+use Rattle.dl_addr.proofs.printing.print_place.Goals as goal
 
 pub returns-in_err-put : goal.returns-in_err-put
 returns-in_err-put g c start text h =

@@ -1,0 +1,29 @@
+-- What is known of an address as a JSON object (RFC 8259), in one line.
+use Rattle.std.specs.Prelude.{ℕ, Bool, if◌then◌else◌, List, ◌++◌, Option, Some, None, codes, decimal}
+use Rattle.std.specs.Str.Lossy.{utf8_lossy}
+use Rattle.json.specs.Print.{quoted}
+use Rattle.dl_rows.specs.declared.row.Row.{Row}
+use Rattle.dl_print.specs.Digits.{hexadecimal, hexadecimal_of}
+
+-- the JSON string of a text, in which U+FFFD stands for what isn't UTF-8
+abbrev pub json_string : List ℕ → List ℕ
+json_string text = quoted (utf8_lossy text)
+
+-- the address as it was given; null of a line that is no address
+abbrev pub json_address : Option ℕ → List ℕ
+json_address (Some address) = (codes "{\"address\":\"" ++ (codes "0x" ++ hexadecimal_of 16 address)) ++ codes "\""
+json_address None = codes "{\"address\":null"
+
+abbrev pub json_position : Row → List ℕ
+json_position r =
+    (codes ",\"line\":" ++ decimal r.line) ++ (codes ",\"column\":" ++ decimal r.column)
+    ++ (codes ",\"discriminator\":" ++ decimal r.discriminator)
+
+abbrev pub json_is_stmt : Bool → List ℕ
+json_is_stmt is_stmt = if is_stmt then codes ",\"is_stmt\":true" else codes ",\"is_stmt\":false"
+
+-- the row that answers, under the JSON string of its path, and the offset of its unit
+abbrev pub json_row : (path : List ℕ) → Row → (unit : ℕ) → List ℕ
+json_row path r unit =
+    (codes ",\"path\":" ++ path) ++ json_position r
+    ++ (json_is_stmt r.is_stmt ++ ((codes ",\"unit\":\"0x" ++ hexadecimal unit) ++ codes "\""))

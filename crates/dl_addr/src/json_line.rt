@@ -1,0 +1,141 @@
+//! The members of a JSON object, in one line.
+
+ghost use Rattle.std.specs.Prelude.{◌≡◌, ◌++◌, [], codes, decimal};
+ghost use Rattle.dl_print.specs.Digits.{hexadecimal, hexadecimal_of};
+ghost use Rattle.dl_print.specs.Output.{Prints};
+ghost use Rattle.dl_addr.specs.Json.{json_address, json_is_stmt, json_position, json_row};
+
+use dl_print::{Printer, WriteFault};
+use dl_rows::Row;
+use std::io::Write;
+
+/// Prints the beginning of an object: the address as it was given, or null of a line that is none.
+pub fn print_json_address<W: Write>(
+    printer: &mut Printer,
+    output: &mut W,
+    address: Option<u64>,
+) -> Result<(), WriteFault>
+    ensures { Prints (W.contents output.old) (W.contents output.new) printer.old printer.new
+        (json_address address) result }
+{
+    match address {
+        Some(address) => print_given(printer, output, address),
+        None => printer.put(output, b"{\"address\":null"),
+    }
+}
+
+fn print_given<W: Write>(
+    printer: &mut Printer,
+    output: &mut W,
+    address: u64,
+) -> Result<(), WriteFault>
+    ensures { Prints (W.contents output.old) (W.contents output.new) printer.old printer.new
+        ((codes "{\"address\":\"" ++ (codes "0x" ++ hexadecimal_of 16 address)) ++ codes "\"") result }
+{
+    print_address_open(printer, output, address)?;
+    printer.put(output, b"\"")
+}
+
+/// The same of an address, up to its last digit.
+fn print_address_open<W: Write>(
+    printer: &mut Printer,
+    output: &mut W,
+    address: u64,
+) -> Result<(), WriteFault>
+    ensures { Prints (W.contents output.old) (W.contents output.new) printer.old printer.new
+        (codes "{\"address\":\"" ++ (codes "0x" ++ hexadecimal_of 16 address)) result }
+{
+    printer.put(output, b"{\"address\":\"")?;
+    printer.address(output, address)
+}
+
+/// Prints the members of a row under the JSON string of its path, with the offset of its unit.
+pub fn print_json_row<W: Write>(
+    printer: &mut Printer,
+    output: &mut W,
+    path: &[u8],
+    row: &Row,
+    unit: u64,
+) -> Result<(), WriteFault>
+    ensures { Prints (W.contents output.old) (W.contents output.new) printer.old printer.new
+        (json_row path.now row.now unit) result }
+{
+    print_path(printer, output, path)?;
+    print_position(printer, output, row)?;
+    print_end(printer, output, row.is_stmt, unit)
+}
+
+fn print_path<W: Write>(
+    printer: &mut Printer,
+    output: &mut W,
+    path: &[u8],
+) -> Result<(), WriteFault>
+    ensures { Prints (W.contents output.old) (W.contents output.new) printer.old printer.new
+        (codes ",\"path\":" ++ path.now) result }
+{
+    printer.put(output, b",\"path\":")?;
+    printer.put(output, path)
+}
+
+/// Prints the line, the column and the discriminator.
+fn print_position<W: Write>(
+    printer: &mut Printer,
+    output: &mut W,
+    row: &Row,
+) -> Result<(), WriteFault>
+    ensures { Prints (W.contents output.old) (W.contents output.new) printer.old printer.new
+        (json_position row.now) result }
+{
+    printer.number(output, b",\"line\":", row.line)?;
+    printer.number(output, b",\"column\":", row.column)?;
+    print_discriminator(printer, output, row.discriminator)
+}
+
+fn print_discriminator<W: Write>(
+    printer: &mut Printer,
+    output: &mut W,
+    discriminator: u64,
+) -> Result<(), WriteFault>
+    ensures { Prints (W.contents output.old) (W.contents output.new) printer.old printer.new
+        (codes ",\"discriminator\":" ++ decimal discriminator) result }
+{
+    printer.put(output, b",\"discriminator\":")?;
+    printer.number(output, b"", discriminator)
+}
+
+/// Prints whether the row is a statement, and the offset of its unit.
+fn print_end<W: Write>(
+    printer: &mut Printer,
+    output: &mut W,
+    is_stmt: bool,
+    unit: u64,
+) -> Result<(), WriteFault>
+    ensures { Prints (W.contents output.old) (W.contents output.new) printer.old printer.new
+        (json_is_stmt is_stmt ++ ((codes ",\"unit\":\"0x" ++ hexadecimal unit) ++ codes "\"")) result }
+{
+    print_is_stmt(printer, output, is_stmt)?;
+    print_unit(printer, output, unit)
+}
+
+fn print_is_stmt<W: Write>(
+    printer: &mut Printer,
+    output: &mut W,
+    is_stmt: bool,
+) -> Result<(), WriteFault>
+    ensures { Prints (W.contents output.old) (W.contents output.new) printer.old printer.new
+        (json_is_stmt is_stmt) result }
+{
+    if is_stmt {
+        printer.put(output, b",\"is_stmt\":true")
+    } else {
+        printer.put(output, b",\"is_stmt\":false")
+    }
+}
+
+fn print_unit<W: Write>(printer: &mut Printer, output: &mut W, unit: u64) -> Result<(), WriteFault>
+    ensures { Prints (W.contents output.old) (W.contents output.new) printer.old printer.new
+        ((codes ",\"unit\":\"0x" ++ hexadecimal unit) ++ codes "\"") result }
+{
+    printer.hexadecimal_number(output, b",\"unit\":\"0x", unit)?;
+    printer.put(output, b"\"")
+}
