@@ -30,7 +30,7 @@ impl<W: Write> Visitor<W> for Checker {
         Ok(())
     }
 
-    #[inline]
+    #[inline(always)]
     fn row(&mut self, _output: &mut W, _row: &Row) -> Result<(), RunFault> {
         Ok(())
     }

@@ -38,7 +38,7 @@ impl<W: Write> Visitor<W> for Seeker<'_> {
         Ok(())
     }
 
-    #[inline]
+    #[inline(always)]
     fn row(&mut self, _output: &mut W, row: &Row) -> Result<(), RunFault> {
         self.finder.row(row);
         Ok(())

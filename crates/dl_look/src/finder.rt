@@ -48,7 +48,7 @@ impl Finder {
     }
 
     /// Takes the next row.
-    #[inline]
+    #[inline(always)]
     pub fn row(&mut self, row: &Row)
         ensures { (x : Place) (rows : List Row) → StandsFor self.old x rows
             → StandsFor self.new x (rows ++ row.now ∷ []) }
@@ -61,7 +61,7 @@ impl Finder {
     }
 
     /// Takes a row behind which its sequence goes on.
-    #[inline]
+    #[inline(always)]
     fn go_on(&mut self, row: &Row)
         requires { row.now.end_sequence ≡ false }
         ensures { (x : Place) (rows : List Row) → StandsFor self.old x rows
@@ -89,6 +89,7 @@ impl Finder {
     }
 
     /// Takes an end row.
+    #[inline(always)]
     fn end_sequence(&mut self, row: &Row)
         requires { row.now.end_sequence ≡ true }
         ensures { (x : Place) (rows : List Row) → StandsFor self.old x rows
@@ -123,7 +124,7 @@ impl Finder {
 ///
 /// `end_sequence` is set anew, so that the flags aren't copied by one load: that would wait until the
 /// stores of single bytes a moment ago are done.
-#[inline]
+#[inline(always)]
 pub(crate) fn kept(row: &Row) -> Row
     requires { row.now.end_sequence ≡ false }
     ensures { result ≡ row.now }

@@ -17,7 +17,7 @@ impl Place {
     ghost use Rattle.dl_look.specs.Answer.{place_of, is_at_most, is_below};
 
     /// The place of a row.
-    #[inline]
+    #[inline(always)]
     pub fn of(row: &Row) -> Place
         ensures { result ≡ place_of row.now }
     {
@@ -28,7 +28,7 @@ impl Place {
     }
 
     /// Whether this place isn't above the other.
-    #[inline]
+    #[inline(always)]
     pub(crate) fn is_at_most(self, other: Place) -> bool
         ensures { result ≡ is_at_most self other }
     {
@@ -36,6 +36,7 @@ impl Place {
     }
 
     /// Whether this place is below the other.
+    #[inline(always)]
     pub(crate) fn is_below(self, other: Place) -> bool
         ensures { result ≡ is_below self other }
     {
