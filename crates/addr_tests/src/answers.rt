@@ -1,6 +1,6 @@
 //! Which row answers for an address, and what stands in the lines.
 use crate::sections::{DEAD, OVER, PATHS, PLAIN, TOP, asked, assert_addr, plain, section};
-use dl_addr::{Found, Question, Style};
+use dl_addr::{Form, Found, Question, Style};
 use dl_cmd::RunFault;
 use dl_head::FaultKind;
 use std::test::Fail;
@@ -74,7 +74,7 @@ fn bases_and_addresses(rt: HostRuntime) -> Result<(), Fail> {
     let question = Question {
         base: 0x5555_0000_0000,
         style: Style {
-            addresses: true,
+            form: Form::AddressAndLocation,
             ..PLAIN
         },
         ..plain(asked.as_slice())

@@ -6,7 +6,11 @@ mod answers;
 #[cfg(test)]
 mod each_call;
 #[cfg(test)]
-mod locations;
+mod lines;
+#[cfg(test)]
+mod live;
+#[cfg(test)]
+mod objects;
 #[cfg(test)]
 mod paths;
 #[cfg(test)]

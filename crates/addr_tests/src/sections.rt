@@ -1,7 +1,7 @@
 //! Worked sections for `addr`.
 ghost use Rattle.std.specs.Prelude.{◌≤◌};
 
-use dl_addr::{Asked, Found, Question, Style, addr};
+use dl_addr::{Asked, Form, Found, Question, Style, addr};
 use dl_cmd::{Options, RunFault, SECTION_LIMIT};
 use dl_num::Order;
 use std::alloc::Global;
@@ -58,9 +58,9 @@ pub const TOP: &str =
         01 00 00 01 01 01 08 01 2f 74 00 02 01 08 02 0f 01 74 6f 70 2e 63 00 00 00 09 \
         02 f0 ff ff ff ff ff ff ff 04 00 05 01 01 02 0f 00 01 01";
 
-/// The addresses themselves, and nothing else before a location.
+/// Locations, with whole paths.
 pub const PLAIN: Style = Style {
-    addresses: false,
+    form: Form::Location,
     basenames: false,
 };
 

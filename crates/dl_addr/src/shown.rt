@@ -6,7 +6,7 @@ ghost use Rattle.dl_addr.specs.Shown.{is_control, shown_byte, shown, text_in, pa
 ghost use Rattle.dl_addr.specs.Parts.{path_seen};
 
 use crate::basename::basename;
-use crate::json::json_string;
+use crate::json_text::json_string;
 use crate::path::Path;
 use crate::style::{Form, Style};
 use dl_look::NoMemory;

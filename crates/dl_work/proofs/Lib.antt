@@ -1,2 +1,4 @@
 pub mod TableLemmas
 pub mod WorkLemmas
+pub mod WordsLemmas
+pub mod LocateLemmas

@@ -5,3 +5,4 @@ pub mod Held
 pub mod Tables
 pub mod Work
 pub mod Located
+pub mod Locate

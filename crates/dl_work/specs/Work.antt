@@ -18,7 +18,7 @@ use Rattle.dl_work.specs.Files.{FilesStop, StringsAre}
 use Rattle.dl_work.specs.Tables.{OnFile}
 
 -- the program stops before its command: nothing is read of the input, and nothing written
-abbrev pub StopsBefore : (bytes : List ℕ) (start now : Option (List ℕ)) (result : Result Summary Stop) → Stop → Type 0
+abbrev pub StopsBefore : {A : Type 0} → (bytes : List ℕ) (start now : Option (List ℕ)) (result : Result A Stop) → Stop → Type 0
 StopsBefore bytes start now result stop = (result ≡ Err stop) × (bytes ≡ []) × Keeps start now
 
 -- a command's answer, its fault being the reason to stop

@@ -1,6 +1,8 @@
 //! What the program does for a job, over files, an input and an output.
 #![tactic(auto)]
 
+mod addr_words;
+mod code;
 mod command;
 mod files;
 mod locating;

@@ -1,0 +1,12 @@
+-- The words so far are addresses, and these are asked for.
+use Rattle.std.proofs.Common.{◌≡◌, map, take, true}
+use Rattle.std.specs.Prelude.{is_some}
+use Rattle.std.specs.List.{list_all}
+use Rattle.dl_addr.specs.AskedLines.{address_by}
+use Rattle.dl_work.proofs.addr_words.addresses.Given as goal
+
+abbrev pub invariant-loop-word : goal.invariant-loop-word
+invariant-loop-word l = record {
+  asked : l.asked.items ≡ map (λ s. record { address = address_by l.hex s.now }) (take l.word-index l.words);
+  understood : list_all (λ s. is_some (address_by l.hex s.now)) (take l.word-index l.words) ≡ true;
+}

@@ -1,0 +1,139 @@
+-- What the program does for the words of `addr`. bytes: what was read of the input, which has `left` left. start, now: what the output
+-- held at first, and holds now. held: what the file of a path holds, where that is known; fails: the errors that opening and reading it
+-- may give.
+use Rattle.std.specs.Prelude.{⊤, ◌≡◌, ◌≢◌, ◌⊎◌, ℕ, Bool, true, false, ◌&&◌, ◌||◌, not, List, [], ◌∷◌, map, length, ◌==◌, if◌then◌else◌, Option, Some, None, is_some, MatchOption, Result, Ok, Err, codes}
+use Rattle.std.specs.List.{list_all, list_any}
+use Rattle.std.specs.Option.{option_copied, option_map_or}
+use Rattle.std.specs.Str.{bytes_eq}
+use Rattle.std.specs.Io.KnownBytes.{IsAtEnd, Keeps}
+use Rattle.std.specs.declared.io.Error.{Error}
+use Rattle.clap.specs.Words.{Text}
+use Rattle.dl_elf.specs.Source.{ForBytes}
+use Rattle.dl_elf.specs.Code.{IsCode}
+use Rattle.dl_elf.specs.declared.code.Code.{Code}
+use Rattle.dl_elf.specs.declared.code.CodeFault.TheVariants as code_fault
+use Rattle.dl_elf.specs.declared.code.ExecutableRange.{ExecutableRange}
+use Rattle.dl_elf.specs.declared.fault.ElfFault.TheVariants.{Read}
+use Rattle.dl_look.specs.declared.code_ranges.AddressRange.{AddressRange}
+use Rattle.dl_look.specs.Ranges.{is_in}
+use Rattle.dl_cmd.specs.Job.{AddrTexts, addr}
+use Rattle.dl_cmd.specs.declared.fault.RunFault.{RunFault}
+use Rattle.dl_cmd.specs.declared.fault.RunFault.TheVariants as fault
+use Rattle.dl_print.specs.declared.summary.Summary.{Summary}
+use Rattle.dl_addr.specs.AskedLines.{IsAsked, StopsAsking, address_by}
+use Rattle.dl_addr.specs.Code.{is_code}
+use Rattle.dl_addr.specs.declared.asked.Asked.{Asked}
+use Rattle.dl_addr.specs.declared.asked_lines.AskedLines.{AskedLines}
+use Rattle.dl_addr.specs.declared.question.Found.{Found}
+use Rattle.dl_addr.specs.declared.question.Question.{Question}
+use Rattle.dl_addr.specs.declared.style.Form.{Form}
+use Rattle.dl_addr.specs.declared.style.Form.TheVariants.{Location, AddressAndLocation, Json}
+use Rattle.dl_work.specs.declared.command.Command.TheVariants.{Addr}
+use Rattle.dl_work.specs.declared.stop.FileFault.{FileFault}
+use Rattle.dl_work.specs.declared.stop.FileFault.TheVariants.{Open, Elf, NoMemory}
+use Rattle.dl_work.specs.declared.stop.Stop.{Stop}
+use Rattle.dl_work.specs.declared.stop.Stop.TheVariants.{NotUnderstood, Run}
+use Rattle.dl_work.specs.Asked.{section_of}
+use Rattle.dl_work.specs.Located.{located}
+use Rattle.dl_work.specs.Stops.{IsAt}
+use Rattle.dl_work.specs.Tables.{OnFile}
+use Rattle.dl_work.specs.Work.{OnInput, StopsBefore}
+
+-- ---- the words
+
+-- what is subtracted from each address; None where the word of `--base` is no address
+abbrev pub base_in : AddrTexts → Option ℕ
+base_in w = option_map_or (address_by w.hex) w.base (Some 0)
+
+-- what the words ask for, in order
+abbrev pub asked_in_words : AddrTexts → List Asked
+asked_in_words w = map (λ text. record { address = address_by w.hex text }) w.addresses
+
+-- each of them is an address
+abbrev pub are_addresses : AddrTexts → Bool
+are_addresses w = list_all (λ text. is_some (address_by w.hex text)) w.addresses
+
+-- what the line of an address says; a JSON object has the address, whether or not it is asked for
+abbrev pub form_in : AddrTexts → Form
+form_in w = if w.json then Json else if w.with_addresses then AddressAndLocation else Location
+
+-- these addresses are asked for, where there is code as `live` says
+pub record Asks (w : AddrTexts) (these : List Asked) (live : ℕ → Bool) (q : Question) : Type 0 where
+  pub asked : q.asked.now ≡ these
+  pub understood : are_addresses w ≡ true
+  pub base : base_in w ≡ Some q.base
+  pub code : (a : ℕ) → is_code (option_copied q.code) a ≡ live a
+  pub form : q.style.form ≡ form_in w
+  pub basenames : q.style.basenames ≡ w.basenames
+
+-- one of these isn't an address, or memory is refused for them
+abbrev pub AddressesStop : {A : Type 0} → (is_address : A → Bool) → List A → Stop → Type 0
+AddressesStop is_address words NotUnderstood = list_all is_address words ≡ false
+AddressesStop is_address words (Run fault.NoMemory) = words ≢ []
+AddressesStop is_address words other = ⊥
+
+-- the words aren't understood, or memory is refused for their addresses
+abbrev pub WordsStop : AddrTexts → Stop → Type 0
+WordsStop w NotUnderstood = (base_in w ≡ None) ⊎ (are_addresses w ≡ false)
+WordsStop w (Run fault.NoMemory) = w.addresses ≢ []
+WordsStop w other = ⊥
+
+-- ---- the section on the input, which wants an address among the words
+
+abbrev pub LocatesInSection : (held : Text → Option (List ℕ)) → AddrTexts → (bytes : List ℕ) (left start now : Option (List ℕ)) → Result Found Stop → Type 0
+LocatesInSection held w bytes left start now result =
+    ((stop : Stop) × (WordsStop w stop ⊎ ((w.addresses ≡ []) × (stop ≡ NotUnderstood))) × StopsBefore bytes start now result stop)
+    ⊎ ((q : Question) × (answer : Result Summary Stop) × (w.addresses ≢ []) × Asks w (asked_in_words w) (λ a. true) q
+    × OnInput held (section_of (addr w)) (Addr q) bytes left start now answer × (result ≡ located answer None))
+
+-- ---- the ELF file of a path. f: its bytes
+
+-- beside a file nothing is said of a section on the input
+abbrev pub says_section : AddrTexts → Bool
+says_section w = w.big || (is_some w.line_str || is_some w.strings)
+
+abbrev pub address_range : ExecutableRange → AddressRange
+address_range r = record { start = r.start; size = r.size }
+
+-- where there is code: in a linked file that has executable sections in these; in others, or where all are asked for, everywhere
+abbrev pub live_by : (all : Bool) → Code → ℕ → Bool
+live_by all code a =
+    if all || (not code.is_linked || (length code.ranges.items == 0)) then true
+    else list_any (is_in a) (map address_range code.ranges.items)
+
+-- why it can't be told where the file has code
+abbrev pub RefusesCode : (fails : Error → Type 0) (f : List ℕ) → FileFault → Type 0
+RefusesCode fails f (Open error) = fails error
+RefusesCode fails f (Elf (Read error)) = fails error
+RefusesCode fails f (Elf other) = IsCode f (Err (code_fault.Elf other))
+RefusesCode fails f NoMemory = IsCode f (Err code_fault.NoMemory) ⊎ ((code : Code) × IsCode f (Ok code) × (code.ranges.items ≢ []))
+RefusesCode fails f other = ⊥
+
+-- the addresses of the words; where there are none, those that the whole input says
+abbrev pub HasAsked : AddrTexts → List Asked → (bytes : List ℕ) (left : Option (List ℕ)) → AskedLines → Type 0
+HasAsked w [] bytes left lines = IsAsked w.hex bytes lines × IsAtEnd left
+HasAsked w (a ∷ asked) bytes left lines = (bytes ≡ []) × (lines.asked.items ≡ a ∷ asked) × (lines.no_address ≡ None)
+
+-- the words have none, and the input can't be read, or memory is refused for what it says
+abbrev pub InputStops : AddrTexts → List Asked → (bytes : List ℕ) → Stop → Type 0
+InputStops w asked bytes stop = (fault : RunFault) × (asked ≡ []) × StopsAsking w.hex bytes fault × (stop ≡ Run fault)
+
+abbrev pub LocatesInFile : (held : Text → Option (List ℕ)) (fails : Text → Error → Type 0) → Text → AddrTexts → (bytes : List ℕ) (left start now : Option (List ℕ)) → Result Found Stop → Type 0
+LocatesInFile held fails path w bytes left start now result = ForBytes (held path) (λ f.
+    ((stop : Stop) × (WordsStop w stop ⊎ ((says_section w ≡ true) × (stop ≡ NotUnderstood))) × StopsBefore bytes start now result stop)
+    ⊎ ((stop : Stop) × (fault : FileFault) × RefusesCode (fails path) f fault × IsAt path fault stop × StopsBefore bytes start now result stop)
+    ⊎ ((stop : Stop) × InputStops w (asked_in_words w) bytes stop × (result ≡ Err stop) × Keeps start now)
+    ⊎ ((code : Code) × (lines : AskedLines) × (q : Question) × (answer : Result Summary Stop)
+    × (says_section w ≡ false) × IsCode f (Ok code) × HasAsked w (asked_in_words w) bytes left lines × Asks w lines.asked.items (live_by w.all code) q
+    × OnFile (fails path) path (Addr q) f start now answer × (result ≡ located answer lines.no_address)))
+
+-- ---- by the words; a path `-` stands for a section on the input
+
+abbrev pub LocatesWhere : (is_input : Bool) → (held : Text → Option (List ℕ)) (fails : Text → Error → Type 0) → Text → AddrTexts → (bytes : List ℕ) (left start now : Option (List ℕ)) → Result Found Stop → Type 0
+LocatesWhere true held fails path w bytes left start now result = LocatesInSection held w bytes left start now result
+LocatesWhere false held fails path w bytes left start now result = LocatesInFile held fails path w bytes left start now result
+
+abbrev pub LocatesFor : (held : Text → Option (List ℕ)) (fails : Text → Error → Type 0) → AddrTexts → (bytes : List ℕ) (left start now : Option (List ℕ)) → Result Found Stop → Type 0
+LocatesFor held fails w bytes left start now result =
+    MatchOption w.file (StopsBefore bytes start now result NotUnderstood)
+    (λ path. LocatesWhere (bytes_eq path (codes "-")) held fails path w bytes left start now result)

@@ -1,0 +1,108 @@
+//! What the words of `addr` ask for.
+ghost use Rattle.std.specs.Prelude.{◌≡◌, IfErr, IfOk, None, Some, is_some, map, true};
+ghost use Rattle.std.specs.List.{list_all};
+ghost use Rattle.dl_cmd.specs.Job.{addr_words_made};
+ghost use Rattle.dl_addr.specs.AskedLines.{address_by};
+ghost use Rattle.dl_work.specs.Locate.{AddressesStop, WordsStop, are_addresses, asked_in_words, base_in, form_in, says_section};
+
+use crate::stop::Stop;
+use dl_addr::{Asked, AskedLines, Form, Question, Style};
+use dl_cmd::{AddrWords, RunFault, read_address, read_hex_address};
+use dl_look::CodeRanges;
+use std::alloc::Global;
+
+/// The address that a word says.
+fn address(hex: bool, word: &str) -> Option<u64>
+    ensures { result ≡ address_by hex word.now }
+{
+    if hex {
+        read_hex_address(word)
+    } else {
+        read_address(word)
+    }
+}
+
+/// What is subtracted from each address.
+pub fn base<'a>(words: &AddrWords<'a>) -> Result<u64, Stop<'a>>
+    ensures base { IfOk result (λ n. base_in (addr_words_made words.now) ≡ Some n) }
+    ensures stops { IfErr result (WordsStop (addr_words_made words.now)) }
+{
+    match words.base {
+        Some(word) => address(words.hex, word).ok_or(Stop::NotUnderstood),
+        None => Ok(0),
+    }
+}
+
+/// The addresses that these words say.
+fn addresses<'a>(alloc: Global, hex: bool, words: &[&str]) -> Result<Vec<Asked>, Stop<'a>>
+    ensures asked { IfOk result (λ asked. asked.items ≡ map (λ s. record { address = address_by hex s.now }) words.now) }
+    ensures understood { IfOk result (λ asked. list_all (λ s. is_some (address_by hex s.now)) words.now ≡ true) }
+    ensures stops { IfErr result (AddressesStop (λ s. is_some (address_by hex s.now)) words.now) }
+{
+    let mut asked = Vec::new(alloc);
+    for word in words {
+        let address = address(hex, *word);
+        if address.is_none() {
+            return Err(Stop::NotUnderstood);
+        }
+        if asked.push(Asked { address }).is_err() {
+            return Err(Stop::Run(RunFault::NoMemory));
+        }
+    }
+    Ok(asked)
+}
+
+/// The addresses among the words.
+pub fn asked_words<'a>(alloc: Global, words: &AddrWords<'a>) -> Result<AskedLines, Stop<'a>>
+    ensures asked { IfOk result (λ lines. lines.asked.items ≡ asked_in_words (addr_words_made words.now)) }
+    ensures understood { IfOk result (λ lines. are_addresses (addr_words_made words.now) ≡ true) }
+    ensures no_lines { IfOk result (λ lines. lines.no_address ≡ None) }
+    ensures stops { IfErr result (WordsStop (addr_words_made words.now)) }
+{
+    Ok(AskedLines {
+        asked: addresses(alloc, words.hex, words.addresses.as_slice())?,
+        no_address: None,
+    })
+}
+
+/// Whether they say something of a section on the input.
+pub fn says_section(words: &AddrWords<'_>) -> bool
+    ensures { result ≡ says_section (addr_words_made words.now) }
+{
+    words.big || words.line_str.is_some() || words.strings.is_some()
+}
+
+/// What the line of an address says. A JSON object has the address, whether or not it is asked for.
+fn form(words: &AddrWords<'_>) -> Form
+    ensures { result ≡ form_in (addr_words_made words.now) }
+{
+    match (words.json, words.with_addresses) {
+        (true, _) => Form::Json,
+        (false, true) => Form::AddressAndLocation,
+        (false, false) => Form::Location,
+    }
+}
+
+/// What is asked of a section.
+pub fn question<'q>(
+    words: &AddrWords<'_>,
+    base: u64,
+    asked: &'q [Asked],
+    code: Option<&'q CodeRanges>,
+) -> Question<'q>
+    ensures asked { result.asked.now ≡ asked.entry.now }
+    ensures base { result.base ≡ base }
+    ensures code { result.code ≡ code.entry }
+    ensures form { result.style.form ≡ form_in (addr_words_made words.now) }
+    ensures basenames { result.style.basenames ≡ words.now.basenames }
+{
+    Question {
+        asked,
+        base,
+        code,
+        style: Style {
+            form: form(words),
+            basenames: words.basenames,
+        },
+    }
+}
