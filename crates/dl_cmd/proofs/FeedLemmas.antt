@@ -15,7 +15,8 @@ use Rattle.dl_rows.specs.declared.reader.Event.TheVariants as event
 use Rattle.dl_rows.specs.declared.reader.Fed.{Fed}
 use Rattle.dl_rows.specs.LineUnit.{IsUnit, events}
 use Rattle.dl_rows.specs.Reading.{WithinUnit, told, EventHoldsBehind, FeedsBehind}
-use Rattle.dl_rows.specs.ReaderStands.{StandsFor, FedBehind}
+use Rattle.dl_rows.specs.ReaderStands.{StandsFor}
+use Rattle.dl_rows.specs.ReaderAnswers.{FedBehind}
 use Rattle.dl_cmd.specs.declared.fault.RunFault.{RunFault}
 use Rattle.dl_cmd.specs.declared.fault.RunFault.TheVariants as fault
 use Rattle.dl_cmd.specs.declared.section.Next.{Next}

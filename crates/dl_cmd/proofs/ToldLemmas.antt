@@ -13,7 +13,7 @@ use Rattle.dl_rows.specs.declared.reader.Event.TheVariants as event
 use Rattle.dl_rows.specs.declared.reader.Fed.{Fed}
 use Rattle.dl_rows.specs.declared.reader.Reader.{Reader}
 use Rattle.dl_rows.specs.LineUnit.{events}
-use Rattle.dl_rows.specs.ReaderStands.{FedBehind, RowsFed}
+use Rattle.dl_rows.specs.ReaderAnswers.{FedBehind, RowsFed}
 use Rattle.dl_rows.specs.Reading.{SinkAt, SinkBehind}
 use Rattle.dl_cmd.specs.declared.fault.RunFault.{RunFault}
 use Rattle.dl_cmd.specs.declared.section.Told.{Told}

@@ -13,7 +13,8 @@ use Rattle.dl_rows.specs.LineUnit.{IsUnit, unit_rows}
 use Rattle.dl_rows.specs.declared.reader.Reader.{Reader}
 use Rattle.dl_rows.specs.declared.reader.Finish.{Finish}
 use Rattle.dl_rows.specs.declared.reader.Finish.TheVariants as finish
-use Rattle.dl_rows.specs.ReaderStands.{StandsFor, HeaderIs}
+use Rattle.dl_rows.specs.ReaderStands.{StandsFor}
+use Rattle.dl_rows.specs.ReaderAnswers.{HeaderIs}
 use Rattle.dl_rows.specs.Reading.{WithinUnit, FinishIs}
 use Rattle.dl_rows.specs.Runs.{Sound}
 use Rattle.dl_rows.proofs.ReaderLemmas.{within_here}

@@ -7,7 +7,7 @@ use Rattle.dl_rows.specs.declared.reader.Event.TheVariants as event
 use Rattle.dl_rows.specs.declared.reader.Fed.{Fed}
 use Rattle.dl_rows.specs.Sinks as sinks
 use Rattle.dl_rows.specs.LineUnit.{events}
-use Rattle.dl_rows.specs.ReaderStands.{FedBehind}
+use Rattle.dl_rows.specs.ReaderAnswers.{FedBehind}
 use Rattle.dl_cmd.specs.declared.fault.RunFault.{RunFault}
 use Rattle.dl_cmd.specs.declared.section.Told.{Told}
 use Rattle.dl_cmd.specs.declared.section.Units.{Units}

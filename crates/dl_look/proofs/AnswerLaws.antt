@@ -71,7 +71,7 @@ upto rows x r e =
 abbrev pub NoEnd : Row → Type 0
 NoEnd r = r.end_sequence ≡ false
 
--- rows that don't end a sequence, and one behind them that does
+-- rows that don't end a sequence, and one after them that does
 pub record IsSequence (s : List Row) : Type 0 where
   pub inner : List Row
   pub last : Row

@@ -75,7 +75,7 @@ module _ (f : Finders) (places : List Place) (units : List (List Row)) (rows : L
       ∙ sym (ap (option_and_then (answer_of_units units)) (slice_get_past places i le))))
       (cases_lt i (length places))
 
--- the answers from one number up to another, before which the units answered, and behind which the unit behind them did too
+-- the answers from one number up to another, before which the units answered, and after which the unit after them did too
 module _ (f : Finders) (places : List Place) (units : List (List Row)) (last : List Row) (all : List (List Row)) (rows : List Row) (st : Stand f places all rows) (from to : ℕ) (upto : to ≤ length f.ledger.log.items) (below : from ≤ to)
     (were : (j : ℕ) → j < length f.slots.items → answer_upto from f.ledger (slot_number f.slots.items j) ≡ answer_of_units units (slot_place f.slots.items j))
     (are : (j : ℕ) → j < length f.slots.items → answer_upto to f.ledger (slot_number f.slots.items j) ≡ option_or (answer_of_units units (slot_place f.slots.items j)) (answer last (slot_place f.slots.items j))) where
@@ -140,7 +140,7 @@ are_of_last f places units last rows st =
     are_new f places units last (units ++ last ∷ []) rows st f.before f.whole f.ended f.earlier (st.earlier units last refl)
     (λ j lt. st.ended j lt ∙ answer_of_units-push units last (slot_place f.slots.items j))
 
--- those of the unit at hand
+-- those of the current unit
 pub are_of_this : (f : Finders) (places : List Place) (units : List (List Row)) (rows : List Row) → Stand f places units rows
     → AreFirstAnswers places units rows (take (length f.ledger.log.items - f.whole) (drop f.whole f.ledger.log.items))
 are_of_this f places units rows st =

@@ -20,7 +20,7 @@ swap true false true = refl
 swap true true false = refl
 swap true true true = refl
 
--- a row behind others
+-- a row after others
 rises_from-push : (x : Place) (q : Row) (s : List Row) (r : Row) → rises_from x (q ∷ s ++ r ∷ []) ≡ (rises_from x (q ∷ s) && is_at_most (last_place (q ∷ s)) (place_of r))
 rises_from-push x q s r =
     ap (λ b. b && is_at_most (place_of q) x) (is_rising-push q s r)

@@ -45,7 +45,7 @@ answer_of_units-push (u ∷ units) rows x =
     ap (option_or (answer u x)) (answer_of_units-push units rows x)
     ∙ sym (option_or_assoc (answer u x) (answer_of_units units x) (answer rows x))
 
--- the answer of a sequence's rows, behind that of the rows before them
+-- the answer of a sequence's rows, after that of the rows before them
 pub answer-end : (rows : List Row) (r : Row) (x : Place) → r.end_sequence ≡ true → answer (rows ++ r ∷ []) x ≡ option_or (answer rows x) (if answers_for x (unended rows ++ r ∷ []) then last_upto x (unended rows ++ r ∷ []) else None)
 answer-end rows r x end =
     answer-push_end rows r x end
@@ -162,7 +162,7 @@ keeps_fallen slots trail last end rows r place more at a h =
 pub keeps_passed : (rows : List Row) (r : Row) → r.end_sequence ≡ false → is_rising (unended rows) ≡ false → is_rising (unended (rows ++ r ∷ [])) ≡ false
 keeps_passed rows r more h = ap is_rising (unended-push [] rows r more) ∙ stays (unended rows) r h
 
--- the answer of a place, behind that of the units before
+-- the answer of a place, after that of the units before
 pub same_answer : (units : List (List Row)) (rows : List Row) (r : Row) (x : Place) → r.end_sequence ≡ false → option_or (answer_of_units units x) (answer rows x) ≡ option_or (answer_of_units units x) (answer (rows ++ r ∷ []) x)
 same_answer units rows r x more = ap (option_or (answer_of_units units x)) (sym (answer-push rows r x more))
 

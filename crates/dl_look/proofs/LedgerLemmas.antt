@@ -208,7 +208,7 @@ module _ (slots : List Slot) (old now mid : Ledger) (low high at further : ℕ) 
       let has = answer_some slots mid (slot_number slots j) sound (sym (sound.open j less) ∙ sym (stay j (omega (arith, sound.links))) ∙ closed j (omega arith) under) in
       as_was ∙ sym (option_or-some (answer_before j) (picked further j) (sym (ap is_none (kept ∙ as_was)) ∙ has))
 
-  -- those before and behind are picked as before
+  -- those before and after are picked as before
   alike : (j : ℕ) → j ≢ at → (j < at) ⊎ (further ≤ j) → (nat_le low j && nat_lt j (min at high)) ≡ (nat_le low j && nat_lt j (min further high))
   alike j ne where_it_is =
       ⊎_elim

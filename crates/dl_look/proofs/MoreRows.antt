@@ -1,4 +1,4 @@
--- One more row behind others.
+-- One more row after others.
 use Rattle.std.proofs.Common.{◌≡◌, Bool, true, false, ◌&&◌, List, [], ◌∷◌, ◌++◌, Option, Some, None, refl, sym, ap, ap₂, ◌∙◌}
 use Rattle.std.specs.Prelude.{if◌then◌else◌, is_none}
 use Rattle.std.specs.List.{find}
@@ -24,7 +24,7 @@ is_rising-push q (t ∷ s) r =
     ap (λ b. is_at_most (place_of q) (place_of t) && b) (is_rising-push t s r)
     ∙ sym (and_assoc (is_at_most (place_of q) (place_of t)) (is_rising (t ∷ s)) (is_at_most (last_place (t ∷ s)) (place_of r)))
 
--- a row behind a run
+-- a row after a run
 pub run_of-push : (rows : List Row) (r : Row) (run : Run) → Some run ≡ run_of rows → run_of (rows ++ r ∷ []) ≡ Some (record { first = run.first; last = place_of r; rising = run.rising && is_at_most run.last (place_of r) })
 run_of-push [] r run e = cc
 run_of-push (q ∷ s) r run e =
@@ -66,7 +66,7 @@ unended-push begun (q ∷ rows) r more =
       | false ↦ unended-push (begun ++ q ∷ []) rows r more
     ]
 
--- the answer among sequences, and one more behind them
+-- the answer among sequences, and one more after them
 abbrev pub answers_for : Place → List Row → Bool
 answers_for x s = is_rising s && covers x s
 

@@ -1,4 +1,4 @@
--- The sequences of rows, one behind the other, and what an index keeps of them.
+-- The sequences of rows, one after the other, and what an index keeps of them.
 use Rattle.std.proofs.Common.{◌≡◌, ℕ, zero, suc, ◌+◌, ◌<◌, ◌≤◌, Bool, true, false, ◌&&◌, List, [], ◌∷◌, ◌++◌, length, take, drop, get_or, Some, None, arith, refl, zero-add, sym, ap, ap₂, ◌∙◌, append_assoc, append-nil, length-append}
 use Rattle.std.specs.Prelude.{if◌then◌else◌}
 use Rattle.std.specs.Option.{option_and_then}
@@ -18,7 +18,7 @@ abbrev pub joined : List (List Row) → List Row
 joined [] = []
 joined (s ∷ ss) = s ++ joined ss
 
--- the rows are their sequences, and those behind the last end row
+-- the rows are their sequences, and those after the last end row
 pub joined-sequences : (begun rows : List Row) → joined (sequences_after begun rows) ++ unended_after begun rows ≡ begun ++ rows
 joined-sequences begun [] = sym (append-nil begun)
 joined-sequences begun (r ∷ rows) =
@@ -60,7 +60,7 @@ part_fits (s ∷ ss) rest zero h = omega (arith, length-append (s ++ joined ss) 
 part_fits (s ∷ ss) rest (suc i) h =
     omega (arith, part_fits ss rest i (omega arith), length-append (s ++ joined ss) rest, length-append s (joined ss), length-append (joined ss) rest, length-append s (joined (take i ss)))
 
--- before the sequence i is probed: the answer is among it and those behind it
+-- before the sequence i is probed: the answer is among it and those after it
 pub record Passed (rows now : List Row) (x : Place) (i probes : ℕ) : Type 0 where
   pub same : now ≡ rows
   pub others : answer rows x ≡ answer_among (drop i (sequences rows)) x

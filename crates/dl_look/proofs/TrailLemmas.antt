@@ -1,4 +1,4 @@
--- Stretches of slots, and one more behind them.
+-- Stretches of slots, and one more after them.
 use Rattle.std.proofs.Common.{◌≡◌, ℕ, ◌+◌, ◌<◌, ◌≤◌, Bool, true, false, ◌&&◌, List, [], ◌∷◌, ◌++◌, length, take, drop, get_or, Option, Some, None, refl, sym, ap, ap₂, ◌∙◌, ⊎_elim}
 use Rattle.std.specs.Prelude.{if◌then◌else◌, nat_le, nat_lt}
 use Rattle.std.specs.Option.{option_or}
@@ -30,14 +30,14 @@ row_at-push (t ∷ trail) s end j =
     ap₂ (λ (e : ℕ) (o : Option Row). if nat_le t.start j && nat_lt j e then Some t.row else o) (start_of-push trail s end) (row_at-push trail s end j)
     ∙ or_if (nat_le t.start j && nat_lt j (start_of trail s.start)) t.row (row_at trail s.start j) (if nat_le s.start j && nat_lt j end then Some s.row else None)
 
--- the stretch i of a trail, behind those before it
+-- the stretch i of a trail, after those before it
 pub row_at-more : (trail : List Stretch) (end i j : ℕ) → i < length trail → row_at (take (i + 1) trail) (start_of (drop (i + 1) trail) end) j ≡ option_or (row_at (take i trail) (start_of (drop i trail) end) j) (if nat_le (get_or trail i no_stretch).start j && nat_lt j (start_of (drop (i + 1) trail) end) then Some (get_or trail i no_stretch).row else None)
 row_at-more trail end i j lt =
     ap (λ l. row_at l (start_of (drop (i + 1) trail) end) j) (take_more trail i no_stretch lt)
     ∙ row_at-push (take i trail) (get_or trail i no_stretch) (start_of (drop (i + 1) trail) end) j
     ∙ ap (λ e. option_or (row_at (take i trail) e j) (if nat_le (get_or trail i no_stretch).start j && nat_lt j (start_of (drop (i + 1) trail) end) then Some (get_or trail i no_stretch).row else None)) (sym (ap (λ l. start_of l end) (drop_more trail i no_stretch lt)))
 
--- where the stretch behind the stretch i starts
+-- where the stretch after the stretch i starts
 pub start_within : (trail : List Stretch) (end k : ℕ) → k < length trail → start_of (drop k trail) end ≡ (get_or trail k no_stretch).start
 start_within trail end k lt = ap (λ l. start_of l end) (drop_more trail k no_stretch lt)
 

@@ -1,5 +1,5 @@
 -- The row that answers for a place. DWARF 5, section 6.2.2: address and op_index together are the place
--- of a row, rows come in sequences, and the end row of a sequence is the first place behind it.
+-- of a row, rows come in sequences, and the end row of a sequence is the first place after it.
 use Rattle.std.specs.Prelude.{Bool, true, ◌&&◌, ◌||◌, ◌==◌, nat_lt, nat_le, if◌then◌else◌, List, [], ◌∷◌, ◌++◌, reverse, Option}
 use Rattle.std.specs.List.{find}
 use Rattle.std.specs.Option.{option_and_then}
@@ -22,7 +22,7 @@ sequences_after begun [] = []
 sequences_after begun (r ∷ rows) =
     if r.end_sequence then (begun ++ r ∷ []) ∷ sequences_after [] rows else sequences_after (begun ++ r ∷ []) rows
 
--- rows without an end row behind them are in no sequence
+-- rows without an end row after them are in no sequence
 abbrev pub sequences : List Row → List (List Row)
 sequences rows = sequences_after [] rows
 

@@ -35,7 +35,7 @@ Keeps slots trail Start s = s ≡ []
 Keeps slots trail Passed s = is_rising s ≡ false
 Keeps slots trail (Open last end) s = IsTrail slots trail last end s
 
--- the finders look for the places, and were given these units, which ended, and rows of the unit at hand
+-- the finders look for the places, and were given these units, which ended, and rows of the current unit
 pub record Stand (finders : Finders) (places : List Place) (units : List (List Row)) (rows : List Row) : Type 0 where
   pub slots : IsSlots places finders.slots.items
   pub answers : (j : ℕ) → j < length finders.slots.items → answer_upto (length finders.ledger.log.items) finders.ledger (slot_number finders.slots.items j) ≡ option_or (answer_of_units units (slot_place finders.slots.items j)) (answer rows (slot_place finders.slots.items j))

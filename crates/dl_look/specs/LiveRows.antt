@@ -17,7 +17,7 @@ is_live live s = live (first_place s).address
 abbrev pub when_live : (ℕ → Bool) → List Row → List Row
 when_live live s = if is_live live s then s else []
 
--- those of the sequence at hand too
+-- those of the current sequence too
 abbrev pub live_rows : (ℕ → Bool) → List Row → List Row
 live_rows live rows = flat_map (when_live live) (sequences rows) ++ when_live live (unended rows)
 

@@ -17,7 +17,7 @@ slot_place slots j = (slice_index_or slots j no_slot).place
 abbrev pub slot_number : List Slot → ℕ → ℕ
 slot_number slots j = (slice_index_or slots j no_slot).number
 
--- no place is above one behind it
+-- no place is above one after it
 abbrev pub IsRising : List Slot → Type 0
 IsRising slots = (i j : ℕ) → i ≤ j → j < length slots → is_at_most (slot_place slots i) (slot_place slots j) ≡ true
 

@@ -15,7 +15,7 @@ span_of start sequence = record {
   rising = is_rising sequence;
 }
 
--- of sequences one behind the other
+-- of sequences one after the other
 abbrev pub spans_from : ℕ → List (List Row) → List Span
 spans_from start [] = []
 spans_from start (s ∷ ss) = span_of start s ∷ spans_from (start + length s) ss

@@ -1,4 +1,4 @@
--- Which row of the sequence at hand each slot has, in stretches of slots.
+-- Which row of the current sequence each slot has, in stretches of slots.
 use Rattle.std.specs.Prelude.{ℕ, ◌<◌, ◌≤◌, ◌&&◌, if◌then◌else◌, nat_le, nat_lt, List, [], ◌∷◌, length, slice_index_or, Option, Some, None}
 use Rattle.dl_rows.specs.declared.row.Row.{Row}
 use Rattle.dl_look.specs.declared.trail.Stretch.{Stretch}
@@ -8,7 +8,7 @@ use Rattle.dl_look.specs.Ledgers.{no_row}
 abbrev pub no_stretch : Stretch
 no_stretch = record { start = 0; row = no_row }
 
--- where the slots behind a stretch begin: where the next one does, or at the end
+-- where the slots after a stretch begin: where the next one does, or at the end
 abbrev pub start_of : List Stretch → ℕ → ℕ
 start_of [] end = end
 start_of (s ∷ trail) end = s.start

@@ -20,7 +20,7 @@ pub struct AddressRange {
 #[derive(Debug, Clone, Copy, PartialEq, Eq)]
 struct Reach {
     start: u64,
-    /// Behind the last address. At most 2^65.
+    /// After the last address. At most 2^65.
     end: u128,
 }
 

@@ -1,11 +1,11 @@
-//! The look-up of one place in rows that come one behind the other. Section 6.2.2.
+//! The look-up of one place in rows that come one after the other. Section 6.2.2.
 
 ghost use Rattle.std.specs.Prelude.{◌≡◌, false};
 
 use crate::place::Place;
 use dl_rows::Row;
 
-/// The look-up of one place in rows that come one behind the other, in fixed space.
+/// The look-up of one place in rows that come one after the other, in fixed space.
 #[derive(Debug, Clone, Copy)]
 pub struct Finder {
     place: Place,
@@ -17,9 +17,9 @@ pub struct Finder {
 enum State {
     /// The next row is the first of a sequence.
     Start,
-    /// The sequence at hand doesn't answer: it isn't rising, or its first row is above the place.
+    /// The current sequence doesn't answer: it isn't rising, or its first row is above the place.
     Passed,
-    /// The sequence at hand is rising, and its first row isn't above the place.
+    /// The current sequence is rising, and its first row isn't above the place.
     Open {
         /// The place of its last row.
         last: Place,
@@ -60,7 +60,7 @@ impl Finder {
         }
     }
 
-    /// Takes a row behind which its sequence goes on.
+    /// Takes a row after which its sequence goes on.
     #[inline(always)]
     fn go_on(&mut self, row: &Row)
         requires { row.now.end_sequence ≡ false }

@@ -1,4 +1,4 @@
-//! The look-up of many places in rows that come one behind the other. Section 6.2.2.
+//! The look-up of many places in rows that come one after the other. Section 6.2.2.
 
 ghost use Rattle.std.specs.Prelude.{◌≡◌, ℕ, ◌<◌, ◌≤◌, true, length, vec_capacity};
 ghost use Rattle.std.proofs.Props.{props};
@@ -17,7 +17,7 @@ use crate::trail::{Stretch, pass, settle};
 use dl_rows::Row;
 use std::alloc::Global;
 
-/// The look-up of many places in the rows of units that come one behind the other.
+/// The look-up of many places in the rows of units that come one after the other.
 ///
 /// Each row of a unit goes to `row`. Once the unit is whole `end_unit` makes its rows count, and `answered`
 /// tells which places it is the first to answer; a unit that turns out to be damaged isn't ended.
@@ -31,7 +31,7 @@ pub struct Finders {
     slots: Vec<Slot>,
     /// The answers, in the order in which they came.
     ledger: Ledger,
-    /// The rows of the sequence at hand for the slots that it has passed over.
+    /// The rows of the current sequence for the slots that it has passed over.
     trail: Vec<Stretch>,
     state: State,
     /// How many answers there were before the last unit that ended.
@@ -50,14 +50,14 @@ pub struct Finders {
     ghost earlier: { before ≤ whole },
 }
 
-/// What is kept of the sequence at hand.
+/// What is kept of the current sequence.
 #[derive(Debug, Clone, Copy)]
 enum State {
     /// The next row is the first of a sequence.
     Start,
-    /// The sequence at hand isn't rising.
+    /// The current sequence isn't rising.
     Passed,
-    /// The sequence at hand is rising.
+    /// The current sequence is rising.
     Open {
         /// Its last row.
         last: Row,
@@ -93,7 +93,7 @@ impl Finders {
         })
     }
 
-    /// Takes the next row of the unit at hand.
+    /// Takes the next row of the current unit.
     #[inline]
     pub fn row(&mut self, row: &Row)
         ensures { (places : List Place) (units : List (List Row)) (rows : List Row)
@@ -106,7 +106,7 @@ impl Finders {
         }
     }
 
-    /// Takes a row behind which its sequence goes on.
+    /// Takes a row after which its sequence goes on.
     #[inline]
     fn go_on(&mut self, row: &Row)
         requires { row.now.end_sequence ≡ false }
@@ -154,7 +154,7 @@ impl Finders {
         }
     }
 
-    /// The unit at hand ends, and its rows count; the next row is the first one of the next unit.
+    /// The current unit ends, and its rows count; the next row is the first one of the next unit.
     pub fn end_unit(&mut self)
         ensures { (places : List Place) (units : List (List Row)) (rows : List Row)
             → Stand self.old places units rows → Stand self.new places (units ++ rows ∷ []) [] }
@@ -172,7 +172,7 @@ impl Finders {
         &self.ledger.log()[self.before..self.whole]
     }
 
-    /// The places that the rows of the unit at hand are the first to answer so far, each once.
+    /// The places that the rows of the current unit are the first to answer so far, each once.
     pub fn answered_so_far(&self) -> &[Answered]
         ensures { (places : List Place) (units : List (List Row)) (rows : List Row)
             → Stand self.now places units rows → AreFirstAnswers places units rows result.now }

@@ -2,7 +2,7 @@
 
 use dl_rows::Row;
 
-/// Tells the rows of live sequences, of rows that come one behind the other: a sequence whose first row's
+/// Tells the rows of live sequences, of rows that come one after the other: a sequence whose first row's
 /// address is that of no code is dead, as linkers leave those of functions that they drop.
 ///
 /// Where `begins` says so, the next row's address is looked up among those of code. Each row goes to
@@ -17,9 +17,9 @@ pub struct LiveRows {
 enum At {
     /// The next row is the first of a sequence.
     Between,
-    /// The sequence at hand is live.
+    /// The current sequence is live.
     Live,
-    /// The sequence at hand is dead.
+    /// The current sequence is dead.
     Dead,
 }
 

@@ -2,7 +2,7 @@
 
 use crate::place::Place;
 
-/// Rows one behind the other: the places of the first and of the last, and whether no place is below
+/// Rows one after the other: the places of the first and of the last, and whether no place is below
 /// the one before it.
 #[derive(Debug, Clone, Copy, PartialEq, Eq)]
 pub struct Run {
@@ -17,7 +17,7 @@ impl Run {
     ghost use Rattle.dl_look.specs.Answer.{place_of};
     ghost use Rattle.dl_look.specs.Spans.{run_of};
 
-    /// The rows of a run, None for none, and a row behind them.
+    /// The rows of a run, None for none, and a row after them.
     #[inline]
     pub fn extended(run: Option<Run>, place: Place) -> Run
         ensures { (rows : List Row) (r : Row) → run ≡ run_of rows → place ≡ place_of r

@@ -1,4 +1,4 @@
-//! Which row of the sequence at hand each slot has, as far as the sequence has come.
+//! Which row of the current sequence each slot has, as far as the sequence has come.
 
 ghost use Rattle.std.specs.Prelude.{◌≡◌, ℕ, ◌<◌, ◌≤◌, ◌&&◌, if◌then◌else◌, length, true, nat_le, nat_lt, Some, None, vec_capacity};
 ghost use Rattle.std.specs.Option.{option_or};

@@ -27,7 +27,8 @@ use Rattle.dl_rows.specs.Sinks.{Story}
 use Rattle.dl_rows.specs.LineUnit.{events}
 use Rattle.dl_rows.specs.Reading.{Feeds, IsPause, SinkAt, SinkBehind, FinishIs}
 use Rattle.dl_rows.specs.Refusal.{Refused}
-use Rattle.dl_rows.specs.ReaderStands.{StandsFor, ReaderFed, FedBehind, RowsFed}
+use Rattle.dl_rows.specs.ReaderStands.{StandsFor}
+use Rattle.dl_rows.specs.ReaderAnswers.{ReaderFed, FedBehind, RowsFed}
 use Rattle.dl_rows.specs.ReaderStates.{InHeader, StandsAt}
 use Rattle.dl_rows.specs.UnitBodies.{InForeign, BodyFedBehind, BodyTells}
 use Rattle.dl_rows.proofs.BodyStops.{fails_again}

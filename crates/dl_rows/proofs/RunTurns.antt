@@ -15,7 +15,8 @@ use Rattle.dl_rows.specs.declared.reader.run.Run.{Run}
 use Rattle.dl_rows.specs.Heard.{Hears}
 use Rattle.dl_rows.specs.LineUnit.{IsUnit}
 use Rattle.dl_rows.specs.Reading.{WithinUnit, told}
-use Rattle.dl_rows.specs.ReaderStands.{StandsFor, ReaderFed}
+use Rattle.dl_rows.specs.ReaderStands.{StandsFor}
+use Rattle.dl_rows.specs.ReaderAnswers.{ReaderFed}
 use Rattle.dl_rows.specs.Runs.{MayGive, May, is_end, goes_on, is_refusal, refusals, told_by, heard_in, outcome, Traced, RunIs, UnitRunIs}
 use Rattle.dl_rows.proofs.ReaderLemmas.{within_here}
 use Rattle.dl_rows.proofs.RunLemmas.{Given, turned, trace_runs, trace_of_unit}

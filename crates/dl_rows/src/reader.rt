@@ -91,7 +91,8 @@ pub struct Reader {
 impl Reader {
     ghost use Rattle.dl_rows.specs.Progress.{taken_of};
     ghost use Rattle.dl_rows.specs.Reading.{IsPause};
-    ghost use Rattle.dl_rows.specs.ReaderStands.{StandsFor, HeaderIs, ReaderFed, RowsFed};
+    ghost use Rattle.dl_rows.specs.ReaderStands.{StandsFor};
+    ghost use Rattle.dl_rows.specs.ReaderAnswers.{HeaderIs, ReaderFed, RowsFed};
     ghost use Rattle.dl_rows.specs.declared.row.Row.{Row};
 
     /// No byte yet of a unit whose numbers stand in this order. It takes no memory.

@@ -7,7 +7,7 @@ use test_support::{end, row};
 #[test]
 fn sequences_of_every_kind(rt: HostRuntime) -> Result<(), Fail> {
     let rows = [
-        // Above those behind it.
+        // Above those after it.
         row(0x200, 0, 1),
         end(0x210, 0, 1),
         row(0x100, 0, 2),
@@ -16,7 +16,7 @@ fn sequences_of_every_kind(rt: HostRuntime) -> Result<(), Fail> {
         // Over the end of the one before it.
         row(0x110, 0, 4),
         end(0x130, 0, 4),
-        // Falls once, over the one behind it.
+        // Falls once, over the one after it.
         row(0x300, 0, 5),
         row(0x2ff, 255, 6),
         row(0x305, 0, 6),

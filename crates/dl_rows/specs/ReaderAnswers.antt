@@ -1,0 +1,36 @@
+-- What the calls of a reader of a unit answer. DWARF 5, section 6.2.
+use Rattle.std.specs.Prelude.{◌≡◌, ℕ, List, ◌++◌, map, take, Option, Some, None, Result, Ok, Err}
+use Rattle.dl_num.specs.declared.fixed.Order.{Order}
+use Rattle.dl_head.specs.declared.fault.Fault.{Fault}
+use Rattle.dl_head.specs.TableData.{HeaderData}
+use Rattle.dl_head.specs.Header.{header_in}
+use Rattle.dl_rows.specs.declared.reader.Fed.{Fed}
+use Rattle.dl_rows.specs.declared.reader.Reader.{Reader}
+use Rattle.dl_rows.specs.declared.row.Row.{Row}
+use Rattle.dl_rows.specs.declared.reader.Event.{Event}
+use Rattle.dl_rows.specs.declared.reader.Event.TheVariants as event
+use Rattle.dl_rows.specs.LineUnit.{events}
+use Rattle.dl_rows.specs.Reading.{Feeds, FeedsBehind, Fails, FailsBehind, SinkBehind}
+use Rattle.dl_rows.specs.Sinks.{Story}
+use Rattle.dl_rows.specs.ReaderStands.{StandsFor}
+
+-- `feed`: an event, or the fault of the bytes that it took (none, where the fault stood before)
+abbrev pub ReaderFed : Order → List ℕ → List ℕ → Result Fed Fault → Reader → Type 0
+ReaderFed order b piece (Ok fed) new = Feeds StandsFor order b piece fed new
+ReaderFed order b piece (Err fault) new = (used : ℕ) × Fails order b piece fault used × StandsFor new (b ++ take used piece)
+
+-- an answer after the events before
+abbrev pub FedBehind : Order → (before : List Event) → (b piece : List ℕ) → Result Fed Fault → Reader → Type 0
+FedBehind order before b piece (Ok fed) new = FeedsBehind StandsFor order before b piece fed new
+FedBehind order before b piece (Err fault) new = (used : ℕ) × FailsBehind order before b piece fault used × StandsFor new (b ++ take used piece)
+
+-- `feed_rows`: the sink, which had heard the rows before, heard those that come before the answer
+pub record RowsFed {S : Type 0} (story : Story S) (order : Order) (b piece : List ℕ) (before : List Row) (result : Result Fed Fault) (new : Reader) (s : S) : Type 0 where
+  pub rows : List Row
+  pub fed : FedBehind order (events order b ++ map event.Row rows) b piece result new
+  pub sink : SinkBehind story s (before ++ rows) result
+
+-- `header` and `into_header`: the header that b begins with
+abbrev pub HeaderIs : Reader → Option HeaderData → Type 0
+HeaderIs r (Some h) = (b : List ℕ) → StandsFor r b → (program : List ℕ) × (header_in r.order b ≡ Some (h, program))
+HeaderIs r None = (b : List ℕ) → StandsFor r b → header_in r.order b ≡ None
