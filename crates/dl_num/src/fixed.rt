@@ -101,6 +101,12 @@ pub fn number_of(bytes: &[u8], order: Order) -> u64
     requires { IsTrue (is_number_size (length bytes.now)) }
     ensures { result ≡ fixed order bytes.now }
 {
+    if bytes.len() == 4 {
+        return u64::from(match order {
+            Order::Little => LittleEndian::read_u32(bytes),
+            Order::Big => BigEndian::read_u32(bytes),
+        });
+    }
     match order {
         Order::Little => LittleEndian::read_uint(bytes, bytes.len()),
         Order::Big => BigEndian::read_uint(bytes, bytes.len()),

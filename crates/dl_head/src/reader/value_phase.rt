@@ -20,6 +20,7 @@ impl Cursor {
     ghost use Rattle.dl_head.specs.TablePlace.{Moves};
 
     /// The place after this one, where an entry has so many values; None after the last one.
+    #[inline(always)]
     pub fn next(self, width: usize) -> Option<Cursor>
         requires { self.column < width }
         ensures within { IfSome result (λ at. at.column < width) }
@@ -62,6 +63,7 @@ impl ValuePhase {
     ghost use Rattle.dl_head.specs.TableStep.{value_start, value_due, value_filled};
 
     /// No byte yet of a value of the form, where the next byte of the pool has this place.
+    #[inline(always)]
     pub fn new(form: Form, format: Format, pool_len: usize) -> ValuePhase
         ensures begun { value_start result ≤ pool_len }
         ensures filled { value_filled result pool_len ≡ pool_len }

@@ -189,6 +189,7 @@ impl TableReader {
     }
 
     /// Enters a value that is complete.
+    #[inline(always)]
     #[tactic(auto, using(crate::proofs::HeldLemmas::pushes))]
     pub(super) fn enter(&mut self, at: Cursor, held: Held, format: Format) -> Next
         requires in_row { at.column < length self.old.pairs.items }
@@ -207,6 +208,7 @@ impl TableReader {
     }
 
     /// Goes on to the value after this place.
+    #[inline(always)]
     fn end_value(&mut self, at: Cursor, format: Format)
         requires in_row { at.column < length self.old.pairs.items }
         requires whole { values_end self.old.values.items ≤ length self.old.pool.items }
@@ -221,6 +223,7 @@ impl TableReader {
     }
 
     /// Goes on to the value at this place.
+    #[inline(always)]
     pub(super) fn begin_value(&mut self, at: Cursor, format: Format)
         requires in_row { at.column < length self.old.pairs.items }
         requires whole { values_end self.old.values.items ≤ length self.old.pool.items }
