@@ -75,8 +75,8 @@ impl HeadReader {
     }
 
     /// Takes a value of the table at hand with which the piece begins, where the header goes on behind
-    /// it: how many bytes it has. 0, and nothing is taken, where it begins with no such value, or memory
-    /// is refused.
+    /// it: how many bytes it has. 0, and nothing is taken, where it begins with no such value, memory is
+    /// refused, or the piece is of one byte, which `step` takes sooner.
     #[inline(always)]
     fn whole_value(&mut self, piece: &[u8]) -> usize
         ensures within { result ≤ length piece.now }
@@ -84,7 +84,7 @@ impl HeadReader {
         ensures takes { (b : List ℕ) → StandsFor self.old b → Answers self.old.order b answer.More
             → TakesAll self.old.order b (take result piece.now) self.new }
     {
-        if !self.phase.is_table() {
+        if piece.len() < 2 || !self.phase.is_table() {
             return 0;
         }
         let bytes = self.inside(piece);

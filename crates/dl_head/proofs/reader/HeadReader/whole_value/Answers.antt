@@ -4,8 +4,8 @@ use Rattle.dl_head.proofs.WholeSteps.{takes_none, table_goes, phase_of_table, va
 use Rattle.dl_head.specs.declared.reader.next.Next.TheVariants as byte_makes
 use Rattle.dl_head.proofs.reader.HeadReader.whole_value.Goals as goal
 
-pub returns-then-not-is_table-clause-takes : goal.returns-then-not-is_table-clause-takes
-returns-then-not-is_table-clause-takes c b s more = takes_none c.args.self.now.order b c.args.self.now s more
+pub returns-then-piece-lt2-clause-takes : goal.returns-then-piece-lt2-clause-takes
+returns-then-piece-lt2-clause-takes c b s more = takes_none c.args.self.now.order b c.args.self.now s more
 
 pub invariant_of-self-clause-read : goal.invariant_of-self-clause-read
 invariant_of-self-clause-read c =
