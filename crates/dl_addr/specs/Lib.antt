@@ -1,17 +1,19 @@
+-- What the public contracts say rests on these, in reading order.
 pub mod Asked
 pub mod Paths
-pub mod Parts
 pub mod Json
 pub mod Shown
 pub mod Code
 pub mod Locations
 pub mod Commands
+pub mod AskedLines
+-- Of contracts inside the crate, and of proofs; no public contract reaches these.
+pub mod Parts
 pub mod Texts
 pub mod Keeping
 pub mod Locating
 pub mod Answers
 pub mod Printing
 pub mod Knowing
-pub mod AskedLines
 pub mod Line
 pub mod LinesRead

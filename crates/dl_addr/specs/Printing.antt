@@ -1,4 +1,4 @@
--- The lines of what is asked, of what is kept of their answers.
+-- The lines of what is asked, of what is kept of their answers. No promise rests on this file.
 use Rattle.std.specs.Prelude.{◌≡◌, ℕ, if◌then◌else◌, List, ◌++◌, flat_map, is_some, Option, Some, None, option_map, Result, Ok, Err}
 use Rattle.std.specs.Io.KnownBytes.{Appends}
 use Rattle.std.specs.List.{list_all}

@@ -1,4 +1,4 @@
--- What `copy` prints of a unit. DWARF 5, section 6.2.
+-- What `copy` prints of a unit. DWARF 5, section 6.2. No promise rests on this file.
 use Rattle.std.specs.Prelude.{◌≡◌, ℕ, List, ◌++◌, Option, Some, None, Result, Ok, Err}
 use Rattle.dl_num.specs.declared.fixed.Order.{Order}
 use Rattle.dl_head.specs.TableData.{HeaderData}

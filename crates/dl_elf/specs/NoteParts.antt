@@ -1,4 +1,4 @@
--- What a note is read as.
+-- What a note is read as. No promise rests on this file.
 use Rattle.std.specs.Prelude.{◌≡◌, ℕ, IsTrue, List}
 use Rattle.dl_num.specs.declared.fixed.Order.{Order}
 use Rattle.dl_elf.specs.declared.build_id.Note.{Note}

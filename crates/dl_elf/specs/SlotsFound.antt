@@ -1,4 +1,4 @@
--- The slots of a pass over the section headers, as far as it has come.
+-- The slots of a pass over the section headers, as far as it has come. No promise rests on this file.
 use Rattle.std.specs.Prelude.{ℕ, ◌<◌, List, Option}
 use Rattle.dl_elf.specs.declared.file.Elf.{Elf}
 use Rattle.dl_elf.specs.declared.named.NamedSection.{NamedSection}

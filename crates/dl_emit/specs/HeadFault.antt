@@ -1,4 +1,4 @@
--- A header's fault as a unit's.
+-- A header's fault as a unit's. No promise rests on this file.
 use Rattle.dl_head.specs.declared.counted.HeadWrite.{HeadWrite}
 use Rattle.dl_head.specs.declared.counted.HeadWrite.TheVariants as head
 use Rattle.dl_emit.specs.declared.fault.EmitFault.{EmitFault}

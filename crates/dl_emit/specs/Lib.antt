@@ -1,8 +1,10 @@
-pub mod Gathered
-pub mod HeadFault
-pub mod Laws
+-- What the public contracts say rests on these, in reading order.
 pub mod OperationBytes
 pub mod Program
-pub mod Room
-pub mod Writing
 pub mod WrittenUnit
+pub mod Laws
+pub mod Writing
+-- Of contracts inside the crate, and of proofs; no public contract reaches these.
+pub mod Gathered
+pub mod HeadFault
+pub mod Room

@@ -73,7 +73,7 @@ leb_cells w v e = elim (cases_Bool (is_leb w)) [
   | inr n ↦ absurd (none_some {a = Ok v} refl (rw n at e))
 ]
 
--- the bytes behind a number in LEB128 are fewer
+-- the bytes after a number in LEB128 are fewer
 behind_some : (w : List ℕ) → is_leb (leb_front w) ≡ true → 1 + length (behind_leb w) ≤ length w
 behind_some w t = omega (arith, leb_some (leb_front w) t, leb_front-le w, length-drop (length (leb_front w)) w)
 

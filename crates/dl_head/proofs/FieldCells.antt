@@ -241,7 +241,7 @@ by_fixed order f n size bytes is =
     let b = begun_fixed f is.0 (size ++ bytes) is.1 in
     (b.0, b.1 ∙ begun_bytes order is.0 n size bytes is.2)
 
--- the length of a block is one cell, and each byte behind it
+-- the length of a block is one cell, and each byte after it
 pub begun_with : (order : Order) (f : Form) (n : ℕ) (size bytes : List ℕ) → IsLengthOf order f n size → (has_bytes f ≡ true) × (begun_cells f (size ++ bytes) ≡ 1 + length bytes)
 begun_with order form.Block n size bytes is = (refl, begun_leb_bytes n size bytes is)
 begun_with order form.Block1 n size bytes is = by_fixed order form.Block1 n size bytes is

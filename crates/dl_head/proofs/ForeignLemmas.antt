@@ -6,7 +6,7 @@ use Rattle.dl_head.specs.Header.{Cut, cut_after, cut, foreign_in, foreign_made}
 use Rattle.dl_head.proofs.CutLemmas.{cut-append}
 use Rattle.dl_head.proofs.RefusalLaws.{foreign_last}
 
--- behind a foreign version nothing is cut off
+-- after a foreign version nothing is cut off
 no_items : (order : Order) (version : ℕ) (begun b : List ℕ) → (cut_after order (foreign_version version) begun b).items ≡ []
 no_items order version begun [] = refl
 no_items order version begun (x ∷ b) = no_items order version (begun ++ x ∷ []) b

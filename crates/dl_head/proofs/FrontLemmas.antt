@@ -26,7 +26,7 @@ fronts (x ∷ b) (y ∷ c) v u e =
       | inr (inr g) ↦ inr (inr (g.0, g.1, rw same (ap (λ (l : List ℕ). y ∷ l) g.2)))
     ]
 
--- what is left of a list behind a front of it
+-- what is left of a list after a front of it
 pub behind_front : (b v u : List ℕ) → b ++ v ≡ b ++ u → v ≡ u
 behind_front [] v u e = e
 behind_front (x ∷ b) v u e = behind_front b v u (let f : b ++ v ≡ b ++ u = cc in f)

@@ -1,4 +1,4 @@
--- The header reader in its tables: from a byte of the table at hand to the header's.
+-- The header reader in its tables: from a byte of the current table to the header's.
 use Rattle.std.proofs.Common.{◌≡◌, ℕ, ◌+◌, List, [], ◌∷◌, ◌++◌, length, drop, not, ◌==◌, Some, refl, sym, ap, subst, ◌∙◌, arith}
 use Rattle.std.proofs.lemmas.Bool.{eqb-true}
 use Rattle.dl_num.specs.declared.fixed.Order.{Order}
@@ -136,7 +136,7 @@ behind_same old new items layout s b = record {
   overrun = s.overrun ∙ b.overrun;
 }
 
--- the table at hand, by another reader
+-- the current table, by another reader
 in_table : (old new : HeadReader) (mid : TableReader) (items : List Item) (layout : Layout) (rest : List ℕ) (next : TableData → Layout) → SameFields old new → new.table ≡ mid → (mid.phase ≡ table.Whole → ⊥)
     → Behind new items layout → TableAt old.order mid mid.phase old.params.format next layout rest → InTable new items rest next
 in_table old new mid items layout rest next s e going behind at = record {
@@ -226,7 +226,7 @@ adds_beside order layout rest w byte_makes.Ends n before after old new e f adds 
 adds_beside order layout rest w (byte_makes.Refuses kind) n before after old new e f adds = omega (arith, e, f, adds)
 adds_beside order layout rest w byte_makes.NoMemory n before after old new e f adds = (f ∙ ap (λ (k : ℕ). n + k) adds.0 ∙ sym e, adds.1)
 
--- bytes of the table at hand
+-- bytes of the current table
 pub table_adds : (old : HeadReader) (mid : TableReader) (items : List Item) (rest : List ℕ) (bytes : List ℕ) (result : Next) (next : TableData → Layout) (n held : ℕ) → InTable old items rest next
     → BytesFollow old.order old.params.format old.table bytes result mid → held_cells old ≡ n + reader_cells old.table → held ≡ n + reader_cells mid
     → Adds old.order (following_all header_layout items) rest (rest ++ bytes) result (held_cells old) held

@@ -89,7 +89,7 @@ values_held-more pool more [] h = refl
 values_held-more pool more (v ∷ values) h =
     rw (value_held-more pool more v (omega arith), values_held-more pool more values (omega arith)) refl
 
--- a value is held behind the others, and its bytes behind theirs
+-- a value is held after the others, and its bytes after theirs
 pub values_held-push : (pool more : List ℕ) (values : List Held) (h : Held) (v : Value) → values_end values ≤ length pool → value_held (pool ++ more) h ≡ v → map (value_held (pool ++ more)) (values ++ h ∷ []) ≡ map (value_held pool) values ++ v ∷ []
 values_held-push pool more values h v within is =
     rw (map-append (value_held (pool ++ more)) values (h ∷ []), values_held-more pool more values within, is) refl

@@ -160,7 +160,7 @@ last_quiet order h w v is =
 some_number : (a b : ℕ) → ◌≡◌ {A = Option ℕ} (Some a) (Some b) → a ≡ b
 some_number a b e = cc
 
--- a header has fields behind header_length
+-- a header has fields after header_length
 more_fields : (order : Order) (h : HeaderData) (w : List ℕ) (is : IsHeader order h w) (o : Opening order is.items is.fields) → 1 ≤ length o.rest
 more_fields order h w is o = on o.more o.items_are o.spelt where
   on : (more : List Item) → is.items ≡ length_is o.format o.unit_length ∷ number_is 5 ∷ number_is o.address ∷ number_is o.segment ∷ number_is o.header ∷ more

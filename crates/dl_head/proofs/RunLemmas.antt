@@ -21,7 +21,7 @@ use Rattle.dl_head.proofs.HeaderLaws.{one_header, header_is_not_foreign}
 use Rattle.dl_head.proofs.QuietLemmas.{header_is_not_refused}
 use Rattle.dl_head.proofs.TurnLemmas.{joined, used_cons, true_or_false, goes_first, last_of_push, trace_more, trace_last, Moves, moves_first}
 
--- the reader has taken the first i bytes of the piece behind b, and the header goes on
+-- the reader has taken the first i bytes of the piece after b, and the header goes on
 pub record Offering (order : Order) (b piece : List ℕ) (i : ℕ) (r : HeadReader) : Type 0 where
   pub stands : StandsFor r (b ++ take i piece)
   pub more : Answers order (b ++ take i piece) answer.More
@@ -180,7 +180,7 @@ goes_of (answer.Foreign v) e = absurd cc
 goes_of answer.Done e = absurd cc
 goes_of (answer.Fault f) e = absurd cc
 
--- behind an answer that others follow
+-- after an answer that others follow
 goes_behind : (order : Order) (b bytes : List ℕ) (n : ℕ) (a : Answer HeadStep) → Answered order b (take n bytes) a → so_far a.gave ≡ answer.More → Answers order (b ++ take a.used bytes) answer.More
 goes_behind order b bytes n a answered goes =
     subst (λ (s : HeadStep). Answers order (b ++ take a.used bytes) s) goes (took_of_piece order b bytes n a.used a.gave answered.took).answers
@@ -244,7 +244,7 @@ module _ (order : Order) (h : HeaderData) (b front rest turns : List ℕ) (run :
     | inr le ↦ omega (arith, le)
   ]
 
-  -- what was taken, and what of the header is behind it
+  -- what was taken, and what of the header is after it
   parted : (b ++ take run.taken (front ++ rest)) ++ drop run.taken front ≡ b ++ front
   parted =
       ap (λ (l : List ℕ). (b ++ l) ++ drop run.taken front) (take-append-le run.taken front rest no_further)

@@ -82,7 +82,7 @@ table_next order t (table.Value at v) format next layout rest is going = on v is
     on (value.LebBlockLength n) in_value = subst IsNext (sym in_value.layout_is) (value_next format next t.pairs.items in_value.entries in_value.before at.left _ in_value.pair in_value.later in_value.at_pair _)
 table_next order t table.Whole format next layout rest at going = absurd (going refl)
 
--- ---- where the reader is: in a field, in the padding, or behind the version of a foreign unit
+-- ---- where the reader is: in a field, in the padding, or after the version of a foreign unit
 
 pub data Place (r : HeadReader) (p : Phase) (items : List Item) : Type 0 where
   in_field : ending p ≡ None → (p ≡ phase.Padding → ⊥) → IsNext (following_all header_layout items) → Place r p items

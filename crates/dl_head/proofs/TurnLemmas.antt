@@ -5,7 +5,7 @@ use Rattle.std.proofs.lemmas.List.Sums.{sum_by-cons}
 use Rattle.std.proofs.Math.Seq.{take-add}
 use Rattle.dl_head.specs.Turns.{Answer, used_in, last_given, IsTrace, some_turns}
 
--- the first k bytes behind b, and then i more
+-- the first k bytes after b, and then i more
 pub joined : (b bytes : List ℕ) (k i : ℕ) → (b ++ take k bytes) ++ take i (drop k bytes) ≡ b ++ take (k + i) bytes
 joined b bytes k i = append_assoc b (take k bytes) (take i (drop k bytes)) ∙ ap (λ (l : List ℕ). b ++ l) (sym (take-add k i bytes))
 
@@ -70,7 +70,7 @@ module _ {A : Type 0} (May : List ℕ → List ℕ → Answer A → Type 0) (goe
         (trace_on b bytes (take i turns) answers (slice_index_or turns i 0) later a first t goes may (λ is. absurd (true_false is ends)))
 
 module _ {A : Type 0} (May : List ℕ → List ℕ → Answer A → Type 0) (goes_on : A → Bool) where
-  -- behind the first answer
+  -- after the first answer
   pub trace_rest : (b bytes turns : List ℕ) (a : Answer A) (answers : List (Answer A)) → IsTrace May goes_on b bytes turns (a ∷ answers)
       → (n : ℕ) × (later : List ℕ) × May b (take n bytes) a × IsTrace May goes_on (b ++ take a.used bytes) (drop a.used bytes) later answers
   trace_rest b bytes [] a answers t = absurd cc

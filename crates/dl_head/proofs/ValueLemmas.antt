@@ -22,7 +22,7 @@ use Rattle.dl_head.specs.Layout.{Layout, value_then, value_is, following, entry_
 use Rattle.dl_head.specs.TablePlace.{joined, AreWide, Holds, Summed, values_left, InValue, IsWhole, TableAt, Moves, GoesOn}
 use Rattle.dl_head.proofs.HeldLemmas.{values_end-push, values_held-more}
 
--- an element, and those behind it
+-- an element, and those after it
 pub drop_at : {A : Type 0} (xs : List A) (i : ℕ) (d : A) → i < length xs → drop i xs ≡ get_or xs i d ∷ drop (suc i) xs
 drop_at [] i d h = absurd (omega arith)
 drop_at (x ∷ xs) zero d h = refl
@@ -86,7 +86,7 @@ pub at_value : (format : Format) (next : TableData → Layout) (pairs : List Pai
 at_value format next pairs entries before left p later e =
     ap (λ (l : List Pair). entry_layout format l before λ entry. entries_layout format pairs (left - 1) (entries ++ entry ∷ []) λ all. next (record { format = format; pairs = pairs; entries = all })) e
 
--- behind the last value of an entry
+-- after the last value of an entry
 entry_whole : (format : Format) (next : TableData → Layout) (pairs : List Pair) (entries : List (List Value)) (before : List Value) (left : ℕ) → length pairs ≤ length before
     → values_left format next pairs entries before left ≡ entries_layout format pairs (left - 1) (entries ++ before ∷ []) λ all. next (record { format = format; pairs = pairs; entries = all })
 entry_whole format next pairs entries before left le =

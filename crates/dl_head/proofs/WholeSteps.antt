@@ -177,7 +177,7 @@ whole_taken r new b w on l next made adds same header start taken below = record
 
 -- ---- in a table
 
--- what follows the table at hand
+-- what follows the current table
 abbrev pub behind_table : Phase → Params → TableData → (TableData → Layout)
 behind_table phase.Directories p directories = from_files p
 behind_table other p directories = from_end p directories

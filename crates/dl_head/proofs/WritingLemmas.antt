@@ -26,7 +26,7 @@ pub Appends-slice : (start a b : Option (List ℕ)) (bytes : List ℕ) (out k : 
 Appends-slice start a b bytes out k h p =
     subst (Appends start b) (sym (take-add out k bytes)) (Appends-trans start a b _ _ h (subst (λ l. Appends a b (take k l)) (take_rest bytes out) p))
 
--- a part of the bytes went out behind the text
+-- a part of the bytes went out after the text
 pub TellsOut-part : (start a b : Option (List ℕ)) (text bytes : List ℕ) (count k : ℕ) {n : ℕ} → IsOut start a text count → k < length bytes → Appends a b (take k bytes) → (IsOut start a text count → k < length bytes → IsPartOut start b (text ++ bytes) n (length text + k)) → TellsOut start b (text ++ bytes) (Write n)
 TellsOut-part start a b text bytes count k h within p made = (length text + k, made h within)
 
@@ -50,7 +50,7 @@ module _ (start now : Option (List ℕ)) where
   pub TellsOut-front : (text a b : List ℕ) (f : HeadWrite) → TellsOut start now (text ++ a) f → TellsOut start now (text ++ (a ++ b)) f
   TellsOut-front text a b f t = subst (λ l. TellsOut start now l f) (append_assoc text a b) (TellsOut-more (text ++ a) b f t)
 
-  -- of a whole, the part v behind what was done was not written whole
+  -- of a whole, the part v after what was done was not written whole
   pub TellsOut-piece : (text done v rest whole : List ℕ) (f : HeadWrite) → whole ≡ done ++ v ++ rest → TellsOut start now ((text ++ done) ++ v) f → TellsOut start now (text ++ whole) f
   TellsOut-piece text done v rest whole f is t =
       subst (λ l. TellsOut start now (text ++ l) f) (sym is)

@@ -41,7 +41,7 @@ signed_again (negsuc n) fits =
     let same : n % 256 ≡ n = omega arith in
     rw (same, le-ltb (255 - n) 128 (omega arith)) (below_zero (255 - n) n 256 (omega arith))
 
--- ---- the fields behind header_length
+-- ---- the fields after header_length
 
 module _ (order : Order) (h : HeaderData) where
   abbrev end : Layout
@@ -100,7 +100,7 @@ module _ (order : Order) (h : HeaderData) where
       subst (λ (n : ℕ). Reaches order (lengths_layout 1 n [] next) (h.params.lengths.items ++ (table_bytes order h.directories ++ (table_bytes order h.files ++ []))) end) count
       (reach_lengths 1 h.params.lengths.items [] next (table_bytes order h.directories ++ (table_bytes order h.files ++ [])) good.lengths tables)
 
-  -- the fields behind header_length, of params whose fields before it are those of the header
+  -- the fields after header_length, of params whose fields before it are those of the header
   reach_fields : IsSoundHeader h → Good h.params h.directories h.files
       → Reaches order (from_minimum_length (record (format_alone h.params.format) { address_size = h.params.address_size; segment_selector_size = h.params.segment_selector_size })) (after_header_length order h) end
   reach_fields sound good =

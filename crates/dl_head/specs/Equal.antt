@@ -1,4 +1,4 @@
--- Equality of tables and headers, as a test.
+-- Equality of tables and headers, as a test. No promise rests on this file.
 use Rattle.std.specs.Prelude.{Bool, false, ◌&&◌, nat_eq, ◌==◌}
 use Rattle.std.specs.Cmp.Lexicographic.{pointwise}
 use Rattle.std.specs.Ordering.{int_eq}

@@ -16,7 +16,7 @@ lengths_fit (phase.Foreign v) n base = true
 lengths_fit (phase.Failed f) n base = true
 lengths_fit p n base = n == 0
 
--- no unit that is accepted ends behind this
+-- no unit that is accepted ends after this
 abbrev pub end_near : Option ℕ → Bool
 end_near None = true
 end_near (Some end) = nat_le end (2 ^ 41)

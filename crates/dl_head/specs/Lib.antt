@@ -1,3 +1,4 @@
+-- What the public contracts say rests on these, in reading order.
 pub mod Turns
 pub mod Value
 pub mod TableData
@@ -8,29 +9,31 @@ pub mod Header
 pub mod Refusal
 pub mod Cells
 pub mod Written
-pub mod WrittenLaws
 pub mod Laws
-pub mod Bytes
 pub mod Held
-pub mod TableHeld
 pub mod EntryData
 pub mod EntryHeld
 pub mod ValuesLeft
 pub mod Built
 pub mod Sound
+pub mod WrittenLaws
+pub mod FaultText
+pub mod Text
+pub mod Writing
+pub mod Reading
+pub mod Runs
+-- For what a value stands; public contracts name this, and don't rest on how it is said.
+pub mod TableStep
+pub mod TablePlace
+pub mod Place
+pub mod Standing
+-- Of contracts inside the crate, and of proofs; no public contract reaches these.
+pub mod Bytes
+pub mod TableHeld
 pub mod Building
 pub mod Equal
 pub mod EqualLaws
-pub mod TableStep
 pub mod HeadStep
-pub mod FaultText
-pub mod Text
 pub mod Spelled
 pub mod Whole
-pub mod Writing
-pub mod Place
-pub mod TablePlace
 pub mod TableSpelt
-pub mod Standing
-pub mod Reading
-pub mod Runs

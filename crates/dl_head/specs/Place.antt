@@ -1,4 +1,4 @@
--- Where the header reader is: between which fields, and in which bytes of the next one. No promise rests on this file.
+-- Where the header reader is: between which fields, and in which bytes of the next one. No promise rests on how this is said.
 use Rattle.std.specs.Prelude.{◌≡◌, ◌≢◌, ℕ, ◌+◌, ◌-◌, ◌≤◌, List, [], ◌∷◌, ◌++◌, length, Some, None}
 use Rattle.dl_num.specs.declared.fixed.Order.{Order}
 use Rattle.dl_num.specs.Fixed.{fixed}
@@ -33,7 +33,7 @@ from_byte field.LineBase unit_length p = from_line_base p
 from_byte field.LineRange unit_length p = from_line_range p
 from_byte field.OpcodeBase unit_length p = from_opcode_base p
 
--- the lengths of the opcodes that are left, behind those in p
+-- the lengths of the opcodes that are left, after those in p
 abbrev pub from_length : Params → Layout
 from_length p =
     let before = p.lengths.items in
@@ -73,7 +73,7 @@ pub record Late (r : HeadReader) (items : List Item) (layout : Layout) : Type 0 
   pub behind : Behind r items layout
   pub fresh : IsFresh r.table
 
--- the reader is in the bytes rest of a field of the table at hand, which next follows
+-- the reader is in the bytes rest of a field of the current table, which next follows
 pub record InTable (r : HeadReader) (items : List Item) (rest : List ℕ) (next : TableData → Layout) : Type 0 where
   pub layout : Layout
   pub behind : Behind r items layout
@@ -84,7 +84,7 @@ pub record InTable (r : HeadReader) (items : List Item) (rest : List ℕ) (next 
 abbrev pub before_header_length : HeadReader → List Item
 before_header_length r = length_item r ∷ number_is 5 ∷ number_is r.params.address_size ∷ number_is r.params.segment_selector_size ∷ []
 
--- no field is behind
+-- no field is after
 pub record AtStart (r : HeadReader) (items : List Item) : Type 0 where
   pub none : items ≡ []
   pub end : r.end ≡ None
@@ -146,7 +146,7 @@ Starts old format length byte_makes.Ends new =
 Starts old format length (byte_makes.Refuses kind) new = (unit_length_limit + 1 ≤ length) × (kind ≡ fault.UnitTooLong) × SameCounts old new
 Starts old format length result new = ⊥
 
--- `start_header`: header_length is good, and the reader is behind it, or it is above the bytes left in the unit
+-- `start_header`: header_length is good, and the reader is after it, or it is above the bytes left in the unit
 abbrev pub StartsHeader : HeadReader → ℕ → Next → HeadReader → Type 0
 StartsHeader old header byte_makes.Ends new =
     (header ≤ old.unit_length - fixed_part old.params.format) × ((items : List Item) → Early old items (before_header_length old) → At new (items ++ number_is header ∷ []) [])

@@ -20,7 +20,7 @@ Answers order b answer.More =
     ((h : HeaderData) → IsHeader order h b → ⊥) × (foreign_in order b ≡ None) × ((at : ℕ) (kind : FaultKind) → HeaderRefused order b at kind → ⊥)
 Answers order b answer.NoMemory = ⊥
 
--- the byte behind b makes a header hold a cell more
+-- the byte after b makes a header hold a cell more
 abbrev pub AddsCell : Order → List ℕ → ℕ → Type 0
 AddsCell order b byte = cells order b < cells order (b ++ byte ∷ [])
 

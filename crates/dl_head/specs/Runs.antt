@@ -16,7 +16,7 @@ abbrev pub so_far : HeadStep → HeadStep
 so_far answer.NoMemory = answer.More
 so_far last = last
 
--- behind b the first used of some bytes were taken, and the last answer was this
+-- after b the first used of some bytes were taken, and the last answer was this
 pub record Took (order : Order) (b bytes : List ℕ) (used : ℕ) (last : HeadStep) : Type 0 where
   pub within : used ≤ length bytes
   pub answers : Answers order (b ++ take used bytes) (so_far last)
@@ -25,10 +25,10 @@ pub record Took (order : Order) (b bytes : List ℕ) (used : ℕ) (last : HeadSt
   -- memory was refused before a byte that adds a cell
   pub unfed : last ≡ answer.NoMemory → (byte : ℕ) × (later : List ℕ) × (drop used bytes ≡ byte ∷ later) × AddsCell order (b ++ take used bytes) byte
 
--- what a piece may be answered behind b
+-- what a piece may be answered after b
 pub record Answered (order : Order) (b piece : List ℕ) (a : Answer HeadStep) : Type 0 where
   pub took : Took order b piece a.used a.gave
-  -- the header goes on only behind the whole piece
+  -- the header goes on only after the whole piece
   pub whole : a.gave ≡ answer.More → a.used ≡ length piece
 
 -- bytes offered at once

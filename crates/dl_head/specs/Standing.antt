@@ -19,7 +19,7 @@ abbrev pub Below : ℕ → Option ℕ → Type 0
 Below n None = Unit {0}
 Below n (Some end) = n < end
 
--- the header goes on behind b
+-- the header goes on after b
 pub record Live (r : HeadReader) (b : List ℕ) : Type 0 where
   pub items : List Item
   pub rest : List ℕ

@@ -1,4 +1,4 @@
--- A table's fields, seen as its pairs and entries.
+-- A table's fields, seen as its pairs and entries. No promise rests on this file.
 use Rattle.std.specs.Prelude.{◌≤◌, length}
 use Rattle.dl_head.specs.declared.table.Table.TheInside.{Inside}
 use Rattle.dl_head.specs.TableData.{TableData}

@@ -1,4 +1,4 @@
--- Where the reader of a table is: in which bytes of which field. `next` is what follows the table. No promise rests on this file.
+-- Where the reader of a table is: in which bytes of which field. `next` is what follows the table. No promise rests on how this is said.
 use Rattle.std.specs.Prelude.{◌≡◌, ℕ, ◌+◌, ◌-◌, ◌^◌, ◌<◌, ◌≤◌, drop, Bool, true, false, not, ◌==◌, List, [], ◌∷◌, ◌++◌, length, Some, None, Option, map, ◌⊎◌, Result, Ok, Err, sum_by}
 use Rattle.dl_num.specs.declared.fixed.Order.{Order}
 use Rattle.dl_num.specs.LebReader.{UlebTook, UlebIs}
@@ -50,7 +50,7 @@ field_cells order layout w = elim (field_spelt order layout w) [
   | None ↦ rest_cells layout w
 ]
 
--- the last byte of w, behind rest, adds to the cells before what it adds to those of the field; memory is refused only where that is some
+-- the last byte of w, after rest, adds to the cells before what it adds to those of the field; memory is refused only where that is some
 abbrev pub Adds : Order → Layout → List ℕ → List ℕ → Next → ℕ → ℕ → Type 0
 Adds order layout rest w byte_makes.NoMemory before after = (after ≡ before) × (rest_cells layout rest < field_cells order layout w)
 Adds order layout rest w result before after = after + rest_cells layout rest ≡ before + field_cells order layout w
@@ -149,7 +149,7 @@ pub record Holds (pairs : List Pair) (pool : List ℕ) (values : List Held) (ent
 abbrev pub Summed : List Held → ℕ → Type 0
 Summed values filled = sum_by cells_held values ≡ length values + filled
 
--- what follows the values before of an entry behind these, so many entries being left with it
+-- what follows the values before of an entry after these, so many entries being left with it
 abbrev pub values_left : Format → (TableData → Layout) → List Pair → List (List Value) → List Value → ℕ → Layout
 values_left format next pairs entries before left =
     entry_layout format (drop (length before) pairs) before λ entry.
@@ -337,7 +337,7 @@ pub record InFront (order : Order) (v : ValuePhase) (bytes : List ℕ) (h : Held
   pub cell : cells_held h ≡ 1
   pub within : held_end h ≡ 0
 
--- `whole_value`: the bytes in front of behind are those of the value at hand, and another one follows it
+-- `whole_value`: the bytes in front of behind are those of the current value, and another one follows it
 pub record TakesValue (order : Order) (format : Format) (old : TableReader) (bytes behind : List ℕ) (new : TableReader) : Type 0 where
   pub front : List ℕ
   pub bytes_are : bytes ≡ front ++ behind

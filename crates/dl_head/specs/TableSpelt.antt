@@ -25,7 +25,7 @@ pub record TableSpelt (order : Order) (format : Format) (t : TableReader) : Type
   pub spelt : SpellsFields order (table_layout format (alone format)) items fields
   pub at : TableAt order t t.phase format (alone format) (following_all (table_layout format (alone format)) items) rest
 
--- the reader of the table at hand isn't at the table's end
+-- the reader of the current table isn't at the table's end
 abbrev pub TableReads : Order → Format → TableReader → Type 0
 TableReads order format t = TableSpelt order format t × (t.phase ≡ table.Whole → ⊥)
 

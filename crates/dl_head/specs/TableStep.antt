@@ -1,4 +1,4 @@
--- What the phases of the reader of a table say of its vectors. No promise rests on this file.
+-- What the phases of the reader of a table say of its vectors. No promise rests on how this is said.
 use Rattle.std.specs.Prelude.{ℕ, ◌+◌, max}
 use Rattle.dl_head.specs.declared.reader.table_reader.TablePhase.{TablePhase}
 use Rattle.dl_head.specs.declared.reader.table_reader.TablePhase.TheVariants as phase
@@ -27,7 +27,7 @@ pairs_due (phase.ContentCode left code) = max 1 left
 pairs_due (phase.FormCode left content code) = max 1 left
 pairs_due p = 0
 
--- one more than the column of the value at hand
+-- one more than the column of the current value
 abbrev pub row_end : TablePhase → ℕ
 row_end (phase.Value at v) = at.column + 1
 row_end p = 0

@@ -20,7 +20,7 @@ pub record IsInside (r : HeadReader) (piece bytes : List ℕ) : Type 0 where
   pub bytes_are : bytes ≡ take len piece
   pub below : (end : ℕ) → r.end ≡ Some end → r.taken < end → r.taken + length bytes < end
 
--- the bytes behind b are taken, and the header goes on behind each front of them
+-- the bytes after b are taken, and the header goes on after each front of them
 pub record TakesAll (order : Order) (b bytes : List ℕ) (new : HeadReader) : Type 0 where
   pub stands : StandsFor new (b ++ bytes)
   pub more : (i : ℕ) → i ≤ length bytes → Answers order (b ++ take i bytes) answer.More

@@ -11,7 +11,7 @@ use Rattle.dl_head.specs.Written.{header_bytes, is_within_limit}
 abbrev pub WrittenIsHeader : Type 0
 WrittenIsHeader = (order : Order) (h : HeaderData) (program_len : ℕ) → IsSoundHeader h → is_within_limit h program_len ≡ true → IsHeader order h (header_bytes order h program_len)
 
--- and with a program of this length behind them they are as long as their first field tells
+-- and with a program of this length after them they are as long as their first field tells
 abbrev pub WrittenHasItsLength : Type 0
 WrittenHasItsLength = (order : Order) (h : HeaderData) (program_len : ℕ) (rest : List ℕ) → IsSoundHeader h → is_within_limit h program_len ≡ true
     → unit_len order (header_bytes order h program_len ++ rest) ≡ Some (length (header_bytes order h program_len) + program_len)

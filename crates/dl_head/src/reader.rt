@@ -97,7 +97,7 @@ pub struct HeadReader {
     /// Where the field begins.
     start: u64,
     taken: u64,
-    /// The table at hand.
+    /// The current table.
     table: TableReader,
     directories: Table,
     files: Table,

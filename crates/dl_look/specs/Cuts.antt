@@ -1,4 +1,4 @@
--- From which places on which sequence of an index is the first rising one that covers.
+-- From which places on which sequence of an index is the first rising one that covers. No promise rests on this file.
 use Rattle.std.specs.Prelude.{◌≡◌, ℕ, suc, ◌*◌, ◌<◌, ◌≤◌, Bool, true, false, ◌&&◌, if◌then◌else◌, List, [], ◌∷◌, length, slice_index_or, Option, Some, None}
 use Rattle.dl_look.specs.declared.place.Place.{Place}
 use Rattle.dl_look.specs.declared.probed.Span.{Span}

@@ -1,4 +1,4 @@
--- What finders keep of the places and of the rows that they were given.
+-- What finders keep of the places and of the rows that they were given. No promise rests on how this is said.
 use Rattle.std.specs.Prelude.{◌≡◌, ℕ, ◌<◌, true, false, if◌then◌else◌, nat_lt, List, [], ◌∷◌, ◌++◌, length, Option, Some, None}
 use Rattle.std.specs.Option.{option_or}
 use Rattle.dl_rows.specs.declared.row.Row.{Row}

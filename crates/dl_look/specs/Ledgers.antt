@@ -1,4 +1,4 @@
--- The answers of places, in the order in which they come.
+-- The answers of places, in the order in which they come. No promise rests on how this is said.
 use Rattle.std.specs.Prelude.{◌≡◌, ℕ, suc, ◌+◌, ◌<◌, ◌≤◌, if◌then◌else◌, false, nat_lt, List, [], ◌∷◌, length, slice_index_or, vec_capacity, Option, Some, None, is_none}
 use Rattle.std.specs.Option.{option_and_then}
 use Rattle.dl_rows.specs.declared.row.Row.{Row}

@@ -1,4 +1,4 @@
--- Which slots are open.
+-- Which slots are open. No promise rests on this file.
 use Rattle.std.specs.Prelude.{◌≡◌, ℕ, ◌<◌, ◌≤◌, Bool, false, ◌==◌, List, length, slice_index}
 
 -- those whose link leads to themselves

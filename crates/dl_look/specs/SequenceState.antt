@@ -1,4 +1,4 @@
--- What finders know of the current sequence.
+-- What finders know of the current sequence. No promise rests on this file.
 use Rattle.std.specs.Prelude.{ℕ}
 use Rattle.dl_look.specs.declared.place.Place.{Place}
 use Rattle.dl_look.specs.declared.finders.State.{State}

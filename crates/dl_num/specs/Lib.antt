@@ -1,4 +1,4 @@
--- What the promises of this crate rest on, in reading order.
+-- What the public contracts say rests on these, in reading order.
 pub mod Fixed
 pub mod FixedBytes
 pub mod OperandBytes
@@ -6,8 +6,8 @@ pub mod NumberBytes
 pub mod Leb
 pub mod LebFront
 pub mod LebReader
-pub mod Shortest
 pub mod Magnitude
+pub mod Shortest
 pub mod Front
 pub mod Steps
 pub mod Laws

@@ -1,3 +1,4 @@
+-- What the public contracts say rests on these, in reading order.
 pub mod Digits
 pub mod Counts
 pub mod Text

@@ -84,7 +84,7 @@ discriminator_long order h left b old new v s one took =
 
 -- ---- bytes in two parts
 
--- what bytes behind front make of v and front, they and front make of v
+-- what bytes after front make of v and front, they and front make of v
 pub step_behind : (order : Order) (h : Params) (v front bytes : List ℕ) (r : Step) → StepIs order h (v ++ front) bytes r → StepIs order h v (front ++ bytes) r
 step_behind order h v front bytes (step.Within p) s = (
   subst (λ (z : List ℕ). PhaseStands h p z) (append_assoc v front bytes) s.0,
@@ -105,7 +105,7 @@ step_behind order h v front bytes (step.Refuses k behind) s = (
 pub step_from : (order : Order) (h : Params) (v front rest bytes : List ℕ) (r : Step) → bytes ≡ front ++ rest → StepIs order h (v ++ front) rest r → StepIs order h v bytes r
 step_from order h v front rest bytes r e s = subst (λ (z : List ℕ). StepIs order h v z r) (sym e) (step_behind order h v front rest r s)
 
--- bytes that end behind one of them, where v and the front before it are told of together
+-- bytes that end after one of them, where v and the front before it are told of together
 pub ends_behind : (order : Order) (h : Params) (v front bytes behind : List ℕ) (b : ℕ) (a : Verdict) → bytes ≡ (front ++ b ∷ []) ++ behind
     → SpellsFirst (operation_spelt order h) ((v ++ front) ++ b ∷ []) a → EndsAs order h v bytes behind a
 ends_behind order h v front bytes behind b a e first =
@@ -131,7 +131,7 @@ length_beyond order h old new v bytes behind e s answer =
           (length_refused order h s.0 (s.1.0 ++ a.0) out.0 fault.LebRange out.1 (body_out order h.address_size out.0 out.2)),
     )
 
--- the length is complete, and the rest is what the bytes behind it make
+-- the length is complete, and the rest is what the bytes after it make
 pub length_read : (order : Order) (h : Params) (old new : Uleb) (v bytes behind : List ℕ) (n : ℕ) (r : Step) → PhaseStands h (phase.Length old) v
     → Answered old bytes behind (Ok n) new → ((w : List ℕ) → IsUleb w n → StepIs order h (0 ∷ w) behind r) → StepIs order h v bytes r
 length_read order h old new v bytes behind n r s answer rest =

@@ -1,4 +1,4 @@
--- A reader behind a header, and the fault that stops it.
+-- A reader after a header, and the fault that stops it.
 use Rattle.std.proofs.Common.{◌≡◌, ℕ, List, [], ◌++◌, map, take, Ok, Err, sym, ap, subst, ◌∙◌, arith, append-nil, append_assoc}
 use Rattle.dl_num.specs.declared.fixed.Order.{Order}
 use Rattle.dl_head.specs.declared.fault.Fault.{Fault}

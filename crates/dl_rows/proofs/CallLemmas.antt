@@ -24,7 +24,7 @@ use Rattle.dl_rows.proofs.UnitLemmas.{unit_len_on}
 use Rattle.dl_rows.proofs.UnitLengths.{nothing_left}
 use Rattle.dl_rows.proofs.RowBytes.{RowTaken, row_taken}
 
--- ---- one call, and the calls behind its first row
+-- ---- one call, and the calls after its first row
 
 slice_drop : (n i : ℕ) (l : List ℕ) → slice_get (drop n l) i ≡ slice_get l (n + i)
 slice_drop zero i l = (let same : i ≡ 0 + i = omega arith in ap (slice_get l) same)
@@ -240,7 +240,7 @@ module _ (order : Order) (b piece : List ℕ) (used : ℕ) (r : Row) (rows : Lis
       let both = parted (map event.Row rows) es (no_events (events order (b ++ take t.n piece)) (map event.Row rows ++ es) none) in
       (no_rows rows both.0, both.1)
 
-  -- an answer that tells an event comes behind the row
+  -- an answer that tells an event comes after the row
   later : (e : Event) → events order (b ++ take used piece) ≡ all_before ++ told e → told e ≢ [] → 1 ≤ t.more
   later e grows some = on (cases_eq t.more 0) where
     on : (t.more ≡ 0) ⊎ (t.more ≢ 0) → 1 ≤ t.more

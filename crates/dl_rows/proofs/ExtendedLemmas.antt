@@ -28,7 +28,7 @@ length_nowhere order size w h front back e =
     let c = continue_front w front back h e in
     rw (leb_front-continues front c, is_leb-continues front c) refl
 
--- behind the length stands the body
+-- after the length stands the body
 pub length_then : (order : Order) (size : ℕ) (w : List ℕ) (n : ℕ) → IsUleb w n → (u : List ℕ) → length_and_body order size (w ++ u) ≡ body_spelt order size n u
 length_then order size w n s u =
     let t = is_leb-number w s.0 s.1 s.2 in
@@ -41,7 +41,7 @@ length_then order size w n s u =
 pub zero_open : (order : Order) (h : Params) → IsOpen {A = Verdict} (operation_spelt order h) (0 ∷ [])
 zero_open order h = open_byte (operation_spelt order h) 0 refl
 
--- behind the zero byte stands the length
+-- after the zero byte stands the length
 pub zero_then : (order : Order) (h : Params) → 1 ≤ h.opcode_base → (u : List ℕ) → operation_spelt order h (0 ∷ u) ≡ length_and_body order h.address_size u
 zero_then order h some u = rw (lt-leb h.opcode_base 0 some) refl
 

@@ -12,7 +12,7 @@ use Rattle.dl_head.proofs.FieldLemmas.{none_some}
 use Rattle.dl_head.proofs.Openings.{after_length, not_foreign, is_number, is_length}
 use Rattle.dl_head.proofs.RefusalLaws.{foreign_last}
 
--- behind a foreign version no field is spelled
+-- after a foreign version no field is spelled
 behind_version : (order : Order) (v : ℕ) (items : List Item) (w : List ℕ) → SpellsFields order (foreign_version v) items w → sum_by item_cells items ≡ 0
 behind_version order v [] w s = refl
 behind_version order v (i ∷ items) w s = absurd (none_some refl s.3)

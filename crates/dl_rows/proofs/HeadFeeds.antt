@@ -166,7 +166,7 @@ module _ (order : Order) (old new : HeadReader) (b piece : List ℕ) (used : ℕ
       let none = no_header_up_to order b piece (used - 1) (omega (arith, h.took.within)) was.incomplete (λ i lt. (fronts_go i (omega (arith, lt, one))).0) in
       no_events order (b ++ take (used - 1) piece) none (fronts_go (used - 1) one).1 ∙ sym no_event_before
 
-  -- what isn't a header has none behind it
+  -- what isn't a header has none after it
   none_here : ((g : HeaderData) → IsHeader order g (b ++ take used piece) → ⊥) → header_in order (b ++ take used piece) ≡ None
   none_here not = no_header_up_to order b piece used h.took.within was.incomplete headers where
     headers : NoHeaders order b piece used

@@ -1,4 +1,4 @@
--- The bytes of a header, one more at a time, and the step to what is behind it.
+-- The bytes of a header, one more at a time, and the step to what is after it.
 use Rattle.std.proofs.Common.{◌≡◌, ℕ, List, [], ◌∷◌, ◌++◌, length, Option, Some, None, refl, sym, ap, subst, ◌∙◌, append-nil}
 use Rattle.dl_num.specs.declared.fixed.Order.{Order}
 use Rattle.dl_num.specs.Laws.{AllBytes}

@@ -52,7 +52,7 @@ length_computes : (order : Order) (h : Params) (w : List ℕ) (n : ℕ) (kind : 
     → ◌≡◌ {A = Judgement Operation} (body_spelt order h.address_size n []) (bad kind) → Computes order h w kind
 length_computes order h w n kind some l e = ap (operation_spelt order h) l.bytes ∙ (length_refused order h some l.size n kind l.spells e).spells
 
--- behind a good length stands the extended opcode
+-- after a good length stands the extended opcode
 begun_computes : (order : Order) (h : Params) (w : List ℕ) (n opcode : ℕ) (operand : List ℕ) → 1 ≤ h.opcode_base → BeginsExtended w n opcode operand
     → operation_spelt order h w ≡ extended_spelt order h.address_size n opcode operand
 begun_computes order h w n opcode operand some b =

@@ -1,4 +1,4 @@
--- Where a reader of a program stops in bytes: behind them all, or behind one that decides a fault.
+-- Where a reader of a program stops in bytes: after them all, or after one that decides a fault.
 use Rattle.std.proofs.Common.{◌≡◌, ℕ, ◌+◌, ◌-◌, ◌^◌, List, [], ◌∷◌, ◌++◌, length, min, Some, Ok, Err, sym, ap, subst, ◌∙◌, arith, append_assoc, length-append}
 use Rattle.std.proofs.lemmas.List.{append-nil}
 use Rattle.std.specs.Prelude.{Option}
@@ -33,7 +33,7 @@ bytes_left order h b bytes rest p w all = bytes_back w.done rest (subst (λ (z :
 count_more : (n : ℕ) (v u : List ℕ) → n ≡ min (length v) (2 ^ 64 - 1) → min (n + length u) (2 ^ 64 - 1) ≡ min (length (v ++ u)) (2 ^ 64 - 1)
 count_more n v u e = let l = length-append v u in omega arith
 
--- the operation at hand takes u, and isn't complete
+-- the current operation takes u, and isn't complete
 stands_within : (order : Order) (h : Params) (p : Program) (b u : List ℕ) (at : Phase) (n : ℕ) (s : ProgramStands order h p b) → AllBytes u
     → StepIs order h s.begun u (step.Within at) → n ≡ min (p.begun + length u) (2 ^ 64 - 1) → ProgramStands order h (record p { phase = at; begun = n }) (b ++ u)
 stands_within order h p b u at n s all w e = record {
@@ -81,7 +81,7 @@ walk_within order h b bytes rest p at n w all s e =
     whole : (b ++ w.done) ++ rest ≡ b ++ bytes
     whole = append_assoc b w.done rest ∙ ap (λ (z : List ℕ). b ++ z) (sym w.split)
 
--- the operation at hand ends in a bad byte
+-- the current operation ends in a bad byte
 pub walk_refuses : (order : Order) (h : Params) (b bytes rest : List ℕ) (p : Program) (k : FaultKind) (behind : List ℕ) (n : ℕ) (w : Walked order h b bytes p rest)
     → (front : List ℕ) → rest ≡ front ++ behind → SpellsFirst (operation_spelt order h) (w.stands.begun ++ front) (Err k)
     → n ≡ min (p.begun + (length rest - length behind)) (2 ^ 64 - 1)
@@ -114,7 +114,7 @@ Finishing h old o row new =
     (before : List Operation) → FitsProgram h → HasRange o → old.registers ≡ registers_after h before → old.in_sequence ≡ ends_open (matrix h before)
     → Finishes h before o row new
 
--- the operation at hand ends
+-- the current operation ends
 pub walk_turns : (order : Order) (h : Params) (b bytes rest front behind : List ℕ) (p new : Program) (o : Operation) (row : Option Row) (w : Walked order h b bytes p rest) → FitsProgram h
     → AllBytes bytes → rest ≡ front ++ behind → SpellsFirst (operation_spelt order h) (w.stands.begun ++ front) (Ok o) → Finishing h p o row new
     → new.phase ≡ phase.Start → new.begun ≡ 0 → Turned order h (b ++ w.done) front row new

@@ -28,7 +28,7 @@ good_one_is None o e = absurd cc
 good_one_is (Some (Ok p)) o e = cc
 good_one_is (Some (Err kind)) o e = absurd cc
 
--- a program, and then what is cut off the bytes behind it
+-- a program, and then what is cut off the bytes after it
 pub program_cut : (order : Order) (h : Params) (p : List Operation) (w v : List ℕ) (found : List Operation) (rest : List ℕ) → 1 ≤ h.opcode_base
     → SpellsProgram order h p w → IsCut (spelt order h) v found rest → IsCut (spelt order h) (w ++ v) (p ++ found) rest
 program_cut order h [] w v found rest some e c = subst (λ (z : List ℕ). IsCut (spelt order h) (z ++ v) found rest) (sym e) c

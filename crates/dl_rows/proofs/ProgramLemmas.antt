@@ -1,4 +1,4 @@
--- An operation more of a program: its row, and what is kept behind it.
+-- An operation more of a program: its row, and what is kept after it.
 use Rattle.std.proofs.Common.{◌≡◌, ℕ, Bool, true, false, not, cond, ◌⊎◌, inl, inr, ◌==◌, List, [], ◌∷◌, ◌++◌, Some, None, refl, sym, ap, ◌∙◌}
 use Rattle.std.proofs.lemmas.List.{append-nil}
 use Rattle.dl_head.specs.declared.params.Params.{Params}

@@ -51,7 +51,7 @@ feeds_stopped r new b piece stop is same made s =
           (subst (λ (x : State). StandsAt r.order x (b ++ take 0 piece)) (sym made) (subst (λ (w : List ℕ). StandsAt r.order (state.StoppedInHeader stop) w) (sym (no_bytes b piece)) at)),
     )
 
--- behind a foreign version
+-- after a foreign version
 pub feeds_foreign : (r new : Reader) (t u : UnitBytes) (b piece : List ℕ) (fed : Fed) → r.state ≡ state.Foreign t → new.order ≡ r.order → new.state ≡ state.Foreign u → StandsFor r b
     → ((version : ℕ) → InForeign r.order version t b → Feeds (InForeign r.order version) r.order b piece fed u) → Feeds StandsFor r.order b piece fed new
 feeds_foreign r new t u b piece fed is order made s feeds =
@@ -63,7 +63,7 @@ feeds_foreign r new t u b piece fed is order made s feeds =
       stands = subst (λ (o : Order). StandsAt o new.state (b ++ take fed.used piece)) (sym order) (subst (λ (x : State). StandsAt r.order x (b ++ take fed.used piece)) (sym made) stands);
     }
 
--- behind the header
+-- after the header
 body_fed : (order : Order) (h : HeaderData) (before : List Event) (b piece : List ℕ) (result : Result Fed Fault) (now : BodyState) (new : Reader) → new.order ≡ order → new.state ≡ state.AfterHeader h now
     → BodyFedBehind order h before b piece result now → FedBehind order before b piece result new
 body_fed order h before b piece (Ok fed) now new same made f = record {

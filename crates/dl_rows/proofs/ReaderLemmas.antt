@@ -43,12 +43,12 @@ foreign_no_header order b version foreign = on (header_in order b) refl where
 pub no_rows : (order : Order) (b : List ℕ) → header_in order b ≡ None → unit_rows order b ≡ []
 no_rows order b none = ap (rows_behind order) none
 
--- the rows behind a header
+-- the rows after a header
 pub rows_here : (order : Order) (h : HeaderData) (t : UnitBody) (b : List ℕ) (is : InProgram order h t b) → unit_rows order b ≡ rows_in order h.params is.program
 rows_here order h t b is =
     ap (unit_rows order) (sym (append-nil b)) ∙ rows_on order h t b [] is (omega arith) [] ∙ ap (λ (w : List ℕ). rows_in order h.params w) (append-nil is.program)
 
--- the header that a reader behind it has
+-- the header that a reader after it has
 pub header_here : (order : Order) (h : HeaderData) (s : BodyState) (b : List ℕ) → BodyStands order h s b → (program : List ℕ) × (header_in order b ≡ Some (h, program))
 header_here order h (body.InProgram t) b is = (is.program, ap (header_in order) is.whole ∙ header_is_found order h is.header is.program is.spells)
 header_here order h (body.Stopped stop) b is = (is.program, ap (header_in order) is.whole ∙ header_is_found order h is.header is.program is.spells)
@@ -67,7 +67,7 @@ module _ (order : Order) (b : List ℕ) where
   taken_here (state.AfterHeader h (body.InProgram t)) s = s.counts.taken
   taken_here (state.AfterHeader h (body.Stopped stop)) s = s.taken
 
-  -- no byte behind the unit is taken
+  -- no byte after the unit is taken
   pub within_here : (s : State) → StandsAt order s b → WithinUnit order b
   within_here (state.InHeader head) s = λ n len. s.stands.within n (ap (λ (o : Order). unit_len o b) s.same_order ∙ len)
   within_here (state.StoppedInHeader stop) s = s.in_unit

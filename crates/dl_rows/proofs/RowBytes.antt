@@ -124,7 +124,7 @@ comes order c = on (foreign_in order c) (header_in order c) refl refl where
   on None None e k = nothing (ap (λ (z : Option ℕ). events_of order z (header_in order c)) e ∙ ap (own_events order) k)
   on None (Some parts) e k = own (map event.Row (rows_in order parts.0.params parts.1)) (ap (λ (z : Option ℕ). events_of order z (header_in order c)) e ∙ ap (own_events order) k)
 
--- a row comes behind a header alone
+-- a row comes after a header alone
 no_row_first : (order : Order) (c : List ℕ) (r : Row) (es : List Event) → events order c ≡ event.Row r ∷ es → ⊥
 no_row_first order c r es e = on (comes order c) where
   on : Comes order c → ⊥

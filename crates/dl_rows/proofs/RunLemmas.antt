@@ -119,7 +119,7 @@ module _ (order : Order) (b bytes : List ℕ) (n used : ℕ) where
   first_advances (Ok e) goes may = advances order b (take n bytes) used e goes may.holds
   first_advances (Err fault) goes may = absurd cc
 
-  -- it offered a byte, where the bytes are a unit behind it
+  -- it offered a byte, where the bytes are a unit after it
   pub first_offers : (gave : Result Event Fault) → goes_on gave ≡ true → MayGive order b (take n bytes) used gave → IsUnit order (b ++ take used bytes) → 1 ≤ length (take n bytes)
   first_offers (Ok e) goes may unit =
       let same : take used (take n bytes) ≡ take used bytes = take-take used n bytes (omega (arith, may.within, length-take n bytes)) in
@@ -250,7 +250,7 @@ trace_runs order b bytes turns answers in_unit t = runs_to order b bytes turns a
 
 -- ---- a unit in turns
 
--- of a unit and any bytes behind it, what is taken is a front of the unit
+-- of a unit and any bytes after it, what is taken is a front of the unit
 unit_front : (order : Order) (c u more rest : List ℕ) → c ++ more ≡ u ++ rest → IsUnit order u → WithinUnit order c → (v : List ℕ) × (u ≡ c ++ v)
 unit_front order c u more rest e unit within = elim (fronts c u more rest e) [
   | inl same ↦ ([], sym same ∙ sym (append-nil c))

@@ -1,4 +1,4 @@
--- What a reader answers behind the header of a unit, or behind a foreign version.
+-- What a reader answers after the header of a unit, or after a foreign version.
 use Rattle.std.proofs.Common.{◌≡◌, ◌≢◌, ℕ, suc, get_or, ◌+◌, ◌-◌, ◌^◌, ◌<◌, ◌≤◌, ◌⊎◌, inl, inr, List, [], ◌∷◌, ◌++◌, length, map, take, drop, min, Some, Err, refl, sym, ap, subst, ◌∙◌, arith, length-append, append_assoc, append-nil, length-take}
 use Rattle.std.proofs.lemmas.Bool.{cases_eq, cases_lt, eq-eqb, ne_eqb, lt-ltb, le-ltb}
 use Rattle.std.proofs.lemmas.List.{take-append-drop, map-append}
@@ -92,7 +92,7 @@ feeds_with StandsFor order before b piece u s fed e same le is stands grows hold
   stands = subst (λ (w : List ℕ). StandsFor s (b ++ w)) (sym same) stands;
 }
 
--- a pause behind the events before, where nothing is refused
+-- a pause after the events before, where nothing is refused
 pub pauses_behind : {S : Type 0} (StandsFor : S → List ℕ → Type 0) (order : Order) (before : List Event) (b piece : List ℕ) (left : ℕ) (new : UnitBytes) (s : S) (fed : Fed) → fed.used ≡ length (take left piece)
     → fed.event ≡ paused new.taken new.left fed.used (length piece) → new.left ≡ left - fed.used → 1 ≤ length (b ++ take left piece)
     → Counts order new (b ++ take left piece) → StandsFor s (b ++ take left piece) → events order (b ++ take left piece) ≡ before
@@ -176,7 +176,7 @@ BadGiven order h program bytes rows kind behind new =
     × (new.begun ≡ min (length (operations_in order h.params (program ++ (front ++ last ∷ []))).rest) (2 ^ 64 - 1))
     × (new.in_sequence ≡ ends_open (rows_in order h.params (program ++ (front ++ last ∷ []))))
 
--- where rows were told up to a place, what is said of the bytes behind it, said of all
+-- where rows were told up to a place, what is said of the bytes after it, said of all
 pub flat_row : (order : Order) (h : HeaderData) (program bytes : List ℕ) (rows : List Row) (since : List ℕ) (row : Row) (behind : List ℕ) (new : Program) (t : Told order h.params program bytes rows since)
     → ((front : List ℕ) × (last : ℕ) × (since ≡ (front ++ last ∷ []) ++ behind) × ProgramStands order h.params new ((program ++ t.done) ++ (front ++ last ∷ []))
     × (rows_in order h.params ((program ++ t.done) ++ front) ≡ rows_in order h.params (program ++ t.done)) × (rows_in order h.params ((program ++ t.done) ++ (front ++ last ∷ [])) ≡ rows_in order h.params (program ++ t.done) ++ row ∷ [])
@@ -308,7 +308,7 @@ fails_bad order h t new b piece behind rows kind answer used is (front, last, e,
     (take_front piece u (behind ++ drop t.bytes.left piece) used (piece_is piece u behind t.bytes.left e) exact) (omega (arith, exact, le.1)) answer_is refused (events_more order h t b u is le.0 u rows grown)
     (record { taken = counts.taken; in_unit = counts_within order new.bytes (b ++ u) counts; in_sequence = open_is ∙ ap ends_open (sym (rows_on order h t b u is le.0 u)) })
 
--- behind a pause a sink goes on
+-- after a pause a sink goes on
 pub sink_paused : {S : Type 0} (story : Story S) (s : S) (rows : List Row) (e : Event) → IsPause e → story.hears s rows → SinkAt story s rows e
 sink_paused story s rows event.More pause hears = hears
 sink_paused story s rows event.End pause hears = hears

@@ -1,4 +1,4 @@
--- What is refused behind a header.
+-- What is refused after a header.
 use Rattle.std.proofs.Common.{◌≡◌, ℕ, ◌+◌, ◌<◌, ◌≤◌, Bool, if◌then◌else◌, List, [], ◌∷◌, ◌++◌, length, Option, Some, None, Ok, Err, refl, sym, ap, subst, ◌∙◌, arith, inl, inr, ◌⊎◌, append_assoc, append-nil, length-append}
 use Rattle.std.proofs.lemmas.Bool.{cases_eq, eq-eqb, ne_eqb}
 use Rattle.dl_num.specs.declared.fixed.Order.{Order}
@@ -66,7 +66,7 @@ good_one_none order h w some none = on (operation_spelt order h w) refl where
   on (Some (Err k)) e = refl
   on None e = refl
 
--- behind a program stands what no operation begins
+-- after a program stands what no operation begins
 rest_is : (order : Order) (h : Params) (p : List Operation) (done begun : List ℕ) → 1 ≤ h.opcode_base → SpellsProgram order h p done
     → ((o : Operation) (front back : List ℕ) → begun ≡ front ++ back → SpellsOperation order h o front → ⊥) → (operations_in order h (done ++ begun)).rest ≡ begun
 rest_is order h p done begun some s none =
@@ -189,7 +189,7 @@ module _ (order : Order) (b : List ℕ) (h : HeaderData) (program : List ℕ) (a
   rest_begun : (operations_in order h.params program).rest ≡ r.begun
   rest_begun = ap (λ (w : List ℕ). (operations_in order h.params w).rest) r.whole ∙ rest_is order h.params r.operations r.done r.begun base r.spells none_begins
 
-  -- the unit goes on behind a shorter front
+  -- the unit goes on after a shorter front
   before_end : (front : List ℕ) (x : ℕ) (back : List ℕ) → b ≡ front ++ x ∷ back → (n : ℕ) → unit_len order front ≡ Some n → length front + length (x ∷ back) ≤ n
   before_end front x back e n len =
       let le = within n (ap (unit_len order) e ∙ unit_len_on order front (x ∷ back) n len) in

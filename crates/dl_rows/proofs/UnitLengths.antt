@@ -96,7 +96,7 @@ foreign_of order v u is =
     }) in
     ap (λ (c : Cut). foreign_made (following_all header_layout c.items)) computed ∙ ap foreign_made next
 
--- behind a foreign version no field is spelled
+-- after a foreign version no field is spelled
 none_foreign : (order : Order) (v w : ℕ) (items : List Item) (b : List ℕ) → SpellsFields order (foreign_version v) items b → following_all (foreign_version v) items ≡ foreign_version w → v ≡ w
 none_foreign order v w [] b s e = cc
 none_foreign order v w (i ∷ items) b s e = absurd (none_some refl s.3)

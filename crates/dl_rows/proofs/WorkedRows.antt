@@ -67,7 +67,7 @@ bad_front order h begun (x ∷ b) = elim (operation_spelt order h (begun ++ x �
   | None ↦ bad_front order h (begun ++ x ∷ []) b
 ]
 
--- what is refused behind the operations of a program
+-- what is refused after the operations of a program
 abbrev refusal : Order → Params → List ℕ → Option (ℕ × FaultKind)
 refusal order h program = bad_front order h [] (operations_in order h program).rest
 

@@ -1,4 +1,4 @@
--- The sink that stops at each row.
+-- The sink that stops at each row. No promise rests on this file.
 use Rattle.std.specs.Prelude.{◌≡◌, [], ◌∷◌}
 use Rattle.dl_rows.specs.declared.row.Row.{Row}
 use Rattle.dl_rows.specs.declared.sink.EachRow.{EachRow}

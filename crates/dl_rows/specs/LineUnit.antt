@@ -24,7 +24,7 @@ pub record HasItsLength (order : Order) (u : List ℕ) : Type 0 where
   pub spells : IsInitialLength order format unit_length front
   pub size : length rest ≡ unit_length
 
--- behind its initial length stand a version other than 5 and any bytes
+-- after its initial length stand a version other than 5 and any bytes
 pub record IsForeignUnit (order : Order) (version : ℕ) (u : List ℕ) : Type 0 where
   pub its_length : HasItsLength order u
   pub front : List ℕ

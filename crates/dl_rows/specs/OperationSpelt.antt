@@ -104,6 +104,6 @@ good_one (Some (Ok a)) = Some a
 good_one (Some (Err kind)) = None
 good_one None = None
 
--- the operations whose spellings fill a front of the program, and the bytes behind them
+-- the operations whose spellings fill a front of the program, and the bytes after them
 abbrev pub operations_in : Order → Params → List ℕ → Standing Operation
 operations_in order h program = standing (λ w. good_one (operation_spelt order h w)) program

@@ -1,4 +1,4 @@
--- What a reader that is inside an operation stands for. No promise rests on this file.
+-- What a reader that is inside an operation stands for. No promise rests on how this is said.
 use Rattle.std.specs.Prelude.{◌≡◌, ◌≢◌, false, ℕ, ◌+◌, ◌-◌, ◌^◌, ◌<◌, ◌≤◌, List, [], ◌∷◌, ◌++◌, length, slice_index, Ok, Err}
 use Rattle.dl_num.specs.declared.fixed.Order.{Order}
 use Rattle.dl_num.specs.Front.{SpellsNowhere, SpellsFirst}
@@ -70,7 +70,7 @@ PhaseStands h (phase.Rest left) v =
     (1 ≤ h.opcode_base) × (1 ≤ left) × ((w : List ℕ) × (opcode : ℕ) × (operand : List ℕ) × (v ≡ 0 ∷ (w ++ opcode ∷ operand))
     × (opcode ≢ 1) × (opcode ≢ 2) × (opcode ≢ 4) × HasLength w (1 + length operand + left))
 
--- what bytes behind v make of the operation
+-- what bytes after v make of the operation
 abbrev pub StepIs : Order → Params → List ℕ → List ℕ → Step → Type 0
 StepIs order h v bytes (step.Within p) = PhaseStands h p (v ++ bytes) × SpellsNowhere (operation_spelt order h) (v ++ bytes)
 StepIs order h v bytes (step.Ends o behind) =

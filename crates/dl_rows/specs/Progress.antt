@@ -1,4 +1,4 @@
--- How a reader goes on.
+-- How a reader goes on. No promise rests on how this is said.
 use Rattle.std.specs.Prelude.{ℕ}
 use Rattle.dl_rows.specs.declared.reader.Reader.{Reader}
 use Rattle.dl_rows.specs.ReaderStates.{taken_in}

@@ -1,4 +1,4 @@
--- What the states of a reader of a unit stand for. No promise rests on this file.
+-- What the states of a reader of a unit stand for. No promise rests on how this is said.
 use Rattle.std.specs.Prelude.{◌≡◌, ◌-◌, ◌^◌, ℕ, Bool, true, false, List, ◌++◌, length, min, Some, None}
 use Rattle.dl_num.specs.declared.fixed.Order.{Order}
 use Rattle.dl_num.specs.Laws.{AllBytes}
@@ -52,7 +52,7 @@ abbrev pub is_in_header : State → Bool
 is_in_header (state.InHeader head) = true
 is_in_header other = false
 
--- a reader of the header has taken some bytes, behind which the header goes on
+-- a reader of the header has taken some bytes, after which the header goes on
 abbrev pub GoesOn : HeadReader → Type 0
 GoesOn head = (b : List ℕ) × HeadStands head b × Answers head.order b answer.More
 

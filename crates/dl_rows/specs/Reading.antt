@@ -91,7 +91,7 @@ abbrev pub SinkAt : {S : Type 0} → Story S → S → List Row → Event → Ty
 SinkAt story s rows (event.Row r) = story.stops s (rows ++ r ∷ [])
 SinkAt story s rows other = story.hears s rows
 
--- a sink that heard these rows in a call, behind which stands this answer: it stopped at the answer's row, or goes on
+-- a sink that heard these rows in a call, after which stands this answer: it stopped at the answer's row, or goes on
 abbrev pub SinkBehind : {S : Type 0} → Story S → S → List Row → Result Fed Fault → Type 0
 SinkBehind story s rows (Ok fed) = SinkAt story s rows fed.event
 SinkBehind story s rows (Err fault) = story.hears s rows

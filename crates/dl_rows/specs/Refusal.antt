@@ -9,7 +9,7 @@ use Rattle.dl_head.specs.Header.{cut, unit_len, header_in}
 use Rattle.dl_head.specs.Refusal.{or_else, bad_kind, at_end, header_decided, NothingBefore}
 use Rattle.dl_rows.specs.OperationSpelt.{operation_spelt, operations_in}
 
--- what is left of b behind the good fields, or, once there is a header, behind it and the operations that are complete
+-- what is left of b after the good fields, or, once there is a header, after it and the operations that are complete
 abbrev pub left_behind : Order → List ℕ → Option (HeaderData × List ℕ) → List ℕ
 left_behind order b None = (cut order b).rest
 left_behind order b (Some (h, program)) = (operations_in order h.params program).rest
@@ -17,7 +17,7 @@ left_behind order b (Some (h, program)) = (operations_in order h.params program)
 abbrev pub left_over : Order → List ℕ → List ℕ
 left_over order b = left_behind order b (header_in order b)
 
--- what the last of n bytes decides, w being those of the operation at hand: it is bad, or the last byte of the unit too and incomplete
+-- what the last of n bytes decides, w being those of the current operation: it is bad, or the last byte of the unit too and incomplete
 abbrev pub operation_decided : Order → Params → List ℕ → ℕ → Option ℕ → Option FaultKind
 operation_decided order h [] n end = None
 operation_decided order h (x ∷ w) n end = or_else (bad_kind (operation_spelt order h (x ∷ w))) (at_end fault.OpcodeOverrun n end)

@@ -15,7 +15,7 @@ use Rattle.dl_rows.specs.Refusal.{Refused}
 
 -- ---- the answers
 
--- what a piece may be answered behind b, so many of its bytes being used: an event, or a fault
+-- what a piece may be answered after b, so many of its bytes being used: an event, or a fault
 abbrev pub MayGive : Order → (b piece : List ℕ) → ℕ → Result Event Fault → Type 0
 MayGive order b piece used (Ok event) = Answered order b piece (record { used = used; event = event })
 MayGive order b piece used (Err fault) = Fails order b piece fault used
@@ -64,7 +64,7 @@ pub record Traced (order : Order) (b bytes turns : List ℕ) (Hears : List Event
 
 -- ---- what comes of the bytes that were taken
 
--- behind b the first used of some bytes were taken, and these events heard, which are what they came to
+-- after b the first used of some bytes were taken, and these events heard, which are what they came to
 pub record Took (order : Order) (b bytes : List ℕ) (used : ℕ) (heard : List Event) : Type 0 where
   pub within : used ≤ length bytes
   pub in_unit : WithinUnit order (b ++ take used bytes)
@@ -89,16 +89,16 @@ RunIs order b bytes turns heard (Err fault) = (used : ℕ) × Took order b bytes
 
 -- ---- where the bytes complete a unit
 
--- behind b exactly the bytes of u were taken, and what they came to was heard
+-- after b exactly the bytes of u were taken, and what they came to was heard
 pub record TookUnit (order : Order) (b bytes u : List ℕ) (taken : ℕ) (heard : List Event) : Type 0 where
   pub count : length b + taken ≡ length u
   pub is : b ++ take taken bytes ≡ u
   pub grows : events order u ≡ events order b ++ heard
 
--- turns over the bytes that complete the unit u behind b, and over any that follow it
+-- turns over the bytes that complete the unit u after b, and over any that follow it
 pub record UnitRuns (order : Order) (b bytes turns u : List ℕ) (heard : List Event) (run : Run) : Type 0 where
   pub within : length b + run.taken ≤ length u
-  -- where the end is told, or there are as many turns that offer anything as bytes of u behind b and refusals of memory
+  -- where the end is told, or there are as many turns that offer anything as bytes of u after b and refusals of memory
   pub whole : (run.ended ≡ true) ⊎ (length u + run.refused ≤ length b + some_turns turns) → TookUnit order b bytes u run.taken heard
   -- with one turn more the end is told
   pub ended : length u + run.refused < length b + some_turns turns → run.ended ≡ true
@@ -115,7 +115,7 @@ abbrev pub TraceRuns : Type 0
 TraceRuns = (order : Order) (b bytes turns : List ℕ) (answers : List (Answer (Result Event Fault))) → WithinUnit order b → IsTrace (May order) goes_on b bytes turns answers
     → RunIs order b bytes turns (heard_in answers) (outcome answers (last_given (Ok event.More) answers))
 
--- where the bytes complete a unit, whatever follows it: no fault, no byte behind it, and with enough turns exactly its bytes and events
+-- where the bytes complete a unit, whatever follows it: no fault, no byte after it, and with enough turns exactly its bytes and events
 abbrev pub TraceOfUnit : Type 0
 TraceOfUnit = (order : Order) (b bytes turns u rest : List ℕ) (answers : List (Answer (Result Event Fault))) → WithinUnit order b → IsTrace (May order) goes_on b bytes turns answers
     → b ++ bytes ≡ u ++ rest → IsUnit order u → UnitRunIs order b bytes turns u (heard_in answers) (outcome answers (last_given (Ok event.More) answers))

@@ -1,4 +1,4 @@
--- The registers that are kept between the operations of a program, as sums and last settings. No promise rests on this file.
+-- The registers that are kept between the operations of a program, as sums and last settings. No promise rests on how this is said.
 use Rattle.std.specs.Prelude.{◌^◌, ◌%◌, ◌<◌, ◌==◌, not, unsigned_abs, List, unwrap_or, fold}
 use Rattle.std.specs.List.{after_last, list_any}
 use Rattle.dl_head.specs.declared.params.Params.{Params}
@@ -25,7 +25,7 @@ registers_of h s f = record {
   discriminator = unwrap_or (last_set set_discriminator f) 0;
 }
 
--- the registers behind the operations, before the next one
+-- the registers after the operations, before the next one
 abbrev pub registers_after : Params → List Operation → Registers
 registers_after h os = registers_of h (after_last is_end os) (after_last appends_row os)
 

@@ -17,9 +17,9 @@ use dl_num::Order;
 pub enum Given<'a> {
     /// No row; all of them are used.
     Nothing,
-    /// A row, and the bytes behind the operation that appends it.
+    /// A row, and the bytes after the operation that appends it.
     Row(Row, &'a [u8]),
-    /// What is wrong with the operation at hand, and the bytes behind the one that decides it.
+    /// What is wrong with the current operation, and the bytes after the one that decides it.
     Refuses(FaultKind, &'a [u8]),
 }
 
@@ -28,7 +28,7 @@ pub enum Given<'a> {
 pub struct Program {
     registers: Registers,
     phase: Phase,
-    /// How many bytes of the operation at hand have come.
+    /// How many bytes of the current operation have come.
     begun: u64,
     in_sequence: bool,
 }
@@ -66,7 +66,7 @@ impl Program {
         matches!(self.phase, Phase::Start)
     }
 
-    /// How many bytes of the operation at hand have come.
+    /// How many bytes of the current operation have come.
     pub fn begun(&self) -> u64
         ensures { result ≡ self.now.begun }
     {

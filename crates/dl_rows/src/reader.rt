@@ -36,7 +36,7 @@ pub enum Event {
     Row(Row),
     /// The unit's bytes are all taken, and nothing else came of the piece.
     End,
-    /// Memory was refused for the byte behind those used.
+    /// Memory was refused for the byte after those used.
     NoMemory,
 }
 
@@ -166,7 +166,7 @@ impl Reader {
         }
     }
 
-    /// How many bytes were taken, none of them behind the unit.
+    /// How many bytes were taken, none of them after the unit.
     pub fn taken(&self) -> u64
         ensures field { result ≡ taken_of self.now }
         ensures bytes { (b : List ℕ) → StandsFor self.now b → result ≡ length b }

@@ -21,7 +21,7 @@ pub struct Row {
     pub is_stmt: bool,
     /// Whether a basic block begins here.
     pub basic_block: bool,
-    /// Whether this is the first address behind a sequence of instructions.
+    /// Whether this is the first address after a sequence of instructions.
     pub end_sequence: bool,
     /// Whether a breakpoint at the entry of a function belongs here.
     pub prologue_end: bool,

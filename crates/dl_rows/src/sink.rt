@@ -4,7 +4,7 @@ ghost use Rattle.std.specs.Prelude.{◌≡◌, [], ◌∷◌, ◌++◌, length};
 
 use crate::row::Row;
 
-/// Whether a sink goes on behind a row.
+/// Whether a sink goes on after a row.
 #[derive(Debug, Clone, Copy, PartialEq, Eq)]
 pub enum Flow {
     /// It wants the next row too.
@@ -13,7 +13,7 @@ pub enum Flow {
     Stop,
 }
 
-/// What hears the rows of a unit, one behind the other.
+/// What hears the rows of a unit, one after the other.
 pub trait RowSink {
     ghost use Rattle.std.specs.Prelude.{List, ◌∷◌, ◌++◌, []};
     ghost use Rattle.dl_rows.specs.declared.row.Row.{Row};

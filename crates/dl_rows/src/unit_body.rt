@@ -140,7 +140,7 @@ impl UnitBody {
         }
     }
 
-    /// What is kept behind this fault.
+    /// What is kept after this fault.
     fn stop(&self, fault: Fault) -> BodyStop
         ensures { result ≡ record { fault = fault; taken = self.now.bytes.taken; in_sequence = self.now.program.in_sequence } }
     {
@@ -151,7 +151,7 @@ impl UnitBody {
         }
     }
 
-    /// A fault of the operation at hand.
+    /// A fault of the current operation.
     fn fault(&self, kind: FaultKind) -> Fault
         ensures { result ≡ record { offset = self.now.bytes.taken - self.now.program.begun; kind = kind } }
     {

@@ -1,4 +1,4 @@
--- What a job says of a section on the input, and the string sections that were read for it, as contracts see them.
+-- What a job says of a section on the input, and the string sections that were read for it, as contracts see them. No promise rests on this file.
 use Rattle.std.specs.Option.{option_map, option_copied}
 use Rattle.dl_print.specs.ValueText.{Strings}
 use Rattle.dl_work.specs.declared.over_input.Section.{Section}

@@ -1,8 +1,10 @@
+-- What the public contracts say rests on these, in reading order.
 pub mod Stops
 pub mod Asked
 pub mod Files
-pub mod Held
 pub mod Tables
 pub mod Work
 pub mod Located
 pub mod Locate
+-- Of contracts inside the crate, and of proofs; no public contract reaches these.
+pub mod Held

@@ -1,4 +1,4 @@
-//! Growths that are refused: of a header each once, behind it all, of which there are none.
+//! Growths that are refused: of a header each once, after it all, of which there are none.
 
 use crate::pieces::assert_fed;
 use dl_num::Order;
@@ -108,7 +108,7 @@ fn assert_many_rows(rt: &impl Abort, reader: &mut Reader, unit: &[u8]) -> Result
 fn behind_a_header_nothing_grows(rt: HostRuntime) -> Result<(), Fail> {
     let mut unit = many_rows(rt.alloc())?;
     assert_eq!(rt; unit.get(..4), Some(&[0xbe, 0x86, 0x01, 0x00][..]));
-    // Bytes behind the unit, so that its end is told.
+    // Bytes after the unit, so that its end is told.
     unit.push(0)?;
     let mut reader = Reader::new(rt.alloc(), Order::Little);
     let blocks = hoard(rt.alloc())?;

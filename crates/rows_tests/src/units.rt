@@ -188,7 +188,7 @@ fn thousand_byte_number(rt: HostRuntime) -> Result<(), Fail> {
     assert_told(&rt, rt.alloc(), Order::Little, unit.as_slice(), &wanted)
 }
 
-/// A whole unit is used as far as its next event, and no byte behind it is.
+/// A whole unit is used as far as its next event, and no byte after it is.
 #[test]
 fn one_piece(rt: HostRuntime) -> Result<(), Fail> {
     let unit = unit(rt.alloc(), SMALLEST)?;

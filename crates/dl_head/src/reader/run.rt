@@ -74,7 +74,7 @@ impl HeadReader {
         (used, HeadStep::More)
     }
 
-    /// Takes a value of the table at hand with which the piece begins, where the header goes on behind
+    /// Takes a value of the current table with which the piece begins, where the header goes on after
     /// it: how many bytes it has. 0, and nothing is taken, where it begins with no such value, memory is
     /// refused, or the piece is of one byte, which `step` takes sooner.
     #[inline(always)]

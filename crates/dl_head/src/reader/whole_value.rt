@@ -15,7 +15,7 @@ use dl_num::{Order, fixed_at_front, short_uleb_at_front};
 impl ValuePhase {
     ghost use Rattle.dl_head.specs.TablePlace.{InFront};
 
-    /// The value that the bytes begin with, and the bytes behind it, where none of its bytes has come
+    /// The value that the bytes begin with, and the bytes after it, where none of its bytes has come
     /// and it is a number, an offset or sixteen bytes. None where the bytes end before it does, and
     /// for a number in LEB128 of more than two bytes.
     #[inline(always)]
@@ -54,7 +54,7 @@ impl TableReader {
     ghost use Rattle.dl_head.specs.declared.reader.value_phase.ValuePhase.TheVariants as value;
     ghost use Rattle.dl_head.specs.TablePlace.{SameTable, TakesValue, IsLast};
 
-    /// Takes a value that the bytes begin with, and gives the bytes behind it. None, and nothing is
+    /// Takes a value that the bytes begin with, and gives the bytes after it. None, and nothing is
     /// taken, where the bytes end before the value does, where it is a block or the table's last value,
     /// and where memory is refused: `push` takes its bytes then.
     #[inline(always)]
@@ -83,7 +83,7 @@ impl TableReader {
         }
     }
 
-    /// Takes a text that the bytes begin with, none of whose bytes has come, and gives the bytes behind
+    /// Takes a text that the bytes begin with, none of whose bytes has come, and gives the bytes after
     /// its zero byte.
     fn whole_text<'a>(
         &mut self,
