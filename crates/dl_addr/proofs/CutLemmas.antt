@@ -1,9 +1,8 @@
 -- What lines ask for byte by byte is what they ask for one by one.
-use Rattle.std.proofs.Common.{◌≡◌, ℕ, ◌+◌, ◌*◌, suc, Bool, true, false, ◌==◌, if◌then◌else◌, List, [], ◌∷◌, ◌++◌, Option, Some, None, arith, refl, sym, ap, ap₂, ◌∙◌, subst}
+use Rattle.std.proofs.Common.{◌≡◌, ℕ, ◌+◌, ◌*◌, suc, Bool, true, false, ◌==◌, if◌then◌else◌, List, [], ◌∷◌, ◌++◌, Option, None, arith, refl, sym, ap, ap₂, ◌∙◌, subst}
 use Rattle.std.specs.Prelude.{option_and_then}
 use Rattle.std.proofs.lemmas.Bool.{eqb-true}
 use Rattle.dl_cmd.specs.Address.{below_2_64}
-use Rattle.dl_addr.specs.declared.asked.Asked.{Asked}
 use Rattle.dl_addr.specs.declared.line.Line.{Line}
 use Rattle.dl_addr.specs.declared.line.Text.{Text}
 use Rattle.dl_addr.specs.declared.line.Text.TheVariants.{Blank, Zero, Prefix, Digits, Ended, Other}

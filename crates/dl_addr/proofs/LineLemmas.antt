@@ -11,7 +11,7 @@ use Rattle.dl_addr.specs.declared.asked.Asked.{Asked}
 use Rattle.dl_addr.specs.declared.asked_lines.AskedLines.{AskedLines}
 use Rattle.dl_addr.specs.declared.asked_lines.Lines.{Lines}
 use Rattle.dl_addr.specs.Line.{after_byte, asked_at_end, asked_of, new_line}
-use Rattle.dl_addr.specs.AskedLines.{IsAsked, StopsAsking, and_asked, asked_in, if_no_address, no_address_in}
+use Rattle.dl_addr.specs.AskedLines.{IsAsked, StopsAsking, and_asked, if_no_address}
 use Rattle.dl_addr.specs.LinesRead.{Adds, RefusesAsked, Stands, asked_from, base_of, no_address_from}
 use Rattle.dl_addr.proofs.CutLemmas.{lines_asked, lines_numbered}
 

@@ -1,5 +1,5 @@
 -- A line that is read byte by byte asks for what its text without blanks says.
-use Rattle.std.proofs.Common.{◌≡◌, ◌⊎◌, inl, inr, ℕ, ◌+◌, ◌-◌, ◌*◌, ◌^◌, ◌<◌, ◌≤◌, Bool, true, false, ◌||◌, ◌==◌, if◌then◌else◌, List, [], ◌∷◌, ◌++◌, length, Option, Some, None, arith, refl, sym, ap, ap₂, ◌∙◌, subst}
+use Rattle.std.proofs.Common.{◌≡◌, ℕ, ◌+◌, ◌-◌, ◌*◌, ◌^◌, ◌<◌, ◌≤◌, Bool, true, false, ◌||◌, ◌==◌, if◌then◌else◌, List, [], ◌∷◌, ◌++◌, Option, Some, None, arith, refl, sym, ap, ◌∙◌}
 use Rattle.std.specs.Prelude.{◌&&◌, option_and_then, nat_le, nat_lt}
 use Rattle.std.specs.List.{list_all}
 use Rattle.std.proofs.lemmas.Bool.{eqb-true, lt-leb, lt-ltb, ltb-true}
@@ -8,7 +8,7 @@ use Rattle.dl_cmd.proofs.AddressLemmas.{rest_of, rest_of-big}
 use Rattle.dl_addr.specs.declared.asked.Asked.{Asked}
 use Rattle.dl_addr.specs.declared.line.Text.{Text}
 use Rattle.dl_addr.specs.declared.line.Text.TheVariants.{Blank, Zero, Prefix, Digits, Ended, Other}
-use Rattle.dl_addr.specs.Line.{after_blank, after_digit, after_mark, asked_of, digits_or_other, one_digit_more}
+use Rattle.dl_addr.specs.Line.{after_blank, after_digit, after_mark, asked_of, digits_or_other}
 use Rattle.dl_addr.specs.LinesRead.{base_of}
 use Rattle.dl_addr.specs.AskedLines.{address_by, asked_by, asked_of_line, is_blank, trim_end, trim_start}
 

@@ -1,6 +1,6 @@
 -- Lines byte by byte: what they ask for, and what contracts see of those that were read so far. No promise rests on this file.
 -- base: that of digits without `0x`; done: the bytes of the lines that were read.
-use Rattle.std.specs.Prelude.{◌≡◌, ◌≢◌, ◌<◌, ◌≤◌, ◌+◌, ◌^◌, ℕ, suc, Bool, ◌==◌, if◌then◌else◌, List, [], ◌∷◌, ◌++◌, length, Option, Some, None, MatchOption}
+use Rattle.std.specs.Prelude.{◌≡◌, ◌≢◌, ◌<◌, ◌≤◌, ◌+◌, ◌^◌, ℕ, suc, Bool, ◌==◌, if◌then◌else◌, List, [], ◌∷◌, ◌++◌, length, Option, None}
 use Rattle.std.specs.Option.{option_or}
 use Rattle.dl_cmd.specs.declared.fault.RunFault.{RunFault}
 use Rattle.dl_cmd.specs.declared.fault.RunFault.TheVariants.{NoMemory}

@@ -1,8 +1,7 @@
-use Rattle.std.proofs.Common.{ℕ, List, Option, Some, option_map, sym, ap, ◌∙◌}
+use Rattle.std.proofs.Common.{Option, Some, option_map, sym, ap, ◌∙◌}
 use Rattle.std.specs.Prelude.{unwrap_or}
 use Rattle.std.specs.Option.{option_and_then}
 use Rattle.dl_look.specs.declared.place.Place.{Place}
-use Rattle.dl_rows.specs.declared.row.Row.{Row}
 use Rattle.dl_addr.specs.Answers.{SeenRow, located_seen}
 use Rattle.dl_addr.specs.Asked.{last}
 use Rattle.dl_addr.specs.Locating.{located_by}
