@@ -6,7 +6,7 @@ use std::process::Abort;
 use std::test::Fail;
 use test_support::{Fault, Source};
 
-/// An address, one with a 0x0d behind it, blanks alone, one between blanks, what is none, a 0x0d that ends no
+/// An address, one with a 0x0d after it, blanks alone, one between blanks, what is none, a 0x0d that ends no
 /// line, an empty line, and a last line without its 0x0a.
 const LINES: &[u8] = b"0x10\n17\r\n \t \r\n\t 18 \nmain\n1\r2\n\n1f";
 

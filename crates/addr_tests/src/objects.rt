@@ -4,7 +4,7 @@ use dl_addr::{Form, Found, Question, Style};
 use std::test::Fail;
 
 /// A unit of two files, in a directory `/q"` and by the names `a\b` and, in bytes that are no UTF-8, `\xff`
-/// behind an e with an accent. Rows at 0x10, of discriminator 3 and no statement, and at 0x14.
+/// after an e with an accent. Rows at 0x10, of discriminator 3 and no statement, and at 0x14.
 const QUOTES: &str =
     "52 00 00 00 05 00 08 00 2c 00 00 00 01 01 01 fb 0e 0d 00 01 01 01 01 00 00 00 \
         01 00 00 01 01 01 08 01 2f 71 22 00 02 01 08 02 0f 02 61 5c 62 00 00 c3 a9 ff \

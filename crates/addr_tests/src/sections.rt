@@ -36,7 +36,7 @@ pub const NODIR: &str =
         01 00 00 01 01 01 08 00 02 01 08 02 0f 01 6e 2e 63 00 00 00 09 02 00 30 00 00 \
         00 00 00 00 04 00 05 01 01 02 04 00 01 01";
 
-/// `/d/dead.c` from 0 to 0x80, as a linker leaves the sequence of a function that it drops, and behind it
+/// `/d/dead.c` from 0 to 0x80, as a linker leaves the sequence of a function that it drops, and after it
 /// `/d/live.c` from 0x40 to 0x50.
 pub const DEAD: &str =
     "68 00 00 00 05 00 08 00 2f 00 00 00 01 01 01 fb 0e 0d 00 01 01 01 01 00 00 00 \

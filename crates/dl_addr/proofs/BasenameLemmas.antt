@@ -1,4 +1,4 @@
--- What stands behind the last separator.
+-- What stands after the last separator.
 use Rattle.std.proofs.Common.{◌≡◌, ℕ, ◌<◌, zero, suc, Bool, true, false, List, [], ◌∷◌, length, drop, get_or, refl, ap, ◌∙◌, arith}
 use Rattle.std.specs.Prelude.{if◌then◌else◌, ◌||◌}
 use Rattle.std.specs.List.{list_any}
@@ -24,7 +24,7 @@ module _ (sep : ℕ → Bool) where
   any_at (b ∷ path) zero d lt is = or_left (sep b) (list_any sep path) is
   any_at (b ∷ path) (suc i) d lt is = or_true (sep b) (list_any sep path) (any_at path i d (omega arith) is)
 
-  -- a separator, and none behind it
+  -- a separator, and none after it
   pub behind_at : (path : List ℕ) (i d : ℕ) → i < length path → sep (get_or path i d) ≡ true → list_any sep (drop (suc i) path) ≡ false → behind_last sep path ≡ drop (suc i) path
   behind_at [] i d lt is none = absurd (omega arith)
   behind_at (b ∷ path) zero d lt is none =

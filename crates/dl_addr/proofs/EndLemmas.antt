@@ -64,7 +64,7 @@ module _ (order : Order) where
   own_end : (offset : ℕ) (u : List ℕ) → own offset u ++ of_end (header_of order u) ∷ [] ≡ unit_visits order offset u
   own_end offset u = append_assoc (visits order offset u) (open_visit (ends_open (unit_rows order u))) (of_end (header_of order u) ∷ [])
 
-  -- u is one of the units; before the end of its visits the units before it answer, and behind it u too
+  -- u is one of the units; before the end of its visits the units before it answer, and after it u too
   pub record SplitsAt (offset n : ℕ) (units : List (List ℕ)) (before : List Visit) (h : Option HeaderData) : Type 0 where
     pub front : List (List ℕ)
     pub u : List ℕ

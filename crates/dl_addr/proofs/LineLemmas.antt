@@ -116,7 +116,7 @@ pub line_refusal : (base : ℕ) (done : List ℕ) (c : ℕ) (s : Lines) (asked :
 line_refusal base done c s None fault stands at is memory some = absurd (let e = some in cc)
 line_refusal base done c s (Some a) fault stands at is memory some = (memory, line_refused base done c s a stands (ap (λ n. n == 10) at) (sym is))
 
--- the input ends behind what asks for something
+-- the input ends after what asks for something
 pub end_refused : (base : ℕ) (done : List ℕ) (s : Lines) (a : Asked) → Stands base done s → asked_at_end s.line ≡ Some a → asked_from base new_line done ≢ []
 end_refused base done s a stands is none =
     some_last s.asked.items a []

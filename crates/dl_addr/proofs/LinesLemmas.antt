@@ -1,4 +1,4 @@
--- Lines that are printed one behind the other.
+-- Lines that are printed one after the other.
 use Rattle.std.proofs.Common.{◌≡◌, ℕ, ◌+◌, ◌<◌, ◌≤◌, Bool, true, false, List, [], ◌∷◌, ◌++◌, length, take, drop, get_or, Option, Some, None, refl, sym, ap, ap₂, ◌∙◌, subst, append-nil}
 use Rattle.std.specs.Prelude.{if◌then◌else◌, ◌&&◌, is_some, option_map}
 use Rattle.std.specs.Io.KnownBytes.{Appends}

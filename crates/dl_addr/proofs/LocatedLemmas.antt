@@ -24,7 +24,7 @@ use Rattle.dl_cmd.proofs.Fronts.{or_assoc, or_none}
 use Rattle.dl_addr.specs.Locations.{Located, located, located_from, located_in}
 use Rattle.dl_addr.specs.Locating.{ended_rows, located_after, located_under}
 
--- ---- visits one behind the other
+-- ---- visits one after the other
 
 pub offset_after-append : (n : ℕ) (a b : List Visit) → offset_after n (a ++ b) ≡ offset_after (offset_after n a) b
 offset_after-append n [] b = refl

@@ -82,7 +82,7 @@ module _ (first old new : Locator) (start held : Option (List ℕ)) (visits more
     nothing = s.nothing;
   }
 
--- the unit at hand ends
+-- the current unit ends
 module _ (first old mid : Locator) (start held : Option (List ℕ)) (visits : List Visit) (h : Option HeaderData) (result : Result ⊤ NoMemory) (s : Locating first old start held visits) (keeps : Keeps old mid h result) where
   abbrev lives : ℕ → Bool
   lives = code_of first
@@ -171,7 +171,7 @@ module _ (first old mid : Locator) (start held : Option (List ℕ)) (visits : Li
       ∙ ap (λ ss. (path_text first.style (path_of (strings_of ss) h r.file), old.unit)) s.strings
       ∙ ap (λ (n : ℕ). (path_text first.style (path_of (strings_of first.strings) h r.file), n)) s.unit
 
-  -- it goes on behind the unit
+  -- it goes on after the unit
   pub behind : (is : result ≡ Ok tt) (finders : Finders) (told : LiveRows)
       → ((places : List Place) (units : List (List Row)) (rows : List Row) → Stand mid.finders places units rows → Stand finders places (units ++ rows ∷ []) [])
       → ((live : ℕ → Bool) → Tells told live []) → Locating first (record mid { finders = finders; live = told }) start held all

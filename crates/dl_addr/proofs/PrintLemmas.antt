@@ -1,4 +1,4 @@
--- Texts that are printed one behind the other.
+-- Texts that are printed one after the other.
 use Rattle.std.proofs.Common.{ℕ, List, ◌++◌, Option, Result, append_assoc, subst}
 use Rattle.std.specs.Prelude.{MatchResult}
 use Rattle.dl_print.specs.Printed.{Printed}

@@ -139,7 +139,7 @@ means_is base (Ended a) c rest = refl
 means_is base Other c rest = refl
 
 module _ (base c : ℕ) (rest : List ℕ) (some : 1 ≤ base) where
-  -- behind the text of an address only blanks may follow
+  -- after the text of an address only blanks may follow
   zero_ends : c < 48 → (all : Bool) → (if all then Some 0 else None) ≡ word base (48 ∷ (if all then [] else c ∷ trim_end rest))
   zero_ends low true = ap (λ n. below_2_64 n) (let e : 0 ≡ 0 * base + 0 = omega arith in e)
   zero_ends low false = zero_then (c == 120) refl where

@@ -39,7 +39,7 @@ pub record AnswersFirst (order : Order) (q : Question) (units : List (List ℕ))
   pub not_before : located order (is_code (option_copied q.code)) units (looked_up q.base a) ≡ None
   pub answers : is_some (located order (is_code (option_copied q.code)) (units ++ u ∷ []) (looked_up q.base a)) ≡ true
 
--- how the reading ends: as that of `check`, or memory is refused for the answers of u, the unit behind these units
+-- how the reading ends: as that of `check`, or memory is refused for the answers of u, the unit after these units
 abbrev pub Ends : Order → (limit : ℕ) (bytes : List ℕ) (left : Option (List ℕ)) → Question → (units : List (List ℕ)) (b back : List ℕ) → Result Summary RunFault → Type 0
 Ends order limit bytes left q units b back (Err fault.NoMemory) =
     EndsAs order limit bytes left units b back (Err fault.NoMemory)

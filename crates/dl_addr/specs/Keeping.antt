@@ -15,7 +15,7 @@ use Rattle.dl_addr.specs.Texts.{Grows, IsKept}
 abbrev pub text_under : Locator → Option HeaderData → Row → List ℕ × ℕ
 text_under l h r = (path_text l.style (path_of (strings_of l.strings) h r.file), l.unit)
 
--- of the places that the unit at hand is the first to answer the texts are kept, and of the others what was
+-- of the places that the current unit is the first to answer the texts are kept, and of the others what was
 pub record Keeps (old new : Locator) (h : Option HeaderData) (result : Result ⊤ NoMemory) : Type 0 where
   pub code : new.code ≡ old.code
   pub style : new.style ≡ old.style

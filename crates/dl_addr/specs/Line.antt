@@ -47,7 +47,7 @@ asked_of Other = Some (record { address = None })
 abbrev pub new_line : Line
 new_line = record { text = Blank; returned = false }
 
--- a 0x0d that the line doesn't end behind belongs to its text
+-- a 0x0d that the line doesn't end after belongs to its text
 abbrev pub text_so_far : Line → Text
 text_so_far l = if l.returned then Other else l.text
 

@@ -13,7 +13,7 @@ use Rattle.dl_addr.specs.Line.{after_byte, asked_at_end, asked_of, new_line}
 abbrev pub base_of : (hex : Bool) → ℕ
 base_of hex = if hex then 16 else 10
 
--- what is asked for by a line of which l was read, and by the lines behind it; 10 is 0x0a
+-- what is asked for by a line of which l was read, and by the lines after it; 10 is 0x0a
 abbrev pub asked_from : (base : ℕ) → Line → List ℕ → List Asked
 asked_from base l [] = and_asked (asked_at_end l) []
 asked_from base l (c ∷ b) =

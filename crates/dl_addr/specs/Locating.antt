@@ -22,7 +22,7 @@ use Rattle.dl_addr.specs.Paths.{path_of}
 use Rattle.dl_addr.specs.Shown.{path_text}
 use Rattle.dl_addr.specs.Texts.{IsKept}
 
--- ---- what visits give; rows, offset: of the unit at hand before the visits
+-- ---- what visits give; rows, offset: of the current unit before the visits
 
 -- the live rows of the units that ended
 abbrev pub ended_rows : (live : ℕ → Bool) → List Row → List Visit → List (List Row)

@@ -32,7 +32,7 @@ abbrev pub located_in : Order → (live : ℕ → Bool) → (offset : ℕ) → L
 located_in order live offset u x =
     option_map (λ r. record { row = r; header = header_of order u; unit = offset }) (live_answer live (unit_rows order u) x)
 
--- of units one behind the other, the first at that offset: of the first that has an answer
+-- of units one after the other, the first at that offset: of the first that has an answer
 abbrev pub located_from : Order → (live : ℕ → Bool) → (offset : ℕ) → List (List ℕ) → Place → Option Located
 located_from order live offset [] x = None
 located_from order live offset (u ∷ units) x =

@@ -18,7 +18,7 @@ shown_byte b = if is_control b then codes "\\x" ++ last_digit (b / 16) ∷ last_
 abbrev pub shown : List ℕ → List ℕ
 shown path = flat_map shown_byte path
 
--- what stands behind the last separator; all of it where there is none
+-- what stands after the last separator; all of it where there is none
 abbrev pub behind_last : (is_separator : ℕ → Bool) → List ℕ → List ℕ
 behind_last is_separator [] = []
 behind_last is_separator (b ∷ path) = if list_any is_separator (b ∷ path) then behind_last is_separator path else b ∷ path

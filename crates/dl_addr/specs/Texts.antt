@@ -17,7 +17,7 @@ text_at texts k = option_map (λ (t : FileText). (t.text.items, t.unit)) (slice_
 abbrev pub text_of_file : UnitFiles → ℕ → List ℕ × ℕ
 text_of_file u file = (path_text u.style (path_of (strings_of u.strings.now) (option_copied u.header) file), u.offset)
 
--- texts are added behind those before
+-- texts are added after those before
 abbrev pub Grows : List FileText → List FileText → Type 0
 Grows old new = (more : List FileText) × (new ≡ old ++ more)
 

@@ -5,7 +5,7 @@ ghost use Rattle.dl_addr.specs.Shown.{basename, separates};
 
 use crate::path::{has_drive, is_slash};
 
-/// What stands behind the last slash, or all of it; where the path begins with a drive, behind the last
+/// What stands after the last slash, or all of it; where the path begins with a drive, after the last
 /// backslash too.
 pub fn basename(path: &[u8]) -> &[u8]
     ensures { result.now ≡ basename path.now }

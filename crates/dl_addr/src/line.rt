@@ -10,13 +10,13 @@ use dl_cmd::digit_of;
 pub enum Text {
     /// Nothing, or spaces and tabs.
     Blank,
-    /// `0`, behind which an `x` may come.
+    /// `0`, after which an `x` may come.
     Zero,
-    /// `0x`, behind which a digit has to come.
+    /// `0x`, after which a digit has to come.
     Prefix,
     /// Digits in this base, and the number that they are.
     Digits { base: u64, number: u64 },
-    /// An address, and spaces or tabs behind it.
+    /// An address, and spaces or tabs after it.
     Ended { address: u64 },
     /// What is no address, whatever follows.
     Other,
@@ -93,7 +93,7 @@ impl Text {
 #[derive(Clone, Copy, Debug, PartialEq, Eq)]
 pub struct Line {
     pub text: Text,
-    /// Whether a 0x0d came last, which doesn't belong to the text where the line ends behind it.
+    /// Whether a 0x0d came last, which doesn't belong to the text where the line ends after it.
     pub returned: bool,
 }
 
@@ -143,7 +143,7 @@ impl Line {
         }
     }
 
-    /// What it asks for where the input ends behind it.
+    /// What it asks for where the input ends after it.
     pub fn asked_at_end(self) -> Option<Asked>
         ensures { result ≡ asked_at_end self }
     {

@@ -24,9 +24,9 @@ pub struct Locator<'a> {
     style: Style,
     /// Was given the live rows of the units.
     finders: Finders,
-    /// Was given the rows of the unit at hand.
+    /// Was given the rows of the current unit.
     live: LiveRows,
-    /// The offset of the unit at hand.
+    /// The offset of the current unit.
     unit: u64,
     texts: Vec<FileText>,
     /// For each place that was answered the number of its text.
@@ -184,7 +184,7 @@ impl<'a> Locator<'a> {
         self.texts.as_slice().get(*text)
     }
 
-    /// Keeps the texts of the places that the unit at hand is the first to answer.
+    /// Keeps the texts of the places that the current unit is the first to answer.
     fn keep(&mut self, header: Option<&Header>) -> Result<(), NoMemory>
         ensures { Keeps self.old self.new (option_copied header.entry) result }
     {

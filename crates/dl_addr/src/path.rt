@@ -20,7 +20,7 @@ const DIRECTORY_INDEX: u64 = 2;
 /// What a path is where one of its texts isn't there.
 const MISSING: &[u8] = b"??";
 
-/// A path, in the texts that stand one behind the other with slashes between.
+/// A path, in the texts that stand one after the other with slashes between.
 #[derive(Clone, Copy)]
 pub enum Path<'a> {
     /// A file whose path is whole.

@@ -34,7 +34,7 @@ fn text_in(alloc: Global, form: Form, path: &[u8]) -> Result<Vec<u8>, NoMemory>
     }
 }
 
-/// The parts of a path, one behind the other.
+/// The parts of a path, one after the other.
 fn joined(alloc: Global, path: Path<'_>) -> Result<Vec<u8>, NoMemory>
     ensures { IfOk result (λ text. text.items ≡ path_seen path.entry) }
 {

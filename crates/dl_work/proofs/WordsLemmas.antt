@@ -1,4 +1,4 @@
--- The words of `addr`, which are texts behind references.
+-- The words of `addr`, which are texts after references.
 use Rattle.std.proofs.Common.{◌≡◌, Bor, ℕ, Bool, false, true, List, [], ◌∷◌, length, map, arith, refl, sym, ap, ◌∙◌}
 use Rattle.std.specs.Prelude.{is_some}
 use Rattle.std.specs.List.{list_all}
