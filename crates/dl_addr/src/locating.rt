@@ -47,7 +47,7 @@ impl<W: Write> Visitor<W> for Locator<'_> {
         Ok(())
     }
 
-    #[inline]
+    #[inline(always)]
     fn row(&mut self, _output: &mut W, row: &Row) -> Result<(), RunFault> {
         let is_live = self.begins_live(row.address);
         if self.live.takes(row, is_live) {
@@ -85,7 +85,7 @@ pub struct Answer<'a> {
 }
 
 /// Whether there is code at an address, as far as it is known.
-#[inline]
+#[inline(always)]
 fn is_code(code: Option<&CodeRanges>, address: u64) -> bool
     ensures { result ≡ is_code (option_copied code.entry) address }
 {
@@ -143,7 +143,7 @@ impl<'a> Locator<'a> {
     }
 
     /// Whether a sequence that begins at this address is live. Only where one begins it is looked up.
-    #[inline]
+    #[inline(always)]
     fn begins_live(&self, address: u64) -> bool
         ensures { (live : ℕ → Bool) (rows : List Row) → Tells self.now.live live rows → unended rows ≡ []
             → result ≡ is_code (option_copied self.now.code) address }

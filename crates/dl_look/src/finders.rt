@@ -94,7 +94,7 @@ impl Finders {
     }
 
     /// Takes the next row of the current unit.
-    #[inline]
+    #[inline(always)]
     pub fn row(&mut self, row: &Row)
         ensures { (places : List Place) (units : List (List Row)) (rows : List Row)
             → Stand self.old places units rows → Stand self.new places units (rows ++ row.now ∷ []) }
@@ -107,7 +107,7 @@ impl Finders {
     }
 
     /// Takes a row after which its sequence goes on.
-    #[inline]
+    #[inline(always)]
     fn go_on(&mut self, row: &Row)
         requires { row.now.end_sequence ≡ false }
         ensures { (places : List Place) (units : List (List Row)) (rows : List Row)

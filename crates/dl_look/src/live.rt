@@ -37,7 +37,7 @@ impl LiveRows {
     }
 
     /// Whether the next row is the first of a sequence.
-    #[inline]
+    #[inline(always)]
     pub fn begins(&self) -> bool
         ensures { (live : ℕ → Bool) (rows : List Row) → Tells self.now live rows
             → IsTrue result ↔ (unended rows ≡ []) }
@@ -51,7 +51,7 @@ impl LiveRows {
 
     /// Takes the next row, and tells whether it is of a live sequence. `live` says so of a sequence that
     /// begins with this row, and isn't looked at for other rows.
-    #[inline]
+    #[inline(always)]
     pub fn takes(&mut self, row: &Row, live: bool) -> bool
         ensures told { (is_live : ℕ → Bool) (rows : List Row) → Tells self.old is_live rows
             → (unended rows ≡ [] → live ≡ is_live row.now.address)
