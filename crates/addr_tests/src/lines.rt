@@ -4,7 +4,7 @@ use dl_cmd::RunFault;
 use std::alloc::Global;
 use std::process::Abort;
 use std::test::Fail;
-use test_support::{Fault, Source};
+use test_support::{Fault, Hoarding, Source};
 
 /// An address, one with a 0x0d after it, blanks alone, one between blanks, what is none, a 0x0d that ends no
 /// line, an empty line, and a last line without its 0x0a.
@@ -53,5 +53,26 @@ fn each_read(rt: HostRuntime) -> Result<(), Fail> {
             Err(fault) => assert_eq!(&rt; fault, RunFault::Read),
         }
     }
+    Ok(())
+}
+
+/// Memory is wanted only where a line ends that asks for something, or the input does; where it is refused, that
+/// is told.
+#[test]
+fn each_growth(rt: HostRuntime) -> Result<(), Fail> {
+    let alloc = rt.alloc();
+    let mut refused = 0usize;
+    for (at, byte) in LINES.iter().enumerate() {
+        let mut input = Hoarding::new(alloc, LINES, at);
+        match read_asked(alloc, &mut input, false) {
+            Ok(lines) => assert_eq!(&rt; lines.asked.len(), 6),
+            Err(fault) => {
+                assert_eq!(&rt; fault, RunFault::NoMemory);
+                assert!(&rt; *byte == b'\n' || at.saturating_add(1) == LINES.len(), "{at}");
+                refused = refused.saturating_add(1);
+            }
+        }
+    }
+    assert!(&rt; refused > 0);
     Ok(())
 }

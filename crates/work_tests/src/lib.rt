@@ -8,4 +8,6 @@ mod file;
 #[cfg(test)]
 mod input;
 #[cfg(test)]
+mod locate;
+#[cfg(test)]
 mod shelf;
