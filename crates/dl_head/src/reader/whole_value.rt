@@ -5,6 +5,7 @@ ghost use Rattle.dl_num.specs.declared.fixed.Order.{Order};
 
 use crate::form::Format;
 use crate::reader::next::Next;
+use crate::reader::sixteen::Sixteen;
 use crate::reader::table_reader::{TablePhase, TableReader};
 use crate::reader::value_phase::{Cursor, ValuePhase};
 use crate::reader::value_reader::held_number;
@@ -15,11 +16,11 @@ use dl_num::{Order, fixed_at_front, short_uleb_at_front};
 impl ValuePhase {
     ghost use Rattle.dl_head.specs.TablePlace.{InFront};
 
-    /// The value that the bytes begin with, and the bytes after it, where none of its bytes has come
-    /// and it is a number, an offset or sixteen bytes. None where the bytes end before it does, and
-    /// for a number in LEB128 of more than two bytes.
+    /// The number or offset that the bytes begin with, and the bytes after it, where none of its bytes has
+    /// come. None for another value, where the bytes end before it does, and for a number in LEB128 of more
+    /// than two bytes.
     #[inline(always)]
-    fn at_front(self, order: Order, bytes: &[u8]) -> Option<(Held, &[u8])>
+    fn number_at_front(self, order: Order, bytes: &[u8]) -> Option<(Held, &[u8])>
         ensures { IfSome result (λ found. InFront order self bytes.entry.now found.0 found.1.now) }
     {
         match self {
@@ -36,13 +37,6 @@ impl ValuePhase {
                 }
                 let (number, behind) = short_uleb_at_front(bytes)?;
                 Some((Held::Number(number), behind))
-            }
-            ValuePhase::Data16(sixteen) => {
-                if !sixteen.is_new() {
-                    return None;
-                }
-                let (sixteen, behind) = bytes.split_first_chunk::<16>()?;
-                Some((Held::Data16(*sixteen), behind))
             }
             _ => None,
         }
@@ -70,14 +64,58 @@ impl TableReader {
         let TablePhase::Value(at, value) = self.phase else {
             return None;
         };
-        if at.column + 1 >= self.pairs.len() && at.left <= 1 {
+        if at.left <= 1 && at.column + 1 >= self.pairs.len() {
             return None;
         }
-        if let ValuePhase::Text(start) = value {
-            return self.whole_text(at, start, format, bytes);
+        match value {
+            ValuePhase::Text(start) => self.whole_text(at, start, format, bytes),
+            ValuePhase::Data16(sixteen) => self.whole_sixteen(at, sixteen, format, bytes),
+            _ => self.whole_number(at, value, order, format, bytes),
         }
-        let (held, behind) = value.at_front(order, bytes)?;
+    }
+
+    /// Takes a number or an offset that the bytes begin with, none of whose bytes has come, and gives the
+    /// bytes after it.
+    #[inline(always)]
+    fn whole_number<'a>(
+        &mut self,
+        at: Cursor,
+        value: ValuePhase,
+        order: Order,
+        format: Format,
+        bytes: &'a [u8],
+    ) -> Option<&'a [u8]>
+        requires phase { self.old.phase ≡ phase.Value at value }
+        requires more { IsLast at (length self.old.pairs.items) → ⊥ }
+        ensures { MatchOption result (SameTable self.old self.new)
+            (λ behind. TakesValue order format self.old bytes.entry.now behind.now self.new) }
+    {
+        let (held, behind) = value.number_at_front(order, bytes)?;
         match self.enter(at, held, format) {
+            Next::Ends => Some(behind),
+            _ => None,
+        }
+    }
+
+    /// Takes sixteen bytes, none of which has come, and gives the bytes after them.
+    #[inline(always)]
+    fn whole_sixteen<'a>(
+        &mut self,
+        at: Cursor,
+        sixteen: Sixteen,
+        format: Format,
+        bytes: &'a [u8],
+    ) -> Option<&'a [u8]>
+        requires phase { self.old.phase ≡ phase.Value at (value.Data16 sixteen) }
+        requires more { IsLast at (length self.old.pairs.items) → ⊥ }
+        ensures { MatchOption result (SameTable self.old self.new)
+            (λ behind. (order : Order) → TakesValue order format self.old bytes.entry.now behind.now self.new) }
+    {
+        if !sixteen.is_new() {
+            return None;
+        }
+        let (sixteen, behind) = bytes.split_first_chunk::<16>()?;
+        match self.enter(at, Held::Data16(*sixteen), format) {
             Next::Ends => Some(behind),
             _ => None,
         }
