@@ -1,9 +1,12 @@
 //! Values of a table whose bytes all stand at the front of a piece. Section 7.5.5.
 
-ghost use Rattle.std.specs.Prelude.{◌≡◌, length, IfSome, MatchOption};
+ghost use Rattle.std.specs.Prelude.{◌≡◌, ◌+◌, ◌<◌, ◌≤◌, length, IfSome, MatchOption};
 ghost use Rattle.dl_num.specs.declared.fixed.Order.{Order};
+ghost use Rattle.dl_head.specs.declared.reader.value_phase.ValuePhase.TheVariants as value;
+ghost use Rattle.dl_head.specs.Held.{held_end, values_end};
+ghost use Rattle.dl_head.specs.TablePlace.{InFront};
 
-use crate::form::Format;
+use crate::form::{Form, Format};
 use crate::reader::next::Next;
 use crate::reader::sixteen::Sixteen;
 use crate::reader::table_reader::{TablePhase, TableReader};
@@ -11,42 +14,50 @@ use crate::reader::value_phase::{Cursor, ValuePhase};
 use crate::reader::value_reader::held_number;
 use crate::table::held::{Extent, Held};
 use crate::text::first_zero;
-use dl_num::{Order, fixed_at_front, short_uleb_at_front};
+use dl_num::{Number, Order, Uleb, fixed_at_front, short_uleb_at_front};
 
-impl ValuePhase {
-    ghost use Rattle.dl_head.specs.TablePlace.{InFront};
-
-    /// The number or offset that the bytes begin with, and the bytes after it, where none of its bytes has
-    /// come. None for another value, where the bytes end before it does, and for a number in LEB128 of more
-    /// than two bytes.
-    #[inline(always)]
-    fn number_at_front(self, order: Order, bytes: &[u8]) -> Option<(Held, &[u8])>
-        ensures { IfSome result (λ found. InFront order self bytes.entry.now found.0 found.1.now) }
-    {
-        match self {
-            ValuePhase::Number(form, number) => {
-                if !number.is_new() {
-                    return None;
-                }
-                let (number, behind) = fixed_at_front(order, number.size(), bytes)?;
-                Some((held_number(form, number), behind))
-            }
-            ValuePhase::Leb(number) => {
-                if !number.is_new() {
-                    return None;
-                }
-                let (number, behind) = short_uleb_at_front(bytes)?;
-                Some((Held::Number(number), behind))
-            }
-            _ => None,
-        }
+/// The number or offset of this form that the bytes begin with, and the bytes after it, where none of its
+/// bytes has come. None where the bytes end before it does.
+#[inline(always)]
+fn number_at_front(form: Form, number: Number, order: Order, bytes: &[u8]) -> Option<(Held, &[u8])>
+    ensures { IfSome result (λ found. InFront order (value.Number form number) bytes.entry.now found.0 found.1.now) }
+{
+    if !number.is_new() {
+        return None;
     }
+    let (number, behind) = fixed_at_front(order, number.size(), bytes)?;
+    Some((held_number(form, number), behind))
+}
+
+/// The number in LEB128 that the bytes begin with, and the bytes after it, where none of its bytes has come.
+/// None where the bytes end before it does, and where it has more than two bytes.
+#[inline(always)]
+fn leb_at_front(number: Uleb, bytes: &[u8]) -> Option<(Held, &[u8])>
+    ensures { IfSome result (λ found. (order : Order) → InFront order (value.Leb number) bytes.entry.now found.0 found.1.now) }
+{
+    if !number.is_new() {
+        return None;
+    }
+    let (number, behind) = short_uleb_at_front(bytes)?;
+    Some((Held::Number(number), behind))
+}
+
+/// The sixteen bytes that the bytes begin with, and the bytes after them, where none of them has come. None
+/// where there are fewer.
+#[inline(always)]
+fn sixteen_at_front(sixteen: Sixteen, bytes: &[u8]) -> Option<(Held, &[u8])>
+    ensures { IfSome result (λ found. (order : Order) → InFront order (value.Data16 sixteen) bytes.entry.now found.0 found.1.now) }
+{
+    if !sixteen.is_new() {
+        return None;
+    }
+    let (sixteen, behind) = bytes.split_first_chunk::<16>()?;
+    Some((Held::Data16(*sixteen), behind))
 }
 
 impl TableReader {
     ghost use Rattle.dl_head.specs.declared.reader.table_reader.TablePhase.TheVariants as phase;
-    ghost use Rattle.dl_head.specs.declared.reader.value_phase.ValuePhase.TheVariants as value;
-    ghost use Rattle.dl_head.specs.TablePlace.{SameTable, TakesValue, IsLast};
+    ghost use Rattle.dl_head.specs.TablePlace.{EntersAt, SameTable, TakesValue, IsLast};
 
     /// Takes a value that the bytes begin with, and gives the bytes after it. None, and nothing is
     /// taken, where the bytes end before the value does, where it is a block or the table's last value,
@@ -64,58 +75,44 @@ impl TableReader {
         let TablePhase::Value(at, value) = self.phase else {
             return None;
         };
-        if at.left <= 1 && at.column + 1 >= self.pairs.len() {
+        if at.is_last(self.pairs.len()) {
             return None;
         }
         match value {
+            ValuePhase::Number(form, number) => {
+                let (held, behind) = number_at_front(form, number, order, bytes)?;
+                self.enter_front(at, held, format, behind)
+            }
+            ValuePhase::Leb(number) => {
+                let (held, behind) = leb_at_front(number, bytes)?;
+                self.enter_front(at, held, format, behind)
+            }
+            ValuePhase::Data16(sixteen) => {
+                let (held, behind) = sixteen_at_front(sixteen, bytes)?;
+                self.enter_front(at, held, format, behind)
+            }
             ValuePhase::Text(start) => self.whole_text(at, start, format, bytes),
-            ValuePhase::Data16(sixteen) => self.whole_sixteen(at, sixteen, format, bytes),
-            _ => self.whole_number(at, value, order, format, bytes),
-        }
-    }
-
-    /// Takes a number or an offset that the bytes begin with, none of whose bytes has come, and gives the
-    /// bytes after it.
-    #[inline(always)]
-    fn whole_number<'a>(
-        &mut self,
-        at: Cursor,
-        value: ValuePhase,
-        order: Order,
-        format: Format,
-        bytes: &'a [u8],
-    ) -> Option<&'a [u8]>
-        requires phase { self.old.phase ≡ phase.Value at value }
-        requires more { IsLast at (length self.old.pairs.items) → ⊥ }
-        ensures { MatchOption result (SameTable self.old self.new)
-            (λ behind. TakesValue order format self.old bytes.entry.now behind.now self.new) }
-    {
-        let (held, behind) = value.number_at_front(order, bytes)?;
-        match self.enter(at, held, format) {
-            Next::Ends => Some(behind),
             _ => None,
         }
     }
 
-    /// Takes sixteen bytes, none of which has come, and gives the bytes after them.
+    /// Enters a value that is complete, after whose bytes come those that are given back. None, and nothing is
+    /// entered, where memory is refused.
     #[inline(always)]
-    fn whole_sixteen<'a>(
+    fn enter_front<'a>(
         &mut self,
         at: Cursor,
-        sixteen: Sixteen,
+        held: Held,
         format: Format,
-        bytes: &'a [u8],
+        behind: &'a [u8],
     ) -> Option<&'a [u8]>
-        requires phase { self.old.phase ≡ phase.Value at (value.Data16 sixteen) }
-        requires more { IsLast at (length self.old.pairs.items) → ⊥ }
+        requires in_row { at.column < length self.old.pairs.items }
+        requires whole { values_end self.old.values.items ≤ length self.old.pool.items }
+        requires held { held_end held ≤ length self.old.pool.items }
         ensures { MatchOption result (SameTable self.old self.new)
-            (λ behind. (order : Order) → TakesValue order format self.old bytes.entry.now behind.now self.new) }
+            (λ rest. (rest.now ≡ behind.entry.now) × EntersAt self.old at held format self.new) }
     {
-        if !sixteen.is_new() {
-            return None;
-        }
-        let (sixteen, behind) = bytes.split_first_chunk::<16>()?;
-        match self.enter(at, Held::Data16(*sixteen), format) {
+        match self.enter(at, held, format) {
             Next::Ends => Some(behind),
             _ => None,
         }
