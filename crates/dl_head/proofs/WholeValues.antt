@@ -1,5 +1,5 @@
 -- A value of a table whose bytes come at once.
-use Rattle.std.proofs.Common.{◌≡◌, ◌≢◌, inl, inr, ℕ, suc, ◌+◌, ◌-◌, ◌^◌, ◌<◌, ◌≤◌, ◌==◌, List, [], ◌∷◌, ◌++◌, length, take, drop, Option, Some, None, option_map, refl, sym, ap, subst, ◌∙◌, arith, append_assoc, length-append}
+use Rattle.std.proofs.Common.{Bor, ◌≡◌, ◌≢◌, inl, inr, ℕ, suc, ◌+◌, ◌-◌, ◌^◌, ◌<◌, ◌≤◌, ◌==◌, List, [], ◌∷◌, ◌++◌, length, take, drop, Option, Some, None, option_map, refl, sym, ap, subst, ◌∙◌, arith, append_assoc, length-append}
 use Rattle.std.specs.List.{position}
 use Rattle.std.proofs.lemmas.Bool.{cases_eq, eq-eqb, ne_eqb}
 use Rattle.std.proofs.lemmas.List.{take-append-drop, take_rest, length-take-le}
@@ -23,7 +23,9 @@ use Rattle.dl_head.specs.Field.{HasNoZero}
 use Rattle.dl_head.specs.Text.{text_in}
 use Rattle.dl_head.specs.TableStep.{value_due}
 use Rattle.dl_head.specs.Layout.{Layout}
-use Rattle.dl_head.specs.TablePlace.{OneCell, InValue, TableAt, TableMade, Enters, InFront, TakesValue, has_bytes}
+use Rattle.dl_head.specs.TablePlace.{OneCell, InValue, TableAt, TableMade, Enters, EntersAt, InFront, IsLast, SameTable, TakesValue, has_bytes}
+use Rattle.dl_num.proofs.LebFrontLemmas.{answer-map}
+use Rattle.std.specs.Option.{MatchOption}
 use Rattle.dl_head.proofs.FieldLemmas.{none_some}
 use Rattle.dl_head.proofs.TextLemmas.{text_in-position}
 use Rattle.dl_head.proofs.PairLemmas.{table_at}
@@ -104,6 +106,17 @@ value_taken order old new at v h format bytes behind is s enters one going = rec
   made next layout rest a =
       value_made order old new at v h format next layout rest (rest ++ s.front) byte_makes.Ends a (s.spelt format a.pair.form old.pool.items rest a.value)
       (omega (arith, s.filled (length old.pool.items), s.cell)) enters
+
+-- `enter_front`, of a value that another one follows
+pub value_entered : (order : Order) (old new : TableReader) (at : Cursor) (v : ValuePhase) (h : Held) (format : Format)
+    (bytes behind : List ℕ) (o : Option (Bor (List ℕ))) → old.phase ≡ phase.Value at v
+    → (IsLast at (length old.pairs.items) → ⊥) → InFront order v bytes h behind
+    → MatchOption o (SameTable old new) (λ rest. (rest.now ≡ behind) × EntersAt old at h format new)
+    → MatchOption o (SameTable old new) (λ rest. TakesValue order format old bytes rest.now new)
+value_entered order old new at v h format bytes behind o is more front = answer-map o (λ same. same) λ rest made.
+    subst (λ (l : List ℕ). TakesValue order format old bytes l new) (sym made.0)
+    (value_taken order old new at v h format bytes behind is front made.1.0 made.1.1
+    λ whole. more (made.1.2 whole (among_values old at v is)))
 
 -- ---- texts
 

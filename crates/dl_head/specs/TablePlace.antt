@@ -277,6 +277,12 @@ Enters old at h format byte_makes.Ends new =
 Enters old at h format byte_makes.NoMemory new = SameTable old new
 Enters old at h format result new = ⊥
 
+-- `enter_front`: the value is complete, and unless it is the last one another one follows it
+abbrev pub EntersAt : TableReader → Cursor → Held → Format → TableReader → Type 0
+EntersAt old at h format new =
+    Enters old at h format byte_makes.Ends new × OneCell old byte_makes.Ends new
+    × (new.phase ≡ phase.Whole → (old.phase ≡ phase.Whole → ⊥) → IsLast at (length old.pairs.items))
+
 -- `begin_block`: a block of this size, whose length is read; its bytes follow, or it is complete, or memory was refused
 abbrev pub BeginsBlock : TableReader → Cursor → ℕ → Format → Next → TableReader → Type 0
 BeginsBlock old at size format byte_makes.Within new =

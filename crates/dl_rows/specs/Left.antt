@@ -8,6 +8,8 @@ use Rattle.dl_rows.specs.declared.phase.Step.{Step}
 use Rattle.dl_rows.specs.declared.phase.Step.TheVariants as step
 use Rattle.dl_rows.specs.declared.program.Given.{Given}
 use Rattle.dl_rows.specs.declared.program.Given.TheVariants as given
+use Rattle.dl_rows.specs.declared.program.Taken.{Taken}
+use Rattle.dl_rows.specs.declared.program.Taken.TheVariants as taken
 
 -- 1 where the operation appends a row, else 0
 abbrev pub rows_of : Operation → ℕ
@@ -31,6 +33,10 @@ abbrev pub GivenLeaves : ℕ → Given → Type 0
 GivenLeaves n given.Nothing = Unit {0}
 GivenLeaves n (given.Row r behind) = length behind.now + 1 ≤ n
 GivenLeaves n (given.Refuses k behind) = length behind.now ≤ n
+
+abbrev pub TakenLeaves : ℕ → Taken → Type 0
+TakenLeaves n (taken.UpTo behind) = length behind.now ≤ n
+TakenLeaves n (taken.Row r behind) = length behind.now + 1 ≤ n
 
 -- 0 between operations, else 1
 abbrev pub inside : Phase → ℕ

@@ -23,6 +23,15 @@ pub enum Given<'a> {
     Refuses(FaultKind, &'a [u8]),
 }
 
+/// Up to where operations were taken.
+#[derive(Clone, Copy)]
+pub enum Taken<'a> {
+    /// Up to these bytes; the sink has heard their rows.
+    UpTo(&'a [u8]),
+    /// Up to the operation of this row, at which the sink stopped, and the bytes after it.
+    Row(Row, &'a [u8]),
+}
+
 /// Where a reader is in a program.
 #[derive(Clone, Copy)]
 pub struct Program {
@@ -36,11 +45,11 @@ pub struct Program {
 impl Program {
     ghost use Rattle.dl_rows.specs.declared.operation.Operation.{Operation};
     ghost use Rattle.dl_rows.specs.declared.row.Row.{Row};
-    ghost use Rattle.dl_rows.specs.Left.{GivenLeaves, rows_of};
+    ghost use Rattle.dl_rows.specs.Left.{GivenLeaves, TakenLeaves, rows_of};
     ghost use Rattle.dl_rows.specs.Matrix.{matrix};
     ghost use Rattle.dl_rows.specs.OperationSpelt.{operations_in};
     ghost use Rattle.dl_rows.specs.LineUnit.{ends_open, rows_in};
-    ghost use Rattle.dl_rows.specs.Programs.{Finishes, ProgramStands, Tells};
+    ghost use Rattle.dl_rows.specs.Programs.{Finishes, ProgramStands, TakenTells, Tells};
     ghost use Rattle.dl_rows.specs.Sums.{FitsProgram, HasRange, registers_after};
     ghost use Rattle.dl_rows.specs.declared.phase.Phase.TheVariants as phase;
 
@@ -116,17 +125,9 @@ impl Program {
             → (S.story first).hears sink.old before → Tells (S.story first) order params.now b bytes.entry.now before result self.new sink.new }
     {
         while !bytes.is_empty() {
-            if self.is_between()
-                && let Some((operation, behind)) = short_operation(order, params, bytes)
-            {
-                bytes = behind;
-                if let Some(row) = self.finish(params, operation) {
-                    match sink.row(&row) {
-                        Flow::On => continue,
-                        Flow::Stop => return Given::Row(row, behind),
-                    }
-                }
-                continue;
+            match self.short_operations(order, params, bytes, sink) {
+                Taken::UpTo(behind) => bytes = behind,
+                Taken::Row(row, behind) => return Given::Row(row, behind),
             }
             match self.phase.push(order, params, bytes) {
                 Step::Within(phase) => {
@@ -153,6 +154,37 @@ impl Program {
             }
         }
         Given::Nothing
+    }
+
+    /// Takes operations whose bytes all stand at the front of these, one after the other, where none has begun
+    /// before, and lets the sink hear each row.
+    #[inline(always)]
+    fn short_operations<'a, S: RowSink>(
+        &mut self,
+        order: Order,
+        params: &Params,
+        mut bytes: &'a [u8],
+        sink: &mut S,
+    ) -> Taken<'a>
+        requires { IsUsable params.now }
+        ensures left { TakenLeaves (length bytes.entry.now) result }
+        ensures phase { self.new.phase ≡ self.old.phase }
+        ensures told { (b : List ℕ) (before : List Row) (first : S) → FitsProgram params.now → AllBytes bytes.entry.now → ProgramStands order params.now self.old b
+            → (S.story first).hears sink.old before → TakenTells (S.story first) order params.now b bytes.entry.now before result self.new sink.new }
+    {
+        if !self.is_between() {
+            return Taken::UpTo(bytes);
+        }
+        while let Some((operation, behind)) = short_operation(order, params, bytes) {
+            bytes = behind;
+            if let Some(row) = self.finish(params, operation) {
+                match sink.row(&row) {
+                    Flow::On => {}
+                    Flow::Stop => return Taken::Row(row, behind),
+                }
+            }
+        }
+        Taken::UpTo(bytes)
     }
 
     /// Applies an operation, and gives the row that it appends, if any.

@@ -1,6 +1,6 @@
 //! Where the reader of a table is among its values.
 
-ghost use Rattle.std.specs.Prelude.{◌≡◌, ◌<◌, ◌≤◌, ℕ, List, [], length, IfSome};
+ghost use Rattle.std.specs.Prelude.{◌≡◌, ◌<◌, ◌≤◌, ◌↔◌, ℕ, IsTrue, List, [], length, IfSome};
 
 use crate::form::{Form, Format};
 use crate::reader::sixteen::Sixteen;
@@ -17,7 +17,16 @@ pub(crate) struct Cursor {
 }
 
 impl Cursor {
-    ghost use Rattle.dl_head.specs.TablePlace.{Moves};
+    ghost use Rattle.dl_head.specs.TablePlace.{IsLast, Moves};
+
+    /// Whether no value follows, where an entry has so many.
+    #[inline(always)]
+    pub fn is_last(self, width: usize) -> bool
+        requires { self.column < width }
+        ensures { IsTrue result ↔ IsLast self width }
+    {
+        self.left <= 1 && self.column + 1 >= width
+    }
 
     /// The place after this one, where an entry has so many values; None after the last one.
     #[inline(always)]

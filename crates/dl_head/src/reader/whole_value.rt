@@ -1,58 +1,63 @@
 //! Values of a table whose bytes all stand at the front of a piece. Section 7.5.5.
 
-ghost use Rattle.std.specs.Prelude.{◌≡◌, length, IfSome, MatchOption};
+ghost use Rattle.std.specs.Prelude.{◌≡◌, ◌+◌, ◌<◌, ◌≤◌, length, IfSome, MatchOption};
 ghost use Rattle.dl_num.specs.declared.fixed.Order.{Order};
+ghost use Rattle.dl_head.specs.declared.reader.value_phase.ValuePhase.TheVariants as value;
+ghost use Rattle.dl_head.specs.Held.{held_end, values_end};
+ghost use Rattle.dl_head.specs.TablePlace.{InFront};
 
-use crate::form::Format;
+use crate::form::{Form, Format};
 use crate::reader::next::Next;
+use crate::reader::sixteen::Sixteen;
 use crate::reader::table_reader::{TablePhase, TableReader};
 use crate::reader::value_phase::{Cursor, ValuePhase};
 use crate::reader::value_reader::held_number;
 use crate::table::held::{Extent, Held};
 use crate::text::first_zero;
-use dl_num::{Order, fixed_at_front, short_uleb_at_front};
+use dl_num::{Number, Order, Uleb, fixed_at_front, short_uleb_at_front};
 
-impl ValuePhase {
-    ghost use Rattle.dl_head.specs.TablePlace.{InFront};
-
-    /// The value that the bytes begin with, and the bytes after it, where none of its bytes has come
-    /// and it is a number, an offset or sixteen bytes. None where the bytes end before it does, and
-    /// for a number in LEB128 of more than two bytes.
-    #[inline(always)]
-    fn at_front(self, order: Order, bytes: &[u8]) -> Option<(Held, &[u8])>
-        ensures { IfSome result (λ found. InFront order self bytes.entry.now found.0 found.1.now) }
-    {
-        match self {
-            ValuePhase::Number(form, number) => {
-                if !number.is_new() {
-                    return None;
-                }
-                let (number, behind) = fixed_at_front(order, number.size(), bytes)?;
-                Some((held_number(form, number), behind))
-            }
-            ValuePhase::Leb(number) => {
-                if !number.is_new() {
-                    return None;
-                }
-                let (number, behind) = short_uleb_at_front(bytes)?;
-                Some((Held::Number(number), behind))
-            }
-            ValuePhase::Data16(sixteen) => {
-                if !sixteen.is_new() {
-                    return None;
-                }
-                let (sixteen, behind) = bytes.split_first_chunk::<16>()?;
-                Some((Held::Data16(*sixteen), behind))
-            }
-            _ => None,
-        }
+/// The number or offset of this form that the bytes begin with, and the bytes after it, where none of its
+/// bytes has come. None where the bytes end before it does.
+#[inline(always)]
+fn number_at_front(form: Form, number: Number, order: Order, bytes: &[u8]) -> Option<(Held, &[u8])>
+    ensures { IfSome result (λ found. InFront order (value.Number form number) bytes.entry.now found.0 found.1.now) }
+{
+    if !number.is_new() {
+        return None;
     }
+    let (number, behind) = fixed_at_front(order, number.size(), bytes)?;
+    Some((held_number(form, number), behind))
+}
+
+/// The number in LEB128 that the bytes begin with, and the bytes after it, where none of its bytes has come.
+/// None where the bytes end before it does, and where it has more than two bytes.
+#[inline(always)]
+fn leb_at_front(number: Uleb, bytes: &[u8]) -> Option<(Held, &[u8])>
+    ensures { IfSome result (λ found. (order : Order) → InFront order (value.Leb number) bytes.entry.now found.0 found.1.now) }
+{
+    if !number.is_new() {
+        return None;
+    }
+    let (number, behind) = short_uleb_at_front(bytes)?;
+    Some((Held::Number(number), behind))
+}
+
+/// The sixteen bytes that the bytes begin with, and the bytes after them, where none of them has come. None
+/// where there are fewer.
+#[inline(always)]
+fn sixteen_at_front(sixteen: Sixteen, bytes: &[u8]) -> Option<(Held, &[u8])>
+    ensures { IfSome result (λ found. (order : Order) → InFront order (value.Data16 sixteen) bytes.entry.now found.0 found.1.now) }
+{
+    if !sixteen.is_new() {
+        return None;
+    }
+    let (sixteen, behind) = bytes.split_first_chunk::<16>()?;
+    Some((Held::Data16(*sixteen), behind))
 }
 
 impl TableReader {
     ghost use Rattle.dl_head.specs.declared.reader.table_reader.TablePhase.TheVariants as phase;
-    ghost use Rattle.dl_head.specs.declared.reader.value_phase.ValuePhase.TheVariants as value;
-    ghost use Rattle.dl_head.specs.TablePlace.{SameTable, TakesValue, IsLast};
+    ghost use Rattle.dl_head.specs.TablePlace.{EntersAt, SameTable, TakesValue, IsLast};
 
     /// Takes a value that the bytes begin with, and gives the bytes after it. None, and nothing is
     /// taken, where the bytes end before the value does, where it is a block or the table's last value,
@@ -70,13 +75,43 @@ impl TableReader {
         let TablePhase::Value(at, value) = self.phase else {
             return None;
         };
-        if at.column + 1 >= self.pairs.len() && at.left <= 1 {
+        if at.is_last(self.pairs.len()) {
             return None;
         }
-        if let ValuePhase::Text(start) = value {
-            return self.whole_text(at, start, format, bytes);
+        match value {
+            ValuePhase::Number(form, number) => {
+                let (held, behind) = number_at_front(form, number, order, bytes)?;
+                self.enter_front(at, held, format, behind)
+            }
+            ValuePhase::Leb(number) => {
+                let (held, behind) = leb_at_front(number, bytes)?;
+                self.enter_front(at, held, format, behind)
+            }
+            ValuePhase::Data16(sixteen) => {
+                let (held, behind) = sixteen_at_front(sixteen, bytes)?;
+                self.enter_front(at, held, format, behind)
+            }
+            ValuePhase::Text(start) => self.whole_text(at, start, format, bytes),
+            _ => None,
         }
-        let (held, behind) = value.at_front(order, bytes)?;
+    }
+
+    /// Enters a value that is complete, after whose bytes come those that are given back. None, and nothing is
+    /// entered, where memory is refused.
+    #[inline(always)]
+    fn enter_front<'a>(
+        &mut self,
+        at: Cursor,
+        held: Held,
+        format: Format,
+        behind: &'a [u8],
+    ) -> Option<&'a [u8]>
+        requires in_row { at.column < length self.old.pairs.items }
+        requires whole { values_end self.old.values.items ≤ length self.old.pool.items }
+        requires held { held_end held ≤ length self.old.pool.items }
+        ensures { MatchOption result (SameTable self.old self.new)
+            (λ rest. (rest.now ≡ behind.entry.now) × EntersAt self.old at held format self.new) }
+    {
         match self.enter(at, held, format) {
             Next::Ends => Some(behind),
             _ => None,
