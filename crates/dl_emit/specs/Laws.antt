@@ -5,7 +5,7 @@ use Rattle.std.specs.Int.RustNames.{FitsSigned}
 use Rattle.std.specs.List.{AllByRecursion}
 use Rattle.dl_num.specs.declared.fixed.Order.{Order}
 use Rattle.dl_head.specs.declared.params.Params.{Params}
-use Rattle.dl_head.specs.TableData.{HeaderData}
+use Rattle.dl_head.specs.HeaderData.{HeaderData}
 use Rattle.dl_head.specs.Built.{IsUsable}
 use Rattle.dl_head.specs.Header.{unit_len, header_in}
 use Rattle.dl_head.specs.Sound.{IsSoundHeader}

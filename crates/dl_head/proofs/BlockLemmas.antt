@@ -11,12 +11,12 @@ use Rattle.dl_num.specs.LebFront.{is_leb, leb_front, behind_leb}
 use Rattle.dl_num.specs.LebReader.{UlebTook, UlebIs}
 use Rattle.dl_num.proofs.LebFrontLemmas.{is_leb-continues, leb_front-continues, leb_front-leb}
 use Rattle.dl_num.proofs.LebLaws.{leb_tested, leb_is_front}
-use Rattle.dl_head.specs.declared.fault.FaultKind.TheVariants as fault
-use Rattle.dl_head.specs.declared.form.Format.{Format}
-use Rattle.dl_head.specs.declared.form.Form.{Form}
-use Rattle.dl_head.specs.declared.form.Form.TheVariants as form
+use Rattle.dl_table.specs.declared.fault.FaultKind.TheVariants as fault
+use Rattle.dl_table.specs.declared.form.Format.{Format}
+use Rattle.dl_table.specs.declared.form.Form.{Form}
+use Rattle.dl_table.specs.declared.form.Form.TheVariants as form
 use Rattle.dl_head.specs.Field.{IsFixed, IsUleb64}
-use Rattle.dl_head.specs.Value.{block, good, bad, block_spelt, leb_block_spelt, value_spelt}
+use Rattle.dl_table.specs.Value.{block, good, bad, block_spelt, leb_block_spelt, value_spelt}
 use Rattle.dl_head.specs.TablePlace.{length_bytes_of, IsLengthOf}
 use Rattle.dl_head.proofs.FieldLemmas.{none_some, some_same}
 use Rattle.dl_head.proofs.FieldLaws.{value_is_good}

@@ -3,10 +3,10 @@ use Rattle.std.proofs.Common.{◌≡◌, ℕ, ◌+◌, ◌-◌, ◌≤◌, List,
 use Rattle.std.proofs.lemmas.List.{take_all}
 use Rattle.std.proofs.Math.Seq.{drop-append_seam}
 use Rattle.dl_num.specs.declared.fixed.Order.{Order}
-use Rattle.dl_head.specs.declared.form.Format.{Format}
-use Rattle.dl_head.specs.declared.table.Pair.{Pair}
-use Rattle.dl_head.specs.declared.table.held.Held.{Held}
-use Rattle.dl_head.specs.declared.table.held.Held.TheVariants as held
+use Rattle.dl_table.specs.declared.form.Format.{Format}
+use Rattle.dl_table.specs.declared.table.Pair.{Pair}
+use Rattle.dl_table.specs.declared.table.held.Held.{Held}
+use Rattle.dl_table.specs.declared.table.held.Held.TheVariants as held
 use Rattle.dl_head.specs.declared.reader.next.Next.{Next}
 use Rattle.dl_head.specs.declared.reader.next.Next.TheVariants as byte_makes
 use Rattle.dl_head.specs.declared.reader.table_reader.TableReader.{TableReader}
@@ -15,9 +15,9 @@ use Rattle.dl_head.specs.declared.reader.table_reader.TablePhase.TheVariants as 
 use Rattle.dl_head.specs.declared.reader.value_phase.Cursor.{Cursor}
 use Rattle.dl_head.specs.declared.reader.value_phase.ValuePhase.{ValuePhase}
 use Rattle.dl_head.specs.declared.reader.value_phase.ValuePhase.TheVariants as value
-use Rattle.dl_head.specs.TableData.{TableData}
-use Rattle.dl_head.specs.Held.{value_held}
-use Rattle.dl_head.specs.Value.{Value, block, value_spelt}
+use Rattle.dl_table.specs.TableData.{TableData}
+use Rattle.dl_table.specs.Held.{value_held}
+use Rattle.dl_table.specs.Value.{Value, block, value_spelt}
 use Rattle.dl_head.specs.Layout.{Layout, value_is, following, field_spelt, value_judged}
 use Rattle.dl_head.specs.Cells.{begun_cells}
 use Rattle.dl_head.specs.TablePlace.{IsLengthOf, Holds, Summed, values_left, InValue, InBlock, TableAt, TableMade, BeginsBlock, GoesOn}

@@ -8,16 +8,16 @@ use Rattle.dl_num.specs.Fixed.{fixed}
 use Rattle.dl_num.specs.Leb.{groups}
 use Rattle.dl_num.specs.LebFront.{is_leb, leb_front, behind_leb}
 use Rattle.dl_num.proofs.LebFrontLemmas.{and_left, and_right, leb_front-le}
-use Rattle.dl_head.specs.declared.fault.FaultKind.{FaultKind}
-use Rattle.dl_head.specs.declared.fault.FaultKind.TheVariants.{LebRange}
-use Rattle.dl_head.specs.declared.form.Format.{Format}
-use Rattle.dl_head.specs.declared.form.Format.TheVariants.{Dwarf32, Dwarf64}
-use Rattle.dl_head.specs.declared.form.Form.{Form}
-use Rattle.dl_head.specs.declared.form.Form.TheVariants as form
-use Rattle.dl_head.specs.Value.{form_of_code, Value, text, line_str, str, str_sup, number, block, data16, Judgement, good, bad, is_text, text_spelt, block_spelt, leb_spelt, leb_block_spelt, value_spelt, offset_size}
+use Rattle.dl_table.specs.declared.fault.FaultKind.{FaultKind}
+use Rattle.dl_table.specs.declared.fault.FaultKind.TheVariants.{LebRange}
+use Rattle.dl_table.specs.declared.form.Format.{Format}
+use Rattle.dl_table.specs.declared.form.Format.TheVariants.{Dwarf32, Dwarf64}
+use Rattle.dl_table.specs.declared.form.Form.{Form}
+use Rattle.dl_table.specs.declared.form.Form.TheVariants as form
+use Rattle.dl_table.specs.Value.{form_of_code, Value, text, line_str, str, str_sup, number, block, data16, Judgement, good, bad, is_text, text_spelt, block_spelt, leb_spelt, leb_block_spelt, value_spelt, offset_size}
 use Rattle.dl_head.specs.Layout.{Layout, initial_length_then, number_then, form_then, value_then, foreign_version, last_entry, Item, form_is, value_is, following, following_all, field_spelt, header_layout, value_judged, form_judged}
 use Rattle.dl_head.specs.Header.{SpellsFields, cut}
-use Rattle.dl_head.specs.TableCells.{value_cells}
+use Rattle.dl_table.specs.TableCells.{value_cells}
 use Rattle.dl_head.specs.Cells.{item_cells, begun_block, begun_leb_block, begun_cells, rest_cells}
 use Rattle.dl_head.specs.Laws.{FewCells}
 use Rattle.dl_head.proofs.FieldLemmas.{none_some}

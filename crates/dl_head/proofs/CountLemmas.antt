@@ -6,14 +6,14 @@ use Rattle.dl_num.specs.declared.leb.Uleb.{Uleb}
 use Rattle.dl_num.specs.Leb.{IsUleb}
 use Rattle.dl_num.specs.LebReader.{UlebTook}
 use Rattle.dl_num.proofs.LebFrontLemmas.{true_false}
-use Rattle.dl_head.specs.declared.fault.FaultKind.TheVariants as fault
-use Rattle.dl_head.specs.declared.form.Format.{Format}
-use Rattle.dl_head.specs.declared.table.Pair.{Pair}
-use Rattle.dl_head.specs.declared.table.held.Held.{Held}
+use Rattle.dl_table.specs.declared.fault.FaultKind.TheVariants as fault
+use Rattle.dl_table.specs.declared.form.Format.{Format}
+use Rattle.dl_table.specs.declared.table.Pair.{Pair}
+use Rattle.dl_table.specs.declared.table.held.Held.{Held}
 use Rattle.dl_head.specs.declared.reader.table_reader.TableReader.{TableReader}
-use Rattle.dl_head.specs.TableData.{TableData}
-use Rattle.dl_head.specs.Held.{value_held, values_end, cells_held}
-use Rattle.dl_head.specs.Value.{good, bad}
+use Rattle.dl_table.specs.TableData.{TableData}
+use Rattle.dl_table.specs.Held.{value_held, values_end, cells_held}
+use Rattle.dl_table.specs.Value.{good, bad}
 use Rattle.dl_head.specs.Layout.{Layout, entry_count, number_is, following, field_spelt, entries_layout, objection, judged}
 use Rattle.dl_head.specs.TablePlace.{after_pairs, NoValues, Holds, Summed, values_left, IsWhole, TableAt, GoesOn}
 use Rattle.dl_head.proofs.PairLemmas.{number_open, number_whole}

@@ -1,9 +1,9 @@
 -- Cutting good fields off the front of bytes may stop anywhere and go on, and what is cut off spells the values.
 use Rattle.std.proofs.Common.{◌≡◌, ℕ, List, [], ◌∷◌, ◌++◌, Some, None, Result, Ok, Err, refl, sym, ap, ◌∙◌, append_assoc, append-nil}
 use Rattle.dl_num.specs.declared.fixed.Order.{Order}
-use Rattle.dl_head.specs.declared.fault.FaultKind.{FaultKind}
-use Rattle.dl_head.specs.TableData.{HeaderData}
-use Rattle.dl_head.specs.Value.{Judgement, good, bad}
+use Rattle.dl_table.specs.declared.fault.FaultKind.{FaultKind}
+use Rattle.dl_head.specs.HeaderData.{HeaderData}
+use Rattle.dl_table.specs.Value.{Judgement, good, bad}
 use Rattle.dl_head.specs.Layout.{Layout, last_entry, Item, following, following_all, field_spelt, header_layout}
 use Rattle.dl_head.specs.Header.{SpellsFields, Cut, with_item, cut_after, cut}
 use Rattle.dl_head.proofs.FieldLemmas.{field_once, field_empty, none_some}

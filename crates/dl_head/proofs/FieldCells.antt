@@ -11,14 +11,14 @@ use Rattle.dl_num.specs.LebFront.{is_leb, leb_front, behind_leb}
 use Rattle.dl_num.specs.LebReader.{UlebTook, UlebIs}
 use Rattle.dl_num.proofs.LebFrontLemmas.{and_left, is_leb-continues, leb_front-continues, leb_front-leb}
 use Rattle.dl_num.proofs.LebLaws.{leb_tested, leb_is_front}
-use Rattle.dl_head.specs.declared.fault.FaultKind.{FaultKind}
-use Rattle.dl_head.specs.declared.form.Format.{Format}
-use Rattle.dl_head.specs.declared.form.Form.{Form}
-use Rattle.dl_head.specs.declared.form.Form.TheVariants as form
+use Rattle.dl_table.specs.declared.fault.FaultKind.{FaultKind}
+use Rattle.dl_table.specs.declared.form.Format.{Format}
+use Rattle.dl_table.specs.declared.form.Form.{Form}
+use Rattle.dl_table.specs.declared.form.Form.TheVariants as form
 use Rattle.dl_head.specs.Field.{IsFixed, IsUleb64}
-use Rattle.dl_head.specs.TableCells.{value_cells}
+use Rattle.dl_table.specs.TableCells.{value_cells}
 use Rattle.dl_head.specs.Cells.{item_cells, begun_block, begun_leb_block, begun_cells, rest_cells}
-use Rattle.dl_head.specs.Value.{Value, text, line_str, str, str_sup, number, block, data16, Judgement, good, bad, is_text, text_spelt, block_spelt, leb_spelt, leb_block_spelt, value_spelt}
+use Rattle.dl_table.specs.Value.{Value, text, line_str, str, str_sup, number, block, data16, Judgement, good, bad, is_text, text_spelt, block_spelt, leb_spelt, leb_block_spelt, value_spelt}
 use Rattle.dl_head.specs.Layout.{NumberField, Layout, number_then, form_then, value_then, Item, value_is, field_spelt, number_size, sized_spelt, number_judged, judged, objection, value_judged}
 use Rattle.dl_head.specs.TablePlace.{field_cells, has_bytes, number_bytes_of, length_bytes_of, IsLengthOf}
 use Rattle.dl_head.proofs.FieldLemmas.{none_some, some_same}

@@ -9,12 +9,12 @@ use Rattle.dl_num.specs.Leb.{groups, IsUleb}
 use Rattle.dl_num.specs.LebFront.{is_leb, leb_front, behind_leb}
 use Rattle.dl_num.proofs.LebFrontLemmas.{true_false, and_left, and_right}
 use Rattle.dl_num.proofs.LebLaws.{leb_tested, leb_is_front}
-use Rattle.dl_head.specs.declared.fault.FaultKind.{FaultKind}
-use Rattle.dl_head.specs.declared.form.Format.{Format}
-use Rattle.dl_head.specs.declared.form.Format.TheVariants.{Dwarf32, Dwarf64}
-use Rattle.dl_head.specs.declared.form.Form.{Form}
-use Rattle.dl_head.specs.declared.form.Form.TheVariants as form
-use Rattle.dl_head.specs.Value.{Value, text, line_str, str, str_sup, number, block, data16, form_code, all_forms, form_among, form_of_code, offset_size, Judgement, good, is_text, text_spelt, number_spelt, block_spelt, leb_spelt, leb_block_spelt, value_spelt}
+use Rattle.dl_table.specs.declared.fault.FaultKind.{FaultKind}
+use Rattle.dl_table.specs.declared.form.Format.{Format}
+use Rattle.dl_table.specs.declared.form.Format.TheVariants.{Dwarf32, Dwarf64}
+use Rattle.dl_table.specs.declared.form.Form.{Form}
+use Rattle.dl_table.specs.declared.form.Form.TheVariants as form
+use Rattle.dl_table.specs.Value.{Value, text, line_str, str, str_sup, number, block, data16, form_code, all_forms, form_among, form_of_code, offset_size, Judgement, good, is_text, text_spelt, number_spelt, block_spelt, leb_spelt, leb_block_spelt, value_spelt}
 use Rattle.dl_head.specs.Layout.{NumberField, Layout, initial_length_then, number_then, form_then, value_then, foreign_version, last_entry, Item, length_is, number_is, form_is, unit_length_limit, short_length, long_length, initial_length_spelt, objection, judged, number_size, sized_spelt, number_judged, form_judged, value_judged, field_spelt}
 use Rattle.dl_head.specs.Field.{IsFixed, IsUleb64, HasNoZero, IsText, IsBlock, IsValue, IsInitialLength, IsNumber, IsField}
 use Rattle.dl_head.specs.Laws.{FieldIsJudged}

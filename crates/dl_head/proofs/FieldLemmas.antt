@@ -7,12 +7,12 @@ use Rattle.dl_num.specs.Fixed.{fixed}
 use Rattle.dl_num.specs.Leb.{groups}
 use Rattle.dl_num.specs.LebFront.{is_leb, leb_front, behind_leb}
 use Rattle.dl_num.proofs.LebFrontLemmas.{true_false, and_left, and_right, is_leb-once, leb_front-append, leb_front-le}
-use Rattle.dl_head.specs.declared.form.Format.{Format}
-use Rattle.dl_head.specs.declared.form.Format.TheVariants.{Dwarf32, Dwarf64}
-use Rattle.dl_head.specs.declared.form.Form.{Form}
-use Rattle.dl_head.specs.declared.form.Form.TheVariants as form
-use Rattle.dl_head.specs.declared.fault.FaultKind.{FaultKind}
-use Rattle.dl_head.specs.Value.{Value, Judgement, is_text, text_spelt, block_spelt, leb_block_spelt, offset_size, value_spelt}
+use Rattle.dl_table.specs.declared.form.Format.{Format}
+use Rattle.dl_table.specs.declared.form.Format.TheVariants.{Dwarf32, Dwarf64}
+use Rattle.dl_table.specs.declared.form.Form.{Form}
+use Rattle.dl_table.specs.declared.form.Form.TheVariants as form
+use Rattle.dl_table.specs.declared.fault.FaultKind.{FaultKind}
+use Rattle.dl_table.specs.Value.{Value, Judgement, is_text, text_spelt, block_spelt, leb_block_spelt, offset_size, value_spelt}
 use Rattle.dl_head.specs.Layout.{Layout, NumberField, initial_length_then, number_then, form_then, value_then, foreign_version, last_entry, Item, initial_length_spelt, number_judged, number_size, sized_spelt, value_judged, field_spelt}
 use Rattle.dl_head.specs.Layout.{version, address_size, any_byte, header_length, maximum_operations, line_range, opcode_base, opcode_length, content_code, entry_count}
 

@@ -1,7 +1,7 @@
 -- Fronts of a list, and fronts of the spellings of fields.
 use Rattle.std.proofs.Common.{◌≡◌, ℕ, ◌⊎◌, inl, inr, List, [], ◌∷◌, ◌++◌, Ok, refl, sym, ap, subst, ◌∙◌, append_assoc, append-nil}
 use Rattle.dl_num.specs.declared.fixed.Order.{Order}
-use Rattle.dl_head.specs.Value.{good}
+use Rattle.dl_table.specs.Value.{good}
 use Rattle.dl_head.specs.Layout.{Layout, Item, following, following_all, field_spelt}
 use Rattle.dl_head.specs.Header.{SpellsFields, with_item, cut_after}
 use Rattle.dl_head.proofs.FieldLemmas.{none_some}

@@ -3,9 +3,10 @@ use Rattle.std.proofs.Common.{◌≡◌, ◌≢◌, ℕ, List, [], Option, Some,
 use Rattle.dl_head.specs.declared.reader.HeadReader.{HeadReader}
 use Rattle.dl_head.specs.declared.reader.HeadStep.{HeadStep}
 use Rattle.dl_head.specs.declared.reader.HeadStep.TheVariants as answer
-use Rattle.dl_head.specs.TableData.{TableData, HeaderData}
+use Rattle.dl_table.specs.TableData.{TableData}
+use Rattle.dl_head.specs.HeaderData.{HeaderData}
 use Rattle.dl_head.specs.declared.params.Params.{Params}
-use Rattle.dl_head.specs.TableCells.{header_cells}
+use Rattle.dl_head.specs.HeaderData.{header_cells}
 use Rattle.dl_head.specs.Header.{IsHeader}
 use Rattle.dl_head.specs.Cells.{cells}
 use Rattle.dl_head.specs.Place.{held_cells}

@@ -1,16 +1,16 @@
 -- How many cells a byte of a table adds.
 use Rattle.std.proofs.Common.{◌≡◌, ℕ, ◌+◌, false, true, List, [], ◌∷◌, ◌++◌, length, sym, ap, ◌∙◌, arith, length-append, append-nil}
 use Rattle.dl_num.specs.declared.fixed.Order.{Order}
-use Rattle.dl_head.specs.declared.form.Format.{Format}
-use Rattle.dl_head.specs.declared.form.Form.{Form}
-use Rattle.dl_head.specs.declared.form.Form.TheVariants as form
+use Rattle.dl_table.specs.declared.form.Format.{Format}
+use Rattle.dl_table.specs.declared.form.Form.{Form}
+use Rattle.dl_table.specs.declared.form.Form.TheVariants as form
 use Rattle.dl_head.specs.declared.reader.next.Next.{Next}
 use Rattle.dl_head.specs.declared.reader.next.Next.TheVariants as byte_makes
 use Rattle.dl_head.specs.declared.reader.table_reader.TableReader.{TableReader}
 use Rattle.dl_head.specs.declared.reader.value_phase.Cursor.{Cursor}
 use Rattle.dl_head.specs.declared.reader.value_phase.ValuePhase.{ValuePhase}
-use Rattle.dl_head.specs.TableData.{TableData}
-use Rattle.dl_head.specs.Value.{Value, good}
+use Rattle.dl_table.specs.TableData.{TableData}
+use Rattle.dl_table.specs.Value.{Value, good}
 use Rattle.dl_head.specs.Cells.{item_cells, begun_cells, rest_cells}
 use Rattle.dl_head.specs.Layout.{NumberField, Layout, number_then, form_then, value_then, Item, field_spelt}
 use Rattle.dl_head.specs.TablePlace.{reader_cells, field_cells, has_bytes, Adds, KeepsCells, OneCell, EachCell, IsLengthOf, InValue, InBlock, TableMade}

@@ -2,9 +2,9 @@
 use Rattle.std.proofs.Common.{◌≡◌, ℕ, ◌+◌, List, [], ◌∷◌, ◌++◌, length, drop, not, ◌==◌, Some, refl, sym, ap, subst, ◌∙◌, arith}
 use Rattle.std.proofs.lemmas.Bool.{eqb-true}
 use Rattle.dl_num.specs.declared.fixed.Order.{Order}
-use Rattle.dl_head.specs.declared.form.Format.{Format}
-use Rattle.dl_head.specs.declared.table.Pair.{Pair}
-use Rattle.dl_head.specs.declared.table.held.Held.{Held}
+use Rattle.dl_table.specs.declared.form.Format.{Format}
+use Rattle.dl_table.specs.declared.table.Pair.{Pair}
+use Rattle.dl_table.specs.declared.table.held.Held.{Held}
 use Rattle.dl_head.specs.declared.reader.HeadReader.{HeadReader}
 use Rattle.dl_head.specs.declared.reader.Phase.{Phase}
 use Rattle.dl_head.specs.declared.reader.Phase.TheVariants as phase
@@ -16,11 +16,11 @@ use Rattle.dl_head.specs.declared.reader.table_reader.TablePhase.TheVariants as 
 use Rattle.dl_head.specs.declared.reader.value_phase.Cursor.{Cursor}
 use Rattle.dl_head.specs.declared.reader.value_phase.ValuePhase.{ValuePhase}
 use Rattle.dl_head.specs.declared.reader.value_phase.ValuePhase.TheVariants as value
-use Rattle.dl_head.specs.TableData.{TableData}
-use Rattle.dl_head.specs.Value.{Value, good}
+use Rattle.dl_table.specs.TableData.{TableData}
+use Rattle.dl_table.specs.Value.{Value, good}
 use Rattle.dl_head.specs.Layout.{Layout, number_then, content_code, Item, following, following_all, header_layout, field_spelt, table_layout, initial_size}
 use Rattle.dl_head.specs.TablePlace.{IsFresh, NoValues, form_left, after_pairs, values_left, Holds, Summed, InValue, InBlock, IsWhole, reader_cells, Adds, ValueAt, TableAt, SameTable, BytesFollow, PushFollows}
-use Rattle.dl_head.specs.TableCells.{table_cells}
+use Rattle.dl_table.specs.TableCells.{table_cells}
 use Rattle.dl_head.specs.TableStep.{value_filled}
 use Rattle.dl_head.specs.HeadStep.{tables_fit}
 use Rattle.dl_head.specs.Place.{Behind, InTable, At, end_of_unit, held_cells, BytesMade}

@@ -3,15 +3,17 @@ use Rattle.std.proofs.Common.{◌≡◌, ℕ, zero, suc, ◌+◌, ◌-◌, ◌�
 use Rattle.std.proofs.lemmas.Bool.{cases_eq, ne_eqb}
 use Rattle.std.proofs.lemmas.List.Sums.{sum_by-cons, sum_by_push}
 use Rattle.dl_num.specs.declared.fixed.Order.{Order}
-use Rattle.dl_head.specs.declared.form.Format.{Format}
-use Rattle.dl_head.specs.declared.form.Form.{Form}
+use Rattle.dl_table.specs.declared.form.Format.{Format}
+use Rattle.dl_table.specs.declared.form.Form.{Form}
 use Rattle.dl_head.specs.declared.params.Params.{Params}
-use Rattle.dl_head.specs.declared.table.Pair.{Pair}
-use Rattle.dl_head.specs.TableData.{TableData, HeaderData}
-use Rattle.dl_head.specs.Value.{Value, value_spelt}
+use Rattle.dl_table.specs.declared.table.Pair.{Pair}
+use Rattle.dl_table.specs.TableData.{TableData}
+use Rattle.dl_head.specs.HeaderData.{HeaderData}
+use Rattle.dl_table.specs.Value.{Value, value_spelt}
 use Rattle.dl_head.specs.Layout.{NumberField, version, Layout, number_then, form_then, value_then, foreign_version, last_entry, Item, following, following_all, header_layout, lengths_layout, pairs_layout, entry_layout, entries_layout, table_layout, tables_layout, signed_byte, from_address_size, from_minimum_length, from_lengths, format_alone}
 use Rattle.dl_head.specs.Header.{SpellsFields, header_made}
-use Rattle.dl_head.specs.TableCells.{value_cells, table_cells, header_cells}
+use Rattle.dl_table.specs.TableCells.{value_cells, table_cells}
+use Rattle.dl_head.specs.HeaderData.{header_cells}
 use Rattle.dl_head.specs.Cells.{item_cells, cut_cells, rest_cells}
 use Rattle.dl_head.specs.Laws.{HeaderHoldsItsCells}
 use Rattle.dl_head.proofs.FieldLemmas.{none_some}

@@ -3,15 +3,15 @@ use Rattle.std.proofs.Common.{◌≡◌, ◌≢◌, ℕ, zero, suc, ◌+◌, ◌
 use Rattle.std.proofs.lemmas.Bool.{cases_lt, cases_eq, lt-ltb, le-ltb, le-leb, lt-leb, ne_eqb, eq-eqb}
 use Rattle.dl_num.specs.declared.fixed.Order.{Order}
 use Rattle.dl_num.specs.Fixed.{fixed}
-use Rattle.dl_head.specs.declared.fault.FaultKind.{FaultKind}
-use Rattle.dl_head.specs.declared.fault.FaultKind.TheVariants as fault
-use Rattle.dl_head.specs.declared.form.Format.{Format}
-use Rattle.dl_head.specs.declared.form.Format.TheVariants.{Dwarf32, Dwarf64}
-use Rattle.dl_head.specs.declared.form.Form.{Form}
+use Rattle.dl_table.specs.declared.fault.FaultKind.{FaultKind}
+use Rattle.dl_table.specs.declared.fault.FaultKind.TheVariants as fault
+use Rattle.dl_table.specs.declared.form.Format.{Format}
+use Rattle.dl_table.specs.declared.form.Format.TheVariants.{Dwarf32, Dwarf64}
+use Rattle.dl_table.specs.declared.form.Form.{Form}
 use Rattle.dl_head.specs.declared.params.Params.{Params}
-use Rattle.dl_head.specs.declared.table.Pair.{Pair}
-use Rattle.dl_head.specs.TableData.{TableData}
-use Rattle.dl_head.specs.Value.{Value, Judgement, good, bad, offset_size}
+use Rattle.dl_table.specs.declared.table.Pair.{Pair}
+use Rattle.dl_table.specs.TableData.{TableData}
+use Rattle.dl_table.specs.Value.{Value, Judgement, good, bad, offset_size}
 use Rattle.dl_head.specs.Layout.{NumberField, version, address_size, any_byte, header_length, Layout, initial_length_then, number_then, form_then, value_then, foreign_version, last_entry, Item, length_is, number_is, form_is, value_is, following, following_all, field_spelt, header_layout, lengths_layout, pairs_layout, entry_layout, entries_layout, table_layout, tables_layout, from_address_size, from_segment_selector_size, from_header_length, from_minimum_length, format_alone, short_length, long_length, initial_length_spelt, unit_length_limit, initial_size, fixed_part, objection, judged, number_judged, sized_spelt, number_size}
 use Rattle.dl_head.specs.Header.{SpellsFields, header_end}
 use Rattle.dl_head.proofs.FieldLemmas.{none_some, length_cases, sized_length}

@@ -7,15 +7,17 @@ use Rattle.dl_num.specs.declared.fixed.Order.TheVariants.{Little}
 use Rattle.dl_num.specs.Fixed.{fixed_bytes}
 use Rattle.dl_num.specs.Shortest.{shortest_uleb}
 use Rattle.dl_num.proofs.FixedLaws.{fixed_has_its_size}
-use Rattle.dl_head.specs.declared.form.Format.{Format}
-use Rattle.dl_head.specs.declared.form.Format.TheVariants.{Dwarf32, Dwarf64}
-use Rattle.dl_head.specs.declared.form.Form.{Form}
-use Rattle.dl_head.specs.declared.form.Form.TheVariants as form
-use Rattle.dl_head.specs.declared.table.Pair.{Pair}
-use Rattle.dl_head.specs.TableData.{TableData, HeaderData}
-use Rattle.dl_head.specs.Value.{Value, line_str, str, str_sup, number, block, offset_size}
+use Rattle.dl_table.specs.declared.form.Format.{Format}
+use Rattle.dl_table.specs.declared.form.Format.TheVariants.{Dwarf32, Dwarf64}
+use Rattle.dl_table.specs.declared.form.Form.{Form}
+use Rattle.dl_table.specs.declared.form.Form.TheVariants as form
+use Rattle.dl_table.specs.declared.table.Pair.{Pair}
+use Rattle.dl_table.specs.TableData.{TableData}
+use Rattle.dl_head.specs.HeaderData.{HeaderData}
+use Rattle.dl_table.specs.Value.{Value, line_str, str, str_sup, number, block, offset_size}
 use Rattle.dl_head.specs.Layout.{fixed_part, initial_size}
-use Rattle.dl_head.specs.Written.{value_bytes, pair_bytes, entry_bytes, table_bytes, after_header_length, header_length_of, unit_length_of, initial_length_bytes, header_bytes, written_limit}
+use Rattle.dl_table.specs.Written.{value_bytes, pair_bytes, entry_bytes, table_bytes}
+use Rattle.dl_head.specs.Written.{after_header_length, header_length_of, unit_length_of, initial_length_bytes, header_bytes, written_limit}
 
 same_size : (order : Order) (k n : ℕ) → length (fixed_bytes order k n) ≡ length (fixed_bytes Little k n)
 same_size order k n = fixed_has_its_size order k n ∙ sym (fixed_has_its_size Little k n)

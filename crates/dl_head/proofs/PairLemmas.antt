@@ -9,18 +9,18 @@ use Rattle.dl_num.specs.LebFront.{is_leb}
 use Rattle.dl_num.specs.LebReader.{UlebTook, UlebIs, UlebAnswer}
 use Rattle.dl_num.proofs.LebFrontLemmas.{is_leb-continues}
 use Rattle.dl_num.proofs.LebLaws.{leb_tested}
-use Rattle.dl_head.specs.declared.fault.FaultKind.{FaultKind}
-use Rattle.dl_head.specs.declared.fault.FaultKind.TheVariants as fault
-use Rattle.dl_head.specs.declared.form.Format.{Format}
-use Rattle.dl_head.specs.declared.form.Form.{Form}
-use Rattle.dl_head.specs.declared.form.Form.TheVariants as form
-use Rattle.dl_head.specs.declared.table.Pair.{Pair}
+use Rattle.dl_table.specs.declared.fault.FaultKind.{FaultKind}
+use Rattle.dl_table.specs.declared.fault.FaultKind.TheVariants as fault
+use Rattle.dl_table.specs.declared.form.Format.{Format}
+use Rattle.dl_table.specs.declared.form.Form.{Form}
+use Rattle.dl_table.specs.declared.form.Form.TheVariants as form
+use Rattle.dl_table.specs.declared.table.Pair.{Pair}
 use Rattle.dl_head.specs.declared.reader.next.Next.{Next}
 use Rattle.dl_head.specs.declared.reader.next.Next.TheVariants as byte_makes
 use Rattle.dl_head.specs.declared.reader.table_reader.TableReader.{TableReader}
 use Rattle.dl_head.specs.declared.reader.table_reader.TablePhase.{TablePhase}
-use Rattle.dl_head.specs.TableData.{TableData}
-use Rattle.dl_head.specs.Value.{good, bad, form_code, all_forms, form_of_code}
+use Rattle.dl_table.specs.TableData.{TableData}
+use Rattle.dl_table.specs.Value.{good, bad, form_code, all_forms, form_of_code}
 use Rattle.dl_head.specs.Layout.{NumberField, Layout, number_then, form_then, content_code, number_is, form_is, following, field_spelt, pairs_layout, table_layout, number_judged, sized_spelt, form_judged, objection, judged}
 use Rattle.dl_head.specs.TablePlace.{after_pairs, pairs_left, form_left, NoValues, TableAt, SameTable, TableMade, BeginsPair, TakesContent, TakesForm}
 use Rattle.dl_head.proofs.Places.{fixed-one}

@@ -2,11 +2,11 @@
 use Rattle.std.proofs.Common.{◌≡◌, ℕ, ◌+◌, ◌-◌, ◌<◌, ◌≤◌, inl, inr, List, [], ◌∷◌, ◌++◌, length, Option, Some, None, Ok, refl, sym, ap, subst, ◌∙◌, arith, length-append, append_assoc, append-nil}
 use Rattle.std.proofs.lemmas.Bool.{ne_eqb}
 use Rattle.dl_num.specs.declared.fixed.Order.{Order}
-use Rattle.dl_head.specs.declared.fault.FaultKind.{FaultKind}
-use Rattle.dl_head.specs.declared.fault.FaultKind.TheVariants as fault
-use Rattle.dl_head.specs.declared.form.Format.{Format}
-use Rattle.dl_head.specs.TableData.{HeaderData}
-use Rattle.dl_head.specs.Value.{offset_size}
+use Rattle.dl_table.specs.declared.fault.FaultKind.{FaultKind}
+use Rattle.dl_table.specs.declared.fault.FaultKind.TheVariants as fault
+use Rattle.dl_table.specs.declared.form.Format.{Format}
+use Rattle.dl_head.specs.HeaderData.{HeaderData}
+use Rattle.dl_table.specs.Value.{offset_size}
 use Rattle.dl_head.specs.Layout.{NumberField, version, address_size, any_byte, header_length, Layout, number_then, foreign_version, Item, length_is, number_is, form_is, value_is, following, following_all, header_layout, initial_size, fixed_part, from_minimum_length, format_alone, number_size, sized_spelt, number_judged}
 use Rattle.dl_head.specs.Header.{SpellsFields, Cut, cut_after, cut, unit_end, header_end, header_made, IsHeader}
 use Rattle.dl_head.specs.Refusal.{at_end, field_overrun, cut_decided, header_decided}

@@ -1,15 +1,15 @@
 -- Worked rows, computed: what the definitions give for the bytes of headers.
 use Rattle.std.proofs.Common.{◌≡◌, refl, ℕ, List, [], ◌∷◌, ◌++◌, Option, Some, None, negsuc, true, false}
 use Rattle.dl_num.specs.declared.fixed.Order.TheVariants.{Little, Big}
-use Rattle.dl_head.specs.declared.fault.FaultKind.{FaultKind}
-use Rattle.dl_head.specs.declared.fault.FaultKind.TheVariants as fault
-use Rattle.dl_head.specs.declared.form.Format.TheVariants.{Dwarf32, Dwarf64}
-use Rattle.dl_head.specs.declared.form.Form.TheVariants as form
-use Rattle.dl_head.specs.TableData.{HeaderData}
-use Rattle.dl_head.specs.Value.{text, number, data16, line_str}
+use Rattle.dl_table.specs.declared.fault.FaultKind.{FaultKind}
+use Rattle.dl_table.specs.declared.fault.FaultKind.TheVariants as fault
+use Rattle.dl_table.specs.declared.form.Format.TheVariants.{Dwarf32, Dwarf64}
+use Rattle.dl_table.specs.declared.form.Form.TheVariants as form
+use Rattle.dl_head.specs.HeaderData.{HeaderData}
+use Rattle.dl_table.specs.Value.{text, number, data16, line_str}
 use Rattle.dl_head.specs.Header.{header_in, foreign_in, unit_len}
 use Rattle.dl_head.specs.Refusal.{Refusal, header_refusal_in}
-use Rattle.dl_head.specs.TableCells.{header_cells}
+use Rattle.dl_head.specs.HeaderData.{header_cells}
 use Rattle.dl_head.specs.Cells.{cells}
 use Rattle.dl_head.specs.Written.{header_bytes, is_within_limit}
 

@@ -9,7 +9,7 @@ use Rattle.dl_head.specs.declared.reader.HeadStep.{HeadStep}
 use Rattle.dl_head.specs.declared.reader.HeadStep.TheVariants as answer
 use Rattle.dl_head.specs.declared.reader.HeadReader.{HeadReader}
 use Rattle.dl_head.specs.declared.reader.run.HeadRun.{HeadRun}
-use Rattle.dl_head.specs.TableData.{HeaderData}
+use Rattle.dl_head.specs.HeaderData.{HeaderData}
 use Rattle.dl_head.specs.Header.{IsHeader, foreign_in}
 use Rattle.dl_head.specs.Standing.{StandsFor}
 use Rattle.dl_head.specs.Reading.{Answers, AddsCell, Steps}

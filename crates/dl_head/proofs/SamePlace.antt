@@ -5,10 +5,10 @@ use Rattle.dl_head.specs.declared.reader.byte_field.ByteField.TheVariants as fie
 use Rattle.dl_head.specs.declared.reader.Phase.{Phase}
 use Rattle.dl_head.specs.declared.reader.Phase.TheVariants as phase
 use Rattle.dl_head.specs.declared.reader.HeadReader.{HeadReader}
-use Rattle.dl_head.specs.TableData.{TableData}
+use Rattle.dl_table.specs.TableData.{TableData}
 use Rattle.dl_head.specs.Layout.{Layout, Item}
 use Rattle.dl_head.specs.HeadStep.{end_near, lengths_fit, tables_fit, formats_fit, AreStandard}
-use Rattle.dl_head.specs.TableCells.{table_cells}
+use Rattle.dl_table.specs.TableCells.{table_cells}
 use Rattle.dl_head.specs.TableSpelt.{TableStands}
 use Rattle.dl_head.specs.Place.{AtStart, Early, Behind, Late, InTable, AtPhase}
 

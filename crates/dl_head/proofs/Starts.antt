@@ -4,14 +4,14 @@ use Rattle.std.proofs.lemmas.Bool.{lt-ltb, le-leb, lt-leb, eq-eqb, ne_eqb}
 use Rattle.std.proofs.lemmas.List.{take_at, drop_at}
 use Rattle.dl_num.specs.declared.fixed.Order.{Order}
 use Rattle.dl_num.specs.Fixed.{fixed}
-use Rattle.dl_head.specs.declared.form.Format.{Format}
-use Rattle.dl_head.specs.declared.form.Format.TheVariants.{Dwarf32, Dwarf64}
+use Rattle.dl_table.specs.declared.form.Format.{Format}
+use Rattle.dl_table.specs.declared.form.Format.TheVariants.{Dwarf32, Dwarf64}
 use Rattle.dl_head.specs.declared.reader.next.Next.{Next}
 use Rattle.dl_head.specs.declared.reader.next.Next.TheVariants as byte_makes
 use Rattle.dl_head.specs.declared.reader.HeadReader.{HeadReader}
-use Rattle.dl_head.specs.declared.fault.FaultKind.{FaultKind}
-use Rattle.dl_head.specs.declared.fault.FaultKind.TheVariants as fault
-use Rattle.dl_head.specs.Value.{Judgement, good, bad, offset_size}
+use Rattle.dl_table.specs.declared.fault.FaultKind.{FaultKind}
+use Rattle.dl_table.specs.declared.fault.FaultKind.TheVariants as fault
+use Rattle.dl_table.specs.Value.{Judgement, good, bad, offset_size}
 use Rattle.dl_head.specs.Layout.{header_length, foreign_version, Item, length_is, number_is, following_all, field_spelt, header_layout, objection, judged, short_length, long_length, initial_length_spelt, unit_length_limit, initial_size, fixed_part, from_minimum_length}
 use Rattle.dl_head.specs.Header.{header_end, unit_end}
 use Rattle.dl_head.specs.Place.{AtStart, InLong, Early, Late, At, Made, SameCounts, Starts, StartsHeader, length_item, before_header_length, end_of_unit}

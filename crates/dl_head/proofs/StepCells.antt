@@ -2,8 +2,8 @@
 use Rattle.std.proofs.Common.{◌≡◌, ℕ, ◌+◌, List, [], ◌∷◌, ◌++◌, Some, None, Ok, Err, refl, ap, arith, sum_by}
 use Rattle.std.proofs.lemmas.List.Sums.{sum_by_push}
 use Rattle.dl_num.specs.declared.fixed.Order.{Order}
-use Rattle.dl_head.specs.declared.form.Form.TheVariants as form
-use Rattle.dl_head.specs.Value.{Judgement, good, bad}
+use Rattle.dl_table.specs.declared.form.Form.TheVariants as form
+use Rattle.dl_table.specs.Value.{Judgement, good, bad}
 use Rattle.dl_head.specs.Layout.{Layout, initial_length_then, number_then, form_then, value_then, foreign_version, last_entry, Item, following_all, field_spelt, header_layout}
 use Rattle.dl_head.specs.Header.{cut}
 use Rattle.dl_head.specs.Cells.{item_cells, rest_cells, cut_cells, cells}

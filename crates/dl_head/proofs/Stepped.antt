@@ -10,13 +10,13 @@ use Rattle.dl_head.specs.declared.reader.HeadReader.{HeadReader}
 use Rattle.dl_head.specs.declared.reader.HeadStep.{HeadStep}
 use Rattle.dl_head.specs.declared.reader.HeadStep.TheVariants as answer
 use Rattle.dl_head.specs.declared.fault.Fault.{Fault}
-use Rattle.dl_head.specs.declared.fault.FaultKind.{FaultKind}
-use Rattle.dl_head.specs.Value.{Judgement, bad}
+use Rattle.dl_table.specs.declared.fault.FaultKind.{FaultKind}
+use Rattle.dl_table.specs.Value.{Judgement, bad}
 use Rattle.dl_head.specs.Layout.{Item, following_all, field_spelt, header_layout}
 use Rattle.dl_head.specs.Header.{Cut, cut, unit_end, unit_len, foreign_made}
 use Rattle.dl_head.specs.Refusal.{or_else, bad_kind, header_overrun, cut_decided, header_decided, NothingBefore, HeaderRefused}
 use Rattle.dl_head.specs.Cells.{cells}
-use Rattle.dl_head.specs.TableCells.{table_cells}
+use Rattle.dl_table.specs.TableCells.{table_cells}
 use Rattle.dl_head.specs.TablePlace.{IsFresh}
 use Rattle.dl_head.specs.Place.{AtStart, AtPhase, At, SameCounts, SameUnit, PushFollows, end_of_unit, held_cells}
 use Rattle.dl_head.specs.Standing.{Below, Live, Unmade, ending, Stands, StandsFor, unit_known, Fails, Settles}

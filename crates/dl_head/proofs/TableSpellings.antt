@@ -4,7 +4,7 @@ use Rattle.std.proofs.Props.{props}
 use Rattle.std.proofs.Math.Logic.{∥∥₁_elim, ∥∥₁_prop}
 use Rattle.dl_num.specs.declared.fixed.Order.{Order}
 use Rattle.dl_num.specs.Laws.{AllBytes}
-use Rattle.dl_head.specs.declared.form.Format.{Format}
+use Rattle.dl_table.specs.declared.form.Format.{Format}
 use Rattle.dl_head.specs.declared.reader.Phase.{Phase}
 use Rattle.dl_head.specs.declared.reader.Phase.TheVariants as phase
 use Rattle.dl_head.specs.declared.reader.next.Next.{Next}
@@ -12,19 +12,19 @@ use Rattle.dl_head.specs.declared.reader.next.Next.TheVariants as byte_makes
 use Rattle.dl_head.specs.declared.reader.table_reader.TableReader.{TableReader}
 use Rattle.dl_head.specs.declared.reader.table_reader.TablePhase.{TablePhase}
 use Rattle.dl_head.specs.declared.reader.table_reader.TablePhase.TheVariants as table
-use Rattle.dl_head.specs.TableData.{TableData}
-use Rattle.dl_head.specs.Value.{Value, good}
+use Rattle.dl_table.specs.TableData.{TableData}
+use Rattle.dl_table.specs.Value.{Value, good}
 use Rattle.dl_head.specs.Layout.{Layout, Item, following_all, field_spelt, table_layout}
 use Rattle.dl_head.specs.Header.{SpellsFields}
 use Rattle.dl_head.specs.TablePlace.{IsFresh, TableAt, SameTable, MakesTable, BytesFollow, PushFollows}
 use Rattle.dl_head.specs.TableSpelt.{alone, TableSpelt, TableReads, TableStands}
 use Rattle.dl_head.proofs.CutLemmas.{following_all-append}
 use Rattle.dl_head.proofs.HeadTables.{table_same}
-use Rattle.dl_head.specs.Held.{table_of}
-use Rattle.dl_head.specs.Sound.{IsSoundTable}
+use Rattle.dl_table.specs.Held.{table_of}
+use Rattle.dl_table.specs.Sound.{IsSoundTable}
 use Rattle.dl_head.proofs.PairLemmas.{table_at}
 use Rattle.dl_head.proofs.ReadSound.{front_bytes, table_is_sound}
-use Rattle.dl_head.proofs.SoundLemmas.{sound_prop}
+use Rattle.dl_table.proofs.SoundLemmas.{sound_prop}
 use Rattle.dl_head.proofs.TakenLemmas.{whole_held}
 
 -- a field more

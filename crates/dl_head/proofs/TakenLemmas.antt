@@ -3,18 +3,18 @@ use Rattle.std.proofs.Common.{◌≡◌, ℕ, ◌*◌, ◌/◌, List, [], ◌∷
 use Rattle.std.proofs.lemmas.Bool.{cases_lt}
 use Rattle.std.proofs.lemmas.List.{length-map, take_at, drop_at}
 use Rattle.std.proofs.Math.Nat.{mul-div_cancel}
-use Rattle.dl_head.specs.declared.form.Format.{Format}
-use Rattle.dl_head.specs.declared.table.Pair.{Pair}
-use Rattle.dl_head.specs.declared.table.held.Held.{Held}
+use Rattle.dl_table.specs.declared.form.Format.{Format}
+use Rattle.dl_table.specs.declared.table.Pair.{Pair}
+use Rattle.dl_table.specs.declared.table.held.Held.{Held}
 use Rattle.dl_head.specs.declared.reader.table_reader.TableReader.{TableReader}
-use Rattle.dl_head.specs.TableData.{TableData}
-use Rattle.dl_head.specs.Held.{value_held, rows, table_of}
-use Rattle.dl_head.specs.Held.{IsWhole as AreRows}
-use Rattle.dl_head.specs.TableCells.{table_cells}
+use Rattle.dl_table.specs.TableData.{TableData}
+use Rattle.dl_table.specs.Held.{value_held, rows, table_of}
+use Rattle.dl_table.specs.Held.{IsWhole as AreRows}
+use Rattle.dl_table.specs.TableCells.{table_cells}
 use Rattle.dl_head.specs.Layout.{Layout}
-use Rattle.dl_head.specs.Value.{Value}
+use Rattle.dl_table.specs.Value.{Value}
 use Rattle.dl_head.specs.TablePlace.{joined, AreWide, Holds, IsWhole, reader_cells}
-use Rattle.dl_head.proofs.RowLemmas.{cells_table}
+use Rattle.dl_table.proofs.RowLemmas.{cells_table}
 
 length-joined : (width : ℕ) (entries : List (List Value)) → AreWide width entries → length (joined entries) ≡ length entries * width
 length-joined width [] wide = omega arith

@@ -10,21 +10,21 @@ use Rattle.dl_num.specs.Leb.{groups, IsUleb}
 use Rattle.dl_num.specs.LebReader.{UlebTook, UlebIs}
 use Rattle.dl_num.proofs.LebFrontLemmas.{is_leb-continues}
 use Rattle.dl_num.proofs.LebLaws.{leb_tested}
-use Rattle.dl_head.specs.declared.fault.FaultKind.TheVariants as fault
-use Rattle.dl_head.specs.declared.form.Format.{Format}
-use Rattle.dl_head.specs.declared.form.Form.{Form}
-use Rattle.dl_head.specs.declared.form.Form.TheVariants as form
-use Rattle.dl_head.specs.declared.table.held.Held.{Held}
+use Rattle.dl_table.specs.declared.fault.FaultKind.TheVariants as fault
+use Rattle.dl_table.specs.declared.form.Format.{Format}
+use Rattle.dl_table.specs.declared.form.Form.{Form}
+use Rattle.dl_table.specs.declared.form.Form.TheVariants as form
+use Rattle.dl_table.specs.declared.table.held.Held.{Held}
 use Rattle.dl_head.specs.declared.reader.next.Next.{Next}
 use Rattle.dl_head.specs.declared.reader.next.Next.TheVariants as byte_makes
 use Rattle.dl_head.specs.declared.reader.table_reader.TableReader.{TableReader}
 use Rattle.dl_head.specs.declared.reader.value_phase.Cursor.{Cursor}
 use Rattle.dl_head.specs.declared.reader.value_phase.ValuePhase.{ValuePhase}
-use Rattle.dl_head.specs.TableData.{TableData}
-use Rattle.dl_head.specs.Held.{value_held, cells_held}
+use Rattle.dl_table.specs.TableData.{TableData}
+use Rattle.dl_table.specs.Held.{value_held, cells_held}
 use Rattle.dl_head.specs.TableStep.{value_filled}
 use Rattle.dl_head.specs.Field.{HasNoZero}
-use Rattle.dl_head.specs.Value.{Value, text, number, data16, Judgement, good, bad, is_text, text_spelt, number_spelt, leb_spelt, value_spelt}
+use Rattle.dl_table.specs.Value.{Value, text, number, data16, Judgement, good, bad, is_text, text_spelt, number_spelt, leb_spelt, value_spelt}
 use Rattle.dl_head.specs.Layout.{Layout, value_then, value_is, value_judged, field_spelt}
 use Rattle.dl_head.specs.TablePlace.{number_bytes_of, number_value, InValue, TableMade, Enters}
 use Rattle.dl_head.proofs.FieldLemmas.{none_some, some_same}

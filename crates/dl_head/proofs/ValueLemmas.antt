@@ -4,23 +4,23 @@ use Rattle.std.specs.Result.{is_ok, is_err}
 use Rattle.std.proofs.lemmas.List.Sums.{sum_by_push}
 use Rattle.std.proofs.lemmas.List.{map-append, drop-append-le}
 use Rattle.dl_num.specs.declared.fixed.Order.{Order}
-use Rattle.dl_head.specs.declared.form.Format.{Format}
-use Rattle.dl_head.specs.declared.table.Pair.{Pair}
-use Rattle.dl_head.specs.declared.table.held.Held.{Held}
+use Rattle.dl_table.specs.declared.form.Format.{Format}
+use Rattle.dl_table.specs.declared.table.Pair.{Pair}
+use Rattle.dl_table.specs.declared.table.held.Held.{Held}
 use Rattle.dl_head.specs.declared.reader.table_reader.TableReader.{TableReader}
 use Rattle.dl_head.specs.declared.reader.table_reader.TablePhase.{TablePhase}
 use Rattle.dl_head.specs.declared.reader.table_reader.TablePhase.TheVariants as phase
 use Rattle.dl_head.specs.declared.reader.value_phase.Cursor.{Cursor}
 use Rattle.dl_head.specs.declared.reader.value_phase.ValuePhase.{ValuePhase}
 use Rattle.dl_head.specs.declared.reader.value_phase.ValuePhase.TheVariants as value
-use Rattle.dl_head.specs.TableData.{TableData}
+use Rattle.dl_table.specs.TableData.{TableData}
 use Rattle.dl_head.specs.Field.{HasNoZero}
-use Rattle.dl_head.specs.Held.{held_end, value_held, cells_held}
+use Rattle.dl_table.specs.Held.{held_end, value_held, cells_held}
 use Rattle.dl_head.specs.TableStep.{value_filled}
-use Rattle.dl_head.specs.Value.{Value}
+use Rattle.dl_table.specs.Value.{Value}
 use Rattle.dl_head.specs.Layout.{Layout, value_then, value_is, following, entry_layout, entries_layout}
 use Rattle.dl_head.specs.TablePlace.{joined, AreWide, Holds, Summed, values_left, InValue, IsWhole, TableAt, Moves, GoesOn}
-use Rattle.dl_head.proofs.HeldLemmas.{values_end-push, values_held-more}
+use Rattle.dl_table.proofs.HeldLemmas.{values_end-push, values_held-more}
 
 -- an element, and those after it
 pub drop_at : {A : Type 0} (xs : List A) (i : ℕ) (d : A) → i < length xs → drop i xs ≡ get_or xs i d ∷ drop (suc i) xs

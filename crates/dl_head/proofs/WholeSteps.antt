@@ -6,7 +6,7 @@ use Rattle.std.proofs.Math.Seq.{take-append_seam}
 use Rattle.dl_num.specs.declared.fixed.Order.{Order}
 use Rattle.dl_num.specs.Laws.{AllBytes}
 use Rattle.dl_num.proofs.LebFrontLemmas.{true_false}
-use Rattle.dl_head.specs.declared.form.Format.{Format}
+use Rattle.dl_table.specs.declared.form.Format.{Format}
 use Rattle.dl_head.specs.declared.params.Params.{Params}
 use Rattle.dl_head.specs.declared.reader.Phase.{Phase}
 use Rattle.dl_head.specs.declared.reader.Phase.TheVariants as phase
@@ -14,9 +14,9 @@ use Rattle.dl_head.specs.declared.reader.next.Next.TheVariants as byte_makes
 use Rattle.dl_head.specs.declared.reader.HeadReader.{HeadReader}
 use Rattle.dl_head.specs.declared.reader.HeadStep.TheVariants as answer
 use Rattle.dl_head.specs.declared.reader.table_reader.TableReader.{TableReader}
-use Rattle.dl_head.specs.TableData.{TableData}
-use Rattle.dl_head.specs.TableCells.{table_cells}
-use Rattle.dl_head.specs.Value.{good}
+use Rattle.dl_table.specs.TableData.{TableData}
+use Rattle.dl_table.specs.TableCells.{table_cells}
+use Rattle.dl_table.specs.Value.{good}
 use Rattle.dl_head.specs.Layout.{Layout, Item, following_all, field_spelt, header_layout, from_files, from_end}
 use Rattle.dl_head.specs.Header.{cut}
 use Rattle.dl_head.specs.Refusal.{header_decided, NothingBefore}

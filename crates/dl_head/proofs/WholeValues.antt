@@ -8,9 +8,9 @@ use Rattle.dl_num.specs.declared.leb.Uleb.{Uleb}
 use Rattle.dl_num.specs.Leb.{IsUleb}
 use Rattle.dl_num.specs.LebReader.{UlebTook}
 use Rattle.dl_num.specs.OperandBytes.{operand_bytes}
-use Rattle.dl_head.specs.declared.form.Format.{Format}
-use Rattle.dl_head.specs.declared.table.held.Held.{Held}
-use Rattle.dl_head.specs.declared.table.held.Held.TheVariants as held
+use Rattle.dl_table.specs.declared.form.Format.{Format}
+use Rattle.dl_table.specs.declared.table.held.Held.{Held}
+use Rattle.dl_table.specs.declared.table.held.Held.TheVariants as held
 use Rattle.dl_head.specs.declared.reader.next.Next.TheVariants as byte_makes
 use Rattle.dl_head.specs.declared.reader.sixteen.Sixteen.{Sixteen}
 use Rattle.dl_head.specs.declared.reader.table_reader.TableReader.{TableReader}
@@ -18,14 +18,14 @@ use Rattle.dl_head.specs.declared.reader.table_reader.TablePhase.TheVariants as 
 use Rattle.dl_head.specs.declared.reader.value_phase.Cursor.{Cursor}
 use Rattle.dl_head.specs.declared.reader.value_phase.ValuePhase.{ValuePhase}
 use Rattle.dl_head.specs.declared.reader.value_phase.ValuePhase.TheVariants as value
-use Rattle.dl_head.specs.TableData.{TableData}
+use Rattle.dl_table.specs.TableData.{TableData}
 use Rattle.dl_head.specs.Field.{HasNoZero}
-use Rattle.dl_head.specs.Text.{text_in}
+use Rattle.dl_table.specs.Text.{text_in}
 use Rattle.dl_head.specs.TableStep.{value_due}
 use Rattle.dl_head.specs.Layout.{Layout}
 use Rattle.dl_head.specs.TablePlace.{OneCell, InValue, TableAt, TableMade, Enters, InFront, TakesValue, has_bytes}
 use Rattle.dl_head.proofs.FieldLemmas.{none_some}
-use Rattle.dl_head.proofs.TextLemmas.{text_in-position}
+use Rattle.dl_table.proofs.TextLemmas.{text_in-position}
 use Rattle.dl_head.proofs.PairLemmas.{table_at}
 use Rattle.dl_head.proofs.ValueLemmas.{text_grown}
 use Rattle.dl_head.proofs.ValueFields.{value_made, leb_form, leb_held, sixteen_spelt, text_form, text_held}

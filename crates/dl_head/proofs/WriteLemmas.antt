@@ -3,13 +3,15 @@ use Rattle.std.proofs.Common.{◌≡◌, ℕ, ◌^◌, ◌<◌, true, List, ◌+
 use Rattle.std.specs.Io.KnownBytes.{Appends}
 use Rattle.dl_num.specs.declared.fixed.Order.{Order}
 use Rattle.dl_num.specs.Fixed.{fixed_bytes}
-use Rattle.dl_head.specs.declared.counted.HeadWrite.{HeadWrite}
-use Rattle.dl_head.specs.declared.counted.HeadWrite.TheVariants.{TooLong, Write}
-use Rattle.dl_head.specs.TableData.{HeaderData}
-use Rattle.dl_head.specs.Value.{offset_size}
+use Rattle.dl_table.specs.declared.counted.HeadWrite.{HeadWrite}
+use Rattle.dl_table.specs.declared.counted.HeadWrite.TheVariants.{TooLong, Write}
+use Rattle.dl_head.specs.HeaderData.{HeaderData}
+use Rattle.dl_table.specs.Value.{offset_size}
 use Rattle.dl_head.specs.Spelled.{front_parts}
-use Rattle.dl_head.specs.Writing.{IsOut, TellsOut, WritesHeader}
-use Rattle.dl_head.specs.Written.{header_bytes, header_length_of, initial_length_bytes, is_within_limit, table_bytes, unit_length_of}
+use Rattle.dl_table.specs.Writing.{IsOut, TellsOut}
+use Rattle.dl_head.specs.Writing.{WritesHeader}
+use Rattle.dl_table.specs.Written.{table_bytes}
+use Rattle.dl_head.specs.Written.{header_bytes, header_length_of, initial_length_bytes, is_within_limit, unit_length_of}
 
 regroup : (a v s l numbers d f : List ℕ) → ((a ++ (v ++ s)) ++ (l ++ numbers)) ++ (d ++ f) ≡ a ++ v ++ s ++ l ++ (numbers ++ d ++ f)
 regroup a v s l numbers d f = simp append_assoc

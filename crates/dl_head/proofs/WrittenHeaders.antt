@@ -9,17 +9,20 @@ use Rattle.std.proofs.lemmas.Bool.{leb-true, le-leb, lt-ltb, le-ltb, ne_eqb}
 use Rattle.dl_num.specs.declared.fixed.Order.{Order}
 use Rattle.dl_num.specs.Fixed.{fixed_bytes, is_number_size}
 use Rattle.dl_num.proofs.LebFrontLemmas.{true_false}
-use Rattle.dl_head.specs.declared.form.Format.{Format}
-use Rattle.dl_head.specs.declared.form.Format.TheVariants.{Dwarf32, Dwarf64}
+use Rattle.dl_table.specs.declared.form.Format.{Format}
+use Rattle.dl_table.specs.declared.form.Format.TheVariants.{Dwarf32, Dwarf64}
 use Rattle.dl_head.specs.declared.params.Params.{Params}
-use Rattle.dl_head.specs.TableData.{TableData, HeaderData}
-use Rattle.dl_head.specs.Value.{offset_size}
+use Rattle.dl_table.specs.TableData.{TableData}
+use Rattle.dl_head.specs.HeaderData.{HeaderData}
+use Rattle.dl_table.specs.Value.{offset_size}
 use Rattle.dl_head.specs.Layout.{Layout, number_then, last_entry, number_is, length_is, following, any_byte, address_size, maximum_operations, line_range, opcode_base, opcode_length, header_length, objection, NumberField, number_size, signed_byte, lengths_layout, table_layout, tables_layout, from_lengths, from_opcode_base, from_line_range, from_line_base, from_default_is_stmt, from_maximum_operations, from_minimum_length, from_header_length, from_segment_selector_size, from_address_size, format_alone, header_layout, fixed_part, initial_size}
 use Rattle.dl_head.specs.Header.{Cut, header_made, unit_end, IsHeader}
 use Rattle.dl_head.specs.Field.{IsInitialLength}
-use Rattle.dl_head.specs.Written.{table_bytes, byte_of, after_header_length, header_length_of, unit_length_of, initial_length_bytes, header_bytes, written_limit, is_within_limit}
+use Rattle.dl_table.specs.Written.{table_bytes}
+use Rattle.dl_head.specs.Written.{byte_of, after_header_length, header_length_of, unit_length_of, initial_length_bytes, header_bytes, written_limit, is_within_limit}
 use Rattle.dl_head.specs.Built.{wrong_length}
-use Rattle.dl_head.specs.Sound.{IsSoundTable, IsSoundHeader}
+use Rattle.dl_table.specs.Sound.{IsSoundTable}
+use Rattle.dl_head.specs.Sound.{IsSoundHeader}
 use Rattle.dl_head.specs.WrittenLaws.{WrittenIsHeader, WrittenHasItsLength}
 use Rattle.dl_head.proofs.FieldLaws.{field_is_judged}
 use Rattle.dl_head.proofs.HeaderLaws.{header_cut}

@@ -3,11 +3,11 @@ use Rattle.std.specs.Prelude.{◌≡◌, ◌≢◌, ℕ, ◌^◌, ◌<◌, ◌�
 use Rattle.dl_num.specs.declared.fixed.Order.{Order}
 use Rattle.dl_num.specs.Fixed.{fixed}
 use Rattle.dl_num.specs.Leb.{IsUleb}
-use Rattle.dl_head.specs.declared.form.Format.{Format}
-use Rattle.dl_head.specs.declared.form.Format.TheVariants.{Dwarf32, Dwarf64}
-use Rattle.dl_head.specs.declared.form.Form.{Form}
-use Rattle.dl_head.specs.declared.form.Form.TheVariants as form
-use Rattle.dl_head.specs.Value.{Value, text, line_str, str, str_sup, number, block, data16, form_code, offset_size}
+use Rattle.dl_table.specs.declared.form.Format.{Format}
+use Rattle.dl_table.specs.declared.form.Format.TheVariants.{Dwarf32, Dwarf64}
+use Rattle.dl_table.specs.declared.form.Form.{Form}
+use Rattle.dl_table.specs.declared.form.Form.TheVariants as form
+use Rattle.dl_table.specs.Value.{Value, text, line_str, str, str_sup, number, block, data16, form_code, offset_size}
 use Rattle.dl_head.specs.Layout.{number_size, objection, unit_length_limit, Layout, initial_length_then, number_then, form_then, value_then, foreign_version, last_entry, Item, length_is, number_is, form_is, value_is}
 
 -- w is a number of k bytes

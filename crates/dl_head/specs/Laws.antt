@@ -1,14 +1,14 @@
 -- Laws of the definitions of headers. Each holds in either byte order, which is the same throughout a law.
 use Rattle.std.specs.Prelude.{◌≡◌, ◌≤◌, ℕ, ◌↔◌, List, [], ◌++◌, length, Some, None}
 use Rattle.dl_num.specs.declared.fixed.Order.{Order}
-use Rattle.dl_head.specs.declared.fault.FaultKind.{FaultKind}
-use Rattle.dl_head.specs.TableData.{HeaderData}
-use Rattle.dl_head.specs.Value.{good}
+use Rattle.dl_table.specs.declared.fault.FaultKind.{FaultKind}
+use Rattle.dl_head.specs.HeaderData.{HeaderData}
+use Rattle.dl_table.specs.Value.{good}
 use Rattle.dl_head.specs.Layout.{Layout, Item, field_spelt}
 use Rattle.dl_head.specs.Field.{IsField}
 use Rattle.dl_head.specs.Header.{IsHeader, IsFieldCut, cut, foreign_in, unit_len, header_in}
 use Rattle.dl_head.specs.Refusal.{HeaderRefused, header_refusal_in}
-use Rattle.dl_head.specs.TableCells.{header_cells}
+use Rattle.dl_head.specs.HeaderData.{header_cells}
 use Rattle.dl_head.specs.Cells.{cells}
 
 -- bytes are judged a good field exactly where they are one

@@ -4,15 +4,16 @@ use Rattle.dl_num.specs.declared.fixed.Order.{Order}
 use Rattle.dl_num.specs.Fixed.{fixed}
 use Rattle.dl_num.specs.Leb.{groups}
 use Rattle.dl_num.specs.LebFront.{is_leb}
-use Rattle.dl_head.specs.declared.form.Format.{Format}
-use Rattle.dl_head.specs.declared.form.Format.TheVariants.{Dwarf32, Dwarf64}
-use Rattle.dl_head.specs.declared.form.Form.{Form}
-use Rattle.dl_head.specs.declared.table.Pair.{Pair}
+use Rattle.dl_table.specs.declared.form.Format.{Format}
+use Rattle.dl_table.specs.declared.form.Format.TheVariants.{Dwarf32, Dwarf64}
+use Rattle.dl_table.specs.declared.form.Form.{Form}
+use Rattle.dl_table.specs.declared.table.Pair.{Pair}
 use Rattle.dl_head.specs.declared.params.Params.{Params}
-use Rattle.dl_head.specs.declared.fault.FaultKind.{FaultKind}
-use Rattle.dl_head.specs.declared.fault.FaultKind.TheVariants as fault
-use Rattle.dl_head.specs.TableData.{TableData, HeaderData}
-use Rattle.dl_head.specs.Value.{Value, Judgement, good, bad, form_of_code, offset_size, value_spelt}
+use Rattle.dl_table.specs.declared.fault.FaultKind.{FaultKind}
+use Rattle.dl_table.specs.declared.fault.FaultKind.TheVariants as fault
+use Rattle.dl_table.specs.TableData.{TableData}
+use Rattle.dl_head.specs.HeaderData.{HeaderData}
+use Rattle.dl_table.specs.Value.{Value, Judgement, good, bad, form_of_code, offset_size, value_spelt}
 
 -- the greatest unit_length that is accepted
 abbrev pub unit_length_limit : ℕ

@@ -11,13 +11,13 @@ use Rattle.dl_head.specs.declared.reader.next.Next.{Next}
 use Rattle.dl_head.specs.declared.reader.next.Next.TheVariants as byte_makes
 use Rattle.dl_head.specs.declared.reader.HeadReader.{HeadReader}
 use Rattle.dl_head.specs.declared.reader.table_reader.TablePhase.TheVariants as table
-use Rattle.dl_head.specs.declared.fault.FaultKind.TheVariants as fault
-use Rattle.dl_head.specs.declared.form.Format.{Format}
+use Rattle.dl_table.specs.declared.fault.FaultKind.TheVariants as fault
+use Rattle.dl_table.specs.declared.form.Format.{Format}
 use Rattle.dl_head.specs.declared.params.Params.{Params}
-use Rattle.dl_head.specs.TableData.{TableData}
-use Rattle.dl_head.specs.TableCells.{table_cells}
+use Rattle.dl_table.specs.TableData.{TableData}
+use Rattle.dl_table.specs.TableCells.{table_cells}
 use Rattle.dl_head.specs.TablePlace.{IsFresh, TableAt, Adds, reader_cells}
-use Rattle.dl_head.specs.Value.{good, bad, offset_size}
+use Rattle.dl_table.specs.Value.{good, bad, offset_size}
 use Rattle.dl_head.specs.Layout.{Layout, Item, length_is, number_is, following_all, field_spelt, header_layout, lengths_layout, tables_layout, from_files, from_end, initial_size, fixed_part, unit_length_limit}
 use Rattle.dl_head.specs.Layout.{from_address_size, from_segment_selector_size, from_minimum_length, from_maximum_operations, from_default_is_stmt, from_line_base, from_line_range, from_opcode_base}
 use Rattle.dl_head.specs.Header.{unit_end, header_end}

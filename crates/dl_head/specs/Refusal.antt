@@ -1,9 +1,9 @@
 -- Where a unit is refused while its header is read, and why. Places count from the unit's first byte. DWARF 5, section 6.2.4.
 use Rattle.std.specs.Prelude.{◌≡◌, ℕ, ◌+◌, ◌-◌, List, [], ◌∷◌, ◌++◌, length, Option, Some, None, Ok, Err, ◌==◌, if◌then◌else◌}
 use Rattle.dl_num.specs.declared.fixed.Order.{Order}
-use Rattle.dl_head.specs.declared.fault.FaultKind.{FaultKind}
-use Rattle.dl_head.specs.declared.fault.FaultKind.TheVariants as fault
-use Rattle.dl_head.specs.Value.{Judgement}
+use Rattle.dl_table.specs.declared.fault.FaultKind.{FaultKind}
+use Rattle.dl_table.specs.declared.fault.FaultKind.TheVariants as fault
+use Rattle.dl_table.specs.Value.{Judgement}
 use Rattle.dl_head.specs.Layout.{Layout, last_entry, foreign_version, Item, header_layout, following_all, field_spelt}
 use Rattle.dl_head.specs.Header.{Cut, cut, unit_end, header_end}
 

@@ -3,32 +3,32 @@ use Rattle.std.specs.Prelude.{◌≡◌, ℕ, ◌+◌, ◌-◌, ◌^◌, ◌<◌
 use Rattle.dl_num.specs.declared.fixed.Order.{Order}
 use Rattle.dl_num.specs.LebReader.{UlebTook, UlebIs}
 use Rattle.dl_num.specs.declared.leb.LebRange.{LebRange}
-use Rattle.dl_head.specs.declared.fault.FaultKind.TheVariants as fault
-use Rattle.dl_head.specs.declared.form.Format.{Format}
-use Rattle.dl_head.specs.declared.form.Form.{Form}
-use Rattle.dl_head.specs.declared.form.Form.TheVariants as form
-use Rattle.dl_head.specs.declared.table.held.Held.{Held}
-use Rattle.dl_head.specs.declared.table.held.Held.TheVariants as held
+use Rattle.dl_table.specs.declared.fault.FaultKind.TheVariants as fault
+use Rattle.dl_table.specs.declared.form.Format.{Format}
+use Rattle.dl_table.specs.declared.form.Form.{Form}
+use Rattle.dl_table.specs.declared.form.Form.TheVariants as form
+use Rattle.dl_table.specs.declared.table.held.Held.{Held}
+use Rattle.dl_table.specs.declared.table.held.Held.TheVariants as held
 use Rattle.dl_head.specs.declared.reader.value_phase.Cursor.{Cursor}
 use Rattle.dl_head.specs.declared.reader.value_phase.ValuePhase.{ValuePhase}
 use Rattle.dl_head.specs.declared.reader.value_phase.ValuePhase.TheVariants as value
-use Rattle.dl_head.specs.declared.table.Pair.{Pair}
+use Rattle.dl_table.specs.declared.table.Pair.{Pair}
 use Rattle.dl_head.specs.declared.reader.next.Next.{Next}
 use Rattle.dl_head.specs.declared.reader.next.Next.TheVariants as byte_makes
 use Rattle.dl_head.specs.declared.reader.table_reader.TableReader.{TableReader}
 use Rattle.dl_head.specs.declared.reader.table_reader.TablePhase.{TablePhase}
 use Rattle.dl_head.specs.declared.reader.table_reader.TablePhase.TheVariants as phase
-use Rattle.dl_head.specs.TableData.{TableData}
-use Rattle.dl_head.specs.TableCells.{table_cells}
+use Rattle.dl_table.specs.TableData.{TableData}
+use Rattle.dl_table.specs.TableCells.{table_cells}
 use Rattle.dl_num.specs.NumberBytes.{number_size, number_bytes}
 use Rattle.dl_num.specs.OperandBytes.{operand_bytes}
-use Rattle.dl_head.specs.Held.{value_held, values_end, held_end, cells_held, table_of}
-use Rattle.dl_head.specs.Held.{IsWhole as AreRows}
-use Rattle.dl_head.specs.Sound.{IsSoundTable}
+use Rattle.dl_table.specs.Held.{value_held, values_end, held_end, cells_held, table_of}
+use Rattle.dl_table.specs.Held.{IsWhole as AreRows}
+use Rattle.dl_table.specs.Sound.{IsSoundTable}
 use Rattle.dl_head.specs.TableStep.{value_due, value_filled}
 use Rattle.dl_head.specs.Cells.{item_cells, rest_cells}
 use Rattle.dl_head.specs.Field.{IsFixed, IsUleb64, HasNoZero}
-use Rattle.dl_head.specs.Value.{Value, line_str, str, str_sup, number, block, good, bad, form_of_code, offset_size, value_spelt}
+use Rattle.dl_table.specs.Value.{Value, line_str, str, str_sup, number, block, good, bad, form_of_code, offset_size, value_spelt}
 use Rattle.dl_head.specs.Layout.{Layout, number_then, form_then, content_code, entry_count, Item, value_is, following, field_spelt, pairs_layout, entry_layout, entries_layout, table_layout}
 
 -- the reader of a table has taken nothing

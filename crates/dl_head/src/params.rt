@@ -2,11 +2,11 @@
 
 ghost use Rattle.std.specs.Prelude.{◌≡◌, [], ◌≤◌, IsTrue, Some, None, if◌then◌else◌};
 ghost use Rattle.dl_head.specs.Layout.{objection, opcode_length};
-ghost use Rattle.dl_head.specs.declared.fault.FaultKind.TheVariants as fault;
+ghost use Rattle.dl_table.specs.declared.fault.FaultKind.TheVariants as fault;
 ghost use Rattle.dl_head.specs.Built.{IsUsable};
 
-use crate::form::Format;
 use arrayvec::ArrayVec;
+use dl_table::Format;
 
 /// The fields of a header that are numbers. Section 6.2.4.
 #[derive(Debug, PartialEq, Eq, Drop)]

@@ -6,7 +6,7 @@ ghost use Rattle.dl_head.specs.Cells.{cells};
 ghost use Rattle.std.specs.Option.{option_copied};
 ghost use Rattle.dl_num.specs.Fixed.{is_number_size};
 ghost use Rattle.dl_head.specs.HeadStep.{AreStandard, end_near, formats_fit, lengths_fit, tables_fit};
-ghost use Rattle.dl_head.specs.TableCells.{table_cells};
+ghost use Rattle.dl_table.specs.TableCells.{table_cells};
 ghost use Rattle.dl_head.specs.TableSpelt.{TableStands};
 ghost use Rattle.std.proofs.Props.{props};
 
@@ -21,13 +21,12 @@ mod value_phase;
 mod value_reader;
 mod whole_value;
 
-use crate::fault::{Fault, FaultKind};
-use crate::form::Format;
+use crate::fault::Fault;
 use crate::header::Header;
 use crate::params::Params;
-use crate::table::Table;
 use byte_field::ByteField;
 use dl_num::{Number, Order};
+use dl_table::{FaultKind, Format, Table};
 use next::Next;
 pub use run::HeadRun;
 use std::alloc::Global;

@@ -1,7 +1,7 @@
 -- Bytes that have come to a header or a foreign version have a good initial length.
 use Rattle.std.proofs.Common.{◌≡◌, ℕ, List, [], ◌∷◌, ◌++◌, Some, refl, sym, ap, subst, ◌∙◌, append-nil}
 use Rattle.dl_num.specs.declared.fixed.Order.{Order}
-use Rattle.dl_head.specs.TableData.{HeaderData}
+use Rattle.dl_head.specs.HeaderData.{HeaderData}
 use Rattle.dl_head.specs.Layout.{Item, following_all, header_layout}
 use Rattle.dl_head.specs.Header.{Cut, cut, unit_end, unit_len, header_made, foreign_made, foreign_in, IsHeader}
 use Rattle.dl_head.proofs.CutLemmas.{cut_of, cut_sound, Sound}

@@ -1,7 +1,7 @@
 -- Fronts of a unit: what a header and a length that stand in them are, and what they decide.
 use Rattle.std.proofs.Common.{◌≡◌, ℕ, ◌+◌, List, ◌∷◌, ◌++◌, length, Option, Some, None, refl, sym, ap, subst, ◌∙◌, append_assoc}
 use Rattle.dl_num.specs.declared.fixed.Order.{Order}
-use Rattle.dl_head.specs.TableData.{HeaderData}
+use Rattle.dl_head.specs.HeaderData.{HeaderData}
 use Rattle.dl_head.specs.Layout.{following_all, header_layout}
 use Rattle.dl_head.specs.Header.{Cut, cut_after, cut, unit_end, unit_len, header_in}
 use Rattle.dl_head.specs.Refusal.{header_decided}

@@ -2,9 +2,9 @@
 use Rattle.std.proofs.Common.{◌≡◌, ◌≢◌, ℕ, ◌≤◌, ◌^◌, ◌+◌, List, [], ◌∷◌, ◌++◌, length, Option, Some, refl, sym, ap, subst, ◌∙◌, arith, inl, inr, length-append, append_assoc, append-nil}
 use Rattle.std.proofs.lemmas.Bool.{cases_eq, eq-eqb, ne_eqb}
 use Rattle.dl_num.specs.declared.fixed.Order.{Order}
-use Rattle.dl_head.specs.declared.form.Format.{Format}
-use Rattle.dl_head.specs.declared.form.Format.TheVariants.{Dwarf32, Dwarf64}
-use Rattle.dl_head.specs.Value.{good}
+use Rattle.dl_table.specs.declared.form.Format.{Format}
+use Rattle.dl_table.specs.declared.form.Format.TheVariants.{Dwarf32, Dwarf64}
+use Rattle.dl_table.specs.Value.{good}
 use Rattle.dl_head.specs.Field.{IsFixed, IsInitialLength}
 use Rattle.dl_head.specs.Layout.{version, Layout, number_then, foreign_version, Item, length_is, number_is, form_is, value_is, following, following_all, field_spelt, header_layout, initial_size, from_address_size, format_alone}
 use Rattle.dl_head.specs.Header.{SpellsFields, Cut, cut, unit_end, unit_len, foreign_made, foreign_in}

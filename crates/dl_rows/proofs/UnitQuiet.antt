@@ -3,11 +3,11 @@ use Rattle.std.proofs.Common.{◌≡◌, ℕ, ◌+◌, ◌≤◌, List, [], ◌�
 use Rattle.std.proofs.lemmas.Bool.{ne_eqb}
 use Rattle.dl_num.specs.declared.fixed.Order.{Order}
 use Rattle.dl_num.specs.Front.{Standing}
-use Rattle.dl_head.specs.declared.fault.FaultKind.{FaultKind}
-use Rattle.dl_head.specs.declared.fault.FaultKind.TheVariants as fault
+use Rattle.dl_table.specs.declared.fault.FaultKind.{FaultKind}
+use Rattle.dl_table.specs.declared.fault.FaultKind.TheVariants as fault
 use Rattle.dl_head.specs.declared.params.Params.{Params}
-use Rattle.dl_head.specs.TableData.{HeaderData}
-use Rattle.dl_head.specs.Value.{Judgement}
+use Rattle.dl_head.specs.HeaderData.{HeaderData}
+use Rattle.dl_table.specs.Value.{Judgement}
 use Rattle.dl_head.specs.Header.{unit_len, foreign_in, header_in}
 use Rattle.dl_head.specs.Refusal.{or_else, bad_kind, at_end}
 use Rattle.dl_head.proofs.FieldLemmas.{none_some}

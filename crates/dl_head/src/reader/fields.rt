@@ -6,12 +6,12 @@ ghost use Rattle.dl_head.specs.HeadStep.{lengths_fit};
 ghost use Rattle.dl_head.specs.Bytes.{byte_kind};
 ghost use Rattle.dl_head.specs.declared.reader.Phase.TheVariants as phase;
 
-use crate::fault::FaultKind;
 use crate::params::is_wrong_length;
 use crate::reader::byte_field::ByteField;
 use crate::reader::next::Next;
 use crate::reader::{HeadReader, Phase};
 use dl_num::Number;
+use dl_table::FaultKind;
 
 impl HeadReader {
     ghost use Rattle.dl_head.specs.Place.{At, Follows, Keeps, SameCounts, held_cells};

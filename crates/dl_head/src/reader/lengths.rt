@@ -3,14 +3,13 @@
 ghost use Rattle.std.specs.Prelude.{◌≡◌, ◌+◌, ◌≤◌, ◌∷◌, []};
 ghost use Rattle.dl_num.specs.Fixed.{fixed};
 ghost use Rattle.dl_head.specs.Layout.{initial_size as initial_size_of, fixed_part as fixed_part_of};
-ghost use Rattle.dl_head.specs.TableCells.{table_cells};
+ghost use Rattle.dl_table.specs.TableCells.{table_cells};
 
-use crate::fault::FaultKind;
-use crate::form::Format;
 use crate::reader::byte_field::ByteField;
 use crate::reader::next::Next;
 use crate::reader::{HeadReader, Phase};
 use dl_num::{Number, Order};
+use dl_table::{FaultKind, Format};
 
 /// The greatest unit_length that is accepted.
 const UNIT_LENGTH_LIMIT: u64 = 1 << 40;

@@ -1,6 +1,6 @@
 //! What a byte makes of the field that it falls in.
 
-use crate::fault::FaultKind;
+use dl_table::FaultKind;
 
 /// What a byte makes of the field that it falls in.
 #[derive(Clone, Copy)]

@@ -2,16 +2,14 @@
 //! 6.2.4.1.
 
 ghost use Rattle.std.specs.Prelude.{◌≡◌, ◌+◌, ◌-◌, ◌^◌, ◌≤◌, Ok, length, max, min};
-ghost use Rattle.dl_head.specs.Held.{values_end};
+ghost use Rattle.dl_table.specs.Held.{values_end};
 ghost use Rattle.dl_head.specs.TableStep.{pairs_due, row_end, text_start, bytes_due};
 
-use crate::fault::FaultKind;
-use crate::form::{Form, Format};
 use crate::reader::next::Next;
 use crate::reader::value_phase::{Cursor, ValuePhase};
-use crate::table::held::Held;
-use crate::table::{Pair, Table, cells_of};
 use dl_num::{LebRange, Order, Uleb};
+use dl_table::table::cells_of;
+use dl_table::{FaultKind, Form, Format, Held, Pair, Table};
 use std::alloc::Global;
 use std::mem;
 

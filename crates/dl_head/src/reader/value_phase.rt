@@ -2,9 +2,9 @@
 
 ghost use Rattle.std.specs.Prelude.{◌≡◌, ◌<◌, ◌≤◌, ℕ, List, [], length, IfSome};
 
-use crate::form::{Form, Format};
 use crate::reader::sixteen::Sixteen;
 use dl_num::{Number, Uleb};
+use dl_table::{Form, Format};
 
 /// The place of a value in the entries.
 #[derive(Clone, Copy)]

@@ -2,17 +2,15 @@
 
 ghost use Rattle.std.specs.Prelude.{◌≡◌, ◌≢◌, ◌+◌, ◌<◌, ◌≤◌, ◌^◌, ℕ, List, length, vec_len, vec_capacity};
 ghost use Rattle.dl_num.specs.declared.fixed.Order.{Order};
-ghost use Rattle.dl_head.specs.Held.{cells_held, held_end, values_end, value_held};
+ghost use Rattle.dl_table.specs.Held.{cells_held, held_end, values_end, value_held};
 ghost use Rattle.dl_head.specs.TablePlace.{number_value};
 
-use crate::fault::FaultKind;
-use crate::form::{Form, Format};
 use crate::reader::next::Next;
 use crate::reader::sixteen::Sixteen;
 use crate::reader::table_reader::{TablePhase, TableReader};
 use crate::reader::value_phase::{Cursor, ValuePhase};
-use crate::table::held::{Extent, Held};
 use dl_num::{LebRange, Number, Order, Uleb};
+use dl_table::{Extent, FaultKind, Form, Format, Held};
 
 impl TableReader {
     ghost use Rattle.dl_head.specs.declared.reader.table_reader.TablePhase.TheVariants as phase;
@@ -147,7 +145,7 @@ impl TableReader {
     }
 
     /// Enters a block of this size, whose bytes are to come.
-    #[tactic(auto, using(crate::proofs::HeldLemmas::pushes))]
+    #[tactic(auto, using(dl_table::proofs::HeldLemmas::pushes))]
     fn begin_block(&mut self, at: Cursor, size: u64, format: Format) -> Next
         requires in_row { at.column < length self.old.pairs.items }
         requires whole { values_end self.old.values.items ≤ length self.old.pool.items }
@@ -190,7 +188,7 @@ impl TableReader {
 
     /// Enters a value that is complete.
     #[inline(always)]
-    #[tactic(auto, using(crate::proofs::HeldLemmas::pushes))]
+    #[tactic(auto, using(dl_table::proofs::HeldLemmas::pushes))]
     pub(super) fn enter(&mut self, at: Cursor, held: Held, format: Format) -> Next
         requires in_row { at.column < length self.old.pairs.items }
         requires whole { values_end self.old.values.items ≤ length self.old.pool.items }

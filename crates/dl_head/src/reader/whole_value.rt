@@ -3,14 +3,13 @@
 ghost use Rattle.std.specs.Prelude.{◌≡◌, length, IfSome, MatchOption};
 ghost use Rattle.dl_num.specs.declared.fixed.Order.{Order};
 
-use crate::form::Format;
 use crate::reader::next::Next;
 use crate::reader::table_reader::{TablePhase, TableReader};
 use crate::reader::value_phase::{Cursor, ValuePhase};
 use crate::reader::value_reader::held_number;
-use crate::table::held::{Extent, Held};
-use crate::text::first_zero;
 use dl_num::{Order, fixed_at_front, short_uleb_at_front};
+use dl_table::text::first_zero;
+use dl_table::{Extent, Format, Held};
 
 impl ValuePhase {
     ghost use Rattle.dl_head.specs.TablePlace.{InFront};

@@ -1,6 +1,6 @@
 use Rattle.std.proofs.lemmas.Result.{err_from_is_err_and}
-use Rattle.dl_head.specs.Written.{table_bytes}
-use Rattle.dl_head.proofs.WritingLemmas.{TellsOut-front}
+use Rattle.dl_table.specs.Written.{table_bytes}
+use Rattle.dl_table.proofs.WritingLemmas.{TellsOut-front}
 use Rattle.dl_head.proofs.write.put_tables.Goals as goal
 
 pub returns-in_err-out : goal.returns-in_err-out

@@ -2,7 +2,7 @@ use Rattle.std.proofs.Common.{[], ◌∷◌, sym, subst, ◌+◌, refl, ap, arit
 use Rattle.dl_head.specs.declared.reader.Phase.TheVariants as phase
 use Rattle.dl_head.specs.declared.reader.table_reader.TableReader.{TableReader}
 use Rattle.dl_head.specs.TablePlace.{reader_cells}
-use Rattle.dl_head.specs.TableCells.{table_cells}
+use Rattle.dl_table.specs.TableCells.{table_cells}
 use Rattle.dl_head.specs.Layout.{from_end}
 use Rattle.dl_head.proofs.Places.{at_phase, phase_at}
 use Rattle.dl_head.proofs.HeadTables.{table_goes_on, table_ends, table_adds, table_kept, fresh_cells, no_files}

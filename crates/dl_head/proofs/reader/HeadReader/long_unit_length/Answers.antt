@@ -1,5 +1,5 @@
 use Rattle.std.proofs.Common.{◌∙◌}
-use Rattle.dl_head.specs.declared.form.Format.TheVariants.{Dwarf64}
+use Rattle.dl_table.specs.declared.form.Format.TheVariants.{Dwarf64}
 use Rattle.dl_head.proofs.Places.{at_phase}
 use Rattle.dl_head.proofs.Starts.{started_long, starts_counts}
 use Rattle.dl_head.proofs.reader.HeadReader.long_unit_length.Goals as goal

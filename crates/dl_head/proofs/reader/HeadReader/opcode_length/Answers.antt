@@ -1,5 +1,5 @@
 use Rattle.std.proofs.Common.{nat_lt, subst, None, ◌≡◌, List, ℕ, Option, ◌∷◌, [], ◌+◌, refl, sym, ap, ◌∙◌, arith, length, length-append}
-use Rattle.dl_head.specs.declared.fault.FaultKind.{FaultKind}
+use Rattle.dl_table.specs.declared.fault.FaultKind.{FaultKind}
 use Rattle.dl_head.specs.Layout.{number_is, judged, objection, opcode_length}
 use Rattle.dl_head.proofs.Places.{at_phase, late_on, length_judged, next_length, at_lengths, some_left, next_at}
 use Rattle.dl_head.specs.declared.reader.Phase.TheVariants as phase

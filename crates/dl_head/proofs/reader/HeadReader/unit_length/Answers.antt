@@ -1,6 +1,6 @@
 use Rattle.std.proofs.Common.{◌≡◌, ◌++◌, ◌∷◌, ℕ, List, [], length, sym, ap, arith, ◌∙◌}
 use Rattle.dl_num.specs.Fixed.{fixed}
-use Rattle.dl_head.specs.declared.form.Format.TheVariants.{Dwarf32}
+use Rattle.dl_table.specs.declared.form.Format.TheVariants.{Dwarf32}
 use Rattle.dl_head.proofs.Places.{at_phase}
 use Rattle.dl_head.proofs.Starts.{started_short, starts_counts}
 use Rattle.dl_head.proofs.reader.HeadReader.unit_length.Goals as goal

@@ -1,5 +1,5 @@
 use Rattle.std.proofs.Common.{ℕ, List, [], ◌∷◌, ◌++◌, ap, ◌∙◌, arith}
-use Rattle.dl_head.specs.declared.table.held.Held.TheVariants as held
+use Rattle.dl_table.specs.declared.table.held.Held.TheVariants as held
 use Rattle.dl_head.specs.declared.reader.value_phase.ValuePhase.TheVariants as value
 use Rattle.dl_head.proofs.PairLemmas.{table_at}
 use Rattle.dl_head.proofs.ValueFields.{value_made, sixteen_spelt}

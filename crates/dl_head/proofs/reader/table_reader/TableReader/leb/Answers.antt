@@ -1,6 +1,6 @@
 use Rattle.std.proofs.Common.{◌<◌, ◌^◌, ℕ, [], ◌∷◌, ◌++◌, ap, subst, ◌∙◌, arith}
 use Rattle.dl_head.specs.declared.reader.value_phase.ValuePhase.TheVariants as value
-use Rattle.dl_head.specs.Value.{number}
+use Rattle.dl_table.specs.Value.{number}
 use Rattle.dl_head.specs.Layout.{value_judged}
 use Rattle.dl_head.proofs.PairLemmas.{table_at, same_table, answered_none, answered_ok, answered_err}
 use Rattle.dl_head.proofs.ValueFields.{value_field, value_made, leb_goes_on, leb_too_large, leb_form, leb_held}

@@ -1,8 +1,8 @@
 use Rattle.std.proofs.Common.{sym, subst, ◌∙◌, ap}
 use Rattle.dl_head.specs.declared.reader.table_reader.TableReader.{TableReader}
-use Rattle.dl_head.specs.TableData.{TableData}
+use Rattle.dl_table.specs.TableData.{TableData}
 use Rattle.dl_head.specs.TablePlace.{IsFresh, MakesTable}
-use Rattle.dl_head.specs.Held.{table_of}
+use Rattle.dl_table.specs.Held.{table_of}
 use Rattle.dl_head.proofs.TakenLemmas.{table_taken}
 use Rattle.dl_head.proofs.reader.table_reader.TableReader.take.Goals as goal
 

@@ -1,5 +1,5 @@
 use Rattle.std.proofs.Common.{◌-◌, [], ◌∷◌, ◌++◌, refl, sym, ap, ◌∙◌, arith}
-use Rattle.dl_head.specs.declared.table.held.Held.TheVariants as held
+use Rattle.dl_table.specs.declared.table.held.Held.TheVariants as held
 use Rattle.dl_head.specs.declared.reader.value_phase.ValuePhase.TheVariants as value
 use Rattle.dl_head.specs.Layout.{value_judged}
 use Rattle.dl_head.proofs.PairLemmas.{table_at}

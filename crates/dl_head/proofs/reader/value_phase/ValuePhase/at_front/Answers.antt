@@ -1,6 +1,6 @@
 use Rattle.std.proofs.Common.{sym, subst, arith}
 use Rattle.dl_head.specs.declared.reader.value_phase.ValuePhase.{ValuePhase}
-use Rattle.dl_head.specs.declared.table.held.Held.TheVariants as held
+use Rattle.dl_table.specs.declared.table.held.Held.TheVariants as held
 use Rattle.dl_head.specs.TablePlace.{InFront}
 use Rattle.dl_head.proofs.WholeValues.{leb_in_front, sixteen_in_front}
 use Rattle.dl_head.proofs.reader.value_phase.ValuePhase.at_front.Goals as goal
