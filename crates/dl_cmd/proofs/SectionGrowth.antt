@@ -7,10 +7,10 @@ use Rattle.std.proofs.Math.Seq.{take-append-add}
 use Rattle.dl_num.specs.declared.fixed.Order.{Order}
 use Rattle.dl_num.specs.Front.{Standing, standing_after}
 use Rattle.dl_num.proofs.FrontLemmas.{standing-append}
-use Rattle.dl_head.specs.TableData.{HeaderData}
-use Rattle.dl_head.specs.declared.form.Format.{Format}
-use Rattle.dl_head.specs.declared.form.Format.TheVariants.{Dwarf32, Dwarf64}
-use Rattle.dl_head.specs.declared.fault.FaultKind.{FaultKind}
+use Rattle.dl_head.specs.HeaderData.{HeaderData}
+use Rattle.dl_table.specs.declared.form.Format.{Format}
+use Rattle.dl_table.specs.declared.form.Format.TheVariants.{Dwarf32, Dwarf64}
+use Rattle.dl_table.specs.declared.fault.FaultKind.{FaultKind}
 use Rattle.dl_head.specs.declared.params.Params.{Params}
 use Rattle.dl_head.specs.Field.{IsInitialLength}
 use Rattle.dl_head.specs.Layout.{Layout, Item, length_is, number_is, form_is, value_is, foreign_version, header_layout, following_all, initial_size}
