@@ -3,7 +3,7 @@ use Rattle.std.proofs.Common.{◌≡◌, ℕ, ◌+◌, ◌<◌, ◌≤◌, List,
 use Rattle.std.proofs.lemmas.List.{drop_all, append-nil}
 use Rattle.dl_num.specs.declared.fixed.Order.{Order}
 use Rattle.dl_table.specs.declared.counted.HeadWrite.{HeadWrite}
-use Rattle.dl_head.specs.declared.params.Params.{Params}
+use Rattle.dl_field.specs.declared.params.Params.{Params}
 use Rattle.dl_table.specs.Writing.{IsOut, TellsOut}
 use Rattle.dl_table.proofs.WritingLemmas.{TellsOut-front}
 use Rattle.dl_rows.specs.declared.row.Row.{Row}

@@ -2,11 +2,12 @@
 use Rattle.std.proofs.Common.{◌≡◌, ℕ, List, [], ◌∷◌, ◌++◌, Some, None, Result, Ok, Err, refl, sym, ap, ◌∙◌, append_assoc, append-nil}
 use Rattle.dl_num.specs.declared.fixed.Order.{Order}
 use Rattle.dl_table.specs.declared.fault.FaultKind.{FaultKind}
-use Rattle.dl_head.specs.HeaderData.{HeaderData}
+use Rattle.dl_field.specs.HeaderData.{HeaderData}
 use Rattle.dl_table.specs.Value.{Judgement, good, bad}
-use Rattle.dl_head.specs.Layout.{Layout, last_entry, Item, following, following_all, field_spelt, header_layout}
+use Rattle.dl_field.specs.Layout.{Layout, last_entry, Item, following, following_all, field_spelt}
+use Rattle.dl_head.specs.HeaderLayout.{header_layout}
 use Rattle.dl_head.specs.Header.{SpellsFields, Cut, with_item, cut_after, cut}
-use Rattle.dl_head.proofs.FieldLemmas.{field_once, field_empty, none_some}
+use Rattle.dl_field.proofs.FieldLemmas.{field_once, field_empty, none_some}
 
 -- what is cut off first, and then
 abbrev pub then_cut : Cut → Cut → Cut

@@ -2,9 +2,9 @@
 use Rattle.std.proofs.Common.{◌≡◌, ℕ, ◌⊎◌, inl, inr, List, [], ◌∷◌, ◌++◌, Ok, refl, sym, ap, subst, ◌∙◌, append_assoc, append-nil}
 use Rattle.dl_num.specs.declared.fixed.Order.{Order}
 use Rattle.dl_table.specs.Value.{good}
-use Rattle.dl_head.specs.Layout.{Layout, Item, following, following_all, field_spelt}
+use Rattle.dl_field.specs.Layout.{Layout, Item, following, following_all, field_spelt}
 use Rattle.dl_head.specs.Header.{SpellsFields, with_item, cut_after}
-use Rattle.dl_head.proofs.FieldLemmas.{none_some}
+use Rattle.dl_field.proofs.FieldLemmas.{none_some}
 use Rattle.dl_head.proofs.CutLemmas.{cut_of, before_none, cut_front}
 use Rattle.dl_head.proofs.HeaderLaws.{nothing_cut}
 

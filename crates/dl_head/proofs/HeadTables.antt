@@ -4,28 +4,29 @@ use Rattle.std.proofs.lemmas.Bool.{eqb-true}
 use Rattle.dl_num.specs.declared.fixed.Order.{Order}
 use Rattle.dl_table.specs.declared.form.Format.{Format}
 use Rattle.dl_table.specs.declared.table.Pair.{Pair}
-use Rattle.dl_table.specs.declared.table.held.Held.{Held}
+use Rattle.dl_table.specs.declared.table.held.StoredValue.{StoredValue}
 use Rattle.dl_head.specs.declared.reader.HeadReader.{HeadReader}
 use Rattle.dl_head.specs.declared.reader.Phase.{Phase}
 use Rattle.dl_head.specs.declared.reader.Phase.TheVariants as phase
-use Rattle.dl_head.specs.declared.reader.next.Next.{Next}
-use Rattle.dl_head.specs.declared.reader.next.Next.TheVariants as byte_makes
-use Rattle.dl_head.specs.declared.reader.table_reader.TableReader.{TableReader}
-use Rattle.dl_head.specs.declared.reader.table_reader.TablePhase.{TablePhase}
-use Rattle.dl_head.specs.declared.reader.table_reader.TablePhase.TheVariants as table
-use Rattle.dl_head.specs.declared.reader.value_phase.Cursor.{Cursor}
-use Rattle.dl_head.specs.declared.reader.value_phase.ValuePhase.{ValuePhase}
-use Rattle.dl_head.specs.declared.reader.value_phase.ValuePhase.TheVariants as value
+use Rattle.dl_field.specs.declared.field_step.FieldStep.{FieldStep}
+use Rattle.dl_field.specs.declared.field_step.FieldStep.TheVariants as byte_makes
+use Rattle.dl_field.specs.declared.table_reader.TableReader.{TableReader}
+use Rattle.dl_field.specs.declared.table_reader.TablePhase.{TablePhase}
+use Rattle.dl_field.specs.declared.table_reader.TablePhase.TheVariants as table
+use Rattle.dl_field.specs.declared.value_phase.Cursor.{Cursor}
+use Rattle.dl_field.specs.declared.value_phase.ValuePhase.{ValuePhase}
+use Rattle.dl_field.specs.declared.value_phase.ValuePhase.TheVariants as value
 use Rattle.dl_table.specs.TableData.{TableData}
 use Rattle.dl_table.specs.Value.{Value, good}
-use Rattle.dl_head.specs.Layout.{Layout, number_then, content_code, Item, following, following_all, header_layout, field_spelt, table_layout, initial_size}
-use Rattle.dl_head.specs.TablePlace.{IsFresh, NoValues, form_left, after_pairs, values_left, Holds, Summed, InValue, InBlock, IsWhole, reader_cells, Adds, ValueAt, TableAt, SameTable, BytesFollow, PushFollows}
+use Rattle.dl_field.specs.Layout.{Layout, number_then, content_code, Item, following, following_all, field_spelt, table_layout}
+use Rattle.dl_head.specs.HeaderLayout.{header_layout, initial_size}
+use Rattle.dl_field.specs.TablePlace.{IsFresh, NoValues, form_left, after_pairs, values_left, Holds, Summed, InValue, InBlock, IsWhole, reader_cells, Adds, ValueAt, TableAt, SameTable, BytesFollow, PushFollows}
 use Rattle.dl_table.specs.TableCells.{table_cells}
-use Rattle.dl_head.specs.TableStep.{value_filled}
+use Rattle.dl_field.specs.TableStep.{value_filled}
 use Rattle.dl_head.specs.HeadStep.{tables_fit}
 use Rattle.dl_head.specs.Place.{Behind, InTable, At, end_of_unit, held_cells, BytesMade}
-use Rattle.dl_head.proofs.Places.{behind_on}
-use Rattle.dl_head.proofs.PairLemmas.{table_at}
+use Rattle.dl_head.proofs.OneFieldMore.{behind_on}
+use Rattle.dl_field.proofs.PairLemmas.{table_at}
 
 -- ---- a table that is as it was
 
@@ -37,11 +38,11 @@ holds_same : (old new : TableReader) (entries : List (List Value)) (before : Lis
 holds_same old new entries before s holds =
     subst (λ (ps : List Pair). Holds ps new.pool.items new.values.items entries before) (sym s.pairs)
     (subst (λ (w : List ℕ). Holds old.pairs.items w new.values.items entries before) (sym s.pool)
-    (subst (λ (hs : List Held). Holds old.pairs.items old.pool.items hs entries before) (sym s.values) holds))
+    (subst (λ (hs : List StoredValue). Holds old.pairs.items old.pool.items hs entries before) (sym s.values) holds))
 
 summed_same : (old new : TableReader) (filled : ℕ → ℕ) → SameTable old new → Summed old.values.items (filled (length old.pool.items)) → Summed new.values.items (filled (length new.pool.items))
 summed_same old new filled s summed =
-    subst (λ (hs : List Held). Summed hs (filled (length new.pool.items))) (sym s.values) (subst (λ (w : List ℕ). Summed old.values.items (filled (length w))) (sym s.pool) summed)
+    subst (λ (hs : List StoredValue). Summed hs (filled (length new.pool.items))) (sym s.values) (subst (λ (w : List ℕ). Summed old.values.items (filled (length w))) (sym s.pool) summed)
 
 value_same : (old new : TableReader) (at : Cursor) (v : ValuePhase) (format : Format) (next : TableData → Layout) (layout : Layout) (rest : List ℕ) → SameTable old new → InValue old at v format next layout rest
     → InValue new at v format next layout rest
@@ -150,7 +151,7 @@ in_table old new mid items layout rest next s e going behind at = record {
 }
 
 -- the table goes on
-pub table_goes_on : (old new : HeadReader) (mid : TableReader) (items : List Item) (rest : List ℕ) (bytes : List ℕ) (result : Next) (next : TableData → Layout) → InTable old items rest next
+pub table_goes_on : (old new : HeadReader) (mid : TableReader) (items : List Item) (rest : List ℕ) (bytes : List ℕ) (result : FieldStep) (next : TableData → Layout) → InTable old items rest next
     → BytesFollow old.order old.params.format old.table bytes result mid → (mid.phase ≡ table.Whole → ⊥) → new.table ≡ mid → SameFields old new
     → ((is : List Item) (w : List ℕ) → InTable new is w next → At new is w) → BytesMade old items rest bytes result new
 table_goes_on old new mid items rest bytes byte_makes.Within next in_old push going e s to =
@@ -188,7 +189,7 @@ some_byte [] byte e = absurd cc
 some_byte (x ∷ rest) byte e = absurd cc
 
 -- where the table is whole, the byte ends its last field
-table_whole : (old : HeadReader) (mid : TableReader) (items : List Item) (rest : List ℕ) (byte : ℕ) (result : Next) (next : TableData → Layout) (is : InTable old items rest next)
+table_whole : (old : HeadReader) (mid : TableReader) (items : List Item) (rest : List ℕ) (byte : ℕ) (result : FieldStep) (next : TableData → Layout) (is : InTable old items rest next)
     → PushFollows old.order old.params.format old.table byte result mid → mid.phase ≡ table.Whole
     → (i : Item) × (result ≡ byte_makes.Ends) × (field_spelt old.order is.layout (rest ++ byte ∷ []) ≡ good i) × IsWhole mid old.params.format next (following is.layout i)
 table_whole old mid items rest byte byte_makes.Within next is push whole =
@@ -205,12 +206,12 @@ abbrev pub Gives : HeadReader → TableReader → (TableData → Layout) → Tab
 Gives old mid next d = (layout : Layout) → IsWhole mid old.params.format next layout → (layout ≡ next d) × (table_cells d ≡ reader_cells mid)
 
 -- the table is whole, and taken
-pub table_ends : (old new : HeadReader) (mid : TableReader) (d : TableData) (items : List Item) (rest : List ℕ) (byte : ℕ) (result : Next) (next : TableData → Layout) → InTable old items rest next
+pub table_ends : (old new : HeadReader) (mid : TableReader) (d : TableData) (items : List Item) (rest : List ℕ) (byte : ℕ) (result : FieldStep) (next : TableData → Layout) → InTable old items rest next
     → PushFollows old.order old.params.format old.table byte result mid → mid.phase ≡ table.Whole → Gives old mid next d → SameFields old new
     → ((is : List Item) → Behind new is (next d) → At new is []) → BytesMade old items rest (byte ∷ []) result new
 table_ends old new mid d items rest byte result next is push whole taken s to =
     let e = table_whole old mid items rest byte result next is push whole in
-    subst (λ (n : Next). BytesMade old items rest (byte ∷ []) n new) (sym e.1) (
+    subst (λ (n : FieldStep). BytesMade old items rest (byte ∷ []) n new) (sym e.1) (
       e.0,
       ap (λ (l : Layout). field_spelt old.order l (rest ++ byte ∷ [])) is.behind.follows ∙ e.2,
       to (items ++ e.0 ∷ []) (behind_on old new items is.layout (next d) e.0 is.behind (taken (following is.layout e.0) e.3).0 s.end s.overrun (same_end old new s)),
@@ -219,7 +220,7 @@ table_ends old new mid d items rest byte result next is push whole taken s to =
 -- ---- the cells
 
 -- cells beside those that a byte adds
-adds_beside : (order : Order) (layout : Layout) (rest w : List ℕ) (result : Next) (n before after old new : ℕ) → old ≡ n + before → new ≡ n + after → Adds order layout rest w result before after
+adds_beside : (order : Order) (layout : Layout) (rest w : List ℕ) (result : FieldStep) (n before after old new : ℕ) → old ≡ n + before → new ≡ n + after → Adds order layout rest w result before after
     → Adds order layout rest w result old new
 adds_beside order layout rest w byte_makes.Within n before after old new e f adds = omega (arith, e, f, adds)
 adds_beside order layout rest w byte_makes.Ends n before after old new e f adds = omega (arith, e, f, adds)
@@ -227,7 +228,7 @@ adds_beside order layout rest w (byte_makes.Refuses kind) n before after old new
 adds_beside order layout rest w byte_makes.NoMemory n before after old new e f adds = (f ∙ ap (λ (k : ℕ). n + k) adds.0 ∙ sym e, adds.1)
 
 -- bytes of the current table
-pub table_adds : (old : HeadReader) (mid : TableReader) (items : List Item) (rest : List ℕ) (bytes : List ℕ) (result : Next) (next : TableData → Layout) (n held : ℕ) → InTable old items rest next
+pub table_adds : (old : HeadReader) (mid : TableReader) (items : List Item) (rest : List ℕ) (bytes : List ℕ) (result : FieldStep) (next : TableData → Layout) (n held : ℕ) → InTable old items rest next
     → BytesFollow old.order old.params.format old.table bytes result mid → held_cells old ≡ n + reader_cells old.table → held ≡ n + reader_cells mid
     → Adds old.order (following_all header_layout items) rest (rest ++ bytes) result (held_cells old) held
 table_adds old mid items rest bytes result next n held in_old push before after =
@@ -236,7 +237,7 @@ table_adds old mid items rest bytes result next n held in_old push before after 
     subst (λ (l : Layout). Adds old.order l rest w result (held_cells old) held) (sym in_old.behind.follows) adds
 
 -- the table that is taken holds what its reader held
-pub table_kept : (old : HeadReader) (mid : TableReader) (d : TableData) (items : List Item) (rest : List ℕ) (byte : ℕ) (result : Next) (next : TableData → Layout) → InTable old items rest next
+pub table_kept : (old : HeadReader) (mid : TableReader) (d : TableData) (items : List Item) (rest : List ℕ) (byte : ℕ) (result : FieldStep) (next : TableData → Layout) → InTable old items rest next
     → PushFollows old.order old.params.format old.table byte result mid → mid.phase ≡ table.Whole → Gives old mid next d → table_cells d ≡ reader_cells mid
 table_kept old mid d items rest byte result next is push whole taken =
     let e = table_whole old mid items rest byte result next is push whole in (taken (following is.layout e.0) e.3).1

@@ -5,21 +5,24 @@ use Rattle.std.proofs.lemmas.List.Sums.{sum_by-cons, sum_by_push}
 use Rattle.dl_num.specs.declared.fixed.Order.{Order}
 use Rattle.dl_table.specs.declared.form.Format.{Format}
 use Rattle.dl_table.specs.declared.form.Form.{Form}
-use Rattle.dl_head.specs.declared.params.Params.{Params}
+use Rattle.dl_field.specs.declared.params.Params.{Params}
 use Rattle.dl_table.specs.declared.table.Pair.{Pair}
 use Rattle.dl_table.specs.TableData.{TableData}
-use Rattle.dl_head.specs.HeaderData.{HeaderData}
+use Rattle.dl_field.specs.HeaderData.{HeaderData}
 use Rattle.dl_table.specs.Value.{Value, value_spelt}
-use Rattle.dl_head.specs.Layout.{NumberField, version, Layout, number_then, form_then, value_then, foreign_version, last_entry, Item, following, following_all, header_layout, lengths_layout, pairs_layout, entry_layout, entries_layout, table_layout, tables_layout, signed_byte, from_address_size, from_minimum_length, from_lengths, format_alone}
+use Rattle.dl_field.specs.Layout.{NumberField, version, Layout, number_then, form_then, value_then, foreign_version, last_entry, Item, following, following_all, pairs_layout, entry_layout, entries_layout, table_layout}
+use Rattle.dl_head.specs.HeaderLayout.{header_layout, lengths_layout, tables_layout, signed_byte, from_address_size, from_minimum_length, from_lengths, format_alone}
 use Rattle.dl_head.specs.Header.{SpellsFields, header_made}
 use Rattle.dl_table.specs.TableCells.{value_cells, table_cells}
-use Rattle.dl_head.specs.HeaderData.{header_cells}
-use Rattle.dl_head.specs.Cells.{item_cells, cut_cells, rest_cells}
+use Rattle.dl_field.specs.HeaderData.{header_cells}
+use Rattle.dl_field.specs.Cells.{item_cells, rest_cells}
+use Rattle.dl_head.specs.Cells.{cut_cells}
 use Rattle.dl_head.specs.Laws.{HeaderHoldsItsCells}
-use Rattle.dl_head.proofs.FieldLemmas.{none_some}
+use Rattle.dl_field.proofs.FieldLemmas.{none_some}
 use Rattle.dl_head.proofs.HeaderLaws.{made_last, header_cut}
-use Rattle.dl_head.proofs.Openings.{is_length, is_number, after_length}
-use Rattle.dl_head.proofs.CellLemmas.{value_item, is_form, items_few}
+use Rattle.dl_head.proofs.FirstFields.{is_length, is_number, after_length}
+use Rattle.dl_field.proofs.GoodLemmas.{value_item, is_form}
+use Rattle.dl_head.proofs.CellLemmas.{items_few}
 
 -- the fields of these values, from a layout on, make a header
 record Makes (order : Order) (h : HeaderData) (layout : Layout) (items : List Item) : Type 0 where

@@ -6,13 +6,14 @@ use Rattle.std.proofs.Math.Seq.{drop-append_seam, take-append-add}
 use Rattle.dl_num.specs.declared.fixed.Order.{Order}
 use Rattle.dl_num.proofs.FrontLemmas.{front_before}
 use Rattle.dl_num.proofs.LebFrontLemmas.{true_false, and_left, and_right}
-use Rattle.dl_head.specs.HeaderData.{HeaderData}
+use Rattle.dl_field.specs.HeaderData.{HeaderData}
 use Rattle.dl_table.specs.declared.fault.FaultKind.{FaultKind}
 use Rattle.dl_table.specs.Value.{Judgement, good, bad}
-use Rattle.dl_head.specs.Layout.{Layout, initial_length_then, number_then, form_then, value_then, foreign_version, last_entry, Item, following, following_all, field_spelt, header_layout}
+use Rattle.dl_field.specs.Layout.{Layout, initial_length_then, number_then, form_then, value_then, foreign_version, last_entry, Item, following, following_all, field_spelt}
+use Rattle.dl_head.specs.HeaderLayout.{header_layout}
 use Rattle.dl_head.specs.Header.{Cut, cut_after, cut, header_made, header_end, foreign_made, header_up_to, IsHeader, IsFieldCut}
 use Rattle.dl_head.specs.Laws.{OneHeader, HeaderIsFound, FoundIsHeader, CutIsComputed, HeaderIsNotForeign}
-use Rattle.dl_head.proofs.FieldLemmas.{field_empty, none_some}
+use Rattle.dl_field.proofs.FieldLemmas.{field_empty, none_some}
 use Rattle.dl_head.proofs.CutLemmas.{cut_of, with_items, cut_on, cut_fields, cut_last, cut_sound, Sound}
 
 pub made_last : (layout : Layout) (h : HeaderData) → header_made layout ≡ Some h → layout ≡ last_entry h

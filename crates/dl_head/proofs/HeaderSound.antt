@@ -7,15 +7,16 @@ use Rattle.dl_num.specs.Fixed.{is_number_size}
 use Rattle.dl_num.proofs.LebFrontLemmas.{true_false, and_left, and_right}
 use Rattle.dl_table.specs.declared.form.Format.{Format}
 use Rattle.dl_table.specs.declared.form.Format.TheVariants.{Dwarf32, Dwarf64}
-use Rattle.dl_head.specs.declared.params.Params.{Params}
+use Rattle.dl_field.specs.declared.params.Params.{Params}
 use Rattle.dl_table.specs.declared.fault.FaultKind.{FaultKind}
 use Rattle.dl_head.specs.declared.fault.ParamFault.{ParamFault}
 use Rattle.dl_head.specs.declared.fault.ParamFault.TheVariants as param
 use Rattle.dl_table.specs.TableData.{TableData}
-use Rattle.dl_head.specs.HeaderData.{HeaderData}
-use Rattle.dl_head.specs.Layout.{objection, opcode_length}
+use Rattle.dl_field.specs.HeaderData.{HeaderData}
+use Rattle.dl_field.specs.Layout.{objection, opcode_length}
 use Rattle.dl_table.specs.Built.{same_format}
-use Rattle.dl_head.specs.Built.{IsUsable, wrong_length, unless, param_fault, with_standard_opcodes}
+use Rattle.dl_field.specs.Usable.{IsUsable}
+use Rattle.dl_head.specs.Built.{wrong_length, unless, param_fault, with_standard_opcodes}
 
 -- ---- what no refusal says of the params
 

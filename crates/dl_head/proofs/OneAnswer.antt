@@ -5,12 +5,13 @@ use Rattle.dl_head.specs.declared.fault.Fault.{Fault}
 use Rattle.dl_table.specs.declared.fault.FaultKind.{FaultKind}
 use Rattle.dl_head.specs.declared.reader.HeadStep.{HeadStep}
 use Rattle.dl_head.specs.declared.reader.HeadStep.TheVariants as answer
-use Rattle.dl_head.specs.HeaderData.{HeaderData}
-use Rattle.dl_head.specs.Layout.{Layout, following_all, header_layout}
+use Rattle.dl_field.specs.HeaderData.{HeaderData}
+use Rattle.dl_field.specs.Layout.{Layout, following_all}
+use Rattle.dl_head.specs.HeaderLayout.{header_layout}
 use Rattle.dl_head.specs.Header.{cut, IsHeader, foreign_in}
 use Rattle.dl_head.specs.Refusal.{HeaderRefused}
 use Rattle.dl_head.specs.Reading.{Answers, OneAnswer}
-use Rattle.dl_head.proofs.FieldLemmas.{none_some}
+use Rattle.dl_field.proofs.FieldLemmas.{none_some}
 use Rattle.dl_head.proofs.HeaderLaws.{header_is_not_foreign}
 use Rattle.dl_head.proofs.QuietLemmas.{header_is_not_refused}
 use Rattle.dl_head.proofs.RefusalLaws.{decided_on, foreign_last, one_header_refusal}

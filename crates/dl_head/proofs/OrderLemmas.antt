@@ -13,9 +13,9 @@ use Rattle.dl_table.specs.declared.form.Form.{Form}
 use Rattle.dl_table.specs.declared.form.Form.TheVariants as form
 use Rattle.dl_table.specs.declared.table.Pair.{Pair}
 use Rattle.dl_table.specs.TableData.{TableData}
-use Rattle.dl_head.specs.HeaderData.{HeaderData}
+use Rattle.dl_field.specs.HeaderData.{HeaderData}
 use Rattle.dl_table.specs.Value.{Value, line_str, str, str_sup, number, block, offset_size}
-use Rattle.dl_head.specs.Layout.{fixed_part, initial_size}
+use Rattle.dl_head.specs.HeaderLayout.{fixed_part, initial_size}
 use Rattle.dl_table.specs.Written.{value_bytes, pair_bytes, entry_bytes, table_bytes}
 use Rattle.dl_head.specs.Written.{after_header_length, header_length_of, unit_length_of, initial_length_bytes, header_bytes, written_limit}
 

@@ -5,16 +5,17 @@ use Rattle.dl_num.specs.declared.fixed.Order.{Order}
 use Rattle.dl_table.specs.declared.fault.FaultKind.{FaultKind}
 use Rattle.dl_table.specs.declared.fault.FaultKind.TheVariants as fault
 use Rattle.dl_table.specs.declared.form.Format.{Format}
-use Rattle.dl_head.specs.HeaderData.{HeaderData}
+use Rattle.dl_field.specs.HeaderData.{HeaderData}
 use Rattle.dl_table.specs.Value.{offset_size}
-use Rattle.dl_head.specs.Layout.{NumberField, version, address_size, any_byte, header_length, Layout, number_then, foreign_version, Item, length_is, number_is, form_is, value_is, following, following_all, header_layout, initial_size, fixed_part, from_minimum_length, format_alone, number_size, sized_spelt, number_judged}
+use Rattle.dl_field.specs.Layout.{NumberField, version, address_size, any_byte, header_length, Layout, number_then, foreign_version, Item, length_is, number_is, form_is, value_is, following, following_all, number_size, sized_spelt, number_judged}
+use Rattle.dl_head.specs.HeaderLayout.{header_layout, initial_size, fixed_part, from_minimum_length, format_alone}
 use Rattle.dl_head.specs.Header.{SpellsFields, Cut, cut_after, cut, unit_end, header_end, header_made, IsHeader}
 use Rattle.dl_head.specs.Refusal.{at_end, field_overrun, cut_decided, header_decided}
 use Rattle.dl_head.specs.Laws.{HeaderIsNotRefused, ForeignIsNotRefused}
-use Rattle.dl_head.proofs.FieldLemmas.{none_some, sized_length}
+use Rattle.dl_field.proofs.FieldLemmas.{none_some, sized_length}
 use Rattle.dl_head.proofs.CutLemmas.{cut_of, before_none, cut_fields, cut_last, cut_sound, Sound, with_items}
 use Rattle.dl_head.proofs.HeaderLaws.{made_last}
-use Rattle.dl_head.proofs.Openings.{Opening, opening_of, is_length, not_foreign, after_length, after_address, after_segment, after_header}
+use Rattle.dl_head.proofs.FirstFields.{Opening, opening_of, is_length, not_foreign, after_length, after_address, after_segment, after_header}
 use Rattle.dl_head.proofs.FrontLemmas.{GoesOn, fronts, Inside, inside}
 use Rattle.dl_head.proofs.RefusalLaws.{decided_on, quiet, foreign_last}
 

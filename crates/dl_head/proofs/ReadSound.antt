@@ -15,13 +15,14 @@ use Rattle.dl_table.specs.declared.form.Form.{Form}
 use Rattle.dl_table.specs.declared.form.Form.TheVariants as form
 use Rattle.dl_table.specs.declared.fault.FaultKind.{FaultKind}
 use Rattle.dl_table.specs.declared.fault.FaultKind.TheVariants as fault
-use Rattle.dl_head.specs.declared.params.Params.{Params}
+use Rattle.dl_field.specs.declared.params.Params.{Params}
 use Rattle.dl_table.specs.declared.table.Pair.{Pair}
 use Rattle.dl_table.specs.TableData.{TableData}
-use Rattle.dl_head.specs.HeaderData.{HeaderData}
+use Rattle.dl_field.specs.HeaderData.{HeaderData}
 use Rattle.dl_table.specs.Value.{Value, offset_size}
-use Rattle.dl_head.specs.Field.{IsFixed, HasNoZero, IsValue, IsNumber, IsField}
-use Rattle.dl_head.specs.Layout.{NumberField, version, address_size, any_byte, header_length, maximum_operations, line_range, opcode_base, opcode_length, content_code, entry_count, number_size, objection, Layout, number_then, form_then, value_then, foreign_version, last_entry, Item, following, following_all, pairs_layout, entry_layout, entries_layout, table_layout, tables_layout, lengths_layout, from_minimum_length, from_address_size, format_alone, header_layout, signed_byte, fixed_part}
+use Rattle.dl_field.specs.Field.{IsFixed, HasNoZero, IsValue, IsNumber, IsField}
+use Rattle.dl_field.specs.Layout.{NumberField, version, address_size, any_byte, header_length, maximum_operations, line_range, opcode_base, opcode_length, content_code, entry_count, number_size, objection, Layout, number_then, form_then, value_then, foreign_version, last_entry, Item, following, following_all, pairs_layout, entry_layout, entries_layout, table_layout}
+use Rattle.dl_head.specs.HeaderLayout.{tables_layout, lengths_layout, from_minimum_length, from_address_size, format_alone, header_layout, signed_byte, fixed_part}
 use Rattle.dl_head.specs.Header.{SpellsFields, header_made}
 use Rattle.dl_head.specs.TableSpelt.{alone}
 use Rattle.dl_table.specs.Built.{fits_offset, fits_form, wrong_value, entry_fault_of}
@@ -29,9 +30,9 @@ use Rattle.dl_head.specs.Built.{wrong_length}
 use Rattle.dl_table.specs.Sound.{AreContents, IsSoundTable}
 use Rattle.dl_head.specs.Sound.{IsSoundHeader}
 use Rattle.dl_head.specs.WrittenLaws.{ReadIsSound}
-use Rattle.dl_head.proofs.FieldLemmas.{none_some}
-use Rattle.dl_head.proofs.FieldLaws.{field_is_judged}
-use Rattle.dl_head.proofs.Places.{sfits_signed}
+use Rattle.dl_field.proofs.FieldLemmas.{none_some}
+use Rattle.dl_field.proofs.FieldLaws.{field_is_judged}
+use Rattle.dl_head.proofs.OneFieldMore.{sfits_signed}
 use Rattle.dl_head.proofs.HeaderSound.{no_fault}
 use Rattle.dl_table.proofs.SoundLemmas.{all_push, right_entry}
 

@@ -9,13 +9,13 @@ use Rattle.dl_head.specs.declared.reader.HeadStep.{HeadStep}
 use Rattle.dl_head.specs.declared.reader.HeadStep.TheVariants as answer
 use Rattle.dl_head.specs.declared.reader.HeadReader.{HeadReader}
 use Rattle.dl_head.specs.declared.reader.run.HeadRun.{HeadRun}
-use Rattle.dl_head.specs.HeaderData.{HeaderData}
+use Rattle.dl_field.specs.HeaderData.{HeaderData}
 use Rattle.dl_head.specs.Header.{IsHeader, foreign_in}
 use Rattle.dl_head.specs.Standing.{StandsFor}
 use Rattle.dl_head.specs.Reading.{Answers, AddsCell, Steps}
 use Rattle.dl_head.specs.Turns.{Answer, used_in, last_given, IsTrace, some_turns}
 use Rattle.dl_head.specs.Runs.{so_far, Took, Answered, Offered, goes_on, is_refusal, refusals, Traced, Runs, TraceRuns, HeaderIsRead}
-use Rattle.dl_head.proofs.FieldLemmas.{none_some}
+use Rattle.dl_field.proofs.FieldLemmas.{none_some}
 use Rattle.dl_head.proofs.ForeignLemmas.{foreign_on}
 use Rattle.dl_head.proofs.HeaderLaws.{one_header, header_is_not_foreign}
 use Rattle.dl_head.proofs.QuietLemmas.{header_is_not_refused}

@@ -6,7 +6,7 @@ use Rattle.dl_head.specs.declared.reader.Phase.{Phase}
 use Rattle.dl_head.specs.declared.reader.Phase.TheVariants as phase
 use Rattle.dl_head.specs.declared.reader.HeadReader.{HeadReader}
 use Rattle.dl_table.specs.TableData.{TableData}
-use Rattle.dl_head.specs.Layout.{Layout, Item}
+use Rattle.dl_field.specs.Layout.{Layout, Item}
 use Rattle.dl_head.specs.HeadStep.{end_near, lengths_fit, tables_fit, formats_fit, AreStandard}
 use Rattle.dl_table.specs.TableCells.{table_cells}
 use Rattle.dl_head.specs.TableSpelt.{TableStands}

@@ -4,10 +4,12 @@ use Rattle.std.proofs.lemmas.List.Sums.{sum_by_push}
 use Rattle.dl_num.specs.declared.fixed.Order.{Order}
 use Rattle.dl_table.specs.declared.form.Form.TheVariants as form
 use Rattle.dl_table.specs.Value.{Judgement, good, bad}
-use Rattle.dl_head.specs.Layout.{Layout, initial_length_then, number_then, form_then, value_then, foreign_version, last_entry, Item, following_all, field_spelt, header_layout}
+use Rattle.dl_field.specs.Layout.{Layout, initial_length_then, number_then, form_then, value_then, foreign_version, last_entry, Item, following_all, field_spelt}
+use Rattle.dl_head.specs.HeaderLayout.{header_layout}
 use Rattle.dl_head.specs.Header.{cut}
-use Rattle.dl_head.specs.Cells.{item_cells, rest_cells, cut_cells, cells}
-use Rattle.dl_head.specs.TablePlace.{field_cells}
+use Rattle.dl_field.specs.Cells.{item_cells, rest_cells}
+use Rattle.dl_head.specs.Cells.{cut_cells, cells}
+use Rattle.dl_field.specs.TablePlace.{field_cells}
 use Rattle.dl_head.proofs.CutLemmas.{cut_of, cut_within, cut_good, cut_bad}
 
 none_held : (layout : Layout) → rest_cells layout [] ≡ 0

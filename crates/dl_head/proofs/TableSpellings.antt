@@ -7,25 +7,25 @@ use Rattle.dl_num.specs.Laws.{AllBytes}
 use Rattle.dl_table.specs.declared.form.Format.{Format}
 use Rattle.dl_head.specs.declared.reader.Phase.{Phase}
 use Rattle.dl_head.specs.declared.reader.Phase.TheVariants as phase
-use Rattle.dl_head.specs.declared.reader.next.Next.{Next}
-use Rattle.dl_head.specs.declared.reader.next.Next.TheVariants as byte_makes
-use Rattle.dl_head.specs.declared.reader.table_reader.TableReader.{TableReader}
-use Rattle.dl_head.specs.declared.reader.table_reader.TablePhase.{TablePhase}
-use Rattle.dl_head.specs.declared.reader.table_reader.TablePhase.TheVariants as table
+use Rattle.dl_field.specs.declared.field_step.FieldStep.{FieldStep}
+use Rattle.dl_field.specs.declared.field_step.FieldStep.TheVariants as byte_makes
+use Rattle.dl_field.specs.declared.table_reader.TableReader.{TableReader}
+use Rattle.dl_field.specs.declared.table_reader.TablePhase.{TablePhase}
+use Rattle.dl_field.specs.declared.table_reader.TablePhase.TheVariants as table
 use Rattle.dl_table.specs.TableData.{TableData}
 use Rattle.dl_table.specs.Value.{Value, good}
-use Rattle.dl_head.specs.Layout.{Layout, Item, following_all, field_spelt, table_layout}
+use Rattle.dl_field.specs.Layout.{Layout, Item, following_all, field_spelt, table_layout}
 use Rattle.dl_head.specs.Header.{SpellsFields}
-use Rattle.dl_head.specs.TablePlace.{IsFresh, TableAt, SameTable, MakesTable, BytesFollow, PushFollows}
+use Rattle.dl_field.specs.TablePlace.{IsFresh, TableAt, SameTable, MakesTable, BytesFollow, PushFollows}
 use Rattle.dl_head.specs.TableSpelt.{alone, TableSpelt, TableReads, TableStands}
 use Rattle.dl_head.proofs.CutLemmas.{following_all-append}
 use Rattle.dl_head.proofs.HeadTables.{table_same}
 use Rattle.dl_table.specs.Held.{table_of}
 use Rattle.dl_table.specs.Sound.{IsSoundTable}
-use Rattle.dl_head.proofs.PairLemmas.{table_at}
+use Rattle.dl_field.proofs.PairLemmas.{table_at}
 use Rattle.dl_head.proofs.ReadSound.{front_bytes, table_is_sound}
 use Rattle.dl_table.proofs.SoundLemmas.{sound_prop}
-use Rattle.dl_head.proofs.TakenLemmas.{whole_held}
+use Rattle.dl_field.proofs.TakenLemmas.{whole_held}
 
 -- a field more
 fields_push : (order : Order) (layout : Layout) (items : List Item) (fields w : List ℕ) (i : Item) → SpellsFields order layout items fields → field_spelt order (following_all layout items) w ≡ good i
@@ -61,7 +61,7 @@ module _ (order : Order) (format : Format) (old : TableReader) (bytes : List ℕ
   same kept = record { items = s.items; fields = s.fields; rest = s.rest; bytes = s.bytes; spelt = s.spelt; at = table_same order old new format (alone format) (following_all first s.items) s.rest kept s.at }
 
   -- bytes more
-  pub spelt_push : (result : Next) → (old.phase ≡ table.Whole → ⊥) → BytesFollow order format old bytes result new → TableSpelt order format new
+  pub spelt_push : (result : FieldStep) → (old.phase ≡ table.Whole → ⊥) → BytesFollow order format old bytes result new → TableSpelt order format new
   spelt_push byte_makes.Within going f =
       let made = f.made going (alone format) (following_all first s.items) s.rest s.at in
       record { items = s.items; fields = s.fields; rest = s.rest ++ bytes; bytes = more; spelt = s.spelt; at = made.1 }
@@ -89,7 +89,7 @@ module _ (order : Order) (format : Format) (t : TableReader) (s : TableSpelt ord
       record { rows = held.whole; sound = subst (λ (entries : List (List Value)). IsSoundTable (record { format = format; pairs = t.pairs.items; entries = entries })) (sym held.rows_are) sound }
 
 -- the table is complete, whatever byte was the last one
-pub makes_table_pushed : (order : Order) (format : Format) (old new : TableReader) (byte : ℕ) (result : Next) → byte < 256 → ∥ TableReads order format old ∥₁ → PushFollows order format old byte result new
+pub makes_table_pushed : (order : Order) (format : Format) (old new : TableReader) (byte : ℕ) (result : FieldStep) → byte < 256 → ∥ TableReads order format old ∥₁ → PushFollows order format old byte result new
     → new.phase ≡ table.Whole → MakesTable new format
 makes_table_pushed order format old new byte result small read follows e =
     ∥∥₁_elim read makes_prop (λ s. makes_table order format new (spelt_push order format old (byte ∷ []) new (small, tt) s.0 result s.1 follows) e)
@@ -98,7 +98,7 @@ makes_table_pushed order format old new byte result small read follows e =
     makes_prop = let sound = sound_prop (table_of format new.pairs.items new.values.items new.pool.items) in hlevel (props, sound)
 
 -- it isn't
-pub reads_on : (order : Order) (format : Format) (old new : TableReader) (bytes : List ℕ) (result : Next) → AllBytes bytes → ∥ TableReads order format old ∥₁ → BytesFollow order format old bytes result new
+pub reads_on : (order : Order) (format : Format) (old new : TableReader) (bytes : List ℕ) (result : FieldStep) → AllBytes bytes → ∥ TableReads order format old ∥₁ → BytesFollow order format old bytes result new
     → (new.phase ≡ table.Whole → ⊥) → ∥ TableReads order format new ∥₁
 reads_on order format old new bytes result small read follows going =
     ∥∥₁_elim read ∥∥₁_prop (λ s. ∣ (spelt_push order format old bytes new small s.0 result s.1 follows, going) ∣₁)

@@ -7,35 +7,36 @@ use Rattle.dl_num.specs.declared.fixed.Order.{Order}
 use Rattle.dl_num.specs.Laws.{AllBytes}
 use Rattle.dl_num.proofs.LebFrontLemmas.{true_false}
 use Rattle.dl_table.specs.declared.form.Format.{Format}
-use Rattle.dl_head.specs.declared.params.Params.{Params}
+use Rattle.dl_field.specs.declared.params.Params.{Params}
 use Rattle.dl_head.specs.declared.reader.Phase.{Phase}
 use Rattle.dl_head.specs.declared.reader.Phase.TheVariants as phase
-use Rattle.dl_head.specs.declared.reader.next.Next.TheVariants as byte_makes
+use Rattle.dl_field.specs.declared.field_step.FieldStep.TheVariants as byte_makes
 use Rattle.dl_head.specs.declared.reader.HeadReader.{HeadReader}
 use Rattle.dl_head.specs.declared.reader.HeadStep.TheVariants as answer
-use Rattle.dl_head.specs.declared.reader.table_reader.TableReader.{TableReader}
+use Rattle.dl_field.specs.declared.table_reader.TableReader.{TableReader}
 use Rattle.dl_table.specs.TableData.{TableData}
 use Rattle.dl_table.specs.TableCells.{table_cells}
 use Rattle.dl_table.specs.Value.{good}
-use Rattle.dl_head.specs.Layout.{Layout, Item, following_all, field_spelt, header_layout, from_files, from_end}
+use Rattle.dl_field.specs.Layout.{Layout, Item, following_all, field_spelt}
+use Rattle.dl_head.specs.HeaderLayout.{header_layout, from_files, from_end}
 use Rattle.dl_head.specs.Header.{cut}
 use Rattle.dl_head.specs.Refusal.{header_decided, NothingBefore}
 use Rattle.dl_head.specs.Cells.{cells}
-use Rattle.dl_head.specs.TablePlace.{reader_cells, Adds, SameTable, TakesValue}
+use Rattle.dl_field.specs.TablePlace.{reader_cells, Adds, SameTable, TakesValue}
 use Rattle.dl_head.specs.TableSpelt.{TableReads, TableStands}
 use Rattle.dl_head.specs.Place.{InTable, AtPhase, At, SameCounts, Made, held_cells}
 use Rattle.dl_head.specs.Standing.{Below, Live, Unmade, ending, StandsFor}
 use Rattle.dl_head.specs.Reading.{Answers}
 use Rattle.dl_head.specs.HeadStep.{end_near}
 use Rattle.dl_head.specs.Whole.{in_table, IsInside, TakesAll}
-use Rattle.dl_head.proofs.FieldLemmas.{none_some, field_empty}
+use Rattle.dl_field.proofs.FieldLemmas.{none_some, field_empty}
 use Rattle.dl_head.proofs.CutLemmas.{cut_of, cut_within, cut_good, before_none}
-use Rattle.dl_head.proofs.Ends.{end_from, UpTo, EndIs, EndsWithin, end_is, room_on, ends_on}
-use Rattle.dl_head.proofs.Standings.{IsNext, Place, in_field, in_padding, in_foreign, place_of, quiet_at, field_more}
+use Rattle.dl_head.proofs.HeaderEnds.{end_from, UpTo, EndIs, EndsWithin, end_is, room_on, ends_on}
+use Rattle.dl_head.proofs.TakenBytes.{IsNext, Place, in_field, in_padding, in_foreign, place_of, quiet_at, field_more}
 use Rattle.dl_head.proofs.StepCells.{cells_good_on}
-use Rattle.dl_head.proofs.Moved.{Moved, nothing_on}
-use Rattle.dl_head.proofs.Settled.{goes_on}
-use Rattle.dl_head.proofs.Stepped.{live_of, kept_stands}
+use Rattle.dl_head.proofs.MovedReader.{Moved, nothing_on}
+use Rattle.dl_head.proofs.ByteCounted.{goes_on}
+use Rattle.dl_head.proofs.OneByteMore.{live_of, kept_stands}
 use Rattle.dl_head.proofs.ReadSound.{front_bytes}
 use Rattle.dl_head.proofs.TurnLemmas.{joined}
 use Rattle.dl_head.proofs.RunLemmas.{Offering}

@@ -5,7 +5,7 @@ use Rattle.dl_num.specs.declared.fixed.Order.{Order}
 use Rattle.dl_num.specs.Fixed.{fixed_bytes}
 use Rattle.dl_table.specs.declared.counted.HeadWrite.{HeadWrite}
 use Rattle.dl_table.specs.declared.counted.HeadWrite.TheVariants.{TooLong, Write}
-use Rattle.dl_head.specs.HeaderData.{HeaderData}
+use Rattle.dl_field.specs.HeaderData.{HeaderData}
 use Rattle.dl_table.specs.Value.{offset_size}
 use Rattle.dl_head.specs.Spelled.{front_parts}
 use Rattle.dl_table.specs.Writing.{IsOut, TellsOut}

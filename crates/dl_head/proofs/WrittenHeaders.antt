@@ -11,20 +11,21 @@ use Rattle.dl_num.specs.Fixed.{fixed_bytes, is_number_size}
 use Rattle.dl_num.proofs.LebFrontLemmas.{true_false}
 use Rattle.dl_table.specs.declared.form.Format.{Format}
 use Rattle.dl_table.specs.declared.form.Format.TheVariants.{Dwarf32, Dwarf64}
-use Rattle.dl_head.specs.declared.params.Params.{Params}
+use Rattle.dl_field.specs.declared.params.Params.{Params}
 use Rattle.dl_table.specs.TableData.{TableData}
-use Rattle.dl_head.specs.HeaderData.{HeaderData}
+use Rattle.dl_field.specs.HeaderData.{HeaderData}
 use Rattle.dl_table.specs.Value.{offset_size}
-use Rattle.dl_head.specs.Layout.{Layout, number_then, last_entry, number_is, length_is, following, any_byte, address_size, maximum_operations, line_range, opcode_base, opcode_length, header_length, objection, NumberField, number_size, signed_byte, lengths_layout, table_layout, tables_layout, from_lengths, from_opcode_base, from_line_range, from_line_base, from_default_is_stmt, from_maximum_operations, from_minimum_length, from_header_length, from_segment_selector_size, from_address_size, format_alone, header_layout, fixed_part, initial_size}
+use Rattle.dl_field.specs.Layout.{Layout, number_then, last_entry, number_is, length_is, following, any_byte, address_size, maximum_operations, line_range, opcode_base, opcode_length, header_length, objection, NumberField, number_size, table_layout}
+use Rattle.dl_head.specs.HeaderLayout.{signed_byte, lengths_layout, tables_layout, from_lengths, from_opcode_base, from_line_range, from_line_base, from_default_is_stmt, from_maximum_operations, from_minimum_length, from_header_length, from_segment_selector_size, from_address_size, format_alone, header_layout, fixed_part, initial_size}
 use Rattle.dl_head.specs.Header.{Cut, header_made, unit_end, IsHeader}
-use Rattle.dl_head.specs.Field.{IsInitialLength}
+use Rattle.dl_field.specs.Field.{IsInitialLength}
 use Rattle.dl_table.specs.Written.{table_bytes}
 use Rattle.dl_head.specs.Written.{byte_of, after_header_length, header_length_of, unit_length_of, initial_length_bytes, header_bytes, written_limit, is_within_limit}
 use Rattle.dl_head.specs.Built.{wrong_length}
 use Rattle.dl_table.specs.Sound.{IsSoundTable}
 use Rattle.dl_head.specs.Sound.{IsSoundHeader}
 use Rattle.dl_head.specs.WrittenLaws.{WrittenIsHeader, WrittenHasItsLength}
-use Rattle.dl_head.proofs.FieldLaws.{field_is_judged}
+use Rattle.dl_field.proofs.FieldLaws.{field_is_judged}
 use Rattle.dl_head.proofs.HeaderLaws.{header_cut}
 use Rattle.dl_head.proofs.HeaderSound.{Good, all_good}
 use Rattle.dl_head.proofs.OrderLemmas.{length-header}
@@ -64,10 +65,6 @@ module _ (order : Order) (h : HeaderData) where
       let t = length_first (is_none (objection (opcode_length opcode) n)) opcode (wrong_length (opcode + 1) ns) none in
       let again = reach_lengths (opcode + 1) ns (before ++ n ∷ []) next v t.1 (subst (λ (l : List ℕ). Reaches order (next l) v end) (sym (append_assoc before (n ∷ []) ns)) rest) in
       reach_one order end (lengths_layout opcode (length (n ∷ ns)) before next) (number_is n) (n ∷ []) (ns ++ v) (n, refl, (refl, fixed_byte order end n), is_nothing (objection (opcode_length opcode) n) t.0) again
-
-  -- the params that were read, but for the format
-  abbrev read_params : Params → Params
-  read_params p = record p { line_base = signed_byte (byte_of p.line_base); lengths = record { items = p.lengths.items } }
 
   reach_tables : (p : Params) → (record { params = p; directories = h.directories; files = h.files }) ≡ h → h.directories.format ≡ p.format → h.files.format ≡ p.format → IsSoundTable h.directories → IsSoundTable h.files
       → Reaches order (tables_layout p) (table_bytes order h.directories ++ (table_bytes order h.files ++ [])) end

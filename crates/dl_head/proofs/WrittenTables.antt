@@ -17,13 +17,13 @@ use Rattle.dl_table.specs.declared.form.Form.TheVariants as form
 use Rattle.dl_table.specs.declared.table.Pair.{Pair}
 use Rattle.dl_table.specs.TableData.{TableData}
 use Rattle.dl_table.specs.Value.{Value, text, line_str, str, str_sup, number, block, data16, form_code, offset_size}
-use Rattle.dl_head.specs.Layout.{Layout, number_then, form_then, Item, number_is, form_is, value_is, following, following_all, content_code, entry_count, objection, pairs_layout, entry_layout, entries_layout, table_layout}
+use Rattle.dl_field.specs.Layout.{Layout, number_then, form_then, Item, number_is, form_is, value_is, following, following_all, content_code, entry_count, objection, pairs_layout, entry_layout, entries_layout, table_layout}
 use Rattle.dl_head.specs.Header.{SpellsFields}
-use Rattle.dl_head.specs.Field.{IsFixed, HasNoZero, IsValue, IsField}
+use Rattle.dl_field.specs.Field.{IsFixed, HasNoZero, IsValue, IsField}
 use Rattle.dl_table.specs.Written.{value_bytes, pair_bytes, entry_bytes, table_bytes}
 use Rattle.dl_table.specs.Built.{fits_offset, fits_form, wrong_value, entry_fault_of}
 use Rattle.dl_table.specs.Sound.{IsSoundTable}
-use Rattle.dl_head.proofs.FieldLaws.{field_is_judged}
+use Rattle.dl_field.proofs.FieldLaws.{field_is_judged}
 
 -- ---- values
 

@@ -1,21 +1,14 @@
 -- Which headers can be built, and what is wrong with the others. DWARF 5, sections 6.2.4 and 6.2.5.2.
-use Rattle.std.specs.Prelude.{◌≡◌, ℕ, ◌+◌, ◌≤◌, Bool, ◌&&◌, List, [], ◌∷◌, length, Option, Some, None, nat_lt, ◌==◌, if◌then◌else◌, IsTrue, is_none}
+use Rattle.std.specs.Prelude.{ℕ, ◌+◌, Bool, ◌&&◌, List, [], ◌∷◌, length, Option, Some, None, nat_lt, ◌==◌, if◌then◌else◌, is_none}
 use Rattle.std.specs.Option.{option_map, option_or}
-use Rattle.dl_head.specs.declared.params.Params.{Params}
+use Rattle.dl_field.specs.declared.params.Params.{Params}
 use Rattle.dl_head.specs.declared.fault.ParamFault.{ParamFault}
 use Rattle.dl_head.specs.declared.fault.ParamFault.TheVariants as param
 use Rattle.dl_num.specs.Fixed.{is_number_size}
 use Rattle.dl_table.specs.Built.{same_format}
 use Rattle.dl_table.specs.TableData.{TableData}
-use Rattle.dl_head.specs.HeaderData.{HeaderData}
-use Rattle.dl_head.specs.Layout.{standard_lengths, objection, opcode_length}
-
--- the params of a header: nothing that a program's operations divide by is 0, and each opcode below opcode_base has its length
-pub record IsUsable (p : Params) : Type 0 where
-  pub address_size : IsTrue (is_number_size p.address_size)
-  pub operations : 1 ≤ p.maximum_operations_per_instruction
-  pub lines : 1 ≤ p.line_range
-  pub opcodes : length p.lengths.items + 1 ≡ p.opcode_base
+use Rattle.dl_field.specs.HeaderData.{HeaderData}
+use Rattle.dl_field.specs.Layout.{standard_lengths, objection, opcode_length}
 
 -- the least opcode, counted from `opcode` on, that may not have its number of operands, section 6.2.5.2
 abbrev pub wrong_length : ℕ → List ℕ → Option ℕ

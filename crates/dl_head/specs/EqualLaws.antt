@@ -4,8 +4,8 @@ use Rattle.std.specs.Cmp.{IsEquivalence, decided}
 use Rattle.std.specs.Ordering.{int_eq}
 use Rattle.std.proofs.lemmas.Slice.Eq.{bytes_eq-Decides}
 use Rattle.std.proofs.lemmas.Bool.Decides.{Decides-eqb, Decides-int_eq, Decides-and, Decides-like}
-use Rattle.dl_head.specs.declared.params.Params.{Params}
-use Rattle.dl_head.specs.HeaderData.{HeaderData}
+use Rattle.dl_field.specs.declared.params.Params.{Params}
+use Rattle.dl_field.specs.HeaderData.{HeaderData}
 use Rattle.dl_table.specs.Built.{same_format}
 use Rattle.dl_table.specs.Equal.{same_table}
 use Rattle.dl_table.specs.EqualLaws.{same_format-Decides, same_table-Decides}

@@ -1,9 +1,10 @@
 -- The spelling of a header, and the header that bytes begin with. DWARF 5, section 6.2.4; initial lengths are of section 7.4.
 use Rattle.std.specs.Prelude.{◌≡◌, ℕ, ◌+◌, ◌-◌, ◌&&◌, List, [], ◌∷◌, ◌++◌, length, drop, Option, Some, None, Ok, Err, nat_le, if◌then◌else◌}
 use Rattle.dl_num.specs.declared.fixed.Order.{Order}
-use Rattle.dl_head.specs.HeaderData.{HeaderData}
+use Rattle.dl_field.specs.HeaderData.{HeaderData}
 use Rattle.dl_table.specs.Value.{good}
-use Rattle.dl_head.specs.Layout.{Layout, last_entry, foreign_version, Item, length_is, number_is, header_layout, following, following_all, field_spelt, initial_size, fixed_part}
+use Rattle.dl_field.specs.Layout.{Layout, last_entry, foreign_version, Item, length_is, number_is, following, following_all, field_spelt}
+use Rattle.dl_head.specs.HeaderLayout.{header_layout, initial_size, fixed_part}
 
 -- w is the spellings of good fields of these values, from a layout on
 abbrev pub SpellsFields : Order → Layout → List Item → List ℕ → Type 0

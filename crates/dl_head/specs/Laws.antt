@@ -2,18 +2,12 @@
 use Rattle.std.specs.Prelude.{◌≡◌, ◌≤◌, ℕ, ◌↔◌, List, [], ◌++◌, length, Some, None}
 use Rattle.dl_num.specs.declared.fixed.Order.{Order}
 use Rattle.dl_table.specs.declared.fault.FaultKind.{FaultKind}
-use Rattle.dl_head.specs.HeaderData.{HeaderData}
-use Rattle.dl_table.specs.Value.{good}
-use Rattle.dl_head.specs.Layout.{Layout, Item, field_spelt}
-use Rattle.dl_head.specs.Field.{IsField}
+use Rattle.dl_field.specs.HeaderData.{HeaderData}
+use Rattle.dl_field.specs.Layout.{Item}
 use Rattle.dl_head.specs.Header.{IsHeader, IsFieldCut, cut, foreign_in, unit_len, header_in}
 use Rattle.dl_head.specs.Refusal.{HeaderRefused, header_refusal_in}
-use Rattle.dl_head.specs.HeaderData.{header_cells}
+use Rattle.dl_field.specs.HeaderData.{header_cells}
 use Rattle.dl_head.specs.Cells.{cells}
-
--- bytes are judged a good field exactly where they are one
-abbrev pub FieldIsJudged : Type 0
-FieldIsJudged = (order : Order) (layout : Layout) (i : Item) (w : List ℕ) → IsField order layout i w ↔ (field_spelt order layout w ≡ good i)
 
 -- no header begins another, and bytes are the header of one thing alone
 abbrev pub OneHeader : Type 0

@@ -1,8 +1,6 @@
 -- What the public contracts say rests on these, in reading order.
 pub mod Turns
-pub mod HeaderData
-pub mod Layout
-pub mod Field
+pub mod HeaderLayout
 pub mod Header
 pub mod Refusal
 pub mod Cells
@@ -15,8 +13,6 @@ pub mod Writing
 pub mod Reading
 pub mod Runs
 -- For what a value stands; public contracts name this, and don't rest on how it is said.
-pub mod TableStep
-pub mod TablePlace
 pub mod Place
 pub mod Standing
 -- Of contracts inside the crate, and of proofs; no public contract reaches these.

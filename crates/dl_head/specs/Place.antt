@@ -7,19 +7,20 @@ use Rattle.dl_head.specs.declared.reader.byte_field.ByteField.{ByteField}
 use Rattle.dl_head.specs.declared.reader.byte_field.ByteField.TheVariants as field
 use Rattle.dl_head.specs.declared.reader.Phase.{Phase}
 use Rattle.dl_head.specs.declared.reader.Phase.TheVariants as phase
-use Rattle.dl_head.specs.declared.reader.next.Next.{Next}
-use Rattle.dl_head.specs.declared.reader.next.Next.TheVariants as byte_makes
+use Rattle.dl_field.specs.declared.field_step.FieldStep.{FieldStep}
+use Rattle.dl_field.specs.declared.field_step.FieldStep.TheVariants as byte_makes
 use Rattle.dl_head.specs.declared.reader.HeadReader.{HeadReader}
-use Rattle.dl_head.specs.declared.reader.table_reader.TablePhase.TheVariants as table
+use Rattle.dl_field.specs.declared.table_reader.TablePhase.TheVariants as table
 use Rattle.dl_table.specs.declared.fault.FaultKind.TheVariants as fault
 use Rattle.dl_table.specs.declared.form.Format.{Format}
-use Rattle.dl_head.specs.declared.params.Params.{Params}
+use Rattle.dl_field.specs.declared.params.Params.{Params}
 use Rattle.dl_table.specs.TableData.{TableData}
 use Rattle.dl_table.specs.TableCells.{table_cells}
-use Rattle.dl_head.specs.TablePlace.{IsFresh, TableAt, Adds, reader_cells}
+use Rattle.dl_field.specs.TablePlace.{IsFresh, TableAt, Adds, reader_cells}
 use Rattle.dl_table.specs.Value.{good, bad, offset_size}
-use Rattle.dl_head.specs.Layout.{Layout, Item, length_is, number_is, following_all, field_spelt, header_layout, lengths_layout, tables_layout, from_files, from_end, initial_size, fixed_part, unit_length_limit}
-use Rattle.dl_head.specs.Layout.{from_address_size, from_segment_selector_size, from_minimum_length, from_maximum_operations, from_default_is_stmt, from_line_base, from_line_range, from_opcode_base}
+use Rattle.dl_field.specs.Layout.{Layout, Item, length_is, number_is, following_all, field_spelt, unit_length_limit}
+use Rattle.dl_head.specs.HeaderLayout.{header_layout, lengths_layout, tables_layout, from_files, from_end, initial_size, fixed_part}
+use Rattle.dl_head.specs.HeaderLayout.{from_address_size, from_segment_selector_size, from_minimum_length, from_maximum_operations, from_default_is_stmt, from_line_base, from_line_range, from_opcode_base}
 use Rattle.dl_head.specs.Header.{unit_end, header_end}
 
 -- the fields from one of one byte on
@@ -128,26 +129,26 @@ pub record SameCounts (old new : HeadReader) : Type 0 where
   pub header : new.header ≡ old.header
 
 -- what the byte makes of the field that ends with w
-abbrev pub Made : Order → List Item → List ℕ → Next → HeadReader → Type 0
+abbrev pub Made : Order → List Item → List ℕ → FieldStep → HeadReader → Type 0
 Made order items w byte_makes.Within new = (field_spelt order (following_all header_layout items) w ≡ None) × At new items w
 Made order items w byte_makes.Ends new = (i : Item) × (field_spelt order (following_all header_layout items) w ≡ good i) × At new (items ++ i ∷ []) []
 Made order items w (byte_makes.Refuses kind) new = field_spelt order (following_all header_layout items) w ≡ bad kind
 Made order items w byte_makes.NoMemory new = ⊥
 
 -- a byte of a field before the tables
-pub record Follows (old : HeadReader) (byte : ℕ) (result : Next) (new : HeadReader) : Type 0 where
+pub record Follows (old : HeadReader) (byte : ℕ) (result : FieldStep) (new : HeadReader) : Type 0 where
   pub made : (items : List Item) (rest : List ℕ) → At old items rest → Made old.order items (rest ++ byte ∷ []) result new
   pub counts : SameCounts old new
 
 -- `start_unit`: the initial length is good, and the reader is at the version, or it is too long
-abbrev pub Starts : HeadReader → Format → ℕ → Next → HeadReader → Type 0
+abbrev pub Starts : HeadReader → Format → ℕ → FieldStep → HeadReader → Type 0
 Starts old format length byte_makes.Ends new =
     (length ≤ unit_length_limit) × (AtStart old [] → At new (length_is format length ∷ []) []) × SameCounts old new
 Starts old format length (byte_makes.Refuses kind) new = (unit_length_limit + 1 ≤ length) × (kind ≡ fault.UnitTooLong) × SameCounts old new
 Starts old format length result new = ⊥
 
 -- `start_header`: header_length is good, and the reader is after it, or it is above the bytes left in the unit
-abbrev pub StartsHeader : HeadReader → ℕ → Next → HeadReader → Type 0
+abbrev pub StartsHeader : HeadReader → ℕ → FieldStep → HeadReader → Type 0
 StartsHeader old header byte_makes.Ends new =
     (header ≤ old.unit_length - fixed_part old.params.format) × ((items : List Item) → Early old items (before_header_length old) → At new (items ++ number_is header ∷ []) [])
     × SameCounts old new
@@ -162,7 +163,7 @@ pub record SameUnit (old new : HeadReader) : Type 0 where
   pub format : new.params.format ≡ old.params.format
 
 -- a field that is refused
-abbrev pub Keeps : HeadReader → Next → HeadReader → Type 0
+abbrev pub Keeps : HeadReader → FieldStep → HeadReader → Type 0
 Keeps old (byte_makes.Refuses kind) new = SameUnit old new
 Keeps old result new = Unit {0}
 
@@ -171,17 +172,17 @@ abbrev pub held_cells : HeadReader → ℕ
 held_cells r = table_cells r.directories + table_cells r.files + reader_cells r.table
 
 -- what bytes make of the field, or of the padding, that they fall in
-abbrev pub BytesMade : HeadReader → List Item → List ℕ → List ℕ → Next → HeadReader → Type 0
+abbrev pub BytesMade : HeadReader → List Item → List ℕ → List ℕ → FieldStep → HeadReader → Type 0
 BytesMade old items rest bytes byte_makes.NoMemory new = At new items rest
 BytesMade old items rest bytes result new = Made old.order items (rest ++ bytes) result new
 
 -- bytes of a header that isn't whole
-pub record BytesFollow (old : HeadReader) (bytes : List ℕ) (result : Next) (new : HeadReader) : Type 0 where
+pub record BytesFollow (old : HeadReader) (bytes : List ℕ) (result : FieldStep) (new : HeadReader) : Type 0 where
   pub made : (items : List Item) (rest : List ℕ) → At old items rest → BytesMade old items rest bytes result new
   pub cells : (items : List Item) (rest : List ℕ) → At old items rest
       → Adds old.order (following_all header_layout items) rest (rest ++ bytes) result (held_cells old) (held_cells new)
   pub counts : SameCounts old new
 
 -- `push`
-abbrev pub PushFollows : HeadReader → ℕ → Next → HeadReader → Type 0
+abbrev pub PushFollows : HeadReader → ℕ → FieldStep → HeadReader → Type 0
 PushFollows old byte result new = BytesFollow old (byte ∷ []) result new

@@ -4,7 +4,8 @@ use Rattle.dl_num.specs.declared.fixed.Order.{Order}
 use Rattle.dl_table.specs.declared.fault.FaultKind.{FaultKind}
 use Rattle.dl_table.specs.declared.fault.FaultKind.TheVariants as fault
 use Rattle.dl_table.specs.Value.{Judgement}
-use Rattle.dl_head.specs.Layout.{Layout, last_entry, foreign_version, Item, header_layout, following_all, field_spelt}
+use Rattle.dl_field.specs.Layout.{Layout, last_entry, foreign_version, Item, following_all, field_spelt}
+use Rattle.dl_head.specs.HeaderLayout.{header_layout}
 use Rattle.dl_head.specs.Header.{Cut, cut, unit_end, header_end}
 
 -- the first of two, if there is one, else the second

@@ -5,7 +5,7 @@ use Rattle.dl_head.specs.declared.reader.HeadStep.{HeadStep}
 use Rattle.dl_head.specs.declared.reader.HeadStep.TheVariants as answer
 use Rattle.dl_head.specs.declared.reader.HeadReader.{HeadReader}
 use Rattle.dl_head.specs.declared.reader.run.HeadRun.{HeadRun}
-use Rattle.dl_head.specs.HeaderData.{HeaderData}
+use Rattle.dl_field.specs.HeaderData.{HeaderData}
 use Rattle.dl_head.specs.Header.{IsHeader}
 use Rattle.dl_head.specs.Standing.{StandsFor}
 use Rattle.dl_head.specs.Reading.{Answers, AddsCell}

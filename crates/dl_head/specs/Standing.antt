@@ -7,8 +7,9 @@ use Rattle.dl_head.specs.declared.reader.HeadStep.{HeadStep}
 use Rattle.dl_head.specs.declared.reader.HeadStep.TheVariants as answer
 use Rattle.dl_head.specs.declared.fault.Fault.{Fault}
 use Rattle.dl_table.specs.declared.fault.FaultKind.{FaultKind}
-use Rattle.dl_head.specs.HeaderData.{HeaderData}
-use Rattle.dl_head.specs.Layout.{Item, following_all, field_spelt, header_layout}
+use Rattle.dl_field.specs.HeaderData.{HeaderData}
+use Rattle.dl_field.specs.Layout.{Item, following_all, field_spelt}
+use Rattle.dl_head.specs.HeaderLayout.{header_layout}
 use Rattle.dl_head.specs.Header.{cut, unit_end, header_end, unit_len, IsHeader, foreign_in}
 use Rattle.dl_head.specs.Refusal.{header_decided, HeaderRefused, NothingBefore}
 use Rattle.dl_head.specs.Cells.{cells}

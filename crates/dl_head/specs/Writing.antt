@@ -4,7 +4,7 @@ use Rattle.std.specs.Io.KnownBytes.{Appends, Keeps}
 use Rattle.dl_num.specs.declared.fixed.Order.{Order}
 use Rattle.dl_table.specs.declared.counted.HeadWrite.{HeadWrite}
 use Rattle.dl_table.specs.declared.counted.HeadWrite.TheVariants.{TooLong, Write}
-use Rattle.dl_head.specs.HeaderData.{HeaderData}
+use Rattle.dl_field.specs.HeaderData.{HeaderData}
 use Rattle.dl_head.specs.Written.{header_bytes, is_within_limit}
 
 -- `write_header`: the header is out; or it is too long and nothing is; or only its first `out` bytes are

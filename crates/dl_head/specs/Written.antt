@@ -5,10 +5,11 @@ use Rattle.dl_num.specs.declared.fixed.Order.TheVariants.{Little}
 use Rattle.dl_num.specs.Fixed.{fixed_bytes}
 use Rattle.dl_table.specs.declared.form.Format.{Format}
 use Rattle.dl_table.specs.declared.form.Format.TheVariants.{Dwarf32, Dwarf64}
-use Rattle.dl_head.specs.HeaderData.{HeaderData}
+use Rattle.dl_field.specs.HeaderData.{HeaderData}
 use Rattle.dl_table.specs.Value.{offset_size}
 use Rattle.dl_table.specs.Written.{table_bytes}
-use Rattle.dl_head.specs.Layout.{fixed_part, unit_length_limit}
+use Rattle.dl_field.specs.Layout.{unit_length_limit}
+use Rattle.dl_head.specs.HeaderLayout.{fixed_part}
 
 -- a signed number as a byte
 abbrev pub byte_of : ℤ → ℕ

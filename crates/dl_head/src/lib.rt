@@ -4,16 +4,15 @@
 pub mod fault;
 pub mod header;
 pub mod laws;
-pub mod params;
 pub mod reader;
 pub mod write;
 
+pub use dl_field::{Params, params};
 pub use dl_table::{
     BuildFault, Entry, FaultKind, Form, Format, HeadWrite, Pair, Table, ValueRef, Values, counted,
     form, table, text, text_at,
 };
 pub use fault::{Fault, ParamFault};
 pub use header::{Header, Refused};
-pub use params::Params;
 pub use reader::{HeadReader, HeadRun, HeadStep};
 pub use write::{TooLong, header_len, write_header};

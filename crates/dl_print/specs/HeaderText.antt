@@ -4,7 +4,7 @@ use Rattle.std.specs.Option.{option_map_or}
 use Rattle.dl_table.specs.declared.table.Pair.{Pair}
 use Rattle.dl_table.specs.EntryData.{with_content}
 use Rattle.dl_table.specs.TableData.{TableData}
-use Rattle.dl_head.specs.HeaderData.{HeaderData}
+use Rattle.dl_field.specs.HeaderData.{HeaderData}
 use Rattle.dl_table.specs.Value.{Value}
 use Rattle.dl_print.specs.Text.{line, missing_line, unit_line}
 use Rattle.dl_print.specs.ValueText.{Strings, named_value}

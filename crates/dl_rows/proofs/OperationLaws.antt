@@ -6,7 +6,7 @@ use Rattle.dl_num.specs.declared.fixed.Order.{Order}
 use Rattle.dl_num.specs.Leb.{groups, IsUleb}
 use Rattle.dl_num.specs.LebFront.{is_leb}
 use Rattle.dl_num.proofs.LebLaws.{leb_is, is_leb-of}
-use Rattle.dl_head.specs.declared.params.Params.{Params}
+use Rattle.dl_field.specs.declared.params.Params.{Params}
 use Rattle.dl_table.specs.declared.fault.FaultKind.{FaultKind}
 use Rattle.dl_table.specs.declared.fault.FaultKind.TheVariants as fault
 use Rattle.dl_table.specs.Value.{Judgement, good, bad}

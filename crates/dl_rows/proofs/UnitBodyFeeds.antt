@@ -9,10 +9,10 @@ use Rattle.dl_num.proofs.FrontLemmas.{front_before}
 use Rattle.dl_head.specs.declared.fault.Fault.{Fault}
 use Rattle.dl_table.specs.declared.fault.FaultKind.{FaultKind}
 use Rattle.dl_table.specs.declared.fault.FaultKind.TheVariants as fault
-use Rattle.dl_head.specs.declared.params.Params.{Params}
-use Rattle.dl_head.specs.HeaderData.{HeaderData}
+use Rattle.dl_field.specs.declared.params.Params.{Params}
+use Rattle.dl_field.specs.HeaderData.{HeaderData}
 use Rattle.dl_head.specs.Header.{header_in}
-use Rattle.dl_head.proofs.FieldLemmas.{none_some}
+use Rattle.dl_field.proofs.FieldLemmas.{none_some}
 use Rattle.dl_head.proofs.HeaderLaws.{header_is_found}
 use Rattle.dl_rows.specs.declared.program.Program.{Program}
 use Rattle.dl_rows.specs.declared.program.Given.{Given}

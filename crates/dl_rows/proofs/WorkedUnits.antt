@@ -3,7 +3,7 @@ use Rattle.std.proofs.Common.{◌≡◌, refl, ℕ, ◌+◌, ◌-◌, List, [], 
 use Rattle.dl_num.specs.declared.fixed.Order.TheVariants.{Little, Big}
 use Rattle.dl_table.specs.declared.fault.FaultKind.{FaultKind}
 use Rattle.dl_table.specs.declared.fault.FaultKind.TheVariants as fault
-use Rattle.dl_head.specs.Layout.{standard_lengths}
+use Rattle.dl_field.specs.Layout.{standard_lengths}
 use Rattle.dl_head.specs.Header.{unit_len}
 use Rattle.dl_rows.specs.declared.reader.Event.{Event}
 use Rattle.dl_rows.specs.declared.reader.Event.TheVariants as event

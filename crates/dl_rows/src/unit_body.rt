@@ -1,8 +1,8 @@
 //! A unit after its header, or after a version that isn't 5. Section 6.2.4.
 
 ghost use Rattle.std.specs.Prelude.{◌≡◌, ◌≢◌, ◌≤◌, ◌+◌, ◌-◌, ◌^◌, ◌⊎◌, ℕ, List, Ok, Err, length, min, take, IfOk};
-ghost use Rattle.dl_head.specs.Built.{IsUsable};
-ghost use Rattle.dl_head.specs.HeaderData.{HeaderData};
+ghost use Rattle.dl_field.specs.Usable.{IsUsable};
+ghost use Rattle.dl_field.specs.HeaderData.{HeaderData};
 ghost use Rattle.dl_rows.specs.Reading.{IsPause};
 
 use crate::program::{Given, Program};

@@ -35,12 +35,6 @@ wrong_value-missing format pairs values i in_pairs past =
     let past_all : length (map value_lent values) ≤ i = omega (arith, length-map values value_lent) in
     rw (drop_more pairs i no_pair in_pairs, drop_all i (map value_lent values) past_all) refl
 
--- no pair is left, and no value
-pub wrong_value-none : (format : Format) (pairs : List Pair) (values : List ValueRef) (i : ℕ) → length pairs ≤ i → length values ≤ i → wrong_value format i (drop i pairs) (drop i (map value_lent values)) ≡ None
-wrong_value-none format pairs values i end past =
-    let past_all : length (map value_lent values) ≤ i = omega (arith, length-map values value_lent) in
-    rw (drop_all i pairs end, drop_all i (map value_lent values) past_all) refl
-
 -- no pair is left, but a value
 pub wrong_value-many : (format : Format) (pairs : List Pair) (values : List ValueRef) (i : ℕ) → length pairs ≤ i → i < length values → wrong_value format i (drop i pairs) (drop i (map value_lent values)) ≡ Some i
 wrong_value-many format pairs values i end in_values =

@@ -4,36 +4,36 @@ use Rattle.std.proofs.lemmas.List.{take-append-drop, take_all, take-append-le, d
 use Rattle.std.proofs.Math.Seq.{drop-append_seam}
 use Rattle.dl_table.specs.declared.form.Format.{Format}
 use Rattle.dl_table.specs.declared.table.Pair.{Pair}
-use Rattle.dl_table.specs.declared.table.held.Held.{Held}
+use Rattle.dl_table.specs.declared.table.held.StoredValue.{StoredValue}
 use Rattle.std.proofs.Math.Nat.{mul-le-mul_right, div-mul-le_self, mul-div_cancel}
 use Rattle.dl_table.specs.declared.table.held.Extent.{Extent}
 use Rattle.dl_table.specs.declared.table.held.ValueRef.{ValueRef}
-use Rattle.dl_table.specs.declared.table.held.Held.TheVariants as held
+use Rattle.dl_table.specs.declared.table.held.StoredValue.TheVariants as held
 use Rattle.dl_table.specs.Value.{Value, text, block}
 use Rattle.dl_table.specs.Held.{bytes_at, held_end, value_held, value_lent, values_end, rows, IsWhole, table_of}
 
-pub values_end-append : (xs ys : List Held) → values_end (xs ++ ys) ≡ max (values_end xs) (values_end ys)
+pub values_end-append : (xs ys : List StoredValue) → values_end (xs ++ ys) ≡ max (values_end xs) (values_end ys)
 values_end-append [] ys = omega arith
 values_end-append (x ∷ xs) ys = omega (arith, values_end-append xs ys)
 
-pub values_end-push : (xs : List Held) (y : Held) → values_end (xs ++ y ∷ []) ≡ max (values_end xs) (held_end y)
+pub values_end-push : (xs : List StoredValue) (y : StoredValue) → values_end (xs ++ y ∷ []) ≡ max (values_end xs) (held_end y)
 values_end-push xs y = omega (arith, values_end-append xs (y ∷ []))
 
 pub ruleset pushes = (values_end-push)
 
 -- no value ends after all of them
-pub held_end-le : (xs : List Held) (i : ℕ) (d : Held) → i < length xs → held_end (get_or xs i d) ≤ values_end xs
+pub held_end-le : (xs : List StoredValue) (i : ℕ) (d : StoredValue) → i < length xs → held_end (get_or xs i d) ≤ values_end xs
 held_end-le [] i d h = absurd (omega arith)
 held_end-le (x ∷ xs) zero d h = omega arith
 held_end-le (x ∷ xs) (suc i) d h = let e = held_end-le xs i d (omega arith) in omega arith
 
-pub values_end-take : (xs : List Held) (n : ℕ) → values_end (take n xs) ≤ values_end xs
+pub values_end-take : (xs : List StoredValue) (n : ℕ) → values_end (take n xs) ≤ values_end xs
 values_end-take xs n =
     let e = values_end-append (take n xs) (drop n xs) in
     let f = ap values_end (take-append-drop n xs) in
     omega arith
 
-pub values_end-drop : (xs : List Held) (n : ℕ) → values_end (drop n xs) ≤ values_end xs
+pub values_end-drop : (xs : List StoredValue) (n : ℕ) → values_end (drop n xs) ≤ values_end xs
 values_end-drop xs n =
     let e = values_end-append (take n xs) (drop n xs) in
     let f = ap values_end (take-append-drop n xs) in
@@ -55,19 +55,6 @@ pub whole_rows : (n width : ℕ) → IsWhole (n * width) width
 whole_rows n zero = omega arith
 whole_rows n (suc width) = ap (λ k. k * suc width) (mul-div_cancel n (omega arith))
 
-pub take_whole : {A : Type 0} (xs : List A) (n width : ℕ) → n * width ≤ length xs → IsWhole (length (take (n * width) xs)) width
-take_whole xs n width h = rw (length-take-le (n * width) xs h) (whole_rows n width)
-
--- nothing is left out of whole rows
-pub table_of-take : (format : Format) (pairs : List Pair) (values v : List Held) (pool : List ℕ) (k : ℕ) → v ≡ take k values → k ≡ length values / length pairs * length pairs → IsWhole (length values) (length pairs) → table_of format pairs v pool ≡ table_of format pairs values pool
-table_of-take format pairs values v pool k v_is k_is whole =
-    let same : v ≡ values = v_is ∙ take_all k values (omega (arith, k_is, whole)) in
-    rw same refl
-
--- bytes that are appended stand there
-pub bytes_at-append : (pool w : List ℕ) → bytes_at (pool ++ w) (record { start = length pool; len = length w }) ≡ w
-bytes_at-append pool w = rw (drop-append_seam pool w, take_all (length w) w (omega arith)) refl
-
 -- more bytes in the pool change no value
 bytes_at-more : (pool more : List ℕ) (e : Extent) → e.start + e.len ≤ length pool → bytes_at (pool ++ more) e ≡ bytes_at pool e
 bytes_at-more pool more e h =
@@ -75,7 +62,7 @@ bytes_at-more pool more e h =
     let len : e.len ≤ length (drop e.start pool) = omega (arith, length-drop e.start pool) in
     rw (drop-append-le e.start pool more start, take-append-le e.len (drop e.start pool) more len) refl
 
-pub value_held-more : (pool more : List ℕ) (h : Held) → held_end h ≤ length pool → value_held (pool ++ more) h ≡ value_held pool h
+pub value_held-more : (pool more : List ℕ) (h : StoredValue) → held_end h ≤ length pool → value_held (pool ++ more) h ≡ value_held pool h
 value_held-more pool more (held.Text e) h = ap text (bytes_at-more pool more e h)
 value_held-more pool more (held.LineStr n) h = refl
 value_held-more pool more (held.Str n) h = refl
@@ -84,13 +71,13 @@ value_held-more pool more (held.Number n) h = refl
 value_held-more pool more (held.Block e) h = ap block (bytes_at-more pool more e h)
 value_held-more pool more (held.Data16 w) h = refl
 
-pub values_held-more : (pool more : List ℕ) (values : List Held) → values_end values ≤ length pool → map (value_held (pool ++ more)) values ≡ map (value_held pool) values
+pub values_held-more : (pool more : List ℕ) (values : List StoredValue) → values_end values ≤ length pool → map (value_held (pool ++ more)) values ≡ map (value_held pool) values
 values_held-more pool more [] h = refl
 values_held-more pool more (v ∷ values) h =
     rw (value_held-more pool more v (omega arith), values_held-more pool more values (omega arith)) refl
 
 -- a value is held after the others, and its bytes after theirs
-pub values_held-push : (pool more : List ℕ) (values : List Held) (h : Held) (v : Value) → values_end values ≤ length pool → value_held (pool ++ more) h ≡ v → map (value_held (pool ++ more)) (values ++ h ∷ []) ≡ map (value_held pool) values ++ v ∷ []
+pub values_held-push : (pool more : List ℕ) (values : List StoredValue) (h : StoredValue) (v : Value) → values_end values ≤ length pool → value_held (pool ++ more) h ≡ v → map (value_held (pool ++ more)) (values ++ h ∷ []) ≡ map (value_held pool) values ++ v ∷ []
 values_held-push pool more values h v within is =
     rw (map-append (value_held (pool ++ more)) values (h ∷ []), values_held-more pool more values within, is) refl
 

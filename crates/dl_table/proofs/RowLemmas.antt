@@ -7,11 +7,11 @@ use Rattle.std.proofs.lemmas.List.Sums.{sum_by-append, sum_by-cons}
 use Rattle.std.specs.Option.{option_map}
 use Rattle.dl_table.specs.declared.form.Format.{Format}
 use Rattle.dl_table.specs.declared.table.Pair.{Pair}
-use Rattle.dl_table.specs.declared.table.held.Held.{Held}
+use Rattle.dl_table.specs.declared.table.held.StoredValue.{StoredValue}
 use Rattle.dl_table.specs.Value.{Value}
 use Rattle.dl_table.specs.TableData.{TableData}
 use Rattle.dl_table.specs.EntryData.{with_content}
-use Rattle.dl_table.specs.declared.table.held.Held.TheVariants as held
+use Rattle.dl_table.specs.declared.table.held.StoredValue.TheVariants as held
 use Rattle.dl_table.specs.TableCells.{value_cells, table_cells}
 use Rattle.dl_table.specs.Held.{cells_held, held_end, rows, table_of, value_held, values_end, IsWhole}
 use Rattle.dl_table.proofs.HeldLemmas.{length-rows, whole_rows}
@@ -53,7 +53,7 @@ sum_by-rows f (suc n) width xs h =
     sum_by-cons (λ row. sum_by f row) (take width xs) (rows n width (drop width xs)) ∙ omega arith
 
 -- an entry of a table: a row of its values
-pub entry_at : (format : Format) (pairs : List Pair) (values : List Held) (pool : List ℕ) (d : TableData) (i : ℕ) → table_of format pairs values pool ≡ d → i < length d.entries → option_map (with_content d.pairs) (slice_get d.entries i) ≡ Some (with_content pairs (map (value_held pool) (take (length pairs) (drop (i * length pairs) values))))
+pub entry_at : (format : Format) (pairs : List Pair) (values : List StoredValue) (pool : List ℕ) (d : TableData) (i : ℕ) → table_of format pairs values pool ≡ d → i < length d.entries → option_map (with_content d.pairs) (slice_get d.entries i) ≡ Some (with_content pairs (map (value_held pool) (take (length pairs) (drop (i * length pairs) values))))
 entry_at format pairs values pool d i is within =
     let count = length values / length pairs in
     let all = map (value_held pool) values in
@@ -63,7 +63,7 @@ entry_at format pairs values pool d i is within =
     ∙ ap (option_map (with_content pairs)) row
     ∙ ap (λ vs. Some (with_content pairs vs)) (ap (take (length pairs)) (drop-map (value_held pool) (i * length pairs) values) ∙ take-map (value_held pool) (length pairs) (drop (i * length pairs) values))
 
-pub cells_value : (pool : List ℕ) (h : Held) → held_end h ≤ length pool → value_cells (value_held pool h) ≡ cells_held h
+pub cells_value : (pool : List ℕ) (h : StoredValue) → held_end h ≤ length pool → value_cells (value_held pool h) ≡ cells_held h
 cells_value pool (held.Text e) h = omega (arith, length-take e.len (drop e.start pool), length-drop e.start pool)
 cells_value pool (held.LineStr n) h = refl
 cells_value pool (held.Str n) h = refl
@@ -72,30 +72,30 @@ cells_value pool (held.Number n) h = refl
 cells_value pool (held.Block e) h = omega (arith, length-take e.len (drop e.start pool), length-drop e.start pool)
 cells_value pool (held.Data16 w) h = refl
 
-pub cells_values : (pool : List ℕ) (values : List Held) → values_end values ≤ length pool → sum_by value_cells (map (value_held pool) values) ≡ sum_by cells_held values
+pub cells_values : (pool : List ℕ) (values : List StoredValue) → values_end values ≤ length pool → sum_by value_cells (map (value_held pool) values) ≡ sum_by cells_held values
 cells_values pool [] h = refl
 cells_values pool (v ∷ values) h =
     omega (arith, sum_by-cons value_cells (value_held pool v) (map (value_held pool) values), sum_by-cons cells_held v values, cells_value pool v (omega arith), cells_values pool values (omega arith))
 
 -- the cells of a table are its pairs and those of its values
-pub cells_table : (format : Format) (pairs : List Pair) (values : List Held) (pool : List ℕ) → values_end values ≤ length pool → IsWhole (length values) (length pairs) → table_cells (table_of format pairs values pool) ≡ length pairs + sum_by cells_held values
+pub cells_table : (format : Format) (pairs : List Pair) (values : List StoredValue) (pool : List ℕ) → values_end values ≤ length pool → IsWhole (length values) (length pairs) → table_cells (table_of format pairs values pool) ≡ length pairs + sum_by cells_held values
 cells_table format pairs values pool within whole =
     let all = map (value_held pool) values in
     let counted : length all ≡ length values / length pairs * length pairs = omega (arith, length-map values (value_held pool)) in
     omega (arith, sum_by-rows value_cells (length values / length pairs) (length pairs) all counted, cells_values pool values within)
 
 -- one value more for each pair is one row more
-pub length-push : (pairs : List Pair) (values v : List Held) (pool p : List ℕ) (new : List Value) → IsWhole (length values) (length pairs) → length new ≡ length pairs → map (value_held p) v ≡ map (value_held pool) values ++ new → length v ≡ suc (length values / length pairs) * length pairs
+pub length-push : (pairs : List Pair) (values v : List StoredValue) (pool p : List ℕ) (new : List Value) → IsWhole (length values) (length pairs) → length new ≡ length pairs → map (value_held p) v ≡ map (value_held pool) values ++ new → length v ≡ suc (length values / length pairs) * length pairs
 length-push pairs values v pool p new whole each is =
     let joined = ap length is in
     omega (arith, length-map v (value_held p), length-map values (value_held pool), length-append (map (value_held pool) values) new)
 
-pub whole-push : (pairs : List Pair) (values v : List Held) (pool p : List ℕ) (new : List Value) → IsWhole (length values) (length pairs) → length new ≡ length pairs → map (value_held p) v ≡ map (value_held pool) values ++ new → IsWhole (length v) (length pairs)
+pub whole-push : (pairs : List Pair) (values v : List StoredValue) (pool p : List ℕ) (new : List Value) → IsWhole (length values) (length pairs) → length new ≡ length pairs → map (value_held p) v ≡ map (value_held pool) values ++ new → IsWhole (length v) (length pairs)
 whole-push pairs values v pool p new whole each is =
     rw (length-push pairs values v pool p new whole each is) (whole_rows (suc (length values / length pairs)) (length pairs))
 
 -- the row is one entry more
-pub table_of-push : (format : Format) (pairs : List Pair) (values v : List Held) (pool p : List ℕ) (new : List Value) → 0 < length pairs → IsWhole (length values) (length pairs) → length new ≡ length pairs → map (value_held p) v ≡ map (value_held pool) values ++ new → table_of format pairs v p ≡ record (table_of format pairs values pool) { entries = (table_of format pairs values pool).entries ++ new ∷ [] }
+pub table_of-push : (format : Format) (pairs : List Pair) (values v : List StoredValue) (pool p : List ℕ) (new : List Value) → 0 < length pairs → IsWhole (length values) (length pairs) → length new ≡ length pairs → map (value_held p) v ≡ map (value_held pool) values ++ new → table_of format pairs v p ≡ record (table_of format pairs values pool) { entries = (table_of format pairs values pool).entries ++ new ∷ [] }
 table_of-push format pairs values v pool p new some whole each is =
     let width = length pairs in
     let count = length values / width in

@@ -4,7 +4,7 @@ use Rattle.std.specs.List.{AllByRecursion, AllByRecursion-prop}
 use Rattle.std.proofs.Props.{props}
 use Rattle.dl_table.specs.declared.form.Format.{Format}
 use Rattle.dl_table.specs.declared.table.Pair.{Pair}
-use Rattle.dl_table.specs.declared.table.held.Held.{Held}
+use Rattle.dl_table.specs.declared.table.held.StoredValue.{StoredValue}
 use Rattle.dl_table.specs.TableData.{TableData}
 use Rattle.dl_table.specs.Value.{Value}
 use Rattle.dl_table.specs.Built.{wrong_value, entry_fault, entry_fault_of}
@@ -22,18 +22,18 @@ right_entry [] o some e = absurd (some refl)
 right_entry (p ∷ pairs) o some e = rw e refl
 
 -- there are no more entries than values
-pub few_entries : (format : Format) (pairs : List Pair) (values : List Held) (pool : List ℕ) → length (table_of format pairs values pool).entries ≤ length values
+pub few_entries : (format : Format) (pairs : List Pair) (values : List StoredValue) (pool : List ℕ) → length (table_of format pairs values pool).entries ≤ length values
 few_entries format pairs values pool =
     omega (arith, length-rows (length values / length pairs) (length pairs) (map (value_held pool) values))
 
 -- a table without entries
-pub sound_empty : (format : Format) (pairs : List Pair) (values : List Held) (pool : List ℕ) → AreContents pairs → values ≡ [] → IsSoundTable (table_of format pairs values pool)
+pub sound_empty : (format : Format) (pairs : List Pair) (values : List StoredValue) (pool : List ℕ) → AreContents pairs → values ≡ [] → IsSoundTable (table_of format pairs values pool)
 sound_empty format pairs values pool contents none =
     let no_rows : 0 / length pairs ≡ 0 = omega arith in
-    subst (λ (v : List Held). IsSoundTable (table_of format pairs v pool)) (sym none) (record { contents = contents; entries = rw no_rows tt; count = rw no_rows (omega arith) })
+    subst (λ (v : List StoredValue). IsSoundTable (table_of format pairs v pool)) (sym none) (record { contents = contents; entries = rw no_rows tt; count = rw no_rows (omega arith) })
 
 -- an entry more
-pub sound_push : (format : Format) (pairs : List Pair) (values v : List Held) (pool p : List ℕ) (new : List Value) → 0 < length pairs → IsWhole (length values) (length pairs) → length new ≡ length pairs
+pub sound_push : (format : Format) (pairs : List Pair) (values v : List StoredValue) (pool p : List ℕ) (new : List Value) → 0 < length pairs → IsWhole (length values) (length pairs) → length new ≡ length pairs
     → map (value_held p) v ≡ map (value_held pool) values ++ new → length v < 2 ^ 64 → wrong_value format 0 pairs new ≡ None → IsSoundTable (table_of format pairs values pool) → IsSoundTable (table_of format pairs v p)
 sound_push format pairs values v pool p new some whole each is small right sound =
     let t = table_of format pairs values pool in

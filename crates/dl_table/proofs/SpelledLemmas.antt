@@ -6,7 +6,7 @@ use Rattle.std.proofs.Math.Nat.{zero-mul}
 use Rattle.dl_num.specs.declared.fixed.Order.{Order}
 use Rattle.dl_table.specs.declared.form.Format.{Format}
 use Rattle.dl_table.specs.declared.table.Pair.{Pair}
-use Rattle.dl_table.specs.declared.table.held.Held.{Held}
+use Rattle.dl_table.specs.declared.table.held.StoredValue.{StoredValue}
 use Rattle.dl_table.specs.Value.{Value, number}
 use Rattle.dl_table.specs.Held.{rows, value_held}
 use Rattle.dl_table.specs.Written.{entry_bytes, value_bytes}
@@ -20,7 +20,7 @@ pub parts_end : {A : Type 0} (f : A → List ℕ) (xs : List A) (i : ℕ) → le
 parts_end f xs i h = rw (drop_all i xs h) refl
 
 -- the same of an entry, whose parts are the values in the forms of their pairs
-pub entry_from : (order : Order) (format : Format) (pairs : List Pair) (held : List Held) (pool : List ℕ) (i : ℕ) (d : Held) → i < length pairs → i < length held → length (entry_bytes order format (drop i pairs) (drop i (map (value_held pool) held))) ≡ length (value_bytes order format (get_or pairs i no_pair).form (value_held pool (get_or held i d))) + length (entry_bytes order format (drop (i + 1) pairs) (drop (i + 1) (map (value_held pool) held)))
+pub entry_from : (order : Order) (format : Format) (pairs : List Pair) (held : List StoredValue) (pool : List ℕ) (i : ℕ) (d : StoredValue) → i < length pairs → i < length held → length (entry_bytes order format (drop i pairs) (drop i (map (value_held pool) held))) ≡ length (value_bytes order format (get_or pairs i no_pair).form (value_held pool (get_or held i d))) + length (entry_bytes order format (drop (i + 1) pairs) (drop (i + 1) (map (value_held pool) held)))
 entry_from order format pairs held pool i d h k =
     let all = map (value_held pool) held in
     let within : i < length all = omega (arith, length-map held (value_held pool)) in
@@ -39,7 +39,7 @@ get_or-rows (suc n) width xs (suc i) d h =
     rw (get_or-rows n width (drop width xs) i d (omega arith), drop-drop (i * width) width xs, e) refl
 
 -- the values of a row of what is held
-pub row_at : (n width : ℕ) (pool : List ℕ) (values : List Held) (i : ℕ) (held : List Held) → i < n → held ≡ take width (drop (i * width) values) → get_or (rows n width (map (value_held pool) values)) i [] ≡ map (value_held pool) held
+pub row_at : (n width : ℕ) (pool : List ℕ) (values : List StoredValue) (i : ℕ) (held : List StoredValue) → i < n → held ≡ take width (drop (i * width) values) → get_or (rows n width (map (value_held pool) values)) i [] ≡ map (value_held pool) held
 row_at n width pool values i held h is =
     get_or-rows n width (map (value_held pool) values) i [] h ∙ ap (take width) (drop-map (value_held pool) (i * width) values)
     ∙ take-map (value_held pool) width (drop (i * width) values) ∙ ap (map (value_held pool)) (sym is)

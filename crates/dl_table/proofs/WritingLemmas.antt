@@ -9,7 +9,7 @@ use Rattle.std.proofs.KnownBytes.{Appends-trans}
 use Rattle.dl_num.specs.declared.fixed.Order.{Order}
 use Rattle.dl_table.specs.declared.form.Format.{Format}
 use Rattle.dl_table.specs.declared.table.Pair.{Pair}
-use Rattle.dl_table.specs.declared.table.held.Held.{Held}
+use Rattle.dl_table.specs.declared.table.held.StoredValue.{StoredValue}
 use Rattle.dl_table.specs.Value.{Value, number}
 use Rattle.dl_num.specs.Shortest.{shortest_uleb}
 use Rattle.dl_table.specs.Held.{table_of, value_held}
@@ -25,10 +25,6 @@ use Rattle.dl_table.specs.Writing.{IsOut, IsPartOut, TellsOut}
 pub Appends-slice : (start a b : Option (List ℕ)) (bytes : List ℕ) (out k : ℕ) → Appends start a (take out bytes) → Appends a b (take k (take (length bytes - out) (drop out bytes))) → Appends start b (take (out + k) bytes)
 Appends-slice start a b bytes out k h p =
     subst (Appends start b) (sym (take-add out k bytes)) (Appends-trans start a b _ _ h (subst (λ l. Appends a b (take k l)) (take_rest bytes out) p))
-
--- a part of the bytes went out after the text
-pub TellsOut-part : (start a b : Option (List ℕ)) (text bytes : List ℕ) (count k : ℕ) {n : ℕ} → IsOut start a text count → k < length bytes → Appends a b (take k bytes) → (IsOut start a text count → k < length bytes → IsPartOut start b (text ++ bytes) n (length text + k)) → TellsOut start b (text ++ bytes) (Write n)
-TellsOut-part start a b text bytes count k h within p made = (length text + k, made h within)
 
 pub Appends-part : (start a b : Option (List ℕ)) (text bytes : List ℕ) (k : ℕ) → Appends start a text → Appends a b (take k bytes) → Appends start b (take (length text + k) (text ++ bytes))
 Appends-part start a b text bytes k h p =
@@ -67,9 +63,6 @@ module _ (start now : Option (List ℕ)) where
   Written-same text a b result is h =
       subst (λ l. MatchResult result (λ n. IsOut start now (text ++ l) n) (λ f. TellsOut start now (text ++ l) f)) is h
 
-  pub TellsOut-same : (text a b : List ℕ) (f : HeadWrite) → a ≡ b → TellsOut start now (text ++ a) f → TellsOut start now (text ++ b) f
-  TellsOut-same text a b f is h = subst (λ l. TellsOut start now (text ++ l) f) is h
-
 -- one part more, and the parts before it, of it and after it
 pub parts_more : {A : Type 0} (f : A → List ℕ) (xs : List A) (i : ℕ) (d : A) → i < length xs → flat_map f (take (i + 1) xs) ≡ flat_map f (take i xs) ++ f (get_or xs i d)
 parts_more f xs i d h =
@@ -90,7 +83,7 @@ module _ (order : Order) (format : Format) where
       ap (λ (l : List ℕ). value_bytes order format p.form v ++ l) (entry-append ps qs vs ws (omega arith))
       ∙ sym (append_assoc (value_bytes order format p.form v) (entry_bytes order format ps vs) (entry_bytes order format qs ws))
 
-  pub entry_more : (pairs : List Pair) (pool : List ℕ) (held : List Held) (i : ℕ) (d : Held) → i < length pairs → i < length held → entry_bytes order format (take (i + 1) pairs) (take (i + 1) (map (value_held pool) held)) ≡ entry_bytes order format (take i pairs) (take i (map (value_held pool) held)) ++ value_bytes order format (get_or pairs i no_pair).form (value_held pool (get_or held i d))
+  pub entry_more : (pairs : List Pair) (pool : List ℕ) (held : List StoredValue) (i : ℕ) (d : StoredValue) → i < length pairs → i < length held → entry_bytes order format (take (i + 1) pairs) (take (i + 1) (map (value_held pool) held)) ≡ entry_bytes order format (take i pairs) (take i (map (value_held pool) held)) ++ value_bytes order format (get_or pairs i no_pair).form (value_held pool (get_or held i d))
   entry_more pairs pool held i d h k =
       let all = map (value_held pool) held in
       let within : i < length all = omega (arith, length-map held (value_held pool)) in
@@ -100,7 +93,7 @@ module _ (order : Order) (format : Format) where
       rw (take_more pairs i no_pair h, take_more all i (number 0) within, at)
       (entry-append (take i pairs) (get_or pairs i no_pair ∷ []) (take i all) (value_held pool (get_or held i d) ∷ []) even ∙ ap (λ (l : List ℕ). entry_bytes order format (take i pairs) (take i all) ++ l) last)
 
-  pub entry_split : (pairs : List Pair) (pool : List ℕ) (held : List Held) (i : ℕ) (d : Held) → i < length pairs → length held ≡ length pairs → entry_bytes order format pairs (map (value_held pool) held) ≡ entry_bytes order format (take i pairs) (take i (map (value_held pool) held)) ++ value_bytes order format (get_or pairs i no_pair).form (value_held pool (get_or held i d)) ++ entry_bytes order format (drop (i + 1) pairs) (drop (i + 1) (map (value_held pool) held))
+  pub entry_split : (pairs : List Pair) (pool : List ℕ) (held : List StoredValue) (i : ℕ) (d : StoredValue) → i < length pairs → length held ≡ length pairs → entry_bytes order format pairs (map (value_held pool) held) ≡ entry_bytes order format (take i pairs) (take i (map (value_held pool) held)) ++ value_bytes order format (get_or pairs i no_pair).form (value_held pool (get_or held i d)) ++ entry_bytes order format (drop (i + 1) pairs) (drop (i + 1) (map (value_held pool) held))
   entry_split pairs pool held i d h same =
       let all = map (value_held pool) held in
       let even : length (take (i + 1) pairs) ≡ length (take (i + 1) all) = omega (arith, length-take (i + 1) pairs, length-take (i + 1) all, length-map held (value_held pool)) in
@@ -109,7 +102,7 @@ module _ (order : Order) (format : Format) where
       ∙ entry-append (take (i + 1) pairs) (drop (i + 1) pairs) (take (i + 1) all) (drop (i + 1) all) even
       ∙ ap (λ (l : List ℕ). l ++ entry_bytes order format (drop (i + 1) pairs) (drop (i + 1) all)) (entry_more pairs pool held i d h (omega arith))
 
-pub table_parts-is : (order : Order) (format : Format) (pairs : List Pair) (values : List Held) (pool : List ℕ) → table_parts order format pairs values pool ≡ table_bytes order (table_of format pairs values pool)
+pub table_parts-is : (order : Order) (format : Format) (pairs : List Pair) (values : List StoredValue) (pool : List ℕ) → table_parts order format pairs values pool ≡ table_bytes order (table_of format pairs values pool)
 table_parts-is order format pairs values pool =
     let count = length values / length pairs in
     let entries = flat_map (entry_bytes order format pairs) (table_of format pairs values pool).entries in

@@ -3,8 +3,8 @@ use Rattle.std.specs.Prelude.{◌≡◌, ℕ, zero, suc, ◌+◌, ◌*◌, ◌/�
 use Rattle.dl_table.specs.declared.form.Format.{Format}
 use Rattle.dl_table.specs.declared.table.Pair.{Pair}
 use Rattle.dl_table.specs.declared.table.held.Extent.{Extent}
-use Rattle.dl_table.specs.declared.table.held.Held.{Held}
-use Rattle.dl_table.specs.declared.table.held.Held.TheVariants as held
+use Rattle.dl_table.specs.declared.table.held.StoredValue.{StoredValue}
+use Rattle.dl_table.specs.declared.table.held.StoredValue.TheVariants as held
 use Rattle.dl_table.specs.declared.table.held.ValueRef.{ValueRef}
 use Rattle.dl_table.specs.declared.table.held.ValueRef.TheVariants as lent
 use Rattle.dl_table.specs.TableData.{TableData}
@@ -15,7 +15,7 @@ abbrev pub bytes_at : List ℕ → Extent → List ℕ
 bytes_at pool e = take e.len (drop e.start pool)
 
 -- the value that is held, its bytes in the pool
-abbrev pub value_held : List ℕ → Held → Value
+abbrev pub value_held : List ℕ → StoredValue → Value
 value_held pool (held.Text e) = text (bytes_at pool e)
 value_held pool (held.LineStr n) = line_str n
 value_held pool (held.Str n) = str n
@@ -35,13 +35,13 @@ value_lent (lent.Block w) = block w.now
 value_lent (lent.Data16 w) = data16 w
 
 -- where the bytes of a value end in the pool
-abbrev pub held_end : Held → ℕ
+abbrev pub held_end : StoredValue → ℕ
 held_end (held.Text e) = e.start + e.len
 held_end (held.Block e) = e.start + e.len
 held_end other = 0
 
 -- where the bytes of all the values end
-abbrev pub values_end : List Held → ℕ
+abbrev pub values_end : List StoredValue → ℕ
 values_end [] = 0
 values_end (h ∷ values) = max (held_end h) (values_end values)
 
@@ -55,7 +55,7 @@ abbrev pub IsWhole : (values width : ℕ) → Type 0
 IsWhole values width = values / width * width ≡ values
 
 -- a table whose entries are rows of one value for each pair
-abbrev pub table_of : Format → List Pair → List Held → List ℕ → TableData
+abbrev pub table_of : Format → List Pair → List StoredValue → List ℕ → TableData
 table_of format pairs values pool = record {
   format = format;
   pairs = pairs;
@@ -72,7 +72,7 @@ abbrev pub pooled : ValueRef → ℕ
 pooled v = length (bytes_lent v)
 
 -- how many cells a value is: itself, and the bytes of a text or block
-abbrev pub cells_held : Held → ℕ
+abbrev pub cells_held : StoredValue → ℕ
 cells_held (held.Text e) = 1 + e.len
 cells_held (held.Block e) = 1 + e.len
 cells_held other = 1

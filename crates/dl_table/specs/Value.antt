@@ -111,7 +111,3 @@ value_spelt order format form.Udata w = leb_spelt w
 value_spelt order format form.StrpSup w = number_spelt order (offset_size format) str_sup w
 value_spelt order format form.Data16 w = if length w == 16 then good (data16 w) else None
 value_spelt order format form.LineStrp w = number_spelt order (offset_size format) line_str w
-
--- w spells the value v in the form
-abbrev pub SpellsValue : Order → Format → Form → Value → List ℕ → Type 0
-SpellsValue order format form v w = value_spelt order format form w ≡ good v

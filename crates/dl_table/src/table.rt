@@ -19,7 +19,7 @@ mod writing;
 use crate::fault::BuildFault;
 use crate::form::{Form, Format};
 pub use entry::{Entry, Values};
-pub use held::{Extent, Held, ValueRef};
+pub use held::{Extent, StoredValue, ValueRef};
 use std::alloc::{AllocError, Global};
 use std::marker::Model;
 
@@ -48,7 +48,7 @@ impl Pair {
 pub struct Table {
     format: Format,
     pairs: Vec<Pair>,
-    values: Vec<Held>,
+    values: Vec<StoredValue>,
     pool: Vec<u8>,
 }
 
@@ -162,7 +162,12 @@ impl Table {
     }
 
     /// A table of values whose bytes stand in the pool.
-    pub fn of_parts(format: Format, pairs: Vec<Pair>, values: Vec<Held>, pool: Vec<u8>) -> Table
+    pub fn of_parts(
+        format: Format,
+        pairs: Vec<Pair>,
+        values: Vec<StoredValue>,
+        pool: Vec<u8>,
+    ) -> Table
         requires few { length pairs.items ≤ 255 }
         requires within { values_end values.items ≤ length pool.items }
         requires whole { IsWhole (length values.items) (length pairs.items) }
@@ -215,7 +220,7 @@ fn whole_rows(values: usize, width: usize) -> usize
 
 /// The row of this number, from 0 on, in rows of so many values.
 #[tactic(auto, using(crate::proofs::HeldLemmas::row_within))]
-fn row(values: &[Held], width: usize, i: usize) -> &[Held]
+fn row(values: &[StoredValue], width: usize, i: usize) -> &[StoredValue]
     requires { i < length values.now / width }
     ensures { result.now ≡ take width (drop (i * width) values.now) }
 {
@@ -224,7 +229,7 @@ fn row(values: &[Held], width: usize, i: usize) -> &[Held]
 }
 
 /// How many cells these values are; 2^64 - 1 where there are more.
-fn held_cells(values: &[Held]) -> u64
+fn held_cells(values: &[StoredValue]) -> u64
     ensures { result ≡ min (sum_by cells_held values.now) (2 ^ 64 - 1) }
 {
     let mut cells = 0u64;
@@ -235,7 +240,7 @@ fn held_cells(values: &[Held]) -> u64
 }
 
 /// How many cells there are in these parts of a table; 2^64 - 1 where there are more.
-pub fn cells_of(pairs: &Vec<Pair>, values: &Vec<Held>, pool: &Vec<u8>) -> u64
+pub fn cells_of(pairs: &Vec<Pair>, values: &Vec<StoredValue>, pool: &Vec<u8>) -> u64
     ensures { result ≡ min (length pairs.now.items + length values.now.items
         + length pool.now.items) (2 ^ 64 - 1) }
 {

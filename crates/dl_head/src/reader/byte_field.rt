@@ -1,7 +1,7 @@
 //! Header fields of one byte. Section 6.2.4.
 
 ghost use Rattle.std.specs.Prelude.{◌≡◌};
-ghost use Rattle.dl_head.specs.Layout.{objection};
+ghost use Rattle.dl_field.specs.Layout.{objection};
 ghost use Rattle.dl_head.specs.Bytes.{byte_kind};
 
 use dl_table::FaultKind;

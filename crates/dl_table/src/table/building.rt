@@ -8,7 +8,7 @@ ghost use Rattle.dl_table.specs.Building.{fits_block};
 
 use crate::form::{Form, Format};
 use crate::table::Pair;
-use crate::table::held::{Extent, Held, ValueRef};
+use crate::table::held::{Extent, StoredValue, ValueRef};
 
 /// The least place at which a value is missing, is too many, or isn't one of its pair's form.
 pub fn wrong_value(format: Format, pairs: &[Pair], values: &[ValueRef<'_>]) -> Option<usize>
@@ -98,7 +98,7 @@ pub fn pooled_len(values: &[ValueRef<'_>]) -> Option<usize>
 }
 
 /// Appends the values, for which there is room.
-pub fn hold_all(held: &mut Vec<Held>, pool: &mut Vec<u8>, values: &[ValueRef<'_>])
+pub fn hold_all(held: &mut Vec<StoredValue>, pool: &mut Vec<u8>, values: &[ValueRef<'_>])
     requires held_room { vec_len held.old + length values.now ≤ vec_capacity held.old }
     requires pool_room { vec_len pool.old + sum_by pooled values.now ≤ vec_capacity pool.old }
     requires within { values_end held.old.items ≤ length pool.old.items }
@@ -113,7 +113,7 @@ pub fn hold_all(held: &mut Vec<Held>, pool: &mut Vec<u8>, values: &[ValueRef<'_>
 
 /// Appends a value, for which there is room.
 #[tactic(auto, using(crate::proofs::HeldLemmas::pushes))]
-fn hold(held: &mut Vec<Held>, pool: &mut Vec<u8>, value: &ValueRef<'_>)
+fn hold(held: &mut Vec<StoredValue>, pool: &mut Vec<u8>, value: &ValueRef<'_>)
     requires held_room { vec_len held.old < vec_capacity held.old }
     requires pool_room { vec_len pool.old + pooled value.now ≤ vec_capacity pool.old }
     requires within { values_end held.old.items ≤ length pool.old.items }
@@ -130,7 +130,7 @@ fn hold(held: &mut Vec<Held>, pool: &mut Vec<u8>, value: &ValueRef<'_>)
 }
 
 /// The value as it is held, its bytes appended to the pool, which has room for them.
-fn pool_bytes(pool: &mut Vec<u8>, value: &ValueRef<'_>) -> Held
+fn pool_bytes(pool: &mut Vec<u8>, value: &ValueRef<'_>) -> StoredValue
     requires { vec_len pool.old + pooled value.now ≤ vec_capacity pool.old }
     ensures items { pool.new.items ≡ pool.old.items ++ bytes_lent value.now }
     ensures value { value_held pool.new.items result ≡ value_lent value.now }
@@ -139,13 +139,13 @@ fn pool_bytes(pool: &mut Vec<u8>, value: &ValueRef<'_>) -> Held
     ensures capacity { vec_capacity pool.old ≤ vec_capacity pool.new }
 {
     match *value {
-        ValueRef::Text(bytes) => Held::Text(copy(pool, bytes)),
-        ValueRef::LineStr(offset) => Held::LineStr(offset),
-        ValueRef::Str(offset) => Held::Str(offset),
-        ValueRef::StrSup(offset) => Held::StrSup(offset),
-        ValueRef::Number(number) => Held::Number(number),
-        ValueRef::Block(bytes) => Held::Block(copy(pool, bytes)),
-        ValueRef::Data16(bytes) => Held::Data16(bytes),
+        ValueRef::Text(bytes) => StoredValue::Text(copy(pool, bytes)),
+        ValueRef::LineStr(offset) => StoredValue::LineStr(offset),
+        ValueRef::Str(offset) => StoredValue::Str(offset),
+        ValueRef::StrSup(offset) => StoredValue::StrSup(offset),
+        ValueRef::Number(number) => StoredValue::Number(number),
+        ValueRef::Block(bytes) => StoredValue::Block(copy(pool, bytes)),
+        ValueRef::Data16(bytes) => StoredValue::Data16(bytes),
     }
 }
 

@@ -6,13 +6,13 @@ ghost use Rattle.dl_table.specs.Held.{value_held, value_lent, values_end};
 ghost use Rattle.dl_table.specs.EntryData.{value_of, with_content};
 
 use crate::table::Pair;
-use crate::table::held::{Held, ValueRef};
+use crate::table::held::{StoredValue, ValueRef};
 
 /// An entry of a table: one value for each of the table's pairs.
 #[derive(Clone, Copy)]
 pub struct Entry<'a> {
     pairs: &'a [Pair],
-    held: &'a [Held],
+    held: &'a [StoredValue],
     pool: &'a [u8],
     ghost within: { values_end held.now ≤ length pool.now },
 }
@@ -21,7 +21,7 @@ impl<'a> Entry<'a> {
     ghost use Rattle.dl_table.specs.EntryHeld.{entry_items};
     ghost use Rattle.dl_table.specs.ValuesLeft.{values_left};
 
-    pub(crate) fn new(pairs: &'a [Pair], held: &'a [Held], pool: &'a [u8]) -> Entry<'a>
+    pub(crate) fn new(pairs: &'a [Pair], held: &'a [StoredValue], pool: &'a [u8]) -> Entry<'a>
         requires { values_end held.now ≤ length pool.now }
         ensures { entry_items result
             ≡ with_content pairs.now (map (value_held pool.now) held.now) }

@@ -4,7 +4,7 @@ ghost use Rattle.std.specs.Prelude.{◌≡◌, ◌≤◌, ◌↔◌, IsTrue, len
 ghost use Rattle.dl_table.specs.Held.{held_end, value_held, values_end};
 
 use crate::table::Table;
-use crate::table::held::Held;
+use crate::table::held::StoredValue;
 
 impl PartialEq for Table {
     ghost use Rattle.std.specs.Cmp.{partial_equiv_from_equiv};
@@ -51,7 +51,12 @@ impl Table {
 }
 
 /// Whether the values are the same, their bytes standing in these pools.
-fn same_values(values: &[Held], pool: &[u8], others: &[Held], other_pool: &[u8]) -> bool
+fn same_values(
+    values: &[StoredValue],
+    pool: &[u8],
+    others: &[StoredValue],
+    other_pool: &[u8],
+) -> bool
     requires within { values_end values.now ≤ length pool.now }
     requires other_within { values_end others.now ≤ length other_pool.now }
     ensures { IsTrue result
@@ -68,7 +73,7 @@ fn same_values(values: &[Held], pool: &[u8], others: &[Held], other_pool: &[u8])
     true
 }
 
-fn is_same_value(held: Held, pool: &[u8], other: Held, other_pool: &[u8]) -> bool
+fn is_same_value(held: StoredValue, pool: &[u8], other: StoredValue, other_pool: &[u8]) -> bool
     requires within { held_end held ≤ length pool.now }
     requires other_within { held_end other ≤ length other_pool.now }
     ensures { IsTrue result ↔ (value_held pool.now held ≡ value_held other_pool.now other) }

@@ -39,7 +39,7 @@ pub struct Extent {
 
 /// A value of a table, held; the bytes of texts and blocks stand in the table's pool.
 #[derive(Clone, Copy, Debug, PartialEq, Eq)]
-pub enum Held {
+pub enum StoredValue {
     Text(Extent),
     LineStr(u64),
     Str(u64),
@@ -49,14 +49,15 @@ pub enum Held {
     Data16([u8; 16]),
 }
 
-impl Held {
+impl StoredValue {
     /// How many cells it is: itself, and the bytes of a text or block; 2^64 - 1 where there are
     /// more.
     pub fn cells(self) -> u64
         ensures { result ≡ min (cells_held self) (2 ^ 64 - 1) }
     {
         match self {
-            Held::Text(extent) | Held::Block(extent) => (extent.len as u64).saturating_add(1),
+            StoredValue::Text(extent) | StoredValue::Block(extent) =>
+                (extent.len as u64).saturating_add(1),
             _ => 1,
         }
     }
@@ -67,13 +68,13 @@ impl Held {
         ensures { value_lent result ≡ value_held pool.now self }
     {
         match self {
-            Held::Text(extent) => ValueRef::Text(extent.of(pool)),
-            Held::LineStr(offset) => ValueRef::LineStr(offset),
-            Held::Str(offset) => ValueRef::Str(offset),
-            Held::StrSup(offset) => ValueRef::StrSup(offset),
-            Held::Number(number) => ValueRef::Number(number),
-            Held::Block(extent) => ValueRef::Block(extent.of(pool)),
-            Held::Data16(bytes) => ValueRef::Data16(bytes),
+            StoredValue::Text(extent) => ValueRef::Text(extent.of(pool)),
+            StoredValue::LineStr(offset) => ValueRef::LineStr(offset),
+            StoredValue::Str(offset) => ValueRef::Str(offset),
+            StoredValue::StrSup(offset) => ValueRef::StrSup(offset),
+            StoredValue::Number(number) => ValueRef::Number(number),
+            StoredValue::Block(extent) => ValueRef::Block(extent.of(pool)),
+            StoredValue::Data16(bytes) => ValueRef::Data16(bytes),
         }
     }
 }

@@ -10,7 +10,7 @@ ghost use Rattle.dl_table.specs.Written.{entry_bytes, pair_bytes, table_bytes, v
 ghost use Rattle.dl_table.specs.Spelled.{block_size};
 
 use crate::form::{Form, Format};
-use crate::table::held::{Held, ValueRef};
+use crate::table::held::{StoredValue, ValueRef};
 use crate::table::{Pair, Table, row, whole_rows};
 use dl_num::uleb_bytes;
 
@@ -52,7 +52,7 @@ fn pairs_len(pairs: &[Pair]) -> u64
 }
 
 /// How many bytes the rows of values are, one value for each pair.
-fn rows_len(format: Format, pairs: &[Pair], values: &[Held], pool: &[u8]) -> u64
+fn rows_len(format: Format, pairs: &[Pair], values: &[StoredValue], pool: &[u8]) -> u64
     requires { values_end values.now ≤ length pool.now }
     ensures { result ≡ min (length (flat_map (entry_bytes Little format pairs.now)
         (table_of format pairs.now values.now pool.now).entries)) (2 ^ 64 - 1) }
@@ -65,7 +65,7 @@ fn rows_len(format: Format, pairs: &[Pair], values: &[Held], pool: &[u8]) -> u64
     len
 }
 
-fn row_len(format: Format, pairs: &[Pair], held: &[Held], pool: &[u8]) -> u64
+fn row_len(format: Format, pairs: &[Pair], held: &[StoredValue], pool: &[u8]) -> u64
     requires within { values_end held.now ≤ length pool.now }
     requires whole { length held.now ≡ length pairs.now }
     ensures { result ≡ min (length (entry_bytes Little format pairs.now
@@ -78,7 +78,7 @@ fn row_len(format: Format, pairs: &[Pair], held: &[Held], pool: &[u8]) -> u64
     len
 }
 
-fn held_len(format: Format, form: Form, held: Held, pool: &[u8]) -> u64
+fn held_len(format: Format, form: Form, held: StoredValue, pool: &[u8]) -> u64
     requires { held_end held ≤ length pool.now }
     ensures { result ≡ min (length (value_bytes Little format form
         (value_held pool.now held))) (2 ^ 64 - 1) }

@@ -12,7 +12,7 @@ ghost use Rattle.dl_table.specs.Written.{entry_bytes, pair_bytes, table_bytes, v
 
 use crate::counted::{HeadWrite, put, put_number};
 use crate::form::{Form, Format};
-use crate::table::held::{Held, ValueRef};
+use crate::table::held::{StoredValue, ValueRef};
 use crate::table::{Pair, Table, row, whole_rows};
 use dl_num::{Order, uleb_bytes};
 use std::io::Write;
@@ -41,7 +41,7 @@ fn put_table<W: Write>(
     order: Order,
     format: Format,
     pairs: &[Pair],
-    values: &[Held],
+    values: &[StoredValue],
     pool: &[u8],
 ) -> Result<u64, HeadWrite>
     requires few { length pairs.now ≤ 255 }
@@ -70,7 +70,7 @@ fn put_entries<W: Write>(
     order: Order,
     format: Format,
     pairs: &[Pair],
-    values: &[Held],
+    values: &[StoredValue],
     pool: &[u8],
 ) -> Result<u64, HeadWrite>
     requires { values_end values.now ≤ length pool.now }
@@ -115,7 +115,7 @@ fn put_rows<W: Write>(
     order: Order,
     format: Format,
     pairs: &[Pair],
-    values: &[Held],
+    values: &[StoredValue],
     pool: &[u8],
 ) -> Result<u64, HeadWrite>
     requires { values_end values.now ≤ length pool.now }
@@ -136,7 +136,7 @@ fn put_row<W: Write>(
     order: Order,
     format: Format,
     pairs: &[Pair],
-    held: &[Held],
+    held: &[StoredValue],
     pool: &[u8],
 ) -> Result<u64, HeadWrite>
     requires within { values_end held.now ≤ length pool.now }
@@ -156,7 +156,7 @@ fn put_held<W: Write>(
     order: Order,
     format: Format,
     form: Form,
-    held: Held,
+    held: StoredValue,
     pool: &[u8],
 ) -> Result<u64, HeadWrite>
     requires { held_end held ≤ length pool.now }

@@ -1,7 +1,7 @@
 use Rattle.std.proofs.Common.{◌≡◌, ◌^◌, ◌<◌, ◌≤◌, [], length, ap, arith}
 use Rattle.std.proofs.lemmas.Bool.{le-leb}
 use Rattle.std.proofs.KnownBytes.{Appends-nil}
-use Rattle.dl_head.specs.declared.params.Params.{Params}
+use Rattle.dl_field.specs.declared.params.Params.{Params}
 use Rattle.dl_table.specs.Writing.{IsOut}
 use Rattle.dl_head.specs.Written.{header_bytes, header_length_of, unit_length_of, written_limit}
 use Rattle.dl_head.proofs.OrderLemmas.{length-header, written_limit-le, initial_size-le}

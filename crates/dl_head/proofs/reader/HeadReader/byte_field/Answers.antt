@@ -1,6 +1,6 @@
 use Rattle.std.proofs.Common.{refl, sym, ap, ◌∙◌}
-use Rattle.dl_head.specs.Layout.{number_is, judged}
-use Rattle.dl_head.proofs.Places.{at_phase, byte_spelt}
+use Rattle.dl_field.specs.Layout.{number_is, judged}
+use Rattle.dl_head.proofs.OneFieldMore.{at_phase, byte_spelt}
 use Rattle.dl_head.proofs.reader.HeadReader.byte_field.Goals as goal
 
 pub returns-in-Some-clause-follows : goal.returns-in-Some-clause-follows

@@ -1,5 +1,5 @@
 use Rattle.std.proofs.Common.{◌^◌, ◌-◌, ◌∙◌, sym, ap, min, ℕ, arith}
-use Rattle.dl_head.proofs.Given.{made_cells, held_so_far}
+use Rattle.dl_head.proofs.HeaderGiven.{made_cells, held_so_far}
 use Rattle.dl_head.proofs.reader.HeadReader.cells.Goals as goal
 
 pub returns-in-Some : goal.returns-in-Some

@@ -1,7 +1,7 @@
 use Rattle.std.proofs.Common.{Some, refl, ap, ◌∙◌}
-use Rattle.dl_head.specs.declared.params.Params.{Params}
+use Rattle.dl_field.specs.declared.params.Params.{Params}
 use Rattle.dl_head.specs.Built.{wrong_length}
-use Rattle.dl_head.proofs.Given.{header_parts}
+use Rattle.dl_head.proofs.HeaderGiven.{header_parts}
 use Rattle.dl_head.proofs.reader.HeadReader.complete.Goals as goal
 
 pub returns : goal.returns

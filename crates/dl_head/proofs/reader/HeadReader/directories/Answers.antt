@@ -1,10 +1,10 @@
 use Rattle.std.proofs.Common.{[], ◌∷◌, sym, subst, ◌+◌, refl, ap, arith}
 use Rattle.dl_head.specs.declared.reader.Phase.TheVariants as phase
-use Rattle.dl_head.specs.declared.reader.table_reader.TableReader.{TableReader}
-use Rattle.dl_head.specs.TablePlace.{reader_cells}
+use Rattle.dl_field.specs.declared.table_reader.TableReader.{TableReader}
+use Rattle.dl_field.specs.TablePlace.{reader_cells}
 use Rattle.dl_table.specs.TableCells.{table_cells}
-use Rattle.dl_head.specs.Layout.{from_files, from_end}
-use Rattle.dl_head.proofs.Places.{at_phase, phase_at}
+use Rattle.dl_head.specs.HeaderLayout.{from_files, from_end}
+use Rattle.dl_head.proofs.OneFieldMore.{at_phase, phase_at}
 use Rattle.dl_head.proofs.HeadTables.{table_goes_on, table_ends, table_adds, table_kept, fresh_cells, no_directories, at_files}
 use Rattle.dl_head.specs.TableSpelt.{TableReads}
 use Rattle.dl_head.proofs.TableSpellings.{makes_table_pushed, reads_on, fresh_reads, stands_at}

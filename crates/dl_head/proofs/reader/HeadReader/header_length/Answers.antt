@@ -1,7 +1,7 @@
 use Rattle.std.proofs.Common.{◌≡◌, ◌++◌, ◌∷◌, ℕ, List, [], length, sym, ap, ◌∙◌}
 use Rattle.dl_num.specs.Fixed.{fixed}
-use Rattle.dl_head.proofs.Places.{at_phase}
-use Rattle.dl_head.proofs.Starts.{started_header, header_counts}
+use Rattle.dl_head.proofs.OneFieldMore.{at_phase}
+use Rattle.dl_head.proofs.EarlyFields.{started_header, header_counts}
 use Rattle.dl_head.proofs.reader.HeadReader.header_length.Goals as goal
 
 pub returns-in-Ok-clause-follows : goal.returns-in-Ok-clause-follows

@@ -1,7 +1,7 @@
 use Rattle.std.proofs.Common.{◌∙◌}
 use Rattle.dl_table.specs.declared.form.Format.TheVariants.{Dwarf64}
-use Rattle.dl_head.proofs.Places.{at_phase}
-use Rattle.dl_head.proofs.Starts.{started_long, starts_counts}
+use Rattle.dl_head.proofs.OneFieldMore.{at_phase}
+use Rattle.dl_head.proofs.EarlyFields.{started_long, starts_counts}
 use Rattle.dl_head.proofs.reader.HeadReader.long_unit_length.Goals as goal
 
 pub returns-in-Ok-clause-follows : goal.returns-in-Ok-clause-follows

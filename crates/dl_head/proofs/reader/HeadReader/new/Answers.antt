@@ -1,6 +1,6 @@
 use Rattle.std.proofs.Common.{refl, ap}
 use Rattle.dl_table.specs.TableCells.{table_cells}
-use Rattle.dl_head.proofs.Stepped.{new_stands}
+use Rattle.dl_head.proofs.OneByteMore.{new_stands}
 use Rattle.dl_head.proofs.reader.HeadReader.new.Goals as goal
 
 pub returns-clause-stands : goal.returns-clause-stands

@@ -1,7 +1,7 @@
 use Rattle.std.proofs.Common.{nat_lt, subst, None, ◌≡◌, List, ℕ, Option, ◌∷◌, [], ◌+◌, refl, sym, ap, ◌∙◌, arith, length, length-append}
 use Rattle.dl_table.specs.declared.fault.FaultKind.{FaultKind}
-use Rattle.dl_head.specs.Layout.{number_is, judged, objection, opcode_length}
-use Rattle.dl_head.proofs.Places.{at_phase, late_on, length_judged, next_length, at_lengths, some_left, next_at}
+use Rattle.dl_field.specs.Layout.{number_is, judged, objection, opcode_length}
+use Rattle.dl_head.proofs.OneFieldMore.{at_phase, late_on, length_judged, next_length, at_lengths, some_left, next_at}
 use Rattle.dl_head.specs.declared.reader.Phase.TheVariants as phase
 use Rattle.dl_head.specs.Built.{wrong_length}
 use Rattle.dl_head.proofs.HeaderSound.{lengths_push}

@@ -1,5 +1,5 @@
 use Rattle.std.proofs.Common.{ℕ, Some, refl, ap, arith}
-use Rattle.dl_head.proofs.Starts.{header_length_late}
+use Rattle.dl_head.proofs.EarlyFields.{header_length_late}
 use Rattle.dl_head.proofs.reader.HeadReader.start_header.Goals as goal
 
 pub returns-clause-follows : goal.returns-clause-follows

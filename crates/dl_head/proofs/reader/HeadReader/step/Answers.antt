@@ -1,7 +1,7 @@
 use Rattle.std.proofs.Common.{ap}
 use Rattle.dl_head.specs.declared.reader.HeadStep.TheVariants as answer
 use Rattle.dl_head.specs.Standing.{ending}
-use Rattle.dl_head.proofs.Stepped.{goes_of, live_of, counts_on, ended_step, within_step, ends_step, refused_step, unfed_step}
+use Rattle.dl_head.proofs.OneByteMore.{goes_of, live_of, counts_on, ended_step, within_step, ends_step, refused_step, unfed_step}
 use Rattle.dl_head.proofs.reader.HeadReader.step.Goals as goal
 
 pub returns-in-Done-clause-steps : goal.returns-in-Done-clause-steps

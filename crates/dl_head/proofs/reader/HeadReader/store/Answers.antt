@@ -1,6 +1,6 @@
 use Rattle.std.proofs.Common.{ℤ, refl, sym, ap, ◌∙◌, arith, length}
-use Rattle.dl_head.specs.Layout.{from_line_range}
-use Rattle.dl_head.proofs.Places.{at_field, late_on, kept_signed, first_length, at_lengths, next_at}
+use Rattle.dl_head.specs.HeaderLayout.{from_line_range}
+use Rattle.dl_head.proofs.OneFieldMore.{at_field, late_on, kept_signed, first_length, at_lengths, next_at}
 use Rattle.dl_head.proofs.reader.HeadReader.store.Goals as goal
 
 pub returns-in-MinimumInstructionLength-clause-at : goal.returns-in-MinimumInstructionLength-clause-at

@@ -1,8 +1,8 @@
 use Rattle.std.proofs.Common.{◌≡◌, ◌++◌, ◌∷◌, ℕ, List, [], length, sym, ap, arith, ◌∙◌}
 use Rattle.dl_num.specs.Fixed.{fixed}
 use Rattle.dl_table.specs.declared.form.Format.TheVariants.{Dwarf32}
-use Rattle.dl_head.proofs.Places.{at_phase}
-use Rattle.dl_head.proofs.Starts.{started_short, starts_counts}
+use Rattle.dl_head.proofs.OneFieldMore.{at_phase}
+use Rattle.dl_head.proofs.EarlyFields.{started_short, starts_counts}
 use Rattle.dl_head.proofs.reader.HeadReader.unit_length.Goals as goal
 
 pub returns-in-Ok-2-clause-follows : goal.returns-in-Ok-2-clause-follows

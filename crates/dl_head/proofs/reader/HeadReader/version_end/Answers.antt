@@ -1,7 +1,7 @@
 use Rattle.std.proofs.Common.{refl, ap}
-use Rattle.dl_head.specs.Layout.{number_is}
-use Rattle.dl_head.proofs.Places.{at_phase}
-use Rattle.dl_head.proofs.Starts.{version_spelt, items_on}
+use Rattle.dl_field.specs.Layout.{number_is}
+use Rattle.dl_head.proofs.OneFieldMore.{at_phase}
+use Rattle.dl_head.proofs.EarlyFields.{version_spelt, items_on}
 use Rattle.dl_head.proofs.reader.HeadReader.version_end.Goals as goal
 
 pub returns-then-version-eq5-clause-follows : goal.returns-then-version-eq5-clause-follows

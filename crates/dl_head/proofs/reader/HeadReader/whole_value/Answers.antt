@@ -1,7 +1,7 @@
 use Rattle.std.proofs.Common.{refl, sym, ◌∙◌, arith}
 use Rattle.dl_head.proofs.TableSpellings.{reads_same, reads_on}
 use Rattle.dl_head.proofs.WholeSteps.{takes_none, table_goes, phase_of_table, value_refused, value_whole, stands_on, front_is_bytes}
-use Rattle.dl_head.specs.declared.reader.next.Next.TheVariants as byte_makes
+use Rattle.dl_field.specs.declared.field_step.FieldStep.TheVariants as byte_makes
 use Rattle.dl_head.proofs.reader.HeadReader.whole_value.Goals as goal
 
 pub returns-then-piece-lt2-clause-takes : goal.returns-then-piece-lt2-clause-takes

@@ -1,6 +1,6 @@
 use Rattle.std.proofs.Common.{ℕ, List, ◌<◌, ◌∷◌, [], ◌++◌, length, map, ap, sym, ◌∙◌, arith}
 use Rattle.std.proofs.lemmas.Bool.{eqb-false}
-use Rattle.dl_table.specs.declared.table.held.Held.{Held}
+use Rattle.dl_table.specs.declared.table.held.StoredValue.{StoredValue}
 use Rattle.dl_table.specs.TableData.{TableData}
 use Rattle.dl_table.specs.Held.{value_lent, table_of}
 use Rattle.dl_table.proofs.BuildLemmas.{values_counted, nothing_wrong}
@@ -38,8 +38,8 @@ returns-clause-added c =
 
 pub returns-then-is_err-clause-unchanged : goal.returns-then-is_err-clause-unchanged
 returns-then-is_err-clause-unchanged c = elim c.then-is_err.branch [
-  | then-is_err-via-then-is_err w ↦ w.self-is ∙ ap (λ (v : List Held). table_of c.self.inside.format c.self.inside.pairs.items v c.self.inside.pool.items) c.reserve.ensures.items ∙ c.self.view_is
+  | then-is_err-via-then-is_err w ↦ w.self-is ∙ ap (λ (v : List StoredValue). table_of c.self.inside.format c.self.inside.pairs.items v c.self.inside.pool.items) c.reserve.ensures.items ∙ c.self.view_is
   | then-is_err-via-else-is_err+then-is_err-2 w ↦
-      w.self-is ∙ ap (λ (v : List Held). table_of c.self.inside.format c.self.inside.pairs.items v w.reserve-else-is_err.new.self.items) c.reserve.ensures.items
+      w.self-is ∙ ap (λ (v : List StoredValue). table_of c.self.inside.format c.self.inside.pairs.items v w.reserve-else-is_err.new.self.items) c.reserve.ensures.items
       ∙ ap (λ (pool : List ℕ). table_of c.self.inside.format c.self.inside.pairs.items c.self.inside.values.items pool) w.reserve-else-is_err.ensures.items ∙ c.self.view_is
 ]

@@ -1,11 +1,11 @@
 use Rattle.std.proofs.Common.{refl, arith}
-use Rattle.dl_table.specs.declared.table.held.Held.{Held}
-use Rattle.dl_table.specs.declared.table.held.Held.TheVariants.{Text}
+use Rattle.dl_table.specs.declared.table.held.StoredValue.{StoredValue}
+use Rattle.dl_table.specs.declared.table.held.StoredValue.TheVariants.{Text}
 use Rattle.dl_table.proofs.HeldLemmas.{held_end-le}
 use Rattle.dl_table.proofs.EqualLemmas.{same_values-more, same_values-at}
 use Rattle.dl_table.proofs.table.equal.same_values.Goals as goal
 
-abbrev no_text : Held
+abbrev no_text : StoredValue
 no_text = Text (record { start = 0; len = 0 })
 
 pub is_same_value-requires-clause-within : goal.is_same_value-requires-clause-within

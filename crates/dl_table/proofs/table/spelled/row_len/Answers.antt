@@ -1,13 +1,13 @@
 use Rattle.std.proofs.Common.{map, arith}
 use Rattle.dl_num.specs.declared.fixed.Order.TheVariants.{Little}
-use Rattle.dl_table.specs.declared.table.held.Held.{Held}
-use Rattle.dl_table.specs.declared.table.held.Held.TheVariants.{Text}
+use Rattle.dl_table.specs.declared.table.held.StoredValue.{StoredValue}
+use Rattle.dl_table.specs.declared.table.held.StoredValue.TheVariants.{Text}
 use Rattle.dl_table.specs.Held.{value_held}
 use Rattle.dl_table.proofs.HeldLemmas.{held_end-le}
 use Rattle.dl_table.proofs.SpelledLemmas.{entry_from, entry_end}
 use Rattle.dl_table.proofs.table.spelled.row_len.Goals as goal
 
-abbrev no_text : Held
+abbrev no_text : StoredValue
 no_text = Text (record { start = 0; len = 0 })
 
 pub held_len-requires : goal.held_len-requires

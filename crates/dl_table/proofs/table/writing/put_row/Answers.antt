@@ -1,7 +1,7 @@
 use Rattle.std.proofs.Common.{◌+◌, drop, get_or, take, map, arith}
 use Rattle.std.proofs.lemmas.Result.{err_from_is_err_and}
-use Rattle.dl_table.specs.declared.table.held.Held.{Held}
-use Rattle.dl_table.specs.declared.table.held.Held.TheVariants.{Text}
+use Rattle.dl_table.specs.declared.table.held.StoredValue.{StoredValue}
+use Rattle.dl_table.specs.declared.table.held.StoredValue.TheVariants.{Text}
 use Rattle.dl_table.specs.Held.{value_held}
 use Rattle.dl_table.specs.Written.{entry_bytes, value_bytes}
 use Rattle.dl_table.proofs.BuildLemmas.{no_pair}
@@ -9,7 +9,7 @@ use Rattle.dl_table.proofs.HeldLemmas.{held_end-le}
 use Rattle.dl_table.proofs.WritingLemmas.{TellsOut-piece, IsOut-piece, entry_more, entry_split}
 use Rattle.dl_table.proofs.table.writing.put_row.Goals as goal
 
-abbrev no_text : Held
+abbrev no_text : StoredValue
 no_text = Text (record { start = 0; len = 0 })
 
 pub put_held-requires : goal.put_held-requires
