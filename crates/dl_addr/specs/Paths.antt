@@ -3,7 +3,7 @@ use Rattle.std.specs.Prelude.{ℕ, Bool, false, ◌||◌, ◌&&◌, nat_le, ◌=
 use Rattle.std.specs.Option.{option_and_then, option_map_or}
 use Rattle.dl_table.specs.EntryData.{value_of, with_content}
 use Rattle.dl_table.specs.TableData.{TableData}
-use Rattle.dl_head.specs.HeaderData.{HeaderData}
+use Rattle.dl_field.specs.HeaderData.{HeaderData}
 use Rattle.dl_table.specs.Value.{Value, text, line_str, str, number}
 use Rattle.dl_print.specs.ValueText.{Strings, text_in_section}
 

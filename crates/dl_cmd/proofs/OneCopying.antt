@@ -7,7 +7,7 @@ use Rattle.dl_num.specs.declared.fixed.Order.{Order}
 use Rattle.dl_head.specs.Built.{with_standard_opcodes}
 use Rattle.dl_table.specs.declared.fault.FaultKind.{FaultKind}
 use Rattle.dl_head.specs.Header.{foreign_in, header_in}
-use Rattle.dl_head.specs.HeaderData.{HeaderData}
+use Rattle.dl_field.specs.HeaderData.{HeaderData}
 use Rattle.dl_head.proofs.FrontLemmas.{fronts}
 use Rattle.dl_head.proofs.QuietLemmas.{foreign_is_not_refused}
 use Rattle.dl_rows.specs.LineUnit.{IsUnit, unit_rows}

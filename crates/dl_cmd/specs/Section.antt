@@ -6,7 +6,7 @@ use Rattle.std.specs.Io.KnownBytes.{IsAtEnd}
 use Rattle.dl_num.specs.declared.fixed.Order.{Order}
 use Rattle.dl_table.specs.declared.fault.FaultKind.{FaultKind}
 use Rattle.dl_table.specs.declared.fault.FaultKind.TheVariants.{Truncated}
-use Rattle.dl_head.specs.HeaderData.{HeaderData}
+use Rattle.dl_field.specs.HeaderData.{HeaderData}
 use Rattle.dl_head.specs.Header.{foreign_in, header_in}
 use Rattle.dl_head.specs.Cells.{cells}
 use Rattle.dl_rows.specs.declared.row.Row.{Row}
