@@ -1,5 +1,6 @@
 -- The reader of a table in the blocks among its values.
-use Rattle.std.proofs.Common.{◌≡◌, ◌≢◌, ℕ, ◌+◌, ◌^◌, ◌<◌, ◌≤◌, true, false, List, [], ◌∷◌, ◌++◌, length, take, Option, Some, None, Err, refl, sym, ap, subst, ◌∙◌, arith, length-append, append_assoc}
+use Rattle.std.proofs.Common.{◌≡◌, ◌≢◌, ℕ, ◌+◌, ◌^◌, ◌<◌, ◌≤◌, true, false, List, [], ◌∷◌, ◌++◌, length, take, Option}
+use Rattle.std.proofs.Common.{Some, None, Err, refl, sym, ap, subst, ◌∙◌, arith, length-append, append_assoc}
 use Rattle.std.proofs.lemmas.Bool.{lt-ltb, le-ltb, le-leb, ne_eqb}
 use Rattle.std.proofs.lemmas.List.{take_at}
 use Rattle.dl_num.specs.declared.fixed.Order.{Order}
@@ -23,7 +24,8 @@ use Rattle.dl_field.proofs.FieldLaws.{value_is_good}
 
 -- ---- a block whose bytes are on their way
 
-fixed_part : (order : Order) (k n : ℕ) (size bytes : List ℕ) → IsFixed order k n size → length bytes < n → block_spelt order k (size ++ bytes) ≡ None
+fixed_part : (order : Order) (k n : ℕ) (size bytes : List ℕ) → IsFixed order k n size → length bytes < n
+    → block_spelt order k (size ++ bytes) ≡ None
 fixed_part order k n size bytes is lt =
     let front : take k (size ++ bytes) ≡ size = take_at size bytes k is.0 in
     let other : length (size ++ bytes) ≢ k + fixed order (take k (size ++ bytes)) =
@@ -37,17 +39,22 @@ leb_part n size bytes is lt =
     let number : is_leb (leb_front (size ++ bytes)) ≡ true = ap is_leb f.0 ∙ t.0 in
     let value : groups (leb_front (size ++ bytes)) ≡ n = ap groups f.0 ∙ sym t.1 in
     let small : groups (leb_front (size ++ bytes)) < 2 ^ 64 = omega (arith, value, is.1) in
-    let other : length (behind_leb (size ++ bytes)) ≢ groups (leb_front (size ++ bytes)) = λ same. omega (arith, same, value, ap length f.1, lt) in
+    let other : length (behind_leb (size ++ bytes)) ≢ groups (leb_front (size ++ bytes)) =
+    λ same. omega (arith, same, value, ap length f.1, lt) in
     rw (number, lt-ltb _ _ small, ne_eqb _ _ other) refl
 
 no_length : {A : Type 0} (k : ℕ) → ◌≡◌ {A = Option ℕ} None (Some k) → A
 no_length k e = absurd (none_some {a = k} refl e)
 
-pub part_block : (order : Order) (format : Format) (f : Form) (n : ℕ) (size bytes : List ℕ) → IsLengthOf order f n size → length bytes < n → value_spelt order format f (size ++ bytes) ≡ None
+pub part_block : (order : Order) (format : Format) (f : Form) (n : ℕ) (size bytes : List ℕ) → IsLengthOf order f n size
+    → length bytes < n → value_spelt order format f (size ++ bytes) ≡ None
 part_block order format form.Block n size bytes is lt = leb_part n size bytes is lt
-part_block order format form.Block1 n size bytes is lt = fixed_part order 1 n size bytes (subst (λ (k : ℕ). IsFixed order k n size) (sym (some_same 1 is.0 is.1)) is.2) lt
-part_block order format form.Block2 n size bytes is lt = fixed_part order 2 n size bytes (subst (λ (k : ℕ). IsFixed order k n size) (sym (some_same 2 is.0 is.1)) is.2) lt
-part_block order format form.Block4 n size bytes is lt = fixed_part order 4 n size bytes (subst (λ (k : ℕ). IsFixed order k n size) (sym (some_same 4 is.0 is.1)) is.2) lt
+part_block order format form.Block1 n size bytes is lt =
+    fixed_part order 1 n size bytes (subst (λ (k : ℕ). IsFixed order k n size) (sym (some_same 1 is.0 is.1)) is.2) lt
+part_block order format form.Block2 n size bytes is lt =
+    fixed_part order 2 n size bytes (subst (λ (k : ℕ). IsFixed order k n size) (sym (some_same 2 is.0 is.1)) is.2) lt
+part_block order format form.Block4 n size bytes is lt =
+    fixed_part order 4 n size bytes (subst (λ (k : ℕ). IsFixed order k n size) (sym (some_same 4 is.0 is.1)) is.2) lt
 part_block order format form.Data1 n size bytes is lt = no_length is.0 is.1
 part_block order format form.Data2 n size bytes is lt = no_length is.0 is.1
 part_block order format form.Data4 n size bytes is lt = no_length is.0 is.1
@@ -61,14 +68,43 @@ part_block order format form.LineStrp n size bytes is lt = no_length is.0 is.1
 
 -- ---- a block that is whole
 
-pub whole_block : (order : Order) (format : Format) (f : Form) (size bytes : List ℕ) → IsLengthOf order f (length bytes) size → value_spelt order format f (size ++ bytes) ≡ good (block bytes)
-whole_block order format form.Block size bytes is = value_is_good order format form.Block (size ++ bytes) (block bytes) (bytes, refl, (size, refl, is))
+pub whole_block : (order : Order) (format : Format) (f : Form) (size bytes : List ℕ)
+    → IsLengthOf order f (length bytes) size → value_spelt order format f (size ++ bytes) ≡ good (block bytes)
+whole_block order format form.Block size bytes is =
+    value_is_good order format form.Block (size ++ bytes) (block bytes) (bytes, refl, (size, refl, is))
 whole_block order format form.Block1 size bytes is =
-    value_is_good order format form.Block1 (size ++ bytes) (block bytes) (bytes, refl, (size, refl, subst (λ (k : ℕ). IsFixed order k (length bytes) size) (sym (some_same 1 is.0 is.1)) is.2))
+    value_is_good order format form.Block1 (size ++ bytes) (block bytes) (
+      bytes,
+      refl,
+      (
+        size,
+        refl,
+        subst (λ (k : ℕ). IsFixed order k (length bytes) size) (sym (some_same 1 is.0 is.1))
+            is.2,
+      ),
+    )
 whole_block order format form.Block2 size bytes is =
-    value_is_good order format form.Block2 (size ++ bytes) (block bytes) (bytes, refl, (size, refl, subst (λ (k : ℕ). IsFixed order k (length bytes) size) (sym (some_same 2 is.0 is.1)) is.2))
+    value_is_good order format form.Block2 (size ++ bytes) (block bytes) (
+      bytes,
+      refl,
+      (
+        size,
+        refl,
+        subst (λ (k : ℕ). IsFixed order k (length bytes) size) (sym (some_same 2 is.0 is.1))
+            is.2,
+      ),
+    )
 whole_block order format form.Block4 size bytes is =
-    value_is_good order format form.Block4 (size ++ bytes) (block bytes) (bytes, refl, (size, refl, subst (λ (k : ℕ). IsFixed order k (length bytes) size) (sym (some_same 4 is.0 is.1)) is.2))
+    value_is_good order format form.Block4 (size ++ bytes) (block bytes) (
+      bytes,
+      refl,
+      (
+        size,
+        refl,
+        subst (λ (k : ℕ). IsFixed order k (length bytes) size) (sym (some_same 4 is.0 is.1))
+            is.2,
+      ),
+    )
 whole_block order format form.Data1 size bytes is = no_length is.0 is.1
 whole_block order format form.Data2 size bytes is = no_length is.0 is.1
 whole_block order format form.Data4 size bytes is = no_length is.0 is.1
@@ -82,7 +118,8 @@ whole_block order format form.LineStrp size bytes is = no_length is.0 is.1
 
 -- ---- the length of a block
 
-pub length_of : (order : Order) (f : Form) (k n : ℕ) (w : List ℕ) → length_bytes_of f ≡ Some k → IsFixed order k n w → IsLengthOf order f n w
+pub length_of : (order : Order) (f : Form) (k n : ℕ) (w : List ℕ) → length_bytes_of f ≡ Some k → IsFixed order k n w
+    → IsLengthOf order f n w
 length_of order form.Block1 k n w e is = (k, e, is)
 length_of order form.Block2 k n w e is = (k, e, is)
 length_of order form.Block4 k n w e is = (k, e, is)
@@ -98,16 +135,20 @@ length_of order form.StrpSup k n w e is = (k, e, is)
 length_of order form.Data16 k n w e is = (k, e, is)
 length_of order form.LineStrp k n w e is = (k, e, is)
 
-pub leb_length_of : (order : Order) (f : Form) (n : ℕ) (w : List ℕ) → f ≡ form.Block → IsUleb w n → n < 2 ^ 64 → IsLengthOf order f n w
+pub leb_length_of : (order : Order) (f : Form) (n : ℕ) (w : List ℕ) → f ≡ form.Block → IsUleb w n → n < 2 ^ 64
+    → IsLengthOf order f n w
 leb_length_of order f n w is spelt lt = subst (λ (g : Form). IsLengthOf order g n w) (sym is) (spelt, lt)
 
-pub leb_length_open : (order : Order) (format : Format) (f : Form) (u : Uleb) (w : List ℕ) → f ≡ form.Block → UlebTook u w → value_spelt order format f w ≡ None
+pub leb_length_open : (order : Order) (format : Format) (f : Form) (u : Uleb) (w : List ℕ) → f ≡ form.Block
+    → UlebTook u w → value_spelt order format f w ≡ None
 leb_length_open order format f u w is took =
-    let front : is_leb (leb_front w) ≡ false = ap is_leb (leb_front-continues w took.continue) ∙ is_leb-continues w took.continue in
+    let front : is_leb (leb_front w) ≡ false = ap is_leb (leb_front-continues w took.continue)
+    ∙ is_leb-continues w took.continue in
     let none : leb_block_spelt w ≡ None = rw front refl in
     ap (λ (g : Form). value_spelt order format g w) is ∙ none
 
-pub leb_length_large : (order : Order) (format : Format) (f : Form) (w : List ℕ) (e : LebRange) → f ≡ form.Block → UlebIs w (Err e) → value_spelt order format f w ≡ bad fault.LebRange
+pub leb_length_large : (order : Order) (format : Format) (f : Form) (w : List ℕ) (e : LebRange) → f ≡ form.Block
+    → UlebIs w (Err e) → value_spelt order format f w ≡ bad fault.LebRange
 leb_length_large order format f w e is large =
     let t = (leb_tested w large.0).0 large.1 in
     let front : leb_front w ≡ w = leb_front-leb w t.0 in
@@ -117,5 +158,6 @@ leb_length_large order format f w e is large =
     ap (λ (g : Form). value_spelt order format g w) is ∙ none
 
 -- the bytes, and one more
-pub one_more : (rest size bytes : List ℕ) (byte : ℕ) → rest ≡ size ++ bytes → rest ++ byte ∷ [] ≡ size ++ (bytes ++ byte ∷ [])
+pub one_more : (rest size bytes : List ℕ) (byte : ℕ) → rest ≡ size ++ bytes
+    → rest ++ byte ∷ [] ≡ size ++ (bytes ++ byte ∷ [])
 one_more rest size bytes byte e = ap (λ (l : List ℕ). l ++ byte ∷ []) e ∙ append_assoc size bytes (byte ∷ [])

@@ -1,5 +1,7 @@
 -- How many cells the bytes of a field of a table are.
-use Rattle.std.proofs.Common.{◌≡◌, ℕ, ◌+◌, ◌-◌, ◌^◌, ◌<◌, ◌≤◌, Bool, true, false, nat_lt, nat_le, ◌&&◌, ◌==◌, if◌then◌else◌, List, [], ◌∷◌, ◌++◌, length, take, drop, Option, Some, None, Ok, Err, inl, inr, refl, sym, ap, ◌∙◌, arith, length-append}
+use Rattle.std.proofs.Common.{◌≡◌, ℕ, ◌+◌, ◌-◌, ◌^◌, ◌<◌, ◌≤◌, Bool, true, false, nat_lt, nat_le, ◌&&◌, ◌==◌}
+use Rattle.std.proofs.Common.{if◌then◌else◌, List, [], ◌∷◌, ◌++◌, length, take, drop, Option, Some, None, Ok, Err, inl}
+use Rattle.std.proofs.Common.{inr, refl, sym, ap, ◌∙◌, arith, length-append}
 use Rattle.std.proofs.lemmas.Bool.{cases_Bool, le-leb, lt-leb, lt-ltb, le-ltb}
 use Rattle.std.proofs.lemmas.List.{length-take-le, length-drop}
 use Rattle.dl_num.specs.declared.fixed.Order.{Order}
@@ -18,8 +20,10 @@ use Rattle.dl_table.specs.declared.form.Form.TheVariants as form
 use Rattle.dl_field.specs.Field.{IsFixed, IsUleb64}
 use Rattle.dl_table.specs.TableCells.{value_cells}
 use Rattle.dl_field.specs.Cells.{item_cells, begun_block, begun_leb_block, begun_cells, rest_cells}
-use Rattle.dl_table.specs.Value.{Value, text, line_str, str, str_sup, number, block, data16, Judgement, good, bad, is_text, text_spelt, block_spelt, leb_spelt, leb_block_spelt, value_spelt}
-use Rattle.dl_field.specs.Layout.{NumberField, Layout, number_then, form_then, value_then, Item, value_is, field_spelt, number_size, sized_spelt, number_judged, judged, objection, value_judged}
+use Rattle.dl_table.specs.Value.{Value, text, line_str, str, str_sup, number, block, data16, Judgement, good, bad}
+use Rattle.dl_table.specs.Value.{is_text, text_spelt, block_spelt, leb_spelt, leb_block_spelt, value_spelt}
+use Rattle.dl_field.specs.Layout.{NumberField, Layout, number_then, form_then, value_then, Item, value_is, field_spelt}
+use Rattle.dl_field.specs.Layout.{number_size, sized_spelt, number_judged, judged, objection, value_judged}
 use Rattle.dl_field.specs.TablePlace.{field_cells, has_bytes, number_bytes_of, length_bytes_of, IsLengthOf}
 use Rattle.dl_field.proofs.FieldLemmas.{none_some, some_same}
 use Rattle.dl_field.proofs.GoodLemmas.{good_if, good_value, bad_good, value_item, is_form}
@@ -29,13 +33,16 @@ use Rattle.dl_field.proofs.GoodLemmas.{good_if, good_value, bad_good, value_item
 abbrev judged_cells : ℕ → Judgement Item → ℕ
 judged_cells n o = elim o [ Some (Ok i) ↦ item_cells i | Some (Err kind) ↦ n | None ↦ n ]
 
-pub cells_good : (order : Order) (layout : Layout) (w : List ℕ) (i : Item) → field_spelt order layout w ≡ good i → field_cells order layout w ≡ item_cells i
+pub cells_good : (order : Order) (layout : Layout) (w : List ℕ) (i : Item) → field_spelt order layout w ≡ good i
+    → field_cells order layout w ≡ item_cells i
 cells_good order layout w i e = ap (judged_cells (rest_cells layout w)) e
 
-pub cells_open : (order : Order) (layout : Layout) (w : List ℕ) → field_spelt order layout w ≡ None → field_cells order layout w ≡ rest_cells layout w
+pub cells_open : (order : Order) (layout : Layout) (w : List ℕ) → field_spelt order layout w ≡ None
+    → field_cells order layout w ≡ rest_cells layout w
 cells_open order layout w e = ap (judged_cells (rest_cells layout w)) e
 
-pub cells_bad : (order : Order) (layout : Layout) (w : List ℕ) (kind : FaultKind) → field_spelt order layout w ≡ bad kind → field_cells order layout w ≡ rest_cells layout w
+pub cells_bad : (order : Order) (layout : Layout) (w : List ℕ) (kind : FaultKind)
+    → field_spelt order layout w ≡ bad kind → field_cells order layout w ≡ rest_cells layout w
 cells_bad order layout w kind e = ap (judged_cells (rest_cells layout w)) e
 
 pub some_cell : (v : Value) → 1 ≤ value_cells v
@@ -58,12 +65,14 @@ number_cell field None = refl
 number_cell field (Some n) = no_cell (objection field n) n
 
 -- a number of the table is no cell
-pub number_cells : (order : Order) (field : NumberField) (next : ℕ → Layout) (w : List ℕ) → field_cells order (number_then field next) w ≡ 0
+pub number_cells : (order : Order) (field : NumberField) (next : ℕ → Layout) (w : List ℕ)
+    → field_cells order (number_then field next) w ≡ 0
 number_cells order field next w = number_cell field (sized_spelt order (number_size field) w)
 
 -- ---- form codes
 
-pub form_cell : (order : Order) (next : Form → Layout) (w : List ℕ) (i : Item) → field_spelt order (form_then next) w ≡ good i → item_cells i ≡ 1
+pub form_cell : (order : Order) (next : Form → Layout) (w : List ℕ) (i : Item)
+    → field_spelt order (form_then next) w ≡ good i → item_cells i ≡ 1
 form_cell order next w i e = ap item_cells (is_form w i e).1
 
 -- ---- values of one cell
@@ -88,7 +97,8 @@ no_bytes form.StrpSup w e = refl
 no_bytes form.Data16 w e = refl
 no_bytes form.LineStrp w e = refl
 
-sized_cell : (size : Bool) (u v : Value) → value_cells u ≡ 1 → (if size then good u else None) ≡ good v → value_cells v ≡ 1
+sized_cell : (size : Bool) (u v : Value) → value_cells u ≡ 1 → (if size then good u else None) ≡ good v
+    → value_cells v ≡ 1
 sized_cell size u v one e = ap value_cells (good_if size u v e).1 ∙ one
 
 leb_cell : (w : List ℕ) (v : Value) → leb_spelt w ≡ good v → value_cells v ≡ 1
@@ -101,7 +111,8 @@ leb_cell w v e = elim (cases_Bool (is_leb w)) [
 ]
 
 -- a value of such a form is one cell
-pub value_cell : (order : Order) (format : Format) (f : Form) (w : List ℕ) (v : Value) → has_bytes f ≡ false → value_spelt order format f w ≡ good v → value_cells v ≡ 1
+pub value_cell : (order : Order) (format : Format) (f : Form) (w : List ℕ) (v : Value) → has_bytes f ≡ false
+    → value_spelt order format f w ≡ good v → value_cells v ≡ 1
 value_cell order format form.Block2 w v none e = true_is_false none
 value_cell order format form.Block4 w v none e = true_is_false none
 value_cell order format form.Data2 w v none e = sized_cell _ _ v refl e
@@ -117,7 +128,8 @@ value_cell order format form.StrpSup w v none e = sized_cell _ _ v refl e
 value_cell order format form.Data16 w v none e = sized_cell _ _ v refl e
 value_cell order format form.LineStrp w v none e = sized_cell _ _ v refl e
 
-pub value_item_cell : (order : Order) (format : Format) (f : Form) (next : Value → Layout) (w : List ℕ) (i : Item) → has_bytes f ≡ false → field_spelt order (value_then format f next) w ≡ good i
+pub value_item_cell : (order : Order) (format : Format) (f : Form) (next : Value → Layout) (w : List ℕ) (i : Item)
+    → has_bytes f ≡ false → field_spelt order (value_then format f next) w ≡ good i
     → item_cells i ≡ 1
 value_item_cell order format f next w i none e =
     let v = value_item (value_spelt order format f w) i e in
@@ -126,11 +138,15 @@ value_item_cell order format f next w i none e =
 -- ---- values whose bytes are cells
 
 -- a value is as many cells as its bytes so far, whether it is whole or not
-bytes_cells : (order : Order) (format : Format) (f : Form) (next : Value → Layout) (w : List ℕ) → ((v : Value) → value_spelt order format f w ≡ good v → value_cells v ≡ begun_cells f w)
-    → (o : Judgement Value) → value_spelt order format f w ≡ o → field_cells order (value_then format f next) w ≡ begun_cells f w
+bytes_cells : (order : Order) (format : Format) (f : Form) (next : Value → Layout) (w : List ℕ)
+    → ((v : Value) → value_spelt order format f w ≡ good v → value_cells v ≡ begun_cells f w)
+    → (o : Judgement Value) → value_spelt order format f w ≡ o
+    → field_cells order (value_then format f next) w ≡ begun_cells f w
 bytes_cells order format f next w whole None e = cells_open order (value_then format f next) w (ap value_judged e)
-bytes_cells order format f next w whole (Some (Err kind)) e = cells_bad order (value_then format f next) w kind (ap value_judged e)
-bytes_cells order format f next w whole (Some (Ok v)) e = cells_good order (value_then format f next) w (value_is v) (ap value_judged e) ∙ whole v e
+bytes_cells order format f next w whole (Some (Err kind)) e =
+    cells_bad order (value_then format f next) w kind (ap value_judged e)
+bytes_cells order format f next w whole (Some (Ok v)) e =
+    cells_good order (value_then format f next) w (value_is v) (ap value_judged e) ∙ whole v e
 
 text_whole : (w : List ℕ) (v : Value) → text_spelt w ≡ good v → value_cells v ≡ length w
 text_whole [] v e = absurd (none_some {a = Ok v} refl e)
@@ -138,15 +154,18 @@ text_whole (x ∷ w) v e =
     let t = good_if (is_text (x ∷ w)) (text (take (length (x ∷ w) - 1) (x ∷ w))) v e in
     ap value_cells t.1 ∙ omega (arith, length-take-le (length (x ∷ w) - 1) (x ∷ w) (omega arith))
 
-block_whole : (order : Order) (k : ℕ) (w : List ℕ) (v : Value) → block_spelt order k w ≡ good v → value_cells v ≡ begun_block k w
+block_whole : (order : Order) (k : ℕ) (w : List ℕ) (v : Value) → block_spelt order k w ≡ good v
+    → value_cells v ≡ begun_block k w
 block_whole order k w v e =
     let t = good_if (nat_le k (length w) && (length w == k + fixed order (take k w))) (block (drop k w)) v e in
-    ap value_cells t.1 ∙ rw (and_left (nat_le k (length w)) (length w == k + fixed order (take k w)) t.0) (omega (arith, length-drop k w))
+    ap value_cells t.1 ∙ rw (and_left (nat_le k (length w)) (length w == k + fixed order (take k w)) t.0)
+    (omega (arith, length-drop k w))
 
 leb_block_whole : (w : List ℕ) (v : Value) → leb_block_spelt w ≡ good v → value_cells v ≡ begun_leb_block w
 leb_block_whole w v e = elim (cases_Bool (is_leb (leb_front w))) [
   | inl t ↦ elim (cases_Bool (nat_lt (groups (leb_front w)) (2 ^ 64))) [
-    | inl lt ↦ ap value_cells (good_if (length (behind_leb w) == groups (leb_front w)) (block (behind_leb w)) v (rw (t, lt) at e)).1 ∙ rw (t, lt) refl
+    | inl lt ↦ ap value_cells (good_if (length (behind_leb w) == groups (leb_front w)) (block (behind_leb w)) v
+        (rw (t, lt) at e)).1 ∙ rw (t, lt) refl
     | inr le ↦ elim (cases_Bool (is_leb w)) [
       | inl u ↦ absurd (bad_good (rw (t, le, u) at e))
       | inr n ↦ absurd (none_some {a = Ok v} refl (rw (t, le, n) at e))
@@ -155,12 +174,18 @@ leb_block_whole w v e = elim (cases_Bool (is_leb (leb_front w))) [
   | inr n ↦ absurd (none_some {a = Ok v} refl (rw n at e))
 ]
 
-pub value_bytes : (order : Order) (format : Format) (f : Form) (next : Value → Layout) (w : List ℕ) → has_bytes f ≡ true → field_cells order (value_then format f next) w ≡ begun_cells f w
-value_bytes order format form.String next w some = bytes_cells order format form.String next w (text_whole w) (text_spelt w) refl
-value_bytes order format form.Block1 next w some = bytes_cells order format form.Block1 next w (block_whole order 1 w) (block_spelt order 1 w) refl
-value_bytes order format form.Block2 next w some = bytes_cells order format form.Block2 next w (block_whole order 2 w) (block_spelt order 2 w) refl
-value_bytes order format form.Block4 next w some = bytes_cells order format form.Block4 next w (block_whole order 4 w) (block_spelt order 4 w) refl
-value_bytes order format form.Block next w some = bytes_cells order format form.Block next w (leb_block_whole w) (leb_block_spelt w) refl
+pub value_bytes : (order : Order) (format : Format) (f : Form) (next : Value → Layout) (w : List ℕ) → has_bytes f ≡ true
+    → field_cells order (value_then format f next) w ≡ begun_cells f w
+value_bytes order format form.String next w some =
+    bytes_cells order format form.String next w (text_whole w) (text_spelt w) refl
+value_bytes order format form.Block1 next w some =
+    bytes_cells order format form.Block1 next w (block_whole order 1 w) (block_spelt order 1 w) refl
+value_bytes order format form.Block2 next w some =
+    bytes_cells order format form.Block2 next w (block_whole order 2 w) (block_spelt order 2 w) refl
+value_bytes order format form.Block4 next w some =
+    bytes_cells order format form.Block4 next w (block_whole order 4 w) (block_spelt order 4 w) refl
+value_bytes order format form.Block next w some =
+    bytes_cells order format form.Block next w (leb_block_whole w) (leb_block_spelt w) refl
 value_bytes order format form.Data2 next w some = true_is_false (sym some)
 value_bytes order format form.Data4 next w some = true_is_false (sym some)
 value_bytes order format form.Data8 next w some = true_is_false (sym some)
@@ -190,7 +215,8 @@ number_no_bytes format form.Data16 k e = refl
 number_no_bytes format form.LineStrp k e = refl
 
 -- a block of this form is begun with its length, which has so many bytes
-pub begun_fixed : (f : Form) (k : ℕ) (w : List ℕ) → length_bytes_of f ≡ Some k → (has_bytes f ≡ true) × (begun_cells f w ≡ begun_block k w)
+pub begun_fixed : (f : Form) (k : ℕ) (w : List ℕ) → length_bytes_of f ≡ Some k
+    → (has_bytes f ≡ true) × (begun_cells f w ≡ begun_block k w)
 begun_fixed form.Block1 k w e = (refl, ap (λ (n : ℕ). begun_block n w) (some_same 1 k e))
 begun_fixed form.Block2 k w e = (refl, ap (λ (n : ℕ). begun_block n w) (some_same 2 k e))
 begun_fixed form.Block4 k w e = (refl, ap (λ (n : ℕ). begun_block n w) (some_same 4 k e))
@@ -212,7 +238,8 @@ fixed_unbegun f k w e lt = (begun_fixed f k w e).1 ∙ rw (lt-leb k (length w) l
 
 pub leb_unbegun : (f : Form) (u : Uleb) (w : List ℕ) → f ≡ form.Block → UlebTook u w → begun_cells f w ≡ 0
 leb_unbegun f u w is took =
-    let front : is_leb (leb_front w) ≡ false = ap is_leb (leb_front-continues w took.continue) ∙ is_leb-continues w took.continue in
+    let front : is_leb (leb_front w) ≡ false = ap is_leb (leb_front-continues w took.continue)
+    ∙ is_leb-continues w took.continue in
     let none : begun_leb_block w ≡ 0 = rw front refl in
     ap (λ (g : Form). begun_cells g w) is ∙ none
 
@@ -225,8 +252,11 @@ leb_large_unbegun f w e is large =
     let none : begun_leb_block w ≡ 0 = rw (number, le-ltb _ _ le) refl in
     ap (λ (g : Form). begun_cells g w) is ∙ none
 
-begun_bytes : (order : Order) (k n : ℕ) (size bytes : List ℕ) → IsFixed order k n size → begun_block k (size ++ bytes) ≡ 1 + length bytes
-begun_bytes order k n size bytes is = rw (le-leb k (length (size ++ bytes)) (omega (arith, is.0, length-append size bytes))) (omega (arith, is.0, length-append size bytes))
+begun_bytes : (order : Order) (k n : ℕ) (size bytes : List ℕ) → IsFixed order k n size
+    → begun_block k (size ++ bytes) ≡ 1 + length bytes
+begun_bytes order k n size bytes is =
+    rw (le-leb k (length (size ++ bytes)) (omega (arith, is.0, length-append size bytes)))
+    (omega (arith, is.0, length-append size bytes))
 
 begun_leb_bytes : (n : ℕ) (size bytes : List ℕ) → IsUleb64 n size → begun_leb_block (size ++ bytes) ≡ 1 + length bytes
 begun_leb_bytes n size bytes is =
@@ -236,13 +266,16 @@ begun_leb_bytes n size bytes is =
     let small : groups (leb_front (size ++ bytes)) < 2 ^ 64 = omega (arith, ap groups f.0, t.1, is.1) in
     rw (number, lt-ltb _ _ small) (ap (λ (l : List ℕ). 1 + length l) f.1)
 
-by_fixed : (order : Order) (f : Form) (n : ℕ) (size bytes : List ℕ) → (k : ℕ) × (length_bytes_of f ≡ Some k) × IsFixed order k n size → (has_bytes f ≡ true) × (begun_cells f (size ++ bytes) ≡ 1 + length bytes)
+by_fixed : (order : Order) (f : Form) (n : ℕ) (size bytes : List ℕ)
+    → (k : ℕ) × (length_bytes_of f ≡ Some k) × IsFixed order k n size
+    → (has_bytes f ≡ true) × (begun_cells f (size ++ bytes) ≡ 1 + length bytes)
 by_fixed order f n size bytes is =
     let b = begun_fixed f is.0 (size ++ bytes) is.1 in
     (b.0, b.1 ∙ begun_bytes order is.0 n size bytes is.2)
 
 -- the length of a block is one cell, and each byte after it
-pub begun_with : (order : Order) (f : Form) (n : ℕ) (size bytes : List ℕ) → IsLengthOf order f n size → (has_bytes f ≡ true) × (begun_cells f (size ++ bytes) ≡ 1 + length bytes)
+pub begun_with : (order : Order) (f : Form) (n : ℕ) (size bytes : List ℕ) → IsLengthOf order f n size
+    → (has_bytes f ≡ true) × (begun_cells f (size ++ bytes) ≡ 1 + length bytes)
 begun_with order form.Block n size bytes is = (refl, begun_leb_bytes n size bytes is)
 begun_with order form.Block1 n size bytes is = by_fixed order form.Block1 n size bytes is
 begun_with order form.Block2 n size bytes is = by_fixed order form.Block2 n size bytes is

@@ -1,5 +1,7 @@
 -- A field ends once: no spelling of a field, good or bad, begins another spelling of it.
-use Rattle.std.proofs.Common.{◌≡◌, ℕ, ◌+◌, ◌^◌, ◌<◌, ◌≤◌, ◌==◌, Bool, true, false, not, nat_le, ◌&&◌, if◌then◌else◌, List, [], ◌∷◌, ◌++◌, length, take, drop, Option, Some, None, Result, refl, sym, ap, ◌∙◌, arith, ◌⊎◌, inl, inr, length-append}
+use Rattle.std.proofs.Common.{◌≡◌, ℕ, ◌+◌, ◌^◌, ◌<◌, ◌≤◌, ◌==◌, Bool, true, false, not, nat_le, ◌&&◌, if◌then◌else◌}
+use Rattle.std.proofs.Common.{List, [], ◌∷◌, ◌++◌, length, take, drop, Option, Some, None, Result, refl, sym, ap, ◌∙◌}
+use Rattle.std.proofs.Common.{arith, ◌⊎◌, inl, inr, length-append}
 use Rattle.std.proofs.lemmas.Bool.{cases_lt, cases_eq, cases_Bool, lt-ltb, le-ltb, lt-leb, eqb-true, eq-eqb, ne_eqb}
 use Rattle.std.proofs.lemmas.List.{take-append-le, drop-append-le, take_all}
 use Rattle.dl_num.specs.declared.fixed.Order.{Order}
@@ -13,9 +15,13 @@ use Rattle.dl_table.specs.declared.form.Format.TheVariants.{Dwarf32, Dwarf64}
 use Rattle.dl_table.specs.declared.form.Form.{Form}
 use Rattle.dl_table.specs.declared.form.Form.TheVariants as form
 use Rattle.dl_table.specs.declared.fault.FaultKind.{FaultKind}
-use Rattle.dl_table.specs.Value.{Value, Judgement, is_text, text_spelt, block_spelt, leb_block_spelt, offset_size, value_spelt}
-use Rattle.dl_field.specs.Layout.{Layout, NumberField, initial_length_then, number_then, form_then, value_then, foreign_version, last_entry, Item, initial_length_spelt, number_judged, number_size, sized_spelt, value_judged, field_spelt}
-use Rattle.dl_field.specs.Layout.{version, address_size, any_byte, header_length, maximum_operations, line_range, opcode_base, opcode_length, content_code, entry_count}
+use Rattle.dl_table.specs.Value.{Value, Judgement, is_text, text_spelt, block_spelt, leb_block_spelt, offset_size}
+use Rattle.dl_table.specs.Value.{value_spelt}
+use Rattle.dl_field.specs.Layout.{Layout, NumberField, initial_length_then, number_then, form_then, value_then}
+use Rattle.dl_field.specs.Layout.{foreign_version, last_entry, Item, initial_length_spelt, number_judged, number_size}
+use Rattle.dl_field.specs.Layout.{sized_spelt, value_judged, field_spelt}
+use Rattle.dl_field.specs.Layout.{version, address_size, any_byte, header_length, maximum_operations, line_range}
+use Rattle.dl_field.specs.Layout.{opcode_base, opcode_length, content_code, entry_count}
 
 -- what is judged is not judged at more bytes
 abbrev pub Once : {A : Type 0} → (List ℕ → Option A) → Type 0
@@ -37,7 +43,8 @@ longer w x v k e f = absurd (omega (arith, length-append w (x ∷ v)))
 
 pub sized_once : {A : Type 0} (k : ℕ) (o : List ℕ → Option A) → Once (λ w. if length w == k then o w else None)
 sized_once k o w x v r s e f =
-    longer w x v k (eqb-true (length w) k (if_some (length w == k) (o w) r e)) (eqb-true (length (w ++ x ∷ v)) k (if_some (length (w ++ x ∷ v) == k) (o (w ++ x ∷ v)) s f))
+    longer w x v k (eqb-true (length w) k (if_some (length w == k) (o w) r e))
+    (eqb-true (length (w ++ x ∷ v)) k (if_some (length (w ++ x ∷ v) == k) (o (w ++ x ∷ v)) s f))
 
 pub leb_once : {A : Type 0} (o : List ℕ → Option A) → Once (λ w. if is_leb w then o w else None)
 leb_once o w x v r s e f =
@@ -51,15 +58,18 @@ is_text-once (a ∷ c ∷ w) x v e =
     rw t (is_text-once (c ∷ w) x v (and_right (not (a == 0)) (is_text (c ∷ w)) e))
 
 pub text_once : Once text_spelt
-text_once w x v r s e f = true_false (if_some (is_text (w ++ x ∷ v)) _ s f) (is_text-once w x v (if_some (is_text w) _ r e))
+text_once w x v r s e f = true_false (if_some (is_text (w ++ x ∷ v)) _ s f)
+    (is_text-once w x v (if_some (is_text w) _ r e))
 
 pub block_once : (order : Order) (k : ℕ) → Once (block_spelt order k)
 block_once order k w x v r s e f =
     let t = if_some (nat_le k (length w) && (length w == k + fixed order (take k w))) _ r e in
-    let u = if_some (nat_le k (length (w ++ x ∷ v)) && (length (w ++ x ∷ v) == k + fixed order (take k (w ++ x ∷ v)))) _ s f in
+    let u = if_some (nat_le k (length (w ++ x ∷ v)) && (length (w ++ x ∷ v) == k + fixed order (take k (w ++ x ∷ v)))) _
+    s f in
     let le : k ≤ length w = le_of k (length w) (and_left _ _ t) in
     let one = eqb-true _ _ (and_right (nat_le k (length w)) (length w == k + fixed order (take k w)) t) in
-    let two = eqb-true _ _ (and_right (nat_le k (length (w ++ x ∷ v))) (length (w ++ x ∷ v) == k + fixed order (take k (w ++ x ∷ v))) u) in
+    let two = eqb-true _ _ (and_right (nat_le k (length (w ++ x ∷ v)))
+    (length (w ++ x ∷ v) == k + fixed order (take k (w ++ x ∷ v))) u) in
     let same : take k (w ++ x ∷ v) ≡ take k w = take-append-le k w (x ∷ v) le in
     longer w x v (k + fixed order (take k w)) one (two ∙ ap (λ (z : List ℕ). k + fixed order z) same)
   where
@@ -74,11 +84,16 @@ leb_block_front w r e = elim (cases_Bool (is_leb (leb_front w))) [
 ]
 
 leb_block_cases : (w : List ℕ) (r : Result Value FaultKind) → leb_block_spelt w ≡ Some r
-    → ((groups (leb_front w) < 2 ^ 64) × (length (behind_leb w) ≡ groups (leb_front w))) ⊎ ((2 ^ 64 ≤ groups (leb_front w)) × (is_leb w ≡ true))
+    → ((groups (leb_front w) < 2 ^ 64) × (length (behind_leb w) ≡ groups (leb_front w)))
+    ⊎ ((2 ^ 64 ≤ groups (leb_front w)) × (is_leb w ≡ true))
 leb_block_cases w r e =
     let front = leb_block_front w r e in
     elim (cases_lt (groups (leb_front w)) (2 ^ 64)) [
-      | inl lt ↦ inl (lt, eqb-true _ _ (if_some (length (behind_leb w) == groups (leb_front w)) _ r (rw (front, lt-ltb _ _ lt) at e)))
+      | inl lt ↦ inl (
+        lt,
+        eqb-true _ _
+            (if_some (length (behind_leb w) == groups (leb_front w)) _ r (rw (front, lt-ltb _ _ lt) at e)),
+      )
       | inr le ↦ inr (le, if_some (is_leb w) _ r (rw (front, le-ltb _ _ le) at e))
     ]
 
@@ -88,7 +103,8 @@ leb_block_once w x v r s e f =
     let same : leb_front (w ++ x ∷ v) ≡ leb_front w = leb_front-append w (x ∷ v) front in
     let size = ap (λ (z : List ℕ). groups z) same in
     let behind : behind_leb (w ++ x ∷ v) ≡ behind_leb w ++ x ∷ v =
-    ap (λ (z : List ℕ). drop (length z) (w ++ x ∷ v)) same ∙ drop-append-le (length (leb_front w)) w (x ∷ v) (leb_front-le w) in
+    ap (λ (z : List ℕ). drop (length z) (w ++ x ∷ v)) same
+    ∙ drop-append-le (length (leb_front w)) w (x ∷ v) (leb_front-le w) in
     elim (leb_block_cases w r e) [
       | inl a ↦ elim (leb_block_cases (w ++ x ∷ v) s f) [
         | inl b ↦ longer (behind_leb w) x v (groups (leb_front w)) a.1 (ap length (sym behind) ∙ b.1 ∙ size)
@@ -122,8 +138,12 @@ pub length_cases : (order : Order) (w : List ℕ) (r : Result Item FaultKind) �
 length_cases order w r e = elim (cases_eq (length w) 4) [
   | inl four ↦ inl four
   | inr n ↦
-      let t = if_some ((length w == 12) && (fixed order (take 4 w) == 0xffffffff)) _ r (rw (ne_eqb (length w) 4 n) at e) in
-      inr (eqb-true _ _ (and_left (length w == 12) _ t), eqb-true _ _ (and_right (length w == 12) (fixed order (take 4 w) == 0xffffffff) t))
+      let t = if_some ((length w == 12) && (fixed order (take 4 w) == 0xffffffff)) _ r
+      (rw (ne_eqb (length w) 4 n) at e) in
+      inr (
+        eqb-true _ _ (and_left (length w == 12) _ t),
+        eqb-true _ _ (and_right (length w == 12) (fixed order (take 4 w) == 0xffffffff) t),
+      )
 ]
 
 take_four : (w y : List ℕ) → length w ≡ 4 → take 4 (w ++ y) ≡ w
@@ -133,7 +153,8 @@ escape : (order : Order) (w : List ℕ) → length w ≡ 4 → fixed order w ≡
 escape order w four n = rw (eq-eqb _ _ four, n) refl
 
 -- four bytes that are the escape are not judged
-four_twelve : (order : Order) (w : List ℕ) (x : ℕ) (v : List ℕ) (r : Result Item FaultKind) → initial_length_spelt order w ≡ Some r → length w ≡ 4
+four_twelve : (order : Order) (w : List ℕ) (x : ℕ) (v : List ℕ) (r : Result Item FaultKind)
+    → initial_length_spelt order w ≡ Some r → length w ≡ 4
     → (length (w ++ x ∷ v) ≡ 4) ⊎ ((length (w ++ x ∷ v) ≡ 12) × (fixed order (take 4 (w ++ x ∷ v)) ≡ 0xffffffff)) → ⊥
 four_twelve order w x v r e four (inl b) = absurd (omega (arith, length-append w (x ∷ v)))
 four_twelve order w x v r e four (inr b) =
@@ -150,20 +171,30 @@ length_once order w x v r s e f = elim (length_cases order w r e) [
 ]
 
 -- what is judged as a number of fixed size has that size
-pub sized_length : (order : Order) (field : NumberField) (k : ℕ) (w : List ℕ) (r : Result Item FaultKind) → number_judged field (sized_spelt order (Some k) w) ≡ Some r → length w ≡ k
-sized_length order field k w r e = elim (cases_eq (length w) k) [ inl h ↦ h | inr n ↦ absurd (none_some (rw (ne_eqb (length w) k n) refl) e) ]
+pub sized_length : (order : Order) (field : NumberField) (k : ℕ) (w : List ℕ) (r : Result Item FaultKind)
+    → number_judged field (sized_spelt order (Some k) w) ≡ Some r → length w ≡ k
+sized_length order field k w r e =
+    elim (cases_eq (length w) k) [ inl h ↦ h | inr n ↦ absurd (none_some (rw (ne_eqb (length w) k n) refl) e) ]
 
-number_once : (order : Order) (field : NumberField) (size : Option ℕ) → Once (λ w. number_judged field (sized_spelt order size w))
+number_once : (order : Order) (field : NumberField) (size : Option ℕ)
+    → Once (λ w. number_judged field (sized_spelt order size w))
 number_once order field (Some k) w x v r s e f = longer w x v k (size_of w r e) (size_of (w ++ x ∷ v) s f)
   where
-    size_of : (w : List ℕ) (r : Result Item FaultKind) → number_judged field (sized_spelt order (Some k) w) ≡ Some r → length w ≡ k
-    size_of w r e = elim (cases_eq (length w) k) [ inl h ↦ h | inr n ↦ absurd (none_some (rw (ne_eqb (length w) k n) refl) e) ]
+    size_of : (w : List ℕ) (r : Result Item FaultKind) → number_judged field (sized_spelt order (Some k) w) ≡ Some r
+        → length w ≡ k
+    size_of w r e = elim (cases_eq (length w) k) [
+      | inl h ↦ h
+      | inr n ↦
+          absurd (none_some (rw (ne_eqb (length w) k n) refl) e)
+    ]
 number_once order field None w x v r s e f = true_false (leb_of (w ++ x ∷ v) s f) (is_leb-once w x v (leb_of w r e))
   where
-    leb_of : (w : List ℕ) (r : Result Item FaultKind) → number_judged field (sized_spelt order None w) ≡ Some r → is_leb w ≡ true
+    leb_of : (w : List ℕ) (r : Result Item FaultKind) → number_judged field (sized_spelt order None w) ≡ Some r
+        → is_leb w ≡ true
     leb_of w r e = elim (cases_Bool (is_leb w)) [ inl h ↦ h | inr n ↦ absurd (none_some (rw n refl) e) ]
 
-value_some : (o : Judgement Value) (r : Result Item FaultKind) → value_judged o ≡ Some r → (s : Result Value FaultKind) × (o ≡ Some s)
+value_some : (o : Judgement Value) (r : Result Item FaultKind) → value_judged o ≡ Some r
+    → (s : Result Value FaultKind) × (o ≡ Some s)
 value_some None r e = absurd (none_some refl e)
 value_some (Some s) r e = (s, refl)
 

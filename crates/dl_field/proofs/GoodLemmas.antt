@@ -1,5 +1,6 @@
 -- What is judged good: the value, the field or the form that it is.
-use Rattle.std.proofs.Common.{◌≡◌, ℕ, ◌^◌, ◌≤◌, Bool, true, false, if◌then◌else◌, List, [], ◌∷◌, length, Option, Some, None, Ok, Err, refl, sym, ap, arith, inl, inr}
+use Rattle.std.proofs.Common.{◌≡◌, ℕ, ◌^◌, ◌≤◌, Bool, true, false, if◌then◌else◌, List, [], ◌∷◌, length, Option, Some}
+use Rattle.std.proofs.Common.{None, Ok, Err, refl, sym, ap, arith, inl, inr}
 use Rattle.std.proofs.lemmas.Bool.{cases_lt, cases_Bool, lt-ltb, le-ltb}
 use Rattle.dl_num.specs.Leb.{groups}
 use Rattle.dl_num.specs.LebFront.{is_leb}
@@ -30,7 +31,8 @@ good_item i j e = ap (λ (o : Judgement Item). elim o [ Some (Ok k) ↦ k | Some
 pub bad_item : {kind : FaultKind} {i : Item} → ◌≡◌ {A = Judgement Item} (bad kind) (good i) → ⊥
 bad_item e = absurd cc
 
-pub value_item : (o : Judgement Value) (i : Item) → value_judged o ≡ good i → (v : Value) × (o ≡ good v) × (i ≡ value_is v)
+pub value_item : (o : Judgement Value) (i : Item) → value_judged o ≡ good i
+    → (v : Value) × (o ≡ good v) × (i ≡ value_is v)
 value_item None i e = absurd (none_some {a = Ok i} refl e)
 value_item (Some (Ok v)) i e = (v, refl, good_item (value_is v) i e)
 value_item (Some (Err kind)) i e = absurd (bad_item e)
@@ -43,7 +45,8 @@ form_item code None i e = elim (cases_lt code (2 ^ 64)) [
 ]
 
 -- a good form code, which isn't empty
-pub is_form : (w : List ℕ) (i : Item) → (if is_leb w then form_judged (groups w) (form_of_code (groups w)) else None) ≡ good i → (f : Form) × (i ≡ form_is f) × (1 ≤ length w)
+pub is_form : (w : List ℕ) (i : Item) → (if is_leb w then form_judged (groups w) (form_of_code (groups w)) else None)
+    ≡ good i → (f : Form) × (i ≡ form_is f) × (1 ≤ length w)
 is_form w i e = elim (cases_Bool (is_leb w)) [
   | inl t ↦ let f = form_item (groups w) (form_of_code (groups w)) i (rw t at e) in (f.0, f.1, leb_some w t)
   | inr n ↦ absurd (none_some {a = Ok i} refl (rw n at e))

@@ -20,7 +20,8 @@ begun_block k w = if nat_le k (length w) then 1 + (length w - k) else 0
 
 -- the same, its length being a number in LEB128 below 2^64
 abbrev pub begun_leb_block : List ℕ → ℕ
-begun_leb_block w = if is_leb (leb_front w) && nat_lt (groups (leb_front w)) (2 ^ 64) then 1 + length (behind_leb w) else 0
+begun_leb_block w = if is_leb (leb_front w) && nat_lt (groups (leb_front w)) (2 ^ 64) then 1 + length (behind_leb w)
+    else 0
 
 -- what the first bytes of a value hold, as long as it isn't complete
 abbrev pub begun_cells : Form → List ℕ → ℕ

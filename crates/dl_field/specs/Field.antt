@@ -8,7 +8,9 @@ use Rattle.dl_table.specs.declared.form.Format.TheVariants.{Dwarf32, Dwarf64}
 use Rattle.dl_table.specs.declared.form.Form.{Form}
 use Rattle.dl_table.specs.declared.form.Form.TheVariants as form
 use Rattle.dl_table.specs.Value.{Value, text, line_str, str, str_sup, number, block, data16, form_code, offset_size}
-use Rattle.dl_field.specs.Layout.{number_size, objection, unit_length_limit, Layout, initial_length_then, number_then, form_then, value_then, foreign_version, last_entry, Item, length_is, number_is, form_is, value_is}
+use Rattle.dl_field.specs.Layout.{number_size, objection, unit_length_limit, Layout, initial_length_then, number_then}
+use Rattle.dl_field.specs.Layout.{form_then, value_then, foreign_version, last_entry, Item, length_is, number_is}
+use Rattle.dl_field.specs.Layout.{form_is, value_is}
 
 -- w is a number of k bytes
 abbrev pub IsFixed : Order → ℕ → ℕ → List ℕ → Type 0
@@ -52,7 +54,8 @@ IsValue order format form.LineStrp v w = (n : ℕ) × (v ≡ line_str n) × IsFi
 abbrev pub IsInitialLength : Order → Format → ℕ → List ℕ → Type 0
 IsInitialLength order Dwarf32 n w = IsFixed order 4 n w × (n < 0xfffffff0)
 IsInitialLength order Dwarf64 n w =
-    (escape : List ℕ) × (rest : List ℕ) × (w ≡ escape ++ rest) × IsFixed order 4 0xffffffff escape × IsFixed order 8 n rest × (n ≤ unit_length_limit)
+    (escape : List ℕ) × (rest : List ℕ) × (w ≡ escape ++ rest) × IsFixed order 4 0xffffffff escape
+    × IsFixed order 8 n rest × (n ≤ unit_length_limit)
 
 -- w is a number of this size, or in LEB128
 abbrev pub IsNumber : Order → Option ℕ → ℕ → List ℕ → Type 0
@@ -61,8 +64,10 @@ IsNumber order None n w = IsUleb w n
 
 -- w is a good field at the front of the layout, and i its value
 abbrev pub IsField : Order → Layout → Item → List ℕ → Type 0
-IsField order (initial_length_then next) i w = (format : Format) × (n : ℕ) × (i ≡ length_is format n) × IsInitialLength order format n w
-IsField order (number_then field next) i w = (n : ℕ) × (i ≡ number_is n) × IsNumber order (number_size field) n w × (objection field n ≡ None)
+IsField order (initial_length_then next) i w = (format : Format) × (n : ℕ) × (i ≡ length_is format n)
+    × IsInitialLength order format n w
+IsField order (number_then field next) i w = (n : ℕ) × (i ≡ number_is n) × IsNumber order (number_size field) n w
+    × (objection field n ≡ None)
 IsField order (form_then next) i w = (f : Form) × (i ≡ form_is f) × IsUleb w (form_code f)
 IsField order (value_then format f next) i w = (v : Value) × (i ≡ value_is v) × IsValue order format f v w
 IsField order (foreign_version v) i w = ⊥

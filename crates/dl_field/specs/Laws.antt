@@ -7,4 +7,5 @@ use Rattle.dl_field.specs.Field.{IsField}
 
 -- bytes are judged a good field exactly where they are one
 abbrev pub FieldIsJudged : Type 0
-FieldIsJudged = (order : Order) (layout : Layout) (i : Item) (w : List ℕ) → IsField order layout i w ↔ (field_spelt order layout w ≡ good i)
+FieldIsJudged = (order : Order) (layout : Layout) (i : Item) (w : List ℕ)
+    → IsField order layout i w ↔ (field_spelt order layout w ≡ good i)

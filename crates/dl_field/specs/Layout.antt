@@ -1,5 +1,6 @@
--- The fields that a header and its tables are made of, and what bytes are as one of them. DWARF 5, section 6.2.4; initial lengths are of section 7.4.
-use Rattle.std.specs.Prelude.{ℕ, zero, suc, ◌-◌, ◌^◌, Bool, true, false, not, ◌&&◌, ◌||◌, List, [], ◌∷◌, ◌++◌, length, take, drop, Option, Some, None, Ok, Err, nat_lt, nat_le, ◌==◌, if◌then◌else◌, slice_index}
+-- Fields of a header and of its tables, and what bytes are as one of them. DWARF 5, sections 6.2.4 and 7.4.
+use Rattle.std.specs.Prelude.{ℕ, zero, suc, ◌-◌, ◌^◌, Bool, true, false, not, ◌&&◌, ◌||◌, List, [], ◌∷◌, ◌++◌, length}
+use Rattle.std.specs.Prelude.{take, drop, Option, Some, None, Ok, Err, nat_lt, nat_le, ◌==◌, if◌then◌else◌, slice_index}
 use Rattle.dl_num.specs.declared.fixed.Order.{Order}
 use Rattle.dl_num.specs.Fixed.{fixed}
 use Rattle.dl_num.specs.Leb.{groups}
@@ -34,7 +35,8 @@ pub data NumberField : Type 0 where
   -- whether an entry has values
   entry_count : Bool → NumberField
 
--- What stands at the front of a header or of the rest of one: a field, with what follows each value of it, or nothing more.
+-- What stands at the front of a header or of the rest of one: a field, with what follows each value of it, or nothing
+-- more.
 pub data Layout : Type 0 where
   initial_length_then : (Format → ℕ → Layout) → Layout
   number_then : NumberField → (ℕ → Layout) → Layout
@@ -51,12 +53,14 @@ standard_lengths = 0 ∷ 1 ∷ 1 ∷ 1 ∷ 1 ∷ 0 ∷ 0 ∷ 0 ∷ 1 ∷ 0 ∷ 0
 abbrev pub pairs_layout : ℕ → List Pair → (List Pair → Layout) → Layout
 pairs_layout zero before next = next before
 pairs_layout (suc count) before next =
-    number_then content_code λ code. form_then λ f. pairs_layout count (before ++ record { content = code; form = f } ∷ []) next
+    number_then content_code λ code. form_then λ f. pairs_layout count
+    (before ++ record { content = code; form = f } ∷ []) next
 
 -- one entry: a value for each pair
 abbrev pub entry_layout : Format → List Pair → List Value → (List Value → Layout) → Layout
 entry_layout format [] before next = next before
-entry_layout format (p ∷ pairs) before next = value_then format p.form λ v. entry_layout format pairs (before ++ v ∷ []) next
+entry_layout format (p ∷ pairs) before next =
+    value_then format p.form λ v. entry_layout format pairs (before ++ v ∷ []) next
 
 -- count entries
 abbrev pub entries_layout : Format → List Pair → ℕ → List (List Value) → (List (List Value) → Layout) → Layout
@@ -96,7 +100,8 @@ following_all layout (i ∷ items) = following_all (following layout i) items
 -- the initial length as a field: four bytes below 0xfffffff0; or 0xffffffff, and eight bytes
 abbrev pub short_length : ℕ → Judgement Item
 short_length n =
-    if nat_lt n 0xfffffff0 then (if nat_le n unit_length_limit then good (length_is Dwarf32 n) else bad fault.UnitTooLong) else
+    if nat_lt n 0xfffffff0 then (if nat_le n unit_length_limit then good (length_is Dwarf32 n)
+    else bad fault.UnitTooLong) else
     if n == 0xffffffff then None else bad fault.ReservedLength
 
 abbrev pub long_length : ℕ → Judgement Item
@@ -117,7 +122,8 @@ objection maximum_operations n = if n == 0 then Some fault.MaxOps else None
 objection line_range n = if n == 0 then Some fault.LineRange else None
 objection opcode_base n = if n == 0 then Some fault.OpcodeBase else None
 objection (opcode_length opcode) n =
-    if nat_lt 12 opcode || (n == slice_index standard_lengths (opcode - 1)) then None else Some (fault.StandardLength opcode)
+    if nat_lt 12 opcode || (n == slice_index standard_lengths (opcode - 1)) then None
+    else Some (fault.StandardLength opcode)
 objection content_code n = if nat_lt n (2 ^ 64) then None else Some fault.LebRange
 objection (entry_count true) n = if nat_lt n (2 ^ 64) then None else Some fault.LebRange
 objection (entry_count false) n = if n == 0 then None else Some fault.EmptyFormat

@@ -1,4 +1,4 @@
-//! The fields of a header of DWARF 5: those that are numbers, and a table of directories or files, read byte by byte. Sections 6.2.4 and 7.5.5.
+//! The fields of a DWARF 5 header: its numbers, and its tables read byte by byte. Sections 6.2.4 and 7.5.5.
 #![tactic(auto)]
 
 pub mod field_step;

@@ -67,7 +67,8 @@ pub fn standard_lengths() -> ArrayVec<u8, 254>
 pub fn is_wrong_length(opcode: usize, length: u8) -> bool
     requires { 1 ≤ opcode }
     ensures standard { IsTrue result → opcode ≤ 12 }
-    ensures value { objection (opcode_length opcode) length ≡ (if result then Some (fault.StandardLength opcode) else None) }
+    ensures value { objection (opcode_length opcode) length
+        ≡ (if result then Some (fault.StandardLength opcode) else None) }
 {
     match STANDARD_LENGTHS.get(opcode - 1) {
         Some(standard) => *standard != length,

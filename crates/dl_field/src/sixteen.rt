@@ -33,7 +33,8 @@ impl Sixteen {
     pub fn push(self, byte: u8) -> Result<[u8; 16], Sixteen>
         ensures whole { IfOk result (λ bytes. bytes ≡ operand_bytes self.operand ++ byte ∷ []) }
         ensures size { IfOk result (λ bytes. length bytes ≡ 16) }
-        ensures taken { IfErr result (λ sixteen. operand_bytes sixteen.operand ≡ operand_bytes self.operand ++ byte ∷ []) }
+        ensures taken { IfErr result (λ sixteen. operand_bytes sixteen.operand
+            ≡ operand_bytes self.operand ++ byte ∷ []) }
     {
         match self.operand.push(byte) {
             Ok(fixed) => Ok(fixed.bytes16()),

@@ -202,7 +202,8 @@ impl TableReader {
         ensures made { Enters self.old at held format result self.new }
         ensures cells { OneCell self.old result self.new }
         ensures room { vec_len self.old.values < vec_capacity self.old.values → result ≡ byte_makes.Ends }
-        ensures last { self.new.phase ≡ phase.Whole → self.old.phase ≢ phase.Whole → IsLast at (length self.old.pairs.items) }
+        ensures last { self.new.phase ≡ phase.Whole → self.old.phase ≢ phase.Whole
+            → IsLast at (length self.old.pairs.items) }
     {
         if self.values.push(held).is_err() {
             return FieldStep::NoMemory;
@@ -216,7 +217,8 @@ impl TableReader {
     fn end_value(&mut self, at: Cursor, format: Format)
         requires in_row { at.column < length self.old.pairs.items }
         requires whole { values_end self.old.values.items ≤ length self.old.pool.items }
-        ensures goes { GoesOn self.old.pairs.items self.old.pool.items self.old.values.items (at.column + 1) at.left format self.new }
+        ensures goes { GoesOn self.old.pairs.items self.old.pool.items self.old.values.items
+            (at.column + 1) at.left format self.new }
         ensures cells { reader_cells self.new ≡ reader_cells self.old }
         ensures last { self.new.phase ≡ phase.Whole → IsLast at (length self.old.pairs.items) }
     {
@@ -231,7 +233,8 @@ impl TableReader {
     pub(crate) fn begin_value(&mut self, at: Cursor, format: Format)
         requires in_row { at.column < length self.old.pairs.items }
         requires whole { values_end self.old.values.items ≤ length self.old.pool.items }
-        ensures goes { GoesOn self.old.pairs.items self.old.pool.items self.old.values.items at.column at.left format self.new }
+        ensures goes { GoesOn self.old.pairs.items self.old.pool.items self.old.values.items
+            at.column at.left format self.new }
         ensures cells { reader_cells self.new ≡ reader_cells self.old }
         ensures going { self.new.phase ≢ phase.Whole }
     {

@@ -1,5 +1,7 @@
 -- The fields up to header_length: their values and sizes, and that version 5 leads to no foreign unit.
-use Rattle.std.proofs.Common.{◌≡◌, ◌≢◌, ℕ, zero, suc, ◌+◌, ◌-◌, ◌≤◌, if◌then◌else◌, ◌==◌, List, [], ◌∷◌, ◌++◌, length, drop, Option, Some, None, Ok, Err, refl, sym, ap, subst, ◌∙◌, arith, inl, inr, length-append}
+use Rattle.std.proofs.Common.{◌≡◌, ◌≢◌, ℕ, zero, suc, ◌+◌, ◌-◌, ◌≤◌, if◌then◌else◌, ◌==◌, List, [], ◌∷◌, ◌++◌, length}
+use Rattle.std.proofs.Common.{drop, Option, Some, None, Ok, Err, refl, sym, ap, subst, ◌∙◌, arith, inl, inr}
+use Rattle.std.proofs.Common.{length-append}
 use Rattle.std.proofs.lemmas.Bool.{cases_lt, cases_eq, lt-ltb, le-ltb, le-leb, lt-leb, ne_eqb, eq-eqb}
 use Rattle.dl_num.specs.declared.fixed.Order.{Order}
 use Rattle.dl_num.specs.Fixed.{fixed}
@@ -12,8 +14,15 @@ use Rattle.dl_field.specs.declared.params.Params.{Params}
 use Rattle.dl_table.specs.declared.table.Pair.{Pair}
 use Rattle.dl_table.specs.TableData.{TableData}
 use Rattle.dl_table.specs.Value.{Value, Judgement, good, bad, offset_size}
-use Rattle.dl_field.specs.Layout.{NumberField, version, address_size, any_byte, header_length, Layout, initial_length_then, number_then, form_then, value_then, foreign_version, last_entry, Item, length_is, number_is, form_is, value_is, following, following_all, field_spelt, pairs_layout, entry_layout, entries_layout, table_layout, short_length, long_length, initial_length_spelt, unit_length_limit, objection, judged, number_judged, sized_spelt, number_size}
-use Rattle.dl_head.specs.HeaderLayout.{header_layout, lengths_layout, tables_layout, from_address_size, from_segment_selector_size, from_header_length, from_minimum_length, format_alone, initial_size, fixed_part}
+use Rattle.dl_field.specs.Layout.{NumberField, version, address_size, any_byte, header_length, Layout}
+use Rattle.dl_field.specs.Layout.{initial_length_then, number_then, form_then, value_then, foreign_version, last_entry}
+use Rattle.dl_field.specs.Layout.{Item, length_is, number_is, form_is, value_is, following, following_all, field_spelt}
+use Rattle.dl_field.specs.Layout.{pairs_layout, entry_layout, entries_layout, table_layout, short_length, long_length}
+use Rattle.dl_field.specs.Layout.{initial_length_spelt, unit_length_limit, objection, judged, number_judged}
+use Rattle.dl_field.specs.Layout.{sized_spelt, number_size}
+use Rattle.dl_head.specs.HeaderLayout.{header_layout, lengths_layout, tables_layout, from_address_size}
+use Rattle.dl_head.specs.HeaderLayout.{from_segment_selector_size, from_header_length, from_minimum_length}
+use Rattle.dl_head.specs.HeaderLayout.{format_alone, initial_size, fixed_part}
 use Rattle.dl_head.specs.Header.{SpellsFields, header_end}
 use Rattle.dl_field.proofs.FieldLemmas.{none_some, length_cases, sized_length}
 
@@ -57,8 +66,15 @@ is_length order w i e = elim (length_cases order w (Ok i) e) [
       record { format = Dwarf32; number = fixed order w; item = short_item (fixed order w) i (sym g ∙ e); size = four }
   | inr long ↦
       let a : length w ≢ 4 = λ same. omega (arith, long.0) in
-      let g : initial_length_spelt order w ≡ long_length (fixed order (drop 4 w)) = rw (ne_eqb _ _ a, eq-eqb _ _ long.0, eq-eqb _ _ long.1) refl in
-      record { format = Dwarf64; number = fixed order (drop 4 w); item = long_item (fixed order (drop 4 w)) i (sym g ∙ e); size = long.0 }
+      let g : initial_length_spelt order w ≡ long_length (fixed order (drop 4 w)) =
+      rw (ne_eqb _ _ a, eq-eqb _ _ long.0, eq-eqb _ _ long.1) refl in
+      record {
+        format = Dwarf64;
+        number = fixed order (drop 4 w);
+        item = long_item (fixed order (drop 4 w)) i
+            (sym g ∙ e);
+        size = long.0;
+      }
 ]
 
 -- ---- numbers
@@ -69,7 +85,8 @@ pub record IsNumber (field : NumberField) (i : Item) : Type 0 where
   pub item : i ≡ number_is number
   pub fits : objection field number ≡ None
 
-judged_number : (field : NumberField) (n : ℕ) (o : Option FaultKind) (i : Item) → objection field n ≡ o → judged o n ≡ good i → IsNumber field i
+judged_number : (field : NumberField) (n : ℕ) (o : Option FaultKind) (i : Item) → objection field n ≡ o
+    → judged o n ≡ good i → IsNumber field i
 judged_number field n None i f e = record { number = n; item = item_of (number_is n) i e; fits = f }
 judged_number field n (Some kind) i f e = absurd (ok_err e)
 
@@ -77,7 +94,8 @@ some_number : (field : NumberField) (o : Option ℕ) (i : Item) → number_judge
 some_number field None i e = absurd (none_some refl e)
 some_number field (Some n) i e = judged_number field n (objection field n) i refl e
 
-pub is_number : (order : Order) (field : NumberField) (next : ℕ → Layout) (w : List ℕ) (i : Item) → field_spelt order (number_then field next) w ≡ good i → IsNumber field i
+pub is_number : (order : Order) (field : NumberField) (next : ℕ → Layout) (w : List ℕ) (i : Item)
+    → field_spelt order (number_then field next) w ≡ good i → IsNumber field i
 is_number order field next w i e = some_number field (sized_spelt order (number_size field) w) i e
 
 -- ---- what follows version 5 leads to no foreign unit
@@ -118,43 +136,57 @@ own_following_all : (layout : Layout) (items : List Item) → IsOwn layout → I
 own_following_all layout [] own = own
 own_following_all layout (i ∷ items) own = own_following_all (following layout i) items (own_following layout i own)
 
-own_lengths : (opcode count : ℕ) (before : List ℕ) (next : List ℕ → Layout) → ((lengths : List ℕ) → IsOwn (next lengths)) → IsOwn (lengths_layout opcode count before next)
+own_lengths : (opcode count : ℕ) (before : List ℕ) (next : List ℕ → Layout)
+    → ((lengths : List ℕ) → IsOwn (next lengths)) → IsOwn (lengths_layout opcode count before next)
 own_lengths opcode zero before next own = own before
 own_lengths opcode (suc count) before next own = λ n. own_lengths (opcode + 1) count (before ++ n ∷ []) next own
 
-own_pairs : (count : ℕ) (before : List Pair) (next : List Pair → Layout) → ((pairs : List Pair) → IsOwn (next pairs)) → IsOwn (pairs_layout count before next)
+own_pairs : (count : ℕ) (before : List Pair) (next : List Pair → Layout) → ((pairs : List Pair) → IsOwn (next pairs))
+    → IsOwn (pairs_layout count before next)
 own_pairs zero before next own = own before
-own_pairs (suc count) before next own = λ code f. own_pairs count (before ++ record { content = code; form = f } ∷ []) next own
+own_pairs (suc count) before next own = λ code f. own_pairs count (before ++ record { content = code; form = f } ∷ [])
+    next own
 
-own_entry : (format : Format) (pairs : List Pair) (before : List Value) (next : List Value → Layout) → ((entry : List Value) → IsOwn (next entry)) → IsOwn (entry_layout format pairs before next)
+own_entry : (format : Format) (pairs : List Pair) (before : List Value) (next : List Value → Layout)
+    → ((entry : List Value) → IsOwn (next entry)) → IsOwn (entry_layout format pairs before next)
 own_entry format [] before next own = own before
 own_entry format (p ∷ pairs) before next own = λ v. own_entry format pairs (before ++ v ∷ []) next own
 
-own_entries : (format : Format) (pairs : List Pair) (count : ℕ) (before : List (List Value)) (next : List (List Value) → Layout)
+own_entries : (format : Format) (pairs : List Pair) (count : ℕ) (before : List (List Value))
+    (next : List (List Value) → Layout)
     → ((entries : List (List Value)) → IsOwn (next entries)) → IsOwn (entries_layout format pairs count before next)
 own_entries format pairs zero before next own = own before
 own_entries format pairs (suc count) before next own =
-    own_entry format pairs [] (λ entry. entries_layout format pairs count (before ++ entry ∷ []) next) (λ entry. own_entries format pairs count (before ++ entry ∷ []) next own)
+    own_entry format pairs [] (λ entry. entries_layout format pairs count (before ++ entry ∷ []) next)
+    (λ entry. own_entries format pairs count (before ++ entry ∷ []) next own)
 
-own_table : (format : Format) (next : TableData → Layout) → ((t : TableData) → IsOwn (next t)) → IsOwn (table_layout format next)
-own_table format next own = λ pair_count. own_pairs pair_count [] _ (λ pairs. λ count. own_entries format pairs count [] _ (λ entries. own _))
+own_table : (format : Format) (next : TableData → Layout) → ((t : TableData) → IsOwn (next t))
+    → IsOwn (table_layout format next)
+own_table format next own = λ pair_count. own_pairs pair_count [] _
+    (λ pairs. λ count. own_entries format pairs count [] _ (λ entries. own _))
 
 own_tables : (p : Params) → IsOwn (tables_layout p)
 own_tables p =
-    own_table p.format (λ directories. table_layout p.format λ files. last_entry (record { params = p; directories = directories; files = files }))
-    (λ directories. own_table p.format (λ files. last_entry (record { params = p; directories = directories; files = files })) (λ files. tt))
+    own_table p.format (λ directories. table_layout p.format λ files. last_entry
+    (record { params = p; directories = directories; files = files }))
+    (λ directories. own_table p.format
+    (λ files. last_entry (record { params = p; directories = directories; files = files })) (λ files. tt))
 
 own_fields : (unit_length : ℕ) (p : Params) → IsOwn (from_address_size unit_length p)
-own_fields unit_length p = λ address segment header minimum maximum is_stmt base range opcodes. own_lengths 1 (opcodes - 1) [] _ (λ lengths. own_tables _)
+own_fields unit_length p = λ address segment header minimum maximum is_stmt base range opcodes. own_lengths 1
+    (opcodes - 1) [] _ (λ lengths. own_tables _)
 
 -- where version 5 was read, no foreign unit is
-pub not_foreign : (unit_length : ℕ) (p : Params) (items : List Item) (v : ℕ) → following_all (from_address_size unit_length p) items ≡ foreign_version v → ⊥
-not_foreign unit_length p items v e = subst IsOwn e (own_following_all (from_address_size unit_length p) items (own_fields unit_length p))
+pub not_foreign : (unit_length : ℕ) (p : Params) (items : List Item) (v : ℕ)
+    → following_all (from_address_size unit_length p) items ≡ foreign_version v → ⊥
+not_foreign unit_length p items v e = subst IsOwn e
+    (own_following_all (from_address_size unit_length p) items (own_fields unit_length p))
 
 -- ---- the fields up to header_length
 
 -- a number is the first field that is spelled
-pub record Numbered (order : Order) (field : NumberField) (next : ℕ → Layout) (k : ℕ) (i : Item) (items : List Item) (w : List ℕ) : Type 0 where
+pub record Numbered (order : Order) (field : NumberField) (next : ℕ → Layout) (k : ℕ) (i : Item) (items : List Item)
+    (w : List ℕ) : Type 0 where
   pub number : ℕ
   pub item : i ≡ number_is number
   pub fits : objection field number ≡ None
@@ -163,10 +195,12 @@ pub record Numbered (order : Order) (field : NumberField) (next : ℕ → Layout
   pub spelt : SpellsFields order (next number) items rest
 
 pub numbered : (order : Order) (field : NumberField) (next : ℕ → Layout) (k : ℕ) → number_size field ≡ Some k
-    → (i : Item) (items : List Item) (w : List ℕ) → SpellsFields order (number_then field next) (i ∷ items) w → Numbered order field next k i items w
+    → (i : Item) (items : List Item) (w : List ℕ) → SpellsFields order (number_then field next) (i ∷ items) w
+    → Numbered order field next k i items w
 numbered order field next k sized i items w s =
     let n = is_number order field next s.0 i s.3 in
-    let size : length s.0 ≡ k = sized_length order field k s.0 (Ok i) (ap (λ o. number_judged field (sized_spelt order o s.0)) (sym sized) ∙ s.3) in
+    let size : length s.0 ≡ k = sized_length order field k s.0 (Ok i)
+    (ap (λ o. number_judged field (sized_spelt order o s.0)) (sym sized) ∙ s.3) in
     record {
       number = n.number;
       item = n.item;
@@ -184,7 +218,8 @@ pub record Opening (order : Order) (items : List Item) (w : List ℕ) : Type 0 w
   pub segment : ℕ
   pub header : ℕ
   pub more : List Item
-  pub items_are : items ≡ length_is format unit_length ∷ number_is 5 ∷ number_is address ∷ number_is segment ∷ number_is header ∷ more
+  pub items_are : items ≡ length_is format unit_length ∷ number_is 5 ∷ number_is address ∷ number_is segment
+      ∷ number_is header ∷ more
   pub rest : List ℕ
   pub size : length w ≡ initial_size format + fixed_part format + length rest
   pub fits : header ≤ unit_length - fixed_part format
@@ -192,7 +227,11 @@ pub record Opening (order : Order) (items : List Item) (w : List ℕ) : Type 0 w
   pub spelt : SpellsFields order (from_minimum_length p) more rest
 
 fits_unit : (format : Format) (left n : ℕ) → objection (header_length format left) n ≡ None → n ≤ left
-fits_unit format left n e = elim (cases_lt left n) [ inl lt ↦ absurd (none_some {a = fault.HeaderBeyondUnit} e (rw (lt-leb n left lt) refl)) | inr le ↦ le ]
+fits_unit format left n e = elim (cases_lt left n) [
+  | inl lt ↦
+      absurd (none_some {a = fault.HeaderBeyondUnit} e (rw (lt-leb n left lt) refl))
+  | inr le ↦ le
+]
 
 -- the values from the second field on, where the first is an initial length
 abbrev pub after_length : Format → ℕ → ℕ → Layout
@@ -203,12 +242,15 @@ abbrev pub after_address : Format → ℕ → ℕ → Layout
 after_address f n address = from_segment_selector_size n (record (format_alone f) { address_size = address })
 
 abbrev pub after_segment : Format → ℕ → ℕ → ℕ → Layout
-after_segment f n address segment = from_header_length n (record (format_alone f) { address_size = address; segment_selector_size = segment })
+after_segment f n address segment = from_header_length n
+    (record (format_alone f) { address_size = address; segment_selector_size = segment })
 
 abbrev pub after_header : Format → ℕ → ℕ → ℕ → Layout
-after_header f address segment header = from_minimum_length (record (format_alone f) { address_size = address; segment_selector_size = segment })
+after_header f address segment header = from_minimum_length
+    (record (format_alone f) { address_size = address; segment_selector_size = segment })
 
-own_version : (order : Order) (format : Format) (n v : ℕ) (i : Item) (items : List Item) (w : List ℕ) → SpellsFields order (after_length format n v) (i ∷ items) w → v ≡ 5
+own_version : (order : Order) (format : Format) (n v : ℕ) (i : Item) (items : List Item) (w : List ℕ)
+    → SpellsFields order (after_length format n v) (i ∷ items) w → v ≡ 5
 own_version order format n v i items w s = elim (cases_eq v 5) [
   | inl same ↦ same
   | inr other ↦
@@ -216,10 +258,12 @@ own_version order format n v i items w s = elim (cases_eq v 5) [
       absurd (none_some refl t.3)
 ]
 
-five_same : {i j k l m i2 j2 k2 l2 m2 : Item} (more : List Item) → i ≡ i2 → j ≡ j2 → k ≡ k2 → l ≡ l2 → m ≡ m2 → (i ∷ j ∷ k ∷ l ∷ m ∷ more) ≡ (i2 ∷ j2 ∷ k2 ∷ l2 ∷ m2 ∷ more)
+five_same : {i j k l m i2 j2 k2 l2 m2 : Item} (more : List Item) → i ≡ i2 → j ≡ j2 → k ≡ k2 → l ≡ l2 → m ≡ m2
+    → (i ∷ j ∷ k ∷ l ∷ m ∷ more) ≡ (i2 ∷ j2 ∷ k2 ∷ l2 ∷ m2 ∷ more)
 five_same more a b c d e = cc
 
-pub opening : (order : Order) (i j k l m : Item) (more : List Item) (w : List ℕ) → SpellsFields order header_layout (i ∷ j ∷ k ∷ l ∷ m ∷ more) w → Opening order (i ∷ j ∷ k ∷ l ∷ m ∷ more) w
+pub opening : (order : Order) (i j k l m : Item) (more : List Item) (w : List ℕ)
+    → SpellsFields order header_layout (i ∷ j ∷ k ∷ l ∷ m ∷ more) w → Opening order (i ∷ j ∷ k ∷ l ∷ m ∷ more) w
 opening order i j k l m more w s =
     let a = is_length order s.0 i s.3 in
     let first : SpellsFields order (number_then version (after_length a.format a.number)) (j ∷ k ∷ l ∷ m ∷ more) s.1 =
@@ -230,7 +274,8 @@ opening order i j k l m more w s =
     subst (λ (v : ℕ). SpellsFields order (after_length a.format a.number v) (k ∷ l ∷ m ∷ more) b.rest) five b.spelt in
     let c = numbered order address_size (after_address a.format a.number) 1 refl k (l ∷ m ∷ more) b.rest second in
     let d = numbered order any_byte (after_segment a.format a.number c.number) 1 refl l (m ∷ more) c.rest c.spelt in
-    let e = numbered order (header_length a.format (a.number - fixed_part a.format)) (after_header a.format c.number d.number) (offset_size a.format) refl m more d.rest d.spelt in
+    let e = numbered order (header_length a.format (a.number - fixed_part a.format))
+    (after_header a.format c.number d.number) (offset_size a.format) refl m more d.rest d.spelt in
     let whole = ap length s.2 ∙ length-append s.0 s.1 in
     let size : length s.0 ≡ initial_size a.format = a.size in
     record {
@@ -240,7 +285,10 @@ opening order i j k l m more w s =
       segment = d.number;
       header = e.number;
       more = more;
-      items_are = five_same {i2 = length_is a.format a.number} {j2 = number_is 5} {k2 = number_is c.number} {l2 = number_is d.number} {m2 = number_is e.number} more a.item (b.item ∙ ap (λ (v : ℕ). number_is v) five) c.item d.item e.item;
+      items_are = five_same {i2 = length_is a.format a.number} {j2 = number_is 5} {k2 = number_is c.number}
+          {l2 = number_is d.number} {m2 = number_is e.number} more a.item (b.item ∙ ap (λ (v : ℕ). number_is v) five)
+          c.item
+          d.item e.item;
       rest = e.rest;
       size = omega (arith, whole, size, b.size, c.size, d.size, e.size);
       fits = fits_unit a.format (a.number - fixed_part a.format) e.number e.fits;
@@ -260,7 +308,8 @@ few_end (length_is f n) (a ∷ b ∷ c ∷ []) h = refl
 few_end (length_is f n) (a ∷ b ∷ c ∷ d ∷ items) h = absurd (omega arith)
 
 -- where a header's end is known, its first five fields are read
-pub opening_of : (order : Order) (items : List Item) (w : List ℕ) (end : ℕ) → SpellsFields order header_layout items w → header_end items ≡ Some end → Opening order items w
+pub opening_of : (order : Order) (items : List Item) (w : List ℕ) (end : ℕ) → SpellsFields order header_layout items w
+    → header_end items ≡ Some end → Opening order items w
 opening_of order [] w end s e = absurd (none_some refl e)
 opening_of order (i ∷ []) w end s e = absurd (none_some (few_end i [] (omega arith)) e)
 opening_of order (i ∷ j ∷ []) w end s e = absurd (none_some (few_end i (j ∷ []) (omega arith)) e)

@@ -1,5 +1,6 @@
 -- Where a unit or its header ends, by the fields that were read.
-use Rattle.std.proofs.Common.{◌<◌, ◌≡◌, ℕ, ◌+◌, ◌≤◌, List, [], ◌∷◌, ◌++◌, length, Option, Some, None, refl, sym, ap, subst, ◌∙◌, arith, length-append, append-nil}
+use Rattle.std.proofs.Common.{◌<◌, ◌≡◌, ℕ, ◌+◌, ◌≤◌, List, [], ◌∷◌, ◌++◌, length, Option, Some, None, refl, sym, ap}
+use Rattle.std.proofs.Common.{subst, ◌∙◌, arith, length-append, append-nil}
 use Rattle.std.proofs.lemmas.Bool.{ne_eqb, eq-eqb}
 use Rattle.dl_num.specs.declared.fixed.Order.{Order}
 use Rattle.dl_head.specs.declared.reader.byte_field.ByteField.TheVariants as field
@@ -36,9 +37,11 @@ overrun_of None = fault.UnitOverrun
 abbrev pub overrun_from : List Item → FaultKind
 overrun_from items = overrun_of (header_end items)
 
-pub overrun_at : (n : ℕ) (items : List Item) → field_overrun n items (header_end items) ≡ at_end (overrun_from items) n (end_from items)
+pub overrun_at : (n : ℕ) (items : List Item) → field_overrun n items (header_end items)
+    ≡ at_end (overrun_from items) n (end_from items)
 overrun_at n items =
-    elim (header_end items) as (λ o. field_overrun n items o ≡ at_end (overrun_of o) n (first_end o (unit_end items))) [ Some e ↦ refl | None ↦ refl ]
+    elim (header_end items) as (λ o. field_overrun n items o
+    ≡ at_end (overrun_of o) n (first_end o (unit_end items))) [ Some e ↦ refl | None ↦ refl ]
 
 pub not_at_end : (kind : FaultKind) (n : ℕ) (end : Option ℕ) → Below n end → at_end kind n end ≡ None
 not_at_end kind n None lt = refl
@@ -54,7 +57,8 @@ pub record EndIs (r : HeadReader) (items : List Item) : Type 0 where
   pub overrun : r.overrun ≡ overrun_from items
   pub unit : unit_known (end_of_unit r) r.end ≡ unit_end items
 
-early_end : (r : HeadReader) (items is : List Item) → Early r items is → header_end is ≡ None → unit_end is ≡ Some (end_of_unit r) → EndIs r items
+early_end : (r : HeadReader) (items is : List Item) → Early r items is → header_end is ≡ None
+    → unit_end is ≡ Some (end_of_unit r) → EndIs r items
 early_end r items is e none unit =
     let header : header_end items ≡ None = ap header_end e.items_are ∙ none in
     let unit_is : unit_end items ≡ Some (end_of_unit r) = ap unit_end e.items_are ∙ unit in
@@ -71,7 +75,8 @@ behind_end r items layout e = record {
   unit = ap (λ (o : Option ℕ). unit_known (end_of_unit r) o) e.end ∙ sym e.unit;
 }
 
-start_end : (r : HeadReader) (items : List Item) → items ≡ [] → r.end ≡ None → r.overrun ≡ fault.UnitOverrun → EndIs r items
+start_end : (r : HeadReader) (items : List Item) → items ≡ [] → r.end ≡ None → r.overrun ≡ fault.UnitOverrun
+    → EndIs r items
 start_end r items none end overrun = record {
   end = end ∙ sym (ap end_from none);
   overrun = overrun ∙ sym (ap overrun_from none);
@@ -111,16 +116,20 @@ pub below_next : (n : ℕ) (end : Option ℕ) → Below n end → UpTo (n + 1) e
 below_next n None lt = tt
 below_next n (Some e) lt = omega arith
 
-header_room : (order : Order) (items : List Item) (i : Item) (w : List ℕ) (e : ℕ) → SpellsFields order header_layout (items ++ i ∷ []) w
+header_room : (order : Order) (items : List Item) (i : Item) (w : List ℕ) (e : ℕ)
+    → SpellsFields order header_layout (items ++ i ∷ []) w
     → header_end items ≡ None → header_end (items ++ i ∷ []) ≡ Some e → length w ≤ e
 header_room order items i w e s none h =
     let o : Opening order (items ++ i ∷ []) w = opening_of order (items ++ i ∷ []) w e s h in
-    let small = early order o.format o.unit_length o.address o.segment o.header o.more items [] i w (sym o.items_are) none s in
-    let same : Some (initial_size o.format + fixed_part o.format + o.header) ≡ Some e = sym (ap header_end o.items_are) ∙ h in
+    let small = early order o.format o.unit_length o.address o.segment o.header o.more items [] i w (sym o.items_are)
+    none s in
+    let same : Some (initial_size o.format + fixed_part o.format + o.header) ≡ Some e = sym (ap header_end o.items_are)
+    ∙ h in
     let is : initial_size o.format + fixed_part o.format + o.header ≡ e = cc in
     omega (arith, small, is)
 
-unit_room : (order : Order) (items : List Item) (i : Item) (w : List ℕ) (n : ℕ) → length w ≡ n + 1 → SpellsFields order header_layout (items ++ i ∷ []) w
+unit_room : (order : Order) (items : List Item) (i : Item) (w : List ℕ) (n : ℕ) → length w ≡ n + 1
+    → SpellsFields order header_layout (items ++ i ∷ []) w
     → Below n (unit_end items) → UpTo (length w) (unit_end (items ++ i ∷ []))
 unit_room order [] (length_is f m) w n size s lt =
     let a = length_first order f m [] w s in
@@ -134,17 +143,23 @@ unit_room order (form_is f ∷ items) i w n size s lt = tt
 unit_room order (value_is v ∷ items) i w n size s lt = tt
 
 -- the good fields up to a field's last byte
-spells_on : (order : Order) (b : List ℕ) (x : ℕ) (items : List Item) (rest : List ℕ) (i : Item) → cut order b ≡ cut_of items rest
-    → field_spelt order (following_all header_layout items) (rest ++ x ∷ []) ≡ good i → SpellsFields order header_layout (items ++ i ∷ []) (b ++ x ∷ [])
+spells_on : (order : Order) (b : List ℕ) (x : ℕ) (items : List Item) (rest : List ℕ) (i : Item)
+    → cut order b ≡ cut_of items rest
+    → field_spelt order (following_all header_layout items) (rest ++ x ∷ []) ≡ good i
+    → SpellsFields order header_layout (items ++ i ∷ []) (b ++ x ∷ [])
 spells_on order b x items rest i e spelt =
     let w = b ++ x ∷ [] in
     let whole : Sound order header_layout w (cut_of (items ++ i ∷ []) []) =
-    subst (λ c. Sound order header_layout w c) (cut_good order b x items rest i e spelt) (cut_sound order header_layout [] w) in
-    subst (λ (l : List ℕ). SpellsFields order header_layout (items ++ i ∷ []) l) (sym (whole.whole ∙ append-nil whole.front)) whole.spelt
+    subst (λ c. Sound order header_layout w c) (cut_good order b x items rest i e spelt)
+    (cut_sound order header_layout [] w) in
+    subst (λ (l : List ℕ). SpellsFields order header_layout (items ++ i ∷ []) l)
+    (sym (whole.whole ∙ append-nil whole.front)) whole.spelt
 
 -- the bytes up to a field's last one
-pub room_on : (order : Order) (b : List ℕ) (x : ℕ) (items : List Item) (rest : List ℕ) (i : Item) → cut order b ≡ cut_of items rest
-    → field_spelt order (following_all header_layout items) (rest ++ x ∷ []) ≡ good i → Below (length b) (end_from items) → UpTo (length (b ++ x ∷ [])) (end_from (items ++ i ∷ []))
+pub room_on : (order : Order) (b : List ℕ) (x : ℕ) (items : List Item) (rest : List ℕ) (i : Item)
+    → cut order b ≡ cut_of items rest
+    → field_spelt order (following_all header_layout items) (rest ++ x ∷ []) ≡ good i
+    → Below (length b) (end_from items) → UpTo (length (b ++ x ∷ [])) (end_from (items ++ i ∷ []))
 room_on order b x items rest i e spelt lt = on (header_end items) refl lt (header_end (items ++ i ∷ [])) refl where
   w : List ℕ
   w = b ++ x ∷ []
@@ -155,10 +170,12 @@ room_on order b x items rest i e spelt lt = on (header_end items) refl lt (heade
   s : SpellsFields order header_layout (items ++ i ∷ []) w
   s = spells_on order b x items rest i e spelt
 
-  up_to : (p : Option ℕ) → header_end (items ++ i ∷ []) ≡ p → UpTo (length w) (first_end p (unit_end (items ++ i ∷ []))) → UpTo (length w) (end_from (items ++ i ∷ []))
+  up_to : (p : Option ℕ) → header_end (items ++ i ∷ []) ≡ p → UpTo (length w) (first_end p (unit_end (items ++ i ∷ [])))
+      → UpTo (length w) (end_from (items ++ i ∷ []))
   up_to p g le = subst (λ (o : Option ℕ). UpTo (length w) (first_end o (unit_end (items ++ i ∷ [])))) (sym g) le
 
-  on : (o : Option ℕ) → header_end items ≡ o → Below (length b) (first_end o (unit_end items)) → (p : Option ℕ) → header_end (items ++ i ∷ []) ≡ p
+  on : (o : Option ℕ) → header_end items ≡ o → Below (length b) (first_end o (unit_end items)) → (p : Option ℕ)
+      → header_end (items ++ i ∷ []) ≡ p
       → UpTo (length w) (end_from (items ++ i ∷ []))
   on (Some end) h below p g = up_to (Some end) (header_end-append items (i ∷ []) end h) (omega (arith, size, below))
   on None h below (Some end) g = up_to (Some end) g (header_room order items i w end s h g)
@@ -173,7 +190,8 @@ some_same : (a b : ℕ) → ◌≡◌ {A = Option ℕ} (Some a) (Some b) → a �
 some_same a b e = cc
 
 -- a header whose end is known is in a unit whose end is known
-unit_known_of : (items more : List Item) (e : ℕ) → header_end (items ++ more) ≡ Some e → length more ≤ 1 → (n : ℕ) × (unit_end items ≡ Some n)
+unit_known_of : (items more : List Item) (e : ℕ) → header_end (items ++ more) ≡ Some e → length more ≤ 1
+    → (n : ℕ) × (unit_end items ≡ Some n)
 unit_known_of (length_is f n ∷ items) more e h few = (initial_size f + n, refl)
 unit_known_of (number_is n ∷ items) more e h few = absurd (none_some refl h)
 unit_known_of (form_is f ∷ items) more e h few = absurd (none_some refl h)
@@ -185,8 +203,10 @@ unit_known_of [] (form_is f ∷ []) e h few = absurd (none_some refl h)
 unit_known_of [] (value_is v ∷ []) e h few = absurd (none_some refl h)
 unit_known_of [] (i ∷ j ∷ more) e h few = absurd (omega (arith, few))
 
-pub ends_on : (order : Order) (b : List ℕ) (x : ℕ) (items : List Item) (rest : List ℕ) (i : Item) → cut order b ≡ cut_of items rest
-    → field_spelt order (following_all header_layout items) (rest ++ x ∷ []) ≡ good i → Below (length b) (end_from items) → EndsWithin items → EndsWithin (items ++ i ∷ [])
+pub ends_on : (order : Order) (b : List ℕ) (x : ℕ) (items : List Item) (rest : List ℕ) (i : Item)
+    → cut order b ≡ cut_of items rest
+    → field_spelt order (following_all header_layout items) (rest ++ x ∷ []) ≡ good i
+    → Below (length b) (end_from items) → EndsWithin items → EndsWithin (items ++ i ∷ [])
 ends_on order b x items rest i e spelt below ends n stop unit header = on (header_end items) refl below where
   known : (m : ℕ) × (unit_end items ≡ Some m)
   known = unit_known_of items (i ∷ []) stop header (omega arith)
@@ -209,11 +229,13 @@ ends_on order b x items rest i e spelt below ends n stop unit header = on (heade
       let size : length w ≡ length b + 1 = length-append b (x ∷ []) in
       let lt' : length b < known.0 = subst (λ (m : Option ℕ). Below (length b) m) known.1 lt in
       let whole : initial_size o.format + o.unit_length ≡ n = some_same _ n (sym (ap unit_end o.items_are) ∙ unit) in
-      let end : initial_size o.format + fixed_part o.format + o.header ≡ stop = some_same _ stop (sym (ap header_end o.items_are) ∙ header) in
+      let end : initial_size o.format + fixed_part o.format + o.header ≡ stop =
+      some_same _ stop (sym (ap header_end o.items_are) ∙ header) in
       omega (arith, o.fits, o.size, size, lt', same, whole, end)
 
 -- bytes up to the end are bytes of the unit
-pub of_unit : (items : List Item) (n m : ℕ) → EndsWithin items → UpTo m (end_from items) → unit_end items ≡ Some n → m ≤ n
+pub of_unit : (items : List Item) (n m : ℕ) → EndsWithin items → UpTo m (end_from items) → unit_end items ≡ Some n
+    → m ≤ n
 of_unit items n m ends up unit = on (header_end items) refl up where
   on : (o : Option ℕ) → header_end items ≡ o → UpTo m (first_end o (unit_end items)) → m ≤ n
   on (Some e) h le = omega (arith, ends n e unit h, le)

@@ -51,8 +51,10 @@ gives_of r None e = λ b s h. unmade r b h s e
 
 -- ---- cells
 
-pub made_cells : (r : HeadReader) (b : List ℕ) (h : HeaderData) → StandsFor r b → r.header ≡ Some h → cells r.order b ≡ header_cells h
-made_cells r b h s is = ap (λ (l : List ℕ). cells r.order l) (sym (append-nil b)) ∙ (header_holds_its_cells r.order h b [] (made r b h s is)).0
+pub made_cells : (r : HeadReader) (b : List ℕ) (h : HeaderData) → StandsFor r b → r.header ≡ Some h
+    → cells r.order b ≡ header_cells h
+made_cells r b h s is = ap (λ (l : List ℕ). cells r.order l) (sym (append-nil b))
+    ∙ (header_holds_its_cells r.order h b [] (made r b h s is)).0
 
 pub held_so_far : (r : HeadReader) (b : List ℕ) → StandsFor r b → r.header ≡ None → held_cells r ≡ cells r.order b
 held_so_far r b s is = on (ending r.phase) s.stands where
@@ -65,7 +67,8 @@ held_so_far r b s is = on (ending r.phase) s.stands where
   on (Some answer.NoMemory) t = absurd t
 
 pub header_parts : {p q : Params} {d e f g : TableData} → p ≡ q → d ≡ e → f ≡ g
-    → ◌≡◌ {A = HeaderData} (record { params = p; directories = d; files = f }) (record { params = q; directories = e; files = g })
+    → ◌≡◌ {A = HeaderData} (record { params = p; directories = d; files = f })
+    (record { params = q; directories = e; files = g })
 header_parts {p} {q} {d} {e} {f} {g} a b c =
     ap (λ (x : Params). record { params = x; directories = d; files = f }) a
     ∙ ap (λ (x : TableData). record { params = q; directories = x; files = f }) b

@@ -13,6 +13,7 @@ pub mod HeaderGiven
 pub mod HeaderLaws
 pub mod HeaderSound
 pub mod MovedReader
+pub mod OfferLemmas
 pub mod OneAnswer
 pub mod OneByteMore
 pub mod OneFieldMore

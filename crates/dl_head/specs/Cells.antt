@@ -1,4 +1,4 @@
--- The cells that the bytes of a header hold: its pairs and values that are complete, and what has come of the next one. DWARF 5, section 6.2.4.1.
+-- The cells of a header: pairs and values that are complete, and what has come of the next. DWARF 5, section 6.2.4.1.
 use Rattle.std.specs.Prelude.{ℕ, ◌+◌, List, sum_by}
 use Rattle.dl_num.specs.declared.fixed.Order.{Order}
 use Rattle.dl_field.specs.Layout.{following_all}

@@ -20,7 +20,8 @@ same_params-Decides p q =
     let lengths = bytes_eq-Decides p.lengths.items q.lengths.items in
     let base = number_and p.line_range q.line_range _ _ (number_and p.opcode_base q.opcode_base _ _ lengths) in
     let line_base = Decides-and (int_eq p.line_base q.line_base) _ (Decides-int_eq p.line_base q.line_base) base in
-    let sizes = number_and p.address_size q.address_size _ _ (number_and p.segment_selector_size q.segment_selector_size _ _
+    let sizes = number_and p.address_size q.address_size _ _
+    (number_and p.segment_selector_size q.segment_selector_size _ _
     (number_and p.minimum_instruction_length q.minimum_instruction_length _ _
     (number_and p.maximum_operations_per_instruction q.maximum_operations_per_instruction _ _
     (number_and p.default_is_stmt q.default_is_stmt _ _ line_base)))) in
@@ -67,9 +68,13 @@ same_params-Decides p q =
 pub same_header-Decides : (g h : HeaderData) → Decides (same_header g h) (g ≡ h)
 same_header-Decides g h =
     Decides-like (same_header g h) (λ k. λ i. record { params = k.0 i; directories = k.1.0 i; files = k.1.1 i })
-    (λ e. (ap (λ (u : HeaderData). u.params) e, (ap (λ (u : HeaderData). u.directories) e, ap (λ (u : HeaderData). u.files) e)))
+    (λ e. (
+      ap (λ (u : HeaderData). u.params) e,
+      (ap (λ (u : HeaderData). u.directories) e, ap (λ (u : HeaderData). u.files) e),
+    ))
     (Decides-and (same_params g.params h.params) _ (same_params-Decides g.params h.params)
-    (Decides-and (same_table g.directories h.directories) (same_table g.files h.files) (same_table-Decides g.directories h.directories) (same_table-Decides g.files h.files)))
+    (Decides-and (same_table g.directories h.directories) (same_table g.files h.files)
+    (same_table-Decides g.directories h.directories) (same_table-Decides g.files h.files)))
 
 pub same_header-laws : IsEquivalence same_header
 same_header-laws = decided same_header same_header-Decides

@@ -1,4 +1,4 @@
--- What the phases of the header reader say of its params and tables, and how far its end is. No promise rests on this file.
+-- What the phases of the header reader say of its params, tables and end. No promise rests on this file.
 use Rattle.std.specs.Prelude.{◌≡◌, List, ℕ, ◌+◌, ◌^◌, Bool, true, nat_le, nat_lt, ◌==◌, ◌&&◌, Option, Some, None}
 use Rattle.dl_table.specs.declared.form.Format.{Format}
 use Rattle.dl_head.specs.declared.reader.Phase.{Phase}

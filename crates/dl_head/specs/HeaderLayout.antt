@@ -1,11 +1,13 @@
--- The fields of a line number program header in their order. DWARF 5, section 6.2.4; initial lengths are of section 7.4.
+-- The fields of a line number program header in their order. DWARF 5, sections 6.2.4 and 7.4.
 use Rattle.std.specs.Prelude.{ℕ, zero, suc, ◌+◌, ◌-◌, List, [], ◌∷◌, ◌++◌, ℤ, pos, ◌-ℤ◌, nat_lt, ◌==◌, if◌then◌else◌}
 use Rattle.dl_table.specs.declared.form.Format.{Format}
 use Rattle.dl_table.specs.declared.form.Format.TheVariants.{Dwarf32, Dwarf64}
 use Rattle.dl_field.specs.declared.params.Params.{Params}
 use Rattle.dl_table.specs.TableData.{TableData}
 use Rattle.dl_table.specs.Value.{offset_size}
-use Rattle.dl_field.specs.Layout.{version, address_size, any_byte, header_length, maximum_operations, line_range, opcode_base, opcode_length, Layout, initial_length_then, number_then, foreign_version, last_entry, table_layout}
+use Rattle.dl_field.specs.Layout.{version, address_size, any_byte, header_length, maximum_operations, line_range}
+use Rattle.dl_field.specs.Layout.{opcode_base, opcode_length, Layout, initial_length_then, number_then, foreign_version}
+use Rattle.dl_field.specs.Layout.{last_entry, table_layout}
 
 -- the size of the initial length, section 7.4
 abbrev pub initial_size : Format → ℕ
@@ -40,7 +42,8 @@ fixed_part format = 4 + offset_size format
 
 -- The fields from one on, the values of those before it being in p. They stand here from the last to the first.
 abbrev pub from_lengths : Params → Layout
-from_lengths p = lengths_layout 1 (p.opcode_base - 1) [] λ lengths. tables_layout (record p { lengths = record { items = lengths } })
+from_lengths p = lengths_layout 1 (p.opcode_base - 1) [] λ lengths. tables_layout
+    (record p { lengths = record { items = lengths } })
 
 abbrev pub from_opcode_base : Params → Layout
 from_opcode_base p = number_then opcode_base λ n. from_lengths (record p { opcode_base = n })
@@ -55,20 +58,24 @@ abbrev pub from_default_is_stmt : Params → Layout
 from_default_is_stmt p = number_then any_byte λ n. from_line_base (record p { default_is_stmt = n })
 
 abbrev pub from_maximum_operations : Params → Layout
-from_maximum_operations p = number_then maximum_operations λ n. from_default_is_stmt (record p { maximum_operations_per_instruction = n })
+from_maximum_operations p = number_then maximum_operations λ n. from_default_is_stmt
+    (record p { maximum_operations_per_instruction = n })
 
 abbrev pub from_minimum_length : Params → Layout
 from_minimum_length p = number_then any_byte λ n. from_maximum_operations (record p { minimum_instruction_length = n })
 
 -- unit_length is that of the unit
 abbrev pub from_header_length : ℕ → Params → Layout
-from_header_length unit_length p = number_then (header_length p.format (unit_length - fixed_part p.format)) λ n. from_minimum_length p
+from_header_length unit_length p = number_then (header_length p.format (unit_length - fixed_part p.format))
+    λ n. from_minimum_length p
 
 abbrev pub from_segment_selector_size : ℕ → Params → Layout
-from_segment_selector_size unit_length p = number_then any_byte λ n. from_header_length unit_length (record p { segment_selector_size = n })
+from_segment_selector_size unit_length p = number_then any_byte λ n. from_header_length unit_length
+    (record p { segment_selector_size = n })
 
 abbrev pub from_address_size : ℕ → Params → Layout
-from_address_size unit_length p = number_then address_size λ n. from_segment_selector_size unit_length (record p { address_size = n })
+from_address_size unit_length p = number_then address_size λ n. from_segment_selector_size unit_length
+    (record p { address_size = n })
 
 -- the params of which only the format was read
 abbrev pub format_alone : Format → Params

@@ -17,7 +17,8 @@ Answers order b answer.Done = (h : HeaderData) × IsHeader order h b
 Answers order b (answer.Foreign version) = foreign_in order b ≡ Some version
 Answers order b (answer.Fault f) = HeaderRefused order b f.offset f.kind
 Answers order b answer.More =
-    ((h : HeaderData) → IsHeader order h b → ⊥) × (foreign_in order b ≡ None) × ((at : ℕ) (kind : FaultKind) → HeaderRefused order b at kind → ⊥)
+    ((h : HeaderData) → IsHeader order h b → ⊥) × (foreign_in order b ≡ None)
+    × ((at : ℕ) (kind : FaultKind) → HeaderRefused order b at kind → ⊥)
 Answers order b answer.NoMemory = ⊥
 
 -- the byte after b makes a header hold a cell more
@@ -31,7 +32,8 @@ pub record Steps (order : Order) (b : List ℕ) (byte : ℕ) (result : HeadStep)
   -- where memory is refused, the byte isn't taken
   pub unfed : result ≡ answer.NoMemory → AddsCell order b byte × StandsFor new b
   -- else the byte is taken, and the answer is what the bytes then come to
-  pub taken : Answers order b answer.More → result ≢ answer.NoMemory → Answers order (b ++ byte ∷ []) result × StandsFor new (b ++ byte ∷ [])
+  pub taken : Answers order b answer.More → result ≢ answer.NoMemory
+      → Answers order (b ++ byte ∷ []) result × StandsFor new (b ++ byte ∷ [])
 
 -- the header that a reader gives, some exactly where the bytes taken are one
 abbrev pub Gives : Order → HeadReader → Option HeaderData → Type 0

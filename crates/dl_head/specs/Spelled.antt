@@ -21,4 +21,5 @@ number_parts p = byte_parts p ++ p.lengths.items
 -- the fields before the tables, of a unit and a header of these lengths
 abbrev pub front_parts : Order → Params → (unit rest : ℕ) → List ℕ
 front_parts order p unit rest =
-    (initial_length_bytes order p.format unit ++ version_parts order p) ++ (fixed_bytes order (offset_size p.format) rest ++ number_parts p)
+    (initial_length_bytes order p.format unit ++ version_parts order p)
+    ++ (fixed_bytes order (offset_size p.format) rest ++ number_parts p)

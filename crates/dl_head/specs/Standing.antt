@@ -74,7 +74,8 @@ pub record SameTables (old new : HeadReader) : Type 0 where
   pub cells : held_cells new ≡ held_cells old
 
 abbrev pub Fails : HeadReader → FaultKind → HeadStep → HeadReader → Type 0
-Fails old kind result new = (result ≡ answer.Fault (failed_at old.start kind)) × (new.phase ≡ phase.Failed (failed_at old.start kind)) × SameTables old new
+Fails old kind result new = (result ≡ answer.Fault (failed_at old.start kind))
+    × (new.phase ≡ phase.Failed (failed_at old.start kind)) × SameTables old new
 
 -- `complete`
 pub record Completes (old new : HeadReader) : Type 0 where
@@ -88,9 +89,11 @@ pub record Completes (old new : HeadReader) : Type 0 where
 abbrev pub SettlesAt : HeadReader → Phase → HeadStep → HeadReader → Type 0
 SettlesAt old (phase.Foreign v) result new = (result ≡ answer.Foreign v) × (new ≡ old)
 SettlesAt old phase.Padding result new =
-    (old.end ≢ Some old.taken → (result ≡ answer.More) × (new ≡ old)) × (old.end ≡ Some old.taken → (result ≡ answer.Done) × Completes old new)
+    (old.end ≢ Some old.taken → (result ≡ answer.More) × (new ≡ old))
+    × (old.end ≡ Some old.taken → (result ≡ answer.Done) × Completes old new)
 SettlesAt old p result new =
-    (old.end ≢ Some old.taken → (result ≡ answer.More) × (new ≡ old)) × (old.end ≡ Some old.taken → Fails old old.overrun result new)
+    (old.end ≢ Some old.taken → (result ≡ answer.More) × (new ≡ old))
+    × (old.end ≡ Some old.taken → Fails old old.overrun result new)
 
 abbrev pub Settles : HeadReader → HeadStep → HeadReader → Type 0
 Settles old result new = SettlesAt old old.phase result new

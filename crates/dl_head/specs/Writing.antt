@@ -10,7 +10,8 @@ use Rattle.dl_head.specs.Written.{header_bytes, is_within_limit}
 -- `write_header`: the header is out; or it is too long and nothing is; or only its first `out` bytes are
 abbrev pub WritesHeader : Order → HeaderData → ℕ → (old new : Option (List ℕ)) → Result ℕ HeadWrite → Type 0
 WritesHeader order h program_len old new (Ok n) =
-    (is_within_limit h program_len ≡ true) × (n ≡ length (header_bytes order h program_len)) × Appends old new (header_bytes order h program_len)
+    (is_within_limit h program_len ≡ true) × (n ≡ length (header_bytes order h program_len))
+    × Appends old new (header_bytes order h program_len)
 WritesHeader order h program_len old new (Err TooLong) = (is_within_limit h program_len ≡ false) × Keeps old new
 WritesHeader order h program_len old new (Err (Write out)) =
     (is_within_limit h program_len ≡ true) × (out < length (header_bytes order h program_len))

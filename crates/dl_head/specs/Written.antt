@@ -1,4 +1,4 @@
--- The one spelling in which a header is written: shortest numbers, and no bytes between the last entry and the program. DWARF 5, section 6.2.4.
+-- The one spelling of a header that is written: shortest numbers, nothing after the last entry. DWARF 5, section 6.2.4.
 use Rattle.std.specs.Prelude.{ℕ, ◌+◌, ◌-◌, ◌%◌, Bool, List, [], ◌∷◌, ◌++◌, length, ℤ, pos, negsuc, nat_le}
 use Rattle.dl_num.specs.declared.fixed.Order.{Order}
 use Rattle.dl_num.specs.declared.fixed.Order.TheVariants.{Little}

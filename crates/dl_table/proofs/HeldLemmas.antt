@@ -1,28 +1,29 @@
 -- Where the bytes of values end in a pool.
-use Rattle.std.proofs.Common.{◌≡◌, ℕ, zero, suc, ◌+◌, ◌*◌, ◌/◌, ◌<◌, ◌≤◌, List, [], ◌∷◌, ◌++◌, length, take, drop, map, get_or, max, refl, ap, arith, ◌∙◌}
-use Rattle.std.proofs.lemmas.List.{take-append-drop, take_all, take-append-le, drop-append-le, length-drop, length-take-le, map-append, take_more, append_assoc}
-use Rattle.std.proofs.Math.Seq.{drop-append_seam}
-use Rattle.dl_table.specs.declared.form.Format.{Format}
-use Rattle.dl_table.specs.declared.table.Pair.{Pair}
+use Rattle.std.proofs.Common.{◌≡◌, ℕ, zero, suc, ◌+◌, ◌*◌, ◌/◌, ◌<◌, ◌≤◌, List, [], ◌∷◌, ◌++◌, length, take, drop, map}
+use Rattle.std.proofs.Common.{get_or, max, refl, ap, arith}
+use Rattle.std.proofs.lemmas.List.{take-append-drop, take-append-le, drop-append-le, length-drop}
+use Rattle.std.proofs.lemmas.List.{map-append, take_more, append_assoc}
 use Rattle.dl_table.specs.declared.table.held.StoredValue.{StoredValue}
 use Rattle.std.proofs.Math.Nat.{mul-le-mul_right, div-mul-le_self, mul-div_cancel}
 use Rattle.dl_table.specs.declared.table.held.Extent.{Extent}
 use Rattle.dl_table.specs.declared.table.held.ValueRef.{ValueRef}
 use Rattle.dl_table.specs.declared.table.held.StoredValue.TheVariants as held
 use Rattle.dl_table.specs.Value.{Value, text, block}
-use Rattle.dl_table.specs.Held.{bytes_at, held_end, value_held, value_lent, values_end, rows, IsWhole, table_of}
+use Rattle.dl_table.specs.Held.{bytes_at, held_end, value_held, value_lent, values_end, rows, IsWhole}
 
 pub values_end-append : (xs ys : List StoredValue) → values_end (xs ++ ys) ≡ max (values_end xs) (values_end ys)
 values_end-append [] ys = omega arith
 values_end-append (x ∷ xs) ys = omega (arith, values_end-append xs ys)
 
-pub values_end-push : (xs : List StoredValue) (y : StoredValue) → values_end (xs ++ y ∷ []) ≡ max (values_end xs) (held_end y)
+pub values_end-push : (xs : List StoredValue) (y : StoredValue)
+    → values_end (xs ++ y ∷ []) ≡ max (values_end xs) (held_end y)
 values_end-push xs y = omega (arith, values_end-append xs (y ∷ []))
 
 pub ruleset pushes = (values_end-push)
 
 -- no value ends after all of them
-pub held_end-le : (xs : List StoredValue) (i : ℕ) (d : StoredValue) → i < length xs → held_end (get_or xs i d) ≤ values_end xs
+pub held_end-le : (xs : List StoredValue) (i : ℕ) (d : StoredValue) → i < length xs
+    → held_end (get_or xs i d) ≤ values_end xs
 held_end-le [] i d h = absurd (omega arith)
 held_end-le (x ∷ xs) zero d h = omega arith
 held_end-le (x ∷ xs) (suc i) d h = let e = held_end-le xs i d (omega arith) in omega arith
@@ -56,13 +57,15 @@ whole_rows n zero = omega arith
 whole_rows n (suc width) = ap (λ k. k * suc width) (mul-div_cancel n (omega arith))
 
 -- more bytes in the pool change no value
-bytes_at-more : (pool more : List ℕ) (e : Extent) → e.start + e.len ≤ length pool → bytes_at (pool ++ more) e ≡ bytes_at pool e
+bytes_at-more : (pool more : List ℕ) (e : Extent) → e.start + e.len ≤ length pool
+    → bytes_at (pool ++ more) e ≡ bytes_at pool e
 bytes_at-more pool more e h =
     let start : e.start ≤ length pool = omega arith in
     let len : e.len ≤ length (drop e.start pool) = omega (arith, length-drop e.start pool) in
     rw (drop-append-le e.start pool more start, take-append-le e.len (drop e.start pool) more len) refl
 
-pub value_held-more : (pool more : List ℕ) (h : StoredValue) → held_end h ≤ length pool → value_held (pool ++ more) h ≡ value_held pool h
+pub value_held-more : (pool more : List ℕ) (h : StoredValue) → held_end h ≤ length pool
+    → value_held (pool ++ more) h ≡ value_held pool h
 value_held-more pool more (held.Text e) h = ap text (bytes_at-more pool more e h)
 value_held-more pool more (held.LineStr n) h = refl
 value_held-more pool more (held.Str n) h = refl
@@ -71,17 +74,23 @@ value_held-more pool more (held.Number n) h = refl
 value_held-more pool more (held.Block e) h = ap block (bytes_at-more pool more e h)
 value_held-more pool more (held.Data16 w) h = refl
 
-pub values_held-more : (pool more : List ℕ) (values : List StoredValue) → values_end values ≤ length pool → map (value_held (pool ++ more)) values ≡ map (value_held pool) values
+pub values_held-more : (pool more : List ℕ) (values : List StoredValue) → values_end values ≤ length pool
+    → map (value_held (pool ++ more)) values ≡ map (value_held pool) values
 values_held-more pool more [] h = refl
 values_held-more pool more (v ∷ values) h =
     rw (value_held-more pool more v (omega arith), values_held-more pool more values (omega arith)) refl
 
 -- a value is held after the others, and its bytes after theirs
-pub values_held-push : (pool more : List ℕ) (values : List StoredValue) (h : StoredValue) (v : Value) → values_end values ≤ length pool → value_held (pool ++ more) h ≡ v → map (value_held (pool ++ more)) (values ++ h ∷ []) ≡ map (value_held pool) values ++ v ∷ []
+pub values_held-push : (pool more : List ℕ) (values : List StoredValue) (h : StoredValue) (v : Value)
+    → values_end values ≤ length pool → value_held (pool ++ more) h ≡ v
+    → map (value_held (pool ++ more)) (values ++ h ∷ []) ≡ map (value_held pool) values ++ v ∷ []
 values_held-push pool more values h v within is =
     rw (map-append (value_held (pool ++ more)) values (h ∷ []), values_held-more pool more values within, is) refl
 
 -- one value more of those that are lent
-pub values_lent-more : (before now : List Value) (values : List ValueRef) (i : ℕ) (d : ValueRef) → i < length values → now ≡ before ++ map value_lent (take i values) → now ++ value_lent (get_or values i d) ∷ [] ≡ before ++ map value_lent (take (i + 1) values)
+pub values_lent-more : (before now : List Value) (values : List ValueRef) (i : ℕ) (d : ValueRef) → i < length values
+    → now ≡ before ++ map value_lent (take i values)
+    → now ++ value_lent (get_or values i d) ∷ [] ≡ before ++ map value_lent (take (i + 1) values)
 values_lent-more before now values i d h is =
-    rw (take_more values i d h, map-append value_lent (take i values) (get_or values i d ∷ []), is) (append_assoc before (map value_lent (take i values)) (value_lent (get_or values i d) ∷ []))
+    rw (take_more values i d h, map-append value_lent (take i values) (get_or values i d ∷ []), is)
+    (append_assoc before (map value_lent (take i values)) (value_lent (get_or values i d) ∷ []))

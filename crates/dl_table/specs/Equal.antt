@@ -21,4 +21,5 @@ same_pair p q = (p.content == q.content) && (form_code p.form == form_code q.for
 
 abbrev pub same_table : TableData → TableData → Bool
 same_table s t =
-    same_format s.format t.format && (pointwise same_pair s.pairs t.pairs && pointwise (pointwise same_value) s.entries t.entries)
+    same_format s.format t.format && (pointwise same_pair s.pairs t.pairs
+    && pointwise (pointwise same_value) s.entries t.entries)

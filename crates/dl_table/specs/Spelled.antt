@@ -24,7 +24,8 @@ format_parts pairs = length pairs ∷ flat_map pair_bytes pairs
 
 abbrev pub entry_parts : Order → Format → List Pair → List StoredValue → List ℕ → List ℕ
 entry_parts order format pairs values pool =
-    shortest_uleb (length values / length pairs) ++ flat_map (entry_bytes order format pairs) (table_of format pairs values pool).entries
+    shortest_uleb (length values / length pairs) ++ flat_map (entry_bytes order format pairs)
+    (table_of format pairs values pool).entries
 
 abbrev pub table_parts : Order → Format → List Pair → List StoredValue → List ℕ → List ℕ
 table_parts order format pairs values pool = format_parts pairs ++ entry_parts order format pairs values pool

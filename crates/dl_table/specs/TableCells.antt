@@ -1,4 +1,4 @@
--- How many cells a table holds: one for each pair, each value, and each byte of a text or block. DWARF 5, section 6.2.4.1.
+-- The cells of a table: one for each pair, each value, and each byte of a text or block. DWARF 5, section 6.2.4.1.
 use Rattle.std.specs.Prelude.{ℕ, ◌+◌, length}
 use Rattle.std.specs.List.{sum_by}
 use Rattle.dl_table.specs.Value.{Value, text, block}

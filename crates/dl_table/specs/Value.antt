@@ -1,5 +1,6 @@
 -- Forms, and the values that are spelled in them. DWARF 5, sections 7.5.4 to 7.5.6.
-use Rattle.std.specs.Prelude.{◌≡◌, ℕ, ◌+◌, ◌-◌, ◌^◌, Bool, false, not, ◌&&◌, List, [], ◌∷◌, length, take, drop, Option, Some, None, Result, Ok, Err, nat_lt, nat_le, ◌==◌, if◌then◌else◌}
+use Rattle.std.specs.Prelude.{ℕ, ◌+◌, ◌-◌, ◌^◌, Bool, false, not, ◌&&◌, List, [], ◌∷◌, length, take, drop, Option}
+use Rattle.std.specs.Prelude.{Some, None, Result, Ok, Err, nat_lt, nat_le, ◌==◌, if◌then◌else◌}
 use Rattle.dl_num.specs.declared.fixed.Order.{Order}
 use Rattle.dl_num.specs.Fixed.{fixed}
 use Rattle.dl_num.specs.Leb.{groups}
@@ -11,7 +12,8 @@ use Rattle.dl_table.specs.declared.form.Form.TheVariants as form
 use Rattle.dl_table.specs.declared.fault.FaultKind.{FaultKind}
 use Rattle.dl_table.specs.declared.fault.FaultKind.TheVariants.{LebRange}
 
--- a value of a table: a text without its zero byte, an offset into one of three string sections, a number, some bytes, sixteen bytes
+-- a value of a table: a text without its zero byte, an offset into one of three string sections, a number, some bytes,
+-- sixteen bytes
 pub data Value : Type 0 where
   text : List ℕ → Value
   line_str : ℕ → Value
@@ -80,7 +82,8 @@ number_spelt order k make w = if length w == k then good (make (fixed order w)) 
 
 -- k bytes are a number n, and n bytes follow
 abbrev pub block_spelt : Order → ℕ → List ℕ → Judgement Value
-block_spelt order k w = if nat_le k (length w) && (length w == k + fixed order (take k w)) then good (block (drop k w)) else None
+block_spelt order k w = if nat_le k (length w) && (length w == k + fixed order (take k w)) then good (block (drop k w))
+    else None
 
 -- a number in LEB128, which is below 2^64
 abbrev pub leb_spelt : List ℕ → Judgement Value

@@ -35,7 +35,8 @@ pair_bytes p = shortest_uleb p.content ++ shortest_uleb (form_code p.form)
 abbrev pub entry_bytes : Order → Format → List Pair → List Value → List ℕ
 entry_bytes order format [] values = []
 entry_bytes order format (p ∷ pairs) [] = []
-entry_bytes order format (p ∷ pairs) (v ∷ values) = value_bytes order format p.form v ++ entry_bytes order format pairs values
+entry_bytes order format (p ∷ pairs) (v ∷ values) =
+    value_bytes order format p.form v ++ entry_bytes order format pairs values
 
 -- the count of the pairs, the pairs, the count of the entries, the entries
 abbrev pub table_bytes : Order → TableData → List ℕ

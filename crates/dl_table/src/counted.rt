@@ -74,7 +74,7 @@ pub fn put<W: Write>(output: &mut W, out: u64, bytes: &[u8]) -> Result<u64, Head
     }
 }
 
-/// Writes the lowest bytes of a number, so many of them.
+/// Writes the lowest `size` bytes of a number, at most eight, as `put` does.
 pub fn put_number<W: Write>(
     output: &mut W,
     out: u64,

@@ -1,4 +1,4 @@
-//! The tables of a header of DWARF 5: forms, values, tables of directories and files, their building and writing. Sections 6.2.4.1 and 7.5.
+//! Tables of directories and files of a DWARF 5 header: forms, values, building, writing. Sections 6.2.4.1 and 7.5.
 #![tactic(auto)]
 
 pub mod counted;

@@ -149,7 +149,7 @@ impl Table {
         Some(Entry::new(self.pairs.as_slice(), held, self.pool.as_slice()))
     }
 
-    /// A table that takes no entries. It takes no memory.
+    /// A table of this format without pairs, so one that takes no entries. It takes no memory.
     pub fn without_pairs(alloc: Global, format: Format) -> Table
         ensures { result ≡ record { format = format; pairs = []; entries = [] } }
     {
@@ -161,7 +161,8 @@ impl Table {
         }
     }
 
-    /// A table of values whose bytes stand in the pool.
+    /// A table of these pairs, at most 255, and values, one for each pair in turn, whose bytes stand in
+    /// the pool.
     pub fn of_parts(
         format: Format,
         pairs: Vec<Pair>,
@@ -182,6 +183,7 @@ impl Table {
         }
     }
 
+    /// The format of the unit that the table is for. Section 7.4.
     pub fn format(&self) -> Format
         ensures value { result ≡ self.now.format }
         ensures sound { IsSoundTable self.now }

@@ -4,7 +4,7 @@ ghost use Rattle.std.specs.Prelude.{◌≡◌, ◌<◌, ◌==◌, length, positi
 ghost use Rattle.std.specs.Option.{option_copied};
 ghost use Rattle.dl_table.specs.Text.{text_at};
 
-/// Where the first zero byte stands.
+/// Where the first zero byte stands; None where there is none.
 pub fn first_zero(bytes: &[u8]) -> Option<usize>
     ensures value { result ≡ position (λ b. b == 0) bytes.now }
     ensures within { IfSome result (λ n. n < length bytes.now) }

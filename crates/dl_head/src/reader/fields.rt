@@ -35,7 +35,8 @@ impl HeadReader {
         requires at { self.old.phase ≡ phase.Byte field }
         requires good { objection (byte_kind field) byte ≡ None }
         ensures counts { SameCounts self.old self.new }
-        ensures at { (items : List Item) (rest : List ℕ) → At self.old items rest → At self.new (items ++ number_is byte ∷ []) [] }
+        ensures at { (items : List Item) (rest : List ℕ) → At self.old items rest
+            → At self.new (items ++ number_is byte ∷ []) [] }
         ensures cells { held_cells self.new ≡ held_cells self.old }
     {
         match field {

@@ -30,7 +30,7 @@ impl ValueRef<'_> {
     }
 }
 
-/// Where bytes stand in a table's pool.
+/// Where bytes stand in a table's pool: `len` of them, from `start` on.
 #[derive(Clone, Copy, Debug, PartialEq, Eq)]
 pub struct Extent {
     pub start: usize,

@@ -18,7 +18,8 @@ use dl_num::{Order, uleb_bytes};
 use std::io::Write;
 
 impl Table {
-    /// Writes the table on top of the `out` bytes that are out.
+    /// Writes the table on top of the `out` bytes that are out, with shortest numbers, and answers how
+    /// many are out then; 2^64 - 1 where they are more. Section 6.2.4.1.
     pub fn write<W: Write>(&self, output: &mut W, out: u64, order: Order) -> Result<u64, HeadWrite>
         ensures written { Writes (W.contents output.old) (W.contents output.new) out
             (table_bytes order self.now) result }

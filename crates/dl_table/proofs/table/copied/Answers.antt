@@ -11,6 +11,9 @@ loop-pair-preserved c =
     let pair = get_or c.args.pairs.now c.loop-pair.pair-index no_pair in
     let pushed = c.in_ok-push.ensures.items ∙ ap (λ (p : Pair). c.loop-pair.copy.items ++ p ∷ []) c.new.ensures.made in
     record {
-      same = pushed ∙ ap (λ (pairs : List Pair). pairs ++ pair ∷ []) c.loop-pair.invariant.same ∙ sym (take_more c.args.pairs.now c.loop-pair.pair-index no_pair c.loop-pair-test.true);
-      contents = subst AreContents (sym pushed) (all_push (λ (p : Pair). p.content < 2 ^ 64) c.loop-pair.copy.items pair c.loop-pair.invariant.contents c.new.ensures.content);
+      same = pushed ∙ ap (λ (pairs : List Pair). pairs ++ pair ∷ []) c.loop-pair.invariant.same
+          ∙ sym (take_more c.args.pairs.now c.loop-pair.pair-index no_pair c.loop-pair-test.true);
+      contents = subst AreContents (sym pushed)
+          (all_push (λ (p : Pair). p.content < 2 ^ 64) c.loop-pair.copy.items pair c.loop-pair.invariant.contents
+          c.new.ensures.content);
     }

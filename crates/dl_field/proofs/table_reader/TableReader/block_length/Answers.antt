@@ -12,5 +12,11 @@ returns-in-Ok-clause-made c = λ next layout rest at.
     let a = table_at c.args.order c.args.self.now _ c.args.format next layout rest c.requires at in
     let w = rest ++ c.args.byte ∷ [] in
     let bytes : _ ≡ w = ap (λ (l : List ℕ). l ++ c.args.byte ∷ []) a.value.1 in
-    block_made c.args.order c.args.self.now c.begin_block.new.self c.args.at (value.BlockLength c.args.number) c.in-Ok.size c.args.format next layout rest w c.begin_block.result a refl (fixed_unbegun a.pair.form _ rest a.value.0 (omega (arith, c.args.number.operand.lacks, ap length a.value.1)))
-    (length_of c.args.order a.pair.form _ c.in-Ok.size w a.value.0 (ap length (sym bytes) ∙ c.in-Ok.ensures.last, c.in-Ok.ensures.whole ∙ ap (λ (l : List ℕ). fixed c.args.order l) bytes)) c.begin_block.ensures.begins
+    block_made c.args.order c.args.self.now c.begin_block.new.self c.args.at (value.BlockLength c.args.number)
+    c.in-Ok.size c.args.format next layout rest w c.begin_block.result a refl
+    (fixed_unbegun a.pair.form _ rest a.value.0 (omega (arith, c.args.number.operand.lacks, ap length a.value.1)))
+    (length_of c.args.order a.pair.form _ c.in-Ok.size w a.value.0 (
+      ap length (sym bytes) ∙ c.in-Ok.ensures.last,
+      c.in-Ok.ensures.whole
+          ∙ ap (λ (l : List ℕ). fixed c.args.order l) bytes,
+    )) c.begin_block.ensures.begins

@@ -16,7 +16,8 @@ returns-in-None-clause-made c = λ order next layout rest at.
     let a = table_at order c.args.self.now _ c.args.format next layout rest c.requires at in
     let w = rest ++ c.args.byte ∷ [] in
     let took = answered_none _ w _ c.in-None.is (c.push.ensures.answer rest a.value.1) in (
-      value_field order c.args.self.now c.args.at (value.LebBlockLength c.args.number) c.args.format next layout rest w a ∙ ap value_judged (leb_length_open order c.args.format a.pair.form _ w a.value.0 took),
+      value_field order c.args.self.now c.args.at (value.LebBlockLength c.args.number) c.args.format next layout rest w
+          a ∙ ap value_judged (leb_length_open order c.args.format a.pair.form _ w a.value.0 took),
       record {
         entries = a.entries;
         before = a.before;
@@ -35,17 +36,26 @@ pub returns-in-Some-Err-clause-made : goal.returns-in-Some-Err-clause-made
 returns-in-Some-Err-clause-made c = λ order next layout rest at.
     let a = table_at order c.args.self.now _ c.args.format next layout rest c.requires at in
     let w = rest ++ c.args.byte ∷ [] in
-    let large = answered_err _ w _ c.in-Some-Err.field-0 _ c.in-Some-Err.is c.in-Some-Err.field-0-is (c.push.ensures.answer rest a.value.1) in
-    (value_field order c.args.self.now c.args.at (value.LebBlockLength c.args.number) c.args.format next layout rest w a ∙ ap value_judged (leb_length_large order c.args.format a.pair.form w _ a.value.0 large), same_table c.args.self.now)
+    let large = answered_err _ w _ c.in-Some-Err.field-0 _ c.in-Some-Err.is c.in-Some-Err.field-0-is
+    (c.push.ensures.answer rest a.value.1) in (
+      value_field order c.args.self.now c.args.at (value.LebBlockLength c.args.number) c.args.format next layout rest w
+          a
+          ∙ ap value_judged (leb_length_large order c.args.format a.pair.form w _ a.value.0 large),
+      same_table c.args.self.now,
+    )
 
 pub returns-in-Some-Ok-clause-made : goal.returns-in-Some-Ok-clause-made
 returns-in-Some-Ok-clause-made c = λ order next layout rest at.
     let a = table_at order c.args.self.now _ c.args.format next layout rest c.requires at in
     let w = rest ++ c.args.byte ∷ [] in
-    let spelt = answered_ok _ w _ c.in-Some-Ok.field-0 c.in-Some-Ok.size c.in-Some-Ok.is c.in-Some-Ok.field-0-is (c.push.ensures.answer rest a.value.1) in
+    let spelt = answered_ok _ w _ c.in-Some-Ok.field-0 c.in-Some-Ok.size c.in-Some-Ok.is c.in-Some-Ok.field-0-is
+    (c.push.ensures.answer rest a.value.1) in
     let small = subst (λ (n : ℕ). n < 2 ^ 64) c.in-Some-Ok.size-is c.begin_block.ensures.small in
-    let begins = subst (λ (n : ℕ). BeginsBlock c.args.self.now c.args.at n c.args.format c.begin_block.result c.begin_block.new.self) c.in-Some-Ok.size-is c.begin_block.ensures.begins in
-    block_made order c.args.self.now c.begin_block.new.self c.args.at (value.LebBlockLength c.args.number) c.in-Some-Ok.size c.args.format next layout rest w c.begin_block.result a refl (leb_unbegun a.pair.form _ rest a.value.0 a.value.1)
+    let begins = subst (λ (n : ℕ). BeginsBlock c.args.self.now c.args.at n c.args.format c.begin_block.result
+    c.begin_block.new.self) c.in-Some-Ok.size-is c.begin_block.ensures.begins in
+    block_made order c.args.self.now c.begin_block.new.self c.args.at (value.LebBlockLength c.args.number)
+    c.in-Some-Ok.size c.args.format next layout rest w c.begin_block.result a refl
+    (leb_unbegun a.pair.form _ rest a.value.0 a.value.1)
     (leb_length_of order a.pair.form c.in-Some-Ok.size w a.value.0 spelt small) begins
 
 pub returns-in-None-clause-cells : goal.returns-in-None-clause-cells
@@ -53,23 +63,37 @@ returns-in-None-clause-cells c = λ order next layout rest at.
     let a = table_at order c.args.self.now _ c.args.format next layout rest c.requires at in
     let w = rest ++ c.args.byte ∷ [] in
     let none = leb_unbegun a.pair.form _ rest a.value.0 a.value.1 in
-    let still = leb_unbegun a.pair.form _ w a.value.0 (answered_none _ w _ c.in-None.is (c.push.ensures.answer rest a.value.1)) in
-    omega (arith, open_field order c.args.self.now c.args.at (value.LebBlockLength c.args.number) c.args.format next layout rest w a (ap has_bytes a.value.0) none still)
+    let still = leb_unbegun a.pair.form _ w a.value.0
+    (answered_none _ w _ c.in-None.is (c.push.ensures.answer rest a.value.1)) in
+    omega (
+      arith,
+      open_field order c.args.self.now c.args.at (value.LebBlockLength c.args.number) c.args.format next
+          layout rest w a (ap has_bytes a.value.0) none still,
+    )
 
 pub returns-in-Some-Err-clause-cells : goal.returns-in-Some-Err-clause-cells
 returns-in-Some-Err-clause-cells c = λ order next layout rest at.
     let a = table_at order c.args.self.now _ c.args.format next layout rest c.requires at in
     let w = rest ++ c.args.byte ∷ [] in
     let none = leb_unbegun a.pair.form _ rest a.value.0 a.value.1 in
-    let large = answered_err _ w _ c.in-Some-Err.field-0 _ c.in-Some-Err.is c.in-Some-Err.field-0-is (c.push.ensures.answer rest a.value.1) in
-    omega (arith, open_field order c.args.self.now c.args.at (value.LebBlockLength c.args.number) c.args.format next layout rest w a (ap has_bytes a.value.0) none (leb_large_unbegun a.pair.form w _ a.value.0 large))
+    let large = answered_err _ w _ c.in-Some-Err.field-0 _ c.in-Some-Err.is c.in-Some-Err.field-0-is
+    (c.push.ensures.answer rest a.value.1) in
+    omega (
+      arith,
+      open_field order c.args.self.now c.args.at (value.LebBlockLength c.args.number) c.args.format next
+          layout rest w a (ap has_bytes a.value.0) none (leb_large_unbegun a.pair.form w _ a.value.0 large),
+    )
 
 pub returns-in-Some-Ok-clause-cells : goal.returns-in-Some-Ok-clause-cells
 returns-in-Some-Ok-clause-cells c = λ order next layout rest at.
     let a = table_at order c.args.self.now _ c.args.format next layout rest c.requires at in
     let w = rest ++ c.args.byte ∷ [] in
     let none = leb_unbegun a.pair.form _ rest a.value.0 a.value.1 in
-    let spelt = answered_ok _ w _ c.in-Some-Ok.field-0 c.in-Some-Ok.size c.in-Some-Ok.is c.in-Some-Ok.field-0-is (c.push.ensures.answer rest a.value.1) in
+    let spelt = answered_ok _ w _ c.in-Some-Ok.field-0 c.in-Some-Ok.size c.in-Some-Ok.is c.in-Some-Ok.field-0-is
+    (c.push.ensures.answer rest a.value.1) in
     let small = subst (λ (n : ℕ). n < 2 ^ 64) c.in-Some-Ok.size-is c.begin_block.ensures.small in
-    let more = length_field order c.args.self.now c.args.at (value.LebBlockLength c.args.number) c.in-Some-Ok.size c.args.format next layout rest w a (leb_length_of order a.pair.form c.in-Some-Ok.size w a.value.0 spelt small) none in
-    adds_one order c.args.self.now c.begin_block.new.self layout rest w c.begin_block.result more c.begin_block.ensures.cells
+    let more = length_field order c.args.self.now c.args.at (value.LebBlockLength c.args.number) c.in-Some-Ok.size
+    c.args.format next layout rest w a (leb_length_of order a.pair.form c.in-Some-Ok.size w a.value.0 spelt small)
+    none in
+    adds_one order c.args.self.now c.begin_block.new.self layout rest w c.begin_block.result more
+    c.begin_block.ensures.cells

@@ -7,5 +7,6 @@ returns-clause-made c = λ order format next layout rest at.
     let a = table_at order c.args.self.now _ format next layout rest c.requires at in (
       number_is c.args.byte,
       count_spelt order format next layout rest c.args.byte a.1 a.2,
-      counted order _ c.args.byte _ format next layout a.0.pairs (record { values = a.0.values; pool = a.0.pool }) a.1 c.of_pairs-self.ensures.begins,
+      counted order _ c.args.byte _ format next layout a.0.pairs (record { values = a.0.values; pool = a.0.pool }) a.1
+          c.of_pairs-self.ensures.begins,
     )

@@ -9,5 +9,7 @@ returns-clause-made c =
       c.in-Some.form,
       sym c.from_code.ensures ∙ c.in-Some.is,
       λ order format next none some.
-          paired order c.args.self.now _ c.args.left _ _ _ format next (record { values = none.values; pool = none.pool }) more (omega (arith, c.saturating_sub.ensures)) c.of_pairs-self.ensures.begins,
+          paired order c.args.self.now _ c.args.left _ _ _ format next
+          (record { values = none.values; pool = none.pool }) more (omega (arith, c.saturating_sub.ensures))
+          c.of_pairs-self.ensures.begins,
     )

@@ -2,7 +2,8 @@ use Rattle.std.proofs.Common.{ap, arith}
 use Rattle.dl_field.specs.TableStep.{row_end, bytes_due}
 use Rattle.dl_field.proofs.WholeValues.{among_values, value_taken}
 use Rattle.dl_field.proofs.table_reader.TableReader.whole_value.Goals as goal
-use Rattle.dl_field.proofs.table_reader.TableReader.whole_value.Goals.{else-at-len-via-then-at-len+else-at-le1, else-at-len-via-else-at-len}
+use Rattle.dl_field.proofs.table_reader.TableReader.whole_value.Goals.{else-at-len-via-then-at-len+else-at-le1}
+use Rattle.dl_field.proofs.table_reader.TableReader.whole_value.Goals.{else-at-len-via-else-at-len}
 
 pub enter-requires : goal.enter-requires
 enter-requires c =
@@ -17,7 +18,8 @@ enter-requires c =
 pub returns-in-Ends : goal.returns-in-Ends
 returns-in-Ends c =
     let old = c.args.self.now in
-    value_taken c.args.order old c.enter.new.self c.in-Value.at c.in-Value.value c.in_ok-held.held c.args.format c.args.bytes.now c.in_ok-held.behind.now c.in-Value.is c.in_ok-held.ensures
+    value_taken c.args.order old c.enter.new.self c.in-Value.at c.in-Value.value c.in_ok-held.held c.args.format
+    c.args.bytes.now c.in_ok-held.behind.now c.in-Value.is c.in_ok-held.ensures
     c.in-Ends.ensures.made c.in-Ends.ensures.cells
     (λ whole.
     let last = c.enter.ensures.last whole (among_values old c.in-Value.at c.in-Value.value c.in-Value.is) in

@@ -9,7 +9,8 @@ returns-then-version-eq5-clause-follows c = record {
   made = λ items rest at.
       let a = at_phase c.args.self.now _ items rest c.requires at in (
         number_is c.version_of-version.result,
-        version_spelt c.args.self.now items rest c.args.first c.args.byte _ a.0.items_are a.1 c.version_of-version.ensures,
+        version_spelt c.args.self.now items rest c.args.first c.args.byte _ a.0.items_are a.1
+            c.version_of-version.ensures,
         (
           record {
             items_are = items_on items _ _ (number_is 5) a.0.items_are (ap number_is c.if-version-eq5.true);
@@ -28,7 +29,8 @@ returns-else-version-eq5-clause-follows c = record {
   made = λ items rest at.
       let a = at_phase c.args.self.now _ items rest c.requires at in (
         number_is c.version_of-version.result,
-        version_spelt c.args.self.now items rest c.args.first c.args.byte _ a.0.items_are a.1 c.version_of-version.ensures,
+        version_spelt c.args.self.now items rest c.args.first c.args.byte _ a.0.items_are a.1
+            c.version_of-version.ensures,
         (
           record {
             items_are = items_on items _ _ _ a.0.items_are refl;

@@ -10,6 +10,7 @@ returns c =
     let t = c.self.inside in
     let values = ap (sum_by cells_held) c.as_slice.ensures.value in
     let pairs = c.len.ensures ∙ t.pairs.ok.0 in
-    let cells = cells_table t.format t.pairs.items t.values.items t.pool.items c.self.invariant.within c.self.invariant.whole in
+    let cells = cells_table t.format t.pairs.items t.values.items t.pool.items c.self.invariant.within
+    c.self.invariant.whole in
     let seen = ap table_cells c.self.view_is in
     omega arith

@@ -33,10 +33,14 @@ new-requires c =
 pub returns : goal.returns
 returns c =
     let t = c.self.inside in
-    let held = c.row-held.ensures ∙ ap (λ (xs : List StoredValue). take c.len-2.result (drop (c.args.i * c.len-2.result) xs)) c.as_slice.ensures.value
+    let held = c.row-held.ensures ∙ ap
+    (λ (xs : List StoredValue). take c.len-2.result (drop (c.args.i * c.len-2.result) xs)) c.as_slice.ensures.value
     ∙ ap (λ (n : ℕ). take n (drop (c.args.i * n) t.values.items)) (c.len-2.ensures ∙ t.pairs.ok.0) in
-    let lent = c.new.ensures ∙ ap (λ (ps : List Pair). with_content ps (map (value_held c.as_slice-3.result.now) c.row-held.result.now)) c.as_slice-2.ensures.value
-    ∙ ap (λ (pool : List ℕ). with_content t.pairs.items (map (value_held pool) c.row-held.result.now)) c.as_slice-3.ensures.value
+    let lent = c.new.ensures ∙ ap (λ (ps : List Pair). with_content ps
+    (map (value_held c.as_slice-3.result.now) c.row-held.result.now)) c.as_slice-2.ensures.value
+    ∙ ap (λ (pool : List ℕ). with_content t.pairs.items (map (value_held pool) c.row-held.result.now))
+    c.as_slice-3.ensures.value
     ∙ ap (λ (xs : List StoredValue). with_content t.pairs.items (map (value_held t.pool.items) xs)) held in
     ap (λ items. Some items) lent
-    ∙ sym (entry_at t.format t.pairs.items t.values.items t.pool.items c.args.self.now c.args.i c.self.view_is (omega arith))
+    ∙ sym (entry_at t.format t.pairs.items t.values.items t.pool.items c.args.self.now c.args.i c.self.view_is
+    (omega arith))

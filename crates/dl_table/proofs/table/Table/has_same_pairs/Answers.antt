@@ -11,7 +11,9 @@ each p q = search rules
 
 pub returns-then-eq : goal.returns-then-eq
 returns-then-eq c =
-    let compared = slice_eq-Decides each c.pairs.result.now c.pairs-then-eq.result.now c.eq-then-eq.result c.eq-then-eq.ensures in
+    let compared = slice_eq-Decides each c.pairs.result.now c.pairs-then-eq.result.now c.eq-then-eq.result
+    c.eq-then-eq.ensures in
     let pairs = rw (c.pairs.ensures, c.pairs-then-eq.ensures) at compared in
-    let format = sym c.format.ensures.value ∙ same_true the_type (search rules) _ _ (sym c.if-eq.ensures) ∙ c.format-2.ensures.value in
+    let format = sym c.format.ensures.value ∙ same_true the_type (search rules) _ _ (sym c.if-eq.ensures)
+    ∙ c.format-2.ensures.value in
     (λ r. (format, pairs.0 r), λ h. pairs.1 h.1)

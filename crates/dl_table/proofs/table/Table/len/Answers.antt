@@ -11,5 +11,6 @@ returns c =
     let pairs = c.len-2.ensures ∙ t.pairs.ok.0 in
     c.whole_rows.ensures.rows
     ∙ ap (λ (n : ℕ). n / c.len-2.result) values ∙ ap (λ (n : ℕ). length t.values.items / n) pairs
-    ∙ sym (length-rows (length t.values.items / length t.pairs.items) (length t.pairs.items) (map (value_held t.pool.items) t.values.items))
+    ∙ sym (length-rows (length t.values.items / length t.pairs.items) (length t.pairs.items)
+    (map (value_held t.pool.items) t.values.items))
     ∙ ap (λ (d : TableData). length d.entries) c.self.view_is

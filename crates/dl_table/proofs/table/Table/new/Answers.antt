@@ -11,7 +11,9 @@ invariant_of-result c =
     let none = c.new.ensures.items in
     record {
       within = omega (arith, ap values_end none);
-      whole = subst (λ (values : List StoredValue). IsWhole (length values) (length c.in-Ok.pairs.items)) (sym none) (omega arith);
+      whole = subst (λ (values : List StoredValue). IsWhole (length values) (length c.in-Ok.pairs.items)) (sym none)
+          (omega arith);
       few = omega (arith, ap length same);
-      sound = sound_empty c.args.format c.in-Ok.pairs.items c.new.result.items c.new-in-Ok.result.items (subst AreContents (sym same) c.in-Ok.ensures.contents) none;
+      sound = sound_empty c.args.format c.in-Ok.pairs.items c.new.result.items c.new-in-Ok.result.items
+          (subst AreContents (sym same) c.in-Ok.ensures.contents) none;
     }

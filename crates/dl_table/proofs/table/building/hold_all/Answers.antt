@@ -25,5 +25,6 @@ loop-value-preserved c =
       pool_room = omega (arith, e);
       within = c.hold.ensures.within;
       held_len = omega arith;
-      values = c.hold.ensures.values ∙ values_lent-more before _ c.args.values.now i no_text c.loop-value-test.true c.loop-value.invariant.values;
+      values = c.hold.ensures.values ∙ values_lent-more before _ c.args.values.now i no_text c.loop-value-test.true
+          c.loop-value.invariant.values;
     }

@@ -18,10 +18,12 @@ is_same_value-requires-clause-other_within c =
 
 pub returns-then-not-is_same_value : goal.returns-then-not-is_same_value
 returns-then-not-is_same_value c =
-    let at = same_values-at c.args.pool.now c.args.other_pool.now c.args.values.now c.args.others.now c.loop-i.i no_text no_text c.loop-i-test.true (omega arith) in
+    let at = same_values-at c.args.pool.now c.args.other_pool.now c.args.values.now c.args.others.now c.loop-i.i no_text
+    no_text c.loop-i-test.true (omega arith) in
     (λ f. cc, λ all. c.if-not-is_same_value.ensures.1 (at all))
 
 pub loop-i-preserved : goal.loop-i-preserved
 loop-i-preserved c =
-    same_values-more c.args.pool.now c.args.other_pool.now c.args.values.now c.args.others.now c.loop-i.i no_text no_text c.loop-i-test.true (omega arith)
+    same_values-more c.args.pool.now c.args.other_pool.now c.args.values.now c.args.others.now c.loop-i.i no_text
+    no_text c.loop-i-test.true (omega arith)
     c.loop-i.invariant (c.if-not-is_same_value.ensures.0 refl)

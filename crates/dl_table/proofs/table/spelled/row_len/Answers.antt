@@ -15,10 +15,12 @@ held_len-requires c = omega (arith, held_end-le c.args.held.now c.loop-i.i no_te
 
 pub loop-i-preserved : goal.loop-i-preserved
 loop-i-preserved c =
-    let step = entry_from Little c.args.format c.args.pairs.now c.args.held.now c.args.pool.now c.loop-i.i no_text c.loop-i-test.true (omega arith) in
+    let step = entry_from Little c.args.format c.args.pairs.now c.args.held.now c.args.pool.now c.loop-i.i no_text
+    c.loop-i-test.true (omega arith) in
     record { fits = omega arith; same = omega arith }
 
 pub returns : goal.returns
 returns c =
-    let none = entry_end Little c.args.format c.args.pairs.now (map (value_held c.args.pool.now) c.args.held.now) c.loop-i.i c.loop-i-test.false in
+    let none = entry_end Little c.args.format c.args.pairs.now (map (value_held c.args.pool.now) c.args.held.now)
+    c.loop-i.i c.loop-i-test.false in
     omega arith

@@ -9,6 +9,7 @@ invariant-loop-i l =
     record {
       fits : l.len < 2 ^ 64;
       same :
-          min (l.len + length (entry_bytes Little l.format (drop l.i l.pairs) (drop l.i (map (value_held l.pool) l.held)))) (2 ^ 64 - 1)
+          min (l.len + length (entry_bytes Little l.format (drop l.i l.pairs)
+          (drop l.i (map (value_held l.pool) l.held)))) (2 ^ 64 - 1)
           ≡ min (length (entry_bytes Little l.format l.pairs (map (value_held l.pool) l.held))) (2 ^ 64 - 1);
     }

@@ -25,7 +25,8 @@ loop-i-preserved c =
     let entries = (table_of c.args.format pairs c.args.values.now c.args.pool.now).entries in
     let within : c.loop-i.i < count = omega arith in
     let turn : c.loop-i.i < length entries = omega (arith, length-rows count width all) in
-    let row = get_or-rows count width all c.loop-i.i [] within ∙ ap (take width) (drop-map (value_held c.args.pool.now) (c.loop-i.i * width) c.args.values.now)
+    let row = get_or-rows count width all c.loop-i.i [] within
+    ∙ ap (take width) (drop-map (value_held c.args.pool.now) (c.loop-i.i * width) c.args.values.now)
     ∙ take-map (value_held c.args.pool.now) width (drop (c.loop-i.i * width) c.args.values.now)
     ∙ ap (map (value_held c.args.pool.now)) (sym c.row-held.ensures) in
     let len = ap (λ vs. length (entry_bytes Little c.args.format pairs vs)) row in
@@ -38,5 +39,6 @@ returns c =
     let all = map (value_held c.args.pool.now) c.args.values.now in
     let count = length c.args.values.now / length pairs in
     let entries = (table_of c.args.format pairs c.args.values.now c.args.pool.now).entries in
-    let none = parts_end (entry_bytes Little c.args.format pairs) entries c.loop-i.i (omega (arith, length-rows count (length pairs) all)) in
+    let none = parts_end (entry_bytes Little c.args.format pairs) entries c.loop-i.i
+    (omega (arith, length-rows count (length pairs) all)) in
     omega arith

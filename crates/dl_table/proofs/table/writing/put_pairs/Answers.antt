@@ -13,5 +13,7 @@ returns-in_err-out g c = record {
       let i = c.loop-pair.pair-index in
       let p = err_from_is_err_and c.from_residual.result c.from_residual.ensures.1 in
       let tells = c.in_err-out.ensures.written start _ (c.loop-pair.invariant start text h) in
-      rw (p.1, p.2) (TellsOut-piece start _ text (flat_map pair_bytes (take i pairs)) (pair_bytes (get_or pairs i no_pair)) (flat_map pair_bytes (drop (i + 1) pairs)) (flat_map pair_bytes pairs) _ (parts_split pair_bytes pairs i no_pair c.loop-pair-test.true) tells);
+      rw (p.1, p.2) (TellsOut-piece start _ text (flat_map pair_bytes (take i pairs))
+      (pair_bytes (get_or pairs i no_pair)) (flat_map pair_bytes (drop (i + 1) pairs)) (flat_map pair_bytes pairs) _
+      (parts_split pair_bytes pairs i no_pair c.loop-pair-test.true) tells);
 }

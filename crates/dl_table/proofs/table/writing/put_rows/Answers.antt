@@ -29,12 +29,16 @@ returns-in_err-out g c = record {
       let bytes = entry_bytes c.args.order c.args.format pairs in
       let i = c.loop-i.i in
       let turn : i < length entries = omega (arith, length-rows count width all) in
-      let row = row_at count width c.args.pool.now c.args.values.now i c.row-held.result.now (omega arith) c.row-held.ensures in
+      let row = row_at count width c.args.pool.now c.args.values.now i c.row-held.result.now (omega arith)
+      c.row-held.ensures in
       let split = parts_split bytes entries i [] turn in
       let p = err_from_is_err_and c.from_residual.result c.from_residual.ensures.1 in
       let tells = c.in_err-out.ensures.written start _ (c.loop-i.invariant start text h) in
-      rw (p.1, p.2) (TellsOut-piece start _ text (flat_map bytes (take i entries)) (bytes (map (value_held c.args.pool.now) c.row-held.result.now)) (flat_map bytes (drop (i + 1) entries)) (flat_map bytes entries) _
-      (split ∙ ap (λ vs. flat_map bytes (take i entries) ++ bytes vs ++ flat_map bytes (drop (i + 1) entries)) row) tells);
+      rw (p.1, p.2) (TellsOut-piece start _ text (flat_map bytes (take i entries))
+      (bytes (map (value_held c.args.pool.now) c.row-held.result.now)) (flat_map bytes (drop (i + 1) entries))
+      (flat_map bytes entries) _
+      (split ∙ ap (λ vs. flat_map bytes (take i entries) ++ bytes vs ++ flat_map bytes (drop (i + 1) entries)) row)
+      tells);
 }
 
 pub loop-i-preserved : goal.loop-i-preserved
@@ -47,7 +51,8 @@ loop-i-preserved g c = λ start text h.
     let bytes = entry_bytes c.args.order c.args.format pairs in
     let i = c.loop-i.i in
     let turn : i < length entries = omega (arith, length-rows count width all) in
-    let row = row_at count width c.args.pool.now c.args.values.now i c.row-held.result.now (omega arith) c.row-held.ensures in
+    let row = row_at count width c.args.pool.now c.args.values.now i c.row-held.result.now (omega arith)
+    c.row-held.ensures in
     let more = parts_more bytes entries i [] turn ∙ ap (λ vs. flat_map bytes (take i entries) ++ bytes vs) row in
     IsOut-piece start _ text _ _ _ _ more (c.in_ok-out.ensures.written start _ (c.loop-i.invariant start text h))
 
@@ -58,6 +63,8 @@ returns g c = record {
       let width = length pairs in
       let count = length c.args.values.now / width in
       let entries = (table_of c.args.format pairs c.args.values.now c.args.pool.now).entries in
-      let whole = take_all c.loop-i.i entries (omega (arith, length-rows count width (map (value_held c.args.pool.now) c.args.values.now))) in
-      IsOut-same start _ text _ _ _ (ap (flat_map (entry_bytes c.args.order c.args.format pairs)) whole) (c.loop-i.invariant start text h);
+      let whole = take_all c.loop-i.i entries
+      (omega (arith, length-rows count width (map (value_held c.args.pool.now) c.args.values.now))) in
+      IsOut-same start _ text _ _ _ (ap (flat_map (entry_bytes c.args.order c.args.format pairs)) whole)
+      (c.loop-i.invariant start text h);
 }
