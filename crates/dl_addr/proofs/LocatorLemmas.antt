@@ -3,7 +3,7 @@ use Rattle.std.proofs.Common.{◌≡◌, ℕ, Bool, true, List, [], ◌∷◌, �
 use Rattle.std.specs.Prelude.{⊤, is_some, option_map, OnErr, OnOk}
 use Rattle.std.specs.Option.{option_and_then, option_or}
 use Rattle.std.specs.Io.KnownBytes.{Appends}
-use Rattle.dl_head.specs.TableData.{HeaderData}
+use Rattle.dl_field.specs.HeaderData.{HeaderData}
 use Rattle.dl_rows.specs.declared.row.Row.{Row}
 use Rattle.dl_look.specs.declared.live.LiveRows.{LiveRows}
 use Rattle.dl_look.specs.declared.place.Place.{Place}

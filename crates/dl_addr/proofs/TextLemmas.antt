@@ -4,9 +4,9 @@ use Rattle.std.specs.Prelude.{codes, option_map}
 use Rattle.std.specs.Option.{option_and_then, option_copied, option_map_or}
 use Rattle.std.proofs.lemmas.Bool.{cases_lt}
 use Rattle.std.proofs.lemmas.Option.{slice_get_past}
-use Rattle.dl_head.specs.EntryData.{with_content}
-use Rattle.dl_head.specs.TableData.{HeaderData}
-use Rattle.dl_head.specs.Value.{Value}
+use Rattle.dl_table.specs.EntryData.{with_content}
+use Rattle.dl_field.specs.HeaderData.{HeaderData}
+use Rattle.dl_table.specs.Value.{Value}
 use Rattle.dl_print.specs.ValueText.{Strings, strings_of}
 use Rattle.dl_addr.specs.declared.texts.FileText.{FileText}
 use Rattle.dl_addr.specs.declared.texts.UnitFiles.{UnitFiles}

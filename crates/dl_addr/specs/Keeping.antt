@@ -1,6 +1,6 @@
 -- What a locator keeps at the end of a unit. No promise rests on this file.
 use Rattle.std.specs.Prelude.{⊤, ◌≡◌, ℕ, List, length, slice_get, Option, OnOk, OnErr, Result}
-use Rattle.dl_head.specs.TableData.{HeaderData}
+use Rattle.dl_field.specs.HeaderData.{HeaderData}
 use Rattle.dl_rows.specs.declared.row.Row.{Row}
 use Rattle.dl_look.specs.declared.index.NoMemory.{NoMemory}
 use Rattle.dl_look.specs.declared.place.Place.{Place}

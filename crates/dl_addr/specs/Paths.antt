@@ -1,9 +1,10 @@
 -- The path of a file under the header of its unit. DWARF 5, sections 6.2.4 and 6.2.4.1.
 use Rattle.std.specs.Prelude.{ℕ, Bool, false, ◌||◌, ◌&&◌, nat_le, ◌==◌, if◌then◌else◌, List, [], ◌∷◌, ◌++◌, Option, Some, None, codes, slice_get, option_map}
 use Rattle.std.specs.Option.{option_and_then, option_map_or}
-use Rattle.dl_head.specs.EntryData.{value_of, with_content}
-use Rattle.dl_head.specs.TableData.{HeaderData, TableData}
-use Rattle.dl_head.specs.Value.{Value, text, line_str, str, number}
+use Rattle.dl_table.specs.EntryData.{value_of, with_content}
+use Rattle.dl_table.specs.TableData.{TableData}
+use Rattle.dl_field.specs.HeaderData.{HeaderData}
+use Rattle.dl_table.specs.Value.{Value, text, line_str, str, number}
 use Rattle.dl_print.specs.ValueText.{Strings, text_in_section}
 
 -- the text of a value, in its table or in a string section

@@ -2,8 +2,8 @@
 
 ghost use Rattle.std.specs.Prelude.{◌≡◌, Some};
 ghost use Rattle.std.specs.Option.{option_and_then, option_copied, option_map};
-ghost use Rattle.dl_head.specs.EntryHeld.{entry_items};
-ghost use Rattle.dl_head.specs.Held.{value_lent};
+ghost use Rattle.dl_table.specs.EntryHeld.{entry_items};
+ghost use Rattle.dl_table.specs.Held.{value_lent};
 ghost use Rattle.dl_print.specs.ValueText.{strings_of};
 ghost use Rattle.dl_addr.specs.Parts.{path_seen};
 ghost use Rattle.dl_addr.specs.Paths.{text_of, own_path, directory_of, number_or_zero, entry_of, is_letter, is_slash, has_drive, is_whole, file_path, path_of};

@@ -7,14 +7,14 @@ use Rattle.std.proofs.Math.Nat.{mod-lt}
 use Rattle.dl_num.specs.declared.fixed.Order.{Order}
 use Rattle.dl_num.specs.Laws.{AllBytes}
 use Rattle.dl_head.specs.Built.{with_standard_opcodes}
-use Rattle.dl_head.specs.TableData.{HeaderData}
+use Rattle.dl_field.specs.HeaderData.{HeaderData}
 use Rattle.dl_head.specs.Header.{header_in}
-use Rattle.dl_head.specs.declared.params.Params.{Params}
+use Rattle.dl_field.specs.declared.params.Params.{Params}
 use Rattle.dl_head.specs.Sound.{IsSoundHeader}
 use Rattle.dl_head.proofs.HeaderLaws.{found_is_header}
 use Rattle.dl_head.proofs.HeaderSound.{standard_fault, usable}
 use Rattle.dl_head.proofs.ReadSound.{header_is_sound}
-use Rattle.dl_head.proofs.SoundLemmas.{all_push}
+use Rattle.dl_table.proofs.SoundLemmas.{all_push}
 use Rattle.dl_rows.specs.declared.operation.Operation.{Operation}
 use Rattle.dl_rows.specs.declared.operation.Operation.TheVariants as op
 use Rattle.dl_rows.specs.LineUnit.{IsUnit, rows_behind, unit_rows}

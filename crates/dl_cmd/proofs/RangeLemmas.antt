@@ -7,10 +7,10 @@ use Rattle.std.proofs.lemmas.Nat.{pow_pos}
 use Rattle.std.proofs.Math.Nat.{mod-lt}
 use Rattle.dl_num.specs.declared.fixed.Order.{Order}
 use Rattle.dl_head.specs.Built.{with_standard_opcodes}
-use Rattle.dl_head.specs.TableData.{HeaderData}
+use Rattle.dl_field.specs.HeaderData.{HeaderData}
 use Rattle.dl_head.specs.Header.{header_in}
 use Rattle.dl_head.specs.Written.{is_within_limit}
-use Rattle.dl_head.specs.declared.params.Params.{Params}
+use Rattle.dl_field.specs.declared.params.Params.{Params}
 use Rattle.dl_head.proofs.HeaderLaws.{found_is_header}
 use Rattle.dl_rows.specs.declared.operation.Operation.{Operation}
 use Rattle.dl_rows.specs.declared.row.Row.{Row}

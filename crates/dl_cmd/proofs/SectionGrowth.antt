@@ -7,17 +7,18 @@ use Rattle.std.proofs.Math.Seq.{take-append-add}
 use Rattle.dl_num.specs.declared.fixed.Order.{Order}
 use Rattle.dl_num.specs.Front.{Standing, standing_after}
 use Rattle.dl_num.proofs.FrontLemmas.{standing-append}
-use Rattle.dl_head.specs.TableData.{HeaderData}
-use Rattle.dl_head.specs.declared.form.Format.{Format}
-use Rattle.dl_head.specs.declared.form.Format.TheVariants.{Dwarf32, Dwarf64}
-use Rattle.dl_head.specs.declared.fault.FaultKind.{FaultKind}
-use Rattle.dl_head.specs.declared.params.Params.{Params}
-use Rattle.dl_head.specs.Field.{IsInitialLength}
-use Rattle.dl_head.specs.Layout.{Layout, Item, length_is, number_is, form_is, value_is, foreign_version, header_layout, following_all, initial_size}
+use Rattle.dl_field.specs.HeaderData.{HeaderData}
+use Rattle.dl_table.specs.declared.form.Format.{Format}
+use Rattle.dl_table.specs.declared.form.Format.TheVariants.{Dwarf32, Dwarf64}
+use Rattle.dl_table.specs.declared.fault.FaultKind.{FaultKind}
+use Rattle.dl_field.specs.declared.params.Params.{Params}
+use Rattle.dl_field.specs.Field.{IsInitialLength}
+use Rattle.dl_field.specs.Layout.{Layout, Item, length_is, number_is, form_is, value_is, foreign_version, following_all}
+use Rattle.dl_head.specs.HeaderLayout.{header_layout, initial_size}
 use Rattle.dl_head.specs.Header.{SpellsFields, Cut, cut, cut_after, foreign_made, foreign_in, header_in, unit_end, unit_len}
 use Rattle.dl_head.proofs.CutLemmas.{cut-append, cut_sound, Sound as CutSound}
-use Rattle.dl_head.proofs.FieldLemmas.{none_some}
-use Rattle.dl_head.proofs.FieldLaws.{field_is_judged}
+use Rattle.dl_field.proofs.FieldLemmas.{none_some}
+use Rattle.dl_field.proofs.FieldLaws.{field_is_judged}
 use Rattle.dl_head.proofs.FrontLemmas.{GoesOn, fronts, behind_front}
 use Rattle.dl_head.proofs.HeaderLaws.{found_is_header, header_is_not_foreign}
 use Rattle.dl_head.proofs.RefusalLaws.{foreign_last}

@@ -4,7 +4,7 @@ use Rattle.std.specs.Prelude.{⊤, cond, count_by}
 use Rattle.std.proofs.lemmas.List.Sums.{sum_by-append}
 use Rattle.std.proofs.lemmas.List.{map-append}
 use Rattle.std.proofs.lemmas.Option.{same_Some}
-use Rattle.dl_head.proofs.FieldLemmas.{none_some}
+use Rattle.dl_field.proofs.FieldLemmas.{none_some}
 use Rattle.dl_num.specs.declared.fixed.Order.{Order}
 use Rattle.dl_head.specs.declared.fault.Fault.{Fault}
 use Rattle.dl_rows.specs.declared.row.Row.{Row}

@@ -5,8 +5,8 @@ use Rattle.std.specs.List.{concat}
 use Rattle.dl_num.specs.declared.fixed.Order.{Order}
 use Rattle.std.specs.Option.{option_map}
 use Rattle.dl_head.specs.declared.fault.Fault.{Fault}
-use Rattle.dl_head.specs.declared.fault.FaultKind.TheVariants.{Truncated}
-use Rattle.dl_head.specs.TableData.{HeaderData}
+use Rattle.dl_table.specs.declared.fault.FaultKind.TheVariants.{Truncated}
+use Rattle.dl_field.specs.HeaderData.{HeaderData}
 use Rattle.dl_head.specs.Header.{foreign_in, header_in}
 use Rattle.dl_rows.specs.declared.row.Row.{Row}
 use Rattle.dl_rows.specs.LineUnit.{IsUnit, unit_rows}

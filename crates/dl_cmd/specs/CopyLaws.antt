@@ -4,7 +4,7 @@ use Rattle.std.specs.List.{AllByRecursion}
 use Rattle.dl_num.specs.declared.fixed.Order.{Order}
 use Rattle.dl_num.specs.Laws.{AllBytes}
 use Rattle.dl_head.specs.Built.{with_standard_opcodes}
-use Rattle.dl_head.specs.TableData.{HeaderData}
+use Rattle.dl_field.specs.HeaderData.{HeaderData}
 use Rattle.dl_rows.specs.declared.operation.Operation.{Operation}
 use Rattle.dl_rows.specs.declared.reader.Event.TheVariants as event
 use Rattle.dl_rows.specs.LineUnit.{IsOwnUnit, unit_rows, events}

@@ -1,7 +1,7 @@
 -- The texts and the statuses of the faults of a command.
 use Rattle.std.specs.Prelude.{ℕ, List, ◌++◌, codes}
 use Rattle.dl_print.specs.Digits.{hexadecimal}
-use Rattle.dl_head.specs.FaultText.{fault_text}
+use Rattle.dl_table.specs.FaultText.{fault_text}
 use Rattle.dl_cmd.specs.declared.fault.RunFault.{RunFault}
 use Rattle.dl_cmd.specs.declared.fault.RunFault.TheVariants.{Damage, NoMemory, Read, Write, SectionTooLong, NotFound, ForeignUnit, Emit}
 

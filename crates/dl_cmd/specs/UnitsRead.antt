@@ -15,7 +15,7 @@ use Rattle.dl_cmd.specs.declared.section.Next.{Next}
 use Rattle.dl_cmd.specs.declared.section.Next.TheVariants as next
 use Rattle.dl_cmd.specs.declared.section.Units.{Units}
 use Rattle.dl_print.specs.declared.summary.Summary.{Summary}
-use Rattle.dl_head.specs.declared.fault.FaultKind.TheVariants.{Truncated}
+use Rattle.dl_table.specs.declared.fault.FaultKind.TheVariants.{Truncated}
 use Rattle.dl_cmd.specs.Section.{Visit, HasUnits, HasBegun, NoUnitBegins, AddsCell, section_visits, summary_of}
 use Rattle.dl_cmd.specs.Visiting.{Story, Stopped, WritesFront, VisitorStops, Settled}
 

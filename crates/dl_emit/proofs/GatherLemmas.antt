@@ -2,10 +2,10 @@
 use Rattle.std.proofs.Common.{◌≡◌, ℕ, ◌+◌, ◌<◌, ◌≤◌, List, [], ◌++◌, length, drop, get_or, Option, Result, MatchResult, refl, sym, ap, subst, ◌∙◌, append_assoc}
 use Rattle.std.proofs.lemmas.List.{drop_all, append-nil}
 use Rattle.dl_num.specs.declared.fixed.Order.{Order}
-use Rattle.dl_head.specs.declared.counted.HeadWrite.{HeadWrite}
-use Rattle.dl_head.specs.declared.params.Params.{Params}
-use Rattle.dl_head.specs.Writing.{IsOut, TellsOut}
-use Rattle.dl_head.proofs.WritingLemmas.{TellsOut-front}
+use Rattle.dl_table.specs.declared.counted.HeadWrite.{HeadWrite}
+use Rattle.dl_field.specs.declared.params.Params.{Params}
+use Rattle.dl_table.specs.Writing.{IsOut, TellsOut}
+use Rattle.dl_table.proofs.WritingLemmas.{TellsOut-front}
 use Rattle.dl_rows.specs.declared.row.Row.{Row}
 use Rattle.dl_emit.specs.Gathered.{IsGathered}
 use Rattle.dl_emit.specs.Program.{row_operations, operations_from, kept}

@@ -6,7 +6,7 @@ use Rattle.dl_num.specs.Fixed.{fixed_bytes}
 use Rattle.dl_num.specs.Shortest.{shortest_uleb}
 use Rattle.dl_num.proofs.FixedLaws.{fixed_has_its_size}
 use Rattle.dl_head.proofs.OrderLemmas.{length-parts}
-use Rattle.dl_head.specs.declared.params.Params.{Params}
+use Rattle.dl_field.specs.declared.params.Params.{Params}
 use Rattle.dl_rows.specs.declared.row.Row.{Row}
 use Rattle.dl_rows.specs.declared.operation.Operation.{Operation}
 use Rattle.dl_rows.specs.declared.operation.Operation.TheVariants as op

@@ -11,8 +11,8 @@ use Rattle.std.proofs.lemmas.Int.{ints}
 use Rattle.dl_num.specs.Fixed.{is_number_size}
 use Rattle.dl_num.specs.Front.{Standing}
 use Rattle.dl_num.proofs.LebFrontLemmas.{and_left, and_right}
-use Rattle.dl_head.specs.declared.params.Params.{Params}
-use Rattle.dl_head.specs.TableData.{HeaderData}
+use Rattle.dl_field.specs.declared.params.Params.{Params}
+use Rattle.dl_field.specs.HeaderData.{HeaderData}
 use Rattle.dl_head.specs.Written.{header_bytes, is_within_limit}
 use Rattle.dl_head.specs.Sound.{IsSoundHeader}
 use Rattle.dl_head.proofs.HeaderLaws.{header_is_found}

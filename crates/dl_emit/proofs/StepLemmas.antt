@@ -8,7 +8,7 @@ use Rattle.std.proofs.lemmas.Int.{ints, of_z-to_z}
 use Rattle.std.proofs.lemmas.Bool.{leb-true, ltb-true, eqb-true, cases_lt, lt-ltb, le-ltb}
 use Rattle.dl_num.specs.Leb.{IsSigned64}
 use Rattle.dl_num.proofs.LebFrontLemmas.{and_left, and_right}
-use Rattle.dl_head.specs.declared.params.Params.{Params}
+use Rattle.dl_field.specs.declared.params.Params.{Params}
 use Rattle.dl_rows.specs.declared.row.Row.{Row}
 use Rattle.dl_emit.specs.Program.{instructions, advance_by, advance, line_advance, special_above, special}
 

@@ -5,11 +5,12 @@ use Rattle.std.specs.Io.KnownBytes.{Appends, Keeps}
 use Rattle.std.proofs.lemmas.List.{take-append-le}
 use Rattle.std.proofs.lemmas.Bool.{leb-true, leb-false, lt-leb}
 use Rattle.dl_num.specs.declared.fixed.Order.{Order}
-use Rattle.dl_head.specs.declared.counted.HeadWrite.{HeadWrite}
-use Rattle.dl_head.specs.declared.counted.HeadWrite.TheVariants as head
-use Rattle.dl_head.specs.declared.params.Params.{Params}
-use Rattle.dl_head.specs.TableData.{HeaderData}
-use Rattle.dl_head.specs.Writing.{IsOut, TellsOut, Writes, WritesHeader}
+use Rattle.dl_table.specs.declared.counted.HeadWrite.{HeadWrite}
+use Rattle.dl_table.specs.declared.counted.HeadWrite.TheVariants as head
+use Rattle.dl_field.specs.declared.params.Params.{Params}
+use Rattle.dl_field.specs.HeaderData.{HeaderData}
+use Rattle.dl_table.specs.Writing.{IsOut, TellsOut, Writes}
+use Rattle.dl_head.specs.Writing.{WritesHeader}
 use Rattle.dl_head.specs.Written.{header_bytes, is_within_limit, unit_length_of, written_limit}
 use Rattle.dl_head.proofs.OrderLemmas.{length-header, written_limit-le, initial_size-le}
 use Rattle.dl_rows.specs.declared.row.Row.{Row}

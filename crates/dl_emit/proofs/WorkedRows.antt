@@ -1,9 +1,9 @@
 -- Worked programs, computed: what the definitions write for small lists of rows.
 use Rattle.std.proofs.Common.{◌≡◌, refl, ℕ, List, [], ◌∷◌, Some, true, false, negsuc}
 use Rattle.dl_num.specs.declared.fixed.Order.TheVariants.{Little, Big}
-use Rattle.dl_head.specs.declared.form.Format.TheVariants.{Dwarf32}
-use Rattle.dl_head.specs.declared.params.Params.{Params}
-use Rattle.dl_head.specs.Layout.{standard_lengths}
+use Rattle.dl_table.specs.declared.form.Format.TheVariants.{Dwarf32}
+use Rattle.dl_field.specs.declared.params.Params.{Params}
+use Rattle.dl_field.specs.Layout.{standard_lengths}
 use Rattle.dl_rows.specs.declared.row.Row.{Row}
 use Rattle.dl_emit.specs.declared.fault.EmitFault.TheVariants as fault
 use Rattle.dl_emit.specs.WrittenUnit.{program_bytes, rows_refusal}

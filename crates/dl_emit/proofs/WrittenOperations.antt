@@ -8,8 +8,8 @@ use Rattle.dl_num.specs.Leb.{IsSigned64}
 use Rattle.dl_num.specs.Shortest.{shortest_uleb, shortest_sleb}
 use Rattle.dl_num.proofs.ShortestLemmas.{computed_is_shortest, computed_sleb_is_shortest, length-shortest_uleb}
 use Rattle.dl_num.proofs.FixedLaws.{fixed_reads_back, fixed_has_its_size}
-use Rattle.dl_head.specs.declared.params.Params.{Params}
-use Rattle.dl_head.specs.Built.{IsUsable}
+use Rattle.dl_field.specs.declared.params.Params.{Params}
+use Rattle.dl_field.specs.Usable.{IsUsable}
 use Rattle.dl_rows.specs.declared.row.Row.{Row}
 use Rattle.dl_rows.specs.declared.operation.Operation.{Operation}
 use Rattle.dl_rows.specs.declared.operation.Operation.TheVariants as op

@@ -1,7 +1,7 @@
 -- Bytes that are gathered before they are written. No promise rests on this file.
 use Rattle.std.specs.Prelude.{◌≡◌, ℕ, List, ◌++◌, Option, Result, MatchResult}
-use Rattle.dl_head.specs.declared.counted.HeadWrite.{HeadWrite}
-use Rattle.dl_head.specs.Writing.{IsOut, TellsOut}
+use Rattle.dl_table.specs.declared.counted.HeadWrite.{HeadWrite}
+use Rattle.dl_table.specs.Writing.{IsOut, TellsOut}
 
 -- of the text a front is out, on top of what the writer held at the start, and the rest is held
 pub record IsGathered (start now : Option (List ℕ)) (text held : List ℕ) (count : ℕ) : Type 0 where

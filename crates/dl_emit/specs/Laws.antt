@@ -4,9 +4,9 @@ use Rattle.std.specs.Int.{w8}
 use Rattle.std.specs.Int.RustNames.{FitsSigned}
 use Rattle.std.specs.List.{AllByRecursion}
 use Rattle.dl_num.specs.declared.fixed.Order.{Order}
-use Rattle.dl_head.specs.declared.params.Params.{Params}
-use Rattle.dl_head.specs.TableData.{HeaderData}
-use Rattle.dl_head.specs.Built.{IsUsable}
+use Rattle.dl_field.specs.declared.params.Params.{Params}
+use Rattle.dl_field.specs.HeaderData.{HeaderData}
+use Rattle.dl_field.specs.Usable.{IsUsable}
 use Rattle.dl_head.specs.Header.{unit_len, header_in}
 use Rattle.dl_head.specs.Sound.{IsSoundHeader}
 use Rattle.dl_rows.specs.declared.row.Row.{Row}

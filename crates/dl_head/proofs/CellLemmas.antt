@@ -1,5 +1,6 @@
 -- A header holds no more cells than it has bytes, and in the end those of its tables.
-use Rattle.std.proofs.Common.{◌≡◌, ℕ, ◌+◌, ◌-◌, ◌^◌, ◌≤◌, Bool, true, false, nat_lt, nat_le, ◌&&◌, ◌==◌, if◌then◌else◌, List, [], ◌∷◌, length, take, drop, Option, Some, None, Ok, Err, refl, sym, ap, arith, inl, inr, length-append, sum_by}
+use Rattle.std.proofs.Common.{◌≡◌, ℕ, ◌+◌, ◌-◌, ◌^◌, ◌≤◌, true, nat_lt, nat_le, ◌&&◌, ◌==◌, if◌then◌else◌, List, []}
+use Rattle.std.proofs.Common.{◌∷◌, length, take, drop, None, Ok, refl, ap, arith, inl, inr, length-append, sum_by}
 use Rattle.std.proofs.lemmas.Bool.{cases_lt, cases_Bool, lt-ltb, le-ltb, le-leb, lt-leb, eqb-true}
 use Rattle.std.proofs.lemmas.List.{length-take-le, length-drop}
 use Rattle.std.proofs.lemmas.List.Sums.{sum_by-cons}
@@ -8,62 +9,56 @@ use Rattle.dl_num.specs.Fixed.{fixed}
 use Rattle.dl_num.specs.Leb.{groups}
 use Rattle.dl_num.specs.LebFront.{is_leb, leb_front, behind_leb}
 use Rattle.dl_num.proofs.LebFrontLemmas.{and_left, and_right, leb_front-le}
-use Rattle.dl_head.specs.declared.fault.FaultKind.{FaultKind}
-use Rattle.dl_head.specs.declared.fault.FaultKind.TheVariants.{LebRange}
-use Rattle.dl_head.specs.declared.form.Format.{Format}
-use Rattle.dl_head.specs.declared.form.Format.TheVariants.{Dwarf32, Dwarf64}
-use Rattle.dl_head.specs.declared.form.Form.{Form}
-use Rattle.dl_head.specs.declared.form.Form.TheVariants as form
-use Rattle.dl_head.specs.Value.{form_of_code, Value, text, line_str, str, str_sup, number, block, data16, Judgement, good, bad, is_text, text_spelt, block_spelt, leb_spelt, leb_block_spelt, value_spelt, offset_size}
-use Rattle.dl_head.specs.Layout.{Layout, initial_length_then, number_then, form_then, value_then, foreign_version, last_entry, Item, form_is, value_is, following, following_all, field_spelt, header_layout, value_judged, form_judged}
+use Rattle.dl_table.specs.declared.fault.FaultKind.TheVariants.{LebRange}
+use Rattle.dl_table.specs.declared.form.Format.{Format}
+use Rattle.dl_table.specs.declared.form.Format.TheVariants.{Dwarf32, Dwarf64}
+use Rattle.dl_table.specs.declared.form.Form.{Form}
+use Rattle.dl_table.specs.declared.form.Form.TheVariants as form
+use Rattle.dl_table.specs.Value.{Value, text, line_str, str, str_sup, number, block, data16, good, bad, is_text}
+use Rattle.dl_table.specs.Value.{text_spelt, block_spelt, leb_spelt, leb_block_spelt, value_spelt, offset_size}
+use Rattle.dl_field.specs.Layout.{Layout, initial_length_then, number_then, form_then, value_then, foreign_version}
+use Rattle.dl_field.specs.Layout.{last_entry, Item, following, following_all, field_spelt}
+use Rattle.dl_head.specs.HeaderLayout.{header_layout}
 use Rattle.dl_head.specs.Header.{SpellsFields, cut}
-use Rattle.dl_head.specs.TableCells.{value_cells}
-use Rattle.dl_head.specs.Cells.{item_cells, begun_block, begun_leb_block, begun_cells, rest_cells}
+use Rattle.dl_table.specs.TableCells.{value_cells}
+use Rattle.dl_field.specs.Cells.{item_cells, begun_block, begun_leb_block, begun_cells, rest_cells}
 use Rattle.dl_head.specs.Laws.{FewCells}
-use Rattle.dl_head.proofs.FieldLemmas.{none_some}
+use Rattle.dl_field.proofs.FieldLemmas.{none_some}
 use Rattle.dl_head.proofs.CutLemmas.{cut_sound, Sound}
-use Rattle.dl_head.proofs.Openings.{is_length, is_number}
+use Rattle.dl_head.proofs.FirstFields.{is_length, is_number}
+use Rattle.dl_field.proofs.GoodLemmas.{good_value, good_if, leb_some, bad_good, is_form, value_item}
 
 -- ---- a field holds no more cells than it has bytes
-
-pub good_value : (u v : Value) → ◌≡◌ {A = Judgement Value} (good u) (good v) → v ≡ u
-good_value u v e = ap (λ (o : Judgement Value). elim o [ Some (Ok k) ↦ k | Some (Err f) ↦ u | None ↦ u ]) (sym e)
-
--- a value that is judged where a test holds
-pub good_if : (b : Bool) (u v : Value) → (if b then good u else None) ≡ good v → (b ≡ true) × (v ≡ u)
-good_if true u v e = (refl, good_value u v e)
-good_if false u v e = absurd (none_some {a = Ok v} refl e)
 
 text_cells : (w : List ℕ) (v : Value) → text_spelt w ≡ good v → value_cells v ≤ length w
 text_cells [] v e = absurd (none_some {a = Ok v} refl e)
 text_cells (x ∷ w) v e =
     let t = good_if (is_text (x ∷ w)) (text (take (length (x ∷ w) - 1) (x ∷ w))) v e in
-    let size : length (take (length (x ∷ w) - 1) (x ∷ w)) ≡ length (x ∷ w) - 1 = length-take-le (length (x ∷ w) - 1) (x ∷ w) (omega arith) in
+    let size : length (take (length (x ∷ w) - 1) (x ∷ w)) ≡ length (x ∷ w) - 1 =
+    length-take-le (length (x ∷ w) - 1) (x ∷ w) (omega arith) in
     rw t.1 (omega (arith, size))
 
 -- a value that is one cell
-one_cell : (k : ℕ) (u v : Value) (w : List ℕ) → 1 ≤ k → value_cells u ≡ 1 → (if length w == k then good u else None) ≡ good v → value_cells v ≤ length w
+one_cell : (k : ℕ) (u v : Value) (w : List ℕ) → 1 ≤ k → value_cells u ≡ 1
+    → (if length w == k then good u else None) ≡ good v → value_cells v ≤ length w
 one_cell k u v w some one e =
     let t = good_if (length w == k) u v e in
     let size : length w ≡ k = eqb-true (length w) k t.0 in
     rw t.1 (omega (arith, size, one))
 
-block_cells : (order : Order) (k : ℕ) (w : List ℕ) (v : Value) → 1 ≤ k → block_spelt order k w ≡ good v → value_cells v ≤ length w
+block_cells : (order : Order) (k : ℕ) (w : List ℕ) (v : Value) → 1 ≤ k → block_spelt order k w ≡ good v
+    → value_cells v ≤ length w
 block_cells order k w v some e =
     let t = good_if (nat_le k (length w) && (length w == k + fixed order (take k w))) (block (drop k w)) v e in
     let whole : length w ≡ k + fixed order (take k w) = eqb-true _ _ (and_right (nat_le k (length w)) _ t.0) in
     rw t.1 (omega (arith, whole, length-drop k w))
 
-leb_some : (w : List ℕ) → is_leb w ≡ true → 1 ≤ length w
-leb_some [] e = absurd cc
-leb_some (x ∷ w) e = omega arith
-
-pub bad_good : {kind : FaultKind} {v : Value} → ◌≡◌ {A = Judgement Value} (bad kind) (good v) → ⊥
-bad_good e = absurd cc
-
-leb_below : (w : List ℕ) (v : Value) → is_leb w ≡ true → (if nat_lt (groups w) (2 ^ 64) then good (number (groups w)) else bad LebRange) ≡ good v → value_cells v ≤ length w
+leb_below : (w : List ℕ) (v : Value) → is_leb w ≡ true
+    → (if nat_lt (groups w) (2 ^ 64) then good (number (groups w)) else bad LebRange) ≡ good v
+    → value_cells v ≤ length w
 leb_below w v t e = elim (cases_lt (groups w) (2 ^ 64)) [
-  | inl lt ↦ let same : v ≡ number (groups w) = good_value (number (groups w)) v (rw (lt-ltb _ _ lt) at e) in rw same (leb_some w t)
+  | inl lt ↦ let same : v ≡ number (groups w) = good_value (number (groups w)) v (rw (lt-ltb _ _ lt) at e) in
+      rw same (leb_some w t)
   | inr le ↦ absurd (bad_good (rw (le-ltb _ _ le) at e))
 ]
 
@@ -78,10 +73,12 @@ behind_some : (w : List ℕ) → is_leb (leb_front w) ≡ true → 1 + length (b
 behind_some w t = omega (arith, leb_some (leb_front w) t, leb_front-le w, length-drop (length (leb_front w)) w)
 
 leb_block_below : (w : List ℕ) (v : Value) → is_leb (leb_front w) ≡ true
-    → (if nat_lt (groups (leb_front w)) (2 ^ 64) then (if length (behind_leb w) == groups (leb_front w) then good (block (behind_leb w)) else None) else
+    → (if nat_lt (groups (leb_front w)) (2 ^ 64)
+    then (if length (behind_leb w) == groups (leb_front w) then good (block (behind_leb w)) else None) else
     if is_leb w then bad LebRange else None) ≡ good v → value_cells v ≤ length w
 leb_block_below w v t e = elim (cases_lt (groups (leb_front w)) (2 ^ 64)) [
-  | inl lt ↦ let same = good_if (length (behind_leb w) == groups (leb_front w)) (block (behind_leb w)) v (rw (lt-ltb _ _ lt) at e) in rw same.1 (behind_some w t)
+  | inl lt ↦ let same = good_if (length (behind_leb w) == groups (leb_front w)) (block (behind_leb w)) v
+      (rw (lt-ltb _ _ lt) at e) in rw same.1 (behind_some w t)
   | inr le ↦ elim (cases_Bool (is_leb w)) [
     | inl u ↦ absurd (bad_good (rw (le-ltb _ _ le, u) at e))
     | inr n ↦ absurd (none_some {a = Ok v} refl (rw (le-ltb _ _ le, n) at e))
@@ -98,7 +95,8 @@ offset_some : (format : Format) → 1 ≤ offset_size format
 offset_some Dwarf32 = omega arith
 offset_some Dwarf64 = omega arith
 
-value_few : (order : Order) (format : Format) (f : Form) (w : List ℕ) (v : Value) → value_spelt order format f w ≡ good v → value_cells v ≤ length w
+value_few : (order : Order) (format : Format) (f : Form) (w : List ℕ) (v : Value)
+    → value_spelt order format f w ≡ good v → value_cells v ≤ length w
 value_few order format form.Block2 w v e = block_cells order 2 w v (omega arith) e
 value_few order format form.Block4 w v e = block_cells order 4 w v (omega arith) e
 value_few order format form.Data2 w v e = one_cell 2 (number (fixed order w)) v w (omega arith) refl e
@@ -108,38 +106,17 @@ value_few order format form.String w v e = text_cells w v e
 value_few order format form.Block w v e = leb_block_cells w v e
 value_few order format form.Block1 w v e = block_cells order 1 w v (omega arith) e
 value_few order format form.Data1 w v e = one_cell 1 (number (fixed order w)) v w (omega arith) refl e
-value_few order format form.Strp w v e = one_cell (offset_size format) (str (fixed order w)) v w (offset_some format) refl e
+value_few order format form.Strp w v e = one_cell (offset_size format) (str (fixed order w)) v w (offset_some format)
+    refl e
 value_few order format form.Udata w v e = leb_cells w v e
-value_few order format form.StrpSup w v e = one_cell (offset_size format) (str_sup (fixed order w)) v w (offset_some format) refl e
+value_few order format form.StrpSup w v e = one_cell (offset_size format) (str_sup (fixed order w)) v w
+    (offset_some format) refl e
 value_few order format form.Data16 w v e = one_cell 16 (data16 w) v w (omega arith) refl e
-value_few order format form.LineStrp w v e = one_cell (offset_size format) (line_str (fixed order w)) v w (offset_some format) refl e
+value_few order format form.LineStrp w v e = one_cell (offset_size format) (line_str (fixed order w)) v w
+    (offset_some format) refl e
 
-pub good_item : (i j : Item) → ◌≡◌ {A = Judgement Item} (good i) (good j) → j ≡ i
-good_item i j e = ap (λ (o : Judgement Item). elim o [ Some (Ok k) ↦ k | Some (Err f) ↦ i | None ↦ i ]) (sym e)
-
-pub bad_item : {kind : FaultKind} {i : Item} → ◌≡◌ {A = Judgement Item} (bad kind) (good i) → ⊥
-bad_item e = absurd cc
-
-pub value_item : (o : Judgement Value) (i : Item) → value_judged o ≡ good i → (v : Value) × (o ≡ good v) × (i ≡ value_is v)
-value_item None i e = absurd (none_some {a = Ok i} refl e)
-value_item (Some (Ok v)) i e = (v, refl, good_item (value_is v) i e)
-value_item (Some (Err kind)) i e = absurd (bad_item e)
-
-form_item : (code : ℕ) (o : Option Form) (i : Item) → form_judged code o ≡ good i → (f : Form) × (i ≡ form_is f)
-form_item code (Some f) i e = (f, good_item (form_is f) i e)
-form_item code None i e = elim (cases_lt code (2 ^ 64)) [
-  | inl lt ↦ absurd (bad_item (rw (lt-ltb _ _ lt) at e))
-  | inr le ↦ absurd (bad_item (rw (le-ltb _ _ le) at e))
-]
-
--- a good form code, which isn't empty
-pub is_form : (w : List ℕ) (i : Item) → (if is_leb w then form_judged (groups w) (form_of_code (groups w)) else None) ≡ good i → (f : Form) × (i ≡ form_is f) × (1 ≤ length w)
-is_form w i e = elim (cases_Bool (is_leb w)) [
-  | inl t ↦ let f = form_item (groups w) (form_of_code (groups w)) i (rw t at e) in (f.0, f.1, leb_some w t)
-  | inr n ↦ absurd (none_some {a = Ok i} refl (rw n at e))
-]
-
-item_few : (order : Order) (layout : Layout) (w : List ℕ) (i : Item) → field_spelt order layout w ≡ good i → item_cells i ≤ length w
+item_few : (order : Order) (layout : Layout) (w : List ℕ) (i : Item) → field_spelt order layout w ≡ good i
+    → item_cells i ≤ length w
 item_few order (initial_length_then next) w i e = rw (is_length order w i e).item (omega arith)
 item_few order (number_then field next) w i e = rw (is_number order field next w i e).item (omega arith)
 item_few order (form_then next) w i e = let f = is_form w i e in rw f.1 f.2
@@ -150,15 +127,27 @@ item_few order (foreign_version n) w i e = absurd (none_some {a = Ok i} refl e)
 item_few order (last_entry h) w i e = absurd (none_some {a = Ok i} refl e)
 
 -- good fields hold no more cells than they have bytes
-pub items_few : (order : Order) (layout : Layout) (items : List Item) (w : List ℕ) → SpellsFields order layout items w → sum_by item_cells items ≤ length w
+pub items_few : (order : Order) (layout : Layout) (items : List Item) (w : List ℕ) → SpellsFields order layout items w
+    → sum_by item_cells items ≤ length w
 items_few order layout [] w s = omega arith
 items_few order layout (i ∷ items) w s =
-    omega (arith, sum_by-cons item_cells i items, item_few order layout s.0 i s.3, items_few order (following layout i) items s.1 s.4, ap length s.2, length-append s.0 s.1)
+    omega (
+      arith,
+      sum_by-cons item_cells i items,
+      item_few order layout s.0 i s.3,
+      items_few order (following layout i) items s.1 s.4,
+      ap length s.2,
+      length-append s.0 s.1,
+    )
 
 -- ---- nor does an incomplete field
 
 begun_few : (k : ℕ) (w : List ℕ) → 1 ≤ k → begun_block k w ≤ length w
-begun_few k w some = elim (cases_lt (length w) k) [ inl lt ↦ rw (lt-leb k (length w) lt) (omega arith) | inr le ↦ rw (le-leb k (length w) le) (omega arith) ]
+begun_few k w some = elim (cases_lt (length w) k) [
+  | inl lt ↦ rw (lt-leb k (length w) lt) (omega arith)
+  | inr le ↦
+      rw (le-leb k (length w) le) (omega arith)
+]
 
 begun_leb_few : (w : List ℕ) → begun_leb_block w ≤ length w
 begun_leb_few w = elim (cases_Bool (is_leb (leb_front w) && nat_lt (groups (leb_front w)) (2 ^ 64))) [
@@ -194,4 +183,10 @@ pub few_cells : FewCells
 few_cells order b =
     let c = cut order b in
     let s : Sound order header_layout b c = cut_sound order header_layout [] b in
-    omega (arith, items_few order header_layout c.items s.front s.spelt, rest_few (following_all header_layout c.items) c.rest, ap length s.whole, length-append s.front c.rest)
+    omega (
+      arith,
+      items_few order header_layout c.items s.front s.spelt,
+      rest_few (following_all header_layout c.items) c.rest,
+      ap length s.whole,
+      length-append s.front c.rest,
+    )

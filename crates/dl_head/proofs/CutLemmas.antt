@@ -1,12 +1,14 @@
 -- Cutting good fields off the front of bytes may stop anywhere and go on, and what is cut off spells the values.
-use Rattle.std.proofs.Common.{◌≡◌, ℕ, List, [], ◌∷◌, ◌++◌, Some, None, Result, Ok, Err, refl, sym, ap, ◌∙◌, append_assoc, append-nil}
+use Rattle.std.proofs.Common.{◌≡◌, ℕ, List, [], ◌∷◌, ◌++◌, Some, None, Result, Ok, Err, refl, sym, ap, ◌∙◌}
+use Rattle.std.proofs.Common.{append_assoc, append-nil}
 use Rattle.dl_num.specs.declared.fixed.Order.{Order}
-use Rattle.dl_head.specs.declared.fault.FaultKind.{FaultKind}
-use Rattle.dl_head.specs.TableData.{HeaderData}
-use Rattle.dl_head.specs.Value.{Judgement, good, bad}
-use Rattle.dl_head.specs.Layout.{Layout, last_entry, Item, following, following_all, field_spelt, header_layout}
+use Rattle.dl_table.specs.declared.fault.FaultKind.{FaultKind}
+use Rattle.dl_field.specs.HeaderData.{HeaderData}
+use Rattle.dl_table.specs.Value.{Judgement, good, bad}
+use Rattle.dl_field.specs.Layout.{Layout, last_entry, Item, following, following_all, field_spelt}
+use Rattle.dl_head.specs.HeaderLayout.{header_layout}
 use Rattle.dl_head.specs.Header.{SpellsFields, Cut, with_item, cut_after, cut}
-use Rattle.dl_head.proofs.FieldLemmas.{field_once, field_empty, none_some}
+use Rattle.dl_field.proofs.FieldLemmas.{field_once, field_empty, none_some}
 
 -- what is cut off first, and then
 abbrev pub then_cut : Cut → Cut → Cut
@@ -26,12 +28,14 @@ cut_on order layout begun o b = elim o [
 pub cut_after-append : (order : Order) (layout : Layout) (begun b c : List ℕ)
     → cut_after order layout begun (b ++ c)
     ≡ then_cut (cut_after order layout begun b)
-    (cut_after order (following_all layout (cut_after order layout begun b).items) (cut_after order layout begun b).rest c)
+    (cut_after order (following_all layout (cut_after order layout begun b).items) (cut_after order layout begun b).rest
+    c)
 cut_after-append order layout begun [] c = refl
 cut_after-append order layout begun (x ∷ b) c =
     elim (field_spelt order layout (begun ++ x ∷ [])) as (λ o. cut_on order layout (begun ++ x ∷ []) o (b ++ c)
     ≡ then_cut (cut_on order layout (begun ++ x ∷ []) o b)
-    (cut_after order (following_all layout (cut_on order layout (begun ++ x ∷ []) o b).items) (cut_on order layout (begun ++ x ∷ []) o b).rest c)) [
+    (cut_after order (following_all layout (cut_on order layout (begun ++ x ∷ []) o b).items)
+    (cut_on order layout (begun ++ x ∷ []) o b).rest c)) [
       | Some (Ok i) ↦ ap (with_item i) (cut_after-append order (following layout i) [] b c)
       | Some (Err kind) ↦ cut_after-append order layout (begun ++ x ∷ []) b c
       | None ↦ cut_after-append order layout (begun ++ x ∷ []) b c
@@ -39,37 +43,49 @@ cut_after-append order layout begun (x ∷ b) c =
 
 -- what is cut off b ++ c
 pub cut-append : (order : Order) (b c : List ℕ)
-    → cut order (b ++ c) ≡ then_cut (cut order b) (cut_after order (following_all header_layout (cut order b).items) (cut order b).rest c)
+    → cut order (b ++ c) ≡ then_cut (cut order b)
+    (cut_after order (following_all header_layout (cut order b).items) (cut order b).rest c)
 cut-append order b c = cut_after-append order header_layout [] b c
 
-pub following_all-append : (layout : Layout) (items more : List Item) → following_all layout (items ++ more) ≡ following_all (following_all layout items) more
+pub following_all-append : (layout : Layout) (items more : List Item)
+    → following_all layout (items ++ more) ≡ following_all (following_all layout items) more
 following_all-append layout [] more = refl
 following_all-append layout (i ∷ items) more = following_all-append (following layout i) items more
 
 -- ---- one byte more
 
-cut_step : (order : Order) (b : List ℕ) (x : ℕ) (items : List Item) (rest : List ℕ) (o : Judgement Item) → cut order b ≡ cut_of items rest
+cut_step : (order : Order) (b : List ℕ) (x : ℕ) (items : List Item) (rest : List ℕ) (o : Judgement Item)
+    → cut order b ≡ cut_of items rest
     → field_spelt order (following_all header_layout items) (rest ++ x ∷ []) ≡ o
-    → cut order (b ++ x ∷ []) ≡ then_cut (cut_of items rest) (cut_on order (following_all header_layout items) (rest ++ x ∷ []) o [])
+    → cut order (b ++ x ∷ []) ≡ then_cut (cut_of items rest)
+    (cut_on order (following_all header_layout items) (rest ++ x ∷ []) o [])
 cut_step order b x items rest o e f =
     cut-append order b (x ∷ [])
     ∙ ap (λ (c : Cut). then_cut c (cut_after order (following_all header_layout c.items) c.rest (x ∷ []))) e
     ∙ ap (λ o. then_cut (cut_of items rest) (cut_on order (following_all header_layout items) (rest ++ x ∷ []) o [])) f
 
 -- a byte within a field
-pub cut_within : (order : Order) (b : List ℕ) (x : ℕ) (items : List Item) (rest : List ℕ) → cut order b ≡ cut_of items rest
-    → field_spelt order (following_all header_layout items) (rest ++ x ∷ []) ≡ None → cut order (b ++ x ∷ []) ≡ cut_of items (rest ++ x ∷ [])
-cut_within order b x items rest e f = cut_step order b x items rest None e f ∙ ap (λ (l : List Item). cut_of l (rest ++ x ∷ [])) (append-nil items)
+pub cut_within : (order : Order) (b : List ℕ) (x : ℕ) (items : List Item) (rest : List ℕ)
+    → cut order b ≡ cut_of items rest
+    → field_spelt order (following_all header_layout items) (rest ++ x ∷ []) ≡ None
+    → cut order (b ++ x ∷ []) ≡ cut_of items (rest ++ x ∷ [])
+cut_within order b x items rest e f = cut_step order b x items rest None e f
+    ∙ ap (λ (l : List Item). cut_of l (rest ++ x ∷ [])) (append-nil items)
 
 -- a byte that ends a good field
-pub cut_good : (order : Order) (b : List ℕ) (x : ℕ) (items : List Item) (rest : List ℕ) (i : Item) → cut order b ≡ cut_of items rest
-    → field_spelt order (following_all header_layout items) (rest ++ x ∷ []) ≡ good i → cut order (b ++ x ∷ []) ≡ cut_of (items ++ i ∷ []) []
+pub cut_good : (order : Order) (b : List ℕ) (x : ℕ) (items : List Item) (rest : List ℕ) (i : Item)
+    → cut order b ≡ cut_of items rest
+    → field_spelt order (following_all header_layout items) (rest ++ x ∷ []) ≡ good i
+    → cut order (b ++ x ∷ []) ≡ cut_of (items ++ i ∷ []) []
 cut_good order b x items rest i e f = cut_step order b x items rest (good i) e f
 
 -- a byte that ends a bad field
-pub cut_bad : (order : Order) (b : List ℕ) (x : ℕ) (items : List Item) (rest : List ℕ) (kind : FaultKind) → cut order b ≡ cut_of items rest
-    → field_spelt order (following_all header_layout items) (rest ++ x ∷ []) ≡ bad kind → cut order (b ++ x ∷ []) ≡ cut_of items (rest ++ x ∷ [])
-cut_bad order b x items rest kind e f = cut_step order b x items rest (bad kind) e f ∙ ap (λ (l : List Item). cut_of l (rest ++ x ∷ [])) (append-nil items)
+pub cut_bad : (order : Order) (b : List ℕ) (x : ℕ) (items : List Item) (rest : List ℕ) (kind : FaultKind)
+    → cut order b ≡ cut_of items rest
+    → field_spelt order (following_all header_layout items) (rest ++ x ∷ []) ≡ bad kind
+    → cut order (b ++ x ∷ []) ≡ cut_of items (rest ++ x ∷ [])
+cut_bad order b x items rest kind e f = cut_step order b x items rest (bad kind) e f
+    ∙ ap (λ (l : List Item). cut_of l (rest ++ x ∷ [])) (append-nil items)
 
 -- ---- fields are cut off, whatever follows
 
@@ -89,18 +105,21 @@ cut_field : (order : Order) (layout : Layout) (begun : List ℕ) (x : ℕ) (v y 
 cut_field order layout begun x [] y i e = ap (λ o. cut_on order layout (begun ++ x ∷ []) o y) e
 cut_field order layout begun x (c ∷ v) y i e =
     let f : field_spelt order layout ((begun ++ x ∷ []) ++ c ∷ v) ≡ good i = rw append_assoc e in
-    ap (λ o. cut_on order layout (begun ++ x ∷ []) o (c ∷ (v ++ y))) (before_none order layout (begun ++ x ∷ []) c v (Ok i) f)
+    ap (λ o. cut_on order layout (begun ++ x ∷ []) o (c ∷ (v ++ y)))
+    (before_none order layout (begun ++ x ∷ []) c v (Ok i) f)
     ∙ cut_field order layout (begun ++ x ∷ []) c v y i f
 
 pub cut_front : (order : Order) (layout : Layout) (front y : List ℕ) (i : Item)
-    → field_spelt order layout front ≡ good i → cut_after order layout [] (front ++ y) ≡ with_item i (cut_after order (following layout i) [] y)
+    → field_spelt order layout front ≡ good i → cut_after order layout [] (front ++ y)
+    ≡ with_item i (cut_after order (following layout i) [] y)
 cut_front order layout [] y i e = absurd (none_some (field_empty order layout) e)
 cut_front order layout (x ∷ v) y i e = cut_field order layout [] x v y i e
 
 abbrev pub with_items : List Item → Cut → Cut
 with_items items c = record { items = items ++ c.items; rest = c.rest }
 
-pub cut_fields : (order : Order) (layout : Layout) (items : List Item) (w y : List ℕ) → SpellsFields order layout items w
+pub cut_fields : (order : Order) (layout : Layout) (items : List Item) (w y : List ℕ)
+    → SpellsFields order layout items w
     → cut_after order layout [] (w ++ y) ≡ with_items items (cut_after order (following_all layout items) [] y)
 cut_fields order layout [] w y s = rw s refl
 cut_fields order layout (i ∷ items) w y s =
@@ -109,9 +128,11 @@ cut_fields order layout (i ∷ items) w y s =
     ∙ ap (with_item i) (cut_fields order (following layout i) items s.1 y s.4)
 
 -- after the last entry nothing is cut off
-pub cut_last : (order : Order) (h : HeaderData) (begun y : List ℕ) → cut_after order (last_entry h) begun y ≡ cut_of [] (begun ++ y)
+pub cut_last : (order : Order) (h : HeaderData) (begun y : List ℕ)
+    → cut_after order (last_entry h) begun y ≡ cut_of [] (begun ++ y)
 cut_last order h begun [] = ap (λ (z : List ℕ). cut_of [] z) (sym (append-nil begun))
-cut_last order h begun (x ∷ y) = cut_last order h (begun ++ x ∷ []) y ∙ ap (λ (z : List ℕ). cut_of [] z) (append_assoc begun (x ∷ []) y)
+cut_last order h begun (x ∷ y) = cut_last order h (begun ++ x ∷ []) y
+    ∙ ap (λ (z : List ℕ). cut_of [] z) (append_assoc begun (x ∷ []) y)
 
 -- ---- what is cut off spells the values
 
@@ -120,7 +141,8 @@ pub record Sound (order : Order) (layout : Layout) (w : List ℕ) (c : Cut) : Ty
   pub whole : w ≡ front ++ c.rest
   pub spelt : SpellsFields order layout c.items front
 
-sound_by : (order : Order) (layout : Layout) (begun : List ℕ) (x : ℕ) (b : List ℕ) (o : Judgement Item) → field_spelt order layout (begun ++ x ∷ []) ≡ o
+sound_by : (order : Order) (layout : Layout) (begun : List ℕ) (x : ℕ) (b : List ℕ) (o : Judgement Item)
+    → field_spelt order layout (begun ++ x ∷ []) ≡ o
     → ((i : Item) → Sound order (following layout i) b (cut_after order (following layout i) [] b))
     → Sound order layout ((begun ++ x ∷ []) ++ b) (cut_after order layout (begun ++ x ∷ []) b)
     → Sound order layout (begun ++ x ∷ b) (cut_on order layout (begun ++ x ∷ []) o b)
@@ -128,7 +150,8 @@ sound_by order layout begun x b (Some (Ok i)) e next same =
     let s = next i in
     record {
       front = (begun ++ x ∷ []) ++ s.front;
-      whole = sym (append_assoc begun (x ∷ []) b) ∙ ap (λ (z : List ℕ). (begun ++ x ∷ []) ++ z) s.whole ∙ sym (append_assoc (begun ++ x ∷ []) s.front _);
+      whole = sym (append_assoc begun (x ∷ []) b) ∙ ap (λ (z : List ℕ). (begun ++ x ∷ []) ++ z) s.whole
+          ∙ sym (append_assoc (begun ++ x ∷ []) s.front _);
       spelt = (begun ++ x ∷ [], s.front, refl, e, s.spelt);
     }
 sound_by order layout begun x b (Some (Err kind)) e next same =
@@ -136,7 +159,9 @@ sound_by order layout begun x b (Some (Err kind)) e next same =
 sound_by order layout begun x b None e next same =
     record { front = same.front; whole = sym (append_assoc begun (x ∷ []) b) ∙ same.whole; spelt = same.spelt }
 
-pub cut_sound : (order : Order) (layout : Layout) (begun b : List ℕ) → Sound order layout (begun ++ b) (cut_after order layout begun b)
+pub cut_sound : (order : Order) (layout : Layout) (begun b : List ℕ)
+    → Sound order layout (begun ++ b) (cut_after order layout begun b)
 cut_sound order layout begun [] = record { front = []; whole = append-nil begun; spelt = refl }
 cut_sound order layout begun (x ∷ b) =
-    sound_by order layout begun x b (field_spelt order layout (begun ++ x ∷ [])) refl (λ i. cut_sound order (following layout i) [] b) (cut_sound order layout (begun ++ x ∷ []) b)
+    sound_by order layout begun x b (field_spelt order layout (begun ++ x ∷ [])) refl
+    (λ i. cut_sound order (following layout i) [] b) (cut_sound order layout (begun ++ x ∷ []) b)

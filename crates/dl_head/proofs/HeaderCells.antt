@@ -1,23 +1,32 @@
 -- The fields of a header hold the cells of its tables.
-use Rattle.std.proofs.Common.{◌≡◌, ℕ, zero, suc, ◌+◌, ◌-◌, ◌≤◌, List, [], ◌∷◌, ◌++◌, length, Option, Some, None, Ok, refl, ap, subst, ◌∙◌, arith, inl, inr, length-append, sum_by}
+use Rattle.std.proofs.Common.{◌≡◌, ℕ, zero, suc, ◌+◌, ◌-◌, ◌≤◌, List, [], ◌∷◌, ◌++◌, length, Option, Some, None, Ok}
+use Rattle.std.proofs.Common.{refl, ap, subst, ◌∙◌, arith, inl, inr, length-append, sum_by}
 use Rattle.std.proofs.lemmas.Bool.{cases_eq, ne_eqb}
 use Rattle.std.proofs.lemmas.List.Sums.{sum_by-cons, sum_by_push}
 use Rattle.dl_num.specs.declared.fixed.Order.{Order}
-use Rattle.dl_head.specs.declared.form.Format.{Format}
-use Rattle.dl_head.specs.declared.form.Form.{Form}
-use Rattle.dl_head.specs.declared.params.Params.{Params}
-use Rattle.dl_head.specs.declared.table.Pair.{Pair}
-use Rattle.dl_head.specs.TableData.{TableData, HeaderData}
-use Rattle.dl_head.specs.Value.{Value, value_spelt}
-use Rattle.dl_head.specs.Layout.{NumberField, version, Layout, number_then, form_then, value_then, foreign_version, last_entry, Item, following, following_all, header_layout, lengths_layout, pairs_layout, entry_layout, entries_layout, table_layout, tables_layout, signed_byte, from_address_size, from_minimum_length, from_lengths, format_alone}
+use Rattle.dl_table.specs.declared.form.Format.{Format}
+use Rattle.dl_table.specs.declared.form.Form.{Form}
+use Rattle.dl_field.specs.declared.params.Params.{Params}
+use Rattle.dl_table.specs.declared.table.Pair.{Pair}
+use Rattle.dl_table.specs.TableData.{TableData}
+use Rattle.dl_field.specs.HeaderData.{HeaderData}
+use Rattle.dl_table.specs.Value.{Value, value_spelt}
+use Rattle.dl_field.specs.Layout.{NumberField, version, Layout, number_then, form_then, value_then, foreign_version}
+use Rattle.dl_field.specs.Layout.{last_entry, Item, following, following_all, pairs_layout, entry_layout}
+use Rattle.dl_field.specs.Layout.{entries_layout, table_layout}
+use Rattle.dl_head.specs.HeaderLayout.{header_layout, lengths_layout, tables_layout, signed_byte, from_address_size}
+use Rattle.dl_head.specs.HeaderLayout.{from_minimum_length, from_lengths, format_alone}
 use Rattle.dl_head.specs.Header.{SpellsFields, header_made}
-use Rattle.dl_head.specs.TableCells.{value_cells, table_cells, header_cells}
-use Rattle.dl_head.specs.Cells.{item_cells, cut_cells, rest_cells}
+use Rattle.dl_table.specs.TableCells.{value_cells, table_cells}
+use Rattle.dl_field.specs.HeaderData.{header_cells}
+use Rattle.dl_field.specs.Cells.{item_cells, rest_cells}
+use Rattle.dl_head.specs.Cells.{cut_cells}
 use Rattle.dl_head.specs.Laws.{HeaderHoldsItsCells}
-use Rattle.dl_head.proofs.FieldLemmas.{none_some}
+use Rattle.dl_field.proofs.FieldLemmas.{none_some}
 use Rattle.dl_head.proofs.HeaderLaws.{made_last, header_cut}
-use Rattle.dl_head.proofs.Openings.{is_length, is_number, after_length}
-use Rattle.dl_head.proofs.CellLemmas.{value_item, is_form, items_few}
+use Rattle.dl_head.proofs.FirstFields.{is_length, is_number, after_length}
+use Rattle.dl_field.proofs.GoodLemmas.{value_item, is_form}
+use Rattle.dl_head.proofs.CellLemmas.{items_few}
 
 -- the fields of these values, from a layout on, make a header
 record Makes (order : Order) (h : HeaderData) (layout : Layout) (items : List Item) : Type 0 where
@@ -34,11 +43,13 @@ record Then (order : Order) (h : HeaderData) (layout : Layout) (held : ℕ) (ite
 none_made : {h : HeaderData} → ◌≡◌ {A = Option HeaderData} None (Some h) → ⊥
 none_made {h = h} e = none_some {a = h} refl e
 
-after_number : (order : Order) (h : HeaderData) (field : NumberField) (next : ℕ → Layout) (items : List Item) → Makes order h (number_then field next) items → (n : ℕ) × Then order h (next n) 0 items
+after_number : (order : Order) (h : HeaderData) (field : NumberField) (next : ℕ → Layout) (items : List Item)
+    → Makes order h (number_then field next) items → (n : ℕ) × Then order h (next n) 0 items
 after_number order h field next [] m = absurd (none_made m.made)
 after_number order h field next (i ∷ items) m =
     let n = is_number order field next m.spelt.0 i m.spelt.3 in
-    let rest : Makes order h (following (number_then field next) i) items = record { bytes = m.spelt.1; spelt = m.spelt.4; made = m.made } in (
+    let rest : Makes order h (following (number_then field next) i) items =
+    record { bytes = m.spelt.1; spelt = m.spelt.4; made = m.made } in (
       n.number,
       record {
         later = items;
@@ -47,11 +58,13 @@ after_number order h field next (i ∷ items) m =
       },
     )
 
-after_form : (order : Order) (h : HeaderData) (next : Form → Layout) (items : List Item) → Makes order h (form_then next) items → (f : Form) × Then order h (next f) 1 items
+after_form : (order : Order) (h : HeaderData) (next : Form → Layout) (items : List Item)
+    → Makes order h (form_then next) items → (f : Form) × Then order h (next f) 1 items
 after_form order h next [] m = absurd (none_made m.made)
 after_form order h next (i ∷ items) m =
     let f = is_form m.spelt.0 i m.spelt.3 in
-    let rest : Makes order h (following (form_then next) i) items = record { bytes = m.spelt.1; spelt = m.spelt.4; made = m.made } in (
+    let rest : Makes order h (following (form_then next) i) items =
+    record { bytes = m.spelt.1; spelt = m.spelt.4; made = m.made } in (
       f.0,
       record {
         later = items;
@@ -60,12 +73,14 @@ after_form order h next (i ∷ items) m =
       },
     )
 
-after_value : (order : Order) (h : HeaderData) (format : Format) (f : Form) (next : Value → Layout) (items : List Item) → Makes order h (value_then format f next) items
+after_value : (order : Order) (h : HeaderData) (format : Format) (f : Form) (next : Value → Layout) (items : List Item)
+    → Makes order h (value_then format f next) items
     → (v : Value) × Then order h (next v) (value_cells v) items
 after_value order h format f next [] m = absurd (none_made m.made)
 after_value order h format f next (i ∷ items) m =
     let v = value_item (value_spelt order format f m.spelt.0) i m.spelt.3 in
-    let rest : Makes order h (following (value_then format f next) i) items = record { bytes = m.spelt.1; spelt = m.spelt.4; made = m.made } in (
+    let rest : Makes order h (following (value_then format f next) i) items =
+    record { bytes = m.spelt.1; spelt = m.spelt.4; made = m.made } in (
       v.0,
       record {
         later = items;
@@ -74,20 +89,33 @@ after_value order h format f next (i ∷ items) m =
       },
     )
 
-after_pairs : (order : Order) (h : HeaderData) (count : ℕ) (before : List Pair) (next : List Pair → Layout) (items : List Item) → Makes order h (pairs_layout count before next) items
-    → (pairs : List Pair) × Then order h (next pairs) (length pairs - length before) items × (length before ≤ length pairs)
-after_pairs order h zero before next items m = (before, record { later = items; makes = m; sum = omega arith }, omega arith)
+after_pairs : (order : Order) (h : HeaderData) (count : ℕ) (before : List Pair) (next : List Pair → Layout)
+    (items : List Item) → Makes order h (pairs_layout count before next) items
+    → (pairs : List Pair) × Then order h (next pairs) (length pairs - length before) items
+    × (length before ≤ length pairs)
+after_pairs order h zero before next items m =
+    (before, record { later = items; makes = m; sum = omega arith }, omega arith)
 after_pairs order h (suc count) before next items m =
     let code = after_number order h _ _ items m in
     let f = after_form order h _ code.1.later code.1.makes in
     let pair : Pair = record { content = code.0; form = f.0 } in
     let more = after_pairs order h count (before ++ pair ∷ []) next f.1.later f.1.makes in
-    let size : length (before ++ pair ∷ []) ≡ length before + 1 = length-append before (pair ∷ []) in
-    (more.0, record { later = more.1.later; makes = more.1.makes; sum = omega (arith, code.1.sum, f.1.sum, more.1.sum, more.2, size) }, omega (arith, more.2, size))
+    let size : length (before ++ pair ∷ []) ≡ length before + 1 = length-append before (pair ∷ []) in (
+      more.0,
+      record {
+        later = more.1.later;
+        makes = more.1.makes;
+        sum = omega
+            (arith, code.1.sum, f.1.sum, more.1.sum, more.2, size);
+      },
+      omega (arith, more.2, size),
+    )
 
-after_entry : (order : Order) (h : HeaderData) (format : Format) (pairs : List Pair) (before : List Value) (next : List Value → Layout) (items : List Item)
+after_entry : (order : Order) (h : HeaderData) (format : Format) (pairs : List Pair) (before : List Value)
+    (next : List Value → Layout) (items : List Item)
     → Makes order h (entry_layout format pairs before next) items
-    → (entry : List Value) × (later : List Item) × Makes order h (next entry) later × (sum_by item_cells items + sum_by value_cells before ≡ sum_by value_cells entry + sum_by item_cells later)
+    → (entry : List Value) × (later : List Item) × Makes order h (next entry) later
+    × (sum_by item_cells items + sum_by value_cells before ≡ sum_by value_cells entry + sum_by item_cells later)
 after_entry order h format [] before next items m = (before, items, m, omega arith)
 after_entry order h format (p ∷ pairs) before next items m =
     let v = after_value order h format p.form _ items m in
@@ -97,18 +125,21 @@ after_entry order h format (p ∷ pairs) before next items m =
 abbrev entry_cells : List Value → ℕ
 entry_cells entry = sum_by value_cells entry
 
-after_entries : (order : Order) (h : HeaderData) (format : Format) (pairs : List Pair) (count : ℕ) (before : List (List Value)) (next : List (List Value) → Layout) (items : List Item)
+after_entries : (order : Order) (h : HeaderData) (format : Format) (pairs : List Pair) (count : ℕ)
+    (before : List (List Value)) (next : List (List Value) → Layout) (items : List Item)
     → Makes order h (entries_layout format pairs count before next) items
     → (entries : List (List Value)) × (later : List Item) × Makes order h (next entries) later
     × (sum_by item_cells items + sum_by entry_cells before ≡ sum_by entry_cells entries + sum_by item_cells later)
 after_entries order h format pairs zero before next items m = (before, items, m, omega arith)
 after_entries order h format pairs (suc count) before next items m =
-    let e = after_entry order h format pairs [] (λ entry. entries_layout format pairs count (before ++ entry ∷ []) next) items m in
+    let e = after_entry order h format pairs [] (λ entry. entries_layout format pairs count (before ++ entry ∷ []) next)
+    items m in
     let more = after_entries order h format pairs count (before ++ e.0 ∷ []) next e.1 e.2 in
     let none : sum_by value_cells [] ≡ 0 = refl in
     (more.0, more.1, more.2, omega (arith, e.3, more.3, none, sum_by_push entry_cells before e.0))
 
-after_table : (order : Order) (h : HeaderData) (format : Format) (next : TableData → Layout) (items : List Item) → Makes order h (table_layout format next) items
+after_table : (order : Order) (h : HeaderData) (format : Format) (next : TableData → Layout) (items : List Item)
+    → Makes order h (table_layout format next) items
     → (t : TableData) × Then order h (next t) (table_cells t) items
 after_table order h format next items m =
     let count = after_number order h _ _ items m in
@@ -117,10 +148,15 @@ after_table order h format next items m =
     let all = after_entries order h format pairs.0 entries.0 [] _ entries.1.later entries.1.makes in
     let none : sum_by entry_cells [] ≡ 0 = refl in (
       record { format = format; pairs = pairs.0; entries = all.0 },
-      record { later = all.1; makes = all.2; sum = omega (arith, count.1.sum, pairs.1.sum, entries.1.sum, all.3, none) },
+      record {
+        later = all.1;
+        makes = all.2;
+        sum = omega (arith, count.1.sum, pairs.1.sum, entries.1.sum, all.3, none);
+      },
     )
 
-after_lengths : (order : Order) (h : HeaderData) (opcode count : ℕ) (before : List ℕ) (next : List ℕ → Layout) (items : List Item) → Makes order h (lengths_layout opcode count before next) items
+after_lengths : (order : Order) (h : HeaderData) (opcode count : ℕ) (before : List ℕ) (next : List ℕ → Layout)
+    (items : List Item) → Makes order h (lengths_layout opcode count before next) items
     → (lengths : List ℕ) × Then order h (next lengths) 0 items
 after_lengths order h opcode zero before next items m = (before, record { later = items; makes = m; sum = omega arith })
 after_lengths order h opcode (suc count) before next items m =
@@ -131,18 +167,24 @@ after_lengths order h opcode (suc count) before next items m =
 header_is : (g h : HeaderData) → ◌≡◌ {A = Option HeaderData} (Some g) (Some h) → g ≡ h
 header_is g h e = cc
 
-last_items : (order : Order) (g h : HeaderData) (items : List Item) → Makes order h (last_entry g) items → (g ≡ h) × (sum_by item_cells items ≡ 0)
+last_items : (order : Order) (g h : HeaderData) (items : List Item) → Makes order h (last_entry g) items
+    → (g ≡ h) × (sum_by item_cells items ≡ 0)
 last_items order g h [] m = (header_is g h m.made, refl)
 last_items order g h (i ∷ items) m = absurd (none_some {a = Ok i} refl m.spelt.3)
 
-tables_hold : (order : Order) (h : HeaderData) (p : Params) (items : List Item) → Makes order h (tables_layout p) items → sum_by item_cells items ≡ header_cells h
+tables_hold : (order : Order) (h : HeaderData) (p : Params) (items : List Item) → Makes order h (tables_layout p) items
+    → sum_by item_cells items ≡ header_cells h
 tables_hold order h p items m =
-    let d = after_table order h p.format (λ directories. table_layout p.format λ files. last_entry (record { params = p; directories = directories; files = files })) items m in
-    let f = after_table order h p.format (λ files. last_entry (record { params = p; directories = d.0; files = files })) d.1.later d.1.makes in
+    let d = after_table order h p.format
+    (λ directories. table_layout p.format λ files. last_entry
+    (record { params = p; directories = directories; files = files })) items m in
+    let f = after_table order h p.format (λ files. last_entry (record { params = p; directories = d.0; files = files }))
+    d.1.later d.1.makes in
     let end = last_items order (record { params = p; directories = d.0; files = f.0 }) h f.1.later f.1.makes in
     omega (arith, d.1.sum, f.1.sum, end.1) ∙ ap header_cells end.0
 
-own : (order : Order) (h : HeaderData) (format : Format) (n v : ℕ) (items : List Item) → Makes order h (after_length format n v) items → v ≡ 5
+own : (order : Order) (h : HeaderData) (format : Format) (n v : ℕ) (items : List Item)
+    → Makes order h (after_length format n v) items → v ≡ 5
 own order h format n v items m = elim (cases_eq v 5) [
   | inl same ↦ same
   | inr other ↦ absurd (none_foreign items (rw (ne_eqb v 5 other) at m))
@@ -155,18 +197,23 @@ own order h format n v items m = elim (cases_eq v 5) [
 abbrev Holds : Order → HeaderData → Layout → Type 0
 Holds order h layout = (items : List Item) → Makes order h layout items → sum_by item_cells items ≡ header_cells h
 
-number_holds : (order : Order) (h : HeaderData) (field : NumberField) (next : ℕ → Layout) → ((n : ℕ) → Holds order h (next n)) → Holds order h (number_then field next)
-number_holds order h field next later items m = let n = after_number order h field next items m in omega (arith, n.1.sum, later n.0 n.1.later n.1.makes)
+number_holds : (order : Order) (h : HeaderData) (field : NumberField) (next : ℕ → Layout)
+    → ((n : ℕ) → Holds order h (next n)) → Holds order h (number_then field next)
+number_holds order h field next later items m = let n = after_number order h field next items m in
+    omega (arith, n.1.sum, later n.0 n.1.later n.1.makes)
 
 lengths_hold : (order : Order) (h : HeaderData) (p : Params) → Holds order h (from_lengths p)
 lengths_hold order h p items m =
-    let lengths = after_lengths order h 1 (p.opcode_base - 1) [] (λ lengths. tables_layout (record p { lengths = record { items = lengths } })) items m in
-    let tables = tables_hold order h (record p { lengths = record { items = lengths.0 } }) lengths.1.later lengths.1.makes in
+    let lengths = after_lengths order h 1 (p.opcode_base - 1) []
+    (λ lengths. tables_layout (record p { lengths = record { items = lengths } })) items m in
+    let tables = tables_hold order h (record p { lengths = record { items = lengths.0 } }) lengths.1.later
+    lengths.1.makes in
     omega (arith, lengths.1.sum, tables)
 
 late_hold : (order : Order) (h : HeaderData) (p : Params) → Holds order h (from_minimum_length p)
 late_hold order h p =
-    number_holds order h _ _ λ minimum. number_holds order h _ _ λ maximum. number_holds order h _ _ λ is_stmt. number_holds order h _ _ λ base.
+    number_holds order h _ _ λ minimum. number_holds order h _ _ λ maximum. number_holds order h _ _
+    λ is_stmt. number_holds order h _ _ λ base.
     number_holds order h _ _ λ range. number_holds order h _ _ λ opcodes.
     lengths_hold order h (record p {
       minimum_instruction_length = minimum;
@@ -177,26 +224,40 @@ late_hold order h p =
       opcode_base = opcodes;
     })
 
-fields_hold : (order : Order) (h : HeaderData) (unit_length : ℕ) (p : Params) → Holds order h (from_address_size unit_length p)
+fields_hold : (order : Order) (h : HeaderData) (unit_length : ℕ) (p : Params)
+    → Holds order h (from_address_size unit_length p)
 fields_hold order h unit_length p =
     number_holds order h _ _ λ address. number_holds order h _ _ λ segment. number_holds order h _ _ λ header.
     late_hold order h (record p { address_size = address; segment_selector_size = segment })
 
-header_holds : (order : Order) (h : HeaderData) (items : List Item) → Makes order h header_layout items → sum_by item_cells items ≡ header_cells h
+header_holds : (order : Order) (h : HeaderData) (items : List Item) → Makes order h header_layout items
+    → sum_by item_cells items ≡ header_cells h
 header_holds order h [] m = absurd (none_made m.made)
 header_holds order h (i ∷ items) m =
     let a = is_length order m.spelt.0 i m.spelt.3 in
-    let rest : Makes order h (following header_layout i) items = record { bytes = m.spelt.1; spelt = m.spelt.4; made = m.made } in
-    let next : Makes order h (number_then version (after_length a.format a.number)) items = subst (λ (j : Item). Makes order h (following header_layout j) items) a.item rest in
+    let rest : Makes order h (following header_layout i) items =
+    record { bytes = m.spelt.1; spelt = m.spelt.4; made = m.made } in
+    let next : Makes order h (number_then version (after_length a.format a.number)) items =
+    subst (λ (j : Item). Makes order h (following header_layout j) items) a.item rest in
     let v = after_number order h version (after_length a.format a.number) items next in
     let five : v.0 ≡ 5 = own order h a.format a.number v.0 v.1.later v.1.makes in
     let fields : Makes order h (from_address_size a.number (format_alone a.format)) v.1.later =
     subst (λ (n : ℕ). Makes order h (after_length a.format a.number n) v.1.later) five v.1.makes in
-    omega (arith, sum_by-cons item_cells i items, ap item_cells a.item, v.1.sum, fields_hold order h a.number (format_alone a.format) v.1.later fields)
+    omega (
+      arith,
+      sum_by-cons item_cells i items,
+      ap item_cells a.item,
+      v.1.sum,
+      fields_hold order h a.number (format_alone a.format) v.1.later fields,
+    )
 
 pub header_holds_its_cells : HeaderHoldsItsCells
 header_holds_its_cells order h w v is =
-    let sum : sum_by item_cells is.items ≡ header_cells h = header_holds order h is.items (record { bytes = is.fields; spelt = is.spelt; made = is.made }) in
-    let rest : rest_cells (following_all header_layout is.items) (is.padding ++ v) ≡ 0 = ap (λ (l : Layout). rest_cells l (is.padding ++ v)) (made_last _ h is.made) in
-    let few = items_few order header_layout is.items is.fields is.spelt in
-    (ap cut_cells (header_cut order h w v is) ∙ omega (arith, sum, rest), omega (arith, sum, few, ap length is.whole, length-append is.fields is.padding))
+    let sum : sum_by item_cells is.items ≡ header_cells h =
+    header_holds order h is.items (record { bytes = is.fields; spelt = is.spelt; made = is.made }) in
+    let rest : rest_cells (following_all header_layout is.items) (is.padding ++ v) ≡ 0 =
+    ap (λ (l : Layout). rest_cells l (is.padding ++ v)) (made_last _ h is.made) in
+    let few = items_few order header_layout is.items is.fields is.spelt in (
+      ap cut_cells (header_cut order h w v is) ∙ omega (arith, sum, rest),
+      omega (arith, sum, few, ap length is.whole, length-append is.fields is.padding),
+    )

@@ -1,18 +1,23 @@
 -- A header is what is cut off the front of bytes: the laws of headers.
-use Rattle.std.proofs.Common.{◌≡◌, ℕ, ◌+◌, ◌-◌, ◌≤◌, Bool, true, false, nat_le, ◌&&◌, if◌then◌else◌, List, [], ◌∷◌, ◌++◌, length, take, drop, Option, Some, None, Ok, Err, refl, sym, ap, subst, ◌∙◌, arith, inl, inr, length-append, append_assoc, append-nil}
+use Rattle.std.proofs.Common.{◌≡◌, ℕ, ◌+◌, ◌-◌, ◌≤◌, Bool, true, false, nat_le, ◌&&◌, if◌then◌else◌, List, [], ◌∷◌}
+use Rattle.std.proofs.Common.{◌++◌, length, take, drop, Option, Some, None, Ok, Err, refl, sym, ap, subst, ◌∙◌, arith}
+use Rattle.std.proofs.Common.{inl, inr, length-append, append_assoc, append-nil}
 use Rattle.std.proofs.lemmas.Bool.{cases_lt, le-leb, lt-leb}
 use Rattle.std.proofs.lemmas.List.{take-append-drop, length-take-le}
 use Rattle.std.proofs.Math.Seq.{drop-append_seam, take-append-add}
 use Rattle.dl_num.specs.declared.fixed.Order.{Order}
 use Rattle.dl_num.proofs.FrontLemmas.{front_before}
 use Rattle.dl_num.proofs.LebFrontLemmas.{true_false, and_left, and_right}
-use Rattle.dl_head.specs.TableData.{HeaderData}
-use Rattle.dl_head.specs.declared.fault.FaultKind.{FaultKind}
-use Rattle.dl_head.specs.Value.{Judgement, good, bad}
-use Rattle.dl_head.specs.Layout.{Layout, initial_length_then, number_then, form_then, value_then, foreign_version, last_entry, Item, following, following_all, field_spelt, header_layout}
-use Rattle.dl_head.specs.Header.{Cut, cut_after, cut, header_made, header_end, foreign_made, header_up_to, IsHeader, IsFieldCut}
+use Rattle.dl_field.specs.HeaderData.{HeaderData}
+use Rattle.dl_table.specs.declared.fault.FaultKind.{FaultKind}
+use Rattle.dl_table.specs.Value.{Judgement, good, bad}
+use Rattle.dl_field.specs.Layout.{Layout, initial_length_then, number_then, form_then, value_then, foreign_version}
+use Rattle.dl_field.specs.Layout.{last_entry, Item, following, following_all, field_spelt}
+use Rattle.dl_head.specs.HeaderLayout.{header_layout}
+use Rattle.dl_head.specs.Header.{Cut, cut_after, cut, header_made, header_end, foreign_made, header_up_to, IsHeader}
+use Rattle.dl_head.specs.Header.{IsFieldCut}
 use Rattle.dl_head.specs.Laws.{OneHeader, HeaderIsFound, FoundIsHeader, CutIsComputed, HeaderIsNotForeign}
-use Rattle.dl_head.proofs.FieldLemmas.{field_empty, none_some}
+use Rattle.dl_field.proofs.FieldLemmas.{field_empty, none_some}
 use Rattle.dl_head.proofs.CutLemmas.{cut_of, with_items, cut_on, cut_fields, cut_last, cut_sound, Sound}
 
 pub made_last : (layout : Layout) (h : HeaderData) → header_made layout ≡ Some h → layout ≡ last_entry h
@@ -24,7 +29,8 @@ made_last (value_then f g n) h e = absurd (none_some refl e)
 made_last (foreign_version v) h e = absurd (none_some refl e)
 
 -- what is cut off bytes that begin with a header
-pub header_cut : (order : Order) (h : HeaderData) (w y : List ℕ) (is : IsHeader order h w) → cut order (w ++ y) ≡ cut_of is.items (is.padding ++ y)
+pub header_cut : (order : Order) (h : HeaderData) (w y : List ℕ) (is : IsHeader order h w)
+    → cut order (w ++ y) ≡ cut_of is.items (is.padding ++ y)
 header_cut order h w y is =
     ap (λ (z : List ℕ). cut order z) (ap (λ (z : List ℕ). z ++ y) is.whole ∙ append_assoc is.fields is.padding y)
     ∙ cut_fields order header_layout is.items is.fields (is.padding ++ y) is.spelt
@@ -40,10 +46,12 @@ pub one_header : OneHeader
 one_header order h h2 w v a b =
     let one = header_cut order h w v a in
     let two = header_cut order h2 (w ++ v) [] b in
-    let same : a.items ≡ b.items = ap (λ (c : Cut). c.items) (sym one ∙ ap (λ (z : List ℕ). cut order z) (sym (append-nil (w ++ v))) ∙ two) in
+    let same : a.items ≡ b.items = ap (λ (c : Cut). c.items)
+    (sym one ∙ ap (λ (z : List ℕ). cut order z) (sym (append-nil (w ++ v))) ∙ two) in
     let ends : Some (length w) ≡ Some (length (w ++ v)) = sym a.end ∙ ap header_end same ∙ b.end in
     let lengths : length w ≡ length (w ++ v) = cc in
-    let made : ◌≡◌ {A = Option HeaderData} (Some h) (Some h2) = sym a.made ∙ ap (λ (l : List Item). header_made (following_all header_layout l)) same ∙ b.made in
+    let made : ◌≡◌ {A = Option HeaderData} (Some h) (Some h2) = sym a.made
+    ∙ ap (λ (l : List Item). header_made (following_all header_layout l)) same ∙ b.made in
     (length_nil v (omega (arith, length-append w v)), cc)
 
 -- ---- the header that is computed
@@ -53,22 +61,27 @@ found_if t h rest = if t then Some (h, rest) else None
 
 -- by what was cut off
 abbrev in_cut : List ℕ → Cut → Option (HeaderData × List ℕ)
-in_cut b c = header_up_to b (length b - length c.rest) (header_made (following_all header_layout c.items)) (header_end c.items)
+in_cut b c = header_up_to b (length b - length c.rest) (header_made (following_all header_layout c.items))
+    (header_end c.items)
 
 pub header_is_found : HeaderIsFound
 header_is_found order h w rest is =
     let fields_end : length (w ++ rest) - length (is.padding ++ rest) ≤ length w =
-    (let e = ap length is.whole in omega (arith, e, length-append is.fields is.padding, length-append w rest, length-append is.padding rest)) in
-    let within : (nat_le (length (w ++ rest) - length (is.padding ++ rest)) (length w) && nat_le (length w) (length (w ++ rest))) ≡ true =
+    (let e = ap length is.whole in omega
+    (arith, e, length-append is.fields is.padding, length-append w rest, length-append is.padding rest)) in
+    let within : (nat_le (length (w ++ rest) - length (is.padding ++ rest)) (length w)
+    && nat_le (length w) (length (w ++ rest))) ≡ true =
     rw (le-leb _ _ fields_end) (le-leb _ _ (omega (arith, length-append w rest))) in
     ap (λ (c : Cut). in_cut (w ++ rest) c) (header_cut order h w rest is)
-    ∙ ap (λ o. header_up_to (w ++ rest) (length (w ++ rest) - length (is.padding ++ rest)) o (header_end is.items)) is.made
+    ∙ ap (λ o. header_up_to (w ++ rest) (length (w ++ rest) - length (is.padding ++ rest)) o (header_end is.items))
+    is.made
     ∙ ap (λ o. header_up_to (w ++ rest) (length (w ++ rest) - length (is.padding ++ rest)) (Some h) o) is.end
     ∙ ap (λ (t : Bool). found_if t h (drop (length w) (w ++ rest))) within
     ∙ ap (λ (l : List ℕ). found_if true h l) (drop-append_seam w rest)
 
 -- what a header that is computed comes from
-record Found (b : List ℕ) (fields : ℕ) (made : Option HeaderData) (end : Option ℕ) (h : HeaderData) (rest : List ℕ) : Type 0 where
+record Found (b : List ℕ) (fields : ℕ) (made : Option HeaderData) (end : Option ℕ) (h : HeaderData)
+    (rest : List ℕ) : Type 0 where
   stop : ℕ
   made_is : made ≡ Some h
   end_is : end ≡ Some stop
@@ -79,14 +92,18 @@ record Found (b : List ℕ) (fields : ℕ) (made : Option HeaderData) (end : Opt
 le_of : (a b : ℕ) → nat_le a b ≡ true → a ≤ b
 le_of a b h = elim (cases_lt b a) [ inl lt ↦ absurd (true_false h (lt-leb a b lt)) | inr le ↦ le ]
 
-pair_same : (g h : HeaderData) (u v : List ℕ) → ◌≡◌ {A = Option (HeaderData × List ℕ)} (Some (g, u)) (Some (h, v)) → (g ≡ h) × (u ≡ v)
-pair_same g h u v e =
-    (ap (λ (o : Option (HeaderData × List ℕ)). elim o [ Some p ↦ p.0 | None ↦ g ]) e, ap (λ (o : Option (HeaderData × List ℕ)). elim o [ Some p ↦ p.1 | None ↦ u ]) e)
+pair_same : (g h : HeaderData) (u v : List ℕ) → ◌≡◌ {A = Option (HeaderData × List ℕ)} (Some (g, u)) (Some (h, v))
+    → (g ≡ h) × (u ≡ v)
+pair_same g h u v e = (
+  ap (λ (o : Option (HeaderData × List ℕ)). elim o [ Some p ↦ p.0 | None ↦ g ]) e,
+  ap (λ (o : Option (HeaderData × List ℕ)). elim o [ Some p ↦ p.1 | None ↦ u ]) e,
+)
 
 found : (b : List ℕ) (fields : ℕ) (made : Option HeaderData) (end : Option ℕ) (h : HeaderData) (rest : List ℕ)
     → header_up_to b fields made end ≡ Some (h, rest) → Found b fields made end h rest
 found b fields (Some g) (Some stop) h rest e = on (nat_le fields stop && nat_le stop (length b)) refl e where
-  on : (t : Bool) → (nat_le fields stop && nat_le stop (length b)) ≡ t → found_if t g (drop stop b) ≡ Some (h, rest) → Found b fields (Some g) (Some stop) h rest
+  on : (t : Bool) → (nat_le fields stop && nat_le stop (length b)) ≡ t → found_if t g (drop stop b) ≡ Some (h, rest)
+      → Found b fields (Some g) (Some stop) h rest
   on true t k =
       let same = pair_same g h (drop stop b) rest k in
       record {
@@ -103,7 +120,8 @@ found b fields (Some g) None h rest e = absurd (none_some refl e)
 
 -- a front that is at least as long as x is x and some bytes
 longer_front : (x y : List ℕ) (n : ℕ) → length x ≤ n → take n (x ++ y) ≡ x ++ take (n - length x) y
-longer_front x y n le = ap (λ (k : ℕ). take k (x ++ y)) (let e : n ≡ length x + (n - length x) = omega (arith, le) in e) ∙ take-append-add x y (n - length x)
+longer_front x y n le = ap (λ (k : ℕ). take k (x ++ y)) (let e : n ≡ length x + (n - length x) = omega (arith, le) in e)
+    ∙ take-append-add x y (n - length x)
 
 pub found_is_header : FoundIsHeader
 found_is_header order h b rest e =
@@ -111,9 +129,11 @@ found_is_header order h b rest e =
     let f = found b (length b - length c.rest) _ _ h rest e in
     let s : Sound order header_layout b c = cut_sound order header_layout [] b in
     let lengths = ap length s.whole in
-    let front_le : length s.front ≤ f.stop = (let l = f.fields_le in omega (arith, lengths, length-append s.front c.rest, l)) in
+    let front_le : length s.front ≤ f.stop =
+    (let l = f.fields_le in omega (arith, lengths, length-append s.front c.rest, l)) in
     let w = take f.stop b in
-    let whole : w ≡ s.front ++ take (f.stop - length s.front) c.rest = ap (λ (l : List ℕ). take f.stop l) s.whole ∙ longer_front s.front c.rest f.stop front_le in
+    let whole : w ≡ s.front ++ take (f.stop - length s.front) c.rest = ap (λ (l : List ℕ). take f.stop l) s.whole
+    ∙ longer_front s.front c.rest f.stop front_le in
     let size : length w ≡ f.stop = length-take-le f.stop b f.stop_le in (
       w,
       sym (take-append-drop f.stop b) ∙ ap (λ (l : List ℕ). w ++ l) f.rest_is,
@@ -135,12 +155,16 @@ some_apart {kind = kind} {i = i} e = absurd cc
 
 -- no good field stands at the front of some bytes
 abbrev pub HasNone : Order → Layout → List ℕ → Type 0
-HasNone order layout w = (front back : List ℕ) (i : Item) → w ≡ front ++ back → field_spelt order layout front ≡ good i → ⊥
+HasNone order layout w = (front back : List ℕ) (i : Item) → w ≡ front ++ back → field_spelt order layout front ≡ good i
+    → ⊥
 
-nothing_on : (order : Order) (layout : Layout) (begun : List ℕ) (x : ℕ) (b : List ℕ) → HasNone order layout (begun ++ x ∷ b)
+nothing_on : (order : Order) (layout : Layout) (begun : List ℕ) (x : ℕ) (b : List ℕ)
+    → HasNone order layout (begun ++ x ∷ b)
     → cut_after order layout (begun ++ x ∷ []) b ≡ cut_of [] (begun ++ x ∷ b)
-    → (o : Judgement Item) → field_spelt order layout (begun ++ x ∷ []) ≡ o → cut_on order layout (begun ++ x ∷ []) o b ≡ cut_of [] (begun ++ x ∷ b)
-nothing_on order layout begun x b no_more later (Some (Ok i)) e = absurd (no_more (begun ++ x ∷ []) b i (sym (append_assoc begun (x ∷ []) b)) e)
+    → (o : Judgement Item) → field_spelt order layout (begun ++ x ∷ []) ≡ o
+    → cut_on order layout (begun ++ x ∷ []) o b ≡ cut_of [] (begun ++ x ∷ b)
+nothing_on order layout begun x b no_more later (Some (Ok i)) e =
+    absurd (no_more (begun ++ x ∷ []) b i (sym (append_assoc begun (x ∷ []) b)) e)
 nothing_on order layout begun x b no_more later (Some (Err kind)) e = later
 nothing_on order layout begun x b no_more later None e = later
 
@@ -150,8 +174,10 @@ pub nothing_cut : (order : Order) (layout : Layout) (begun b : List ℕ)
 nothing_cut order layout begun [] no_more = ap (λ (z : List ℕ). cut_of [] z) (sym (append-nil begun))
 nothing_cut order layout begun (x ∷ b) no_more =
     nothing_on order layout begun x b no_more
-    (nothing_cut order layout (begun ++ x ∷ []) b (λ front back i e. no_more front back i (sym (append_assoc begun (x ∷ []) b) ∙ e))
-    ∙ ap (λ (z : List ℕ). cut_of [] z) (append_assoc begun (x ∷ []) b)) (field_spelt order layout (begun ++ x ∷ [])) refl
+    (nothing_cut order layout (begun ++ x ∷ []) b
+    (λ front back i e. no_more front back i (sym (append_assoc begun (x ∷ []) b) ∙ e))
+    ∙ ap (λ (z : List ℕ). cut_of [] z) (append_assoc begun (x ∷ []) b)) (field_spelt order layout (begun ++ x ∷ []))
+    refl
 
 pub empty_has_none : (order : Order) (layout : Layout) → HasNone order layout []
 empty_has_none order layout [] back i e f = none_some (field_empty order layout) f
@@ -159,8 +185,10 @@ empty_has_none order layout (x ∷ front) back i e f = absurd cc
 
 one_more : (order : Order) (layout : Layout) (begun : List ℕ) (x : ℕ) → HasNone order layout begun
     → ((i : Item) → field_spelt order layout (begun ++ x ∷ []) ≡ good i → ⊥) → HasNone order layout (begun ++ x ∷ [])
-one_more order layout begun x none not front [] i e f = not i (ap (λ (z : List ℕ). field_spelt order layout z) (e ∙ append-nil front) ∙ f)
-one_more order layout begun x none not front (y ∷ back) i e f = let r = front_before begun front x y back e in none front r.0 i r.1 f
+one_more order layout begun x none not front [] i e f =
+    not i (ap (λ (z : List ℕ). field_spelt order layout z) (e ∙ append-nil front) ∙ f)
+one_more order layout begun x none not front (y ∷ back) i e f = let r = front_before begun front x y back e in
+    none front r.0 i r.1 f
 
 -- what is left has none
 abbrev LeavesNone : Order → Layout → Cut → Type 0
@@ -168,17 +196,22 @@ LeavesNone order layout c = HasNone order (following_all layout c.items) c.rest
 
 rest_on : (order : Order) (layout : Layout) (begun : List ℕ) (x : ℕ) (b : List ℕ)
     → ((i : Item) → LeavesNone order (following layout i) (cut_after order (following layout i) [] b))
-    → (((i : Item) → field_spelt order layout (begun ++ x ∷ []) ≡ good i → ⊥) → LeavesNone order layout (cut_after order layout (begun ++ x ∷ []) b))
-    → (o : Judgement Item) → field_spelt order layout (begun ++ x ∷ []) ≡ o → LeavesNone order layout (cut_on order layout (begun ++ x ∷ []) o b)
+    → (((i : Item) → field_spelt order layout (begun ++ x ∷ []) ≡ good i → ⊥)
+    → LeavesNone order layout (cut_after order layout (begun ++ x ∷ []) b))
+    → (o : Judgement Item) → field_spelt order layout (begun ++ x ∷ []) ≡ o
+    → LeavesNone order layout (cut_on order layout (begun ++ x ∷ []) o b)
 rest_on order layout begun x b next same (Some (Ok j)) e = next j
 rest_on order layout begun x b next same (Some (Err kind)) e = same (λ i f. some_apart (sym e ∙ f))
 rest_on order layout begun x b next same None e = same (λ i f. none_some e f)
 
-rest_has_none : (order : Order) (layout : Layout) (begun b : List ℕ) → HasNone order layout begun → LeavesNone order layout (cut_after order layout begun b)
+rest_has_none : (order : Order) (layout : Layout) (begun b : List ℕ) → HasNone order layout begun
+    → LeavesNone order layout (cut_after order layout begun b)
 rest_has_none order layout begun [] none = none
 rest_has_none order layout begun (x ∷ b) none =
-    rest_on order layout begun x b (λ i. rest_has_none order (following layout i) [] b (empty_has_none order (following layout i)))
-    (λ not. rest_has_none order layout (begun ++ x ∷ []) b (one_more order layout begun x none not)) (field_spelt order layout (begun ++ x ∷ [])) refl
+    rest_on order layout begun x b
+    (λ i. rest_has_none order (following layout i) [] b (empty_has_none order (following layout i)))
+    (λ not. rest_has_none order layout (begun ++ x ∷ []) b (one_more order layout begun x none not))
+    (field_spelt order layout (begun ++ x ∷ [])) refl
 
 pub cut_is_computed : CutIsComputed
 cut_is_computed order b items rest = (to, from) where
@@ -192,7 +225,13 @@ cut_is_computed order b items rest = (to, from) where
   computed : IsFieldCut order b (cut order b).items (cut order b).rest
   computed =
       let s : Sound order header_layout b (cut order b) = cut_sound order header_layout [] b in
-      record { fields = s.front; whole = s.whole; spelt = s.spelt; no_more = rest_has_none order header_layout [] b (empty_has_none order header_layout) }
+      record {
+        fields = s.front;
+        whole = s.whole;
+        spelt = s.spelt;
+        no_more = rest_has_none order header_layout [] b
+            (empty_has_none order header_layout);
+      }
 
   from : cut order b ≡ cut_of items rest → IsFieldCut order b items rest
   from e = subst (λ (c : Cut). IsFieldCut order b c.items c.rest) e computed
@@ -201,4 +240,5 @@ cut_is_computed order b items rest = (to, from) where
 
 pub header_is_not_foreign : HeaderIsNotForeign
 header_is_not_foreign order h w v is =
-    ap (λ (c : Cut). foreign_made (following_all header_layout c.items)) (header_cut order h w v is) ∙ ap foreign_made (made_last _ h is.made)
+    ap (λ (c : Cut). foreign_made (following_all header_layout c.items)) (header_cut order h w v is)
+    ∙ ap foreign_made (made_last _ h is.made)

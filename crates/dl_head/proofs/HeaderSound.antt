@@ -1,19 +1,23 @@
 -- What is true of the params of a header, by the faults that there aren't.
-use Rattle.std.proofs.Common.{◌≡◌, ℕ, ◌+◌, ◌<◌, Bool, true, false, ◌==◌, ◌&&◌, nat_lt, List, [], ◌∷◌, ◌++◌, length, subst, if◌then◌else◌, Option, Some, None, refl, arith, inl, inr}
+use Rattle.std.proofs.Common.{◌≡◌, ℕ, ◌+◌, ◌<◌, Bool, true, false, ◌==◌, ◌&&◌, nat_lt, List, [], ◌∷◌, ◌++◌, length}
+use Rattle.std.proofs.Common.{subst, if◌then◌else◌, Option, Some, None, refl, arith, inl, inr}
 use Rattle.std.specs.Prelude.{is_none}
 use Rattle.std.specs.Option.{option_map, option_or}
 use Rattle.std.proofs.lemmas.Bool.{cases_lt, ltb-true, lt-ltb, eqb-true, eq-eqb}
 use Rattle.dl_num.specs.Fixed.{is_number_size}
 use Rattle.dl_num.proofs.LebFrontLemmas.{true_false, and_left, and_right}
-use Rattle.dl_head.specs.declared.form.Format.{Format}
-use Rattle.dl_head.specs.declared.form.Format.TheVariants.{Dwarf32, Dwarf64}
-use Rattle.dl_head.specs.declared.params.Params.{Params}
-use Rattle.dl_head.specs.declared.fault.FaultKind.{FaultKind}
+use Rattle.dl_table.specs.declared.form.Format.{Format}
+use Rattle.dl_table.specs.declared.form.Format.TheVariants.{Dwarf32, Dwarf64}
+use Rattle.dl_field.specs.declared.params.Params.{Params}
+use Rattle.dl_table.specs.declared.fault.FaultKind.{FaultKind}
 use Rattle.dl_head.specs.declared.fault.ParamFault.{ParamFault}
 use Rattle.dl_head.specs.declared.fault.ParamFault.TheVariants as param
-use Rattle.dl_head.specs.TableData.{TableData, HeaderData}
-use Rattle.dl_head.specs.Layout.{objection, opcode_length}
-use Rattle.dl_head.specs.Built.{IsUsable, wrong_length, same_format, unless, param_fault, with_standard_opcodes}
+use Rattle.dl_table.specs.TableData.{TableData}
+use Rattle.dl_field.specs.HeaderData.{HeaderData}
+use Rattle.dl_field.specs.Layout.{objection, opcode_length}
+use Rattle.dl_table.specs.Built.{same_format}
+use Rattle.dl_field.specs.Usable.{IsUsable}
+use Rattle.dl_head.specs.Built.{wrong_length, unless, param_fault, with_standard_opcodes}
 
 -- ---- what no refusal says of the params
 
@@ -67,9 +71,21 @@ format_itself : (f : Format) → same_format f f ≡ true
 format_itself Dwarf32 = refl
 format_itself Dwarf64 = refl
 
-pub no_fault : (p : Params) (d f : TableData) → is_number_size p.address_size ≡ true → nat_lt 0 p.maximum_operations_per_instruction ≡ true → nat_lt 0 p.line_range ≡ true → length p.lengths.items + 1 ≡ p.opcode_base → wrong_length 1 p.lengths.items ≡ None
+pub no_fault : (p : Params) (d f : TableData) → is_number_size p.address_size ≡ true
+    → nat_lt 0 p.maximum_operations_per_instruction ≡ true → nat_lt 0 p.line_range ≡ true
+    → length p.lengths.items + 1 ≡ p.opcode_base → wrong_length 1 p.lengths.items ≡ None
     → d.format ≡ p.format → f.format ≡ p.format → param_fault p d f ≡ None
-no_fault p d f size operations lines count lengths same_d same_f = rw (size, operations, lines, eq-eqb (length p.lengths.items + 1) p.opcode_base count, lengths, same_d, same_f, format_itself p.format) refl
+no_fault p d f size operations lines count lengths same_d same_f =
+    rw (
+      size,
+      operations,
+      lines,
+      eq-eqb (length p.lengths.items + 1) p.opcode_base count,
+      lengths,
+      same_d,
+      same_f,
+      format_itself p.format,
+    ) refl
 
 -- ---- what follows of it
 
@@ -79,26 +95,40 @@ positive n some = elim (cases_lt 0 n) [ inl lt ↦ lt | inr le ↦ absurd (some 
 pub usable : (p : Params) (d f : TableData) → param_fault p d f ≡ None → IsUsable p
 usable p d f none =
     let good = all_good p d f none in
-    record { address_size = good.address_size; operations = omega (arith, positive p.maximum_operations_per_instruction good.operations); lines = omega (arith, positive p.line_range good.lines); opcodes = good.opcodes }
+    record {
+      address_size = good.address_size;
+      operations = omega
+          (arith, positive p.maximum_operations_per_instruction good.operations);
+      lines =
+          omega (arith, positive p.line_range good.lines);
+      opcodes = good.opcodes;
+    }
 
-pub standard_fault : (h : HeaderData) → param_fault h.params h.directories h.files ≡ None → param_fault (with_standard_opcodes h).params h.directories h.files ≡ None
+pub standard_fault : (h : HeaderData) → param_fault h.params h.directories h.files ≡ None
+    → param_fault (with_standard_opcodes h).params h.directories h.files ≡ None
 standard_fault h none =
     let p = h.params in
     let good = all_good p h.directories h.files none in
-    no_fault (with_standard_opcodes h).params h.directories h.files good.address_size (lt-ltb 0 p.maximum_operations_per_instruction (positive p.maximum_operations_per_instruction good.operations)) (lt-ltb 0 p.line_range (positive p.line_range good.lines)) refl refl good.directories good.files
+    no_fault (with_standard_opcodes h).params h.directories h.files good.address_size
+    (lt-ltb 0 p.maximum_operations_per_instruction (positive p.maximum_operations_per_instruction good.operations))
+    (lt-ltb 0 p.line_range (positive p.line_range good.lines)) refl refl good.directories good.files
 
 -- ---- lengths of opcodes, one more
 
-one_right : (opcode n : ℕ) (o : Option ℕ) → (if is_none (objection (opcode_length opcode) n) then o else Some opcode) ≡ None → (objection (opcode_length opcode) n ≡ None) × (o ≡ None)
+one_right : (opcode n : ℕ) (o : Option ℕ) → (if is_none (objection (opcode_length opcode) n) then o else Some opcode)
+    ≡ None → (objection (opcode_length opcode) n ≡ None) × (o ≡ None)
 one_right opcode n o e = right (objection (opcode_length opcode) n) e where
   right : (f : Option FaultKind) → (if is_none f then o else Some opcode) ≡ None → (f ≡ None) × (o ≡ None)
   right None e = (refl, e)
   right (Some f) e = absurd cc
 
-pub lengths_push : (opcode : ℕ) (lengths : List ℕ) (n : ℕ) → wrong_length opcode lengths ≡ None → objection (opcode_length (opcode + length lengths)) n ≡ None → wrong_length opcode (lengths ++ n ∷ []) ≡ None
+pub lengths_push : (opcode : ℕ) (lengths : List ℕ) (n : ℕ) → wrong_length opcode lengths ≡ None
+    → objection (opcode_length (opcode + length lengths)) n ≡ None → wrong_length opcode (lengths ++ n ∷ []) ≡ None
 lengths_push opcode [] n none right =
-    let here : objection (opcode_length opcode) n ≡ None = subst (λ (k : ℕ). objection (opcode_length k) n ≡ None) (omega arith) right in
+    let here : objection (opcode_length opcode) n ≡ None =
+    subst (λ (k : ℕ). objection (opcode_length k) n ≡ None) (omega arith) right in
     rw here refl
 lengths_push opcode (m ∷ lengths) n none right =
     let t = one_right opcode m (wrong_length (opcode + 1) lengths) none in
-    rw t.0 (lengths_push (opcode + 1) lengths n t.1 (subst (λ (k : ℕ). objection (opcode_length k) n ≡ None) (omega arith) right))
+    rw t.0 (lengths_push (opcode + 1) lengths n t.1
+    (subst (λ (k : ℕ). objection (opcode_length k) n ≡ None) (omega arith) right))

@@ -2,41 +2,50 @@
 use Rattle.std.proofs.Common.{◌≡◌, ℕ, List, [], length, Option, Some, None, refl, sym, ap, ◌∙◌, append-nil}
 use Rattle.dl_num.specs.declared.fixed.Order.{Order}
 use Rattle.dl_head.specs.declared.fault.Fault.{Fault}
-use Rattle.dl_head.specs.declared.fault.FaultKind.{FaultKind}
+use Rattle.dl_table.specs.declared.fault.FaultKind.{FaultKind}
 use Rattle.dl_head.specs.declared.reader.HeadStep.{HeadStep}
 use Rattle.dl_head.specs.declared.reader.HeadStep.TheVariants as answer
-use Rattle.dl_head.specs.TableData.{HeaderData}
-use Rattle.dl_head.specs.Layout.{Layout, following_all, header_layout}
+use Rattle.dl_field.specs.HeaderData.{HeaderData}
+use Rattle.dl_field.specs.Layout.{Layout, following_all}
+use Rattle.dl_head.specs.HeaderLayout.{header_layout}
 use Rattle.dl_head.specs.Header.{cut, IsHeader, foreign_in}
 use Rattle.dl_head.specs.Refusal.{HeaderRefused}
 use Rattle.dl_head.specs.Reading.{Answers, OneAnswer}
-use Rattle.dl_head.proofs.FieldLemmas.{none_some}
+use Rattle.dl_field.proofs.FieldLemmas.{none_some}
 use Rattle.dl_head.proofs.HeaderLaws.{header_is_not_foreign}
 use Rattle.dl_head.proofs.QuietLemmas.{header_is_not_refused}
 use Rattle.dl_head.proofs.RefusalLaws.{decided_on, foreign_last, one_header_refusal}
 
 header_not_foreign : (order : Order) (h : HeaderData) (b : List ℕ) → IsHeader order h b → foreign_in order b ≡ None
-header_not_foreign order h b w = ap (λ (l : List ℕ). foreign_in order l) (sym (append-nil b)) ∙ header_is_not_foreign order h b [] w
+header_not_foreign order h b w = ap (λ (l : List ℕ). foreign_in order l) (sym (append-nil b))
+    ∙ header_is_not_foreign order h b [] w
 
-header_not_refused : (order : Order) (h : HeaderData) (b : List ℕ) (at : ℕ) (kind : FaultKind) → IsHeader order h b → HeaderRefused order b at kind → ⊥
+header_not_refused : (order : Order) (h : HeaderData) (b : List ℕ) (at : ℕ) (kind : FaultKind) → IsHeader order h b
+    → HeaderRefused order b at kind → ⊥
 header_not_refused order h b at kind w r = header_is_not_refused order h b [] b [] at kind w refl r
 
-foreign_not_refused : (order : Order) (v : ℕ) (b : List ℕ) (at : ℕ) (kind : FaultKind) → foreign_in order b ≡ Some v → HeaderRefused order b at kind → ⊥
+foreign_not_refused : (order : Order) (v : ℕ) (b : List ℕ) (at : ℕ) (kind : FaultKind) → foreign_in order b ≡ Some v
+    → HeaderRefused order b at kind → ⊥
 foreign_not_refused order v b at kind e r =
     let c = cut order b in
-    none_some (ap (λ (l : Layout). decided_on order (length b) c.items c.rest l) (foreign_last (following_all header_layout c.items) v e)) r.decided
+    none_some (ap (λ (l : Layout). decided_on order (length b) c.items c.rest l)
+    (foreign_last (following_all header_layout c.items) v e)) r.decided
 
 version_same : (v u : ℕ) → ◌≡◌ {A = Option ℕ} (Some v) (Some u) → v ≡ u
 version_same v u e = cc
 
 fault_same : (f g : Fault) → f.offset ≡ g.offset → f.kind ≡ g.kind → answer.Fault f ≡ answer.Fault g
-fault_same f g a b = ap (λ (n : ℕ). answer.Fault (record { offset = n; kind = f.kind })) a ∙ ap (λ (k : FaultKind). answer.Fault (record { offset = g.offset; kind = k })) b
+fault_same f g a b = ap (λ (n : ℕ). answer.Fault (record { offset = n; kind = f.kind })) a
+    ∙ ap (λ (k : FaultKind). answer.Fault (record { offset = g.offset; kind = k })) b
 
-same_fault : (order : Order) (b : List ℕ) (f g : Fault) → HeaderRefused order b f.offset f.kind → HeaderRefused order b g.offset g.kind → answer.Fault f ≡ answer.Fault g
-same_fault order b f g x y = let s = one_header_refusal order b b [] [] f.offset g.offset f.kind g.kind refl x y in fault_same f g s.1 s.2
+same_fault : (order : Order) (b : List ℕ) (f g : Fault) → HeaderRefused order b f.offset f.kind
+    → HeaderRefused order b g.offset g.kind → answer.Fault f ≡ answer.Fault g
+same_fault order b f g x y = let s = one_header_refusal order b b [] [] f.offset g.offset f.kind g.kind refl x y in
+    fault_same f g s.1 s.2
 
 -- what goes on has come to nothing
-pub more_alone : (order : Order) (b : List ℕ) (q : HeadStep) → Answers order b answer.More → Answers order b q → answer.More ≡ q
+pub more_alone : (order : Order) (b : List ℕ) (q : HeadStep) → Answers order b answer.More → Answers order b q
+    → answer.More ≡ q
 more_alone order b answer.More m a = refl
 more_alone order b answer.Done m a = absurd (m.0 a.0 a.1)
 more_alone order b (answer.Foreign v) m a = absurd (none_some m.1 a)
@@ -48,7 +57,8 @@ one_answer order b answer.Done answer.Done x y = refl
 one_answer order b answer.Done (answer.Foreign v) x y = absurd (none_some (header_not_foreign order x.0 b x.1) y)
 one_answer order b answer.Done (answer.Fault f) x y = absurd (header_not_refused order x.0 b f.offset f.kind x.1 y)
 one_answer order b (answer.Foreign v) answer.Done x y = absurd (none_some (header_not_foreign order y.0 b y.1) x)
-one_answer order b (answer.Foreign v) (answer.Foreign u) x y = ap (λ (k : ℕ). answer.Foreign k) (version_same v u (sym x ∙ y))
+one_answer order b (answer.Foreign v) (answer.Foreign u) x y =
+    ap (λ (k : ℕ). answer.Foreign k) (version_same v u (sym x ∙ y))
 one_answer order b (answer.Foreign v) (answer.Fault f) x y = absurd (foreign_not_refused order v b f.offset f.kind x y)
 one_answer order b (answer.Fault f) answer.Done x y = absurd (header_not_refused order y.0 b f.offset f.kind y.1 x)
 one_answer order b (answer.Fault f) (answer.Foreign v) x y = absurd (foreign_not_refused order v b f.offset f.kind y x)

@@ -1,14 +1,18 @@
 -- The laws of refusals: one at most, and none of a header or a foreign unit.
-use Rattle.std.proofs.Common.{◌≡◌, ℕ, ◌-◌, inl, inr, List, [], ◌∷◌, ◌++◌, length, Option, Some, None, refl, sym, ap, subst, ◌∙◌, arith, length-append, append_assoc, append-nil}
+use Rattle.std.proofs.Common.{◌≡◌, ℕ, ◌-◌, inl, inr, List, [], ◌∷◌, ◌++◌, length, Option, Some, None, refl, sym, ap}
+use Rattle.std.proofs.Common.{subst, ◌∙◌, arith, length-append, append_assoc, append-nil}
 use Rattle.dl_num.specs.declared.fixed.Order.{Order}
 use Rattle.dl_num.proofs.FrontLemmas.{front_before}
-use Rattle.dl_head.specs.declared.fault.FaultKind.{FaultKind}
-use Rattle.dl_head.specs.Value.{Judgement}
-use Rattle.dl_head.specs.Layout.{Layout, initial_length_then, number_then, form_then, value_then, foreign_version, last_entry, Item, following_all, field_spelt, header_layout}
+use Rattle.dl_table.specs.declared.fault.FaultKind.{FaultKind}
+use Rattle.dl_table.specs.Value.{Judgement}
+use Rattle.dl_field.specs.Layout.{Layout, initial_length_then, number_then, form_then, value_then, foreign_version}
+use Rattle.dl_field.specs.Layout.{last_entry, Item, following_all, field_spelt}
+use Rattle.dl_head.specs.HeaderLayout.{header_layout}
 use Rattle.dl_head.specs.Header.{Cut, cut, header_end, foreign_made}
-use Rattle.dl_head.specs.Refusal.{or_else, bad_kind, field_overrun, header_overrun, cut_decided, header_decided, NothingBefore, HeaderRefused, Refusal, first_decided, refusal_of, header_refusal_in}
+use Rattle.dl_head.specs.Refusal.{or_else, bad_kind, field_overrun, header_overrun, cut_decided, header_decided}
+use Rattle.dl_head.specs.Refusal.{NothingBefore, HeaderRefused, Refusal, first_decided, refusal_of, header_refusal_in}
 use Rattle.dl_head.specs.Laws.{OneHeaderRefusal, RefusalIsComputed}
-use Rattle.dl_head.proofs.FieldLemmas.{none_some}
+use Rattle.dl_field.proofs.FieldLemmas.{none_some}
 use Rattle.dl_head.proofs.CutLemmas.{cut_of, cut_sound, Sound}
 use Rattle.dl_head.proofs.FrontLemmas.{GoesOn, fronts}
 
@@ -18,7 +22,8 @@ use Rattle.dl_head.proofs.FrontLemmas.{GoesOn, fronts}
 abbrev pub decided_on : Order → ℕ → List Item → List ℕ → Layout → Option FaultKind
 decided_on order n items rest next = or_else (bad_kind (field_spelt order next rest)) (header_overrun n items next)
 
-overrun_none : (n : ℕ) (items : List Item) (next : Layout) → field_overrun n items (header_end items) ≡ None → header_overrun n items next ≡ None
+overrun_none : (n : ℕ) (items : List Item) (next : Layout) → field_overrun n items (header_end items) ≡ None
+    → header_overrun n items next ≡ None
 overrun_none n items (initial_length_then next) e = e
 overrun_none n items (number_then field next) e = e
 overrun_none n items (form_then next) e = e
@@ -28,10 +33,12 @@ overrun_none n items (last_entry h) e = refl
 
 -- an incomplete field decides nothing where no end is reached
 pub quiet : (order : Order) (b : List ℕ) (items : List Item) (rest : List ℕ) → cut order b ≡ cut_of items rest
-    → field_spelt order (following_all header_layout items) rest ≡ None → field_overrun (length b) items (header_end items) ≡ None → header_decided order b ≡ None
+    → field_spelt order (following_all header_layout items) rest ≡ None
+    → field_overrun (length b) items (header_end items) ≡ None → header_decided order b ≡ None
 quiet order b items rest e none over =
     ap (λ (c : Cut). cut_decided order (length b) c) e
-    ∙ ap (λ (o : Judgement Item). or_else (bad_kind o) (header_overrun (length b) items (following_all header_layout items))) none
+    ∙ ap (λ (o : Judgement Item). or_else (bad_kind o)
+    (header_overrun (length b) items (following_all header_layout items))) none
     ∙ overrun_none (length b) items (following_all header_layout items) over
 
 pub foreign_last : (layout : Layout) (v : ℕ) → foreign_made layout ≡ Some v → layout ≡ foreign_version v
@@ -45,14 +52,17 @@ foreign_last (value_then f g n) v e = absurd (none_some refl e)
 -- ---- one refusal
 
 -- what is refused goes on to nothing that is refused
-not_longer : (order : Order) (b c : List ℕ) (at at2 : ℕ) (kind kind2 : FaultKind) → HeaderRefused order b at kind → HeaderRefused order c at2 kind2 → GoesOn b c → ⊥
+not_longer : (order : Order) (b c : List ℕ) (at at2 : ℕ) (kind kind2 : FaultKind) → HeaderRefused order b at kind
+    → HeaderRefused order c at2 kind2 → GoesOn b c → ⊥
 not_longer order b c at at2 kind kind2 r s g = none_some (s.shortest b g.0 g.1 g.2) r.decided
 
 kind_same : (k j : FaultKind) → ◌≡◌ {A = Option FaultKind} (Some k) (Some j) → k ≡ j
 kind_same k j e = cc
 
-same_refusal : (order : Order) (b : List ℕ) (at at2 : ℕ) (kind kind2 : FaultKind) → HeaderRefused order b at kind → HeaderRefused order b at2 kind2 → (at ≡ at2) × (kind ≡ kind2)
-same_refusal order b at at2 kind kind2 r s = (omega (arith, r.place, s.place), kind_same kind kind2 (sym r.decided ∙ s.decided))
+same_refusal : (order : Order) (b : List ℕ) (at at2 : ℕ) (kind kind2 : FaultKind) → HeaderRefused order b at kind
+    → HeaderRefused order b at2 kind2 → (at ≡ at2) × (kind ≡ kind2)
+same_refusal order b at at2 kind kind2 r s =
+    (omega (arith, r.place, s.place), kind_same kind kind2 (sym r.decided ∙ s.decided))
 
 pub one_header_refusal : OneHeaderRefusal
 one_header_refusal order b c v u at at2 kind kind2 e r s = elim (fronts b c v u e) [
@@ -72,11 +82,15 @@ record First (decided : List ℕ → Option FaultKind) (b front : List ℕ) (kin
   decides : decided front ≡ Some kind
   shortest : NothingBefore decided front
 
-some_pair : (f g : List ℕ) (j k : FaultKind) → ◌≡◌ {A = Option (List ℕ × FaultKind)} (Some (f, j)) (Some (g, k)) → (f ≡ g) × (j ≡ k)
-some_pair f g j k e =
-    (ap (λ (o : Option (List ℕ × FaultKind)). elim o [ Some p ↦ p.0 | None ↦ f ]) e, ap (λ (o : Option (List ℕ × FaultKind)). elim o [ Some p ↦ p.1 | None ↦ j ]) e)
+some_pair : (f g : List ℕ) (j k : FaultKind) → ◌≡◌ {A = Option (List ℕ × FaultKind)} (Some (f, j)) (Some (g, k))
+    → (f ≡ g) × (j ≡ k)
+some_pair f g j k e = (
+  ap (λ (o : Option (List ℕ × FaultKind)). elim o [ Some p ↦ p.0 | None ↦ f ]) e,
+  ap (λ (o : Option (List ℕ × FaultKind)). elim o [ Some p ↦ p.1 | None ↦ j ]) e,
+)
 
-nothing_more : (decided : List ℕ → Option FaultKind) (begun : List ℕ) (x : ℕ) → NothingBefore decided begun → decided begun ≡ None → NothingBefore decided (begun ++ x ∷ [])
+nothing_more : (decided : List ℕ → Option FaultKind) (begun : List ℕ) (x : ℕ) → NothingBefore decided begun
+    → decided begun ≡ None → NothingBefore decided (begun ++ x ∷ [])
 nothing_more decided begun x before none front y back e = on (front_before begun front x y back e) e where
   on : (r : (z : List ℕ) × (begun ≡ front ++ z)) → begun ++ x ∷ [] ≡ front ++ y ∷ back → decided front ≡ None
   on (([]), same) e = ap decided (sym (append-nil front) ∙ sym same) ∙ none
@@ -85,55 +99,69 @@ nothing_more decided begun x before none front y back e = on (front_before begun
 abbrev found_on : List ℕ → Option FaultKind → Option (List ℕ × FaultKind) → Option (List ℕ × FaultKind)
 found_on begun o later = elim o [ Some kind ↦ Some (begun, kind) | None ↦ later ]
 
-first_on : (decided : List ℕ → Option FaultKind) (begun b front : List ℕ) (kind : FaultKind) (later : Option (List ℕ × FaultKind)) → NothingBefore decided begun
+first_on : (decided : List ℕ → Option FaultKind) (begun b front : List ℕ) (kind : FaultKind)
+    (later : Option (List ℕ × FaultKind)) → NothingBefore decided begun
     → (decided begun ≡ None → later ≡ Some (front, kind) → First decided (begun ++ b) front kind)
-    → (o : Option FaultKind) → decided begun ≡ o → found_on begun o later ≡ Some (front, kind) → First decided (begun ++ b) front kind
+    → (o : Option FaultKind) → decided begun ≡ o → found_on begun o later ≡ Some (front, kind)
+    → First decided (begun ++ b) front kind
 first_on decided begun b front kind later before next (Some k) d e =
     let same = some_pair begun front k kind e in
     subst (λ (l : List ℕ). First decided (begun ++ b) l kind) same.0
     (record { rest = b; whole = refl; decides = d ∙ ap (λ (j : FaultKind). Some j) same.1; shortest = before })
 first_on decided begun b front kind later before next None d e = next d e
 
-first_sound : (decided : List ℕ → Option FaultKind) (begun b front : List ℕ) (kind : FaultKind) → NothingBefore decided begun
+first_sound : (decided : List ℕ → Option FaultKind) (begun b front : List ℕ) (kind : FaultKind)
+    → NothingBefore decided begun
     → first_decided decided begun b ≡ Some (front, kind) → First decided (begun ++ b) front kind
 first_sound decided begun [] front kind before e =
     let never : Option (List ℕ × FaultKind) = None in
-    first_on decided begun [] front kind never before (λ d none. absurd (none_some {a = (front, kind)} refl none)) (decided begun) refl e
+    first_on decided begun [] front kind never before (λ d none. absurd (none_some {a = (front, kind)} refl none))
+    (decided begun) refl e
 first_sound decided begun (x ∷ b) front kind before e =
     first_on decided begun (x ∷ b) front kind (first_decided decided (begun ++ x ∷ []) b) before
-    (λ d more. subst (λ (l : List ℕ). First decided l front kind) (append_assoc begun (x ∷ []) b) (first_sound decided (begun ++ x ∷ []) b front kind (nothing_more decided begun x before d) more))
+    (λ d more. subst (λ (l : List ℕ). First decided l front kind) (append_assoc begun (x ∷ []) b)
+    (first_sound decided (begun ++ x ∷ []) b front kind (nothing_more decided begun x before d) more))
     (decided begun) refl e
 
-first_found : (decided : List ℕ → Option FaultKind) (begun y v : List ℕ) (kind : FaultKind) → decided (begun ++ y) ≡ Some kind → NothingBefore decided (begun ++ y)
+first_found : (decided : List ℕ → Option FaultKind) (begun y v : List ℕ) (kind : FaultKind)
+    → decided (begun ++ y) ≡ Some kind → NothingBefore decided (begun ++ y)
     → first_decided decided begun (y ++ v) ≡ Some (begun ++ y, kind)
 first_found decided begun [] [] kind d shortest =
     let never : Option (List ℕ × FaultKind) = None in
-    ap (λ (o : Option FaultKind). found_on begun o never) (ap decided (sym (append-nil begun)) ∙ d) ∙ ap (λ (l : List ℕ). found_on l (Some kind) never) (sym (append-nil begun))
+    ap (λ (o : Option FaultKind). found_on begun o never) (ap decided (sym (append-nil begun)) ∙ d)
+    ∙ ap (λ (l : List ℕ). found_on l (Some kind) never) (sym (append-nil begun))
 first_found decided begun [] (x ∷ v) kind d shortest =
     let later = first_decided decided (begun ++ x ∷ []) v in
-    ap (λ (o : Option FaultKind). found_on begun o later) (ap decided (sym (append-nil begun)) ∙ d) ∙ ap (λ (l : List ℕ). found_on l (Some kind) later) (sym (append-nil begun))
+    ap (λ (o : Option FaultKind). found_on begun o later) (ap decided (sym (append-nil begun)) ∙ d)
+    ∙ ap (λ (l : List ℕ). found_on l (Some kind) later) (sym (append-nil begun))
 first_found decided begun (x ∷ y) v kind d shortest =
     let same : (begun ++ x ∷ []) ++ y ≡ begun ++ x ∷ y = append_assoc begun (x ∷ []) y in
-    ap (λ (o : Option FaultKind). found_on begun o (first_decided decided (begun ++ x ∷ []) (y ++ v))) (shortest begun x y refl)
-    ∙ first_found decided (begun ++ x ∷ []) y v kind (ap decided same ∙ d) (subst (λ (l : List ℕ). NothingBefore decided l) (sym same) shortest)
+    ap (λ (o : Option FaultKind). found_on begun o (first_decided decided (begun ++ x ∷ []) (y ++ v)))
+    (shortest begun x y refl)
+    ∙ first_found decided (begun ++ x ∷ []) y v kind (ap decided same ∙ d)
+    (subst (λ (l : List ℕ). NothingBefore decided l) (sym same) shortest)
     ∙ ap (λ (l : List ℕ). found_on l (Some kind) None) same
 
 abbrev refusal_is : List ℕ → ℕ → FaultKind → Refusal
 refusal_is front at kind = record { front = front; at = at; kind = kind }
 
 -- the parts of the refusal that comes of what was found
-record Parts (order : Order) (o : Option (List ℕ × FaultKind)) (front : List ℕ) (at : ℕ) (kind : FaultKind) : Type 0 where
-  found : o ≡ Some (front, kind)
-  place : at ≡ length front - length (cut order front).rest
+record Parts (order : Order) (o : Option (List ℕ × FaultKind)) (front : List ℕ) (at : ℕ) (kind : FaultKind) : Type 0
+  where
+    found : o ≡ Some (front, kind)
+    place : at ≡ length front - length (cut order front).rest
 
-parts : (order : Order) (o : Option (List ℕ × FaultKind)) (front : List ℕ) (at : ℕ) (kind : FaultKind) → refusal_of order o ≡ Some (refusal_is front at kind) → Parts order o front at kind
+parts : (order : Order) (o : Option (List ℕ × FaultKind)) (front : List ℕ) (at : ℕ) (kind : FaultKind)
+    → refusal_of order o ≡ Some (refusal_is front at kind) → Parts order o front at kind
 parts order None front at kind e = absurd (none_some {a = refusal_is front at kind} refl e)
 parts order (Some (f, k)) front at kind e =
     let fronts_same : f ≡ front = ap (λ (o : Option Refusal). elim o [ Some r ↦ r.front | None ↦ f ]) e in
-    let places_same : length f - length (cut order f).rest ≡ at = ap (λ (o : Option Refusal). elim o [ Some r ↦ r.at | None ↦ length f - length (cut order f).rest ]) e in
+    let places_same : length f - length (cut order f).rest ≡ at =
+    ap (λ (o : Option Refusal). elim o [ Some r ↦ r.at | None ↦ length f - length (cut order f).rest ]) e in
     let kinds_same : k ≡ kind = ap (λ (o : Option Refusal). elim o [ Some r ↦ r.kind | None ↦ k ]) e in
     record {
-      found = ap (λ (l : List ℕ). found_on l (Some k) None) fronts_same ∙ ap (λ (j : FaultKind). found_on front (Some j) None) kinds_same;
+      found = ap (λ (l : List ℕ). found_on l (Some k) None) fronts_same
+          ∙ ap (λ (j : FaultKind). found_on front (Some j) None) kinds_same;
       place = sym places_same ∙ ap (λ (l : List ℕ). length l - length (cut order l).rest) fronts_same;
     }
 
@@ -143,17 +171,24 @@ nothing_empty decided (y ∷ front) x back e = absurd cc
 
 pub refusal_is_computed : RefusalIsComputed
 refusal_is_computed order b front at kind = (to, from) where
-  to : header_refusal_in order b ≡ Some (refusal_is front at kind) → HeaderRefused order front at kind × ((v : List ℕ) × (b ≡ front ++ v))
+  to : header_refusal_in order b ≡ Some (refusal_is front at kind)
+      → HeaderRefused order front at kind × ((v : List ℕ) × (b ≡ front ++ v))
   to e =
       let p = parts order (first_decided (header_decided order) [] b) front at kind e in
       let f = first_sound (header_decided order) [] b front kind (nothing_empty (header_decided order)) p.found in
       let s : Sound order header_layout front (cut order front) = cut_sound order header_layout [] front in (
-        record { place = omega (arith, p.place, ap length s.whole, length-append s.front (cut order front).rest); decided = f.decides; shortest = f.shortest },
+        record {
+          place = omega (arith, p.place, ap length s.whole, length-append s.front (cut order front).rest);
+          decided = f.decides;
+          shortest = f.shortest;
+        },
         (f.rest, f.whole),
       )
 
-  from : HeaderRefused order front at kind × ((v : List ℕ) × (b ≡ front ++ v)) → header_refusal_in order b ≡ Some (refusal_is front at kind)
+  from : HeaderRefused order front at kind × ((v : List ℕ) × (b ≡ front ++ v))
+      → header_refusal_in order b ≡ Some (refusal_is front at kind)
   from r =
       ap (λ (l : List ℕ). header_refusal_in order l) r.1.1
-      ∙ ap (λ (o : Option (List ℕ × FaultKind)). refusal_of order o) (first_found (header_decided order) [] front r.1.0 kind r.0.decided r.0.shortest)
+      ∙ ap (λ (o : Option (List ℕ × FaultKind)). refusal_of order o)
+      (first_found (header_decided order) [] front r.1.0 kind r.0.decided r.0.shortest)
       ∙ ap (λ (n : ℕ). let o : Option Refusal = Some (refusal_is front n kind) in o) (omega (arith, r.0.place))

@@ -1,7 +1,10 @@
 -- Bytes of a header offered in turns.
-use Rattle.std.proofs.Common.{◌≡◌, ◌≢◌, ◌+◌, ◌-◌, ◌<◌, ◌≤◌, ◌⊎◌, inl, inr, ℕ, true, false, cond, List, [], ◌∷◌, ◌++◌, length, take, drop, slice_index_or, refl, sym, ap, subst, ◌∙◌, arith, append_assoc, append-nil, length-take, length-drop, length-append}
+use Rattle.std.proofs.Common.{◌≡◌, ◌≢◌, ◌+◌, ◌-◌, ◌<◌, ◌≤◌, ◌⊎◌, inl, inr, ℕ, true, false, cond, List, [], ◌∷◌, ◌++◌}
+use Rattle.std.proofs.Common.{length, take, drop, slice_index_or, refl, sym, ap, subst, ◌∙◌, arith, append_assoc}
+use Rattle.std.proofs.Common.{append-nil, length-take, length-drop, length-append}
 use Rattle.std.proofs.lemmas.Bool.{cases_eq, cases_lt}
-use Rattle.std.proofs.lemmas.List.{take_more, drop_more, take-take, take-append-drop, take-append-le, drop-append-le, drop-drop, take_all}
+use Rattle.std.proofs.lemmas.List.{take-take, take-append-drop, take-append-le, drop-append-le}
+use Rattle.std.proofs.lemmas.List.{drop-drop, take_all}
 use Rattle.std.proofs.lemmas.List.Sums.{sum_by-cons, sum_by_push}
 use Rattle.std.proofs.Math.Seq.{take-append_seam}
 use Rattle.dl_num.specs.declared.fixed.Order.{Order}
@@ -9,139 +12,52 @@ use Rattle.dl_head.specs.declared.reader.HeadStep.{HeadStep}
 use Rattle.dl_head.specs.declared.reader.HeadStep.TheVariants as answer
 use Rattle.dl_head.specs.declared.reader.HeadReader.{HeadReader}
 use Rattle.dl_head.specs.declared.reader.run.HeadRun.{HeadRun}
-use Rattle.dl_head.specs.TableData.{HeaderData}
+use Rattle.dl_field.specs.HeaderData.{HeaderData}
 use Rattle.dl_head.specs.Header.{IsHeader, foreign_in}
 use Rattle.dl_head.specs.Standing.{StandsFor}
-use Rattle.dl_head.specs.Reading.{Answers, AddsCell, Steps}
+use Rattle.dl_head.specs.Reading.{Answers, AddsCell}
 use Rattle.dl_head.specs.Turns.{Answer, used_in, last_given, IsTrace, some_turns}
-use Rattle.dl_head.specs.Runs.{so_far, Took, Answered, Offered, goes_on, is_refusal, refusals, Traced, Runs, TraceRuns, HeaderIsRead}
-use Rattle.dl_head.proofs.FieldLemmas.{none_some}
+use Rattle.dl_head.specs.Runs.{so_far, Took, Answered, Offered, goes_on, is_refusal, refusals, Traced, Runs, TraceRuns}
+use Rattle.dl_head.specs.Runs.{HeaderIsRead}
+use Rattle.dl_field.proofs.FieldLemmas.{none_some}
 use Rattle.dl_head.proofs.ForeignLemmas.{foreign_on}
 use Rattle.dl_head.proofs.HeaderLaws.{one_header, header_is_not_foreign}
 use Rattle.dl_head.proofs.QuietLemmas.{header_is_not_refused}
-use Rattle.dl_head.proofs.TurnLemmas.{joined, used_cons, true_or_false, goes_first, last_of_push, trace_more, trace_last, Moves, moves_first}
-
--- the reader has taken the first i bytes of the piece after b, and the header goes on
-pub record Offering (order : Order) (b piece : List ℕ) (i : ℕ) (r : HeadReader) : Type 0 where
-  pub stands : StandsFor r (b ++ take i piece)
-  pub more : Answers order (b ++ take i piece) answer.More
-  pub before : (j : ℕ) → j < i → Answers order (b ++ take j piece) answer.More
-
-pub offering_none : (order : Order) (b piece : List ℕ) (r : HeadReader) → StandsFor r b → Answers order b answer.More → Offering order b piece 0 r
-offering_none order b piece r s more =
-    record {
-      stands = subst (λ (l : List ℕ). StandsFor r l) (sym (append-nil b)) s;
-      more = subst (λ (l : List ℕ). Answers order l answer.More) (sym (append-nil b)) more;
-      before = λ j lt. absurd (omega (arith, lt));
-    }
-
-one_more : (b piece : List ℕ) (i : ℕ) → i < length piece → (b ++ take i piece) ++ slice_index_or piece i 0 ∷ [] ≡ b ++ take (i + 1) piece
-one_more b piece i lt = append_assoc b (take i piece) (slice_index_or piece i 0 ∷ []) ∙ ap (λ (l : List ℕ). b ++ l) (sym (take_more piece i 0 lt))
-
--- no front up to these came to anything
-fronts_before : (order : Order) (b piece : List ℕ) (i : ℕ) (r : HeadReader) → Offering order b piece i r → (j : ℕ) → j < i + 1 → Answers order (b ++ take j piece) answer.More
-fronts_before order b piece i r o j lt = elim (cases_eq j i) [
-  | inl same ↦ subst (λ (n : ℕ). Answers order (b ++ take n piece) answer.More) (sym same) o.more
-  | inr other ↦ o.before j (omega (arith, lt, other))
-]
-
--- the byte is taken
-byte_taken : (order : Order) (b piece : List ℕ) (i : ℕ) (r new : HeadReader) (result : HeadStep) → Offering order b piece i r → i < length piece → result ≢ answer.NoMemory
-    → Steps order (b ++ take i piece) (slice_index_or piece i 0) result new → Answers order (b ++ take (i + 1) piece) result × StandsFor new (b ++ take (i + 1) piece)
-byte_taken order b piece i r new result o lt fed s =
-    let t = s.taken o.more fed in (
-      subst (λ (l : List ℕ). Answers order l result) (one_more b piece i lt) t.0,
-      subst (λ (l : List ℕ). StandsFor new l) (one_more b piece i lt) t.1,
-    )
-
-pub offering_on : (order : Order) (b piece : List ℕ) (i : ℕ) (r new : HeadReader) (result : HeadStep) → Offering order b piece i r → i < length piece → result ≡ answer.More
-    → Steps order (b ++ take i piece) (slice_index_or piece i 0) result new → Offering order b piece (i + 1) new
-offering_on order b piece i r new result o lt is s =
-    let t = byte_taken order b piece i r new result o lt (λ e. absurd (no_more (sym e ∙ is))) s in
-    record {
-      stands = t.1;
-      more = subst (λ (a : HeadStep). Answers order (b ++ take (i + 1) piece) a) is t.0;
-      before = fronts_before order b piece i r o;
-    }
-  where
-    no_more : answer.NoMemory ≡ answer.More → ⊥
-    no_more e = absurd cc
-
-pub so_far_same : (last : HeadStep) → last ≢ answer.NoMemory → so_far last ≡ last
-so_far_same answer.More other = refl
-so_far_same (answer.Foreign v) other = refl
-so_far_same answer.Done other = refl
-so_far_same (answer.Fault f) other = refl
-so_far_same answer.NoMemory other = absurd (other refl)
-
--- memory was refused
-pub offered_unfed : (order : Order) (b piece : List ℕ) (i used : ℕ) (r new : HeadReader) (result : HeadStep) → Offering order b piece i r → i < length piece → used ≡ i → result ≡ answer.NoMemory
-    → Steps order (b ++ take i piece) (slice_index_or piece i 0) result new → Offered order b piece used answer.NoMemory new
-offered_unfed order b piece i used r new result o lt same is s = subst (λ (n : ℕ). Offered order b piece n answer.NoMemory new) (sym same) (record {
-  answered = record {
-    took = record {
-      within = omega (arith, lt);
-      answers = o.more;
-      before = o.before;
-      unfed = λ e. (slice_index_or piece i 0, drop (i + 1) piece, drop_more piece i 0 lt, (s.unfed is).0);
-    };
-    whole = λ e. absurd cc;
-  };
-  stands = (s.unfed is).1;
-})
-
--- the header came to something
-pub offered_last : (order : Order) (b piece : List ℕ) (i used : ℕ) (r new : HeadReader) (result : HeadStep) → Offering order b piece i r → i < length piece → used ≡ i
-    → result ≢ answer.More → result ≢ answer.NoMemory → Steps order (b ++ take i piece) (slice_index_or piece i 0) result new → Offered order b piece (used + 1) result new
-offered_last order b piece i used r new result o lt same ends fed s =
-    let t = byte_taken order b piece i r new result o lt fed s in
-    subst (λ (n : ℕ). Offered order b piece (n + 1) result new) (sym same) (record {
-      answered = record {
-        took = record {
-          within = omega (arith, lt);
-          answers = subst (λ (a : HeadStep). Answers order (b ++ take (i + 1) piece) a) (sym (so_far_same result fed)) t.0;
-          before = fronts_before order b piece i r o;
-          unfed = λ e. absurd (fed e);
-        };
-        whole = λ e. absurd (ends e);
-      };
-      stands = t.1;
-    })
-
--- the whole piece was taken
-pub offered_all : (order : Order) (b piece : List ℕ) (i used : ℕ) (r : HeadReader) → Offering order b piece i r → i ≤ length piece → length piece ≤ i → used ≡ i
-    → Offered order b piece used answer.More r
-offered_all order b piece i used r o le ge same = subst (λ (n : ℕ). Offered order b piece n answer.More r) (sym same) (record {
-  answered = record {
-    took = record { within = le; answers = o.more; before = o.before; unfed = λ e. absurd cc };
-    whole = λ e. omega (arith, le, ge);
-  };
-  stands = o.stands;
-})
+use Rattle.dl_head.proofs.TurnLemmas.{joined, used_cons, true_or_false, goes_first, last_of_push, trace_more}
+use Rattle.dl_head.proofs.TurnLemmas.{trace_last, Moves, moves_first}
 
 -- ---- turns
 
 -- the first used of a piece of some bytes are the first used of these
-took_of_piece : (order : Order) (b bytes : List ℕ) (n used : ℕ) (last : HeadStep) → Took order b (take n bytes) used last → Took order b bytes used last
+took_of_piece : (order : Order) (b bytes : List ℕ) (n used : ℕ) (last : HeadStep)
+    → Took order b (take n bytes) used last → Took order b bytes used last
 took_of_piece order b bytes n used last t = record {
   within = omega (arith, t.within, length-take n bytes);
   answers = subst (λ (l : List ℕ). Answers order (b ++ l) (so_far last)) (shorter used (omega arith)) t.answers;
-  before = λ i lt. subst (λ (l : List ℕ). Answers order (b ++ l) answer.More) (shorter i (omega (arith, lt))) (t.before i lt);
+  before = λ i lt. subst (λ (l : List ℕ). Answers order (b ++ l) answer.More) (shorter i (omega (arith, lt)))
+      (t.before i lt);
   unfed = λ e.
-      let u = t.unfed e in
-      (u.0, u.1 ++ drop n bytes, rest u.0 u.1 u.2, subst (λ (l : List ℕ). AddsCell order (b ++ l) u.0) (shorter used (omega arith)) u.3);
+      let u = t.unfed e in (
+        u.0,
+        u.1 ++ drop n bytes,
+        rest u.0 u.1 u.2,
+        subst (λ (l : List ℕ). AddsCell order (b ++ l) u.0)
+            (shorter used (omega arith)) u.3,
+      );
 } where
   shorter : (i : ℕ) → i ≤ used → take i (take n bytes) ≡ take i bytes
   shorter i le = take-take i n bytes (omega (arith, le, t.within, length-take n bytes))
 
-  rest : (byte : ℕ) (later : List ℕ) → drop used (take n bytes) ≡ byte ∷ later → drop used bytes ≡ byte ∷ (later ++ drop n bytes)
+  rest : (byte : ℕ) (later : List ℕ) → drop used (take n bytes) ≡ byte ∷ later
+      → drop used bytes ≡ byte ∷ (later ++ drop n bytes)
   rest byte later e =
       ap (λ (l : List ℕ). drop used l) (sym (take-append-drop n bytes))
       ∙ drop-append-le used (take n bytes) (drop n bytes) t.within
       ∙ ap (λ (l : List ℕ). l ++ drop n bytes) e
 
 -- k bytes that came to nothing, and then more
-took_behind : (order : Order) (b bytes : List ℕ) (k used : ℕ) (first last : HeadStep) → Took order b bytes k first → so_far first ≡ answer.More
+took_behind : (order : Order) (b bytes : List ℕ) (k used : ℕ) (first last : HeadStep) → Took order b bytes k first
+    → so_far first ≡ answer.More
     → Took order (b ++ take k bytes) (drop k bytes) used last → Took order b bytes (k + used) last
 took_behind order b bytes k used first last t goes o = record {
   within = omega (arith, t.within, o.within, length-drop k bytes);
@@ -149,13 +65,19 @@ took_behind order b bytes k used first last t goes o = record {
   before = λ i lt. elim (cases_lt i k) [
     | inl shorter ↦ t.before i shorter
     | inr behind ↦
-        let more : Answers order ((b ++ take k bytes) ++ take (i - k) (drop k bytes)) answer.More = o.before (i - k) (omega (arith, lt, behind)) in
+        let more : Answers order ((b ++ take k bytes) ++ take (i - k) (drop k bytes)) answer.More =
+        o.before (i - k) (omega (arith, lt, behind)) in
         let same : k + (i - k) ≡ i = omega (arith, behind) in
-        subst (λ (m : ℕ). Answers order (b ++ take m bytes) answer.More) same (subst (λ (l : List ℕ). Answers order l answer.More) (joined b bytes k (i - k)) more)
+        subst (λ (m : ℕ). Answers order (b ++ take m bytes) answer.More) same
+        (subst (λ (l : List ℕ). Answers order l answer.More) (joined b bytes k (i - k)) more)
   ];
   unfed = λ e.
-      let u = o.unfed e in
-      (u.0, u.1, sym (drop-drop used k bytes) ∙ u.2, subst (λ (l : List ℕ). AddsCell order l u.0) (joined b bytes k used) u.3);
+      let u = o.unfed e in (
+        u.0,
+        u.1,
+        sym (drop-drop used k bytes) ∙ u.2,
+        subst (λ (l : List ℕ). AddsCell order l u.0) (joined b bytes k used) u.3,
+      );
 }
 
 took_none : (order : Order) (b bytes : List ℕ) → Answers order b answer.More → Took order b bytes 0 answer.More
@@ -181,62 +103,79 @@ goes_of answer.Done e = absurd cc
 goes_of (answer.Fault f) e = absurd cc
 
 -- after an answer that others follow
-goes_behind : (order : Order) (b bytes : List ℕ) (n : ℕ) (a : Answer HeadStep) → Answered order b (take n bytes) a → so_far a.gave ≡ answer.More → Answers order (b ++ take a.used bytes) answer.More
+goes_behind : (order : Order) (b bytes : List ℕ) (n : ℕ) (a : Answer HeadStep) → Answered order b (take n bytes) a
+    → so_far a.gave ≡ answer.More → Answers order (b ++ take a.used bytes) answer.More
 goes_behind order b bytes n a answered goes =
-    subst (λ (s : HeadStep). Answers order (b ++ take a.used bytes) s) goes (took_of_piece order b bytes n a.used a.gave answered.took).answers
+    subst (λ (s : HeadStep). Answers order (b ++ take a.used bytes) s) goes
+    (took_of_piece order b bytes n a.used a.gave answered.took).answers
 
-trace_took : (order : Order) (b bytes turns : List ℕ) (answers : List (Answer HeadStep)) → Answers order b answer.More → IsTrace (Answered order) goes_on b bytes turns answers
+trace_took : (order : Order) (b bytes turns : List ℕ) (answers : List (Answer HeadStep)) → Answers order b answer.More
+    → IsTrace (Answered order) goes_on b bytes turns answers
     → Took order b bytes (used_in answers) (last_given answer.More answers)
 trace_took order b bytes [] answers more t =
-    subst (λ (l : List (Answer HeadStep)). Took order b bytes (used_in l) (last_given answer.More l)) (sym t) (took_none order b bytes more)
+    subst (λ (l : List (Answer HeadStep)). Took order b bytes (used_in l) (last_given answer.More l)) (sym t)
+    (took_none order b bytes more)
 trace_took order b bytes (n ∷ turns) [] more t = absurd t
 trace_took order b bytes (n ∷ turns) (a ∷ []) more t =
-    subst (λ (k : ℕ). Took order b bytes k a.gave) (sym (used_cons a [] ∙ omega arith)) (took_of_piece order b bytes n a.used a.gave t.0.took)
+    subst (λ (k : ℕ). Took order b bytes k a.gave) (sym (used_cons a [] ∙ omega arith))
+    (took_of_piece order b bytes n a.used a.gave t.0.took)
 trace_took order b bytes (n ∷ turns) (a ∷ c ∷ answers) more t = elim (true_or_false (goes_on a.gave)) [
   | inl is ↦
       let goes = more_of a.gave is in
       subst (λ (k : ℕ). Took order b bytes k (last_given c.gave answers)) (sym (used_cons a (c ∷ answers)))
-      (took_behind order b bytes a.used (used_in (c ∷ answers)) a.gave (last_given c.gave answers) (took_of_piece order b bytes n a.used a.gave t.0.took) goes
-      (trace_took order (b ++ take a.used bytes) (drop a.used bytes) turns (c ∷ answers) (goes_behind order b bytes n a t.0 goes) (t.2 is)))
+      (took_behind order b bytes a.used (used_in (c ∷ answers)) a.gave (last_given c.gave answers)
+      (took_of_piece order b bytes n a.used a.gave t.0.took) goes
+      (trace_took order (b ++ take a.used bytes) (drop a.used bytes) turns (c ∷ answers)
+      (goes_behind order b bytes n a t.0 goes) (t.2 is)))
   | inr is ↦ (let none : c ∷ answers ≡ [] = t.1 is in absurd cc)
 ]
 
 -- what an answer that others follow used
-advances : (order : Order) (b piece : List ℕ) (a : Answer HeadStep) → Answered order b piece a → goes_on a.gave ≡ true → (a.used ≡ length piece) ⊎ (1 ≤ a.used + cond (is_refusal a.gave) 1 0)
+advances : (order : Order) (b piece : List ℕ) (a : Answer HeadStep) → Answered order b piece a → goes_on a.gave ≡ true
+    → (a.used ≡ length piece) ⊎ (1 ≤ a.used + cond (is_refusal a.gave) 1 0)
 advances order b piece a answered goes = on a.gave refl goes where
-  on : (s : HeadStep) → a.gave ≡ s → goes_on s ≡ true → (a.used ≡ length piece) ⊎ (1 ≤ a.used + cond (is_refusal a.gave) 1 0)
+  on : (s : HeadStep) → a.gave ≡ s → goes_on s ≡ true
+      → (a.used ≡ length piece) ⊎ (1 ≤ a.used + cond (is_refusal a.gave) 1 0)
   on answer.More is e = inl (answered.whole is)
   on answer.NoMemory is e = inr (omega (arith, ap {B = ℕ} (λ (s : HeadStep). cond (is_refusal s) 1 0) is))
   on (answer.Foreign v) is e = absurd cc
   on answer.Done is e = absurd cc
   on (answer.Fault f) is e = absurd cc
 
-trace_moves : (order : Order) (b bytes turns : List ℕ) (answers : List (Answer HeadStep)) (first : HeadStep) → Answers order b answer.More → IsTrace (Answered order) goes_on b bytes turns answers
+trace_moves : (order : Order) (b bytes turns : List ℕ) (answers : List (Answer HeadStep)) (first : HeadStep)
+    → Answers order b answer.More → IsTrace (Answered order) goes_on b bytes turns answers
     → goes_on (last_given first answers) ≡ true → Moves bytes turns (used_in answers) (refusals answers)
 trace_moves order b bytes [] answers first more t goes = inr (omega arith)
 trace_moves order b bytes (n ∷ turns) [] first more t goes = absurd t
 trace_moves order b bytes (n ∷ turns) (a ∷ answers) first more t goes =
     let is = goes_first goes_on a answers t.1 goes in
     let behind = goes_behind order b bytes n a t.0 (more_of a.gave is) in
-    let moves = trace_moves order (b ++ take a.used bytes) (drop a.used bytes) turns answers a.gave behind (t.2 is) goes in
+    let moves = trace_moves order (b ++ take a.used bytes) (drop a.used bytes) turns answers a.gave behind (t.2 is)
+    goes in
     let within = (trace_took order (b ++ take a.used bytes) (drop a.used bytes) turns answers behind (t.2 is)).within in
     subst (λ (k : ℕ). Moves bytes (n ∷ turns) k (refusals (a ∷ answers))) (sym (used_cons a answers))
-    (subst (λ (k : ℕ). Moves bytes (n ∷ turns) (a.used + used_in answers) k) (sym (sum_by-cons (λ (c : Answer HeadStep). cond (is_refusal c.gave) 1 0) a answers))
-    (moves_first bytes turns n a.used (cond (is_refusal a.gave) 1 0) (used_in answers) (refusals answers) t.0.took.within (advances order b (take n bytes) a t.0 is) within moves))
+    (subst (λ (k : ℕ). Moves bytes (n ∷ turns) (a.used + used_in answers) k)
+    (sym (sum_by-cons (λ (c : Answer HeadStep). cond (is_refusal c.gave) 1 0) a answers))
+    (moves_first bytes turns n a.used (cond (is_refusal a.gave) 1 0) (used_in answers) (refusals answers)
+    t.0.took.within (advances order b (take n bytes) a t.0 is) within moves))
 
 pub trace_runs : TraceRuns
 trace_runs order b bytes turns answers more t = record {
   took = trace_took order b bytes turns answers more t;
-  moved = λ goes. trace_moves order b bytes turns answers answer.More more t (goes_of (last_given answer.More answers) goes);
+  moved = λ goes. trace_moves order b bytes turns answers answer.More more t
+      (goes_of (last_given answer.More answers) goes);
 }
 
 -- ---- a header whose bytes are all offered
 
-module _ (order : Order) (h : HeaderData) (b front rest turns : List ℕ) (run : HeadRun) (is : IsHeader order h (b ++ front)) (r : Runs order b (front ++ rest) turns run)
+module _ (order : Order) (h : HeaderData) (b front rest turns : List ℕ) (run : HeadRun)
+    (is : IsHeader order h (b ++ front)) (r : Runs order b (front ++ rest) turns run)
     (enough : length front + run.refused ≤ some_turns turns) where
   -- at the header's last byte nothing goes on
   not_more : (i : ℕ) → i ≡ length front → Answers order (b ++ take i (front ++ rest)) answer.More → ⊥
-  not_more i same more = more.0 h (subst (λ (l : List ℕ). IsHeader order h (b ++ l)) (sym (ap (λ (k : ℕ). take k (front ++ rest)) same ∙ take-append_seam front rest)) is)
+  not_more i same more = more.0 h
+      (subst (λ (l : List ℕ). IsHeader order h (b ++ l))
+      (sym (ap (λ (k : ℕ). take k (front ++ rest)) same ∙ take-append_seam front rest)) is)
 
   no_further : run.taken ≤ length front
   no_further = elim (cases_lt (length front) run.taken) [
@@ -253,7 +192,8 @@ module _ (order : Order) (h : HeaderData) (b front rest turns : List ℕ) (run :
 
   goes_not : so_far run.last ≡ answer.More → ⊥
   goes_not goes = elim (cases_eq run.taken (length front)) [
-    | inl all ↦ not_more run.taken all (subst (λ (s : HeadStep). Answers order (b ++ take run.taken (front ++ rest)) s) goes r.took.answers)
+    | inl all ↦ not_more run.taken all
+        (subst (λ (s : HeadStep). Answers order (b ++ take run.taken (front ++ rest)) s) goes r.took.answers)
     | inr other ↦ elim (r.moved goes) [
       | inl whole ↦ omega (arith, other, whole, no_further, length-append front rest)
       | inr turned ↦ omega (arith, other, turned, no_further, enough)
@@ -264,15 +204,21 @@ module _ (order : Order) (h : HeaderData) (b front rest turns : List ℕ) (run :
   by_last answer.More e = absurd (goes_not (ap so_far e))
   by_last answer.NoMemory e = absurd (goes_not (ap so_far e))
   by_last (answer.Foreign v) e =
-      let foreign = subst (λ (s : HeadStep). Answers order (b ++ take run.taken (front ++ rest)) (so_far s)) e r.took.answers in
-      absurd (none_some (ap (λ (l : List ℕ). foreign_in order l) (sym (append-nil (b ++ front))) ∙ header_is_not_foreign order h (b ++ front) [] is)
-      (ap (λ (l : List ℕ). foreign_in order l) (sym parted) ∙ foreign_on order (b ++ take run.taken (front ++ rest)) (drop run.taken front) v foreign))
+      let foreign = subst (λ (s : HeadStep). Answers order (b ++ take run.taken (front ++ rest)) (so_far s)) e
+      r.took.answers in
+      absurd (none_some (ap (λ (l : List ℕ). foreign_in order l) (sym (append-nil (b ++ front)))
+      ∙ header_is_not_foreign order h (b ++ front) [] is)
+      (ap (λ (l : List ℕ). foreign_in order l) (sym parted)
+      ∙ foreign_on order (b ++ take run.taken (front ++ rest)) (drop run.taken front) v foreign))
   by_last (answer.Fault f) e =
-      absurd (header_is_not_refused order h (b ++ front) [] (b ++ take run.taken (front ++ rest)) (drop run.taken front) f.offset f.kind is (append-nil (b ++ front) ∙ sym parted)
+      absurd (header_is_not_refused order h (b ++ front) [] (b ++ take run.taken (front ++ rest)) (drop run.taken front)
+      f.offset f.kind is (append-nil (b ++ front) ∙ sym parted)
       (subst (λ (s : HeadStep). Answers order (b ++ take run.taken (front ++ rest)) (so_far s)) e r.took.answers))
   by_last answer.Done e =
-      let done = subst (λ (s : HeadStep). Answers order (b ++ take run.taken (front ++ rest)) (so_far s)) e r.took.answers in
-      let one = one_header order done.0 h (b ++ take run.taken (front ++ rest)) (drop run.taken front) done.1 (subst (IsHeader order h) (sym parted) is) in
+      let done = subst (λ (s : HeadStep). Answers order (b ++ take run.taken (front ++ rest)) (so_far s)) e
+      r.took.answers in
+      let one = one_header order done.0 h (b ++ take run.taken (front ++ rest)) (drop run.taken front) done.1
+      (subst (IsHeader order h) (sym parted) is) in
       (refl, omega (arith, ap length one.0, no_further, length-drop run.taken front))
 
   pub header_read : (run.last ≡ answer.Done) × (run.taken ≡ length front)
@@ -288,17 +234,37 @@ pub record Going (order : Order) (b bytes turns : List ℕ) (run : HeadRun) (r :
   pub answers : List (Answer HeadStep)
   pub trace : IsTrace (Answered order) goes_on b bytes turns answers
   pub goes : goes_on (last_given answer.More answers) ≡ true
-  pub run_is : run ≡ record { taken = used_in answers; refused = refusals answers; last = last_given answer.More answers }
+  pub run_is : run ≡ record {
+    taken = used_in answers;
+    refused = refusals answers;
+    last = last_given answer.More answers;
+  }
   pub stands : StandsFor r (b ++ take run.taken bytes)
 
-pub going_none : (order : Order) (b bytes : List ℕ) (r : HeadReader) → StandsFor r b → Going order b bytes [] (record { taken = 0; refused = 0; last = answer.More }) r
-going_none order b bytes r s = record { answers = []; trace = refl; goes = refl; run_is = refl; stands = subst (λ (l : List ℕ). StandsFor r l) (sym (append-nil b)) s }
+pub going_none : (order : Order) (b bytes : List ℕ) (r : HeadReader) → StandsFor r b
+    → Going order b bytes [] (record { taken = 0; refused = 0; last = answer.More }) r
+going_none order b bytes r s =
+    record {
+      answers = [];
+      trace = refl;
+      goes = refl;
+      run_is = refl;
+      stands = subst (λ (l : List ℕ). StandsFor r l)
+          (sym (append-nil b)) s;
+    }
 
 -- one turn more
-module _ (order : Order) (b bytes turns : List ℕ) (i : ℕ) (run next : HeadRun) (r new : HeadReader) (piece : List ℕ) (used : ℕ) (last : HeadStep) (lt : i < length turns)
-    (g : Going order b bytes (take i turns) run r) (same : r.order ≡ order) (is : piece ≡ take (slice_index_or turns i 0) (drop run.taken bytes)) (begins : Answers order b answer.More)
+module _ (order : Order) (b bytes turns : List ℕ) (i : ℕ) (run next : HeadRun) (r new : HeadReader) (piece : List ℕ)
+    (used : ℕ) (last : HeadStep) (lt : i < length turns)
+    (g : Going order b bytes (take i turns) run r) (same : r.order ≡ order)
+    (is : piece ≡ take (slice_index_or turns i 0) (drop run.taken bytes)) (begins : Answers order b answer.More)
     (offer : (d : List ℕ) → StandsFor r d → Answers r.order d answer.More → Offered r.order d piece used last new)
-    (next_is : next ≡ record { taken = run.taken + used; refused = run.refused + cond (is_refusal last) 1 0; last = last }) where
+    (next_is : next ≡ record {
+      taken = run.taken + used;
+      refused = run.refused
+          + cond (is_refusal last) 1 0;
+      last = last;
+    }) where
   abbrev given : Answer HeadStep
   given = record { used = used; gave = last }
 
@@ -308,33 +274,52 @@ module _ (order : Order) (b bytes turns : List ℕ) (i : ℕ) (run next : HeadRu
   more : Answers order (b ++ take run.taken bytes) answer.More
   more =
       subst (λ (k : ℕ). Answers order (b ++ take k bytes) answer.More) (sym taken_is)
-      (subst (λ (s : HeadStep). Answers order (b ++ take (used_in g.answers) bytes) s) (more_of (last_given answer.More g.answers) g.goes) (trace_took order b bytes (take i turns) g.answers begins g.trace).answers)
+      (subst (λ (s : HeadStep). Answers order (b ++ take (used_in g.answers) bytes) s)
+      (more_of (last_given answer.More g.answers) g.goes)
+      (trace_took order b bytes (take i turns) g.answers begins g.trace).answers)
 
-  offered : Offered order (b ++ take run.taken bytes) (take (slice_index_or turns i 0) (drop run.taken bytes)) used last new
+  offered : Offered order (b ++ take run.taken bytes) (take (slice_index_or turns i 0) (drop run.taken bytes)) used last
+      new
   offered =
       let d = b ++ take run.taken bytes in
       subst (λ (l : List ℕ). Offered order d l used last new) is
-      (subst (λ (q : Order). Offered q d piece used last new) same (offer d g.stands (subst (λ (q : Order). Answers q d answer.More) (sym same) more)))
+      (subst (λ (q : Order). Offered q d piece used last new) same
+      (offer d g.stands (subst (λ (q : Order). Answers q d answer.More) (sym same) more)))
 
-  may : Answered order (b ++ take (used_in g.answers) bytes) (take (slice_index_or turns i 0) (drop (used_in g.answers) bytes)) given
-  may = subst (λ (k : ℕ). Answered order (b ++ take k bytes) (take (slice_index_or turns i 0) (drop k bytes)) given) taken_is offered.answered
+  may : Answered order (b ++ take (used_in g.answers) bytes)
+      (take (slice_index_or turns i 0) (drop (used_in g.answers) bytes)) given
+  may = subst (λ (k : ℕ). Answered order (b ++ take k bytes) (take (slice_index_or turns i 0) (drop k bytes)) given)
+      taken_is offered.answered
 
-  counted : next ≡ record { taken = used_in (g.answers ++ given ∷ []); refused = refusals (g.answers ++ given ∷ []); last = last_given answer.More (g.answers ++ given ∷ []) }
+  counted : next ≡ record {
+    taken = used_in (g.answers ++ given ∷ []);
+    refused = refusals (g.answers ++ given ∷ []);
+    last = last_given answer.More (g.answers ++ given ∷ []);
+  }
   counted =
-      let taken = ap (λ (k : ℕ). k + used) taken_is ∙ sym (sum_by_push (λ (a : Answer HeadStep). a.used) g.answers given) in
-      let refused = ap (λ (n : HeadRun). n.refused + cond (is_refusal last) 1 0) g.run_is ∙ sym (sum_by_push (λ (a : Answer HeadStep). cond (is_refusal a.gave) 1 0) g.answers given) in
+      let taken = ap (λ (k : ℕ). k + used) taken_is
+      ∙ sym (sum_by_push (λ (a : Answer HeadStep). a.used) g.answers given) in
+      let refused = ap (λ (n : HeadRun). n.refused + cond (is_refusal last) 1 0) g.run_is
+      ∙ sym (sum_by_push (λ (a : Answer HeadStep). cond (is_refusal a.gave) 1 0) g.answers given) in
       next_is
       ∙ ap (λ (k : ℕ). record { taken = k; refused = run.refused + cond (is_refusal last) 1 0; last = last }) taken
       ∙ ap (λ (k : ℕ). record { taken = used_in (g.answers ++ given ∷ []); refused = k; last = last }) refused
-      ∙ ap (λ (s : HeadStep). record { taken = used_in (g.answers ++ given ∷ []); refused = refusals (g.answers ++ given ∷ []); last = s }) (sym (last_of_push answer.More g.answers given))
+      ∙ ap (λ (s : HeadStep). record {
+        taken = used_in (g.answers ++ given ∷ []);
+        refused = refusals
+            (g.answers ++ given ∷ []);
+        last = s;
+      }) (sym (last_of_push answer.More g.answers given))
 
   stands : StandsFor new (b ++ take next.taken bytes)
   stands =
       let n = slice_index_or turns i 0 in
       let within = offered.answered.took.within in
-      let shorter : take used (take n (drop run.taken bytes)) ≡ take used (drop run.taken bytes) = take-take used n (drop run.taken bytes) (omega (arith, within, length-take n (drop run.taken bytes))) in
+      let shorter : take used (take n (drop run.taken bytes)) ≡ take used (drop run.taken bytes) =
+      take-take used n (drop run.taken bytes) (omega (arith, within, length-take n (drop run.taken bytes))) in
       subst (λ (k : ℕ). StandsFor new (b ++ take k bytes)) (ap (λ (n : HeadRun). n.taken) (sym next_is))
-      (subst (λ (l : List ℕ). StandsFor new l) (ap (λ (l : List ℕ). (b ++ take run.taken bytes) ++ l) shorter ∙ joined b bytes run.taken used) offered.stands)
+      (subst (λ (l : List ℕ). StandsFor new l)
+      (ap (λ (l : List ℕ). (b ++ take run.taken bytes) ++ l) shorter ∙ joined b bytes run.taken used) offered.stands)
 
   pub going_on : goes_on last ≡ true → Going order b bytes (take (i + 1) turns) next new
   going_on goes = record {
@@ -353,14 +338,16 @@ module _ (order : Order) (b bytes turns : List ℕ) (i : ℕ) (run next : HeadRu
     stands = stands;
   }
 
-pub ends_of : (last : HeadStep) → last ≢ answer.More → last ≢ answer.NoMemory → (goes_on last ≡ false) × (is_refusal last ≡ false)
+pub ends_of : (last : HeadStep) → last ≢ answer.More → last ≢ answer.NoMemory
+    → (goes_on last ≡ false) × (is_refusal last ≡ false)
 ends_of answer.More not_more fed = absurd (not_more refl)
 ends_of answer.NoMemory not_more fed = absurd (fed refl)
 ends_of (answer.Foreign v) not_more fed = (refl, refl)
 ends_of answer.Done not_more fed = (refl, refl)
 ends_of (answer.Fault f) not_more fed = (refl, refl)
 
-pub traced_all : (order : Order) (b bytes turns : List ℕ) (i : ℕ) (run : HeadRun) (r : HeadReader) → length turns ≤ i → Going order b bytes (take i turns) run r → Traced order b bytes turns run r
+pub traced_all : (order : Order) (b bytes turns : List ℕ) (i : ℕ) (run : HeadRun) (r : HeadReader) → length turns ≤ i
+    → Going order b bytes (take i turns) run r → Traced order b bytes turns run r
 traced_all order b bytes turns i run r le g = record {
   answers = g.answers;
   trace = subst (λ (l : List ℕ). IsTrace (Answered order) goes_on b bytes l g.answers) (take_all i turns le) g.trace;
@@ -369,8 +356,7 @@ traced_all order b bytes turns i run r le g = record {
 }
 
 -- what a trace comes to
-pub runs_of : (order : Order) (b bytes turns : List ℕ) (run : HeadRun) (new : HeadReader) → Answers order b answer.More → Traced order b bytes turns run new → Runs order b bytes turns run
-runs_of order b bytes turns run new more t = subst (λ (n : HeadRun). Runs order b bytes turns n) (sym t.run_is) (trace_runs order b bytes turns t.answers more t.trace)
-
-pub steps_as : {o p : Order} {b : List ℕ} {x : ℕ} {result : HeadStep} {new : HeadReader} → o ≡ p → Steps o b x result new → Steps p b x result new
-steps_as {o} {p} {b} {x} {result} {new} e s = subst (λ (q : Order). Steps q b x result new) e s
+pub runs_of : (order : Order) (b bytes turns : List ℕ) (run : HeadRun) (new : HeadReader) → Answers order b answer.More
+    → Traced order b bytes turns run new → Runs order b bytes turns run
+runs_of order b bytes turns run new more t = subst (λ (n : HeadRun). Runs order b bytes turns n) (sym t.run_is)
+    (trace_runs order b bytes turns t.answers more t.trace)

@@ -5,10 +5,10 @@ use Rattle.dl_head.specs.declared.reader.byte_field.ByteField.TheVariants as fie
 use Rattle.dl_head.specs.declared.reader.Phase.{Phase}
 use Rattle.dl_head.specs.declared.reader.Phase.TheVariants as phase
 use Rattle.dl_head.specs.declared.reader.HeadReader.{HeadReader}
-use Rattle.dl_head.specs.TableData.{TableData}
-use Rattle.dl_head.specs.Layout.{Layout, Item}
+use Rattle.dl_table.specs.TableData.{TableData}
+use Rattle.dl_field.specs.Layout.{Layout, Item}
 use Rattle.dl_head.specs.HeadStep.{end_near, lengths_fit, tables_fit, formats_fit, AreStandard}
-use Rattle.dl_head.specs.TableCells.{table_cells}
+use Rattle.dl_table.specs.TableCells.{table_cells}
 use Rattle.dl_head.specs.TableSpelt.{TableStands}
 use Rattle.dl_head.specs.Place.{AtStart, Early, Behind, Late, InTable, AtPhase}
 
@@ -41,25 +41,49 @@ counted r g start taken = record r {
   taken = taken;
 }
 
-early_counted : (r : HeadReader) (g : Guards r) (s t : ℕ) (items is : List Item) → Early r items is → Early (counted r g s t) items is
+early_counted : (r : HeadReader) (g : Guards r) (s t : ℕ) (items is : List Item) → Early r items is
+    → Early (counted r g s t) items is
 early_counted r g s t items is e =
-    record { items_are = e.items_are; end = e.end; overrun = e.overrun; before = record { no_lengths = e.before.no_lengths; fresh = e.before.fresh } }
+    record {
+      items_are = e.items_are;
+      end = e.end;
+      overrun = e.overrun;
+      before = record { no_lengths = e.before.no_lengths; fresh = e.before.fresh };
+    }
 
-start_counted : (r : HeadReader) (g : Guards r) (s t : ℕ) (items : List Item) → AtStart r items → AtStart (counted r g s t) items
+start_counted : (r : HeadReader) (g : Guards r) (s t : ℕ) (items : List Item) → AtStart r items
+    → AtStart (counted r g s t) items
 start_counted r g s t items e =
-    record { none = e.none; end = e.end; overrun = e.overrun; before = record { no_lengths = e.before.no_lengths; fresh = e.before.fresh } }
+    record {
+      none = e.none;
+      end = e.end;
+      overrun = e.overrun;
+      before = record { no_lengths = e.before.no_lengths; fresh = e.before.fresh };
+    }
 
-behind_counted : (r : HeadReader) (g : Guards r) (s t : ℕ) (items : List Item) (l : Layout) → Behind r items l → Behind (counted r g s t) items l
+behind_counted : (r : HeadReader) (g : Guards r) (s t : ℕ) (items : List Item) (l : Layout) → Behind r items l
+    → Behind (counted r g s t) items l
 behind_counted r g s t items l e =
-    record { follows = e.follows; unit = e.unit; header = e.header; header_ends = e.header_ends; end = e.end; overrun = e.overrun }
+    record {
+      follows = e.follows;
+      unit = e.unit;
+      header = e.header;
+      header_ends = e.header_ends;
+      end = e.end;
+      overrun = e.overrun;
+    }
 
-late_counted : (r : HeadReader) (g : Guards r) (s t : ℕ) (items : List Item) (l : Layout) → Late r items l → Late (counted r g s t) items l
+late_counted : (r : HeadReader) (g : Guards r) (s t : ℕ) (items : List Item) (l : Layout) → Late r items l
+    → Late (counted r g s t) items l
 late_counted r g s t items l e = record { behind = behind_counted r g s t items l e.behind; fresh = e.fresh }
 
-table_counted : (r : HeadReader) (g : Guards r) (s t : ℕ) (items : List Item) (rest : List ℕ) (next : TableData → Layout) → InTable r items rest next → InTable (counted r g s t) items rest next
-table_counted r g s t items rest next e = record { layout = e.layout; behind = behind_counted r g s t items e.layout e.behind; at = e.at; going = e.going }
+table_counted : (r : HeadReader) (g : Guards r) (s t : ℕ) (items : List Item) (rest : List ℕ)
+    (next : TableData → Layout) → InTable r items rest next → InTable (counted r g s t) items rest next
+table_counted r g s t items rest next e =
+    record { layout = e.layout; behind = behind_counted r g s t items e.layout e.behind; at = e.at; going = e.going }
 
-pub at_counted : (r : HeadReader) (g : Guards r) (s t : ℕ) (p : Phase) (items : List Item) (rest : List ℕ) → AtPhase r p items rest → AtPhase (counted r g s t) p items rest
+pub at_counted : (r : HeadReader) (g : Guards r) (s t : ℕ) (p : Phase) (items : List Item) (rest : List ℕ)
+    → AtPhase r p items rest → AtPhase (counted r g s t) p items rest
 at_counted r g s t (phase.UnitLength n) items rest at = (start_counted r g s t items at.0, at.1, at.2)
 at_counted r g s t (phase.LongUnitLength n) items rest at = (start_counted r g s t items at.0, at.1, at.2)
 at_counted r g s t phase.Version items rest at = (early_counted r g s t items _ at.0, at.1)
@@ -67,7 +91,8 @@ at_counted r g s t (phase.VersionEnd first) items rest at = (early_counted r g s
 at_counted r g s t (phase.HeaderLength n) items rest at = (early_counted r g s t items _ at.0, at.1, at.2)
 at_counted r g s t (phase.Byte field.AddressSize) items rest at = (early_counted r g s t items _ at.0, at.1)
 at_counted r g s t (phase.Byte field.SegmentSelectorSize) items rest at = (early_counted r g s t items _ at.0, at.1)
-at_counted r g s t (phase.Byte field.MinimumInstructionLength) items rest at = (late_counted r g s t items _ at.0, at.1, at.2)
+at_counted r g s t (phase.Byte field.MinimumInstructionLength) items rest at =
+    (late_counted r g s t items _ at.0, at.1, at.2)
 at_counted r g s t (phase.Byte field.MaximumOperations) items rest at = (late_counted r g s t items _ at.0, at.1, at.2)
 at_counted r g s t (phase.Byte field.DefaultIsStmt) items rest at = (late_counted r g s t items _ at.0, at.1, at.2)
 at_counted r g s t (phase.Byte field.LineBase) items rest at = (late_counted r g s t items _ at.0, at.1, at.2)

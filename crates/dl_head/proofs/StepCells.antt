@@ -2,12 +2,15 @@
 use Rattle.std.proofs.Common.{◌≡◌, ℕ, ◌+◌, List, [], ◌∷◌, ◌++◌, Some, None, Ok, Err, refl, ap, arith, sum_by}
 use Rattle.std.proofs.lemmas.List.Sums.{sum_by_push}
 use Rattle.dl_num.specs.declared.fixed.Order.{Order}
-use Rattle.dl_head.specs.declared.form.Form.TheVariants as form
-use Rattle.dl_head.specs.Value.{Judgement, good, bad}
-use Rattle.dl_head.specs.Layout.{Layout, initial_length_then, number_then, form_then, value_then, foreign_version, last_entry, Item, following_all, field_spelt, header_layout}
+use Rattle.dl_table.specs.declared.form.Form.TheVariants as form
+use Rattle.dl_table.specs.Value.{Judgement, good, bad}
+use Rattle.dl_field.specs.Layout.{Layout, initial_length_then, number_then, form_then, value_then, foreign_version}
+use Rattle.dl_field.specs.Layout.{last_entry, Item, following_all, field_spelt}
+use Rattle.dl_head.specs.HeaderLayout.{header_layout}
 use Rattle.dl_head.specs.Header.{cut}
-use Rattle.dl_head.specs.Cells.{item_cells, rest_cells, cut_cells, cells}
-use Rattle.dl_head.specs.TablePlace.{field_cells}
+use Rattle.dl_field.specs.Cells.{item_cells, rest_cells}
+use Rattle.dl_head.specs.Cells.{cut_cells, cells}
+use Rattle.dl_field.specs.TablePlace.{field_cells}
 use Rattle.dl_head.proofs.CutLemmas.{cut_of, cut_within, cut_good, cut_bad}
 
 none_held : (layout : Layout) → rest_cells layout [] ≡ 0
@@ -32,10 +35,17 @@ none_held (foreign_version v) = refl
 none_held (last_entry h) = refl
 
 abbrev judged_cells : Layout → List ℕ → Judgement Item → ℕ
-judged_cells layout w o = elim o [ Some (Ok i) ↦ item_cells i | Some (Err kind) ↦ rest_cells layout w | None ↦ rest_cells layout w ]
+judged_cells layout w o = elim o [
+  | Some (Ok i) ↦ item_cells i
+  | Some (Err kind) ↦ rest_cells layout w
+  | None ↦
+      rest_cells layout w
+]
 
-pub cells_on : (order : Order) (b : List ℕ) (x : ℕ) (items : List Item) (rest : List ℕ) → cut order b ≡ cut_of items rest
-    → cells order (b ++ x ∷ []) + rest_cells (following_all header_layout items) rest ≡ cells order b + field_cells order (following_all header_layout items) (rest ++ x ∷ [])
+pub cells_on : (order : Order) (b : List ℕ) (x : ℕ) (items : List Item) (rest : List ℕ)
+    → cut order b ≡ cut_of items rest
+    → cells order (b ++ x ∷ []) + rest_cells (following_all header_layout items) rest
+    ≡ cells order b + field_cells order (following_all header_layout items) (rest ++ x ∷ [])
 cells_on order b x items rest e = on (field_spelt order layout w) refl where
   layout : Layout
   layout = following_all header_layout items
@@ -49,24 +59,46 @@ cells_on order b x items rest e = on (field_spelt order layout w) refl where
   told : (o : Judgement Item) → field_spelt order layout w ≡ o → field_cells order layout w ≡ judged_cells layout w o
   told o is = ap (λ (j : Judgement Item). judged_cells layout w j) is
 
-  on : (o : Judgement Item) → field_spelt order layout w ≡ o → cells order (b ++ x ∷ []) + rest_cells layout rest ≡ cells order b + field_cells order layout w
+  on : (o : Judgement Item) → field_spelt order layout w ≡ o
+      → cells order (b ++ x ∷ []) + rest_cells layout rest ≡ cells order b + field_cells order layout w
   on None is =
-      let after : cells order (b ++ x ∷ []) ≡ sum_by item_cells items + rest_cells layout w = ap cut_cells (cut_within order b x items rest e is) in
+      let after : cells order (b ++ x ∷ []) ≡ sum_by item_cells items + rest_cells layout w =
+      ap cut_cells (cut_within order b x items rest e is) in
       omega (arith, before, after, told None is)
   on (Some (Err kind)) is =
-      let after : cells order (b ++ x ∷ []) ≡ sum_by item_cells items + rest_cells layout w = ap cut_cells (cut_bad order b x items rest kind e is) in
+      let after : cells order (b ++ x ∷ []) ≡ sum_by item_cells items + rest_cells layout w =
+      ap cut_cells (cut_bad order b x items rest kind e is) in
       omega (arith, before, after, told (bad kind) is)
   on (Some (Ok i)) is =
-      let after : cells order (b ++ x ∷ []) ≡ sum_by item_cells (items ++ i ∷ []) + rest_cells (following_all header_layout (items ++ i ∷ [])) [] = ap cut_cells (cut_good order b x items rest i e is) in
-      omega (arith, before, after, told (good i) is, none_held (following_all header_layout (items ++ i ∷ [])), sum_by_push item_cells items i)
+      let after : cells order (b ++ x ∷ []) ≡ sum_by item_cells (items ++ i ∷ [])
+      + rest_cells (following_all header_layout (items ++ i ∷ [])) [] =
+      ap cut_cells (cut_good order b x items rest i e is) in
+      omega (
+        arith,
+        before,
+        after,
+        told (good i) is,
+        none_held (following_all header_layout (items ++ i ∷ [])),
+        sum_by_push item_cells items i,
+      )
 
 -- b ends inside a field, and c with it
-pub cells_good_on : (order : Order) (b c : List ℕ) (items : List Item) (rest w : List ℕ) (i : Item) → cut order b ≡ cut_of items rest → cut order c ≡ cut_of (items ++ i ∷ []) []
+pub cells_good_on : (order : Order) (b c : List ℕ) (items : List Item) (rest w : List ℕ) (i : Item)
+    → cut order b ≡ cut_of items rest → cut order c ≡ cut_of (items ++ i ∷ []) []
     → field_spelt order (following_all header_layout items) w ≡ good i
-    → cells order c + rest_cells (following_all header_layout items) rest ≡ cells order b + field_cells order (following_all header_layout items) w
+    → cells order c + rest_cells (following_all header_layout items) rest
+    ≡ cells order b + field_cells order (following_all header_layout items) w
 cells_good_on order b c items rest w i e f is =
     let layout : Layout = following_all header_layout items in
     let before : cells order b ≡ sum_by item_cells items + rest_cells layout rest = ap cut_cells e in
-    let after : cells order c ≡ sum_by item_cells (items ++ i ∷ []) + rest_cells (following_all header_layout (items ++ i ∷ [])) [] = ap cut_cells f in
+    let after : cells order c ≡ sum_by item_cells (items ++ i ∷ [])
+    + rest_cells (following_all header_layout (items ++ i ∷ [])) [] = ap cut_cells f in
     let told : field_cells order layout w ≡ item_cells i = ap (λ (j : Judgement Item). judged_cells layout w j) is in
-    omega (arith, before, after, told, none_held (following_all header_layout (items ++ i ∷ [])), sum_by_push item_cells items i)
+    omega (
+      arith,
+      before,
+      after,
+      told,
+      none_held (following_all header_layout (items ++ i ∷ [])),
+      sum_by_push item_cells items i,
+    )

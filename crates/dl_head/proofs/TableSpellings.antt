@@ -1,38 +1,47 @@
 -- The fields that the reader of a table has taken, and the table that they are.
-use Rattle.std.proofs.Common.{◌≡◌, ℕ, ◌<◌, Bool, true, false, if◌then◌else◌, List, [], ◌∷◌, ◌++◌, refl, sym, ap, subst, ◌∙◌, append_assoc, append-nil}
+use Rattle.std.proofs.Common.{◌≡◌, ℕ, ◌<◌, Bool, true, false, if◌then◌else◌, List, [], ◌∷◌, ◌++◌, refl, sym, ap, subst}
+use Rattle.std.proofs.Common.{◌∙◌, append_assoc, append-nil}
 use Rattle.std.proofs.Props.{props}
 use Rattle.std.proofs.Math.Logic.{∥∥₁_elim, ∥∥₁_prop}
 use Rattle.dl_num.specs.declared.fixed.Order.{Order}
 use Rattle.dl_num.specs.Laws.{AllBytes}
-use Rattle.dl_head.specs.declared.form.Format.{Format}
+use Rattle.dl_table.specs.declared.form.Format.{Format}
 use Rattle.dl_head.specs.declared.reader.Phase.{Phase}
 use Rattle.dl_head.specs.declared.reader.Phase.TheVariants as phase
-use Rattle.dl_head.specs.declared.reader.next.Next.{Next}
-use Rattle.dl_head.specs.declared.reader.next.Next.TheVariants as byte_makes
-use Rattle.dl_head.specs.declared.reader.table_reader.TableReader.{TableReader}
-use Rattle.dl_head.specs.declared.reader.table_reader.TablePhase.{TablePhase}
-use Rattle.dl_head.specs.declared.reader.table_reader.TablePhase.TheVariants as table
-use Rattle.dl_head.specs.TableData.{TableData}
-use Rattle.dl_head.specs.Value.{Value, good}
-use Rattle.dl_head.specs.Layout.{Layout, Item, following_all, field_spelt, table_layout}
+use Rattle.dl_field.specs.declared.field_step.FieldStep.{FieldStep}
+use Rattle.dl_field.specs.declared.field_step.FieldStep.TheVariants as byte_makes
+use Rattle.dl_field.specs.declared.table_reader.TableReader.{TableReader}
+use Rattle.dl_field.specs.declared.table_reader.TablePhase.{TablePhase}
+use Rattle.dl_field.specs.declared.table_reader.TablePhase.TheVariants as table
+use Rattle.dl_table.specs.TableData.{TableData}
+use Rattle.dl_table.specs.Value.{Value, good}
+use Rattle.dl_field.specs.Layout.{Layout, Item, following_all, field_spelt, table_layout}
 use Rattle.dl_head.specs.Header.{SpellsFields}
-use Rattle.dl_head.specs.TablePlace.{IsFresh, TableAt, SameTable, MakesTable, BytesFollow, PushFollows}
+use Rattle.dl_field.specs.TablePlace.{IsFresh, TableAt, SameTable, MakesTable, BytesFollow, PushFollows}
 use Rattle.dl_head.specs.TableSpelt.{alone, TableSpelt, TableReads, TableStands}
 use Rattle.dl_head.proofs.CutLemmas.{following_all-append}
 use Rattle.dl_head.proofs.HeadTables.{table_same}
-use Rattle.dl_head.specs.Held.{table_of}
-use Rattle.dl_head.specs.Sound.{IsSoundTable}
-use Rattle.dl_head.proofs.PairLemmas.{table_at}
+use Rattle.dl_table.specs.Held.{table_of}
+use Rattle.dl_table.specs.Sound.{IsSoundTable}
+use Rattle.dl_field.proofs.PairLemmas.{table_at}
 use Rattle.dl_head.proofs.ReadSound.{front_bytes, table_is_sound}
-use Rattle.dl_head.proofs.SoundLemmas.{sound_prop}
-use Rattle.dl_head.proofs.TakenLemmas.{whole_held}
+use Rattle.dl_table.proofs.SoundLemmas.{sound_prop}
+use Rattle.dl_field.proofs.TakenLemmas.{whole_held}
 
 -- a field more
-fields_push : (order : Order) (layout : Layout) (items : List Item) (fields w : List ℕ) (i : Item) → SpellsFields order layout items fields → field_spelt order (following_all layout items) w ≡ good i
+fields_push : (order : Order) (layout : Layout) (items : List Item) (fields w : List ℕ) (i : Item)
+    → SpellsFields order layout items fields → field_spelt order (following_all layout items) w ≡ good i
     → SpellsFields order layout (items ++ i ∷ []) (fields ++ w)
-fields_push order layout [] fields w i none is = (w, [], ap (λ (l : List ℕ). l ++ w) none ∙ sym (append-nil w), is, refl)
-fields_push order layout (j ∷ items) fields w i s is =
-    (s.0, s.1 ++ w, ap (λ (l : List ℕ). l ++ w) s.2 ∙ append_assoc s.0 s.1 w, s.3, fields_push order _ items s.1 w i s.4 is)
+fields_push order layout [] fields w i none is =
+    (w, [], ap (λ (l : List ℕ). l ++ w) none ∙ sym (append-nil w), is, refl)
+fields_push order layout (j ∷ items) fields w i s is = (
+  s.0,
+  s.1 ++ w,
+  ap (λ (l : List ℕ). l ++ w) s.2
+      ∙ append_assoc s.0 s.1 w,
+  s.3,
+  fields_push order _ items s.1 w i s.4 is,
+)
 
 bytes_join : (v w : List ℕ) → AllBytes v → AllBytes w → AllBytes (v ++ w)
 bytes_join [] w front back = back
@@ -47,10 +56,14 @@ fresh_spelt order format t is = record {
   spelt = refl;
   at = table_same_phase (sym is.phase) (is, refl, refl);
 } where
-  table_same_phase : table.PairCount ≡ t.phase → TableAt order t table.PairCount format (alone format) (table_layout format (alone format)) [] → TableAt order t t.phase format (alone format) (table_layout format (alone format)) []
-  table_same_phase e at = subst (λ (p : TablePhase). TableAt order t p format (alone format) (table_layout format (alone format)) []) e at
+  table_same_phase : table.PairCount ≡ t.phase → TableAt order t table.PairCount format (alone format)
+      (table_layout format (alone format)) [] → TableAt order t t.phase format (alone format)
+      (table_layout format (alone format)) []
+  table_same_phase e at = subst (λ (p : TablePhase). TableAt order t p format (alone format)
+      (table_layout format (alone format)) []) e at
 
-module _ (order : Order) (format : Format) (old : TableReader) (bytes : List ℕ) (new : TableReader) (small : AllBytes bytes) (s : TableSpelt order format old) where
+module _ (order : Order) (format : Format) (old : TableReader) (bytes : List ℕ) (new : TableReader)
+    (small : AllBytes bytes) (s : TableSpelt order format old) where
   abbrev first : Layout
   first = table_layout format (alone format)
 
@@ -58,10 +71,19 @@ module _ (order : Order) (format : Format) (old : TableReader) (bytes : List ℕ
   more = subst AllBytes (append_assoc s.fields s.rest bytes) (bytes_join (s.fields ++ s.rest) bytes s.bytes small)
 
   same : SameTable old new → TableSpelt order format new
-  same kept = record { items = s.items; fields = s.fields; rest = s.rest; bytes = s.bytes; spelt = s.spelt; at = table_same order old new format (alone format) (following_all first s.items) s.rest kept s.at }
+  same kept = record {
+    items = s.items;
+    fields = s.fields;
+    rest = s.rest;
+    bytes = s.bytes;
+    spelt = s.spelt;
+    at = table_same order old new format (alone format) (following_all first s.items) s.rest kept
+        s.at;
+  }
 
   -- bytes more
-  pub spelt_push : (result : Next) → (old.phase ≡ table.Whole → ⊥) → BytesFollow order format old bytes result new → TableSpelt order format new
+  pub spelt_push : (result : FieldStep) → (old.phase ≡ table.Whole → ⊥) → BytesFollow order format old bytes result new
+      → TableSpelt order format new
   spelt_push byte_makes.Within going f =
       let made = f.made going (alone format) (following_all first s.items) s.rest s.at in
       record { items = s.items; fields = s.fields; rest = s.rest ++ bytes; bytes = more; spelt = s.spelt; at = made.1 }
@@ -73,41 +95,63 @@ module _ (order : Order) (format : Format) (old : TableReader) (bytes : List ℕ
         rest = [];
         bytes = subst AllBytes (sym (append-nil (s.fields ++ (s.rest ++ bytes)))) more;
         spelt = fields_push order first s.items s.fields (s.rest ++ bytes) made.0 s.spelt made.1;
-        at = subst (λ (l : Layout). TableAt order new new.phase format (alone format) l []) (sym (following_all-append first s.items (made.0 ∷ []))) made.2;
+        at = subst (λ (l : Layout). TableAt order new new.phase format (alone format) l [])
+            (sym (following_all-append first s.items (made.0 ∷ []))) made.2;
       }
-  spelt_push (byte_makes.Refuses kind) going f = same (f.made going (alone format) (following_all first s.items) s.rest s.at).1
-  spelt_push byte_makes.NoMemory going f = same (f.made going (alone format) (following_all first s.items) s.rest s.at).0
+  spelt_push (byte_makes.Refuses kind) going f =
+      same (f.made going (alone format) (following_all first s.items) s.rest s.at).1
+  spelt_push byte_makes.NoMemory going f = same
+      (f.made going (alone format) (following_all first s.items) s.rest s.at).0
 
 -- the values and the count of a table's entries
 module _ (order : Order) (format : Format) (t : TableReader) (s : TableSpelt order format t) where
   pub makes_table : t.phase ≡ table.Whole → MakesTable t format
   makes_table e =
-      let at = table_at order t table.Whole format (alone format) (following_all (table_layout format (alone format)) s.items) s.rest e s.at in
+      let at = table_at order t table.Whole format (alone format)
+      (following_all (table_layout format (alone format)) s.items) s.rest e s.at in
       let held = whole_held t format (alone format) (following_all (table_layout format (alone format)) s.items) at.0 in
       let read : TableData = record { format = format; pairs = t.pairs.items; entries = at.0.entries } in
-      let sound = table_is_sound order format read s.items s.fields (front_bytes s.fields s.rest s.bytes) s.spelt at.0.layout_is in
-      record { rows = held.whole; sound = subst (λ (entries : List (List Value)). IsSoundTable (record { format = format; pairs = t.pairs.items; entries = entries })) (sym held.rows_are) sound }
+      let sound = table_is_sound order format read s.items s.fields (front_bytes s.fields s.rest s.bytes) s.spelt
+      at.0.layout_is in
+      record {
+        rows = held.whole;
+        sound = subst
+            (λ (entries : List (List Value)). IsSoundTable
+            (record { format = format; pairs = t.pairs.items; entries = entries })) (sym held.rows_are) sound;
+      }
 
 -- the table is complete, whatever byte was the last one
-pub makes_table_pushed : (order : Order) (format : Format) (old new : TableReader) (byte : ℕ) (result : Next) → byte < 256 → ∥ TableReads order format old ∥₁ → PushFollows order format old byte result new
+pub makes_table_pushed : (order : Order) (format : Format) (old new : TableReader) (byte : ℕ) (result : FieldStep)
+    → byte < 256 → ∥ TableReads order format old ∥₁ → PushFollows order format old byte result new
     → new.phase ≡ table.Whole → MakesTable new format
 makes_table_pushed order format old new byte result small read follows e =
-    ∥∥₁_elim read makes_prop (λ s. makes_table order format new (spelt_push order format old (byte ∷ []) new (small, tt) s.0 result s.1 follows) e)
+    ∥∥₁_elim read makes_prop (λ s. makes_table order format new
+    (spelt_push order format old (byte ∷ []) new (small, tt) s.0 result s.1 follows) e)
   where
     makes_prop : IsProp (MakesTable new format)
-    makes_prop = let sound = sound_prop (table_of format new.pairs.items new.values.items new.pool.items) in hlevel (props, sound)
+    makes_prop = let sound = sound_prop (table_of format new.pairs.items new.values.items new.pool.items) in
+        hlevel (props, sound)
 
 -- it isn't
-pub reads_on : (order : Order) (format : Format) (old new : TableReader) (bytes : List ℕ) (result : Next) → AllBytes bytes → ∥ TableReads order format old ∥₁ → BytesFollow order format old bytes result new
+pub reads_on : (order : Order) (format : Format) (old new : TableReader) (bytes : List ℕ) (result : FieldStep)
+    → AllBytes bytes → ∥ TableReads order format old ∥₁ → BytesFollow order format old bytes result new
     → (new.phase ≡ table.Whole → ⊥) → ∥ TableReads order format new ∥₁
 reads_on order format old new bytes result small read follows going =
     ∥∥₁_elim read ∥∥₁_prop (λ s. ∣ (spelt_push order format old bytes new small s.0 result s.1 follows, going) ∣₁)
 
 -- it is as it was
-pub reads_same : (order : Order) (format : Format) (old new : TableReader) → SameTable old new → ∥ TableReads order format old ∥₁ → ∥ TableReads order format new ∥₁
+pub reads_same : (order : Order) (format : Format) (old new : TableReader) → SameTable old new
+    → ∥ TableReads order format old ∥₁ → ∥ TableReads order format new ∥₁
 reads_same order format old new same read =
     ∥∥₁_elim read ∥∥₁_prop (λ s. ∣ (
-      record { items = s.0.items; fields = s.0.fields; rest = s.0.rest; bytes = s.0.bytes; spelt = s.0.spelt; at = table_same order old new format (alone format) _ s.0.rest same s.0.at },
+      record {
+        items = s.0.items;
+        fields = s.0.fields;
+        rest = s.0.rest;
+        bytes = s.0.bytes;
+        spelt = s.0.spelt;
+        at = table_same order old new format (alone format) _ s.0.rest same s.0.at;
+      },
       λ whole. s.1 (sym same.phase ∙ whole),
     ) ∣₁)
 
@@ -121,9 +165,12 @@ fresh_stands order format t fresh = ∥∥₁_elim fresh ∥∥₁_prop (fresh_r
 
 -- ---- by the phase of the header's reader
 
-pub stands_at : (p q : Phase) (order : Order) (format : Format) (t : TableReader) → p ≡ q → ∥ TableStands p order format t ∥₁ → ∥ TableStands q order format t ∥₁
+pub stands_at : (p q : Phase) (order : Order) (format : Format) (t : TableReader) → p ≡ q
+    → ∥ TableStands p order format t ∥₁ → ∥ TableStands q order format t ∥₁
 stands_at p q order format t e stands = subst (λ (x : Phase). ∥ TableStands x order format t ∥₁) e stands
 
-pub length_or_table_stands : (b : Bool) (order : Order) (format : Format) (t : TableReader) → ∥ TableReads order format t ∥₁ → ∥ TableStands (if b then phase.OpcodeLength else phase.Directories) order format t ∥₁
+pub length_or_table_stands : (b : Bool) (order : Order) (format : Format) (t : TableReader)
+    → ∥ TableReads order format t ∥₁ → ∥ TableStands (if b then phase.OpcodeLength else phase.Directories) order format
+    t ∥₁
 length_or_table_stands true order format t reads = reads
 length_or_table_stands false order format t reads = reads

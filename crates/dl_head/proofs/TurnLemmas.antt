@@ -1,5 +1,7 @@
 -- Bytes offered in turns, whatever the answers are.
-use Rattle.std.proofs.Common.{◌≡◌, ◌+◌, ◌<◌, ◌≤◌, ◌⊎◌, inl, inr, ℕ, zero, suc, Bool, true, false, List, [], ◌∷◌, ◌++◌, length, min, take, drop, slice_index_or, refl, sym, ap, subst, ◌∙◌, arith, append_assoc, append-nil, length-take, length-drop}
+use Rattle.std.proofs.Common.{◌≡◌, ◌+◌, ◌<◌, ◌≤◌, ◌⊎◌, inl, inr, ℕ, zero, suc, Bool, true, false, List, [], ◌∷◌, ◌++◌}
+use Rattle.std.proofs.Common.{length, min, take, drop, slice_index_or, refl, sym, ap, subst, ◌∙◌, arith, append_assoc}
+use Rattle.std.proofs.Common.{append-nil, length-take, length-drop}
 use Rattle.std.proofs.lemmas.List.{take_more, drop_more, take-append-drop, drop-drop}
 use Rattle.std.proofs.lemmas.List.Sums.{sum_by-cons}
 use Rattle.std.proofs.Math.Seq.{take-add}
@@ -7,9 +9,11 @@ use Rattle.dl_head.specs.Turns.{Answer, used_in, last_given, IsTrace, some_turns
 
 -- the first k bytes after b, and then i more
 pub joined : (b bytes : List ℕ) (k i : ℕ) → (b ++ take k bytes) ++ take i (drop k bytes) ≡ b ++ take (k + i) bytes
-joined b bytes k i = append_assoc b (take k bytes) (take i (drop k bytes)) ∙ ap (λ (l : List ℕ). b ++ l) (sym (take-add k i bytes))
+joined b bytes k i = append_assoc b (take k bytes) (take i (drop k bytes))
+    ∙ ap (λ (l : List ℕ). b ++ l) (sym (take-add k i bytes))
 
-pub used_cons : {A : Type 0} (a : Answer A) (answers : List (Answer A)) → used_in (a ∷ answers) ≡ a.used + used_in answers
+pub used_cons : {A : Type 0} (a : Answer A) (answers : List (Answer A))
+    → used_in (a ∷ answers) ≡ a.used + used_in answers
 used_cons {A} a answers = sum_by-cons (λ (c : Answer A). c.used) a answers
 
 pub true_false : {v : Bool} → v ≡ true → v ≡ false → ⊥
@@ -20,26 +24,32 @@ true_or_false true = inl refl
 true_or_false false = inr refl
 
 -- where another turn follows the last answer, one follows the first
-pub goes_first : {A : Type 0} (goes_on : A → Bool) (a : Answer A) (answers : List (Answer A)) → (goes_on a.gave ≡ false → answers ≡ []) → goes_on (last_given a.gave answers) ≡ true → goes_on a.gave ≡ true
+pub goes_first : {A : Type 0} (goes_on : A → Bool) (a : Answer A) (answers : List (Answer A))
+    → (goes_on a.gave ≡ false → answers ≡ []) → goes_on (last_given a.gave answers) ≡ true → goes_on a.gave ≡ true
 goes_first {A} goes_on a answers none goes = elim (true_or_false (goes_on a.gave)) [
   | inl is ↦ is
-  | inr is ↦ absurd (true_false (subst (λ (l : List (Answer A)). goes_on (last_given a.gave l) ≡ true) (none is) goes) is)
+  | inr is ↦ absurd (true_false (subst (λ (l : List (Answer A)). goes_on (last_given a.gave l) ≡ true) (none is) goes)
+      is)
 ]
 
-pub last_of_push : {A : Type 0} (first : A) (answers : List (Answer A)) (a : Answer A) → last_given first (answers ++ a ∷ []) ≡ a.gave
+pub last_of_push : {A : Type 0} (first : A) (answers : List (Answer A)) (a : Answer A)
+    → last_given first (answers ++ a ∷ []) ≡ a.gave
 last_of_push first [] a = refl
 last_of_push first (c ∷ answers) a = last_of_push c.gave answers a
 
 -- no turn follows the last answer, unless there are no others
 module _ {A : Type 0} (May : List ℕ → List ℕ → Answer A → Type 0) (goes_on : A → Bool) where
-  pub trace_on : (b bytes turns : List ℕ) (answers : List (Answer A)) (n : ℕ) (later : List ℕ) (a : Answer A) (first : A)
+  pub trace_on : (b bytes turns : List ℕ) (answers : List (Answer A)) (n : ℕ) (later : List ℕ) (a : Answer A)
+      (first : A)
       → IsTrace May goes_on b bytes turns answers → goes_on (last_given first answers) ≡ true
-      → May (b ++ take (used_in answers) bytes) (take n (drop (used_in answers) bytes)) a → (goes_on a.gave ≡ true → later ≡ [])
+      → May (b ++ take (used_in answers) bytes) (take n (drop (used_in answers) bytes)) a
+      → (goes_on a.gave ≡ true → later ≡ [])
       → IsTrace May goes_on b bytes (turns ++ n ∷ later) (answers ++ a ∷ [])
   trace_on b bytes [] [] n later a first t goes may last = (
     subst (λ (l : List ℕ). May l (take n bytes) a) (append-nil b) may,
     λ ends. refl,
-    λ more. subst (λ (l : List ℕ). IsTrace May goes_on (b ++ take a.used bytes) (drop a.used bytes) l []) (sym (last more)) refl,
+    λ more. subst (λ (l : List ℕ). IsTrace May goes_on (b ++ take a.used bytes) (drop a.used bytes) l [])
+        (sym (last more)) refl,
   )
   trace_on b bytes [] (c ∷ answers) n later a first t goes may last = absurd cc
   trace_on b bytes (m ∷ turns) [] n later a first t goes may last = absurd t
@@ -47,34 +57,45 @@ module _ {A : Type 0} (May : List ℕ → List ℕ → Answer A → Type 0) (goe
       let more = goes_first goes_on c answers t.1 goes in
       let used = used_in answers in
       let behind = subst (λ (k : ℕ). May (b ++ take k bytes) (take n (drop k bytes)) a) (used_cons c answers) may in
-      let here = subst (λ (l : List ℕ). May l (take n (drop (c.used + used) bytes)) a) (sym (joined b bytes c.used used)) behind in (
+      let here = subst (λ (l : List ℕ). May l (take n (drop (c.used + used) bytes)) a)
+      (sym (joined b bytes c.used used)) behind in (
         t.0,
         λ ends. absurd (true_false more ends),
         λ is. trace_on (b ++ take c.used bytes) (drop c.used bytes) turns answers n later a c.gave (t.2 is) goes
-            (subst (λ (l : List ℕ). May ((b ++ take c.used bytes) ++ take used (drop c.used bytes)) (take n l) a) (sym (drop-drop used c.used bytes)) here) last,
+            (subst (λ (l : List ℕ). May ((b ++ take c.used bytes) ++ take used (drop c.used bytes)) (take n l) a)
+            (sym (drop-drop used c.used bytes)) here) last,
       )
 
-  module _ (b bytes turns : List ℕ) (i : ℕ) (answers : List (Answer A)) (a : Answer A) (first : A) (lt : i < length turns)
+  module _ (b bytes turns : List ℕ) (i : ℕ) (answers : List (Answer A)) (a : Answer A) (first : A)
+      (lt : i < length turns)
       (t : IsTrace May goes_on b bytes (take i turns) answers) (goes : goes_on (last_given first answers) ≡ true)
-      (may : May (b ++ take (used_in answers) bytes) (take (slice_index_or turns i 0) (drop (used_in answers) bytes)) a) where
-    -- a turn more
-    pub trace_more : IsTrace May goes_on b bytes (take (i + 1) turns) (answers ++ a ∷ [])
-    trace_more = subst (λ (l : List ℕ). IsTrace May goes_on b bytes l (answers ++ a ∷ [])) (sym (take_more turns i 0 lt)) (trace_on b bytes (take i turns) answers (slice_index_or turns i 0) [] a first t goes may (λ is. refl))
+      (may : May (b ++ take (used_in answers) bytes) (take (slice_index_or turns i 0) (drop (used_in answers) bytes)) a)
+    where
+      -- a turn more
+      pub trace_more : IsTrace May goes_on b bytes (take (i + 1) turns) (answers ++ a ∷ [])
+      trace_more = subst (λ (l : List ℕ). IsTrace May goes_on b bytes l (answers ++ a ∷ []))
+          (sym (take_more turns i 0 lt))
+          (trace_on b bytes (take i turns) answers (slice_index_or turns i 0) [] a first t goes may (λ is. refl))
 
-    -- the last turn
-    pub trace_last : goes_on a.gave ≡ false → IsTrace May goes_on b bytes turns (answers ++ a ∷ [])
-    trace_last ends =
-        let later = drop (i + 1) turns in
-        let whole : take i turns ++ slice_index_or turns i 0 ∷ later ≡ turns = ap (λ (l : List ℕ). take i turns ++ l) (sym (drop_more turns i 0 lt)) ∙ take-append-drop i turns in
-        subst (λ (l : List ℕ). IsTrace May goes_on b bytes l (answers ++ a ∷ [])) whole
-        (trace_on b bytes (take i turns) answers (slice_index_or turns i 0) later a first t goes may (λ is. absurd (true_false is ends)))
+      -- the last turn
+      pub trace_last : goes_on a.gave ≡ false → IsTrace May goes_on b bytes turns (answers ++ a ∷ [])
+      trace_last ends =
+          let later = drop (i + 1) turns in
+          let whole : take i turns ++ slice_index_or turns i 0 ∷ later ≡ turns =
+          ap (λ (l : List ℕ). take i turns ++ l) (sym (drop_more turns i 0 lt)) ∙ take-append-drop i turns in
+          subst (λ (l : List ℕ). IsTrace May goes_on b bytes l (answers ++ a ∷ [])) whole
+          (trace_on b bytes (take i turns) answers (slice_index_or turns i 0) later a first t goes may
+          (λ is. absurd (true_false is ends)))
 
 module _ {A : Type 0} (May : List ℕ → List ℕ → Answer A → Type 0) (goes_on : A → Bool) where
   -- after the first answer
-  pub trace_rest : (b bytes turns : List ℕ) (a : Answer A) (answers : List (Answer A)) → IsTrace May goes_on b bytes turns (a ∷ answers)
-      → (n : ℕ) × (later : List ℕ) × May b (take n bytes) a × IsTrace May goes_on (b ++ take a.used bytes) (drop a.used bytes) later answers
+  pub trace_rest : (b bytes turns : List ℕ) (a : Answer A) (answers : List (Answer A))
+      → IsTrace May goes_on b bytes turns (a ∷ answers)
+      → (n : ℕ) × (later : List ℕ) × May b (take n bytes) a
+      × IsTrace May goes_on (b ++ take a.used bytes) (drop a.used bytes) later answers
   trace_rest b bytes [] a answers t = absurd cc
-  trace_rest b bytes (n ∷ turns) a answers t = elim (true_or_false (goes_on a.gave)) [ inl is ↦ (n, turns, t.0, t.2 is) | inr is ↦ (n, [], t.0, t.1 is) ]
+  trace_rest b bytes (n ∷ turns) a answers t =
+      elim (true_or_false (goes_on a.gave)) [ inl is ↦ (n, turns, t.0, t.2 is) | inr is ↦ (n, [], t.0, t.1 is) ]
 
   -- the turn that was answered last
   pub record LastTurn (b bytes : List ℕ) (answers : List (Answer A)) (first : A) : Type 0 where
@@ -85,10 +106,19 @@ module _ {A : Type 0} (May : List ℕ → List ℕ → Answer A → Type 0) (goe
     pub total : used_in answers ≡ behind + answer.used
     pub is_last : last_given first answers ≡ answer.gave
 
-  pub last_turn : (b bytes turns : List ℕ) (a : Answer A) (answers : List (Answer A)) (first : A) → IsTrace May goes_on b bytes turns (a ∷ answers) → LastTurn b bytes (a ∷ answers) first
+  pub last_turn : (b bytes turns : List ℕ) (a : Answer A) (answers : List (Answer A)) (first : A)
+      → IsTrace May goes_on b bytes turns (a ∷ answers) → LastTurn b bytes (a ∷ answers) first
   last_turn b bytes turns a [] first t =
       let r = trace_rest b bytes turns a [] t in
-      record { behind = 0; n = r.0; answer = a; may = subst (λ (l : List ℕ). May l (take r.0 bytes) a) (sym (append-nil b)) r.2; total = used_cons a [] ∙ omega arith; is_last = refl }
+      record {
+        behind = 0;
+        n = r.0;
+        answer = a;
+        may = subst (λ (l : List ℕ). May l (take r.0 bytes) a)
+            (sym (append-nil b)) r.2;
+        total = used_cons a [] ∙ omega arith;
+        is_last = refl;
+      }
   last_turn b bytes turns a (c ∷ answers) first t =
       let r = trace_rest b bytes turns a (c ∷ answers) t in
       let l = last_turn (b ++ take a.used bytes) (drop a.used bytes) r.1 c answers a.gave r.3 in
@@ -96,8 +126,10 @@ module _ {A : Type 0} (May : List ℕ → List ℕ → Answer A → Type 0) (goe
         behind = a.used + l.behind;
         n = l.n;
         answer = l.answer;
-        may = subst (λ (d : List ℕ). May (b ++ take (a.used + l.behind) bytes) (take l.n d) l.answer) (drop-drop l.behind a.used bytes)
-            (subst (λ (d : List ℕ). May d (take l.n (drop l.behind (drop a.used bytes))) l.answer) (joined b bytes a.used l.behind) l.may);
+        may = subst (λ (d : List ℕ). May (b ++ take (a.used + l.behind) bytes) (take l.n d) l.answer)
+            (drop-drop l.behind a.used bytes)
+            (subst (λ (d : List ℕ). May d (take l.n (drop l.behind (drop a.used bytes))) l.answer)
+            (joined b bytes a.used l.behind) l.may);
         total = used_cons a (c ∷ answers) ∙ ap (λ (k : ℕ). a.used + k) l.total ∙ omega arith;
         is_last = l.is_last;
       }
@@ -107,13 +139,15 @@ abbrev pub Moves : (bytes turns : List ℕ) → (taken refused : ℕ) → Type 0
 Moves bytes turns taken refused = (taken ≡ length bytes) ⊎ (some_turns turns ≤ taken + refused)
 
 -- of a piece that is empty
-either_none : (n : ℕ) (bytes : List ℕ) → length (take n bytes) ≡ min n (length bytes) → ((length bytes ≡ 0) ⊎ (n ≡ 0)) ⊎ (1 ≤ length (take n bytes))
+either_none : (n : ℕ) (bytes : List ℕ) → length (take n bytes) ≡ min n (length bytes)
+    → ((length bytes ≡ 0) ⊎ (n ≡ 0)) ⊎ (1 ≤ length (take n bytes))
 either_none zero bytes size = inl (inr refl)
 either_none (suc n) [] size = inl (inl refl)
 either_none (suc n) (x ∷ bytes) size = inr (omega arith)
 
 -- a turn before others: it used all of its bytes, or one, or was refused memory
-pub moves_first : (bytes turns : List ℕ) (n used more taken refused : ℕ) → used ≤ length (take n bytes) → (used ≡ length (take n bytes)) ⊎ (1 ≤ used + more) → taken ≤ length (drop used bytes)
+pub moves_first : (bytes turns : List ℕ) (n used more taken refused : ℕ) → used ≤ length (take n bytes)
+    → (used ≡ length (take n bytes)) ⊎ (1 ≤ used + more) → taken ≤ length (drop used bytes)
     → Moves (drop used bytes) turns taken refused → Moves bytes (n ∷ turns) (used + taken) (more + refused)
 moves_first bytes turns n used more taken refused le moved within m = on moved m where
   size : length (take n bytes) ≡ min n (length bytes)
@@ -122,7 +156,8 @@ moves_first bytes turns n used more taken refused le moved within m = on moved m
   counted : some_turns (n ∷ turns) ≡ min n 1 + some_turns turns
   counted = sum_by-cons (λ k. min k 1) n turns
 
-  on : (used ≡ length (take n bytes)) ⊎ (1 ≤ used + more) → Moves (drop used bytes) turns taken refused → Moves bytes (n ∷ turns) (used + taken) (more + refused)
+  on : (used ≡ length (take n bytes)) ⊎ (1 ≤ used + more) → Moves (drop used bytes) turns taken refused
+      → Moves bytes (n ∷ turns) (used + taken) (more + refused)
   on moved (inl all) = inl (omega (arith, all, le, size, length-drop used bytes))
   on (inr some) (inr turned) = inr (omega (arith, some, turned, counted))
   on (inl all) (inr turned) = elim (either_none n bytes size) [

@@ -1,52 +1,58 @@
--- The header reader takes a value of a table at once: what it answers on the way, and the bytes that it stands for then.
-use Rattle.std.proofs.Common.{◌≡◌, ◌≢◌, ℕ, zero, suc, ◌+◌, ◌-◌, ◌^◌, ◌<◌, ◌≤◌, min, inl, inr, true, List, [], ◌∷◌, ◌++◌, length, take, drop, get_or, Option, Some, None, Ok, refl, sym, ap, subst, ◌∙◌, arith, append_assoc, append-nil, length-append}
+-- The header reader takes a value of a table at once: what it answers on the way, and the bytes that it stands for
+-- then.
+use Rattle.std.proofs.Common.{◌≡◌, ◌≢◌, ℕ, zero, suc, ◌+◌, ◌-◌, ◌^◌, ◌<◌, ◌≤◌, min, inl, inr, true, List, [], ◌∷◌, ◌++◌}
+use Rattle.std.proofs.Common.{length, take, drop, get_or, Option, Some, None, Ok, refl, sym, ap, subst, ◌∙◌, arith}
+use Rattle.std.proofs.Common.{append_assoc, append-nil, length-append}
 use Rattle.std.proofs.lemmas.Bool.{cases_lt, leb-true}
 use Rattle.std.proofs.lemmas.List.{length-take-le, take-take, take_all, take-append-drop}
 use Rattle.std.proofs.Math.Seq.{take-append_seam}
 use Rattle.dl_num.specs.declared.fixed.Order.{Order}
 use Rattle.dl_num.specs.Laws.{AllBytes}
 use Rattle.dl_num.proofs.LebFrontLemmas.{true_false}
-use Rattle.dl_head.specs.declared.form.Format.{Format}
-use Rattle.dl_head.specs.declared.params.Params.{Params}
+use Rattle.dl_table.specs.declared.form.Format.{Format}
+use Rattle.dl_field.specs.declared.params.Params.{Params}
 use Rattle.dl_head.specs.declared.reader.Phase.{Phase}
 use Rattle.dl_head.specs.declared.reader.Phase.TheVariants as phase
-use Rattle.dl_head.specs.declared.reader.next.Next.TheVariants as byte_makes
+use Rattle.dl_field.specs.declared.field_step.FieldStep.TheVariants as byte_makes
 use Rattle.dl_head.specs.declared.reader.HeadReader.{HeadReader}
 use Rattle.dl_head.specs.declared.reader.HeadStep.TheVariants as answer
-use Rattle.dl_head.specs.declared.reader.table_reader.TableReader.{TableReader}
-use Rattle.dl_head.specs.TableData.{TableData}
-use Rattle.dl_head.specs.TableCells.{table_cells}
-use Rattle.dl_head.specs.Value.{good}
-use Rattle.dl_head.specs.Layout.{Layout, Item, following_all, field_spelt, header_layout, from_files, from_end}
+use Rattle.dl_field.specs.declared.table_reader.TableReader.{TableReader}
+use Rattle.dl_table.specs.TableData.{TableData}
+use Rattle.dl_table.specs.TableCells.{table_cells}
+use Rattle.dl_table.specs.Value.{good}
+use Rattle.dl_field.specs.Layout.{Layout, Item, following_all, field_spelt}
+use Rattle.dl_head.specs.HeaderLayout.{header_layout, from_files, from_end}
 use Rattle.dl_head.specs.Header.{cut}
 use Rattle.dl_head.specs.Refusal.{header_decided, NothingBefore}
 use Rattle.dl_head.specs.Cells.{cells}
-use Rattle.dl_head.specs.TablePlace.{reader_cells, Adds, SameTable, TakesValue}
+use Rattle.dl_field.specs.TablePlace.{reader_cells, Adds, SameTable, TakesValue}
 use Rattle.dl_head.specs.TableSpelt.{TableReads, TableStands}
 use Rattle.dl_head.specs.Place.{InTable, AtPhase, At, SameCounts, Made, held_cells}
 use Rattle.dl_head.specs.Standing.{Below, Live, Unmade, ending, StandsFor}
 use Rattle.dl_head.specs.Reading.{Answers}
 use Rattle.dl_head.specs.HeadStep.{end_near}
 use Rattle.dl_head.specs.Whole.{in_table, IsInside, TakesAll}
-use Rattle.dl_head.proofs.FieldLemmas.{none_some, field_empty}
+use Rattle.dl_field.proofs.FieldLemmas.{none_some, field_empty}
 use Rattle.dl_head.proofs.CutLemmas.{cut_of, cut_within, cut_good, before_none}
-use Rattle.dl_head.proofs.Ends.{end_from, UpTo, EndIs, EndsWithin, end_is, room_on, ends_on}
-use Rattle.dl_head.proofs.Standings.{IsNext, Place, in_field, in_padding, in_foreign, place_of, quiet_at, field_more}
+use Rattle.dl_head.proofs.HeaderEnds.{end_from, UpTo, EndIs, EndsWithin, end_is, room_on, ends_on}
+use Rattle.dl_head.proofs.TakenBytes.{IsNext, Place, in_field, in_padding, in_foreign, place_of, quiet_at, field_more}
 use Rattle.dl_head.proofs.StepCells.{cells_good_on}
-use Rattle.dl_head.proofs.Moved.{Moved, nothing_on}
-use Rattle.dl_head.proofs.Settled.{goes_on}
-use Rattle.dl_head.proofs.Stepped.{live_of, kept_stands}
+use Rattle.dl_head.proofs.MovedReader.{Moved, nothing_on}
+use Rattle.dl_head.proofs.ByteCounted.{goes_on}
+use Rattle.dl_head.proofs.OneByteMore.{live_of, kept_stands}
 use Rattle.dl_head.proofs.ReadSound.{front_bytes}
 use Rattle.dl_head.proofs.TurnLemmas.{joined}
-use Rattle.dl_head.proofs.RunLemmas.{Offering}
+use Rattle.dl_head.proofs.OfferLemmas.{Offering}
 use Rattle.dl_head.proofs.HeadTables.{SameFields, table_stays, table_goes_on, table_adds}
 
 -- ---- nothing is taken
 
-pub takes_none : (order : Order) (b : List ℕ) (r : HeadReader) → StandsFor r b → Answers order b answer.More → TakesAll order b [] r
+pub takes_none : (order : Order) (b : List ℕ) (r : HeadReader) → StandsFor r b → Answers order b answer.More
+    → TakesAll order b [] r
 takes_none order b r s more = record {
   stands = subst (λ (l : List ℕ). StandsFor r l) (sym (append-nil b)) s;
-  more = λ i le. subst (λ (l : List ℕ). Answers order l answer.More) (sym (ap (λ (l : List ℕ). b ++ l) (none i) ∙ append-nil b)) more;
+  more = λ i le. subst (λ (l : List ℕ). Answers order l answer.More)
+      (sym (ap (λ (l : List ℕ). b ++ l) (none i) ∙ append-nil b)) more;
 } where
   none : (i : ℕ) → take {A = ℕ} i [] ≡ []
   none zero = refl
@@ -54,84 +60,99 @@ takes_none order b r s more = record {
 
 -- ---- bytes of a field up to its last one
 
-module _ (r : HeadReader) (items : List Item) (end : EndIs r items) (next : IsNext (following_all header_layout items)) where
-  abbrev layout : Layout
-  layout = following_all header_layout items
+module _ (r : HeadReader) (items : List Item) (end : EndIs r items) (next : IsNext (following_all header_layout items))
+  where
+    abbrev layout : Layout
+    layout = following_all header_layout items
 
-  -- b ends inside the field
-  pub record Passing (b rest : List ℕ) : Type 0 where
-    pub cut_is : cut r.order b ≡ cut_of items rest
-    pub unjudged : field_spelt r.order layout rest ≡ None
-    pub nothing_before : NothingBefore (header_decided r.order) b
-    pub below : Below (length b) r.end
+    -- b ends inside the field
+    pub record Passing (b rest : List ℕ) : Type 0 where
+      pub cut_is : cut r.order b ≡ cut_of items rest
+      pub unjudged : field_spelt r.order layout rest ≡ None
+      pub nothing_before : NothingBefore (header_decided r.order) b
+      pub below : Below (length b) r.end
 
-  -- w ends it
-  pub record Passed (b rest w : List ℕ) (i : Item) : Type 0 where
-    pub cut_is : cut r.order (b ++ w) ≡ cut_of (items ++ i ∷ []) []
-    pub nothing_before : NothingBefore (header_decided r.order) (b ++ w)
-    pub up_to : UpTo (length (b ++ w)) (end_from (items ++ i ∷ []))
-    pub ends_within : EndsWithin (items ++ i ∷ [])
-    pub more : (j : ℕ) → j < length w → Answers r.order (b ++ take j w) answer.More
+    -- w ends it
+    pub record Passed (b rest w : List ℕ) (i : Item) : Type 0 where
+      pub cut_is : cut r.order (b ++ w) ≡ cut_of (items ++ i ∷ []) []
+      pub nothing_before : NothingBefore (header_decided r.order) (b ++ w)
+      pub up_to : UpTo (length (b ++ w)) (end_from (items ++ i ∷ []))
+      pub ends_within : EndsWithin (items ++ i ∷ [])
+      pub more : (j : ℕ) → j < length w → Answers r.order (b ++ take j w) answer.More
 
-  more_at : (b rest : List ℕ) → Passing b rest → Answers r.order (b ++ []) answer.More
-  more_at b rest p = subst (λ (l : List ℕ). Answers r.order l answer.More) (sym (append-nil b)) (field_more r b items rest p.cut_is end next p.unjudged p.below)
+    more_at : (b rest : List ℕ) → Passing b rest → Answers r.order (b ++ []) answer.More
+    more_at b rest p = subst (λ (l : List ℕ). Answers r.order l answer.More) (sym (append-nil b))
+        (field_more r b items rest p.cut_is end next p.unjudged p.below)
 
-  quiet_here : (b rest : List ℕ) → Passing b rest → header_decided r.order b ≡ None
-  quiet_here b rest p = quiet_at r b items rest p.cut_is end p.unjudged p.below
+    quiet_here : (b rest : List ℕ) → Passing b rest → header_decided r.order b ≡ None
+    quiet_here b rest p = quiet_at r b items rest p.cut_is end p.unjudged p.below
 
-  pub passes : (w b rest : List ℕ) (i : Item) → Passing b rest → EndsWithin items → field_spelt r.order layout (rest ++ w) ≡ good i → Below (length b + length w) r.end → Passed b rest w i
-  passes [] b rest i p ends spelt below = absurd (none_some p.unjudged (ap (λ (l : List ℕ). field_spelt r.order layout l) (sym (append-nil rest)) ∙ spelt))
-  passes (x ∷ []) b rest i p ends spelt below =
-      let here = subst (λ (o : Option ℕ). Below (length b) o) end.end p.below in
-      record {
-        cut_is = cut_good r.order b x items rest i p.cut_is spelt;
-        nothing_before = nothing_on r.order b x p.nothing_before (quiet_here b rest p);
-        up_to = room_on r.order b x items rest i p.cut_is spelt here;
-        ends_within = ends_on r.order b x items rest i p.cut_is spelt here ends;
-        more = λ j lt. subst (λ (k : ℕ). Answers r.order (b ++ take k (x ∷ [])) answer.More) (let e : 0 ≡ j = omega (arith, lt) in e) (more_at b rest p);
-      }
-  passes (x ∷ y ∷ w) b rest i p ends spelt below =
-      let longer : (rest ++ x ∷ []) ++ y ∷ w ≡ rest ++ x ∷ y ∷ w = append_assoc rest (x ∷ []) (y ∷ w) in
-      let later : field_spelt r.order layout ((rest ++ x ∷ []) ++ y ∷ w) ≡ good i = ap (λ (l : List ℕ). field_spelt r.order layout l) longer ∙ spelt in
-      let unjudged = before_none r.order layout (rest ++ x ∷ []) y w (Ok i) later in
-      let on : Passing (b ++ x ∷ []) (rest ++ x ∷ []) = record {
-        cut_is = cut_within r.order b x items rest p.cut_is unjudged;
-        unjudged = unjudged;
-        nothing_before = nothing_on r.order b x p.nothing_before (quiet_here b rest p);
-        below = below_less (length b + length (x ∷ y ∷ w)) (length (b ++ x ∷ [])) r.end (omega (arith, length-append b (x ∷ []))) below;
-      } in
-      let q = passes (y ∷ w) (b ++ x ∷ []) (rest ++ x ∷ []) i on ends later
-      (subst (λ (n : ℕ). Below n r.end) (let e : length b + length (x ∷ y ∷ w) ≡ length (b ++ x ∷ []) + length (y ∷ w) = omega (arith, length-append b (x ∷ [])) in e) below) in
-      let same = append_assoc b (x ∷ []) (y ∷ w) in
-      record {
-        cut_is = ap (λ (l : List ℕ). cut r.order l) (sym same) ∙ q.cut_is;
-        nothing_before = subst (λ (l : List ℕ). NothingBefore (header_decided r.order) l) same q.nothing_before;
-        up_to = subst (λ (l : List ℕ). UpTo (length l) (end_from (items ++ i ∷ []))) same q.up_to;
-        ends_within = q.ends_within;
-        more = fronts (more_at b rest p) q.more;
-      }
-    where
-      below_less : (m n : ℕ) (o : Option ℕ) → n ≤ m → Below m o → Below n o
-      below_less m n None le lt = tt
-      below_less m n (Some e) le lt = omega (arith, le, lt)
+    pub passes : (w b rest : List ℕ) (i : Item) → Passing b rest → EndsWithin items
+        → field_spelt r.order layout (rest ++ w) ≡ good i → Below (length b + length w) r.end → Passed b rest w i
+    passes [] b rest i p ends spelt below = absurd
+        (none_some p.unjudged (ap (λ (l : List ℕ). field_spelt r.order layout l) (sym (append-nil rest)) ∙ spelt))
+    passes (x ∷ []) b rest i p ends spelt below =
+        let here = subst (λ (o : Option ℕ). Below (length b) o) end.end p.below in
+        record {
+          cut_is = cut_good r.order b x items rest i p.cut_is spelt;
+          nothing_before = nothing_on r.order b x p.nothing_before (quiet_here b rest p);
+          up_to = room_on r.order b x items rest i p.cut_is spelt here;
+          ends_within = ends_on r.order b x items rest i p.cut_is spelt here ends;
+          more = λ j lt. subst (λ (k : ℕ). Answers r.order (b ++ take k (x ∷ [])) answer.More)
+              (let e : 0 ≡ j = omega (arith, lt) in e) (more_at b rest p);
+        }
+    passes (x ∷ y ∷ w) b rest i p ends spelt below =
+        let longer : (rest ++ x ∷ []) ++ y ∷ w ≡ rest ++ x ∷ y ∷ w = append_assoc rest (x ∷ []) (y ∷ w) in
+        let later : field_spelt r.order layout ((rest ++ x ∷ []) ++ y ∷ w) ≡ good i =
+        ap (λ (l : List ℕ). field_spelt r.order layout l) longer ∙ spelt in
+        let unjudged = before_none r.order layout (rest ++ x ∷ []) y w (Ok i) later in
+        let on : Passing (b ++ x ∷ []) (rest ++ x ∷ []) = record {
+          cut_is = cut_within r.order b x items rest p.cut_is unjudged;
+          unjudged = unjudged;
+          nothing_before = nothing_on r.order b x p.nothing_before (quiet_here b rest p);
+          below = below_less (length b + length (x ∷ y ∷ w)) (length (b ++ x ∷ [])) r.end
+              (omega (arith, length-append b (x ∷ []))) below;
+        } in
+        let q = passes (y ∷ w) (b ++ x ∷ []) (rest ++ x ∷ []) i on ends later
+        (subst (λ (n : ℕ). Below n r.end)
+        (let e : length b + length (x ∷ y ∷ w) ≡ length (b ++ x ∷ [])
+        + length (y ∷ w) = omega (arith, length-append b (x ∷ [])) in e) below) in
+        let same = append_assoc b (x ∷ []) (y ∷ w) in
+        record {
+          cut_is = ap (λ (l : List ℕ). cut r.order l) (sym same) ∙ q.cut_is;
+          nothing_before = subst (λ (l : List ℕ). NothingBefore (header_decided r.order) l) same q.nothing_before;
+          up_to = subst (λ (l : List ℕ). UpTo (length l) (end_from (items ++ i ∷ []))) same q.up_to;
+          ends_within = q.ends_within;
+          more = fronts (more_at b rest p) q.more;
+        }
+      where
+        below_less : (m n : ℕ) (o : Option ℕ) → n ≤ m → Below m o → Below n o
+        below_less m n None le lt = tt
+        below_less m n (Some e) le lt = omega (arith, le, lt)
 
-      fronts : Answers r.order (b ++ []) answer.More → ((j : ℕ) → j < length (y ∷ w) → Answers r.order ((b ++ x ∷ []) ++ take j (y ∷ w)) answer.More)
-          → (j : ℕ) → j < length (x ∷ y ∷ w) → Answers r.order (b ++ take j (x ∷ y ∷ w)) answer.More
-      fronts first more zero lt = first
-      fronts first more (suc j) lt = subst (λ (l : List ℕ). Answers r.order l answer.More) (append_assoc b (x ∷ []) (take j (y ∷ w))) (more j (omega (arith, lt)))
+        fronts : Answers r.order (b ++ []) answer.More
+            → ((j : ℕ) → j < length (y ∷ w) → Answers r.order ((b ++ x ∷ []) ++ take j (y ∷ w)) answer.More)
+            → (j : ℕ) → j < length (x ∷ y ∷ w) → Answers r.order (b ++ take j (x ∷ y ∷ w)) answer.More
+        fronts first more zero lt = first
+        fronts first more (suc j) lt = subst (λ (l : List ℕ). Answers r.order l answer.More)
+            (append_assoc b (x ∷ []) (take j (y ∷ w))) (more j (omega (arith, lt)))
 
 -- ---- a value is taken
 
 -- the field that ends with w
-pub whole_taken : (r new : HeadReader) (b w : List ℕ) → ending new.phase ≡ None → (l : Live r b × Unmade r b) → IsNext (following_all header_layout l.0.items)
+pub whole_taken : (r new : HeadReader) (b w : List ℕ) → ending new.phase ≡ None → (l : Live r b × Unmade r b)
+    → IsNext (following_all header_layout l.0.items)
     → Made r.order l.0.items (l.0.rest ++ w) byte_makes.Ends new
-    → Adds r.order (following_all header_layout l.0.items) l.0.rest (l.0.rest ++ w) byte_makes.Ends (held_cells r) (held_cells new)
-    → SameFields r new → new.header ≡ r.header → new.start ≡ length b + length w → new.taken ≡ length b + length w → Below (length b + length w) r.end → TakesAll r.order b w new
+    → Adds r.order (following_all header_layout l.0.items) l.0.rest (l.0.rest ++ w) byte_makes.Ends (held_cells r)
+    (held_cells new)
+    → SameFields r new → new.header ≡ r.header → new.start ≡ length b + length w → new.taken ≡ length b + length w
+    → Below (length b + length w) r.end → TakesAll r.order b w new
 whole_taken r new b w on l next made adds same header start taken below = record {
   stands = last.1;
   more = λ i le. elim (cases_lt i (length w)) [
     | inl lt ↦ passed.more i lt
-    | inr ge ↦ subst (λ (k : List ℕ). Answers r.order (b ++ k) answer.More) (sym (take_all i w ge)) (subst (λ (o : Order). Answers o (b ++ w) answer.More) same.order last.0)
+    | inr ge ↦ subst (λ (k : List ℕ). Answers r.order (b ++ k) answer.More) (sym (take_all i w ge))
+        (subst (λ (o : Order). Answers o (b ++ w) answer.More) same.order last.0)
   ];
 } where
   items : List Item
@@ -142,7 +163,8 @@ whole_taken r new b w on l next made adds same header start taken below = record
 
   passed : Passed r items here next b l.0.rest w made.0
   passed = passes r items here next w b l.0.rest made.0
-      (record { cut_is = l.0.cut_is; unjudged = l.0.unjudged; nothing_before = l.0.nothing_before; below = l.0.below }) l.0.ends_within made.1 below
+      (record { cut_is = l.0.cut_is; unjudged = l.0.unjudged; nothing_before = l.0.nothing_before; below = l.0.below })
+      l.0.ends_within made.1 below
 
   size : length (b ++ w) ≡ length b + length w
   size = length-append b w
@@ -155,13 +177,21 @@ whole_taken r new b w on l next made adds same header start taken below = record
     at = made.2;
     unjudged = field_empty new.order (following_all header_layout (items ++ made.0 ∷ []));
     start_is = omega (arith, size, start);
-    up_to = subst (λ (o : Option ℕ). UpTo (length (b ++ w)) o) (sym (end_is new new.phase (items ++ made.0 ∷ []) [] made.2).end) passed.up_to;
-    nothing_before = subst (λ (o : Order). NothingBefore (header_decided o) (b ++ w)) (sym same.order) passed.nothing_before;
+    up_to = subst (λ (o : Option ℕ). UpTo (length (b ++ w)) o)
+        (sym (end_is new new.phase (items ++ made.0 ∷ []) [] made.2).end) passed.up_to;
+    nothing_before = subst (λ (o : Order). NothingBefore (header_decided o) (b ++ w)) (sym same.order)
+        passed.nothing_before;
     ends_within = passed.ends_within;
     unmade = record {
       header = header ∙ l.1.header;
       cells_are =
-          (let e : held_cells new ≡ cells r.order (b ++ w) = omega (arith, adds, l.1.cells_are, cells_good_on r.order b (b ++ w) items l.0.rest (l.0.rest ++ w) made.0 l.0.cut_is passed.cut_is made.1) in e)
+          (let e : held_cells new ≡ cells r.order (b ++ w) = omega (
+            arith,
+            adds,
+            l.1.cells_are,
+            cells_good_on r.order b (b ++ w) items l.0.rest (l.0.rest ++ w) made.0 l.0.cut_is
+                passed.cut_is made.1,
+          ) in e)
           ∙ ap (λ (o : Order). cells o (b ++ w)) (sym same.order);
     };
     taken_is = taken ∙ sym size;
@@ -169,7 +199,8 @@ whole_taken r new b w on l next made adds same header start taken below = record
 
   not_end : new.end ≢ Some new.taken
   not_end e =
-      let at : Below (length b + length w) (Some new.taken) = subst (λ (o : Option ℕ). Below (length b + length w) o) (sym same.end ∙ e) below in
+      let at : Below (length b + length w) (Some new.taken) =
+      subst (λ (o : Option ℕ). Below (length b + length w) o) (sym same.end ∙ e) below in
       omega (arith, at, taken)
 
   last : Answers new.order (b ++ w) answer.More × StandsFor new (b ++ w)
@@ -198,50 +229,73 @@ by_table P directories files phase.Done is = absurd cc
 by_table P directories files (phase.Foreign v) is = absurd cc
 by_table P directories files (phase.Failed f) is = absurd cc
 
-table_of_phase : (r : HeadReader) (p : Phase) (items : List Item) (rest : List ℕ) → in_table p ≡ true → AtPhase r p items rest → InTable r items rest (behind_table p r.params r.directories)
-table_of_phase r p items rest is = by_table (λ q. AtPhase r q items rest → InTable r items rest (behind_table q r.params r.directories)) (λ at. at) (λ at. at) p is
+table_of_phase : (r : HeadReader) (p : Phase) (items : List Item) (rest : List ℕ) → in_table p ≡ true
+    → AtPhase r p items rest → InTable r items rest (behind_table p r.params r.directories)
+table_of_phase r p items rest is = by_table
+    (λ q. AtPhase r q items rest → InTable r items rest (behind_table q r.params r.directories)) (λ at. at) (λ at. at) p
+    is
 
-pub phase_of_table : (r : HeadReader) (p : Phase) (items : List Item) (rest : List ℕ) → in_table p ≡ true → InTable r items rest (behind_table p r.params r.directories) → AtPhase r p items rest
-phase_of_table r p items rest is = by_table (λ q. InTable r items rest (behind_table q r.params r.directories) → AtPhase r q items rest) (λ at. at) (λ at. at) p is
+pub phase_of_table : (r : HeadReader) (p : Phase) (items : List Item) (rest : List ℕ) → in_table p ≡ true
+    → InTable r items rest (behind_table p r.params r.directories) → AtPhase r p items rest
+phase_of_table r p items rest is = by_table
+    (λ q. InTable r items rest (behind_table q r.params r.directories) → AtPhase r q items rest) (λ at. at) (λ at. at) p
+    is
 
 pub table_goes : (p : Phase) → in_table p ≡ true → ending p ≡ None
 table_goes p is = by_table (λ q. ending q ≡ None) refl refl p is
 
-next_field : (r : HeadReader) (p : Phase) (items : List Item) → in_table p ≡ true → Place r p items → IsNext (following_all header_layout items)
+next_field : (r : HeadReader) (p : Phase) (items : List Item) → in_table p ≡ true → Place r p items
+    → IsNext (following_all header_layout items)
 next_field r p items is (in_field goes out next) = next
 next_field r p items is (in_padding e behind) = absurd (true_false is (ap in_table e))
 next_field r p items is (in_foreign v e follows) = absurd (true_false is (ap in_table e))
 
 -- nothing of a value is taken
-pub value_refused : (r new : HeadReader) (b : List ℕ) → in_table r.phase ≡ true → SameTable r.table new.table → SameFields r new → SameCounts r new
-    → ((is : List Item) (w : List ℕ) → InTable new is w (behind_table r.phase r.params r.directories) → At new is w) → held_cells new ≡ table_cells r.directories + table_cells r.files + reader_cells new.table
+pub value_refused : (r new : HeadReader) (b : List ℕ) → in_table r.phase ≡ true → SameTable r.table new.table
+    → SameFields r new → SameCounts r new
+    → ((is : List Item) (w : List ℕ) → InTable new is w (behind_table r.phase r.params r.directories) → At new is w)
+    → held_cells new ≡ table_cells r.directories + table_cells r.files + reader_cells new.table
     → StandsFor r b → Answers r.order b answer.More → TakesAll r.order b [] new
 value_refused r new b table same fields counts to held s more =
     let goes = table_goes r.phase table in
     let l = live_of r b goes s in
     let at = table_of_phase r r.phase l.0.items l.0.rest table l.0.at in
     takes_none r.order b new
-    (kept_stands r new b goes s l (to l.0.items l.0.rest (table_stays r new new.table l.0.items l.0.rest _ at same refl fields)) counts
+    (kept_stands r new b goes s l (to l.0.items l.0.rest
+    (table_stays r new new.table l.0.items l.0.rest _ at same refl fields)) counts
     (omega (arith, held, ap length same.pairs, ap length same.values, ap length same.pool))) more
 
 -- the bytes that a value takes of a piece
-front_of : (piece bytes front behind : List ℕ) (len : ℕ) → bytes ≡ take len piece → bytes ≡ front ++ behind → take (length bytes - length behind) piece ≡ front
+front_of : (piece bytes front behind : List ℕ) (len : ℕ) → bytes ≡ take len piece → bytes ≡ front ++ behind
+    → take (length bytes - length behind) piece ≡ front
 front_of piece bytes front behind len e f =
     let size : length bytes - length behind ≡ length front = omega (arith, ap length f, length-append front behind) in
-    let whole : piece ≡ front ++ (behind ++ drop len piece) = sym (take-append-drop len piece) ∙ ap (λ (l : List ℕ). l ++ drop len piece) (sym e ∙ f) ∙ append_assoc front behind (drop len piece) in
-    ap (λ (n : ℕ). take n piece) size ∙ ap (λ (l : List ℕ). take (length front) l) whole ∙ take-append_seam front (behind ++ drop len piece)
+    let whole : piece ≡ front ++ (behind ++ drop len piece) = sym (take-append-drop len piece)
+    ∙ ap (λ (l : List ℕ). l ++ drop len piece) (sym e ∙ f) ∙ append_assoc front behind (drop len piece) in
+    ap (λ (n : ℕ). take n piece) size ∙ ap (λ (l : List ℕ). take (length front) l) whole
+    ∙ take-append_seam front (behind ++ drop len piece)
 
 -- a value is taken
-pub value_whole : (r new : HeadReader) (b piece bytes behind : List ℕ) → in_table r.phase ≡ true → ending new.phase ≡ None → IsInside r piece bytes → (v : TakesValue r.order r.params.format r.table bytes behind new.table)
-    → SameFields r new → ((is : List Item) (w : List ℕ) → InTable new is w (behind_table r.phase r.params r.directories) → At new is w)
-    → held_cells new ≡ table_cells r.directories + table_cells r.files + reader_cells new.table → new.header ≡ r.header → new.start ≡ new.taken
-    → new.taken ≡ min (r.taken + (length bytes - length behind)) (2 ^ 64 - 1) → StandsFor r b → TakesAll r.order b (take (length bytes - length behind) piece) new
+pub value_whole : (r new : HeadReader) (b piece bytes behind : List ℕ) → in_table r.phase ≡ true
+    → ending new.phase ≡ None → IsInside r piece bytes
+    → (v : TakesValue r.order r.params.format r.table bytes behind new.table)
+    → SameFields r new → ((is : List Item) (w : List ℕ) → InTable new is w (behind_table r.phase r.params r.directories)
+    → At new is w)
+    → held_cells new ≡ table_cells r.directories + table_cells r.files + reader_cells new.table → new.header ≡ r.header
+    → new.start ≡ new.taken
+    → new.taken ≡ min (r.taken + (length bytes - length behind)) (2 ^ 64 - 1) → StandsFor r b
+    → TakesAll r.order b (take (length bytes - length behind) piece) new
 value_whole r new b piece bytes behind table on inside v fields to held header start taken s =
-    subst (λ (l : List ℕ). TakesAll r.order b l new) (sym (front_of piece bytes v.front behind inside.len inside.bytes_are v.bytes_are))
-    (whole_taken r new b v.front on l (next_field r r.phase l.0.items table (place_of r r.phase l.0.items l.0.rest refl l.0.at))
+    subst (λ (l : List ℕ). TakesAll r.order b l new)
+    (sym (front_of piece bytes v.front behind inside.len inside.bytes_are v.bytes_are))
+    (whole_taken r new b v.front on l
+    (next_field r r.phase l.0.items table (place_of r r.phase l.0.items l.0.rest refl l.0.at))
     (table_goes_on r new new.table l.0.items l.0.rest v.front byte_makes.Ends _ at v.follows v.going refl fields to)
-    (table_adds r new.table l.0.items l.0.rest v.front byte_makes.Ends _ (table_cells r.directories + table_cells r.files) (held_cells new) at v.follows refl held)
-    fields header (omega (arith, start, counted)) counted (subst (λ (o : Option ℕ). Below (length b + length v.front) o) (sym at.behind.end) (omega (arith, lt, size, s.taken))))
+    (table_adds r new.table l.0.items l.0.rest v.front byte_makes.Ends _
+    (table_cells r.directories + table_cells r.files) (held_cells new) at v.follows refl held)
+    fields header (omega (arith, start, counted)) counted
+    (subst (λ (o : Option ℕ). Below (length b + length v.front) o) (sym at.behind.end)
+    (omega (arith, lt, size, s.taken))))
   where
     goes : ending r.phase ≡ None
     goes = table_goes r.phase table
@@ -269,24 +323,29 @@ value_whole r new b piece bytes behind table on inside v fields to held header s
 
 -- ---- the fields that the table's reader has taken
 
-pub stands_on : (p : Phase) (order : Order) (format : Format) (old new : TableReader) → in_table p ≡ true → (∥ TableReads order format old ∥₁ → ∥ TableReads order format new ∥₁)
+pub stands_on : (p : Phase) (order : Order) (format : Format) (old new : TableReader) → in_table p ≡ true
+    → (∥ TableReads order format old ∥₁ → ∥ TableReads order format new ∥₁)
     → ∥ TableStands p order format old ∥₁ → ∥ TableStands p order format new ∥₁
-stands_on p order format old new is on = by_table (λ q. ∥ TableStands q order format old ∥₁ → ∥ TableStands q order format new ∥₁) on on p is
+stands_on p order format old new is on = by_table
+    (λ q. ∥ TableStands q order format old ∥₁ → ∥ TableStands q order format new ∥₁) on on p is
 
 piece_bytes : (w : List ℕ) → ((i : ℕ) → i < length w → get_or w i 0 < 256) → AllBytes w
 piece_bytes [] h = tt
 piece_bytes (b ∷ w) h = (h 0 (omega arith), piece_bytes w (λ i lt. h (suc i) (omega arith)))
 
 -- the bytes of a value that is taken of a piece
-pub front_is_bytes : (piece bytes front behind : List ℕ) (len : ℕ) → bytes ≡ take len piece → bytes ≡ front ++ behind → ((i : ℕ) → i < length piece → get_or piece i 0 < 256) → AllBytes front
+pub front_is_bytes : (piece bytes front behind : List ℕ) (len : ℕ) → bytes ≡ take len piece → bytes ≡ front ++ behind
+    → ((i : ℕ) → i < length piece → get_or piece i 0 < 256) → AllBytes front
 front_is_bytes piece bytes front behind len e f h =
-    let first : AllBytes (take len piece) = front_bytes (take len piece) (drop len piece) (subst AllBytes (sym (take-append-drop len piece)) (piece_bytes piece h)) in
+    let first : AllBytes (take len piece) = front_bytes (take len piece) (drop len piece)
+    (subst AllBytes (sym (take-append-drop len piece)) (piece_bytes piece h)) in
     front_bytes front behind (subst AllBytes (sym e ∙ f) first)
 
 -- ---- a piece
 
 -- a value is taken
-pub offering_whole : (order : Order) (b piece : List ℕ) (i n : ℕ) (r new : HeadReader) → Offering order b piece i r → n ≤ length (drop i piece)
+pub offering_whole : (order : Order) (b piece : List ℕ) (i n : ℕ) (r new : HeadReader) → Offering order b piece i r
+    → n ≤ length (drop i piece)
     → TakesAll order (b ++ take i piece) (take n (drop i piece)) new → Offering order b piece (i + n) new
 offering_whole order b piece i n r new o le t = record {
   stands = subst (λ (l : List ℕ). StandsFor new l) (joined b piece i n) t.stands;
@@ -295,24 +354,31 @@ offering_whole order b piece i n r new o le t = record {
     | inl shorter ↦ o.before j shorter
     | inr behind ↦
         let same : i + (j - i) ≡ j = omega (arith, behind) in
-        subst (λ (m : ℕ). Answers order (b ++ take m piece) answer.More) same (front (j - i) (omega (arith, lt, behind)))
+        subst (λ (m : ℕ). Answers order (b ++ take m piece) answer.More) same
+        (front (j - i) (omega (arith, lt, behind)))
   ];
 } where
   front : (j : ℕ) → j ≤ n → Answers order (b ++ take (i + j) piece) answer.More
   front j small =
       let more = t.more j (omega (arith, small, length-take-le n (drop i piece) le)) in
       subst (λ (l : List ℕ). Answers order l answer.More) (joined b piece i j)
-      (subst (λ (l : List ℕ). Answers order ((b ++ take i piece) ++ l) answer.More) (take-take j n (drop i piece) small) more)
+      (subst (λ (l : List ℕ). Answers order ((b ++ take i piece) ++ l) answer.More) (take-take j n (drop i piece) small)
+      more)
 
 -- the same, by the reader's order
-pub offering_tried : (order : Order) (b piece rest : List ℕ) (i n : ℕ) (r new : HeadReader) → Offering order b piece i r → r.order ≡ order → rest ≡ drop i piece → n ≤ length rest
-    → ((c : List ℕ) → StandsFor r c → Answers r.order c answer.More → TakesAll r.order c (take n rest) new) → Offering order b piece (i + n) new
+pub offering_tried : (order : Order) (b piece rest : List ℕ) (i n : ℕ) (r new : HeadReader) → Offering order b piece i r
+    → r.order ≡ order → rest ≡ drop i piece → n ≤ length rest
+    → ((c : List ℕ) → StandsFor r c → Answers r.order c answer.More → TakesAll r.order c (take n rest) new)
+    → Offering order b piece (i + n) new
 offering_tried order b piece rest i n r new o same e le takes =
     let c = b ++ take i piece in
     offering_whole order b piece i n r new o (omega (arith, le, ap length e))
     (subst (λ (k : Order). TakesAll k c (take n (drop i piece)) new) same
-    (subst (λ (l : List ℕ). TakesAll r.order c (take n l) new) e (takes c o.stands (subst (λ (k : Order). Answers k c answer.More) (sym same) o.more))))
+    (subst (λ (l : List ℕ). TakesAll r.order c (take n l) new) e
+    (takes c o.stands (subst (λ (k : Order). Answers k c answer.More) (sym same) o.more))))
 
 -- no byte was taken
-pub offering_still : (order : Order) (b piece : List ℕ) (i n : ℕ) (r : HeadReader) → n ≡ 0 → Offering order b piece (i + n) r → Offering order b piece i r
-offering_still order b piece i n r none o = subst (λ (k : ℕ). Offering order b piece k r) (let e : i + n ≡ i = omega (arith, none) in e) o
+pub offering_still : (order : Order) (b piece : List ℕ) (i n : ℕ) (r : HeadReader) → n ≡ 0
+    → Offering order b piece (i + n) r → Offering order b piece i r
+offering_still order b piece i n r none o = subst (λ (k : ℕ). Offering order b piece k r)
+    (let e : i + n ≡ i = omega (arith, none) in e) o

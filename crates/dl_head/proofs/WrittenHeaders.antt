@@ -1,5 +1,7 @@
 -- The bytes that are written of a header are that header. DWARF 5, section 6.2.4.
-use Rattle.std.proofs.Common.{◌≡◌, ℕ, lit<, suc, ◌+◌, ◌-◌, ◌%◌, ◌^◌, ◌<◌, ◌≤◌, Bool, true, false, if◌then◌else◌, ℤ, pos, negsuc, ◌-ℤ◌, List, [], ◌∷◌, ◌++◌, length, Option, Some, None, refl, sym, ap, subst, ◌∙◌, arith, append_assoc}
+use Rattle.std.proofs.Common.{◌≡◌, ℕ, lit<, suc, ◌+◌, ◌-◌, ◌%◌, ◌^◌, ◌<◌, ◌≤◌, Bool, true, false, if◌then◌else◌, ℤ, pos}
+use Rattle.std.proofs.Common.{negsuc, ◌-ℤ◌, List, [], ◌∷◌, ◌++◌, length, Option, Some, None, refl, sym, ap, subst, ◌∙◌}
+use Rattle.std.proofs.Common.{arith, append_assoc}
 use Rattle.std.specs.Prelude.{is_none}
 use Rattle.std.specs.Int.{w8}
 use Rattle.std.specs.Int.RustNames.{FitsSigned}
@@ -9,19 +11,29 @@ use Rattle.std.proofs.lemmas.Bool.{leb-true, le-leb, lt-ltb, le-ltb, ne_eqb}
 use Rattle.dl_num.specs.declared.fixed.Order.{Order}
 use Rattle.dl_num.specs.Fixed.{fixed_bytes, is_number_size}
 use Rattle.dl_num.proofs.LebFrontLemmas.{true_false}
-use Rattle.dl_head.specs.declared.form.Format.{Format}
-use Rattle.dl_head.specs.declared.form.Format.TheVariants.{Dwarf32, Dwarf64}
-use Rattle.dl_head.specs.declared.params.Params.{Params}
-use Rattle.dl_head.specs.TableData.{TableData, HeaderData}
-use Rattle.dl_head.specs.Value.{offset_size}
-use Rattle.dl_head.specs.Layout.{Layout, number_then, last_entry, number_is, length_is, following, any_byte, address_size, maximum_operations, line_range, opcode_base, opcode_length, header_length, objection, NumberField, number_size, signed_byte, lengths_layout, table_layout, tables_layout, from_lengths, from_opcode_base, from_line_range, from_line_base, from_default_is_stmt, from_maximum_operations, from_minimum_length, from_header_length, from_segment_selector_size, from_address_size, format_alone, header_layout, fixed_part, initial_size}
+use Rattle.dl_table.specs.declared.form.Format.{Format}
+use Rattle.dl_table.specs.declared.form.Format.TheVariants.{Dwarf32, Dwarf64}
+use Rattle.dl_field.specs.declared.params.Params.{Params}
+use Rattle.dl_table.specs.TableData.{TableData}
+use Rattle.dl_field.specs.HeaderData.{HeaderData}
+use Rattle.dl_table.specs.Value.{offset_size}
+use Rattle.dl_field.specs.Layout.{Layout, number_then, last_entry, number_is, length_is, following, any_byte}
+use Rattle.dl_field.specs.Layout.{address_size, maximum_operations, line_range, opcode_base, opcode_length}
+use Rattle.dl_field.specs.Layout.{header_length, objection, NumberField, number_size, table_layout}
+use Rattle.dl_head.specs.HeaderLayout.{signed_byte, lengths_layout, tables_layout, from_lengths, from_opcode_base}
+use Rattle.dl_head.specs.HeaderLayout.{from_line_range, from_line_base, from_default_is_stmt, from_maximum_operations}
+use Rattle.dl_head.specs.HeaderLayout.{from_minimum_length, from_header_length, from_segment_selector_size}
+use Rattle.dl_head.specs.HeaderLayout.{from_address_size, format_alone, header_layout, fixed_part, initial_size}
 use Rattle.dl_head.specs.Header.{Cut, header_made, unit_end, IsHeader}
-use Rattle.dl_head.specs.Field.{IsInitialLength}
-use Rattle.dl_head.specs.Written.{table_bytes, byte_of, after_header_length, header_length_of, unit_length_of, initial_length_bytes, header_bytes, written_limit, is_within_limit}
+use Rattle.dl_field.specs.Field.{IsInitialLength}
+use Rattle.dl_table.specs.Written.{table_bytes}
+use Rattle.dl_head.specs.Written.{byte_of, after_header_length, header_length_of, unit_length_of, initial_length_bytes}
+use Rattle.dl_head.specs.Written.{header_bytes, written_limit, is_within_limit}
 use Rattle.dl_head.specs.Built.{wrong_length}
-use Rattle.dl_head.specs.Sound.{IsSoundTable, IsSoundHeader}
+use Rattle.dl_table.specs.Sound.{IsSoundTable}
+use Rattle.dl_head.specs.Sound.{IsSoundHeader}
 use Rattle.dl_head.specs.WrittenLaws.{WrittenIsHeader, WrittenHasItsLength}
-use Rattle.dl_head.proofs.FieldLaws.{field_is_judged}
+use Rattle.dl_field.proofs.FieldLaws.{field_is_judged}
 use Rattle.dl_head.proofs.HeaderLaws.{header_cut}
 use Rattle.dl_head.proofs.HeaderSound.{Good, all_good}
 use Rattle.dl_head.proofs.OrderLemmas.{length-header}
@@ -55,30 +67,39 @@ module _ (order : Order) (h : HeaderData) where
   is_nothing None e = refl
   is_nothing (Some x) e = absurd (true_false e refl)
 
-  reach_lengths : (opcode : ℕ) (ns before : List ℕ) (next : List ℕ → Layout) (v : List ℕ) → wrong_length opcode ns ≡ None → Reaches order (next (before ++ ns)) v end → Reaches order (lengths_layout opcode (length ns) before next) (ns ++ v) end
-  reach_lengths opcode [] before next v none rest = subst (λ (l : List ℕ). Reaches order (next l) v end) (append-nil before) rest
+  reach_lengths : (opcode : ℕ) (ns before : List ℕ) (next : List ℕ → Layout) (v : List ℕ)
+      → wrong_length opcode ns ≡ None → Reaches order (next (before ++ ns)) v end
+      → Reaches order (lengths_layout opcode (length ns) before next) (ns ++ v) end
+  reach_lengths opcode [] before next v none rest =
+      subst (λ (l : List ℕ). Reaches order (next l) v end) (append-nil before) rest
   reach_lengths opcode (n ∷ ns) before next v none rest =
       let t = length_first (is_none (objection (opcode_length opcode) n)) opcode (wrong_length (opcode + 1) ns) none in
-      let again = reach_lengths (opcode + 1) ns (before ++ n ∷ []) next v t.1 (subst (λ (l : List ℕ). Reaches order (next l) v end) (sym (append_assoc before (n ∷ []) ns)) rest) in
-      reach_one order end (lengths_layout opcode (length (n ∷ ns)) before next) (number_is n) (n ∷ []) (ns ++ v) (n, refl, (refl, fixed_byte order end n), is_nothing (objection (opcode_length opcode) n) t.0) again
+      let again = reach_lengths (opcode + 1) ns (before ++ n ∷ []) next v t.1
+      (subst (λ (l : List ℕ). Reaches order (next l) v end) (sym (append_assoc before (n ∷ []) ns)) rest) in
+      reach_one order end (lengths_layout opcode (length (n ∷ ns)) before next) (number_is n) (n ∷ []) (ns ++ v)
+      (n, refl, (refl, fixed_byte order end n), is_nothing (objection (opcode_length opcode) n) t.0) again
 
-  -- the params that were read, but for the format
-  abbrev read_params : Params → Params
-  read_params p = record p { line_base = signed_byte (byte_of p.line_base); lengths = record { items = p.lengths.items } }
-
-  reach_tables : (p : Params) → (record { params = p; directories = h.directories; files = h.files }) ≡ h → h.directories.format ≡ p.format → h.files.format ≡ p.format → IsSoundTable h.directories → IsSoundTable h.files
+  reach_tables : (p : Params) → (record { params = p; directories = h.directories; files = h.files }) ≡ h
+      → h.directories.format ≡ p.format → h.files.format ≡ p.format → IsSoundTable h.directories → IsSoundTable h.files
       → Reaches order (tables_layout p) (table_bytes order h.directories ++ (table_bytes order h.files ++ [])) end
   reach_tables p same d f directories files =
-      let files_layout : TableData → Layout = λ g. last_entry (record { params = p; directories = h.directories; files = g }) in
-      let last : Reaches order (files_layout h.files) [] end = record { items = []; spelt = refl; ends = ap last_entry same } in
-      let second = subst (λ (g : Format). Reaches order (table_layout g files_layout) (table_bytes order h.files ++ []) end) f (reach_table order end h.files files_layout [] files last) in
-      let directories_layout : TableData → Layout = λ t. table_layout p.format λ g. last_entry (record { params = p; directories = t; files = g }) in
-      subst (λ (g : Format). Reaches order (table_layout g directories_layout) (table_bytes order h.directories ++ (table_bytes order h.files ++ [])) end) d
+      let files_layout : TableData → Layout = λ g. last_entry
+      (record { params = p; directories = h.directories; files = g }) in
+      let last : Reaches order (files_layout h.files) [] end =
+      record { items = []; spelt = refl; ends = ap last_entry same } in
+      let second = subst (λ (g : Format). Reaches order (table_layout g files_layout) (table_bytes order h.files ++ [])
+      end) f (reach_table order end h.files files_layout [] files last) in
+      let directories_layout : TableData → Layout =
+      λ t. table_layout p.format λ g. last_entry (record { params = p; directories = t; files = g }) in
+      subst (λ (g : Format). Reaches order (table_layout g directories_layout)
+      (table_bytes order h.directories ++ (table_bytes order h.files ++ [])) end) d
       (reach_table order end h.directories directories_layout (table_bytes order h.files ++ []) directories second)
 
   -- a field of one byte
-  reach_byte : (field : NumberField) (next : ℕ → Layout) (n : ℕ) (v : List ℕ) → number_size field ≡ Some 1 → objection field n ≡ None → Reaches order (next n) v end → Reaches order (number_then field next) (n ∷ v) end
-  reach_byte field next n v one none rest = reach_one order end (number_then field next) (number_is n) (n ∷ []) v (n, refl, rw one (refl, fixed_byte order end n), none) rest
+  reach_byte : (field : NumberField) (next : ℕ → Layout) (n : ℕ) (v : List ℕ) → number_size field ≡ Some 1
+      → objection field n ≡ None → Reaches order (next n) v end → Reaches order (number_then field next) (n ∷ v) end
+  reach_byte field next n v one none rest = reach_one order end (number_then field next) (number_is n) (n ∷ []) v
+      (n, refl, rw one (refl, fixed_byte order end n), none) rest
 
   -- not 0
   some_operations : (n : ℕ) → (n ≡ 0 → ⊥) → objection maximum_operations n ≡ None
@@ -90,49 +111,91 @@ module _ (order : Order) (h : HeaderData) where
   some_opcodes : (n : ℕ) → (n ≡ 0 → ⊥) → objection opcode_base n ≡ None
   some_opcodes n some = rw (ne_eqb n 0 some) refl
 
-  reach_from_lengths : (p : Params) → h.params.opcode_base ≡ p.opcode_base → Good h.params h.directories h.files → IsSoundTable h.directories → IsSoundTable h.files → p.format ≡ h.params.format → (record p { lengths = h.params.lengths }) ≡ h.params
-      → Reaches order (from_lengths p) (h.params.lengths.items ++ (table_bytes order h.directories ++ (table_bytes order h.files ++ []))) end
+  reach_from_lengths : (p : Params) → h.params.opcode_base ≡ p.opcode_base → Good h.params h.directories h.files
+      → IsSoundTable h.directories → IsSoundTable h.files → p.format ≡ h.params.format
+      → (record p { lengths = h.params.lengths }) ≡ h.params
+      → Reaches order (from_lengths p)
+      (h.params.lengths.items ++ (table_bytes order h.directories ++ (table_bytes order h.files ++ []))) end
   reach_from_lengths p base good directories files format same =
       let count : length h.params.lengths.items ≡ p.opcode_base - 1 = (let sum = good.opcodes in omega arith) in
       let next : List ℕ → Layout = λ lengths. tables_layout (record p { lengths = record { items = lengths } }) in
-      let whole : (record { params = record p { lengths = h.params.lengths }; directories = h.directories; files = h.files }) ≡ h = ap (λ (q : Params). let g : HeaderData = record { params = q; directories = h.directories; files = h.files } in g) same in
-      let tables = reach_tables (record p { lengths = h.params.lengths }) whole (good.directories ∙ sym format) (good.files ∙ sym format) directories files in
-      subst (λ (n : ℕ). Reaches order (lengths_layout 1 n [] next) (h.params.lengths.items ++ (table_bytes order h.directories ++ (table_bytes order h.files ++ []))) end) count
-      (reach_lengths 1 h.params.lengths.items [] next (table_bytes order h.directories ++ (table_bytes order h.files ++ [])) good.lengths tables)
+      let whole : (record {
+        params = record p { lengths = h.params.lengths };
+        directories = h.directories;
+        files = h.files;
+      }) ≡ h = ap (λ (q : Params). let g : HeaderData = record {
+        params = q;
+        directories =
+            h.directories;
+        files = h.files;
+      } in g) same in
+      let tables = reach_tables (record p { lengths = h.params.lengths }) whole (good.directories ∙ sym format)
+      (good.files ∙ sym format) directories files in
+      subst (λ (n : ℕ). Reaches order (lengths_layout 1 n [] next)
+      (h.params.lengths.items ++ (table_bytes order h.directories ++ (table_bytes order h.files ++ []))) end) count
+      (reach_lengths 1 h.params.lengths.items [] next
+      (table_bytes order h.directories ++ (table_bytes order h.files ++ [])) good.lengths tables)
 
   -- the fields after header_length, of params whose fields before it are those of the header
   reach_fields : IsSoundHeader h → Good h.params h.directories h.files
-      → Reaches order (from_minimum_length (record (format_alone h.params.format) { address_size = h.params.address_size; segment_selector_size = h.params.segment_selector_size })) (after_header_length order h) end
+      → Reaches order (from_minimum_length
+      (record (format_alone h.params.format) {
+        address_size = h.params.address_size;
+        segment_selector_size = h.params.segment_selector_size;
+      })) (after_header_length order h) end
   reach_fields sound good =
       let p = h.params in
       let tables = table_bytes order h.directories ++ (table_bytes order h.files ++ []) in
       let base = byte_of p.line_base in
-      let p1 : Params = record (format_alone p.format) { address_size = p.address_size; segment_selector_size = p.segment_selector_size } in
+      let p1 : Params = record (format_alone p.format) {
+        address_size = p.address_size;
+        segment_selector_size = p.segment_selector_size;
+      } in
       let p2 : Params = record p1 { minimum_instruction_length = p.minimum_instruction_length } in
       let p3 : Params = record p2 { maximum_operations_per_instruction = p.maximum_operations_per_instruction } in
       let p4 : Params = record p3 { default_is_stmt = p.default_is_stmt } in
       let p5 : Params = record p4 { line_base = signed_byte base } in
       let p6 : Params = record p5 { line_range = p.line_range } in
       let p7 : Params = record p6 { opcode_base = p.opcode_base } in
-      let same : (record p7 { lengths = p.lengths }) ≡ p = ap (λ (z : ℤ). let q : Params = record p { line_base = z } in q) (signed_again p.line_base sound.line_base) in
+      let same : (record p7 { lengths = p.lengths }) ≡ p =
+      ap (λ (z : ℤ). let q : Params = record p { line_base = z } in q) (signed_again p.line_base sound.line_base) in
       let a = reach_from_lengths p7 refl good sound.directories sound.files refl same in
-      let b = reach_byte opcode_base (λ n. from_lengths (record p6 { opcode_base = n })) p.opcode_base (p.lengths.items ++ tables) refl (some_opcodes p.opcode_base (λ z. let sum = good.opcodes in omega arith)) a in
-      let c = reach_byte line_range (λ n. from_opcode_base (record p5 { line_range = n })) p.line_range (p.opcode_base ∷ (p.lengths.items ++ tables)) refl (some_lines p.line_range good.lines) b in
-      let d = reach_byte any_byte (λ n. from_line_range (record p4 { line_base = signed_byte n })) base (p.line_range ∷ p.opcode_base ∷ (p.lengths.items ++ tables)) refl refl c in
-      let e = reach_byte any_byte (λ n. from_line_base (record p3 { default_is_stmt = n })) p.default_is_stmt (base ∷ p.line_range ∷ p.opcode_base ∷ (p.lengths.items ++ tables)) refl refl d in
-      let f = reach_byte maximum_operations (λ n. from_default_is_stmt (record p2 { maximum_operations_per_instruction = n })) p.maximum_operations_per_instruction (p.default_is_stmt ∷ base ∷ p.line_range ∷ p.opcode_base ∷ (p.lengths.items ++ tables)) refl
+      let b = reach_byte opcode_base (λ n. from_lengths (record p6 { opcode_base = n })) p.opcode_base
+      (p.lengths.items ++ tables) refl (some_opcodes p.opcode_base (λ z. let sum = good.opcodes in omega arith)) a in
+      let c = reach_byte line_range (λ n. from_opcode_base (record p5 { line_range = n })) p.line_range
+      (p.opcode_base ∷ (p.lengths.items ++ tables)) refl (some_lines p.line_range good.lines) b in
+      let d = reach_byte any_byte (λ n. from_line_range (record p4 { line_base = signed_byte n })) base
+      (p.line_range ∷ p.opcode_base ∷ (p.lengths.items ++ tables)) refl refl c in
+      let e = reach_byte any_byte (λ n. from_line_base (record p3 { default_is_stmt = n })) p.default_is_stmt
+      (base ∷ p.line_range ∷ p.opcode_base ∷ (p.lengths.items ++ tables)) refl refl d in
+      let f = reach_byte maximum_operations
+      (λ n. from_default_is_stmt (record p2 { maximum_operations_per_instruction = n }))
+      p.maximum_operations_per_instruction
+      (p.default_is_stmt ∷ base ∷ p.line_range ∷ p.opcode_base ∷ (p.lengths.items ++ tables)) refl
       (some_operations p.maximum_operations_per_instruction good.operations) e in
-      let g = reach_byte any_byte (λ n. from_maximum_operations (record p1 { minimum_instruction_length = n })) p.minimum_instruction_length (p.maximum_operations_per_instruction ∷ p.default_is_stmt ∷ base ∷ p.line_range ∷ p.opcode_base ∷ (p.lengths.items ++ tables)) refl refl f in
-      subst (λ (w : List ℕ). Reaches order (from_minimum_length p1) w end) (ends_so (p.minimum_instruction_length ∷ p.maximum_operations_per_instruction ∷ p.default_is_stmt ∷ base ∷ p.line_range ∷ p.opcode_base ∷ p.lengths.items) (table_bytes order h.directories) (table_bytes order h.files)) g
+      let g = reach_byte any_byte (λ n. from_maximum_operations (record p1 { minimum_instruction_length = n }))
+      p.minimum_instruction_length (p.maximum_operations_per_instruction ∷ p.default_is_stmt ∷ base ∷ p.line_range
+      ∷ p.opcode_base ∷ (p.lengths.items ++ tables)) refl refl f in
+      subst (λ (w : List ℕ). Reaches order (from_minimum_length p1) w end)
+      (ends_so (p.minimum_instruction_length ∷ p.maximum_operations_per_instruction ∷ p.default_is_stmt ∷ base
+      ∷ p.line_range ∷ p.opcode_base ∷ p.lengths.items) (table_bytes order h.directories) (table_bytes order h.files)) g
     where
       ends_so : (a b c : List ℕ) → a ++ (b ++ (c ++ [])) ≡ (a ++ b) ++ c
       ends_so a b c = rw append-nil (sym (append_assoc a b c))
 
 -- ---- the whole header
 
-initial_written : (order : Order) (format : Format) (n : ℕ) → n ≤ written_limit format → IsInitialLength order format n (initial_length_bytes order format n)
+initial_written : (order : Order) (format : Format) (n : ℕ) → n ≤ written_limit format
+    → IsInitialLength order format n (initial_length_bytes order format n)
 initial_written order Dwarf32 n le = (fixed_written order 4 n (omega arith), omega arith)
-initial_written order Dwarf64 n le = (fixed_bytes order 4 0xffffffff, fixed_bytes order 8 n, refl, fixed_written order 4 0xffffffff (lit< tt), fixed_written order 8 n (omega arith), le)
+initial_written order Dwarf64 n le = (
+  fixed_bytes order 4 0xffffffff,
+  fixed_bytes order 8 n,
+  refl,
+  fixed_written order 4 0xffffffff (lit< tt),
+  fixed_written order 8 n (omega arith),
+  le,
+)
 
 offset_fits : (format : Format) (n : ℕ) → n ≤ written_limit format → n < 256 ^ offset_size format
 offset_fits Dwarf32 n le = omega arith
@@ -144,11 +207,14 @@ usable_size n e = rw e refl
 fits_unit : (format : Format) (n left : ℕ) → n ≤ left → objection (header_length format left) n ≡ None
 fits_unit format n left le = rw (le-leb n left le) refl
 
-regroup : (i v l w : List ℕ) (a s : ℕ) → i ++ v ++ a ∷ s ∷ [] ++ l ++ w ≡ (i ++ (v ++ ((a ∷ []) ++ ((s ∷ []) ++ (l ++ w))))) ++ []
+regroup : (i v l w : List ℕ) (a s : ℕ) → i ++ v ++ a ∷ s ∷ [] ++ l ++ w
+    ≡ (i ++ (v ++ ((a ∷ []) ++ ((s ∷ []) ++ (l ++ w))))) ++ []
 regroup i v l w a s = rw append-nil (simp append_assoc)
 
 -- the header, and the length that its first field tells
-written : (order : Order) (h : HeaderData) (program_len : ℕ) → IsSoundHeader h → is_within_limit h program_len ≡ true → (is : IsHeader order h (header_bytes order h program_len)) × (unit_end is.items ≡ Some (initial_size h.params.format + unit_length_of h program_len))
+written : (order : Order) (h : HeaderData) (program_len : ℕ) → IsSoundHeader h → is_within_limit h program_len ≡ true
+    → (is : IsHeader order h (header_bytes order h program_len))
+    × (unit_end is.items ≡ Some (initial_size h.params.format + unit_length_of h program_len))
 written order h program_len sound limit =
     let p = h.params in
     let good = all_good p h.directories h.files sound.params in
@@ -164,18 +230,51 @@ written order h program_len sound limit =
     let p1 : Params = record p0 { address_size = p.address_size } in
     let p2 : Params = record p1 { segment_selector_size = p.segment_selector_size } in
     let long = length-header order h program_len in
-    let a = (field_is_judged order header_layout (length_is p.format unit) initial).0 (p.format, unit, refl, initial_written order p.format unit short) in
-    let b = (field_is_judged order (following header_layout (length_is p.format unit)) (number_is 5) version_bytes).0 (5, refl, fixed_written order 2 5 (lit< tt), refl) in
-    let c = (field_is_judged order (from_address_size unit p0) (number_is p.address_size) (p.address_size ∷ [])).0 (p.address_size, refl, (refl, fixed_byte order (last_entry h) p.address_size), usable_size p.address_size good.address_size) in
-    let d = (field_is_judged order (from_segment_selector_size unit p1) (number_is p.segment_selector_size) (p.segment_selector_size ∷ [])).0 (p.segment_selector_size, refl, (refl, fixed_byte order (last_entry h) p.segment_selector_size), refl) in
-    let e = (field_is_judged order (from_header_length unit p2) (number_is size) size_bytes).0
-    (size, refl, fixed_written order (offset_size p.format) size (offset_fits p.format size (omega arith)), fits_unit p.format size (unit - fixed_part p.format) (omega arith)) in (
+    let a = (field_is_judged order header_layout (length_is p.format unit) initial).0
+    (p.format, unit, refl, initial_written order p.format unit short) in
+    let b = (field_is_judged order (following header_layout (length_is p.format unit)) (number_is 5) version_bytes).0
+    (5, refl, fixed_written order 2 5 (lit< tt), refl) in
+    let c = (field_is_judged order (from_address_size unit p0) (number_is p.address_size) (p.address_size ∷ [])).0 (
+      p.address_size,
+      refl,
+      (refl, fixed_byte order (last_entry h) p.address_size),
+      usable_size p.address_size good.address_size,
+    ) in
+    let d = (field_is_judged order (from_segment_selector_size unit p1) (number_is p.segment_selector_size)
+    (p.segment_selector_size ∷ [])).0
+    (p.segment_selector_size, refl, (refl, fixed_byte order (last_entry h) p.segment_selector_size), refl) in
+    let e = (field_is_judged order (from_header_length unit p2) (number_is size) size_bytes).0 (
+      size,
+      refl,
+      fixed_written order (offset_size p.format) size (offset_fits p.format size (omega arith)),
+      fits_unit p.format size (unit - fixed_part p.format) (omega arith),
+    ) in (
       record {
-        items = length_is p.format unit ∷ number_is 5 ∷ number_is p.address_size ∷ number_is p.segment_selector_size ∷ number_is size ∷ tail.items;
-        fields = initial ++ (version_bytes ++ ((p.address_size ∷ []) ++ ((p.segment_selector_size ∷ []) ++ (size_bytes ++ after))));
+        items = length_is p.format unit ∷ number_is 5 ∷ number_is p.address_size ∷ number_is p.segment_selector_size
+            ∷ number_is size ∷ tail.items;
+        fields = initial ++ (version_bytes
+            ++ ((p.address_size ∷ []) ++ ((p.segment_selector_size ∷ []) ++ (size_bytes ++ after))));
         padding = [];
         whole = regroup initial version_bytes size_bytes after p.address_size p.segment_selector_size;
-        spelt = (initial, _, refl, a, (version_bytes, _, refl, b, (p.address_size ∷ [], _, refl, c, (p.segment_selector_size ∷ [], _, refl, d, (size_bytes, after, refl, e, tail.spelt)))));
+        spelt = (
+          initial,
+          _,
+          refl,
+          a,
+          (
+            version_bytes,
+            _,
+            refl,
+            b,
+            (
+              p.address_size ∷ [],
+              _,
+              refl,
+              c,
+              (p.segment_selector_size ∷ [], _, refl, d, (size_bytes, after, refl, e, tail.spelt)),
+            ),
+          ),
+        );
         made = ap header_made tail.ends;
         end = ap (λ (n : ℕ). let o : Option ℕ = Some n in o) (omega arith);
       },

@@ -1,59 +1,15 @@
--- The tests of equality decide it, and so are equivalences. No promise rests on this file.
-use Rattle.std.proofs.Common.{◌≡◌, ℕ, Bool, List, Some, Decides, refl, sym, ap, ◌∙◌, ◌&&◌, eqb}
+-- The test of equality of headers decides it, and so is an equivalence. No promise rests on this file.
+use Rattle.std.proofs.Common.{◌≡◌, ℕ, Bool, Decides, ap, ◌&&◌, eqb}
 use Rattle.std.specs.Cmp.{IsEquivalence, decided}
-use Rattle.std.specs.Cmp.Lexicographic.{pointwise}
 use Rattle.std.specs.Ordering.{int_eq}
-use Rattle.std.proofs.lemmas.Slice.Eq.{bytes_eq-Decides, slice_eq-Decides}
+use Rattle.std.proofs.lemmas.Slice.Eq.{bytes_eq-Decides}
 use Rattle.std.proofs.lemmas.Bool.Decides.{Decides-eqb, Decides-int_eq, Decides-and, Decides-like}
-use Rattle.dl_head.specs.declared.form.Format.{Format}
-use Rattle.dl_head.specs.declared.form.Format.TheVariants.{Dwarf32, Dwarf64}
-use Rattle.dl_head.specs.declared.form.Form.{Form}
-use Rattle.dl_head.specs.declared.form.Form.TheVariants as form
-use Rattle.dl_head.specs.declared.table.Pair.{Pair}
-use Rattle.dl_head.specs.declared.params.Params.{Params}
-use Rattle.dl_head.specs.Value.{Value, text, line_str, str, str_sup, number, block, data16, form_code, form_of_code}
-use Rattle.dl_head.specs.TableData.{TableData, HeaderData}
-use Rattle.dl_head.specs.Built.{same_format}
-use Rattle.dl_head.specs.Equal.{same_value, same_pair, same_table, same_params, same_header}
-
-pub lists_Decides : {A : Type 0} (E : A → A → Bool) → ((a b : A) → Decides (E a b) (a ≡ b)) → (xs ys : List A) → Decides (pointwise E xs ys) (xs ≡ ys)
-lists_Decides E each xs ys = slice_eq-Decides each xs ys (pointwise E xs ys) refl
-
-pub same_format-Decides : (f g : Format) → Decides (same_format f g) (f ≡ g)
-same_format-Decides Dwarf32 Dwarf32 = (λ e. refl, λ e. refl)
-same_format-Decides Dwarf32 Dwarf64 = (λ e. cc, λ e. cc)
-same_format-Decides Dwarf64 Dwarf32 = (λ e. cc, λ e. cc)
-same_format-Decides Dwarf64 Dwarf64 = (λ e. refl, λ e. refl)
-
-form_again : (f : Form) → form_of_code (form_code f) ≡ Some f
-form_again f = elim f as (λ g. form_of_code (form_code g) ≡ Some g) [ form.Block2 ↦ refl | _ ↦ refl ]
-
-same_code : (f g : Form) → form_code f ≡ form_code g → f ≡ g
-same_code f g e = let same : Some f ≡ Some g = sym (form_again f) ∙ ap form_of_code e ∙ form_again g in cc
-
-pub same_pair-Decides : (p q : Pair) → Decides (same_pair p q) (p ≡ q)
-same_pair-Decides p q =
-    Decides-like (same_pair p q) (λ h. λ i. record { content = h.0 i; form = same_code p.form q.form h.1 i }) (λ e. (ap (λ (r : Pair). r.content) e, ap (λ (r : Pair). form_code r.form) e))
-    (Decides-and (eqb p.content q.content) (eqb (form_code p.form) (form_code q.form)) (Decides-eqb p.content q.content) (Decides-eqb (form_code p.form) (form_code q.form)))
-
-pub same_value-Decides : (v w : Value) → Decides (same_value v w) (v ≡ w)
-same_value-Decides (text v) (text w) = Decides-like (same_value (text v) (text w)) (λ e. ap text e) (λ e. cc) (bytes_eq-Decides v w)
-same_value-Decides (line_str m) (line_str n) = Decides-like (eqb m n) (λ e. ap line_str e) (λ e. cc) (Decides-eqb m n)
-same_value-Decides (str m) (str n) = Decides-like (eqb m n) (λ e. ap str e) (λ e. cc) (Decides-eqb m n)
-same_value-Decides (str_sup m) (str_sup n) = Decides-like (eqb m n) (λ e. ap str_sup e) (λ e. cc) (Decides-eqb m n)
-same_value-Decides (number m) (number n) = Decides-like (eqb m n) (λ e. ap number e) (λ e. cc) (Decides-eqb m n)
-same_value-Decides (block v) (block w) = Decides-like (same_value (block v) (block w)) (λ e. ap block e) (λ e. cc) (bytes_eq-Decides v w)
-same_value-Decides (data16 v) (data16 w) = Decides-like (same_value (data16 v) (data16 w)) (λ e. ap data16 e) (λ e. cc) (bytes_eq-Decides v w)
-same_value-Decides v w = (λ e. cc, λ e. cc)
-
-pub same_table-Decides : (s t : TableData) → Decides (same_table s t) (s ≡ t)
-same_table-Decides s t =
-    let entries = lists_Decides (pointwise same_value) (lists_Decides same_value same_value-Decides) s.entries t.entries in
-    let pairs = lists_Decides same_pair same_pair-Decides s.pairs t.pairs in
-    Decides-like (same_table s t) (λ h. λ i. record { format = h.0 i; pairs = h.1.0 i; entries = h.1.1 i })
-    (λ e. (ap (λ (u : TableData). u.format) e, (ap (λ (u : TableData). u.pairs) e, ap (λ (u : TableData). u.entries) e)))
-    (Decides-and (same_format s.format t.format) _ (same_format-Decides s.format t.format)
-    (Decides-and (pointwise same_pair s.pairs t.pairs) (pointwise (pointwise same_value) s.entries t.entries) pairs entries))
+use Rattle.dl_field.specs.declared.params.Params.{Params}
+use Rattle.dl_field.specs.HeaderData.{HeaderData}
+use Rattle.dl_table.specs.Built.{same_format}
+use Rattle.dl_table.specs.Equal.{same_table}
+use Rattle.dl_table.specs.EqualLaws.{same_format-Decides, same_table-Decides}
+use Rattle.dl_head.specs.Equal.{same_params, same_header}
 
 -- two numbers of two records, and what is left to compare
 number_and : (m n : ℕ) (rest : Bool) (P : Type 0) → Decides rest P → Decides (eqb m n && rest) ((m ≡ n) × P)
@@ -64,7 +20,8 @@ same_params-Decides p q =
     let lengths = bytes_eq-Decides p.lengths.items q.lengths.items in
     let base = number_and p.line_range q.line_range _ _ (number_and p.opcode_base q.opcode_base _ _ lengths) in
     let line_base = Decides-and (int_eq p.line_base q.line_base) _ (Decides-int_eq p.line_base q.line_base) base in
-    let sizes = number_and p.address_size q.address_size _ _ (number_and p.segment_selector_size q.segment_selector_size _ _
+    let sizes = number_and p.address_size q.address_size _ _
+    (number_and p.segment_selector_size q.segment_selector_size _ _
     (number_and p.minimum_instruction_length q.minimum_instruction_length _ _
     (number_and p.maximum_operations_per_instruction q.maximum_operations_per_instruction _ _
     (number_and p.default_is_stmt q.default_is_stmt _ _ line_base)))) in
@@ -111,12 +68,13 @@ same_params-Decides p q =
 pub same_header-Decides : (g h : HeaderData) → Decides (same_header g h) (g ≡ h)
 same_header-Decides g h =
     Decides-like (same_header g h) (λ k. λ i. record { params = k.0 i; directories = k.1.0 i; files = k.1.1 i })
-    (λ e. (ap (λ (u : HeaderData). u.params) e, (ap (λ (u : HeaderData). u.directories) e, ap (λ (u : HeaderData). u.files) e)))
+    (λ e. (
+      ap (λ (u : HeaderData). u.params) e,
+      (ap (λ (u : HeaderData). u.directories) e, ap (λ (u : HeaderData). u.files) e),
+    ))
     (Decides-and (same_params g.params h.params) _ (same_params-Decides g.params h.params)
-    (Decides-and (same_table g.directories h.directories) (same_table g.files h.files) (same_table-Decides g.directories h.directories) (same_table-Decides g.files h.files)))
-
-pub same_table-laws : IsEquivalence same_table
-same_table-laws = decided same_table same_table-Decides
+    (Decides-and (same_table g.directories h.directories) (same_table g.files h.files)
+    (same_table-Decides g.directories h.directories) (same_table-Decides g.files h.files)))
 
 pub same_header-laws : IsEquivalence same_header
 same_header-laws = decided same_header same_header-Decides

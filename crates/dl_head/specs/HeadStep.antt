@@ -1,9 +1,10 @@
--- What the phases of the header reader say of its params and tables, and how far its end is. No promise rests on this file.
+-- What the phases of the header reader say of its params, tables and end. No promise rests on this file.
 use Rattle.std.specs.Prelude.{◌≡◌, List, ℕ, ◌+◌, ◌^◌, Bool, true, nat_le, nat_lt, ◌==◌, ◌&&◌, Option, Some, None}
-use Rattle.dl_head.specs.declared.form.Format.{Format}
+use Rattle.dl_table.specs.declared.form.Format.{Format}
 use Rattle.dl_head.specs.declared.reader.Phase.{Phase}
 use Rattle.dl_head.specs.declared.reader.Phase.TheVariants as phase
-use Rattle.dl_head.specs.Built.{same_format, wrong_length}
+use Rattle.dl_table.specs.Built.{same_format}
+use Rattle.dl_head.specs.Built.{wrong_length}
 
 -- whether so many opcode lengths fit the phase and opcode_base
 abbrev pub lengths_fit : Phase → ℕ → ℕ → Bool

@@ -1,15 +1,19 @@
--- The spelling of a header, and the header that bytes begin with. DWARF 5, section 6.2.4; initial lengths are of section 7.4.
-use Rattle.std.specs.Prelude.{◌≡◌, ℕ, ◌+◌, ◌-◌, ◌&&◌, List, [], ◌∷◌, ◌++◌, length, drop, Option, Some, None, Ok, Err, nat_le, if◌then◌else◌}
+-- The spelling of a header, and the header that bytes begin with. DWARF 5, sections 6.2.4 and 7.4.
+use Rattle.std.specs.Prelude.{◌≡◌, ℕ, ◌+◌, ◌-◌, ◌&&◌, List, [], ◌∷◌, ◌++◌, length, drop, Option, Some, None, Ok, Err}
+use Rattle.std.specs.Prelude.{nat_le, if◌then◌else◌}
 use Rattle.dl_num.specs.declared.fixed.Order.{Order}
-use Rattle.dl_head.specs.TableData.{HeaderData}
-use Rattle.dl_head.specs.Value.{good}
-use Rattle.dl_head.specs.Layout.{Layout, last_entry, foreign_version, Item, length_is, number_is, header_layout, following, following_all, field_spelt, initial_size, fixed_part}
+use Rattle.dl_field.specs.HeaderData.{HeaderData}
+use Rattle.dl_table.specs.Value.{good}
+use Rattle.dl_field.specs.Layout.{Layout, last_entry, foreign_version, Item, length_is, number_is, following}
+use Rattle.dl_field.specs.Layout.{following_all, field_spelt}
+use Rattle.dl_head.specs.HeaderLayout.{header_layout, initial_size, fixed_part}
 
 -- w is the spellings of good fields of these values, from a layout on
 abbrev pub SpellsFields : Order → Layout → List Item → List ℕ → Type 0
 SpellsFields order layout [] w = w ≡ []
 SpellsFields order layout (i ∷ items) w =
-    (front : List ℕ) × (rest : List ℕ) × (w ≡ front ++ rest) × (field_spelt order layout front ≡ good i) × SpellsFields order (following layout i) items rest
+    (front : List ℕ) × (rest : List ℕ) × (w ≡ front ++ rest) × (field_spelt order layout front ≡ good i)
+    × SpellsFields order (following layout i) items rest
 
 -- how long the unit is by its unit_length, the initial length included
 abbrev pub unit_end : List Item → Option ℕ
@@ -18,7 +22,8 @@ unit_end items = None
 
 -- where the header ends by its header_length, the fifth field
 abbrev pub header_end : List Item → Option ℕ
-header_end (length_is format n ∷ version ∷ address ∷ segment ∷ number_is header ∷ items) = Some (initial_size format + fixed_part format + header)
+header_end (length_is format n ∷ version ∷ address ∷ segment ∷ number_is header ∷ items) =
+    Some (initial_size format + fixed_part format + header)
 header_end items = None
 
 -- the header, where the last entry is complete
@@ -46,7 +51,8 @@ pub record IsFieldCut (order : Order) (b : List ℕ) (items : List Item) (rest :
   pub fields : List ℕ
   pub whole : b ≡ fields ++ rest
   pub spelt : SpellsFields order header_layout items fields
-  pub no_more : (front : List ℕ) (back : List ℕ) (i : Item) → rest ≡ front ++ back → field_spelt order (following_all header_layout items) front ≡ good i → ⊥
+  pub no_more : (front : List ℕ) (back : List ℕ) (i : Item) → rest ≡ front ++ back
+      → field_spelt order (following_all header_layout items) front ≡ good i → ⊥
 
 -- The good fields that are cut off the front of some bytes, one at a time: their values, and the bytes after them.
 pub record Cut : Type 0 where
@@ -83,7 +89,8 @@ foreign_in order b = foreign_made (layout_after order b)
 
 -- what is left of b after a header, the fields of which are so many bytes
 abbrev pub header_up_to : List ℕ → ℕ → Option HeaderData → Option ℕ → Option (HeaderData × List ℕ)
-header_up_to b fields (Some h) (Some end) = if nat_le fields end && nat_le end (length b) then Some (h, drop end b) else None
+header_up_to b fields (Some h) (Some end) = if nat_le fields end && nat_le end (length b) then Some (h, drop end b)
+    else None
 header_up_to b fields made end = None
 
 -- the header that b begins with, and what follows it, computed

@@ -1,36 +1,22 @@
 -- What the public contracts say rests on these, in reading order.
 pub mod Turns
-pub mod Value
-pub mod TableData
-pub mod TableCells
-pub mod Layout
-pub mod Field
+pub mod HeaderLayout
 pub mod Header
 pub mod Refusal
 pub mod Cells
 pub mod Written
 pub mod Laws
-pub mod Held
-pub mod EntryData
-pub mod EntryHeld
-pub mod ValuesLeft
 pub mod Built
 pub mod Sound
 pub mod WrittenLaws
-pub mod FaultText
-pub mod Text
 pub mod Writing
 pub mod Reading
 pub mod Runs
 -- For what a value stands; public contracts name this, and don't rest on how it is said.
-pub mod TableStep
-pub mod TablePlace
 pub mod Place
 pub mod Standing
 -- Of contracts inside the crate, and of proofs; no public contract reaches these.
 pub mod Bytes
-pub mod TableHeld
-pub mod Building
 pub mod Equal
 pub mod EqualLaws
 pub mod HeadStep

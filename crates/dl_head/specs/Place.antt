@@ -1,4 +1,4 @@
--- Where the header reader is: between which fields, and in which bytes of the next one. No promise rests on how this is said.
+-- Where the header reader is: after which fields, and in which bytes of one. No promise rests on how this is said.
 use Rattle.std.specs.Prelude.{◌≡◌, ◌≢◌, ℕ, ◌+◌, ◌-◌, ◌≤◌, List, [], ◌∷◌, ◌++◌, length, Some, None}
 use Rattle.dl_num.specs.declared.fixed.Order.{Order}
 use Rattle.dl_num.specs.Fixed.{fixed}
@@ -7,19 +7,23 @@ use Rattle.dl_head.specs.declared.reader.byte_field.ByteField.{ByteField}
 use Rattle.dl_head.specs.declared.reader.byte_field.ByteField.TheVariants as field
 use Rattle.dl_head.specs.declared.reader.Phase.{Phase}
 use Rattle.dl_head.specs.declared.reader.Phase.TheVariants as phase
-use Rattle.dl_head.specs.declared.reader.next.Next.{Next}
-use Rattle.dl_head.specs.declared.reader.next.Next.TheVariants as byte_makes
+use Rattle.dl_field.specs.declared.field_step.FieldStep.{FieldStep}
+use Rattle.dl_field.specs.declared.field_step.FieldStep.TheVariants as byte_makes
 use Rattle.dl_head.specs.declared.reader.HeadReader.{HeadReader}
-use Rattle.dl_head.specs.declared.reader.table_reader.TablePhase.TheVariants as table
-use Rattle.dl_head.specs.declared.fault.FaultKind.TheVariants as fault
-use Rattle.dl_head.specs.declared.form.Format.{Format}
-use Rattle.dl_head.specs.declared.params.Params.{Params}
-use Rattle.dl_head.specs.TableData.{TableData}
-use Rattle.dl_head.specs.TableCells.{table_cells}
-use Rattle.dl_head.specs.TablePlace.{IsFresh, TableAt, Adds, reader_cells}
-use Rattle.dl_head.specs.Value.{good, bad, offset_size}
-use Rattle.dl_head.specs.Layout.{Layout, Item, length_is, number_is, following_all, field_spelt, header_layout, lengths_layout, tables_layout, from_files, from_end, initial_size, fixed_part, unit_length_limit}
-use Rattle.dl_head.specs.Layout.{from_address_size, from_segment_selector_size, from_minimum_length, from_maximum_operations, from_default_is_stmt, from_line_base, from_line_range, from_opcode_base}
+use Rattle.dl_field.specs.declared.table_reader.TablePhase.TheVariants as table
+use Rattle.dl_table.specs.declared.fault.FaultKind.TheVariants as fault
+use Rattle.dl_table.specs.declared.form.Format.{Format}
+use Rattle.dl_field.specs.declared.params.Params.{Params}
+use Rattle.dl_table.specs.TableData.{TableData}
+use Rattle.dl_table.specs.TableCells.{table_cells}
+use Rattle.dl_field.specs.TablePlace.{IsFresh, TableAt, Adds, reader_cells}
+use Rattle.dl_table.specs.Value.{good, bad, offset_size}
+use Rattle.dl_field.specs.Layout.{Layout, Item, length_is, number_is, following_all, field_spelt, unit_length_limit}
+use Rattle.dl_head.specs.HeaderLayout.{header_layout, lengths_layout, tables_layout, from_files, from_end, initial_size}
+use Rattle.dl_head.specs.HeaderLayout.{fixed_part}
+use Rattle.dl_head.specs.HeaderLayout.{from_address_size, from_segment_selector_size, from_minimum_length}
+use Rattle.dl_head.specs.HeaderLayout.{from_maximum_operations, from_default_is_stmt, from_line_base, from_line_range}
+use Rattle.dl_head.specs.HeaderLayout.{from_opcode_base}
 use Rattle.dl_head.specs.Header.{unit_end, header_end}
 
 -- the fields from one of one byte on
@@ -37,7 +41,8 @@ from_byte field.OpcodeBase unit_length p = from_opcode_base p
 abbrev pub from_length : Params → Layout
 from_length p =
     let before = p.lengths.items in
-    lengths_layout (length before + 1) (p.opcode_base - 1 - length before) before λ lengths. tables_layout (record p { lengths = record { items = lengths } })
+    lengths_layout (length before + 1) (p.opcode_base - 1 - length before) before λ lengths. tables_layout
+    (record p { lengths = record { items = lengths } })
 
 -- the unit_length as a field's value
 abbrev pub length_item : HeadReader → Item
@@ -82,7 +87,8 @@ pub record InTable (r : HeadReader) (items : List Item) (rest : List ℕ) (next 
 
 -- the values of the fields before header_length
 abbrev pub before_header_length : HeadReader → List Item
-before_header_length r = length_item r ∷ number_is 5 ∷ number_is r.params.address_size ∷ number_is r.params.segment_selector_size ∷ []
+before_header_length r = length_item r ∷ number_is 5 ∷ number_is r.params.address_size
+    ∷ number_is r.params.segment_selector_size ∷ []
 
 -- no field is after
 pub record AtStart (r : HeadReader) (items : List Item) : Type 0 where
@@ -101,7 +107,8 @@ pub record InLong (order : Order) (rest : List ℕ) (number : List ℕ) : Type 0
 -- The reader has read fields of these values, and the bytes rest of the next one, or of the padding.
 abbrev pub AtPhase : HeadReader → Phase → List Item → List ℕ → Type 0
 AtPhase r (phase.UnitLength n) items rest = AtStart r items × (number_bytes n ≡ rest) × (number_size n ≡ 4)
-AtPhase r (phase.LongUnitLength n) items rest = AtStart r items × InLong r.order rest (number_bytes n) × (number_size n ≡ 8)
+AtPhase r (phase.LongUnitLength n) items rest = AtStart r items × InLong r.order rest (number_bytes n)
+    × (number_size n ≡ 8)
 AtPhase r phase.Version items rest = Early r items (length_item r ∷ []) × (rest ≡ [])
 AtPhase r (phase.VersionEnd first) items rest = Early r items (length_item r ∷ []) × (rest ≡ first ∷ [])
 AtPhase r (phase.HeaderLength n) items rest =
@@ -109,7 +116,8 @@ AtPhase r (phase.HeaderLength n) items rest =
 AtPhase r (phase.Byte field.AddressSize) items rest = Early r items (length_item r ∷ number_is 5 ∷ []) × (rest ≡ [])
 AtPhase r (phase.Byte field.SegmentSelectorSize) items rest =
     Early r items (length_item r ∷ number_is 5 ∷ number_is r.params.address_size ∷ []) × (rest ≡ [])
-AtPhase r (phase.Byte f) items rest = Late r items (from_byte f r.unit_length r.params) × (rest ≡ []) × (r.params.lengths.items ≡ [])
+AtPhase r (phase.Byte f) items rest = Late r items (from_byte f r.unit_length r.params) × (rest ≡ [])
+    × (r.params.lengths.items ≡ [])
 AtPhase r phase.OpcodeLength items rest = Late r items (from_length r.params) × (rest ≡ [])
 AtPhase r phase.Directories items rest = InTable r items rest (from_files r.params)
 AtPhase r phase.Files items rest = InTable r items rest (from_end r.params r.directories)
@@ -128,28 +136,33 @@ pub record SameCounts (old new : HeadReader) : Type 0 where
   pub header : new.header ≡ old.header
 
 -- what the byte makes of the field that ends with w
-abbrev pub Made : Order → List Item → List ℕ → Next → HeadReader → Type 0
-Made order items w byte_makes.Within new = (field_spelt order (following_all header_layout items) w ≡ None) × At new items w
-Made order items w byte_makes.Ends new = (i : Item) × (field_spelt order (following_all header_layout items) w ≡ good i) × At new (items ++ i ∷ []) []
+abbrev pub Made : Order → List Item → List ℕ → FieldStep → HeadReader → Type 0
+Made order items w byte_makes.Within new = (field_spelt order (following_all header_layout items) w ≡ None)
+    × At new items w
+Made order items w byte_makes.Ends new = (i : Item) × (field_spelt order (following_all header_layout items) w ≡ good i)
+    × At new (items ++ i ∷ []) []
 Made order items w (byte_makes.Refuses kind) new = field_spelt order (following_all header_layout items) w ≡ bad kind
 Made order items w byte_makes.NoMemory new = ⊥
 
 -- a byte of a field before the tables
-pub record Follows (old : HeadReader) (byte : ℕ) (result : Next) (new : HeadReader) : Type 0 where
-  pub made : (items : List Item) (rest : List ℕ) → At old items rest → Made old.order items (rest ++ byte ∷ []) result new
+pub record Follows (old : HeadReader) (byte : ℕ) (result : FieldStep) (new : HeadReader) : Type 0 where
+  pub made : (items : List Item) (rest : List ℕ) → At old items rest
+      → Made old.order items (rest ++ byte ∷ []) result new
   pub counts : SameCounts old new
 
 -- `start_unit`: the initial length is good, and the reader is at the version, or it is too long
-abbrev pub Starts : HeadReader → Format → ℕ → Next → HeadReader → Type 0
+abbrev pub Starts : HeadReader → Format → ℕ → FieldStep → HeadReader → Type 0
 Starts old format length byte_makes.Ends new =
     (length ≤ unit_length_limit) × (AtStart old [] → At new (length_is format length ∷ []) []) × SameCounts old new
-Starts old format length (byte_makes.Refuses kind) new = (unit_length_limit + 1 ≤ length) × (kind ≡ fault.UnitTooLong) × SameCounts old new
+Starts old format length (byte_makes.Refuses kind) new = (unit_length_limit + 1 ≤ length) × (kind ≡ fault.UnitTooLong)
+    × SameCounts old new
 Starts old format length result new = ⊥
 
 -- `start_header`: header_length is good, and the reader is after it, or it is above the bytes left in the unit
-abbrev pub StartsHeader : HeadReader → ℕ → Next → HeadReader → Type 0
+abbrev pub StartsHeader : HeadReader → ℕ → FieldStep → HeadReader → Type 0
 StartsHeader old header byte_makes.Ends new =
-    (header ≤ old.unit_length - fixed_part old.params.format) × ((items : List Item) → Early old items (before_header_length old) → At new (items ++ number_is header ∷ []) [])
+    (header ≤ old.unit_length - fixed_part old.params.format)
+    × ((items : List Item) → Early old items (before_header_length old) → At new (items ++ number_is header ∷ []) [])
     × SameCounts old new
 StartsHeader old header (byte_makes.Refuses kind) new =
     (old.unit_length - fixed_part old.params.format + 1 ≤ header) × (kind ≡ fault.HeaderBeyondUnit) × SameCounts old new
@@ -162,7 +175,7 @@ pub record SameUnit (old new : HeadReader) : Type 0 where
   pub format : new.params.format ≡ old.params.format
 
 -- a field that is refused
-abbrev pub Keeps : HeadReader → Next → HeadReader → Type 0
+abbrev pub Keeps : HeadReader → FieldStep → HeadReader → Type 0
 Keeps old (byte_makes.Refuses kind) new = SameUnit old new
 Keeps old result new = Unit {0}
 
@@ -171,17 +184,17 @@ abbrev pub held_cells : HeadReader → ℕ
 held_cells r = table_cells r.directories + table_cells r.files + reader_cells r.table
 
 -- what bytes make of the field, or of the padding, that they fall in
-abbrev pub BytesMade : HeadReader → List Item → List ℕ → List ℕ → Next → HeadReader → Type 0
+abbrev pub BytesMade : HeadReader → List Item → List ℕ → List ℕ → FieldStep → HeadReader → Type 0
 BytesMade old items rest bytes byte_makes.NoMemory new = At new items rest
 BytesMade old items rest bytes result new = Made old.order items (rest ++ bytes) result new
 
 -- bytes of a header that isn't whole
-pub record BytesFollow (old : HeadReader) (bytes : List ℕ) (result : Next) (new : HeadReader) : Type 0 where
+pub record BytesFollow (old : HeadReader) (bytes : List ℕ) (result : FieldStep) (new : HeadReader) : Type 0 where
   pub made : (items : List Item) (rest : List ℕ) → At old items rest → BytesMade old items rest bytes result new
   pub cells : (items : List Item) (rest : List ℕ) → At old items rest
       → Adds old.order (following_all header_layout items) rest (rest ++ bytes) result (held_cells old) (held_cells new)
   pub counts : SameCounts old new
 
 -- `push`
-abbrev pub PushFollows : HeadReader → ℕ → Next → HeadReader → Type 0
+abbrev pub PushFollows : HeadReader → ℕ → FieldStep → HeadReader → Type 0
 PushFollows old byte result new = BytesFollow old (byte ∷ []) result new

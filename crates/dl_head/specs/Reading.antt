@@ -1,11 +1,11 @@
 -- What a reader of headers answers, by the bytes that it has taken. DWARF 5, section 6.2.4.
 use Rattle.std.specs.Prelude.{◌≡◌, ◌≢◌, ◌<◌, ℕ, List, [], ◌∷◌, ◌++◌, Option, Some, None}
 use Rattle.dl_num.specs.declared.fixed.Order.{Order}
-use Rattle.dl_head.specs.declared.fault.FaultKind.{FaultKind}
+use Rattle.dl_table.specs.declared.fault.FaultKind.{FaultKind}
 use Rattle.dl_head.specs.declared.reader.HeadStep.{HeadStep}
 use Rattle.dl_head.specs.declared.reader.HeadStep.TheVariants as answer
 use Rattle.dl_head.specs.declared.reader.HeadReader.{HeadReader}
-use Rattle.dl_head.specs.TableData.{HeaderData}
+use Rattle.dl_field.specs.HeaderData.{HeaderData}
 use Rattle.dl_head.specs.Header.{IsHeader, foreign_in}
 use Rattle.dl_head.specs.Refusal.{HeaderRefused}
 use Rattle.dl_head.specs.Cells.{cells}
@@ -17,7 +17,8 @@ Answers order b answer.Done = (h : HeaderData) × IsHeader order h b
 Answers order b (answer.Foreign version) = foreign_in order b ≡ Some version
 Answers order b (answer.Fault f) = HeaderRefused order b f.offset f.kind
 Answers order b answer.More =
-    ((h : HeaderData) → IsHeader order h b → ⊥) × (foreign_in order b ≡ None) × ((at : ℕ) (kind : FaultKind) → HeaderRefused order b at kind → ⊥)
+    ((h : HeaderData) → IsHeader order h b → ⊥) × (foreign_in order b ≡ None)
+    × ((at : ℕ) (kind : FaultKind) → HeaderRefused order b at kind → ⊥)
 Answers order b answer.NoMemory = ⊥
 
 -- the byte after b makes a header hold a cell more
@@ -31,7 +32,8 @@ pub record Steps (order : Order) (b : List ℕ) (byte : ℕ) (result : HeadStep)
   -- where memory is refused, the byte isn't taken
   pub unfed : result ≡ answer.NoMemory → AddsCell order b byte × StandsFor new b
   -- else the byte is taken, and the answer is what the bytes then come to
-  pub taken : Answers order b answer.More → result ≢ answer.NoMemory → Answers order (b ++ byte ∷ []) result × StandsFor new (b ++ byte ∷ [])
+  pub taken : Answers order b answer.More → result ≢ answer.NoMemory
+      → Answers order (b ++ byte ∷ []) result × StandsFor new (b ++ byte ∷ [])
 
 -- the header that a reader gives, some exactly where the bytes taken are one
 abbrev pub Gives : Order → HeadReader → Option HeaderData → Type 0

@@ -1,10 +1,12 @@
--- Where a unit is refused while its header is read, and why. Places count from the unit's first byte. DWARF 5, section 6.2.4.
-use Rattle.std.specs.Prelude.{◌≡◌, ℕ, ◌+◌, ◌-◌, List, [], ◌∷◌, ◌++◌, length, Option, Some, None, Ok, Err, ◌==◌, if◌then◌else◌}
+-- Where a unit is refused while its header is read, and why. Places count from its first byte. DWARF 5, section 6.2.4.
+use Rattle.std.specs.Prelude.{◌≡◌, ℕ, ◌+◌, ◌-◌, List, [], ◌∷◌, ◌++◌, length, Option, Some, None, Ok, Err, ◌==◌}
+use Rattle.std.specs.Prelude.{if◌then◌else◌}
 use Rattle.dl_num.specs.declared.fixed.Order.{Order}
-use Rattle.dl_head.specs.declared.fault.FaultKind.{FaultKind}
-use Rattle.dl_head.specs.declared.fault.FaultKind.TheVariants as fault
-use Rattle.dl_head.specs.Value.{Judgement}
-use Rattle.dl_head.specs.Layout.{Layout, last_entry, foreign_version, Item, header_layout, following_all, field_spelt}
+use Rattle.dl_table.specs.declared.fault.FaultKind.{FaultKind}
+use Rattle.dl_table.specs.declared.fault.FaultKind.TheVariants as fault
+use Rattle.dl_table.specs.Value.{Judgement}
+use Rattle.dl_field.specs.Layout.{Layout, last_entry, foreign_version, Item, following_all, field_spelt}
+use Rattle.dl_head.specs.HeaderLayout.{header_layout}
 use Rattle.dl_head.specs.Header.{Cut, cut, unit_end, header_end}
 
 -- the first of two, if there is one, else the second
@@ -48,7 +50,8 @@ header_decided order b = cut_decided order (length b) (cut order b)
 abbrev pub NothingBefore : (List ℕ → Option FaultKind) → List ℕ → Type 0
 NothingBefore decided b = (front : List ℕ) (x : ℕ) (back : List ℕ) → b ≡ front ++ x ∷ back → decided front ≡ None
 
--- b, a front of a unit, is refused in its header: its last byte decides the kind, nothing shorter decides anything, and the good fields end at the place
+-- b, a front of a unit, is refused in its header: its last byte decides the kind, nothing shorter decides anything, and
+-- the good fields end at the place
 pub record HeaderRefused (order : Order) (b : List ℕ) (at : ℕ) (kind : FaultKind) : Type 0 where
   pub place : at + length (cut order b).rest ≡ length b
   pub decided : header_decided order b ≡ Some kind
@@ -63,11 +66,13 @@ pub record Refusal : Type 0 where
 -- the first front that decides anything; begun: bytes before b, no shorter front of which does
 abbrev pub first_decided : (List ℕ → Option FaultKind) → List ℕ → List ℕ → Option (List ℕ × FaultKind)
 first_decided decided begun [] = elim (decided begun) [ Some kind ↦ Some (begun, kind) | None ↦ None ]
-first_decided decided begun (x ∷ b) = elim (decided begun) [ Some kind ↦ Some (begun, kind) | None ↦ first_decided decided (begun ++ x ∷ []) b ]
+first_decided decided begun (x ∷ b) =
+    elim (decided begun) [ Some kind ↦ Some (begun, kind) | None ↦ first_decided decided (begun ++ x ∷ []) b ]
 
 abbrev pub refusal_of : Order → Option (List ℕ × FaultKind) → Option Refusal
 refusal_of order None = None
-refusal_of order (Some found) = Some (record { front = found.0; at = length found.0 - length (cut order found.0).rest; kind = found.1 })
+refusal_of order (Some found) = Some
+    (record { front = found.0; at = length found.0 - length (cut order found.0).rest; kind = found.1 })
 
 -- the front of b that is refused in its header, computed
 abbrev pub header_refusal_in : Order → List ℕ → Option Refusal

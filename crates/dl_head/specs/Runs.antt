@@ -1,11 +1,12 @@
 -- What turns over the bytes of a header come to. DWARF 5, section 6.2.4.
-use Rattle.std.specs.Prelude.{◌≡◌, ◌+◌, ◌<◌, ◌≤◌, ◌⊎◌, ℕ, Bool, true, false, List, ◌∷◌, ◌++◌, length, take, drop, count_by}
+use Rattle.std.specs.Prelude.{◌≡◌, ◌+◌, ◌<◌, ◌≤◌, ◌⊎◌, ℕ, Bool, true, false, List, ◌∷◌, ◌++◌, length, take, drop}
+use Rattle.std.specs.Prelude.{count_by}
 use Rattle.dl_num.specs.declared.fixed.Order.{Order}
 use Rattle.dl_head.specs.declared.reader.HeadStep.{HeadStep}
 use Rattle.dl_head.specs.declared.reader.HeadStep.TheVariants as answer
 use Rattle.dl_head.specs.declared.reader.HeadReader.{HeadReader}
 use Rattle.dl_head.specs.declared.reader.run.HeadRun.{HeadRun}
-use Rattle.dl_head.specs.TableData.{HeaderData}
+use Rattle.dl_field.specs.HeaderData.{HeaderData}
 use Rattle.dl_head.specs.Header.{IsHeader}
 use Rattle.dl_head.specs.Standing.{StandsFor}
 use Rattle.dl_head.specs.Reading.{Answers, AddsCell}
@@ -23,7 +24,8 @@ pub record Took (order : Order) (b bytes : List ℕ) (used : ℕ) (last : HeadSt
   -- no shorter front of them came to anything
   pub before : (i : ℕ) → i < used → Answers order (b ++ take i bytes) answer.More
   -- memory was refused before a byte that adds a cell
-  pub unfed : last ≡ answer.NoMemory → (byte : ℕ) × (later : List ℕ) × (drop used bytes ≡ byte ∷ later) × AddsCell order (b ++ take used bytes) byte
+  pub unfed : last ≡ answer.NoMemory → (byte : ℕ) × (later : List ℕ) × (drop used bytes ≡ byte ∷ later)
+      × AddsCell order (b ++ take used bytes) byte
 
 -- what a piece may be answered after b
 pub record Answered (order : Order) (b piece : List ℕ) (a : Answer HeadStep) : Type 0 where
@@ -54,7 +56,11 @@ refusals answers = count_by (λ a. is_refusal a.gave) answers
 pub record Traced (order : Order) (b bytes turns : List ℕ) (run : HeadRun) (new : HeadReader) : Type 0 where
   pub answers : List (Answer HeadStep)
   pub trace : IsTrace (Answered order) goes_on b bytes turns answers
-  pub run_is : run ≡ record { taken = used_in answers; refused = refusals answers; last = last_given answer.More answers }
+  pub run_is : run ≡ record {
+    taken = used_in answers;
+    refused = refusals answers;
+    last = last_given answer.More answers;
+  }
   pub stands : StandsFor new (b ++ take run.taken bytes)
 
 -- what comes of the bytes that were taken
@@ -65,10 +71,19 @@ pub record Runs (order : Order) (b bytes turns : List ℕ) (run : HeadRun) : Typ
 
 -- Law: so does a trace.
 abbrev pub TraceRuns : Type 0
-TraceRuns = (order : Order) (b bytes turns : List ℕ) (answers : List (Answer HeadStep)) → Answers order b answer.More → IsTrace (Answered order) goes_on b bytes turns answers
-    → Runs order b bytes turns (record { taken = used_in answers; refused = refusals answers; last = last_given answer.More answers })
+TraceRuns = (order : Order) (b bytes turns : List ℕ) (answers : List (Answer HeadStep)) → Answers order b answer.More
+    → IsTrace (Answered order) goes_on b bytes turns answers
+    → Runs order b bytes turns (record {
+      taken = used_in answers;
+      refused = refusals answers;
+      last = last_given
+          answer.More answers;
+    })
 
--- Law: a header that the bytes complete, whatever follows it, is read whole where as many turns offer anything as bytes of it are missing and refusals came.
+-- Law: a header that the bytes complete, whatever follows it, is read whole where as many turns offer anything as bytes
+-- of it are missing and refusals came.
 abbrev pub HeaderIsRead : Type 0
-HeaderIsRead = (order : Order) (h : HeaderData) (b front rest turns : List ℕ) (run : HeadRun) → Answers order b answer.More → IsHeader order h (b ++ front)
-    → Runs order b (front ++ rest) turns run → length front + run.refused ≤ some_turns turns → (run.last ≡ answer.Done) × (run.taken ≡ length front)
+HeaderIsRead = (order : Order) (h : HeaderData) (b front rest turns : List ℕ) (run : HeadRun)
+    → Answers order b answer.More → IsHeader order h (b ++ front)
+    → Runs order b (front ++ rest) turns run → length front + run.refused ≤ some_turns turns
+    → (run.last ≡ answer.Done) × (run.taken ≡ length front)

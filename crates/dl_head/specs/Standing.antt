@@ -6,9 +6,10 @@ use Rattle.dl_head.specs.declared.reader.HeadReader.{HeadReader}
 use Rattle.dl_head.specs.declared.reader.HeadStep.{HeadStep}
 use Rattle.dl_head.specs.declared.reader.HeadStep.TheVariants as answer
 use Rattle.dl_head.specs.declared.fault.Fault.{Fault}
-use Rattle.dl_head.specs.declared.fault.FaultKind.{FaultKind}
-use Rattle.dl_head.specs.TableData.{HeaderData}
-use Rattle.dl_head.specs.Layout.{Item, following_all, field_spelt, header_layout}
+use Rattle.dl_table.specs.declared.fault.FaultKind.{FaultKind}
+use Rattle.dl_field.specs.HeaderData.{HeaderData}
+use Rattle.dl_field.specs.Layout.{Item, following_all, field_spelt}
+use Rattle.dl_head.specs.HeaderLayout.{header_layout}
 use Rattle.dl_head.specs.Header.{cut, unit_end, header_end, unit_len, IsHeader, foreign_in}
 use Rattle.dl_head.specs.Refusal.{header_decided, HeaderRefused, NothingBefore}
 use Rattle.dl_head.specs.Cells.{cells}
@@ -73,7 +74,8 @@ pub record SameTables (old new : HeadReader) : Type 0 where
   pub cells : held_cells new ≡ held_cells old
 
 abbrev pub Fails : HeadReader → FaultKind → HeadStep → HeadReader → Type 0
-Fails old kind result new = (result ≡ answer.Fault (failed_at old.start kind)) × (new.phase ≡ phase.Failed (failed_at old.start kind)) × SameTables old new
+Fails old kind result new = (result ≡ answer.Fault (failed_at old.start kind))
+    × (new.phase ≡ phase.Failed (failed_at old.start kind)) × SameTables old new
 
 -- `complete`
 pub record Completes (old new : HeadReader) : Type 0 where
@@ -87,9 +89,11 @@ pub record Completes (old new : HeadReader) : Type 0 where
 abbrev pub SettlesAt : HeadReader → Phase → HeadStep → HeadReader → Type 0
 SettlesAt old (phase.Foreign v) result new = (result ≡ answer.Foreign v) × (new ≡ old)
 SettlesAt old phase.Padding result new =
-    (old.end ≢ Some old.taken → (result ≡ answer.More) × (new ≡ old)) × (old.end ≡ Some old.taken → (result ≡ answer.Done) × Completes old new)
+    (old.end ≢ Some old.taken → (result ≡ answer.More) × (new ≡ old))
+    × (old.end ≡ Some old.taken → (result ≡ answer.Done) × Completes old new)
 SettlesAt old p result new =
-    (old.end ≢ Some old.taken → (result ≡ answer.More) × (new ≡ old)) × (old.end ≡ Some old.taken → Fails old old.overrun result new)
+    (old.end ≢ Some old.taken → (result ≡ answer.More) × (new ≡ old))
+    × (old.end ≡ Some old.taken → Fails old old.overrun result new)
 
 abbrev pub Settles : HeadReader → HeadStep → HeadReader → Type 0
 Settles old result new = SettlesAt old old.phase result new

@@ -2,15 +2,16 @@
 use Rattle.std.specs.Prelude.{◌≡◌, ℕ, List, ◌++◌}
 use Rattle.dl_num.specs.declared.fixed.Order.{Order}
 use Rattle.dl_num.specs.Laws.{AllBytes}
-use Rattle.dl_head.specs.declared.form.Format.{Format}
+use Rattle.dl_table.specs.declared.form.Format.{Format}
 use Rattle.dl_head.specs.declared.reader.Phase.{Phase}
 use Rattle.dl_head.specs.declared.reader.Phase.TheVariants as phase
-use Rattle.dl_head.specs.declared.reader.table_reader.TableReader.{TableReader}
-use Rattle.dl_head.specs.declared.reader.table_reader.TablePhase.TheVariants as table
-use Rattle.dl_head.specs.TableData.{TableData}
-use Rattle.dl_head.specs.Layout.{Layout, last_entry, Item, following_all, table_layout, format_alone}
+use Rattle.dl_field.specs.declared.table_reader.TableReader.{TableReader}
+use Rattle.dl_field.specs.declared.table_reader.TablePhase.TheVariants as table
+use Rattle.dl_table.specs.TableData.{TableData}
+use Rattle.dl_field.specs.Layout.{Layout, last_entry, Item, following_all, table_layout}
+use Rattle.dl_head.specs.HeaderLayout.{format_alone}
 use Rattle.dl_head.specs.Header.{SpellsFields}
-use Rattle.dl_head.specs.TablePlace.{IsFresh, TableAt}
+use Rattle.dl_field.specs.TablePlace.{IsFresh, TableAt}
 
 -- a table after which no field follows
 abbrev pub alone : Format → TableData → Layout

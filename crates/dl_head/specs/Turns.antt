@@ -15,8 +15,10 @@ abbrev pub last_given : {A : Type 0} → A → List (Answer A) → A
 last_given first [] = first
 last_given first (a ∷ answers) = last_given a.gave answers
 
--- A trace: the answers to turns over some bytes, after b. May says what a piece may be answered after bytes, goes_on which answers another turn follows.
-abbrev pub IsTrace : {A : Type 0} → (May : List ℕ → List ℕ → Answer A → Type 0) → (goes_on : A → Bool) → (b bytes turns : List ℕ) → List (Answer A) → Type 0
+-- A trace: the answers to turns over some bytes, after b. May says what a piece may be answered after bytes, goes_on
+-- which answers another turn follows.
+abbrev pub IsTrace : {A : Type 0} → (May : List ℕ → List ℕ → Answer A → Type 0) → (goes_on : A → Bool)
+    → (b bytes turns : List ℕ) → List (Answer A) → Type 0
 IsTrace May goes_on b bytes [] answers = answers ≡ []
 IsTrace May goes_on b bytes (n ∷ turns) [] = ⊥
 -- a turn offers n bytes, or all that are left; then nothing more is offered, or what wasn't used is, in the other turns

@@ -1,44 +1,18 @@
 -- What was written of a header, and how a failed write tells it.
-use Rattle.std.specs.Prelude.{◌≡◌, ℕ, ◌-◌, ◌^◌, ◌<◌, true, false, List, ◌++◌, length, take, min, Option, Result, Ok, Err, MatchResult}
+use Rattle.std.specs.Prelude.{◌≡◌, ℕ, ◌<◌, true, false, List, length, take, Option, Result, Ok, Err}
 use Rattle.std.specs.Io.KnownBytes.{Appends, Keeps}
 use Rattle.dl_num.specs.declared.fixed.Order.{Order}
-use Rattle.dl_head.specs.declared.counted.HeadWrite.{HeadWrite}
-use Rattle.dl_head.specs.declared.counted.HeadWrite.TheVariants.{TooLong, Write}
-use Rattle.dl_head.specs.TableData.{HeaderData}
+use Rattle.dl_table.specs.declared.counted.HeadWrite.{HeadWrite}
+use Rattle.dl_table.specs.declared.counted.HeadWrite.TheVariants.{TooLong, Write}
+use Rattle.dl_field.specs.HeaderData.{HeaderData}
 use Rattle.dl_head.specs.Written.{header_bytes, is_within_limit}
 
 -- `write_header`: the header is out; or it is too long and nothing is; or only its first `out` bytes are
 abbrev pub WritesHeader : Order → HeaderData → ℕ → (old new : Option (List ℕ)) → Result ℕ HeadWrite → Type 0
 WritesHeader order h program_len old new (Ok n) =
-    (is_within_limit h program_len ≡ true) × (n ≡ length (header_bytes order h program_len)) × Appends old new (header_bytes order h program_len)
+    (is_within_limit h program_len ≡ true) × (n ≡ length (header_bytes order h program_len))
+    × Appends old new (header_bytes order h program_len)
 WritesHeader order h program_len old new (Err TooLong) = (is_within_limit h program_len ≡ false) × Keeps old new
 WritesHeader order h program_len old new (Err (Write out)) =
     (is_within_limit h program_len ≡ true) × (out < length (header_bytes order h program_len))
     × Appends old new (take out (header_bytes order h program_len))
-
--- Below, a count is 2^64 - 1 where it is more.
-
--- all of the text is out, on top of what the writer held at the start
-pub record IsOut (start now : Option (List ℕ)) (text : List ℕ) (count : ℕ) : Type 0 where
-  pub written : Appends start now text
-  pub counted : count ≡ min (length text) (2 ^ 64 - 1)
-
--- not all of the text is out, but its first `out` bytes
-pub record IsPartOut (start now : Option (List ℕ)) (text : List ℕ) (count out : ℕ) : Type 0 where
-  pub within : out < length text
-  pub written : Appends start now (take out text)
-  pub counted : count ≡ min out (2 ^ 64 - 1)
-
-abbrev pub TellsOut : (start now : Option (List ℕ)) (text : List ℕ) → HeadWrite → Type 0
-TellsOut start now text (Write count) = (out : ℕ) × IsPartOut start now text count out
-TellsOut start now text TooLong = ⊥
-
--- after whatever text was written before, `more` is
-abbrev pub WroteMore : (old new : Option (List ℕ)) (before after : ℕ) (more : List ℕ) → Type 0
-WroteMore old new before after more =
-    (start : Option (List ℕ)) (text : List ℕ) → IsOut start old text before → IsOut start new (text ++ more) after
-
--- the same, or a write failed
-abbrev pub Writes : (old new : Option (List ℕ)) (before : ℕ) (more : List ℕ) → Result ℕ HeadWrite → Type 0
-Writes old new before more result = (start : Option (List ℕ)) (text : List ℕ) → IsOut start old text before
-    → MatchResult result (λ n. IsOut start new (text ++ more) n) (λ f. TellsOut start new (text ++ more) f)

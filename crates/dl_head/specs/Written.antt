@@ -1,50 +1,15 @@
--- The one spelling in which a header is written: shortest numbers, and no bytes between the last entry and the program. DWARF 5, section 6.2.4.
-use Rattle.std.specs.Prelude.{ℕ, ◌+◌, ◌-◌, ◌%◌, Bool, List, [], ◌∷◌, ◌++◌, length, ℤ, pos, negsuc, flat_map, nat_le}
+-- The one spelling of a header that is written: shortest numbers, nothing after the last entry. DWARF 5, section 6.2.4.
+use Rattle.std.specs.Prelude.{ℕ, ◌+◌, ◌-◌, ◌%◌, Bool, List, [], ◌∷◌, ◌++◌, length, ℤ, pos, negsuc, nat_le}
 use Rattle.dl_num.specs.declared.fixed.Order.{Order}
 use Rattle.dl_num.specs.declared.fixed.Order.TheVariants.{Little}
 use Rattle.dl_num.specs.Fixed.{fixed_bytes}
-use Rattle.dl_num.specs.Shortest.{shortest_uleb}
-use Rattle.dl_head.specs.declared.form.Format.{Format}
-use Rattle.dl_head.specs.declared.form.Format.TheVariants.{Dwarf32, Dwarf64}
-use Rattle.dl_head.specs.declared.form.Form.{Form}
-use Rattle.dl_head.specs.declared.form.Form.TheVariants as form
-use Rattle.dl_head.specs.declared.table.Pair.{Pair}
-use Rattle.dl_head.specs.TableData.{TableData, HeaderData}
-use Rattle.dl_head.specs.Value.{Value, text, line_str, str, str_sup, number, block, data16, form_code, offset_size}
-use Rattle.dl_head.specs.Layout.{fixed_part, unit_length_limit}
-
--- a value in its form; nothing for a value that isn't one of the form
-abbrev pub value_bytes : Order → Format → Form → Value → List ℕ
-value_bytes order format form.Block2 (block w) = fixed_bytes order 2 (length w) ++ w
-value_bytes order format form.Block4 (block w) = fixed_bytes order 4 (length w) ++ w
-value_bytes order format form.Data2 (number n) = fixed_bytes order 2 n
-value_bytes order format form.Data4 (number n) = fixed_bytes order 4 n
-value_bytes order format form.Data8 (number n) = fixed_bytes order 8 n
-value_bytes order format form.String (text w) = w ++ 0 ∷ []
-value_bytes order format form.Block (block w) = shortest_uleb (length w) ++ w
-value_bytes order format form.Block1 (block w) = fixed_bytes order 1 (length w) ++ w
-value_bytes order format form.Data1 (number n) = fixed_bytes order 1 n
-value_bytes order format form.Strp (str n) = fixed_bytes order (offset_size format) n
-value_bytes order format form.Udata (number n) = shortest_uleb n
-value_bytes order format form.StrpSup (str_sup n) = fixed_bytes order (offset_size format) n
-value_bytes order format form.Data16 (data16 w) = w
-value_bytes order format form.LineStrp (line_str n) = fixed_bytes order (offset_size format) n
-value_bytes order format f v = []
-
-abbrev pub pair_bytes : Pair → List ℕ
-pair_bytes p = shortest_uleb p.content ++ shortest_uleb (form_code p.form)
-
--- the values of an entry, each in the form of its pair
-abbrev pub entry_bytes : Order → Format → List Pair → List Value → List ℕ
-entry_bytes order format [] values = []
-entry_bytes order format (p ∷ pairs) [] = []
-entry_bytes order format (p ∷ pairs) (v ∷ values) = value_bytes order format p.form v ++ entry_bytes order format pairs values
-
--- the count of the pairs, the pairs, the count of the entries, the entries
-abbrev pub table_bytes : Order → TableData → List ℕ
-table_bytes order t =
-    length t.pairs ∷ flat_map pair_bytes t.pairs
-    ++ shortest_uleb (length t.entries) ++ flat_map (λ values. entry_bytes order t.format t.pairs values) t.entries
+use Rattle.dl_table.specs.declared.form.Format.{Format}
+use Rattle.dl_table.specs.declared.form.Format.TheVariants.{Dwarf32, Dwarf64}
+use Rattle.dl_field.specs.HeaderData.{HeaderData}
+use Rattle.dl_table.specs.Value.{offset_size}
+use Rattle.dl_table.specs.Written.{table_bytes}
+use Rattle.dl_field.specs.Layout.{unit_length_limit}
+use Rattle.dl_head.specs.HeaderLayout.{fixed_part}
 
 -- a signed number as a byte
 abbrev pub byte_of : ℤ → ℕ

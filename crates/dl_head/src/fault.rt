@@ -1,99 +1,13 @@
-//! What is wrong with a unit, a table or a header.
+//! What is wrong with a header, and where a fault stands.
 
-use std::fmt;
+pub use dl_table::fault::{BuildFault, FaultKind};
 use thiserror::Error;
-
-/// What is wrong with a unit. Its Display is one line without a newline.
-#[derive(Clone, Copy, Debug, PartialEq, Eq)]
-pub enum FaultKind {
-    /// The initial length is 0xfffffff0 to 0xfffffffe. Section 7.4.
-    ReservedLength,
-    /// unit_length is above 2^40.
-    UnitTooLong,
-    /// The unit ends before header_length is complete.
-    UnitOverrun,
-    /// address_size isn't 1, 2, 4 or 8.
-    AddressSize,
-    /// header_length is above the bytes left in the unit.
-    HeaderBeyondUnit,
-    /// The header ends, by header_length, before its last field does.
-    HeaderOverrun,
-    /// maximum_operations_per_instruction is 0.
-    MaxOps,
-    /// line_range is 0.
-    LineRange,
-    /// opcode_base is 0.
-    OpcodeBase,
-    /// This standard opcode has another number of operands than in section 6.2.5.2.
-    StandardLength(u8),
-    /// This code is no form's that a line table may use.
-    UnknownForm(u64),
-    /// There are directories or files, and their format has no pairs.
-    EmptyFormat,
-    /// A number in LEB128 doesn't fit 64 bits.
-    LebRange,
-    /// An extended opcode has the length 0.
-    ExtendedEmpty,
-    /// The operand of an extended opcode doesn't fill its length.
-    ExtendedLength,
-    /// The unit ends inside an opcode.
-    OpcodeOverrun,
-    /// The input ends inside a unit.
-    Truncated,
-}
-
-impl fmt::Display for FaultKind {
-    ghost use Rattle.std.specs.Prelude.{Some};
-    ghost use Rattle.dl_head.specs.FaultText.{fault_text};
-
-    ghost output = { λ kind. Some (fault_text kind) };
-
-    fn fmt<W: fmt::Write>(&self, f: &mut fmt::Formatter<W>) -> fmt::Result {
-        match self {
-            FaultKind::ReservedLength => write!(f, "reserved initial length"),
-            FaultKind::UnitTooLong => write!(f, "unit too long"),
-            FaultKind::UnitOverrun => write!(f, "unit ends in its header"),
-            FaultKind::AddressSize => write!(f, "bad address size"),
-            FaultKind::HeaderBeyondUnit => write!(f, "header goes past the unit"),
-            FaultKind::HeaderOverrun => write!(f, "header ends too soon"),
-            FaultKind::MaxOps => write!(f, "maximum operations is 0"),
-            FaultKind::LineRange => write!(f, "line range is 0"),
-            FaultKind::OpcodeBase => write!(f, "opcode base is 0"),
-            FaultKind::StandardLength(opcode) => {
-                write!(f, "wrong length of standard opcode {opcode}")
-            }
-            FaultKind::UnknownForm(code) => write!(f, "unknown form 0x{code:x}"),
-            FaultKind::EmptyFormat => write!(f, "entries without a format"),
-            FaultKind::LebRange => write!(f, "number out of range"),
-            FaultKind::ExtendedEmpty => write!(f, "empty extended opcode"),
-            FaultKind::ExtendedLength => write!(f, "wrong length of extended opcode"),
-            FaultKind::OpcodeOverrun => write!(f, "unit ends inside an opcode"),
-            FaultKind::Truncated => write!(f, "input ends inside a unit"),
-        }
-    }
-}
 
 /// A fault and its place, in bytes from the unit's first one.
 #[derive(Clone, Copy, Debug, PartialEq, Eq)]
 pub struct Fault {
     pub offset: u64,
     pub kind: FaultKind,
-}
-
-/// Why a table or an entry was refused.
-#[derive(Clone, Copy, Debug, PartialEq, Eq, Error)]
-pub enum BuildFault {
-    /// The table has no pairs, so it takes no entries.
-    #[error("the table has no pairs")]
-    EmptyFormat,
-    /// The least place at which a value is missing, is too many, or isn't one of its pair's form.
-    #[error("wrong value at place {0}")]
-    WrongValue(usize),
-    #[error("out of memory")]
-    NoMemory,
-    /// There are more than 255 pairs.
-    #[error("too many pairs")]
-    TooManyFormats,
 }
 
 /// Why the parts of a header were refused, the first reason in this order.

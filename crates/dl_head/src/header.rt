@@ -2,13 +2,16 @@
 
 ghost use Rattle.std.specs.Prelude.{◌≡◌, ◌↔◌, IsTrue, ◌-◌, ◌^◌, None, Some, IfErr, IfOk, IfNone, OnOk, min};
 ghost use Rattle.std.specs.Option.{option_map};
-ghost use Rattle.dl_head.specs.Built.{IsUsable, param_fault as param_fault_of, with_standard_opcodes as standard, wrong_length as wrong_length_of};
-ghost use Rattle.dl_head.specs.Sound.{IsSoundHeader, IsSoundTable};
-ghost use Rattle.dl_head.specs.TableCells.{header_cells};
+ghost use Rattle.dl_field.specs.Usable.{IsUsable};
+ghost use Rattle.dl_head.specs.Built.{param_fault as param_fault_of, with_standard_opcodes as standard, wrong_length as wrong_length_of};
+ghost use Rattle.dl_table.specs.Sound.{IsSoundTable};
+ghost use Rattle.dl_head.specs.Sound.{IsSoundHeader};
+ghost use Rattle.dl_field.specs.HeaderData.{header_cells};
 
 use crate::fault::ParamFault;
-use crate::params::{Params, is_wrong_length, standard_lengths};
-use crate::table::Table;
+use dl_field::Params;
+use dl_field::params::{is_wrong_length, standard_lengths};
+use dl_table::Table;
 use std::marker::Model;
 use thiserror::Error;
 
@@ -21,7 +24,7 @@ pub struct Header {
 }
 
 impl Model for Header {
-    ghost use Rattle.dl_head.specs.TableData.{HeaderData};
+    ghost use Rattle.dl_field.specs.HeaderData.{HeaderData};
 
     ghost Value = { HeaderData };
 

@@ -1,6 +1,7 @@
 //! Laws of the definitions of headers, each the contract of a function that does nothing. Section 6.2.4.
 
-ghost use Rattle.dl_head.specs.Laws.{FieldIsJudged, OneHeader, HeaderIsFound, FoundIsHeader, CutIsComputed, HeaderIsNotForeign, OneHeaderRefusal, RefusalIsComputed, HeaderIsNotRefused, ForeignIsNotRefused, FewCells, HeaderHoldsItsCells};
+ghost use Rattle.dl_field.specs.Laws.{FieldIsJudged};
+ghost use Rattle.dl_head.specs.Laws.{OneHeader, HeaderIsFound, FoundIsHeader, CutIsComputed, HeaderIsNotForeign, OneHeaderRefusal, RefusalIsComputed, HeaderIsNotRefused, ForeignIsNotRefused, FewCells, HeaderHoldsItsCells};
 ghost use Rattle.dl_head.specs.Reading.{OneAnswer};
 ghost use Rattle.dl_head.specs.WrittenLaws.{WrittenIsHeader, WrittenHasItsLength, ReadIsSound};
 ghost use Rattle.dl_head.specs.Runs.{TraceRuns, HeaderIsRead};

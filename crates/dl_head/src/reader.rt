@@ -6,33 +6,24 @@ ghost use Rattle.dl_head.specs.Cells.{cells};
 ghost use Rattle.std.specs.Option.{option_copied};
 ghost use Rattle.dl_num.specs.Fixed.{is_number_size};
 ghost use Rattle.dl_head.specs.HeadStep.{AreStandard, end_near, formats_fit, lengths_fit, tables_fit};
-ghost use Rattle.dl_head.specs.TableCells.{table_cells};
+ghost use Rattle.dl_table.specs.TableCells.{table_cells};
 ghost use Rattle.dl_head.specs.TableSpelt.{TableStands};
 ghost use Rattle.std.proofs.Props.{props};
 
 mod byte_field;
 mod fields;
 mod lengths;
-mod next;
 mod run;
-mod sixteen;
-mod table_reader;
-mod value_phase;
-mod value_reader;
-mod whole_value;
 
-use crate::fault::{Fault, FaultKind};
-use crate::form::Format;
+use crate::fault::Fault;
 use crate::header::Header;
-use crate::params::Params;
-use crate::table::Table;
 use byte_field::ByteField;
+use dl_field::{FieldStep, Params, TableReader};
 use dl_num::{Number, Order};
-use next::Next;
+use dl_table::{FaultKind, Format, Table};
 pub use run::HeadRun;
 use std::alloc::Global;
 use std::mem;
-use table_reader::TableReader;
 
 /// What a step of the header reader answers.
 #[derive(Clone, Copy, Debug, PartialEq, Eq)]
@@ -156,17 +147,17 @@ impl HeadReader {
             _ => {}
         }
         match self.push(byte) {
-            Next::NoMemory => HeadStep::NoMemory,
-            Next::Within => {
+            FieldStep::NoMemory => HeadStep::NoMemory,
+            FieldStep::Within => {
                 self.taken = self.taken.saturating_add(1);
                 self.settle()
             }
-            Next::Ends => {
+            FieldStep::Ends => {
                 self.taken = self.taken.saturating_add(1);
                 self.start = self.taken;
                 self.settle()
             }
-            Next::Refuses(kind) => {
+            FieldStep::Refuses(kind) => {
                 self.taken = self.taken.saturating_add(1);
                 self.fail(kind)
             }
@@ -263,7 +254,7 @@ impl HeadReader {
     }
 
     /// What the byte makes of the field that it falls in.
-    fn push(&mut self, byte: u8) -> Next
+    fn push(&mut self, byte: u8) -> FieldStep
         ensures follows { PushFollows self.old byte result self.new }
         ensures kept { Keeps self.old result self.new }
     {
@@ -277,11 +268,12 @@ impl HeadReader {
             Phase::OpcodeLength => self.opcode_length(byte),
             Phase::Directories => self.directories(byte),
             Phase::Files => self.files(byte),
-            Phase::Padding | Phase::Done | Phase::Foreign(_) | Phase::Failed(_) => Next::Within,
+            Phase::Padding | Phase::Done | Phase::Foreign(_) | Phase::Failed(_) =>
+                FieldStep::Within,
         }
     }
 
-    fn directories(&mut self, byte: u8) -> Next
+    fn directories(&mut self, byte: u8) -> FieldStep
         requires { self.old.phase ≡ phase.Directories }
         ensures follows { PushFollows self.old byte result self.new }
         ensures kept { Keeps self.old result self.new }
@@ -295,7 +287,7 @@ impl HeadReader {
         next
     }
 
-    fn files(&mut self, byte: u8) -> Next
+    fn files(&mut self, byte: u8) -> FieldStep
         requires { self.old.phase ≡ phase.Files }
         ensures follows { PushFollows self.old byte result self.new }
         ensures kept { Keeps self.old result self.new }

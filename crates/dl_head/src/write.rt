@@ -3,18 +3,20 @@
 ghost use Rattle.std.specs.Prelude.{◌≡◌, ◌↔◌, ◌++◌, ◌+◌, ◌-◌, ◌^◌, IsOk, IfOk, IsTrue, length, min};
 ghost use Rattle.dl_num.specs.declared.fixed.Order.{Order};
 ghost use Rattle.dl_num.specs.declared.fixed.Order.TheVariants.{Little};
-ghost use Rattle.dl_head.specs.Layout.{fixed_part, initial_size};
+ghost use Rattle.dl_head.specs.HeaderLayout.{fixed_part, initial_size};
 ghost use Rattle.dl_num.specs.Fixed.{fixed_bytes};
 ghost use Rattle.dl_head.specs.Spelled.{byte_parts, front_parts, number_parts, version_parts};
-ghost use Rattle.dl_head.specs.Value.{offset_size as offset_size_of};
-ghost use Rattle.dl_head.specs.Writing.{Writes, WritesHeader};
-ghost use Rattle.dl_head.specs.Written.{byte_of, header_bytes, header_length_of, initial_length_bytes, is_within_limit, table_bytes, written_limit};
+ghost use Rattle.dl_table.specs.Value.{offset_size as offset_size_of};
+ghost use Rattle.dl_table.specs.Writing.{Writes};
+ghost use Rattle.dl_head.specs.Writing.{WritesHeader};
+ghost use Rattle.dl_table.specs.Written.{table_bytes};
+ghost use Rattle.dl_head.specs.Written.{byte_of, header_bytes, header_length_of, initial_length_bytes, is_within_limit, written_limit};
 
-use crate::counted::{HeadWrite, put, put_number};
-use crate::form::Format;
 use crate::header::Header;
-use crate::params::Params;
+use dl_field::Params;
 use dl_num::Order;
+use dl_table::counted::{put, put_number};
+use dl_table::{Format, HeadWrite};
 use std::io::Write;
 use thiserror::Error;
 

@@ -4,9 +4,9 @@ use Rattle.std.proofs.lemmas.List.{append-nil, take-append-drop, take_more, leng
 use Rattle.std.proofs.lemmas.Grind.{flat_map-append}
 use Rattle.std.proofs.lemmas.Option.{none-some, same_Some, slice_get-get_or}
 use Rattle.std.specs.Option.{option_map}
-use Rattle.dl_head.specs.declared.table.Pair.{Pair}
-use Rattle.dl_head.specs.EntryData.{with_content}
-use Rattle.dl_head.specs.Value.{Value}
+use Rattle.dl_table.specs.declared.table.Pair.{Pair}
+use Rattle.dl_table.specs.EntryData.{with_content}
+use Rattle.dl_table.specs.Value.{Value}
 use Rattle.dl_print.specs.ValueText.{Strings, named_value}
 use Rattle.dl_print.specs.HeaderText.{items_text, entry_line, entry_lines}
 

@@ -3,7 +3,7 @@ use Rattle.std.proofs.Common.{◌≡◌, ℕ, inl, inr, eqb, cond, List, [], ◌
 use Rattle.std.proofs.lemmas.Bool.{ne_eqb, cases_lt}
 use Rattle.std.proofs.lemmas.List.{drop-append-le}
 use Rattle.std.proofs.Math.ListN.{drop_of_length-le}
-use Rattle.dl_head.specs.Text.{text_in, text_at}
+use Rattle.dl_table.specs.Text.{text_in, text_at}
 
 -- a last byte that isn't zero ends no text
 text_in-push : (w : List ℕ) (b : ℕ) → (b ≡ 0 → ⊥) → text_in (w ++ b ∷ []) ≡ text_in w

@@ -1,10 +1,11 @@
 -- The lines of a header: the unit, its directories and its files. DWARF 5, section 6.2.4.
 use Rattle.std.specs.Prelude.{ℕ, ◌+◌, List, [], ◌∷◌, ◌++◌, flat_map, codes, decimal, slice_get}
 use Rattle.std.specs.Option.{option_map_or}
-use Rattle.dl_head.specs.declared.table.Pair.{Pair}
-use Rattle.dl_head.specs.EntryData.{with_content}
-use Rattle.dl_head.specs.TableData.{HeaderData, TableData}
-use Rattle.dl_head.specs.Value.{Value}
+use Rattle.dl_table.specs.declared.table.Pair.{Pair}
+use Rattle.dl_table.specs.EntryData.{with_content}
+use Rattle.dl_table.specs.TableData.{TableData}
+use Rattle.dl_field.specs.HeaderData.{HeaderData}
+use Rattle.dl_table.specs.Value.{Value}
 use Rattle.dl_print.specs.Text.{line, missing_line, unit_line}
 use Rattle.dl_print.specs.ValueText.{Strings, named_value}
 

@@ -1,8 +1,8 @@
 -- The lines of text that a section is printed as.
 use Rattle.std.specs.Prelude.{ℕ, Bool, List, [], ◌∷◌, ◌++◌, codes, decimal, ◌==◌, if◌then◌else◌}
 use Rattle.dl_print.specs.Digits.{hexadecimal, hexadecimal_of}
-use Rattle.dl_head.specs.declared.form.Format.{Format}
-use Rattle.dl_head.specs.declared.form.Format.TheVariants.{Dwarf32, Dwarf64}
+use Rattle.dl_table.specs.declared.form.Format.{Format}
+use Rattle.dl_table.specs.declared.form.Format.TheVariants.{Dwarf32, Dwarf64}
 use Rattle.dl_rows.specs.declared.row.Row.{Row}
 use Rattle.dl_print.specs.declared.summary.Summary.{Summary}
 

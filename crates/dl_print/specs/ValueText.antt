@@ -1,9 +1,9 @@
 -- The texts of values, and the lines of directories and files.
 use Rattle.std.specs.Prelude.{ℕ, Bool, ◌||◌, List, [], ◌∷◌, ◌++◌, Option, Some, None, nat_lt, ◌==◌, if◌then◌else◌, flat_map, codes, decimal, option_and_then}
 use Rattle.dl_print.specs.Digits.{hexadecimal, hexadecimal_of, hexadecimal_bytes}
-use Rattle.dl_head.specs.Text.{text_at}
+use Rattle.dl_table.specs.Text.{text_at}
 use Rattle.dl_print.specs.declared.output.string_sections.StringSections.{StringSections}
-use Rattle.dl_head.specs.Value.{Value, text, line_str, str, str_sup, number, block, data16}
+use Rattle.dl_table.specs.Value.{Value, text, line_str, str, str_sup, number, block, data16}
 
 -- the bytes that are written by their numbers: those below 0x20, 0x7f, a quote and a backslash
 abbrev pub is_escaped : ℕ → Bool

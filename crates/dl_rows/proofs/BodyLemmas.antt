@@ -10,8 +10,8 @@ use Rattle.dl_num.specs.Front.{SpellsNowhere, SpellsFirst}
 use Rattle.dl_num.specs.Leb.{IsUleb}
 use Rattle.dl_num.specs.LebReader.{UlebTook, UlebIs}
 use Rattle.dl_num.specs.NumberBytes.{number_size, number_bytes}
-use Rattle.dl_head.specs.declared.params.Params.{Params}
-use Rattle.dl_head.specs.declared.fault.FaultKind.TheVariants as fault
+use Rattle.dl_field.specs.declared.params.Params.{Params}
+use Rattle.dl_table.specs.declared.fault.FaultKind.TheVariants as fault
 use Rattle.dl_rows.specs.declared.operation.Operation.TheVariants as op
 use Rattle.dl_rows.specs.declared.phase.Phase.TheVariants as phase
 use Rattle.dl_rows.specs.declared.phase.Step.{Step}

@@ -7,9 +7,9 @@ use Rattle.dl_num.specs.Front.{SpellsNowhere, SpellsFirst}
 use Rattle.dl_num.specs.Leb.{groups, AllContinue, IsUleb}
 use Rattle.dl_num.specs.LebFront.{leb_front}
 use Rattle.dl_num.proofs.LebFrontLemmas.{is_leb-continues, leb_front-leb, leb_front-append, leb_front-continues}
-use Rattle.dl_head.specs.declared.params.Params.{Params}
-use Rattle.dl_head.specs.declared.fault.FaultKind.{FaultKind}
-use Rattle.dl_head.specs.declared.fault.FaultKind.TheVariants as fault
+use Rattle.dl_field.specs.declared.params.Params.{Params}
+use Rattle.dl_table.specs.declared.fault.FaultKind.{FaultKind}
+use Rattle.dl_table.specs.declared.fault.FaultKind.TheVariants as fault
 use Rattle.dl_rows.specs.declared.operation.Operation.TheVariants as op
 use Rattle.dl_rows.specs.OperationSpelt.{discriminator_spelt, extended_spelt, body_spelt, length_and_body, operation_spelt}
 use Rattle.dl_rows.specs.Phases.{HasLength}

@@ -3,13 +3,15 @@ use Rattle.std.proofs.Common.{◌≡◌, inl, inr, ℕ, ◌+◌, Some, List, [],
 use Rattle.std.proofs.lemmas.Bool.{cases_eq, eq-eqb, ne_eqb}
 use Rattle.std.proofs.lemmas.List.Sums.{sum_by-cons}
 use Rattle.dl_num.specs.declared.fixed.Order.{Order}
-use Rattle.dl_head.specs.declared.form.Format.{Format}
-use Rattle.dl_head.specs.Cells.{item_cells, rest_cells, cells}
-use Rattle.dl_head.specs.Layout.{version, Layout, number_then, foreign_version, Item, following, following_all, header_layout, from_address_size, format_alone}
+use Rattle.dl_table.specs.declared.form.Format.{Format}
+use Rattle.dl_field.specs.Cells.{item_cells, rest_cells}
+use Rattle.dl_head.specs.Cells.{cells}
+use Rattle.dl_field.specs.Layout.{version, Layout, number_then, foreign_version, Item, following, following_all}
+use Rattle.dl_head.specs.HeaderLayout.{header_layout, from_address_size, format_alone}
 use Rattle.dl_head.specs.Header.{SpellsFields, cut, foreign_made, foreign_in}
 use Rattle.dl_head.proofs.CutLemmas.{cut_sound, Sound}
-use Rattle.dl_head.proofs.FieldLemmas.{none_some}
-use Rattle.dl_head.proofs.Openings.{after_length, not_foreign, is_number, is_length}
+use Rattle.dl_field.proofs.FieldLemmas.{none_some}
+use Rattle.dl_head.proofs.FirstFields.{after_length, not_foreign, is_number, is_length}
 use Rattle.dl_head.proofs.RefusalLaws.{foreign_last}
 
 -- after a foreign version no field is spelled

@@ -5,18 +5,18 @@ use Rattle.std.proofs.Math.Seq.{take-suc}
 use Rattle.dl_num.specs.declared.fixed.Order.{Order}
 use Rattle.dl_num.specs.Laws.{AllBytes}
 use Rattle.dl_head.specs.declared.fault.Fault.{Fault}
-use Rattle.dl_head.specs.declared.fault.FaultKind.{FaultKind}
+use Rattle.dl_table.specs.declared.fault.FaultKind.{FaultKind}
 use Rattle.dl_head.specs.declared.reader.HeadReader.{HeadReader}
 use Rattle.dl_head.specs.declared.reader.HeadStep.{HeadStep}
 use Rattle.dl_head.specs.declared.reader.HeadStep.TheVariants as answer
 use Rattle.dl_head.specs.Cells.{cells}
-use Rattle.dl_head.specs.TableData.{HeaderData}
+use Rattle.dl_field.specs.HeaderData.{HeaderData}
 use Rattle.dl_head.specs.Header.{IsHeader, foreign_in, header_in, unit_len}
 use Rattle.dl_head.specs.Refusal.{HeaderRefused}
 use Rattle.dl_head.specs.Reading.{Answers}
 use Rattle.dl_head.specs.Runs.{so_far, Took, Offered}
 use Rattle.dl_head.specs.Standing.{StandsFor as HeadStands}
-use Rattle.dl_head.proofs.FieldLemmas.{none_some}
+use Rattle.dl_field.proofs.FieldLemmas.{none_some}
 use Rattle.dl_head.proofs.OneAnswer.{one_answer}
 use Rattle.dl_head.proofs.HeaderLaws.{header_is_found}
 use Rattle.std.proofs.lemmas.Bool.{cases_eq}

@@ -6,12 +6,12 @@ use Rattle.dl_num.specs.declared.fixed.Order.{Order}
 use Rattle.dl_head.specs.declared.reader.HeadReader.{HeadReader}
 use Rattle.dl_head.specs.declared.reader.HeadStep.{HeadStep}
 use Rattle.dl_head.specs.declared.reader.HeadStep.TheVariants as answer
-use Rattle.dl_head.specs.TableData.{HeaderData}
+use Rattle.dl_field.specs.HeaderData.{HeaderData}
 use Rattle.dl_head.specs.Header.{unit_len}
 use Rattle.dl_head.specs.Reading.{Answers, Gives}
 use Rattle.dl_head.specs.Runs.{so_far, Offered}
 use Rattle.dl_head.specs.Standing.{StandsFor as HeadStands}
-use Rattle.dl_head.proofs.FieldLemmas.{none_some}
+use Rattle.dl_field.proofs.FieldLemmas.{none_some}
 use Rattle.dl_rows.specs.declared.reader.State.{State}
 use Rattle.dl_rows.specs.declared.reader.State.TheVariants as state
 use Rattle.dl_rows.specs.ReaderStates.{GoesOn, IsBegun, KnowsLength, HasHeader}

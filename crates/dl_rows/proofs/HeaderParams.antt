@@ -7,22 +7,24 @@ use Rattle.dl_num.specs.declared.fixed.Order.{Order}
 use Rattle.dl_num.specs.Laws.{AllBytes}
 use Rattle.dl_num.proofs.FixedLaws.{fixed_is_below}
 use Rattle.dl_num.specs.Fixed.{is_number_size}
-use Rattle.dl_head.specs.declared.fault.FaultKind.{FaultKind}
-use Rattle.dl_head.specs.declared.fault.FaultKind.TheVariants as fault
-use Rattle.dl_head.specs.declared.form.Format.{Format}
-use Rattle.dl_head.specs.declared.form.Form.{Form}
-use Rattle.dl_head.specs.declared.params.Params.{Params}
-use Rattle.dl_head.specs.declared.table.Pair.{Pair}
-use Rattle.dl_head.specs.Built.{IsUsable}
-use Rattle.dl_head.specs.TableData.{TableData, HeaderData}
-use Rattle.dl_head.specs.Value.{Value, good}
-use Rattle.dl_head.specs.Field.{IsNumber}
-use Rattle.dl_head.specs.Layout.{Layout, initial_length_then, number_then, form_then, value_then, foreign_version, last_entry, Item, length_is, number_is, form_is, value_is, following, following_all, header_layout, objection, number_size, field_spelt, lengths_layout, pairs_layout, entry_layout, entries_layout, table_layout, tables_layout, from_address_size, format_alone, NumberField, signed_byte}
+use Rattle.dl_table.specs.declared.fault.FaultKind.{FaultKind}
+use Rattle.dl_table.specs.declared.fault.FaultKind.TheVariants as fault
+use Rattle.dl_table.specs.declared.form.Format.{Format}
+use Rattle.dl_table.specs.declared.form.Form.{Form}
+use Rattle.dl_field.specs.declared.params.Params.{Params}
+use Rattle.dl_table.specs.declared.table.Pair.{Pair}
+use Rattle.dl_field.specs.Usable.{IsUsable}
+use Rattle.dl_table.specs.TableData.{TableData}
+use Rattle.dl_field.specs.HeaderData.{HeaderData}
+use Rattle.dl_table.specs.Value.{Value, good}
+use Rattle.dl_field.specs.Field.{IsNumber}
+use Rattle.dl_field.specs.Layout.{Layout, initial_length_then, number_then, form_then, value_then, foreign_version, last_entry, Item, length_is, number_is, form_is, value_is, following, following_all, objection, number_size, field_spelt, pairs_layout, entry_layout, entries_layout, table_layout, NumberField}
+use Rattle.dl_head.specs.HeaderLayout.{header_layout, lengths_layout, tables_layout, from_address_size, format_alone, signed_byte}
 use Rattle.dl_head.specs.Header.{SpellsFields, IsHeader}
-use Rattle.dl_head.proofs.FieldLemmas.{none_some}
-use Rattle.dl_head.proofs.FieldLaws.{field_is_judged}
+use Rattle.dl_field.proofs.FieldLemmas.{none_some}
+use Rattle.dl_field.proofs.FieldLaws.{field_is_judged}
 use Rattle.dl_head.proofs.HeaderLaws.{made_last}
-use Rattle.dl_head.proofs.Openings.{is_number}
+use Rattle.dl_head.proofs.FirstFields.{is_number}
 use Rattle.dl_rows.specs.UnitLaws.{HeaderFits}
 use Rattle.dl_rows.proofs.OperandRanges.{bytes_front, bytes_back}
 

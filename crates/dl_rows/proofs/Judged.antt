@@ -9,9 +9,9 @@ use Rattle.dl_num.specs.Leb.{groups, signed_groups, IsUleb, IsSleb, IsSigned64}
 use Rattle.dl_num.specs.LebFront.{is_leb, leb_front, behind_leb}
 use Rattle.dl_num.proofs.LebLaws.{leb_is, is_leb-of}
 use Rattle.dl_num.proofs.LebFrontLemmas.{and_left, and_right, true_false}
-use Rattle.dl_head.specs.declared.params.Params.{Params}
-use Rattle.dl_head.specs.declared.fault.FaultKind.TheVariants as fault
-use Rattle.dl_head.specs.Value.{Judgement, good, bad}
+use Rattle.dl_field.specs.declared.params.Params.{Params}
+use Rattle.dl_table.specs.declared.fault.FaultKind.TheVariants as fault
+use Rattle.dl_table.specs.Value.{Judgement, good, bad}
 use Rattle.dl_rows.specs.declared.operation.Operation.{Operation}
 use Rattle.dl_rows.specs.declared.operation.Operation.TheVariants as op
 use Rattle.dl_rows.specs.OperationSpelt.{is_empty, fits_signed, signed_number, unsigned_operand, signed_operand, standard_opcodes, standard_spelt, are_lebs, discriminator_spelt, extended_spelt, body_spelt, length_and_body, operation_spelt}

@@ -6,8 +6,8 @@ use Rattle.dl_num.specs.Front.{SpellsNowhere, SpellsFirst}
 use Rattle.dl_num.specs.Leb.{groups, signed_groups, AllContinue, IsLeb, IsUleb, IsSleb, IsSigned64}
 use Rattle.dl_num.specs.LebFront.{is_leb}
 use Rattle.dl_num.proofs.LebFrontLemmas.{is_leb-ends, is_leb-continues}
-use Rattle.dl_head.specs.declared.fault.FaultKind.{FaultKind}
-use Rattle.dl_head.specs.declared.fault.FaultKind.TheVariants as fault
+use Rattle.dl_table.specs.declared.fault.FaultKind.{FaultKind}
+use Rattle.dl_table.specs.declared.fault.FaultKind.TheVariants as fault
 use Rattle.dl_rows.specs.declared.operation.Operation.{Operation}
 use Rattle.dl_rows.specs.OperationSpelt.{fits_signed, last_byte, signed_number, unsigned_operand, signed_operand}
 

@@ -6,10 +6,10 @@ use Rattle.dl_num.specs.declared.fixed.Order.{Order}
 use Rattle.dl_num.specs.Leb.{groups, IsUleb}
 use Rattle.dl_num.specs.LebFront.{is_leb}
 use Rattle.dl_num.proofs.LebLaws.{leb_is, is_leb-of}
-use Rattle.dl_head.specs.declared.params.Params.{Params}
-use Rattle.dl_head.specs.declared.fault.FaultKind.{FaultKind}
-use Rattle.dl_head.specs.declared.fault.FaultKind.TheVariants as fault
-use Rattle.dl_head.specs.Value.{Judgement, good, bad}
+use Rattle.dl_field.specs.declared.params.Params.{Params}
+use Rattle.dl_table.specs.declared.fault.FaultKind.{FaultKind}
+use Rattle.dl_table.specs.declared.fault.FaultKind.TheVariants as fault
+use Rattle.dl_table.specs.Value.{Judgement, good, bad}
 use Rattle.dl_rows.specs.declared.operation.Operation.{Operation}
 use Rattle.dl_rows.specs.declared.operation.Operation.TheVariants as op
 use Rattle.dl_rows.specs.OperationSpelt.{unsigned_operand, signed_operand, discriminator_spelt, extended_spelt, body_spelt, operation_spelt}

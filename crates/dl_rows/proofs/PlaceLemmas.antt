@@ -6,7 +6,7 @@ use Rattle.std.proofs.lemmas.List.{reverse-append, drop_all, drop-append-le, len
 use Rattle.std.proofs.lemmas.List.Sums.{suffix_len-le-length, sum_by-cons, sum_by_push}
 use Rattle.std.proofs.Math.Nat.{zero-div, zero-mod}
 use Rattle.std.proofs.lemmas.Bool.{cases_Bool}
-use Rattle.dl_head.specs.declared.params.Params.{Params}
+use Rattle.dl_field.specs.declared.params.Params.{Params}
 use Rattle.dl_rows.proofs.Arithmetic.{div_split, mod_split}
 use Rattle.dl_rows.specs.declared.operation.Operation.{Operation}
 use Rattle.dl_rows.specs.declared.operation.Operation.TheVariants as op

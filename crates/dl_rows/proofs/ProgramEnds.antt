@@ -5,8 +5,8 @@ use Rattle.std.specs.Prelude.{Option}
 use Rattle.dl_num.specs.declared.fixed.Order.{Order}
 use Rattle.dl_num.specs.Front.{SpellsFirst}
 use Rattle.dl_num.specs.Laws.{AllBytes}
-use Rattle.dl_head.specs.declared.params.Params.{Params}
-use Rattle.dl_head.specs.declared.fault.FaultKind.{FaultKind}
+use Rattle.dl_field.specs.declared.params.Params.{Params}
+use Rattle.dl_table.specs.declared.fault.FaultKind.{FaultKind}
 use Rattle.dl_rows.specs.declared.row.Row.{Row}
 use Rattle.dl_rows.specs.declared.operation.Operation.{Operation}
 use Rattle.dl_rows.specs.declared.phase.Phase.{Phase}

@@ -1,7 +1,7 @@
 -- An operation more of a program: its row, and what is kept after it.
 use Rattle.std.proofs.Common.{◌≡◌, ℕ, Bool, true, false, not, cond, ◌⊎◌, inl, inr, ◌==◌, List, [], ◌∷◌, ◌++◌, Some, None, refl, sym, ap, ◌∙◌}
 use Rattle.std.proofs.lemmas.List.{append-nil}
-use Rattle.dl_head.specs.declared.params.Params.{Params}
+use Rattle.dl_field.specs.declared.params.Params.{Params}
 use Rattle.dl_rows.specs.declared.row.Row.{Row}
 use Rattle.dl_rows.specs.declared.registers.Registers.{Registers}
 use Rattle.dl_rows.specs.declared.program.Program.{Program}

@@ -10,7 +10,7 @@ use Rattle.std.proofs.Math.Nat.{zero-div, zero-mod, mod-lt, div-eq_of_lt, mod-eq
 use Rattle.std.proofs.lemmas.Bool.{cases_lt, or_cases, eqb-true}
 use Rattle.std.proofs.lemmas.Nat.{div-add-mod'}
 use Rattle.std.proofs.lemmas.Int.{ints}
-use Rattle.dl_head.specs.declared.params.Params.{Params}
+use Rattle.dl_field.specs.declared.params.Params.{Params}
 use Rattle.dl_num.specs.Fixed.{is_number_size}
 use Rattle.dl_rows.specs.declared.registers.Registers.{Registers}
 use Rattle.dl_rows.specs.declared.operation.Operation.{Operation}

@@ -5,8 +5,8 @@ use Rattle.std.proofs.Math.Seq.{take-append_seam}
 use Rattle.dl_num.specs.declared.fixed.Order.{Order}
 use Rattle.dl_num.specs.Front.{Standing}
 use Rattle.dl_num.proofs.FrontLemmas.{then_standing, standing_on, standing-append}
-use Rattle.dl_head.specs.declared.params.Params.{Params}
-use Rattle.dl_head.specs.TableData.{HeaderData}
+use Rattle.dl_field.specs.declared.params.Params.{Params}
+use Rattle.dl_field.specs.HeaderData.{HeaderData}
 use Rattle.dl_head.specs.Header.{IsHeader, foreign_in, header_in, unit_len}
 use Rattle.dl_head.proofs.HeaderLaws.{found_is_header}
 use Rattle.dl_rows.specs.declared.reader.Event.{Event}

@@ -7,7 +7,7 @@ use Rattle.dl_num.specs.declared.fixed.Order.{Order}
 use Rattle.dl_head.specs.declared.fault.Fault.{Fault}
 use Rattle.dl_head.specs.Header.{unit_len}
 use Rattle.dl_head.specs.Turns.{Answer, used_in, last_given, IsTrace, some_turns}
-use Rattle.dl_head.proofs.FieldLemmas.{none_some}
+use Rattle.dl_field.proofs.FieldLemmas.{none_some}
 use Rattle.dl_head.proofs.FrontLemmas.{fronts}
 use Rattle.dl_head.proofs.TurnLemmas.{joined, used_cons, goes_first, trace_rest, LastTurn, last_turn, Moves, moves_first}
 use Rattle.dl_rows.specs.declared.reader.Event.{Event}

@@ -8,7 +8,7 @@ use Rattle.dl_num.specs.Leb.{AllContinue}
 use Rattle.dl_num.specs.LebFront.{is_leb, leb_front}
 use Rattle.dl_num.proofs.FrontLemmas.{front_before}
 use Rattle.dl_num.proofs.LebFrontLemmas.{is_leb-ends, is_leb-continues, leb_front-leb, leb_front-append, leb_front-continues}
-use Rattle.dl_head.specs.declared.params.Params.{Params}
+use Rattle.dl_field.specs.declared.params.Params.{Params}
 use Rattle.dl_rows.specs.declared.operation.Operation.TheVariants as op
 use Rattle.dl_rows.specs.OperationSpelt.{are_lebs, operation_spelt}
 use Rattle.dl_rows.specs.Phases.{LebsLeft}

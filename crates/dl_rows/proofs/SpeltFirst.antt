@@ -10,7 +10,7 @@ use Rattle.dl_num.specs.Leb.{groups}
 use Rattle.dl_num.specs.LebFront.{is_leb, leb_front, behind_leb}
 use Rattle.dl_num.proofs.LebLaws.{is_leb-of, leb_is_front}
 use Rattle.dl_num.proofs.LebFrontLemmas.{and_left, and_right, true_false, leb_front-append, leb_front-le}
-use Rattle.dl_head.specs.declared.params.Params.{Params}
+use Rattle.dl_field.specs.declared.params.Params.{Params}
 use Rattle.dl_rows.specs.declared.operation.Operation.{Operation}
 use Rattle.dl_rows.specs.declared.operation.Operation.TheVariants as op
 use Rattle.dl_rows.specs.OperationSpelt.{unsigned_operand, signed_operand, are_lebs, discriminator_spelt, extended_spelt, operation_spelt}

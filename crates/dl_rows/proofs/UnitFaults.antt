@@ -4,14 +4,14 @@ use Rattle.std.proofs.lemmas.Bool.{cases_eq, eq-eqb, ne_eqb}
 use Rattle.dl_num.specs.declared.fixed.Order.{Order}
 use Rattle.dl_num.specs.Front.{SpellsNowhere, Standing}
 use Rattle.dl_num.proofs.FrontLemmas.{one_cut}
-use Rattle.dl_head.specs.declared.fault.FaultKind.{FaultKind}
-use Rattle.dl_head.specs.declared.fault.FaultKind.TheVariants as fault
-use Rattle.dl_head.specs.declared.params.Params.{Params}
-use Rattle.dl_head.specs.TableData.{HeaderData}
-use Rattle.dl_head.specs.Value.{Judgement, bad}
+use Rattle.dl_table.specs.declared.fault.FaultKind.{FaultKind}
+use Rattle.dl_table.specs.declared.fault.FaultKind.TheVariants as fault
+use Rattle.dl_field.specs.declared.params.Params.{Params}
+use Rattle.dl_field.specs.HeaderData.{HeaderData}
+use Rattle.dl_table.specs.Value.{Judgement, bad}
 use Rattle.dl_head.specs.Header.{IsHeader, header_in, unit_len}
 use Rattle.dl_head.specs.Refusal.{or_else, bad_kind, at_end, NothingBefore}
-use Rattle.dl_head.proofs.FieldLemmas.{none_some}
+use Rattle.dl_field.proofs.FieldLemmas.{none_some}
 use Rattle.dl_head.proofs.FrontLemmas.{fronts, behind_front}
 use Rattle.dl_head.proofs.HeaderLaws.{found_is_header, header_is_found}
 use Rattle.dl_head.proofs.QuietLemmas.{header_is_not_refused}

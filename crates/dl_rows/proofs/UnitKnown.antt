@@ -1,13 +1,14 @@
 -- Bytes that have come to a header or a foreign version have a good initial length.
 use Rattle.std.proofs.Common.{◌≡◌, ℕ, List, [], ◌∷◌, ◌++◌, Some, refl, sym, ap, subst, ◌∙◌, append-nil}
 use Rattle.dl_num.specs.declared.fixed.Order.{Order}
-use Rattle.dl_head.specs.TableData.{HeaderData}
-use Rattle.dl_head.specs.Layout.{Item, following_all, header_layout}
+use Rattle.dl_field.specs.HeaderData.{HeaderData}
+use Rattle.dl_field.specs.Layout.{Item, following_all}
+use Rattle.dl_head.specs.HeaderLayout.{header_layout}
 use Rattle.dl_head.specs.Header.{Cut, cut, unit_end, unit_len, header_made, foreign_made, foreign_in, IsHeader}
 use Rattle.dl_head.proofs.CutLemmas.{cut_of, cut_sound, Sound}
-use Rattle.dl_head.proofs.FieldLemmas.{none_some}
+use Rattle.dl_field.proofs.FieldLemmas.{none_some}
 use Rattle.dl_head.proofs.HeaderLaws.{header_cut}
-use Rattle.dl_head.proofs.Openings.{is_length}
+use Rattle.dl_head.proofs.FirstFields.{is_length}
 
 known_by : (order : Order) (b : List ℕ) (items : List Item) (rest : List ℕ) → cut order b ≡ cut_of items rest → (items ≡ [] → ⊥) → (n : ℕ) × (unit_len order b ≡ Some n)
 known_by order b items rest e some = on items e some (subst (λ (c : Cut). Sound order header_layout b c) e (cut_sound order header_layout [] b)) where

@@ -3,10 +3,10 @@ use Rattle.std.proofs.Common.{◌≡◌, ℕ, List, [], ◌∷◌, length, Optio
 use Rattle.std.specs.Prelude.{map}
 use Rattle.dl_num.specs.declared.fixed.Order.{Order}
 use Rattle.dl_num.specs.Front.{Standing}
-use Rattle.dl_head.specs.declared.fault.FaultKind.{FaultKind}
-use Rattle.dl_head.specs.TableData.{HeaderData}
+use Rattle.dl_table.specs.declared.fault.FaultKind.{FaultKind}
+use Rattle.dl_field.specs.HeaderData.{HeaderData}
 use Rattle.dl_head.specs.Header.{foreign_in, header_in}
-use Rattle.dl_head.proofs.FieldLemmas.{none_some}
+use Rattle.dl_field.proofs.FieldLemmas.{none_some}
 use Rattle.dl_head.proofs.FrontLemmas.{GoesOn, fronts}
 use Rattle.dl_head.proofs.HeaderLaws.{header_is_found, header_is_not_foreign}
 use Rattle.dl_rows.specs.declared.operation.Operation.{Operation}

@@ -1,12 +1,13 @@
 -- Fronts of a unit: what a header and a length that stand in them are, and what they decide.
 use Rattle.std.proofs.Common.{◌≡◌, ℕ, ◌+◌, List, ◌∷◌, ◌++◌, length, Option, Some, None, refl, sym, ap, subst, ◌∙◌, append_assoc}
 use Rattle.dl_num.specs.declared.fixed.Order.{Order}
-use Rattle.dl_head.specs.TableData.{HeaderData}
-use Rattle.dl_head.specs.Layout.{following_all, header_layout}
+use Rattle.dl_field.specs.HeaderData.{HeaderData}
+use Rattle.dl_field.specs.Layout.{following_all}
+use Rattle.dl_head.specs.HeaderLayout.{header_layout}
 use Rattle.dl_head.specs.Header.{Cut, cut_after, cut, unit_end, unit_len, header_in}
 use Rattle.dl_head.specs.Refusal.{header_decided}
 use Rattle.dl_head.proofs.CutLemmas.{cut-append}
-use Rattle.dl_head.proofs.FieldLemmas.{none_some}
+use Rattle.dl_field.proofs.FieldLemmas.{none_some}
 use Rattle.dl_head.proofs.HeaderLaws.{found_is_header, header_is_found}
 use Rattle.dl_head.proofs.QuietLemmas.{unit_end-append}
 use Rattle.dl_rows.specs.Refusal.{left_behind, decided_behind, unit_decided}

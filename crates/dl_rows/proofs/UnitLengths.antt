@@ -2,18 +2,19 @@
 use Rattle.std.proofs.Common.{◌≡◌, ◌≢◌, ℕ, ◌≤◌, ◌^◌, ◌+◌, List, [], ◌∷◌, ◌++◌, length, Option, Some, refl, sym, ap, subst, ◌∙◌, arith, inl, inr, length-append, append_assoc, append-nil}
 use Rattle.std.proofs.lemmas.Bool.{cases_eq, eq-eqb, ne_eqb}
 use Rattle.dl_num.specs.declared.fixed.Order.{Order}
-use Rattle.dl_head.specs.declared.form.Format.{Format}
-use Rattle.dl_head.specs.declared.form.Format.TheVariants.{Dwarf32, Dwarf64}
-use Rattle.dl_head.specs.Value.{good}
-use Rattle.dl_head.specs.Field.{IsFixed, IsInitialLength}
-use Rattle.dl_head.specs.Layout.{version, Layout, number_then, foreign_version, Item, length_is, number_is, form_is, value_is, following, following_all, field_spelt, header_layout, initial_size, from_address_size, format_alone}
+use Rattle.dl_table.specs.declared.form.Format.{Format}
+use Rattle.dl_table.specs.declared.form.Format.TheVariants.{Dwarf32, Dwarf64}
+use Rattle.dl_table.specs.Value.{good}
+use Rattle.dl_field.specs.Field.{IsFixed, IsInitialLength}
+use Rattle.dl_field.specs.Layout.{version, Layout, number_then, foreign_version, Item, length_is, number_is, form_is, value_is, following, following_all, field_spelt}
+use Rattle.dl_head.specs.HeaderLayout.{header_layout, initial_size, from_address_size, format_alone}
 use Rattle.dl_head.specs.Header.{SpellsFields, Cut, cut, unit_end, unit_len, foreign_made, foreign_in}
-use Rattle.dl_head.proofs.FieldLemmas.{none_some}
-use Rattle.dl_head.proofs.FieldLaws.{field_is_judged}
+use Rattle.dl_field.proofs.FieldLemmas.{none_some}
+use Rattle.dl_field.proofs.FieldLaws.{field_is_judged}
 use Rattle.dl_head.proofs.CutLemmas.{cut_front, cut_sound, Sound}
 use Rattle.dl_head.proofs.HeaderLaws.{cut_is_computed}
 use Rattle.dl_head.proofs.RefusalLaws.{foreign_last}
-use Rattle.dl_head.proofs.Openings.{after_length, not_foreign, is_number, is_length}
+use Rattle.dl_head.proofs.FirstFields.{after_length, not_foreign, is_number, is_length}
 use Rattle.dl_rows.specs.LineUnit.{HasItsLength, IsForeignUnit, IsUnit}
 use Rattle.dl_rows.specs.UnitLaws.{LengthIsComputed, NoUnitBeginsAnother}
 use Rattle.dl_rows.proofs.UnitLemmas.{unit_len_on}

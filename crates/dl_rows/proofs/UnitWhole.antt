@@ -5,18 +5,19 @@ use Rattle.std.proofs.lemmas.List.{take-append-drop, length-take-le}
 use Rattle.dl_num.specs.declared.fixed.Order.{Order}
 use Rattle.dl_num.specs.Front.{IsCut, standing}
 use Rattle.dl_num.proofs.FrontLemmas.{one_cut}
-use Rattle.dl_head.specs.declared.fault.FaultKind.{FaultKind}
-use Rattle.dl_head.specs.declared.fault.FaultKind.TheVariants as fault
-use Rattle.dl_head.specs.declared.form.Format.{Format}
-use Rattle.dl_head.specs.declared.params.Params.{Params}
-use Rattle.dl_head.specs.TableData.{HeaderData}
-use Rattle.dl_head.specs.Layout.{any_byte, address_size, version, Layout, initial_length_then, number_then, form_then, value_then, foreign_version, last_entry, Item, length_is, number_is, following, following_all, field_spelt, header_layout, initial_size, fixed_part, from_minimum_length, from_header_length, from_segment_selector_size, from_address_size, format_alone}
+use Rattle.dl_table.specs.declared.fault.FaultKind.{FaultKind}
+use Rattle.dl_table.specs.declared.fault.FaultKind.TheVariants as fault
+use Rattle.dl_table.specs.declared.form.Format.{Format}
+use Rattle.dl_field.specs.declared.params.Params.{Params}
+use Rattle.dl_field.specs.HeaderData.{HeaderData}
+use Rattle.dl_field.specs.Layout.{any_byte, address_size, version, Layout, initial_length_then, number_then, form_then, value_then, foreign_version, last_entry, Item, length_is, number_is, following, following_all, field_spelt}
+use Rattle.dl_head.specs.HeaderLayout.{header_layout, initial_size, fixed_part, from_minimum_length, from_header_length, from_segment_selector_size, from_address_size, format_alone}
 use Rattle.dl_head.specs.Header.{SpellsFields, Cut, cut, unit_end, unit_len, header_end, header_made, header_up_to, foreign_made, foreign_in, header_in}
 use Rattle.dl_head.specs.Refusal.{or_else, bad_kind, at_end, field_overrun, header_decided}
-use Rattle.dl_head.proofs.FieldLemmas.{none_some}
+use Rattle.dl_field.proofs.FieldLemmas.{none_some}
 use Rattle.dl_head.proofs.CutLemmas.{cut_fields, cut_sound, Sound}
 use Rattle.dl_head.proofs.HeaderLaws.{found_is_header}
-use Rattle.dl_head.proofs.Openings.{Opening, opening, opening_of, is_length, is_number, not_foreign, after_length}
+use Rattle.dl_head.proofs.FirstFields.{Opening, opening, opening_of, is_length, is_number, not_foreign, after_length}
 use Rattle.dl_head.proofs.RefusalLaws.{decided_on}
 use Rattle.dl_rows.specs.OperationSpelt.{operation_spelt, operations_in}
 use Rattle.dl_rows.specs.Spelling.{SpellsProgram}

@@ -1,9 +1,9 @@
 -- Worked units, computed: what the definitions make of small units, whole, cut and bad.
 use Rattle.std.proofs.Common.{◌≡◌, refl, ℕ, ◌+◌, ◌-◌, List, [], ◌∷◌, ◌++◌, length, take, Option, Some, None, true, false}
 use Rattle.dl_num.specs.declared.fixed.Order.TheVariants.{Little, Big}
-use Rattle.dl_head.specs.declared.fault.FaultKind.{FaultKind}
-use Rattle.dl_head.specs.declared.fault.FaultKind.TheVariants as fault
-use Rattle.dl_head.specs.Layout.{standard_lengths}
+use Rattle.dl_table.specs.declared.fault.FaultKind.{FaultKind}
+use Rattle.dl_table.specs.declared.fault.FaultKind.TheVariants as fault
+use Rattle.dl_field.specs.Layout.{standard_lengths}
 use Rattle.dl_head.specs.Header.{unit_len}
 use Rattle.dl_rows.specs.declared.reader.Event.{Event}
 use Rattle.dl_rows.specs.declared.reader.Event.TheVariants as event

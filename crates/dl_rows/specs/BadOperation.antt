@@ -1,9 +1,9 @@
 -- Bytes that are no operation, and what is wrong with them. DWARF 5, sections 6.2.5.2, 6.2.5.3 and 7.6.
 use Rattle.std.specs.Prelude.{◌≡◌, ◌≢◌, ℕ, ◌+◌, ◌^◌, ◌<◌, ◌≤◌, ℤ, ◌⊎◌, List, [], ◌∷◌, ◌++◌, length}
 use Rattle.dl_num.specs.Leb.{IsUleb, IsSleb, IsSigned64}
-use Rattle.dl_head.specs.declared.params.Params.{Params}
-use Rattle.dl_head.specs.declared.fault.FaultKind.{FaultKind}
-use Rattle.dl_head.specs.declared.fault.FaultKind.TheVariants as fault
+use Rattle.dl_field.specs.declared.params.Params.{Params}
+use Rattle.dl_table.specs.declared.fault.FaultKind.{FaultKind}
+use Rattle.dl_table.specs.declared.fault.FaultKind.TheVariants as fault
 use Rattle.dl_rows.specs.Spelling.{IsNumber}
 
 -- the operand of advance_pc, set_file, set_column or set_isa is 2^64 or more

@@ -1,10 +1,10 @@
 -- A unit of a line table, and what the bytes of one come to. DWARF 5, section 6.2.4; initial lengths are of section 7.4.
 use Rattle.std.specs.Prelude.{◌≡◌, ◌≢◌, ◌⊎◌, ℕ, Bool, false, not, List, [], ◌∷◌, ◌++◌, length, map, Option, Some, None}
 use Rattle.dl_num.specs.declared.fixed.Order.{Order}
-use Rattle.dl_head.specs.declared.form.Format.{Format}
-use Rattle.dl_head.specs.declared.params.Params.{Params}
-use Rattle.dl_head.specs.TableData.{HeaderData}
-use Rattle.dl_head.specs.Field.{IsFixed, IsInitialLength}
+use Rattle.dl_table.specs.declared.form.Format.{Format}
+use Rattle.dl_field.specs.declared.params.Params.{Params}
+use Rattle.dl_field.specs.HeaderData.{HeaderData}
+use Rattle.dl_field.specs.Field.{IsFixed, IsInitialLength}
 use Rattle.dl_head.specs.Header.{IsHeader, foreign_in, header_in}
 use Rattle.dl_rows.specs.declared.row.Row.{Row}
 use Rattle.dl_rows.specs.declared.reader.Event.{Event}

@@ -1,7 +1,7 @@
 -- The registers of the line number state machine as they are kept, address and line modulo 2^64. DWARF 5, sections 6.2.2 and 6.2.5. No promise rests on this file.
 use Rattle.std.specs.Prelude.{ℕ, ◌+◌, ◌-◌, ◌*◌, ◌/◌, ◌%◌, ◌^◌, ◌+ℤ◌, ℤ, pos, Bool, true, false, not}
 use Rattle.std.specs.Int.{w64, cast_unsigned}
-use Rattle.dl_head.specs.declared.params.Params.{Params}
+use Rattle.dl_field.specs.declared.params.Params.{Params}
 use Rattle.dl_rows.specs.declared.registers.Registers.{Registers}
 use Rattle.dl_rows.specs.declared.row.Row.{Row}
 use Rattle.dl_rows.specs.declared.operation.Operation.{Operation}

@@ -5,9 +5,9 @@ use Rattle.dl_num.specs.Fixed.{fixed}
 use Rattle.dl_num.specs.Leb.{groups, signed_groups}
 use Rattle.dl_num.specs.LebFront.{is_leb, leb_front, behind_leb}
 use Rattle.dl_num.specs.Front.{Standing, standing}
-use Rattle.dl_head.specs.declared.params.Params.{Params}
-use Rattle.dl_head.specs.declared.fault.FaultKind.TheVariants as fault
-use Rattle.dl_head.specs.Value.{Judgement, good, bad}
+use Rattle.dl_field.specs.declared.params.Params.{Params}
+use Rattle.dl_table.specs.declared.fault.FaultKind.TheVariants as fault
+use Rattle.dl_table.specs.Value.{Judgement, good, bad}
 use Rattle.dl_rows.specs.declared.operation.Operation.{Operation}
 use Rattle.dl_rows.specs.declared.operation.Operation.TheVariants as op
 

@@ -5,7 +5,7 @@ use Rattle.dl_num.specs.Front.{SpellsNowhere, SpellsFirst}
 use Rattle.dl_num.specs.Leb.{AllContinue, IsUleb}
 use Rattle.dl_num.specs.LebReader.{UlebTook, SlebTook}
 use Rattle.dl_num.specs.NumberBytes.{number_size, number_bytes}
-use Rattle.dl_head.specs.declared.params.Params.{Params}
+use Rattle.dl_field.specs.declared.params.Params.{Params}
 use Rattle.dl_rows.specs.declared.phase.Phase.{Phase}
 use Rattle.dl_rows.specs.declared.phase.Phase.TheVariants as phase
 use Rattle.dl_rows.specs.declared.phase.Step.{Step}

@@ -2,11 +2,11 @@
 use Rattle.std.specs.Prelude.{◌≡◌, ◌-◌, ◌^◌, ℕ, Bool, true, false, List, ◌++◌, length, min, Some, None}
 use Rattle.dl_num.specs.declared.fixed.Order.{Order}
 use Rattle.dl_num.specs.Laws.{AllBytes}
-use Rattle.dl_head.specs.declared.fault.FaultKind.{FaultKind}
+use Rattle.dl_table.specs.declared.fault.FaultKind.{FaultKind}
 use Rattle.dl_head.specs.declared.reader.HeadReader.{HeadReader}
 use Rattle.dl_head.specs.declared.reader.HeadStep.TheVariants as answer
 use Rattle.dl_head.specs.Cells.{cells}
-use Rattle.dl_head.specs.TableData.{HeaderData}
+use Rattle.dl_field.specs.HeaderData.{HeaderData}
 use Rattle.dl_head.specs.Header.{IsHeader, header_in, unit_len}
 use Rattle.dl_head.specs.Reading.{Answers}
 use Rattle.dl_head.specs.Standing.{StandsFor as HeadStands}

@@ -1,10 +1,10 @@
 -- Where a unit is refused, and why. Places count from the unit's first byte. DWARF 5, sections 6.2.4 and 6.2.5.
 use Rattle.std.specs.Prelude.{◌≡◌, ℕ, ◌+◌, List, [], ◌∷◌, length, Option, Some, None}
 use Rattle.dl_num.specs.declared.fixed.Order.{Order}
-use Rattle.dl_head.specs.declared.params.Params.{Params}
-use Rattle.dl_head.specs.declared.fault.FaultKind.{FaultKind}
-use Rattle.dl_head.specs.declared.fault.FaultKind.TheVariants as fault
-use Rattle.dl_head.specs.TableData.{HeaderData}
+use Rattle.dl_field.specs.declared.params.Params.{Params}
+use Rattle.dl_table.specs.declared.fault.FaultKind.{FaultKind}
+use Rattle.dl_table.specs.declared.fault.FaultKind.TheVariants as fault
+use Rattle.dl_field.specs.HeaderData.{HeaderData}
 use Rattle.dl_head.specs.Header.{cut, unit_len, header_in}
 use Rattle.dl_head.specs.Refusal.{or_else, bad_kind, at_end, header_decided, NothingBefore}
 use Rattle.dl_rows.specs.OperationSpelt.{operation_spelt, operations_in}

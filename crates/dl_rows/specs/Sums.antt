@@ -1,8 +1,8 @@
 -- The registers that are kept between the operations of a program, as sums and last settings. No promise rests on how this is said.
 use Rattle.std.specs.Prelude.{◌^◌, ◌%◌, ◌<◌, ◌==◌, not, unsigned_abs, List, unwrap_or, fold}
 use Rattle.std.specs.List.{after_last, list_any}
-use Rattle.dl_head.specs.declared.params.Params.{Params}
-use Rattle.dl_head.specs.Built.{IsUsable}
+use Rattle.dl_field.specs.declared.params.Params.{Params}
+use Rattle.dl_field.specs.Usable.{IsUsable}
 use Rattle.dl_rows.specs.declared.registers.Registers.{Registers}
 use Rattle.dl_rows.specs.declared.operation.Operation.{Operation}
 use Rattle.dl_rows.specs.declared.operation.Operation.TheVariants as op

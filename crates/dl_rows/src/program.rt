@@ -2,7 +2,7 @@
 
 ghost use Rattle.std.specs.Prelude.{false, ◌≡◌, ◌≤◌, ◌↔◌, ◌==◌, not, ℕ, List, [], length, IfSome, IsTrue};
 ghost use Rattle.dl_num.specs.Laws.{AllBytes};
-ghost use Rattle.dl_head.specs.Built.{IsUsable};
+ghost use Rattle.dl_field.specs.Usable.{IsUsable};
 
 use crate::operation::Operation;
 use crate::phase::{Phase, Step, short_operation};

@@ -1,7 +1,7 @@
 //! The registers of the line number state machine. Sections 6.2.2 and 6.2.5.
 
 ghost use Rattle.std.specs.Prelude.{◌≡◌, ◌≤◌, ◌-◌, ◌/◌, ◌+ℤ◌};
-ghost use Rattle.dl_head.specs.Built.{IsUsable};
+ghost use Rattle.dl_field.specs.Usable.{IsUsable};
 
 use crate::operation::Operation;
 use crate::row::Row;

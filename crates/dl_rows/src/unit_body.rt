@@ -1,8 +1,8 @@
 //! A unit after its header, or after a version that isn't 5. Section 6.2.4.
 
 ghost use Rattle.std.specs.Prelude.{◌≡◌, ◌≢◌, ◌≤◌, ◌+◌, ◌-◌, ◌^◌, ◌⊎◌, ℕ, List, Ok, Err, length, min, take, IfOk};
-ghost use Rattle.dl_head.specs.Built.{IsUsable};
-ghost use Rattle.dl_head.specs.TableData.{HeaderData};
+ghost use Rattle.dl_field.specs.Usable.{IsUsable};
+ghost use Rattle.dl_field.specs.HeaderData.{HeaderData};
 ghost use Rattle.dl_rows.specs.Reading.{IsPause};
 
 use crate::program::{Given, Program};
@@ -45,7 +45,7 @@ impl UnitBytes {
     ghost use Rattle.dl_rows.specs.Reading.{Feeds};
     ghost use Rattle.dl_rows.specs.UnitBodies.{InForeign, paused};
     ghost use Rattle.dl_rows.specs.declared.reader.Finish.TheVariants as finish;
-    ghost use Rattle.dl_head.specs.declared.fault.FaultKind.TheVariants as kind;
+    ghost use Rattle.dl_table.specs.declared.fault.FaultKind.TheVariants as kind;
 
     /// Takes bytes of a unit of another version.
     pub fn pass_over(&mut self, piece: &[u8]) -> Fed

@@ -1,10 +1,10 @@
 //! Header fields of one byte. Section 6.2.4.
 
 ghost use Rattle.std.specs.Prelude.{◌≡◌};
-ghost use Rattle.dl_head.specs.Layout.{objection};
+ghost use Rattle.dl_field.specs.Layout.{objection};
 ghost use Rattle.dl_head.specs.Bytes.{byte_kind};
 
-use crate::fault::FaultKind;
+use dl_table::FaultKind;
 
 /// A header field of one byte.
 #[derive(Clone, Copy)]

@@ -1,32 +1,33 @@
 //! The fields of one byte of a header, and the lengths of its standard opcodes. Section 6.2.4.
 
 ghost use Rattle.std.specs.Prelude.{◌≡◌, ◌+◌, ◌≤◌, ◌++◌, ◌∷◌, [], ℕ, nat_lt, if◌then◌else◌, List, true, None, length};
-ghost use Rattle.dl_head.specs.Layout.{Item, number_is, objection, opcode_length, signed_byte};
+ghost use Rattle.dl_field.specs.Layout.{Item, number_is, objection, opcode_length};
+ghost use Rattle.dl_head.specs.HeaderLayout.{signed_byte};
 ghost use Rattle.dl_head.specs.HeadStep.{lengths_fit};
 ghost use Rattle.dl_head.specs.Bytes.{byte_kind};
 ghost use Rattle.dl_head.specs.declared.reader.Phase.TheVariants as phase;
 
-use crate::fault::FaultKind;
-use crate::params::is_wrong_length;
 use crate::reader::byte_field::ByteField;
-use crate::reader::next::Next;
 use crate::reader::{HeadReader, Phase};
+use dl_field::FieldStep;
+use dl_field::params::is_wrong_length;
 use dl_num::Number;
+use dl_table::FaultKind;
 
 impl HeadReader {
     ghost use Rattle.dl_head.specs.Place.{At, Follows, Keeps, SameCounts, held_cells};
 
-    pub(super) fn byte_field(&mut self, field: ByteField, byte: u8) -> Next
+    pub(super) fn byte_field(&mut self, field: ByteField, byte: u8) -> FieldStep
         requires { self.old.phase ≡ phase.Byte field }
         ensures follows { Follows self.old byte result self.new }
         ensures kept { Keeps self.old result self.new }
         ensures cells { held_cells self.new ≡ held_cells self.old }
     {
         if let Some(kind) = field.objection(byte) {
-            return Next::Refuses(kind);
+            return FieldStep::Refuses(kind);
         }
         self.store(field, byte);
-        Next::Ends
+        FieldStep::Ends
     }
 
     /// Keeps the field's value, and goes on to the next field.
@@ -34,7 +35,8 @@ impl HeadReader {
         requires at { self.old.phase ≡ phase.Byte field }
         requires good { objection (byte_kind field) byte ≡ None }
         ensures counts { SameCounts self.old self.new }
-        ensures at { (items : List Item) (rest : List ℕ) → At self.old items rest → At self.new (items ++ number_is byte ∷ []) [] }
+        ensures at { (items : List Item) (rest : List ℕ) → At self.old items rest
+            → At self.new (items ++ number_is byte ∷ []) [] }
         ensures cells { held_cells self.new ≡ held_cells self.old }
     {
         match field {
@@ -73,7 +75,7 @@ impl HeadReader {
         }
     }
 
-    pub(super) fn opcode_length(&mut self, byte: u8) -> Next
+    pub(super) fn opcode_length(&mut self, byte: u8) -> FieldStep
         requires { self.old.phase ≡ phase.OpcodeLength }
         ensures follows { Follows self.old byte result self.new }
         ensures kept { Keeps self.old result self.new }
@@ -82,11 +84,11 @@ impl HeadReader {
         let opcode_base = self.params.opcode_base;
         let opcode = self.params.lengths.len() + 1;
         if is_wrong_length(opcode, byte) {
-            return Next::Refuses(FaultKind::StandardLength(opcode as u8));
+            return FieldStep::Refuses(FaultKind::StandardLength(opcode as u8));
         }
         self.params.lengths.push(byte);
         self.phase = length_or_table(opcode, opcode_base);
-        Next::Ends
+        FieldStep::Ends
     }
 }
 

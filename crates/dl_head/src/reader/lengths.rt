@@ -2,15 +2,14 @@
 
 ghost use Rattle.std.specs.Prelude.{◌≡◌, ◌+◌, ◌≤◌, ◌∷◌, []};
 ghost use Rattle.dl_num.specs.Fixed.{fixed};
-ghost use Rattle.dl_head.specs.Layout.{initial_size as initial_size_of, fixed_part as fixed_part_of};
-ghost use Rattle.dl_head.specs.TableCells.{table_cells};
+ghost use Rattle.dl_head.specs.HeaderLayout.{initial_size as initial_size_of, fixed_part as fixed_part_of};
+ghost use Rattle.dl_table.specs.TableCells.{table_cells};
 
-use crate::fault::FaultKind;
-use crate::form::Format;
 use crate::reader::byte_field::ByteField;
-use crate::reader::next::Next;
 use crate::reader::{HeadReader, Phase};
+use dl_field::FieldStep;
 use dl_num::{Number, Order};
+use dl_table::{FaultKind, Format};
 
 /// The greatest unit_length that is accepted.
 const UNIT_LENGTH_LIMIT: u64 = 1 << 40;
@@ -37,11 +36,11 @@ fn fixed_part(format: Format) -> u64
 
 impl HeadReader {
     ghost use Rattle.dl_head.specs.declared.reader.Phase.TheVariants as phase;
-    ghost use Rattle.dl_head.specs.TablePlace.{IsFresh};
+    ghost use Rattle.dl_field.specs.TablePlace.{IsFresh};
     ghost use Rattle.dl_head.specs.TableSpelt.{TableReads};
     ghost use Rattle.dl_head.specs.Place.{Follows, Keeps, Starts, StartsHeader, held_cells};
 
-    pub(super) fn unit_length(&mut self, number: Number, byte: u8) -> Next
+    pub(super) fn unit_length(&mut self, number: Number, byte: u8) -> FieldStep
         requires { self.old.phase ≡ phase.UnitLength number }
         ensures follows { Follows self.old byte result self.new }
         ensures kept { Keeps self.old result self.new }
@@ -50,18 +49,18 @@ impl HeadReader {
         match number.push(self.order, byte) {
             Err(number) => {
                 self.phase = Phase::UnitLength(number);
-                Next::Within
+                FieldStep::Within
             }
             Ok(0xffff_ffff) => {
                 self.phase = Phase::LongUnitLength(Number::new(8));
-                Next::Within
+                FieldStep::Within
             }
-            Ok(length) if length >= 0xffff_fff0 => Next::Refuses(FaultKind::ReservedLength),
+            Ok(length) if length >= 0xffff_fff0 => FieldStep::Refuses(FaultKind::ReservedLength),
             Ok(length) => self.start_unit(Format::Dwarf32, length),
         }
     }
 
-    pub(super) fn long_unit_length(&mut self, number: Number, byte: u8) -> Next
+    pub(super) fn long_unit_length(&mut self, number: Number, byte: u8) -> FieldStep
         requires { self.old.phase ≡ phase.LongUnitLength number }
         ensures follows { Follows self.old byte result self.new }
         ensures kept { Keeps self.old result self.new }
@@ -70,13 +69,13 @@ impl HeadReader {
         match number.push(self.order, byte) {
             Err(number) => {
                 self.phase = Phase::LongUnitLength(number);
-                Next::Within
+                FieldStep::Within
             }
             Ok(length) => self.start_unit(Format::Dwarf64, length),
         }
     }
 
-    fn start_unit(&mut self, format: Format, length: u64) -> Next
+    fn start_unit(&mut self, format: Format, length: u64) -> FieldStep
         requires no_lengths { self.old.params.lengths.items ≡ [] }
         requires no_tables { table_cells self.old.directories + table_cells self.old.files ≡ 0 }
         requires fresh { ∥ IsFresh self.old.table ∥₁ }
@@ -85,26 +84,26 @@ impl HeadReader {
         ensures cells { held_cells self.new ≡ held_cells self.old }
     {
         if length > UNIT_LENGTH_LIMIT {
-            return Next::Refuses(FaultKind::UnitTooLong);
+            return FieldStep::Refuses(FaultKind::UnitTooLong);
         }
         self.params.format = format;
         self.unit_length = length;
         self.end = Some(initial_size(format) + length);
         self.phase = Phase::Version;
-        Next::Ends
+        FieldStep::Ends
     }
 
-    pub(super) fn version(&mut self, byte: u8) -> Next
+    pub(super) fn version(&mut self, byte: u8) -> FieldStep
         requires { self.old.phase ≡ phase.Version }
         ensures follows { Follows self.old byte result self.new }
         ensures kept { Keeps self.old result self.new }
         ensures cells { held_cells self.new ≡ held_cells self.old }
     {
         self.phase = Phase::VersionEnd(byte);
-        Next::Within
+        FieldStep::Within
     }
 
-    pub(super) fn version_end(&mut self, first: u8, byte: u8) -> Next
+    pub(super) fn version_end(&mut self, first: u8, byte: u8) -> FieldStep
         requires { self.old.phase ≡ phase.VersionEnd first }
         ensures follows { Follows self.old byte result self.new }
         ensures kept { Keeps self.old result self.new }
@@ -116,10 +115,10 @@ impl HeadReader {
         } else {
             self.phase = Phase::Foreign(version);
         }
-        Next::Ends
+        FieldStep::Ends
     }
 
-    pub(super) fn header_length(&mut self, number: Number, byte: u8) -> Next
+    pub(super) fn header_length(&mut self, number: Number, byte: u8) -> FieldStep
         requires { self.old.phase ≡ phase.HeaderLength number }
         ensures follows { Follows self.old byte result self.new }
         ensures kept { Keeps self.old result self.new }
@@ -128,13 +127,13 @@ impl HeadReader {
         match number.push(self.order, byte) {
             Err(number) => {
                 self.phase = Phase::HeaderLength(number);
-                Next::Within
+                FieldStep::Within
             }
             Ok(length) => self.start_header(length),
         }
     }
 
-    fn start_header(&mut self, length: u64) -> Next
+    fn start_header(&mut self, length: u64) -> FieldStep
         requires no_lengths { self.old.params.lengths.items ≡ [] }
         requires no_tables { table_cells self.old.directories + table_cells self.old.files ≡ 0 }
         requires read { ∥ TableReads self.old.order self.old.params.format self.old.table ∥₁ }
@@ -144,12 +143,12 @@ impl HeadReader {
     {
         let format = self.params.format;
         if length > self.unit_length.saturating_sub(fixed_part(format)) {
-            return Next::Refuses(FaultKind::HeaderBeyondUnit);
+            return FieldStep::Refuses(FaultKind::HeaderBeyondUnit);
         }
         self.end = Some(initial_size(format) + fixed_part(format) + length);
         self.overrun = FaultKind::HeaderOverrun;
         self.phase = Phase::Byte(ByteField::MinimumInstructionLength);
-        Next::Ends
+        FieldStep::Ends
     }
 }
 

@@ -1,7 +1,7 @@
 //! The string sections in which a printer looks texts up. Section 7.5.5, class string.
 ghost use Rattle.std.specs.Prelude.{◌≡◌, ◌≤◌, ℕ, length, take};
 ghost use Rattle.std.specs.Option.{option_copied};
-ghost use Rattle.dl_head.specs.Text.{text_at};
+ghost use Rattle.dl_table.specs.Text.{text_at};
 ghost use Rattle.dl_print.specs.ValueText.{strings_of, text_in_section};
 
 use dl_head::text_at;
@@ -20,7 +20,7 @@ pub struct StringSection<'a> {
 // A string section is seen as its bytes.
 impl<'a> Model for StringSection<'a> {
     ghost use Rattle.std.specs.Prelude.{◌≡◌, ◌≤◌, ℕ, List, length, take};
-    ghost use Rattle.dl_head.specs.Text.{text_at};
+    ghost use Rattle.dl_table.specs.Text.{text_at};
 
     ghost Value = { List ℕ };
 

@@ -1,6 +1,6 @@
 //! Printing headers, and the entries of their tables. Section 6.2.4.
 ghost use Rattle.std.specs.Prelude.{◌≤◌, length};
-ghost use Rattle.dl_head.specs.EntryHeld.{entry_items};
+ghost use Rattle.dl_table.specs.EntryHeld.{entry_items};
 ghost use Rattle.dl_print.specs.HeaderText.{entry_line, file_text, header_text, table_text};
 ghost use Rattle.dl_print.specs.Output.{Prints};
 ghost use Rattle.dl_print.specs.ValueText.{strings_of};

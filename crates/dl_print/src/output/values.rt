@@ -3,7 +3,7 @@ ghost use Rattle.std.specs.Prelude.{◌≡◌, ◌+◌, ◌*◌, ◌^◌, ◌<�
 ghost use Rattle.std.specs.Option.{option_copied};
 ghost use Rattle.dl_print.specs.Digits.{hexadecimal, hexadecimal_bytes, hexadecimal_of};
 ghost use Rattle.dl_print.specs.Output.{Prints, printed_len};
-ghost use Rattle.dl_head.specs.Held.{value_lent};
+ghost use Rattle.dl_table.specs.Held.{value_lent};
 ghost use Rattle.dl_print.specs.ValueText.{quoted, quoted_bytes, offset_text, quoted_or_offset, text_in_section, value_text, named_value, content_name, strings_of};
 
 use super::Printer;

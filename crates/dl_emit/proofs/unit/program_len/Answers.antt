@@ -1,7 +1,7 @@
 use Rattle.std.proofs.Common.{subst, take, length, refl, arith, sym, ◌∙◌, ap, None}
 use Rattle.std.specs.List.{AllByRecursion}
 use Rattle.std.proofs.lemmas.List.{take_more, take_all}
-use Rattle.dl_head.proofs.SoundLemmas.{all_push}
+use Rattle.dl_table.proofs.SoundLemmas.{all_push}
 use Rattle.dl_emit.specs.Laws.{IsRow}
 use Rattle.dl_emit.proofs.ProgramLemmas.{row_in_range, row_out_of_range, refused_rows, no_row_left, counts_more, counts_all}
 use Rattle.dl_emit.proofs.unit.program_len.Goals as goal

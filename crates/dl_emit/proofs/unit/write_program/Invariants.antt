@@ -1,6 +1,6 @@
 -- The program of the rows so far is out, but for what is held.
 use Rattle.std.proofs.Common.{ℕ, List, Option}
-use Rattle.dl_head.specs.Writing.{IsOut}
+use Rattle.dl_table.specs.Writing.{IsOut}
 use Rattle.dl_emit.proofs.GatherLemmas.{Gone}
 use Rattle.dl_emit.proofs.unit.write_program.Given as goal
 

@@ -1,4 +1,4 @@
-use Rattle.dl_head.proofs.FieldLaws.{field_is_judged}
+use Rattle.dl_field.proofs.FieldLaws.{field_is_judged}
 use Rattle.dl_head.proofs.laws.good_fields.Goals as goal
 
 pub returns : goal.returns

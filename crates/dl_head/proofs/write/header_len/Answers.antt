@@ -1,6 +1,6 @@
 use Rattle.std.proofs.Common.{ap, arith}
-use Rattle.dl_head.specs.declared.params.Params.{Params}
-use Rattle.dl_head.specs.Layout.{initial_size}
+use Rattle.dl_field.specs.declared.params.Params.{Params}
+use Rattle.dl_head.specs.HeaderLayout.{initial_size}
 use Rattle.dl_head.proofs.OrderLemmas.{length-header, written_limit-le}
 use Rattle.dl_head.proofs.write.header_len.Goals as goal
 

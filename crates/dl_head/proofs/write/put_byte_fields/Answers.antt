@@ -1,6 +1,6 @@
 use Rattle.std.proofs.lemmas.Result.{err_from_is_err_and}
 use Rattle.dl_head.specs.Spelled.{byte_parts}
-use Rattle.dl_head.proofs.WritingLemmas.{TellsOut-front}
+use Rattle.dl_table.proofs.WritingLemmas.{TellsOut-front}
 use Rattle.dl_head.proofs.write.put_byte_fields.Goals as goal
 
 pub returns-in_err-out : goal.returns-in_err-out

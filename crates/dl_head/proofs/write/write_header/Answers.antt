@@ -1,8 +1,8 @@
 use Rattle.std.proofs.Common.{◌≡◌, ◌^◌, ◌<◌, ◌≤◌, [], length, ap, arith}
 use Rattle.std.proofs.lemmas.Bool.{le-leb}
 use Rattle.std.proofs.KnownBytes.{Appends-nil}
-use Rattle.dl_head.specs.declared.params.Params.{Params}
-use Rattle.dl_head.specs.Writing.{IsOut}
+use Rattle.dl_field.specs.declared.params.Params.{Params}
+use Rattle.dl_table.specs.Writing.{IsOut}
 use Rattle.dl_head.specs.Written.{header_bytes, header_length_of, unit_length_of, written_limit}
 use Rattle.dl_head.proofs.OrderLemmas.{length-header, written_limit-le, initial_size-le}
 use Rattle.dl_head.proofs.WriteLemmas.{writes_header}
@@ -17,7 +17,10 @@ returns g c =
     let unit : c.saturating_add-unit.result ≡ unit_length_of h n = omega arith in
     let rest : c.header_length.result ≡ header_length_of h = omega arith in
     let within : unit_length_of h n ≤ written_limit h.params.format = omega arith in
-    let short : length (header_bytes c.args.order h n) < 2 ^ 64 = omega (arith, length-header c.args.order h n, initial_size-le h.params.format) in
-    let none : IsOut (g.W.Write.contents c.args.output.now) (g.W.Write.contents c.args.output.now) [] 0 = record { written = Appends-nil (g.W.Write.contents c.args.output.now); counted = omega arith } in
-    writes_header c.args.order h n _ _ c.put_header.result c.saturating_add-unit.result c.header_length.result (le-leb _ _ within) short unit rest
+    let short : length (header_bytes c.args.order h n) < 2 ^ 64 =
+    omega (arith, length-header c.args.order h n, initial_size-le h.params.format) in
+    let none : IsOut (g.W.Write.contents c.args.output.now) (g.W.Write.contents c.args.output.now) [] 0 =
+    record { written = Appends-nil (g.W.Write.contents c.args.output.now); counted = omega arith } in
+    writes_header c.args.order h n _ _ c.put_header.result c.saturating_add-unit.result c.header_length.result
+    (le-leb _ _ within) short unit rest
     (c.put_header.ensures.written (g.W.Write.contents c.args.output.now) [] none)

@@ -1,5 +1,5 @@
 use Rattle.std.proofs.Common.{ℕ, List, ◌++◌, take}
-use Rattle.dl_head.specs.declared.params.Params.{Params}
+use Rattle.dl_field.specs.declared.params.Params.{Params}
 use Rattle.dl_rows.specs.declared.phase.Phase.TheVariants as phase
 use Rattle.dl_rows.specs.Phases.{PhaseStands}
 use Rattle.dl_rows.proofs.phase.discriminator.Given as goal

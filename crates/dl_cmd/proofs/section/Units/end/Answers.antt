@@ -1,7 +1,7 @@
 use Rattle.std.proofs.Common.{◌∷◌, ◌++◌, [], Option, subst}
 use Rattle.std.specs.Prelude.{MatchResult}
 use Rattle.std.proofs.lemmas.Result.{err_from_is_err_and}
-use Rattle.dl_head.specs.TableData.{HeaderData}
+use Rattle.dl_field.specs.HeaderData.{HeaderData}
 use Rattle.dl_rows.specs.LineUnit.{ends_open, unit_rows}
 use Rattle.dl_cmd.specs.Section.{of_end, header_of, open_visit}
 use Rattle.dl_cmd.specs.Visiting.{GoesOn, StopsIn}

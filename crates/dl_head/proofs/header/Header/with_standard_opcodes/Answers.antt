@@ -7,8 +7,11 @@ pub invariant_of-result : goal.invariant_of-result
 invariant_of-result c =
     let h = c.self.inside in
     record {
-      params = subst (λ (lengths : List ℕ). param_fault (record (h.params) { opcode_base = 13; lengths = record { items = lengths } }) h.directories h.files ≡ None) (sym c.standard_lengths-params.ensures)
-          (standard_fault (record { params = h.params; directories = h.directories; files = h.files }) c.self.invariant.params);
+      params = subst (λ (lengths : List ℕ). param_fault
+          (record (h.params) { opcode_base = 13; lengths = record { items = lengths } }) h.directories h.files ≡ None)
+          (sym c.standard_lengths-params.ensures)
+          (standard_fault (record { params = h.params; directories = h.directories; files = h.files })
+          c.self.invariant.params);
       maximum_operations = c.self.invariant.maximum_operations;
       line_base = c.self.invariant.line_base;
       directories = c.self.invariant.directories;

@@ -6,4 +6,5 @@ use Rattle.dl_head.proofs.header.HeaderPartialEq.eq.Goals as goal
 pub returns-then-eq-2-clause-exact : goal.returns-then-eq-2-clause-exact
 returns-then-eq-2-clause-exact c =
     let same : c.eq-then-eq-2.result ≡ same_header c.args.self.now c.args.other.now = search rules in
-    subst (λ (b : Bool). Decides b (c.args.self.now ≡ c.args.other.now)) (sym same) (same_header-Decides c.args.self.now c.args.other.now)
+    subst (λ (b : Bool). Decides b (c.args.self.now ≡ c.args.other.now)) (sym same)
+    (same_header-Decides c.args.self.now c.args.other.now)

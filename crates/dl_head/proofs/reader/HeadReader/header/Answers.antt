@@ -1,5 +1,5 @@
 use Rattle.std.proofs.Common.{sym}
-use Rattle.dl_head.proofs.Given.{gives_of}
+use Rattle.dl_head.proofs.HeaderGiven.{gives_of}
 use Rattle.dl_head.proofs.reader.HeadReader.header.Goals as goal
 
 pub returns : goal.returns

@@ -1,5 +1,5 @@
 use Rattle.std.proofs.Common.{refl}
-use Rattle.dl_head.proofs.Given.{gives_of}
+use Rattle.dl_head.proofs.HeaderGiven.{gives_of}
 use Rattle.dl_head.proofs.reader.HeadReader.into_header.Goals as goal
 
 pub returns : goal.returns

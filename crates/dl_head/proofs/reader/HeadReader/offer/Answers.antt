@@ -1,11 +1,16 @@
 use Rattle.std.proofs.Common.{refl, ◌∙◌, arith, length-drop, ap, length}
 use Rattle.std.proofs.lemmas.List.{take_rest}
-use Rattle.dl_head.proofs.RunLemmas.{offering_none, offering_on, offered_unfed, offered_last, offered_all, steps_as}
+use Rattle.dl_head.proofs.OfferLemmas.{offering_none, offering_on, offered_unfed, offered_last, offered_all, steps_as}
 use Rattle.dl_head.proofs.WholeSteps.{offering_tried, offering_still}
 use Rattle.dl_head.proofs.reader.HeadReader.offer.Goals as goal
 
 pub loop-used-init : goal.loop-used-init
-loop-used-init c = record { within = omega arith; order = refl; goes = λ b s more. offering_none c.args.self.now.order b c.args.piece.now c.args.self.now s more }
+loop-used-init c = record {
+  within = omega arith;
+  order = refl;
+  goes = λ b s more. offering_none c.args.self.now.order b
+      c.args.piece.now c.args.self.now s more;
+}
 
 pub loop-used-preserved-then-whole-gt0 : goal.loop-used-preserved-then-whole-gt0
 loop-used-preserved-then-whole-gt0 c =
@@ -16,7 +21,8 @@ loop-used-preserved-then-whole-gt0 c =
       within = omega (arith, w.ensures.within, ap length rest, length-drop c.loop-used.used c.args.piece.now, i.within);
       order = w.ensures.order ∙ i.order;
       goes = λ b s more.
-          offering_tried c.args.self.now.order b c.args.piece.now _ c.loop-used.used w.result c.loop-used.self w.new.self (i.goes b s more) i.order rest w.ensures.within w.ensures.takes;
+          offering_tried c.args.self.now.order b c.args.piece.now _ c.loop-used.used w.result c.loop-used.self
+          w.new.self (i.goes b s more) i.order rest w.ensures.within w.ensures.takes;
     }
 
 pub loop-used-preserved : goal.loop-used-preserved
@@ -28,20 +34,26 @@ loop-used-preserved c =
       within = omega (arith, c.loop-used-test.true);
       order = c.step.ensures.order ∙ order;
       goes = λ b s more.
-          let tried = offering_tried c.args.self.now.order b c.args.piece.now _ c.loop-used.used w.result c.loop-used.self w.new.self (i.goes b s more) i.order (take_rest c.args.piece.now c.loop-used.used)
+          let tried = offering_tried c.args.self.now.order b c.args.piece.now _ c.loop-used.used w.result
+          c.loop-used.self w.new.self (i.goes b s more) i.order (take_rest c.args.piece.now c.loop-used.used)
           w.ensures.within w.ensures.takes in
-          let o = offering_still c.args.self.now.order b c.args.piece.now c.loop-used.used w.result w.new.self (omega (arith, c.if-whole-gt0.false)) tried in
-          offering_on c.args.self.now.order b c.args.piece.now c.loop-used.used w.new.self c.step.new.self c.step.result o c.loop-used-test.true c.in-More.is (steps_as order (c.step.ensures.steps _ o.stands));
+          let o = offering_still c.args.self.now.order b c.args.piece.now c.loop-used.used w.result w.new.self
+          (omega (arith, c.if-whole-gt0.false)) tried in
+          offering_on c.args.self.now.order b c.args.piece.now c.loop-used.used w.new.self c.step.new.self c.step.result
+          o c.loop-used-test.true c.in-More.is (steps_as order (c.step.ensures.steps _ o.stands));
     }
 
 pub returns-in-NoMemory-clause-offered : goal.returns-in-NoMemory-clause-offered
 returns-in-NoMemory-clause-offered c b s more =
     let i = c.loop-used.invariant in
     let w = c.whole_value-whole in
-    let tried = offering_tried c.args.self.now.order b c.args.piece.now _ c.loop-used.used w.result c.loop-used.self w.new.self (i.goes b s more) i.order (take_rest c.args.piece.now c.loop-used.used)
+    let tried = offering_tried c.args.self.now.order b c.args.piece.now _ c.loop-used.used w.result c.loop-used.self
+    w.new.self (i.goes b s more) i.order (take_rest c.args.piece.now c.loop-used.used)
     w.ensures.within w.ensures.takes in
-    let o = offering_still c.args.self.now.order b c.args.piece.now c.loop-used.used w.result w.new.self (omega (arith, c.if-whole-gt0.false)) tried in
-    offered_unfed c.args.self.now.order b c.args.piece.now c.loop-used.used c.loop-used.used w.new.self c.step.new.self c.step.result o c.loop-used-test.true refl c.in-NoMemory.is
+    let o = offering_still c.args.self.now.order b c.args.piece.now c.loop-used.used w.result w.new.self
+    (omega (arith, c.if-whole-gt0.false)) tried in
+    offered_unfed c.args.self.now.order b c.args.piece.now c.loop-used.used c.loop-used.used w.new.self c.step.new.self
+    c.step.result o c.loop-used-test.true refl c.in-NoMemory.is
     (steps_as (w.ensures.order ∙ i.order) (c.step.ensures.steps _ o.stands))
 
 pub returns-in_default : goal.returns-in_default
@@ -51,10 +63,13 @@ returns-in_default c =
     let order = w.ensures.order ∙ i.order in
     record {
       offered = λ b s more.
-          let tried = offering_tried c.args.self.now.order b c.args.piece.now _ c.loop-used.used w.result c.loop-used.self w.new.self (i.goes b s more) i.order (take_rest c.args.piece.now c.loop-used.used)
+          let tried = offering_tried c.args.self.now.order b c.args.piece.now _ c.loop-used.used w.result
+          c.loop-used.self w.new.self (i.goes b s more) i.order (take_rest c.args.piece.now c.loop-used.used)
           w.ensures.within w.ensures.takes in
-          let o = offering_still c.args.self.now.order b c.args.piece.now c.loop-used.used w.result w.new.self (omega (arith, c.if-whole-gt0.false)) tried in
-          offered_last c.args.self.now.order b c.args.piece.now c.loop-used.used c.loop-used.used w.new.self c.step.new.self c.step.result o c.loop-used-test.true refl
+          let o = offering_still c.args.self.now.order b c.args.piece.now c.loop-used.used w.result w.new.self
+          (omega (arith, c.if-whole-gt0.false)) tried in
+          offered_last c.args.self.now.order b c.args.piece.now c.loop-used.used c.loop-used.used w.new.self
+          c.step.new.self c.step.result o c.loop-used-test.true refl
           c.in_default.not-More c.in_default.not-NoMemory (steps_as order (c.step.ensures.steps _ o.stands));
       within = omega (arith, c.loop-used-test.true);
       progress = λ goes fed. omega arith;
@@ -64,4 +79,5 @@ returns-in_default c =
 pub returns-clause-offered : goal.returns-clause-offered
 returns-clause-offered c b s more =
     let i = c.loop-used.invariant in
-    offered_all c.args.self.now.order b c.args.piece.now c.loop-used.used c.loop-used.used c.loop-used.self (i.goes b s more) i.within (omega (arith, c.loop-used-test.false)) refl
+    offered_all c.args.self.now.order b c.args.piece.now c.loop-used.used c.loop-used.used c.loop-used.self
+    (i.goes b s more) i.within (omega (arith, c.loop-used-test.false)) refl

@@ -2,14 +2,15 @@ use Rattle.std.proofs.Common.{◌≡◌, ◌≤◌, ◌-◌, ℕ, List, length}
 use Rattle.dl_head.specs.declared.reader.HeadStep.TheVariants as answer
 use Rattle.dl_head.specs.Standing.{StandsFor}
 use Rattle.dl_head.specs.Reading.{Answers}
-use Rattle.dl_head.proofs.RunLemmas.{Offering}
+use Rattle.dl_head.proofs.OfferLemmas.{Offering}
 use Rattle.dl_head.proofs.reader.HeadReader.offer.Given as goal
 
 abbrev pub invariant-loop-used : goal.invariant-loop-used
 invariant-loop-used l = record {
   within : l.used ≤ length l.piece;
   order : l.self.order ≡ l.fn.self.order;
-  goes : (b : List ℕ) → StandsFor l.fn.self b → Answers l.fn.self.order b answer.More → Offering l.fn.self.order b l.piece l.used l.self;
+  goes : (b : List ℕ) → StandsFor l.fn.self b → Answers l.fn.self.order b answer.More
+      → Offering l.fn.self.order b l.piece l.used l.self;
 }
 
 abbrev pub decreases-loop-used : goal.decreases-loop-used

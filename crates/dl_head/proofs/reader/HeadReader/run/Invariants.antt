@@ -10,5 +10,6 @@ invariant-loop-turn l = record {
   within : l.run.taken ≤ length l.bytes;
   refusals : l.run.refused ≤ l.turn-index;
   order : l.self.order ≡ l.fn.self.order;
-  going : (b : List ℕ) → StandsFor l.fn.self b → Answers l.fn.self.order b answer.More → Going l.fn.self.order b l.bytes (take l.turn-index l.turns) l.run l.self;
+  going : (b : List ℕ) → StandsFor l.fn.self b → Answers l.fn.self.order b answer.More
+      → Going l.fn.self.order b l.bytes (take l.turn-index l.turns) l.run l.self;
 }

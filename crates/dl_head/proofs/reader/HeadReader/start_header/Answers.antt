@@ -1,5 +1,5 @@
 use Rattle.std.proofs.Common.{ℕ, Some, refl, ap, arith}
-use Rattle.dl_head.proofs.Starts.{header_length_late}
+use Rattle.dl_head.proofs.EarlyFields.{header_length_late}
 use Rattle.dl_head.proofs.reader.HeadReader.start_header.Goals as goal
 
 pub returns-clause-follows : goal.returns-clause-follows
@@ -7,7 +7,8 @@ returns-clause-follows c = (
   omega (arith, c.saturating_sub.ensures, c.fixed_part.ensures, c.if-length-saturating_sub.false),
   λ items early. (
     header_length_late c.args.self.now _ items c.args.length early refl refl
-        (ap (λ (n : ℕ). Some n) (omega (arith, c.initial_size.ensures, c.fixed_part-2.ensures))) refl early.before.fresh,
+        (ap (λ (n : ℕ). Some n) (omega (arith, c.initial_size.ensures, c.fixed_part-2.ensures))) refl
+        early.before.fresh,
     refl,
     early.before.no_lengths,
   ),

@@ -1,7 +1,7 @@
 use Rattle.std.proofs.Common.{refl, ap}
-use Rattle.dl_head.specs.Layout.{number_is}
-use Rattle.dl_head.proofs.Places.{at_phase}
-use Rattle.dl_head.proofs.Starts.{version_spelt, items_on}
+use Rattle.dl_field.specs.Layout.{number_is}
+use Rattle.dl_head.proofs.OneFieldMore.{at_phase}
+use Rattle.dl_head.proofs.EarlyFields.{version_spelt, items_on}
 use Rattle.dl_head.proofs.reader.HeadReader.version_end.Goals as goal
 
 pub returns-then-version-eq5-clause-follows : goal.returns-then-version-eq5-clause-follows
@@ -9,7 +9,8 @@ returns-then-version-eq5-clause-follows c = record {
   made = λ items rest at.
       let a = at_phase c.args.self.now _ items rest c.requires at in (
         number_is c.version_of-version.result,
-        version_spelt c.args.self.now items rest c.args.first c.args.byte _ a.0.items_are a.1 c.version_of-version.ensures,
+        version_spelt c.args.self.now items rest c.args.first c.args.byte _ a.0.items_are a.1
+            c.version_of-version.ensures,
         (
           record {
             items_are = items_on items _ _ (number_is 5) a.0.items_are (ap number_is c.if-version-eq5.true);
@@ -28,7 +29,8 @@ returns-else-version-eq5-clause-follows c = record {
   made = λ items rest at.
       let a = at_phase c.args.self.now _ items rest c.requires at in (
         number_is c.version_of-version.result,
-        version_spelt c.args.self.now items rest c.args.first c.args.byte _ a.0.items_are a.1 c.version_of-version.ensures,
+        version_spelt c.args.self.now items rest c.args.first c.args.byte _ a.0.items_are a.1
+            c.version_of-version.ensures,
         (
           record {
             items_are = items_on items _ _ _ a.0.items_are refl;

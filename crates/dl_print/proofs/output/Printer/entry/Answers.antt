@@ -1,10 +1,10 @@
 use Rattle.std.proofs.Common.{◌≡◌, ℕ, List, [], ◌∷◌, ◌++◌, decimal, refl, sym, ap, ◌∙◌, append_assoc}
 use Rattle.std.proofs.lemmas.List.{append-nil}
 use Rattle.std.proofs.lemmas.Result.{err_from_is_err_and}
-use Rattle.dl_head.specs.EntryHeld.{entry_items}
-use Rattle.dl_head.specs.Held.{value_lent}
-use Rattle.dl_head.specs.Value.{Value}
-use Rattle.dl_head.specs.ValuesLeft.{values_left}
+use Rattle.dl_table.specs.EntryHeld.{entry_items}
+use Rattle.dl_table.specs.Held.{value_lent}
+use Rattle.dl_table.specs.Value.{Value}
+use Rattle.dl_table.specs.ValuesLeft.{values_left}
 use Rattle.dl_print.specs.HeaderText.{items_text}
 use Rattle.dl_print.specs.ValueText.{named_value, strings_of}
 use Rattle.dl_print.proofs.HeaderLemmas.{items_more, items_split}

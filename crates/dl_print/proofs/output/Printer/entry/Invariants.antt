@@ -1,7 +1,7 @@
 -- The values so far were printed, and the iterator has the others.
 use Rattle.std.proofs.Common.{◌≡◌, ℕ, List, ◌++◌}
-use Rattle.dl_head.specs.Value.{Value}
-use Rattle.dl_head.specs.ValuesLeft.{values_left}
+use Rattle.dl_table.specs.Value.{Value}
+use Rattle.dl_table.specs.ValuesLeft.{values_left}
 use Rattle.dl_print.specs.HeaderText.{items_text}
 use Rattle.dl_print.specs.Output.{PrintsMore}
 use Rattle.dl_print.specs.ValueText.{strings_of}

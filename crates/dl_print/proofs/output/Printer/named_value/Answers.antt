@@ -1,5 +1,5 @@
 use Rattle.std.proofs.lemmas.Result.{err_from_is_err_and}
-use Rattle.dl_head.specs.Held.{value_lent}
+use Rattle.dl_table.specs.Held.{value_lent}
 use Rattle.dl_print.specs.ValueText.{value_text, strings_of}
 use Rattle.dl_print.proofs.Outs.{TellsOut-front}
 use Rattle.dl_print.proofs.output.Printer.named_value.Goals as goal

@@ -1,7 +1,7 @@
 use Rattle.std.proofs.Common.{◌≡◌, ◌+◌, ◌<◌, [], length, take, drop, get_or, arith}
 use Rattle.std.proofs.lemmas.Result.{err_from_is_err_and}
-use Rattle.dl_head.specs.EntryData.{with_content}
-use Rattle.dl_head.specs.EntryHeld.{entry_items}
+use Rattle.dl_table.specs.EntryData.{with_content}
+use Rattle.dl_table.specs.EntryHeld.{entry_items}
 use Rattle.dl_print.specs.HeaderText.{entry_line, entry_lines}
 use Rattle.dl_print.specs.ValueText.{strings_of}
 use Rattle.dl_print.proofs.HeaderLemmas.{items_at, never_none, lines_more, lines_split}

@@ -1,6 +1,6 @@
 use Rattle.std.proofs.Common.{◌≡◌, ℕ, ◌+◌, ◌-◌, List, [], ◌∷◌, ◌++◌, take, get_or, arith, sym, ap, ◌∙◌}
 use Rattle.std.proofs.lemmas.List.{take_more}
-use Rattle.dl_head.specs.Text.{text_at}
+use Rattle.dl_table.specs.Text.{text_at}
 use Rattle.dl_print.proofs.StringLemmas.{text_at-push}
 use Rattle.dl_print.proofs.output.string_sections.texts_len.Goals as goal
 

@@ -1,5 +1,5 @@
 use Rattle.std.proofs.Common.{◌≡◌, ℕ, ◌≤◌, length, take}
-use Rattle.dl_head.specs.Text.{text_at}
+use Rattle.dl_table.specs.Text.{text_at}
 use Rattle.dl_print.proofs.output.string_sections.texts_len.Given as goal
 
 abbrev pub invariant-loop-len : goal.invariant-loop-len

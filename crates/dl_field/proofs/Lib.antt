@@ -1,0 +1,13 @@
+pub mod BlockLemmas
+pub mod BlockSteps
+pub mod ByteCells
+pub mod CountLemmas
+pub mod FieldCells
+pub mod FieldLaws
+pub mod FieldLemmas
+pub mod GoodLemmas
+pub mod PairLemmas
+pub mod TakenLemmas
+pub mod ValueFields
+pub mod ValueLemmas
+pub mod WholeValues

@@ -1,0 +1,10 @@
+-- What the public contracts say rests on these, in reading order.
+pub mod HeaderData
+pub mod Layout
+pub mod Field
+pub mod Cells
+pub mod Usable
+pub mod Laws
+-- For what a value stands; public contracts name this, and don't rest on how it is said.
+pub mod TableStep
+pub mod TablePlace

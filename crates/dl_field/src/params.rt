@@ -1,0 +1,77 @@
+//! The fields of a header that are numbers. Section 6.2.4.
+
+ghost use Rattle.std.specs.Prelude.{◌≡◌, [], ◌≤◌, IsTrue, Some, None, if◌then◌else◌};
+ghost use Rattle.dl_field.specs.Layout.{objection, opcode_length};
+ghost use Rattle.dl_table.specs.declared.fault.FaultKind.TheVariants as fault;
+ghost use Rattle.dl_field.specs.Usable.{IsUsable};
+
+use arrayvec::ArrayVec;
+use dl_table::Format;
+
+/// The fields of a header that are numbers. Section 6.2.4.
+#[derive(Debug, PartialEq, Eq, Drop)]
+pub struct Params {
+    pub format: Format,
+    /// The size of an address in bytes: 1, 2, 4 or 8 in a header.
+    pub address_size: u8,
+    /// The size of a segment selector in bytes.
+    pub segment_selector_size: u8,
+    pub minimum_instruction_length: u8,
+    /// Not 0 in a header.
+    pub maximum_operations_per_instruction: u8,
+    /// True where it isn't 0.
+    pub default_is_stmt: u8,
+    pub line_base: i8,
+    /// Not 0 in a header.
+    pub line_range: u8,
+    /// The number of the first special opcode; not 0 in a header.
+    pub opcode_base: u8,
+    /// How many LEB128 operands each standard opcode has, from opcode 1 on: `opcode_base - 1` of
+    /// them in a header, the first twelve as in section 6.2.5.2.
+    pub lengths: ArrayVec<u8, 254>,
+}
+
+/// How many operands each of the standard opcodes 1 to 12 has. Section 6.2.5.2.
+const STANDARD_LENGTHS: [u8; 12] = [0, 1, 1, 1, 1, 0, 0, 0, 1, 0, 0, 1];
+
+impl Params {
+    /// The params of a header of which only the format was read: the least that a header may have.
+    pub fn least(format: Format) -> Params
+        ensures usable { IsUsable result }
+        ensures no_lengths { result.lengths.items ≡ [] }
+        ensures format { result.format ≡ format }
+    {
+        Params {
+            format,
+            address_size: 1,
+            segment_selector_size: 0,
+            minimum_instruction_length: 0,
+            maximum_operations_per_instruction: 1,
+            default_is_stmt: 0,
+            line_base: 0,
+            line_range: 1,
+            opcode_base: 1,
+            lengths: ArrayVec::new(),
+        }
+    }
+}
+
+/// The lengths of the standard opcodes 1 to 12. Section 6.2.5.2.
+pub fn standard_lengths() -> ArrayVec<u8, 254>
+    ensures { result.items ≡ STANDARD_LENGTHS }
+{
+    ArrayVec::try_from(STANDARD_LENGTHS.as_slice()).unwrap()
+}
+
+/// Whether a standard opcode, from 1 on, has another length than in section 6.2.5.2.
+pub fn is_wrong_length(opcode: usize, length: u8) -> bool
+    requires { 1 ≤ opcode }
+    ensures standard { IsTrue result → opcode ≤ 12 }
+    ensures value { objection (opcode_length opcode) length
+        ≡ (if result then Some (fault.StandardLength opcode) else None) }
+{
+    match STANDARD_LENGTHS.get(opcode - 1) {
+        Some(standard) => *standard != length,
+        None => false,
+    }
+}

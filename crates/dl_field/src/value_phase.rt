@@ -1,0 +1,99 @@
+//! Where the reader of a table is among its values.
+
+ghost use Rattle.std.specs.Prelude.{◌≡◌, ◌<◌, ◌≤◌, ◌↔◌, ℕ, IsTrue, List, [], length, IfSome};
+
+use crate::sixteen::Sixteen;
+use dl_num::{Number, Uleb};
+use dl_table::{Form, Format};
+
+/// The place of a value in the entries.
+#[derive(Clone, Copy)]
+pub(crate) struct Cursor {
+    /// The number of its pair.
+    pub column: usize,
+    /// How many entries are left with its own.
+    pub left: u64,
+    ghost some: { 1 ≤ left },
+}
+
+impl Cursor {
+    ghost use Rattle.dl_field.specs.TablePlace.{IsLast, Moves};
+
+    /// Whether no value follows, where an entry has so many.
+    #[inline(always)]
+    pub fn is_last(self, width: usize) -> bool
+        requires { self.column < width }
+        ensures { IsTrue result ↔ IsLast self width }
+    {
+        self.left <= 1 && self.column + 1 >= width
+    }
+
+    /// The place after this one, where an entry has so many values; None after the last one.
+    #[inline(always)]
+    pub fn next(self, width: usize) -> Option<Cursor>
+        requires { self.column < width }
+        ensures within { IfSome result (λ at. at.column < width) }
+        ensures moves { Moves self width result }
+    {
+        if self.column + 1 < width {
+            Some(Cursor {
+                column: self.column + 1,
+                left: self.left,
+            })
+        } else if self.left > 1 {
+            Some(Cursor {
+                column: 0,
+                left: self.left - 1,
+            })
+        } else {
+            None
+        }
+    }
+}
+
+/// The bytes of a value that have come.
+#[derive(Clone, Copy)]
+pub(crate) enum ValuePhase {
+    /// A number or an offset of this form.
+    Number(Form, Number),
+    Leb(Uleb),
+    /// A text, from this place of the pool on.
+    Text(usize),
+    Data16(Sixteen),
+    /// The length of a block.
+    BlockLength(Number),
+    LebBlockLength(Uleb),
+    /// The bytes of a block, of which so many are left.
+    Block(u64),
+}
+
+impl ValuePhase {
+    ghost use Rattle.dl_field.specs.TablePlace.{ValueAt};
+    ghost use Rattle.dl_field.specs.TableStep.{value_start, value_due, value_filled};
+
+    /// No byte yet of a value of the form, where the next byte of the pool has this place.
+    #[inline(always)]
+    pub fn new(form: Form, format: Format, pool_len: usize) -> ValuePhase
+        ensures begun { value_start result ≤ pool_len }
+        ensures filled { value_filled result pool_len ≡ pool_len }
+        ensures none_due { value_due result ≡ 0 }
+        ensures at { (pool : List ℕ) → length pool ≡ pool_len → ValueAt format form result pool [] }
+    {
+        match form {
+            Form::Data1 => ValuePhase::Number(form, Number::new(1)),
+            Form::Data2 => ValuePhase::Number(form, Number::new(2)),
+            Form::Data4 => ValuePhase::Number(form, Number::new(4)),
+            Form::Data8 => ValuePhase::Number(form, Number::new(8)),
+            Form::Strp | Form::StrpSup | Form::LineStrp => {
+                ValuePhase::Number(form, Number::new(format.offset_size()))
+            }
+            Form::Udata => ValuePhase::Leb(Uleb::new()),
+            Form::String => ValuePhase::Text(pool_len),
+            Form::Data16 => ValuePhase::Data16(Sixteen::new()),
+            Form::Block1 => ValuePhase::BlockLength(Number::new(1)),
+            Form::Block2 => ValuePhase::BlockLength(Number::new(2)),
+            Form::Block4 => ValuePhase::BlockLength(Number::new(4)),
+            Form::Block => ValuePhase::LebBlockLength(Uleb::new()),
+        }
+    }
+}

@@ -1,0 +1,253 @@
+-- One byte more of a header: what the reader answers, and the bytes that it stands for then.
+use Rattle.std.proofs.Common.{◌≡◌, ◌≢◌, ℕ, ◌+◌, ◌-◌, ◌^◌, min, List, [], ◌∷◌, ◌++◌, length, Option, Some, None, refl}
+use Rattle.std.proofs.Common.{sym, ap, subst, ◌∙◌, arith, length-append}
+use Rattle.dl_num.specs.declared.fixed.Order.{Order}
+use Rattle.dl_num.specs.declared.number.Number.{Number}
+use Rattle.dl_num.specs.NumberBytes.{number_size, number_bytes}
+use Rattle.dl_head.specs.declared.reader.Phase.{Phase}
+use Rattle.dl_head.specs.declared.reader.Phase.TheVariants as phase
+use Rattle.dl_field.specs.declared.field_step.FieldStep.TheVariants as byte_makes
+use Rattle.dl_head.specs.declared.reader.HeadReader.{HeadReader}
+use Rattle.dl_head.specs.declared.reader.HeadStep.{HeadStep}
+use Rattle.dl_head.specs.declared.reader.HeadStep.TheVariants as answer
+use Rattle.dl_head.specs.declared.fault.Fault.{Fault}
+use Rattle.dl_table.specs.declared.fault.FaultKind.{FaultKind}
+use Rattle.dl_table.specs.Value.{Judgement, bad}
+use Rattle.dl_field.specs.Layout.{Item, following_all, field_spelt}
+use Rattle.dl_head.specs.HeaderLayout.{header_layout}
+use Rattle.dl_head.specs.Header.{Cut, cut, unit_end, unit_len, foreign_made}
+use Rattle.dl_head.specs.Refusal.{or_else, bad_kind, header_overrun, cut_decided, header_decided, NothingBefore}
+use Rattle.dl_head.specs.Refusal.{HeaderRefused}
+use Rattle.dl_head.specs.Cells.{cells}
+use Rattle.dl_table.specs.TableCells.{table_cells}
+use Rattle.dl_field.specs.TablePlace.{IsFresh}
+use Rattle.dl_head.specs.Place.{AtStart, AtPhase, At, SameCounts, SameUnit, PushFollows, end_of_unit, held_cells}
+use Rattle.dl_head.specs.Standing.{Below, Live, Unmade, ending, Stands, StandsFor, unit_known, Fails, Settles}
+use Rattle.dl_head.specs.Reading.{Answers, AddsCell, Steps}
+use Rattle.dl_field.proofs.FieldLemmas.{none_some}
+use Rattle.dl_head.proofs.CutLemmas.{cut_of, cut_bad}
+use Rattle.dl_head.proofs.HeaderEnds.{UpTo, below_next, end_from, end_is}
+use Rattle.dl_head.proofs.TakenBytes.{Place, in_field, in_padding, in_foreign, place_of, live_quiet, live_more}
+use Rattle.dl_head.proofs.TakenBytes.{countable, not_foreign}
+use Rattle.dl_head.proofs.OneAnswer.{one_answer}
+use Rattle.dl_head.proofs.StepCells.{cells_on}
+use Rattle.dl_head.proofs.SamePlace.{Guards, counted}
+use Rattle.dl_head.proofs.MovedReader.{nothing_on, moved_within, moved_ends, cells_taken}
+use Rattle.dl_head.proofs.ByteCounted.{settled, failed, unit_of, unit_kept, fits_kept, fits_of}
+
+-- the byte is taken
+taken_step : (r mid fin : HeadReader) (b : List ℕ) (x : ℕ) (result : HeadStep) → ending r.phase ≡ None → Live r b
+    → mid.order ≡ r.order
+    → Answers mid.order (b ++ x ∷ []) result × StandsFor fin (b ++ x ∷ []) → Steps r.order b x result fin
+taken_step r mid fin b x result goes l order p = record {
+  ended = λ q a other. absurd (other (one_answer r.order b q answer.More a (live_more r b goes l)));
+  unfed = λ none. absurd (subst (λ (a : HeadStep). Answers mid.order (b ++ x ∷ []) a) none p.0);
+  taken = λ more fed. (subst (λ (o : Order). Answers o (b ++ x ∷ []) result) order p.0, p.1);
+}
+
+-- the header came to something before
+pub ended_step : (r : HeadReader) (b : List ℕ) (x : ℕ) (a : HeadStep) → ending r.phase ≡ Some a → a ≢ answer.More
+    → StandsFor r b → Steps r.order b x a r
+ended_step r b x a is other s =
+    let answers = answers_of a (subst (λ (o : Option HeadStep). Stands r o b) is s.stands) in
+    record {
+      ended = λ q c m. (one_answer r.order b a q answers c, s);
+      unfed = λ e. absurd (subst (λ (q : HeadStep). Answers r.order b q) e answers);
+      taken = λ more fed. absurd (other (one_answer r.order b a answer.More answers more));
+    }
+  where
+    answers_of : (a : HeadStep) → Stands r (Some a) b → Answers r.order b a
+    answers_of answer.Done t = (t.0, t.2)
+    answers_of (answer.Foreign v) t = t.0
+    answers_of (answer.Fault f) t = t.0
+    answers_of answer.More t = absurd t
+    answers_of answer.NoMemory t = absurd t
+
+-- the counter doesn't reach its end
+pub counts_on : (r new : HeadReader) (b : List ℕ) (t : ℕ) → Live r b → r.taken ≡ length b → new.taken ≡ r.taken
+    → t ≡ min (new.taken + 1) (2 ^ 64 - 1) → t ≡ length b + 1
+counts_on r new b t l taken same e = omega (arith, countable r b l, taken, same, e)
+
+pub within_step : (r new fin : HeadReader) (g : Guards new) (b : List ℕ) (x t : ℕ) (result : HeadStep)
+    → ending r.phase ≡ None → Live r b × Unmade r b
+    → PushFollows r x byte_makes.Within new → t ≡ length b + 1 → Settles (counted new g new.start t) result fin
+    → Steps r.order b x result fin
+within_step r new fin g b x t result goes l f count s =
+    let mid = counted new g new.start t in
+    taken_step r mid fin b x result goes l.0 f.counts.order
+    (settled mid fin (b ++ x ∷ []) (moved_within r new g b x t l.0 l.1 f count) result s)
+
+pub ends_step : (r new fin : HeadReader) (g : Guards new) (b : List ℕ) (x t : ℕ) (result : HeadStep)
+    → ending r.phase ≡ None → Live r b × Unmade r b
+    → PushFollows r x byte_makes.Ends new → t ≡ length b + 1 → Settles (counted new g t t) result fin
+    → Steps r.order b x result fin
+ends_step r new fin g b x t result goes l f count s =
+    let mid = counted new g t t in
+    taken_step r mid fin b x result goes l.0 f.counts.order
+    (settled mid fin (b ++ x ∷ []) (moved_ends r new g b x t l.0 l.1 f count) result s)
+
+bad_decided : (order : Order) (b : List ℕ) (x : ℕ) (items : List Item) (rest : List ℕ) (kind : FaultKind)
+    → cut order b ≡ cut_of items rest
+    → field_spelt order (following_all header_layout items) (rest ++ x ∷ []) ≡ bad kind
+    → header_decided order (b ++ x ∷ []) ≡ Some kind
+bad_decided order b x items rest kind e spelt =
+    ap (λ (c : Cut). cut_decided order (length (b ++ x ∷ [])) c) (cut_bad order b x items rest kind e spelt)
+    ∙ ap (λ (o : Judgement Item). or_else (bad_kind o)
+    (header_overrun (length (b ++ x ∷ [])) items (following_all header_layout items))) spelt
+
+-- the byte ends a bad field
+pub refused_step : (r new fin : HeadReader) (g : Guards new) (b : List ℕ) (x t : ℕ) (kind : FaultKind)
+    (result : HeadStep) → ending r.phase ≡ None → StandsFor r b → Live r b × Unmade r b
+    → PushFollows r x (byte_makes.Refuses kind) new → SameUnit r new → t ≡ length b + 1
+    → Fails (counted new g new.start t) kind result fin → Steps r.order b x result fin
+refused_step r new fin g b x t kind result goes stands l f unit count fails =
+    let spelt = f.made l.0.items l.0.rest l.0.at in
+    let cut_is = cut_bad r.order b x l.0.items l.0.rest kind l.0.cut_is spelt in
+    let refused : HeaderRefused r.order (b ++ x ∷ []) new.start kind = record {
+      place = ap (λ (c : Cut). new.start + length c.rest) cut_is
+          ∙ (let e : new.start + length (l.0.rest ++ x ∷ [])
+          ≡ length (b ++ x ∷ []) = omega
+          (arith, f.counts.start, l.0.start_is, length-append b (x ∷ []), length-append l.0.rest (x ∷ [])) in e);
+      decided = bad_decided r.order b x l.0.items l.0.rest kind l.0.cut_is spelt;
+      shortest = nothing_on r.order b x l.0.nothing_before (live_quiet r b l.0);
+    } in
+    let mid = counted new g new.start t in
+    let below = subst (λ (o : Option ℕ). Below (length b) o) (end_is r r.phase l.0.items l.0.rest l.0.at).end
+    l.0.below in
+    let up = subst (λ (n : ℕ). UpTo n (end_from l.0.items)) (sym (length-append b (x ∷ [])))
+    (below_next (length b) (end_from l.0.items) below) in
+    let length_known : unit_known (end_of_unit r) r.end ≡ unit_len r.order (b ++ x ∷ []) =
+    stands.unit ∙ ap (λ (c : Cut). unit_end c.items) l.0.cut_is ∙ sym (ap (λ (c : Cut). unit_end c.items) cut_is) in
+    taken_step r mid fin b x result goes l.0 f.counts.order
+    (failed mid fin (b ++ x ∷ []) kind result
+    (subst (λ (o : Order). HeaderRefused o (b ++ x ∷ []) new.start kind) (sym f.counts.order) refused)
+    (record {
+      header = f.counts.header ∙ l.1.header;
+      cells_are = cells_taken r new b x l.0 l.1 f.counts
+          (f.cells l.0.items l.0.rest l.0.at);
+    })
+    (omega (arith, count, length-append b (x ∷ [])))
+    (unit_kept r mid (b ++ x ∷ []) (record { end = unit.end; unit_length = unit.unit_length; format = unit.format })
+    f.counts.order length_known)
+    (fits_kept r.order new.order (b ++ x ∷ []) f.counts.order
+    (fits_of r.order (b ++ x ∷ []) l.0.items (l.0.rest ++ x ∷ []) cut_is l.0.ends_within up)) fails)
+
+-- a reader that has taken nothing, though its vectors may have moved
+pub kept_stands : (r new : HeadReader) (b : List ℕ) → ending r.phase ≡ None → StandsFor r b
+    → (l : Live r b × Unmade r b) → At new l.0.items l.0.rest → SameCounts r new → held_cells new ≡ held_cells r
+    → StandsFor new b
+kept_stands r new b goes stands l at counts same_cells = record {
+  stands = subst (λ (o : Option HeadStep). Stands new o b) (sym (ends_not (place_of new new.phase items rest refl at)))
+      (live, unmade);
+  taken = counts.taken ∙ stands.taken;
+  unit = unit_of new b items rest cut_is (end_is new new.phase items rest at);
+  within = fits_kept r.order new.order b counts.order stands.within;
+} where
+  items : List Item
+  items = l.0.items
+
+  rest : List ℕ
+  rest = l.0.rest
+
+  ends_not : Place new new.phase items → ending new.phase ≡ None
+  ends_not (in_field none out next) = none
+  ends_not (in_padding is behind) = ap ending is
+  ends_not (in_foreign v is follows) = absurd
+      (none_some (not_foreign r r.phase items goes (place_of r r.phase items rest refl l.0.at))
+      (ap foreign_made follows))
+
+  end_same : new.end ≡ r.end
+  end_same = (end_is new new.phase items rest at).end ∙ sym (end_is r r.phase items rest l.0.at).end
+
+  cut_is : cut new.order b ≡ cut_of items rest
+  cut_is = ap (λ (o : Order). cut o b) counts.order ∙ l.0.cut_is
+
+  live : Live new b
+  live = record {
+    items = items;
+    rest = rest;
+    cut_is = cut_is;
+    at = at;
+    unjudged = ap (λ (o : Order). field_spelt o (following_all header_layout items) rest) counts.order ∙ l.0.unjudged;
+    start_is = omega (arith, counts.start, l.0.start_is);
+    below = subst (λ (o : Option ℕ). Below (length b) o) (sym end_same) l.0.below;
+    nothing_before = subst (λ (o : Order). NothingBefore (header_decided o) b) (sym counts.order) l.0.nothing_before;
+    ends_within = l.0.ends_within;
+  }
+
+  unmade : Unmade new b
+  unmade = record {
+    header = counts.header ∙ l.1.header;
+    cells_are = same_cells ∙ l.1.cells_are ∙ ap (λ (o : Order). cells o b) (sym counts.order);
+  }
+
+-- memory was refused
+pub unfed_step : (r new : HeadReader) (b : List ℕ) (x : ℕ) → ending r.phase ≡ None → StandsFor r b
+    → Live r b × Unmade r b → PushFollows r x byte_makes.NoMemory new
+    → Steps r.order b x answer.NoMemory new
+unfed_step r new b x goes stands l f = record {
+  ended = λ q a other. absurd (other (one_answer r.order b q answer.More a (live_more r b goes l.0)));
+  unfed = λ none. (
+    adds_cell,
+    kept_stands r new b goes stands l (f.made l.0.items l.0.rest l.0.at) f.counts
+        (f.cells l.0.items l.0.rest l.0.at).0,
+  );
+  taken = λ more fed. absurd (fed refl);
+} where
+  adds_cell : AddsCell r.order b x
+  adds_cell = let adds = f.cells l.0.items l.0.rest l.0.at in
+      omega (arith, adds.1, cells_on r.order b x l.0.items l.0.rest l.0.cut_is)
+
+-- a reader whose phase is none of an end goes on
+pub goes_of : (p : Phase) → (p ≡ phase.Done → ⊥) → ((v : ℕ) → p ≡ phase.Foreign v → ⊥)
+    → ((f : Fault) → p ≡ phase.Failed f → ⊥) → ending p ≡ None
+goes_of phase.Done d v f = absurd (d refl)
+goes_of (phase.Foreign n) d v f = absurd (v n refl)
+goes_of (phase.Failed k) d v f = absurd (f k refl)
+goes_of (phase.UnitLength n) d v f = refl
+goes_of (phase.LongUnitLength n) d v f = refl
+goes_of phase.Version d v f = refl
+goes_of (phase.VersionEnd n) d v f = refl
+goes_of (phase.HeaderLength n) d v f = refl
+goes_of (phase.Byte n) d v f = refl
+goes_of phase.OpcodeLength d v f = refl
+goes_of phase.Directories d v f = refl
+goes_of phase.Files d v f = refl
+goes_of phase.Padding d v f = refl
+
+pub live_of : (r : HeadReader) (b : List ℕ) → ending r.phase ≡ None → StandsFor r b → Live r b × Unmade r b
+live_of r b goes s = subst (λ (o : Option HeadStep). Stands r o b) goes s.stands
+
+-- a new reader
+pub new_stands : (r : HeadReader) (n : Number) → r.phase ≡ phase.UnitLength n → number_bytes n ≡ [] → number_size n ≡ 4
+    → AtStart r [] → r.taken ≡ 0 → r.start ≡ 0 → r.header ≡ None
+    → table_cells r.directories ≡ 0 → table_cells r.files ≡ 0 → StandsFor r []
+new_stands r n is none size at taken start header directories files = record {
+  stands = subst (λ (o : Option HeadStep). Stands r o []) (sym (ap ending is)) (
+    record {
+      items = [];
+      rest = [];
+      cut_is = refl;
+      at = subst (λ (p : Phase). AtPhase r p [] []) (sym is) (at, none, size);
+      unjudged = refl;
+      start_is = omega (arith, start);
+      below = subst (λ (o : Option ℕ). Below 0 o) (sym at.end) tt;
+      nothing_before = λ front x back e. absurd (no_front front x back e);
+      ends_within = λ n e u h. absurd (none_some refl u);
+    },
+    record {
+      header = header;
+      cells_are = omega
+          (arith, directories, files, ap length fresh.pairs, ap length fresh.values, ap length fresh.pool);
+    },
+  );
+  taken = taken;
+  unit = ap (λ (o : Option ℕ). unit_known (end_of_unit r) o) at.end;
+  within = λ n e. absurd (none_some refl e);
+} where
+  fresh : IsFresh r.table
+  fresh = at.before.fresh
+
+  no_front : (front : List ℕ) (x : ℕ) (back : List ℕ) → ◌≡◌ {A = List ℕ} [] (front ++ x ∷ back) → ⊥
+  no_front [] x back e = absurd cc
+  no_front (y ∷ front) x back e = absurd cc

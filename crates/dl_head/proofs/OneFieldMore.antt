@@ -1,0 +1,223 @@
+-- One field more of the header reader: from where it is to where it goes.
+use Rattle.std.proofs.Common.{◌≡◌, ℕ, zero, suc, ◌+◌, ◌-◌, ◌<◌, ◌≤◌, Bool, true, nat_lt, if◌then◌else◌, ℤ, inl, inr, w8}
+use Rattle.std.proofs.Common.{to_z, of_z, SFits, List, [], ◌∷◌, ◌++◌, length, Some, refl, sym, ap, subst, ◌∙◌, arith}
+use Rattle.std.proofs.Common.{length-append}
+use Rattle.std.proofs.lemmas.Int.{ints, to_z-of_z}
+use Rattle.std.proofs.lemmas.Bool.{cases_lt, lt-ltb, le-ltb, ltb-true}
+use Rattle.dl_num.specs.declared.fixed.Order.{Order}
+use Rattle.dl_num.specs.Fixed.{fixed}
+use Rattle.dl_head.specs.declared.reader.byte_field.ByteField.{ByteField}
+use Rattle.dl_head.specs.declared.reader.byte_field.ByteField.TheVariants as field
+use Rattle.dl_head.specs.declared.reader.Phase.{Phase}
+use Rattle.dl_head.specs.declared.reader.Phase.TheVariants as phase
+use Rattle.dl_head.specs.declared.reader.HeadReader.{HeadReader}
+use Rattle.dl_field.specs.declared.params.Params.{Params}
+use Rattle.dl_field.specs.Layout.{opcode_length, Layout, number_then, Item, number_is, following, following_all}
+use Rattle.dl_field.specs.Layout.{field_spelt, objection, judged}
+use Rattle.dl_head.specs.HeaderLayout.{header_layout, signed_byte, lengths_layout, tables_layout, from_files}
+use Rattle.dl_head.specs.HeaderLayout.{from_opcode_base}
+use Rattle.dl_head.specs.Bytes.{byte_kind}
+use Rattle.dl_head.specs.HeadStep.{lengths_fit}
+use Rattle.dl_head.specs.Place.{from_byte, from_length, end_of_unit, Behind, Late, AtPhase, At}
+use Rattle.dl_field.specs.TablePlace.{IsFresh, TableAt}
+use Rattle.dl_field.specs.declared.table_reader.TablePhase.{TablePhase}
+use Rattle.dl_field.specs.declared.table_reader.TablePhase.TheVariants as table
+use Rattle.dl_field.proofs.FieldLemmas.{fixed-one}
+use Rattle.dl_head.proofs.CutLemmas.{following_all-append}
+use Rattle.dl_head.proofs.QuietLemmas.{header_end-append, unit_end-append}
+
+pub at_phase : (r : HeadReader) (p : Phase) (items : List Item) (rest : List ℕ) → r.phase ≡ p → At r items rest
+    → AtPhase r p items rest
+at_phase r p items rest e at = subst (λ (q : Phase). AtPhase r q items rest) e at
+
+pub phase_at : (r : HeadReader) (p : Phase) (items : List Item) (rest : List ℕ) → r.phase ≡ p → AtPhase r p items rest
+    → At r items rest
+phase_at r p items rest e at = subst (λ (q : Phase). AtPhase r q items rest) (sym e) at
+
+pub at_field : (r : HeadReader) (f g : ByteField) (items : List Item) (rest : List ℕ) → f ≡ g → r.phase ≡ phase.Byte f
+    → At r items rest → AtPhase r (phase.Byte g) items rest
+at_field r f g items rest is e at = at_phase r (phase.Byte g) items rest
+    (e ∙ ap (λ (h : ByteField). phase.Byte h) is) at
+
+pub behind_on : (r new : HeadReader) (items : List Item) (layout next : Layout) (i : Item) → Behind r items layout
+    → following layout i ≡ next
+    → new.end ≡ r.end → new.overrun ≡ r.overrun → end_of_unit new ≡ end_of_unit r → Behind new (items ++ i ∷ []) next
+behind_on r new items layout next i behind e end overrun unit = record {
+  follows = following_all-append header_layout items (i ∷ []) ∙ ap (λ (l : Layout). following l i) behind.follows ∙ e;
+  unit = unit_end-append items (i ∷ []) (end_of_unit r) behind.unit ∙ ap (λ (n : ℕ). Some n) (sym unit);
+  header = behind.header;
+  header_ends = header_end-append items (i ∷ []) behind.header behind.header_ends;
+  end = end ∙ behind.end;
+  overrun = overrun ∙ behind.overrun;
+}
+
+pub late_on : (r new : HeadReader) (items : List Item) (layout next : Layout) (i : Item) → Late r items layout
+    → following layout i ≡ next
+    → new.end ≡ r.end → new.overrun ≡ r.overrun → end_of_unit new ≡ end_of_unit r → IsFresh new.table
+    → Late new (items ++ i ∷ []) next
+late_on r new items layout next i late e end overrun unit fresh =
+    record { behind = behind_on r new items layout next i late.behind e end overrun unit; fresh = fresh }
+
+-- ---- fields of one byte
+
+-- the first field of a layout
+pub byte_follows : (r : HeadReader) (f : ByteField) (items : List Item) (rest : List ℕ)
+    → AtPhase r (phase.Byte f) items rest
+    → (following_all header_layout items ≡ from_byte f r.unit_length r.params) × (rest ≡ [])
+byte_follows r field.AddressSize items rest at =
+    (ap (λ (l : List Item). following_all header_layout l) at.0.items_are, at.1)
+byte_follows r field.SegmentSelectorSize items rest at =
+    (ap (λ (l : List Item). following_all header_layout l) at.0.items_are, at.1)
+byte_follows r field.MinimumInstructionLength items rest at = (at.0.behind.follows, at.1)
+byte_follows r field.MaximumOperations items rest at = (at.0.behind.follows, at.1)
+byte_follows r field.DefaultIsStmt items rest at = (at.0.behind.follows, at.1)
+byte_follows r field.LineBase items rest at = (at.0.behind.follows, at.1)
+byte_follows r field.LineRange items rest at = (at.0.behind.follows, at.1)
+byte_follows r field.OpcodeBase items rest at = (at.0.behind.follows, at.1)
+
+byte_is : (order : Order) (f : ByteField) (unit_length : ℕ) (p : Params) (x : ℕ)
+    → field_spelt order (from_byte f unit_length p) (x ∷ [])
+    ≡ judged (objection (byte_kind f) (fixed order (x ∷ []))) (fixed order (x ∷ []))
+byte_is order field.AddressSize unit_length p x = refl
+byte_is order field.SegmentSelectorSize unit_length p x = refl
+byte_is order field.MinimumInstructionLength unit_length p x = refl
+byte_is order field.MaximumOperations unit_length p x = refl
+byte_is order field.DefaultIsStmt unit_length p x = refl
+byte_is order field.LineBase unit_length p x = refl
+byte_is order field.LineRange unit_length p x = refl
+byte_is order field.OpcodeBase unit_length p x = refl
+
+pub byte_spelt : (order : Order) (r : HeadReader) (f : ByteField) (items : List Item) (rest : List ℕ) (x : ℕ)
+    → AtPhase r (phase.Byte f) items rest
+    → field_spelt order (following_all header_layout items) (rest ++ x ∷ []) ≡ judged (objection (byte_kind f) x) x
+byte_spelt order r f items rest x at =
+    let b = byte_follows r f items rest at in
+    ap (λ (l : Layout). field_spelt order l (rest ++ x ∷ [])) b.0
+    ∙ ap (λ (w : List ℕ). field_spelt order (from_byte f r.unit_length r.params) (w ++ x ∷ [])) b.1
+    ∙ byte_is order f r.unit_length r.params x
+    ∙ ap (λ (n : ℕ). judged (objection (byte_kind f) n) n) (fixed-one order x)
+
+-- ---- line_base
+
+pub sfits_signed : (n : ℕ) → n < 256 → SFits w8 (signed_byte n)
+sfits_signed n lt = elim (cases_lt n 128) [
+  | inl small ↦ rw (lt-ltb n 128 small) (omega (arith, ints))
+  | inr big ↦ rw (le-ltb n 128 big) (omega (arith, ints))
+]
+
+-- a signed number as it is kept
+pub kept_signed : (n : ℕ) (z : ℤ) → n < 256 → z ≡ signed_byte n → to_z w8 (of_z w8 z) ≡ signed_byte n
+kept_signed n z lt e = ap (λ (y : ℤ). to_z w8 (of_z w8 y)) e ∙ to_z-of_z w8 (signed_byte n) (sfits_signed n lt)
+
+-- ---- the lengths of the opcodes
+
+abbrev pub lengths_left : Params → ℕ → List ℕ → Layout
+lengths_left p left before = lengths_layout (length before + 1) left before λ lengths. tables_layout
+    (record p { lengths = record { items = lengths } })
+
+pub lengths_open : (p : Params) (left : ℕ) (before : List ℕ) → 1 ≤ left
+    → lengths_left p left before ≡ number_then (opcode_length (length before + 1)) λ n. lengths_layout
+    (length before + 2) (left - 1) (before ++ n ∷ []) λ lengths. tables_layout
+    (record p { lengths = record { items = lengths } })
+lengths_open p zero before h = absurd (omega arith)
+lengths_open p (suc count) before h =
+    let e : count ≡ suc count - 1 = omega arith in
+    let two : length before + 1 + 1 ≡ length before + 2 = omega arith in
+    ap (λ (k : ℕ). number_then (opcode_length (length before + 1)) λ n. lengths_layout k count (before ++ n ∷ [])
+    λ lengths. tables_layout (record p { lengths = record { items = lengths } })) two
+    ∙ ap (λ (k : ℕ). number_then (opcode_length (length before + 1)) λ n. lengths_layout (length before + 2) k
+    (before ++ n ∷ []) λ lengths. tables_layout (record p { lengths = record { items = lengths } })) e
+
+-- a length is judged by its value
+pub length_judged : (order : Order) (p : Params) (items : List Item) (rest : List ℕ) (x : ℕ)
+    → following_all header_layout items ≡ from_length p → 1 ≤ p.opcode_base - 1 - length p.lengths.items → rest ≡ []
+    → field_spelt order (following_all header_layout items) (rest ++ x ∷ [])
+    ≡ judged (objection (opcode_length (length p.lengths.items + 1)) x) x
+length_judged order p items rest x follows left none =
+    ap (λ (l : Layout). field_spelt order l (rest ++ x ∷ []))
+    (follows ∙ lengths_open p (p.opcode_base - 1 - length p.lengths.items) p.lengths.items left)
+    ∙ ap (λ (w : List ℕ). field_spelt order
+    (number_then (opcode_length (length p.lengths.items + 1)) λ n. tables_layout p) (w ++ x ∷ [])) none
+    ∙ ap (λ (n : ℕ). judged (objection (opcode_length (length p.lengths.items + 1)) n) n) (fixed-one order x)
+
+abbrev with_lengths : Params → List ℕ → Params
+with_lengths p lengths = record p { lengths = record { items = lengths } }
+
+-- another length follows, or the tables
+pub next_length : (p : Params) (n : ℕ) (more : List ℕ) → 1 ≤ p.opcode_base - 1 - length p.lengths.items
+    → more ≡ p.lengths.items ++ n ∷ []
+    → following (from_length p) (number_is n) ≡ from_length (with_lengths p more)
+next_length p n more left e =
+    let ls = p.lengths.items in
+    let at : length ls + 2 ≡ length more + 1 = omega (arith, ap length e, length-append ls (n ∷ [])) in
+    let fewer : p.opcode_base - 1 - length ls - 1 ≡ p.opcode_base - 1 - length more =
+    omega (arith, ap length e, length-append ls (n ∷ [])) in
+    ap (λ (k : Layout). following k (number_is n)) (lengths_open p (p.opcode_base - 1 - length ls) ls left)
+    ∙ ap (λ (k : ℕ). lengths_layout k (p.opcode_base - 1 - length ls - 1) (ls ++ n ∷ []) λ lengths. tables_layout
+    (with_lengths p lengths)) at
+    ∙ ap (λ (k : ℕ). lengths_layout (length more + 1) k (ls ++ n ∷ []) λ lengths. tables_layout
+    (with_lengths p lengths)) fewer
+    ∙ ap (λ (l : List ℕ). lengths_layout (length more + 1) (p.opcode_base - 1 - length more) l λ lengths. tables_layout
+    (with_lengths p lengths)) (sym e)
+
+-- where none are left, the tables follow
+pub lengths_whole : (p : Params) → p.opcode_base ≤ length p.lengths.items + 1 → from_length p ≡ tables_layout p
+lengths_whole p le =
+    let none : p.opcode_base - 1 - length p.lengths.items ≡ 0 = omega arith in
+    ap (λ (k : ℕ). lengths_layout (length p.lengths.items + 1) k p.lengths.items λ lengths. tables_layout
+    (with_lengths p lengths)) none
+
+-- the first length
+pub first_length : (p : Params) (n : ℕ) → p.lengths.items ≡ []
+    → following (from_opcode_base p) (number_is n) ≡ from_length (record p { opcode_base = n })
+first_length p n none =
+    let all : n - 1 ≡ n - 1 - 0 = omega arith in
+    ap (λ (k : ℕ). lengths_layout 1 k [] λ lengths. tables_layout (with_lengths (record p { opcode_base = n }) lengths))
+    all
+    ∙ ap (λ (l : List ℕ). lengths_layout (length l + 1) (n - 1 - length l) l λ lengths. tables_layout
+    (with_lengths (record p { opcode_base = n }) lengths)) (sym none)
+
+late_as : (r : HeadReader) (items : List Item) (layout next : Layout) → layout ≡ next → Late r items layout
+    → Late r items next
+late_as r items layout next e late = subst (λ (l : Layout). Late r items l) e late
+
+-- the tables follow
+before_tables : (r : HeadReader) (items : List Item) → Late r items (tables_layout r.params)
+    → AtPhase r phase.Directories items []
+before_tables r items late = record {
+  layout = tables_layout r.params;
+  behind = late.behind;
+  at = subst (λ (p : TablePhase). TableAt r.order r.table p r.params.format (from_files r.params)
+      (tables_layout r.params) []) (sym late.fresh.phase) (late.fresh, refl, refl);
+  going = λ whole. fresh_whole (sym late.fresh.phase ∙ whole);
+} where
+  fresh_whole : table.PairCount ≡ table.Whole → ⊥
+  fresh_whole e = absurd cc
+
+-- the next length of an opcode follows, or the tables
+pub at_lengths : (r : HeadReader) (items : List Item) (p : Phase) → Late r items (from_length r.params)
+    → p ≡ (if nat_lt (length r.params.lengths.items + 1) r.params.opcode_base then phase.OpcodeLength
+    else phase.Directories) → AtPhase r p items []
+at_lengths r items p late is = elim (cases_lt (length r.params.lengths.items + 1) r.params.opcode_base) [
+  | inl lt ↦ subst (λ (q : Phase). AtPhase r q items [])
+      (sym (is ∙ ap (λ (b : Bool). if b then phase.OpcodeLength else phase.Directories) (lt-ltb _ _ lt))) (late, refl)
+  | inr le ↦ subst (λ (q : Phase). AtPhase r q items [])
+      (sym (is ∙ ap (λ (b : Bool). if b then phase.OpcodeLength else phase.Directories) (le-ltb _ _ le)))
+      (before_tables r items (late_as r items (from_length r.params) (tables_layout r.params)
+      (lengths_whole r.params (omega (arith, le))) late))
+]
+
+-- the next phase, by how many lengths there are
+pub next_at : (n m base : ℕ) → m ≡ n
+    → (if nat_lt (n + 1) base then phase.OpcodeLength else phase.Directories)
+    ≡ (if nat_lt (m + 1) base then phase.OpcodeLength else phase.Directories)
+next_at n m base e = ap (λ (k : ℕ). if nat_lt (k + 1) base then phase.OpcodeLength else phase.Directories) (sym e)
+
+-- at the length of an opcode, one is left
+pub some_left : (r : HeadReader) → r.phase ≡ phase.OpcodeLength
+    → 1 ≤ r.params.opcode_base - 1 - length r.params.lengths.items
+some_left r e =
+    let fit : nat_lt (length r.params.lengths.items + 1) r.params.opcode_base ≡ true =
+    sym (ap (λ (p : Phase). lengths_fit p (length r.params.lengths.items) r.params.opcode_base) e) ∙ r.lengths in
+    let lt : length r.params.lengths.items + 1 < r.params.opcode_base = ltb-true _ _ fit in
+    omega (arith, lt)

@@ -1,0 +1,292 @@
+-- What the bytes come to that a header reader has taken.
+use Rattle.std.proofs.Common.{◌≡◌, ℕ, ◌-◌, ◌<◌, ◌≤◌, ◌^◌, true, List, [], ◌∷◌, ◌++◌, length, Option, Some, None, refl}
+use Rattle.std.proofs.Common.{sym, ap, subst, ◌∙◌, arith, length-append, append-nil}
+use Rattle.std.proofs.lemmas.Bool.{leb-true}
+use Rattle.dl_num.specs.declared.fixed.Order.{Order}
+use Rattle.dl_head.specs.declared.reader.byte_field.ByteField.{ByteField}
+use Rattle.dl_head.specs.declared.reader.byte_field.ByteField.TheVariants as field
+use Rattle.dl_field.specs.declared.value_phase.ValuePhase.{ValuePhase}
+use Rattle.dl_field.specs.declared.params.Params.{Params}
+use Rattle.dl_head.specs.declared.reader.Phase.{Phase}
+use Rattle.dl_head.specs.declared.reader.Phase.TheVariants as phase
+use Rattle.dl_head.specs.declared.reader.HeadReader.{HeadReader}
+use Rattle.dl_head.specs.declared.reader.HeadStep.TheVariants as answer
+use Rattle.dl_field.specs.declared.table_reader.TableReader.{TableReader}
+use Rattle.dl_field.specs.declared.table_reader.TablePhase.{TablePhase}
+use Rattle.dl_field.specs.declared.table_reader.TablePhase.TheVariants as table
+use Rattle.dl_field.specs.declared.value_phase.ValuePhase.TheVariants as value
+use Rattle.dl_table.specs.declared.form.Format.{Format}
+use Rattle.dl_table.specs.declared.table.Pair.{Pair}
+use Rattle.dl_table.specs.declared.fault.FaultKind.{FaultKind}
+use Rattle.dl_table.specs.TableData.{TableData}
+use Rattle.dl_field.specs.HeaderData.{HeaderData}
+use Rattle.dl_table.specs.Value.{Value, Judgement}
+use Rattle.dl_field.specs.Layout.{Layout, initial_length_then, number_then, form_then, value_then, foreign_version}
+use Rattle.dl_field.specs.Layout.{last_entry, Item, following_all, field_spelt, entry_layout}
+use Rattle.dl_head.specs.HeaderLayout.{header_layout, from_end}
+use Rattle.dl_head.specs.Header.{Cut, cut, header_end, unit_end, foreign_made, foreign_in, IsHeader}
+use Rattle.dl_head.specs.Refusal.{or_else, bad_kind, field_overrun, header_overrun, cut_decided, header_decided}
+use Rattle.dl_head.specs.HeadStep.{end_near}
+use Rattle.dl_field.specs.TablePlace.{TableAt}
+use Rattle.dl_head.specs.Place.{Behind, AtPhase, from_byte, from_length, length_item}
+use Rattle.dl_num.specs.NumberBytes.{number_bytes}
+use Rattle.dl_head.specs.Standing.{Below, Live, ending}
+use Rattle.dl_head.specs.Reading.{Answers}
+use Rattle.dl_field.proofs.FieldLemmas.{none_some}
+use Rattle.dl_head.proofs.CutLemmas.{cut_of, cut_sound, Sound}
+use Rattle.dl_head.proofs.HeaderLaws.{header_cut}
+use Rattle.dl_head.proofs.RefusalLaws.{quiet}
+use Rattle.dl_head.proofs.EarlyFields.{foreign_follows}
+use Rattle.dl_head.proofs.OneFieldMore.{byte_follows, lengths_open, some_left}
+use Rattle.dl_head.proofs.HeaderEnds.{first_end, end_from, overrun_from, overrun_at, not_at_end, just_at_end, EndIs}
+use Rattle.dl_head.proofs.HeaderEnds.{end_is}
+
+-- ---- what stands next
+
+-- a field
+abbrev pub IsNext : Layout → Type 0
+IsNext (last_entry h) = ⊥
+IsNext (foreign_version v) = ⊥
+IsNext layout = Unit {0}
+
+next_overrun : (n : ℕ) (items : List Item) (layout : Layout) → IsNext layout
+    → header_overrun n items layout ≡ field_overrun n items (header_end items)
+next_overrun n items (initial_length_then next) is = refl
+next_overrun n items (number_then field next) is = refl
+next_overrun n items (form_then next) is = refl
+next_overrun n items (value_then format f next) is = refl
+next_overrun n items (foreign_version v) is = absurd is
+next_overrun n items (last_entry h) is = absurd is
+
+next_not_foreign : (layout : Layout) → IsNext layout → foreign_made layout ≡ None
+next_not_foreign (initial_length_then next) is = refl
+next_not_foreign (number_then field next) is = refl
+next_not_foreign (form_then next) is = refl
+next_not_foreign (value_then format f next) is = refl
+next_not_foreign (foreign_version v) is = absurd is
+next_not_foreign (last_entry h) is = refl
+
+value_next : (format : Format) (next : TableData → Layout) (pairs : List Pair) (entries : List (List Value))
+    (before : List Value) (left : ℕ) (later : List Pair) (pair : Pair) (rest : List Pair)
+    → later ≡ pair ∷ rest → (after : List Value → Layout) → IsNext (entry_layout format later before after)
+value_next format next pairs entries before left later pair rest e after =
+    subst (λ (l : List Pair). IsNext (entry_layout format l before after)) (sym e) tt
+
+table_next : (order : Order) (t : TableReader) (p : TablePhase) (format : Format) (next : TableData → Layout)
+    (layout : Layout) (rest : List ℕ)
+    → TableAt order t p format next layout rest → (p ≡ table.Whole → ⊥) → IsNext layout
+table_next order t table.PairCount format next layout rest at going = subst IsNext (sym at.1) tt
+table_next order t (table.ContentCode left code) format next layout rest at going = subst IsNext (sym at.1) tt
+table_next order t (table.FormCode left content code) format next layout rest at going = subst IsNext (sym at.1) tt
+table_next order t (table.EntryCount count) format next layout rest at going = subst IsNext (sym at.1) tt
+table_next order t (table.Value at v) format next layout rest is going = on v is
+  where
+    on : (v : ValuePhase) → TableAt order t (table.Value at v) format next layout rest → IsNext layout
+    on (value.Block left) in_block = subst IsNext (sym in_block.layout_is)
+        (value_next format next t.pairs.items in_block.entries in_block.before at.left _ in_block.pair in_block.later
+        in_block.at_pair _)
+    on (value.Number f n) in_value = subst IsNext (sym in_value.layout_is)
+        (value_next format next t.pairs.items in_value.entries in_value.before at.left _ in_value.pair in_value.later
+        in_value.at_pair _)
+    on (value.Leb n) in_value = subst IsNext (sym in_value.layout_is)
+        (value_next format next t.pairs.items in_value.entries in_value.before at.left _ in_value.pair in_value.later
+        in_value.at_pair _)
+    on (value.Text n) in_value = subst IsNext (sym in_value.layout_is)
+        (value_next format next t.pairs.items in_value.entries in_value.before at.left _ in_value.pair in_value.later
+        in_value.at_pair _)
+    on (value.Data16 n) in_value = subst IsNext (sym in_value.layout_is)
+        (value_next format next t.pairs.items in_value.entries in_value.before at.left _ in_value.pair in_value.later
+        in_value.at_pair _)
+    on (value.BlockLength n) in_value = subst IsNext (sym in_value.layout_is)
+        (value_next format next t.pairs.items in_value.entries in_value.before at.left _ in_value.pair in_value.later
+        in_value.at_pair _)
+    on (value.LebBlockLength n) in_value = subst IsNext (sym in_value.layout_is)
+        (value_next format next t.pairs.items in_value.entries in_value.before at.left _ in_value.pair in_value.later
+        in_value.at_pair _)
+table_next order t table.Whole format next layout rest at going = absurd (going refl)
+
+-- ---- where the reader is: in a field, in the padding, or after the version of a foreign unit
+
+pub data Place (r : HeadReader) (p : Phase) (items : List Item) : Type 0 where
+  in_field : ending p ≡ None → (p ≡ phase.Padding → ⊥) → IsNext (following_all header_layout items) → Place r p items
+  in_padding : p ≡ phase.Padding → Behind r items (from_end r.params r.directories r.files) → Place r p items
+  in_foreign : (v : ℕ) → p ≡ phase.Foreign v → following_all header_layout items ≡ foreign_version v → Place r p items
+
+next_of : (items is : List Item) → items ≡ is → IsNext (following_all header_layout is)
+    → IsNext (following_all header_layout items)
+next_of items is e next = subst (λ (l : List Item). IsNext (following_all header_layout l)) (sym e) next
+
+byte_next : (f : ByteField) (unit_length : ℕ) (p : Params) → IsNext (from_byte f unit_length p)
+byte_next field.AddressSize unit_length p = tt
+byte_next field.SegmentSelectorSize unit_length p = tt
+byte_next field.MinimumInstructionLength unit_length p = tt
+byte_next field.MaximumOperations unit_length p = tt
+byte_next field.DefaultIsStmt unit_length p = tt
+byte_next field.LineBase unit_length p = tt
+byte_next field.LineRange unit_length p = tt
+byte_next field.OpcodeBase unit_length p = tt
+
+length_next : (r : HeadReader) → r.phase ≡ phase.OpcodeLength → IsNext (from_length r.params)
+length_next r e = subst IsNext
+    (sym (lengths_open r.params (r.params.opcode_base - 1 - length r.params.lengths.items) r.params.lengths.items
+    (some_left r e))) tt
+
+pub place_of : (r : HeadReader) (p : Phase) (items : List Item) (rest : List ℕ) → r.phase ≡ p → AtPhase r p items rest
+    → Place r p items
+place_of r (phase.UnitLength n) items rest e at = in_field refl (λ q. absurd cc) (next_of items _ at.0.none tt)
+place_of r (phase.LongUnitLength n) items rest e at = in_field refl (λ q. absurd cc) (next_of items _ at.0.none tt)
+place_of r phase.Version items rest e at = in_field refl (λ q. absurd cc) (next_of items _ at.0.items_are tt)
+place_of r (phase.VersionEnd first) items rest e at = in_field refl (λ q. absurd cc) (next_of items _ at.0.items_are tt)
+place_of r (phase.HeaderLength n) items rest e at = in_field refl (λ q. absurd cc) (next_of items _ at.0.items_are tt)
+place_of r (phase.Byte f) items rest e at = in_field refl (λ q. absurd cc)
+    (subst IsNext (sym (byte_follows r f items rest at).0) (byte_next f r.unit_length r.params))
+place_of r phase.OpcodeLength items rest e at =
+    in_field refl (λ q. absurd cc) (subst IsNext (sym at.0.behind.follows) (length_next r e))
+place_of r phase.Directories items rest e at =
+    in_field refl (λ q. absurd cc)
+    (subst IsNext (sym at.behind.follows)
+    (table_next r.order r.table r.table.phase r.params.format _ at.layout rest at.at at.going))
+place_of r phase.Files items rest e at =
+    in_field refl (λ q. absurd cc)
+    (subst IsNext (sym at.behind.follows)
+    (table_next r.order r.table r.table.phase r.params.format _ at.layout rest at.at at.going))
+place_of r phase.Padding items rest e at = in_padding refl at
+place_of r (phase.Foreign v) items rest e at =
+    in_foreign v refl (ap (λ (l : List Item). following_all header_layout l) at.0.items_are
+    ∙ foreign_follows r (length_item r ∷ []) v refl at.1)
+place_of r phase.Done items rest e at = absurd at
+place_of r (phase.Failed f) items rest e at = absurd at
+
+-- ---- the end isn't known only within the initial length
+
+abbrev IsInitial : List Item → List ℕ → Type 0
+IsInitial items rest = (items ≡ []) × (length rest < 12)
+
+known : {A : Type 0} (end : Option ℕ) (e : ℕ) → end ≡ Some e → end ≡ None → A
+known end e some none = absurd (none_some none some)
+
+initial_of : (r : HeadReader) (p : Phase) (items : List Item) (rest : List ℕ) → AtPhase r p items rest → r.end ≡ None
+    → IsInitial items rest
+initial_of r (phase.UnitLength n) items rest at none = (at.0.none, omega (arith, ap length at.1, at.2, n.operand.lacks))
+initial_of r (phase.LongUnitLength n) items rest at none = (
+  at.0.none,
+  omega (
+    arith,
+    at.2,
+    n.operand.lacks,
+    at.1.size,
+    ap length at.1.whole,
+    length-append at.1.escape (number_bytes n),
+  ),
+)
+initial_of r phase.Version items rest at none = known r.end _ at.0.end none
+initial_of r (phase.VersionEnd first) items rest at none = known r.end _ at.0.end none
+initial_of r (phase.HeaderLength n) items rest at none = known r.end _ at.0.end none
+initial_of r (phase.Byte field.AddressSize) items rest at none = known r.end _ at.0.end none
+initial_of r (phase.Byte field.SegmentSelectorSize) items rest at none = known r.end _ at.0.end none
+initial_of r (phase.Byte field.MinimumInstructionLength) items rest at none = known r.end _ at.0.behind.end none
+initial_of r (phase.Byte field.MaximumOperations) items rest at none = known r.end _ at.0.behind.end none
+initial_of r (phase.Byte field.DefaultIsStmt) items rest at none = known r.end _ at.0.behind.end none
+initial_of r (phase.Byte field.LineBase) items rest at none = known r.end _ at.0.behind.end none
+initial_of r (phase.Byte field.LineRange) items rest at none = known r.end _ at.0.behind.end none
+initial_of r (phase.Byte field.OpcodeBase) items rest at none = known r.end _ at.0.behind.end none
+initial_of r phase.OpcodeLength items rest at none = known r.end _ at.0.behind.end none
+initial_of r phase.Directories items rest at none = known r.end _ at.behind.end none
+initial_of r phase.Files items rest at none = known r.end _ at.behind.end none
+initial_of r phase.Padding items rest at none = known r.end _ at.end none
+initial_of r (phase.Foreign v) items rest at none = known r.end _ at.0.end none
+initial_of r phase.Done items rest at none = absurd at
+initial_of r (phase.Failed f) items rest at none = absurd at
+
+-- bytes in which no field is whole
+no_fields : (order : Order) (b rest : List ℕ) → cut order b ≡ cut_of [] rest → b ≡ rest
+no_fields order b rest e =
+    let s : Sound order header_layout b (cut_of [] rest) =
+    subst (λ (c : Cut). Sound order header_layout b c) e (cut_sound order header_layout [] b) in
+    s.whole ∙ ap (λ (z : List ℕ). z ++ rest) s.spelt
+
+-- so many bytes can be counted
+pub countable : (r : HeadReader) (b : List ℕ) → Live r b → length b < 2 ^ 41
+countable r b l = on r.end refl l.below r.near where
+  on : (end : Option ℕ) → r.end ≡ end → Below (length b) end → end_near end ≡ true → length b < 2 ^ 41
+  on (Some e) is below near = let le : e ≤ 2 ^ 41 = leb-true e (2 ^ 41) near in omega (arith, below, le)
+  on None is below near =
+      let i = initial_of r r.phase l.items l.rest l.at is in
+      let whole = no_fields r.order b l.rest (l.cut_is ∙ ap (λ (k : List Item). cut_of k l.rest) i.0) in
+      omega (arith, ap length whole, i.1)
+
+-- ---- what a cut decides
+
+-- bytes that end inside a field, before the end, decide nothing
+pub quiet_at : (r : HeadReader) (b : List ℕ) (items : List Item) (rest : List ℕ) → cut r.order b ≡ cut_of items rest
+    → EndIs r items
+    → field_spelt r.order (following_all header_layout items) rest ≡ None → Below (length b) r.end
+    → header_decided r.order b ≡ None
+quiet_at r b items rest e end none below =
+    quiet r.order b items rest e none
+    (overrun_at (length b) items ∙ not_at_end (overrun_from items) (length b) (end_from items)
+    (subst (λ (o : Option ℕ). Below (length b) o) end.end below))
+
+-- a header that goes on decides nothing
+pub live_quiet : (r : HeadReader) (b : List ℕ) → Live r b → header_decided r.order b ≡ None
+live_quiet r b l = quiet_at r b l.items l.rest l.cut_is (end_is r r.phase l.items l.rest l.at) l.unjudged l.below
+
+-- bytes that end inside a field are refused
+pub overruns : (r : HeadReader) (b : List ℕ) (items : List Item) (rest : List ℕ) → cut r.order b ≡ cut_of items rest
+    → EndIs r items → IsNext (following_all header_layout items)
+    → field_spelt r.order (following_all header_layout items) rest ≡ None → r.end ≡ Some (length b)
+    → header_decided r.order b ≡ Some r.overrun
+overruns r b items rest e end next none is =
+    ap (λ (c : Cut). cut_decided r.order (length b) c) e
+    ∙ ap (λ (o : Judgement Item). or_else (bad_kind o)
+    (header_overrun (length b) items (following_all header_layout items))) none
+    ∙ next_overrun (length b) items (following_all header_layout items) next
+    ∙ overrun_at (length b) items
+    ∙ just_at_end (overrun_from items) (length b) (end_from items) (sym end.end ∙ is)
+    ∙ ap (λ (k : FaultKind). Some k) (sym end.overrun)
+
+-- ---- what a header that goes on answers
+
+-- the values of a header's fields are those that are cut off
+header_items : (order : Order) (h : HeaderData) (b : List ℕ) (items : List Item) (rest : List ℕ)
+    (w : IsHeader order h b) → cut order b ≡ cut_of items rest → items ≡ w.items
+header_items order h b items rest w e =
+    ap (λ (c : Cut). c.items) (sym e ∙ ap (λ (z : List ℕ). cut order z) (sym (append-nil b))
+    ∙ header_cut order h b [] w)
+
+not_header : (r : HeadReader) (b : List ℕ) (items : List Item) (rest : List ℕ) (h : HeaderData)
+    → cut r.order b ≡ cut_of items rest → EndIs r items
+    → Below (length b) r.end → IsHeader r.order h b → ⊥
+not_header r b items rest h e end below w =
+    let whole : header_end items ≡ Some (length b) = ap header_end (header_items r.order h b items rest w e) ∙ w.end in
+    let at : r.end ≡ Some (length b) = end.end ∙ ap (λ (o : Option ℕ). first_end o (unit_end items)) whole in
+    let lt : length b < length b = subst (λ (o : Option ℕ). Below (length b) o) at below in omega arith
+
+foreign_of : (order : Order) (b : List ℕ) (items : List Item) (rest : List ℕ) → cut order b ≡ cut_of items rest
+    → foreign_in order b ≡ foreign_made (following_all header_layout items)
+foreign_of order b items rest e = ap (λ (c : Cut). foreign_made (following_all header_layout c.items)) e
+
+pub not_foreign : (r : HeadReader) (p : Phase) (items : List Item) → ending p ≡ None → Place r p items
+    → foreign_made (following_all header_layout items) ≡ None
+not_foreign r p items goes (in_field none out next) = next_not_foreign (following_all header_layout items) next
+not_foreign r p items goes (in_padding is behind) = ap foreign_made behind.follows
+not_foreign r p items goes (in_foreign v is follows) = absurd (none_some goes (ap ending is))
+
+-- bytes that end inside a field, before the end, come to nothing
+pub field_more : (r : HeadReader) (b : List ℕ) (items : List Item) (rest : List ℕ) → cut r.order b ≡ cut_of items rest
+    → EndIs r items → IsNext (following_all header_layout items)
+    → field_spelt r.order (following_all header_layout items) rest ≡ None → Below (length b) r.end
+    → Answers r.order b answer.More
+field_more r b items rest e end next none below = (
+  λ h w. not_header r b items rest h e end below w,
+  foreign_of r.order b items rest e ∙ next_not_foreign (following_all header_layout items) next,
+  λ at kind w. none_some (quiet_at r b items rest e end none below) w.decided,
+)
+
+pub live_more : (r : HeadReader) (b : List ℕ) → ending r.phase ≡ None → Live r b → Answers r.order b answer.More
+live_more r b goes l = (
+  λ h w. not_header r b l.items l.rest h l.cut_is (end_is r r.phase l.items l.rest l.at) l.below w,
+  foreign_of r.order b l.items l.rest l.cut_is ∙ not_foreign r r.phase l.items goes
+      (place_of r r.phase l.items l.rest refl l.at),
+  λ at kind w. none_some (live_quiet r b l) w.decided,
+)

@@ -1,6 +1,0 @@
-use Rattle.std.proofs.Common.{◌≡◌, take}
-use Rattle.dl_head.specs.Sound.{AreContents}
-use Rattle.dl_head.proofs.table.copied.Given as goal
-
-abbrev pub invariant-loop-pair : goal.invariant-loop-pair
-invariant-loop-pair l = record { same : l.copy.items ≡ take l.pair-index l.pairs; contents : AreContents l.copy.items }
