@@ -1,6 +1,4 @@
 pub mod OutLemmas
-pub mod CommandLineLemmas
-pub mod AddressLemmas
 pub mod EventLemmas
 pub mod Fronts
 pub mod SectionLemmas

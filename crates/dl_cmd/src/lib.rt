@@ -2,7 +2,6 @@
 //! its units for further ones.
 #![tactic(auto)]
 
-mod address;
 mod checking;
 mod copying;
 mod dumping;
@@ -13,9 +12,7 @@ pub mod laws;
 mod options;
 mod section;
 mod strings;
-mod words;
 
-pub use address::{digit_of, read_address, read_hex_address};
 pub use checking::check;
 pub use copying::copy;
 pub use dl_print::Summary;
@@ -26,4 +23,3 @@ pub use input::{Input, ReadFailed};
 pub use options::{Options, SECTION_LIMIT};
 pub use section::{Next, Visitor, read_units};
 pub use strings::read_strings;
-pub use words::{AddrWords, Job, read_job, word_status};

@@ -1,7 +1,7 @@
 -- The command over the line table of a file.
 use Rattle.std.proofs.Common.{◌≡◌, ◌∙◌, ◌&&◌, ℕ, Bool, false, List, Option, Some, Result, ap, ap₂, sym, subst}
 use Rattle.std.specs.Io.KnownBytes.{Consumes}
-use Rattle.clap.specs.Words.{Text}
+use Rattle.dl_words.specs.Job.{Text}
 use Rattle.dl_num.specs.declared.fixed.Order.{Order}
 use Rattle.dl_elf.specs.LineTable.{LineTable}
 use Rattle.dl_cmd.specs.declared.options.TheConstants.{SECTION_LIMIT}

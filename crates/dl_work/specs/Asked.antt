@@ -1,6 +1,5 @@
 -- What a request asks: which command, of which file, or of which section on the input.
 use Rattle.std.specs.Prelude.{ℕ, Bool, true, false, List, Option, Some, None, option_map, option_and_then, Result, Ok, Err, ◌≡◌}
-use Rattle.clap.specs.Words.{Text}
 use Rattle.dl_num.specs.declared.fixed.Order.{Order}
 use Rattle.dl_num.specs.declared.fixed.Order.TheVariants.{Little, Big}
 use Rattle.dl_look.specs.declared.place.Place.{Place}
@@ -8,9 +7,9 @@ use Rattle.dl_elf.specs.declared.line_file.Wanted.{Wanted}
 use Rattle.dl_elf.specs.declared.line_file.Wanted.TheVariants.{LineSection, LineAndStringSections}
 use Rattle.dl_cmd.specs.declared.fault.RunFault.{RunFault}
 use Rattle.dl_print.specs.declared.summary.Summary.{Summary}
-use Rattle.dl_cmd.specs.Address.{address_in}
+use Rattle.dl_words.specs.Address.{address_in}
 use Rattle.dl_cmd.specs.Commands.{Checks, Copies, Dumps, Finds}
-use Rattle.dl_cmd.specs.Job.{Request, addr, dump, check, find, copy}
+use Rattle.dl_words.specs.Job.{Request, Text, addr, check, copy, dump, find}
 use Rattle.dl_print.specs.ValueText.{Strings}
 use Rattle.dl_work.specs.declared.command.Command.{Command}
 use Rattle.dl_work.specs.declared.command.Command.TheVariants.{Addr, Dump, Check, Find, Copy}

@@ -7,7 +7,6 @@ use Rattle.std.specs.Option.{option_copied, option_map_or}
 use Rattle.std.specs.Str.{bytes_eq}
 use Rattle.std.specs.Io.KnownBytes.{IsAtEnd, Keeps}
 use Rattle.std.specs.declared.io.Error.{Error}
-use Rattle.clap.specs.Words.{Text}
 use Rattle.dl_elf.specs.Source.{ForBytes}
 use Rattle.dl_elf.specs.Code.{IsCode}
 use Rattle.dl_elf.specs.declared.code.Code.{Code}
@@ -16,14 +15,14 @@ use Rattle.dl_elf.specs.declared.code.ExecutableRange.{ExecutableRange}
 use Rattle.dl_elf.specs.declared.fault.ElfFault.TheVariants.{Read}
 use Rattle.dl_look.specs.declared.code_ranges.AddressRange.{AddressRange}
 use Rattle.dl_look.specs.Ranges.{is_in}
-use Rattle.dl_cmd.specs.Job.{AddrTexts, addr}
+use Rattle.dl_words.specs.Job.{AddrTexts, Text, addr}
 use Rattle.dl_cmd.specs.declared.fault.RunFault.{RunFault}
 use Rattle.dl_cmd.specs.declared.fault.RunFault.TheVariants as fault
 use Rattle.dl_print.specs.declared.summary.Summary.{Summary}
-use Rattle.dl_addr.specs.AskedLines.{IsAsked, StopsAsking, address_by}
+use Rattle.dl_words.specs.AskedLines.{IsAsked, StopsAsking, address_by}
 use Rattle.dl_addr.specs.Code.{is_code}
 use Rattle.dl_addr.specs.declared.asked.Asked.{Asked}
-use Rattle.dl_addr.specs.declared.asked_lines.AskedLines.{AskedLines}
+use Rattle.dl_words.specs.declared.asked_lines.AskedLines.{AskedLines}
 use Rattle.dl_addr.specs.declared.question.Found.{Found}
 use Rattle.dl_addr.specs.declared.question.Question.{Question}
 use Rattle.dl_addr.specs.declared.style.Form.{Form}
