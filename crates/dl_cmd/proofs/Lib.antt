@@ -3,6 +3,7 @@ pub mod EventLemmas
 pub mod Fronts
 pub mod SectionLemmas
 pub mod SectionCuts
+pub mod VisitsGrowth
 pub mod SectionGrowth
 pub mod OneAnswers
 pub mod OneCopying
@@ -14,9 +15,14 @@ pub mod CountLemmas
 pub mod FeedLemmas
 pub mod WorkLemmas
 pub mod ReadLemmas
-pub mod FindingLemmas
+pub mod FindingVisits
+pub mod FindingAnswers
+pub mod SeekerLemmas
 pub mod DumpingLemmas
 pub mod CheckingLemmas
 pub mod RangeLemmas
-pub mod CopyingLemmas
+pub mod CopyingVisits
+pub mod CopyingSections
+pub mod CopyingAnswers
+pub mod CopierLemmas
 pub mod CopiedUnits

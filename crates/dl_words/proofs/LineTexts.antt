@@ -1,5 +1,6 @@
 -- A line that is read byte by byte asks for what its text without blanks says.
-use Rattle.std.proofs.Common.{◌≡◌, ℕ, ◌+◌, ◌-◌, ◌*◌, ◌^◌, ◌<◌, ◌≤◌, Bool, true, false, ◌||◌, ◌==◌, if◌then◌else◌, List, [], ◌∷◌, ◌++◌, Option, Some, None, arith, refl, sym, ap, ◌∙◌}
+use Rattle.std.proofs.Common.{◌≡◌, ℕ, ◌+◌, ◌-◌, ◌*◌, ◌^◌, ◌<◌, ◌≤◌, Bool, true, false, ◌||◌, ◌==◌, if◌then◌else◌, List}
+use Rattle.std.proofs.Common.{[], ◌∷◌, ◌++◌, Option, Some, None, arith, refl, sym, ap, ◌∙◌}
 use Rattle.std.specs.Prelude.{◌&&◌, option_and_then, nat_le, nat_lt}
 use Rattle.std.specs.List.{list_all}
 use Rattle.std.proofs.lemmas.Bool.{eqb-true, lt-leb, lt-ltb, ltb-true}
@@ -65,7 +66,8 @@ not_digit own c low = by (own == 16) where
   d : nat_le 65 c ≡ false
   d = lt-leb 65 c (omega arith)
 
-  by : (is : Bool) → (if nat_le 48 c && nat_lt c 58 then Some (c - 48) else if is && nat_le 97 c && nat_lt c 103 then Some (c - 87) else if is && nat_le 65 c && nat_lt c 71 then Some (c - 55) else None) ≡ None
+  by : (is : Bool) → (if nat_le 48 c && nat_lt c 58 then Some (c - 48) else if is && nat_le 97 c && nat_lt c 103
+      then Some (c - 87) else if is && nat_le 65 c && nat_lt c 71 then Some (c - 55) else None) ≡ None
   by true = rw (a, b, d)
   by false = rw a
 
@@ -78,7 +80,9 @@ blank_low c is = by (c == 32) refl is where
 -- ---- digits
 
 none_after : (own n c : ℕ) (text : List ℕ) → digit_of own c ≡ None → rest_of own n (c ∷ text) ≡ None
-none_after own n c text none = ap (λ (o : Option ℕ). option_and_then below_2_64 (option_and_then (λ d. number_after own (n * own + d) text) o)) none
+none_after own n c text none =
+    ap (λ (o : Option ℕ). option_and_then below_2_64 (option_and_then (λ d. number_after own (n * own + d) text) o))
+    none
 
 below_is : (n : ℕ) → (b : Bool) → nat_lt n (2 ^ 64) ≡ b → (if b then Some n else None) ≡ below_2_64 n
 below_is n b e = ap (λ (b : Bool). if b then Some n else None) (sym e)
@@ -86,11 +90,17 @@ below_is n b e = ap (λ (b : Bool). if b then Some n else None) (sym e)
 -- a digit more is read, or there is none
 module _ (base own n c : ℕ) (some : 1 ≤ own) (rest : List ℕ) where
   abbrev Goal : Option ℕ → Option ℕ → Type 0
-  Goal more digit = meaning base (digits_or_other own more) rest ≡ said (option_and_then below_2_64 (option_and_then (λ d. number_after own (n * own + d) (trim_end rest)) digit))
+  Goal more digit =
+      meaning base (digits_or_other own more) rest
+      ≡ said (option_and_then below_2_64 (option_and_then (λ d. number_after own (n * own + d) (trim_end rest)) digit))
 
-  with_digit : (d : ℕ) (b : Bool) → nat_lt (n * own + d) (2 ^ 64) ≡ b → Goal (if b then Some (n * own + d) else None) (Some d)
+  with_digit : (d : ℕ) (b : Bool) → nat_lt (n * own + d) (2 ^ 64) ≡ b
+      → Goal (if b then Some (n * own + d) else None) (Some d)
   with_digit d true e = refl
-  with_digit d false e = ap said (sym (rest_of-big own (n * own + d) (trim_end rest) some (Rattle.std.proofs.lemmas.Bool.ltb-false (n * own + d) (2 ^ 64) e)))
+  with_digit d false e =
+      ap said (sym
+      (rest_of-big own (n * own + d) (trim_end rest) some
+      (Rattle.std.proofs.lemmas.Bool.ltb-false (n * own + d) (2 ^ 64) e)))
 
   by_digit : (o : Option ℕ) → Goal (option_and_then (λ d. below_2_64 (n * own + d)) o) o
   by_digit None = refl
@@ -99,7 +109,8 @@ module _ (base own n c : ℕ) (some : 1 ≤ own) (rest : List ℕ) where
   pub digit_read : meaning base (after_digit own n c) rest ≡ said (rest_of own n (c ∷ trim_end rest))
   digit_read = by_digit (digit_of own c)
 
-fits_below : (own n : ℕ) (b : Bool) → 1 ≤ own → nat_lt n (2 ^ 64) ≡ b → Fits (digits_or_other own (if b then Some n else None))
+fits_below : (own n : ℕ) (b : Bool) → 1 ≤ own → nat_lt n (2 ^ 64) ≡ b
+    → Fits (digits_or_other own (if b then Some n else None))
 fits_below own n true some e = (some, ltb-true n (2 ^ 64) e)
 fits_below own n false some e = tt
 
@@ -126,7 +137,8 @@ means base (Digits own n) blank c rest = said (rest_of own n (end_of blank c res
 means base (Ended a) blank c rest = said (if blank && list_all is_blank rest then Some a else None)
 means base Other blank c rest = said None
 
-start_trimmed : (c : ℕ) (rest : List ℕ) (b : Bool) → is_blank c ≡ b → trim_end (start_of b c rest) ≡ (if b then trim_end (trim_start rest) else c ∷ trim_end rest)
+start_trimmed : (c : ℕ) (rest : List ℕ) (b : Bool) → is_blank c ≡ b
+    → trim_end (start_of b c rest) ≡ (if b then trim_end (trim_start rest) else c ∷ trim_end rest)
 start_trimmed c rest true e = refl
 start_trimmed c rest false e = ap (λ (b : Bool). end_of b c rest) e
 
@@ -140,10 +152,12 @@ means_is base Other c rest = refl
 
 module _ (base c : ℕ) (rest : List ℕ) (some : 1 ≤ base) where
   -- after the text of an address only blanks may follow
-  zero_ends : c < 48 → (all : Bool) → (if all then Some 0 else None) ≡ word base (48 ∷ (if all then [] else c ∷ trim_end rest))
+  zero_ends : c < 48 → (all : Bool)
+      → (if all then Some 0 else None) ≡ word base (48 ∷ (if all then [] else c ∷ trim_end rest))
   zero_ends low true = ap (λ n. below_2_64 n) (let e : 0 ≡ 0 * base + 0 = omega arith in e)
   zero_ends low false = zero_then (c == 120) refl where
-    zero_then : (x : Bool) → (c == 120) ≡ x → None ≡ (if x then number_in 16 (trim_end rest) else number_in base (48 ∷ c ∷ trim_end rest))
+    zero_then : (x : Bool) → (c == 120) ≡ x
+        → None ≡ (if x then number_in 16 (trim_end rest) else number_in base (48 ∷ c ∷ trim_end rest))
     zero_then true e = absurd (let n = eqb-true c 120 e in omega (arith, n))
     zero_then false e = sym (none_after base (0 * base + 0) c (trim_end rest) (not_digit base c low))
 
@@ -151,7 +165,8 @@ module _ (base c : ℕ) (rest : List ℕ) (some : 1 ≤ base) where
   prefix_ends low true = refl
   prefix_ends low false = sym (none_after 16 0 c (trim_end rest) (not_digit 16 c low))
 
-  digits_end : (own n : ℕ) → n < 2 ^ 64 → c < 48 → (all : Bool) → (if all then Some n else None) ≡ rest_of own n (if all then [] else c ∷ trim_end rest)
+  digits_end : (own n : ℕ) → n < 2 ^ 64 → c < 48 → (all : Bool)
+      → (if all then Some n else None) ≡ rest_of own n (if all then [] else c ∷ trim_end rest)
   digits_end own n fits low true = sym (ap (λ (b : Bool). if b then Some n else None) (lt-ltb n (2 ^ 64) fits))
   digits_end own n fits low false = sym (none_after own n c (trim_end rest) (not_digit own c low))
 
@@ -166,16 +181,20 @@ module _ (base c : ℕ) (rest : List ℕ) (some : 1 ≤ base) where
   -- a text whose first byte isn't `0`
   word_from : (text : List ℕ) → (c == 48) ≡ false → word base (c ∷ text) ≡ number_in base (c ∷ text)
   word_from [] e = refl
-  word_from (x ∷ text) e = ap (λ (b : Bool). if b && (x == 120) then number_in 16 text else number_in base (c ∷ x ∷ text)) e
+  word_from (x ∷ text) e =
+      ap (λ (b : Bool). if b && (x == 120) then number_in 16 text else number_in base (c ∷ x ∷ text)) e
 
-  first_means : (b : Bool) → (c == 48) ≡ b → meaning base (if b then Zero else after_digit base 0 c) rest ≡ said (word base (c ∷ trim_end rest))
+  first_means : (b : Bool) → (c == 48) ≡ b
+      → meaning base (if b then Zero else after_digit base 0 c) rest ≡ said (word base (c ∷ trim_end rest))
   first_means true e = ap (λ d. said (word base (d ∷ trim_end rest))) (sym (eqb-true c 48 e))
   first_means false e = digit_read base base 0 c some rest ∙ ap said (sym (word_from (trim_end rest) e))
 
   zero_first : rest_of base 0 (c ∷ trim_end rest) ≡ number_in base (48 ∷ c ∷ trim_end rest)
   zero_first = ap (λ n. rest_of base n (c ∷ trim_end rest)) (let e : 0 ≡ 0 * base + 0 = omega arith in e)
 
-  second_means : (b : Bool) → (c == 120) ≡ b → meaning base (if b then Prefix else after_digit base 0 c) rest ≡ said (if b then number_in 16 (trim_end rest) else number_in base (48 ∷ c ∷ trim_end rest))
+  second_means : (b : Bool) → (c == 120) ≡ b
+      → meaning base (if b then Prefix else after_digit base 0 c) rest ≡ said (if b then number_in 16 (trim_end rest)
+      else number_in base (48 ∷ c ∷ trim_end rest))
   second_means true e = refl
   second_means false e = digit_read base base 0 c some rest ∙ ap said zero_first
 
@@ -187,7 +206,8 @@ module _ (base c : ℕ) (rest : List ℕ) (some : 1 ≤ base) where
   mark_means (Ended a) fits = refl
   mark_means Other fits = refl
 
-  step_means : (t : Text) → Fits t → (b : Bool) → is_blank c ≡ b → meaning base (if b then after_blank t else after_mark base t c) rest ≡ means base t b c rest
+  step_means : (t : Text) → Fits t → (b : Bool) → is_blank c ≡ b
+      → meaning base (if b then after_blank t else after_mark base t c) rest ≡ means base t b c rest
   step_means t fits true e = blank_means t fits (blank_low c e)
   step_means t fits false e = mark_means t fits
 
@@ -230,13 +250,15 @@ nothing_more : (base : ℕ) (t : Text) → Fits t → asked_of t ≡ meaning bas
 nothing_more base Blank fits = refl
 nothing_more base Zero fits = ap (λ n. said (below_2_64 n)) (let e : 0 ≡ 0 * base + 0 = omega arith in e)
 nothing_more base Prefix fits = refl
-nothing_more base (Digits own n) fits = ap said (sym (ap (λ (b : Bool). if b then Some n else None) (lt-ltb n (2 ^ 64) fits.1)))
+nothing_more base (Digits own n) fits =
+    ap said (sym (ap (λ (b : Bool). if b then Some n else None) (lt-ltb n (2 ^ 64) fits.1)))
 nothing_more base (Ended a) fits = refl
 nothing_more base Other fits = refl
 
 run_means : (base : ℕ) → 1 ≤ base → (t : Text) (b : List ℕ) → Fits t → asked_of (run base t b) ≡ meaning base t b
 run_means base some t [] fits = nothing_more base t fits
-run_means base some t (c ∷ b) fits = run_means base some (step base t c) b (step_fits base c b some t fits) ∙ stepped base c b some t fits
+run_means base some t (c ∷ b) fits =
+    run_means base some (step base t c) b (step_fits base c b some t fits) ∙ stepped base c b some t fits
 
 some_base : (hex : Bool) → 1 ≤ base_of hex
 some_base true = omega arith

@@ -1,5 +1,6 @@
 -- Addresses as texts.
-use Rattle.std.specs.Prelude.{ℕ, ◌+◌, ◌-◌, ◌*◌, ◌^◌, ◌&&◌, List, [], ◌∷◌, Option, Some, None, option_and_then, nat_lt, nat_le, ◌==◌, if◌then◌else◌}
+use Rattle.std.specs.Prelude.{ℕ, ◌+◌, ◌-◌, ◌*◌, ◌^◌, ◌&&◌, List, [], ◌∷◌, Option, Some, None, option_and_then, nat_lt}
+use Rattle.std.specs.Prelude.{nat_le, ◌==◌, if◌then◌else◌}
 
 -- the value of a digit: 48 is `0`, 97 is `a` and 65 is `A`
 abbrev pub digit_of : ℕ → ℕ → Option ℕ
@@ -11,7 +12,8 @@ digit_of base c =
 -- the number that the digits are when they follow those of `before`
 abbrev pub number_after : ℕ → ℕ → List ℕ → Option ℕ
 number_after base before [] = Some before
-number_after base before (c ∷ text) = option_and_then (λ d. number_after base (before * base + d) text) (digit_of base c)
+number_after base before (c ∷ text) =
+    option_and_then (λ d. number_after base (before * base + d) text) (digit_of base c)
 
 abbrev pub below_2_64 : ℕ → Option ℕ
 below_2_64 n = if nat_lt n (2 ^ 64) then Some n else None

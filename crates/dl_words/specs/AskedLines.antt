@@ -1,5 +1,6 @@
 -- The addresses asked for on an input, one a line.
-use Rattle.std.specs.Prelude.{⊤, ◌≡◌, ◌<◌, ◌≢◌, ◌^◌, ℕ, suc, Bool, ◌||◌, ◌==◌, if◌then◌else◌, List, [], ◌∷◌, ◌++◌, length, Option, Some, None, is_none}
+use Rattle.std.specs.Prelude.{⊤, ◌≡◌, ◌<◌, ◌≢◌, ◌^◌, ℕ, suc, Bool, ◌||◌, ◌==◌, if◌then◌else◌, List, [], ◌∷◌, ◌++◌}
+use Rattle.std.specs.Prelude.{length, Option, Some, None, is_none}
 use Rattle.std.specs.List.{list_all}
 use Rattle.dl_words.specs.Address.{address_in, hex_address_in}
 use Rattle.dl_cmd.specs.declared.fault.RunFault.{RunFault}

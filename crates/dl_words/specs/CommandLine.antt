@@ -67,14 +67,20 @@ with_strings a = with_rule (with_rule (with_rule (with_rule a big_rule) line_str
 
 -- how answers are printed
 abbrev pub with_printing : App → App
-with_printing a = with_rule (with_rule (with_rule a (letter_rule (codes "addresses") 97)) (letter_rule (codes "basenames") 115)) (switch_rule (codes "json"))
+with_printing a =
+    with_rule (with_rule (with_rule a (letter_rule (codes "addresses") 97)) (letter_rule (codes "basenames") 115))
+    (switch_rule (codes "json"))
 
 -- what addresses are asked for, and how they are answered
 abbrev pub with_settings : App → App
-with_settings a = with_rule (with_rule (with_rule (with_printing a) (switch_rule (codes "hex"))) base_rule) (switch_rule (codes "all"))
+with_settings a =
+    with_rule (with_rule (with_rule (with_printing a) (switch_rule (codes "hex"))) base_rule)
+    (switch_rule (codes "all"))
 
 abbrev pub with_addresses : App → App
-with_addresses a = with_rule (with_rule (with_rule (with_rule (with_rule (with_settings a) big_rule) line_str_rule) str_rule) addr_file_rule) addresses_rule
+with_addresses a =
+    with_rule (with_rule (with_rule (with_rule (with_rule (with_settings a) big_rule) line_str_rule) str_rule)
+    addr_file_rule) addresses_rule
 
 -- `addr [-a] [-s] [--json] [--hex] [--base ADDRESS] [--all] [--big] [--line-str PATH] [--str PATH] FILE [ADDRESS]..`
 abbrev pub addr_app : App
@@ -98,12 +104,16 @@ copy_app = with_input (new_app (codes "copy"))
 
 -- `dwline`, which has a version and wants a subcommand
 abbrev pub top_app : App
-top_app = let a = new_app (codes "dwline") in record a { top = record a.top { has_version = true; subcommand_required = true } }
+top_app =
+    let a = new_app (codes "dwline") in
+    record a { top = record a.top { has_version = true; subcommand_required = true } }
 
 -- the whole program
 abbrev pub command_line : App
 command_line =
-    with_subcommand (with_subcommand (with_subcommand (with_subcommand (with_subcommand top_app addr_app.top) dump_app.top) check_app.top) find_app.top) copy_app.top
+    with_subcommand
+    (with_subcommand (with_subcommand (with_subcommand (with_subcommand top_app addr_app.top) dump_app.top)
+    check_app.top) find_app.top) copy_app.top
 
 -- a command without global arguments, of which a parse reads this
 abbrev pub IsApp : App → Command → Type 0

@@ -50,6 +50,7 @@ request_made (Dump file big line_str strings) =
     dump (option_map (λ s. s.now) file) big (option_map (λ s. s.now) line_str) (option_map (λ s. s.now) strings)
 request_made (Check file big) = check (option_map (λ s. s.now) file) big
 request_made (Find file big address op line_str strings) =
-    find (option_map (λ s. s.now) file) big (option_map (λ s. s.now) address) op (option_map (λ s. s.now) line_str) (option_map (λ s. s.now) strings)
+    find (option_map (λ s. s.now) file) big (option_map (λ s. s.now) address) op (option_map (λ s. s.now) line_str)
+    (option_map (λ s. s.now) strings)
 request_made (Copy file big) = copy (option_map (λ s. s.now) file) big
 request_made (Addr w) = addr (addr_words_made w)

@@ -1,5 +1,6 @@
 -- What a request asks: which command, of which file, or of which section on the input.
-use Rattle.std.specs.Prelude.{ℕ, Bool, true, false, List, Option, Some, None, option_map, option_and_then, Result, Ok, Err, ◌≡◌}
+use Rattle.std.specs.Prelude.{ℕ, Bool, true, false, List, Option, Some, None, option_map, option_and_then, Result, Ok}
+use Rattle.std.specs.Prelude.{Err, ◌≡◌}
 use Rattle.dl_num.specs.declared.fixed.Order.{Order}
 use Rattle.dl_num.specs.declared.fixed.Order.TheVariants.{Little, Big}
 use Rattle.dl_look.specs.declared.place.Place.{Place}
@@ -75,10 +76,12 @@ answered (Ok found.NotAll) = Err NotFound
 answered (Err f) = Err f
 
 -- what the command answers and writes. bytes: what was read of a section, which has `left` left
-abbrev pub Does : Command → Order → Strings → (limit : ℕ) (bytes : List ℕ) (left start now : Option (List ℕ)) → Result Summary RunFault → Type 0
+abbrev pub Does : Command → Order → Strings → (limit : ℕ) (bytes : List ℕ) (left start now : Option (List ℕ))
+    → Result Summary RunFault → Type 0
 Does Dump order s limit bytes left start now answer = Dumps order s limit bytes left start now answer
 Does Check order s limit bytes left start now answer = Checks order limit bytes left start now answer
 Does (Find place) order s limit bytes left start now answer = Finds order s place limit bytes left start now answer
 Does Copy order s limit bytes left start now answer = Copies order limit bytes left start now answer
 Does (Addr question) order s limit bytes left start now answer =
-    (found : Result Found RunFault) × (answer ≡ answered found) × Locates order s question limit bytes left start now found
+    (found : Result Found RunFault) × (answer ≡ answered found)
+    × Locates order s question limit bytes left start now found

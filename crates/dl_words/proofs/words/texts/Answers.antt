@@ -13,4 +13,5 @@ returns-in-Some c =
 pub returns-in-None : goal.returns-in-None
 returns-in-None c =
     let said = c.in-None.ensures ∙ raw_values-rows (found_of c.args.matches.now) c.args.id.now in
-    ap (λ (l : List (Bor (List ℕ))). map (λ s. s.now) l) c.new.ensures.items ∙ ap (λ (o : Option (List Text)). unwrap_or o []) said
+    ap (λ (l : List (Bor (List ℕ))). map (λ s. s.now) l) c.new.ensures.items
+    ∙ ap (λ (o : Option (List Text)). unwrap_or o []) said

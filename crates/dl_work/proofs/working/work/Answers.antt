@@ -9,6 +9,8 @@ returns g c =
     let done = c.on_input.ensures in (
       done.0,
       done.1,
-      works_on_input (g.F.FileSource.held c.args.files.now) (g.F.FileSource.fails_with c.args.files.now) _ (request_made c.in-Some.job) c.in-Some-of.command (section_seen c.section.result) done.0 _ _ _ _
-          (ap (option_map request_made) c.in-Some.is) (sym c.of.ensures ∙ c.in-Some-of.is) (sym c.in-None.ensures) c.section.ensures done.2,
+      works_on_input (g.F.FileSource.held c.args.files.now) (g.F.FileSource.fails_with c.args.files.now) _
+          (request_made c.in-Some.job) c.in-Some-of.command (section_seen c.section.result) done.0 _ _ _ _
+          (ap (option_map request_made) c.in-Some.is) (sym c.of.ensures
+          ∙ c.in-Some-of.is) (sym c.in-None.ensures) c.section.ensures done.2,
     )

@@ -1,7 +1,7 @@
 use Rattle.std.proofs.Common.{[], ◌∷◌, refl}
 use Rattle.dl_cmd.specs.Section.{of_open}
 use Rattle.dl_addr.proofs.LocatorLemmas.{goes_on}
-use Rattle.dl_addr.proofs.locating.LocatorVisitor.open.Goals as goal
+use Rattle.dl_addr.proofs.locating.LocatorVisitor.unterminated.Goals as goal
 
 pub returns : goal.returns
 returns g c first start visits s =
