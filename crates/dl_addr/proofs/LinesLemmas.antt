@@ -54,11 +54,9 @@ module _ (style : Style) (f : Asked → Option SeenRow) (asked : List Asked) whe
       → Loses mid new between (seen_line style (get_or asked n d) seen) lost
       → TellsOut old new (seen_lines style f asked) lost
   loses_line old mid new before between n d seen lost lt is nothing first second =
-      let some =
-      loses_then old mid new before between (seen_lines style f (take n asked))
+      let some = loses_then old mid new before between (seen_lines style f (take n asked))
       (seen_line style (get_or asked n d) seen) lost first second old [] nothing in
-      let so_far =
-      subst (λ (l : List ℕ). TellsOut old new l lost)
+      let so_far = subst (λ (l : List ℕ). TellsOut old new l lost)
       (ap (λ (o : Option SeenRow). seen_lines style f (take n asked) ++ seen_line style (get_or asked n d) o) is
       ∙ sym (lines_more n d lt)) some in
       subst (λ (l : List ℕ). TellsOut old new l lost) (sym (lines_rest (n + 1)))

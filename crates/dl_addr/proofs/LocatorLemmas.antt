@@ -220,8 +220,8 @@ module _ (first old mid : Locator) (start held : Option (List ℕ)) (visits : Li
     live = subst (Tells told lives) (sym (rows_after-append [] visits (of_end h ∷ []))) (tells lives);
     looks = λ places made. (
         let l = s.looks places made in
-        let right =
-        subst (λ (r : Result ⊤ NoMemory). OnOk r ((places : List Place) (units : List (List Row)) (rows : List Row)
+        let right = subst
+        (λ (r : Result ⊤ NoMemory). OnOk r ((places : List Place) (units : List (List Row)) (rows : List Row)
         → Stand old.finders places units rows
         → length old.kept.items ≡ length places → (i : ℕ) (r : Row) → FirstAnswer places units rows i r
         → IsKept mid.texts.items mid.kept.items i (text_under old h r))) is keeps.right in

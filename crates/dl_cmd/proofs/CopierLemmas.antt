@@ -137,17 +137,16 @@ module _ (first old : Copier) (start held : Option (List ℕ)) (visits : List Vi
       → new.order ≡ old.order → new.unit ≡ old.unit → new.rows.items ≡ []
       → Copying first new start after (visits ++ of_end header ∷ [])
   copies_unit std same new after prints order unit_is rows =
-      let printed =
-      subst (λ (d : HeaderData). PrintsUnit {A =
-      ⊤} held after old.printer new.printer old.order d old.rows.items old.unit (Ok tt)) same prints in
+      let printed = subst (λ (d : HeaderData). PrintsUnit {A = ⊤} held after old.printer new.printer old.order d
+      old.rows.items old.unit (Ok tt)) same prints in
       copies_on first old new start held after visits (of_end header ∷ []) s order unit_is rows
       (refusal_is None printed.0)
       (subst (λ (l : List ℕ). HasPrinted start after (text_after first.order [] visits ++ l) new.printer)
       (sym (text_is_unit printed.0)) (printed.1 start (text_after first.order [] visits) s.printed))
 
   stops_by : (new : Copier) (after : Option (List ℕ)) (f : RunFault)
-      → PrintsUnit {A =
-      ⊤} held after old.printer new.printer old.order (with_standard_opcodes h) old.rows.items old.unit (Err f)
+      → PrintsUnit {A = ⊤} held after old.printer new.printer old.order (with_standard_opcodes h) old.rows.items
+      old.unit (Err f)
       → new.order ≡ old.order → new.unit ≡ old.unit → new.rows.items ≡ old.rows.items
       → StopsIn copy_story first new start after visits (of_end header ∷ []) f
   stops_by new after (fault.Write out) printed order unit_is rows = (
@@ -194,8 +193,9 @@ module _ (first old : Copier) (start held : Option (List ℕ)) (visits : List Vi
       → new.order ≡ old.order → new.unit ≡ old.unit → new.rows.items ≡ old.rows.items
       → StopsIn copy_story first new start after visits (of_end header ∷ []) f
   stops_at_unit std same new after f prints order unit_is rows =
-      stops_by new after f (subst (λ (d : HeaderData). PrintsUnit {A =
-      ⊤} held after old.printer new.printer old.order d old.rows.items old.unit (Err f)) same prints) order unit_is
+      stops_by new after f
+      (subst (λ (d : HeaderData). PrintsUnit {A = ⊤} held after old.printer new.printer old.order d old.rows.items
+      old.unit (Err f)) same prints) order unit_is
       rows
 
 -- no visit was told yet

@@ -169,8 +169,7 @@ same_units : (order : Order) (units units2 : List (List ℕ)) (b back b2 back2 :
     → (units ≡ units2) × (b ++ back ≡ b2 ++ back2)
 same_units order [] [] b back b2 back2 all all2 within none e lt = (refl, e)
 same_units order [] (u ∷ units2) b back b2 back2 all all2 within none e lt =
-    let more =
-    begun_unit order b back u (concat units2 ++ (b2 ++ back2)) within all2.0 (e
+    let more = begun_unit order b back u (concat units2 ++ (b2 ++ back2)) within all2.0 (e
     ∙ append_assoc u (concat units2) (b2 ++ back2)) in
     absurd (omega (
       arith,

@@ -148,8 +148,7 @@ module _ {S : Type 0} (story : Story S) (order : Order) (t piece : List ℕ) (fi
       → StopsAtRow story so.b rest u v new w now after f
       → UnitsFed story order (t ++ piece) first w start after x (Err f)
   stops_at_row w after x f s =
-      let fed =
-      subst (λ (o : Order). FeedsBehind StandsFor o (events o so.b ++ map event.Row s.rows) so.b rest s.fed
+      let fed = subst (λ (o : Order). FeedsBehind StandsFor o (events o so.b ++ map event.Row s.rows) so.b rest s.fed
       v.reader) so.are.reader_order s.fed_rows in
       let used = s.fed.used in
       let stops = s.hears first start visits_before so.tells in
@@ -185,8 +184,8 @@ module _ {S : Type 0} (story : Story S) (order : Order) (t piece : List ℕ) (fi
           at_place : UnitsFed story order (t ++ piece) first w start after x
               (Err (fault.Damage (add v.offset f.offset) f.kind))
           at_place =
-              let fed =
-              subst (λ (o : Order). FedBehind o (events o so.b ++ map event.Row r.rows) so.b rest (Err f) v.reader)
+              let fed = subst (λ (o : Order). FedBehind o (events o so.b ++ map event.Row r.rows) so.b rest
+              (Err f) v.reader)
               so.are.reader_order r.fed_rows in
               let used = fed.0 in
               let fails = fed.1 in
@@ -313,8 +312,7 @@ module _ {S : Type 0} (story : Story S) (order : Order) (t piece : List ℕ) (fi
       pub idle : fed.event ≡ event.More → fed.used ≡ 0
           → UnitsFed story order (t ++ piece) first w start after v (Ok flow.On)
       idle is zero =
-          let holds =
-          subst (λ (e : Event). EventHoldsBehind order (events order so.b ++ map event.Row r.rows) so.b rest
+          let holds = subst (λ (e : Event). EventHoldsBehind order (events order so.b ++ map event.Row r.rows) so.b rest
           fed.used e) is feeds.answered.holds in
           let same : v_after ≡ v = ap (λ (e : Event). counted e v) is in
           let over : read_so_far ++ take fed.used rest ≡ t ++ piece =
@@ -333,8 +331,7 @@ module _ {S : Type 0} (story : Story S) (order : Order) (t piece : List ℕ) (fi
       pub unmet : fed.event ≡ event.NoMemory → (x : Units)
           → UnitsFed story order (t ++ piece) first w start after x (Err fault.NoMemory)
       unmet is x =
-          let holds =
-          subst (λ (e : Event). EventHoldsBehind order (events order so.b ++ map event.Row r.rows) so.b rest
+          let holds = subst (λ (e : Event). EventHoldsBehind order (events order so.b ++ map event.Row r.rows) so.b rest
           fed.used e) is feeds.answered.holds in
           let wants : AddsCell order (with_bytes fed.used) (drop fed.used rest) =
           (holds.0, drop (fed.used + 1) rest, dropped rest fed.used holds.0 holds.1, holds.3) in (
@@ -366,8 +363,7 @@ module _ {S : Type 0} (story : Story S) (order : Order) (t piece : List ℕ) (fi
 
       all_units : fed.event ≡ event.End → HasUnits order (t ++ piece) units_after (drop fed.used rest)
       all_units is =
-          let has =
-          has_push order (read_so_far ++ take fed.used rest) so.units (with_bytes fed.used) are_after.has
+          let has = has_push order (read_so_far ++ take fed.used rest) so.units (with_bytes fed.used) are_after.has
           (is_unit is) in
           record {
             whole =
@@ -432,11 +428,9 @@ module _ {S : Type 0} (story : Story S) (order : Order) (t piece : List ℕ) (fi
       pub goes_on_quietly : fed.event ≡ event.More
           → FedUpTo story order t piece first start v w after (take (length rest - fed.used) (drop fed.used rest))
       goes_on_quietly is =
-          let tells =
-          subst (λ (l : List Visit). story.tells first w start after l) (sym (append-nil visits_so_far))
+          let tells = subst (λ (l : List Visit). story.tells first w start after l) (sym (append-nil visits_so_far))
           rows_told in
-          let at =
-          subst (λ (e : Event). story.tells first w start after (visits_so_far
+          let at = subst (λ (e : Event). story.tells first w start after (visits_so_far
           ++ event_visits v.offset (header_of v.reader.order (with_bytes fed.used)) e)) (sym is) tells in
           goes_on w after at v (sym (ap (λ (e : Event). counted e v) is))
 

@@ -221,8 +221,7 @@ module _ (order : Order) (x : Place) where
           header = later.header;
         }
     by (Some f) is split =
-        let own =
-        answers_by (unit_rows order u) (header_of order u) h r (is
+        let own = answers_by (unit_rows order u) (header_of order u) h r (is
         ∙ ap (λ (o : Option (HeaderData × Row)). option_or o (first_answer units)) (sym is) ∙ e) in
         record {
           before = [];
@@ -252,8 +251,8 @@ module _ (order : Order) (x : Place) where
         let front : section_visits order init u ++ open_is ≡ before =
         same_front (section_visits order init u ++ open_is) before end_is last
         (append_assoc (section_visits order init u) open_is (end_is ∷ []) ∙ visits_are) in
-        let none_front =
-        sym (found_after-append x [] (section_visits order init u) open_is) ∙ ap (found_after x []) front ∙ none in
+        let none_front = sym (found_after-append x [] (section_visits order init u) open_is)
+        ∙ ap (found_after x []) front ∙ none in
         let none_init : first_answer init ≡ None =
         sym (found_of_section init u)
         ∙ (neither (found_after x [] (section_visits order init u))

@@ -84,8 +84,8 @@ pub one_dump : OneDump
 one_dump order strings limit bytes left left2 start start2 now now2 result result2 of of2 dumps dumps2 =
     let d = dumped order strings limit bytes left start now result of dumps in
     let d2 = dumped order strings limit bytes left2 start2 now2 result2 of2 dumps2 in
-    let same =
-    one_end order limit bytes left left2 d.units d2.units d.b d2.b d.back d2.back result result2 of of2 d.ends
+    let same = one_end order limit bytes left left2 d.units d2.units d.b d2.b d.back d2.back result result2 of of2
+    d.ends
     d2.ends in
     let text : section_text order strings d2.units d2.b ≡ section_text order strings d.units d.b =
     ap₂ (section_text order strings) (sym same.0) (sym same.1) in
@@ -108,23 +108,20 @@ module _ (order : Order) (x : Place) where
       → concat (units ++ u ∷ []) ++ back ≡ concat (units2 ++ u2 ∷ []) ++ back2
       → (units ≡ units2) × (u ≡ u2) × (back ≡ back2)
   first_found [] [] u u2 back back2 r r2 all all2 none none2 has has2 e =
-      let front =
-      one_front order u u2 ([] ++ back) ([] ++ back2) all.0 all2.0 (sym (append_assoc u [] back) ∙ e
+      let front = one_front order u u2 ([] ++ back) ([] ++ back2) all.0 all2.0 (sym (append_assoc u [] back) ∙ e
       ∙ append_assoc u2 [] back2) in
       (refl, front.0, front.1)
   first_found [] (v ∷ units2) u u2 back back2 r r2 all all2 none none2 has has2 e =
-      let front =
-      one_front order u v ([] ++ back) (concat (units2 ++ u2 ∷ []) ++ back2) all.0 all2.0
+      let front = one_front order u v ([] ++ back) (concat (units2 ++ u2 ∷ []) ++ back2) all.0 all2.0
       (sym (append_assoc u [] back) ∙ e ∙ append_assoc v (concat (units2 ++ u2 ∷ [])) back2) in
       absurd (not_none u v r front.0 has none2.0)
   first_found (w ∷ units) [] u u2 back back2 r r2 all all2 none none2 has has2 e =
-      let front =
-      one_front order u2 w ([] ++ back2) (concat (units ++ u ∷ []) ++ back) all2.0 all.0
+      let front = one_front order u2 w ([] ++ back2) (concat (units ++ u ∷ []) ++ back) all2.0 all.0
       (sym (append_assoc u2 [] back2) ∙ sym e ∙ append_assoc w (concat (units ++ u ∷ [])) back) in
       absurd (not_none u2 w r2 front.0 has2 none.0)
   first_found (w ∷ units) (v ∷ units2) u u2 back back2 r r2 all all2 none none2 has has2 e =
-      let front =
-      one_front order w v (concat (units ++ u ∷ []) ++ back) (concat (units2 ++ u2 ∷ []) ++ back2) all.0 all2.0
+      let front = one_front order w v (concat (units ++ u ∷ []) ++ back) (concat (units2 ++ u2 ∷ []) ++ back2) all.0
+      all2.0
       (sym (append_assoc w (concat (units ++ u ∷ [])) back) ∙ e ∙ append_assoc v (concat (units2 ++ u2 ∷ [])) back2) in
       let more = first_found units units2 u u2 back back2 r r2 all.1 all2.1 none.1 none2.1 has has2 front.1 in
       (ap₂ (λ (y : List ℕ) (ys : List (List ℕ)). y ∷ ys) front.0 more.0, more.1, more.2)
@@ -136,8 +133,8 @@ module _ (order : Order) (x : Place) where
       → concat (units ++ u ∷ []) ++ back ≡ concat units2 ++ rest → ⊥
   none_found [] [] u back rest r all all2 has none ends e = ends u ([] ++ back) (sym e ∙ append_assoc u [] back) all.0
   none_found [] (v ∷ units2) u back rest r all all2 has none ends e =
-      let front =
-      one_front order u v ([] ++ back) (concat units2 ++ rest) all.0 all2.0 (sym (append_assoc u [] back) ∙ e
+      let front = one_front order u v ([] ++ back) (concat units2 ++ rest) all.0 all2.0 (sym (append_assoc u [] back)
+      ∙ e
       ∙ append_assoc v (concat units2) rest) in
       not_none u v r front.0 has none.0
   none_found (w ∷ units) [] u back rest r all all2 has none ends e =
@@ -155,8 +152,8 @@ row_same r r2 e = cc
 
 pub one_found : OneFound
 one_found order x bytes units units2 u u2 back back2 h h2 r r2 f f2 =
-    let first =
-    first_found order x units units2 u u2 back back2 r r2 f.has.each f2.has.each f.none_before f2.none_before f.row
+    let first = first_found order x units units2 u u2 back back2 r r2 f.has.each f2.has.each f.none_before
+    f2.none_before f.row
     f2.row (sym f.has.whole ∙ f2.has.whole) in (
       first.0,
       first.1,

@@ -49,8 +49,7 @@ module _ (order : Order) where
   fewer_copies (u ∷ units) [] w w2 all all2 copied none2 e =
       absurd (none2 u (concat units ++ w) (sym e ∙ append_assoc u (concat units) w) all.0 copied.0)
   fewer_copies (u ∷ units) (v ∷ units2) w w2 all all2 copied none2 e =
-      let front =
-      one_front order u v (concat units ++ w) (concat units2 ++ w2) all.0 all2.0
+      let front = one_front order u v (concat units ++ w) (concat units2 ++ w2) all.0 all2.0
       (sym (append_assoc u (concat units) w) ∙ e ∙ append_assoc v (concat units2) w2) in
       let more = fewer_copies units units2 w w2 all.1 all2.1 copied.1 none2 front.1 in
       (more.0, ap₂ (λ (x : List ℕ) (xs : List (List ℕ)). x ∷ xs) (sym front.0) more.1)
@@ -64,8 +63,7 @@ module _ (order : Order) where
   same_copies (u ∷ units) [] w w2 all all2 copied copied2 none none2 e =
       absurd (none2 u (concat units ++ w) (sym e ∙ append_assoc u (concat units) w) all.0 copied.0)
   same_copies (u ∷ units) (v ∷ units2) w w2 all all2 copied copied2 none none2 e =
-      let front =
-      one_front order u v (concat units ++ w) (concat units2 ++ w2) all.0 all2.0
+      let front = one_front order u v (concat units ++ w) (concat units2 ++ w2) all.0 all2.0
       (sym (append_assoc u (concat units) w) ∙ e ∙ append_assoc v (concat units2) w2) in
       let more = same_copies units units2 w w2 all.1 all2.1 copied.1 copied2.1 none none2 front.1 in
       (ap₂ (λ (x : List ℕ) (xs : List (List ℕ)). x ∷ xs) front.0 more.0, more.1)
@@ -279,8 +277,7 @@ one_copying order limit bytes left left2 start start2 now now2 result result2 of
     let c = copied_of order limit bytes left start now result of copies in
     let c2 = copied_of order limit bytes left2 start2 now2 result2 of2 copies2 in
     let same = same_units order limit bytes left left2 start start2 now now2 result result2 c c2 in
-    let how2 =
-    subst (λ (us : List (List ℕ)). How order limit bytes left2 us c.w result2) (sym same.0)
+    let how2 = subst (λ (us : List (List ℕ)). How order limit bytes left2 us c.w result2) (sym same.0)
     (subst (λ (v : List ℕ). How order limit bytes left2 c2.units v result2) (sym same.1) c2.how) in
     same_answer order limit bytes c.units c.w left left2 result result2 c.how how2
 
@@ -310,8 +307,7 @@ copy_is_front order limit bytes left left2 start start2 now now2 out result2 of2
   tells,
 ) copies2 =
     let c2 = copied_of order limit bytes left2 start2 now2 result2 of2 copies2 in
-    let fewer =
-    fewer_copies order units c2.units back c2.w has.each c2.has.each copied
+    let fewer = fewer_copies order units c2.units back c2.w has.each c2.has.each copied
     (no_copy order limit bytes left2 c2.units c2.w result2 c2.how) (sym has.whole ∙ c2.has.whole) in
     let text : copied_units order c2.units ≡ copied_units order units ++ copied_units order fewer.0 =
     ap (copied_units order) fewer.1 ∙ copied_units-append order units fewer.0 in (

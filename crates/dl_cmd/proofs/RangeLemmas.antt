@@ -88,8 +88,8 @@ too_long order u h f is refused = by (header_in order u) refl where
       let w = found_is_header order own u program e in
       let usable = header_is_usable order own w.0 w.2 in
       let rows : unit_rows order u ≡ rows_behind order (Some (own, program)) = ap (rows_behind order) e in
-      let refused_own =
-      ap (λ (d : HeaderData). refusal (with_standard_opcodes d) (rows_behind order (Some (own, program)))) same
+      let refused_own = ap
+      (λ (d : HeaderData). refusal (with_standard_opcodes d) (rows_behind order (Some (own, program)))) same
       ∙ ap (refusal (with_standard_opcodes h)) (sym rows) ∙ refused in
       refused_rows own (rows_behind order (Some (own, program))) f
       (none_out own usable.operations 0 [] (operations_in order own.params program).found) refused_own

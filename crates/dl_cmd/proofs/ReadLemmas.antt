@@ -190,8 +190,8 @@ module _ {S : Type 0} (story : Story S) (order : Order) (limit : ℕ) (old input
         so.t ++ piece,
         all_read,
         λ tells out.
-            let done =
-            subst (λ (m : Flow). Worked story order (so.t ++ take left piece) first new2 start now2 u2 (Ok m))
+            let done = subst (λ (m : Flow). Worked story order (so.t ++ take left piece) first new2 start now2 u2
+            (Ok m))
             nothing (works_cut known (Ok n) is w (so.told tells out)) in
             inr (done.0, done.1, has_cut done.0 done.1 done.2, done.3, done.4),
       )

@@ -49,8 +49,7 @@ cuts order [] (v ∷ units2) rest rest2 all all2 none none2 e =
 cuts order (u ∷ units) [] rest rest2 all all2 none none2 e =
     absurd (none2 u (concat units ++ rest) (sym e ∙ append_assoc u (concat units) rest) all.0)
 cuts order (u ∷ units) (v ∷ units2) rest rest2 all all2 none none2 e =
-    let front =
-    one_front order u v (concat units ++ rest) (concat units2 ++ rest2) all.0 all2.0
+    let front = one_front order u v (concat units ++ rest) (concat units2 ++ rest2) all.0 all2.0
     (sym (append_assoc u (concat units) rest) ∙ e ∙ append_assoc v (concat units2) rest2) in
     let more = cuts order units units2 rest rest2 all.1 all2.1 none none2 front.1 in
     (ap₂ (λ (x : List ℕ) (xs : List (List ℕ)). x ∷ xs) front.0 more.0, more.1)
@@ -189,10 +188,8 @@ pub one_end : OneEnd
 one_end order limit bytes left left2 units units2 b b2 back back2 result result2 of of2 ends ends2 =
     let first = ended order limit bytes left units b back result of ends in
     let second = ended order limit bytes left2 units2 b2 back2 result2 of2 ends2 in
-    let cut =
-    one_cut order (take limit bytes) units units2 (b ++ back) (b2 ++ back2) first.has first.none second.has
+    let cut = one_cut order (take limit bytes) units units2 (b ++ back) (b2 ++ back2) first.has first.none second.has
     second.none in
-    let same =
-    same_end order limit bytes units b b2 back back2 result result2 cut.1 first.ending
+    let same = same_end order limit bytes units b b2 back back2 result result2 cut.1 first.ending
     (subst (λ (us : List (List ℕ)). Ending order limit bytes us b2 back2 result2) (sym cut.0) second.ending) in
     (cut.0, same.0, same.1, same.2)

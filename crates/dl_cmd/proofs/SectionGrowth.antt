@@ -196,8 +196,7 @@ module _ (order : Order) (t m : List ℕ) (units units2 : List (List ℕ)) (b b2
       → ((at : ℕ) × (kind : FaultKind) × Refused order b2 at kind) ⊎ ((back2 ≡ []) × Sound order b2) → Grows
   at_refusal at kind refused how2 =
       let within = within_unit order b back s.none (none_before order b at kind refused) in
-      let cut =
-      cuts order units units2 (b ++ (back ++ m)) (b2 ++ back2) s.has.each s2.has.each
+      let cut = cuts order units units2 (b ++ (back ++ m)) (b2 ++ back2) s.has.each s2.has.each
       (no_unit_refused order b (back ++ m) at kind within refused) s2.none whole in
       elim how2 [
         | inl (at2, kind2, refused2) ↦ same_told cut.0
@@ -225,8 +224,7 @@ module _ (order : Order) (t m : List ℕ) (units units2 : List (List ℕ)) (b b2
         let none : NoUnitBegins order (b2 ++ x ∷ w) = λ u more e is.
         s2.none u (more ++ m) (ap (λ (l : List ℕ). b2 ++ l) (sym rest) ∙ sym (append_assoc b2 (x ∷ w) m)
         ∙ ap (λ (l : List ℕ). l ++ m) e ∙ append_assoc u more m) is in
-        let cut =
-        cuts order units units2 b (b2 ++ x ∷ w) s.has.each s2.has.each
+        let cut = cuts order units units2 b (b2 ++ x ∷ w) s.has.each s2.has.each
         (subst (NoUnitBegins order) (behind_nothing b back nothing) s.none) none (goes
         ∙ append_assoc (concat units2) b2 (x ∷ w)) in
         sound b2 (x ∷ w) at kind cut.1 refused
@@ -249,8 +247,8 @@ module _ (order : Order) (t m : List ℕ) (units units2 : List (List ℕ)) (b b2
 
     at_end : ((at : ℕ) × (kind : FaultKind) × Refused order b2 at kind) ⊎ ((back2 ≡ []) × Sound order b2) → Grows
     at_end how2 =
-        let within =
-        within_unit order b back s.none (λ front more at kind e some refused. sound front more at kind e refused) in
+        let within = within_unit order b back s.none
+        (λ front more at kind e some refused. sound front more at kind e refused) in
         let e : concat units ++ (b ++ m) ≡ concat units2 ++ (b2 ++ back2) =
         ap (λ (l : List ℕ). concat units ++ (b ++ (l ++ m))) (sym nothing) ∙ whole in
         let more = told order 0 units units2 b m b2 back2 s.has.each s2.has.each within s2.none e (no_further how2) in (
@@ -269,7 +267,6 @@ pub more_is_told : MoreIsTold
 more_is_told order limit bytes more left left2 units units2 b b2 back back2 result result2 not not2 ends ends2 =
     let m = take_more limit bytes more in
     let s = stops order limit bytes left units b back result not ends in
-    let s2 =
-    subst (λ (l : List ℕ). Stops order l units2 b2 back2) m.1
+    let s2 = subst (λ (l : List ℕ). Stops order l units2 b2 back2) m.1
     (stops order limit (bytes ++ more) left2 units2 b2 back2 result2 not2 ends2) in
     grows order (take limit bytes) m.0 units units2 b b2 back back2 s s2

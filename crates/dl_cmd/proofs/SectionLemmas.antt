@@ -109,8 +109,7 @@ few_told order b = subst (λ (l : List Row). length l ≤ length b) (sym (rows_o
 pub no_unit_begins : (order : Order) (b : List ℕ) → ((n : ℕ) → unit_len order b ≡ Some n → length b ≤ n)
     → (IsUnit order b → ⊥) → NoUnitBegins order b
 no_unit_begins order b within none u back e is =
-    let len =
-    subst (λ (l : List ℕ). unit_len order l ≡ Some (length u)) (sym e)
+    let len = subst (λ (l : List ℕ). unit_len order l ≡ Some (length u)) (sym e)
     (unit_len_on order u back (length u) (length_of_unit order u is)) in
     let short = within (length u) len in
     let empty : back ≡ [] = nil_from_length back (omega (arith, short, ap length e, length-append u back)) in
@@ -135,8 +134,7 @@ no_unit_refused order b back at kind within refused u more e is = by_length (cas
       ∙ ap (take (length u)) (sym e) ∙ take-append-le (length u) b back (omega (arith, gt)) in
       let b_is : b ≡ u ++ drop (length u) b =
       sym (take-append-drop (length u) b) ∙ ap (λ (l : List ℕ). l ++ drop (length u) b) (sym u_is) in
-      let len =
-      subst (λ (l : List ℕ). unit_len order l ≡ Some (length u)) (sym b_is)
+      let len = subst (λ (l : List ℕ). unit_len order l ≡ Some (length u)) (sym b_is)
       (unit_len_on order u (drop (length u) b) (length u) (length_of_unit order u is)) in
       omega (arith, gt, within (length u) len)
 

@@ -139,8 +139,7 @@ begun_unit order b m u back within is e = elim (fronts b u m back e) [
   | inl same ↦ ([], sym same ∙ sym (append-nil b))
   | inr (inl g) ↦ (g.0 ∷ g.1, g.2)
   | inr (inr g) ↦
-      let len =
-      subst (λ (l : List ℕ). unit_len order l ≡ Some (length u)) (sym g.2)
+      let len = subst (λ (l : List ℕ). unit_len order l ≡ Some (length u)) (sym g.2)
       (unit_len_on order u (g.0 ∷ g.1) (length u) (length_of_unit order u is)) in
       absurd (omega (arith, within (length u) len, ap length g.2, length-append u (g.0 ∷ g.1)))
 ]
@@ -173,8 +172,7 @@ unfolding visits_from
 told order offset [] [] b m b2 back2 all all2 within none e le =
     more_visits order (offset + 0) b b2 (longer_front b m b2 back2 e le)
 told order offset [] (u ∷ units2) b m b2 back2 all all2 within none e le =
-    let more =
-    more_visits order offset b u (begun_unit order b m u (concat units2 ++ (b2 ++ back2)) within all2.0 (e
+    let more = more_visits order offset b u (begun_unit order b m u (concat units2 ++ (b2 ++ back2)) within all2.0 (e
     ∙ append_assoc u (concat units2) (b2 ++ back2))) in
     let rest = units_visits order (offset + length u) units2 in
     let last = visits order (offset + length (u ++ concat units2)) b2 in (

@@ -69,8 +69,7 @@ byte_is base l c not = ap (λ (b : Bool). if b then end else by_blank (is_blank 
       else record { text = after_mark base (text_so_far l) c; returned = false }
 
   same : (b : Bool)
-      → ◌≡◌ {A =
-      Line} (by_blank b) (record {
+      → ◌≡◌ {A = Line} (by_blank b) (record {
         text =
             (if b then after_blank (text_so_far l) else after_mark base (text_so_far l) c);
         returned = false;

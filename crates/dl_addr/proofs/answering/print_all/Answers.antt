@@ -27,11 +27,10 @@ returns-in_err-print_line g c first start held visits s made =
     let l = c.loop-number in
     let lt : l.number < length q.asked.now = c.loop-number-test.true in
     let old = g.W.Write.contents c.args.output.now in
-    let is =
-    c.answer_to-answer.ensures first start held visits (map (looked_up q.base) q.asked.now) s made
+    let is = c.answer_to-answer.ensures first start held visits (map (looked_up q.base) q.asked.now) s made
     (place_at q.base q.asked.now l.number lt) in
-    let nothing =
-    HasPrinted-nothing old old c.new-printer.result (Appends-nil old) c.new-printer.ensures.nothing_pending
+    let nothing = HasPrinted-nothing old old c.new-printer.result (Appends-nil old)
+    c.new-printer.ensures.nothing_pending
     c.new-printer.ensures.nothing_out in
     rw (p.1, p.2) (loses_line q.style (answer_for first visits q.base) q.asked.now old (g.W.Write.contents l.output)
     (g.W.Write.contents c.print_line.new.output) c.new-printer.result l.printer l.number no_asked
@@ -68,8 +67,8 @@ returns-in_err-flush g c first start held visits s made =
     let q = c.args.question.now in
     let l = c.loop-number in
     let old = g.W.Write.contents c.args.output.now in
-    let nothing =
-    HasPrinted-nothing old old c.new-printer.result (Appends-nil old) c.new-printer.ensures.nothing_pending
+    let nothing = HasPrinted-nothing old old c.new-printer.result (Appends-nil old)
+    c.new-printer.ensures.nothing_pending
     c.new-printer.ensures.nothing_out in
     rw (p.1, p.2) (loses_all q.style (answer_for first visits q.base) q.asked.now old (g.W.Write.contents l.output)
     (g.W.Write.contents c.flush.new.output) c.new-printer.result l.printer l.number _ c.loop-number-test.false
@@ -81,8 +80,8 @@ returns g c first start held visits s made =
     let q = c.args.question.now in
     let l = c.loop-number in
     let old = g.W.Write.contents c.args.output.now in
-    let nothing =
-    HasPrinted-nothing old old c.new-printer.result (Appends-nil old) c.new-printer.ensures.nothing_pending
+    let nothing = HasPrinted-nothing old old c.new-printer.result (Appends-nil old)
+    c.new-printer.ensures.nothing_pending
     c.new-printer.ensures.nothing_out in (
       found_all q.style (answer_for first visits q.base) q.asked.now l.number l.found c.loop-number-test.false
           (l.invariant.found first start held visits s made),

@@ -6,8 +6,7 @@ use Rattle.dl_addr.proofs.texts.number_of.Goals as goal
 pub returns-in-Some-clause-right : goal.returns-in-Some-clause-right
 returns-in-Some-clause-right c are =
     let u = c.args.unit.now in
-    let at =
-    subst (λ seen. slice_get seen c.min-entry.result ≡ Some (Some c.in-Some.number)) c.as_slice.ensures.value
+    let at = subst (λ seen. slice_get seen c.min-entry.result ≡ Some (Some c.in-Some.number)) c.as_slice.ensures.value
     c.in-Some.ensures in
     are c.min-entry.result c.in-Some.number at ∙ ap (λ (n : ℕ). Some (text_of_file u n)) c.min-entry.ensures
     ∙ ap Some (text_clamped u c.args.file c.files.result c.files.ensures)

@@ -33,11 +33,9 @@ returns-in_err-summary-2 g c =
     let read = c.in_ok-summary.ensures in
     let ran = read.2 (Appends-nil start) (Appends-nil start) in
     let left = g.R.Read.remaining c.read_units.new.input in
-    let kept =
-    (counted options.order options.limit read.0 left first c.read_units.new.visitor start mid mid
+    let kept = (counted options.order options.limit read.0 left first c.read_units.new.visitor start mid mid
     c.in_ok-summary.summary ran).1 in
-    let nothing =
-    HasPrinted-nothing start mid c.new-printer.result kept c.new-printer.ensures.nothing_pending
+    let nothing = HasPrinted-nothing start mid c.new-printer.result kept c.new-printer.ensures.nothing_pending
     c.new-printer.ensures.nothing_out in
     let now = g.W.Write.contents c.summary.new.output in
     rw (p.1, p.2) (
@@ -57,11 +55,9 @@ returns-in_err-flush g c =
     let read = c.in_ok-summary.ensures in
     let ran = read.2 (Appends-nil start) (Appends-nil start) in
     let left = g.R.Read.remaining c.read_units.new.input in
-    let kept =
-    (counted options.order options.limit read.0 left first c.read_units.new.visitor start mid mid
+    let kept = (counted options.order options.limit read.0 left first c.read_units.new.visitor start mid mid
     c.in_ok-summary.summary ran).1 in
-    let nothing =
-    HasPrinted-nothing start mid c.new-printer.result kept c.new-printer.ensures.nothing_pending
+    let nothing = HasPrinted-nothing start mid c.new-printer.result kept c.new-printer.ensures.nothing_pending
     c.new-printer.ensures.nothing_out in
     let now = g.W.Write.contents c.flush.new.output in
     let printed = c.in_ok-summary-2.ensures.printed start [] nothing in
@@ -82,18 +78,14 @@ returns g c =
     let read = c.in_ok-summary.ensures in
     let ran = read.2 (Appends-nil start) (Appends-nil start) in
     let left = g.R.Read.remaining c.read_units.new.input in
-    let kept =
-    (counted options.order options.limit read.0 left first c.read_units.new.visitor start mid mid
+    let kept = (counted options.order options.limit read.0 left first c.read_units.new.visitor start mid mid
     c.in_ok-summary.summary ran).1 in
-    let nothing =
-    HasPrinted-nothing start mid c.new-printer.result kept c.new-printer.ensures.nothing_pending
+    let nothing = HasPrinted-nothing start mid c.new-printer.result kept c.new-printer.ensures.nothing_pending
     c.new-printer.ensures.nothing_out in
     let now = g.W.Write.contents c.flush.new.output in
-    let printed =
-    c.in_ok-flush.ensures.printed start (summary_line c.in_ok-summary.summary)
+    let printed = c.in_ok-flush.ensures.printed start (summary_line c.in_ok-summary.summary)
     (c.in_ok-summary-2.ensures.printed start [] nothing) in
-    let out =
-    HasPrinted-out start now (summary_line c.in_ok-summary.summary) c.flush.new.self printed
+    let out = HasPrinted-out start now (summary_line c.in_ok-summary.summary) c.flush.new.self printed
     c.in_ok-flush.ensures.empty in (
       read.0,
       read.1,

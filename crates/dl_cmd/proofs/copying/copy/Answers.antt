@@ -19,8 +19,7 @@ returns g c =
     } in
     let start = g.W.Write.contents c.args.output.now in
     let read = c.read_units.ensures in
-    let ran =
-    read.2 (begins first start c.new.ensures.nothing_pending c.new.ensures.nothing_out c.new-2.ensures.items)
+    let ran = read.2 (begins first start c.new.ensures.nothing_pending c.new.ensures.nothing_out c.new-2.ensures.items)
     (Appends-nil start) in (
       read.0,
       read.1,

@@ -27,8 +27,7 @@ returns-in_err-summary g c =
     let first = first_of c.args.place c.new.result c.new-strings.result c.new-2.result in
     let start = g.W.Write.contents c.args.output.now in
     let read = c.in_err-summary.ensures in
-    let ran =
-    read.2 (begins first start c.new.ensures.nothing_pending c.new.ensures.nothing_out refl c.new-2.ensures)
+    let ran = read.2 (begins first start c.new.ensures.nothing_pending c.new.ensures.nothing_out refl c.new-2.ensures)
     (Appends-nil start) in
     rw (p.1, p.2) (
       read.0,
@@ -43,8 +42,7 @@ returns-then-seeker g c =
     let first = first_of c.args.place c.new.result c.new-strings.result c.new-2.result in
     let start = g.W.Write.contents c.args.output.now in
     let read = c.in_ok-summary.ensures in
-    let ran =
-    read.2 (begins first start c.new.ensures.nothing_pending c.new.ensures.nothing_out refl c.new-2.ensures)
+    let ran = read.2 (begins first start c.new.ensures.nothing_pending c.new.ensures.nothing_out refl c.new-2.ensures)
     (Appends-nil start) in (
       read.0,
       read.1,
@@ -59,8 +57,7 @@ returns-else-seeker g c =
     let first = first_of c.args.place c.new.result c.new-strings.result c.new-2.result in
     let start = g.W.Write.contents c.args.output.now in
     let read = c.in_ok-summary.ensures in
-    let ran =
-    read.2 (begins first start c.new.ensures.nothing_pending c.new.ensures.nothing_out refl c.new-2.ensures)
+    let ran = read.2 (begins first start c.new.ensures.nothing_pending c.new.ensures.nothing_out refl c.new-2.ensures)
     (Appends-nil start) in (
       read.0,
       read.1,

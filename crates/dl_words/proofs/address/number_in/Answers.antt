@@ -9,8 +9,7 @@ returns-in_err-checked_mul c =
     let d = c.in_ok-digit.digit in
     let next = l.number * c.args.base + d in
     let big : 2 ^ 64 ≤ next = omega (arith, c.in_err-checked_mul.ensures) in
-    let step =
-    rest_of-digit c.args.base l.number digits l.byte-index d c.loop-byte-test.true (sym c.digit_of.ensures
+    let step = rest_of-digit c.args.base l.number digits l.byte-index d c.loop-byte-test.true (sym c.digit_of.ensures
     ∙ c.in_ok-digit.was) in
     c.from_residual-in_err-checked_mul.ensures
     ∙ sym (l.invariant.whole ∙ step
@@ -23,8 +22,7 @@ returns-in_err-number c =
     let d = c.in_ok-digit.digit in
     let next = l.number * c.args.base + d in
     let big : 2 ^ 64 ≤ next = omega (arith, c.in_err-number.ensures, c.in_ok-checked_mul.ensures) in
-    let step =
-    rest_of-digit c.args.base l.number digits l.byte-index d c.loop-byte-test.true (sym c.digit_of.ensures
+    let step = rest_of-digit c.args.base l.number digits l.byte-index d c.loop-byte-test.true (sym c.digit_of.ensures
     ∙ c.in_ok-digit.was) in
     c.from_residual-in_err-number.ensures
     ∙ sym (l.invariant.whole ∙ step

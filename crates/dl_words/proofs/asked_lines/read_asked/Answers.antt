@@ -24,8 +24,7 @@ returns-then-is_empty g c =
     let i = c.loop.invariant in
     let piece = c.in-Ok.piece.now in
     let none = nothing_of piece c.if-is_empty.ensures in
-    let all =
-    subst (λ b. Consumes (g.R.Read.remaining c.args.input.now) (g.R.Read.remaining c.next_piece.new.reader) b)
+    let all = subst (λ b. Consumes (g.R.Read.remaining c.args.input.now) (g.R.Read.remaining c.next_piece.new.reader) b)
     (ap (λ b. i.0 ++ b) none ∙ append-nil i.0)
     (Consumes-trans _ _ _ _ _ i.1 c.in-Ok.ensures.ok) in (
       i.0,

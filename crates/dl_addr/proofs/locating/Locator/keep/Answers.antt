@@ -32,8 +32,8 @@ returns c =
     let old = c.args.self.now in
     let h = option_copied c.args.header in
     let some : 0 < length answered =
-    let not_zero =
-    eqb-false (length answered) 0 (sym c.is_empty.ensures ∙ c.if-is_empty.false) in omega (arith, not_zero) in
+    let not_zero = eqb-false (length answered) 0 (sym c.is_empty.ensures ∙ c.if-is_empty.false) in
+    omega (arith, not_zero) in
     record {
       code = refl;
       style = refl;

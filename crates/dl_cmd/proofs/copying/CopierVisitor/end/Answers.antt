@@ -10,8 +10,7 @@ returns-in_err-write g c first start visits s =
     let p = err_from_is_err_and c.from_residual.result c.from_residual.ensures.1 in
     let own = c.in-Some in
     let ensures = c.in_err-write.ensures in
-    let stops =
-    stops_at_unit first c.args.self.now start (g.W.Write.contents c.args.output.now) visits s c.args.header
+    let stops = stops_at_unit first c.args.self.now start (g.W.Write.contents c.args.output.now) visits s c.args.header
     own.header own.is c.with_standard_opcodes.result c.with_standard_opcodes.ensures
     c.write-in-Some.new.self (g.W.Write.contents c.write-in-Some.new.output) _ ensures.printed ensures.order
     ensures.unit (ap (λ rows. rows.items) ensures.rows) in

@@ -30,8 +30,7 @@ returns-in_err-file g c first start visits s =
     let answers = c.answer-answer.ensures first.place (rows_after [] visits) s.stands in
     let text = file_text (strings_of c.args.self.now.strings) own.header.files own.row.file in
     let tells = rw c.files.ensures at (c.in_err-file.ensures.printed start [] s.printed) in
-    let stops =
-    stops_printing first c.args.self.now start (g.W.Write.contents c.args.output.now) visits c.args.header
+    let stops = stops_printing first c.args.self.now start (g.W.Write.contents c.args.output.now) visits c.args.header
     own.header own.row s own.is-1 (sym answers ∙ own.is-0)
     (record c.args.self.now {
       printer = c.file.new.self;
@@ -49,8 +48,7 @@ returns-in_err-row g c first start visits s =
     let text = file_text (strings_of c.args.self.now.strings) own.header.files own.row.file in
     let printed = rw c.files.ensures at (c.in_ok-file.ensures.printed start [] s.printed) in
     let tells = c.in_err-row.ensures.printed start text printed in
-    let stops =
-    stops_printing first c.args.self.now start (g.W.Write.contents c.args.output.now) visits c.args.header
+    let stops = stops_printing first c.args.self.now start (g.W.Write.contents c.args.output.now) visits c.args.header
     own.header own.row s own.is-1 (sym answers ∙ own.is-0)
     (record c.args.self.now {
       printer = c.row.new.self;

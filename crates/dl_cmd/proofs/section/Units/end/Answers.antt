@@ -25,8 +25,7 @@ returns-clause-heard g c b stands first start visits tells =
     let order = c.args.self.now.reader.order in
     let more = open_visit (ends_open (unit_rows order b)) in
     let now = g.W.Write.contents c.end.new.output in
-    let heard =
-    subst (λ (h : Option HeaderData). MatchResult c.end.result
+    let heard = subst (λ (h : Option HeaderData). MatchResult c.end.result
     (GoesOn story first c.end.new.self start now ((visits ++ more) ++ of_end h ∷ []))
     (StopsIn story first c.end.new.self start now (visits ++ more) (of_end h ∷ [])))
     (c.next_unit.ensures.header b stands)

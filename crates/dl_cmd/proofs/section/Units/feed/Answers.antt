@@ -108,8 +108,7 @@ returns-in_err-end-in-End g c order t units b first start are short tells =
     c.in-Ok.is (c.in_ok-fed.ensures.told so.b so.are.stands) in
     let f = feeds story order t c.args.piece.now first start l.self l.visitor before l.rest.now so short v r.order w
     after c.in-Ok.fed r in
-    let heard =
-    c.in_err-end-in-End.ensures.heard _ f.stands first start
+    let heard = c.in_err-end-in-End.ensures.heard _ f.stands first start
     (visits_so_far story order t c.args.piece.now first start l.self l.visitor before l.rest.now so short v r.order
     w after c.in-Ok.fed r) (rows_told story order t c.args.piece.now first start l.self l.visitor before l.rest.now
     so short v r.order w after c.in-Ok.fed r) in
@@ -131,14 +130,12 @@ events-preserved-in-On g c = record {
       c.in-Ok.is (c.in_ok-fed.ensures.told so.b so.are.stands) in
       let f = feeds story order t c.args.piece.now first start l.self l.visitor before l.rest.now so short v r.order w
       after c.in-Ok.fed r in
-      let heard =
-      c.in_ok-end-in-End.ensures.heard _ f.stands first start
+      let heard = c.in_ok-end-in-End.ensures.heard _ f.stands first start
       (visits_so_far story order t c.args.piece.now first start l.self l.visitor before l.rest.now so short v
       r.order w after c.in-Ok.fed r)
       (rows_told story order t c.args.piece.now first start l.self l.visitor before l.rest.now so short v r.order w
       after c.in-Ok.fed r) in
-      let behind =
-      c.in_ok-end-in-End.ensures.units order _ so.units _
+      let behind = c.in_ok-end-in-End.ensures.units order _ so.units _
       (are_ended story order t c.args.piece.now first start l.self l.visitor before l.rest.now so short v r.order w
       after c.in-Ok.fed r c.in-End.is)
       (is_unit story order t c.args.piece.now first start l.self l.visitor before l.rest.now so short v r.order w
@@ -163,13 +160,11 @@ returns-in-Stop g c order t units b first start are short tells =
     c.in-Ok.is (c.in_ok-fed.ensures.told so.b so.are.stands) in
     let f = feeds story order t c.args.piece.now first start l.self l.visitor before l.rest.now so short v r.order w
     after c.in-Ok.fed r in
-    let heard =
-    c.in_ok-end-in-End.ensures.heard _ f.stands first start
+    let heard = c.in_ok-end-in-End.ensures.heard _ f.stands first start
     (visits_so_far story order t c.args.piece.now first start l.self l.visitor before l.rest.now so short v r.order
     w after c.in-Ok.fed r) (rows_told story order t c.args.piece.now first start l.self l.visitor before l.rest.now
     so short v r.order w after c.in-Ok.fed r) in
-    let behind =
-    c.in_ok-end-in-End.ensures.units order _ so.units _
+    let behind = c.in_ok-end-in-End.ensures.units order _ so.units _
     (are_ended story order t c.args.piece.now first start l.self l.visitor before l.rest.now so short v r.order w
     after c.in-Ok.fed r c.in-End.is)
     (is_unit story order t c.args.piece.now first start l.self l.visitor before l.rest.now so short v r.order w
@@ -193,8 +188,7 @@ events-preserved g c = record {
       c.in-Ok.is (c.in_ok-fed.ensures.told so.b so.are.stands) in
       let f = feeds story order t c.args.piece.now first start l.self l.visitor before l.rest.now so short v r.order w
       after c.in-Ok.fed r in
-      let heard =
-      c.in_ok-tell-in_default.ensures.heard _ r.no_row f.stands first start
+      let heard = c.in_ok-tell-in_default.ensures.heard _ r.no_row f.stands first start
       (visits_so_far story order t c.args.piece.now first start l.self l.visitor before l.rest.now so short v
       r.order w after c.in-Ok.fed r)
       (rows_told story order t c.args.piece.now first start l.self l.visitor before l.rest.now so short v r.order w
@@ -219,8 +213,7 @@ returns-in_err-tell-in_default g c order t units b first start are short tells =
     c.in-Ok.is (c.in_ok-fed.ensures.told so.b so.are.stands) in
     let f = feeds story order t c.args.piece.now first start l.self l.visitor before l.rest.now so short v r.order w
     after c.in-Ok.fed r in
-    let heard =
-    c.in_err-tell-in_default.ensures.heard _ r.no_row f.stands first start
+    let heard = c.in_err-tell-in_default.ensures.heard _ r.no_row f.stands first start
     (visits_so_far story order t c.args.piece.now first start l.self l.visitor before l.rest.now so short v r.order
     w after c.in-Ok.fed r) (rows_told story order t c.args.piece.now first start l.self l.visitor before l.rest.now
     so short v r.order w after c.in-Ok.fed r) in

@@ -12,8 +12,7 @@ returns-clause-header c b stands =
 pub returns-clause-units : goal.returns-clause-units
 returns-clause-units c order t units b are is short =
     let u = c.args.self.now in
-    let taken =
-    c.taken.ensures.bytes b
+    let taken = c.taken.ensures.bytes b
     (subst (λ (r : Reader). StandsFor r b) (sym c.replace-reader.ensures.value) are.stands) in
     left_behind order u t units b are is short _ are.order_is
     (subst (λ (r : Reader). StandsFor r []) (sym c.replace-reader.ensures.after) c.new.ensures.stands)
