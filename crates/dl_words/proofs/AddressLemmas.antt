@@ -5,7 +5,7 @@ use Rattle.std.specs.Prelude.{option_and_then}
 use Rattle.std.proofs.lemmas.Bool.{le-ltb, lt-ltb}
 use Rattle.std.proofs.Math.Nat.{le-mul_of_pos_right}
 use Rattle.std.proofs.Math.ListN.{drop_of_length-le}
-use Rattle.dl_words.specs.Address.{digit_of, number_after, below_2_64, number_in}
+use Rattle.dl_words.specs.Address.{digit_of, number_after, below_2_64}
 
 -- the number that the digits are when they follow those of n, if it is below 2^64
 abbrev pub rest_of : ℕ → ℕ → List ℕ → Option ℕ

@@ -1,7 +1,7 @@
 -- What the program does for the words of `addr`. bytes: what was read of the input, which has `left` left. start, now:
 -- what the output held at first, and holds now. held: what the file of a path holds, where that is known; fails: the
 -- errors that opening and reading it may give.
-use Rattle.std.specs.Prelude.{⊤, ◌≡◌, ◌≢◌, ◌⊎◌, ℕ, Bool, true, false, ◌&&◌, ◌||◌, not, List, [], ◌∷◌, map, length, ◌==◌}
+use Rattle.std.specs.Prelude.{◌≡◌, ◌≢◌, ◌⊎◌, ℕ, Bool, true, false, ◌||◌, not, List, [], ◌∷◌, map, length, ◌==◌}
 use Rattle.std.specs.Prelude.{if◌then◌else◌, Option, Some, None, is_some, MatchOption, Result, Ok, Err, codes}
 use Rattle.std.specs.List.{list_all, list_any}
 use Rattle.std.specs.Option.{option_copied, option_map_or}

@@ -1,4 +1,4 @@
-use Rattle.std.proofs.Common.{◌∙◌, [], ℕ, List, Bor, Option, ap, map, rules}
+use Rattle.std.proofs.Common.{◌∙◌, [], ℕ, List, Bor, Option, ap, map}
 use Rattle.std.specs.Prelude.{unwrap_or}
 use Rattle.clap.specs.Words.{Text, found_of}
 use Rattle.clap.proofs.WalkLemmas.{raw_values-rows}
