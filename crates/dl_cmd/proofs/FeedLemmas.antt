@@ -83,13 +83,15 @@ module _ {S : Type 0} (story : Story S) (order : Order) (t piece : List ℕ) (fi
     length-drop so.n piece,
   )
 
-  joined : (used : ℕ) → read_so_far ++ take used rest ≡ t ++ take (so.n + used) piece
+  -- what was read, with the bytes of a call
+  pub joined : (used : ℕ) → read_so_far ++ take used rest ≡ t ++ take (so.n + used) piece
   joined used =
       append_assoc t (take so.n piece) (take used rest)
       ∙ ap (λ (l : List ℕ). t ++ (take so.n piece ++ take used l)) so.rest_is
       ∙ ap (λ (l : List ℕ). t ++ l) (sym (take-add so.n used piece))
 
-  all_read : read_so_far ++ rest ≡ t ++ piece
+  -- what was read and is left is the piece
+  pub all_read : read_so_far ++ rest ≡ t ++ piece
   all_read =
       append_assoc t (take so.n piece) rest ∙ ap (λ (l : List ℕ). t ++ (take so.n piece ++ l)) so.rest_is
       ∙ ap (λ (l : List ℕ). t ++ l) (take-append-drop so.n piece)
@@ -228,7 +230,8 @@ module _ {S : Type 0} (story : Story S) (order : Order) (t piece : List ℕ) (fi
       feeds = subst (λ (o : Order). FeedsBehind StandsFor o (events o so.b ++ map event.Row r.rows) so.b rest fed
           v.reader) so.are.reader_order r.fed_rows
 
-      left : take (length rest - fed.used) (drop fed.used rest) ≡ drop fed.used rest
+      -- what is left of the piece
+      pub left : take (length rest - fed.used) (drop fed.used rest) ≡ drop fed.used rest
       left = take_all (length rest - fed.used) (drop fed.used rest) (omega (arith, length-drop fed.used rest))
 
       -- the visits of the rows too
@@ -299,7 +302,7 @@ module _ {S : Type 0} (story : Story S) (order : Order) (t piece : List ℕ) (fi
       )
 
       -- nothing was told but the rows
-      quiet : told fed.event ≡ [] → section_visits order so.units (with_bytes fed.used) ≡ visits_so_far
+      pub quiet : told fed.event ≡ [] → section_visits order so.units (with_bytes fed.used) ≡ visits_so_far
       quiet none =
           visits_more fed.used r.rows [] (feeds.answered.grows
           ∙ ap (λ (l : List Event). (events order so.b ++ map event.Row r.rows) ++ l) none) ∙ append-nil visits_so_far
@@ -344,85 +347,6 @@ module _ {S : Type 0} (story : Story S) (order : Order) (t piece : List ℕ) (fi
               same_told (ap told is),
             ),
           )
-
-      -- the unit is whole
-      pub is_unit : fed.event ≡ event.End → IsUnit order (with_bytes fed.used)
-      is_unit is =
-          (subst (λ (e : Event). EventHoldsBehind order (events order so.b ++ map event.Row r.rows) so.b rest fed.used
-          e) is feeds.answered.holds).0
-
-      abbrev pub units_after : List (List ℕ)
-      units_after = so.units ++ with_bytes fed.used ∷ []
-
-      end_told : fed.event ≡ event.End
-          → section_visits order units_after [] ≡ visits_so_far ++ end_visits v.reader.order (with_bytes fed.used)
-      end_told is =
-          section_visits-push order so.units (with_bytes fed.used)
-          ∙ ap₂ (λ (l : List Visit) (o : Order). l ++ end_visits o (with_bytes fed.used)) (quiet (ap told is))
-          (sym (own ∙ so.are.reader_order))
-
-      all_units : fed.event ≡ event.End → HasUnits order (t ++ piece) units_after (drop fed.used rest)
-      all_units is =
-          let has = has_push order (read_so_far ++ take fed.used rest) so.units (with_bytes fed.used) are_after.has
-          (is_unit is) in
-          record {
-            whole =
-                sym all_read
-                ∙ ap (λ (l : List ℕ). read_so_far ++ l) (sym (take-append-drop fed.used rest))
-                ∙ sym (append_assoc read_so_far (take fed.used rest) (drop fed.used rest))
-                ∙ ap (λ (l : List ℕ). l ++ drop fed.used rest) (has.whole ∙ append-nil (concat units_after));
-            each = has.each;
-          }
-
-      pub next_unit : fed.event ≡ event.End → (new2 : S) (now2 : Option (List ℕ)) (x : Units)
-          → UnitsAre order x (read_so_far ++ take fed.used rest) units_after []
-          → (n : Flow) → n ≡ flow.On
-          → GoesOn story first new2 start now2 (visits_so_far ++ end_visits v.reader.order (with_bytes fed.used)) n
-          → FedUpTo story order t piece first start x new2 now2 (take (length rest - fed.used) (drop fed.used rest))
-      next_unit is new2 now2 x are n unit goes = record {
-        n = so.n + fed.used;
-        within = omega (arith, so.within, feeds.answered.within, ap length so.rest_is, length-drop so.n piece);
-        rest_is = left ∙ ap (drop fed.used) so.rest_is ∙ drop-drop fed.used so.n piece;
-        units = units_after;
-        b = [];
-        are = subst (λ (l : List ℕ). UnitsAre order x l units_after []) (joined fed.used) are;
-        tells = subst (λ (l : List Visit). story.tells first new2 start now2 l) (sym (end_told is))
-            (subst (λ (m : Flow). GoesOn story first new2 start now2 (visits_so_far
-            ++ end_visits v.reader.order (with_bytes fed.used)) m) unit goes);
-      }
-
-      pub no_more : fed.event ≡ event.End → (new2 : S) (now2 : Option (List ℕ)) (x : Units)
-          → UnitsAre order x (read_so_far ++ take fed.used rest) units_after []
-          → (n : Flow) → n ≡ flow.Stop
-          → GoesOn story first new2 start now2 (visits_so_far ++ end_visits v.reader.order (with_bytes fed.used)) n
-          → UnitsFed story order (t ++ piece) first new2 start now2 x (Ok flow.Stop)
-      no_more is new2 now2 x are n nothing goes = (
-        units_after,
-        drop fed.used rest,
-        all_units is,
-        are.summary,
-        subst (λ (l : List Visit). story.is_done first new2 start now2 l) (sym (end_told is))
-            (subst (λ (m : Flow). GoesOn story first new2 start now2 (visits_so_far
-            ++ end_visits v.reader.order (with_bytes fed.used)) m) nothing goes),
-      )
-
-      pub stops_at_end : fed.event ≡ event.End → (new2 : S) (now2 : Option (List ℕ)) (x : Units) (f : RunFault)
-          → StopsIn story first new2 start now2 visits_so_far (end_visits v.reader.order (with_bytes fed.used)) f
-          → UnitsFed story order (t ++ piece) first new2 start now2 x (Err f)
-      stops_at_end is new2 now2 x f s = (
-        units_after,
-        [],
-        drop fed.used rest,
-        record { has = all_units is; in_unit = λ n known. omega arith },
-        inr (
-          none_refused order,
-          visits_so_far ++ s.0,
-          s.1,
-          end_told is
-              ∙ ap (λ (l : List Visit). visits_so_far ++ l) s.2 ∙ sym (append_assoc visits_so_far s.0 s.1),
-          s.3,
-        ),
-      )
 
       -- bytes were taken, and nothing came of them but the rows
       pub goes_on_quietly : fed.event ≡ event.More

@@ -13,6 +13,7 @@ pub mod VisitLemmas
 pub mod ToldLemmas
 pub mod CountLemmas
 pub mod FeedLemmas
+pub mod UnitEnds
 pub mod WorkLemmas
 pub mod ReadLemmas
 pub mod FindingVisits

@@ -4,8 +4,9 @@ use Rattle.dl_head.specs.declared.fault.Fault.{Fault}
 use Rattle.dl_rows.specs.declared.reader.Fed.{Fed}
 use Rattle.dl_cmd.specs.Told.{RowsOf}
 use Rattle.dl_cmd.specs.UnitsRead.{UnitsAre}
-use Rattle.dl_cmd.proofs.FeedLemmas.{stops_at_row, damaged, idle, unmet, goes_on, stops_told, next_unit, no_more}
-use Rattle.dl_cmd.proofs.FeedLemmas.{stops_at_end, goes_on_quietly, is_unit, feeds, are_ended, still_small}
+use Rattle.dl_cmd.proofs.FeedLemmas.{stops_at_row, damaged, idle, unmet, goes_on, stops_told}
+use Rattle.dl_cmd.proofs.FeedLemmas.{goes_on_quietly, feeds, are_ended, still_small}
+use Rattle.dl_cmd.proofs.UnitEnds.{is_unit, next_unit, no_more, stops_at_end}
 use Rattle.dl_cmd.proofs.FeedLemmas.{visits_so_far, rows_told}
 use Rattle.dl_cmd.proofs.section.Units.feed.Goals as goal
 
