@@ -16,23 +16,22 @@ use Rattle.dl_rows.specs.declared.row.Row.{Row}
 use Rattle.dl_rows.specs.declared.reader.Event.{Event}
 use Rattle.dl_rows.specs.declared.reader.Event.TheVariants as event
 use Rattle.dl_rows.specs.declared.reader.Fed.{Fed}
-use Rattle.dl_rows.specs.LineUnit.{IsUnit, events}
+use Rattle.dl_rows.specs.LineUnit.{events}
 use Rattle.dl_rows.specs.Reading.{WithinUnit, told, EventHoldsBehind, FeedsBehind}
 use Rattle.dl_rows.specs.ReaderStands.{StandsFor}
 use Rattle.dl_rows.specs.ReaderAnswers.{FedBehind}
 use Rattle.dl_cmd.specs.declared.fault.RunFault.{RunFault}
 use Rattle.dl_cmd.specs.declared.fault.RunFault.TheVariants as fault
-use Rattle.dl_rows.specs.declared.sink.Flow.{Flow}
 use Rattle.dl_rows.specs.declared.sink.Flow.TheVariants as flow
 use Rattle.dl_cmd.specs.declared.section.Units.{Units}
 use Rattle.dl_print.specs.Counts.{add}
 use Rattle.dl_cmd.specs.Section.{Visit, of_row, HasUnits, HasBegun, AddsCell, header_of, event_visits, visits}
-use Rattle.dl_cmd.specs.Section.{units_visits, end_visits, section_visits}
+use Rattle.dl_cmd.specs.Section.{units_visits, section_visits}
 use Rattle.dl_cmd.specs.Told.{RowsOf, StopsAtRow}
-use Rattle.dl_cmd.specs.Visiting.{Story, StopsIn, GoesOn}
+use Rattle.dl_cmd.specs.Visiting.{Story, StopsIn}
 use Rattle.dl_cmd.specs.UnitsRead.{UnitsAre, counted, UnitsFed}
 use Rattle.dl_cmd.proofs.EventLemmas.{visits_grow, rows_visited}
-use Rattle.dl_cmd.proofs.SectionLemmas.{no_unit_begins, no_unit_refused, none_refused, has_push, section_visits-push}
+use Rattle.dl_cmd.proofs.SectionLemmas.{no_unit_begins, no_unit_refused}
 use Rattle.dl_cmd.proofs.CountLemmas.{more_read}
 
 -- of the piece all but the rest were read
