@@ -6,8 +6,6 @@ mod answers;
 #[cfg(test)]
 mod each_call;
 #[cfg(test)]
-mod lines;
-#[cfg(test)]
 mod live;
 #[cfg(test)]
 mod objects;

@@ -2,8 +2,6 @@
 #![tactic(auto)]
 
 #[cfg(test)]
-mod addresses;
-#[cfg(test)]
 mod copying;
 #[cfg(test)]
 mod each_call;
@@ -17,7 +15,5 @@ mod printing;
 mod reading;
 #[cfg(test)]
 mod sections;
-#[cfg(test)]
-mod words;
 #[cfg(test)]
 mod writing;

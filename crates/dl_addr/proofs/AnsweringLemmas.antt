@@ -1,5 +1,7 @@
 -- What `addr` answers and writes.
-use Rattle.std.proofs.Common.{◌≡◌, inl, inr, ℕ, Bool, List, [], ◌∷◌, ◌++◌, length, flat_map, map, take, slice_get, Option, Some, None, Result, Ok, Err, arith, refl, sym, ap, ap₂, ◌∙◌, subst, append_assoc, length-append}
+use Rattle.std.proofs.Common.{◌≡◌, inl, inr, ℕ, Bool, List, [], ◌∷◌, ◌++◌, length, flat_map, map, take, slice_get}
+use Rattle.std.proofs.Common.{Option, Some, None, Result, Ok, Err, arith, refl, sym, ap, ap₂, ◌∙◌, subst, append_assoc}
+use Rattle.std.proofs.Common.{length-append}
 use Rattle.std.specs.Prelude.{if◌then◌else◌, ◌&&◌, is_some, option_map}
 use Rattle.std.specs.Io.KnownBytes.{Appends}
 use Rattle.std.specs.List.{concat, list_all}
@@ -58,26 +60,37 @@ module _ (order : Order) (q : Question) (s : Strings) (first : Locator) (knows :
   abbrev live : ℕ → Bool
   live = is_code (option_copied q.code)
 
-  pub live_is : (x : Place) (visits : List Visit) (units : List (List ℕ)) → ((l : ℕ → Bool) → Rattle.dl_addr.specs.Locating.located_after l x [] first.unit visits ≡ located order l units x) → located_by first x visits ≡ located order live units x
-  live_is x visits units is = is (code_of first) ∙ ap (λ code. located order (is_code (option_copied code)) units x) knows.code
+  pub live_is : (x : Place) (visits : List Visit) (units : List (List ℕ))
+      → ((l : ℕ → Bool)
+      → Rattle.dl_addr.specs.Locating.located_after l x [] first.unit visits ≡ located order l units x)
+      → located_by first x visits ≡ located order live units x
+  live_is x visits units is =
+      is (code_of first) ∙ ap (λ code. located order (is_code (option_copied code)) units x) knows.code
 
-  text_seen : (o : Option Located) → seen_text q.style.form (option_map (located_seen first) o) ≡ answer_text q.style s o
+  text_seen : (o : Option Located)
+      → seen_text q.style.form (option_map (located_seen first) o) ≡ answer_text q.style s o
   text_seen None = refl
   text_seen (Some l) =
-      ap (λ (st : Style). row_text q.style.form (path_text st (path_of (strings_of first.strings) l.header l.row.file)) l.row l.unit) knows.style
-      ∙ ap (λ (ss : Strings). row_text q.style.form (path_text q.style (path_of ss l.header l.row.file)) l.row l.unit) knows.strings
+      ap (λ (st : Style). row_text q.style.form (path_text st (path_of (strings_of first.strings) l.header l.row.file))
+      l.row l.unit) knows.style
+      ∙ ap (λ (ss : Strings). row_text q.style.form (path_text q.style (path_of ss l.header l.row.file)) l.row l.unit)
+      knows.strings
 
-  module _ (visits : List Visit) (units : List (List ℕ)) (is : (x : Place) → located_by first x visits ≡ located order live units x) where
-    place_same : (o : Option Place) → option_and_then (λ x. located_by first x visits) o ≡ option_and_then (located order live units) o
+  module _ (visits : List Visit) (units : List (List ℕ))
+      (is : (x : Place) → located_by first x visits ≡ located order live units x) where
+    place_same : (o : Option Place)
+        → option_and_then (λ x. located_by first x visits) o ≡ option_and_then (located order live units) o
     place_same None = refl
     place_same (Some x) = is x
 
-    answer_same : (a : Asked) → answer_for first visits q.base a ≡ option_map (located_seen first) (answer_in order q units a)
+    answer_same : (a : Asked)
+        → answer_for first visits q.base a ≡ option_map (located_seen first) (answer_in order q units a)
     answer_same a = ap (option_map (located_seen first)) (place_same (place_of q.base a))
 
     pub lines_same : seen_lines q.style (answer_for first visits q.base) q.asked.now ≡ answer_lines order s q units
     lines_same =
-        flat_same _ _ (λ (a : Asked). ap (λ (t : List ℕ). (asked_text q.style.form a ++ t) ++ 10 ∷ []) (ap (seen_text q.style.form) (answer_same a) ∙ text_seen (answer_in order q units a))) q.asked.now
+        flat_same _ _ (λ (a : Asked). ap (λ (t : List ℕ). (asked_text q.style.form a ++ t) ++ 10 ∷ [])
+        (ap (seen_text q.style.form) (answer_same a) ∙ text_seen (answer_in order q units a))) q.asked.now
 
     some_same : (o : Option Located) → is_some (option_map (located_seen first) o) ≡ is_some o
     some_same None = refl
@@ -90,7 +103,8 @@ module _ (order : Order) (q : Question) (s : Strings) (first : Locator) (knows :
 
   -- ---- the reading
 
-  module _ (limit : ℕ) (bytes : List ℕ) (left : Option (List ℕ)) (new : Locator) (start mid : Option (List ℕ)) (made : IsMadeFor first (map (looked_up q.base) q.asked.now)) where
+  module _ (limit : ℕ) (bytes : List ℕ) (left : Option (List ℕ)) (new : Locator) (start mid : Option (List ℕ))
+      (made : IsMadeFor first (map (looked_up q.base) q.asked.now)) where
     -- where it ended, the locator stands for the visits that the units are told
     pub record Reads (ending : Result Summary RunFault) : Type 0 where
       pub units : List (List ℕ)
@@ -102,34 +116,56 @@ module _ (order : Order) (q : Question) (s : Strings) (first : Locator) (knows :
       pub same : (x : Place) → located_by first x visits ≡ located order live units x
       pub out : Appends start mid []
 
-    section_same : (units : List (List ℕ)) (b : List ℕ) (x : Place) → located_by first x (section_visits order units b) ≡ located order live units x
-    section_same units b x = live_is x (section_visits order units b) units (λ l. located_of_section l x order first.unit units b)
+    section_same : (units : List (List ℕ)) (b : List ℕ) (x : Place)
+        → located_by first x (section_visits order units b) ≡ located order live units x
+    section_same units b x =
+        live_is x (section_visits order units b) units (λ l. located_of_section l x order first.unit units b)
 
-    pub reads_all : (summary : Summary) → Ran locate_story order limit bytes left first new start mid (Ok summary) → (units : List (List ℕ)) × EndsAs order limit bytes left units [] [] (Ok summary)
-        × Locating first new start mid (section_visits order units []) × ((x : Place) → located_by first x (section_visits order units []) ≡ located order live units x) × Appends start mid []
+    pub reads_all : (summary : Summary) → Ran locate_story order limit bytes left first new start mid (Ok summary)
+        → (units : List (List ℕ)) × EndsAs order limit bytes left units [] [] (Ok summary)
+        × Locating first new start mid (section_visits order units [])
+        × ((x : Place) → located_by first x (section_visits order units []) ≡ located order live units x)
+        × Appends start mid []
     reads_all summary (inl (units, ends, settled)) = (units, ends, settled.tells, section_same units [], settled.out)
     reads_all summary (inr done) = absurd done.4.tells
 
-    was_asked : (number : ℕ) (x : Place) → slice_get (map (looked_up q.base) q.asked.now) number ≡ Some x → (a : Asked) × (slice_get q.asked.now number ≡ Some a) × (looked_up q.base a ≡ x)
+    was_asked : (number : ℕ) (x : Place) → slice_get (map (looked_up q.base) q.asked.now) number ≡ Some x
+        → (a : Asked) × (slice_get q.asked.now number ≡ Some a) × (looked_up q.base a ≡ x)
     was_asked number x at = by (slice_get q.asked.now number) refl where
-      by : (o : Option Asked) → slice_get q.asked.now number ≡ o → (a : Asked) × (slice_get q.asked.now number ≡ Some a) × (looked_up q.base a ≡ x)
-      by None is = absurd (Rattle.dl_addr.proofs.TextLemmas.none_is_some (sym (ap (option_map (looked_up q.base)) is) ∙ sym (slice_get-map (looked_up q.base) q.asked.now number) ∙ at))
-      by (Some a) is =
-          (a, is, Rattle.dl_addr.proofs.TextLemmas.some_same (looked_up q.base a) x (sym (ap (option_map (looked_up q.base)) is) ∙ sym (slice_get-map (looked_up q.base) q.asked.now number) ∙ at))
+      by : (o : Option Asked) → slice_get q.asked.now number ≡ o → (a : Asked) × (slice_get q.asked.now number ≡ Some a)
+          × (looked_up q.base a ≡ x)
+      by None is =
+          absurd (Rattle.dl_addr.proofs.TextLemmas.none_is_some (sym (ap (option_map (looked_up q.base)) is)
+          ∙ sym (slice_get-map (looked_up q.base) q.asked.now number) ∙ at))
+      by (Some a) is = (
+        a,
+        is,
+        Rattle.dl_addr.proofs.TextLemmas.some_same (looked_up q.base a) x
+            (sym (ap (option_map (looked_up q.base)) is) ∙ sym (slice_get-map (looked_up q.base) q.asked.now number)
+            ∙ at),
+      )
 
     -- it stopped at the end of a unit
-    stopped : (f : RunFault) (units : List (List ℕ)) (b back : List ℕ) → HasBegun order (take limit bytes) units b back → VisitorStops locate_story first new start mid (section_visits order units b) f → (f ≡ fault.NoMemory) × Reads (Err fault.NoMemory)
+    stopped : (f : RunFault) (units : List (List ℕ)) (b back : List ℕ) → HasBegun order (take limit bytes) units b back
+        → VisitorStops locate_story first new start mid (section_visits order units b) f
+        → (f ≡ fault.NoMemory) × Reads (Err fault.NoMemory)
     stopped f units b back has stops =
         let r = stops.reason in
         let last = ends_same stops.before r.before stops.visit (of_end r.h) r.whole in
-        let cut : section_visits order units b ≡ stops.before ++ of_end r.h ∷ stops.more = stops.whole ∙ ap (λ (v : Visit). stops.before ++ v ∷ stops.more) last.1 in
+        let cut : section_visits order units b ≡ stops.before ++ of_end r.h ∷ stops.more =
+        stops.whole ∙ ap (λ (v : Visit). stops.before ++ v ∷ stops.more) last.1 in
         let split = splits_section order first.unit units b stops.before r.h stops.more cut in
         let a = r.answers (map (looked_up q.base) q.asked.now) made in
         let asked = was_asked a.0 a.1 a.2 in
-        let before_is : (x : Place) → located_by first x stops.before ≡ located order live split.front x = λ x. live_is x stops.before split.front (λ l. split.located_before l x) in
-        let behind_is : (x : Place) → located_by first x (stops.before ++ of_end r.h ∷ []) ≡ located order live (split.front ++ split.u ∷ []) x =
-        λ x. live_is x (stops.before ++ of_end r.h ∷ []) (split.front ++ split.u ∷ []) (λ l. split.located_behind l x) in
-        let all : units ≡ (split.front ++ split.u ∷ []) ++ split.after = split.whole ∙ sym (append_assoc split.front (split.u ∷ []) split.after) in (
+        let before_is : (x : Place) → located_by first x stops.before ≡ located order live split.front x =
+        λ x. live_is x stops.before split.front (λ l. split.located_before l x) in
+        let behind_is : (x : Place)
+        → located_by first x (stops.before ++ of_end r.h ∷ [])
+        ≡ located order live (split.front ++ split.u ∷ []) x =
+        λ x. live_is x (stops.before ++ of_end r.h ∷ []) (split.front ++ split.u ∷ [])
+        (λ l. split.located_behind l x) in
+        let all : units ≡ (split.front ++ split.u ∷ []) ++ split.after =
+        split.whole ∙ sym (append_assoc split.front (split.u ∷ []) split.after) in (
           r.is,
           record {
             units = split.front;
@@ -137,13 +173,18 @@ module _ (order : Order) (q : Question) (s : Strings) (first : Locator) (knows :
             back = concat split.after ++ (b ++ back);
             visits = stops.before;
             ends = inr (
-              has_front order (take limit bytes) units (split.front ++ split.u ∷ []) split.after (b ++ back) all has.has,
+              has_front order (take limit bytes) units (split.front ++ split.u ∷ []) split.after
+                  (b ++ back) all has.has,
               record {
                 a = asked.0;
                 number = a.0;
                 is_asked = asked.1;
-                not_before = ap (located order live split.front) asked.2 ∙ sym (before_is a.1) ∙ ap (located_by first a.1) last.0 ∙ a.3;
-                answers = ap is_some (ap (located order live (split.front ++ split.u ∷ [])) asked.2 ∙ sym (behind_is a.1) ∙ ap (λ (v : Visit). located_by first a.1 (stops.before ++ v ∷ [])) (sym last.1)) ∙ a.4;
+                not_before =
+                    ap (located order live split.front) asked.2 ∙ sym (before_is a.1) ∙ ap (located_by first a.1) last.0
+                    ∙ a.3;
+                answers =
+                    ap is_some (ap (located order live (split.front ++ split.u ∷ [])) asked.2 ∙ sym (behind_is a.1)
+                    ∙ ap (λ (v : Visit). located_by first a.1 (stops.before ++ v ∷ [])) (sym last.1)) ∙ a.4;
               },
             );
             stands = stops.tells;
@@ -153,74 +194,181 @@ module _ (order : Order) (q : Question) (s : Strings) (first : Locator) (knows :
         )
 
     -- where it ends with a fault
-    pub reads_some : (f : RunFault) → Ran locate_story order limit bytes left first new start mid (Err f) → Reads (Err f)
+    pub reads_some : (f : RunFault) → Ran locate_story order limit bytes left first new start mid (Err f)
+        → Reads (Err f)
     reads_some (fault.Write out) (units, b, back, has, writes) = absurd (let below = writes.3.0 in omega arith)
-    reads_some fault.NoMemory (units, b, back, inl (ends, settled)) = record { units = units; b = b; back = back; visits = section_visits order units b; ends = inl ends; stands = settled.tells; same = section_same units b; out = settled.out }
-    reads_some fault.NoMemory (units, b, back, inr (has, sound, stops)) = (stopped fault.NoMemory units b back has stops).1
-    reads_some (fault.Damage offset kind) (units, b, back, inl (ends, settled)) = record { units = units; b = b; back = back; visits = section_visits order units b; ends = ends; stands = settled.tells; same = section_same units b; out = settled.out }
-    reads_some (fault.Damage offset kind) (units, b, back, inr (has, sound, stops)) = absurd (let e = (stopped _ units b back has stops).0 in cc)
-    reads_some fault.Read (units, b, back, inl (ends, settled)) = record { units = units; b = b; back = back; visits = section_visits order units b; ends = ends; stands = settled.tells; same = section_same units b; out = settled.out }
-    reads_some fault.Read (units, b, back, inr (has, sound, stops)) = absurd (let e = (stopped _ units b back has stops).0 in cc)
-    reads_some fault.SectionTooLong (units, b, back, inl (ends, settled)) = record { units = units; b = b; back = back; visits = section_visits order units b; ends = ends; stands = settled.tells; same = section_same units b; out = settled.out }
-    reads_some fault.SectionTooLong (units, b, back, inr (has, sound, stops)) = absurd (let e = (stopped _ units b back has stops).0 in cc)
+    reads_some fault.NoMemory (units, b, back, inl (ends, settled)) =
+        record {
+          units = units;
+          b = b;
+          back = back;
+          visits = section_visits order units b;
+          ends = inl ends;
+          stands =
+              settled.tells;
+          same = section_same units b;
+          out = settled.out;
+        }
+    reads_some fault.NoMemory (units, b, back, inr (has, sound, stops)) =
+        (stopped fault.NoMemory units b back has stops).1
+    reads_some (fault.Damage offset kind) (units, b, back, inl (ends, settled)) =
+        record {
+          units = units;
+          b = b;
+          back = back;
+          visits = section_visits order units b;
+          ends = ends;
+          stands =
+              settled.tells;
+          same = section_same units b;
+          out = settled.out;
+        }
+    reads_some (fault.Damage offset kind) (units, b, back, inr (has, sound, stops)) =
+        absurd (let e = (stopped _ units b back has stops).0 in cc)
+    reads_some fault.Read (units, b, back, inl (ends, settled)) =
+        record {
+          units = units;
+          b = b;
+          back = back;
+          visits = section_visits order units b;
+          ends = ends;
+          stands =
+              settled.tells;
+          same = section_same units b;
+          out = settled.out;
+        }
+    reads_some fault.Read (units, b, back, inr (has, sound, stops)) =
+        absurd (let e = (stopped _ units b back has stops).0 in cc)
+    reads_some fault.SectionTooLong (units, b, back, inl (ends, settled)) =
+        record {
+          units = units;
+          b = b;
+          back = back;
+          visits = section_visits order units b;
+          ends = ends;
+          stands =
+              settled.tells;
+          same = section_same units b;
+          out = settled.out;
+        }
+    reads_some fault.SectionTooLong (units, b, back, inr (has, sound, stops)) =
+        absurd (let e = (stopped _ units b back has stops).0 in cc)
     reads_some fault.NotFound (units, b, back, inl (ends, settled)) = absurd ends
-    reads_some fault.NotFound (units, b, back, inr (has, sound, stops)) = absurd (let e = (stopped _ units b back has stops).0 in cc)
+    reads_some fault.NotFound (units, b, back, inr (has, sound, stops)) =
+        absurd (let e = (stopped _ units b back has stops).0 in cc)
     reads_some (fault.ForeignUnit unit) (units, b, back, inl (ends, settled)) = absurd ends
-    reads_some (fault.ForeignUnit unit) (units, b, back, inr (has, sound, stops)) = absurd (let e = (stopped _ units b back has stops).0 in cc)
+    reads_some (fault.ForeignUnit unit) (units, b, back, inr (has, sound, stops)) =
+        absurd (let e = (stopped _ units b back has stops).0 in cc)
     reads_some (fault.Emit unit f) (units, b, back, inl (ends, settled)) = absurd ends
-    reads_some (fault.Emit unit f) (units, b, back, inr (has, sound, stops)) = absurd (let e = (stopped _ units b back has stops).0 in cc)
+    reads_some (fault.Emit unit f) (units, b, back, inr (has, sound, stops)) =
+        absurd (let e = (stopped _ units b back has stops).0 in cc)
 
-    pub reads : (ending : Result Summary RunFault) → Ran locate_story order limit bytes left first new start mid ending → Reads ending
-    reads (Ok summary) ran = let r = reads_all summary ran in record { units = r.0; b = []; back = []; visits = section_visits order r.0 []; ends = r.1; stands = r.2; same = r.3; out = r.4 }
+    pub reads : (ending : Result Summary RunFault) → Ran locate_story order limit bytes left first new start mid ending
+        → Reads ending
+    reads (Ok summary) ran =
+        let r = reads_all summary ran in
+        record {
+          units = r.0;
+          b = [];
+          back = [];
+          visits = section_visits order r.0 [];
+          ends = r.1;
+          stands = r.2;
+          same =
+              r.3;
+          out = r.4;
+        }
     reads (Err f) ran = reads_some f ran
 
     -- ---- what is printed then
 
     module _ (now : Option (List ℕ)) where
       -- the lines are out
-      lines_out : (units : List (List ℕ)) (visits : List Visit) → ((x : Place) → located_by first x visits ≡ located order live units x) → Appends start mid []
-          → Appends mid now (seen_lines q.style (answer_for first visits q.base) q.asked.now) → Appends start now (answer_lines order s q units)
+      lines_out : (units : List (List ℕ)) (visits : List Visit)
+          → ((x : Place) → located_by first x visits ≡ located order live units x) → Appends start mid []
+          → Appends mid now (seen_lines q.style (answer_for first visits q.base) q.asked.now)
+          → Appends start now (answer_lines order s q units)
       lines_out units visits same nothing out =
-          Appends-trans start mid now [] (answer_lines order s q units) nothing (subst (Appends mid now) (lines_same visits units same) out)
+          Appends-trans start mid now [] (answer_lines order s q units) nothing
+          (subst (Appends mid now) (lines_same visits units same) out)
 
-      pub all_told : (summary : Summary) (all_found : Found) → Ran locate_story order limit bytes left first new start mid (Ok summary)
-          → ((visits : List Visit) → Locating first new start mid visits → PrintsAll mid now q (answer_for first visits q.base) (Ok all_found)) → Locates order s q limit bytes left start now (Ok all_found)
+      pub all_told : (summary : Summary) (all_found : Found)
+          → Ran locate_story order limit bytes left first new start mid (Ok summary)
+          → ((visits : List Visit) → Locating first new start mid visits
+          → PrintsAll mid now q (answer_for first visits q.base) (Ok all_found))
+          → Locates order s q limit bytes left start now (Ok all_found)
       all_told summary all_found ran prints =
           let r = reads_all summary ran in
-          let p = prints (section_visits order r.0 []) r.2 in
-          (r.0, summary, r.1, p.0 ∙ found_same (section_visits order r.0 []) r.0 r.3, lines_out r.0 (section_visits order r.0 []) r.3 r.4 p.1)
+          let p = prints (section_visits order r.0 []) r.2 in (
+            r.0,
+            summary,
+            r.1,
+            p.0 ∙ found_same (section_visits order r.0 []) r.0 r.3,
+            lines_out r.0 (section_visits order r.0 []) r.3 r.4 p.1,
+          )
 
-      told_of : (f : RunFault) (all_found : Found) → (r : Reads (Err f)) → PrintsAll mid now q (answer_for first r.visits q.base) (Ok all_found)
-          → (units : List (List ℕ)) × (b : List ℕ) × (back : List ℕ) × Ends order limit bytes left q units b back (Err f) × Appends start now (answer_lines order s q units)
+      told_of : (f : RunFault) (all_found : Found) → (r : Reads (Err f))
+          → PrintsAll mid now q (answer_for first r.visits q.base) (Ok all_found)
+          → (units : List (List ℕ)) × (b : List ℕ) × (back : List ℕ)
+          × Ends order limit bytes left q units b back (Err f) × Appends start now (answer_lines order s q units)
       told_of f all_found r p = (r.units, r.b, r.back, r.ends, lines_out r.units r.visits r.same r.out p.1)
 
-      pub fault_told : (f : RunFault) (all_found : Found) → Ran locate_story order limit bytes left first new start mid (Err f)
-          → ((visits : List Visit) → Locating first new start mid visits → PrintsAll mid now q (answer_for first visits q.base) (Ok all_found)) → Locates order s q limit bytes left start now (Err f)
-      fault_told (fault.Write out) all_found (units, b, back, has, writes) prints = absurd (let below = writes.3.0 in omega arith)
-      fault_told fault.NoMemory all_found ran prints = let r = reads_some fault.NoMemory ran in inr (told_of fault.NoMemory all_found r (prints r.visits r.stands))
-      fault_told (fault.Damage offset kind) all_found ran prints = let r = reads_some (fault.Damage offset kind) ran in told_of (fault.Damage offset kind) all_found r (prints r.visits r.stands)
-      fault_told fault.Read all_found ran prints = let r = reads_some fault.Read ran in told_of fault.Read all_found r (prints r.visits r.stands)
-      fault_told fault.SectionTooLong all_found ran prints = let r = reads_some fault.SectionTooLong ran in told_of fault.SectionTooLong all_found r (prints r.visits r.stands)
-      fault_told fault.NotFound all_found ran prints = let r = reads_some fault.NotFound ran in told_of fault.NotFound all_found r (prints r.visits r.stands)
-      fault_told (fault.ForeignUnit unit) all_found ran prints = let r = reads_some (fault.ForeignUnit unit) ran in told_of (fault.ForeignUnit unit) all_found r (prints r.visits r.stands)
-      fault_told (fault.Emit unit e) all_found ran prints = let r = reads_some (fault.Emit unit e) ran in told_of (fault.Emit unit e) all_found r (prints r.visits r.stands)
+      pub fault_told : (f : RunFault) (all_found : Found)
+          → Ran locate_story order limit bytes left first new start mid (Err f)
+          → ((visits : List Visit) → Locating first new start mid visits
+          → PrintsAll mid now q (answer_for first visits q.base) (Ok all_found))
+          → Locates order s q limit bytes left start now (Err f)
+      fault_told (fault.Write out) all_found (units, b, back, has, writes) prints =
+          absurd (let below = writes.3.0 in omega arith)
+      fault_told fault.NoMemory all_found ran prints =
+          let r = reads_some fault.NoMemory ran in inr (told_of fault.NoMemory all_found r (prints r.visits r.stands))
+      fault_told (fault.Damage offset kind) all_found ran prints =
+          let r = reads_some (fault.Damage offset kind) ran in
+          told_of (fault.Damage offset kind) all_found r (prints r.visits r.stands)
+      fault_told fault.Read all_found ran prints =
+          let r = reads_some fault.Read ran in told_of fault.Read all_found r (prints r.visits r.stands)
+      fault_told fault.SectionTooLong all_found ran prints =
+          let r = reads_some fault.SectionTooLong ran in
+          told_of fault.SectionTooLong all_found r (prints r.visits r.stands)
+      fault_told fault.NotFound all_found ran prints =
+          let r = reads_some fault.NotFound ran in told_of fault.NotFound all_found r (prints r.visits r.stands)
+      fault_told (fault.ForeignUnit unit) all_found ran prints =
+          let r = reads_some (fault.ForeignUnit unit) ran in
+          told_of (fault.ForeignUnit unit) all_found r (prints r.visits r.stands)
+      fault_told (fault.Emit unit e) all_found ran prints =
+          let r = reads_some (fault.Emit unit e) ran in
+          told_of (fault.Emit unit e) all_found r (prints r.visits r.stands)
 
       -- a write failed
-      pub lines_lost : (ending : Result Summary RunFault) (lost : WriteFault) → Ran locate_story order limit bytes left first new start mid ending
-          → ((visits : List Visit) → Locating first new start mid visits → PrintsAll mid now q (answer_for first visits q.base) (Err lost)) → Locates order s q limit bytes left start now (Err (fault.Write lost.out))
+      pub lines_lost : (ending : Result Summary RunFault) (lost : WriteFault)
+          → Ran locate_story order limit bytes left first new start mid ending
+          → ((visits : List Visit) → Locating first new start mid visits
+          → PrintsAll mid now q (answer_for first visits q.base) (Err lost))
+          → Locates order s q limit bytes left start now (Err (fault.Write lost.out))
       lines_lost ending lost ran prints =
           let r = reads ending ran in
-          let t = subst (λ (l : List ℕ). TellsOut mid now l lost) (lines_same r.visits r.units r.same) (prints r.visits r.stands) in (
+          let t = subst (λ (l : List ℕ). TellsOut mid now l lost) (lines_same r.visits r.units r.same)
+          (prints r.visits r.stands) in (
             r.units,
             r.b,
             r.back,
             ending,
             r.ends,
-            (t.0, record { within = t.1.within; written = Appends-trans start mid now [] (take lost.out (answer_lines order s q r.units)) r.out t.1.written }),
+            (
+              t.0,
+              record {
+                within = t.1.within;
+                written =
+                    Appends-trans start mid now [] (take lost.out (answer_lines order s q r.units)) r.out t.1.written;
+              },
+            ),
           )
 
-      pub is_told : (ending : Result Summary RunFault) (printed : Result Found WriteFault) → Ran locate_story order limit bytes left first new start mid ending
-          → ((visits : List Visit) → Locating first new start mid visits → PrintsAll mid now q (answer_for first visits q.base) printed) → Locates order s q limit bytes left start now (told ending printed)
+      pub is_told : (ending : Result Summary RunFault) (printed : Result Found WriteFault)
+          → Ran locate_story order limit bytes left first new start mid ending
+          → ((visits : List Visit) → Locating first new start mid visits
+          → PrintsAll mid now q (answer_for first visits q.base) printed)
+          → Locates order s q limit bytes left start now (told ending printed)
       is_told ending (Err lost) ran prints = lines_lost ending lost ran prints
       is_told (Ok summary) (Ok all_found) ran prints = all_told summary all_found ran prints
       is_told (Err f) (Ok all_found) ran prints = fault_told f all_found ran prints

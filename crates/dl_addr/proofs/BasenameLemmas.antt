@@ -1,5 +1,6 @@
 -- What stands after the last separator.
-use Rattle.std.proofs.Common.{◌≡◌, ℕ, ◌<◌, zero, suc, Bool, true, false, List, [], ◌∷◌, length, drop, get_or, refl, ap, ◌∙◌, arith}
+use Rattle.std.proofs.Common.{◌≡◌, ℕ, ◌<◌, zero, suc, Bool, true, false, List, [], ◌∷◌, length, drop, get_or, refl, ap}
+use Rattle.std.proofs.Common.{◌∙◌, arith}
 use Rattle.std.specs.Prelude.{if◌then◌else◌, ◌||◌}
 use Rattle.std.specs.List.{list_any}
 use Rattle.dl_addr.specs.Shown.{behind_last}
@@ -25,15 +26,20 @@ module _ (sep : ℕ → Bool) where
   any_at (b ∷ path) (suc i) d lt is = or_true (sep b) (list_any sep path) (any_at path i d (omega arith) is)
 
   -- a separator, and none after it
-  pub behind_at : (path : List ℕ) (i d : ℕ) → i < length path → sep (get_or path i d) ≡ true → list_any sep (drop (suc i) path) ≡ false → behind_last sep path ≡ drop (suc i) path
+  pub behind_at : (path : List ℕ) (i d : ℕ) → i < length path → sep (get_or path i d) ≡ true
+      → list_any sep (drop (suc i) path) ≡ false → behind_last sep path ≡ drop (suc i) path
   behind_at [] i d lt is none = absurd (omega arith)
   behind_at (b ∷ path) zero d lt is none =
-      ap (λ (c : Bool). if c then behind_last sep path else b ∷ path) (or_left (sep b) (list_any sep path) is) ∙ behind_none path none
+      ap (λ (c : Bool). if c then behind_last sep path else b ∷ path) (or_left (sep b) (list_any sep path) is)
+      ∙ behind_none path none
   behind_at (b ∷ path) (suc i) d lt is none =
-      ap (λ (c : Bool). if c then behind_last sep path else b ∷ path) (or_true (sep b) (list_any sep path) (any_at path i d (omega arith) is)) ∙ behind_at path i d (omega arith) is none
+      ap (λ (c : Bool). if c then behind_last sep path
+      else b ∷ path) (or_true (sep b) (list_any sep path) (any_at path i d (omega arith) is))
+      ∙ behind_at path i d (omega arith) is none
 
   -- one byte more that is no separator
-  pub none_more : (path : List ℕ) (i d : ℕ) → i < length path → sep (get_or path i d) ≡ false → list_any sep (drop (suc i) path) ≡ false → list_any sep (drop i path) ≡ false
+  pub none_more : (path : List ℕ) (i d : ℕ) → i < length path → sep (get_or path i d) ≡ false
+      → list_any sep (drop (suc i) path) ≡ false → list_any sep (drop i path) ≡ false
   none_more [] i d lt is none = absurd (omega arith)
   none_more (b ∷ path) zero d lt is none = or_false (sep b) (list_any sep path) is none
   none_more (b ∷ path) (suc i) d lt is none = none_more path i d (omega arith) is none

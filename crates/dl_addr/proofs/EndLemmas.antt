@@ -1,5 +1,6 @@
 -- At which unit a locator stops.
-use Rattle.std.proofs.Common.{◌≡◌, ◌⊎◌, inl, inr, ℕ, ◌+◌, Bool, true, false, List, [], ◌∷◌, ◌++◌, length, flat_map, Option, Some, None, refl, sym, ap, ◌∙◌, append_assoc, append-nil, true≢false}
+use Rattle.std.proofs.Common.{◌≡◌, ◌⊎◌, inl, inr, ℕ, ◌+◌, Bool, true, false, List, [], ◌∷◌, ◌++◌, length, flat_map}
+use Rattle.std.proofs.Common.{Option, Some, None, refl, sym, ap, ◌∙◌, append_assoc, append-nil, true≢false}
 use Rattle.std.specs.Prelude.{◌||◌}
 use Rattle.std.specs.List.{concat, list_any}
 use Rattle.std.specs.Option.{option_or}
@@ -8,7 +9,8 @@ use Rattle.dl_field.specs.HeaderData.{HeaderData}
 use Rattle.dl_rows.specs.declared.reader.Event.{Event}
 use Rattle.dl_rows.specs.declared.reader.Event.TheVariants as event
 use Rattle.dl_rows.specs.LineUnit.{ends_open, events, unit_rows}
-use Rattle.dl_cmd.specs.Section.{Visit, of_header, of_version, of_row, of_open, of_end, header_of, header_visit, event_visits, visits, open_visit, unit_visits, units_visits, section_visits}
+use Rattle.dl_cmd.specs.Section.{Visit, of_header, of_version, of_row, of_open, of_end, header_of, header_visit}
+use Rattle.dl_cmd.specs.Section.{event_visits, visits, open_visit, unit_visits, units_visits, section_visits}
 use Rattle.dl_cmd.specs.Copying.{offset_after}
 use Rattle.dl_cmd.proofs.Fronts.{fronts_of, or_none}
 use Rattle.dl_rows.specs.declared.row.Row.{Row}
@@ -28,7 +30,8 @@ any_mid (v ∷ a) h b = or_true (is_end v) (list_any is_end (a ++ of_end h ∷ b
   or_true true c e = refl
   or_true false c e = e
 
-none_both : (a b : List Visit) → list_any is_end a ≡ false → list_any is_end b ≡ false → list_any is_end (a ++ b) ≡ false
+none_both : (a b : List Visit) → list_any is_end a ≡ false → list_any is_end b ≡ false
+    → list_any is_end (a ++ b) ≡ false
 none_both [] b e e' = e'
 none_both (of_header n h ∷ a) b e e' = none_both a b e e'
 none_both (of_version n v ∷ a) b e e' = none_both a b e e'
@@ -40,10 +43,12 @@ none_header : (offset : ℕ) (h : Option HeaderData) → list_any is_end (header
 none_header offset None = refl
 none_header offset (Some h) = refl
 
-none_in : (offset : ℕ) (h : Option HeaderData) (es : List Event) → list_any is_end (flat_map (event_visits offset h) es) ≡ false
+none_in : (offset : ℕ) (h : Option HeaderData) (es : List Event)
+    → list_any is_end (flat_map (event_visits offset h) es) ≡ false
 none_in offset h [] = refl
 none_in offset h (event.More ∷ es) = none_in offset h es
-none_in offset h (event.Header ∷ es) = none_both (header_visit offset h) (flat_map (event_visits offset h) es) (none_header offset h) (none_in offset h es)
+none_in offset h (event.Header ∷ es) =
+    none_both (header_visit offset h) (flat_map (event_visits offset h) es) (none_header offset h) (none_in offset h es)
 none_in offset h (event.Foreign v ∷ es) = none_in offset h es
 none_in offset h (event.Row r ∷ es) = none_in offset h es
 none_in offset h (event.NoMemory ∷ es) = none_in offset h es
@@ -59,21 +64,29 @@ module _ (order : Order) where
   own offset u = visits order offset u ++ open_visit (ends_open (unit_rows order u))
 
   none_own : (offset : ℕ) (u : List ℕ) → list_any is_end (own offset u) ≡ false
-  none_own offset u = none_both (visits order offset u) (open_visit (ends_open (unit_rows order u))) (none_in offset (header_of order u) (events order u)) (none_open (ends_open (unit_rows order u)))
+  none_own offset u =
+      none_both (visits order offset u) (open_visit (ends_open (unit_rows order u)))
+      (none_in offset (header_of order u) (events order u)) (none_open (ends_open (unit_rows order u)))
 
   own_end : (offset : ℕ) (u : List ℕ) → own offset u ++ of_end (header_of order u) ∷ [] ≡ unit_visits order offset u
-  own_end offset u = append_assoc (visits order offset u) (open_visit (ends_open (unit_rows order u))) (of_end (header_of order u) ∷ [])
+  own_end offset u =
+      append_assoc (visits order offset u) (open_visit (ends_open (unit_rows order u))) (of_end (header_of order u)
+      ∷ [])
 
   -- u is one of the units; before the end of its visits the units before it answer, and after it u too
-  pub record SplitsAt (offset n : ℕ) (units : List (List ℕ)) (before : List Visit) (h : Option HeaderData) : Type 0 where
+  pub record SplitsAt (offset n : ℕ) (units : List (List ℕ)) (before : List Visit) (h : Option HeaderData) : Type
+      0 where
     pub front : List (List ℕ)
     pub u : List ℕ
     pub after : List (List ℕ)
     pub whole : units ≡ front ++ u ∷ after
-    pub located_before : (live : ℕ → Bool) (x : Place) → located_after live x [] n before ≡ located_from order live offset front x
-    pub located_behind : (live : ℕ → Bool) (x : Place) → located_after live x [] n (before ++ of_end h ∷ []) ≡ located_from order live offset (front ++ u ∷ []) x
+    pub located_before : (live : ℕ → Bool) (x : Place)
+        → located_after live x [] n before ≡ located_from order live offset front x
+    pub located_behind : (live : ℕ → Bool) (x : Place)
+        → located_after live x [] n (before ++ of_end h ∷ []) ≡ located_from order live offset (front ++ u ∷ []) x
 
-  none_located : (live : ℕ → Bool) (x : Place) (rows : List Row) (n : ℕ) (vs : List Visit) → list_any is_end vs ≡ false → located_after live x rows n vs ≡ None
+  none_located : (live : ℕ → Bool) (x : Place) (rows : List Row) (n : ℕ) (vs : List Visit) → list_any is_end vs ≡ false
+      → located_after live x rows n vs ≡ None
   none_located live x rows n [] e = refl
   none_located live x rows n (of_header m h ∷ vs) e = none_located live x rows m vs e
   none_located live x rows n (of_version m v ∷ vs) e = none_located live x rows n vs e
@@ -81,13 +94,17 @@ module _ (order : Order) where
   none_located live x rows n (of_open ∷ vs) e = none_located live x rows n vs e
   none_located live x rows n (of_end h ∷ vs) e = absurd (true≢false e)
 
-  behind_unit : (live : ℕ → Bool) (x : Place) (n offset : ℕ) (u : List ℕ) (rest : List Visit) → located_after live x [] n (unit_visits order offset u ++ rest)
-      ≡ option_or (located_in order live offset u x) (located_after live x [] (offset_after n (unit_visits order offset u)) rest)
+  behind_unit : (live : ℕ → Bool) (x : Place) (n offset : ℕ) (u : List ℕ) (rest : List Visit)
+      → located_after live x [] n (unit_visits order offset u ++ rest)
+      ≡ option_or (located_in order live offset u x)
+      (located_after live x [] (offset_after n (unit_visits order offset u)) rest)
   behind_unit live x n offset u rest =
       let own_visits = unit_visits order offset u in
       located_after-append live x [] n own_visits rest
-      ∙ ap (λ (l : List Row). option_or (located_after live x [] n own_visits) (located_after live x l (offset_after n own_visits) rest)) (rows_of_unit live x order offset u)
-      ∙ ap (λ (o : Option Located). option_or o (located_after live x [] (offset_after n own_visits) rest)) (located_of_unit live x order n offset u)
+      ∙ ap (λ (l : List Row). option_or (located_after live x [] n own_visits)
+      (located_after live x l (offset_after n own_visits) rest)) (rows_of_unit live x order offset u)
+      ∙ ap (λ (o : Option Located). option_or o (located_after live x [] (offset_after n own_visits) rest))
+      (located_of_unit live x order n offset u)
 
   end_same : (a b : Option HeaderData) → of_end a ≡ of_end b → a ≡ b
   end_same a b e = cc
@@ -98,64 +115,86 @@ module _ (order : Order) where
   abbrev next_offset : ℕ → ℕ → List ℕ → ℕ
   next_offset n offset u = offset_after n (unit_visits order offset u)
 
-  pub splits : (offset n : ℕ) (units : List (List ℕ)) (tail before : List Visit) (h : Option HeaderData) (more : List Visit) → list_any is_end tail ≡ false
+  pub splits : (offset n : ℕ) (units : List (List ℕ)) (tail before : List Visit) (h : Option HeaderData)
+      (more : List Visit) → list_any is_end tail ≡ false
       → units_visits order offset units ++ tail ≡ before ++ of_end h ∷ more → SplitsAt offset n units before h
-  splits offset n [] tail before h more none e = absurd (true≢false (sym (any_mid before h more) ∙ ap (list_any is_end) (sym e) ∙ none))
-  splits offset n (u ∷ units) tail before h more none e = by (λ x ends. splits (offset + length u) (next_offset n offset u) units tail x h more none ends) (fronts_of (own offset u) (of_end (header_of order u)) (rest_of offset u units tail) before (of_end h ∷ more) cut) where
-    cut : own offset u ++ of_end (header_of order u) ∷ (rest_of offset u units tail) ≡ before ++ of_end h ∷ more
-    cut =
-        sym (append_assoc (own offset u) (of_end (header_of order u) ∷ []) (rest_of offset u units tail))
-        ∙ ap (λ (l : List Visit). l ++ (rest_of offset u units tail)) (own_end offset u)
-        ∙ sym (append_assoc (unit_visits order offset u) (units_visits order (offset + length u) units) tail)
-        ∙ e
+  splits offset n [] tail before h more none e =
+      absurd (true≢false (sym (any_mid before h more) ∙ ap (list_any is_end) (sym e) ∙ none))
+  splits offset n (u ∷ units) tail before h more none e =
+      by (λ x ends. splits (offset + length u) (next_offset n offset u) units tail x h more none ends)
+      (fronts_of (own offset u) (of_end (header_of order u)) (rest_of offset u units tail) before (of_end h
+      ∷ more) cut) where
+        cut : own offset u ++ of_end (header_of order u) ∷ (rest_of offset u units tail) ≡ before ++ of_end h ∷ more
+        cut =
+            sym (append_assoc (own offset u) (of_end (header_of order u) ∷ []) (rest_of offset u units tail))
+            ∙ ap (λ (l : List Visit). l ++ (rest_of offset u units tail)) (own_end offset u)
+            ∙ sym (append_assoc (unit_visits order offset u) (units_visits order (offset + length u) units) tail)
+            ∙ e
 
-    later : (x : List Visit) → before ≡ own offset u ++ of_end (header_of order u) ∷ x → SplitsAt (offset + length u) (next_offset n offset u) units x h → SplitsAt offset n (u ∷ units) before h
-    later x is s = record {
-      front = u ∷ s.front;
-      u = s.u;
-      after = s.after;
-      whole = ap (λ (l : List (List ℕ)). u ∷ l) s.whole;
-      located_before = λ live y. (
-          ap (located_after live y [] n) here
-          ∙ behind_unit live y n offset u x
-          ∙ ap (option_or (located_in order live offset u y)) (s.located_before live y));
-      located_behind = λ live y. (
-          ap (λ (l : List Visit). located_after live y [] n (l ++ of_end h ∷ [])) here
-          ∙ ap (located_after live y [] n) (append_assoc (unit_visits order offset u) x (of_end h ∷ []))
-          ∙ behind_unit live y n offset u (x ++ of_end h ∷ [])
-          ∙ ap (option_or (located_in order live offset u y)) (s.located_behind live y));
-    } where
-      here : before ≡ unit_visits order offset u ++ x
-      here = is ∙ sym (append_assoc (own offset u) (of_end (header_of order u) ∷ []) x) ∙ ap (λ (l : List Visit). l ++ x) (own_end offset u)
+        later : (x : List Visit) → before ≡ own offset u ++ of_end (header_of order u) ∷ x
+            → SplitsAt (offset + length u) (next_offset n offset u) units x h → SplitsAt offset n (u ∷ units) before h
+        later x is s = record {
+          front = u ∷ s.front;
+          u = s.u;
+          after = s.after;
+          whole = ap (λ (l : List (List ℕ)). u ∷ l) s.whole;
+          located_before = λ live y. (
+              ap (located_after live y [] n) here
+              ∙ behind_unit live y n offset u x
+              ∙ ap (option_or (located_in order live offset u y)) (s.located_before live y));
+          located_behind = λ live y. (
+              ap (λ (l : List Visit). located_after live y [] n (l ++ of_end h ∷ [])) here
+              ∙ ap (located_after live y [] n) (append_assoc (unit_visits order offset u) x (of_end h ∷ []))
+              ∙ behind_unit live y n offset u (x ++ of_end h ∷ [])
+              ∙ ap (option_or (located_in order live offset u y)) (s.located_behind live y));
+        } where
+          here : before ≡ unit_visits order offset u ++ x
+          here = is ∙ sym (append_assoc (own offset u) (of_end (header_of order u) ∷ []) x)
+              ∙ ap (λ (l : List Visit). l ++ x) (own_end offset u)
 
-    now : (x : List Visit) → own offset u ≡ before ++ x → of_end h ∷ more ≡ x ++ of_end (header_of order u) ∷ (rest_of offset u units tail) → SplitsAt offset n (u ∷ units) before h
-    now [] is ends = record {
-      front = [];
-      u = u;
-      after = units;
-      whole = refl;
-      located_before = λ live y. ap (located_after live y [] n) here ∙ none_located live y [] n (own offset u) (none_own offset u);
-      located_behind = λ live y. (
-          ap (λ (l : List Visit). located_after live y [] n (l ++ of_end h ∷ [])) here
-          ∙ ap (λ (v : Option HeaderData). located_after live y [] n (own offset u ++ of_end v ∷ [])) same
-          ∙ ap (located_after live y [] n) (own_end offset u)
-          ∙ located_of_unit live y order n offset u
-          ∙ sym (or_none (located_in order live offset u y)));
-    } where
-      here : before ≡ own offset u
-      here = sym (append-nil before) ∙ sym is
+        now : (x : List Visit) → own offset u ≡ before ++ x
+            → of_end h ∷ more ≡ x ++ of_end (header_of order u) ∷ (rest_of offset u units tail)
+            → SplitsAt offset n (u ∷ units) before h
+        now [] is ends = record {
+          front = [];
+          u = u;
+          after = units;
+          whole = refl;
+          located_before =
+              λ live y. ap (located_after live y [] n) here
+              ∙ none_located live y [] n (own offset u) (none_own offset u);
+          located_behind = λ live y. (
+              ap (λ (l : List Visit). located_after live y [] n (l ++ of_end h ∷ [])) here
+              ∙ ap (λ (v : Option HeaderData). located_after live y [] n (own offset u ++ of_end v ∷ [])) same
+              ∙ ap (located_after live y [] n) (own_end offset u)
+              ∙ located_of_unit live y order n offset u
+              ∙ sym (or_none (located_in order live offset u y)));
+        } where
+          here : before ≡ own offset u
+          here = sym (append-nil before) ∙ sym is
 
-      same : h ≡ header_of order u
-      same = end_same h (header_of order u) cc
-    now (y ∷ x) is ends = absurd (true≢false (sym (any_mid before h x) ∙ ap (list_any is_end) (ap (λ (v : Visit). before ++ v ∷ x) first ∙ sym is) ∙ none_own offset u)) where
-      first : of_end h ≡ y
-      first = cc
+          same : h ≡ header_of order u
+          same = end_same h (header_of order u) cc
+        now (y ∷ x) is ends =
+            absurd (true≢false (sym (any_mid before h x)
+            ∙ ap (list_any is_end) (ap (λ (v : Visit). before ++ v ∷ x) first
+            ∙ sym is) ∙ none_own offset u)) where
+              first : of_end h ≡ y
+              first = cc
 
-    by : ((x : List Visit) → rest_of offset u units tail ≡ x ++ of_end h ∷ more → SplitsAt (offset + length u) (next_offset n offset u) units x h) → ((x : List Visit) × (before ≡ own offset u ++ of_end (header_of order u) ∷ x) × ((rest_of offset u units tail) ≡ x ++ of_end h ∷ more)) ⊎ ((x : List Visit) × (own offset u ≡ before ++ x) × (of_end h ∷ more ≡ x ++ of_end (header_of order u) ∷ (rest_of offset u units tail)))
-        → SplitsAt offset n (u ∷ units) before h
-    by others (inl (x, is, ends)) = later x is (others x ends)
-    by others (inr (x, is, ends)) = now x is ends
+        by : ((x : List Visit) → rest_of offset u units tail ≡ x ++ of_end h ∷ more
+            → SplitsAt (offset + length u) (next_offset n offset u) units x h)
+            → ((x : List Visit) × (before ≡ own offset u ++ of_end (header_of order u) ∷ x)
+            × ((rest_of offset u units tail) ≡ x ++ of_end h ∷ more))
+            ⊎ ((x : List Visit) × (own offset u ≡ before ++ x)
+            × (of_end h ∷ more ≡ x ++ of_end (header_of order u) ∷ (rest_of offset u units tail)))
+            → SplitsAt offset n (u ∷ units) before h
+        by others (inl (x, is, ends)) = later x is (others x ends)
+        by others (inr (x, is, ends)) = now x is ends
 
   -- of a section
-  pub splits_section : (n : ℕ) (units : List (List ℕ)) (b : List ℕ) (before : List Visit) (h : Option HeaderData) (more : List Visit) → section_visits order units b ≡ before ++ of_end h ∷ more → SplitsAt 0 n units before h
-  splits_section n units b before h more e = splits 0 n units (visits order (length (concat units)) b) before h more (none_in (length (concat units)) (header_of order b) (events order b)) e
+  pub splits_section : (n : ℕ) (units : List (List ℕ)) (b : List ℕ) (before : List Visit) (h : Option HeaderData)
+      (more : List Visit) → section_visits order units b ≡ before ++ of_end h ∷ more → SplitsAt 0 n units before h
+  splits_section n units b before h more e =
+      splits 0 n units (visits order (length (concat units)) b) before h more
+      (none_in (length (concat units)) (header_of order b) (events order b)) e

@@ -19,19 +19,27 @@ pub on_err : {B : Type 0} (r : Result ⊤ NoMemory) → B → OnErr r B
 on_err (Ok u) b = tt
 on_err (Err e) b = b
 
-module _ (places : List Place) (units : List (List Row)) (rows : List Row) (answered : List Answered) (are : AreFirstAnswers places units rows answered) where
+module _ (places : List Place) (units : List (List Row)) (rows : List Row) (answered : List Answered)
+    (are : AreFirstAnswers places units rows answered) where
   -- a place that has no first answer is none of those
   pub is_other : (i : ℕ) → ((r : Row) → FirstAnswer places units rows i r → ⊥) → IsOther answered (length answered) i
-  is_other i none j lt same = none (slice_index_or answered j no_answer).row (subst (λ n. FirstAnswer places units rows n (slice_index_or answered j no_answer).row) same (are.right j no_answer lt))
+  is_other i none j lt same =
+      none (slice_index_or answered j no_answer).row
+      (subst (λ n. FirstAnswer places units rows n (slice_index_or answered j no_answer).row) same
+      (are.right j no_answer lt))
 
   pub numbers : (kept : List ℕ) → length kept ≡ length places → AreNumbers answered kept
   numbers kept count = record {
     once = λ j m lt lt' same. are.once j m no_answer lt lt' same;
-    within = λ j lt. (let f = are.right j no_answer lt in let w = slice_get_within places (slice_index_or answered j no_answer).number f.0 f.1 in omega (arith, count));
+    within =
+        λ j lt. (let f = are.right j no_answer lt in
+        let w = slice_get_within places (slice_index_or answered j no_answer).number f.0 f.1 in omega (arith, count));
   }
 
   -- each that has one is kept
-  pub is_kept : (texts : List FileText) (kept : List ℕ) (text : Row → List ℕ × ℕ) → ((j : ℕ) → j < length answered → IsKept texts kept (slice_index_or answered j no_answer).number (text (slice_index_or answered j no_answer).row))
+  pub is_kept : (texts : List FileText) (kept : List ℕ) (text : Row → List ℕ × ℕ)
+      → ((j : ℕ) → j < length answered
+      → IsKept texts kept (slice_index_or answered j no_answer).number (text (slice_index_or answered j no_answer).row))
       → (i : ℕ) (r : Row) → FirstAnswer places units rows i r → IsKept texts kept i (text r)
   is_kept texts kept text each i r f =
       let k = are.all i r f in
@@ -41,4 +49,8 @@ module _ (places : List Place) (units : List (List Row)) (rows : List Row) (answ
   none_kept empty i r f = let k = are.all i r f in let lt = k.1 in omega (arith, empty)
 
   pub some_first : 0 < length answered → (i : ℕ) × (r : Row) × FirstAnswer places units rows i r
-  some_first lt = ((slice_index_or answered 0 no_answer).number, (slice_index_or answered 0 no_answer).row, are.right 0 no_answer lt)
+  some_first lt = (
+    (slice_index_or answered 0 no_answer).number,
+    (slice_index_or answered 0 no_answer).row,
+    are.right 0 no_answer lt,
+  )

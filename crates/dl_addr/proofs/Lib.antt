@@ -7,7 +7,3 @@ pub mod PrintLemmas
 pub mod EndLemmas
 pub mod LinesLemmas
 pub mod AnsweringLemmas
-pub mod WordLemmas
-pub mod CutLemmas
-pub mod LineLemmas
-pub mod WorkedLines

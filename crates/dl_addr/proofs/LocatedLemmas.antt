@@ -1,5 +1,6 @@
 -- What is located in visits, and in the units of a section.
-use Rattle.std.proofs.Common.{◌≡◌, ◌⊎◌, inl, inr, ℕ, ◌+◌, Bool, true, false, List, [], ◌∷◌, ◌++◌, length, flat_map, map, Option, Some, None, refl, sym, ap, ap₂, ◌∙◌, append_assoc}
+use Rattle.std.proofs.Common.{◌≡◌, ◌⊎◌, inl, inr, ℕ, ◌+◌, Bool, true, false, List, [], ◌∷◌, ◌++◌, length, flat_map, map}
+use Rattle.std.proofs.Common.{Option, Some, None, refl, sym, ap, ap₂, ◌∙◌, append_assoc}
 use Rattle.std.specs.Prelude.{if◌then◌else◌, option_map}
 use Rattle.std.specs.List.{concat}
 use Rattle.std.specs.Option.{option_or}
@@ -18,7 +19,9 @@ use Rattle.dl_look.specs.Units.{answer_of_units}
 use Rattle.dl_look.proofs.LiveLemmas.{of_live_rows}
 use Rattle.dl_cmd.specs.Copying.{offset_after}
 use Rattle.dl_cmd.specs.RowsTold.{rows_after}
-use Rattle.dl_cmd.specs.Section.{Visit, of_header, of_version, of_row, of_open, of_end, header_of, header_visit, event_visits, visits, open_visit, end_visits, unit_visits, units_visits, section_visits}
+use Rattle.dl_cmd.specs.Section.{Visit, of_header, of_version, of_row, of_open, of_end, header_of, header_visit}
+use Rattle.dl_cmd.specs.Section.{event_visits, visits, open_visit, end_visits, unit_visits, units_visits}
+use Rattle.dl_cmd.specs.Section.{section_visits}
 use Rattle.dl_cmd.proofs.EventLemmas.{rows_visited}
 use Rattle.dl_cmd.proofs.Fronts.{or_assoc, or_none}
 use Rattle.dl_addr.specs.Locations.{Located, located, located_from, located_in}
@@ -35,13 +38,15 @@ offset_after-append n (of_open ∷ a) b = offset_after-append n a b
 offset_after-append n (of_end h ∷ a) b = offset_after-append n a b
 
 module _ (live : ℕ → Bool) where
-  pub ended_rows-append : (rows : List Row) (a b : List Visit) → ended_rows live rows (a ++ b) ≡ ended_rows live rows a ++ ended_rows live (rows_after rows a) b
+  pub ended_rows-append : (rows : List Row) (a b : List Visit)
+      → ended_rows live rows (a ++ b) ≡ ended_rows live rows a ++ ended_rows live (rows_after rows a) b
   ended_rows-append rows [] b = refl
   ended_rows-append rows (of_header m h ∷ a) b = ended_rows-append rows a b
   ended_rows-append rows (of_version m v ∷ a) b = ended_rows-append rows a b
   ended_rows-append rows (of_row r ∷ a) b = ended_rows-append (rows ++ r ∷ []) a b
   ended_rows-append rows (of_open ∷ a) b = ended_rows-append rows a b
-  ended_rows-append rows (of_end h ∷ a) b = ap (λ (l : List (List Row)). live_rows live rows ∷ l) (ended_rows-append [] a b)
+  ended_rows-append rows (of_end h ∷ a) b =
+      ap (λ (l : List (List Row)). live_rows live rows ∷ l) (ended_rows-append [] a b)
 
   -- no rows are live where there are none
   pub no_live_rows : live_rows live [] ≡ []
@@ -52,7 +57,8 @@ module _ (live : ℕ → Bool) where
 
   module _ (x : Place) where
     pub located_after-append : (rows : List Row) (n : ℕ) (a b : List Visit)
-        → located_after live x rows n (a ++ b) ≡ option_or (located_after live x rows n a) (located_after live x (rows_after rows a) (offset_after n a) b)
+        → located_after live x rows n (a ++ b)
+        ≡ option_or (located_after live x rows n a) (located_after live x (rows_after rows a) (offset_after n a) b)
     located_after-append rows n [] b = refl
     located_after-append rows n (of_header m h ∷ a) b = located_after-append rows m a b
     located_after-append rows n (of_version m v ∷ a) b = located_after-append rows n a b
@@ -60,54 +66,78 @@ module _ (live : ℕ → Bool) where
     located_after-append rows n (of_open ∷ a) b = located_after-append rows n a b
     located_after-append rows n (of_end h ∷ a) b =
         ap (option_or (located_under live x rows n h)) (located_after-append [] n a b)
-        ∙ sym (or_assoc (located_under live x rows n h) (located_after live x [] n a) (located_after live x (rows_after [] a) (offset_after n a) b))
+        ∙ sym (or_assoc (located_under live x rows n h) (located_after live x [] n a)
+        (located_after live x (rows_after [] a) (offset_after n a) b))
 
-    row_of_or : (n : ℕ) (h : Option HeaderData) (a : Option Row) (behind : Option Located) (rest : Option Row) → rest ≡ option_map (λ (l : Located). l.row) behind
-        → option_or a rest ≡ option_map (λ (l : Located). l.row) (option_or (option_map (λ (r : Row). record { row = r; header = h; unit = n }) a) behind)
+    row_of_or : (n : ℕ) (h : Option HeaderData) (a : Option Row) (behind : Option Located) (rest : Option Row)
+        → rest ≡ option_map (λ (l : Located). l.row) behind
+        → option_or a rest
+        ≡ option_map (λ (l : Located). l.row)
+        (option_or (option_map (λ (r : Row). record { row = r; header = h; unit = n }) a) behind)
     row_of_or n h None behind rest e = e
     row_of_or n h (Some r) behind rest e = refl
 
     -- the rows that are located are what the units that ended answer
-    pub rows_located : (rows : List Row) (n : ℕ) (visits : List Visit) → answer_of_units (ended_rows live rows visits) x ≡ option_map (λ (l : Located). l.row) (located_after live x rows n visits)
+    pub rows_located : (rows : List Row) (n : ℕ) (visits : List Visit)
+        → answer_of_units (ended_rows live rows visits) x
+        ≡ option_map (λ (l : Located). l.row) (located_after live x rows n visits)
     rows_located rows n [] = refl
     rows_located rows n (of_header m h ∷ a) = rows_located rows m a
     rows_located rows n (of_version m v ∷ a) = rows_located rows n a
     rows_located rows n (of_row r ∷ a) = rows_located (rows ++ r ∷ []) n a
     rows_located rows n (of_open ∷ a) = rows_located rows n a
-    rows_located rows n (of_end h ∷ a) = row_of_or n h (answer (live_rows live rows) x) (located_after live x [] n a) (answer_of_units (ended_rows live [] a) x) (rows_located [] n a)
+    rows_located rows n (of_end h ∷ a) =
+        row_of_or n h (answer (live_rows live rows) x) (located_after live x [] n a)
+        (answer_of_units (ended_rows live [] a) x) (rows_located [] n a)
 
     -- ---- the units of a section
 
-    none_of_header : (offset : ℕ) (h : Option HeaderData) (rows : List Row) (n : ℕ) (more : List Visit) → ((m : ℕ) → located_after live x rows m more ≡ None) → located_after live x rows n (header_visit offset h ++ more) ≡ None
+    none_of_header : (offset : ℕ) (h : Option HeaderData) (rows : List Row) (n : ℕ) (more : List Visit)
+        → ((m : ℕ) → located_after live x rows m more ≡ None)
+        → located_after live x rows n (header_visit offset h ++ more) ≡ None
     none_of_header offset None rows n more none = none n
     none_of_header offset (Some h) rows n more none = none offset
 
-    none_of_visits : (offset : ℕ) (h : Option HeaderData) (rows : List Row) (n : ℕ) (es : List Event) → located_after live x rows n (flat_map (event_visits offset h) es) ≡ None
+    none_of_visits : (offset : ℕ) (h : Option HeaderData) (rows : List Row) (n : ℕ) (es : List Event)
+        → located_after live x rows n (flat_map (event_visits offset h) es) ≡ None
     none_of_visits offset h rows n [] = refl
     none_of_visits offset h rows n (event.More ∷ es) = none_of_visits offset h rows n es
-    none_of_visits offset h rows n (event.Header ∷ es) = none_of_header offset h rows n (flat_map (event_visits offset h) es) (λ m. none_of_visits offset h rows m es)
+    none_of_visits offset h rows n (event.Header ∷ es) =
+        none_of_header offset h rows n (flat_map (event_visits offset h) es) (λ m. none_of_visits offset h rows m es)
     none_of_visits offset h rows n (event.Foreign v ∷ es) = none_of_visits offset h rows n es
     none_of_visits offset h rows n (event.Row r ∷ es) = none_of_visits offset h (rows ++ r ∷ []) n es
     none_of_visits offset h rows n (event.NoMemory ∷ es) = none_of_visits offset h rows n es
     none_of_visits offset h rows n (event.End ∷ es) = none_of_visits offset h rows n es
 
-    located_of_end : (rows : List Row) (n : ℕ) (is_open : Bool) (h : Option HeaderData) → located_after live x rows n (open_visit is_open ++ of_end h ∷ []) ≡ located_under live x rows n h
+    located_of_end : (rows : List Row) (n : ℕ) (is_open : Bool) (h : Option HeaderData)
+        → located_after live x rows n (open_visit is_open ++ of_end h ∷ []) ≡ located_under live x rows n h
     located_of_end rows n true h = or_none (located_under live x rows n h)
     located_of_end rows n false h = or_none (located_under live x rows n h)
 
-    located_of_rows : (begun rows : List Row) (n : ℕ) (more : List Visit) → located_after live x begun n (map of_row rows ++ more) ≡ located_after live x (begun ++ rows) n more
-    located_of_rows begun [] n more = ap (λ (l : List Row). located_after live x l n more) (sym (Rattle.std.proofs.Common.append-nil begun))
-    located_of_rows begun (r ∷ rows) n more = located_of_rows (begun ++ r ∷ []) rows n more ∙ ap (λ (l : List Row). located_after live x l n more) (append_assoc begun (r ∷ []) rows)
+    located_of_rows : (begun rows : List Row) (n : ℕ) (more : List Visit)
+        → located_after live x begun n (map of_row rows ++ more) ≡ located_after live x (begun ++ rows) n more
+    located_of_rows begun [] n more =
+        ap (λ (l : List Row). located_after live x l n more) (sym (Rattle.std.proofs.Common.append-nil begun))
+    located_of_rows begun (r ∷ rows) n more =
+        located_of_rows (begun ++ r ∷ []) rows n more
+        ∙ ap (λ (l : List Row). located_after live x l n more) (append_assoc begun (r ∷ []) rows)
 
     nothing_under : (n : ℕ) (h : Option HeaderData) → located_under live x [] n h ≡ None
-    nothing_under n h = ap (λ (l : List Row). option_map {U = Located} (λ r. record { row = r; header = h; unit = n }) (answer l x)) no_live_rows
+    nothing_under n h =
+        ap (λ (l : List Row). option_map {U = Located} (λ r. record { row = r; header = h; unit = n }) (answer l x))
+        no_live_rows
 
-    of_unit : (order : Order) (n offset : ℕ) (is_open : Bool) (version : Option ℕ) (parts : Option (HeaderData × List ℕ)) → ((v : ℕ) → version ≡ Some v → parts ≡ None)
-        → located_after live x [] n (flat_map (event_visits offset (option_map (λ p. p.0) parts)) (events_of order version parts) ++ (open_visit is_open ++ of_end (option_map (λ p. p.0) parts) ∷ []))
+    of_unit : (order : Order) (n offset : ℕ) (is_open : Bool) (version : Option ℕ) (parts : Option (HeaderData
+        × List ℕ)) → ((v : ℕ) → version ≡ Some v → parts ≡ None)
+        → located_after live x [] n (flat_map (event_visits offset (option_map (λ p. p.0) parts))
+        (events_of order version parts) ++ (open_visit is_open ++ of_end (option_map (λ p. p.0) parts) ∷ []))
         ≡ located_under live x (rows_behind order parts) offset (option_map (λ p. p.0) parts)
-    of_unit order n offset is_open (Some v) None only = located_of_end [] n is_open None ∙ nothing_under n None ∙ sym (nothing_under offset None)
-    of_unit order n offset is_open (Some v) (Some (h, program)) only = absurd (let e = only v refl in Rattle.dl_addr.proofs.TextLemmas.none_is_some (sym e))
-    of_unit order n offset is_open None None only = located_of_end [] n is_open None ∙ nothing_under n None ∙ sym (nothing_under offset None)
+    of_unit order n offset is_open (Some v) None only =
+        located_of_end [] n is_open None ∙ nothing_under n None ∙ sym (nothing_under offset None)
+    of_unit order n offset is_open (Some v) (Some (h, program)) only =
+        absurd (let e = only v refl in Rattle.dl_addr.proofs.TextLemmas.none_is_some (sym e))
+    of_unit order n offset is_open None None only =
+        located_of_end [] n is_open None ∙ nothing_under n None ∙ sym (nothing_under offset None)
     of_unit order n offset is_open None (Some (h, program)) only =
         let rows = rows_in order h.params program in
         let end = open_visit is_open ++ of_end (Some h) ∷ [] in
@@ -115,12 +145,16 @@ module _ (live : ℕ → Bool) where
         ∙ located_of_rows [] rows offset end
         ∙ located_of_end rows offset is_open (Some h)
 
-    pub located_of_unit : (order : Order) (n offset : ℕ) (u : List ℕ) → located_after live x [] n (unit_visits order offset u) ≡ located_in order live offset u x
+    pub located_of_unit : (order : Order) (n offset : ℕ) (u : List ℕ)
+        → located_after live x [] n (unit_visits order offset u) ≡ located_in order live offset u x
     located_of_unit order n offset u =
-        of_unit order n offset (ends_open (unit_rows order u)) (foreign_in order u) (header_in order u) (λ v. foreign_no_header order u v)
-        ∙ ap (option_map {U = Located} (λ r. record { row = r; header = header_of order u; unit = offset })) (of_live_rows live (unit_rows order u) x)
+        of_unit order n offset (ends_open (unit_rows order u)) (foreign_in order u) (header_in order u)
+        (λ v. foreign_no_header order u v)
+        ∙ ap (option_map {U = Located} (λ r. record { row = r; header = header_of order u; unit = offset }))
+        (of_live_rows live (unit_rows order u) x)
 
-    rows_of_end : (rows : List Row) (is_open : Bool) (h : Option HeaderData) → rows_after rows (open_visit is_open ++ of_end h ∷ []) ≡ []
+    rows_of_end : (rows : List Row) (is_open : Bool) (h : Option HeaderData)
+        → rows_after rows (open_visit is_open ++ of_end h ∷ []) ≡ []
     rows_of_end rows true h = refl
     rows_of_end rows false h = refl
 
@@ -129,7 +163,8 @@ module _ (live : ℕ → Bool) where
         Rattle.dl_cmd.proofs.VisitLemmas.rows_after-append [] (visits order offset u) (end_visits order u)
         ∙ rows_of_end (rows_after [] (visits order offset u)) (ends_open (unit_rows order u)) (header_of order u)
 
-    pub located_of_units : (order : Order) (n offset : ℕ) (units : List (List ℕ)) (more : List Visit) → ((m : ℕ) → located_after live x [] m more ≡ None)
+    pub located_of_units : (order : Order) (n offset : ℕ) (units : List (List ℕ)) (more : List Visit)
+        → ((m : ℕ) → located_after live x [] m more ≡ None)
         → located_after live x [] n (units_visits order offset units ++ more) ≡ located_from order live offset units x
     located_of_units order n offset [] more none = none n
     located_of_units order n offset (u ∷ units) more none =
@@ -137,10 +172,14 @@ module _ (live : ℕ → Bool) where
         let others = units_visits order (offset + length u) units in
         ap (located_after live x [] n) (append_assoc own others more)
         ∙ located_after-append [] n own (others ++ more)
-        ∙ ap (λ (l : List Row). option_or (located_after live x [] n own) (located_after live x l (offset_after n own) (others ++ more))) (rows_of_unit order offset u)
-        ∙ ap₂ option_or (located_of_unit order n offset u) (located_of_units order (offset_after n own) (offset + length u) units more none)
+        ∙ ap (λ (l : List Row). option_or (located_after live x [] n own)
+        (located_after live x l (offset_after n own) (others ++ more))) (rows_of_unit order offset u)
+        ∙ ap₂ option_or (located_of_unit order n offset u)
+        (located_of_units order (offset_after n own) (offset + length u) units more none)
 
     -- what is located in the visits of a section is what its units answer
-    pub located_of_section : (order : Order) (n : ℕ) (units : List (List ℕ)) (b : List ℕ) → located_after live x [] n (section_visits order units b) ≡ located order live units x
+    pub located_of_section : (order : Order) (n : ℕ) (units : List (List ℕ)) (b : List ℕ)
+        → located_after live x [] n (section_visits order units b) ≡ located order live units x
     located_of_section order n units b =
-        located_of_units order n 0 units (visits order (length (concat units)) b) (λ m. none_of_visits (length (concat units)) (header_of order b) [] m (events order b))
+        located_of_units order n 0 units (visits order (length (concat units)) b)
+        (λ m. none_of_visits (length (concat units)) (header_of order b) [] m (events order b))

@@ -1,5 +1,6 @@
 -- How a locator goes on with visits.
-use Rattle.std.proofs.Common.{◌≡◌, ℕ, Bool, true, List, [], ◌∷◌, ◌++◌, length, slice_get, Option, Some, None, Result, Ok, Err, refl, sym, ap, ap₂, ◌∙◌, subst, append-nil}
+use Rattle.std.proofs.Common.{◌≡◌, ℕ, Bool, true, List, [], ◌∷◌, ◌++◌, length, slice_get, Option, Some, None, Result}
+use Rattle.std.proofs.Common.{Ok, Err, refl, sym, ap, ap₂, ◌∙◌, subst, append-nil}
 use Rattle.std.specs.Prelude.{⊤, is_some, option_map, OnErr, OnOk}
 use Rattle.std.specs.Option.{option_and_then, option_or}
 use Rattle.std.specs.Io.KnownBytes.{Appends}
@@ -18,8 +19,8 @@ use Rattle.dl_cmd.specs.declared.fault.RunFault.TheVariants as fault
 use Rattle.dl_cmd.specs.Copying.{offset_after}
 use Rattle.dl_cmd.specs.RowsTold.{rows_after}
 use Rattle.dl_cmd.specs.Section.{Visit, of_end}
-use Rattle.dl_cmd.specs.declared.section.Next.{Next}
-use Rattle.dl_cmd.specs.declared.section.Next.TheVariants as next
+use Rattle.dl_rows.specs.declared.sink.Flow.{Flow}
+use Rattle.dl_rows.specs.declared.sink.Flow.TheVariants as flow
 use Rattle.dl_cmd.specs.Visiting.{GoesOn, StopsIn}
 use Rattle.dl_cmd.proofs.VisitLemmas.{rows_after-append}
 use Rattle.dl_cmd.proofs.Fronts.{map_none, or_none}
@@ -27,20 +28,25 @@ use Rattle.dl_addr.specs.declared.locating.Locator.{Locator}
 use Rattle.dl_addr.specs.declared.texts.FileText.{FileText}
 use Rattle.dl_addr.specs.Answers.{SeenRow, located_seen}
 use Rattle.dl_addr.specs.Keeping.{Keeps, text_under}
-use Rattle.dl_addr.specs.Locating.{IsMadeFor, Locating, LooksFor, code_of, ended_rows, locate_story, located_after, located_by, located_under, text_of_located}
+use Rattle.dl_addr.specs.Locating.{IsMadeFor, Locating, LooksFor, code_of, ended_rows, locate_story, located_after}
+use Rattle.dl_addr.specs.Locating.{located_by, located_under, text_of_located}
 use Rattle.dl_addr.specs.Locations.{Located}
 use Rattle.dl_addr.specs.Paths.{path_of}
 use Rattle.dl_addr.specs.Shown.{path_text}
 use Rattle.dl_addr.specs.Texts.{IsKept}
-use Rattle.dl_addr.proofs.LocatedLemmas.{ended_rows-append, located_after-append, no_live_rows, offset_after-append, rows_located}
+use Rattle.dl_addr.proofs.LocatedLemmas.{ended_rows-append, located_after-append, no_live_rows, offset_after-append}
+use Rattle.dl_addr.proofs.LocatedLemmas.{rows_located}
 use Rattle.dl_addr.proofs.TextLemmas.{kept_stays, none_is_some, some_same}
 
 -- the same finders stand for the same lists
-pub stand_same : (f : Finders) (places : List Place) (units units' : List (List Row)) (rows rows' : List Row) → units ≡ units' → rows ≡ rows' → Stand f places units rows → Stand f places units' rows'
-stand_same f places units units' rows rows' e e' st = subst (λ (l : List Row). Stand f places units' l) e' (subst (λ (l : List (List Row)). Stand f places l rows) e st)
+pub stand_same : (f : Finders) (places : List Place) (units units' : List (List Row)) (rows rows' : List Row)
+    → units ≡ units' → rows ≡ rows' → Stand f places units rows → Stand f places units' rows'
+stand_same f places units units' rows rows' e e' st =
+    subst (λ (l : List Row). Stand f places units' l) e' (subst (λ (l : List (List Row)). Stand f places l rows) e st)
 
 -- visits more, which locate nothing
-module _ (first old new : Locator) (start held : Option (List ℕ)) (visits more : List Visit) (s : Locating first old start held visits) where
+module _ (first old new : Locator) (start held : Option (List ℕ)) (visits more : List Visit)
+    (s : Locating first old start held visits) where
   abbrev live : ℕ → Bool
   live = code_of first
 
@@ -48,9 +54,12 @@ module _ (first old new : Locator) (start held : Option (List ℕ)) (visits more
   rows = rows_after [] visits
 
   -- it goes on with visits that end no unit
-  pub goes_on : (none : (x : Place) (n : ℕ) → located_after live x rows n more ≡ None) → ended_rows live rows more ≡ [] → new.code ≡ old.code → new.style ≡ old.style → new.strings ≡ old.strings
-      → new.unit ≡ offset_after old.unit more → Tells new.live live (rows_after rows more) → new.kept.items ≡ old.kept.items → new.texts.items ≡ old.texts.items
-      → ((places : List Place) (units : List (List Row)) → Stand old.finders places units (live_rows live rows) → Stand new.finders places units (live_rows live (rows_after rows more)))
+  pub goes_on : (none : (x : Place) (n : ℕ) → located_after live x rows n more ≡ None) → ended_rows live rows more ≡ []
+      → new.code ≡ old.code → new.style ≡ old.style → new.strings ≡ old.strings
+      → new.unit ≡ offset_after old.unit more → Tells new.live live (rows_after rows more)
+      → new.kept.items ≡ old.kept.items → new.texts.items ≡ old.texts.items
+      → ((places : List Place) (units : List (List Row)) → Stand old.finders places units (live_rows live rows)
+      → Stand new.finders places units (live_rows live (rows_after rows more)))
       → Locating first new start held (visits ++ more)
   goes_on none no_end code style strings unit tells kept texts stands = record {
     code = code ∙ s.code;
@@ -61,8 +70,11 @@ module _ (first old new : Locator) (start held : Option (List ℕ)) (visits more
     looks = λ places made. (
         let l = s.looks places made in
         record {
-          stand = stand_same new.finders places (ended_rows live [] visits) (ended_rows live [] (visits ++ more)) (live_rows live (rows_after rows more)) (live_rows live (rows_after [] (visits ++ more)))
-              (sym (ended_rows-append live [] visits more ∙ ap (λ (e : List (List Row)). ended_rows live [] visits ++ e) no_end ∙ append-nil (ended_rows live [] visits)))
+          stand = stand_same new.finders places (ended_rows live [] visits) (ended_rows live [] (visits ++ more))
+              (live_rows live (rows_after rows more)) (live_rows live (rows_after [] (visits ++ more)))
+              (sym (ended_rows-append live [] visits more
+              ∙ ap (λ (e : List (List Row)). ended_rows live [] visits ++ e) no_end
+              ∙ append-nil (ended_rows live [] visits)))
               (sym (ap (live_rows live) (rows_after-append [] visits more)))
               (stands places (ended_rows live [] visits) l.stand);
           count = ap length kept ∙ l.count;
@@ -83,7 +95,8 @@ module _ (first old new : Locator) (start held : Option (List ℕ)) (visits more
   }
 
 -- the current unit ends
-module _ (first old mid : Locator) (start held : Option (List ℕ)) (visits : List Visit) (h : Option HeaderData) (result : Result ⊤ NoMemory) (s : Locating first old start held visits) (keeps : Keeps old mid h result) where
+module _ (first old mid : Locator) (start held : Option (List ℕ)) (visits : List Visit) (h : Option HeaderData)
+    (result : Result ⊤ NoMemory) (s : Locating first old start held visits) (keeps : Keeps old mid h result) where
   abbrev lives : ℕ → Bool
   lives = code_of first
 
@@ -100,19 +113,26 @@ module _ (first old mid : Locator) (start held : Option (List ℕ)) (visits : Li
   all = visits ++ of_end h ∷ []
 
   -- what is located with this unit
-  now_located : (x : Place) → located_by first x all ≡ option_or (located_by first x visits) (located_under lives x (rows_after [] visits) offset h)
-  now_located x = located_after-append lives x [] first.unit visits (of_end h ∷ []) ∙ ap (option_or (located_by first x visits)) (or_none (located_under lives x (rows_after [] visits) offset h))
+  now_located : (x : Place)
+      → located_by first x all
+      ≡ option_or (located_by first x visits) (located_under lives x (rows_after [] visits) offset h)
+  now_located x =
+      located_after-append lives x [] first.unit visits (of_end h ∷ [])
+      ∙ ap (option_or (located_by first x visits)) (or_none (located_under lives x (rows_after [] visits) offset h))
 
   no_row : (x : Place) (d : Located) → located_by first x visits ≡ Some d → answer_of_units units x ≡ None → ⊥
-  no_row x d is none = none_is_some (sym none ∙ rows_located lives x [] first.unit visits ∙ ap (option_map (λ (l : Located). l.row)) is)
+  no_row x d is none =
+      none_is_some (sym none ∙ rows_located lives x [] first.unit visits ∙ ap (option_map (λ (l : Located). l.row)) is)
 
-  not_first : (places : List Place) (i : ℕ) (x : Place) (d : Located) → slice_get places i ≡ Some x → located_by first x visits ≡ Some d → (r : Row) → FirstAnswer places units here i r → ⊥
+  not_first : (places : List Place) (i : ℕ) (x : Place) (d : Located) → slice_get places i ≡ Some x
+      → located_by first x visits ≡ Some d → (r : Row) → FirstAnswer places units here i r → ⊥
   not_first places i x d at is r (y, at', none, some) =
       let same : y ≡ x = some_same y x (sym at' ∙ at) in
       no_row x d is (ap (answer_of_units units) (sym same) ∙ none)
 
   -- what was kept before stays
-  stays : (places : List Place) → LooksFor first old places visits → (i : ℕ) (x : Place) (d : Located) → slice_get places i ≡ Some x → located_by first x visits ≡ Some d
+  stays : (places : List Place) → LooksFor first old places visits → (i : ℕ) (x : Place) (d : Located)
+      → slice_get places i ≡ Some x → located_by first x visits ≡ Some d
       → IsKept mid.texts.items mid.kept.items i (text_of_located first d)
   stays places l i x d at is =
       kept_stays old.texts.items mid.texts.items old.kept.items mid.kept.items i (text_of_located first d) keeps.grows
@@ -137,9 +157,12 @@ module _ (first old mid : Locator) (start held : Option (List ℕ)) (visits : Li
   }
 
   none_before : (x : Place) → answer_of_units units x ≡ None → located_by first x visits ≡ None
-  none_before x none = map_none (λ (l : Located). l.row) (located_by first x visits) (sym (rows_located lives x [] first.unit visits) ∙ none)
+  none_before x none =
+      map_none (λ (l : Located). l.row) (located_by first x visits) (sym (rows_located lives x [] first.unit visits)
+      ∙ none)
 
-  pub stops : (e : NoMemory) (is : result ≡ Err e) → StopsIn locate_story first mid start held visits (of_end h ∷ []) fault.NoMemory
+  pub stops : (e : NoMemory) (is : result ≡ Err e)
+      → StopsIn locate_story first mid start held visits (of_end h ∷ []) fault.NoMemory
   stops e is = (
     of_end h ∷ [],
     [],
@@ -155,17 +178,29 @@ module _ (first old mid : Locator) (start held : Option (List ℕ)) (visits : Li
         h = h;
         whole = refl;
         answers = λ places made. first_answer places (s.looks places made) (
-            subst (λ (r : Result ⊤ NoMemory). OnErr r ((places : List Place) (units : List (List Row)) (rows : List Row) → Stand old.finders places units rows → (i : ℕ) × (r : Row) × FirstAnswer places units rows i r)) is keeps.some places units here (s.looks places made).stand);
+            subst (λ (r : Result ⊤ NoMemory). OnErr r ((places : List Place) (units : List (List Row)) (rows : List Row)
+            → Stand old.finders places units rows → (i : ℕ) × (r : Row) × FirstAnswer places units rows i r)) is
+            keeps.some places units here (s.looks places made).stand);
       },
     ),
   ) where
-    first_answer : (places : List Place) → LooksFor first old places visits → (i : ℕ) × (r : Row) × FirstAnswer places units here i r
-        → (i : ℕ) × (x : Place) × (slice_get places i ≡ Some x) × (located_by first x visits ≡ None) × (is_some (located_by first x all) ≡ true)
+    first_answer : (places : List Place) → LooksFor first old places visits
+        → (i : ℕ) × (r : Row) × FirstAnswer places units here i r
+        → (i : ℕ) × (x : Place) × (slice_get places i ≡ Some x) × (located_by first x visits ≡ None)
+        × (is_some (located_by first x all) ≡ true)
     first_answer places l (i, r, (x, at, none, some)) =
-        let before = none_before x none in
-        (i, x, at, before, ap is_some (now_located x ∙ ap₂ option_or before (ap (option_map {U = Located} (λ r. record { row = r; header = h; unit = offset })) some)))
+        let before = none_before x none in (
+          i,
+          x,
+          at,
+          before,
+          ap is_some (now_located x
+              ∙ ap₂ option_or before (ap (option_map {U = Located} (λ r. record { row = r; header = h; unit = offset }))
+              some)),
+        )
 
-  text_same : (x : Place) (r : Row) → text_under old h r ≡ text_of_located first (record { row = r; header = h; unit = offset })
+  text_same : (x : Place) (r : Row)
+      → text_under old h r ≡ text_of_located first (record { row = r; header = h; unit = offset })
   text_same x r =
       ap (λ st. (path_text st (path_of (strings_of old.strings) h r.file), old.unit)) s.style
       ∙ ap (λ ss. (path_text first.style (path_of (strings_of ss) h r.file), old.unit)) s.strings
@@ -173,8 +208,10 @@ module _ (first old mid : Locator) (start held : Option (List ℕ)) (visits : Li
 
   -- it goes on after the unit
   pub behind : (is : result ≡ Ok tt) (finders : Finders) (told : LiveRows)
-      → ((places : List Place) (units : List (List Row)) (rows : List Row) → Stand mid.finders places units rows → Stand finders places (units ++ rows ∷ []) [])
-      → ((live : ℕ → Bool) → Tells told live []) → Locating first (record mid { finders = finders; live = told }) start held all
+      → ((places : List Place) (units : List (List Row)) (rows : List Row) → Stand mid.finders places units rows
+      → Stand finders places (units ++ rows ∷ []) [])
+      → ((live : ℕ → Bool) → Tells told live [])
+      → Locating first (record mid { finders = finders; live = told }) start held all
   behind is finders told ended tells = record {
     code = keeps.code ∙ s.code;
     style = keeps.style ∙ s.style;
@@ -183,37 +220,52 @@ module _ (first old mid : Locator) (start held : Option (List ℕ)) (visits : Li
     live = subst (Tells told lives) (sym (rows_after-append [] visits (of_end h ∷ []))) (tells lives);
     looks = λ places made. (
         let l = s.looks places made in
-        let right = subst (λ (r : Result ⊤ NoMemory). OnOk r ((places : List Place) (units : List (List Row)) (rows : List Row) → Stand old.finders places units rows
-        → length old.kept.items ≡ length places → (i : ℕ) (r : Row) → FirstAnswer places units rows i r → IsKept mid.texts.items mid.kept.items i (text_under old h r))) is keeps.right in
+        let right = subst
+        (λ (r : Result ⊤ NoMemory). OnOk r ((places : List Place) (units : List (List Row)) (rows : List Row)
+        → Stand old.finders places units rows
+        → length old.kept.items ≡ length places → (i : ℕ) (r : Row) → FirstAnswer places units rows i r
+        → IsKept mid.texts.items mid.kept.items i (text_under old h r))) is keeps.right in
         record {
-          stand = stand_same finders places (units ++ here ∷ []) (ended_rows lives [] all) [] (live_rows lives (rows_after [] all))
+          stand = stand_same finders places (units ++ here ∷ []) (ended_rows lives [] all) []
+              (live_rows lives (rows_after [] all))
               (sym (ended_rows-append lives [] visits (of_end h ∷ [])))
               (sym (ap (live_rows lives) (rows_after-append [] visits (of_end h ∷ [])) ∙ no_live_rows lives))
-              (ended places units here (subst (λ (f : Finders). Stand f places units here) (sym keeps.finders) l.stand));
+              (ended places units here
+              (subst (λ (f : Finders). Stand f places units here) (sym keeps.finders) l.stand));
           count = keeps.count ∙ l.count;
-          kept = λ i x d at is. by places l (right places units here l.stand l.count) i x d at (located_by first x visits) refl (sym (now_located x) ∙ is);
+          kept = λ i x d at is. by places l (right places units here l.stand l.count) i x d at
+              (located_by first x visits) refl (sym (now_located x) ∙ is);
         });
     nothing = s.nothing;
   } where
-    under_is : (places : List Place) (i : ℕ) (x : Place) (d : Located) → slice_get places i ≡ Some x → ((i : ℕ) (r : Row) → FirstAnswer places units here i r → IsKept mid.texts.items mid.kept.items i (text_under old h r))
-        → answer_of_units units x ≡ None → (a : Option Row) → answer here x ≡ a → option_map {U = Located} (λ r. record { row = r; header = h; unit = offset }) a ≡ Some d
+    under_is : (places : List Place) (i : ℕ) (x : Place) (d : Located) → slice_get places i ≡ Some x
+        → ((i : ℕ) (r : Row) → FirstAnswer places units here i r
+        → IsKept mid.texts.items mid.kept.items i (text_under old h r))
+        → answer_of_units units x ≡ None → (a : Option Row) → answer here x ≡ a
+        → option_map {U = Located} (λ r. record { row = r; header = h; unit = offset }) a ≡ Some d
         → IsKept mid.texts.items mid.kept.items i (text_of_located first d)
     under_is places i x d at right none None is e = absurd (none_is_some e)
     under_is places i x d at right none (Some r) is e =
-        subst (λ (t : Located). IsKept mid.texts.items mid.kept.items i (text_of_located first t)) (some_same (record { row = r; header = h; unit = offset }) d e)
+        subst (λ (t : Located). IsKept mid.texts.items mid.kept.items i (text_of_located first t))
+        (some_same (record { row = r; header = h; unit = offset }) d e)
         (subst (IsKept mid.texts.items mid.kept.items i) (text_same x r) (right i r (x, at, none, is)))
 
     none_answers : (x : Place) → located_by first x visits ≡ None → answer_of_units units x ≡ None
     none_answers x none = rows_located lives x [] first.unit visits ∙ ap (option_map (λ (l : Located). l.row)) none
 
-    by : (places : List Place) → LooksFor first old places visits → ((i : ℕ) (r : Row) → FirstAnswer places units here i r → IsKept mid.texts.items mid.kept.items i (text_under old h r))
-        → (i : ℕ) (x : Place) (d : Located) → slice_get places i ≡ Some x → (o : Option Located) → located_by first x visits ≡ o
-        → option_or o (located_under lives x (rows_after [] visits) offset h) ≡ Some d → IsKept mid.texts.items mid.kept.items i (text_of_located first d)
+    by : (places : List Place) → LooksFor first old places visits
+        → ((i : ℕ) (r : Row) → FirstAnswer places units here i r
+        → IsKept mid.texts.items mid.kept.items i (text_under old h r))
+        → (i : ℕ) (x : Place) (d : Located) → slice_get places i ≡ Some x → (o : Option Located)
+        → located_by first x visits ≡ o
+        → option_or o (located_under lives x (rows_after [] visits) offset h) ≡ Some d
+        → IsKept mid.texts.items mid.kept.items i (text_of_located first d)
     by places l right i x d at None is e = under_is places i x d at right (none_answers x is) (answer here x) refl e
     by places l right i x d at (Some d') is e = stays places l i x d at (is ∙ e)
 
 -- no visit was told yet
-pub begins : (first : Locator) (start : Option (List ℕ)) → first.unit ≡ 0 → ((live : ℕ → Bool) → Tells first.live live []) → Appends start start [] → Locating first first start start []
+pub begins : (first : Locator) (start : Option (List ℕ)) → first.unit ≡ 0
+    → ((live : ℕ → Bool) → Tells first.live live []) → Appends start start [] → Locating first first start start []
 begins first start unit tells nothing = record {
   code = refl;
   style = refl;
@@ -221,7 +273,8 @@ begins first start unit tells nothing = record {
   unit = refl;
   live = tells (code_of first);
   looks = λ places made. record {
-    stand = stand_same first.finders places [] [] [] (live_rows (code_of first) []) refl (sym (no_live_rows (code_of first))) made.stand;
+    stand = stand_same first.finders places [] [] [] (live_rows (code_of first) []) refl
+        (sym (no_live_rows (code_of first))) made.stand;
     count = made.count;
     kept = λ i x d at is. absurd (none_is_some is);
   };
@@ -229,49 +282,75 @@ begins first start unit tells nothing = record {
 }
 
 -- it has printed nothing
-pub settles : (first now : Locator) (start held : Option (List ℕ)) (visits : List Visit) (next : Next) → GoesOn locate_story first now start held visits next → GoesOn locate_story first now start held visits next × Appends start held []
-settles first now start held visits next.Unit s = (s, s.nothing)
-settles first now start held visits next.Nothing s = absurd s
+pub settles : (first now : Locator) (start held : Option (List ℕ)) (visits : List Visit) (flow : Flow)
+    → GoesOn locate_story first now start held visits flow → GoesOn locate_story first now start held visits flow
+    × Appends start held []
+settles first now start held visits flow.On s = (s, s.nothing)
+settles first now start held visits flow.Stop s = absurd s
 
 abbrev row_with : Row → List ℕ × ℕ → Option SeenRow
 row_with r text = Some (r, text)
 
 -- what a place is answered
-module _ (first now : Locator) (start held : Option (List ℕ)) (visits : List Visit) (places : List Place) (s : Locating first now start held visits) (made : IsMadeFor first places)
-    (n : ℕ) (answered : Option Row) (given : answered ≡ option_and_then (answer_of_units (ended_rows (code_of first) [] visits)) (slice_get places n)) where
+module _ (first now : Locator) (start held : Option (List ℕ)) (visits : List Visit) (places : List Place)
+    (s : Locating first now start held visits) (made : IsMadeFor first places)
+    (n : ℕ) (answered : Option Row)
+    (given : answered ≡ option_and_then (answer_of_units (ended_rows (code_of first) [] visits)) (slice_get places
+    n)) where
   abbrev Seen : Option SeenRow → Type 0
   Seen o = o ≡ option_map (located_seen first) (option_and_then (λ x. located_by first x visits) (slice_get places n))
 
-  row_is : (x : Place) → slice_get places n ≡ Some x → answered ≡ option_map (λ (l : Located). l.row) (located_by first x visits)
-  row_is x at = given ∙ ap (option_and_then (answer_of_units (ended_rows (code_of first) [] visits))) at ∙ rows_located (code_of first) x [] first.unit visits
+  row_is : (x : Place) → slice_get places n ≡ Some x
+      → answered ≡ option_map (λ (l : Located). l.row) (located_by first x visits)
+  row_is x at =
+      given ∙ ap (option_and_then (answer_of_units (ended_rows (code_of first) [] visits))) at
+      ∙ rows_located (code_of first) x [] first.unit visits
 
   seen_is : (x : Place) (o : Option Located) → slice_get places n ≡ Some x → located_by first x visits ≡ o
-      → option_map (located_seen first) (option_and_then (λ x. located_by first x visits) (slice_get places n)) ≡ option_map (located_seen first) o
+      → option_map (located_seen first) (option_and_then (λ x. located_by first x visits) (slice_get places n))
+      ≡ option_map (located_seen first) o
   seen_is x o at is =
-      ap (λ (p : Option Place). option_map (located_seen first) (option_and_then (λ x. located_by first x visits) p)) at ∙ ap (option_map (located_seen first)) is
+      ap (λ (p : Option Place). option_map (located_seen first) (option_and_then (λ x. located_by first x visits) p)) at
+      ∙ ap (option_map (located_seen first)) is
 
   pub nothing_seen : answered ≡ None → Seen None
   nothing_seen none = by (slice_get places n) refl where
     by : (o : Option Place) → slice_get places n ≡ o → Seen None
-    by None at = sym (ap (λ (p : Option Place). option_map (located_seen first) (option_and_then (λ x. located_by first x visits) p)) at)
-    by (Some x) at = sym (seen_is x None at (map_none (λ (l : Located). l.row) (located_by first x visits) (sym (row_is x at) ∙ none)))
+    by None at =
+        sym (ap (λ (p : Option Place). option_map (located_seen first)
+        (option_and_then (λ x. located_by first x visits) p)) at)
+    by (Some x) at =
+        sym (seen_is x None at (map_none (λ (l : Located). l.row) (located_by first x visits) (sym (row_is x at)
+        ∙ none)))
 
-  text_is : (row : Row) (d : Located) (t : List ℕ × ℕ) (file : Option FileText) → row ≡ d.row → t ≡ text_of_located first d → option_map {U = List ℕ × ℕ} (λ (f : FileText). (f.text.items, f.unit)) file ≡ Some t
+  text_is : (row : Row) (d : Located) (t : List ℕ × ℕ) (file : Option FileText) → row ≡ d.row
+      → t ≡ text_of_located first d → option_map {U = List ℕ × ℕ} (λ (f : FileText). (f.text.items, f.unit)) file
+      ≡ Some t
       → option_map {U = SeenRow} (λ (f : FileText). (row, (f.text.items, f.unit))) file ≡ Some (located_seen first d)
   text_is row d t None e e' is = absurd (none_is_some is)
-  text_is row d t (Some f) e e' is = ap₂ (λ (r : Row) (u : List ℕ × ℕ). row_with r u) e (some_same (f.text.items, f.unit) t is ∙ e')
+  text_is row d t (Some f) e e' is =
+      ap₂ (λ (r : Row) (u : List ℕ × ℕ). row_with r u) e (some_same (f.text.items, f.unit) t is ∙ e')
 
-  pub something_seen : (row : Row) (file : Option FileText) → answered ≡ Some row → file ≡ option_and_then (slice_get now.texts.items) (slice_get now.kept.items n)
+  pub something_seen : (row : Row) (file : Option FileText) → answered ≡ Some row
+      → file ≡ option_and_then (slice_get now.texts.items) (slice_get now.kept.items n)
       → Seen (option_map (λ (f : FileText). (row, (f.text.items, f.unit))) file)
   something_seen row file some is = by (slice_get places n) refl where
-    at_located : (x : Place) → slice_get places n ≡ Some x → (o : Option Located) → located_by first x visits ≡ o → Seen (option_map (λ (f : FileText). (row, (f.text.items, f.unit))) file)
-    at_located x at None none = absurd (none_is_some (sym (row_is x at ∙ ap (option_map (λ (l : Located). l.row)) none) ∙ some))
+    at_located : (x : Place) → slice_get places n ≡ Some x → (o : Option Located) → located_by first x visits ≡ o
+        → Seen (option_map (λ (f : FileText). (row, (f.text.items, f.unit))) file)
+    at_located x at None none =
+        absurd (none_is_some (sym (row_is x at ∙ ap (option_map (λ (l : Located). l.row)) none) ∙ some))
     at_located x at (Some d) found =
         let k = (s.looks places made).kept n x d at found in
-        let own : row ≡ d.row = some_same row d.row (sym some ∙ row_is x at ∙ ap (option_map (λ (l : Located). l.row)) found) in
-        let here : file ≡ slice_get now.texts.items k.number = is ∙ ap (option_and_then (slice_get now.texts.items)) k.entry in
-        text_is row d (text_of_located first d) file own refl (ap (option_map (λ (f : FileText). (f.text.items, f.unit))) here ∙ k.is) ∙ sym (seen_is x (Some d) at found)
+        let own : row ≡ d.row =
+        some_same row d.row (sym some ∙ row_is x at ∙ ap (option_map (λ (l : Located). l.row)) found) in
+        let here : file ≡ slice_get now.texts.items k.number =
+        is ∙ ap (option_and_then (slice_get now.texts.items)) k.entry in
+        text_is row d (text_of_located first d) file own refl
+        (ap (option_map (λ (f : FileText). (f.text.items, f.unit))) here ∙ k.is) ∙ sym (seen_is x (Some d) at found)
 
-    by : (o : Option Place) → slice_get places n ≡ o → Seen (option_map (λ (f : FileText). (row, (f.text.items, f.unit))) file)
-    by None at = absurd (none_is_some (sym (given ∙ ap (option_and_then (answer_of_units (ended_rows (code_of first) [] visits))) at) ∙ some))
+    by : (o : Option Place) → slice_get places n ≡ o
+        → Seen (option_map (λ (f : FileText). (row, (f.text.items, f.unit))) file)
+    by None at =
+        absurd (none_is_some
+        (sym (given ∙ ap (option_and_then (answer_of_units (ended_rows (code_of first) [] visits))) at) ∙ some))
     by (Some x) at = at_located x at (located_by first x visits) refl

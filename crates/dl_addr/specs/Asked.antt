@@ -5,7 +5,8 @@ use Rattle.dl_look.specs.declared.place.Place.{Place}
 use Rattle.dl_addr.specs.declared.asked.Asked.{Asked}
 
 abbrev pub place_above : ℕ → ℕ → Option Place
-place_above base address = if nat_le base address then Some (record { address = address - base; op_index = 0 }) else None
+place_above base address =
+    if nat_le base address then Some (record { address = address - base; op_index = 0 }) else None
 
 -- the place that is looked up: the address less the base; none below 0, and none of a line that is no address
 abbrev pub place_of : (base : ℕ) → Asked → Option Place

@@ -1,6 +1,7 @@
--- What `addr` answers and writes. bytes: what was read from a reader, which has `left` left. start, now: what the writer held at
--- first, and holds now. None: it isn't known.
-use Rattle.std.specs.Prelude.{◌≡◌, ◌⊎◌, ℕ, true, if◌then◌else◌, List, [], ◌∷◌, ◌++◌, take, flat_map, is_some, slice_get, Option, Some, None, Result, Ok, Err}
+-- What `addr` answers and writes. bytes: what was read from a reader, which has `left` left. start, now: what the
+-- writer held at first, and holds now. None: it isn't known.
+use Rattle.std.specs.Prelude.{◌≡◌, ◌⊎◌, ℕ, true, if◌then◌else◌, List, [], ◌∷◌, ◌++◌, take, flat_map, is_some, slice_get}
+use Rattle.std.specs.Prelude.{Option, Some, None, Result, Ok, Err}
 use Rattle.std.specs.List.{list_all}
 use Rattle.std.specs.Option.{option_and_then, option_copied}
 use Rattle.std.specs.Io.KnownBytes.{Appends, Keeps}
@@ -29,7 +30,8 @@ answer_lines order s q units = flat_map (λ a. asked_line q.style s a (answer_in
 
 -- whether each has an answer
 abbrev pub found_in : Order → Question → List (List ℕ) → Found
-found_in order q units = if list_all (λ a. is_some (answer_in order q units a)) q.asked.now then found.All else found.NotAll
+found_in order q units =
+    if list_all (λ a. is_some (answer_in order q units a)) q.asked.now then found.All else found.NotAll
 
 -- u is a unit that is the first to answer for a place that is looked up
 pub record AnswersFirst (order : Order) (q : Question) (units : List (List ℕ)) (u : List ℕ) : Type 0 where
@@ -40,24 +42,28 @@ pub record AnswersFirst (order : Order) (q : Question) (units : List (List ℕ))
   pub answers : is_some (located order (is_code (option_copied q.code)) (units ++ u ∷ []) (looked_up q.base a)) ≡ true
 
 -- how the reading ends: as that of `check`, or memory is refused for the answers of u, the unit after these units
-abbrev pub Ends : Order → (limit : ℕ) (bytes : List ℕ) (left : Option (List ℕ)) → Question → (units : List (List ℕ)) (b back : List ℕ) → Result Summary RunFault → Type 0
+abbrev pub Ends : Order → (limit : ℕ) (bytes : List ℕ) (left : Option (List ℕ)) → Question
+    → (units : List (List ℕ)) (b back : List ℕ) → Result Summary RunFault → Type 0
 Ends order limit bytes left q units b back (Err fault.NoMemory) =
     EndsAs order limit bytes left units b back (Err fault.NoMemory)
     ⊎ (HasUnits order (take limit bytes) (units ++ b ∷ []) back × AnswersFirst order q units b)
 Ends order limit bytes left q units b back result = EndsAs order limit bytes left units b back result
 
--- `addr`: the lines of what is asked, answered by the units before the end or the fault. Where memory is refused for the places, nothing is
--- read or written.
-abbrev pub Locates : Order → Strings → Question → (limit : ℕ) (bytes : List ℕ) (left start now : Option (List ℕ)) → Result Found RunFault → Type 0
+-- `addr`: the lines of what is asked, answered by the units before the end or the fault. Where memory is refused for
+-- the places, nothing is read or written.
+abbrev pub Locates : Order → Strings → Question → (limit : ℕ) (bytes : List ℕ) (left start now : Option (List ℕ))
+    → Result Found RunFault → Type 0
 Locates order s q limit bytes left start now (Ok all_found) =
     (units : List (List ℕ)) × (summary : Summary) × EndsAs order limit bytes left units [] [] (Ok summary)
     × (all_found ≡ found_in order q units) × Appends start now (answer_lines order s q units)
 Locates order s q limit bytes left start now (Err (fault.Write out)) =
-    (units : List (List ℕ)) × (b : List ℕ) × (back : List ℕ) × (ending : Result Summary RunFault) × Ends order limit bytes left q units b back ending
+    (units : List (List ℕ)) × (b : List ℕ) × (back : List ℕ) × (ending : Result Summary RunFault)
+    × Ends order limit bytes left q units b back ending
     × TellsOut start now (answer_lines order s q units) (record { out = out })
 Locates order s q limit bytes left start now (Err fault.NoMemory) =
     ((bytes ≡ []) × Keeps start now)
-    ⊎ ((units : List (List ℕ)) × (b : List ℕ) × (back : List ℕ) × Ends order limit bytes left q units b back (Err fault.NoMemory)
+    ⊎ ((units : List (List ℕ)) × (b : List ℕ) × (back : List ℕ)
+    × Ends order limit bytes left q units b back (Err fault.NoMemory)
     × Appends start now (answer_lines order s q units))
 Locates order s q limit bytes left start now (Err f) =
     (units : List (List ℕ)) × (b : List ℕ) × (back : List ℕ) × Ends order limit bytes left q units b back (Err f)

@@ -26,9 +26,12 @@ pub record Keeps (old new : Locator) (h : Option HeaderData) (result : Result �
   pub grows : Grows old.texts.items new.texts.items
   pub count : length new.kept.items ≡ length old.kept.items
   pub others : (places : List Place) (units : List (List Row)) (rows : List Row) → Stand old.finders places units rows
-      → (i : ℕ) → ((r : Row) → FirstAnswer places units rows i r → ⊥) → slice_get new.kept.items i ≡ slice_get old.kept.items i
-  pub right : OnOk result ((places : List Place) (units : List (List Row)) (rows : List Row) → Stand old.finders places units rows
+      → (i : ℕ) → ((r : Row) → FirstAnswer places units rows i r → ⊥)
+      → slice_get new.kept.items i ≡ slice_get old.kept.items i
+  pub right : OnOk result ((places : List Place) (units : List (List Row)) (rows : List Row)
+      → Stand old.finders places units rows
       → length old.kept.items ≡ length places → (i : ℕ) (r : Row) → FirstAnswer places units rows i r
       → IsKept new.texts.items new.kept.items i (text_under old h r))
-  pub some : OnErr result ((places : List Place) (units : List (List Row)) (rows : List Row) → Stand old.finders places units rows
+  pub some : OnErr result ((places : List Place) (units : List (List Row)) (rows : List Row)
+      → Stand old.finders places units rows
       → (i : ℕ) × (r : Row) × FirstAnswer places units rows i r)

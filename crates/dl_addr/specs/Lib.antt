@@ -6,7 +6,6 @@ pub mod Shown
 pub mod Code
 pub mod Locations
 pub mod Commands
-pub mod AskedLines
 -- Of contracts inside the crate, and of proofs; no public contract reaches these.
 pub mod Parts
 pub mod Texts
@@ -15,5 +14,3 @@ pub mod Locating
 pub mod Answers
 pub mod Printing
 pub mod Knowing
-pub mod Line
-pub mod LinesRead

@@ -1,5 +1,6 @@
 -- What `addr` is told, and what it keeps of it. No promise rests on this file.
-use Rattle.std.specs.Prelude.{◌≡◌, ℕ, Bool, true, List, [], ◌∷◌, ◌++◌, length, is_some, slice_get, Option, Some, None, option_map}
+use Rattle.std.specs.Prelude.{◌≡◌, ℕ, Bool, true, List, [], ◌∷◌, ◌++◌, length, is_some, slice_get, Option, Some, None}
+use Rattle.std.specs.Prelude.{option_map}
 use Rattle.std.specs.Option.{option_copied, option_or}
 use Rattle.std.specs.Io.KnownBytes.{Appends}
 use Rattle.dl_field.specs.HeaderData.{HeaderData}
@@ -33,14 +34,16 @@ ended_rows live rows (visit ∷ visits) = ended_rows live rows visits
 
 -- the answer of a unit
 abbrev pub located_under : (live : ℕ → Bool) → Place → List Row → (offset : ℕ) → Option HeaderData → Option Located
-located_under live x rows offset h = option_map (λ r. record { row = r; header = h; unit = offset }) (answer (live_rows live rows) x)
+located_under live x rows offset h =
+    option_map (λ r. record { row = r; header = h; unit = offset }) (answer (live_rows live rows) x)
 
 -- the answer of the first unit that ended and has one
 abbrev pub located_after : (live : ℕ → Bool) → Place → List Row → (offset : ℕ) → List Visit → Option Located
 located_after live x rows offset [] = None
 located_after live x rows offset (of_header n h ∷ visits) = located_after live x rows n visits
 located_after live x rows offset (of_row r ∷ visits) = located_after live x (rows ++ r ∷ []) offset visits
-located_after live x rows offset (of_end h ∷ visits) = option_or (located_under live x rows offset h) (located_after live x [] offset visits)
+located_after live x rows offset (of_end h ∷ visits) =
+    option_or (located_under live x rows offset h) (located_after live x [] offset visits)
 located_after live x rows offset (visit ∷ visits) = located_after live x rows offset visits
 
 -- ---- the locator
@@ -57,7 +60,8 @@ text_of_located first l = (path_text first.style (path_of (strings_of first.stri
 
 -- it looks for these places
 pub record LooksFor (first now : Locator) (places : List Place) (visits : List Visit) : Type 0 where
-  pub stand : Stand now.finders places (ended_rows (code_of first) [] visits) (live_rows (code_of first) (rows_after [] visits))
+  pub stand : Stand now.finders places (ended_rows (code_of first) [] visits)
+      (live_rows (code_of first) (rows_after [] visits))
   pub count : length now.kept.items ≡ length places
   pub kept : (i : ℕ) (x : Place) (l : Located) → slice_get places i ≡ Some x → located_by first x visits ≡ Some l
       → IsKept now.texts.items now.kept.items i (text_of_located first l)
@@ -83,7 +87,8 @@ pub record StopsAt (first : Locator) (visits : List Visit) (fault : RunFault) : 
   pub h : Option HeaderData
   pub whole : visits ≡ before ++ of_end h ∷ []
   pub answers : (places : List Place) → IsMadeFor first places
-      → (i : ℕ) × (x : Place) × (slice_get places i ≡ Some x) × (located_by first x before ≡ None) × (is_some (located_by first x visits) ≡ true)
+      → (i : ℕ) × (x : Place) × (slice_get places i ≡ Some x) × (located_by first x before ≡ None)
+      × (is_some (located_by first x visits) ≡ true)
 
 -- nothing is printed while it reads
 abbrev pub locate_story : Story Locator

@@ -1,5 +1,6 @@
 -- What is answered for an address, and its text.
-use Rattle.std.specs.Prelude.{ℕ, ◌+◌, Bool, ◌==◌, if◌then◌else◌, List, [], ◌∷◌, ◌++◌, length, Option, None, codes, decimal, option_map}
+use Rattle.std.specs.Prelude.{ℕ, ◌+◌, Bool, ◌==◌, if◌then◌else◌, List, [], ◌∷◌, ◌++◌, length, Option, None, codes}
+use Rattle.std.specs.Prelude.{decimal, option_map}
 use Rattle.std.specs.Option.{option_map_or, option_or}
 use Rattle.dl_num.specs.declared.fixed.Order.{Order}
 use Rattle.dl_field.specs.HeaderData.{HeaderData}
@@ -30,7 +31,12 @@ pub record Located : Type 0 where
 -- of the unit u at that offset: the row of its first live rising sequence that covers x
 abbrev pub located_in : Order → (live : ℕ → Bool) → (offset : ℕ) → List ℕ → Place → Option Located
 located_in order live offset u x =
-    option_map (λ r. record { row = r; header = header_of order u; unit = offset }) (live_answer live (unit_rows order u) x)
+    option_map (λ r. record {
+      row = r;
+      header = header_of order u;
+      unit =
+          offset;
+    }) (live_answer live (unit_rows order u) x)
 
 -- of units one after the other, the first at that offset: of the first that has an answer
 abbrev pub located_from : Order → (live : ℕ → Bool) → (offset : ℕ) → List (List ℕ) → Place → Option Located

@@ -1,5 +1,6 @@
 -- The path of a file under the header of its unit. DWARF 5, sections 6.2.4 and 6.2.4.1.
-use Rattle.std.specs.Prelude.{ℕ, Bool, false, ◌||◌, ◌&&◌, nat_le, ◌==◌, if◌then◌else◌, List, [], ◌∷◌, ◌++◌, Option, Some, None, codes, slice_get, option_map}
+use Rattle.std.specs.Prelude.{ℕ, Bool, false, ◌||◌, ◌&&◌, nat_le, ◌==◌, if◌then◌else◌, List, [], ◌∷◌, ◌++◌, Option}
+use Rattle.std.specs.Prelude.{Some, None, codes, slice_get, option_map}
 use Rattle.std.specs.Option.{option_and_then, option_map_or}
 use Rattle.dl_table.specs.EntryData.{value_of, with_content}
 use Rattle.dl_table.specs.TableData.{TableData}
@@ -56,16 +57,19 @@ under directory path = directory ++ 0x2f ∷ path
 -- directory n; one that isn't whole is under directory 0
 abbrev pub directory_path : Strings → TableData → ℕ → Option (List ℕ)
 directory_path s directories n =
-    option_and_then (λ path. if is_whole path || (n == 0) then Some path else option_map (λ base. under base path) (option_and_then (own_path s) (entry_of directories 0)))
+    option_and_then (λ path. if is_whole path || (n == 0) then Some path
+    else option_map (λ base. under base path) (option_and_then (own_path s) (entry_of directories 0)))
     (option_and_then (own_path s) (entry_of directories n))
 
 -- a file that isn't whole is under its directory
 abbrev pub file_path : Strings → HeaderData → List (ℕ × Value) → Option (List ℕ)
 file_path s h entry =
-    option_and_then (λ path. if is_whole path then Some path else option_map (λ directory. under directory path) (directory_path s h.directories (directory_of entry)))
+    option_and_then (λ path. if is_whole path then Some path
+    else option_map (λ directory. under directory path) (directory_path s h.directories (directory_of entry)))
     (own_path s entry)
 
 -- `??` where one of the texts isn't there
 abbrev pub path_of : Strings → Option HeaderData → (file : ℕ) → List ℕ
 path_of s header file =
-    option_map_or (λ path. path) (option_and_then (λ h. option_and_then (file_path s h) (entry_of h.files file)) header) (codes "??")
+    option_map_or (λ path. path) (option_and_then (λ h. option_and_then (file_path s h) (entry_of h.files file)) header)
+    (codes "??")

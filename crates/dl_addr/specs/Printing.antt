@@ -1,5 +1,6 @@
 -- The lines of what is asked, of what is kept of their answers. No promise rests on this file.
-use Rattle.std.specs.Prelude.{◌≡◌, ℕ, if◌then◌else◌, List, ◌++◌, flat_map, is_some, Option, Some, None, option_map, Result, Ok, Err}
+use Rattle.std.specs.Prelude.{◌≡◌, ℕ, if◌then◌else◌, List, ◌++◌, flat_map, is_some, Option, Some, None, option_map}
+use Rattle.std.specs.Prelude.{Result, Ok, Err}
 use Rattle.std.specs.Io.KnownBytes.{Appends}
 use Rattle.std.specs.List.{list_all}
 use Rattle.std.specs.Option.{option_and_then}
@@ -38,11 +39,14 @@ found_by f asked = if list_all (λ a. is_some (f a)) asked then found.All else f
 
 -- what a locator that was told these visits is asked
 abbrev pub answer_for : Locator → List Visit → (base : ℕ) → Asked → Option SeenRow
-answer_for first visits base a = option_map (located_seen first) (option_and_then (λ x. located_by first x visits) (place_of base a))
+answer_for first visits base a =
+    option_map (located_seen first) (option_and_then (λ x. located_by first x visits) (place_of base a))
 
 -- the lines of all, or not all of them
-abbrev pub PrintsAll : (old new : Option (List ℕ)) → Question → (f : Asked → Option SeenRow) → Result Found WriteFault → Type 0
-PrintsAll old new q f (Ok all_found) = (all_found ≡ found_by f q.asked.now) × Appends old new (seen_lines q.style f q.asked.now)
+abbrev pub PrintsAll : (old new : Option (List ℕ)) → Question → (f : Asked → Option SeenRow) → Result Found WriteFault
+    → Type 0
+PrintsAll old new q f (Ok all_found) =
+    (all_found ≡ found_by f q.asked.now) × Appends old new (seen_lines q.style f q.asked.now)
 PrintsAll old new q f (Err lost) = TellsOut old new (seen_lines q.style f q.asked.now) lost
 
 -- a failed write is told, else the fault of the reading

@@ -1,5 +1,6 @@
 -- The texts of paths, as they are printed.
-use Rattle.std.specs.Prelude.{ℕ, ◌/◌, Bool, ◌||◌, ◌&&◌, nat_lt, ◌==◌, if◌then◌else◌, List, [], ◌∷◌, ◌++◌, flat_map, codes}
+use Rattle.std.specs.Prelude.{ℕ, ◌/◌, Bool, ◌||◌, ◌&&◌, nat_lt, ◌==◌, if◌then◌else◌, List, [], ◌∷◌, ◌++◌, flat_map}
+use Rattle.std.specs.Prelude.{codes}
 use Rattle.std.specs.List.{list_any}
 use Rattle.dl_print.specs.Digits.{last_digit}
 use Rattle.dl_addr.specs.declared.style.Form.{Form}
@@ -21,7 +22,8 @@ shown path = flat_map shown_byte path
 -- what stands after the last separator; all of it where there is none
 abbrev pub behind_last : (is_separator : ℕ → Bool) → List ℕ → List ℕ
 behind_last is_separator [] = []
-behind_last is_separator (b ∷ path) = if list_any is_separator (b ∷ path) then behind_last is_separator path else b ∷ path
+behind_last is_separator (b ∷ path) =
+    if list_any is_separator (b ∷ path) then behind_last is_separator path else b ∷ path
 
 -- a slash; in a path that begins with a drive a backslash too
 abbrev pub separates : (with_drive : Bool) → ℕ → Bool

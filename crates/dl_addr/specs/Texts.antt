@@ -33,7 +33,8 @@ pub record IsKept (texts : List FileText) (kept : List ℕ) (i : ℕ) (text : Li
 
 -- the places are other ones, and each has its number among the kept ones
 pub record AreNumbers (answered : List Answered) (kept : List ℕ) : Type 0 where
-  pub once : (j m : ℕ) → j < length answered → m < length answered → (slice_index_or answered j no_answer).number ≡ (slice_index_or answered m no_answer).number → j ≡ m
+  pub once : (j m : ℕ) → j < length answered → m < length answered
+      → (slice_index_or answered j no_answer).number ≡ (slice_index_or answered m no_answer).number → j ≡ m
   pub within : (j : ℕ) → j < length answered → (slice_index_or answered j no_answer).number < length kept
 
 -- the place is none of the first so many

@@ -3,11 +3,9 @@
 
 mod answering;
 mod asked;
-mod asked_lines;
 mod basename;
 mod json_line;
 mod json_text;
-mod line;
 mod locating;
 mod path;
 mod printing;
@@ -18,6 +16,5 @@ mod texts;
 
 pub use answering::addr;
 pub use asked::Asked;
-pub use asked_lines::{AskedLines, read_asked};
 pub use question::{Found, Question};
 pub use style::{Form, Style};

@@ -6,11 +6,11 @@ ghost use Rattle.dl_addr.specs.Code.{is_code};
 
 use crate::style::Style;
 use crate::texts::{FileText, UnitFiles, keep_all};
-use dl_cmd::{Next, RunFault, Visitor};
+use dl_cmd::{RunFault, Visitor};
 use dl_head::Header;
 use dl_look::{CodeRanges, Finders, LiveRows, NoMemory, Place};
 use dl_print::StringSections;
-use dl_rows::Row;
+use dl_rows::{Flow, Row};
 use std::alloc::Global;
 use std::io::Write;
 
@@ -56,22 +56,22 @@ impl<W: Write> Visitor<W> for Locator<'_> {
         Ok(())
     }
 
-    fn open(&mut self, _output: &mut W) -> Result<(), RunFault> {
+    fn unterminated(&mut self, _output: &mut W) -> Result<(), RunFault> {
         Ok(())
     }
 
-    fn end(&mut self, _output: &mut W, header: Option<Header>) -> Result<Next, RunFault> {
+    fn end(&mut self, _output: &mut W, header: Option<Header>) -> Result<Flow, RunFault> {
         match self.keep(header.as_ref()) {
             Ok(()) => {
                 self.finders.end_unit();
                 self.live = LiveRows::new();
-                Ok(Next::Unit)
+                Ok(Flow::On)
             }
             Err(NoMemory) => Err(RunFault::NoMemory),
         }
     }
 
-    fn settle(&mut self, _output: &mut W) -> Result<(), RunFault> {
+    fn flush(&mut self, _output: &mut W) -> Result<(), RunFault> {
         Ok(())
     }
 }

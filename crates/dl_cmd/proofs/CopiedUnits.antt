@@ -1,5 +1,6 @@
 -- What is written for units that were read is units of the same rows.
-use Rattle.std.proofs.Common.{◌≡◌, inr, ℕ, zero, suc, ◌^◌, ◌<◌, ◌≤◌, ℤ, pos, negsuc, Bool, true, false, List, [], ◌∷◌, ◌++◌, drop, map, Option, Some, None, refl, sym, ap, subst, ◌∙◌, arith, append-nil}
+use Rattle.std.proofs.Common.{◌≡◌, inr, ℕ, zero, suc, ◌^◌, ◌<◌, ◌≤◌, ℤ, pos, negsuc, Bool, true, false, List, [], ◌∷◌}
+use Rattle.std.proofs.Common.{◌++◌, drop, map, Option, Some, None, refl, sym, ap, subst, ◌∙◌, arith, append-nil}
 use Rattle.std.specs.Prelude.{option_map, unwrap_or, if◌then◌else◌}
 use Rattle.std.specs.List.{AllByRecursion, after_last, concat}
 use Rattle.std.specs.Option.{option_or, option_map_or}
@@ -18,7 +19,8 @@ use Rattle.dl_table.proofs.SoundLemmas.{all_push}
 use Rattle.dl_rows.specs.declared.operation.Operation.{Operation}
 use Rattle.dl_rows.specs.declared.operation.Operation.TheVariants as op
 use Rattle.dl_rows.specs.LineUnit.{IsUnit, rows_behind, unit_rows}
-use Rattle.dl_rows.specs.Matrix.{is_end, appends_row, last_set, last_part, parts, moves, line, modulo, row, row_from, rows_after, sequence, fresh, set_file, set_column, set_isa, set_discriminator}
+use Rattle.dl_rows.specs.Matrix.{is_end, appends_row, last_set, last_part, parts, moves, line, modulo, row, row_from}
+use Rattle.dl_rows.specs.Matrix.{rows_after, sequence, fresh, set_file, set_column, set_isa, set_discriminator}
 use Rattle.dl_rows.specs.OperationSpelt.{operations_in}
 use Rattle.dl_rows.specs.Spelling.{SpellsOperation, SpellsProgram}
 use Rattle.dl_rows.proofs.OperandRanges.{bytes_front, bytes_back}
@@ -60,7 +62,8 @@ small_of order h op.Epilogue w s = tt
 small_of order h op.End w s = tt
 small_of order h op.Skipped w s = tt
 
-all_small : (order : Order) (h : Params) (os : List Operation) (w : List ℕ) → SpellsProgram order h os w → AllByRecursion Small os
+all_small : (order : Order) (h : Params) (os : List Operation) (w : List ℕ) → SpellsProgram order h os w
+    → AllByRecursion Small os
 all_small order h [] w s = tt
 all_small order h (o ∷ os) w (front, back, e, s, q) = (small_of order h o front s, all_small order h os back q)
 
@@ -94,7 +97,8 @@ module _ (sets : Operation → Option ℕ) (each : SetsSmall sets) where
     by (Some m) is e = is e
     by None is e = each o n small.0 e
 
-  set_small : (os : List Operation) (d : ℕ) → d < 2 ^ 64 → AllByRecursion Small os → unwrap_or (last_set sets os) d < 2 ^ 64
+  set_small : (os : List Operation) (d : ℕ) → d < 2 ^ 64 → AllByRecursion Small os
+      → unwrap_or (last_set sets os) d < 2 ^ 64
   set_small os d lt small = by (last_set sets os) refl where
     by : (o : Option ℕ) → last_set sets os ≡ o → unwrap_or o d < 2 ^ 64
     by (Some n) is = last_small os n small is
@@ -109,8 +113,10 @@ line_small : (z : ℤ) → modulo z (2 ^ 64) < 2 ^ 64
 line_small (pos n) = mod-lt n (omega arith)
 line_small (negsuc n) = omega arith
 
-module _ (h : Params) (some : 1 ≤ h.maximum_operations_per_instruction) (most : h.maximum_operations_per_instruction < 2 ^ 8) where
-  row_is : (s f : List Operation) (end : Bool) → AllByRecursion Small s → AllByRecursion Small f → IsRow (row_from h s f end)
+module _ (h : Params) (some : 1 ≤ h.maximum_operations_per_instruction)
+    (most : h.maximum_operations_per_instruction < 2 ^ 8) where
+  row_is : (s f : List Operation) (end : Bool) → AllByRecursion Small s → AllByRecursion Small f
+      → IsRow (row_from h s f end)
   row_is s f end small marks =
       let index = mod-lt (last_part (parts h (moves s))) some in
       record {
@@ -122,32 +128,47 @@ module _ (h : Params) (some : 1 ≤ h.maximum_operations_per_instruction) (most 
         op_index = omega arith;
       }
 
-  rows_are : (front os : List Operation) → AllByRecursion Small front → AllByRecursion Small os → AllByRecursion IsRow (rows_after h front os)
+  rows_are : (front os : List Operation) → AllByRecursion Small front → AllByRecursion Small os
+      → AllByRecursion IsRow (rows_after h front os)
   rows_are front [] small more = tt
-  rows_are front (o ∷ os) small more = by (appends_row o) (rows_are (front ++ o ∷ []) os (all_push Small front o small more.0) more.1) where
-    since : (p : Operation → Bool) → AllByRecursion Small (after_last p front ++ o ∷ [])
-    since p = all_push Small (after_last p front) o (all_drop Small _ front small) more.0
+  rows_are front (o ∷ os) small more =
+      by (appends_row o) (rows_are (front ++ o ∷ []) os (all_push Small front o small more.0) more.1) where
+        since : (p : Operation → Bool) → AllByRecursion Small (after_last p front ++ o ∷ [])
+        since p = all_push Small (after_last p front) o (all_drop Small _ front small) more.0
 
-    by : (b : Bool) → AllByRecursion IsRow (rows_after h (front ++ o ∷ []) os) → AllByRecursion IsRow (if b then row h front o ∷ rows_after h (front ++ o ∷ []) os else rows_after h (front ++ o ∷ []) os)
-    by true behind = (row_is (sequence front o) (fresh front o) (is_end o) (since is_end) (since appends_row), behind)
-    by false behind = behind
+        by : (b : Bool) → AllByRecursion IsRow (rows_after h (front ++ o ∷ []) os)
+            → AllByRecursion IsRow (if b then row h front o ∷ rows_after h (front ++ o ∷ []) os
+            else rows_after h (front ++ o ∷ []) os)
+        by true behind =
+            (row_is (sequence front o) (fresh front o) (is_end o) (since is_end) (since appends_row), behind)
+        by false behind = behind
 
 -- ---- one unit
 
 standard_sound : (h : HeaderData) → IsSoundHeader h → IsSoundHeader (with_standard_opcodes h)
-standard_sound h sound = record { params = standard_fault h sound.params; maximum_operations = sound.maximum_operations; line_base = sound.line_base; directories = sound.directories; files = sound.files }
+standard_sound h sound =
+    record {
+      params = standard_fault h sound.params;
+      maximum_operations = sound.maximum_operations;
+      line_base =
+          sound.line_base;
+      directories = sound.directories;
+      files = sound.files;
+    }
 
 -- the header of bytes, and the rows after it
 record HasHeader (order : Order) (u : List ℕ) (h : HeaderData) : Type 0 where
   sound : IsSoundHeader h
   rows : AllByRecursion IsRow (unit_rows order u)
 
-header_read : (order : Order) (u : List ℕ) (h : HeaderData) → AllBytes u → header_of order u ≡ Some h → HasHeader order u h
+header_read : (order : Order) (u : List ℕ) (h : HeaderData) → AllBytes u → header_of order u ≡ Some h
+    → HasHeader order u h
 header_read order u h all is = by (header_in order u) refl where
   by : (parts : Option (HeaderData × List ℕ)) → header_in order u ≡ parts → HasHeader order u h
   by None e = absurd (none_is_some (sym (ap (λ (p : Option (HeaderData × List ℕ)). option_map (λ q. q.0) p) e) ∙ is))
   by (Some (own, program)) e =
-      let same : own ≡ h = value_same own h (sym (ap (λ (p : Option (HeaderData × List ℕ)). option_map (λ q. q.0) p) e) ∙ is) in
+      let same : own ≡ h =
+      value_same own h (sym (ap (λ (p : Option (HeaderData × List ℕ)). option_map (λ q. q.0) p) e) ∙ is) in
       let w = found_is_header order own u program e in
       let sound = header_is_sound order own w.0 w.2 (bytes_front w.0 program (subst AllBytes w.1 all)) in
       let params = usable own.params own.directories own.files sound.params in
@@ -155,7 +176,9 @@ header_read order u h all is = by (header_in order u) refl where
       let small = all_small order own.params (operations_in order own.params program).found found.0 found.2 in
       record {
         sound = subst IsSoundHeader same sound;
-        rows = subst (AllByRecursion IsRow) (sym (ap (rows_behind order) e)) (rows_are own.params params.operations sound.maximum_operations [] (operations_in order own.params program).found tt small);
+        rows = subst (AllByRecursion IsRow) (sym (ap (rows_behind order) e))
+            (rows_are own.params params.operations sound.maximum_operations []
+            (operations_in order own.params program).found tt small);
       }
 
 copy_is_anew : (order : Order) (u : List ℕ) → AllBytes u → IsCopied order u → IsAnew order u (copied_unit order u)
@@ -172,16 +195,22 @@ copy_is_anew order u all (h, is, none) =
       events_are = again.events_are;
       rows = ap (rows_behind order) again.header ∙ again.program.same;
     } in
-    subst (IsAnew order u) (sym (ap (λ (o : Option HeaderData). option_map_or (λ g. unit_of order (with_standard_opcodes g) rows) o []) is)) anew
+    subst (IsAnew order u)
+    (sym (ap (λ (o : Option HeaderData). option_map_or (λ g. unit_of order (with_standard_opcodes g) rows) o [])
+    is)) anew
 
 -- ---- units
 
-copies : (order : Order) (units : List (List ℕ)) → AllBytes (concat units) → AreCopied order units → AllByRecursion (λ u. IsAnew order u (copied_unit order u)) units
+copies : (order : Order) (units : List (List ℕ)) → AllBytes (concat units) → AreCopied order units
+    → AllByRecursion (λ u. IsAnew order u (copied_unit order u)) units
 copies order [] all copied = tt
-copies order (u ∷ units) all copied =
-    (copy_is_anew order u (bytes_front u (concat units) all) copied.0, copies order units (bytes_back u (concat units) all) copied.1)
+copies order (u ∷ units) all copied = (
+  copy_is_anew order u (bytes_front u (concat units) all) copied.0,
+  copies order units (bytes_back u (concat units) all) copied.1,
+)
 
-are_units : (order : Order) (units : List (List ℕ)) → AllByRecursion (λ u. IsAnew order u (copied_unit order u)) units → AllByRecursion (IsUnit order) (map (copied_unit order) units)
+are_units : (order : Order) (units : List (List ℕ)) → AllByRecursion (λ u. IsAnew order u (copied_unit order u)) units
+    → AllByRecursion (IsUnit order) (map (copied_unit order) units)
 are_units order [] anew = tt
 are_units order (u ∷ units) anew = (inr (_, _, anew.0.unit), are_units order units anew.1)
 
@@ -191,5 +220,11 @@ joined order (u ∷ units) = ap (λ (l : List ℕ). copied_unit order u ++ l) (j
 
 pub copies_are_units : CopiesAreUnits
 copies_are_units order s units rest all has copied =
-    let anew = copies order units (bytes_front (concat units) rest (subst AllBytes has.whole all)) copied in
-    (record { whole = joined order units ∙ sym (append-nil (concat (map (copied_unit order) units))); each = are_units order units anew }, anew)
+    let anew = copies order units (bytes_front (concat units) rest (subst AllBytes has.whole all)) copied in (
+      record {
+        whole = joined order units ∙ sym (append-nil (concat (map (copied_unit order) units)));
+        each =
+            are_units order units anew;
+      },
+      anew,
+    )

@@ -1,5 +1,6 @@
 -- Counts of the current unit, where its reader tells an event.
-use Rattle.std.proofs.Common.{◌≡◌, ◌<◌, ℕ, ◌+◌, ◌^◌, Bool, true, false, List, [], ◌∷◌, ◌++◌, length, map, take, append-nil, arith, refl, sym, ap, ◌∙◌, subst, append_assoc, length-append, length-take}
+use Rattle.std.proofs.Common.{◌≡◌, ◌<◌, ℕ, ◌+◌, ◌^◌, Bool, true, false, List, [], ◌∷◌, ◌++◌, length, map, take}
+use Rattle.std.proofs.Common.{append-nil, arith, refl, sym, ap, ◌∙◌, subst, append_assoc, length-append, length-take}
 use Rattle.std.specs.Prelude.{◌||◌}
 use Rattle.std.proofs.lemmas.List.Sums.{count_by-le-length}
 use Rattle.std.specs.List.{concat}
@@ -54,10 +55,18 @@ module _ (u : Units) where
   same_but event.End = refl
   same_but event.NoMemory = refl
 
-module _ (order : Order) (u : Units) (t piece : List ℕ) (units : List (List ℕ)) (b : List ℕ) (are : UnitsAre order u t units b) (v : Units) (own : v.reader.order ≡ order) (short : length t + length piece < 2 ^ 64) where
+module _ (order : Order) (u : Units) (t piece : List ℕ) (units : List (List ℕ)) (b : List ℕ)
+    (are : UnitsAre order u t units b) (v : Units) (own : v.reader.order ≡ order)
+    (short : length t + length piece < 2 ^ 64) where
   -- the reader took bytes and told rows, and then an event that is none; v: with the rows' counts
-  pub more_read : (rows : List Row) (fed : Fed) → v ≡ record u { reader = v.reader; sequences = v.sequences; rows = v.rows } → Counted u.rows u.sequences v.rows v.sequences rows → row_told fed.event ≡ []
-      → FeedsBehind StandsFor order (events order b ++ map event.Row rows) b piece fed v.reader → UnitsAre order (counted fed.event v) (t ++ take fed.used piece) units (b ++ take fed.used piece)
+  pub more_read : (rows : List Row) (fed : Fed) → v ≡ record u {
+    reader = v.reader;
+    sequences = v.sequences;
+    rows =
+        v.rows;
+  } → Counted u.rows u.sequences v.rows v.sequences rows → row_told fed.event ≡ []
+      → FeedsBehind StandsFor order (events order b ++ map event.Row rows) b piece fed v.reader
+      → UnitsAre order (counted fed.event v) (t ++ take fed.used piece) units (b ++ take fed.used piece)
   more_read rows fed same counts none f =
       let x = take fed.used piece in
       let c = b ++ x in
@@ -66,23 +75,44 @@ module _ (order : Order) (u : Units) (t piece : List ℕ) (units : List (List �
       let but : w ≡ record v { is_foreign = w.is_foreign } = same_but v e in
       let before = events order b ++ map event.Row rows in
       let rows_are : rows_told (events order c) ≡ rows_told (events order b) ++ rows =
-      ap rows_told f.answered.grows ∙ rows_told-append before (told e) ∙ ap (λ (l : List Row). rows_told before ++ l) (none_told e none) ∙ append-nil (rows_told before)
-      ∙ rows_told-append (events order b) (map event.Row rows) ∙ ap (λ (l : List Row). rows_told (events order b) ++ l) (rows_told-rows rows) in
+      ap rows_told f.answered.grows ∙ rows_told-append before (told e)
+      ∙ ap (λ (l : List Row). rows_told before ++ l) (none_told e none) ∙ append-nil (rows_told before)
+      ∙ rows_told-append (events order b) (map event.Row rows)
+      ∙ ap (λ (l : List Row). rows_told (events order b) ++ l) (rows_told-rows rows) in
       let foreign_are : is_foreign (events order c) ≡ (is_foreign (events order b) || is_foreign (told e)) =
       ap is_foreign f.answered.grows ∙ foreign-append before (told e)
-      ∙ ap (λ (y : Bool). y || is_foreign (told e)) (foreign-append (events order b) (map event.Row rows) ∙ ap (λ (y : Bool). is_foreign (events order b) || y) (no_version rows) ∙ or_false (is_foreign (events order b))) in
-      let size : length (rows_told (events order c)) < 2 ^ 64 = omega (arith, short, f.answered.within, length-take fed.used piece, ap length are.has.whole, length-append (concat units) b, length-append b x, few_told order c) in
+      ∙ ap (λ (y : Bool). y || is_foreign (told e)) (foreign-append (events order b) (map event.Row rows)
+      ∙ ap (λ (y : Bool). is_foreign (events order b) || y) (no_version rows)
+      ∙ or_false (is_foreign (events order b))) in
+      let size : length (rows_told (events order c)) < 2 ^ 64 =
+      omega (
+        arith,
+        short,
+        f.answered.within,
+        length-take fed.used piece,
+        ap length are.has.whole,
+        length-append (concat units) b,
+        length-append b x,
+        few_told order c,
+      ) in
       let lengths = ap length rows_are ∙ length-append (rows_told (events order b)) rows in
       let all_ends = ap ends rows_are ∙ ends-append (rows_told (events order b)) rows in
       let few = count_by-le-length (λ (r : Row). r.end_sequence) (rows_told (events order c)) in
       record {
-        has = record { whole = ap (λ (l : List ℕ). l ++ x) are.has.whole ∙ append_assoc (concat units) b x; each = are.has.each };
+        has = record {
+          whole = ap (λ (l : List ℕ). l ++ x) are.has.whole ∙ append_assoc (concat units) b x;
+          each =
+              are.has.each;
+        };
         order_is = ap (λ (z : Units). z.order) but ∙ ap (λ (z : Units). z.order) same ∙ are.order_is;
         reader_order = ap (λ (z : Units). z.reader.order) but ∙ own;
         stands = subst (λ (r : Reader). StandsFor r c) (sym (ap (λ (z : Units). z.reader) but)) f.stands;
         offset = ap (λ (z : Units). z.offset) but ∙ ap (λ (z : Units). z.offset) same ∙ are.offset;
         foreign = foreign_more v e _ (ap (λ (z : Units). z.is_foreign) same ∙ are.foreign) ∙ sym foreign_are;
-        sequences = ap (λ (z : Units). z.sequences) but ∙ counts.of_ends (omega (arith, are.sequences, size, all_ends, few)) ∙ ap (λ (n : ℕ). n + ends rows) are.sequences ∙ sym all_ends;
-        rows = ap (λ (z : Units). z.rows) but ∙ counts.of_rows (omega (arith, are.rows, size, lengths)) ∙ ap (λ (n : ℕ). n + length rows) are.rows ∙ sym lengths;
+        sequences =
+            ap (λ (z : Units). z.sequences) but ∙ counts.of_ends (omega (arith, are.sequences, size, all_ends, few))
+            ∙ ap (λ (n : ℕ). n + ends rows) are.sequences ∙ sym all_ends;
+        rows = ap (λ (z : Units). z.rows) but ∙ counts.of_rows (omega (arith, are.rows, size, lengths))
+            ∙ ap (λ (n : ℕ). n + length rows) are.rows ∙ sym lengths;
         summary = ap (λ (z : Units). z.summary) but ∙ ap (λ (z : Units). z.summary) same ∙ are.summary;
       }

@@ -1,5 +1,6 @@
 -- Events of a unit, and the visits, rows and versions that they tell.
-use Rattle.std.proofs.Common.{◌≡◌, ℕ, false, List, [], ◌∷◌, ◌++◌, map, flat_map, Option, Some, None, refl, sym, ap, ap₂, ◌∙◌, append_assoc}
+use Rattle.std.proofs.Common.{◌≡◌, ℕ, false, List, [], ◌∷◌, ◌++◌, map, flat_map, Option, Some, None, refl, sym, ap, ap₂}
+use Rattle.std.proofs.Common.{◌∙◌, append_assoc}
 use Rattle.std.specs.Prelude.{is_some}
 use Rattle.std.specs.List.{AllByRecursion, concat}
 use Rattle.std.proofs.lemmas.Grind.{flat_map-append}
@@ -24,13 +25,17 @@ rows_told-rows (r ∷ rows) = ap (λ (l : List Row). r ∷ l) (rows_told-rows ro
 
 pub rows_told-append : (es more : List Event) → rows_told (es ++ more) ≡ rows_told es ++ rows_told more
 rows_told-append [] more = refl
-rows_told-append (e ∷ es) more = ap (λ (l : List Row). row_told e ++ l) (rows_told-append es more) ∙ sym (append_assoc (row_told e) (rows_told es) (rows_told more))
+rows_told-append (e ∷ es) more =
+    ap (λ (l : List Row). row_told e ++ l) (rows_told-append es more)
+    ∙ sym (append_assoc (row_told e) (rows_told es) (rows_told more))
 
-rows_of_own : (order : Order) (parts : Option (HeaderData × List ℕ)) → rows_told (own_events order parts) ≡ rows_behind order parts
+rows_of_own : (order : Order) (parts : Option (HeaderData × List ℕ))
+    → rows_told (own_events order parts) ≡ rows_behind order parts
 rows_of_own order None = refl
 rows_of_own order (Some (h, program)) = rows_told-rows (rows_in order h.params program)
 
-rows_by : (order : Order) (b : List ℕ) (version : Option ℕ) → foreign_in order b ≡ version → rows_told (events_of order version (header_in order b)) ≡ unit_rows order b
+rows_by : (order : Order) (b : List ℕ) (version : Option ℕ) → foreign_in order b ≡ version
+    → rows_told (events_of order version (header_in order b)) ≡ unit_rows order b
 rows_by order b None is = rows_of_own order (header_in order b)
 rows_by order b (Some v) is = sym (no_rows order b (foreign_no_header order b v is))
 
@@ -48,7 +53,8 @@ none_told event.End none = refl
 none_told event.NoMemory none = refl
 
 -- rows are visits of their own, whatever the header
-pub rows_visited : (offset : ℕ) (h : Option HeaderData) (rows : List Row) → flat_map (event_visits offset h) (map event.Row rows) ≡ map of_row rows
+pub rows_visited : (offset : ℕ) (h : Option HeaderData) (rows : List Row)
+    → flat_map (event_visits offset h) (map event.Row rows) ≡ map of_row rows
 rows_visited offset h [] = refl
 rows_visited offset h (r ∷ rows) = ap (λ (l : List Visit). of_row r ∷ l) (rows_visited offset h rows)
 
@@ -62,7 +68,8 @@ foreign_of_own : (order : Order) (parts : Option (HeaderData × List ℕ)) → i
 foreign_of_own order None = refl
 foreign_of_own order (Some parts) = no_version (rows_in order parts.0.params parts.1)
 
-foreign_by : (order : Order) (version : Option ℕ) (parts : Option (HeaderData × List ℕ)) → is_foreign (events_of order version parts) ≡ is_some version
+foreign_by : (order : Order) (version : Option ℕ) (parts : Option (HeaderData × List ℕ))
+    → is_foreign (events_of order version parts) ≡ is_some version
 foreign_by order None parts = foreign_of_own order parts
 foreign_by order (Some v) parts = refl
 
@@ -72,23 +79,37 @@ foreign_of_events order b = foreign_by order (foreign_in order b) (header_in ord
 -- ---- visits
 
 -- the header makes no difference where none was told
-headerless : (offset : ℕ) (h : Option HeaderData) (order : Order) (version : Option ℕ) → flat_map (event_visits offset h) (events_of order version None) ≡ flat_map (event_visits offset None) (events_of order version None)
+headerless : (offset : ℕ) (h : Option HeaderData) (order : Order) (version : Option ℕ)
+    → flat_map (event_visits offset h) (events_of order version None)
+    ≡ flat_map (event_visits offset None) (events_of order version None)
 headerless offset h order None = refl
 headerless offset h order (Some v) = refl
 
-same_visits : (order : Order) (offset : ℕ) (b x : List ℕ) (parts : Option (HeaderData × List ℕ)) → header_in order b ≡ parts
+same_visits : (order : Order) (offset : ℕ) (b x : List ℕ) (parts : Option (HeaderData × List ℕ))
+    → header_in order b ≡ parts
     → flat_map (event_visits offset (header_of order (b ++ x))) (events order b) ≡ visits order offset b
 same_visits order offset b x None is =
-    ap (λ (p : Option (HeaderData × List ℕ)). flat_map (event_visits offset (header_of order (b ++ x))) (events_of order (foreign_in order b) p)) is
+    ap (λ (p : Option (HeaderData × List ℕ)). flat_map (event_visits offset (header_of order (b ++ x)))
+    (events_of order (foreign_in order b) p)) is
     ∙ headerless offset (header_of order (b ++ x)) order (foreign_in order b)
-    ∙ sym (ap (λ (p : Option (HeaderData × List ℕ)). flat_map (event_visits offset (Rattle.std.specs.Option.option_map (λ parts. parts.0) p)) (events_of order (foreign_in order b) p)) is)
+    ∙ sym (ap
+    (λ (p : Option (HeaderData × List ℕ)). flat_map
+    (event_visits offset (Rattle.std.specs.Option.option_map (λ parts. parts.0) p))
+    (events_of order (foreign_in order b) p)) is)
 same_visits order offset b x (Some (h, program)) is =
-    ap₂ (λ (p q : Option (HeaderData × List ℕ)). flat_map (event_visits offset (Rattle.std.specs.Option.option_map (λ parts. parts.0) p)) (events_of order (foreign_in order b) q)) (header_on order b x h program is) is
-    ∙ sym (ap (λ (p : Option (HeaderData × List ℕ)). flat_map (event_visits offset (Rattle.std.specs.Option.option_map (λ parts. parts.0) p)) (events_of order (foreign_in order b) p)) is)
+    ap₂ (λ (p q : Option (HeaderData × List ℕ)). flat_map
+    (event_visits offset (Rattle.std.specs.Option.option_map (λ parts. parts.0) p))
+    (events_of order (foreign_in order b) q)) (header_on order b x h program is) is
+    ∙ sym (ap
+    (λ (p : Option (HeaderData × List ℕ)). flat_map
+    (event_visits offset (Rattle.std.specs.Option.option_map (λ parts. parts.0) p))
+    (events_of order (foreign_in order b) p)) is)
 
 -- where the events grow, so do the visits
-pub visits_grow : (order : Order) (offset : ℕ) (b x : List ℕ) (told : List Event) → events order (b ++ x) ≡ events order b ++ told
-    → visits order offset (b ++ x) ≡ visits order offset b ++ flat_map (event_visits offset (header_of order (b ++ x))) told
+pub visits_grow : (order : Order) (offset : ℕ) (b x : List ℕ) (told : List Event)
+    → events order (b ++ x) ≡ events order b ++ told
+    → visits order offset (b ++ x) ≡ visits order offset b
+    ++ flat_map (event_visits offset (header_of order (b ++ x))) told
 visits_grow order offset b x told grows =
     let at = event_visits offset (header_of order (b ++ x)) in
     ap (flat_map at) grows

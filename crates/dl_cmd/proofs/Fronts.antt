@@ -1,5 +1,6 @@
 -- Options one after the other, and the fronts of lists.
-use Rattle.std.proofs.Common.{◌≡◌, ◌⊎◌, inl, inr, List, [], ◌∷◌, ◌++◌, length, Option, Some, None, arith, refl, sym, ap, length-append}
+use Rattle.std.proofs.Common.{◌≡◌, ◌⊎◌, inl, inr, List, [], ◌∷◌, ◌++◌, length, Option, Some, None, arith, refl, sym, ap}
+use Rattle.std.proofs.Common.{length-append}
 use Rattle.std.specs.Prelude.{option_map}
 use Rattle.std.specs.List.{AllByRecursion}
 use Rattle.std.specs.Option.{option_or}
@@ -35,8 +36,10 @@ all_front P [] ys all = tt
 all_front P (x ∷ xs) ys all = (all.0, all_front P xs ys all.1)
 
 -- of two fronts of a list one is a front of the other
-pub fronts_of : {A : Type 0} (front : List A) (last : A) (rest heard more : List A) → front ++ last ∷ rest ≡ heard ++ more
-    → ((x : List A) × (heard ≡ front ++ last ∷ x) × (rest ≡ x ++ more)) ⊎ ((x : List A) × (front ≡ heard ++ x) × (more ≡ x ++ last ∷ rest))
+pub fronts_of : {A : Type 0} (front : List A) (last : A) (rest heard more : List A)
+    → front ++ last ∷ rest ≡ heard ++ more
+    → ((x : List A) × (heard ≡ front ++ last ∷ x) × (rest ≡ x ++ more))
+    ⊎ ((x : List A) × (front ≡ heard ++ x) × (more ≡ x ++ last ∷ rest))
 fronts_of [] last rest [] more e = inr ([], refl, sym e)
 fronts_of [] last rest (y ∷ heard) more e = inl (heard, cc, cc)
 fronts_of (z ∷ front) last rest [] more e = inr (z ∷ front, refl, sym e)
@@ -44,8 +47,10 @@ fronts_of {A} (z ∷ front) last rest (y ∷ heard) more e = by (fronts_of front
   same : z ≡ y
   same = cc
 
-  by : ((x : List A) × (heard ≡ front ++ last ∷ x) × (rest ≡ x ++ more)) ⊎ ((x : List A) × (front ≡ heard ++ x) × (more ≡ x ++ last ∷ rest))
-      → ((x : List A) × (y ∷ heard ≡ z ∷ front ++ last ∷ x) × (rest ≡ x ++ more)) ⊎ ((x : List A) × (z ∷ front ≡ y ∷ heard ++ x) × (more ≡ x ++ last ∷ rest))
+  by : ((x : List A) × (heard ≡ front ++ last ∷ x) × (rest ≡ x ++ more))
+      ⊎ ((x : List A) × (front ≡ heard ++ x) × (more ≡ x ++ last ∷ rest))
+      → ((x : List A) × (y ∷ heard ≡ z ∷ front ++ last ∷ x) × (rest ≡ x ++ more))
+      ⊎ ((x : List A) × (z ∷ front ≡ y ∷ heard ++ x) × (more ≡ x ++ last ∷ rest))
   by (inl (x, own, left)) = inl (x, rw (same, own) refl, left)
   by (inr (x, own, left)) = inr (x, rw (same, own) refl, left)
 

@@ -6,6 +6,7 @@ use Rattle.dl_cmd.specs.declared.fault.RunFault.TheVariants.{Write}
 use Rattle.dl_print.proofs.Outs as outs
 
 -- of a longer text no more is out
-pub TellsOut-more : (start now : Option (List ℕ)) (text more : List ℕ) (f : RunFault) → TellsOut start now text f → TellsOut start now (text ++ more) f
+pub TellsOut-more : (start now : Option (List ℕ)) (text more : List ℕ) (f : RunFault) → TellsOut start now text f
+    → TellsOut start now (text ++ more) f
 TellsOut-more start now text more (Write out) t = outs.TellsOut-more start now text more (record { out = out }) t
 TellsOut-more start now text more _ t = t

@@ -1,203 +1,71 @@
--- What is told of the front of a section is a front of what is told of the section.
-use Rattle.std.proofs.Common.{◌≡◌, ◌≢◌, ◌≤◌, ◌⊎◌, inl, inr, ℕ, ◌+◌, ◌-◌, cond, true, false, List, [], ◌∷◌, ◌++◌, length, map, take, drop, flat_map, Option, Some, None, Result, Ok, Err, arith, refl, sym, ap, ap₂, ◌∙◌, subst, append_assoc, append-nil, length-append, length-take, length-drop, take-append-drop}
-use Rattle.std.specs.List.{AllByRecursion, concat}
+-- A section of which more bytes come: how far its front was told, and where both end.
+use Rattle.std.proofs.Common.{[], ◌≡◌, ◌≢◌, ◌≤◌, ◌⊎◌, inl, inr, ℕ, ◌+◌, ◌-◌, List, ◌∷◌, ◌++◌, length}
+use Rattle.std.proofs.Common.{take, drop, Option, Some, Result, Ok, Err, arith, refl, sym, ap, ap₂}
+use Rattle.std.proofs.Common.{◌∙◌, subst, append_assoc, append-nil, length-append, length-take, length-drop}
+use Rattle.std.proofs.Common.{take-append-drop}
+use Rattle.std.specs.List.{concat}
 use Rattle.std.proofs.lemmas.Bool.{cases_lt}
-use Rattle.std.proofs.lemmas.List.{take_all, take-append-le, map-append}
+use Rattle.std.proofs.lemmas.List.{take_all, take-append-le}
 use Rattle.std.proofs.Math.Seq.{take-append-add}
 use Rattle.dl_num.specs.declared.fixed.Order.{Order}
-use Rattle.dl_num.specs.Front.{Standing, standing_after}
-use Rattle.dl_num.proofs.FrontLemmas.{standing-append}
-use Rattle.dl_field.specs.HeaderData.{HeaderData}
 use Rattle.dl_table.specs.declared.form.Format.{Format}
 use Rattle.dl_table.specs.declared.form.Format.TheVariants.{Dwarf32, Dwarf64}
 use Rattle.dl_table.specs.declared.fault.FaultKind.{FaultKind}
-use Rattle.dl_field.specs.declared.params.Params.{Params}
 use Rattle.dl_field.specs.Field.{IsInitialLength}
-use Rattle.dl_field.specs.Layout.{Layout, Item, length_is, number_is, form_is, value_is, foreign_version, following_all}
-use Rattle.dl_head.specs.HeaderLayout.{header_layout, initial_size}
-use Rattle.dl_head.specs.Header.{SpellsFields, Cut, cut, cut_after, foreign_made, foreign_in, header_in, unit_end, unit_len}
-use Rattle.dl_head.proofs.CutLemmas.{cut-append, cut_sound, Sound as CutSound}
+use Rattle.dl_field.specs.Layout.{Item, length_is, number_is, form_is, value_is, header_layout}
+use Rattle.dl_field.specs.Layout.{initial_size}
+use Rattle.dl_head.specs.Header.{SpellsFields, cut, unit_end}
+use Rattle.dl_head.specs.Header.{unit_len}
+use Rattle.dl_head.proofs.CutLemmas.{cut_sound, Sound as CutSound}
 use Rattle.dl_field.proofs.FieldLemmas.{none_some}
 use Rattle.dl_field.proofs.FieldLaws.{field_is_judged}
 use Rattle.dl_head.proofs.FrontLemmas.{GoesOn, fronts, behind_front}
-use Rattle.dl_head.proofs.HeaderLaws.{found_is_header, header_is_not_foreign}
-use Rattle.dl_head.proofs.RefusalLaws.{foreign_last}
-use Rattle.dl_rows.specs.declared.row.Row.{Row}
-use Rattle.dl_rows.specs.declared.operation.Operation.{Operation}
-use Rattle.dl_rows.specs.declared.reader.Event.{Event}
-use Rattle.dl_rows.specs.declared.reader.Event.TheVariants as event
-use Rattle.dl_rows.specs.LineUnit.{IsUnit, rows_in, events_of, events}
-use Rattle.dl_rows.specs.Matrix.{appends_row, row, rows_after, matrix}
-use Rattle.dl_rows.specs.OperationSpelt.{good_one, operation_spelt, operations_in}
 use Rattle.dl_rows.specs.Reading.{WithinUnit}
 use Rattle.dl_rows.specs.Refusal.{Refused}
 use Rattle.dl_rows.specs.Runs.{Sound}
-use Rattle.dl_rows.proofs.UnitLemmas.{header_on, unit_len_on}
-use Rattle.dl_rows.proofs.UnitLengths.{length_is_computed, length_of_unit, some_same}
+use Rattle.dl_rows.proofs.UnitLengths.{length_is_computed, some_same}
 use Rattle.dl_rows.proofs.UnitLaws.{one_refusal}
 use Rattle.dl_rows.proofs.UnitWhole.{unit_unless_refused}
 use Rattle.dl_cmd.specs.declared.fault.RunFault.{RunFault}
 use Rattle.dl_cmd.specs.declared.fault.RunFault.TheVariants as fault
 use Rattle.dl_print.specs.declared.summary.Summary.{Summary}
-use Rattle.dl_cmd.specs.Section.{Visit, HasUnits, NoUnitBegins, EndsAs, event_visits, header_of, visits, end_visits, unit_visits, units_visits, section_visits}
+use Rattle.dl_cmd.specs.Section.{Visit, HasUnits, NoUnitBegins, EndsAs}
+use Rattle.dl_cmd.specs.Section.{section_visits}
 use Rattle.dl_cmd.specs.SectionLaws.{MoreIsTold}
-use Rattle.dl_cmd.proofs.EventLemmas.{visits_grow}
-use Rattle.dl_cmd.proofs.SectionCuts.{one_front, cuts}
+use Rattle.dl_cmd.proofs.SectionCuts.{cuts}
 use Rattle.dl_cmd.proofs.SectionLemmas.{none_begins, none_refused, no_unit_refused}
-
--- ---- the events of a unit that goes on
-
-rows_after-append : (h : Params) (front os more : List Operation) → rows_after h front (os ++ more) ≡ rows_after h front os ++ rows_after h (front ++ os) more
-rows_after-append h front [] more = ap (λ (l : List Operation). rows_after h l more) (sym (append-nil front))
-rows_after-append h front (o ∷ os) more =
-    let later : rows_after h (front ++ o ∷ []) (os ++ more) ≡ rows_after h (front ++ o ∷ []) os ++ rows_after h (front ++ (o ∷ os)) more =
-    rows_after-append h (front ++ o ∷ []) os more ∙ ap (λ (l : List Operation). rows_after h (front ++ o ∷ []) os ++ rows_after h l more) (append_assoc front (o ∷ []) os) in
-    elim (appends_row o) as (λ b. cond b (row h front o ∷ rows_after h (front ++ o ∷ []) (os ++ more)) (rows_after h (front ++ o ∷ []) (os ++ more))
-    ≡ cond b (row h front o ∷ rows_after h (front ++ o ∷ []) os) (rows_after h (front ++ o ∷ []) os) ++ rows_after h (front ++ (o ∷ os)) more) [
-      | true ↦ ap (λ (l : List Row). row h front o ∷ l) later
-      | false ↦ later
-    ]
-
-rows_grow : (order : Order) (h : Params) (p x : List ℕ) → (rows : List Row) × (rows_in order h (p ++ x) ≡ rows_in order h p ++ rows)
-rows_grow order h p x =
-    let spelt = λ (w : List ℕ). good_one (operation_spelt order h w) in
-    let before = (operations_in order h p).found in
-    let after = (standing_after spelt (operations_in order h p).rest x).found in
-    (rows_after h before after, ap (λ (s : Standing Operation). matrix h s.found) (standing-append spelt p x) ∙ rows_after-append h [] before after)
-
--- after a foreign version nothing is cut off
-no_items : (order : Order) (version : ℕ) (begun b : List ℕ) → (cut_after order (foreign_version version) begun b).items ≡ []
-no_items order version begun [] = refl
-no_items order version begun (x ∷ b) = no_items order version (begun ++ x ∷ []) b
-
-pub foreign_on : (order : Order) (b x : List ℕ) (version : ℕ) → foreign_in order b ≡ Some version → foreign_in order (b ++ x) ≡ Some version
-foreign_on order b x version foreign =
-    let items = (cut order b).items in
-    let last = foreign_last (following_all header_layout items) version foreign in
-    let none : (cut_after order (following_all header_layout items) (cut order b).rest x).items ≡ [] =
-    ap (λ (l : Layout). (cut_after order l (cut order b).rest x).items) last ∙ no_items order version (cut order b).rest x in
-    ap (λ (c : Cut). foreign_made (following_all header_layout c.items)) (cut-append order b x)
-    ∙ ap (λ (l : List Item). foreign_made (following_all header_layout (items ++ l))) none
-    ∙ ap (λ (l : List Item). foreign_made (following_all header_layout l)) (append-nil items)
-    ∙ foreign
-
-pub own : (order : Order) (b : List ℕ) (h : HeaderData) (program : List ℕ) → header_in order b ≡ Some (h, program) → events order b ≡ event.Header ∷ map event.Row (rows_in order h.params program)
-own order b h program is =
-    let f = found_is_header order h b program is in
-    let none : foreign_in order b ≡ None = ap (foreign_in order) f.1 ∙ header_is_not_foreign order h f.0 program f.2 in
-    ap₂ (λ (v : Option ℕ) (p : Option (HeaderData × List ℕ)). events_of order v p) none is
-
-events_by : (order : Order) (b x : List ℕ) (version : Option ℕ) (parts : Option (HeaderData × List ℕ)) → foreign_in order b ≡ version → header_in order b ≡ parts
-    → (told : List Event) × (events order (b ++ x) ≡ events order b ++ told)
-events_by order b x (Some v) parts foreign is = (
-  [],
-  ap (λ (o : Option ℕ). events_of order o (header_in order (b ++ x))) (foreign_on order b x v foreign)
-      ∙ sym (ap (λ (o : Option ℕ). events_of order o (header_in order b)) foreign)
-      ∙ sym (append-nil (events order b)),
-)
-events_by order b x None None foreign is =
-    (events order (b ++ x), sym (ap (λ (l : List Event). l ++ events order (b ++ x)) (ap₂ (λ (v : Option ℕ) (p : Option (HeaderData × List ℕ)). events_of order v p) foreign is)))
-events_by order b x None (Some (h, program)) foreign is =
-    let rows = rows_grow order h.params program x in (
-      map event.Row rows.0,
-      own order (b ++ x) h (program ++ x) (header_on order b x h program is)
-          ∙ ap (λ (l : List Row). event.Header ∷ map event.Row l) rows.1
-          ∙ ap (λ (l : List Event). event.Header ∷ l) (map-append event.Row (rows_in order h.params program) rows.0)
-          ∙ sym (ap (λ (l : List Event). l ++ map event.Row rows.0) (own order b h program is)),
-    )
-
-more_visits : (order : Order) (offset : ℕ) (b c : List ℕ) → (x : List ℕ) × (c ≡ b ++ x) → (more : List Visit) × (visits order offset c ≡ visits order offset b ++ more)
-more_visits order offset b c (x, is) =
-    let grown = events_by order b x (foreign_in order b) (header_in order b) refl refl in
-    (flat_map (event_visits offset (header_of order (b ++ x))) grown.0, ap (visits order offset) is ∙ visits_grow order offset b x grown.0 grown.1)
-
--- ---- the visits of a section that goes on
-
--- of two fronts of a list the shorter is a front of the longer
-pub longer_front : (b m c back : List ℕ) → b ++ m ≡ c ++ back → length b ≤ length c → (x : List ℕ) × (c ≡ b ++ x)
-longer_front b m c back e le = elim (fronts b c m back e) [
-  | inl same ↦ ([], sym same ∙ sym (append-nil b))
-  | inr (inl g) ↦ (g.0 ∷ g.1, g.2)
-  | inr (inr g) ↦ absurd (omega (arith, le, ap length g.2, length-append c (g.0 ∷ g.1)))
-]
-
--- b goes no further than a unit at the front of the same list
-pub begun_unit : (order : Order) (b m u back : List ℕ) → WithinUnit order b → IsUnit order u → b ++ m ≡ u ++ back → (x : List ℕ) × (u ≡ b ++ x)
-begun_unit order b m u back within is e = elim (fronts b u m back e) [
-  | inl same ↦ ([], sym same ∙ sym (append-nil b))
-  | inr (inl g) ↦ (g.0 ∷ g.1, g.2)
-  | inr (inr g) ↦
-      let len = subst (λ (l : List ℕ). unit_len order l ≡ Some (length u)) (sym g.2) (unit_len_on order u (g.0 ∷ g.1) (length u) (length_of_unit order u is)) in
-      absurd (omega (arith, within (length u) len, ap length g.2, length-append u (g.0 ∷ g.1)))
-]
-
-regroup : (a t e r v : List Visit) → (((a ++ t) ++ e) ++ r) ++ v ≡ a ++ (((t ++ e) ++ r) ++ v)
-regroup [] t e r v = refl
-regroup (x ∷ a) t e r v = ap (λ (l : List Visit). x ∷ l) (regroup a t e r v)
-
-pub visits_from : Order → ℕ → List (List ℕ) → List ℕ → List Visit
-visits_from order offset units b = units_visits order offset units ++ visits order (offset + length (concat units)) b
-
-visits_from-unit : (order : Order) (offset : ℕ) (u : List ℕ) (units : List (List ℕ)) (b : List ℕ) → visits_from order offset (u ∷ units) b ≡ unit_visits order offset u ++ visits_from order (offset + length u) units b
-unfolding visits_from
-visits_from-unit order offset u units b =
-    ap (λ (n : ℕ). (unit_visits order offset u ++ units_visits order (offset + length u) units) ++ visits order n b) (omega (arith, length-append u (concat units)))
-    ∙ append_assoc (unit_visits order offset u) (units_visits order (offset + length u) units) (visits order ((offset + length u) + length (concat units)) b)
-
-pub told : (order : Order) (offset : ℕ) (units units2 : List (List ℕ)) (b m b2 back2 : List ℕ) → AllByRecursion (IsUnit order) units → AllByRecursion (IsUnit order) units2
-    → WithinUnit order b → NoUnitBegins order (b2 ++ back2) → concat units ++ (b ++ m) ≡ concat units2 ++ (b2 ++ back2) → length (concat units ++ b) ≤ length (concat units2 ++ b2)
-    → (others : List Visit) × (visits_from order offset units2 b2 ≡ visits_from order offset units b ++ others)
-unfolding visits_from
-told order offset [] [] b m b2 back2 all all2 within none e le = more_visits order (offset + 0) b b2 (longer_front b m b2 back2 e le)
-told order offset [] (u ∷ units2) b m b2 back2 all all2 within none e le =
-    let more = more_visits order offset b u (begun_unit order b m u (concat units2 ++ (b2 ++ back2)) within all2.0 (e ∙ append_assoc u (concat units2) (b2 ++ back2))) in
-    let rest = units_visits order (offset + length u) units2 in
-    let last = visits order (offset + length (u ++ concat units2)) b2 in (
-      ((more.0 ++ end_visits order u) ++ rest) ++ last,
-      ap (λ (l : List Visit). ((l ++ end_visits order u) ++ rest) ++ last) more.1
-          ∙ regroup (visits order offset b) more.0 (end_visits order u) rest last
-          ∙ ap (λ (n : ℕ). visits order n b ++ (((more.0 ++ end_visits order u) ++ rest) ++ last)) (omega arith),
-    )
-told order offset (u ∷ units) [] b m b2 back2 all all2 within none e le = absurd (none u (concat units ++ (b ++ m)) (sym e ∙ append_assoc u (concat units) (b ++ m)) all.0)
-told order offset (u ∷ units) (v ∷ units2) b m b2 back2 all all2 within none e le =
-    let front = one_front order u v (concat units ++ (b ++ m)) (concat units2 ++ (b2 ++ back2)) all.0 all2.0
-    (sym (append_assoc u (concat units) (b ++ m)) ∙ e ∙ append_assoc v (concat units2) (b2 ++ back2)) in
-    let shorter : length (concat units ++ b) ≤ length (concat units2 ++ b2) =
-    omega (arith, le, ap length front.0, length-append (u ++ concat units) b, length-append u (concat units), length-append (v ++ concat units2) b2, length-append v (concat units2), length-append (concat units) b, length-append (concat units2) b2) in
-    let later = told order (offset + length u) units units2 b m b2 back2 all.1 all2.1 within none front.1 shorter in (
-      later.0,
-      ap (λ (w : List ℕ). visits_from order offset (w ∷ units2) b2) (sym front.0)
-          ∙ visits_from-unit order offset u units2 b2
-          ∙ ap (λ (l : List Visit). unit_visits order offset u ++ l) later.1
-          ∙ sym (append_assoc (unit_visits order offset u) (visits_from order (offset + length u) units b) later.0)
-          ∙ sym (ap (λ (l : List Visit). l ++ later.0) (visits_from-unit order offset u units b)),
-    )
-
--- at the offset 0
-pub from_zero : (order : Order) (us : List (List ℕ)) (c : List ℕ) → visits_from order 0 us c ≡ section_visits order us c
-unfolding visits_from
-from_zero order us c = ap (λ (n : ℕ). units_visits order 0 us ++ visits order n c) (omega arith)
+use Rattle.dl_cmd.proofs.VisitsGrowth.{told, from_zero}
 
 -- ---- no further than a unit
 
-initial_length : (order : Order) (format : Format) (n : ℕ) (w : List ℕ) → IsInitialLength order format n w → length w ≡ initial_size format
+initial_length : (order : Order) (format : Format) (n : ℕ) (w : List ℕ) → IsInitialLength order format n w
+    → length w ≡ initial_size format
 initial_length order Dwarf32 n w s = s.0.0
 initial_length order Dwarf64 n w s = omega (arith, ap length s.2, length-append s.0 s.1, s.3.0, s.4.0)
 
 -- the length of a unit stands in its own bytes
-unit_len_front : (order : Order) (b : List ℕ) (n : ℕ) → unit_len order b ≡ Some n → n ≤ length b → unit_len order (take n b) ≡ Some (length (take n b))
+unit_len_front : (order : Order) (b : List ℕ) (n : ℕ) → unit_len order b ≡ Some n → n ≤ length b
+    → unit_len order (take n b) ≡ Some (length (take n b))
 unit_len_front order b n e le =
     let s : CutSound order header_layout b (cut order b) = cut_sound order header_layout [] b in
     on (cut order b).items s.front (cut order b).rest s.whole s.spelt e
   where
-    on : (items : List Item) (w rest : List ℕ) → b ≡ w ++ rest → SpellsFields order header_layout items w → unit_end items ≡ Some n → unit_len order (take n b) ≡ Some (length (take n b))
+    on : (items : List Item) (w rest : List ℕ) → b ≡ w ++ rest → SpellsFields order header_layout items w
+        → unit_end items ≡ Some n → unit_len order (take n b) ≡ Some (length (take n b))
     on [] w rest whole s e = absurd (none_some refl e)
     on (number_is m ∷ items) w rest whole s e = absurd (none_some refl e)
     on (form_is f ∷ items) w rest whole s e = absurd (none_some refl e)
     on (value_is v ∷ items) w rest whole s e = absurd (none_some refl e)
     on (length_is format m ∷ items) w rest whole s e =
         let is = (field_is_judged order header_layout (length_is format m) s.0).1 s.3 in
-        let sizes : initial_size is.0 + is.1 ≡ initial_size format + m = ap (λ (i : Item). elim i [ length_is g k ↦ initial_size g + k | number_is k ↦ 0 | form_is g ↦ 0 | value_is v ↦ 0 ]) (sym is.2) in
+        let sizes : initial_size is.0 + is.1 ≡ initial_size format + m =
+        ap (λ (i : Item). elim i [
+          | length_is g k ↦ initial_size g
+              + k
+          | number_is k ↦ 0
+          | form_is g ↦ 0
+          | value_is v ↦ 0
+        ]) (sym is.2) in
         let size = initial_length order is.0 is.1 s.0 is.3 in
         let n_is : n ≡ length s.0 + is.1 = omega (arith, some_same _ _ e, sizes, size) in
         let b_is : b ≡ s.0 ++ (s.1 ++ rest) = whole ∙ ap (λ (l : List ℕ). l ++ rest) s.2 ∙ append_assoc s.0 s.1 rest in
@@ -208,22 +76,35 @@ unit_len_front order b n e le =
           rest = take is.1 (s.1 ++ rest);
           whole = ap₂ (λ (k : ℕ) (l : List ℕ). take k l) n_is b_is ∙ take-append-add s.0 (s.1 ++ rest) is.1;
           spells = is.3;
-          size = omega (arith, length-take is.1 (s.1 ++ rest), n_is, le, ap length b_is, length-append s.0 (s.1 ++ rest));
+          size = omega (
+            arith,
+            length-take is.1 (s.1 ++ rest),
+            n_is,
+            le,
+            ap length b_is,
+            length-append s.0 (s.1 ++ rest),
+          );
         })
 
 -- no front of b but b is refused
 abbrev NoneBefore : Order → List ℕ → Type 0
-NoneBefore order b = (front back : List ℕ) (at : ℕ) (kind : FaultKind) → b ≡ front ++ back → 1 ≤ length back → Refused order front at kind → ⊥
+NoneBefore order b =
+    (front back : List ℕ) (at : ℕ) (kind : FaultKind) → b ≡ front ++ back → 1 ≤ length back
+    → Refused order front at kind → ⊥
 
-within_unit : (order : Order) (b back : List ℕ) → NoUnitBegins order (b ++ back) → NoneBefore order b → WithinUnit order b
+within_unit : (order : Order) (b back : List ℕ) → NoUnitBegins order (b ++ back) → NoneBefore order b
+    → WithinUnit order b
 within_unit order b back none before n e = elim (cases_lt n (length b)) [
   | inr le ↦ le
   | inl lt ↦
       let parts : b ≡ take n b ++ drop n b = sym (take-append-drop n b) in
       let len = unit_len_front order b n e (omega (arith, lt)) in
       let is = (unit_unless_refused order (take n b) len).1 (λ front more at kind f refused.
-      before front (more ++ drop n b) at kind (parts ∙ ap (λ (l : List ℕ). l ++ drop n b) f ∙ append_assoc front more (drop n b)) (omega (arith, lt, length-drop n b, length-append more (drop n b))) refused) in
-      absurd (none (take n b) (drop n b ++ back) (ap (λ (l : List ℕ). l ++ back) parts ∙ append_assoc (take n b) (drop n b) back) is)
+      before front (more ++ drop n b) at kind (parts ∙ ap (λ (l : List ℕ). l ++ drop n b) f
+      ∙ append_assoc front more (drop n b)) (omega (arith, lt, length-drop n b, length-append more (drop n b)))
+      refused) in
+      absurd (none (take n b) (drop n b ++ back) (ap (λ (l : List ℕ). l ++ back) parts
+      ∙ append_assoc (take n b) (drop n b) back) is)
 ]
 
 none_before : (order : Order) (b : List ℕ) (at : ℕ) (kind : FaultKind) → Refused order b at kind → NoneBefore order b
@@ -242,25 +123,35 @@ pub record Stops (order : Order) (t : List ℕ) (units : List (List ℕ)) (b bac
 behind_nothing : (b back : List ℕ) → back ≡ [] → b ++ back ≡ b
 behind_nothing b back nothing = ap (λ (l : List ℕ). b ++ l) nothing ∙ append-nil b
 
-stops_at_end : (order : Order) (t : List ℕ) (units : List (List ℕ)) (b back : List ℕ) → HasUnits order t units b → back ≡ [] → NoUnitBegins order b → Sound order b → Stops order t units b back
+stops_at_end : (order : Order) (t : List ℕ) (units : List (List ℕ)) (b back : List ℕ) → HasUnits order t units b
+    → back ≡ [] → NoUnitBegins order b → Sound order b → Stops order t units b back
 stops_at_end order t units b back has nothing none sound = record {
   has = subst (HasUnits order t units) (sym (behind_nothing b back nothing)) has;
   none = subst (NoUnitBegins order) (sym (behind_nothing b back nothing)) none;
   how = inr (nothing, sound);
 }
 
-module _ (order : Order) (limit : ℕ) (bytes : List ℕ) (left : Option (List ℕ)) (units : List (List ℕ)) (b back : List ℕ) where
-  within_limit : length bytes ≤ limit → (rest : List ℕ) → HasUnits order bytes units rest → HasUnits order (take limit bytes) units rest
+module _ (order : Order) (limit : ℕ) (bytes : List ℕ) (left : Option (List ℕ)) (units : List (List ℕ))
+    (b back : List ℕ) where
+  within_limit : length bytes ≤ limit → (rest : List ℕ) → HasUnits order bytes units rest
+      → HasUnits order (take limit bytes) units rest
   within_limit fits rest has = subst (λ (l : List ℕ). HasUnits order l units rest) (sym (take_all limit bytes fits)) has
 
-  pub stops : (result : Result Summary RunFault) → result ≢ Err fault.NoMemory → EndsAs order limit bytes left units b back result → Stops order (take limit bytes) units b back
+  pub stops : (result : Result Summary RunFault) → result ≢ Err fault.NoMemory
+      → EndsAs order limit bytes left units b back result → Stops order (take limit bytes) units b back
   stops (Ok summary) not (has, empty, nothing, fits, at_end, is) =
-      stops_at_end order (take limit bytes) units b back (subst (HasUnits order (take limit bytes) units) (sym empty) (within_limit fits [] has)) nothing
-      (subst (NoUnitBegins order) (sym empty) (none_begins order)) (subst (Sound order) (sym empty) (none_refused order))
-  stops (Err (fault.Damage offset kind)) not (has, none, inl (at, place, refused)) = record { has = has; none = none; how = inl (at, kind, refused) }
-  stops (Err (fault.Damage offset kind)) not (has, none, inr (nothing, some, sound, fits, at_end, place, is)) = record { has = has; none = none; how = inr (nothing, sound) }
-  stops (Err fault.Read) not (has, nothing, none, sound, fits) = stops_at_end order (take limit bytes) units b back (within_limit fits b has) nothing none sound
-  stops (Err fault.SectionTooLong) not (has, nothing, none, sound, long) = stops_at_end order (take limit bytes) units b back has nothing none sound
+      stops_at_end order (take limit bytes) units b back (subst (HasUnits order (take limit bytes) units) (sym empty)
+      (within_limit fits [] has)) nothing
+      (subst (NoUnitBegins order) (sym empty) (none_begins order))
+      (subst (Sound order) (sym empty) (none_refused order))
+  stops (Err (fault.Damage offset kind)) not (has, none, inl (at, place, refused)) =
+      record { has = has; none = none; how = inl (at, kind, refused) }
+  stops (Err (fault.Damage offset kind)) not (has, none, inr (nothing, some, sound, fits, at_end, place, is)) =
+      record { has = has; none = none; how = inr (nothing, sound) }
+  stops (Err fault.Read) not (has, nothing, none, sound, fits) =
+      stops_at_end order (take limit bytes) units b back (within_limit fits b has) nothing none sound
+  stops (Err fault.SectionTooLong) not (has, nothing, none, sound, long) =
+      stops_at_end order (take limit bytes) units b back has nothing none sound
   stops (Err fault.NoMemory) not ends = absurd (not refl)
   stops (Err fault.NotFound) not ends = absurd ends
   stops (Err (fault.Write out)) not ends = absurd ends
@@ -272,13 +163,17 @@ take_more limit bytes more = elim (cases_lt limit (length bytes)) [
   | inl lt ↦ ([], take-append-le limit bytes more (omega (arith, lt)) ∙ sym (append-nil (take limit bytes)))
   | inr le ↦ (
     take (limit - length bytes) more,
-    ap (λ (n : ℕ). take n (bytes ++ more)) (let n_is : limit ≡ length bytes + (limit - length bytes) = omega (arith, le) in n_is)
+    ap (λ (n : ℕ). take n (bytes ++ more)) (let n_is : limit ≡ length bytes + (limit - length bytes) = omega (
+      arith,
+      le,
+    ) in n_is)
         ∙ take-append-add bytes more (limit - length bytes)
         ∙ ap (λ (l : List ℕ). l ++ take (limit - length bytes) more) (sym (take_all limit bytes le)),
   )
 ]
 
-module _ (order : Order) (t m : List ℕ) (units units2 : List (List ℕ)) (b b2 back back2 : List ℕ) (s : Stops order t units b back) (s2 : Stops order (t ++ m) units2 b2 back2) where
+module _ (order : Order) (t m : List ℕ) (units units2 : List (List ℕ)) (b b2 back back2 : List ℕ)
+    (s : Stops order t units b back) (s2 : Stops order (t ++ m) units2 b2 back2) where
   abbrev Grows : Type 0
   Grows = (others : List Visit) × (section_visits order units2 b2 ≡ section_visits order units b ++ others)
 
@@ -290,16 +185,26 @@ module _ (order : Order) (t m : List ℕ) (units units2 : List (List ℕ)) (b b2
       ∙ s2.has.whole
 
   same_told : units ≡ units2 → b ≡ b2 → Grows
-  same_told us bs = ([], ap₂ (λ (x : List (List ℕ)) (y : List ℕ). section_visits order x y) (sym us) (sym bs) ∙ sym (append-nil (section_visits order units b)))
+  same_told us bs = (
+    [],
+    ap₂ (λ (x : List (List ℕ)) (y : List ℕ). section_visits order x y) (sym us) (sym bs)
+        ∙ sym (append-nil (section_visits order units b)),
+  )
 
   -- the front is refused
-  at_refusal : (at : ℕ) (kind : FaultKind) → Refused order b at kind → ((at : ℕ) × (kind : FaultKind) × Refused order b2 at kind) ⊎ ((back2 ≡ []) × Sound order b2) → Grows
+  at_refusal : (at : ℕ) (kind : FaultKind) → Refused order b at kind
+      → ((at : ℕ) × (kind : FaultKind) × Refused order b2 at kind) ⊎ ((back2 ≡ []) × Sound order b2) → Grows
   at_refusal at kind refused how2 =
       let within = within_unit order b back s.none (none_before order b at kind refused) in
-      let cut = cuts order units units2 (b ++ (back ++ m)) (b2 ++ back2) s.has.each s2.has.each (no_unit_refused order b (back ++ m) at kind within refused) s2.none whole in
+      let cut = cuts order units units2 (b ++ (back ++ m)) (b2 ++ back2) s.has.each s2.has.each
+      (no_unit_refused order b (back ++ m) at kind within refused) s2.none whole in
       elim how2 [
-        | inl (at2, kind2, refused2) ↦ same_told cut.0 (one_refusal order b b2 (back ++ m) back2 at at2 kind kind2 cut.1 refused refused2).0
-        | inr (nothing, sound) ↦ absurd (sound b (back ++ m) at kind (sym (cut.1 ∙ behind_nothing b2 back2 nothing)) refused)
+        | inl (at2, kind2, refused2) ↦ same_told cut.0
+            (one_refusal order b b2 (back ++ m) back2 at at2 kind kind2 cut.1 refused refused2).0
+        | inr (
+          nothing,
+          sound,
+        ) ↦ absurd (sound b (back ++ m) at kind (sym (cut.1 ∙ behind_nothing b2 back2 nothing)) refused)
       ]
 
   module _ (nothing : back ≡ []) (sound : Sound order b) where
@@ -310,16 +215,30 @@ module _ (order : Order) (t m : List ℕ) (units units2 : List (List ℕ)) (b b2
     both = ap (λ (l : List ℕ). l ++ m) (sym t_is) ∙ s2.has.whole ∙ sym (append_assoc (concat units2) b2 back2)
 
     -- a refusal is no earlier
-    no_earlier : (at : ℕ) (kind : FaultKind) → Refused order b2 at kind → GoesOn (concat units2 ++ b2) (concat units ++ b) → ⊥
+    no_earlier : (at : ℕ) (kind : FaultKind) → Refused order b2 at kind
+        → GoesOn (concat units2 ++ b2) (concat units ++ b) → ⊥
     no_earlier at kind refused (x, w, goes) =
-        let rest : (x ∷ w) ++ m ≡ back2 = behind_front (concat units2 ++ b2) ((x ∷ w) ++ m) back2 (sym (append_assoc (concat units2 ++ b2) (x ∷ w) m) ∙ ap (λ (l : List ℕ). l ++ m) (sym goes) ∙ both) in
+        let rest : (x ∷ w) ++ m ≡ back2 =
+        behind_front (concat units2 ++ b2) ((x ∷ w) ++ m) back2 (sym (append_assoc (concat units2 ++ b2) (x ∷ w) m)
+        ∙ ap (λ (l : List ℕ). l ++ m) (sym goes) ∙ both) in
         let none : NoUnitBegins order (b2 ++ x ∷ w) = λ u more e is.
-        s2.none u (more ++ m) (ap (λ (l : List ℕ). b2 ++ l) (sym rest) ∙ sym (append_assoc b2 (x ∷ w) m) ∙ ap (λ (l : List ℕ). l ++ m) e ∙ append_assoc u more m) is in
-        let cut = cuts order units units2 b (b2 ++ x ∷ w) s.has.each s2.has.each (subst (NoUnitBegins order) (behind_nothing b back nothing) s.none) none (goes ∙ append_assoc (concat units2) b2 (x ∷ w)) in
+        s2.none u (more ++ m) (ap (λ (l : List ℕ). b2 ++ l) (sym rest) ∙ sym (append_assoc b2 (x ∷ w) m)
+        ∙ ap (λ (l : List ℕ). l ++ m) e ∙ append_assoc u more m) is in
+        let cut = cuts order units units2 b (b2 ++ x ∷ w) s.has.each s2.has.each
+        (subst (NoUnitBegins order) (behind_nothing b back nothing) s.none) none (goes
+        ∙ append_assoc (concat units2) b2 (x ∷ w)) in
         sound b2 (x ∷ w) at kind cut.1 refused
 
-    no_further : ((at : ℕ) × (kind : FaultKind) × Refused order b2 at kind) ⊎ ((back2 ≡ []) × Sound order b2) → length (concat units ++ b) ≤ length (concat units2 ++ b2)
-    no_further (inr (nothing2, sound2)) = omega (arith, ap length both, ap length nothing2, length-append (concat units ++ b) m, length-append (concat units2 ++ b2) back2)
+    no_further : ((at : ℕ) × (kind : FaultKind) × Refused order b2 at kind) ⊎ ((back2 ≡ []) × Sound order b2)
+        → length (concat units ++ b) ≤ length (concat units2 ++ b2)
+    no_further (inr (nothing2, sound2)) =
+        omega (
+          arith,
+          ap length both,
+          ap length nothing2,
+          length-append (concat units ++ b) m,
+          length-append (concat units2 ++ b2) back2,
+        )
     no_further (inl (at, kind, refused)) = elim (fronts (concat units ++ b) (concat units2 ++ b2) m back2 both) [
       | inl same ↦ omega (arith, ap length same)
       | inr (inl g) ↦ omega (arith, ap length g.2, length-append (concat units ++ b) (g.0 ∷ g.1))
@@ -328,10 +247,15 @@ module _ (order : Order) (t m : List ℕ) (units units2 : List (List ℕ)) (b b2
 
     at_end : ((at : ℕ) × (kind : FaultKind) × Refused order b2 at kind) ⊎ ((back2 ≡ []) × Sound order b2) → Grows
     at_end how2 =
-        let within = within_unit order b back s.none (λ front more at kind e some refused. sound front more at kind e refused) in
-        let e : concat units ++ (b ++ m) ≡ concat units2 ++ (b2 ++ back2) = ap (λ (l : List ℕ). concat units ++ (b ++ (l ++ m))) (sym nothing) ∙ whole in
-        let more = told order 0 units units2 b m b2 back2 s.has.each s2.has.each within s2.none e (no_further how2) in
-        (more.0, sym (from_zero order units2 b2) ∙ more.1 ∙ ap (λ (l : List Visit). l ++ more.0) (from_zero order units b))
+        let within = within_unit order b back s.none
+        (λ front more at kind e some refused. sound front more at kind e refused) in
+        let e : concat units ++ (b ++ m) ≡ concat units2 ++ (b2 ++ back2) =
+        ap (λ (l : List ℕ). concat units ++ (b ++ (l ++ m))) (sym nothing) ∙ whole in
+        let more = told order 0 units units2 b m b2 back2 s.has.each s2.has.each within s2.none e (no_further how2) in (
+          more.0,
+          sym (from_zero order units2 b2) ∙ more.1
+              ∙ ap (λ (l : List Visit). l ++ more.0) (from_zero order units b),
+        )
 
   grows : Grows
   grows = elim s.how [
@@ -343,5 +267,6 @@ pub more_is_told : MoreIsTold
 more_is_told order limit bytes more left left2 units units2 b b2 back back2 result result2 not not2 ends ends2 =
     let m = take_more limit bytes more in
     let s = stops order limit bytes left units b back result not ends in
-    let s2 = subst (λ (l : List ℕ). Stops order l units2 b2 back2) m.1 (stops order limit (bytes ++ more) left2 units2 b2 back2 result2 not2 ends2) in
+    let s2 = subst (λ (l : List ℕ). Stops order l units2 b2 back2) m.1
+    (stops order limit (bytes ++ more) left2 units2 b2 back2 result2 not2 ends2) in
     grows order (take limit bytes) m.0 units units2 b b2 back back2 s s2

@@ -1,6 +1,7 @@
--- What the commands answer and write. bytes: what was read from a reader, which has `left` left. start, now: what the writer held at
--- first, and holds now. None: it isn't known.
-use Rattle.std.specs.Prelude.{◌≡◌, ◌≢◌, ◌⊎◌, ℕ, List, [], ◌∷◌, ◌++◌, length, take, flat_map, Option, Some, None, Result, Ok, Err}
+-- What the commands answer and write. bytes: what was read from a reader, which has `left` left. start, now: what the
+-- writer held at first, and holds now. None: it isn't known.
+use Rattle.std.specs.Prelude.{◌≡◌, ◌≢◌, ◌⊎◌, ℕ, List, [], ◌∷◌, ◌++◌, length, take, flat_map, Option, Some, None, Result}
+use Rattle.std.specs.Prelude.{Ok, Err}
 use Rattle.std.specs.List.{AllByRecursion, concat}
 use Rattle.std.specs.Option.{option_copied, option_map_or}
 use Rattle.std.specs.Io.KnownBytes.{Appends, Keeps}
@@ -28,19 +29,25 @@ use Rattle.dl_print.specs.HeaderText.{file_text}
 
 -- the string sections that the options hand in
 abbrev pub strings_in : Options → Strings
-strings_in options = record { line_strings = option_copied options.debug_line_str; strings = option_copied options.debug_str }
+strings_in options =
+    record { line_strings = option_copied options.debug_line_str; strings = option_copied options.debug_str }
 
 -- `check`: the line of the counts where the section is units to its end, else nothing
-abbrev pub Checks : Order → (limit : ℕ) (bytes : List ℕ) (left start now : Option (List ℕ)) → Result Summary RunFault → Type 0
+abbrev pub Checks : Order → (limit : ℕ) (bytes : List ℕ) (left start now : Option (List ℕ)) → Result Summary RunFault
+    → Type 0
 Checks order limit bytes left start now (Ok summary) =
-    (units : List (List ℕ)) × EndsAs order limit bytes left units [] [] (Ok summary) × Appends start now (summary_line summary)
+    (units : List (List ℕ)) × EndsAs order limit bytes left units [] [] (Ok summary)
+    × Appends start now (summary_line summary)
 Checks order limit bytes left start now (Err (fault.Write out)) =
-    (units : List (List ℕ)) × (summary : Summary) × EndsAs order limit bytes left units [] [] (Ok summary) × TellsOut start now (summary_line summary) (fault.Write out)
+    (units : List (List ℕ)) × (summary : Summary) × EndsAs order limit bytes left units [] [] (Ok summary)
+    × TellsOut start now (summary_line summary) (fault.Write out)
 Checks order limit bytes left start now (Err f) =
-    (units : List (List ℕ)) × (b : List ℕ) × (back : List ℕ) × EndsAs order limit bytes left units b back (Err f) × Keeps start now
+    (units : List (List ℕ)) × (b : List ℕ) × (back : List ℕ) × EndsAs order limit bytes left units b back (Err f)
+    × Keeps start now
 
 -- `dump`: the text of the units, and of what follows them up to the fault
-abbrev pub Dumps : Order → Strings → (limit : ℕ) (bytes : List ℕ) (left start now : Option (List ℕ)) → Result Summary RunFault → Type 0
+abbrev pub Dumps : Order → Strings → (limit : ℕ) (bytes : List ℕ) (left start now : Option (List ℕ))
+    → Result Summary RunFault → Type 0
 Dumps order strings limit bytes left start now (Err (fault.Write out)) =
     (units : List (List ℕ)) × (b : List ℕ) × (back : List ℕ) × HasBegun order (take limit bytes) units b back
     × TellsOut start now (section_text order strings units b) (fault.Write out)
@@ -55,7 +62,8 @@ abbrev pub NoneAnswers : Order → Place → List (List ℕ) → Type 0
 NoneAnswers order x units = AllByRecursion (λ u. answer (unit_rows order u) x ≡ None) units
 
 -- the first bytes are units, of which u, the last, is the first that has an answer for x: the row r; h is its header
-pub record IsFound (order : Order) (x : Place) (bytes : List ℕ) (units : List (List ℕ)) (u back : List ℕ) (h : HeaderData) (r : Row) : Type 0 where
+pub record IsFound (order : Order) (x : Place) (bytes : List ℕ) (units : List (List ℕ)) (u back : List ℕ)
+    (h : HeaderData) (r : Row) : Type 0 where
   pub has : HasUnits order bytes (units ++ u ∷ []) back
   pub none_before : NoneAnswers order x units
   pub row : answer (unit_rows order u) x ≡ Some r
@@ -65,31 +73,40 @@ pub record IsFound (order : Order) (x : Place) (bytes : List ℕ) (units : List 
 abbrev pub found_text : Strings → HeaderData → Row → List ℕ
 found_text strings h r = file_text strings h.files r.file ++ row_line r
 
--- `find`: the two lines of the first unit that has an answer for x; nothing where none has, or where a fault comes before
-abbrev pub Finds : Order → Strings → Place → (limit : ℕ) (bytes : List ℕ) (left start now : Option (List ℕ)) → Result Summary RunFault → Type 0
+-- `find`: the two lines of the first unit that has an answer for x; nothing where none has, or where a fault comes
+-- before
+abbrev pub Finds : Order → Strings → Place → (limit : ℕ) (bytes : List ℕ) (left start now : Option (List ℕ))
+    → Result Summary RunFault → Type 0
 Finds order strings x limit bytes left start now (Ok summary) =
-    (units : List (List ℕ)) × (u : List ℕ) × (back : List ℕ) × (h : HeaderData) × (r : Row) × IsFound order x (take limit bytes) units u back h r
+    (units : List (List ℕ)) × (u : List ℕ) × (back : List ℕ) × (h : HeaderData) × (r : Row)
+    × IsFound order x (take limit bytes) units u back h r
     × (summary ≡ summary_of order (units ++ u ∷ [])) × Appends start now (found_text strings h r)
 Finds order strings x limit bytes left start now (Err (fault.Write out)) =
-    (units : List (List ℕ)) × (u : List ℕ) × (back : List ℕ) × (h : HeaderData) × (r : Row) × IsFound order x (take limit bytes) units u back h r
+    (units : List (List ℕ)) × (u : List ℕ) × (back : List ℕ) × (h : HeaderData) × (r : Row)
+    × IsFound order x (take limit bytes) units u back h r
     × TellsOut start now (found_text strings h r) (fault.Write out)
 Finds order strings x limit bytes left start now (Err fault.NotFound) =
-    (units : List (List ℕ)) × (summary : Summary) × EndsAs order limit bytes left units [] [] (Ok summary) × NoneAnswers order x units × Keeps start now
+    (units : List (List ℕ)) × (summary : Summary) × EndsAs order limit bytes left units [] [] (Ok summary)
+    × NoneAnswers order x units × Keeps start now
 Finds order strings x limit bytes left start now (Err f) =
-    (units : List (List ℕ)) × (b : List ℕ) × (back : List ℕ) × EndsAs order limit bytes left units b back (Err f) × NoneAnswers order x units × Keeps start now
+    (units : List (List ℕ)) × (b : List ℕ) × (back : List ℕ) × EndsAs order limit bytes left units b back (Err f)
+    × NoneAnswers order x units × Keeps start now
 
 -- ---- `copy`
 
--- the unit of the same rows, under the header with standard opcodes; nothing for a unit of another version, which has no header
+-- the unit of the same rows, under the header with standard opcodes; nothing for a unit of another version, which has
+-- no header
 abbrev pub copied_unit : Order → List ℕ → List ℕ
-copied_unit order u = option_map_or (λ h. unit_of order (with_standard_opcodes h) (unit_rows order u)) (header_of order u) []
+copied_unit order u =
+    option_map_or (λ h. unit_of order (with_standard_opcodes h) (unit_rows order u)) (header_of order u) []
 
 abbrev pub copied_units : Order → List (List ℕ) → List ℕ
 copied_units order units = flat_map (copied_unit order) units
 
 -- u has a header, and its copy can be written
 abbrev pub IsCopied : Order → List ℕ → Type 0
-IsCopied order u = (h : HeaderData) × (header_of order u ≡ Some h) × (refusal (with_standard_opcodes h) (unit_rows order u) ≡ None)
+IsCopied order u =
+    (h : HeaderData) × (header_of order u ≡ Some h) × (refusal (with_standard_opcodes h) (unit_rows order u) ≡ None)
 
 abbrev pub AreCopied : Order → List (List ℕ) → Type 0
 AreCopied order units = AllByRecursion (IsCopied order) units
@@ -98,30 +115,37 @@ AreCopied order units = AllByRecursion (IsCopied order) units
 abbrev pub HasCopied : Order → List (List ℕ) → (start now : Option (List ℕ)) → Type 0
 HasCopied order units start now = AreCopied order units × Appends start now (copied_units order units)
 
--- memory grows: for a cell of b's header, which the byte after b adds; for a row; or for the copy of a unit that is whole
+-- memory grows: for a cell of b's header, which the byte after b adds; for a row; or for the copy of a unit that is
+-- whole
 abbrev pub Grows : Order → (b back : List ℕ) → Type 0
 Grows order b back = AddsCell order b back ⊎ ((unit_rows order b ≢ []) ⊎ IsUnit order b)
 
--- `copy`: the copies of all units, or of those before the fault. A unit of another version is a fault, also where it is cut off, and so is
--- a whole unit whose copy would be too long. The fault's offset is that of the unit.
-abbrev pub Copies : Order → (limit : ℕ) (bytes : List ℕ) (left start now : Option (List ℕ)) → Result Summary RunFault → Type 0
+-- `copy`: the copies of all units, or of those before the fault. A unit of another version is a fault, also where it is
+-- cut off, and so is a whole unit whose copy would be too long. The fault's offset is that of the unit.
+abbrev pub Copies : Order → (limit : ℕ) (bytes : List ℕ) (left start now : Option (List ℕ)) → Result Summary RunFault
+    → Type 0
 Copies order limit bytes left start now (Ok summary) =
     (units : List (List ℕ)) × EndsAs order limit bytes left units [] [] (Ok summary) × HasCopied order units start now
 Copies order limit bytes left start now (Err (fault.ForeignUnit offset)) =
-    (units : List (List ℕ)) × (b : List ℕ) × (back : List ℕ) × (version : ℕ) × HasBegun order (take limit bytes) units b back
+    (units : List (List ℕ)) × (b : List ℕ) × (back : List ℕ) × (version : ℕ)
+    × HasBegun order (take limit bytes) units b back
     × (offset ≡ length (concat units)) × (foreign_in order b ≡ Some version) × HasCopied order units start now
 Copies order limit bytes left start now (Err (fault.Emit offset f)) =
-    (units : List (List ℕ)) × (u : List ℕ) × (back : List ℕ) × (h : HeaderData) × HasUnits order (take limit bytes) (units ++ u ∷ []) back
-    × (offset ≡ length (concat units)) × (header_of order u ≡ Some h) × (refusal (with_standard_opcodes h) (unit_rows order u) ≡ Some f) × (f ≡ TooLong)
+    (units : List (List ℕ)) × (u : List ℕ) × (back : List ℕ) × (h : HeaderData)
+    × HasUnits order (take limit bytes) (units ++ u ∷ []) back
+    × (offset ≡ length (concat units)) × (header_of order u ≡ Some h)
+    × (refusal (with_standard_opcodes h) (unit_rows order u) ≡ Some f) × (f ≡ TooLong)
     × HasCopied order units start now
 -- a growth was refused for b, which is in no other way at fault
 Copies order limit bytes left start now (Err fault.NoMemory) =
-    (units : List (List ℕ)) × (b : List ℕ) × (back : List ℕ) × HasBegun order (take limit bytes) units b back × Sound order b × (foreign_in order b ≡ None)
+    (units : List (List ℕ)) × (b : List ℕ) × (back : List ℕ) × HasBegun order (take limit bytes) units b back
+    × Sound order b × (foreign_in order b ≡ None)
     × Grows order b back × HasCopied order units start now
 Copies order limit bytes left start now (Err (fault.Write out)) =
     (units : List (List ℕ)) × (back : List ℕ) × HasUnits order (take limit bytes) units back × AreCopied order units
     × TellsOut start now (copied_units order units) (fault.Write out)
 -- b isn't the front of a unit of another version
 Copies order limit bytes left start now (Err f) =
-    (units : List (List ℕ)) × (b : List ℕ) × (back : List ℕ) × EndsAs order limit bytes left units b back (Err f) × (foreign_in order b ≡ None)
+    (units : List (List ℕ)) × (b : List ℕ) × (back : List ℕ) × EndsAs order limit bytes left units b back (Err f)
+    × (foreign_in order b ≡ None)
     × HasCopied order units start now

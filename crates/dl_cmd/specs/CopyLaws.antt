@@ -1,4 +1,5 @@
--- Law of what `copy` writes. It holds in either byte order, which is the same throughout. DWARF 5, sections 6.2 and 6.2.4.
+-- Law of what `copy` writes. It holds in either byte order, which is the same throughout. DWARF 5, sections 6.2 and
+-- 6.2.4.
 use Rattle.std.specs.Prelude.{◌≡◌, ℕ, List, [], ◌∷◌, map, Some}
 use Rattle.std.specs.List.{AllByRecursion}
 use Rattle.dl_num.specs.declared.fixed.Order.{Order}
@@ -22,5 +23,8 @@ pub record IsAnew (order : Order) (u v : List ℕ) : Type 0 where
 
 -- what is written for units that were read is a section of as many units, each of which is one of them anew
 abbrev pub CopiesAreUnits : Type 0
-CopiesAreUnits = (order : Order) (s : List ℕ) (units : List (List ℕ)) (rest : List ℕ) → AllBytes s → HasUnits order s units rest → AreCopied order units
-    → HasUnits order (copied_units order units) (map (copied_unit order) units) [] × AllByRecursion (λ u. IsAnew order u (copied_unit order u)) units
+CopiesAreUnits =
+    (order : Order) (s : List ℕ) (units : List (List ℕ)) (rest : List ℕ) → AllBytes s → HasUnits order s units rest
+    → AreCopied order units
+    → HasUnits order (copied_units order units) (map (copied_unit order) units) []
+    × AllByRecursion (λ u. IsAnew order u (copied_unit order u)) units

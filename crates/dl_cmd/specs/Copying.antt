@@ -40,7 +40,8 @@ stop_after offset rows (visit ∷ visits) = stop_after offset rows visits
 abbrev pub end_text : Order → List Row → Option HeaderData → (behind : List ℕ) → List ℕ
 end_text order rows None behind = behind
 end_text order rows (Some h) behind =
-    option_map_or (λ f. []) (refusal (with_standard_opcodes h) rows) (unit_of order (with_standard_opcodes h) rows ++ behind)
+    option_map_or (λ f. []) (refusal (with_standard_opcodes h) rows) (unit_of order (with_standard_opcodes h) rows
+    ++ behind)
 
 -- the units before the first that can't be written
 abbrev pub text_after : Order → List Row → List Visit → List ℕ
@@ -68,7 +69,8 @@ IsGrowth other = ⊥
 
 -- a growth is refused at the last visit
 abbrev pub StopsAt : (first : Copier) (visits : List Visit) → RunFault → Type 0
-StopsAt first visits fault.NoMemory = (before : List Visit) × (visit : Visit) × (visits ≡ before ++ visit ∷ []) × IsGrowth visit
+StopsAt first visits fault.NoMemory =
+    (before : List Visit) × (visit : Visit) × (visits ≡ before ++ visit ∷ []) × IsGrowth visit
 StopsAt first visits f = stop_after first.unit [] visits ≡ Some f
 
 -- unit after unit

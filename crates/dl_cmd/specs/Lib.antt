@@ -2,9 +2,6 @@
 pub mod RunText
 pub mod RunOutput
 pub mod Strings
-pub mod CommandLine
-pub mod Job
-pub mod Address
 pub mod Section
 pub mod Visiting
 pub mod SectionText

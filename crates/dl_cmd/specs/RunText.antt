@@ -3,7 +3,8 @@ use Rattle.std.specs.Prelude.{ℕ, List, ◌++◌, codes}
 use Rattle.dl_print.specs.Digits.{hexadecimal}
 use Rattle.dl_table.specs.FaultText.{fault_text}
 use Rattle.dl_cmd.specs.declared.fault.RunFault.{RunFault}
-use Rattle.dl_cmd.specs.declared.fault.RunFault.TheVariants.{Damage, NoMemory, Read, Write, SectionTooLong, NotFound, ForeignUnit, Emit}
+use Rattle.dl_cmd.specs.declared.fault.RunFault.TheVariants.{Damage, NoMemory, Read, Write, SectionTooLong, NotFound}
+use Rattle.dl_cmd.specs.declared.fault.RunFault.TheVariants.{ForeignUnit, Emit}
 
 abbrev pub run_fault_text : RunFault → List ℕ
 run_fault_text (Damage offset kind) = codes "damage at 0x" ++ hexadecimal offset ++ codes ": " ++ fault_text kind

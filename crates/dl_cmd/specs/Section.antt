@@ -1,5 +1,6 @@
 -- The units of a section, which stand back to back, and what a command is told of them. DWARF 5, section 6.2.4.
-use Rattle.std.specs.Prelude.{◌≡◌, ◌≢◌, ◌⊎◌, ◌<◌, ◌≤◌, ℕ, ◌+◌, Bool, List, take, Result, Ok, Err, [], ◌∷◌, ◌++◌, length, flat_map, is_some, is_none, if◌then◌else◌, Option, Some, None, count_by, sum_by}
+use Rattle.std.specs.Prelude.{◌≡◌, ◌≢◌, ◌⊎◌, ◌<◌, ◌≤◌, ℕ, ◌+◌, Bool, List, take, Result, Ok, Err, [], ◌∷◌, ◌++◌, length}
+use Rattle.std.specs.Prelude.{flat_map, is_some, is_none, if◌then◌else◌, Option, Some, None, count_by, sum_by}
 use Rattle.std.specs.List.{AllByRecursion, concat}
 use Rattle.std.specs.Option.{option_map}
 use Rattle.std.specs.Io.KnownBytes.{IsAtEnd}
@@ -43,28 +44,39 @@ summary_of order units = record {
   rows = sum_by (λ u. length (unit_rows order u)) units;
 }
 
--- ---- how the reading of a section ends: bytes were read, of which the first `limit` are looked at, and a reader has some left
+-- ---- how the reading of a section ends: bytes were read, of which the first `limit` are looked at, and a reader has
+-- some left
 
 -- the last byte of b decides a fault; or none does, and the input ends in b
-abbrev pub IsDamaged : Order → (limit : ℕ) (bytes : List ℕ) (left : Option (List ℕ)) (units : List (List ℕ)) (b back : List ℕ) → (offset : ℕ) (kind : FaultKind) → Type 0
+abbrev pub IsDamaged : Order
+    → (limit : ℕ) (bytes : List ℕ) (left : Option (List ℕ)) (units : List (List ℕ)) (b back : List ℕ)
+    → (offset : ℕ) (kind : FaultKind) → Type 0
 IsDamaged order limit bytes left units b back offset kind =
     ((at : ℕ) × (offset ≡ length (concat units) + at) × Refused order b at kind)
-    ⊎ ((back ≡ []) × (b ≢ []) × Sound order b × (length bytes ≤ limit) × IsAtEnd left × (offset ≡ length bytes) × (kind ≡ Truncated))
+    ⊎ ((back ≡ []) × (b ≢ []) × Sound order b × (length bytes ≤ limit) × IsAtEnd left × (offset ≡ length bytes)
+    × (kind ≡ Truncated))
 
 -- by the byte after b its header holds a cell more, for which memory may be refused
 abbrev pub AddsCell : Order → (b back : List ℕ) → Type 0
-AddsCell order b back = (byte : ℕ) × (others : List ℕ) × (back ≡ byte ∷ others) × (cells order b < cells order (b ++ byte ∷ []))
+AddsCell order b back =
+    (byte : ℕ) × (others : List ℕ) × (back ≡ byte ∷ others) × (cells order b < cells order (b ++ byte ∷ []))
 
--- where no write fails. The first `limit` bytes are units, and then b and back, which no unit begins, but where memory is refused.
-abbrev pub EndsAs : Order → (limit : ℕ) (bytes : List ℕ) (left : Option (List ℕ)) (units : List (List ℕ)) (b back : List ℕ) → Result Summary RunFault → Type 0
+-- where no write fails. The first `limit` bytes are units, and then b and back, which no unit begins, but where memory
+-- is refused.
+abbrev pub EndsAs : Order
+    → (limit : ℕ) (bytes : List ℕ) (left : Option (List ℕ)) (units : List (List ℕ)) (b back : List ℕ)
+    → Result Summary RunFault → Type 0
 EndsAs order limit bytes left units b back (Ok summary) =
-    HasUnits order bytes units [] × (b ≡ []) × (back ≡ []) × (length bytes ≤ limit) × IsAtEnd left × (summary ≡ summary_of order units)
+    HasUnits order bytes units [] × (b ≡ []) × (back ≡ []) × (length bytes ≤ limit) × IsAtEnd left
+    × (summary ≡ summary_of order units)
 EndsAs order limit bytes left units b back (Err (fault.Damage offset kind)) =
-    HasUnits order (take limit bytes) units (b ++ back) × NoUnitBegins order (b ++ back) × IsDamaged order limit bytes left units b back offset kind
+    HasUnits order (take limit bytes) units (b ++ back) × NoUnitBegins order (b ++ back)
+    × IsDamaged order limit bytes left units b back offset kind
 EndsAs order limit bytes left units b back (Err fault.Read) =
     HasUnits order bytes units b × (back ≡ []) × NoUnitBegins order b × Sound order b × (length bytes ≤ limit)
 EndsAs order limit bytes left units b back (Err fault.SectionTooLong) =
-    HasUnits order (take limit bytes) units b × (back ≡ []) × NoUnitBegins order b × Sound order b × (limit < length bytes)
+    HasUnits order (take limit bytes) units b × (back ≡ []) × NoUnitBegins order b × Sound order b
+    × (limit < length bytes)
 EndsAs order limit bytes left units b back (Err fault.NoMemory) =
     HasBegun order (take limit bytes) units b back × Sound order b × AddsCell order b back
 EndsAs order limit bytes left units b back (Err other) = ⊥

@@ -1,4 +1,5 @@
--- The text that a section is printed as: a line for each event of its units, and those of their headers. DWARF 5, section 6.2.4.
+-- The text that a section is printed as: a line for each event of its units, and those of their headers. DWARF 5,
+-- section 6.2.4.
 use Rattle.std.specs.Prelude.{ℕ, List, [], flat_map}
 use Rattle.dl_num.specs.declared.fixed.Order.{Order}
 use Rattle.dl_cmd.specs.Section.{Visit, of_header, of_version, of_row, of_open, of_end, section_visits}

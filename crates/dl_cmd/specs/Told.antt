@@ -1,6 +1,6 @@
 -- What a visitor is told of the rows of a unit in one call. No promise rests on this file.
-use Rattle.std.specs.Prelude.{⊤, ◌≡◌, ◌<◌, ℕ, ◌+◌, ◌^◌, List, [], ◌∷◌, ◌++◌, length, map, Option, Some, None, Result, Ok, Err, count_by}
-use Rattle.dl_num.specs.declared.fixed.Order.{Order}
+use Rattle.std.specs.Prelude.{⊤, ◌≡◌, ◌<◌, ℕ, ◌+◌, ◌^◌, List, [], ◌∷◌, ◌++◌, length, map, Option, Some, None, Result}
+use Rattle.std.specs.Prelude.{Ok, Err, count_by}
 use Rattle.dl_head.specs.declared.fault.Fault.{Fault}
 use Rattle.dl_rows.specs.declared.row.Row.{Row}
 use Rattle.dl_rows.specs.declared.reader.Event.TheVariants as event
@@ -11,7 +11,7 @@ use Rattle.dl_rows.specs.ReaderAnswers.{FedBehind}
 use Rattle.dl_cmd.specs.declared.fault.RunFault.{RunFault}
 use Rattle.dl_cmd.specs.declared.section.Told.{Told}
 use Rattle.dl_cmd.specs.declared.section.Units.{Units}
-use Rattle.dl_cmd.specs.Section.{Visit, of_row}
+use Rattle.dl_cmd.specs.Section.{of_row}
 use Rattle.dl_cmd.specs.Visiting.{Story, Hears}
 use Rattle.dl_cmd.specs.UnitsRead.{row_told}
 
@@ -24,12 +24,14 @@ pub record Counted (old_rows old_ends new_rows new_ends : ℕ) (rows : List Row)
   pub of_ends : old_ends + ends rows < 2 ^ 64 → new_ends ≡ old_ends + ends rows
 
 -- it was told these rows since it was as at first, and goes on, or stopped at the last of them
-pub record HeardRows {W V : Type 0} (story : Story V) (contents : W → Option (List ℕ)) (first now : Told W V) (rows : List Row) (failed : Option RunFault) (result : Result ⊤ RunFault) : Type 0 where
+pub record HeardRows {W V : Type 0} (story : Story V) (contents : W → Option (List ℕ)) (first now : Told W V)
+    (rows : List Row) (failed : Option RunFault) (result : Result ⊤ RunFault) : Type 0 where
   pub output : now.output.ghost_name ≡ first.output.ghost_name
   pub visitor : now.visitor.ghost_name ≡ first.visitor.ghost_name
   pub counts : Counted first.rows first.sequences now.rows now.sequences rows
   pub fails : now.failed ≡ failed
-  pub hears : Hears story first.visitor.now now.visitor.now (contents first.output.now) (contents now.output.now) (map of_row rows) result
+  pub hears : Hears story first.visitor.now now.visitor.now (contents first.output.now) (contents now.output.now)
+      (map of_row rows) result
 
 abbrev pub told_story : {W V : Type 0} → Story V → (W → Option (List ℕ)) → Told W V → sinks.Story (Told W V)
 told_story story contents first = record {
@@ -43,7 +45,8 @@ NoRow (Ok fed) = row_told fed.event ≡ []
 NoRow (Err fault) = ⊤
 
 -- the reader has taken b; of a piece it told these rows before its answer
-pub record RowsOf {V : Type 0} (story : Story V) (b piece : List ℕ) (old new : Units) (v w : V) (before after : Option (List ℕ)) (fed : Result Fed Fault) : Type 0 where
+pub record RowsOf {V : Type 0} (story : Story V) (b piece : List ℕ) (old new : Units) (v w : V)
+    (before after : Option (List ℕ)) (fed : Result Fed Fault) : Type 0 where
   pub rows : List Row
   pub order : new.reader.order ≡ old.reader.order
   pub fed_rows : FedBehind old.reader.order (events old.reader.order b ++ map event.Row rows) b piece fed new.reader
@@ -53,16 +56,20 @@ pub record RowsOf {V : Type 0} (story : Story V) (b piece : List ℕ) (old new :
   pub no_row : NoRow fed
 
 -- the same, where the visitor stopped at the row that is answered
-pub record StopsAtRow {V : Type 0} (story : Story V) (b piece : List ℕ) (old new : Units) (v w : V) (before after : Option (List ℕ)) (f : RunFault) : Type 0 where
+pub record StopsAtRow {V : Type 0} (story : Story V) (b piece : List ℕ) (old new : Units) (v w : V)
+    (before after : Option (List ℕ)) (f : RunFault) : Type 0 where
   pub rows : List Row
   pub row : Row
   pub fed : Fed
   pub is_row : fed.event ≡ event.Row row
   pub order : new.reader.order ≡ old.reader.order
-  pub fed_rows : FedBehind old.reader.order (events old.reader.order b ++ map event.Row rows) b piece (Ok fed) new.reader
+  pub fed_rows : FedBehind old.reader.order (events old.reader.order b ++ map event.Row rows) b piece
+      (Ok fed) new.reader
   pub hears : Hears {A = ⊤} story v w before after (map of_row (rows ++ row ∷ [])) (Err f)
 
 -- `feed_rows`, where the reader has taken b
-abbrev pub FeedsTold : {V : Type 0} → Story V → (b piece : List ℕ) (old new : Units) (v w : V) (before after : Option (List ℕ)) → Result (Result Fed Fault) RunFault → Type 0
+abbrev pub FeedsTold : {V : Type 0} → Story V
+    → (b piece : List ℕ) (old new : Units) (v w : V) (before after : Option (List ℕ))
+    → Result (Result Fed Fault) RunFault → Type 0
 FeedsTold story b piece old new v w before after (Ok fed) = RowsOf story b piece old new v w before after fed
 FeedsTold story b piece old new v w before after (Err f) = StopsAtRow story b piece old new v w before after f

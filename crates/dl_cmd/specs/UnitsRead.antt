@@ -1,5 +1,6 @@
 -- How the reader of a section stands. No promise rests on this file.
-use Rattle.std.specs.Prelude.{◌≡◌, ◌≢◌, ◌⊎◌, ℕ, ◌+◌, Bool, true, false, List, [], ◌∷◌, ◌++◌, length, Option, Result, Ok, Err, count_by}
+use Rattle.std.specs.Prelude.{◌≡◌, ◌≢◌, ◌⊎◌, ℕ, ◌+◌, Bool, true, false, List, [], ◌∷◌, ◌++◌, length, Option, Result, Ok}
+use Rattle.std.specs.Prelude.{Err, count_by}
 use Rattle.std.specs.List.{concat}
 use Rattle.dl_num.specs.declared.fixed.Order.{Order}
 use Rattle.dl_rows.specs.declared.row.Row.{Row}
@@ -11,8 +12,8 @@ use Rattle.dl_rows.specs.Refusal.{Refused}
 use Rattle.dl_rows.specs.Runs.{Sound}
 use Rattle.dl_cmd.specs.declared.fault.RunFault.{RunFault}
 use Rattle.dl_cmd.specs.declared.fault.RunFault.TheVariants as fault
-use Rattle.dl_cmd.specs.declared.section.Next.{Next}
-use Rattle.dl_cmd.specs.declared.section.Next.TheVariants as next
+use Rattle.dl_rows.specs.declared.sink.Flow.{Flow}
+use Rattle.dl_rows.specs.declared.sink.Flow.TheVariants as flow
 use Rattle.dl_cmd.specs.declared.section.Units.{Units}
 use Rattle.dl_print.specs.declared.summary.Summary.{Summary}
 use Rattle.dl_table.specs.declared.fault.FaultKind.TheVariants.{Truncated}
@@ -57,31 +58,40 @@ ReaderStops order units b back fault.NoMemory = Sound order b × AddsCell order 
 ReaderStops order units b back other = ⊥
 
 -- `feed`: s is what was read before and the piece. Where the visitor stops, nothing that was read is refused.
-abbrev pub UnitsFed : {S : Type 0} → Story S → Order → (s : List ℕ) → (first new : S) (start now : Option (List ℕ)) → Units → Result Next RunFault → Type 0
-UnitsFed story order s first new start now u (Ok next.Unit) =
-    (units : List (List ℕ)) × (b : List ℕ) × UnitsAre order u s units b × NoUnitBegins order b × Sound order b × story.tells first new start now (section_visits order units b)
-UnitsFed story order s first new start now u (Ok next.Nothing) =
-    (units : List (List ℕ)) × (back : List ℕ) × HasUnits order s units back × (u.summary ≡ summary_of order units) × story.is_done first new start now (section_visits order units [])
+abbrev pub UnitsFed : {S : Type 0} → Story S → Order → (s : List ℕ) → (first new : S) (start now : Option (List ℕ))
+    → Units → Result Flow RunFault → Type 0
+UnitsFed story order s first new start now u (Ok flow.On) =
+    (units : List (List ℕ)) × (b : List ℕ) × UnitsAre order u s units b × NoUnitBegins order b × Sound order b
+    × story.tells first new start now (section_visits order units b)
+UnitsFed story order s first new start now u (Ok flow.Stop) =
+    (units : List (List ℕ)) × (back : List ℕ) × HasUnits order s units back × (u.summary ≡ summary_of order units)
+    × story.is_done first new start now (section_visits order units [])
 UnitsFed story order s first new start now u (Err f) =
     (units : List (List ℕ)) × (b : List ℕ) × (back : List ℕ) × HasBegun order s units b back
     × ((ReaderStops order units b back f × story.tells first new start now (section_visits order units b))
-    ⊎ (Sound order b × (heard : List Visit) × (more : List Visit) × (section_visits order units b ≡ heard ++ more) × Stopped story first new start now heard f))
+    ⊎ (Sound order b × (heard : List Visit) × (more : List Visit) × (section_visits order units b ≡ heard ++ more)
+    × Stopped story first new start now heard f))
 
 abbrev pub is_failed_write : {A : Type 0} → Result A RunFault → Bool
 is_failed_write (Err (fault.Write out)) = true
 is_failed_write other = false
 
 -- `work_through`: what `feed` answers, and what is printed is out
-abbrev pub Worked : {S : Type 0} → Story S → Order → (s : List ℕ) → (first new : S) (start now : Option (List ℕ)) → Units → Result Next RunFault → Type 0
-Worked story order s first new start now u (Ok next.Unit) =
-    (units : List (List ℕ)) × (b : List ℕ) × UnitsAre order u s units b × NoUnitBegins order b × Sound order b × Settled story first start now (section_visits order units b) (story.tells first new start now)
-Worked story order s first new start now u (Ok next.Nothing) =
-    (units : List (List ℕ)) × (back : List ℕ) × HasUnits order s units back × (u.summary ≡ summary_of order units) × Settled story first start now (section_visits order units []) (story.is_done first new start now)
+abbrev pub Worked : {S : Type 0} → Story S → Order → (s : List ℕ) → (first new : S) (start now : Option (List ℕ))
+    → Units → Result Flow RunFault → Type 0
+Worked story order s first new start now u (Ok flow.On) =
+    (units : List (List ℕ)) × (b : List ℕ) × UnitsAre order u s units b × NoUnitBegins order b × Sound order b
+    × Settled story first start now (section_visits order units b) (story.tells first new start now)
+Worked story order s first new start now u (Ok flow.Stop) =
+    (units : List (List ℕ)) × (back : List ℕ) × HasUnits order s units back × (u.summary ≡ summary_of order units)
+    × Settled story first start now (section_visits order units []) (story.is_done first new start now)
 Worked story order s first new start now u (Err (fault.Write out)) =
-    (units : List (List ℕ)) × (b : List ℕ) × (back : List ℕ) × HasBegun order s units b back × WritesFront story first start now (section_visits order units b) (fault.Write out)
+    (units : List (List ℕ)) × (b : List ℕ) × (back : List ℕ) × HasBegun order s units b back
+    × WritesFront story first start now (section_visits order units b) (fault.Write out)
 Worked story order s first new start now u (Err f) =
     (units : List (List ℕ)) × (b : List ℕ) × (back : List ℕ) × HasBegun order s units b back
-    × ((ReaderStops order units b back f × Settled story first start now (section_visits order units b) (story.tells first new start now))
+    × ((ReaderStops order units b back f
+    × Settled story first start now (section_visits order units b) (story.tells first new start now))
     ⊎ (Sound order b × VisitorStops story first new start now (section_visits order units b) f))
 
 -- `finish`: t is units, or it ends in the midst of one

@@ -6,10 +6,10 @@ ghost use Rattle.dl_cmd.specs.Commands.{Checks};
 
 use crate::fault::RunFault;
 use crate::options::{Options, SECTION_LIMIT};
-use crate::section::{Next, Visitor, read_units};
+use crate::section::{Visitor, read_units};
 use dl_head::Header;
 use dl_print::{Printer, Summary};
-use dl_rows::Row;
+use dl_rows::{Flow, Row};
 use std::alloc::Global;
 use std::io::{Read, Write};
 
@@ -35,15 +35,15 @@ impl<W: Write> Visitor<W> for Checker {
         Ok(())
     }
 
-    fn open(&mut self, _output: &mut W) -> Result<(), RunFault> {
+    fn unterminated(&mut self, _output: &mut W) -> Result<(), RunFault> {
         Ok(())
     }
 
-    fn end(&mut self, _output: &mut W, _header: Option<Header>) -> Result<Next, RunFault> {
-        Ok(Next::Unit)
+    fn end(&mut self, _output: &mut W, _header: Option<Header>) -> Result<Flow, RunFault> {
+        Ok(Flow::On)
     }
 
-    fn settle(&mut self, _output: &mut W) -> Result<(), RunFault> {
+    fn flush(&mut self, _output: &mut W) -> Result<(), RunFault> {
         Ok(())
     }
 }

@@ -7,12 +7,12 @@ ghost use Rattle.dl_cmd.specs.UnitPrinted.{PrintsUnit};
 
 use crate::fault::RunFault;
 use crate::options::{Options, SECTION_LIMIT};
-use crate::section::{Next, Visitor, read_units};
+use crate::section::{Visitor, read_units};
 use dl_emit::{EmitFault, write_unit};
 use dl_head::Header;
 use dl_num::Order;
 use dl_print::{Printer, Summary};
-use dl_rows::Row;
+use dl_rows::{Flow, Row};
 use std::alloc::Global;
 use std::io::{Read, Write};
 
@@ -51,19 +51,19 @@ impl<W: Write> Visitor<W> for Copier {
         }
     }
 
-    fn open(&mut self, _output: &mut W) -> Result<(), RunFault> {
+    fn unterminated(&mut self, _output: &mut W) -> Result<(), RunFault> {
         Ok(())
     }
 
-    fn end(&mut self, output: &mut W, header: Option<Header>) -> Result<Next, RunFault> {
+    fn end(&mut self, output: &mut W, header: Option<Header>) -> Result<Flow, RunFault> {
         if let Some(header) = header {
             self.write(output, &header.with_standard_opcodes())?;
         }
         self.rows.clear();
-        Ok(Next::Unit)
+        Ok(Flow::On)
     }
 
-    fn settle(&mut self, output: &mut W) -> Result<(), RunFault> {
+    fn flush(&mut self, output: &mut W) -> Result<(), RunFault> {
         Ok(self.printer.flush(output)?)
     }
 }

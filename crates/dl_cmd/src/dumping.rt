@@ -6,10 +6,10 @@ ghost use Rattle.dl_cmd.specs.Commands.{Dumps, strings_in};
 
 use crate::fault::RunFault;
 use crate::options::{Options, SECTION_LIMIT};
-use crate::section::{Next, Visitor, read_units};
+use crate::section::{Visitor, read_units};
 use dl_head::Header;
 use dl_print::{Printer, StringSections, Summary};
-use dl_rows::Row;
+use dl_rows::{Flow, Row};
 use std::alloc::Global;
 use std::io::{Read, Write};
 
@@ -38,15 +38,15 @@ impl<W: Write> Visitor<W> for Dumper<'_> {
         Ok(self.printer.row(output, row)?)
     }
 
-    fn open(&mut self, output: &mut W) -> Result<(), RunFault> {
+    fn unterminated(&mut self, output: &mut W) -> Result<(), RunFault> {
         Ok(self.printer.open_sequence(output)?)
     }
 
-    fn end(&mut self, _output: &mut W, _header: Option<Header>) -> Result<Next, RunFault> {
-        Ok(Next::Unit)
+    fn end(&mut self, _output: &mut W, _header: Option<Header>) -> Result<Flow, RunFault> {
+        Ok(Flow::On)
     }
 
-    fn settle(&mut self, output: &mut W) -> Result<(), RunFault> {
+    fn flush(&mut self, output: &mut W) -> Result<(), RunFault> {
         Ok(self.printer.flush(output)?)
     }
 }

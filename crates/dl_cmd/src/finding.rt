@@ -6,11 +6,11 @@ ghost use Rattle.dl_cmd.specs.Commands.{Finds, strings_in};
 
 use crate::fault::RunFault;
 use crate::options::{Options, SECTION_LIMIT};
-use crate::section::{Next, Visitor, read_units};
+use crate::section::{Visitor, read_units};
 use dl_head::Header;
 use dl_look::{Finder, Place};
 use dl_print::{Printer, StringSections, Summary};
-use dl_rows::Row;
+use dl_rows::{Flow, Row};
 use std::alloc::Global;
 use std::io::{Read, Write};
 
@@ -44,24 +44,24 @@ impl<W: Write> Visitor<W> for Seeker<'_> {
         Ok(())
     }
 
-    fn open(&mut self, _output: &mut W) -> Result<(), RunFault> {
+    fn unterminated(&mut self, _output: &mut W) -> Result<(), RunFault> {
         Ok(())
     }
 
-    fn end(&mut self, output: &mut W, header: Option<Header>) -> Result<Next, RunFault> {
+    fn end(&mut self, output: &mut W, header: Option<Header>) -> Result<Flow, RunFault> {
         let answer = self.finder.answer();
         self.finder = Finder::new(self.place);
         let (Some(row), Some(header)) = (answer, header) else {
-            return Ok(Next::Unit);
+            return Ok(Flow::On);
         };
         self.printer
             .file(output, &self.strings, header.files(), row.file)?;
         self.printer.row(output, &row)?;
         self.found = true;
-        Ok(Next::Nothing)
+        Ok(Flow::Stop)
     }
 
-    fn settle(&mut self, output: &mut W) -> Result<(), RunFault> {
+    fn flush(&mut self, output: &mut W) -> Result<(), RunFault> {
         Ok(self.printer.flush(output)?)
     }
 }

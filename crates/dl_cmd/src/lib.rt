@@ -2,7 +2,6 @@
 //! its units for further ones.
 #![tactic(auto)]
 
-mod address;
 mod checking;
 mod copying;
 mod dumping;
@@ -13,17 +12,15 @@ pub mod laws;
 mod options;
 mod section;
 mod strings;
-mod words;
 
-pub use address::{digit_of, read_address, read_hex_address};
 pub use checking::check;
 pub use copying::copy;
 pub use dl_print::Summary;
+pub use dl_rows::Flow;
 pub use dumping::dump;
 pub use fault::RunFault;
 pub use finding::find;
 pub use input::{Input, ReadFailed};
 pub use options::{Options, SECTION_LIMIT};
-pub use section::{Next, Visitor, read_units};
+pub use section::{Visitor, read_units};
 pub use strings::read_strings;
-pub use words::{AddrWords, Job, read_job, word_status};

@@ -25,22 +25,13 @@ use std::alloc::Global;
 use std::io::{Read, Write};
 use std::mem;
 
-/// What a command reads after a whole unit.
-#[derive(Clone, Copy, Debug, PartialEq, Eq)]
-pub enum Next {
-    /// The next unit.
-    Unit,
-    /// Nothing more.
-    Nothing,
-}
-
 /// What a command does at the events of the units of a section, which `read_units` tells it in the
 /// order of their bytes. Sections 6.2.2 to 6.2.5.
 ///
 /// An `Err` stops the reading, and is what `read_units` answers.
 pub trait Visitor<W: Write> {
     ghost use Rattle.std.specs.Prelude.{◌∷◌, []};
-    ghost use Rattle.dl_cmd.specs.declared.section.Next.{Next};
+    ghost use Rattle.dl_rows.specs.declared.sink.Flow.{Flow};
     ghost use Rattle.dl_cmd.specs.Section.{of_header, of_version, of_row, of_open, of_end};
     ghost use Rattle.dl_cmd.specs.Visiting.{Story, Hears, HearsEnd, Settles};
 
@@ -63,19 +54,20 @@ pub trait Visitor<W: Write> {
             (of_row row.now ∷ []) result };
 
     /// The current unit is whole, and its last row isn't an end row.
-    fn open(&mut self, output: &mut W) -> Result<(), RunFault>
+    fn unterminated(&mut self, output: &mut W) -> Result<(), RunFault>
         ensures { Hears story self.old self.new (W.contents output.old) (W.contents output.new)
             (of_open ∷ []) result };
 
-    /// The current unit is whole. Of another version than 5 it has no header.
-    fn end(&mut self, output: &mut W, header: Option<Header>) -> Result<Next, RunFault>
+    /// The current unit is whole. Of another version than 5 it has no header. It answers whether the next
+    /// unit is read.
+    fn end(&mut self, output: &mut W, header: Option<Header>) -> Result<Flow, RunFault>
         ensures { HearsEnd story self.old self.new (W.contents output.old) (W.contents output.new)
             (of_end header ∷ []) result };
 
     /// All that was read is worked through: what was printed of it goes out.
-    fn settle(&mut self, output: &mut W) -> Result<(), RunFault>
-        ensures { (next : Next) → Settles story self.old self.new
-            (W.contents output.old) (W.contents output.new) next result };
+    fn flush(&mut self, output: &mut W) -> Result<(), RunFault>
+        ensures { (flow : Flow) → Settles story self.old self.new
+            (W.contents output.old) (W.contents output.new) flow result };
 }
 
 /// Tells a visitor the rows of a unit, and counts them.
@@ -153,7 +145,7 @@ impl Units {
         output: &mut W,
         visitor: &mut V,
         piece: &[u8],
-    ) -> Result<Next, RunFault>
+    ) -> Result<Flow, RunFault>
         ensures { (order : Order) (t : List ℕ) (units : List (List ℕ)) (b : List ℕ) (first : V) (start : Option (List ℕ))
             → UnitsAre order self.old t units b → length t + length piece.now < 2 ^ 64
             → V.story.tells first visitor.old start (W.contents output.old) (section_visits order units b)
@@ -167,12 +159,12 @@ impl Units {
             };
             rest = &rest[fed.used..];
             match fed.event {
-                Event::More if fed.used == 0 => return Ok(Next::Unit),
+                Event::More if fed.used == 0 => return Ok(Flow::On),
                 Event::More => {}
                 Event::NoMemory => return Err(RunFault::NoMemory),
                 Event::End => match self.end(output, visitor)? {
-                    Next::Unit => {}
-                    Next::Nothing => return Ok(Next::Nothing),
+                    Flow::On => {}
+                    Flow::Stop => return Ok(Flow::Stop),
                 },
                 event => self.tell(output, visitor, event)?,
             }
@@ -247,7 +239,7 @@ impl Units {
         &mut self,
         output: &mut W,
         visitor: &mut V,
-    ) -> Result<Next, RunFault>
+    ) -> Result<Flow, RunFault>
         ensures taken { OnOk result (taken_of self.new.reader ≡ 0) }
         ensures units { (order : Order) (t : List ℕ) (units : List (List ℕ)) (b : List ℕ) → UnitsAre order self.old t units b
             → IsUnit order b → length t < 2 ^ 64 → OnOk result (UnitsAre order self.new t (units ++ b ∷ []) []) }
@@ -256,7 +248,7 @@ impl Units {
             (end_visits self.old.reader.order b) result }
     {
         self.close(output, visitor)?;
-        visitor.end(output, self.leave())
+        visitor.end(output, self.next_unit())
     }
 
     /// Tells the visitor where the last row of the current unit isn't an end row.
@@ -270,14 +262,14 @@ impl Units {
             (open_visit (ends_open (unit_rows self.now.reader.order b))) result }
     {
         if self.reader.in_sequence() {
-            visitor.open(output)
+            visitor.unterminated(output)
         } else {
             Ok(())
         }
     }
 
     /// Goes on after the current unit, which is whole, and answers its header.
-    fn leave(&mut self) -> Option<Header>
+    fn next_unit(&mut self) -> Option<Header>
         ensures taken { taken_of self.new.reader ≡ 0 }
         ensures header { (b : List ℕ) → StandsFor self.old.reader b → result ≡ header_of self.old.reader.order b }
         ensures units { (order : Order) (t : List ℕ) (units : List (List ℕ)) (b : List ℕ) → UnitsAre order self.old t units b
@@ -348,8 +340,8 @@ pub fn read_units<R: Read, W: Write, V: Visitor<W>>(
         }
         let within = front(piece, left);
         match work_through(&mut units, output, visitor, within)? {
-            Next::Unit => {}
-            Next::Nothing => return Ok(units.summary),
+            Flow::On => {}
+            Flow::Stop => return Ok(units.summary),
         }
         if within.len() < piece.len() {
             return Err(RunFault::SectionTooLong);
@@ -364,7 +356,7 @@ fn work_through<W: Write, V: Visitor<W>>(
     output: &mut W,
     visitor: &mut V,
     piece: &[u8],
-) -> Result<Next, RunFault>
+) -> Result<Flow, RunFault>
     ensures { (order : Order) (t : List ℕ) (done : List (List ℕ)) (b : List ℕ) (first : V) (start : Option (List ℕ))
         → UnitsAre order units.old t done b → length t + length piece.now < 2 ^ 64
         → V.story.tells first visitor.old start (W.contents output.old) (section_visits order done b)
@@ -372,13 +364,13 @@ fn work_through<W: Write, V: Visitor<W>>(
 {
     let answer = units.feed(output, visitor, piece);
     if !is_failed_write(&answer) {
-        visitor.settle(output)?;
+        visitor.flush(output)?;
     }
     answer
 }
 
 /// Whether a write failed, after which nothing more is written.
-fn is_failed_write(answer: &Result<Next, RunFault>) -> bool
+fn is_failed_write(answer: &Result<Flow, RunFault>) -> bool
     ensures { result ≡ is_failed_write answer.now }
 {
     matches!(answer, Err(RunFault::Write { .. }))

@@ -18,7 +18,12 @@ use dl_table::{Extent, Form, Format, StoredValue};
 /// The number or offset of this form that the bytes begin with, and the bytes after it, where none of its
 /// bytes has come. None where the bytes end before it does.
 #[inline(always)]
-fn number_at_front(form: Form, number: Number, order: Order, bytes: &[u8]) -> Option<(StoredValue, &[u8])>
+fn number_at_front(
+    form: Form,
+    number: Number,
+    order: Order,
+    bytes: &[u8],
+) -> Option<(StoredValue, &[u8])>
     ensures { IfSome result (λ found. InFront order (value.Number form number) bytes.entry.now found.0 found.1.now) }
 {
     if !number.is_new() {

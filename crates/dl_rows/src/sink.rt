@@ -4,10 +4,10 @@ ghost use Rattle.std.specs.Prelude.{◌≡◌, [], ◌∷◌, ◌++◌, length};
 
 use crate::row::Row;
 
-/// Whether a sink goes on after a row.
+/// Whether what is told rows, or units, goes on.
 #[derive(Debug, Clone, Copy, PartialEq, Eq)]
 pub enum Flow {
-    /// It wants the next row too.
+    /// It wants the next one too.
     On,
     /// It stops here.
     Stop,

@@ -1,19 +1,19 @@
 -- What the program does for the words of `addr`.
-use Rattle.std.proofs.Common.{◌≡◌, ◌⊎◌, inl, inr, ℕ, ◌||◌, Bool, true, false, List, [], ◌∷◌, Option, Some, Result, Ok, Err, IfOk, IfErr, MatchResult, refl, sym, ap, ◌∙◌, subst}
+use Rattle.std.proofs.Common.{◌≡◌, ◌⊎◌, inl, inr, ℕ, ◌||◌, Bool, true, false, List, [], Option, Some, Result, Ok}
+use Rattle.std.proofs.Common.{Err, IfOk, IfErr, MatchResult, refl, sym, ap, ◌∙◌, subst}
 use Rattle.std.specs.Prelude.{◌≢◌}
 use Rattle.std.specs.Option.{option_copied}
 use Rattle.std.specs.declared.io.Error.{Error}
 use Rattle.std.proofs.KnownBytes.{Keeps-refl}
-use Rattle.clap.specs.Words.{Text}
 use Rattle.dl_elf.specs.Source.{ForBytes}
 use Rattle.dl_elf.specs.Code.{IsCode}
 use Rattle.dl_elf.specs.declared.code.Code.{Code}
 use Rattle.dl_look.specs.declared.code_ranges.CodeRanges.{CodeRanges}
-use Rattle.dl_cmd.specs.Job.{AddrTexts}
+use Rattle.dl_words.specs.Job.{AddrTexts, Text}
 use Rattle.dl_print.specs.declared.summary.Summary.{Summary}
 use Rattle.dl_addr.specs.Code.{is_code}
 use Rattle.dl_addr.specs.declared.asked.Asked.{Asked}
-use Rattle.dl_addr.specs.declared.asked_lines.AskedLines.{AskedLines}
+use Rattle.dl_words.specs.declared.asked_lines.AskedLines.{AskedLines}
 use Rattle.dl_addr.specs.declared.question.Found.{Found}
 use Rattle.dl_addr.specs.declared.question.Question.{Question}
 use Rattle.dl_work.specs.declared.command.Command.TheVariants.{Addr}
@@ -21,17 +21,22 @@ use Rattle.dl_work.specs.declared.stop.FileFault.{FileFault}
 use Rattle.dl_work.specs.declared.stop.FileFault.TheVariants.{NoMemory}
 use Rattle.dl_work.specs.declared.stop.Stop.{Stop}
 use Rattle.dl_work.specs.declared.stop.Stop.TheVariants.{NotUnderstood}
-use Rattle.dl_work.specs.Locate.{HasAsked, InputStops, LocatesInFile, LocatesInSection, RefusesCode, WordsStop, are_addresses, asked_in_words, base_in, form_in, live_by, says_section}
+use Rattle.dl_work.specs.Locate.{HasAsked, InputStops, LocatesInFile, LocatesInSection, RefusesCode, WordsStop}
+use Rattle.dl_work.specs.Locate.{are_addresses, asked_in_words, base_in, form_in, live_by, says_section}
 use Rattle.dl_work.specs.Located.{located}
 use Rattle.dl_work.specs.Stops.{IsAt}
 use Rattle.dl_work.specs.Tables.{OnFile}
 
 -- ---- where a file has code
 
-pub code_told : (fails : Error → Type 0) (f : List ℕ) (code : Code) (result : Result (Option CodeRanges) FileFault) → IsCode f (Ok code) → IfOk result (λ ranges. (a : ℕ) → is_code ranges a ≡ live_by false code a)
-    → IfErr result (λ fault. (fault ≡ NoMemory) × (code.ranges.items ≢ [])) → MatchResult result (λ ranges. (code : Code) × IsCode f (Ok code) × ((a : ℕ) → is_code ranges a ≡ live_by false code a)) (RefusesCode fails f)
+pub code_told : (fails : Error → Type 0) (f : List ℕ) (code : Code) (result : Result (Option CodeRanges) FileFault)
+    → IsCode f (Ok code) → IfOk result (λ ranges. (a : ℕ) → is_code ranges a ≡ live_by false code a)
+    → IfErr result (λ fault. (fault ≡ NoMemory) × (code.ranges.items ≢ []))
+    → MatchResult result (λ ranges. (code : Code) × IsCode f (Ok code)
+    × ((a : ℕ) → is_code ranges a ≡ live_by false code a)) (RefusesCode fails f)
 code_told fails f code (Ok ranges) is live refused = (code, is, live)
-code_told fails f code (Err fault) is live refused = subst (RefusesCode fails f) (sym refused.0) (inr (code, is, refused.1))
+code_told fails f code (Err fault) is live refused =
+    subst (RefusesCode fails f) (sym refused.0) (inr (code, is, refused.1))
 
 -- all count where all are asked for
 all_live : (all : Bool) (code : Code) (a : ℕ) → (all || live_by false code a) ≡ live_by all code a
@@ -40,31 +45,52 @@ all_live false code a = refl
 
 -- ---- a section on the input
 
-pub section_stops : (held : Text → Option (List ℕ)) (w : AddrTexts) (left start : Option (List ℕ)) (result : Result Found Stop) (stop : Stop) → result ≡ Err stop → WordsStop w stop ⊎ ((w.addresses ≡ []) × (stop ≡ NotUnderstood))
+pub section_stops : (held : Text → Option (List ℕ)) (w : AddrTexts) (left start : Option (List ℕ))
+    (result : Result Found Stop) (stop : Stop) → result ≡ Err stop → WordsStop w stop
+    ⊎ ((w.addresses ≡ []) × (stop ≡ NotUnderstood))
     → LocatesInSection held w [] left start start result
 section_stops held w left start result stop is why = inl (stop, why, (is, refl, Keeps-refl start))
 
 -- ---- a file
 
 module _ (held : Text → Option (List ℕ)) (fails : Text → Error → Type 0) (path : Text) (w : AddrTexts) where
-  pub file_stops : (left start : Option (List ℕ)) (result : Result Found Stop) (stop : Stop) → result ≡ Err stop → WordsStop w stop ⊎ ((says_section w ≡ true) × (stop ≡ NotUnderstood)) → LocatesInFile held fails path w [] left start start result
+  pub file_stops : (left start : Option (List ℕ)) (result : Result Found Stop) (stop : Stop) → result ≡ Err stop
+      → WordsStop w stop ⊎ ((says_section w ≡ true) × (stop ≡ NotUnderstood))
+      → LocatesInFile held fails path w [] left start start result
   file_stops left start result stop is why = λ f known short. inl (stop, why, (is, refl, Keeps-refl start))
 
-  pub file_refused : (left start : Option (List ℕ)) (result : Result Found Stop) (stop : Stop) (fault : FileFault) → result ≡ Err stop → ForBytes (held path) (λ f. RefusesCode (fails path) f fault) → IsAt path fault stop
+  pub file_refused : (left start : Option (List ℕ)) (result : Result Found Stop) (stop : Stop) (fault : FileFault)
+      → result ≡ Err stop → ForBytes (held path) (λ f. RefusesCode (fails path) f fault) → IsAt path fault stop
       → LocatesInFile held fails path w [] left start start result
-  file_refused left start result stop fault is refuses at = λ f known short. inr (inl (stop, fault, refuses f known short, at, (is, refl, Keeps-refl start)))
+  file_refused left start result stop fault is refuses at =
+      λ f known short. inr (inl (stop, fault, refuses f known short, at, (is, refl, Keeps-refl start)))
 
-  pub input_stops : (given : List Asked) (bytes : List ℕ) (left start : Option (List ℕ)) (result : Result Found Stop) (stop : Stop) → result ≡ Err stop → given ≡ asked_in_words w → InputStops w given bytes stop
+  pub input_stops : (given : List Asked) (bytes : List ℕ) (left start : Option (List ℕ)) (result : Result Found Stop)
+      (stop : Stop) → result ≡ Err stop → given ≡ asked_in_words w → InputStops w given bytes stop
       → LocatesInFile held fails path w bytes left start start result
   input_stops given bytes left start result stop is words stops =
-      λ f known short. inr (inr (inl (stop, subst (λ (g : List Asked). InputStops w g bytes stop) words stops, is, Keeps-refl start)))
+      λ f known short.
+      inr (inr (inl (
+        stop,
+        subst (λ (g : List Asked). InputStops w g bytes stop) words stops,
+        is,
+        Keeps-refl start,
+      )))
 
-  pub file_done : (ranges : Option CodeRanges) (given : List Asked) (slice : List Asked) (base : ℕ) (bytes : List ℕ) (left start now : Option (List ℕ)) (lines : AskedLines) (q : Question) (answer : Result Summary Stop) (result : Result Found Stop)
-      → says_section w ≡ false → given ≡ asked_in_words w → HasAsked w given bytes left lines → are_addresses w ≡ true → base_in w ≡ Some base
-      → q.asked.now ≡ slice → slice ≡ lines.asked.items → q.base ≡ base → ((a : ℕ) → is_code (option_copied q.code) a ≡ (w.all || is_code ranges a)) → q.style.form ≡ form_in w → q.style.basenames ≡ w.basenames
-      → ForBytes (held path) (λ f. (code : Code) × IsCode f (Ok code) × ((a : ℕ) → is_code ranges a ≡ live_by false code a))
-      → ForBytes (held path) (λ f. OnFile (fails path) path (Addr q) f start now answer) → result ≡ located answer lines.no_address → LocatesInFile held fails path w bytes left start now result
-  file_done ranges given slice base bytes left start now lines q answer result says words has understood based asked sliced own live form basenames codes does is = λ f known short.
+  pub file_done : (ranges : Option CodeRanges) (given : List Asked) (slice : List Asked) (base : ℕ) (bytes : List ℕ)
+      (left start now : Option (List ℕ)) (lines : AskedLines) (q : Question) (answer : Result Summary Stop)
+      (result : Result Found Stop)
+      → says_section w ≡ false → given ≡ asked_in_words w → HasAsked w given bytes left lines → are_addresses w ≡ true
+      → base_in w ≡ Some base
+      → q.asked.now ≡ slice → slice ≡ lines.asked.items → q.base ≡ base
+      → ((a : ℕ) → is_code (option_copied q.code) a ≡ (w.all || is_code ranges a)) → q.style.form ≡ form_in w
+      → q.style.basenames ≡ w.basenames
+      → ForBytes (held path) (λ f. (code : Code) × IsCode f (Ok code)
+      × ((a : ℕ) → is_code ranges a ≡ live_by false code a))
+      → ForBytes (held path) (λ f. OnFile (fails path) path (Addr q) f start now answer)
+      → result ≡ located answer lines.no_address → LocatesInFile held fails path w bytes left start now result
+  file_done ranges given slice base bytes left start now lines q answer result says words has understood based asked
+      sliced own live form basenames codes does is = λ f known short.
       let k = codes f known short in
       inr (inr (inr (
         k.0,

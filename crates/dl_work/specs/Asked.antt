@@ -1,6 +1,6 @@
 -- What a request asks: which command, of which file, or of which section on the input.
-use Rattle.std.specs.Prelude.{ℕ, Bool, true, false, List, Option, Some, None, option_map, option_and_then, Result, Ok, Err, ◌≡◌}
-use Rattle.clap.specs.Words.{Text}
+use Rattle.std.specs.Prelude.{ℕ, Bool, true, false, List, Option, Some, None, option_map, option_and_then, Result, Ok}
+use Rattle.std.specs.Prelude.{Err, ◌≡◌}
 use Rattle.dl_num.specs.declared.fixed.Order.{Order}
 use Rattle.dl_num.specs.declared.fixed.Order.TheVariants.{Little, Big}
 use Rattle.dl_look.specs.declared.place.Place.{Place}
@@ -8,9 +8,9 @@ use Rattle.dl_elf.specs.declared.line_file.Wanted.{Wanted}
 use Rattle.dl_elf.specs.declared.line_file.Wanted.TheVariants.{LineSection, LineAndStringSections}
 use Rattle.dl_cmd.specs.declared.fault.RunFault.{RunFault}
 use Rattle.dl_print.specs.declared.summary.Summary.{Summary}
-use Rattle.dl_cmd.specs.Address.{address_in}
+use Rattle.dl_words.specs.Address.{address_in}
 use Rattle.dl_cmd.specs.Commands.{Checks, Copies, Dumps, Finds}
-use Rattle.dl_cmd.specs.Job.{Request, addr, dump, check, find, copy}
+use Rattle.dl_words.specs.Job.{Request, Text, addr, check, copy, dump, find}
 use Rattle.dl_print.specs.ValueText.{Strings}
 use Rattle.dl_work.specs.declared.command.Command.{Command}
 use Rattle.dl_work.specs.declared.command.Command.TheVariants.{Addr, Dump, Check, Find, Copy}
@@ -76,10 +76,12 @@ answered (Ok found.NotAll) = Err NotFound
 answered (Err f) = Err f
 
 -- what the command answers and writes. bytes: what was read of a section, which has `left` left
-abbrev pub Does : Command → Order → Strings → (limit : ℕ) (bytes : List ℕ) (left start now : Option (List ℕ)) → Result Summary RunFault → Type 0
+abbrev pub Does : Command → Order → Strings → (limit : ℕ) (bytes : List ℕ) (left start now : Option (List ℕ))
+    → Result Summary RunFault → Type 0
 Does Dump order s limit bytes left start now answer = Dumps order s limit bytes left start now answer
 Does Check order s limit bytes left start now answer = Checks order limit bytes left start now answer
 Does (Find place) order s limit bytes left start now answer = Finds order s place limit bytes left start now answer
 Does Copy order s limit bytes left start now answer = Copies order limit bytes left start now answer
 Does (Addr question) order s limit bytes left start now answer =
-    (found : Result Found RunFault) × (answer ≡ answered found) × Locates order s question limit bytes left start now found
+    (found : Result Found RunFault) × (answer ≡ answered found)
+    × Locates order s question limit bytes left start now found

@@ -1,6 +1,7 @@
--- The string sections in the files of `--line-str` and `--str`. held: what the file of a path holds, where that is known.
+-- The string sections in the files of `--line-str` and `--str`. held: what the file of a path holds, where that is
+-- known.
 use Rattle.std.specs.Prelude.{⊤, ◌≡◌, ◌⊎◌, ◌<◌, ◌≤◌, ℕ, List, length, Option, Some, None, IfSome}
-use Rattle.clap.specs.Words.{Text}
+use Rattle.dl_words.specs.Job.{Text}
 use Rattle.dl_work.specs.declared.strings.TheConstants.{STRINGS_LIMIT}
 use Rattle.dl_cmd.specs.declared.fault.RunFault.{RunFault}
 use Rattle.dl_cmd.specs.declared.fault.RunFault.TheVariants as fault
@@ -20,7 +21,8 @@ FileStops known limit other = ⊥
 -- the section in the file of a path; none where no path is given
 abbrev pub IsSectionOf : (held : Text → Option (List ℕ)) → Option Text → Option (List ℕ) → Type 0
 IsSectionOf held None section = section ≡ None
-IsSectionOf held (Some path) section = (found : List ℕ) × (section ≡ Some found) × FileHolds (held path) STRINGS_LIMIT found
+IsSectionOf held (Some path) section =
+    (found : List ℕ) × (section ≡ Some found) × FileHolds (held path) STRINGS_LIMIT found
 
 -- the sections in both files
 pub record StringsAre (held : Text → Option (List ℕ)) (line_str str : Option Text) (s : Strings) : Type 0 where

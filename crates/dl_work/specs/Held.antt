@@ -1,4 +1,4 @@
--- What a job says of a section on the input, and the string sections that were read for it, as contracts see them. No promise rests on this file.
+-- What is said of a section on the input, and its string sections, for contracts. No promise rests on this file.
 use Rattle.std.specs.Option.{option_map, option_copied}
 use Rattle.dl_print.specs.ValueText.{Strings}
 use Rattle.dl_work.specs.declared.over_input.Section.{Section}
@@ -9,4 +9,9 @@ abbrev pub section_seen : Section → SectionWords
 section_seen s = record { big = s.big; line_str = option_copied s.line_str; strings = option_copied s.strings }
 
 abbrev pub strings_held : StringSections → Strings
-strings_held s = record { line_strings = option_map (λ v. v.items) s.debug_line_str; strings = option_map (λ v. v.items) s.debug_str }
+strings_held s =
+    record {
+      line_strings = option_map (λ v. v.items) s.debug_line_str;
+      strings =
+          option_map (λ v. v.items) s.debug_str;
+    }

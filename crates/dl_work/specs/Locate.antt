@@ -1,13 +1,13 @@
--- What the program does for the words of `addr`. bytes: what was read of the input, which has `left` left. start, now: what the output
--- held at first, and holds now. held: what the file of a path holds, where that is known; fails: the errors that opening and reading it
--- may give.
-use Rattle.std.specs.Prelude.{⊤, ◌≡◌, ◌≢◌, ◌⊎◌, ℕ, Bool, true, false, ◌&&◌, ◌||◌, not, List, [], ◌∷◌, map, length, ◌==◌, if◌then◌else◌, Option, Some, None, is_some, MatchOption, Result, Ok, Err, codes}
+-- What the program does for the words of `addr`. bytes: what was read of the input, which has `left` left. start, now:
+-- what the output held at first, and holds now. held: what the file of a path holds, where that is known; fails: the
+-- errors that opening and reading it may give.
+use Rattle.std.specs.Prelude.{◌≡◌, ◌≢◌, ◌⊎◌, ℕ, Bool, true, false, ◌||◌, not, List, [], ◌∷◌, map, length, ◌==◌}
+use Rattle.std.specs.Prelude.{if◌then◌else◌, Option, Some, None, is_some, MatchOption, Result, Ok, Err, codes}
 use Rattle.std.specs.List.{list_all, list_any}
 use Rattle.std.specs.Option.{option_copied, option_map_or}
 use Rattle.std.specs.Str.{bytes_eq}
 use Rattle.std.specs.Io.KnownBytes.{IsAtEnd, Keeps}
 use Rattle.std.specs.declared.io.Error.{Error}
-use Rattle.clap.specs.Words.{Text}
 use Rattle.dl_elf.specs.Source.{ForBytes}
 use Rattle.dl_elf.specs.Code.{IsCode}
 use Rattle.dl_elf.specs.declared.code.Code.{Code}
@@ -16,14 +16,14 @@ use Rattle.dl_elf.specs.declared.code.ExecutableRange.{ExecutableRange}
 use Rattle.dl_elf.specs.declared.fault.ElfFault.TheVariants.{Read}
 use Rattle.dl_look.specs.declared.code_ranges.AddressRange.{AddressRange}
 use Rattle.dl_look.specs.Ranges.{is_in}
-use Rattle.dl_cmd.specs.Job.{AddrTexts, addr}
+use Rattle.dl_words.specs.Job.{AddrTexts, Text, addr}
 use Rattle.dl_cmd.specs.declared.fault.RunFault.{RunFault}
 use Rattle.dl_cmd.specs.declared.fault.RunFault.TheVariants as fault
 use Rattle.dl_print.specs.declared.summary.Summary.{Summary}
-use Rattle.dl_addr.specs.AskedLines.{IsAsked, StopsAsking, address_by}
+use Rattle.dl_words.specs.AskedLines.{IsAsked, StopsAsking, address_by}
 use Rattle.dl_addr.specs.Code.{is_code}
 use Rattle.dl_addr.specs.declared.asked.Asked.{Asked}
-use Rattle.dl_addr.specs.declared.asked_lines.AskedLines.{AskedLines}
+use Rattle.dl_words.specs.declared.asked_lines.AskedLines.{AskedLines}
 use Rattle.dl_addr.specs.declared.question.Found.{Found}
 use Rattle.dl_addr.specs.declared.question.Question.{Question}
 use Rattle.dl_addr.specs.declared.style.Form.{Form}
@@ -80,9 +80,11 @@ WordsStop w other = ⊥
 
 -- ---- the section on the input, which wants an address among the words
 
-abbrev pub LocatesInSection : (held : Text → Option (List ℕ)) → AddrTexts → (bytes : List ℕ) (left start now : Option (List ℕ)) → Result Found Stop → Type 0
+abbrev pub LocatesInSection : (held : Text → Option (List ℕ)) → AddrTexts
+    → (bytes : List ℕ) (left start now : Option (List ℕ)) → Result Found Stop → Type 0
 LocatesInSection held w bytes left start now result =
-    ((stop : Stop) × (WordsStop w stop ⊎ ((w.addresses ≡ []) × (stop ≡ NotUnderstood))) × StopsBefore bytes start now result stop)
+    ((stop : Stop) × (WordsStop w stop ⊎ ((w.addresses ≡ []) × (stop ≡ NotUnderstood)))
+    × StopsBefore bytes start now result stop)
     ⊎ ((q : Question) × (answer : Result Summary Stop) × (w.addresses ≢ []) × Asks w (asked_in_words w) (λ a. true) q
     × OnInput held (section_of (addr w)) (Addr q) bytes left start now answer × (result ≡ located answer None))
 
@@ -95,7 +97,8 @@ says_section w = w.big || (is_some w.line_str || is_some w.strings)
 abbrev pub address_range : ExecutableRange → AddressRange
 address_range r = record { start = r.start; size = r.size }
 
--- where there is code: in a linked file that has executable sections in these; in others, or where all are asked for, everywhere
+-- where there is code: in a linked file that has executable sections in these; in others, or where all are asked for,
+-- everywhere
 abbrev pub live_by : (all : Bool) → Code → ℕ → Bool
 live_by all code a =
     if all || (not code.is_linked || (length code.ranges.items == 0)) then true
@@ -106,7 +109,8 @@ abbrev pub RefusesCode : (fails : Error → Type 0) (f : List ℕ) → FileFault
 RefusesCode fails f (Open error) = fails error
 RefusesCode fails f (Elf (Read error)) = fails error
 RefusesCode fails f (Elf other) = IsCode f (Err (code_fault.Elf other))
-RefusesCode fails f NoMemory = IsCode f (Err code_fault.NoMemory) ⊎ ((code : Code) × IsCode f (Ok code) × (code.ranges.items ≢ []))
+RefusesCode fails f NoMemory =
+    IsCode f (Err code_fault.NoMemory) ⊎ ((code : Code) × IsCode f (Ok code) × (code.ranges.items ≢ []))
 RefusesCode fails f other = ⊥
 
 -- the addresses of the words; where there are none, those that the whole input says
@@ -118,22 +122,29 @@ HasAsked w (a ∷ asked) bytes left lines = (bytes ≡ []) × (lines.asked.items
 abbrev pub InputStops : AddrTexts → List Asked → (bytes : List ℕ) → Stop → Type 0
 InputStops w asked bytes stop = (fault : RunFault) × (asked ≡ []) × StopsAsking w.hex bytes fault × (stop ≡ Run fault)
 
-abbrev pub LocatesInFile : (held : Text → Option (List ℕ)) (fails : Text → Error → Type 0) → Text → AddrTexts → (bytes : List ℕ) (left start now : Option (List ℕ)) → Result Found Stop → Type 0
+abbrev pub LocatesInFile : (held : Text → Option (List ℕ)) (fails : Text → Error → Type 0) → Text → AddrTexts
+    → (bytes : List ℕ) (left start now : Option (List ℕ)) → Result Found Stop → Type 0
 LocatesInFile held fails path w bytes left start now result = ForBytes (held path) (λ f.
-    ((stop : Stop) × (WordsStop w stop ⊎ ((says_section w ≡ true) × (stop ≡ NotUnderstood))) × StopsBefore bytes start now result stop)
-    ⊎ ((stop : Stop) × (fault : FileFault) × RefusesCode (fails path) f fault × IsAt path fault stop × StopsBefore bytes start now result stop)
+    ((stop : Stop) × (WordsStop w stop ⊎ ((says_section w ≡ true) × (stop ≡ NotUnderstood)))
+    × StopsBefore bytes start now result stop)
+    ⊎ ((stop : Stop) × (fault : FileFault) × RefusesCode (fails path) f fault × IsAt path fault stop
+    × StopsBefore bytes start now result stop)
     ⊎ ((stop : Stop) × InputStops w (asked_in_words w) bytes stop × (result ≡ Err stop) × Keeps start now)
     ⊎ ((code : Code) × (lines : AskedLines) × (q : Question) × (answer : Result Summary Stop)
-    × (says_section w ≡ false) × IsCode f (Ok code) × HasAsked w (asked_in_words w) bytes left lines × Asks w lines.asked.items (live_by w.all code) q
+    × (says_section w ≡ false) × IsCode f (Ok code) × HasAsked w (asked_in_words w) bytes left lines
+    × Asks w lines.asked.items (live_by w.all code) q
     × OnFile (fails path) path (Addr q) f start now answer × (result ≡ located answer lines.no_address)))
 
 -- ---- by the words; a path `-` stands for a section on the input
 
-abbrev pub LocatesWhere : (is_input : Bool) → (held : Text → Option (List ℕ)) (fails : Text → Error → Type 0) → Text → AddrTexts → (bytes : List ℕ) (left start now : Option (List ℕ)) → Result Found Stop → Type 0
+abbrev pub LocatesWhere : (is_input : Bool) → (held : Text → Option (List ℕ)) (fails : Text → Error → Type 0) → Text
+    → AddrTexts → (bytes : List ℕ) (left start now : Option (List ℕ)) → Result Found Stop → Type 0
 LocatesWhere true held fails path w bytes left start now result = LocatesInSection held w bytes left start now result
-LocatesWhere false held fails path w bytes left start now result = LocatesInFile held fails path w bytes left start now result
+LocatesWhere false held fails path w bytes left start now result =
+    LocatesInFile held fails path w bytes left start now result
 
-abbrev pub LocatesFor : (held : Text → Option (List ℕ)) (fails : Text → Error → Type 0) → AddrTexts → (bytes : List ℕ) (left start now : Option (List ℕ)) → Result Found Stop → Type 0
+abbrev pub LocatesFor : (held : Text → Option (List ℕ)) (fails : Text → Error → Type 0) → AddrTexts
+    → (bytes : List ℕ) (left start now : Option (List ℕ)) → Result Found Stop → Type 0
 LocatesFor held fails w bytes left start now result =
     MatchOption w.file (StopsBefore bytes start now result NotUnderstood)
     (λ path. LocatesWhere (bytes_eq path (codes "-")) held fails path w bytes left start now result)

@@ -1,7 +1,7 @@
 -- How the program stops: its text, its status, and the stops at an ELF file.
 use Rattle.std.specs.Prelude.{◌≡◌, ℕ, List, ◌++◌, codes, decimal, Option, Some, None, option_map}
 use Rattle.std.specs.declared.io.Error.{Error}
-use Rattle.clap.specs.Words.{Text}
+use Rattle.dl_words.specs.Job.{Text}
 use Rattle.dl_elf.specs.FaultText.{fault_text}
 use Rattle.dl_elf.specs.declared.fault.ElfFault.TheVariants.{Read}
 use Rattle.dl_cmd.specs.RunText.{run_fault_text, status}

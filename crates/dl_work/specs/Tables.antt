@@ -1,9 +1,10 @@
--- What the program does with the ELF file of a path. f: its bytes; t: its line table, as dl_elf defines it. start, now: what the output
--- held at first, and holds now.
-use Rattle.std.specs.Prelude.{◌≡◌, ◌⊎◌, ◌≤◌, ℕ, Bool, true, false, ◌&&◌, List, length, Option, Some, IfSome, Result, Ok, Err, MatchResult}
+-- What the program does with the ELF file of a path. f: its bytes; t: its line table, as dl_elf defines it. start, now:
+-- what the output held at first, and holds now.
+use Rattle.std.specs.Prelude.{◌≡◌, ◌⊎◌, ◌≤◌, ℕ, Bool, true, false, ◌&&◌, List, length, Option, Some, IfSome, Result, Ok}
+use Rattle.std.specs.Prelude.{Err, MatchResult}
 use Rattle.std.specs.Io.KnownBytes.{Consumes, Keeps}
 use Rattle.std.specs.declared.io.Error.{Error}
-use Rattle.clap.specs.Words.{Text}
+use Rattle.dl_words.specs.Job.{Text}
 use Rattle.dl_elf.specs.declared.line_file.Wanted.{Wanted}
 use Rattle.dl_elf.specs.declared.fault.ElfFault.TheVariants.{Read}
 use Rattle.dl_elf.specs.LineTable.{HasLineTable, LineTable}
@@ -52,9 +53,10 @@ EndsAt path answer result =
 abbrev pub strings_of : LineTable → Strings
 strings_of t = record { line_strings = t.line_str_bytes; strings = t.str_bytes }
 
--- the command is done, over the bytes of the line section in the file's order, with the file's string sections. read: the bytes that
--- it read, of which `left` are left
-pub record RunsOn (path : Text) (command : Command) (t : LineTable) (start now : Option (List ℕ)) (result : Result Summary Stop) : Type 0 where
+-- the command is done, over the bytes of the line section in the file's order, with the file's string sections. read:
+-- the bytes that it read, of which `left` are left
+pub record RunsOn (path : Text) (command : Command) (t : LineTable) (start now : Option (List ℕ))
+    (result : Result Summary Stop) : Type 0 where
   pub line_fits : Fits t.line_str_bytes
   pub fits : Fits t.str_bytes
   pub read : List ℕ
@@ -69,7 +71,8 @@ abbrev pub StopsEarly : (Stop → Type 0) → (start now : Option (List ℕ)) �
 StopsEarly Reason start now result = (stop : Stop) × (result ≡ Err stop) × Reason stop × Keeps start now
 
 -- an object file isn't copied
-abbrev pub OnTableWhere : (is_object_copy : Bool) → (path : Text) → Command → LineTable → (start now : Option (List ℕ)) → Result Summary Stop → Type 0
+abbrev pub OnTableWhere : (is_object_copy : Bool) → (path : Text) → Command → LineTable → (start now : Option (List ℕ))
+    → Result Summary Stop → Type 0
 OnTableWhere true path command t start now result = StopsEarly (IsAt path ObjectCopy) start now result
 OnTableWhere false path command t start now result =
     StopsEarly (StringsStop path t.line_str_bytes t.str_bytes) start now result ⊎ RunsOn path command t start now result
@@ -86,7 +89,9 @@ Refuses fails f wanted (Elf (Read error)) = fails error
 Refuses fails f wanted (Elf fault) = HasLineTable f wanted (Err fault)
 Refuses fails f wanted other = ⊥
 
-abbrev pub OnFile : (fails : Error → Type 0) (path : Text) → Command → (f : List ℕ) (start now : Option (List ℕ)) → Result Summary Stop → Type 0
+abbrev pub OnFile : (fails : Error → Type 0) (path : Text) → Command → (f : List ℕ) (start now : Option (List ℕ))
+    → Result Summary Stop → Type 0
 OnFile fails path command f start now result =
-    StopsEarly (λ stop. (fault : FileFault) × Refuses fails f (wanted_of command) fault × IsAt path fault stop) start now result
+    StopsEarly (λ stop. (fault : FileFault) × Refuses fails f (wanted_of command) fault
+    × IsAt path fault stop) start now result
     ⊎ ((t : LineTable) × HasLineTable f (wanted_of command) (Ok t) × OnTable path command t start now result)

@@ -1,14 +1,14 @@
--- What the program does for a request. bytes: what was read of the input, which has `left` left. start, now: what the output held at
--- first, and holds now. held: what the file of a path holds, where that is known; fails: the errors that opening and reading it may give.
+-- What the program does for a request. bytes: what was read of the input, which has `left` left. start, now: what the
+-- output held at first, and holds now. held: what the file of a path holds, where that is known; fails: the errors that
+-- opening and reading it may give.
 use Rattle.std.specs.Prelude.{◌≡◌, ◌⊎◌, ℕ, List, [], Option, Some, None, MatchOption, Result, Ok, Err}
 use Rattle.std.specs.Io.KnownBytes.{Keeps}
 use Rattle.std.specs.declared.io.Error.{Error}
-use Rattle.clap.specs.Words.{Text}
 use Rattle.dl_elf.specs.Source.{ForBytes}
 use Rattle.dl_cmd.specs.declared.options.TheConstants.{SECTION_LIMIT}
 use Rattle.dl_cmd.specs.declared.fault.RunFault.{RunFault}
 use Rattle.dl_print.specs.declared.summary.Summary.{Summary}
-use Rattle.dl_cmd.specs.Job.{Request}
+use Rattle.dl_words.specs.Job.{Request, Text}
 use Rattle.dl_print.specs.ValueText.{Strings}
 use Rattle.dl_work.specs.declared.command.Command.{Command}
 use Rattle.dl_work.specs.declared.stop.Stop.{Stop}
@@ -18,7 +18,8 @@ use Rattle.dl_work.specs.Files.{FilesStop, StringsAre}
 use Rattle.dl_work.specs.Tables.{OnFile}
 
 -- the program stops before its command: nothing is read of the input, and nothing written
-abbrev pub StopsBefore : {A : Type 0} → (bytes : List ℕ) (start now : Option (List ℕ)) (result : Result A Stop) → Stop → Type 0
+abbrev pub StopsBefore : {A : Type 0} → (bytes : List ℕ) (start now : Option (List ℕ)) (result : Result A Stop) → Stop
+    → Type 0
 StopsBefore bytes start now result stop = (result ≡ Err stop) × (bytes ≡ []) × Keeps start now
 
 -- a command's answer, its fault being the reason to stop
@@ -26,20 +27,25 @@ abbrev pub stopped : Result Summary RunFault → Result Summary Stop
 stopped (Ok summary) = Ok summary
 stopped (Err f) = Err (Run f)
 
--- over a section on the input: the command is done with the string sections that are named, unless these stop the program
-abbrev pub OnInput : (held : Text → Option (List ℕ)) → SectionWords → Command → (bytes : List ℕ) (left start now : Option (List ℕ)) → Result Summary Stop → Type 0
+-- over a section on the input: the command is done with the string sections that are named, unless these stop the
+-- program
+abbrev pub OnInput : (held : Text → Option (List ℕ)) → SectionWords → Command
+    → (bytes : List ℕ) (left start now : Option (List ℕ)) → Result Summary Stop → Type 0
 OnInput held section command bytes left start now result =
     ((s : Strings) × StringsAre held section.line_str section.strings s
-    × (answer : Result Summary RunFault) × (result ≡ stopped answer) × Does command (order_of section.big) s SECTION_LIMIT bytes left start now answer)
+    × (answer : Result Summary RunFault) × (result ≡ stopped answer)
+    × Does command (order_of section.big) s SECTION_LIMIT bytes left start now answer)
     ⊎ ((f : RunFault) × FilesStop held section.line_str section.strings f × StopsBefore bytes start now result (Run f))
 
 -- over the ELF file of a path: nothing is read of the input
-abbrev pub OnNamed : (held : Text → Option (List ℕ)) (fails : Text → Error → Type 0) → Text → Command → (bytes : List ℕ) (start now : Option (List ℕ)) → Result Summary Stop → Type 0
+abbrev pub OnNamed : (held : Text → Option (List ℕ)) (fails : Text → Error → Type 0) → Text → Command
+    → (bytes : List ℕ) (start now : Option (List ℕ)) → Result Summary Stop → Type 0
 OnNamed held fails path command bytes start now result =
     (bytes ≡ []) × ForBytes (held path) (λ f. OnFile (fails path) path command f start now result)
 
 -- what is done for a request
-abbrev pub Works : (held : Text → Option (List ℕ)) (fails : Text → Error → Type 0) → Option Request → (bytes : List ℕ) (left start now : Option (List ℕ)) → Result Summary Stop → Type 0
+abbrev pub Works : (held : Text → Option (List ℕ)) (fails : Text → Error → Type 0) → Option Request
+    → (bytes : List ℕ) (left start now : Option (List ℕ)) → Result Summary Stop → Type 0
 Works held fails None bytes left start now result = StopsBefore bytes start now result NotUnderstood
 Works held fails (Some request) bytes left start now result =
     MatchOption (command_of request) (StopsBefore bytes start now result NotUnderstood)

@@ -2,7 +2,8 @@
 #![tactic(auto)]
 
 use dl_addr::Found;
-use dl_cmd::{Job, RunFault, read_job, read_strings, word_status};
+use dl_cmd::{RunFault, read_strings};
+use dl_words::{Job, read_job, word_status};
 use dl_work::{FileSource, Stop, locate, work};
 use std::alloc::{AllocError, Global};
 use std::fs::File;

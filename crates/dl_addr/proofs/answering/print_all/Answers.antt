@@ -15,8 +15,10 @@ abbrev no_asked : Asked
 no_asked = record { address = None }
 
 -- the place of what is asked by this number
-place_at : (base : ℕ) (asked : List Asked) (n : ℕ) → n < length asked → slice_get (map (looked_up base) asked) n ≡ Some (looked_up base (get_or asked n no_asked))
-place_at base asked n lt = slice_get-map (looked_up base) asked n ∙ ap (option_map (looked_up base)) (slice_get-get_or asked n no_asked lt)
+place_at : (base : ℕ) (asked : List Asked) (n : ℕ) → n < length asked
+    → slice_get (map (looked_up base) asked) n ≡ Some (looked_up base (get_or asked n no_asked))
+place_at base asked n lt =
+    slice_get-map (looked_up base) asked n ∙ ap (option_map (looked_up base)) (slice_get-get_or asked n no_asked lt)
 
 pub returns-in_err-print_line : goal.returns-in_err-print_line
 returns-in_err-print_line g c first start held visits s made =
@@ -25,10 +27,15 @@ returns-in_err-print_line g c first start held visits s made =
     let l = c.loop-number in
     let lt : l.number < length q.asked.now = c.loop-number-test.true in
     let old = g.W.Write.contents c.args.output.now in
-    let is = c.answer_to-answer.ensures first start held visits (map (looked_up q.base) q.asked.now) s made (place_at q.base q.asked.now l.number lt) in
-    let nothing = HasPrinted-nothing old old c.new-printer.result (Appends-nil old) c.new-printer.ensures.nothing_pending c.new-printer.ensures.nothing_out in
-    rw (p.1, p.2) (loses_line q.style (answer_for first visits q.base) q.asked.now old (g.W.Write.contents l.output) (g.W.Write.contents c.print_line.new.output) c.new-printer.result l.printer l.number no_asked
-    (option_map answer_seen c.answer_to-answer.result) _ lt is nothing (l.invariant.printed first start held visits s made) c.in_err-print_line.ensures)
+    let is = c.answer_to-answer.ensures first start held visits (map (looked_up q.base) q.asked.now) s made
+    (place_at q.base q.asked.now l.number lt) in
+    let nothing = HasPrinted-nothing old old c.new-printer.result (Appends-nil old)
+    c.new-printer.ensures.nothing_pending
+    c.new-printer.ensures.nothing_out in
+    rw (p.1, p.2) (loses_line q.style (answer_for first visits q.base) q.asked.now old (g.W.Write.contents l.output)
+    (g.W.Write.contents c.print_line.new.output) c.new-printer.result l.printer l.number no_asked
+    (option_map answer_seen c.answer_to-answer.result) _ lt is nothing
+    (l.invariant.printed first start held visits s made) c.in_err-print_line.ensures)
 
 pub loop-number-preserved : goal.loop-number-preserved
 loop-number-preserved g c =
@@ -38,11 +45,19 @@ loop-number-preserved g c =
     let old = g.W.Write.contents c.args.output.now in
     record {
       within = omega arith;
-      printed = λ first start held visits s made. prints_line q.style (answer_for first visits q.base) q.asked.now old (g.W.Write.contents l.output) (g.W.Write.contents c.print_line.new.output) c.new-printer.result l.printer c.print_line.new.printer l.number no_asked
-          (option_map answer_seen c.answer_to-answer.result) lt (c.answer_to-answer.ensures first start held visits (map (looked_up q.base) q.asked.now) s made (place_at q.base q.asked.now l.number lt))
+      printed =
+          λ first start held visits s made. prints_line q.style (answer_for first visits q.base) q.asked.now old
+          (g.W.Write.contents l.output) (g.W.Write.contents c.print_line.new.output) c.new-printer.result l.printer
+          c.print_line.new.printer l.number no_asked
+          (option_map answer_seen c.answer_to-answer.result) lt
+          (c.answer_to-answer.ensures first start held visits (map (looked_up q.base) q.asked.now) s made
+          (place_at q.base q.asked.now l.number lt))
           (l.invariant.printed first start held visits s made) c.in_ok-print_line.ensures;
-      found = λ first start held visits s made. found_more q.style (answer_for first visits q.base) q.asked.now l.number no_asked c.is_some.result l.found c.also-found.result lt
-          (c.is_some.ensures ∙ some_mapped answer_seen c.answer_to-answer.result ∙ ap is_some (c.answer_to-answer.ensures first start held visits (map (looked_up q.base) q.asked.now) s made (place_at q.base q.asked.now l.number lt)))
+      found = λ first start held visits s made. found_more q.style (answer_for first visits q.base) q.asked.now l.number
+          no_asked c.is_some.result l.found c.also-found.result lt
+          (c.is_some.ensures ∙ some_mapped answer_seen c.answer_to-answer.result
+          ∙ ap is_some (c.answer_to-answer.ensures first start held visits (map (looked_up q.base) q.asked.now) s
+          made (place_at q.base q.asked.now l.number lt)))
           (l.invariant.found first start held visits s made) c.also-found.ensures;
     }
 
@@ -52,8 +67,12 @@ returns-in_err-flush g c first start held visits s made =
     let q = c.args.question.now in
     let l = c.loop-number in
     let old = g.W.Write.contents c.args.output.now in
-    let nothing = HasPrinted-nothing old old c.new-printer.result (Appends-nil old) c.new-printer.ensures.nothing_pending c.new-printer.ensures.nothing_out in
-    rw (p.1, p.2) (loses_all q.style (answer_for first visits q.base) q.asked.now old (g.W.Write.contents l.output) (g.W.Write.contents c.flush.new.output) c.new-printer.result l.printer l.number _ c.loop-number-test.false nothing
+    let nothing = HasPrinted-nothing old old c.new-printer.result (Appends-nil old)
+    c.new-printer.ensures.nothing_pending
+    c.new-printer.ensures.nothing_out in
+    rw (p.1, p.2) (loses_all q.style (answer_for first visits q.base) q.asked.now old (g.W.Write.contents l.output)
+    (g.W.Write.contents c.flush.new.output) c.new-printer.result l.printer l.number _ c.loop-number-test.false
+    nothing
     (l.invariant.printed first start held visits s made) c.in_err-flush.ensures.printed)
 
 pub returns : goal.returns
@@ -61,8 +80,14 @@ returns g c first start held visits s made =
     let q = c.args.question.now in
     let l = c.loop-number in
     let old = g.W.Write.contents c.args.output.now in
-    let nothing = HasPrinted-nothing old old c.new-printer.result (Appends-nil old) c.new-printer.ensures.nothing_pending c.new-printer.ensures.nothing_out in (
-      found_all q.style (answer_for first visits q.base) q.asked.now l.number l.found c.loop-number-test.false (l.invariant.found first start held visits s made),
-      all_out q.style (answer_for first visits q.base) q.asked.now old (g.W.Write.contents l.output) (g.W.Write.contents c.flush.new.output) c.new-printer.result l.printer c.flush.new.self l.number c.loop-number-test.false nothing
-          (l.invariant.printed first start held visits s made) c.in_ok-flush.ensures.printed c.in_ok-flush.ensures.empty,
+    let nothing = HasPrinted-nothing old old c.new-printer.result (Appends-nil old)
+    c.new-printer.ensures.nothing_pending
+    c.new-printer.ensures.nothing_out in (
+      found_all q.style (answer_for first visits q.base) q.asked.now l.number l.found c.loop-number-test.false
+          (l.invariant.found first start held visits s made),
+      all_out q.style (answer_for first visits q.base) q.asked.now old (g.W.Write.contents l.output)
+          (g.W.Write.contents c.flush.new.output) c.new-printer.result l.printer c.flush.new.self l.number
+          c.loop-number-test.false nothing
+          (l.invariant.printed first start held visits s made) c.in_ok-flush.ensures.printed
+          c.in_ok-flush.ensures.empty,
     )

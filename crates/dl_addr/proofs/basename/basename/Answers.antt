@@ -17,7 +17,8 @@ returns-then-separates c =
     let all = take_all (length path - s.start) (drop s.start path) (omega (arith, length-drop s.start path)) in
     let none = subst (λ n. list_any sep (drop n path) ≡ false) next s.invariant.none in
     let at = behind_at sep path i 0 (omega arith) (sym c.separates.ensures ∙ c.if-separates.true) none in
-    all ∙ ap (λ n. drop n path) next ∙ sym at ∙ ap (λ (d : Bool). behind_last (separates d) path) c.has_drive-with_drive.ensures
+    all ∙ ap (λ n. drop n path) next ∙ sym at
+    ∙ ap (λ (d : Bool). behind_last (separates d) path) c.has_drive-with_drive.ensures
 
 pub returns : goal.returns
 returns c =
@@ -26,4 +27,5 @@ returns c =
     let sep = separates c.has_drive-with_drive.result in
     let at : s.start ≡ 0 = omega (arith, c.loop-start-test.false) in
     let none = subst (λ n. list_any sep (drop n path) ≡ false) at s.invariant.none in
-    sym (ap (λ (d : Bool). behind_last (separates d) path) (sym c.has_drive-with_drive.ensures) ∙ behind_none sep path none)
+    sym (ap (λ (d : Bool). behind_last (separates d) path) (sym c.has_drive-with_drive.ensures)
+    ∙ behind_none sep path none)

@@ -19,4 +19,5 @@ returns g c =
     let old = g.W.Write.contents c.args.output.now in
     let mid = g.W.Write.contents c.put.new.output in
     let new = g.W.Write.contents c.number.new.output in
-    prints_then old mid new c.args.printer.now c.put.new.self c.number.new.self a b c.number.result c.in_ok-put.ensures.printed c.number.ensures.printed
+    prints_then old mid new c.args.printer.now c.put.new.self c.number.new.self a b c.number.result
+    c.in_ok-put.ensures.printed c.number.ensures.printed

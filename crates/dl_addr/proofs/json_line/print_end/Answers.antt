@@ -21,4 +21,5 @@ returns g c =
     let old = g.W.Write.contents c.args.output.now in
     let mid = g.W.Write.contents c.print_is_stmt.new.output in
     let new = g.W.Write.contents c.print_unit.new.output in
-    prints_then old mid new c.args.printer.now c.print_is_stmt.new.printer c.print_unit.new.printer a b c.print_unit.result c.in_ok-print_is_stmt.ensures c.print_unit.ensures
+    prints_then old mid new c.args.printer.now c.print_is_stmt.new.printer c.print_unit.new.printer a b
+    c.print_unit.result c.in_ok-print_is_stmt.ensures c.print_unit.ensures

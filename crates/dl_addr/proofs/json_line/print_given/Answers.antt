@@ -20,4 +20,5 @@ returns g c =
     let old = g.W.Write.contents c.args.output.now in
     let mid = g.W.Write.contents c.print_address_open.new.output in
     let new = g.W.Write.contents c.put.new.output in
-    prints_then old mid new c.args.printer.now c.print_address_open.new.printer c.put.new.self a b c.put.result c.in_ok-print_address_open.ensures c.put.ensures.printed
+    prints_then old mid new c.args.printer.now c.print_address_open.new.printer c.put.new.self a b c.put.result
+    c.in_ok-print_address_open.ensures c.put.ensures.printed

@@ -7,10 +7,12 @@ pub returns-in-Some : goal.returns-in-Some
 returns-in-Some g c =
     let old = g.W.Write.contents c.args.output.now in
     let new = g.W.Write.contents c.print_given.new.output in
-    subst (λ (o : Option ℕ). Prints old new c.args.printer.now c.print_given.new.printer (json_address o) c.print_given.result) (sym c.in-Some.is) c.print_given.ensures
+    subst (λ (o : Option ℕ). Prints old new c.args.printer.now c.print_given.new.printer
+    (json_address o) c.print_given.result) (sym c.in-Some.is) c.print_given.ensures
 
 pub returns-in-None : goal.returns-in-None
 returns-in-None g c =
     let old = g.W.Write.contents c.args.output.now in
     let new = g.W.Write.contents c.put.new.output in
-    subst (λ (o : Option ℕ). Prints old new c.args.printer.now c.put.new.self (json_address o) c.put.result) (sym c.in-None.is) c.put.ensures.printed
+    subst (λ (o : Option ℕ). Prints old new c.args.printer.now c.put.new.self (json_address o) c.put.result)
+    (sym c.in-None.is) c.put.ensures.printed

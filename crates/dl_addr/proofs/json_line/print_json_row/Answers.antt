@@ -13,15 +13,25 @@ returns-in_err-print_path g c start text h =
     let rest = json_is_stmt row.is_stmt ++ ((codes ",\"unit\":\"0x" ++ hexadecimal c.args.unit) ++ codes "\"") in
     let old = g.W.Write.contents c.args.output.now in
     let new = g.W.Write.contents c.print_path.new.output in
-    rw (p.1, p.2) (loses_front old new c.args.printer.now (path ++ json_position row) rest _ (loses_front old new c.args.printer.now path (json_position row) _ c.in_err-print_path.ensures) start text h)
+    rw (
+      p.1,
+      p.2,
+    ) (loses_front old new c.args.printer.now (path ++ json_position row) rest _
+    (loses_front old new c.args.printer.now path (json_position row) _ c.in_err-print_path.ensures) start text h)
 
 pub returns-in_err-print_position : goal.returns-in_err-print_position
 returns-in_err-print_position g c start text h =
-    let p = err_from_is_err_and c.from_residual-in_err-print_position.result c.from_residual-in_err-print_position.ensures.1 in
+    let p = err_from_is_err_and c.from_residual-in_err-print_position.result
+    c.from_residual-in_err-print_position.ensures.1 in
     let row = c.args.row.now in
     let path = codes ",\"path\":" ++ c.args.path.now in
     let rest = json_is_stmt row.is_stmt ++ ((codes ",\"unit\":\"0x" ++ hexadecimal c.args.unit) ++ codes "\"") in
     let old = g.W.Write.contents c.args.output.now in
     let mid = g.W.Write.contents c.print_path.new.output in
     let new = g.W.Write.contents c.print_position.new.output in
-    rw (p.1, p.2) (loses_front old new c.args.printer.now (path ++ json_position row) rest _ (loses_then old mid new c.args.printer.now c.print_path.new.printer path (json_position row) _ c.in_ok-print_path.ensures c.in_err-print_position.ensures) start text h)
+    rw (
+      p.1,
+      p.2,
+    ) (loses_front old new c.args.printer.now (path ++ json_position row) rest _
+    (loses_then old mid new c.args.printer.now c.print_path.new.printer path (json_position row) _
+    c.in_ok-print_path.ensures c.in_err-print_position.ensures) start text h)

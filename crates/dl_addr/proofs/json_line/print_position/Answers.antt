@@ -12,7 +12,11 @@ returns-in_err-number g c start text h =
     let rest = codes ",\"discriminator\":" ++ decimal row.discriminator in
     let old = g.W.Write.contents c.args.output.now in
     let new = g.W.Write.contents c.number.new.output in
-    rw (p.1, p.2) (loses_front old new c.args.printer.now (line ++ column) rest _ (loses_front old new c.args.printer.now line column _ c.in_err-number.ensures.printed) start text h)
+    rw (
+      p.1,
+      p.2,
+    ) (loses_front old new c.args.printer.now (line ++ column) rest _
+    (loses_front old new c.args.printer.now line column _ c.in_err-number.ensures.printed) start text h)
 
 pub returns-in_err-number-2 : goal.returns-in_err-number-2
 returns-in_err-number-2 g c start text h =
@@ -24,4 +28,9 @@ returns-in_err-number-2 g c start text h =
     let old = g.W.Write.contents c.args.output.now in
     let mid = g.W.Write.contents c.number.new.output in
     let new = g.W.Write.contents c.number-2.new.output in
-    rw (p.1, p.2) (loses_front old new c.args.printer.now (line ++ column) rest _ (loses_then old mid new c.args.printer.now c.number.new.self line column _ c.in_ok-number.ensures.printed c.in_err-number-2.ensures.printed) start text h)
+    rw (
+      p.1,
+      p.2,
+    ) (loses_front old new c.args.printer.now (line ++ column) rest _
+    (loses_then old mid new c.args.printer.now c.number.new.self line column _ c.in_ok-number.ensures.printed
+    c.in_err-number-2.ensures.printed) start text h)

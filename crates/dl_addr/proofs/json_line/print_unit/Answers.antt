@@ -11,7 +11,8 @@ returns-in_err-hexadecimal_number g c start text h =
     let b = codes "\"" in
     let old = g.W.Write.contents c.args.output.now in
     let new = g.W.Write.contents c.hexadecimal_number.new.output in
-    rw (p.1, p.2) (loses_front old new c.args.printer.now a b _ c.in_err-hexadecimal_number.ensures.printed start text h)
+    rw (p.1, p.2) (loses_front old new c.args.printer.now a b _ c.in_err-hexadecimal_number.ensures.printed start text
+    h)
 
 pub returns : goal.returns
 returns g c =
@@ -20,4 +21,5 @@ returns g c =
     let old = g.W.Write.contents c.args.output.now in
     let mid = g.W.Write.contents c.hexadecimal_number.new.output in
     let new = g.W.Write.contents c.put.new.output in
-    prints_then old mid new c.args.printer.now c.hexadecimal_number.new.self c.put.new.self a b c.put.result c.in_ok-hexadecimal_number.ensures.printed c.put.ensures.printed
+    prints_then old mid new c.args.printer.now c.hexadecimal_number.new.self c.put.new.self a b c.put.result
+    c.in_ok-hexadecimal_number.ensures.printed c.put.ensures.printed

@@ -14,14 +14,24 @@ returns-in_err-print_asked g c start text h =
     let b = seen_text c.args.style.form (option_map answer_seen c.args.answer) in
     let old = g.W.Write.contents c.args.output.now in
     let new = g.W.Write.contents c.print_asked.new.output in
-    rw (p.1, p.2) (loses_front old new c.args.printer.now (a ++ b) (10 ∷ []) _ (loses_front old new c.args.printer.now a b _ c.in_err-print_asked.ensures) start text h)
+    rw (
+      p.1,
+      p.2,
+    ) (loses_front old new c.args.printer.now (a ++ b) (10 ∷ []) _
+    (loses_front old new c.args.printer.now a b _ c.in_err-print_asked.ensures) start text h)
 
 pub returns-in_err-print_answer : goal.returns-in_err-print_answer
 returns-in_err-print_answer g c start text h =
-    let p = err_from_is_err_and c.from_residual-in_err-print_answer.result c.from_residual-in_err-print_answer.ensures.1 in
+    let p = err_from_is_err_and c.from_residual-in_err-print_answer.result
+    c.from_residual-in_err-print_answer.ensures.1 in
     let a = asked_text c.args.style.form c.args.asked in
     let b = seen_text c.args.style.form (option_map answer_seen c.args.answer) in
     let old = g.W.Write.contents c.args.output.now in
     let mid = g.W.Write.contents c.print_asked.new.output in
     let new = g.W.Write.contents c.print_answer.new.output in
-    rw (p.1, p.2) (loses_front old new c.args.printer.now (a ++ b) (10 ∷ []) _ (loses_then old mid new c.args.printer.now c.print_asked.new.printer a b _ c.in_ok-print_asked.ensures c.in_err-print_answer.ensures) start text h)
+    rw (
+      p.1,
+      p.2,
+    ) (loses_front old new c.args.printer.now (a ++ b) (10 ∷ []) _
+    (loses_then old mid new c.args.printer.now c.print_asked.new.printer a b _ c.in_ok-print_asked.ensures
+    c.in_err-print_answer.ensures) start text h)

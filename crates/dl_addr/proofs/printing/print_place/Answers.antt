@@ -12,7 +12,8 @@ returns-in_err-put g c start text h =
     let old = g.W.Write.contents c.args.output.now in
     let new = g.W.Write.contents c.put.new.output in
     let line = codes ":" ++ decimal row.line in
-    rw (p.1, p.2) (loses_front old new c.args.printer.now (path ++ line) (column_text row.column) _ (loses_front old new c.args.printer.now path line _ c.in_err-put.ensures.printed) start text h)
+    rw (p.1, p.2) (loses_front old new c.args.printer.now (path ++ line) (column_text row.column) _
+    (loses_front old new c.args.printer.now path line _ c.in_err-put.ensures.printed) start text h)
 
 pub returns-in_err-number : goal.returns-in_err-number
 returns-in_err-number g c start text h =
@@ -23,4 +24,6 @@ returns-in_err-number g c start text h =
     let mid = g.W.Write.contents c.put.new.output in
     let new = g.W.Write.contents c.number.new.output in
     let line = codes ":" ++ decimal row.line in
-    rw (p.1, p.2) (loses_front old new c.args.printer.now (path ++ line) (column_text row.column) _ (loses_then old mid new c.args.printer.now c.put.new.self path line _ c.in_ok-put.ensures.printed c.in_err-number.ensures.printed) start text h)
+    rw (p.1, p.2) (loses_front old new c.args.printer.now (path ++ line) (column_text row.column) _
+    (loses_then old mid new c.args.printer.now c.put.new.self path line _ c.in_ok-put.ensures.printed
+    c.in_err-number.ensures.printed) start text h)

@@ -11,5 +11,6 @@ invariant-loop-answer l = record {
   len : length l.kept.items ≡ length l.initial.kept.items;
   others : (i : ℕ) → IsOther l.answered l.answer-index i → slice_get l.kept.items i ≡ slice_get l.initial.kept.items i;
   right : AreNumbers l.answered l.initial.kept.items → (j : ℕ) → j < l.answer-index
-      → IsKept l.texts.items l.kept.items (slice_index_or l.answered j no_answer).number (text_of_file l.unit (slice_index_or l.answered j no_answer).row.file);
+      → IsKept l.texts.items l.kept.items (slice_index_or l.answered j no_answer).number
+      (text_of_file l.unit (slice_index_or l.answered j no_answer).row.file);
 }

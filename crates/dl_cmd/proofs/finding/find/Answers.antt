@@ -6,7 +6,8 @@ use Rattle.dl_look.specs.declared.place.Place.{Place}
 use Rattle.dl_print.specs.Printed.{Printed}
 use Rattle.dl_cmd.specs.declared.finding.Seeker.{Seeker}
 use Rattle.dl_print.specs.declared.output.string_sections.StringSections.{StringSections}
-use Rattle.dl_cmd.proofs.FindingLemmas.{begins, failed, found, not_found}
+use Rattle.dl_cmd.proofs.SeekerLemmas.{begins}
+use Rattle.dl_cmd.proofs.FindingAnswers.{failed, found, not_found}
 use Rattle.dl_cmd.proofs.finding.find.Goals as goal
 
 -- the seeker that reads the section
@@ -26,8 +27,14 @@ returns-in_err-summary g c =
     let first = first_of c.args.place c.new.result c.new-strings.result c.new-2.result in
     let start = g.W.Write.contents c.args.output.now in
     let read = c.in_err-summary.ensures in
-    let ran = read.2 (begins first start c.new.ensures.nothing_pending c.new.ensures.nothing_out refl c.new-2.ensures) (Appends-nil start) in
-    rw (p.1, p.2) (read.0, read.1, failed options.order options.limit read.0 (g.R.Read.remaining c.read_units.new.input) first c.read_units.new.visitor start (g.W.Write.contents c.read_units.new.output) _ c.new-strings.ensures _ ran)
+    let ran = read.2 (begins first start c.new.ensures.nothing_pending c.new.ensures.nothing_out refl c.new-2.ensures)
+    (Appends-nil start) in
+    rw (p.1, p.2) (
+      read.0,
+      read.1,
+      failed options.order options.limit read.0 (g.R.Read.remaining c.read_units.new.input) first
+          c.read_units.new.visitor start (g.W.Write.contents c.read_units.new.output) _ c.new-strings.ensures _ ran,
+    )
 
 pub returns-then-seeker : goal.returns-then-seeker
 returns-then-seeker g c =
@@ -35,8 +42,14 @@ returns-then-seeker g c =
     let first = first_of c.args.place c.new.result c.new-strings.result c.new-2.result in
     let start = g.W.Write.contents c.args.output.now in
     let read = c.in_ok-summary.ensures in
-    let ran = read.2 (begins first start c.new.ensures.nothing_pending c.new.ensures.nothing_out refl c.new-2.ensures) (Appends-nil start) in
-    (read.0, read.1, found options.order options.limit read.0 (g.R.Read.remaining c.read_units.new.input) first c.read_units.new.visitor start (g.W.Write.contents c.read_units.new.output) _ c.new-strings.ensures c.in_ok-summary.summary c.if-seeker.true ran)
+    let ran = read.2 (begins first start c.new.ensures.nothing_pending c.new.ensures.nothing_out refl c.new-2.ensures)
+    (Appends-nil start) in (
+      read.0,
+      read.1,
+      found options.order options.limit read.0 (g.R.Read.remaining c.read_units.new.input) first
+          c.read_units.new.visitor start (g.W.Write.contents c.read_units.new.output) _ c.new-strings.ensures
+          c.in_ok-summary.summary c.if-seeker.true ran,
+    )
 
 pub returns-else-seeker : goal.returns-else-seeker
 returns-else-seeker g c =
@@ -44,5 +57,11 @@ returns-else-seeker g c =
     let first = first_of c.args.place c.new.result c.new-strings.result c.new-2.result in
     let start = g.W.Write.contents c.args.output.now in
     let read = c.in_ok-summary.ensures in
-    let ran = read.2 (begins first start c.new.ensures.nothing_pending c.new.ensures.nothing_out refl c.new-2.ensures) (Appends-nil start) in
-    (read.0, read.1, not_found options.order options.limit read.0 (g.R.Read.remaining c.read_units.new.input) first c.read_units.new.visitor start (g.W.Write.contents c.read_units.new.output) _ c.new-strings.ensures c.in_ok-summary.summary c.if-seeker.false ran)
+    let ran = read.2 (begins first start c.new.ensures.nothing_pending c.new.ensures.nothing_out refl c.new-2.ensures)
+    (Appends-nil start) in (
+      read.0,
+      read.1,
+      not_found options.order options.limit read.0 (g.R.Read.remaining c.read_units.new.input) first
+          c.read_units.new.visitor start (g.W.Write.contents c.read_units.new.output) _ c.new-strings.ensures
+          c.in_ok-summary.summary c.if-seeker.false ran,
+    )

@@ -17,5 +17,12 @@ returns-then-is_err g c =
     let piece = c.in-Ok.piece.now in (
       l.bytes.items ++ piece,
       Consumes-trans _ _ _ _ _ l.invariant.read c.in-Ok.ensures.ok,
-      omega (arith, c.if-limit-len.false, c.len.ensures, l.bytes.ok.0, l.invariant.within, length-append l.bytes.items piece),
+      omega (
+        arith,
+        c.if-limit-len.false,
+        c.len.ensures,
+        l.bytes.ok.0,
+        l.invariant.within,
+        length-append l.bytes.items piece,
+      ),
     )

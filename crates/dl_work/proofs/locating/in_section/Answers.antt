@@ -9,13 +9,21 @@ use Rattle.dl_work.proofs.locating.in_section.Goals as goal
 
 pub returns-in_err-base : goal.returns-in_err-base
 returns-in_err-base g c =
-    let p = err_from_is_err_and c.from_residual.result c.from_residual.ensures.1 in
-    ([], Consumes-nil _, section_stops _ _ _ _ _ c.in_err-base.field-0.0 (p.1 ∙ ap Err p.2) (inl c.in_err-base.ensures.stops))
+    let p = err_from_is_err_and c.from_residual.result c.from_residual.ensures.1 in (
+      [],
+      Consumes-nil _,
+      section_stops _ _ _ _ _ c.in_err-base.field-0.0 (p.1
+          ∙ ap Err p.2) (inl c.in_err-base.ensures.stops),
+    )
 
 pub returns-in_err-lines : goal.returns-in_err-lines
 returns-in_err-lines g c =
-    let p = err_from_is_err_and c.from_residual-in_err-lines.result c.from_residual-in_err-lines.ensures.1 in
-    ([], Consumes-nil _, section_stops _ _ _ _ _ c.in_err-lines.field-0.0 (p.1 ∙ ap Err p.2) (inl c.in_err-lines.ensures.stops))
+    let p = err_from_is_err_and c.from_residual-in_err-lines.result c.from_residual-in_err-lines.ensures.1 in (
+      [],
+      Consumes-nil _,
+      section_stops _ _ _ _ _ c.in_err-lines.field-0.0 (p.1
+          ∙ ap Err p.2) (inl c.in_err-lines.ensures.stops),
+    )
 
 pub returns-then-is_empty : goal.returns-then-is_empty
 returns-then-is_empty g c =

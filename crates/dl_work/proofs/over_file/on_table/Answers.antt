@@ -15,10 +15,16 @@ pub returns-in-Ok : goal.returns-in-Ok
 returns-in-Ok g c t given =
     let whole = c.in_ok-strings.ensures t.line_str_bytes t.str_bytes given.line_str given.str in
     not_refused _ _ t _ _ _ _ (sym c.loses.ensures ∙ c.if-loses.false) given.object
-    (inr (ran _ _ t _ _ _ _ _ _ _ _ _ _ given.line.0 whole (c.options.ensures.order ∙ given.order) c.options.ensures.strings c.options.ensures.limit c.in-Ok.ensures refl))
+    (inr (ran _ _ t _ _ _ _ _ _ _ _ _ _ given.line.0 whole (c.options.ensures.order
+    ∙ given.order) c.options.ensures.strings c.options.ensures.limit c.in-Ok.ensures refl))
 
 pub returns : goal.returns
 returns g c t given =
     let whole = c.in_ok-strings.ensures t.line_str_bytes t.str_bytes given.line_str given.str in
     not_refused _ _ t _ _ _ _ (sym c.loses.ensures ∙ c.if-loses.false) given.object
-    (inr (ran _ _ t _ _ _ _ _ _ _ _ _ _ given.line.0 whole (c.options.ensures.order ∙ given.order) c.options.ensures.strings c.options.ensures.limit c.in-Err.ensures (c.at.result, refl, c.at.ensures)))
+    (inr (ran _ _ t _ _ _ _ _ _ _ _ _ _ given.line.0 whole (c.options.ensures.order
+    ∙ given.order) c.options.ensures.strings c.options.ensures.limit c.in-Err.ensures (
+      c.at.result,
+      refl,
+      c.at.ensures,
+    )))

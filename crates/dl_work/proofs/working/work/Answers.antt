@@ -1,5 +1,5 @@
 use Rattle.std.proofs.Common.{◌∙◌, ap, sym, option_map}
-use Rattle.dl_cmd.specs.Job.{request_made}
+use Rattle.dl_words.specs.Job.{request_made}
 use Rattle.dl_work.specs.Held.{section_seen}
 use Rattle.dl_work.proofs.WorkLemmas.{works_on_input}
 use Rattle.dl_work.proofs.working.work.Goals as goal
@@ -9,6 +9,8 @@ returns g c =
     let done = c.on_input.ensures in (
       done.0,
       done.1,
-      works_on_input (g.F.FileSource.held c.args.files.now) (g.F.FileSource.fails_with c.args.files.now) _ (request_made c.in-Some.job) c.in-Some-of.command (section_seen c.section.result) done.0 _ _ _ _
-          (ap (option_map request_made) c.in-Some.is) (sym c.of.ensures ∙ c.in-Some-of.is) (sym c.in-None.ensures) c.section.ensures done.2,
+      works_on_input (g.F.FileSource.held c.args.files.now) (g.F.FileSource.fails_with c.args.files.now) _
+          (request_made c.in-Some.job) c.in-Some-of.command (section_seen c.section.result) done.0 _ _ _ _
+          (ap (option_map request_made) c.in-Some.is) (sym c.of.ensures
+          ∙ c.in-Some-of.is) (sym c.in-None.ensures) c.section.ensures done.2,
     )

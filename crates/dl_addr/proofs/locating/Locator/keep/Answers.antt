@@ -20,7 +20,9 @@ returns-then-is_empty c =
       grows = grows_none c.args.self.now.texts.items;
       count = refl;
       others = λ places units rows st i none. refl;
-      right = λ places units rows st count i r f. absurd (none_kept places units rows answered (c.answered_so_far-answered.ensures places units rows st) empty i r f);
+      right = λ places units rows st count i r f.
+          absurd (none_kept places units rows answered (c.answered_so_far-answered.ensures places units rows st) empty i
+          r f);
       some = tt;
     }
 
@@ -29,7 +31,9 @@ returns c =
     let answered = c.answered_so_far-answered.result.now in
     let old = c.args.self.now in
     let h = option_copied c.args.header in
-    let some : 0 < length answered = let not_zero = eqb-false (length answered) 0 (sym c.is_empty.ensures ∙ c.if-is_empty.false) in omega (arith, not_zero) in
+    let some : 0 < length answered =
+    let not_zero = eqb-false (length answered) 0 (sym c.is_empty.ensures ∙ c.if-is_empty.false) in
+    omega (arith, not_zero) in
     record {
       code = refl;
       style = refl;
@@ -39,9 +43,14 @@ returns c =
       finders = refl;
       grows = c.keep_all.ensures.grows;
       count = c.keep_all.ensures.len;
-      others = λ places units rows st i none. c.keep_all.ensures.others i (is_other places units rows answered (c.answered_so_far-answered.ensures places units rows st) i none);
+      others =
+          λ places units rows st i none. c.keep_all.ensures.others i
+          (is_other places units rows answered (c.answered_so_far-answered.ensures places units rows st) i none);
       right = on_ok c.keep_all.result c.keep_all.ensures.right (λ each places units rows st count.
-          is_kept places units rows answered (c.answered_so_far-answered.ensures places units rows st) c.keep_all.new.texts.items c.keep_all.new.kept.items (text_under old h)
-          (each (numbers places units rows answered (c.answered_so_far-answered.ensures places units rows st) old.kept.items count)));
-      some = on_err c.keep_all.result (λ places units rows st. some_first places units rows answered (c.answered_so_far-answered.ensures places units rows st) some);
+          is_kept places units rows answered (c.answered_so_far-answered.ensures places units rows st)
+          c.keep_all.new.texts.items c.keep_all.new.kept.items (text_under old h)
+          (each (numbers places units rows answered (c.answered_so_far-answered.ensures places units rows st)
+          old.kept.items count)));
+      some = on_err c.keep_all.result (λ places units rows st. some_first places units rows answered
+          (c.answered_so_far-answered.ensures places units rows st) some);
     }

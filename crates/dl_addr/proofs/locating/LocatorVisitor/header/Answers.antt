@@ -5,5 +5,9 @@ use Rattle.dl_addr.proofs.locating.LocatorVisitor.header.Goals as goal
 
 pub returns : goal.returns
 returns g c first start visits s =
-    goes_on first c.args.self.now (record c.args.self.now { unit = c.args.offset }) start (g.W.Write.contents c.args._output.now) visits (of_header c.args.offset c.args._header.now ∷ []) s
+    goes_on first c.args.self.now (record c.args.self.now {
+      unit =
+          c.args.offset;
+    }) start (g.W.Write.contents c.args._output.now) visits
+    (of_header c.args.offset c.args._header.now ∷ []) s
     (λ x n. refl) refl refl refl refl refl s.live refl refl (λ places units st. st)

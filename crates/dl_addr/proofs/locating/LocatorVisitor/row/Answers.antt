@@ -17,21 +17,36 @@ returns-then-takes g c first start visits s =
     let live = code_of first in
     let rows = rows_after [] visits in
     let r = c.args.row.now in
-    let is : unended rows ≡ [] → c.begins_live-is_live.result ≡ live r.address = λ e. c.begins_live-is_live.ensures live rows s.live e ∙ ap (λ code. is_code (option_copied code) r.address) s.code in
+    let is : unended rows ≡ [] → c.begins_live-is_live.result ≡ live r.address =
+    λ e. c.begins_live-is_live.ensures live rows s.live e
+    ∙ ap (λ code. is_code (option_copied code) r.address) s.code in
     let told : live_rows live (rows ++ r ∷ []) ≡ live_rows live rows ++ r ∷ [] =
-    c.takes.ensures.told live rows s.live is ∙ ap (λ (b : Bool). live_rows live rows ++ (if b then r ∷ [] else [])) c.if-takes.true in
-    goes_on first c.args.self.now (record c.args.self.now { live = c.takes.new.self; finders = c.row.new.self }) start (g.W.Write.contents c.args._output.now) visits (of_row r ∷ []) s
+    c.takes.ensures.told live rows s.live is
+    ∙ ap (λ (b : Bool). live_rows live rows ++ (if b then r ∷ [] else [])) c.if-takes.true in
+    goes_on first c.args.self.now (record c.args.self.now {
+      live = c.takes.new.self;
+      finders =
+          c.row.new.self;
+    }) start (g.W.Write.contents c.args._output.now) visits (of_row r ∷ []) s
     (λ x n. refl) refl refl refl refl refl (c.takes.ensures.goes_on live rows s.live is) refl refl
-    (λ places units st. subst (λ (l : List Row). Stand c.row.new.self places units l) (sym told) (c.row.ensures places units (live_rows live rows) st))
+    (λ places units st. subst (λ (l : List Row). Stand c.row.new.self places units l) (sym told)
+    (c.row.ensures places units (live_rows live rows) st))
 
 pub returns-else-takes : goal.returns-else-takes
 returns-else-takes g c first start visits s =
     let live = code_of first in
     let rows = rows_after [] visits in
     let r = c.args.row.now in
-    let is : unended rows ≡ [] → c.begins_live-is_live.result ≡ live r.address = λ e. c.begins_live-is_live.ensures live rows s.live e ∙ ap (λ code. is_code (option_copied code) r.address) s.code in
+    let is : unended rows ≡ [] → c.begins_live-is_live.result ≡ live r.address =
+    λ e. c.begins_live-is_live.ensures live rows s.live e
+    ∙ ap (λ code. is_code (option_copied code) r.address) s.code in
     let told : live_rows live (rows ++ r ∷ []) ≡ live_rows live rows =
-    c.takes.ensures.told live rows s.live is ∙ ap (λ (b : Bool). live_rows live rows ++ (if b then r ∷ [] else [])) c.if-takes.false ∙ append-nil (live_rows live rows) in
-    goes_on first c.args.self.now (record c.args.self.now { live = c.takes.new.self }) start (g.W.Write.contents c.args._output.now) visits (of_row r ∷ []) s
+    c.takes.ensures.told live rows s.live is
+    ∙ ap (λ (b : Bool). live_rows live rows ++ (if b then r ∷ [] else [])) c.if-takes.false
+    ∙ append-nil (live_rows live rows) in
+    goes_on first c.args.self.now (record c.args.self.now {
+      live =
+          c.takes.new.self;
+    }) start (g.W.Write.contents c.args._output.now) visits (of_row r ∷ []) s
     (λ x n. refl) refl refl refl refl refl (c.takes.ensures.goes_on live rows s.live is) refl refl
     (λ places units st. subst (λ (l : List Row). Stand c.args.self.now.finders places units l) (sym told) st)

@@ -1,4 +1,4 @@
-use Rattle.dl_cmd.proofs.CopyingLemmas.{stops_at_version}
+use Rattle.dl_cmd.proofs.CopierLemmas.{stops_at_version}
 use Rattle.dl_cmd.proofs.copying.CopierVisitor.foreign.Goals as goal
 
 pub returns : goal.returns

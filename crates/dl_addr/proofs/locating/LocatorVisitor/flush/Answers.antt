@@ -1,0 +1,6 @@
+use Rattle.dl_addr.proofs.LocatorLemmas.{settles}
+use Rattle.dl_addr.proofs.locating.LocatorVisitor.flush.Goals as goal
+
+pub returns : goal.returns
+returns g c flow first start visits s =
+    settles first c.args.self.now start (g.W.Write.contents c.args._output.now) visits flow s

@@ -1,5 +1,0 @@
-use Rattle.dl_addr.proofs.LocatorLemmas.{settles}
-use Rattle.dl_addr.proofs.locating.LocatorVisitor.settle.Goals as goal
-
-pub returns : goal.returns
-returns g c next first start visits s = settles first c.args.self.now start (g.W.Write.contents c.args._output.now) visits next s

@@ -1,0 +1,128 @@
+-- The command line of the program, as clap reads it.
+use Rattle.std.specs.Prelude.{◌≡◌, ℕ, List, false, [], ◌∷◌, Some, codes, true, pos}
+use Rattle.clap.specs.Words.{App, app_of, rule_of, Rule, Text, new_app, new_rule, with_rule, with_subcommand}
+use Rattle.clap.specs.Walk.{texts}
+use Rattle.clap.specs.declared.builder.arg.Arg.{Arg}
+use Rattle.clap.specs.declared.builder.command.Command.{Command}
+use Rattle.clap.specs.declared.builder.command.Command.TheViews.{out-Command}
+use Rattle.clap.specs.declared.builder.ArgAction.TheVariants.{Append, SetTrue}
+use Rattle.clap.specs.declared.builder.value_parser.ValueParser.TheVariants as vp
+
+-- `--big`
+abbrev pub big_rule : Rule
+big_rule = record (new_rule (codes "big")) { long = Some (codes "big"); action = Some SetTrue }
+
+-- `--line-str PATH`
+abbrev pub line_str_rule : Rule
+line_str_rule = record (new_rule (codes "line-str")) { long = Some (codes "line-str"); value_names = 1 }
+
+-- `--str PATH`
+abbrev pub str_rule : Rule
+str_rule = record (new_rule (codes "str")) { long = Some (codes "str"); value_names = 1 }
+
+-- `ADDRESS`
+abbrev pub address_rule : Rule
+address_rule = record (new_rule (codes "address")) { required = true; value_names = 1 }
+
+-- `--op N`, a whole number from 0 to 255, and 0 where it isn't given
+abbrev pub op_rule : Rule
+op_rule = record (new_rule (codes "op")) {
+  long = Some (codes "op");
+  value_names = 1;
+  parser = Some (vp.Signed (pos 0) (pos 255));
+  defaults = codes "0" ∷ [];
+}
+
+-- `FILE`, which excludes other arguments
+abbrev pub file_rule : Rule
+file_rule = record (new_rule (codes "file")) { value_names = 1; is_free = false }
+
+-- `FILE` of `addr`, which is wanted
+abbrev pub addr_file_rule : Rule
+addr_file_rule = record (new_rule (codes "file")) { required = true; value_names = 1 }
+
+-- `ADDRESS`, any number of them
+abbrev pub addresses_rule : Rule
+addresses_rule = record (new_rule (codes "address")) { action = Some Append; value_names = 1 }
+
+-- `--base ADDRESS`
+abbrev pub base_rule : Rule
+base_rule = record (new_rule (codes "base")) { long = Some (codes "base"); value_names = 1 }
+
+-- `--id`, without a value
+abbrev pub switch_rule : Text → Rule
+switch_rule id = record (new_rule id) { long = Some id; action = Some SetTrue }
+
+-- the same, or by its letter
+abbrev pub letter_rule : Text → (letter : ℕ) → Rule
+letter_rule id letter = record (switch_rule id) { short = Some letter }
+
+-- where the section comes from
+abbrev pub with_input : App → App
+with_input a = with_rule (with_rule a big_rule) file_rule
+
+-- the same, and where its string sections come from
+abbrev pub with_strings : App → App
+with_strings a = with_rule (with_rule (with_rule (with_rule a big_rule) line_str_rule) str_rule) file_rule
+
+-- how answers are printed
+abbrev pub with_printing : App → App
+with_printing a =
+    with_rule (with_rule (with_rule a (letter_rule (codes "addresses") 97)) (letter_rule (codes "basenames") 115))
+    (switch_rule (codes "json"))
+
+-- what addresses are asked for, and how they are answered
+abbrev pub with_settings : App → App
+with_settings a =
+    with_rule (with_rule (with_rule (with_printing a) (switch_rule (codes "hex"))) base_rule)
+    (switch_rule (codes "all"))
+
+abbrev pub with_addresses : App → App
+with_addresses a =
+    with_rule (with_rule (with_rule (with_rule (with_rule (with_settings a) big_rule) line_str_rule) str_rule)
+    addr_file_rule) addresses_rule
+
+-- `addr [-a] [-s] [--json] [--hex] [--base ADDRESS] [--all] [--big] [--line-str PATH] [--str PATH] FILE [ADDRESS]..`
+abbrev pub addr_app : App
+addr_app = with_addresses (new_app (codes "addr"))
+
+-- `dump [--big] [--line-str PATH] [--str PATH] [FILE]`
+abbrev pub dump_app : App
+dump_app = with_strings (new_app (codes "dump"))
+
+-- `check [--big] [FILE]`
+abbrev pub check_app : App
+check_app = with_input (new_app (codes "check"))
+
+-- `find ADDRESS [--op N] [--big] [--line-str PATH] [--str PATH] [FILE]`
+abbrev pub find_app : App
+find_app = with_strings (with_rule (with_rule (new_app (codes "find")) address_rule) op_rule)
+
+-- `copy [--big] [FILE]`
+abbrev pub copy_app : App
+copy_app = with_input (new_app (codes "copy"))
+
+-- `dwline`, which has a version and wants a subcommand
+abbrev pub top_app : App
+top_app =
+    let a = new_app (codes "dwline") in
+    record a { top = record a.top { has_version = true; subcommand_required = true } }
+
+-- the whole program
+abbrev pub command_line : App
+command_line =
+    with_subcommand
+    (with_subcommand (with_subcommand (with_subcommand (with_subcommand top_app addr_app.top) dump_app.top)
+    check_app.top) find_app.top) copy_app.top
+
+-- a command without global arguments, of which a parse reads this
+abbrev pub IsApp : App → Command → Type 0
+IsApp a c = (app_of c ≡ a) × ((out-Command c).has_globals ≡ false)
+
+-- an argument that isn't global, of which a parse reads this
+abbrev pub IsRule : Rule → Arg → Type 0
+IsRule r a = (rule_of a ≡ r) × (a.global ≡ false)
+
+-- it may not be used with those of these ids
+abbrev pub Excludes : List Text → Arg → Type 0
+Excludes ids a = texts a.conflicts.items ≡ ids

@@ -1,0 +1,64 @@
+//! What the words of the command line ask for.
+
+/// What the program is to do. Paths and addresses are the words as they stand.
+///
+/// Where the path of an ELF file is given, its words say neither an order nor the path of a string section.
+#[derive(Debug, Drop, PartialEq, Eq)]
+pub enum Job<'a> {
+    /// Print all units.
+    Dump {
+        /// The path of the ELF file; None where the section comes on standard input.
+        file: Option<&'a str>,
+        /// The section is big-endian.
+        big: bool,
+        /// The path of the section `.debug_line_str`.
+        line_str: Option<&'a str>,
+        /// The path of the section `.debug_str`.
+        strings: Option<&'a str>,
+    },
+    /// Count units, sequences and rows.
+    Check {
+        file: Option<&'a str>,
+        big: bool,
+    },
+    /// Look up an address.
+    Find {
+        file: Option<&'a str>,
+        big: bool,
+        address: Option<&'a str>,
+        /// The operation index.
+        op: u8,
+        line_str: Option<&'a str>,
+        strings: Option<&'a str>,
+    },
+    /// Write all units anew.
+    Copy {
+        file: Option<&'a str>,
+        big: bool,
+    },
+    /// Print where addresses are in the source.
+    Addr(AddrWords<'a>),
+}
+
+/// The words of `addr`. A path `-` of an ELF file stands for a section on standard input.
+#[derive(Debug, Drop, PartialEq, Eq)]
+pub struct AddrWords<'a> {
+    pub file: Option<&'a str>,
+    /// The addresses; where there is none, they come on standard input.
+    pub addresses: Vec<&'a str>,
+    /// Digits without `0x` are hexadecimal too.
+    pub hex: bool,
+    /// What is subtracted from each address.
+    pub base: Option<&'a str>,
+    /// Each address is printed before its location.
+    pub with_addresses: bool,
+    /// Paths are printed by their last component alone.
+    pub basenames: bool,
+    /// Answers are printed as JSON objects, each with its address.
+    pub json: bool,
+    /// Sequences that begin outside executable sections count too.
+    pub all: bool,
+    pub big: bool,
+    pub line_str: Option<&'a str>,
+    pub strings: Option<&'a str>,
+}

@@ -1,0 +1,14 @@
+//! The words of the command line, and the addresses that words and lines say.
+#![tactic(auto)]
+
+mod address;
+mod asked_lines;
+mod command_line;
+mod job;
+mod line;
+mod words;
+
+pub use address::{read_address, read_hex_address};
+pub use asked_lines::{AskedLines, read_asked};
+pub use job::{AddrWords, Job};
+pub use words::{read_job, word_status};
