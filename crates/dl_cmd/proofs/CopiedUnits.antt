@@ -39,27 +39,27 @@ use Rattle.dl_cmd.proofs.Fronts.{none_is_some, value_same}
 abbrev Small : Operation → Type 0
 Small (op.SetFile n) = n < 2 ^ 64
 Small (op.SetColumn n) = n < 2 ^ 64
-Small (op.Isa n) = n < 2 ^ 64
-Small (op.Discriminator n) = n < 2 ^ 64
+Small (op.SetIsa n) = n < 2 ^ 64
+Small (op.SetDiscriminator n) = n < 2 ^ 64
 Small o = Unit {0}
 
 small_of : (order : Order) (h : Params) (o : Operation) (w : List ℕ) → SpellsOperation order h o w → Small o
 small_of order h (op.SetFile n) w s = s.fits
 small_of order h (op.SetColumn n) w s = s.fits
-small_of order h (op.Isa n) w s = s.fits
-small_of order h (op.Discriminator n) w s = s.fits
+small_of order h (op.SetIsa n) w s = s.fits
+small_of order h (op.SetDiscriminator n) w s = s.fits
 small_of order h (op.Special b) w s = tt
 small_of order h (op.AdvanceLine i) w s = tt
-small_of order h (op.Address n) w s = tt
+small_of order h (op.SetAddress n) w s = tt
 small_of order h op.Copy w s = tt
 small_of order h (op.AdvancePc n) w s = tt
-small_of order h op.Negate w s = tt
-small_of order h op.Block w s = tt
-small_of order h op.ConstAdd w s = tt
-small_of order h (op.FixedAdd n) w s = tt
-small_of order h op.Prologue w s = tt
-small_of order h op.Epilogue w s = tt
-small_of order h op.End w s = tt
+small_of order h op.NegateStatement w s = tt
+small_of order h op.SetBasicBlock w s = tt
+small_of order h op.ConstAddPc w s = tt
+small_of order h (op.FixedAdvancePc n) w s = tt
+small_of order h op.SetPrologueEnd w s = tt
+small_of order h op.SetEpilogueBegin w s = tt
+small_of order h op.EndSequence w s = tt
 small_of order h op.Skipped w s = tt
 
 all_small : (order : Order) (h : Params) (os : List Operation) (w : List ℕ) → SpellsProgram order h os w
@@ -82,11 +82,11 @@ column_small (op.SetColumn m) n small e = subst (λ (k : ℕ). k < 2 ^ 64) (valu
 column_small o n small e = absurd (none_is_some e)
 
 isa_small : SetsSmall set_isa
-isa_small (op.Isa m) n small e = subst (λ (k : ℕ). k < 2 ^ 64) (value_same m n e) small
+isa_small (op.SetIsa m) n small e = subst (λ (k : ℕ). k < 2 ^ 64) (value_same m n e) small
 isa_small o n small e = absurd (none_is_some e)
 
 discriminator_small : SetsSmall set_discriminator
-discriminator_small (op.Discriminator m) n small e = subst (λ (k : ℕ). k < 2 ^ 64) (value_same m n e) small
+discriminator_small (op.SetDiscriminator m) n small e = subst (λ (k : ℕ). k < 2 ^ 64) (value_same m n e) small
 discriminator_small o n small e = absurd (none_is_some e)
 
 module _ (sets : Operation → Option ℕ) (each : SetsSmall sets) where

@@ -13,7 +13,7 @@ use Rattle.dl_rows.specs.declared.reader.Reader.{Reader}
 use Rattle.dl_rows.specs.LineUnit.{events}
 use Rattle.dl_rows.specs.Reading.{told, FeedsBehind}
 use Rattle.dl_rows.specs.ReaderStands.{StandsFor}
-use Rattle.dl_cmd.specs.declared.section.Units.{Units}
+use Rattle.dl_cmd.specs.declared.section.SectionUnits.{SectionUnits}
 use Rattle.dl_cmd.specs.Told.{ends, Counted}
 use Rattle.dl_cmd.specs.UnitsRead.{UnitsAre, counted, row_told, rows_told, is_foreign}
 use Rattle.dl_cmd.proofs.EventLemmas.{rows_told-append, rows_told-rows, none_told, no_version}
@@ -37,7 +37,7 @@ or_true : (x : Bool) → (x || true) ≡ true
 or_true true = refl
 or_true false = refl
 
-module _ (u : Units) where
+module _ (u : SectionUnits) where
   foreign_more : (e : Event) (x : Bool) → u.is_foreign ≡ x → (counted e u).is_foreign ≡ (x || is_foreign (told e))
   foreign_more (event.Foreign version) x is = sym (or_true x)
   foreign_more (event.Row r) x is = is ∙ sym (or_false x)
@@ -55,8 +55,8 @@ module _ (u : Units) where
   same_but event.End = refl
   same_but event.NoMemory = refl
 
-module _ (order : Order) (u : Units) (t piece : List ℕ) (units : List (List ℕ)) (b : List ℕ)
-    (are : UnitsAre order u t units b) (v : Units) (own : v.reader.order ≡ order)
+module _ (order : Order) (u : SectionUnits) (t piece : List ℕ) (units : List (List ℕ)) (b : List ℕ)
+    (are : UnitsAre order u t units b) (v : SectionUnits) (own : v.reader.order ≡ order)
     (short : length t + length piece < 2 ^ 64) where
   -- the reader took bytes and told rows, and then an event that is none; v: with the rows' counts
   pub more_read : (rows : List Row) (fed : Fed) → v ≡ record u {
@@ -71,7 +71,7 @@ module _ (order : Order) (u : Units) (t piece : List ℕ) (units : List (List �
       let x = take fed.used piece in
       let c = b ++ x in
       let e = fed.event in
-      let w : Units = counted e v in
+      let w : SectionUnits = counted e v in
       let but : w ≡ record v { is_foreign = w.is_foreign } = same_but v e in
       let before = events order b ++ map event.Row rows in
       let rows_are : rows_told (events order c) ≡ rows_told (events order b) ++ rows =
@@ -104,15 +104,15 @@ module _ (order : Order) (u : Units) (t piece : List ℕ) (units : List (List �
           each =
               are.has.each;
         };
-        order_is = ap (λ (z : Units). z.order) but ∙ ap (λ (z : Units). z.order) same ∙ are.order_is;
-        reader_order = ap (λ (z : Units). z.reader.order) but ∙ own;
-        stands = subst (λ (r : Reader). StandsFor r c) (sym (ap (λ (z : Units). z.reader) but)) f.stands;
-        offset = ap (λ (z : Units). z.offset) but ∙ ap (λ (z : Units). z.offset) same ∙ are.offset;
-        foreign = foreign_more v e _ (ap (λ (z : Units). z.is_foreign) same ∙ are.foreign) ∙ sym foreign_are;
+        order_is = ap (λ (z : SectionUnits). z.order) but ∙ ap (λ (z : SectionUnits). z.order) same ∙ are.order_is;
+        reader_order = ap (λ (z : SectionUnits). z.reader.order) but ∙ own;
+        stands = subst (λ (r : Reader). StandsFor r c) (sym (ap (λ (z : SectionUnits). z.reader) but)) f.stands;
+        offset = ap (λ (z : SectionUnits). z.offset) but ∙ ap (λ (z : SectionUnits). z.offset) same ∙ are.offset;
+        foreign = foreign_more v e _ (ap (λ (z : SectionUnits). z.is_foreign) same ∙ are.foreign) ∙ sym foreign_are;
         sequences =
-            ap (λ (z : Units). z.sequences) but ∙ counts.of_ends (omega (arith, are.sequences, size, all_ends, few))
+            ap (λ (z : SectionUnits). z.sequences) but ∙ counts.of_ends (omega (arith, are.sequences, size, all_ends, few))
             ∙ ap (λ (n : ℕ). n + ends rows) are.sequences ∙ sym all_ends;
-        rows = ap (λ (z : Units). z.rows) but ∙ counts.of_rows (omega (arith, are.rows, size, lengths))
+        rows = ap (λ (z : SectionUnits). z.rows) but ∙ counts.of_rows (omega (arith, are.rows, size, lengths))
             ∙ ap (λ (n : ℕ). n + length rows) are.rows ∙ sym lengths;
-        summary = ap (λ (z : Units). z.summary) but ∙ ap (λ (z : Units). z.summary) same ∙ are.summary;
+        summary = ap (λ (z : SectionUnits). z.summary) but ∙ ap (λ (z : SectionUnits). z.summary) same ∙ are.summary;
       }

@@ -23,7 +23,7 @@ use Rattle.dl_rows.specs.ReaderAnswers.{FedBehind}
 use Rattle.dl_cmd.specs.declared.fault.RunFault.{RunFault}
 use Rattle.dl_cmd.specs.declared.fault.RunFault.TheVariants as fault
 use Rattle.dl_rows.specs.declared.sink.Flow.TheVariants as flow
-use Rattle.dl_cmd.specs.declared.section.Units.{Units}
+use Rattle.dl_cmd.specs.declared.section.SectionUnits.{SectionUnits}
 use Rattle.dl_print.specs.Counts.{add}
 use Rattle.dl_cmd.specs.Section.{Visit, of_row, HasUnits, HasBegun, AddsCell, header_of, event_visits, visits}
 use Rattle.dl_cmd.specs.Section.{units_visits, section_visits}
@@ -36,7 +36,7 @@ use Rattle.dl_cmd.proofs.CountLemmas.{more_read}
 
 -- of the piece all but the rest were read
 pub record FedUpTo {S : Type 0} (story : Story S) (order : Order) (t piece : List ℕ) (first : S)
-    (start : Option (List ℕ)) (u : Units) (new : S) (now : Option (List ℕ)) (rest : List ℕ) : Type 0 where
+    (start : Option (List ℕ)) (u : SectionUnits) (new : S) (now : Option (List ℕ)) (rest : List ℕ) : Type 0 where
   pub n : ℕ
   pub within : n ≤ length piece
   pub rest_is : rest ≡ drop n piece
@@ -61,8 +61,8 @@ told_visits offset h (event.Foreign version) = refl
 told_visits offset h (event.Row r) = refl
 
 module _ {S : Type 0} (story : Story S) (order : Order) (t piece : List ℕ) (first : S) (start : Option (List ℕ))
-    (u : Units) (new : S) (now : Option (List ℕ)) (rest : List ℕ)
-    (so : FedUpTo story order t piece first start u new now rest) (short : length t + length piece < 2 ^ 64) (v : Units)
+    (u : SectionUnits) (new : S) (now : Option (List ℕ)) (rest : List ℕ)
+    (so : FedUpTo story order t piece first start u new now rest) (short : length t + length piece < 2 ^ 64) (v : SectionUnits)
     (own : v.reader.order ≡ u.reader.order) where
   abbrev pub read_so_far : List ℕ
   read_so_far = t ++ take so.n piece
@@ -145,7 +145,7 @@ module _ {S : Type 0} (story : Story S) (order : Order) (t piece : List ℕ) (fi
       ∙ sym (append_assoc visits_before (map of_row rows) (flat_map (visits_of used) more))
 
   -- the visitor stopped at a row
-  pub stops_at_row : (w : S) (after : Option (List ℕ)) (x : Units) (f : RunFault)
+  pub stops_at_row : (w : S) (after : Option (List ℕ)) (x : SectionUnits) (f : RunFault)
       → StopsAtRow story so.b rest u v new w now after f
       → UnitsFed story order (t ++ piece) first w start after x (Err f)
   stops_at_row w after x f s =
@@ -176,7 +176,7 @@ module _ {S : Type 0} (story : Story S) (order : Order) (t piece : List ℕ) (fi
   -- w, after: the visitor and the writer, once the rows of the call were told
   module _ (w : S) (after : Option (List ℕ)) where
     -- a fault
-    pub damaged : (f : Fault) (g : RunFault) (x : Units) → RowsOf story so.b rest u v new w now after (Err f)
+    pub damaged : (f : Fault) (g : RunFault) (x : SectionUnits) → RowsOf story so.b rest u v new w now after (Err f)
         → g ≡ fault.Damage (add v.offset f.offset) f.kind
         → UnitsFed story order (t ++ piece) first w start after x (Err g)
     damaged f g x r is =
@@ -193,7 +193,7 @@ module _ {S : Type 0} (story : Story S) (order : Order) (t piece : List ℕ) (fi
               let place = fails.refused.place in
               let has = parted used in
               let offset_is : v.offset ≡ length (concat so.units) =
-              ap (λ (z : Units). z.offset) r.same ∙ so.are.offset in
+              ap (λ (z : SectionUnits). z.offset) r.same ∙ so.are.offset in
               let size : length (concat so.units) + f.offset < 2 ^ 64 =
               omega (
                 arith,
@@ -240,7 +240,7 @@ module _ {S : Type 0} (story : Story S) (order : Order) (t piece : List ℕ) (fi
       pub rows_told : story.tells first w start after visits_so_far
       rows_told = r.hears first start visits_before so.tells
 
-      abbrev pub v_after : Units
+      abbrev pub v_after : SectionUnits
       v_after = counted fed.event v
 
       pub are_after : UnitsAre order v_after (read_so_far ++ take fed.used rest) so.units (with_bytes fed.used)
@@ -259,13 +259,13 @@ module _ {S : Type 0} (story : Story S) (order : Order) (t piece : List ℕ) (fi
       pub told_event : event_visits v.offset (header_of v.reader.order (with_bytes fed.used)) fed.event
           ≡ visits_of fed.used fed.event
       told_event =
-          ap (λ (z : Units). event_visits z.offset (header_of v.reader.order (with_bytes fed.used)) fed.event) r.same
+          ap (λ (z : SectionUnits). event_visits z.offset (header_of v.reader.order (with_bytes fed.used)) fed.event) r.same
 
       -- an event was told
       pub goes_on : (new2 : S) (now2 : Option (List ℕ))
           → story.tells first new2 start now2 (visits_so_far
           ++ event_visits v.offset (header_of v.reader.order (with_bytes fed.used)) fed.event)
-          → (x : Units) → x ≡ v_after
+          → (x : SectionUnits) → x ≡ v_after
           → FedUpTo story order t piece first start x new2 now2 (take (length rest - fed.used) (drop fed.used rest))
       goes_on new2 now2 tells x same = record {
         n = so.n + fed.used;
@@ -273,7 +273,7 @@ module _ {S : Type 0} (story : Story S) (order : Order) (t piece : List ℕ) (fi
         rest_is = left ∙ ap (drop fed.used) so.rest_is ∙ drop-drop fed.used so.n piece;
         units = so.units;
         b = with_bytes fed.used;
-        are = subst (λ (z : Units). UnitsAre order z (t ++ take (so.n + fed.used) piece) so.units (with_bytes fed.used))
+        are = subst (λ (z : SectionUnits). UnitsAre order z (t ++ take (so.n + fed.used) piece) so.units (with_bytes fed.used))
             (sym same) (subst (λ (l : List ℕ). UnitsAre order v_after l so.units (with_bytes fed.used))
             (joined fed.used) are_after);
         tells = subst (λ (l : List Visit). story.tells first new2 start now2 l)
@@ -281,7 +281,7 @@ module _ {S : Type 0} (story : Story S) (order : Order) (t piece : List ℕ) (fi
       }
 
       -- the visitor stopped at it
-      pub stops_told : (new2 : S) (now2 : Option (List ℕ)) (x : Units) (f : RunFault)
+      pub stops_told : (new2 : S) (now2 : Option (List ℕ)) (x : SectionUnits) (f : RunFault)
           → StopsIn story first new2 start now2 visits_so_far
           (event_visits v.offset (header_of v.reader.order (with_bytes fed.used)) fed.event) f
           → UnitsFed story order (t ++ piece) first new2 start now2 x (Err f)
@@ -321,7 +321,7 @@ module _ {S : Type 0} (story : Story S) (order : Order) (t piece : List ℕ) (fi
           ap (λ (l : List ℕ). read_so_far ++ l) (take_all fed.used rest (omega (arith, holds.0))) ∙ all_read in (
             so.units,
             with_bytes fed.used,
-            subst (λ (z : Units). UnitsAre order z (t ++ piece) so.units (with_bytes fed.used)) same
+            subst (λ (z : SectionUnits). UnitsAre order z (t ++ piece) so.units (with_bytes fed.used)) same
                 (subst (λ (l : List ℕ). UnitsAre order v_after l so.units (with_bytes fed.used)) over are_after),
             no_unit_begins order (with_bytes fed.used) feeds.answered.in_unit (λ unit. let some = holds.1 unit in
                 omega (arith, some, zero)),
@@ -330,7 +330,7 @@ module _ {S : Type 0} (story : Story S) (order : Order) (t piece : List ℕ) (fi
           )
 
       -- memory was refused
-      pub unmet : fed.event ≡ event.NoMemory → (x : Units)
+      pub unmet : fed.event ≡ event.NoMemory → (x : SectionUnits)
           → UnitsFed story order (t ++ piece) first w start after x (Err fault.NoMemory)
       unmet is x =
           let holds = subst (λ (e : Event). EventHoldsBehind order (events order so.b ++ map event.Row r.rows) so.b rest
@@ -361,7 +361,7 @@ module _ {S : Type 0} (story : Story S) (order : Order) (t piece : List ℕ) (fi
       pub are_ended : fed.event ≡ event.End
           → UnitsAre order v (read_so_far ++ take fed.used rest) so.units (with_bytes fed.used)
       are_ended is =
-          subst (λ (z : Units). UnitsAre order z (read_so_far ++ take fed.used rest) so.units (with_bytes fed.used))
+          subst (λ (z : SectionUnits). UnitsAre order z (read_so_far ++ take fed.used rest) so.units (with_bytes fed.used))
           (ap (λ (e : Event). counted e v) is) are_after
 
       pub still_small : length (read_so_far ++ take fed.used rest) < 2 ^ 64

@@ -11,7 +11,7 @@ use Rattle.dl_cmd.specs.declared.fault.RunFault.{RunFault}
 use Rattle.dl_cmd.specs.declared.fault.RunFault.TheVariants as fault
 use Rattle.dl_rows.specs.declared.sink.Flow.{Flow}
 use Rattle.dl_rows.specs.declared.sink.Flow.TheVariants as flow
-use Rattle.dl_cmd.specs.declared.section.Units.{Units}
+use Rattle.dl_cmd.specs.declared.section.SectionUnits.{SectionUnits}
 use Rattle.dl_print.specs.declared.summary.Summary.{Summary}
 use Rattle.dl_cmd.specs.Section.{HasUnits, HasBegun, NoUnitBegins, EndsAs, section_visits}
 use Rattle.dl_cmd.specs.Visiting.{Story, VisitorStops, Settled, Ran}
@@ -19,7 +19,7 @@ use Rattle.dl_cmd.specs.UnitsRead.{UnitsAre, ReaderStops, Worked, Finishes}
 
 -- the visitor was told of t
 pub record ToldOf {S : Type 0} (story : Story S) (order : Order) (t : List ℕ) (first new : S)
-    (start now : Option (List ℕ)) (u : Units) : Type 0 where
+    (start now : Option (List ℕ)) (u : SectionUnits) : Type 0 where
   pub units : List (List ℕ)
   pub b : List ℕ
   pub are : UnitsAre order u t units b
@@ -29,7 +29,7 @@ pub record ToldOf {S : Type 0} (story : Story S) (order : Order) (t : List ℕ) 
 
 -- at most `limit` bytes were read, and `left` more may come
 pub record ReadSo {S : Type 0} (story : Story S) (order : Order) (limit : ℕ) (old input : Option (List ℕ))
-    (first new : S) (start now : Option (List ℕ)) (u : Units) (left : ℕ) : Type 0 where
+    (first new : S) (start now : Option (List ℕ)) (u : SectionUnits) (left : ℕ) : Type 0 where
   pub t : List ℕ
   pub read : Consumes old input t
   pub within : length t + left ≡ limit
@@ -37,7 +37,7 @@ pub record ReadSo {S : Type 0} (story : Story S) (order : Order) (limit : ℕ) (
       → ToldOf story order t first new start now u
 
 module _ {S : Type 0} (story : Story S) (order : Order) (limit : ℕ) (old input : Option (List ℕ)) (first new : S)
-    (start now : Option (List ℕ)) (u : Units) (left : ℕ)
+    (start now : Option (List ℕ)) (u : SectionUnits) (left : ℕ)
     (so : ReadSo story order limit old input first new start now u left) where
   -- what `read_units` owes
   abbrev pub Owed : (input2 : Option (List ℕ)) (new2 : S) (now2 : Option (List ℕ)) → Result Summary RunFault → Type 0
@@ -120,7 +120,7 @@ module _ {S : Type 0} (story : Story S) (order : Order) (limit : ℕ) (old input
     cut_is : take limit (so.t ++ piece) ≡ so.t ++ take left piece
     cut_is = ap (λ (n : ℕ). take n (so.t ++ piece)) (sym so.within) ∙ take-append-add so.t piece left
 
-    module _ (new2 : S) (now2 : Option (List ℕ)) (u2 : Units) where
+    module _ (new2 : S) (now2 : Option (List ℕ)) (u2 : SectionUnits) where
       has_cut : (units : List (List ℕ)) (rest : List ℕ) → HasUnits order (so.t ++ take left piece) units rest
           → HasUnits order (take limit (so.t ++ piece)) units rest
       has_cut units rest has = subst (λ (l : List ℕ). HasUnits order l units rest) (sym cut_is) has

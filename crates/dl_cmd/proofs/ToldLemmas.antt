@@ -18,7 +18,7 @@ use Rattle.dl_rows.specs.ReaderAnswers.{FedBehind, RowsFed}
 use Rattle.dl_rows.specs.Reading.{SinkAt, SinkBehind}
 use Rattle.dl_cmd.specs.declared.fault.RunFault.{RunFault}
 use Rattle.dl_cmd.specs.declared.section.Told.{Told}
-use Rattle.dl_cmd.specs.declared.section.Units.{Units}
+use Rattle.dl_cmd.specs.declared.section.SectionUnits.{SectionUnits}
 use Rattle.dl_cmd.specs.Section.{Visit, of_row}
 use Rattle.dl_cmd.specs.Told.{ends, Counted, HeardRows, told_story, NoRow, RowsOf, StopsAtRow}
 use Rattle.dl_cmd.specs.Visiting.{Story, Stopped, Hears}
@@ -109,7 +109,7 @@ module _ {W V : Type 0} (story : Story V) (contents : W → Option (List ℕ)) w
     at event.NoMemory is told = absurd (none_some told.fails some)
 
   -- w, after: what the visitor and the writer end as, where the sink still holds them
-  pub all_told : (b piece : List ℕ) (old : Units) (reader : Reader) (first sink : Told W V) (w : V) (now : W)
+  pub all_told : (b piece : List ℕ) (old : SectionUnits) (reader : Reader) (first sink : Told W V) (w : V) (now : W)
       (fed : Result Fed Fault) → sink.failed ≡ None → reader.order ≡ old.reader.order
       → first.rows ≡ old.rows → first.sequences ≡ old.sequences
       → RowsFed (told_story story contents first) old.reader.order b piece [] fed reader sink
@@ -136,7 +136,7 @@ module _ {W V : Type 0} (story : Story V) (contents : W → Option (List ℕ)) w
         no_row = so.0;
       }
 
-  pub stopped_told : (b piece : List ℕ) (old new : Units) (first sink : Told W V) (w : V) (now : W) (f : RunFault)
+  pub stopped_told : (b piece : List ℕ) (old new : SectionUnits) (first sink : Told W V) (w : V) (now : W) (f : RunFault)
       (fed : Result Fed Fault) → sink.failed ≡ Some f → new.reader.order ≡ old.reader.order
       → RowsFed (told_story story contents first) old.reader.order b piece [] fed new.reader sink
       → (first.visitor.ghost_name ≡ sink.visitor.ghost_name → w ≡ sink.visitor.now)

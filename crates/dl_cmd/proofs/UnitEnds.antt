@@ -14,7 +14,7 @@ use Rattle.dl_rows.specs.ReaderStands.{StandsFor}
 use Rattle.dl_cmd.specs.declared.fault.RunFault.{RunFault}
 use Rattle.dl_rows.specs.declared.sink.Flow.{Flow}
 use Rattle.dl_rows.specs.declared.sink.Flow.TheVariants as flow
-use Rattle.dl_cmd.specs.declared.section.Units.{Units}
+use Rattle.dl_cmd.specs.declared.section.SectionUnits.{SectionUnits}
 use Rattle.dl_cmd.specs.Section.{Visit, HasUnits}
 use Rattle.dl_cmd.specs.Section.{end_visits, section_visits}
 use Rattle.dl_cmd.specs.Told.{RowsOf}
@@ -25,8 +25,8 @@ use Rattle.dl_cmd.proofs.FeedLemmas.{FedUpTo, all_read, are_after, feeds, joined
 use Rattle.dl_cmd.proofs.FeedLemmas.{visits_so_far, with_bytes}
 
 module _ {S : Type 0} (story : Story S) (order : Order) (t piece : List ℕ) (first : S) (start : Option (List ℕ))
-    (u : Units) (new : S) (now : Option (List ℕ)) (rest : List ℕ)
-    (so : FedUpTo story order t piece first start u new now rest) (short : length t + length piece < 2 ^ 64) (v : Units)
+    (u : SectionUnits) (new : S) (now : Option (List ℕ)) (rest : List ℕ)
+    (so : FedUpTo story order t piece first start u new now rest) (short : length t + length piece < 2 ^ 64) (v : SectionUnits)
     (own : v.reader.order ≡ u.reader.order) (w : S) (after : Option (List ℕ)) (fed : Fed)
     (r : RowsOf story so.b rest u v new w now after (Ok fed)) where
   -- the bytes of the current unit
@@ -76,7 +76,7 @@ module _ {S : Type 0} (story : Story S) (order : Order) (t piece : List ℕ) (fi
       }
 
   -- the visitor wants the next unit
-  pub next_unit : fed.event ≡ event.End → (new2 : S) (now2 : Option (List ℕ)) (x : Units)
+  pub next_unit : fed.event ≡ event.End → (new2 : S) (now2 : Option (List ℕ)) (x : SectionUnits)
       → UnitsAre order x (so_far ++ take fed.used rest) units_after []
       → (n : Flow) → n ≡ flow.On
       → GoesOn story first new2 start now2 (visits_of_rows ++ end_visits v.reader.order bytes) n
@@ -97,7 +97,7 @@ module _ {S : Type 0} (story : Story S) (order : Order) (t piece : List ℕ) (fi
   }
 
   -- it wants nothing more
-  pub no_more : fed.event ≡ event.End → (new2 : S) (now2 : Option (List ℕ)) (x : Units)
+  pub no_more : fed.event ≡ event.End → (new2 : S) (now2 : Option (List ℕ)) (x : SectionUnits)
       → UnitsAre order x (so_far ++ take fed.used rest) units_after []
       → (n : Flow) → n ≡ flow.Stop
       → GoesOn story first new2 start now2 (visits_of_rows ++ end_visits v.reader.order bytes) n
@@ -113,7 +113,7 @@ module _ {S : Type 0} (story : Story S) (order : Order) (t piece : List ℕ) (fi
   )
 
   -- it stopped at the end
-  pub stops_at_end : fed.event ≡ event.End → (new2 : S) (now2 : Option (List ℕ)) (x : Units) (f : RunFault)
+  pub stops_at_end : fed.event ≡ event.End → (new2 : S) (now2 : Option (List ℕ)) (x : SectionUnits) (f : RunFault)
       → StopsIn story first new2 start now2 visits_of_rows (end_visits v.reader.order bytes) f
       → UnitsFed story order (t ++ piece) first new2 start now2 x (Err f)
   stops_at_end is new2 now2 x f s = (

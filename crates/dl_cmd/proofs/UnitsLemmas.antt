@@ -22,7 +22,7 @@ use Rattle.dl_rows.specs.Runs.{Sound}
 use Rattle.dl_rows.proofs.ReaderLemmas.{within_here}
 use Rattle.dl_cmd.specs.declared.fault.RunFault.{RunFault}
 use Rattle.dl_cmd.specs.declared.fault.RunFault.TheVariants as fault
-use Rattle.dl_cmd.specs.declared.section.Units.{Units}
+use Rattle.dl_cmd.specs.declared.section.SectionUnits.{SectionUnits}
 use Rattle.dl_print.specs.declared.summary.Summary.{Summary}
 use Rattle.dl_print.specs.Counts.{add, with_unit}
 use Rattle.dl_cmd.specs.Section.{HasUnits, NoUnitBegins, header_of, summary_of}
@@ -49,7 +49,7 @@ same_summary : {s t : Summary} → s.units ≡ t.units → s.skipped ≡ t.skipp
     → s ≡ t
 same_summary {s} {t} a b c d = rw (a, b, c, d) refl
 
-module _ (order : Order) (u : Units) (t : List ℕ) (units : List (List ℕ)) (b : List ℕ)
+module _ (order : Order) (u : SectionUnits) (t : List ℕ) (units : List (List ℕ)) (b : List ℕ)
     (are : UnitsAre order u t units b) (is : IsUnit order b) (short : length t < 2 ^ 64) where
   own : Bool → ℕ
   own x = cond (not x) 1 0
@@ -117,7 +117,7 @@ module _ (order : Order) (u : Units) (t : List ℕ) (units : List (List ℕ)) (b
       ∙ sym (ap length (concat-push units b))
 
   -- after the unit
-  pub left_behind : (new : Units) → new.order ≡ order → StandsFor new.reader [] → new.reader.order ≡ order
+  pub left_behind : (new : SectionUnits) → new.order ≡ order → StandsFor new.reader [] → new.reader.order ≡ order
       → new.offset ≡ add u.offset (length b) → new.is_foreign ≡ false → new.sequences ≡ 0 → new.rows ≡ 0
       → new.summary ≡ with_unit u.is_foreign u.sequences u.rows u.summary → UnitsAre order new t (units ++ b ∷ []) []
   left_behind new own stands same offset foreign sequences rows summary = record {
@@ -134,7 +134,7 @@ module _ (order : Order) (u : Units) (t : List ℕ) (units : List (List ℕ)) (b
 
 -- ---- where the bytes are over
 
-module _ (order : Order) (u : Units) (t : List ℕ) (units : List (List ℕ)) (b : List ℕ)
+module _ (order : Order) (u : SectionUnits) (t : List ℕ) (units : List (List ℕ)) (b : List ℕ)
     (are : UnitsAre order u t units b) (none : NoUnitBegins order b) (sound : Sound order b) where
   finish_is : (result : Result Finish Fault) → ((c : List ℕ) → StandsFor u.reader c → FinishIs u.reader.order c result)
       → FinishIs order b result
@@ -162,7 +162,7 @@ module _ (order : Order) (u : Units) (t : List ℕ) (units : List (List ℕ)) (b
       (over.0, at ∙ ap₂ fault.Damage sum (ap (λ (q : Fault). q.kind) over.1))
 
 -- the current unit isn't over-read
-pub within_unit : (order : Order) (u : Units) (t : List ℕ) (units : List (List ℕ)) (b : List ℕ)
+pub within_unit : (order : Order) (u : SectionUnits) (t : List ℕ) (units : List (List ℕ)) (b : List ℕ)
     → UnitsAre order u t units b → WithinUnit order b
 within_unit order u t units b are =
     subst (λ (o : Order). WithinUnit o b) are.reader_order (within_here u.reader.order b u.reader.state are.stands)

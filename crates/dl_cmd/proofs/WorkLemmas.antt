@@ -8,7 +8,7 @@ use Rattle.dl_cmd.specs.declared.fault.RunFault.{RunFault}
 use Rattle.dl_cmd.specs.declared.fault.RunFault.TheVariants as fault
 use Rattle.dl_rows.specs.declared.sink.Flow.{Flow}
 use Rattle.dl_rows.specs.declared.sink.Flow.TheVariants as flow
-use Rattle.dl_cmd.specs.declared.section.Units.{Units}
+use Rattle.dl_cmd.specs.declared.section.SectionUnits.{SectionUnits}
 use Rattle.dl_cmd.specs.RunOutput.{TellsOut}
 use Rattle.dl_cmd.specs.Section.{Visit, HasUnits, HasBegun, section_visits}
 use Rattle.dl_cmd.proofs.UnitsLemmas.{within_unit}
@@ -19,7 +19,7 @@ true_false : true ≡ false → ⊥
 true_false e = cc
 
 module _ {S : Type 0} (story : Story S) (order : Order) (s : List ℕ) (first mid new : S)
-    (start before after : Option (List ℕ)) (u : Units) where
+    (start before after : Option (List ℕ)) (u : SectionUnits) where
   -- a write failed while what some visits print went out
   lost : (units : List (List ℕ)) (b back : List ℕ) → HasBegun order s units b back → (heard more : List Visit)
       → section_visits order units b ≡ heard ++ more

@@ -10,7 +10,7 @@ use Rattle.dl_rows.specs.LineUnit.{events}
 use Rattle.dl_rows.specs.ReaderAnswers.{FedBehind}
 use Rattle.dl_cmd.specs.declared.fault.RunFault.{RunFault}
 use Rattle.dl_cmd.specs.declared.section.Told.{Told}
-use Rattle.dl_cmd.specs.declared.section.Units.{Units}
+use Rattle.dl_cmd.specs.declared.section.SectionUnits.{SectionUnits}
 use Rattle.dl_cmd.specs.Section.{of_row}
 use Rattle.dl_cmd.specs.Visiting.{Story, Hears}
 use Rattle.dl_cmd.specs.UnitsRead.{row_told}
@@ -45,7 +45,7 @@ NoRow (Ok fed) = row_told fed.event ≡ []
 NoRow (Err fault) = ⊤
 
 -- the reader has taken b; of a piece it told these rows before its answer
-pub record RowsOf {V : Type 0} (story : Story V) (b piece : List ℕ) (old new : Units) (v w : V)
+pub record RowsOf {V : Type 0} (story : Story V) (b piece : List ℕ) (old new : SectionUnits) (v w : V)
     (before after : Option (List ℕ)) (fed : Result Fed Fault) : Type 0 where
   pub rows : List Row
   pub order : new.reader.order ≡ old.reader.order
@@ -56,7 +56,7 @@ pub record RowsOf {V : Type 0} (story : Story V) (b piece : List ℕ) (old new :
   pub no_row : NoRow fed
 
 -- the same, where the visitor stopped at the row that is answered
-pub record StopsAtRow {V : Type 0} (story : Story V) (b piece : List ℕ) (old new : Units) (v w : V)
+pub record StopsAtRow {V : Type 0} (story : Story V) (b piece : List ℕ) (old new : SectionUnits) (v w : V)
     (before after : Option (List ℕ)) (f : RunFault) : Type 0 where
   pub rows : List Row
   pub row : Row
@@ -69,7 +69,7 @@ pub record StopsAtRow {V : Type 0} (story : Story V) (b piece : List ℕ) (old n
 
 -- `feed_rows`, where the reader has taken b
 abbrev pub FeedsTold : {V : Type 0} → Story V
-    → (b piece : List ℕ) (old new : Units) (v w : V) (before after : Option (List ℕ))
+    → (b piece : List ℕ) (old new : SectionUnits) (v w : V) (before after : Option (List ℕ))
     → Result (Result Fed Fault) RunFault → Type 0
 FeedsTold story b piece old new v w before after (Ok fed) = RowsOf story b piece old new v w before after fed
 FeedsTold story b piece old new v w before after (Err f) = StopsAtRow story b piece old new v w before after f

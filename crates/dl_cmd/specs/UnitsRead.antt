@@ -14,7 +14,7 @@ use Rattle.dl_cmd.specs.declared.fault.RunFault.{RunFault}
 use Rattle.dl_cmd.specs.declared.fault.RunFault.TheVariants as fault
 use Rattle.dl_rows.specs.declared.sink.Flow.{Flow}
 use Rattle.dl_rows.specs.declared.sink.Flow.TheVariants as flow
-use Rattle.dl_cmd.specs.declared.section.Units.{Units}
+use Rattle.dl_cmd.specs.declared.section.SectionUnits.{SectionUnits}
 use Rattle.dl_print.specs.declared.summary.Summary.{Summary}
 use Rattle.dl_table.specs.declared.fault.FaultKind.TheVariants.{Truncated}
 use Rattle.dl_cmd.specs.Section.{Visit, HasUnits, HasBegun, NoUnitBegins, AddsCell, section_visits, summary_of}
@@ -34,7 +34,7 @@ is_foreign (event.Foreign version ∷ es) = true
 is_foreign (e ∷ es) = is_foreign es
 
 -- t was read, which is units, and b of one more
-pub record UnitsAre (order : Order) (u : Units) (t : List ℕ) (units : List (List ℕ)) (b : List ℕ) : Type 0 where
+pub record UnitsAre (order : Order) (u : SectionUnits) (t : List ℕ) (units : List (List ℕ)) (b : List ℕ) : Type 0 where
   pub has : HasUnits order t units b
   pub order_is : u.order ≡ order
   pub reader_order : u.reader.order ≡ order
@@ -46,7 +46,7 @@ pub record UnitsAre (order : Order) (u : Units) (t : List ℕ) (units : List (Li
   pub summary : u.summary ≡ summary_of order units
 
 -- what an event that is no row says of the current unit
-abbrev pub counted : Event → Units → Units
+abbrev pub counted : Event → SectionUnits → SectionUnits
 counted (event.Foreign version) u = record u { is_foreign = true }
 counted other u = u
 
@@ -59,7 +59,7 @@ ReaderStops order units b back other = ⊥
 
 -- `feed`: s is what was read before and the piece. Where the visitor stops, nothing that was read is refused.
 abbrev pub UnitsFed : {S : Type 0} → Story S → Order → (s : List ℕ) → (first new : S) (start now : Option (List ℕ))
-    → Units → Result Flow RunFault → Type 0
+    → SectionUnits → Result Flow RunFault → Type 0
 UnitsFed story order s first new start now u (Ok flow.On) =
     (units : List (List ℕ)) × (b : List ℕ) × UnitsAre order u s units b × NoUnitBegins order b × Sound order b
     × story.tells first new start now (section_visits order units b)
@@ -78,7 +78,7 @@ is_failed_write other = false
 
 -- `work_through`: what `feed` answers, and what is printed is out
 abbrev pub Worked : {S : Type 0} → Story S → Order → (s : List ℕ) → (first new : S) (start now : Option (List ℕ))
-    → Units → Result Flow RunFault → Type 0
+    → SectionUnits → Result Flow RunFault → Type 0
 Worked story order s first new start now u (Ok flow.On) =
     (units : List (List ℕ)) × (b : List ℕ) × UnitsAre order u s units b × NoUnitBegins order b × Sound order b
     × Settled story first start now (section_visits order units b) (story.tells first new start now)

@@ -103,7 +103,7 @@ impl<W: Write, V: Visitor<W>> RowSink for Told<'_, W, V> {
 
 /// Where a reader is in a section.
 #[derive(Drop)]
-struct Units {
+struct SectionUnits {
     alloc: Global,
     order: Order,
     reader: Reader,
@@ -117,11 +117,11 @@ struct Units {
     summary: Summary,
 }
 
-impl Units {
-    fn new(alloc: Global, order: Order) -> Units
+impl SectionUnits {
+    fn new(alloc: Global, order: Order) -> SectionUnits
         ensures units { UnitsAre order result [] [] [] }
     {
-        Units {
+        SectionUnits {
             alloc,
             order,
             reader: Reader::new(alloc, order),
@@ -329,7 +329,7 @@ pub fn read_units<R: Read, W: Write, V: Visitor<W>>(
         (W.contents output.old) (W.contents output.new) result) }
 {
     let mut buffer = Input::new();
-    let mut units = Units::new(alloc, options.order);
+    let mut units = SectionUnits::new(alloc, options.order);
     let mut left = options.limit;
     'pieces: loop {
         let Ok(piece) = buffer.next_piece(input) else {
@@ -352,7 +352,7 @@ pub fn read_units<R: Read, W: Write, V: Visitor<W>>(
 
 /// Works through a piece and settles what came of it, also where the piece is refused.
 fn work_through<W: Write, V: Visitor<W>>(
-    units: &mut Units,
+    units: &mut SectionUnits,
     output: &mut W,
     visitor: &mut V,
     piece: &[u8],

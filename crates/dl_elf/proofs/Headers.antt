@@ -29,19 +29,6 @@ section_outside h f i l = grind (arith, common_steps, l)
 pub section_inside : (h : FileHeader) (f : List ℕ) (i : ℕ) → header_place h i + section_header_size h.class ≤ length f → section_in h f i ≡ Some (section_header h f i)
 section_inside h f i l = grind (arith, common_steps, l)
 
-pub filled_known : (known : Option (List ℕ)) (at n : ℕ) (buffer : List ℕ) (whole : Bool) → n ≤ length buffer → 1 ≤ length buffer
-    → ForBytes known (λ f. take n buffer ≡ take (length buffer) (drop at f)) → whole ≡ nat_eq n (length buffer) → FilledFrom known at whole buffer
-filled_known known at n buffer whole w o known_e is = λ f known_is short.
-    let e : take n buffer ≡ take (length buffer) (drop at f) = known_e f known_is short in
-    elim (cases_lt n (length buffer)) [
-      | inl l ↦ (let s : length f < at + length buffer = short_fill at n buffer f w l e in
-          let no : whole ≡ false = is ∙ ne_eqb n (length buffer) (λ q. omega (arith, l, q)) in (no ∙ sym (lt-leb (at + length buffer) (length f) s), λ t. absurd (false≢true (sym no ∙ t))))
-      | inr l ↦ (let s : at + length buffer ≤ length f = whole_fill at n buffer f w l (omega (arith, o, l)) e in
-          let same : n ≡ length buffer = omega (arith, w, l) in
-          let yes : whole ≡ true = is ∙ eq-eqb n (length buffer) same in
-          (yes ∙ sym (le-leb (at + length buffer) (length f) s), λ t. sym (take_all n buffer l) ∙ e))
-    ]
-
 pub section_read : (known : Option (List ℕ)) (h : FileHeader) (i at : ℕ) (buffer : List ℕ) → at ≡ header_place h i → length buffer ≡ section_header_size h.class
     → FilledFrom known at true buffer → ForBytes known (λ f. Some (section_fields h.class h.order buffer) ≡ section_in h f i)
 section_read known h i at buffer a s e = λ f is l.
@@ -49,13 +36,6 @@ section_read known h i at buffer a s e = λ f is l.
     let inside : header_place h i + section_header_size h.class ≤ length f = rw (← a, ← s) (leb-true (at + length buffer) (length f) (sym told.0)) in
     let bytes : buffer ≡ take (section_header_size h.class) (drop (header_place h i) f) = rw (← a, ← s) (told.1 refl) in
     ap (λ b. Some (section_fields h.class h.order b)) bytes ∙ sym (section_inside h f i inside)
-
-pub no_section_read : (known : Option (List ℕ)) (h : FileHeader) (i at : ℕ) (buffer : List ℕ) → at ≡ header_place h i → length buffer ≡ section_header_size h.class
-    → FilledFrom known at false buffer → ForBytes known (λ f. ◌≡◌ {A = Option SectionHeader} None (section_in h f i))
-no_section_read known h i at buffer a s e = λ f is l.
-    let told = e f is l in
-    let out : length f < header_place h i + section_header_size h.class = rw (← a, ← s) (leb-false (at + length buffer) (length f) (sym told.0)) in
-    sym (section_outside h f i out)
 
 -- past what an offset can say
 pub no_section_past : (known : Option (List ℕ)) (h : FileHeader) (i : ℕ) → 2 ^ 64 ≤ header_place h i

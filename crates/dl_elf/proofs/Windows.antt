@@ -42,10 +42,3 @@ copied_front known offset n filled most buffer part rest is fits h l p e = λ f 
 pub full_of : (known : Option (List ℕ)) (offset n most : ℕ) (buffer : List ℕ) → length buffer ≡ most
     → ForBytes known (λ f. take n buffer ≡ take (length buffer) (drop offset f)) → ForBytes known (λ f. take n buffer ≡ take most (drop offset f))
 full_of known offset n most buffer l e = λ f is short. e f is short ∙ ap (λ k. take k (drop offset f)) l
-
--- a range of a file that ends within the first `filled` bytes of it
-pub short_rest : (offset filled len : ℕ) (f : List ℕ) → length f ≤ offset + filled → filled ≤ len
-    → take filled (drop offset f) ≡ take len (drop offset f)
-short_rest offset filled len f s l =
-    let few : length (drop offset f) ≤ filled = omega (arith, length-drop offset f, s) in
-    take_all filled (drop offset f) few ∙ sym (take_all len (drop offset f) (omega (arith, few, l)))

@@ -61,33 +61,33 @@ module _ (h : Params) where
     cases true same = ap (λ (m : ℕ). run h (record q { column = m }) rest) (sym (same refl))
     cases false same = refl
 
-  run_isa : (q : Registers) (n : ℕ) (rest : List Operation) → run h q (when (not (n == q.isa)) (op.Isa n) ++ rest) ≡ run h (record q { isa = n }) rest
+  run_isa : (q : Registers) (n : ℕ) (rest : List Operation) → run h q (when (not (n == q.isa)) (op.SetIsa n) ++ rest) ≡ run h (record q { isa = n }) rest
   run_isa q n rest = cases (n == q.isa) (λ t. eqb-true n q.isa t) where
-    cases : (b : Bool) → (b ≡ true → n ≡ q.isa) → run h q (when (not b) (op.Isa n) ++ rest) ≡ run h (record q { isa = n }) rest
+    cases : (b : Bool) → (b ≡ true → n ≡ q.isa) → run h q (when (not b) (op.SetIsa n) ++ rest) ≡ run h (record q { isa = n }) rest
     cases true same = ap (λ (m : ℕ). run h (record q { isa = m }) rest) (sym (same refl))
     cases false same = refl
 
-  run_negate : (q : Registers) (to from : Bool) (rest : List Operation) → run h (record q { is_stmt = from }) (when (differs to from) op.Negate ++ rest) ≡ run h (record q { is_stmt = to }) rest
+  run_negate : (q : Registers) (to from : Bool) (rest : List Operation) → run h (record q { is_stmt = from }) (when (differs to from) op.NegateStatement ++ rest) ≡ run h (record q { is_stmt = to }) rest
   run_negate q true true rest = refl
   run_negate q true false rest = refl
   run_negate q false true rest = refl
   run_negate q false false rest = refl
 
-  run_discriminator : (q : Registers) (n : ℕ) (rest : List Operation) → run h (record q { discriminator = 0 }) (when (not (n == 0)) (op.Discriminator n) ++ rest) ≡ run h (record q { discriminator = n }) rest
+  run_discriminator : (q : Registers) (n : ℕ) (rest : List Operation) → run h (record q { discriminator = 0 }) (when (not (n == 0)) (op.SetDiscriminator n) ++ rest) ≡ run h (record q { discriminator = n }) rest
   run_discriminator q n rest = cases (n == 0) (λ t. eqb-true n 0 t) where
-    cases : (b : Bool) → (b ≡ true → n ≡ 0) → run h (record q { discriminator = 0 }) (when (not b) (op.Discriminator n) ++ rest) ≡ run h (record q { discriminator = n }) rest
+    cases : (b : Bool) → (b ≡ true → n ≡ 0) → run h (record q { discriminator = 0 }) (when (not b) (op.SetDiscriminator n) ++ rest) ≡ run h (record q { discriminator = n }) rest
     cases true same = ap (λ (m : ℕ). run h (record q { discriminator = m }) rest) (sym (same refl))
     cases false same = refl
 
-  run_block : (q : Registers) (b : Bool) (rest : List Operation) → run h (record q { basic_block = false }) (when b op.Block ++ rest) ≡ run h (record q { basic_block = b }) rest
+  run_block : (q : Registers) (b : Bool) (rest : List Operation) → run h (record q { basic_block = false }) (when b op.SetBasicBlock ++ rest) ≡ run h (record q { basic_block = b }) rest
   run_block q true rest = refl
   run_block q false rest = refl
 
-  run_prologue : (q : Registers) (b : Bool) (rest : List Operation) → run h (record q { prologue_end = false }) (when b op.Prologue ++ rest) ≡ run h (record q { prologue_end = b }) rest
+  run_prologue : (q : Registers) (b : Bool) (rest : List Operation) → run h (record q { prologue_end = false }) (when b op.SetPrologueEnd ++ rest) ≡ run h (record q { prologue_end = b }) rest
   run_prologue q true rest = refl
   run_prologue q false rest = refl
 
-  run_epilogue : (q : Registers) (b : Bool) (rest : List Operation) → run h (record q { epilogue_begin = false }) (when b op.Epilogue ++ rest) ≡ run h (record q { epilogue_begin = b }) rest
+  run_epilogue : (q : Registers) (b : Bool) (rest : List Operation) → run h (record q { epilogue_begin = false }) (when b op.SetEpilogueBegin ++ rest) ≡ run h (record q { epilogue_begin = b }) rest
   run_epilogue q true rest = refl
   run_epilogue q false rest = refl
 
@@ -101,8 +101,8 @@ module _ (h : Params) where
       let q = behind before in
       let file = when (not (r.file == before.file)) (op.SetFile r.file) in
       let column = when (not (r.column == before.column)) (op.SetColumn r.column) in
-      let stmt = when (differs r.is_stmt before.is_stmt) op.Negate in
-      let isa = when (not (r.isa == before.isa)) (op.Isa r.isa) in
+      let stmt = when (differs r.is_stmt before.is_stmt) op.NegateStatement in
+      let isa = when (not (r.isa == before.isa)) (op.SetIsa r.isa) in
       ap (run h q) (regroup file column stmt isa rest)
       ∙ run_file q r.file (column ++ (stmt ++ (isa ++ rest)))
       ∙ run_column (record q { file = r.file }) r.column (stmt ++ (isa ++ rest))
@@ -112,10 +112,10 @@ module _ (h : Params) where
   run_marks : (before r : Row) (rest : List Operation) → run h (record (behind before) { file = r.file; column = r.column; is_stmt = r.is_stmt; isa = r.isa }) (marks r ++ rest) ≡ run h (set before r) rest
   run_marks before r rest =
       let q : Registers = record (behind before) { file = r.file; column = r.column; is_stmt = r.is_stmt; isa = r.isa } in
-      let discriminator = when (not (r.discriminator == 0)) (op.Discriminator r.discriminator) in
-      let block = when r.basic_block op.Block in
-      let prologue = when r.prologue_end op.Prologue in
-      let epilogue = when r.epilogue_begin op.Epilogue in
+      let discriminator = when (not (r.discriminator == 0)) (op.SetDiscriminator r.discriminator) in
+      let block = when r.basic_block op.SetBasicBlock in
+      let prologue = when r.prologue_end op.SetPrologueEnd in
+      let epilogue = when r.epilogue_begin op.SetEpilogueBegin in
       ap (run h q) (regroup discriminator block prologue epilogue rest)
       ∙ run_discriminator q r.discriminator (block ++ (prologue ++ (epilogue ++ rest)))
       ∙ run_block (record q { discriminator = r.discriminator }) r.basic_block (prologue ++ (epilogue ++ rest))
@@ -176,7 +176,7 @@ module _ (h : Params) where
 
   run_appended : (end : Bool) (q : Registers) (k : ℕ) (line : ℤ) (rest : List Operation) → h.opcode_base ≡ 13 → IsPlace q.address q.line q.op_index
       → run h q (appended h end line k ++ rest) ≡ row_of h (moved q k line) end ∷ run h (next end (moved q k line)) rest
-  run_appended true q k line rest base place = ap (run h q) (append_assoc (advances line k) (op.End ∷ []) rest) ∙ run_advances q k line (op.End ∷ rest) place
+  run_appended true q k line rest base place = ap (run h q) (append_assoc (advances line k) (op.EndSequence ∷ []) rest) ∙ run_advances q k line (op.EndSequence ∷ rest) place
   run_appended false q k line rest base place = run_special q k line rest base place (special h line k) (λ opcode e. special_is h line k opcode e)
 
   -- ---- a row

@@ -30,11 +30,11 @@ IsWritten h (op.AdvancePc n) = n < 2 ^ 64
 IsWritten h (op.AdvanceLine i) = IsSigned64 i
 IsWritten h (op.SetFile n) = n < 2 ^ 64
 IsWritten h (op.SetColumn n) = n < 2 ^ 64
-IsWritten h (op.Isa n) = n < 2 ^ 64
-IsWritten h (op.Address n) = (n < 2 ^ 64) × (n < 2 ^ (8 * h.address_size))
-IsWritten h (op.Discriminator n) = n < 2 ^ 64
-IsWritten h op.ConstAdd = ⊥
-IsWritten h (op.FixedAdd n) = ⊥
+IsWritten h (op.SetIsa n) = n < 2 ^ 64
+IsWritten h (op.SetAddress n) = (n < 2 ^ 64) × (n < 2 ^ (8 * h.address_size))
+IsWritten h (op.SetDiscriminator n) = n < 2 ^ 64
+IsWritten h op.ConstAddPc = ⊥
+IsWritten h (op.FixedAdvancePc n) = ⊥
 IsWritten h op.Skipped = ⊥
 IsWritten h other = Unit {0}
 
@@ -45,7 +45,7 @@ abs_fits (negsuc n) h = omega arith
 pub has_range : (h : Params) (o : Operation) → IsWritten h o → HasRange o
 has_range h (op.Special b) w = w.1
 has_range h (op.AdvanceLine i) w = abs_fits i w
-has_range h (op.Address n) w = w.0
+has_range h (op.SetAddress n) w = w.0
 has_range h o w = tt
 
 powers : (n k : ℕ) → is_number_size k ≡ true → n < 2 ^ (8 * k) → n < 256 ^ k
@@ -62,15 +62,15 @@ module _ (order : Order) (h : Params) where
   spelled (op.AdvanceLine i) usable base w = record { below = omega arith; operand = shortest_sleb i; bytes = refl; spells = (computed_sleb_is_shortest i).spells; fits = w }
   spelled (op.SetFile n) usable base w = record { below = omega arith; operand = shortest_uleb n; bytes = refl; spells = (computed_is_shortest n).spells; fits = w }
   spelled (op.SetColumn n) usable base w = record { below = omega arith; operand = shortest_uleb n; bytes = refl; spells = (computed_is_shortest n).spells; fits = w }
-  spelled op.Negate usable base w = record { below = omega arith; bytes = refl }
-  spelled op.Block usable base w = record { below = omega arith; bytes = refl }
-  spelled op.ConstAdd usable base w = absurd w
-  spelled (op.FixedAdd n) usable base w = absurd w
-  spelled op.Prologue usable base w = record { below = omega arith; bytes = refl }
-  spelled op.Epilogue usable base w = record { below = omega arith; bytes = refl }
-  spelled (op.Isa n) usable base w = record { below = omega arith; operand = shortest_uleb n; bytes = refl; spells = (computed_is_shortest n).spells; fits = w }
-  spelled op.End usable base w = extended_spelled (1 ∷ []) (omega arith)
-  spelled (op.Address n) usable base w =
+  spelled op.NegateStatement usable base w = record { below = omega arith; bytes = refl }
+  spelled op.SetBasicBlock usable base w = record { below = omega arith; bytes = refl }
+  spelled op.ConstAddPc usable base w = absurd w
+  spelled (op.FixedAdvancePc n) usable base w = absurd w
+  spelled op.SetPrologueEnd usable base w = record { below = omega arith; bytes = refl }
+  spelled op.SetEpilogueBegin usable base w = record { below = omega arith; bytes = refl }
+  spelled (op.SetIsa n) usable base w = record { below = omega arith; operand = shortest_uleb n; bytes = refl; spells = (computed_is_shortest n).spells; fits = w }
+  spelled op.EndSequence usable base w = extended_spelled (1 ∷ []) (omega arith)
+  spelled (op.SetAddress n) usable base w =
       let bytes = fixed_bytes order h.address_size n in
       let size = fixed_has_its_size order h.address_size n in
       let few : h.address_size ≤ 8 = size_cases h.address_size usable.address_size (λ is. omega arith) (λ is. omega arith) (λ is. omega arith) (λ is. omega arith) in
@@ -80,7 +80,7 @@ module _ (order : Order) (h : Params) where
         size = size;
         number = sym (fixed_reads_back order h.address_size n (powers n h.address_size usable.address_size w.1));
       }
-  spelled (op.Discriminator n) usable base w =
+  spelled (op.SetDiscriminator n) usable base w =
       let few = length-shortest_uleb n w in
       record { operand = shortest_uleb n; extended = extended_spelled (4 ∷ shortest_uleb n) (omega arith); spells = (computed_is_shortest n).spells; fits = w }
   spelled op.Skipped usable base w = absurd w
@@ -115,11 +115,11 @@ module _ (h : Params) where
 
   written_settings : (before r : Row) → IsRow r → All (settings before r)
   written_settings before r row =
-      four (not (r.file == before.file)) (not (r.column == before.column)) (differs r.is_stmt before.is_stmt) (not (r.isa == before.isa)) (op.SetFile r.file) (op.SetColumn r.column) op.Negate (op.Isa r.isa) row.file row.column tt row.isa
+      four (not (r.file == before.file)) (not (r.column == before.column)) (differs r.is_stmt before.is_stmt) (not (r.isa == before.isa)) (op.SetFile r.file) (op.SetColumn r.column) op.NegateStatement (op.SetIsa r.isa) row.file row.column tt row.isa
 
   written_marks : (r : Row) → IsRow r → All (marks r)
   written_marks r row =
-      four (not (r.discriminator == 0)) r.basic_block r.prologue_end r.epilogue_begin (op.Discriminator r.discriminator) op.Block op.Prologue op.Epilogue row.discriminator tt tt tt
+      four (not (r.discriminator == 0)) r.basic_block r.prologue_end r.epilogue_begin (op.SetDiscriminator r.discriminator) op.SetBasicBlock op.SetPrologueEnd op.SetEpilogueBegin row.discriminator tt tt tt
 
   written_advances : (line : ℤ) (k : ℕ) → IsSigned64 line → k < 2 ^ 64 → All (advances line k)
   written_advances line k l f = two (not (is_zero line)) (not (k == 0)) (op.AdvanceLine line) (op.AdvancePc k) l f
@@ -129,7 +129,7 @@ module _ (h : Params) where
   written_special line k l f (Some opcode) is = (is opcode refl, tt)
 
   written_appended : (end : Bool) (line : ℤ) (k : ℕ) → IsSigned64 line → k < 2 ^ 64 → All (appended h end line k)
-  written_appended true line k l f = join (advances line k) (op.End ∷ []) (written_advances line k l f) (tt, tt)
+  written_appended true line k l f = join (advances line k) (op.EndSequence ∷ []) (written_advances line k l f) (tt, tt)
   written_appended false line k l f = written_special line k l f (special h line k) (λ opcode e. let is = special_is h line k opcode e in (is.from, is.fits))
 
   written_placed : (r : Row) (line : ℤ) → IsRow r → Fits h r → IsSigned64 line → (o : Option ℕ) → ((k : ℕ) → o ≡ Some k → k < 2 ^ 64) → All (placed h r line o)

@@ -35,16 +35,16 @@ abbrev pub settings : Row → Row → List Operation
 settings before r =
     when (not (r.file == before.file)) (op.SetFile r.file)
     ++ when (not (r.column == before.column)) (op.SetColumn r.column)
-    ++ when (differs r.is_stmt before.is_stmt) op.Negate
-    ++ when (not (r.isa == before.isa)) (op.Isa r.isa)
+    ++ when (differs r.is_stmt before.is_stmt) op.NegateStatement
+    ++ when (not (r.isa == before.isa)) (op.SetIsa r.isa)
 
 -- what holds for the row alone
 abbrev pub marks : Row → List Operation
 marks r =
-    when (not (r.discriminator == 0)) (op.Discriminator r.discriminator)
-    ++ when r.basic_block op.Block
-    ++ when r.prologue_end op.Prologue
-    ++ when r.epilogue_begin op.Epilogue
+    when (not (r.discriminator == 0)) (op.SetDiscriminator r.discriminator)
+    ++ when r.basic_block op.SetBasicBlock
+    ++ when r.prologue_end op.SetPrologueEnd
+    ++ when r.epilogue_begin op.SetEpilogueBegin
 
 -- ---- the step from a row to the next one of its sequence, section 6.2.5.1
 
@@ -97,13 +97,13 @@ special_or_copy line k None = advances line k ++ op.Copy ∷ []
 
 -- a line advance and an operation advance, and the row
 abbrev pub appended : Params → Bool → ℤ → ℕ → List Operation
-appended h true line k = advances line k ++ op.End ∷ []
+appended h true line k = advances line k ++ op.EndSequence ∷ []
 appended h false line k = special_or_copy line k (special h line k)
 
 -- the same where there is an operation advance; else the address is set
 abbrev pub placed : Params → Row → ℤ → Option ℕ → List Operation
 placed h r line (Some k) = appended h r.end_sequence line k
-placed h r line None = op.Address r.address ∷ appended h r.end_sequence line r.op_index
+placed h r line None = op.SetAddress r.address ∷ appended h r.end_sequence line r.op_index
 
 -- the operations of a row, the row before it in its sequence being given
 abbrev pub row_operations : Params → Option Row → Row → List Operation

@@ -10,16 +10,16 @@ use dl_num::{Order, fixed_bytes, sleb_bytes, uleb_bytes};
 use dl_rows::Operation;
 
 /// How many bytes of a program are gathered at most.
-pub const HELD: usize = 4096;
+pub const BUFFER_LEN: usize = 4096;
 
 /// Bytes of a program, gathered.
-pub type Bytes = ArrayVec<u8, HELD>;
+pub type Bytes = ArrayVec<u8, BUFFER_LEN>;
 
 /// Appends an operation, whose address has `address_size` bytes.
 #[inline(always)]
 pub fn put_operation(bytes: &mut Bytes, order: Order, address_size: u8, operation: Operation)
     requires size { address_size ≤ 8 }
-    requires room { length bytes.old.items + room operation ≤ HELD }
+    requires room { length bytes.old.items + room operation ≤ BUFFER_LEN }
     ensures items { bytes.new.items
         ≡ bytes.old.items ++ operation_bytes order address_size operation }
     ensures len { length bytes.new.items ≤ length bytes.old.items + room operation }
@@ -31,26 +31,26 @@ pub fn put_operation(bytes: &mut Bytes, order: Order, address_size: u8, operatio
         Operation::AdvanceLine(by) => put_signed(bytes, 3, by),
         Operation::SetFile(file) => put_unsigned(bytes, 4, file),
         Operation::SetColumn(column) => put_unsigned(bytes, 5, column),
-        Operation::Negate => bytes.push(6),
-        Operation::Block => bytes.push(7),
-        Operation::Prologue => bytes.push(10),
-        Operation::Epilogue => bytes.push(11),
-        Operation::Isa(isa) => put_unsigned(bytes, 12, isa),
-        Operation::End => put_extended(bytes, 1, &[]),
-        Operation::Address(address) => {
+        Operation::NegateStatement => bytes.push(6),
+        Operation::SetBasicBlock => bytes.push(7),
+        Operation::SetPrologueEnd => bytes.push(10),
+        Operation::SetEpilogueBegin => bytes.push(11),
+        Operation::SetIsa(isa) => put_unsigned(bytes, 12, isa),
+        Operation::EndSequence => put_extended(bytes, 1, &[]),
+        Operation::SetAddress(address) => {
             let operand = fixed_bytes(order, usize::from(address_size), address);
             put_extended(bytes, 2, operand.as_slice())
         }
-        Operation::Discriminator(discriminator) => {
+        Operation::SetDiscriminator(discriminator) => {
             put_extended(bytes, 4, uleb_bytes(discriminator).as_slice())
         }
-        Operation::ConstAdd | Operation::FixedAdd(_) | Operation::Skipped => {}
+        Operation::ConstAddPc | Operation::FixedAdvancePc(_) | Operation::Skipped => {}
     }
 }
 
 /// Appends a slice.
 fn put_slice(bytes: &mut Bytes, slice: &[u8])
-    requires { length bytes.old.items + length slice.now ≤ HELD }
+    requires { length bytes.old.items + length slice.now ≤ BUFFER_LEN }
     ensures { bytes.new.items ≡ bytes.old.items ++ slice.now }
 {
     bytes.try_extend_from_slice(slice).unwrap();
@@ -58,7 +58,7 @@ fn put_slice(bytes: &mut Bytes, slice: &[u8])
 
 /// Appends a standard opcode with an unsigned operand. Section 6.2.5.2.
 fn put_unsigned(bytes: &mut Bytes, opcode: u8, operand: u64)
-    requires { length bytes.old.items + 11 ≤ HELD }
+    requires { length bytes.old.items + 11 ≤ BUFFER_LEN }
     ensures items { bytes.new.items ≡ bytes.old.items ++ opcode ∷ shortest_uleb operand }
     ensures len { length bytes.new.items ≤ length bytes.old.items + 11 }
 {
@@ -68,7 +68,7 @@ fn put_unsigned(bytes: &mut Bytes, opcode: u8, operand: u64)
 
 /// Appends a standard opcode with a signed operand. Section 6.2.5.2.
 fn put_signed(bytes: &mut Bytes, opcode: u8, operand: i64)
-    requires { length bytes.old.items + 11 ≤ HELD }
+    requires { length bytes.old.items + 11 ≤ BUFFER_LEN }
     ensures items { bytes.new.items ≡ bytes.old.items ++ opcode ∷ shortest_sleb operand }
     ensures len { length bytes.new.items ≤ length bytes.old.items + 11 }
 {
@@ -79,7 +79,7 @@ fn put_signed(bytes: &mut Bytes, opcode: u8, operand: i64)
 /// Appends an extended opcode with its operand. Section 6.2.5.3.
 fn put_extended(bytes: &mut Bytes, opcode: u8, operand: &[u8])
     requires short { length operand.now < 127 }
-    requires room { length bytes.old.items + length operand.now + 3 ≤ HELD }
+    requires room { length bytes.old.items + length operand.now + 3 ≤ BUFFER_LEN }
     ensures items { bytes.new.items ≡ bytes.old.items ++ extended (opcode ∷ operand.now) }
     ensures len { length bytes.new.items ≡ length bytes.old.items + length operand.now + 3 }
 {

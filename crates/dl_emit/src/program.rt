@@ -6,7 +6,7 @@ ghost use Rattle.dl_emit.specs.Program.{when, settings, marks, instructions as i
 ghost use Rattle.dl_emit.specs.Room.{room};
 ghost use Rattle.dl_emit.specs.WrittenUnit.{operations_bytes};
 
-use crate::bytes::{Bytes, HELD, put_operation};
+use crate::bytes::{BUFFER_LEN, Bytes, put_operation};
 use dl_head::Params;
 use dl_num::Order;
 use dl_rows::{Operation, Row};
@@ -17,7 +17,7 @@ pub const ROW: usize = 86;
 /// Appends the program of a row, the row before it in its sequence being given.
 pub fn put_row(bytes: &mut Bytes, order: Order, params: &Params, before: Option<Row>, row: &Row)
     requires usable { IsUsable params.now }
-    requires room { length bytes.old.items + ROW ≤ HELD }
+    requires room { length bytes.old.items + ROW ≤ BUFFER_LEN }
     ensures items { bytes.new.items ≡ bytes.old.items
         ++ operations_bytes order params.now (row_operations params.now before row.now) }
     ensures len { length bytes.new.items ≤ length bytes.old.items + ROW }
@@ -75,7 +75,7 @@ fn start(params: &Params) -> Row
 #[inline(always)]
 fn put_if(bytes: &mut Bytes, order: Order, params: &Params, is_wanted: bool, operation: Operation)
     requires usable { IsUsable params.now }
-    requires room { length bytes.old.items + room operation ≤ HELD }
+    requires room { length bytes.old.items + room operation ≤ BUFFER_LEN }
     ensures items { bytes.new.items
         ≡ bytes.old.items ++ operations_bytes order params.now (when is_wanted operation) }
     ensures len { length bytes.new.items ≤ length bytes.old.items + room operation }
@@ -88,7 +88,7 @@ fn put_if(bytes: &mut Bytes, order: Order, params: &Params, is_wanted: bool, ope
 /// Appends what holds to the end of the sequence, where it isn't as before.
 fn put_settings(bytes: &mut Bytes, order: Order, params: &Params, before: &Row, row: &Row)
     requires usable { IsUsable params.now }
-    requires room { length bytes.old.items + 34 ≤ HELD }
+    requires room { length bytes.old.items + 34 ≤ BUFFER_LEN }
     ensures items { bytes.new.items
         ≡ bytes.old.items ++ operations_bytes order params.now (settings before.now row.now) }
     ensures len { length bytes.new.items ≤ length bytes.old.items + 34 }
@@ -98,29 +98,41 @@ fn put_settings(bytes: &mut Bytes, order: Order, params: &Params, before: &Row, 
     let column = Operation::SetColumn(row.column);
     put_if(bytes, order, params, row.column != before.column, column);
     let turned = row.is_stmt != before.is_stmt;
-    put_if(bytes, order, params, turned, Operation::Negate);
-    let isa = Operation::Isa(row.isa);
+    put_if(bytes, order, params, turned, Operation::NegateStatement);
+    let isa = Operation::SetIsa(row.isa);
     put_if(bytes, order, params, row.isa != before.isa, isa);
 }
 
 /// Appends what holds for the row alone.
 fn put_marks(bytes: &mut Bytes, order: Order, params: &Params, row: &Row)
     requires usable { IsUsable params.now }
-    requires room { length bytes.old.items + 16 ≤ HELD }
+    requires room { length bytes.old.items + 16 ≤ BUFFER_LEN }
     ensures items { bytes.new.items
         ≡ bytes.old.items ++ operations_bytes order params.now (marks row.now) }
     ensures len { length bytes.new.items ≤ length bytes.old.items + 16 }
 {
-    let discriminator = Operation::Discriminator(row.discriminator);
+    let discriminator = Operation::SetDiscriminator(row.discriminator);
     put_if(bytes, order, params, row.discriminator != 0, discriminator);
-    put_if(bytes, order, params, row.basic_block, Operation::Block);
-    put_if(bytes, order, params, row.prologue_end, Operation::Prologue);
+    put_if(
+        bytes,
+        order,
+        params,
+        row.basic_block,
+        Operation::SetBasicBlock,
+    );
+    put_if(
+        bytes,
+        order,
+        params,
+        row.prologue_end,
+        Operation::SetPrologueEnd,
+    );
     put_if(
         bytes,
         order,
         params,
         row.epilogue_begin,
-        Operation::Epilogue,
+        Operation::SetEpilogueBegin,
     );
 }
 
@@ -134,7 +146,7 @@ fn put_placed(
     advance: Option<u64>,
 )
     requires usable { IsUsable params.now }
-    requires room { length bytes.old.items + 36 ≤ HELD }
+    requires room { length bytes.old.items + 36 ≤ BUFFER_LEN }
     ensures items { bytes.new.items ≡ bytes.old.items
         ++ operations_bytes order params.now (placed params.now row.now line advance) }
     ensures len { length bytes.new.items ≤ length bytes.old.items + 36 }
@@ -142,7 +154,7 @@ fn put_placed(
     match advance {
         Some(advance) => put_appended(bytes, order, params, row.end_sequence, line, advance),
         None => {
-            let address = Operation::Address(row.address);
+            let address = Operation::SetAddress(row.address);
             put_operation(bytes, order, params.address_size, address);
             let op_index = u64::from(row.op_index);
             put_appended(bytes, order, params, row.end_sequence, line, op_index);
@@ -160,14 +172,14 @@ fn put_appended(
     advance: u64,
 )
     requires usable { IsUsable params.now }
-    requires room { length bytes.old.items + 25 ≤ HELD }
+    requires room { length bytes.old.items + 25 ≤ BUFFER_LEN }
     ensures items { bytes.new.items ≡ bytes.old.items
         ++ operations_bytes order params.now (appended params.now end_sequence line advance) }
     ensures len { length bytes.new.items ≤ length bytes.old.items + 25 }
 {
     if end_sequence {
         put_advances(bytes, order, params, line, advance);
-        put_operation(bytes, order, params.address_size, Operation::End);
+        put_operation(bytes, order, params.address_size, Operation::EndSequence);
         return;
     }
     match special(params, line, advance) {
@@ -182,7 +194,7 @@ fn put_appended(
 /// Appends a line advance and an operation advance that aren't 0.
 fn put_advances(bytes: &mut Bytes, order: Order, params: &Params, line: i64, advance: u64)
     requires usable { IsUsable params.now }
-    requires room { length bytes.old.items + 22 ≤ HELD }
+    requires room { length bytes.old.items + 22 ≤ BUFFER_LEN }
     ensures items { bytes.new.items
         ≡ bytes.old.items ++ operations_bytes order params.now (advances line advance) }
     ensures len { length bytes.new.items ≤ length bytes.old.items + 22 }

@@ -9,7 +9,7 @@ ghost use Rattle.dl_emit.specs.Writing.{Measures, WritesUnit};
 ghost use Rattle.dl_emit.specs.Laws.{IsRow, IsUnitAgain};
 ghost use Rattle.std.specs.List.{AllByRecursion};
 
-use crate::bytes::{Bytes, HELD};
+use crate::bytes::{BUFFER_LEN, Bytes};
 use crate::fault::EmitFault;
 use crate::program::{ROW, kept, put_row};
 use dl_head::counted::put;
@@ -114,9 +114,9 @@ fn write_program<W: Write>(
 fn make_room<W: Write>(output: &mut W, out: u64, held: &mut Bytes) -> Result<u64, HeadWrite>
     ensures written { Gathers (W.contents output.old) (W.contents output.new) out
         held.old.items held.new.items result }
-    ensures room { OnOk result (length held.new.items + ROW ≤ HELD) }
+    ensures room { OnOk result (length held.new.items + ROW ≤ BUFFER_LEN) }
 {
-    if HELD - held.len() >= ROW {
+    if BUFFER_LEN - held.len() >= ROW {
         return Ok(out);
     }
     let out = put(output, out, held.as_slice())?;

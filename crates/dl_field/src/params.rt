@@ -11,18 +11,22 @@ use dl_table::Format;
 /// The fields of a header that are numbers. Section 6.2.4.
 #[derive(Debug, PartialEq, Eq, Drop)]
 pub struct Params {
+    /// Whether offsets and lengths have four bytes or eight. Section 7.4.
     pub format: Format,
     /// The size of an address in bytes: 1, 2, 4 or 8 in a header.
     pub address_size: u8,
     /// The size of a segment selector in bytes.
     pub segment_selector_size: u8,
+    /// The size in bytes of the smallest instruction: how far an operation advance of one moves an address
+    /// on where an instruction has one operation.
     pub minimum_instruction_length: u8,
-    /// Not 0 in a header.
+    /// How many operations an instruction has at most; not 0 in a header. It is 1 but for VLIW machines.
     pub maximum_operations_per_instruction: u8,
-    /// True where it isn't 0.
+    /// Whether a row is a statement before is_stmt is turned over: true where it isn't 0.
     pub default_is_stmt: u8,
+    /// The least number of lines that a special opcode adds.
     pub line_base: i8,
-    /// Not 0 in a header.
+    /// How many numbers of lines the special opcodes tell apart; not 0 in a header.
     pub line_range: u8,
     /// The number of the first special opcode; not 0 in a header.
     pub opcode_base: u8,

@@ -3,12 +3,12 @@
 ghost use Rattle.std.specs.Prelude.{◌≡◌, ◌↔◌, ◌++◌, ◌∷◌, [], length, IsTrue, IfOk, IfErr};
 ghost use Rattle.dl_num.specs.OperandBytes.{operand_size, operand_bytes};
 
-use dl_num::Operand;
+use dl_num::PartialBytes;
 
 /// Sixteen bytes that lack at least one.
 #[derive(Clone, Copy)]
 pub(crate) struct Sixteen {
-    operand: Operand,
+    operand: PartialBytes,
     ghost size: { operand_size operand ≡ 16 },
 }
 
@@ -18,7 +18,7 @@ impl Sixteen {
         ensures { operand_bytes result.operand ≡ [] }
     {
         Sixteen {
-            operand: Operand::new(16),
+            operand: PartialBytes::new(16),
         }
     }
 

@@ -3,7 +3,7 @@
 ghost use Rattle.std.specs.Prelude.{◌≡◌, ◌<◌, ◌≤◌, ◌↔◌, ℕ, IsTrue, List, [], length, IfSome};
 
 use crate::sixteen::Sixteen;
-use dl_num::{Number, Uleb};
+use dl_num::{PartialNumber, Uleb};
 use dl_table::{Form, Format};
 
 /// The place of a value in the entries.
@@ -55,13 +55,13 @@ impl Cursor {
 #[derive(Clone, Copy)]
 pub(crate) enum ValuePhase {
     /// A number or an offset of this form.
-    Number(Form, Number),
+    Number(Form, PartialNumber),
     Leb(Uleb),
     /// A text, from this place of the pool on.
     Text(usize),
     Data16(Sixteen),
     /// The length of a block.
-    BlockLength(Number),
+    BlockLength(PartialNumber),
     LebBlockLength(Uleb),
     /// The bytes of a block, of which so many are left.
     Block(u64),
@@ -80,19 +80,19 @@ impl ValuePhase {
         ensures at { (pool : List ℕ) → length pool ≡ pool_len → ValueAt format form result pool [] }
     {
         match form {
-            Form::Data1 => ValuePhase::Number(form, Number::new(1)),
-            Form::Data2 => ValuePhase::Number(form, Number::new(2)),
-            Form::Data4 => ValuePhase::Number(form, Number::new(4)),
-            Form::Data8 => ValuePhase::Number(form, Number::new(8)),
+            Form::Data1 => ValuePhase::Number(form, PartialNumber::new(1)),
+            Form::Data2 => ValuePhase::Number(form, PartialNumber::new(2)),
+            Form::Data4 => ValuePhase::Number(form, PartialNumber::new(4)),
+            Form::Data8 => ValuePhase::Number(form, PartialNumber::new(8)),
             Form::Strp | Form::StrpSup | Form::LineStrp => {
-                ValuePhase::Number(form, Number::new(format.offset_size()))
+                ValuePhase::Number(form, PartialNumber::new(format.offset_size()))
             }
             Form::Udata => ValuePhase::Leb(Uleb::new()),
             Form::String => ValuePhase::Text(pool_len),
             Form::Data16 => ValuePhase::Data16(Sixteen::new()),
-            Form::Block1 => ValuePhase::BlockLength(Number::new(1)),
-            Form::Block2 => ValuePhase::BlockLength(Number::new(2)),
-            Form::Block4 => ValuePhase::BlockLength(Number::new(4)),
+            Form::Block1 => ValuePhase::BlockLength(PartialNumber::new(1)),
+            Form::Block2 => ValuePhase::BlockLength(PartialNumber::new(2)),
+            Form::Block4 => ValuePhase::BlockLength(PartialNumber::new(4)),
             Form::Block => ValuePhase::LebBlockLength(Uleb::new()),
         }
     }

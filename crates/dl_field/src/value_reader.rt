@@ -9,7 +9,7 @@ use crate::field_step::FieldStep;
 use crate::sixteen::Sixteen;
 use crate::table_reader::{TablePhase, TableReader};
 use crate::value_phase::{Cursor, ValuePhase};
-use dl_num::{LebRange, Number, Order, Uleb};
+use dl_num::{LebRange, Order, PartialNumber, Uleb};
 use dl_table::{Extent, FaultKind, Form, Format, StoredValue};
 
 impl TableReader {
@@ -46,7 +46,7 @@ impl TableReader {
         &mut self,
         at: Cursor,
         form: Form,
-        number: Number,
+        number: PartialNumber,
         order: Order,
         format: Format,
         byte: u8,
@@ -111,7 +111,7 @@ impl TableReader {
     fn block_length(
         &mut self,
         at: Cursor,
-        number: Number,
+        number: PartialNumber,
         order: Order,
         format: Format,
         byte: u8,

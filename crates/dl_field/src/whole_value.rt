@@ -11,7 +11,7 @@ use crate::sixteen::Sixteen;
 use crate::table_reader::{TablePhase, TableReader};
 use crate::value_phase::{Cursor, ValuePhase};
 use crate::value_reader::held_number;
-use dl_num::{Number, Order, Uleb, fixed_at_front, short_uleb_at_front};
+use dl_num::{Order, PartialNumber, Uleb, fixed_at_front, short_uleb_at_front};
 use dl_table::text::first_zero;
 use dl_table::{Extent, Form, Format, StoredValue};
 
@@ -20,7 +20,7 @@ use dl_table::{Extent, Form, Format, StoredValue};
 #[inline(always)]
 fn number_at_front(
     form: Form,
-    number: Number,
+    number: PartialNumber,
     order: Order,
     bytes: &[u8],
 ) -> Option<(StoredValue, &[u8])>

@@ -2,7 +2,7 @@
 use Rattle.std.proofs.Common.{◌≡◌, ◌≢◌, ℕ, ◌+◌, ◌-◌, ◌^◌, min, List, [], ◌∷◌, ◌++◌, length, Option, Some, None, refl}
 use Rattle.std.proofs.Common.{sym, ap, subst, ◌∙◌, arith, length-append}
 use Rattle.dl_num.specs.declared.fixed.Order.{Order}
-use Rattle.dl_num.specs.declared.number.Number.{Number}
+use Rattle.dl_num.specs.declared.partial_number.PartialNumber.{PartialNumber}
 use Rattle.dl_num.specs.NumberBytes.{number_size, number_bytes}
 use Rattle.dl_head.specs.declared.reader.Phase.{Phase}
 use Rattle.dl_head.specs.declared.reader.Phase.TheVariants as phase
@@ -219,7 +219,7 @@ pub live_of : (r : HeadReader) (b : List ℕ) → ending r.phase ≡ None → St
 live_of r b goes s = subst (λ (o : Option HeadStep). Stands r o b) goes s.stands
 
 -- a new reader
-pub new_stands : (r : HeadReader) (n : Number) → r.phase ≡ phase.UnitLength n → number_bytes n ≡ [] → number_size n ≡ 4
+pub new_stands : (r : HeadReader) (n : PartialNumber) → r.phase ≡ phase.UnitLength n → number_bytes n ≡ [] → number_size n ≡ 4
     → AtStart r [] → r.taken ≡ 0 → r.start ≡ 0 → r.header ≡ None
     → table_cells r.directories ≡ 0 → table_cells r.files ≡ 0 → StandsFor r []
 new_stands r n is none size at taken start header directories files = record {

@@ -19,7 +19,7 @@ use crate::fault::Fault;
 use crate::header::Header;
 use byte_field::ByteField;
 use dl_field::{FieldStep, Params, TableReader};
-use dl_num::{Number, Order};
+use dl_num::{Order, PartialNumber};
 use dl_table::{FaultKind, Format, Table};
 pub use run::HeadRun;
 use std::alloc::Global;
@@ -43,13 +43,13 @@ pub enum HeadStep {
 /// What the next byte of a header is part of.
 #[derive(Clone, Copy)]
 enum Phase {
-    UnitLength(Number),
+    UnitLength(PartialNumber),
     /// The eight bytes after 0xffffffff.
-    LongUnitLength(Number),
+    LongUnitLength(PartialNumber),
     Version,
     /// The version's second byte, after this one.
     VersionEnd(u8),
-    HeaderLength(Number),
+    HeaderLength(PartialNumber),
     Byte(ByteField),
     /// The length of the next standard opcode.
     OpcodeLength,
@@ -120,7 +120,7 @@ impl HeadReader {
         HeadReader {
             alloc,
             order,
-            phase: Phase::UnitLength(Number::new(4)),
+            phase: Phase::UnitLength(PartialNumber::new(4)),
             params: Params::least(Format::Dwarf32),
             unit_length: 0,
             end: None,

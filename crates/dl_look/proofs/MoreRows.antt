@@ -7,7 +7,7 @@ use Rattle.std.proofs.Math.Bool.{and-true, and_assoc}
 use Rattle.std.proofs.lemmas.Bool.{and_parts}
 use Rattle.dl_rows.specs.declared.row.Row.{Row}
 use Rattle.dl_look.specs.declared.place.Place.{Place}
-use Rattle.dl_look.specs.declared.run.Run.{Run}
+use Rattle.dl_look.specs.declared.sequence_so_far.SequenceSoFar.{SequenceSoFar}
 use Rattle.dl_look.specs.Answer.{place_of, is_at_most, is_rising, last_place, covers, sequences_after, sequences, last_upto, answer}
 use Rattle.dl_look.specs.FinderRows.{unended_after, unended}
 use Rattle.dl_look.specs.Spans.{run_of}
@@ -25,11 +25,11 @@ is_rising-push q (t ∷ s) r =
     ∙ sym (and_assoc (is_at_most (place_of q) (place_of t)) (is_rising (t ∷ s)) (is_at_most (last_place (t ∷ s)) (place_of r)))
 
 -- a row after a run
-pub run_of-push : (rows : List Row) (r : Row) (run : Run) → Some run ≡ run_of rows → run_of (rows ++ r ∷ []) ≡ Some (record { first = run.first; last = place_of r; rising = run.rising && is_at_most run.last (place_of r) })
+pub run_of-push : (rows : List Row) (r : Row) (run : SequenceSoFar) → Some run ≡ run_of rows → run_of (rows ++ r ∷ []) ≡ Some (record { first = run.first; last = place_of r; rising = run.rising && is_at_most run.last (place_of r) })
 run_of-push [] r run e = cc
 run_of-push (q ∷ s) r run e =
     ap₂ (λ (p : Place) (b : Bool). Some (record { first = place_of q; last = p; rising = b })) (last_place-push (q ∷ s) r) (is_rising-push q s r)
-    ∙ ap (λ o. option_map (λ (k : Run). record { first = k.first; last = place_of r; rising = k.rising && is_at_most k.last (place_of r) }) o) (sym e)
+    ∙ ap (λ o. option_map (λ (k : SequenceSoFar). record { first = k.first; last = place_of r; rising = k.rising && is_at_most k.last (place_of r) }) o) (sym e)
 
 -- where a row ends a sequence, and where it doesn't
 pub sequences-push_end : (begun rows : List Row) (r : Row) → r.end_sequence ≡ true → sequences_after begun (rows ++ r ∷ []) ≡ sequences_after begun rows ++ (unended_after begun rows ++ r ∷ []) ∷ []

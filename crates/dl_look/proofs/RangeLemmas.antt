@@ -33,16 +33,6 @@ pub record SoFar (ranges : List AddressRange) (reaches : List Reach) (i furthest
   pub last : 0 < furthest → (0 < i) × (reach_end reaches (i - 1) ≡ furthest)
   pub same : (a : ℕ) → list_any (is_reached a) reaches ≡ list_any (is_in a) (take i ranges)
 
-pub none_yet : (ranges : List AddressRange) → SoFar ranges [] 0 0
-none_yet ranges = record {
-  count = refl;
-  rising = λ j k le lt. absurd (omega (arith, lt));
-  ends = λ k lt. absurd (omega (arith, lt));
-  starts = λ k lt. absurd (omega (arith, lt));
-  last = λ lt. absurd (omega (arith, lt));
-  same = λ a. refl;
-}
-
 reached : (reaches : List Reach) (a k : ℕ) → k < length reaches → reach_start reaches k ≤ a → a < reach_end reaches k → list_any (is_reached a) reaches ≡ true
 reached reaches a k lt from to =
     list_any-from_Any (is_reached a) reaches (k, get_or reaches k no_reach, lt, get_or_default reaches k (get_or reaches k no_reach) no_reach lt, (grind (arith, nat_tests, from, to)))
@@ -135,9 +125,6 @@ module _ (ranges : List AddressRange) (reaches : List Reach) (i furthest end : �
 
   pub one_more : SoFar ranges more (i + 1) end
   one_more = record { count = count; rising = rising; ends = ends; starts = starts; last = last; same = same }
-
-pub all_reached : (ranges : List AddressRange) (reaches : List Reach) (i furthest : ℕ) → length ranges ≤ i → SoFar ranges reaches i furthest → AreReaches ranges reaches
-all_reached ranges reaches i furthest past s = record { rising = s.rising; same = λ a. s.same a ∙ ap (list_any (is_in a)) (take_all i ranges past) }
 
 -- ---- a look-up. count: how many begin at the address or before it
 

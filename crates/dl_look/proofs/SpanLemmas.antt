@@ -67,9 +67,6 @@ pub record Passed (rows now : List Row) (x : Place) (i probes : ℕ) : Type 0 wh
   pub count : probes ≡ i
   pub within : i ≤ length (sequences rows)
 
-pub none_passed : (rows : List Row) (x : Place) (probes : ℕ) → probes ≡ 0 → Passed rows rows x 0 probes
-none_passed rows x probes z = record { same = refl; others = refl; count = z; within = omega arith }
-
 pub all_passed : (rows now : List Row) (x : Place) (i probes : ℕ) → Passed rows now x i probes → length (sequences rows) ≤ i → None ≡ answer rows x
 all_passed rows now x i probes p all =
     sym (p.others ∙ ap (λ ss. answer_among ss x) (drop_of_length-le (sequences rows) all))

@@ -3,7 +3,7 @@ use Rattle.std.proofs.Common.{◌≡◌, ℕ, ◌+◌, ◌-◌, true, false, Lis
 use Rattle.std.specs.Option.{option_map_or}
 use Rattle.dl_rows.specs.declared.row.Row.{Row}
 use Rattle.dl_look.specs.declared.probed.Span.{Span}
-use Rattle.dl_look.specs.declared.run.Run.{Run}
+use Rattle.dl_look.specs.declared.sequence_so_far.SequenceSoFar.{SequenceSoFar}
 use Rattle.dl_look.specs.Answer.{place_of, is_rising, last_place, sequences}
 use Rattle.dl_look.specs.FinderRows.{unended}
 use Rattle.dl_look.specs.Spans.{span_of, spans_from, spans, run_of}
@@ -16,18 +16,18 @@ spans_from-push k (t ∷ ss) s =
     let e : k + length t + length (joined ss) ≡ k + length (t ++ joined ss) = omega (arith, length-append t (joined ss)) in
     ap (λ l. span_of k t ∷ l) (spans_from-push (k + length t) ss s ∙ ap (λ n. spans_from (k + length t) ss ++ span_of n s ∷ []) e)
 
-abbrev pub span_with : ℕ → ℕ → Run → Span
+abbrev pub span_with : ℕ → ℕ → SequenceSoFar → Span
 span_with start len run = record { start = start; len = len; first = run.first; last = run.last; rising = run.rising }
 
 -- the span of a run that an end row ends
-span_of-run : (start len : ℕ) (s : List Row) (run : Run) → Some run ≡ run_of s → len ≡ length s → span_of start s ≡ span_with start len run
+span_of-run : (start len : ℕ) (s : List Row) (run : SequenceSoFar) → Some run ≡ run_of s → len ≡ length s → span_of start s ≡ span_with start len run
 span_of-run start len [] run e n = cc
 span_of-run start len (q ∷ s) run e n =
     let is = ap (λ o. option_map_or (span_with start len) o (span_of start (q ∷ s))) e in
     ap (λ k. span_with start k (record { first = place_of q; last = last_place (q ∷ s); rising = is_rising (q ∷ s) })) (sym n) ∙ sym is
 
 -- after the rows so far
-pub record SoFar (rows : List Row) (kept : List Span) (start : ℕ) (run : Option Run) : Type 0 where
+pub record SoFar (rows : List Row) (kept : List Span) (start : ℕ) (run : Option SequenceSoFar) : Type 0 where
   pub kept_is : kept ≡ spans rows
   pub start_is : start + length (unended rows) ≡ length rows
   pub run_is : run ≡ run_of (unended rows)
@@ -35,7 +35,7 @@ pub record SoFar (rows : List Row) (kept : List Span) (start : ℕ) (run : Optio
 pub none_so_far : SoFar [] [] 0 None
 none_so_far = record { kept_is = refl; start_is = refl; run_is = refl }
 
-module _ (rows : List Row) (kept : List Span) (start : ℕ) (run : Option Run) (so_far : SoFar rows kept start run) (r : Row) (extended : Run) (runs : Some extended ≡ run_of (unended rows ++ r ∷ [])) where
+module _ (rows : List Row) (kept : List Span) (start : ℕ) (run : Option SequenceSoFar) (so_far : SoFar rows kept start run) (r : Row) (extended : SequenceSoFar) (runs : Some extended ≡ run_of (unended rows ++ r ∷ [])) where
   pub goes_on : r.end_sequence ≡ false → SoFar (rows ++ r ∷ []) kept start (Some extended)
   goes_on more =
       let pushed = unended-push [] rows r more in

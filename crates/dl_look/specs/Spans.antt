@@ -2,7 +2,7 @@
 use Rattle.std.specs.Prelude.{ℕ, ◌+◌, List, [], ◌∷◌, length, Option, Some, None}
 use Rattle.dl_rows.specs.declared.row.Row.{Row}
 use Rattle.dl_look.specs.declared.probed.Span.{Span}
-use Rattle.dl_look.specs.declared.run.Run.{Run}
+use Rattle.dl_look.specs.declared.sequence_so_far.SequenceSoFar.{SequenceSoFar}
 use Rattle.dl_look.specs.Answer.{sequences, is_rising, first_place, last_place}
 
 -- of a sequence whose first row has the number start
@@ -24,7 +24,7 @@ abbrev pub spans : List Row → List Span
 spans rows = spans_from 0 (sequences rows)
 
 -- of the rows of a sequence so far; None of no rows
-abbrev pub run_of : List Row → Option Run
+abbrev pub run_of : List Row → Option SequenceSoFar
 run_of [] = None
 run_of (r ∷ rows) =
     Some (record { first = first_place (r ∷ rows); last = last_place (r ∷ rows); rising = is_rising (r ∷ rows) })

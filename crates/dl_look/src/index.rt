@@ -7,8 +7,8 @@ ghost use Rattle.dl_look.specs.Spans as Spans;
 use crate::cuts::{Cut, cuts_of, cuts_upto};
 use crate::place::Place;
 use crate::probed::{Probed, Span};
-use crate::run::Run;
 use crate::searching::search_between;
+use crate::sequence_so_far::SequenceSoFar;
 use dl_rows::Row;
 use std::alloc::Global;
 use std::marker::Model;
@@ -86,7 +86,7 @@ fn spans_of(alloc: Global, rows: &[Row]) -> Result<Vec<Span>, NoMemory>
     let mut start = 0;
     let mut run = None;
     for (i, row) in rows.iter().enumerate() {
-        let extended = Run::extended(run, Place::of(row));
+        let extended = SequenceSoFar::extended(run, Place::of(row));
         if row.end_sequence {
             let span = Span {
                 start,

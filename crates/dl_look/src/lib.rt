@@ -12,8 +12,8 @@ mod links;
 mod live;
 mod place;
 mod probed;
-mod run;
 mod searching;
+mod sequence_so_far;
 mod slots;
 mod trail;
 

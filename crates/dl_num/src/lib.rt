@@ -5,8 +5,8 @@ pub mod fixed;
 pub mod front;
 pub mod laws;
 pub mod leb;
-pub mod number;
-pub mod operand;
+pub mod partial_bytes;
+pub mod partial_number;
 pub mod spell;
 
 pub use fixed::{Fixed, Order, fixed_at_front, fixed_bytes, number_of};
@@ -15,8 +15,8 @@ pub use front::{
     uleb_read_back,
 };
 pub use leb::{LebRange, Skip, Sleb, Uleb};
-pub use number::Number;
-pub use operand::Operand;
+pub use partial_bytes::PartialBytes;
+pub use partial_number::PartialNumber;
 pub use spell::{sleb_bytes, uleb_bytes};
 
 #[cfg(test)]

@@ -1,7 +1,7 @@
 use crate::{
-    Fixed, LebRange, Number, Operand, Order, Skip, Sleb, Uleb, fixed_bytes, short_sleb_at_front,
-    short_uleb_at_front, sleb_at_front, sleb_bytes, sleb_read_back, uleb_at_front, uleb_bytes,
-    uleb_read_back,
+    Fixed, LebRange, Order, PartialBytes, PartialNumber, Skip, Sleb, Uleb, fixed_bytes,
+    short_sleb_at_front, short_uleb_at_front, sleb_at_front, sleb_bytes, sleb_read_back,
+    uleb_at_front, uleb_bytes, uleb_read_back,
 };
 use std::process::Abort;
 
@@ -144,7 +144,7 @@ fn bytes_of_fixed_size(rt: HostRuntime) {
 
 #[test]
 fn sixteen_bytes(rt: HostRuntime) {
-    let mut operand = Operand::new(16);
+    let mut operand = PartialBytes::new(16);
     let mut whole = None;
     for byte in 0..16 {
         match operand.push(byte) {
@@ -164,7 +164,7 @@ fn sixteen_bytes_stand_as_they_came(rt: HostRuntime) {
         0xd4, 0x1d, 0x8c, 0xd9, 0x8f, 0x00, 0xb2, 0x04, 0xe9, 0x80, 0x09, 0x98, 0xec, 0xf8, 0x42,
         0x7e,
     ];
-    let mut operand = Operand::new(16);
+    let mut operand = PartialBytes::new(16);
     let mut whole = None;
     for byte in sum {
         match operand.push(byte) {
@@ -190,7 +190,7 @@ fn numbers_of_fixed_size(rt: HostRuntime) {
         if !matches!(size, 1 | 2 | 4 | 8) {
             continue;
         }
-        let mut number = Number::new(size);
+        let mut number = PartialNumber::new(size);
         let mut last = None;
         for byte in bytes {
             assert_eq!(rt; last, None);
@@ -200,12 +200,14 @@ fn numbers_of_fixed_size(rt: HostRuntime) {
             }
         }
         assert_eq!(rt; last, Some(value));
-        let whole = Number::new(size).take_from(order, bytes);
+        let whole = PartialNumber::new(size).take_from(order, bytes);
         let (found, behind) = whole.ok().expect(&rt, "a number");
         assert_eq!(rt; found, value);
         assert!(rt; behind.is_empty());
     }
-    let lacking = Number::new(4).take_from(Order::Big, &[0x12, 0x34]).err();
+    let lacking = PartialNumber::new(4)
+        .take_from(Order::Big, &[0x12, 0x34])
+        .err();
     let lacking = lacking.expect(&rt, "a number that lacks bytes");
     let whole = lacking.take_from(Order::Big, &[0x56, 0x78, 0xaa]).ok();
     let (found, behind) = whole.expect(&rt, "a number");

@@ -16,7 +16,7 @@ use std::marker::Model;
 pub use string_sections::{StringSection, StringSections, text_in_section};
 
 /// How many bytes a printer holds at most.
-const HELD: usize = 65536;
+const BUFFER_LEN: usize = 65536;
 
 /// How many bytes a text has at most that is written into the buffer itself.
 const PIECE: usize = 256;
@@ -26,7 +26,7 @@ const PIECE: usize = 256;
 /// The writer is lent at each call. After a fault nothing more is to be printed.
 #[derive(Drop)]
 pub struct Printer {
-    buffer: [u8; HELD],
+    buffer: [u8; BUFFER_LEN],
     held: usize,
     out: u128,
 }
@@ -34,13 +34,13 @@ pub struct Printer {
 impl Model for Printer {
     ghost use Rattle.std.specs.Prelude.{◌≤◌, take};
     ghost use Rattle.dl_print.specs.Printed.{Printed};
-    ghost use Rattle.dl_print.specs.declared.output.TheConstants.{HELD};
+    ghost use Rattle.dl_print.specs.declared.output.TheConstants.{BUFFER_LEN};
 
     ghost Value = { Printed };
 
     ghost view = { λ p. record { pending = take p.held p.buffer; out = p.out } };
 
-    ghost invariant = { λ p. p.held ≤ HELD };
+    ghost invariant = { λ p. p.held ≤ BUFFER_LEN };
 }
 
 /// Writes bytes on top of the `out` that are out, and answers how many are out then. Where a count
@@ -70,7 +70,7 @@ impl Printer {
         ensures nothing_out { result.out ≡ 0 }
     {
         Printer {
-            buffer: [0; HELD],
+            buffer: [0; BUFFER_LEN],
             held: 0,
             out: 0,
         }
@@ -102,9 +102,9 @@ impl Printer {
         ensures printed { Prints (W.contents output.old) (W.contents output.new)
             self.old self.new bytes.now result }
     {
-        if HELD - self.held < bytes.len() {
+        if BUFFER_LEN - self.held < bytes.len() {
             self.flush(output)?;
-            if HELD < bytes.len() {
+            if BUFFER_LEN < bytes.len() {
                 return self.pass(output, bytes);
             }
         }
@@ -117,9 +117,9 @@ impl Printer {
     fn make_room<W: Write>(&mut self, output: &mut W) -> Result<(), WriteFault>
         ensures printed { Flushes (W.contents output.old) (W.contents output.new)
             self.old self.new result }
-        ensures room { OnOk result (length self.new.pending + PIECE ≤ HELD) }
+        ensures room { OnOk result (length self.new.pending + PIECE ≤ BUFFER_LEN) }
     {
-        if HELD - self.held < PIECE {
+        if BUFFER_LEN - self.held < PIECE {
             self.flush(output)?;
         }
         Ok(())

@@ -5,7 +5,7 @@ use Rattle.std.proofs.lemmas.List.{length-append, append-nil, take_more, take_al
 use Rattle.dl_num.specs.declared.fixed.Order.{Order}
 use Rattle.dl_num.specs.declared.leb.LebRange.{LebRange}
 use Rattle.dl_num.specs.declared.leb.Uleb.{Uleb}
-use Rattle.dl_num.specs.declared.number.Number.{Number}
+use Rattle.dl_num.specs.declared.partial_number.PartialNumber.{PartialNumber}
 use Rattle.dl_num.specs.Front.{SpellsNowhere, SpellsFirst}
 use Rattle.dl_num.specs.Leb.{IsUleb}
 use Rattle.dl_num.specs.LebReader.{UlebTook, UlebIs}
@@ -13,9 +13,9 @@ use Rattle.dl_num.specs.NumberBytes.{number_size, number_bytes}
 use Rattle.dl_field.specs.declared.params.Params.{Params}
 use Rattle.dl_table.specs.declared.fault.FaultKind.TheVariants as fault
 use Rattle.dl_rows.specs.declared.operation.Operation.TheVariants as op
-use Rattle.dl_rows.specs.declared.phase.Phase.TheVariants as phase
-use Rattle.dl_rows.specs.declared.phase.Step.{Step}
-use Rattle.dl_rows.specs.declared.phase.Step.TheVariants as step
+use Rattle.dl_rows.specs.declared.operation_state.OperationState.TheVariants as phase
+use Rattle.dl_rows.specs.declared.operation_state.OperationStep.{OperationStep}
+use Rattle.dl_rows.specs.declared.operation_state.OperationStep.TheVariants as step
 use Rattle.dl_rows.specs.OperationSpelt.{discriminator_spelt, extended_spelt, operation_spelt}
 use Rattle.dl_rows.specs.Phases.{HasLength, LebsLeft, PhaseStands, StepIs}
 use Rattle.dl_rows.proofs.FirstLemmas.{first_nil, open_byte}
@@ -53,10 +53,10 @@ discriminator_at order h left b old v a s first =
     (first_same (extended_spelt order h.address_size n 4) (discriminator_spelt n) (s.2.1 ++ b ∷ []) a (λ u. refl) first)
 
 pub discriminator_ends : (order : Order) (h : Params) (b : ℕ) (old : Uleb) (v : List ℕ) (m : ℕ) → PhaseStands h (phase.Discriminator 1 old) v → m < 2 ^ 64
-    → ((w : List ℕ) → UlebTook old w → UlebIs (w ++ b ∷ []) (Ok m)) → SpellsFirst (operation_spelt order h) (v ++ b ∷ []) (Ok (op.Discriminator m))
+    → ((w : List ℕ) → UlebTook old w → UlebIs (w ++ b ∷ []) (Ok m)) → SpellsFirst (operation_spelt order h) (v ++ b ∷ []) (Ok (op.SetDiscriminator m))
 discriminator_ends order h b old v m s lt is =
     let l : length (s.2.1 ++ b ∷ []) ≡ length s.2.1 + 1 = length-append s.2.1 (b ∷ []) in
-    discriminator_at order h 1 b old v (Ok (op.Discriminator m)) s (discriminator_first (1 + length s.2.1 + 1) m (s.2.1 ++ b ∷ []) (is s.2.1 s.2.4) lt (omega arith))
+    discriminator_at order h 1 b old v (Ok (op.SetDiscriminator m)) s (discriminator_first (1 + length s.2.1 + 1) m (s.2.1 ++ b ∷ []) (is s.2.1 s.2.4) lt (omega arith))
 
 pub discriminator_beyond : (order : Order) (h : Params) (left b : ℕ) (old : Uleb) (v : List ℕ) (e : LebRange) → PhaseStands h (phase.Discriminator left old) v
     → ((w : List ℕ) → UlebTook old w → UlebIs (w ++ b ∷ []) (Err e)) → SpellsFirst (operation_spelt order h) (v ++ b ∷ []) (Err fault.LebRange)
@@ -85,7 +85,7 @@ discriminator_long order h left b old new v s one took =
 -- ---- bytes in two parts
 
 -- what bytes after front make of v and front, they and front make of v
-pub step_behind : (order : Order) (h : Params) (v front bytes : List ℕ) (r : Step) → StepIs order h (v ++ front) bytes r → StepIs order h v (front ++ bytes) r
+pub step_behind : (order : Order) (h : Params) (v front bytes : List ℕ) (r : OperationStep) → StepIs order h (v ++ front) bytes r → StepIs order h v (front ++ bytes) r
 step_behind order h v front bytes (step.Within p) s = (
   subst (λ (z : List ℕ). PhaseStands h p z) (append_assoc v front bytes) s.0,
   subst (λ (z : List ℕ). SpellsNowhere (operation_spelt order h) z) (append_assoc v front bytes) s.1,
@@ -102,7 +102,7 @@ step_behind order h v front bytes (step.Refuses k behind) s = (
 )
 
 -- the same where the bytes are told so
-pub step_from : (order : Order) (h : Params) (v front rest bytes : List ℕ) (r : Step) → bytes ≡ front ++ rest → StepIs order h (v ++ front) rest r → StepIs order h v bytes r
+pub step_from : (order : Order) (h : Params) (v front rest bytes : List ℕ) (r : OperationStep) → bytes ≡ front ++ rest → StepIs order h (v ++ front) rest r → StepIs order h v bytes r
 step_from order h v front rest bytes r e s = subst (λ (z : List ℕ). StepIs order h v z r) (sym e) (step_behind order h v front rest r s)
 
 -- bytes that end after one of them, where v and the front before it are told of together
@@ -132,7 +132,7 @@ length_beyond order h old new v bytes behind e s answer =
     )
 
 -- the length is complete, and the rest is what the bytes after it make
-pub length_read : (order : Order) (h : Params) (old new : Uleb) (v bytes behind : List ℕ) (n : ℕ) (r : Step) → PhaseStands h (phase.Length old) v
+pub length_read : (order : Order) (h : Params) (old new : Uleb) (v bytes behind : List ℕ) (n : ℕ) (r : OperationStep) → PhaseStands h (phase.Length old) v
     → Answered old bytes behind (Ok n) new → ((w : List ℕ) → IsUleb w n → StepIs order h (0 ∷ w) behind r) → StepIs order h v bytes r
 length_read order h old new v bytes behind n r s answer rest =
     let a = answer s.1.0 s.1.2 in
@@ -166,7 +166,7 @@ opcode_decides order h n x v bytes behind a s e is = (
       (extended_first order h s.0 s.1.0 n x [] a s.1.2 (first_nil (extended_spelt order h.address_size n x) a is)),
 )
 
-pub end_is : (order : Order) (size n x : ℕ) → x ≡ 1 → n ≡ 1 → extended_spelt order size n x [] ≡ Some (Ok op.End)
+pub end_is : (order : Order) (size n x : ℕ) → x ≡ 1 → n ≡ 1 → extended_spelt order size n x [] ≡ Some (Ok op.EndSequence)
 end_is order size n x e f = rw (e, f) refl
 
 pub end_of_wrong_length : (order : Order) (size n x : ℕ) → x ≡ 1 → n ≢ 1 → extended_spelt order size n x [] ≡ Some (Err fault.ExtendedLength)
@@ -228,21 +228,21 @@ not_lt {n = n} {m = m} h = elim (cases_lt n m) [ inl lt ↦ absurd (false_true (
 
 -- ---- the operand of an extended opcode begins
 
-pub address_begins : (order : Order) (h : Params) (n x : ℕ) (new : Number) (v bytes behind : List ℕ) (r : Step) → PhaseStands h (phase.Extended n) v → bytes ≡ x ∷ behind → x ≡ 2
+pub address_begins : (order : Order) (h : Params) (n x : ℕ) (new : PartialNumber) (v bytes behind : List ℕ) (r : OperationStep) → PhaseStands h (phase.Extended n) v → bytes ≡ x ∷ behind → x ≡ 2
     → n ≡ 1 + h.address_size → number_bytes new ≡ [] → number_size new ≡ h.address_size
     → ((v : List ℕ) → PhaseStands h (phase.Address new) v → StepIs order h v behind r) → StepIs order h v bytes r
 address_begins order h n x new v bytes behind r s e is size none width rest =
     let now : v ++ x ∷ [] ≡ 0 ∷ (s.1.0 ++ 2 ∷ number_bytes new) = ap (λ (z : List ℕ). z ++ x ∷ []) s.1.1 ∙ ap (λ (z : ℕ). 0 ∷ (s.1.0 ++ z ∷ [])) is ∙ ap (λ (z : List ℕ). 0 ∷ (s.1.0 ++ 2 ∷ z)) (sym none) in
     step_from order h v (x ∷ []) behind bytes r e (rest (v ++ x ∷ []) (s.0, (s.1.0, now, subst (λ (z : ℕ). HasLength s.1.0 z) size s.1.2, width)))
 
-pub discriminator_begins : (order : Order) (h : Params) (n x : ℕ) (new : Uleb) (v bytes behind : List ℕ) (r : Step) → PhaseStands h (phase.Extended n) v → bytes ≡ x ∷ behind → x ≡ 4
+pub discriminator_begins : (order : Order) (h : Params) (n x : ℕ) (new : Uleb) (v bytes behind : List ℕ) (r : OperationStep) → PhaseStands h (phase.Extended n) v → bytes ≡ x ∷ behind → x ≡ 4
     → 1 < n → UlebTook new [] → ((v : List ℕ) → PhaseStands h (phase.Discriminator (n - 1) new) v → StepIs order h v behind r) → StepIs order h v bytes r
 discriminator_begins order h n x new v bytes behind r s e is more took rest =
     let now : v ++ x ∷ [] ≡ 0 ∷ (s.1.0 ++ 4 ∷ []) = ap (λ (z : List ℕ). z ++ x ∷ []) s.1.1 ∙ ap (λ (z : ℕ). 0 ∷ (s.1.0 ++ z ∷ [])) is in
     let m : n ≡ 1 + 0 + (n - 1) = omega arith in
     step_from order h v (x ∷ []) behind bytes r e (rest (v ++ x ∷ []) (s.0, omega arith, (s.1.0, [], now, subst (λ (z : ℕ). HasLength s.1.0 z) m s.1.2, took)))
 
-pub rest_begins : (order : Order) (h : Params) (n x : ℕ) (v bytes behind : List ℕ) (r : Step) → PhaseStands h (phase.Extended n) v → bytes ≡ x ∷ behind → x ≢ 1 → x ≢ 2 → x ≢ 4
+pub rest_begins : (order : Order) (h : Params) (n x : ℕ) (v bytes behind : List ℕ) (r : OperationStep) → PhaseStands h (phase.Extended n) v → bytes ≡ x ∷ behind → x ≢ 1 → x ≢ 2 → x ≢ 4
     → 1 < n → ((v : List ℕ) → PhaseStands h (phase.Rest (n - 1)) v → StepIs order h v behind r) → StepIs order h v bytes r
 rest_begins order h n x v bytes behind r s e a b d more rest =
     let now : v ++ x ∷ [] ≡ 0 ∷ (s.1.0 ++ x ∷ []) = ap (λ (z : List ℕ). z ++ x ∷ []) s.1.1 in

@@ -122,7 +122,7 @@ discriminator_open n w front x back before last c is le e =
     let m = continue_before before last front x back c (sym is ∙ e) in
     rw (ne_eqb n 1 (λ k. omega arith), is_leb-continues front m, ne_eqb (1 + length front) n (λ k. omega arith)) refl
 
-pub discriminator_first : (n m : ℕ) (w : List ℕ) → IsUleb w m → m < 2 ^ 64 → 1 + length w ≡ n → SpellsFirst (discriminator_spelt n) w (Ok (op.Discriminator m))
+pub discriminator_first : (n m : ℕ) (w : List ℕ) → IsUleb w m → m < 2 ^ 64 → 1 + length w ≡ n → SpellsFirst (discriminator_spelt n) w (Ok (op.SetDiscriminator m))
 discriminator_first n m w u lt e = record {
   spells = (let l : length w ≡ length u.0 + 1 = ap length u.2.bytes ∙ length-append u.0 (u.1 ∷ []) in let g : groups w ≡ m = sym u.3 in
       rw (ne_eqb n 1 (λ k. omega arith), is_leb-number w u.0 u.1 u.2, g, lt-ltb m (2 ^ 64) lt, eq-eqb (1 + length w) n e) refl);

@@ -29,10 +29,6 @@ taken_is head n begun counts = ∥∥₁_elim begun (hlevel props) (λ g. counts
 pub length_known : (head : HeadReader) (o : Option ℕ) → ∥ KnowsLength head ∥₁ → ((b : List ℕ) → HeadStands head b → o ≡ unit_len head.order b) → o ≡ None → ⊥
 length_known head o known tells none = ∥∥₁_elim known (hlevel props) (λ k. none_some none (tells k.0 k.1 ∙ k.2.1))
 
--- and has taken no more
-pub taken_within : (head : HeadReader) (taken len : ℕ) → ∥ KnowsLength head ∥₁ → ((b : List ℕ) → HeadStands head b → taken ≡ length b) → ((b : List ℕ) → HeadStands head b → length b ≤ len) → taken ≤ len
-taken_within head taken len known counts within = ∥∥₁_elim known (hlevel props) (λ k. (let w = within k.0 k.1 in omega (arith, w, counts k.0 k.1)))
-
 -- a reader that has taken a header does so
 pub header_knows : (head : HeadReader) → ∥ HasHeader head ∥₁ → ∥ KnowsLength head ∥₁
 header_knows head has = ∥∥₁_elim has ∥∥₁_prop (λ k. ∣ (k.0, k.1, header_known head.order k.2.0 k.0 k.2.1) ∣₁)

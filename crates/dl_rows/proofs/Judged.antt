@@ -121,8 +121,8 @@ bare_judged : (order : Order) (h : Params) (o : Operation) (opcode : ℕ) (w : L
 bare_judged order h o opcode w spells =
     cond_both (is_empty w) (good o) None (Judged order h (opcode ∷ w)) (λ e. spells (ap (λ (z : List ℕ). opcode ∷ z) (empty_is w e))) (λ f. tt)
 
-two_bytes_judged : (order : Order) (h : Params) (w : List ℕ) → 9 < h.opcode_base → Judged order h (9 ∷ w) (if length w == 2 then good (op.FixedAdd (fixed order w)) else None)
-two_bytes_judged order h w lt = cond_both (length w == 2) (good (op.FixedAdd (fixed order w))) None (Judged order h (9 ∷ w))
+two_bytes_judged : (order : Order) (h : Params) (w : List ℕ) → 9 < h.opcode_base → Judged order h (9 ∷ w) (if length w == 2 then good (op.FixedAdvancePc (fixed order w)) else None)
+two_bytes_judged order h w lt = cond_both (length w == 2) (good (op.FixedAdvancePc (fixed order w))) None (Judged order h (9 ∷ w))
     (λ e. record { below = lt; operand = w; bytes = refl; size = eqb-true (length w) 2 e; number = refl }) (λ f. tt)
 
 -- the opcodes from 1 to 12, counted from 0
@@ -132,13 +132,13 @@ standard_judged order h (suc zero) w lt le = number_judged order h (λ n. op.Adv
 standard_judged order h (suc (suc zero)) w lt le = signed_judged order h w lt
 standard_judged order h (suc (suc (suc zero))) w lt le = number_judged order h (λ n. op.SetFile n) 4 w lt (inr (inl refl)) (λ n s f. record { below = lt; operand = w; bytes = refl; spells = s; fits = f })
 standard_judged order h (suc (suc (suc (suc zero)))) w lt le = number_judged order h (λ n. op.SetColumn n) 5 w lt (inr (inr (inl refl))) (λ n s f. record { below = lt; operand = w; bytes = refl; spells = s; fits = f })
-standard_judged order h (suc (suc (suc (suc (suc zero))))) w lt le = bare_judged order h op.Negate 6 w (λ e. record { below = lt; bytes = e })
-standard_judged order h (suc (suc (suc (suc (suc (suc zero)))))) w lt le = bare_judged order h op.Block 7 w (λ e. record { below = lt; bytes = e })
-standard_judged order h (suc (suc (suc (suc (suc (suc (suc zero))))))) w lt le = bare_judged order h op.ConstAdd 8 w (λ e. record { below = lt; bytes = e })
+standard_judged order h (suc (suc (suc (suc (suc zero))))) w lt le = bare_judged order h op.NegateStatement 6 w (λ e. record { below = lt; bytes = e })
+standard_judged order h (suc (suc (suc (suc (suc (suc zero)))))) w lt le = bare_judged order h op.SetBasicBlock 7 w (λ e. record { below = lt; bytes = e })
+standard_judged order h (suc (suc (suc (suc (suc (suc (suc zero))))))) w lt le = bare_judged order h op.ConstAddPc 8 w (λ e. record { below = lt; bytes = e })
 standard_judged order h (suc (suc (suc (suc (suc (suc (suc (suc zero)))))))) w lt le = two_bytes_judged order h w lt
-standard_judged order h (suc (suc (suc (suc (suc (suc (suc (suc (suc zero))))))))) w lt le = bare_judged order h op.Prologue 10 w (λ e. record { below = lt; bytes = e })
-standard_judged order h (suc (suc (suc (suc (suc (suc (suc (suc (suc (suc zero)))))))))) w lt le = bare_judged order h op.Epilogue 11 w (λ e. record { below = lt; bytes = e })
-standard_judged order h (suc (suc (suc (suc (suc (suc (suc (suc (suc (suc (suc zero))))))))))) w lt le = number_judged order h (λ n. op.Isa n) 12 w lt (inr (inr (inr refl))) (λ n s f. record { below = lt; operand = w; bytes = refl; spells = s; fits = f })
+standard_judged order h (suc (suc (suc (suc (suc (suc (suc (suc (suc zero))))))))) w lt le = bare_judged order h op.SetPrologueEnd 10 w (λ e. record { below = lt; bytes = e })
+standard_judged order h (suc (suc (suc (suc (suc (suc (suc (suc (suc (suc zero)))))))))) w lt le = bare_judged order h op.SetEpilogueBegin 11 w (λ e. record { below = lt; bytes = e })
+standard_judged order h (suc (suc (suc (suc (suc (suc (suc (suc (suc (suc (suc zero))))))))))) w lt le = number_judged order h (λ n. op.SetIsa n) 12 w lt (inr (inr (inr refl))) (λ n s f. record { below = lt; operand = w; bytes = refl; spells = s; fits = f })
 standard_judged order h (suc (suc (suc (suc (suc (suc (suc (suc (suc (suc (suc (suc k)))))))))))) w lt le = absurd (omega arith)
 
 -- ---- extended opcodes
@@ -164,33 +164,33 @@ module _ (order : Order) (h : Params) (w size : List ℕ) (n : ℕ) (s : IsUleb 
   wrong_length : (opcode : ℕ) (operand : List ℕ) → IsTo opcode operand → IsWrongLength h opcode n → is_empty operand ≡ true → IsFaulty h w fault.ExtendedLength
   wrong_length opcode operand e wrong none = inl (record { n = n; opcode = opcode; begins = begins opcode [] (without_operand opcode operand e none); wrong = wrong })
 
-  end_judged : (operand : List ℕ) → IsTo 1 operand → Judged order h w (if is_empty operand then (if n == 1 then good op.End else bad fault.ExtendedLength) else None)
-  end_judged operand e = cond_both (is_empty operand) (if n == 1 then good op.End else bad fault.ExtendedLength) None (Judged order h w)
-      (λ none. cond_both (n == 1) (good op.End) (bad fault.ExtendedLength) (Judged order h w)
+  end_judged : (operand : List ℕ) → IsTo 1 operand → Judged order h w (if is_empty operand then (if n == 1 then good op.EndSequence else bad fault.ExtendedLength) else None)
+  end_judged operand e = cond_both (is_empty operand) (if n == 1 then good op.EndSequence else bad fault.ExtendedLength) None (Judged order h w)
+      (λ none. cond_both (n == 1) (good op.EndSequence) (bad fault.ExtendedLength) (Judged order h w)
       (λ l. whole 1 [] (without_operand 1 operand e none) (eqb-true n 1 l))
       (λ l. wrong_length 1 operand e (inl (refl, eqb-false n 1 l)) none))
       (λ f. tt)
 
-  address_fills : (operand : List ℕ) → IsTo 2 operand → n ≡ 1 + h.address_size → length operand ≡ h.address_size → SpellsOperation order h (op.Address (fixed order operand)) w
+  address_fills : (operand : List ℕ) → IsTo 2 operand → n ≡ 1 + h.address_size → length operand ≡ h.address_size → SpellsOperation order h (op.SetAddress (fixed order operand)) w
   address_fills operand e fit l = record { operand = operand; extended = whole 2 operand e (omega arith); size = l; number = refl }
 
-  address_judged : (operand : List ℕ) → IsTo 2 operand → Judged order h w (if n == 1 + h.address_size then (if length operand == h.address_size then good (op.Address (fixed order operand)) else None) else if is_empty operand then bad fault.ExtendedLength else None)
+  address_judged : (operand : List ℕ) → IsTo 2 operand → Judged order h w (if n == 1 + h.address_size then (if length operand == h.address_size then good (op.SetAddress (fixed order operand)) else None) else if is_empty operand then bad fault.ExtendedLength else None)
   address_judged operand e =
-      let address : Judgement Operation = if length operand == h.address_size then good (op.Address (fixed order operand)) else None in
+      let address : Judgement Operation = if length operand == h.address_size then good (op.SetAddress (fixed order operand)) else None in
       cond_both (n == 1 + h.address_size) address (if is_empty operand then bad fault.ExtendedLength else None) (Judged order h w)
-      (λ fit. cond_both (length operand == h.address_size) (good (op.Address (fixed order operand))) None (Judged order h w)
+      (λ fit. cond_both (length operand == h.address_size) (good (op.SetAddress (fixed order operand))) None (Judged order h w)
       (λ l. address_fills operand e (eqb-true n (1 + h.address_size) fit) (eqb-true (length operand) h.address_size l)) (λ l. tt))
       (λ unfit. cond_both (is_empty operand) (bad fault.ExtendedLength) None (Judged order h w)
       (λ none. wrong_length 2 operand e (inr (inl (refl, eqb-false n (1 + h.address_size) unfit))) none) (λ f. tt))
 
   -- the operand of set_discriminator is a number, or isn't
   ended_judged : (operand : List ℕ) → IsTo 4 operand → BeginsDiscriminator w n operand → is_leb operand ≡ true
-      → Judged order h w (if not (nat_lt (groups operand) (2 ^ 64)) then bad fault.LebRange else if 1 + length operand == n then good (op.Discriminator (groups operand)) else bad fault.ExtendedLength)
+      → Judged order h w (if not (nat_lt (groups operand) (2 ^ 64)) then bad fault.LebRange else if 1 + length operand == n then good (op.SetDiscriminator (groups operand)) else bad fault.ExtendedLength)
   ended_judged operand e b t =
-      let fitting : Judgement Operation = if 1 + length operand == n then good (op.Discriminator (groups operand)) else bad fault.ExtendedLength in
+      let fitting : Judgement Operation = if 1 + length operand == n then good (op.SetDiscriminator (groups operand)) else bad fault.ExtendedLength in
       cond_both (not (nat_lt (groups operand) (2 ^ 64))) (bad fault.LebRange) fitting (Judged order h w)
       (λ out. inr (inr (inr (record { n = n; operand = operand; begins = b; number = groups operand; spells = number_is operand t; out = not_below (groups operand) out }))))
-      (λ in_range. cond_both (1 + length operand == n) (good (op.Discriminator (groups operand))) (bad fault.ExtendedLength) (Judged order h w)
+      (λ in_range. cond_both (1 + length operand == n) (good (op.SetDiscriminator (groups operand))) (bad fault.ExtendedLength) (Judged order h w)
       (λ l. record { operand = operand; extended = whole 4 operand e (sym (eqb-true (1 + length operand) n l)); spells = number_is operand t; fits = below (groups operand) in_range })
       (λ l. inr (record { n = n; operand = operand; begins = b; differs = inl (leb_is operand t, eqb-false (1 + length operand) n l) })))
 
@@ -201,7 +201,7 @@ module _ (order : Order) (h : Params) (w size : List ℕ) (n : ℕ) (s : IsUleb 
 
   discriminator_judged : (operand : List ℕ) → IsTo 4 operand → Judged order h w (discriminator_spelt n operand)
   discriminator_judged operand e =
-      let fitting : Judgement Operation = if 1 + length operand == n then good (op.Discriminator (groups operand)) else bad fault.ExtendedLength in
+      let fitting : Judgement Operation = if 1 + length operand == n then good (op.SetDiscriminator (groups operand)) else bad fault.ExtendedLength in
       let ended : Judgement Operation = if not (nat_lt (groups operand) (2 ^ 64)) then bad fault.LebRange else fitting in
       let unended : Judgement Operation = if 1 + length operand == n then bad fault.ExtendedLength else None in
       cond_both (n == 1) (if is_empty operand then bad fault.ExtendedLength else None) (if is_leb operand then ended else unended) (Judged order h w)
@@ -229,8 +229,8 @@ module _ (order : Order) (h : Params) (w size : List ℕ) (n : ℕ) (s : IsUleb 
   extended_judged : (opcode : ℕ) (operand : List ℕ) → IsTo opcode operand → Judged order h w (extended_spelt order h.address_size n opcode operand)
   extended_judged opcode operand e =
       let rest : Judgement Operation = if 1 + length operand == n then good op.Skipped else None in
-      let one : Judgement Operation = if is_empty operand then (if n == 1 then good op.End else bad fault.ExtendedLength) else None in
-      let fitting : Judgement Operation = if length operand == h.address_size then good (op.Address (fixed order operand)) else None in
+      let one : Judgement Operation = if is_empty operand then (if n == 1 then good op.EndSequence else bad fault.ExtendedLength) else None in
+      let fitting : Judgement Operation = if length operand == h.address_size then good (op.SetAddress (fixed order operand)) else None in
       let two : Judgement Operation = if n == 1 + h.address_size then fitting else if is_empty operand then bad fault.ExtendedLength else None in
       let not_two : Judgement Operation = if opcode == 4 then discriminator_spelt n operand else rest in
       cond_both (opcode == 1) one (if opcode == 2 then two else not_two) (Judged order h w) (λ is. end_judged operand (at_opcode opcode 1 operand e is))

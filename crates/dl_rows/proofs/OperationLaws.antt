@@ -41,7 +41,7 @@ takes_computes : (order : Order) (h : Params) (w : List ℕ) (u : UnsignedOut h 
 takes_computes order h w u (inl e) = unsigned_out_computes order h (λ n. op.AdvancePc n) 2 w u (λ lt v. rw (lt-leb h.opcode_base 2 lt) refl) e
 takes_computes order h w u (inr (inl e)) = unsigned_out_computes order h (λ n. op.SetFile n) 4 w u (λ lt v. rw (lt-leb h.opcode_base 4 lt) refl) e
 takes_computes order h w u (inr (inr (inl e))) = unsigned_out_computes order h (λ n. op.SetColumn n) 5 w u (λ lt v. rw (lt-leb h.opcode_base 5 lt) refl) e
-takes_computes order h w u (inr (inr (inr e))) = unsigned_out_computes order h (λ n. op.Isa n) 12 w u (λ lt v. rw (lt-leb h.opcode_base 12 lt) refl) e
+takes_computes order h w u (inr (inr (inr e))) = unsigned_out_computes order h (λ n. op.SetIsa n) 12 w u (λ lt v. rw (lt-leb h.opcode_base 12 lt) refl) e
 
 signed_out_computes : (order : Order) (h : Params) (w : List ℕ) → SignedOut h w → Computes order h w fault.LebRange
 signed_out_computes order h w s =

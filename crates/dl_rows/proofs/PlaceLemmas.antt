@@ -147,24 +147,24 @@ op_index-plain h s o a f =
     let d : x % h.maximum_operations_per_instruction + advance h o ≡ advance h o + x % h.maximum_operations_per_instruction = omega arith in
     rw (m, p, last_part-onto, c, d) (mod_split (advance h o) x h.maximum_operations_per_instruction)
 
-pub address-fixed : (h : Params) (s : List Operation) (n : ℕ) → address h (s ++ op.FixedAdd n ∷ []) ≡ address h s + n
+pub address-fixed : (h : Params) (s : List Operation) (n : ℕ) → address h (s ++ op.FixedAdvancePc n ∷ []) ≡ address h s + n
 address-fixed h s n =
-    let m = moves-plain s (op.FixedAdd n) refl in
-    let p = parts-fixed h (moves s) (op.FixedAdd n) refl in
-    rw (last_set-push set_address s (op.FixedAdd n), m, sum_by_push fixed_add (moves s) (op.FixedAdd n), p, steps-push h.maximum_operations_per_instruction (parts h (moves s))) (omega arith)
+    let m = moves-plain s (op.FixedAdvancePc n) refl in
+    let p = parts-fixed h (moves s) (op.FixedAdvancePc n) refl in
+    rw (last_set-push set_address s (op.FixedAdvancePc n), m, sum_by_push fixed_add (moves s) (op.FixedAdvancePc n), p, steps-push h.maximum_operations_per_instruction (parts h (moves s))) (omega arith)
 
-pub op_index-fixed : (h : Params) (s : List Operation) (n : ℕ) → op_index h (s ++ op.FixedAdd n ∷ []) ≡ 0
+pub op_index-fixed : (h : Params) (s : List Operation) (n : ℕ) → op_index h (s ++ op.FixedAdvancePc n ∷ []) ≡ 0
 op_index-fixed h s n =
-    let m = moves-plain s (op.FixedAdd n) refl in
-    let p = parts-fixed h (moves s) (op.FixedAdd n) refl in
+    let m = moves-plain s (op.FixedAdvancePc n) refl in
+    let p = parts-fixed h (moves s) (op.FixedAdvancePc n) refl in
     rw (m, p, last_part-push (parts h (moves s))) (zero-mod h.maximum_operations_per_instruction)
 
-pub address-set : (h : Params) (s : List Operation) (n : ℕ) → address h (s ++ op.Address n ∷ []) ≡ n
+pub address-set : (h : Params) (s : List Operation) (n : ℕ) → address h (s ++ op.SetAddress n ∷ []) ≡ n
 address-set h s n =
-    let m = moves-address s (op.Address n) refl in
+    let m = moves-address s (op.SetAddress n) refl in
     let z : 0 / h.maximum_operations_per_instruction ≡ 0 = zero-div h.maximum_operations_per_instruction in
     let w : h.minimum_instruction_length * 0 ≡ 0 = omega arith in
-    rw (last_set-push set_address s (op.Address n), m, z) (omega arith)
+    rw (last_set-push set_address s (op.SetAddress n), m, z) (omega arith)
 
-pub op_index-set : (h : Params) (s : List Operation) (n : ℕ) → op_index h (s ++ op.Address n ∷ []) ≡ 0
-op_index-set h s n = let m = moves-address s (op.Address n) refl in rw m (zero-mod h.maximum_operations_per_instruction)
+pub op_index-set : (h : Params) (s : List Operation) (n : ℕ) → op_index h (s ++ op.SetAddress n ∷ []) ≡ 0
+op_index-set h s n = let m = moves-address s (op.SetAddress n) refl in rw m (zero-mod h.maximum_operations_per_instruction)

@@ -9,11 +9,11 @@ use Rattle.dl_field.specs.declared.params.Params.{Params}
 use Rattle.dl_table.specs.declared.fault.FaultKind.{FaultKind}
 use Rattle.dl_rows.specs.declared.row.Row.{Row}
 use Rattle.dl_rows.specs.declared.operation.Operation.{Operation}
-use Rattle.dl_rows.specs.declared.phase.Phase.{Phase}
-use Rattle.dl_rows.specs.declared.phase.Phase.TheVariants as phase
-use Rattle.dl_rows.specs.declared.phase.Step.TheVariants as step
+use Rattle.dl_rows.specs.declared.operation_state.OperationState.{OperationState}
+use Rattle.dl_rows.specs.declared.operation_state.OperationState.TheVariants as phase
+use Rattle.dl_rows.specs.declared.operation_state.OperationStep.TheVariants as step
 use Rattle.dl_rows.specs.declared.program.Program.{Program}
-use Rattle.dl_rows.specs.declared.program.Given.TheVariants as given
+use Rattle.dl_rows.specs.declared.program.ProgramStep.TheVariants as given
 use Rattle.dl_rows.specs.Matrix.{matrix}
 use Rattle.dl_rows.specs.OperationSpelt.{operation_spelt, operations_in}
 use Rattle.dl_rows.specs.Phases.{PhaseStands, StepIs}
@@ -34,7 +34,7 @@ count_more : (n : ℕ) (v u : List ℕ) → n ≡ min (length v) (2 ^ 64 - 1) �
 count_more n v u e = let l = length-append v u in omega arith
 
 -- the current operation takes u, and isn't complete
-stands_within : (order : Order) (h : Params) (p : Program) (b u : List ℕ) (at : Phase) (n : ℕ) (s : ProgramStands order h p b) → AllBytes u
+stands_within : (order : Order) (h : Params) (p : Program) (b u : List ℕ) (at : OperationState) (n : ℕ) (s : ProgramStands order h p b) → AllBytes u
     → StepIs order h s.begun u (step.Within at) → n ≡ min (p.begun + length u) (2 ^ 64 - 1) → ProgramStands order h (record p { phase = at; begun = n }) (b ++ u)
 stands_within order h p b u at n s all w e = record {
   operations = s.operations;
@@ -51,7 +51,7 @@ stands_within order h p b u at n s all w e = record {
 -- between two operations no byte of the next one has come
 pub none_begun : (order : Order) (h : Params) (p : Program) (b : List ℕ) (s : ProgramStands order h p b) → p.phase ≡ phase.Start → (s.begun ≡ []) × (p.begun ≡ 0)
 none_begun order h p b s at =
-    let none : s.begun ≡ [] = subst (λ (z : Phase). PhaseStands h z s.begun) at s.phase in
+    let none : s.begun ≡ [] = subst (λ (z : OperationState). PhaseStands h z s.begun) at s.phase in
     (none, s.count ∙ ap (λ (z : List ℕ). min (length z) (2 ^ 64 - 1)) none)
 
 -- nothing is left
@@ -64,7 +64,7 @@ walk_over order h b bytes p w =
     )
 
 -- what is left is taken by an operation that isn't complete
-pub walk_within : (order : Order) (h : Params) (b bytes rest : List ℕ) (p : Program) (at : Phase) (n : ℕ) (w : Walked order h b bytes p rest) → AllBytes bytes
+pub walk_within : (order : Order) (h : Params) (b bytes rest : List ℕ) (p : Program) (at : OperationState) (n : ℕ) (w : Walked order h b bytes p rest) → AllBytes bytes
     → StepIs order h w.stands.begun rest (step.Within at) → n ≡ min (p.begun + length rest) (2 ^ 64 - 1) → GivenIs order h b bytes given.Nothing (record p { phase = at; begun = n })
 unfolding stands_within
 walk_within order h b bytes rest p at n w all s e =

@@ -23,39 +23,39 @@ ends_open-push (a ∷ b ∷ rows) r = ends_open-push (b ∷ rows) r
 settled-plain : (h : Params) (o : Operation) (r : Registers) → appends_row o ≡ false → settled h o r ≡ r
 settled-plain h (op.Special b) r e = absurd cc
 settled-plain h op.Copy r e = absurd cc
-settled-plain h op.End r e = absurd cc
+settled-plain h op.EndSequence r e = absurd cc
 settled-plain h (op.AdvancePc n) r e = refl
 settled-plain h (op.AdvanceLine i) r e = refl
 settled-plain h (op.SetFile n) r e = refl
 settled-plain h (op.SetColumn n) r e = refl
-settled-plain h op.Negate r e = refl
-settled-plain h op.Block r e = refl
-settled-plain h op.ConstAdd r e = refl
-settled-plain h (op.FixedAdd n) r e = refl
-settled-plain h op.Prologue r e = refl
-settled-plain h op.Epilogue r e = refl
-settled-plain h (op.Isa n) r e = refl
-settled-plain h (op.Address n) r e = refl
-settled-plain h (op.Discriminator n) r e = refl
+settled-plain h op.NegateStatement r e = refl
+settled-plain h op.SetBasicBlock r e = refl
+settled-plain h op.ConstAddPc r e = refl
+settled-plain h (op.FixedAdvancePc n) r e = refl
+settled-plain h op.SetPrologueEnd r e = refl
+settled-plain h op.SetEpilogueBegin r e = refl
+settled-plain h (op.SetIsa n) r e = refl
+settled-plain h (op.SetAddress n) r e = refl
+settled-plain h (op.SetDiscriminator n) r e = refl
 settled-plain h op.Skipped r e = refl
 
-pub appends_none : (o : Operation) → ((b : ℕ) → o ≡ op.Special b → ⊥) → (o ≡ op.Copy → ⊥) → (o ≡ op.End → ⊥) → appends_row o ≡ false
+pub appends_none : (o : Operation) → ((b : ℕ) → o ≡ op.Special b → ⊥) → (o ≡ op.Copy → ⊥) → (o ≡ op.EndSequence → ⊥) → appends_row o ≡ false
 appends_none (op.Special b) s c e = absurd (s b refl)
 appends_none op.Copy s c e = absurd (c refl)
-appends_none op.End s c e = absurd (e refl)
+appends_none op.EndSequence s c e = absurd (e refl)
 appends_none (op.AdvancePc n) s c e = refl
 appends_none (op.AdvanceLine i) s c e = refl
 appends_none (op.SetFile n) s c e = refl
 appends_none (op.SetColumn n) s c e = refl
-appends_none op.Negate s c e = refl
-appends_none op.Block s c e = refl
-appends_none op.ConstAdd s c e = refl
-appends_none (op.FixedAdd n) s c e = refl
-appends_none op.Prologue s c e = refl
-appends_none op.Epilogue s c e = refl
-appends_none (op.Isa n) s c e = refl
-appends_none (op.Address n) s c e = refl
-appends_none (op.Discriminator n) s c e = refl
+appends_none op.NegateStatement s c e = refl
+appends_none op.SetBasicBlock s c e = refl
+appends_none op.ConstAddPc s c e = refl
+appends_none (op.FixedAdvancePc n) s c e = refl
+appends_none op.SetPrologueEnd s c e = refl
+appends_none op.SetEpilogueBegin s c e = refl
+appends_none (op.SetIsa n) s c e = refl
+appends_none (op.SetAddress n) s c e = refl
+appends_none (op.SetDiscriminator n) s c e = refl
 appends_none op.Skipped s c e = refl
 
 pub finishes_with_row : (h : Params) (before : List Operation) (o : Operation) (r : Row) (new : Program) (end : Bool) → FitsProgram h → HasRange o
@@ -87,5 +87,5 @@ pub settled_special : (o : Operation) → ((b : ℕ) × (o ≡ op.Special b)) �
 settled_special o (inl s) = (ap appends_row s.1, sym (ap is_end s.1), λ h r. ap (λ (z : Operation). settled h z r) s.1)
 settled_special o (inr s) = (ap appends_row s, sym (ap is_end s), λ h r. ap (λ (z : Operation). settled h z r) s)
 
-pub settled_end : (h : Params) (o : Operation) (r : Registers) → o ≡ op.End → settled h o r ≡ initial (not (h.default_is_stmt == 0))
+pub settled_end : (h : Params) (o : Operation) (r : Registers) → o ≡ op.EndSequence → settled h o r ≡ initial (not (h.default_is_stmt == 0))
 settled_end h o r e = ap (λ (z : Operation). settled h z r) e

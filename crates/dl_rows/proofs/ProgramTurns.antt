@@ -7,8 +7,8 @@ use Rattle.dl_field.specs.declared.params.Params.{Params}
 use Rattle.dl_table.specs.declared.fault.FaultKind.{FaultKind}
 use Rattle.dl_rows.specs.declared.row.Row.{Row}
 use Rattle.dl_rows.specs.declared.operation.Operation.{Operation}
-use Rattle.dl_rows.specs.declared.phase.Phase.{Phase}
-use Rattle.dl_rows.specs.declared.phase.Phase.TheVariants as phase
+use Rattle.dl_rows.specs.declared.operation_state.OperationState.{OperationState}
+use Rattle.dl_rows.specs.declared.operation_state.OperationState.TheVariants as phase
 use Rattle.dl_rows.specs.declared.program.Program.{Program}
 use Rattle.dl_rows.specs.Matrix.{matrix}
 use Rattle.dl_rows.specs.OperationSpelt.{operation_spelt, operations_in}
@@ -107,7 +107,7 @@ turned order h p new b (x ∷ u) o row s first f at zero =
       found = found;
       pending = nowhere_nil (operation_spelt order h) refl;
       registers = f.registers;
-      phase = subst (λ (z : Phase). PhaseStands h z []) (sym at) refl;
+      phase = subst (λ (z : OperationState). PhaseStands h z []) (sym at) refl;
       count = zero;
       in_sequence = f.in_sequence;
     } in

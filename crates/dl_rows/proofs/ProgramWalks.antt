@@ -7,8 +7,8 @@ use Rattle.dl_num.specs.Laws.{AllBytes}
 use Rattle.dl_field.specs.declared.params.Params.{Params}
 use Rattle.dl_rows.specs.declared.row.Row.{Row}
 use Rattle.dl_rows.specs.declared.operation.Operation.{Operation}
-use Rattle.dl_rows.specs.declared.phase.Phase.{Phase}
-use Rattle.dl_rows.specs.declared.phase.Phase.TheVariants as phase
+use Rattle.dl_rows.specs.declared.operation_state.OperationState.{OperationState}
+use Rattle.dl_rows.specs.declared.operation_state.OperationState.TheVariants as phase
 use Rattle.dl_rows.specs.declared.program.Program.{Program}
 use Rattle.dl_rows.specs.Machine.{initial}
 use Rattle.dl_rows.specs.OperationSpelt.{operation_spelt, operations_in}
@@ -75,22 +75,7 @@ walk_row order h b bytes rest front behind p new row w e t =
       subst (λ (z : List ℕ). Unrefused order h b z) whole (unrefused_join order h b w.done front w.unrefused t.unrefused),
     )
 
--- no byte of a program
-pub stands_nil : (order : Order) (h : Params) (p : Program) → p.registers ≡ initial (not (h.default_is_stmt == 0)) → p.phase ≡ phase.Start → p.begun ≡ 0 → p.in_sequence ≡ false
-    → ProgramStands order h p []
-stands_nil order h p registers at zero none = record {
-  operations = [];
-  begun = [];
-  bytes = tt;
-  found = refl;
-  pending = nowhere_nil (operation_spelt order h) refl;
-  registers = registers ∙ starts h;
-  phase = subst (λ (z : Phase). PhaseStands h z []) (sym at) refl;
-  count = zero;
-  in_sequence = none;
-}
-
-at_start : (h : Params) (at : Phase) → PhaseStands h at [] → at ≡ phase.Start
+at_start : (h : Params) (at : OperationState) → PhaseStands h at [] → at ≡ phase.Start
 at_start h phase.Start s = refl
 at_start h (phase.Unsigned o number) s = absurd cc
 at_start h (phase.Line number) s = absurd cc
@@ -106,7 +91,7 @@ at_start h (phase.Rest left) s = absurd cc
 pub between : (order : Order) (h : Params) (p : Program) (b : List ℕ) → ProgramStands order h p b → (p.phase ≡ phase.Start) ↔ ((operations_in order h b).rest ≡ [])
 between order h p b s =
     let rest = rest-found order h b s.operations s.begun s.found in (
-      λ at. rest ∙ subst (λ (z : Phase). PhaseStands h z s.begun) at s.phase,
+      λ at. rest ∙ subst (λ (z : OperationState). PhaseStands h z s.begun) at s.phase,
       λ e. at_start h p.phase (subst (λ (z : List ℕ). PhaseStands h p.phase z) (sym rest ∙ e) s.phase),
     )
 

@@ -107,9 +107,6 @@ empty_of : (b : List ℕ) → length b ≡ 0 → b ≡ []
 empty_of [] e = refl
 empty_of (x ∷ b) e = absurd (omega (arith, e))
 
-pub finish_empty : (order : Order) (b : List ℕ) (taken : ℕ) → taken ≡ length b → taken ≡ 0 → FinishIs order b (Ok finish.Empty)
-finish_empty order b taken is none = empty_of b (omega (arith, is, none))
-
 pub finish_cut : (order : Order) (head : HeadReader) (b : List ℕ) (taken : ℕ) → taken ≡ length b → taken ≢ 0 → InHeader order head b → FinishIs order b (Err (record { offset = taken; kind = Truncated }))
 finish_cut order head b taken is some s = inr (
   ap (λ (n : ℕ). record { offset = n; kind = Truncated }) is,

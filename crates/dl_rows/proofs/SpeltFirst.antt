@@ -97,7 +97,7 @@ extended_case : (order : Order) (h : Params) (o : Operation) (opcode : ℕ) (ope
 extended_case order h o opcode operand w some e first = first_at (operation_spelt order h) (0 ∷ (e.size ++ opcode ∷ operand)) w (Ok o) e.bytes
     (extended_first order h some e.size (length (opcode ∷ operand)) opcode operand (Ok o) (e.spells, omega arith, e.fits) first)
 
-address_same : (order : Order) (size n : ℕ) → n ≡ 1 + size → (u : List ℕ) → extended_spelt order size n 2 u ≡ sized size (λ v. op.Address (fixed order v)) u
+address_same : (order : Order) (size n : ℕ) → n ≡ 1 + size → (u : List ℕ) → extended_spelt order size n 2 u ≡ sized size (λ v. op.SetAddress (fixed order v)) u
 address_same order size n e u = rw (eq-eqb n (1 + size) e) refl
 
 rest_same : (order : Order) (size n opcode : ℕ) → opcode ≢ 1 → opcode ≢ 2 → opcode ≢ 4 → (u : List ℕ) → extended_spelt order size (suc n) opcode u ≡ sized n (λ v. op.Skipped) u
@@ -123,22 +123,22 @@ spells_first order h (op.AdvanceLine i) w some s =
     operand_first order h (op.AdvanceLine i) 3 s.operand w (signed_operand (λ j. op.AdvanceLine j)) (λ u. rw (lt-leb h.opcode_base 3 s.below) refl) s.bytes (signed_first (λ j. op.AdvanceLine j) s.operand i s.spells s.fits)
 spells_first order h (op.SetFile n) w some s = unsigned_case order h (λ m. op.SetFile m) 4 n w (λ lt u. rw (lt-leb h.opcode_base 4 lt) refl) s
 spells_first order h (op.SetColumn n) w some s = unsigned_case order h (λ m. op.SetColumn m) 5 n w (λ lt u. rw (lt-leb h.opcode_base 5 lt) refl) s
-spells_first order h op.Negate w some s = bare_first order h op.Negate 6 w (rw (lt-leb h.opcode_base 6 s.below) refl) s
-spells_first order h op.Block w some s = bare_first order h op.Block 7 w (rw (lt-leb h.opcode_base 7 s.below) refl) s
-spells_first order h op.ConstAdd w some s = bare_first order h op.ConstAdd 8 w (rw (lt-leb h.opcode_base 8 s.below) refl) s
-spells_first order h (op.FixedAdd n) w some s = subst (λ (m : ℕ). SpellsFirst (operation_spelt order h) w (Ok (op.FixedAdd m))) (sym s.number)
-    (operand_first order h (op.FixedAdd (fixed order s.operand)) 9 s.operand w (sized 2 (λ v. op.FixedAdd (fixed order v))) (λ u. rw (lt-leb h.opcode_base 9 s.below) refl) s.bytes
-    (sized_first 2 (λ v. op.FixedAdd (fixed order v)) s.operand s.size))
-spells_first order h op.Prologue w some s = bare_first order h op.Prologue 10 w (rw (lt-leb h.opcode_base 10 s.below) refl) s
-spells_first order h op.Epilogue w some s = bare_first order h op.Epilogue 11 w (rw (lt-leb h.opcode_base 11 s.below) refl) s
-spells_first order h (op.Isa n) w some s = unsigned_case order h (λ m. op.Isa m) 12 n w (λ lt u. rw (lt-leb h.opcode_base 12 lt) refl) s
-spells_first order h op.End w some s = extended_case order h op.End 1 [] w some s (first_nil (extended_spelt order h.address_size 1 1) (Ok op.End) refl)
-spells_first order h (op.Address n) w some s = subst (λ (m : ℕ). SpellsFirst (operation_spelt order h) w (Ok (op.Address m))) (sym s.number)
-    (extended_case order h (op.Address (fixed order s.operand)) 2 s.operand w some s.extended
-    (first_same (extended_spelt order h.address_size (length (2 ∷ s.operand)) 2) (sized h.address_size (λ v. op.Address (fixed order v))) s.operand (Ok (op.Address (fixed order s.operand)))
-    (address_same order h.address_size (length (2 ∷ s.operand)) (omega (arith, s.size))) (sized_first h.address_size (λ v. op.Address (fixed order v)) s.operand s.size)))
-spells_first order h (op.Discriminator n) w some s = extended_case order h (op.Discriminator n) 4 s.operand w some s.extended
-    (first_same (extended_spelt order h.address_size (length (4 ∷ s.operand)) 4) (discriminator_spelt (length (4 ∷ s.operand))) s.operand (Ok (op.Discriminator n)) (λ u. refl)
+spells_first order h op.NegateStatement w some s = bare_first order h op.NegateStatement 6 w (rw (lt-leb h.opcode_base 6 s.below) refl) s
+spells_first order h op.SetBasicBlock w some s = bare_first order h op.SetBasicBlock 7 w (rw (lt-leb h.opcode_base 7 s.below) refl) s
+spells_first order h op.ConstAddPc w some s = bare_first order h op.ConstAddPc 8 w (rw (lt-leb h.opcode_base 8 s.below) refl) s
+spells_first order h (op.FixedAdvancePc n) w some s = subst (λ (m : ℕ). SpellsFirst (operation_spelt order h) w (Ok (op.FixedAdvancePc m))) (sym s.number)
+    (operand_first order h (op.FixedAdvancePc (fixed order s.operand)) 9 s.operand w (sized 2 (λ v. op.FixedAdvancePc (fixed order v))) (λ u. rw (lt-leb h.opcode_base 9 s.below) refl) s.bytes
+    (sized_first 2 (λ v. op.FixedAdvancePc (fixed order v)) s.operand s.size))
+spells_first order h op.SetPrologueEnd w some s = bare_first order h op.SetPrologueEnd 10 w (rw (lt-leb h.opcode_base 10 s.below) refl) s
+spells_first order h op.SetEpilogueBegin w some s = bare_first order h op.SetEpilogueBegin 11 w (rw (lt-leb h.opcode_base 11 s.below) refl) s
+spells_first order h (op.SetIsa n) w some s = unsigned_case order h (λ m. op.SetIsa m) 12 n w (λ lt u. rw (lt-leb h.opcode_base 12 lt) refl) s
+spells_first order h op.EndSequence w some s = extended_case order h op.EndSequence 1 [] w some s (first_nil (extended_spelt order h.address_size 1 1) (Ok op.EndSequence) refl)
+spells_first order h (op.SetAddress n) w some s = subst (λ (m : ℕ). SpellsFirst (operation_spelt order h) w (Ok (op.SetAddress m))) (sym s.number)
+    (extended_case order h (op.SetAddress (fixed order s.operand)) 2 s.operand w some s.extended
+    (first_same (extended_spelt order h.address_size (length (2 ∷ s.operand)) 2) (sized h.address_size (λ v. op.SetAddress (fixed order v))) s.operand (Ok (op.SetAddress (fixed order s.operand)))
+    (address_same order h.address_size (length (2 ∷ s.operand)) (omega (arith, s.size))) (sized_first h.address_size (λ v. op.SetAddress (fixed order v)) s.operand s.size)))
+spells_first order h (op.SetDiscriminator n) w some s = extended_case order h (op.SetDiscriminator n) 4 s.operand w some s.extended
+    (first_same (extended_spelt order h.address_size (length (4 ∷ s.operand)) 4) (discriminator_spelt (length (4 ∷ s.operand))) s.operand (Ok (op.SetDiscriminator n)) (λ u. refl)
     (discriminator_first (length (4 ∷ s.operand)) n s.operand s.spells s.fits (omega arith)))
 spells_first order h op.Skipped w some (inl s) = skips_standard order h w s
 spells_first order h op.Skipped w some (inr s) = skips_extended order h w some s

@@ -15,7 +15,7 @@ use Rattle.dl_head.specs.Header.{header_in}
 use Rattle.dl_field.proofs.FieldLemmas.{none_some}
 use Rattle.dl_head.proofs.HeaderLaws.{header_is_found}
 use Rattle.dl_rows.specs.declared.program.Program.{Program}
-use Rattle.dl_rows.specs.declared.program.Given.{Given}
+use Rattle.dl_rows.specs.declared.program.ProgramStep.{ProgramStep}
 use Rattle.dl_rows.specs.declared.reader.Event.{Event}
 use Rattle.dl_rows.specs.declared.reader.Event.TheVariants as event
 use Rattle.dl_rows.specs.declared.reader.Fed.{Fed}
@@ -147,7 +147,7 @@ all_bytes [] h = tt
 all_bytes (b ∷ w) h = (h 0 (omega arith), all_bytes w (λ i lt. h (suc i) (omega arith)))
 
 -- what the reader of a program gives for the bytes that are left of the unit
-pub tells_in : {S : Type 0} (story : Story S) (order : Order) (h : HeaderData) (p : Params) (t new : UnitBody) (b piece bytes : List ℕ) (before : List Row) (given : Given) (q : Program) (s : S) (is : InProgram order h t b) → h.params ≡ p
+pub tells_in : {S : Type 0} (story : Story S) (order : Order) (h : HeaderData) (p : Params) (t new : UnitBody) (b piece bytes : List ℕ) (before : List Row) (given : ProgramStep) (q : Program) (s : S) (is : InProgram order h t b) → h.params ≡ p
     → bytes ≡ take t.bytes.left piece → AllBytes piece → new.program ≡ q
     → ((c : List ℕ) → FitsProgram p → AllBytes bytes → ProgramStands order p t.program c → Tells story order p c bytes before given q s) → Tells story order h.params is.program (take t.bytes.left piece) before given new.program s
 tells_in story order h p t new b piece bytes before given q s is params front all program gives =

@@ -2,12 +2,12 @@
 use Rattle.std.specs.Prelude.{ℕ, ◌+◌, ◌≤◌, length}
 use Rattle.dl_rows.specs.declared.operation.Operation.{Operation}
 use Rattle.dl_rows.specs.declared.operation.Operation.TheVariants as op
-use Rattle.dl_rows.specs.declared.phase.Phase.{Phase}
-use Rattle.dl_rows.specs.declared.phase.Phase.TheVariants as phase
-use Rattle.dl_rows.specs.declared.phase.Step.{Step}
-use Rattle.dl_rows.specs.declared.phase.Step.TheVariants as step
-use Rattle.dl_rows.specs.declared.program.Given.{Given}
-use Rattle.dl_rows.specs.declared.program.Given.TheVariants as given
+use Rattle.dl_rows.specs.declared.operation_state.OperationState.{OperationState}
+use Rattle.dl_rows.specs.declared.operation_state.OperationState.TheVariants as phase
+use Rattle.dl_rows.specs.declared.operation_state.OperationStep.{OperationStep}
+use Rattle.dl_rows.specs.declared.operation_state.OperationStep.TheVariants as step
+use Rattle.dl_rows.specs.declared.program.ProgramStep.{ProgramStep}
+use Rattle.dl_rows.specs.declared.program.ProgramStep.TheVariants as given
 use Rattle.dl_rows.specs.declared.program.Taken.{Taken}
 use Rattle.dl_rows.specs.declared.program.Taken.TheVariants as taken
 
@@ -15,21 +15,21 @@ use Rattle.dl_rows.specs.declared.program.Taken.TheVariants as taken
 abbrev pub rows_of : Operation → ℕ
 rows_of (op.Special b) = 1
 rows_of op.Copy = 1
-rows_of op.End = 1
+rows_of op.EndSequence = 1
 rows_of other = 0
 
 -- at most n bytes are left, and fewer where a row is appended
-abbrev pub Leaves : ℕ → Step → Type 0
+abbrev pub Leaves : ℕ → OperationStep → Type 0
 Leaves n (step.Within p) = Unit {0}
 Leaves n (step.Ends o behind) = length behind.now + rows_of o ≤ n
 Leaves n (step.Refuses k behind) = length behind.now ≤ n
 
 -- fewer than n bytes are left
-abbrev pub LeavesFewer : ℕ → Step → Type 0
+abbrev pub LeavesFewer : ℕ → OperationStep → Type 0
 LeavesFewer n (step.Ends o behind) = length behind.now + 1 ≤ n
 LeavesFewer n other = Unit {0}
 
-abbrev pub GivenLeaves : ℕ → Given → Type 0
+abbrev pub GivenLeaves : ℕ → ProgramStep → Type 0
 GivenLeaves n given.Nothing = Unit {0}
 GivenLeaves n (given.Row r behind) = length behind.now + 1 ≤ n
 GivenLeaves n (given.Refuses k behind) = length behind.now ≤ n
@@ -39,6 +39,6 @@ TakenLeaves n (taken.UpTo behind) = length behind.now ≤ n
 TakenLeaves n (taken.Row r behind) = length behind.now + 1 ≤ n
 
 -- 0 between operations, else 1
-abbrev pub inside : Phase → ℕ
+abbrev pub inside : OperationState → ℕ
 inside phase.Start = 0
 inside other = 1

@@ -42,16 +42,16 @@ applied h r (op.AdvancePc n) = advanced h r n
 applied h r (op.AdvanceLine i) = line_advanced r i
 applied h r (op.SetFile n) = record r { file = n }
 applied h r (op.SetColumn n) = record r { column = n }
-applied h r op.Negate = record r { is_stmt = not r.is_stmt }
-applied h r op.Block = record r { basic_block = true }
-applied h r op.ConstAdd = advanced h r ((255 - h.opcode_base) / h.line_range)
-applied h r (op.FixedAdd n) = record r { address = (r.address + n) % 2 ^ 64; op_index = 0 }
-applied h r op.Prologue = record r { prologue_end = true }
-applied h r op.Epilogue = record r { epilogue_begin = true }
-applied h r (op.Isa n) = record r { isa = n }
-applied h r op.End = r
-applied h r (op.Address n) = record r { address = n; op_index = 0 }
-applied h r (op.Discriminator n) = record r { discriminator = n }
+applied h r op.NegateStatement = record r { is_stmt = not r.is_stmt }
+applied h r op.SetBasicBlock = record r { basic_block = true }
+applied h r op.ConstAddPc = advanced h r ((255 - h.opcode_base) / h.line_range)
+applied h r (op.FixedAdvancePc n) = record r { address = (r.address + n) % 2 ^ 64; op_index = 0 }
+applied h r op.SetPrologueEnd = record r { prologue_end = true }
+applied h r op.SetEpilogueBegin = record r { epilogue_begin = true }
+applied h r (op.SetIsa n) = record r { isa = n }
+applied h r op.EndSequence = r
+applied h r (op.SetAddress n) = record r { address = n; op_index = 0 }
+applied h r (op.SetDiscriminator n) = record r { discriminator = n }
 applied h r op.Skipped = r
 
 -- after a row

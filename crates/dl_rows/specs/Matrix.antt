@@ -9,14 +9,14 @@ use Rattle.dl_rows.specs.declared.operation.Operation.{Operation}
 use Rattle.dl_rows.specs.declared.operation.Operation.TheVariants as op
 
 abbrev pub is_end : Operation → Bool
-is_end op.End = true
+is_end op.EndSequence = true
 is_end o = false
 
 -- the operation appends a row
 abbrev pub appends_row : Operation → Bool
 appends_row (op.Special b) = true
 appends_row op.Copy = true
-appends_row op.End = true
+appends_row op.EndSequence = true
 appends_row o = false
 
 -- ---- the scope of a setting
@@ -40,23 +40,23 @@ last_set sets (o ∷ os) = option_or (last_set sets os) (sets o)
 abbrev pub advance : Params → Operation → ℕ
 advance h (op.Special b) = (b - h.opcode_base) / h.line_range
 advance h (op.AdvancePc n) = n
-advance h op.ConstAdd = (255 - h.opcode_base) / h.line_range
+advance h op.ConstAddPc = (255 - h.opcode_base) / h.line_range
 advance h o = 0
 
 abbrev pub set_address : Operation → Option ℕ
-set_address (op.Address n) = Some n
+set_address (op.SetAddress n) = Some n
 set_address o = None
 
 abbrev pub is_address : Operation → Bool
-is_address (op.Address n) = true
+is_address (op.SetAddress n) = true
 is_address o = false
 
 abbrev pub is_fixed_add : Operation → Bool
-is_fixed_add (op.FixedAdd n) = true
+is_fixed_add (op.FixedAdvancePc n) = true
 is_fixed_add o = false
 
 abbrev pub fixed_add : Operation → ℕ
-fixed_add (op.FixedAdd n) = n
+fixed_add (op.FixedAdvancePc n) = n
 fixed_add o = 0
 
 abbrev pub onto_first : ℕ → List ℕ → List ℕ
@@ -103,28 +103,28 @@ set_column (op.SetColumn n) = Some n
 set_column o = None
 
 abbrev pub set_isa : Operation → Option ℕ
-set_isa (op.Isa n) = Some n
+set_isa (op.SetIsa n) = Some n
 set_isa o = None
 
 abbrev pub set_discriminator : Operation → Option ℕ
-set_discriminator (op.Discriminator n) = Some n
+set_discriminator (op.SetDiscriminator n) = Some n
 set_discriminator o = None
 
--- turned over once for each Negate
+-- turned over once for each NegateStatement
 abbrev pub turned : Bool → Operation → Bool
-turned b op.Negate = not b
+turned b op.NegateStatement = not b
 turned b o = b
 
 abbrev pub is_block : Operation → Bool
-is_block op.Block = true
+is_block op.SetBasicBlock = true
 is_block o = false
 
 abbrev pub is_prologue : Operation → Bool
-is_prologue op.Prologue = true
+is_prologue op.SetPrologueEnd = true
 is_prologue o = false
 
 abbrev pub is_epilogue : Operation → Bool
-is_epilogue op.Epilogue = true
+is_epilogue op.SetEpilogueBegin = true
 is_epilogue o = false
 
 -- a whole number modulo 2^k

@@ -22,8 +22,8 @@ pub data Standard : Type 0 where
 abbrev pub standard_opcodes : List Standard
 standard_opcodes =
     bare op.Copy ∷ unsigned (λ n. op.AdvancePc n) ∷ signed (λ i. op.AdvanceLine i) ∷ unsigned (λ n. op.SetFile n)
-    ∷ unsigned (λ n. op.SetColumn n) ∷ bare op.Negate ∷ bare op.Block ∷ bare op.ConstAdd ∷ two_bytes (λ n. op.FixedAdd n)
-    ∷ bare op.Prologue ∷ bare op.Epilogue ∷ unsigned (λ n. op.Isa n) ∷ []
+    ∷ unsigned (λ n. op.SetColumn n) ∷ bare op.NegateStatement ∷ bare op.SetBasicBlock ∷ bare op.ConstAddPc ∷ two_bytes (λ n. op.FixedAdvancePc n)
+    ∷ bare op.SetPrologueEnd ∷ bare op.SetEpilogueBegin ∷ unsigned (λ n. op.SetIsa n) ∷ []
 
 abbrev pub is_empty : List ℕ → Bool
 is_empty w = length w == 0
@@ -66,15 +66,15 @@ discriminator_spelt n w =
     if n == 1 then (if is_empty w then bad fault.ExtendedLength else None) else
     if is_leb w then
     (if not (nat_lt (groups w) (2 ^ 64)) then bad fault.LebRange else
-    if 1 + length w == n then good (op.Discriminator (groups w)) else bad fault.ExtendedLength) else
+    if 1 + length w == n then good (op.SetDiscriminator (groups w)) else bad fault.ExtendedLength) else
     if 1 + length w == n then bad fault.ExtendedLength else None
 
 -- an extended opcode with its operand w, section 6.2.5.3; n is the length of both
 abbrev pub extended_spelt : Order → ℕ → ℕ → ℕ → List ℕ → Judgement Operation
 extended_spelt order address_size n opcode w =
-    if opcode == 1 then (if is_empty w then (if n == 1 then good op.End else bad fault.ExtendedLength) else None) else
+    if opcode == 1 then (if is_empty w then (if n == 1 then good op.EndSequence else bad fault.ExtendedLength) else None) else
     if opcode == 2 then
-    (if n == 1 + address_size then (if length w == address_size then good (op.Address (fixed order w)) else None) else
+    (if n == 1 + address_size then (if length w == address_size then good (op.SetAddress (fixed order w)) else None) else
     if is_empty w then bad fault.ExtendedLength else None) else
     if opcode == 4 then discriminator_spelt n w else
     if 1 + length w == n then good op.Skipped else None

@@ -6,12 +6,12 @@ use Rattle.dl_num.specs.Leb.{AllContinue, IsUleb}
 use Rattle.dl_num.specs.LebReader.{UlebTook, SlebTook}
 use Rattle.dl_num.specs.NumberBytes.{number_size, number_bytes}
 use Rattle.dl_field.specs.declared.params.Params.{Params}
-use Rattle.dl_rows.specs.declared.phase.Phase.{Phase}
-use Rattle.dl_rows.specs.declared.phase.Phase.TheVariants as phase
-use Rattle.dl_rows.specs.declared.phase.Step.{Step}
-use Rattle.dl_rows.specs.declared.phase.Step.TheVariants as step
-use Rattle.dl_rows.specs.declared.phase.UnsignedOpcode.{UnsignedOpcode}
-use Rattle.dl_rows.specs.declared.phase.UnsignedOpcode.TheVariants as unsigned
+use Rattle.dl_rows.specs.declared.operation_state.OperationState.{OperationState}
+use Rattle.dl_rows.specs.declared.operation_state.OperationState.TheVariants as phase
+use Rattle.dl_rows.specs.declared.operation_state.OperationStep.{OperationStep}
+use Rattle.dl_rows.specs.declared.operation_state.OperationStep.TheVariants as step
+use Rattle.dl_rows.specs.declared.operation_state.UnsignedOpcode.{UnsignedOpcode}
+use Rattle.dl_rows.specs.declared.operation_state.UnsignedOpcode.TheVariants as unsigned
 use Rattle.dl_rows.specs.declared.operation.Operation.{Operation}
 use Rattle.dl_rows.specs.declared.operation.Operation.TheVariants as op
 use Rattle.dl_rows.specs.OperationSpelt.{are_lebs, operation_spelt}
@@ -27,7 +27,7 @@ abbrev pub operation_of : UnsignedOpcode → ℕ → Operation
 operation_of unsigned.AdvancePc n = op.AdvancePc n
 operation_of unsigned.SetFile n = op.SetFile n
 operation_of unsigned.SetColumn n = op.SetColumn n
-operation_of unsigned.SetIsa n = op.Isa n
+operation_of unsigned.SetIsa n = op.SetIsa n
 
 abbrev pub HasNoUnsigned : ℕ → Type 0
 HasNoUnsigned opcode = (opcode ≢ 2) × (opcode ≢ 4) × (opcode ≢ 5) × (opcode ≢ 12)
@@ -50,7 +50,7 @@ abbrev pub HasLength : List ℕ → ℕ → Type 0
 HasLength w n = IsUleb w n × (1 ≤ n) × (n < 2 ^ 64)
 
 -- the bytes of the operation that have come are v
-abbrev pub PhaseStands : Params → Phase → List ℕ → Type 0
+abbrev pub PhaseStands : Params → OperationState → List ℕ → Type 0
 PhaseStands h phase.Start v = v ≡ []
 PhaseStands h (phase.Unsigned o number) v = (opcode_of o < h.opcode_base) × ((w : List ℕ) × (v ≡ opcode_of o ∷ w) × UlebTook number w)
 PhaseStands h (phase.Line number) v = (3 < h.opcode_base) × ((w : List ℕ) × (v ≡ 3 ∷ w) × SlebTook number w)
@@ -71,7 +71,7 @@ PhaseStands h (phase.Rest left) v =
     × (opcode ≢ 1) × (opcode ≢ 2) × (opcode ≢ 4) × HasLength w (1 + length operand + left))
 
 -- what bytes after v make of the operation
-abbrev pub StepIs : Order → Params → List ℕ → List ℕ → Step → Type 0
+abbrev pub StepIs : Order → Params → List ℕ → List ℕ → OperationStep → Type 0
 StepIs order h v bytes (step.Within p) = PhaseStands h p (v ++ bytes) × SpellsNowhere (operation_spelt order h) (v ++ bytes)
 StepIs order h v bytes (step.Ends o behind) =
     (front : List ℕ) × (bytes ≡ front ++ behind.now) × SpellsFirst (operation_spelt order h) (v ++ front) (Ok o)

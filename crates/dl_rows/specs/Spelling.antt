@@ -88,16 +88,16 @@ SpellsOperation order h (op.AdvancePc n) w = HasUnsigned h 2 n w
 SpellsOperation order h (op.AdvanceLine i) w = HasSigned h i w
 SpellsOperation order h (op.SetFile n) w = HasUnsigned h 4 n w
 SpellsOperation order h (op.SetColumn n) w = HasUnsigned h 5 n w
-SpellsOperation order h op.Negate w = IsBare h 6 w
-SpellsOperation order h op.Block w = IsBare h 7 w
-SpellsOperation order h op.ConstAdd w = IsBare h 8 w
-SpellsOperation order h (op.FixedAdd n) w = HasTwoBytes order h n w
-SpellsOperation order h op.Prologue w = IsBare h 10 w
-SpellsOperation order h op.Epilogue w = IsBare h 11 w
-SpellsOperation order h (op.Isa n) w = HasUnsigned h 12 n w
-SpellsOperation order h op.End w = IsExtended w (1 ∷ [])
-SpellsOperation order h (op.Address n) w = HasAddress order h n w
-SpellsOperation order h (op.Discriminator n) w = HasDiscriminator n w
+SpellsOperation order h op.NegateStatement w = IsBare h 6 w
+SpellsOperation order h op.SetBasicBlock w = IsBare h 7 w
+SpellsOperation order h op.ConstAddPc w = IsBare h 8 w
+SpellsOperation order h (op.FixedAdvancePc n) w = HasTwoBytes order h n w
+SpellsOperation order h op.SetPrologueEnd w = IsBare h 10 w
+SpellsOperation order h op.SetEpilogueBegin w = IsBare h 11 w
+SpellsOperation order h (op.SetIsa n) w = HasUnsigned h 12 n w
+SpellsOperation order h op.EndSequence w = IsExtended w (1 ∷ [])
+SpellsOperation order h (op.SetAddress n) w = HasAddress order h n w
+SpellsOperation order h (op.SetDiscriminator n) w = HasDiscriminator n w
 SpellsOperation order h op.Skipped w = SkipsStandard h w ⊎ SkipsExtended w
 
 -- w is the spellings of the operations, joined

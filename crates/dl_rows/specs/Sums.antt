@@ -33,14 +33,14 @@ registers_after h os = registers_of h (after_last is_end os) (after_last appends
 abbrev pub settled : Params → Operation → Registers → Registers
 settled h (op.Special b) r = cleared r
 settled h op.Copy r = cleared r
-settled h op.End r = initial (not (h.default_is_stmt == 0))
+settled h op.EndSequence r = initial (not (h.default_is_stmt == 0))
 settled h o r = r
 
 -- the operands that a spelling can give
 abbrev pub HasRange : Operation → Type 0
 HasRange (op.Special b) = b < 256
 HasRange (op.AdvanceLine i) = unsigned_abs i < 2 ^ 64
-HasRange (op.Address n) = n < 2 ^ 64
+HasRange (op.SetAddress n) = n < 2 ^ 64
 HasRange o = Unit {0}
 
 -- the params of a header, whose line_base is one byte

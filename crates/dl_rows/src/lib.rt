@@ -3,7 +3,7 @@
 
 pub mod laws;
 pub mod operation;
-mod phase;
+mod operation_state;
 mod program;
 pub mod reader;
 mod registers;

@@ -5,7 +5,7 @@ ghost use Rattle.dl_num.specs.Laws.{AllBytes};
 ghost use Rattle.dl_field.specs.Usable.{IsUsable};
 
 use crate::operation::Operation;
-use crate::phase::{Phase, Step, short_operation};
+use crate::operation_state::{OperationState, OperationStep, short_operation};
 use crate::registers::Registers;
 use crate::row::Row;
 use crate::sink::{Flow, RowSink};
@@ -14,7 +14,7 @@ use dl_num::Order;
 
 /// What bytes of a program give.
 #[derive(Clone, Copy)]
-pub enum Given<'a> {
+pub enum ProgramStep<'a> {
     /// No row; all of them are used.
     Nothing,
     /// A row, and the bytes after the operation that appends it.
@@ -36,7 +36,7 @@ pub enum Taken<'a> {
 #[derive(Clone, Copy)]
 pub struct Program {
     registers: Registers,
-    phase: Phase,
+    phase: OperationState,
     /// How many bytes of the current operation have come.
     begun: u64,
     in_sequence: bool,
@@ -51,7 +51,7 @@ impl Program {
     ghost use Rattle.dl_rows.specs.LineUnit.{ends_open, rows_in};
     ghost use Rattle.dl_rows.specs.Programs.{Finishes, ProgramStands, TakenTells, Tells};
     ghost use Rattle.dl_rows.specs.Sums.{FitsProgram, HasRange, registers_after};
-    ghost use Rattle.dl_rows.specs.declared.phase.Phase.TheVariants as phase;
+    ghost use Rattle.dl_rows.specs.declared.operation_state.OperationState.TheVariants as phase;
 
     /// At the first operation.
     pub fn new(default_is_stmt: bool) -> Self
@@ -60,7 +60,7 @@ impl Program {
     {
         Program {
             registers: Registers::new(default_is_stmt),
-            phase: Phase::Start,
+            phase: OperationState::Start,
             begun: 0,
             in_sequence: false,
         }
@@ -72,7 +72,7 @@ impl Program {
         ensures rest { (order : Order) (h : Params) (b : List ℕ) → ProgramStands order h self.now b
             → IsTrue result ↔ ((operations_in order h b).rest ≡ []) }
     {
-        matches!(self.phase, Phase::Start)
+        matches!(self.phase, OperationState::Start)
     }
 
     /// How many bytes of the current operation have come.
@@ -98,7 +98,7 @@ impl Program {
         params: &Params,
         bytes: &'a [u8],
         sink: &mut S,
-    ) -> Given<'a>
+    ) -> ProgramStep<'a>
         requires { IsUsable params.now }
         ensures left { GivenLeaves (length bytes.entry.now) result }
         ensures given { (b : List ℕ) (before : List Row) (first : S) → FitsProgram params.now → AllBytes bytes.entry.now → ProgramStands order params.now self.old b
@@ -118,7 +118,7 @@ impl Program {
         params: &Params,
         mut bytes: &'a [u8],
         sink: &mut S,
-    ) -> Given<'a>
+    ) -> ProgramStep<'a>
         requires { IsUsable params.now }
         ensures left { GivenLeaves (length bytes.entry.now) result }
         ensures given { (b : List ℕ) (before : List Row) (first : S) → FitsProgram params.now → AllBytes bytes.entry.now → ProgramStands order params.now self.old b
@@ -127,33 +127,33 @@ impl Program {
         while !bytes.is_empty() {
             match self.short_operations(order, params, bytes, sink) {
                 Taken::UpTo(behind) => bytes = behind,
-                Taken::Row(row, behind) => return Given::Row(row, behind),
+                Taken::Row(row, behind) => return ProgramStep::Row(row, behind),
             }
             match self.phase.push(order, params, bytes) {
-                Step::Within(phase) => {
+                OperationStep::Within(phase) => {
                     self.phase = phase;
                     self.begun = self.begun.saturating_add(bytes.len() as u64);
-                    return Given::Nothing;
+                    return ProgramStep::Nothing;
                 }
-                Step::Ends(operation, behind) => {
-                    self.phase = Phase::Start;
+                OperationStep::Ends(operation, behind) => {
+                    self.phase = OperationState::Start;
                     self.begun = 0;
                     bytes = behind;
                     if let Some(row) = self.finish(params, operation) {
                         match sink.row(&row) {
                             Flow::On => {}
-                            Flow::Stop => return Given::Row(row, behind),
+                            Flow::Stop => return ProgramStep::Row(row, behind),
                         }
                     }
                 }
-                Step::Refuses(kind, behind) => {
+                OperationStep::Refuses(kind, behind) => {
                     let used = bytes.len() - behind.len();
                     self.begun = self.begun.saturating_add(used as u64);
-                    return Given::Refuses(kind, behind);
+                    return ProgramStep::Refuses(kind, behind);
                 }
             }
         }
-        Given::Nothing
+        ProgramStep::Nothing
     }
 
     /// Takes operations whose bytes all stand at the front of these, one after the other, where none has begun
@@ -207,7 +207,7 @@ impl Program {
                 self.in_sequence = true;
                 Some(row)
             }
-            Operation::End => {
+            Operation::EndSequence => {
                 let row = self.registers.row(params, true);
                 self.registers = Registers::new(params.default_is_stmt != 0);
                 self.in_sequence = false;

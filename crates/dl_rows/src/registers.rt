@@ -57,19 +57,19 @@ impl Registers {
             Operation::AdvanceLine(by) => self.line = self.line.wrapping_add_signed(by),
             Operation::SetFile(file) => self.file = file,
             Operation::SetColumn(column) => self.column = column,
-            Operation::Negate => self.is_stmt = !self.is_stmt,
-            Operation::Block => self.basic_block = true,
-            Operation::ConstAdd => {
+            Operation::NegateStatement => self.is_stmt = !self.is_stmt,
+            Operation::SetBasicBlock => self.basic_block = true,
+            Operation::ConstAddPc => {
                 let adjusted = 255 - params.opcode_base;
                 self.advance(params, u64::from(adjusted / params.line_range));
             }
-            Operation::FixedAdd(by) => self.move_to(self.address.wrapping_add(by)),
-            Operation::Prologue => self.prologue_end = true,
-            Operation::Epilogue => self.epilogue_begin = true,
-            Operation::Isa(isa) => self.isa = isa,
-            Operation::Address(address) => self.move_to(address),
-            Operation::Discriminator(discriminator) => self.discriminator = discriminator,
-            Operation::Copy | Operation::End | Operation::Skipped => {}
+            Operation::FixedAdvancePc(by) => self.move_to(self.address.wrapping_add(by)),
+            Operation::SetPrologueEnd => self.prologue_end = true,
+            Operation::SetEpilogueBegin => self.epilogue_begin = true,
+            Operation::SetIsa(isa) => self.isa = isa,
+            Operation::SetAddress(address) => self.move_to(address),
+            Operation::SetDiscriminator(discriminator) => self.discriminator = discriminator,
+            Operation::Copy | Operation::EndSequence | Operation::Skipped => {}
         }
     }
 

@@ -5,7 +5,7 @@ ghost use Rattle.dl_field.specs.Usable.{IsUsable};
 ghost use Rattle.dl_field.specs.HeaderData.{HeaderData};
 ghost use Rattle.dl_rows.specs.Reading.{IsPause};
 
-use crate::program::{Given, Program};
+use crate::program::{Program, ProgramStep};
 use crate::reader::{Event, Fed, Finish};
 use crate::sink::RowSink;
 use dl_head::{Fault, FaultKind, Params};
@@ -118,7 +118,7 @@ impl UnitBody {
     {
         let bytes = front(piece, self.bytes.left);
         match self.program.push(order, params, bytes, sink) {
-            Given::Row(row, behind) => {
+            ProgramStep::Row(row, behind) => {
                 let used = bytes.len() - behind.len();
                 self.bytes.count(used);
                 Ok(Fed {
@@ -126,14 +126,14 @@ impl UnitBody {
                     event: Event::Row(row),
                 })
             }
-            Given::Nothing => {
+            ProgramStep::Nothing => {
                 self.bytes.count(bytes.len());
                 if self.bytes.left == 0 && !self.program.is_between() {
                     return Err(self.fault(FaultKind::OpcodeOverrun));
                 }
                 Ok(self.bytes.pause(bytes.len(), piece))
             }
-            Given::Refuses(kind, behind) => {
+            ProgramStep::Refuses(kind, behind) => {
                 self.bytes.count(bytes.len() - behind.len());
                 Err(self.fault(kind))
             }

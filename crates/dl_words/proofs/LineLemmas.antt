@@ -52,41 +52,6 @@ byte_taken base done c old new s not_end own line number items no_address =
           ∙ ap (λ n. option_or new.no_address (no_address_from base new.line n rest)) (sym number))));
     }
 
--- the current line ends
-pub line_taken : (base : ℕ) (done : List ℕ) (c : ℕ) (old mid new : Lines) → Stands base done old → (c == 10) ≡ true
-    → Adds (asked_of old.line.text) old mid
-    → new.base ≡ mid.base → new.line ≡ new_line → (mid.number + 1 < 2 ^ 64 → new.number ≡ mid.number + 1)
-    → new.asked.items ≡ mid.asked.items → new.no_address ≡ mid.no_address
-    → Stands base (done ++ c ∷ []) new
-line_taken base done c old mid new s is_end adds own line number items no_address =
-    let a = asked_of old.line.text in
-    let len = length_push done c in
-    let same = adds.number in
-    record {
-      own = own ∙ (adds.base ∙ s.own);
-      asked = λ rest. ap (asked_from base new_line) (append_assoc done (c ∷ []) rest) ∙ (s.asked (c ∷ rest)
-          ∙ (ap (λ (b : Bool). old.asked.items ++ (if b then and_asked a (asked_from base new_line rest)
-          else asked_from base (after_byte base old.line c) rest)) is_end
-          ∙ (ap (λ xs. old.asked.items ++ xs) (and_asked_front a (asked_from base new_line rest))
-          ∙ (sym (append_assoc old.asked.items (and_asked a []) (asked_from base new_line rest))
-          ∙ ap₂ (λ xs l. xs ++ asked_from base l rest) (sym (items ∙ adds.asked)) (sym line)))));
-      counted =
-          λ few. (let before = s.counted (omega (arith, len, few)) in
-          let n = number (omega (arith, len, few, before, same)) in omega (arith, len, before, same, n));
-      no_address = λ few rest. (
-          let before = s.counted (omega (arith, len, few)) in
-          let n : new.number ≡ suc old.number =
-          (let n = number (omega (arith, len, few, before, same)) in omega (arith, n, same)) in
-          ap (no_address_from base new_line 1) (append_assoc done (c ∷ []) rest)
-          ∙ (s.no_address (omega (arith, len, few)) (c ∷ rest)
-          ∙ (ap (λ (b : Bool). option_or old.no_address (if b
-          then if_no_address a old.number (no_address_from base new_line (suc old.number) rest)
-          else no_address_from base (after_byte base old.line c) old.number rest)) is_end
-          ∙ (sym (adds.no_address (no_address_from base new_line (suc old.number) rest))
-          ∙ (ap₂ (λ o l. option_or o (no_address_from base l (suc old.number) rest)) (sym no_address) (sym line)
-          ∙ ap (λ k. option_or new.no_address (no_address_from base new.line k rest)) (sym n))))));
-    }
-
 -- the input ends
 pub all_taken : (hex : Bool) (done : List ℕ) (old new : Lines) (lines : AskedLines) → Stands (base_of hex) done old
     → Adds (asked_at_end old.line) old new
@@ -104,17 +69,6 @@ all_taken hex done old new lines s adds items no_address =
           ∙ (sym (s.no_address few [])
           ∙ (ap (no_address_from base new_line 1) (append-nil done) ∙ lines_numbered hex done))));
     }
-
-pub none_taken : (base : ℕ) (s : Lines) → s.base ≡ base → s.line ≡ new_line → s.number ≡ 1 → s.asked.items ≡ []
-    → s.no_address ≡ None → Stands base [] s
-none_taken base s own line number items no_address = record {
-  own = own;
-  asked = λ rest. ap₂ (λ xs l. xs ++ asked_from base l rest) (sym items) (sym line);
-  counted = λ few. omega (arith, number);
-  no_address =
-      λ few rest. ap₂ (λ l n. no_address_from base l n rest) (sym line) (sym number)
-      ∙ ap (λ o. option_or o (no_address_from base s.line s.number rest)) (sym no_address);
-}
 
 -- no bytes more
 pub nothing_more : (base : ℕ) (done : List ℕ) (s : Lines) → Stands base done s → Stands base (done ++ []) s

@@ -84,9 +84,6 @@ none_after own n c text none =
     ap (λ (o : Option ℕ). option_and_then below_2_64 (option_and_then (λ d. number_after own (n * own + d) text) o))
     none
 
-below_is : (n : ℕ) → (b : Bool) → nat_lt n (2 ^ 64) ≡ b → (if b then Some n else None) ≡ below_2_64 n
-below_is n b e = ap (λ (b : Bool). if b then Some n else None) (sym e)
-
 -- a digit more is read, or there is none
 module _ (base own n c : ℕ) (some : 1 ≤ own) (rest : List ℕ) where
   abbrev Goal : Option ℕ → Option ℕ → Type 0

@@ -2,8 +2,9 @@
 use crate::elf::{EXECUTABLE, file};
 use crate::shelf::{BOTH_STRINGS, LINE_STRINGS, STRINGS, Shelf, Told, bytes};
 use dl_addr::Found;
-use dl_cmd::AddrWords;
+
 use dl_num::Order;
+use dl_words::AddrWords;
 use dl_work::locate;
 use std::alloc::Global;
 use std::process::Abort;

@@ -11,7 +11,7 @@ use crate::reader::byte_field::ByteField;
 use crate::reader::{HeadReader, Phase};
 use dl_field::FieldStep;
 use dl_field::params::is_wrong_length;
-use dl_num::Number;
+use dl_num::PartialNumber;
 use dl_table::FaultKind;
 
 impl HeadReader {
@@ -46,7 +46,9 @@ impl HeadReader {
             }
             ByteField::SegmentSelectorSize => {
                 self.params.segment_selector_size = byte;
-                self.phase = Phase::HeaderLength(Number::new(self.params.format.offset_size()));
+                self.phase = Phase::HeaderLength(PartialNumber::new(
+                    self.params.format.offset_size(),
+                ));
             }
             ByteField::MinimumInstructionLength => {
                 self.params.minimum_instruction_length = byte;

@@ -8,7 +8,7 @@ ghost use Rattle.dl_table.specs.TableCells.{table_cells};
 use crate::reader::byte_field::ByteField;
 use crate::reader::{HeadReader, Phase};
 use dl_field::FieldStep;
-use dl_num::{Number, Order};
+use dl_num::{Order, PartialNumber};
 use dl_table::{FaultKind, Format};
 
 /// The greatest unit_length that is accepted.
@@ -40,7 +40,7 @@ impl HeadReader {
     ghost use Rattle.dl_head.specs.TableSpelt.{TableReads};
     ghost use Rattle.dl_head.specs.Place.{Follows, Keeps, Starts, StartsHeader, held_cells};
 
-    pub(super) fn unit_length(&mut self, number: Number, byte: u8) -> FieldStep
+    pub(super) fn unit_length(&mut self, number: PartialNumber, byte: u8) -> FieldStep
         requires { self.old.phase ≡ phase.UnitLength number }
         ensures follows { Follows self.old byte result self.new }
         ensures kept { Keeps self.old result self.new }
@@ -52,7 +52,7 @@ impl HeadReader {
                 FieldStep::Within
             }
             Ok(0xffff_ffff) => {
-                self.phase = Phase::LongUnitLength(Number::new(8));
+                self.phase = Phase::LongUnitLength(PartialNumber::new(8));
                 FieldStep::Within
             }
             Ok(length) if length >= 0xffff_fff0 => FieldStep::Refuses(FaultKind::ReservedLength),
@@ -60,7 +60,7 @@ impl HeadReader {
         }
     }
 
-    pub(super) fn long_unit_length(&mut self, number: Number, byte: u8) -> FieldStep
+    pub(super) fn long_unit_length(&mut self, number: PartialNumber, byte: u8) -> FieldStep
         requires { self.old.phase ≡ phase.LongUnitLength number }
         ensures follows { Follows self.old byte result self.new }
         ensures kept { Keeps self.old result self.new }
@@ -118,7 +118,7 @@ impl HeadReader {
         FieldStep::Ends
     }
 
-    pub(super) fn header_length(&mut self, number: Number, byte: u8) -> FieldStep
+    pub(super) fn header_length(&mut self, number: PartialNumber, byte: u8) -> FieldStep
         requires { self.old.phase ≡ phase.HeaderLength number }
         ensures follows { Follows self.old byte result self.new }
         ensures kept { Keeps self.old result self.new }

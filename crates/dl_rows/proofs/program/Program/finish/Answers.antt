@@ -14,13 +14,13 @@ returns-in-Special-clause-finishes c before fits range registers was =
     finishes_with_row h before o c.row-row.result _ false fits range is.0 is.1 (c.row-row.ensures ∙ ap (λ (r : Registers). row_of h r false) now)
     (c.clear.ensures ∙ ap cleared now ∙ sym (is.2 h _)) refl
 
-pub returns-in-End-clause-finishes : goal.returns-in-End-clause-finishes
-returns-in-End-clause-finishes c before fits range registers was =
+pub returns-in-EndSequence-clause-finishes : goal.returns-in-EndSequence-clause-finishes
+returns-in-EndSequence-clause-finishes c before fits range registers was =
     let h = c.args.params.now in
     let o = c.args.operation in
     let now = c.apply.ensures ∙ ap (λ (r : Registers). applied h r o) registers in
-    finishes_with_row h before o c.row-row-in-End.result _ true fits range (ap appends_row c.in-End.is) (sym (ap is_end c.in-End.is))
-    (c.row-row-in-End.ensures ∙ ap (λ (r : Registers). row_of h r true) now) (c.new-self.ensures ∙ sym (settled_end h o _ c.in-End.is)) refl
+    finishes_with_row h before o c.row-row-in-EndSequence.result _ true fits range (ap appends_row c.in-EndSequence.is) (sym (ap is_end c.in-EndSequence.is))
+    (c.row-row-in-EndSequence.ensures ∙ ap (λ (r : Registers). row_of h r true) now) (c.new-self.ensures ∙ sym (settled_end h o _ c.in-EndSequence.is)) refl
 
 pub returns-in_default : goal.returns-in_default
 returns-in_default c = record {
@@ -28,6 +28,6 @@ returns-in_default c = record {
   begun = refl;
   row = tt;
   finishes = λ before fits range registers was. finishes_without c.args.params.now before c.args.operation _ fits range
-      (appends_none c.args.operation c.in_default.not-Special c.in_default.not-Copy c.in_default.not-End)
+      (appends_none c.args.operation c.in_default.not-Special c.in_default.not-Copy c.in_default.not-EndSequence)
       (c.apply.ensures ∙ ap (λ (r : Registers). applied c.args.params.now r c.args.operation) registers) was;
 }

@@ -1,5 +1,5 @@
 use Rattle.std.proofs.Common.{List, ℕ, None, ◌++◌, sym, subst, ◌∙◌, arith}
-use Rattle.dl_rows.specs.declared.program.Given.TheVariants as given
+use Rattle.dl_rows.specs.declared.program.ProgramStep.TheVariants as given
 use Rattle.dl_rows.specs.Programs.{Walked}
 use Rattle.dl_rows.proofs.Judged.{empty_is}
 use Rattle.dl_rows.proofs.ProgramWalks.{walk_on, walk_row}

@@ -1,6 +1,6 @@
 use Rattle.std.proofs.Common.{refl, ℕ, ◌+◌, ◌-◌, ◌^◌, List, ◌++◌, length, min, sym, ap, ◌∙◌, arith}
 use Rattle.dl_num.proofs.LebFrontLemmas.{true_false}
-use Rattle.dl_rows.specs.declared.program.Given.TheVariants as given
+use Rattle.dl_rows.specs.declared.program.ProgramStep.TheVariants as given
 use Rattle.dl_rows.specs.declared.unit_body.UnitBody.{UnitBody}
 use Rattle.dl_rows.specs.UnitBodies.{paused}
 use Rattle.dl_rows.proofs.UnitBodyFeeds.{all_bytes, tells_in, flat_row, flat_nothing, flat_bad, feeds_row, feeds_nothing, fails_overrun, fails_bad, sink_paused}

@@ -1,0 +1,409 @@
+//! One operation of a line number program, from bytes that may end inside it. Sections 6.2.5.1 to 6.2.5.3.
+
+ghost use Rattle.std.specs.Prelude.{◌≡◌, ◌<◌, ◌≤◌, ◌-◌, ◌∷◌, ◌++◌, [], ℕ, List, length, IfSome, IfNone, slice_index, Ok};
+ghost use Rattle.dl_num.specs.declared.fixed.Order.{Order};
+ghost use Rattle.dl_num.specs.Front.{SpellsFirst};
+ghost use Rattle.dl_num.specs.Leb.{IsUleb};
+ghost use Rattle.dl_field.specs.declared.params.Params.{Params};
+ghost use Rattle.dl_field.specs.Usable.{IsUsable};
+ghost use Rattle.dl_rows.specs.declared.operation_state.OperationState.TheVariants as phase;
+ghost use Rattle.dl_rows.specs.Left.{Leaves, LeavesFewer, rows_of};
+ghost use Rattle.dl_rows.specs.OperationSpelt.{operation_spelt};
+ghost use Rattle.dl_rows.specs.Phases.{PhaseStands, StepIs, opcode_of, operation_of, HasNoUnsigned, HasOperand};
+
+use crate::operation::Operation;
+use dl_head::{FaultKind, Params};
+use dl_num::{
+    LebRange, Order, PartialNumber, Skip, Sleb, Uleb, fixed_at_front, short_sleb_at_front,
+    short_uleb_at_front,
+};
+
+/// A standard opcode with an unsigned operand.
+#[derive(Debug, Clone, Copy)]
+pub enum UnsignedOpcode {
+    AdvancePc,
+    SetFile,
+    SetColumn,
+    SetIsa,
+}
+
+impl UnsignedOpcode {
+    /// The opcode of this number, if it is one of them.
+    #[inline(always)]
+    fn of(number: u8) -> Option<UnsignedOpcode>
+        ensures some { IfSome result (λ opcode. opcode_of opcode ≡ number) }
+        ensures none { IfNone result (HasNoUnsigned number) }
+    {
+        match number {
+            2 => Some(UnsignedOpcode::AdvancePc),
+            4 => Some(UnsignedOpcode::SetFile),
+            5 => Some(UnsignedOpcode::SetColumn),
+            12 => Some(UnsignedOpcode::SetIsa),
+            _ => None,
+        }
+    }
+
+    #[inline(always)]
+    fn operation(self, operand: u64) -> Operation
+        ensures value { result ≡ operation_of self operand }
+        ensures rows { rows_of result ≡ 0 }
+    {
+        match self {
+            UnsignedOpcode::AdvancePc => Operation::AdvancePc(operand),
+            UnsignedOpcode::SetFile => Operation::SetFile(operand),
+            UnsignedOpcode::SetColumn => Operation::SetColumn(operand),
+            UnsignedOpcode::SetIsa => Operation::SetIsa(operand),
+        }
+    }
+}
+
+/// Where a reader is in an operation.
+#[derive(Clone, Copy)]
+pub enum OperationState {
+    /// At its first byte.
+    Start,
+    Unsigned(UnsignedOpcode, Uleb),
+    /// The operand of advance_line.
+    Line(Sleb),
+    /// The operand of fixed_advance_pc.
+    FixedAdd(PartialNumber),
+    /// LEB128 operands that nobody reads; so many are left.
+    Skipped(u8),
+    /// The length of an extended opcode.
+    Length(Uleb),
+    /// The number of an extended opcode, which has so many bytes with its operand.
+    Extended(u64),
+    /// The operand of set_address.
+    Address(PartialNumber),
+    /// The operand of set_discriminator; so many bytes of the opcode are left.
+    Discriminator(u64, Uleb),
+    /// Bytes of an extended opcode that nobody reads; so many are left.
+    Rest(u64),
+}
+
+/// What bytes make of an operation.
+#[derive(Clone, Copy)]
+pub enum OperationStep<'a> {
+    /// All of them are used, and the operation goes on.
+    Within(OperationState),
+    /// It is complete, and these bytes follow it.
+    Ends(Operation, &'a [u8]),
+    /// The byte before these decides what is wrong with it.
+    Refuses(FaultKind, &'a [u8]),
+}
+
+impl OperationState {
+    /// Takes bytes up to the end of the operation.
+    pub fn push<'a>(self, order: Order, params: &Params, bytes: &'a [u8]) -> OperationStep<'a>
+        requires { IsUsable params.now }
+        ensures within { Leaves (length bytes.entry.now) result }
+        ensures progress { self ≡ phase.Start → LeavesFewer (length bytes.entry.now) result }
+        ensures step { (v : List ℕ) → PhaseStands params.now self v → StepIs order params.now v bytes.entry.now result }
+    {
+        match self {
+            OperationState::Start => start(order, params, bytes),
+            OperationState::Unsigned(opcode, number) => unsigned(opcode, number, bytes),
+            OperationState::Line(number) => line(number, bytes),
+            OperationState::FixedAdd(number) => fixed_add(order, number, bytes),
+            OperationState::Skipped(left) => skipped(left, bytes),
+            OperationState::Length(number) => length(order, params, number, bytes),
+            OperationState::Extended(len) => extended(order, params, len, bytes),
+            OperationState::Address(number) => address(order, number, bytes),
+            OperationState::Discriminator(left, number) => discriminator(left, number, bytes),
+            OperationState::Rest(left) => rest(left, bytes),
+        }
+    }
+}
+
+/// The operation of an opcode that has no operand.
+#[inline(always)]
+fn without_operand(params: &Params, opcode: u8) -> Option<Operation>
+    ensures some { (order : Order) → IfSome result (λ o. SpellsFirst (operation_spelt order params.now) (opcode ∷ []) (Ok o)) }
+    ensures none { IfNone result (HasOperand params.now opcode) }
+{
+    if opcode >= params.opcode_base {
+        return Some(Operation::Special(opcode));
+    }
+    match opcode {
+        1 => Some(Operation::Copy),
+        6 => Some(Operation::NegateStatement),
+        7 => Some(Operation::SetBasicBlock),
+        8 => Some(Operation::ConstAddPc),
+        10 => Some(Operation::SetPrologueEnd),
+        11 => Some(Operation::SetEpilogueBegin),
+        _ => None,
+    }
+}
+
+/// The operation that the bytes begin with and the bytes after it, where it is a short one: without an
+/// operand, with an unsigned one of at most two bytes or a signed one of at most three, or an extended
+/// opcode of `short_extended`.
+#[inline(always)]
+pub fn short_operation<'a>(
+    order: Order,
+    params: &Params,
+    bytes: &'a [u8],
+) -> Option<(Operation, &'a [u8])>
+    requires { IsUsable params.now }
+    ensures left { IfSome result (λ found. length found.1.now < length bytes.entry.now) }
+    ensures operation { IfSome result (λ found. (front : List ℕ) × (bytes.entry.now ≡ front ++ found.1.now)
+        × SpellsFirst (operation_spelt order params.now) front (Ok found.0)) }
+{
+    let (opcode, bytes) = bytes.split_first()?;
+    if let Some(operation) = without_operand(params, *opcode) {
+        return Some((operation, bytes));
+    }
+    match *opcode {
+        0 => short_extended(order, params, bytes),
+        2 => short_unsigned(UnsignedOpcode::AdvancePc, bytes),
+        3 => {
+            let (lines, behind) = short_sleb_at_front(bytes)?;
+            Some((Operation::AdvanceLine(lines), behind))
+        }
+        4 => short_unsigned(UnsignedOpcode::SetFile, bytes),
+        5 => short_unsigned(UnsignedOpcode::SetColumn, bytes),
+        12 => short_unsigned(UnsignedOpcode::SetIsa, bytes),
+        _ => None,
+    }
+}
+
+/// The operation of this opcode whose operand, of at most two bytes, the bytes begin with, and the bytes
+/// after it.
+#[inline(always)]
+fn short_unsigned<'a>(opcode: UnsignedOpcode, bytes: &'a [u8]) -> Option<(Operation, &'a [u8])>
+    ensures operation { (order : Order) (h : Params) → opcode_of opcode < h.opcode_base → IfSome result (λ found.
+        (front : List ℕ) × (bytes.entry.now ≡ front ++ found.1.now) × SpellsFirst (operation_spelt order h) (opcode_of opcode ∷ front) (Ok found.0)) }
+{
+    let (operand, behind) = short_uleb_at_front(bytes)?;
+    Some((opcode.operation(operand), behind))
+}
+
+/// The operation of the extended opcode whose length these bytes begin with and the bytes after it,
+/// where it is end_sequence, set_address, or set_discriminator with an operand of at most two bytes.
+#[inline(always)]
+fn short_extended<'a>(
+    order: Order,
+    params: &Params,
+    bytes: &'a [u8],
+) -> Option<(Operation, &'a [u8])>
+    requires { IsUsable params.now }
+    ensures left { IfSome result (λ found. length found.1.now < length bytes.entry.now) }
+    ensures operation { IfSome result (λ found. (front : List ℕ) × (bytes.entry.now ≡ front ++ found.1.now)
+        × SpellsFirst (operation_spelt order params.now) (0 ∷ front) (Ok found.0)) }
+{
+    let (len, bytes) = bytes.split_first()?;
+    let (opcode, bytes) = bytes.split_first()?;
+    match *opcode {
+        1 if *len == 1 => Some((Operation::EndSequence, bytes)),
+        2 if *len < 128 && u64::from(*len) == 1 + u64::from(params.address_size) => {
+            let size = usize::from(params.address_size);
+            let (address, behind) = fixed_at_front(order, size, bytes)?;
+            Some((Operation::SetAddress(address), behind))
+        }
+        4 if *len < 128 => {
+            let (value, behind) = short_uleb_at_front(bytes)?;
+            if usize::from(*len) + behind.len() != 1 + bytes.len() {
+                return None;
+            }
+            Some((Operation::SetDiscriminator(value), behind))
+        }
+        _ => None,
+    }
+}
+
+fn start<'a>(order: Order, params: &Params, bytes: &'a [u8]) -> OperationStep<'a>
+    requires { IsUsable params.now }
+    ensures within { Leaves (length bytes.entry.now) result }
+    ensures progress { LeavesFewer (length bytes.entry.now) result }
+    ensures step { StepIs order params.now [] bytes.entry.now result }
+{
+    let Some((opcode, behind)) = bytes.split_first() else {
+        return OperationStep::Within(OperationState::Start);
+    };
+    match without_operand(params, *opcode) {
+        Some(operation) => OperationStep::Ends(operation, behind),
+        None => operand(order, params, *opcode, behind),
+    }
+}
+
+/// Takes bytes after an opcode that may have an operand.
+fn operand<'a>(order: Order, params: &Params, opcode: u8, bytes: &'a [u8]) -> OperationStep<'a>
+    requires usable { IsUsable params.now }
+    requires operand { HasOperand params.now opcode }
+    ensures within { Leaves (length bytes.entry.now) result }
+    ensures step { StepIs order params.now (opcode ∷ []) bytes.entry.now result }
+{
+    match opcode {
+        0 => length(order, params, Uleb::new(), bytes),
+        3 => line(Sleb::new(), bytes),
+        9 => fixed_add(order, PartialNumber::new(2), bytes),
+        _ => match UnsignedOpcode::of(opcode) {
+            Some(opcode) => unsigned(opcode, Uleb::new(), bytes),
+            None => operands(params, opcode, bytes),
+        },
+    }
+}
+
+/// Takes bytes after a standard opcode that isn't known.
+fn operands<'a>(params: &Params, opcode: u8, bytes: &'a [u8]) -> OperationStep<'a>
+    requires usable { IsUsable params.now }
+    requires unknown { 12 < opcode }
+    requires below { opcode < params.now.opcode_base }
+    ensures within { Leaves (length bytes.entry.now) result }
+    ensures step { (order : Order) → StepIs order params.now (opcode ∷ []) bytes.entry.now result }
+{
+    let count = params.lengths[usize::from(opcode) - 1];
+    if count == 0 {
+        return OperationStep::Ends(Operation::Skipped, bytes);
+    }
+    skipped(count, bytes)
+}
+
+fn unsigned<'a>(opcode: UnsignedOpcode, mut number: Uleb, bytes: &'a [u8]) -> OperationStep<'a>
+    ensures within { Leaves (length bytes.entry.now) result }
+    ensures step { (order : Order) (h : Params) (v : List ℕ) → PhaseStands h (phase.Unsigned opcode number) v → StepIs order h v bytes.entry.now result }
+{
+    let Some((answer, behind)) = number.take_from(bytes) else {
+        return OperationStep::Within(OperationState::Unsigned(opcode, number));
+    };
+    match answer {
+        Ok(operand) => OperationStep::Ends(opcode.operation(operand), behind),
+        Err(LebRange) => OperationStep::Refuses(FaultKind::LebRange, behind),
+    }
+}
+
+fn line<'a>(mut number: Sleb, bytes: &'a [u8]) -> OperationStep<'a>
+    ensures within { Leaves (length bytes.entry.now) result }
+    ensures step { (order : Order) (h : Params) (v : List ℕ) → PhaseStands h (phase.Line number) v → StepIs order h v bytes.entry.now result }
+{
+    let Some((answer, behind)) = number.take_from(bytes) else {
+        return OperationStep::Within(OperationState::Line(number));
+    };
+    match answer {
+        Ok(lines) => OperationStep::Ends(Operation::AdvanceLine(lines), behind),
+        Err(LebRange) => OperationStep::Refuses(FaultKind::LebRange, behind),
+    }
+}
+
+fn fixed_add<'a>(order: Order, number: PartialNumber, bytes: &'a [u8]) -> OperationStep<'a>
+    ensures within { Leaves (length bytes.entry.now) result }
+    ensures step { (h : Params) (v : List ℕ) → PhaseStands h (phase.FixedAdd number) v → StepIs order h v bytes.entry.now result }
+{
+    match number.take_from(order, bytes) {
+        Ok((by, behind)) => OperationStep::Ends(Operation::FixedAdvancePc(by), behind),
+        Err(number) => OperationStep::Within(OperationState::FixedAdd(number)),
+    }
+}
+
+fn skipped<'a>(mut left: u8, bytes: &'a [u8]) -> OperationStep<'a>
+    ensures within { Leaves (length bytes.entry.now) result }
+    ensures step { (order : Order) (h : Params) (v : List ℕ) → PhaseStands h (phase.Skipped left) v → StepIs order h v bytes.entry.now result }
+{
+    for (i, byte) in bytes.iter().enumerate() {
+        if !Skip::new().push(*byte) {
+            continue;
+        }
+        if left <= 1 {
+            return OperationStep::Ends(Operation::Skipped, &bytes[i + 1..]);
+        }
+        left -= 1;
+    }
+    OperationStep::Within(OperationState::Skipped(left))
+}
+
+fn length<'a>(order: Order, params: &Params, mut number: Uleb, bytes: &'a [u8]) -> OperationStep<'a>
+    requires { IsUsable params.now }
+    ensures within { Leaves (length bytes.entry.now) result }
+    ensures step { (v : List ℕ) → PhaseStands params.now (phase.Length number) v → StepIs order params.now v bytes.entry.now result }
+{
+    let Some((answer, behind)) = number.take_from(bytes) else {
+        return OperationStep::Within(OperationState::Length(number));
+    };
+    match answer {
+        Ok(len) => body(order, params, len, behind),
+        Err(LebRange) => OperationStep::Refuses(FaultKind::LebRange, behind),
+    }
+}
+
+/// Takes bytes after the length of an extended opcode.
+fn body<'a>(order: Order, params: &Params, len: u64, bytes: &'a [u8]) -> OperationStep<'a>
+    requires { IsUsable params.now }
+    ensures within { Leaves (length bytes.entry.now) result }
+    ensures step { (w : List ℕ) → IsUleb w len → StepIs order params.now (0 ∷ w) bytes.entry.now result }
+{
+    if len == 0 {
+        return OperationStep::Refuses(FaultKind::ExtendedEmpty, bytes);
+    }
+    extended(order, params, len, bytes)
+}
+
+fn extended<'a>(order: Order, params: &Params, len: u64, bytes: &'a [u8]) -> OperationStep<'a>
+    requires { IsUsable params.now }
+    ensures within { Leaves (length bytes.entry.now) result }
+    ensures step { (v : List ℕ) → PhaseStands params.now (phase.Extended len) v → StepIs order params.now v bytes.entry.now result }
+{
+    let Some((opcode, bytes)) = bytes.split_first() else {
+        return OperationStep::Within(OperationState::Extended(len));
+    };
+    match *opcode {
+        1 if len == 1 => OperationStep::Ends(Operation::EndSequence, bytes),
+        2 if len == 1 + u64::from(params.address_size) => {
+            address(
+                order,
+                PartialNumber::new(usize::from(params.address_size)),
+                bytes,
+            )
+        }
+        4 if len > 1 => discriminator(len - 1, Uleb::new(), bytes),
+        1 | 2 | 4 => OperationStep::Refuses(FaultKind::ExtendedLength, bytes),
+        _ if len > 1 => rest(len - 1, bytes),
+        _ => OperationStep::Ends(Operation::Skipped, bytes),
+    }
+}
+
+fn address<'a>(order: Order, number: PartialNumber, bytes: &'a [u8]) -> OperationStep<'a>
+    ensures within { Leaves (length bytes.entry.now) result }
+    ensures step { (h : Params) (v : List ℕ) → PhaseStands h (phase.Address number) v → StepIs order h v bytes.entry.now result }
+{
+    match number.take_from(order, bytes) {
+        Ok((address, behind)) => OperationStep::Ends(Operation::SetAddress(address), behind),
+        Err(number) => OperationStep::Within(OperationState::Address(number)),
+    }
+}
+
+fn discriminator<'a>(mut left: u64, mut number: Uleb, bytes: &'a [u8]) -> OperationStep<'a>
+    ensures within { Leaves (length bytes.entry.now) result }
+    ensures step { (order : Order) (h : Params) (v : List ℕ) → PhaseStands h (phase.Discriminator left number) v → StepIs order h v bytes.entry.now result }
+{
+    for (i, byte) in bytes.iter().enumerate() {
+        let Some(answer) = number.push(*byte) else {
+            if left <= 1 {
+                return OperationStep::Refuses(FaultKind::ExtendedLength, &bytes[i + 1..]);
+            }
+            left -= 1;
+            continue;
+        };
+        let behind = &bytes[i + 1..];
+        return match answer {
+            Ok(value) if left == 1 => OperationStep::Ends(
+                Operation::SetDiscriminator(value),
+                behind,
+            ),
+            Ok(_) => OperationStep::Refuses(FaultKind::ExtendedLength, behind),
+            Err(LebRange) => OperationStep::Refuses(FaultKind::LebRange, behind),
+        };
+    }
+    OperationStep::Within(OperationState::Discriminator(left, number))
+}
+
+fn rest<'a>(left: u64, bytes: &'a [u8]) -> OperationStep<'a>
+    ensures within { Leaves (length bytes.entry.now) result }
+    ensures step { (order : Order) (h : Params) (v : List ℕ) → PhaseStands h (phase.Rest left) v → StepIs order h v bytes.entry.now result }
+{
+    let len = bytes.len() as u64;
+    if left <= len {
+        OperationStep::Ends(Operation::Skipped, &bytes[left as usize..])
+    } else {
+        OperationStep::Within(OperationState::Rest(left - len))
+    }
+}
