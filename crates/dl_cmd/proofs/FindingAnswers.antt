@@ -5,7 +5,7 @@ use Rattle.std.proofs.Common.{true≢false}
 use Rattle.std.specs.Io.KnownBytes.{Appends, Keeps}
 use Rattle.std.specs.List.{concat}
 use Rattle.dl_num.specs.declared.fixed.Order.{Order}
-use Rattle.dl_table.specs.TableData.{HeaderData}
+use Rattle.dl_field.specs.HeaderData.{HeaderData}
 use Rattle.dl_rows.specs.declared.row.Row.{Row}
 use Rattle.dl_rows.specs.Runs.{Sound}
 use Rattle.dl_cmd.specs.declared.fault.RunFault.{RunFault}

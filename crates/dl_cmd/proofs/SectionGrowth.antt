@@ -12,8 +12,9 @@ use Rattle.dl_table.specs.declared.form.Format.{Format}
 use Rattle.dl_table.specs.declared.form.Format.TheVariants.{Dwarf32, Dwarf64}
 use Rattle.dl_table.specs.declared.fault.FaultKind.{FaultKind}
 use Rattle.dl_field.specs.Field.{IsInitialLength}
-use Rattle.dl_field.specs.Layout.{Item, length_is, number_is, form_is, value_is, header_layout}
-use Rattle.dl_field.specs.Layout.{initial_size}
+use Rattle.dl_field.specs.Layout.{Item, length_is, number_is, form_is, value_is}
+use Rattle.dl_head.specs.HeaderLayout.{header_layout}
+use Rattle.dl_head.specs.HeaderLayout.{initial_size}
 use Rattle.dl_head.specs.Header.{SpellsFields, cut, unit_end}
 use Rattle.dl_head.specs.Header.{unit_len}
 use Rattle.dl_head.proofs.CutLemmas.{cut_sound, Sound as CutSound}

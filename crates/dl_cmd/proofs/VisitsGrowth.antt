@@ -7,9 +7,10 @@ use Rattle.std.proofs.lemmas.List.{map-append}
 use Rattle.dl_num.specs.declared.fixed.Order.{Order}
 use Rattle.dl_num.specs.Front.{Standing, standing_after}
 use Rattle.dl_num.proofs.FrontLemmas.{standing-append}
-use Rattle.dl_table.specs.TableData.{HeaderData}
+use Rattle.dl_field.specs.HeaderData.{HeaderData}
 use Rattle.dl_field.specs.declared.params.Params.{Params}
-use Rattle.dl_field.specs.Layout.{Layout, Item, foreign_version, header_layout}
+use Rattle.dl_field.specs.Layout.{Layout, Item, foreign_version}
+use Rattle.dl_head.specs.HeaderLayout.{header_layout}
 use Rattle.dl_field.specs.Layout.{following_all}
 use Rattle.dl_head.specs.Header.{Cut, cut, cut_after, foreign_made, foreign_in, header_in}
 use Rattle.dl_head.specs.Header.{unit_len}
