@@ -1,7 +1,7 @@
 //! Which row answers for an address, and what stands in the lines.
 use crate::sections::{DEAD, OVER, PATHS, PLAIN, TOP, asked, assert_addr, plain, section};
 use dl_addr::{Form, Found, Question, Style};
-use dl_cmd::RunFault;
+use dl_run::RunFault;
 use dl_head::FaultKind;
 use std::test::Fail;
 

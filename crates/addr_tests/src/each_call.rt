@@ -1,7 +1,7 @@
 //! A fault at each read, each write and each growth in turn.
 use crate::sections::{DEAD, PATHS, asked, options, plain, section};
 use dl_addr::{Found, addr};
-use dl_cmd::RunFault;
+use dl_run::RunFault;
 use std::alloc::Global;
 use std::process::Abort;
 use std::test::Fail;

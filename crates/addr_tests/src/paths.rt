@@ -1,7 +1,7 @@
 //! The paths of files.
 use crate::sections::{NODIR, PATHS, PLAIN, RELATIVE, asked, assert_addr, options, plain, section};
 use dl_addr::{Found, Question, Style, addr};
-use dl_cmd::Options;
+use dl_run::Options;
 use std::test::Fail;
 use test_support::{Sink, Source};
 

@@ -2,7 +2,7 @@
 ghost use Rattle.std.specs.Prelude.{◌≤◌};
 
 use dl_addr::{Asked, Form, Found, Question, Style, addr};
-use dl_cmd::{Options, RunFault, SECTION_LIMIT};
+use dl_run::{Options, RunFault, SECTION_LIMIT};
 use dl_num::Order;
 use std::alloc::Global;
 use std::process::Abort;

@@ -1,19 +1,9 @@
-//! Commands over worked sections, and texts from outside.
+//! Words, and the addresses that words and lines say, through public calls alone.
 #![tactic(auto)]
 
 #[cfg(test)]
-mod copying;
+mod addresses;
 #[cfg(test)]
-mod each_call;
+mod lines;
 #[cfg(test)]
-mod faults;
-#[cfg(test)]
-mod finding;
-#[cfg(test)]
-mod printing;
-#[cfg(test)]
-mod reading;
-#[cfg(test)]
-mod sections;
-#[cfg(test)]
-mod writing;
+mod words;

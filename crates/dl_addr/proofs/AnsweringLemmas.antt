@@ -14,11 +14,11 @@ use Rattle.dl_print.specs.declared.fault.WriteFault.{WriteFault}
 use Rattle.dl_print.specs.declared.summary.Summary.{Summary}
 use Rattle.dl_print.specs.Output.{TellsOut}
 use Rattle.dl_print.specs.ValueText.{Strings, strings_of}
-use Rattle.dl_cmd.specs.declared.fault.RunFault.{RunFault}
-use Rattle.dl_cmd.specs.declared.fault.RunFault.TheVariants as fault
-use Rattle.dl_cmd.specs.Section.{Visit, HasBegun, EndsAs, of_end, section_visits}
-use Rattle.dl_cmd.specs.Visiting.{Ran, VisitorStops}
-use Rattle.dl_cmd.proofs.SectionLemmas.{has_front}
+use Rattle.dl_run.specs.declared.fault.RunFault.{RunFault}
+use Rattle.dl_run.specs.declared.fault.RunFault.TheVariants as fault
+use Rattle.dl_run.specs.Section.{Visit, HasBegun, EndsAs, of_end, section_visits}
+use Rattle.dl_run.specs.Visiting.{Ran, VisitorStops}
+use Rattle.dl_run.proofs.SectionLemmas.{has_front}
 use Rattle.dl_addr.specs.declared.asked.Asked.{Asked}
 use Rattle.dl_addr.specs.declared.locating.Locator.{Locator}
 use Rattle.dl_addr.specs.declared.question.Found.{Found}

@@ -17,13 +17,13 @@ use Rattle.dl_look.specs.Answer.{answer}
 use Rattle.dl_look.specs.LiveRows.{live_rows}
 use Rattle.dl_look.specs.Units.{answer_of_units}
 use Rattle.dl_look.proofs.LiveLemmas.{of_live_rows}
-use Rattle.dl_cmd.specs.Copying.{offset_after}
-use Rattle.dl_cmd.specs.RowsTold.{rows_after}
-use Rattle.dl_cmd.specs.Section.{Visit, of_header, of_version, of_row, of_open, of_end, header_of, header_visit}
-use Rattle.dl_cmd.specs.Section.{event_visits, visits, open_visit, end_visits, unit_visits, units_visits}
-use Rattle.dl_cmd.specs.Section.{section_visits}
-use Rattle.dl_cmd.proofs.EventLemmas.{rows_visited}
-use Rattle.dl_cmd.proofs.Fronts.{or_assoc, or_none}
+use Rattle.dl_run.specs.Copying.{offset_after}
+use Rattle.dl_run.specs.RowsTold.{rows_after}
+use Rattle.dl_run.specs.Section.{Visit, of_header, of_version, of_row, of_open, of_end, header_of, header_visit}
+use Rattle.dl_run.specs.Section.{event_visits, visits, open_visit, end_visits, unit_visits, units_visits}
+use Rattle.dl_run.specs.Section.{section_visits}
+use Rattle.dl_run.proofs.EventLemmas.{rows_visited}
+use Rattle.dl_run.proofs.Fronts.{or_assoc, or_none}
 use Rattle.dl_addr.specs.Locations.{Located, located, located_from, located_in}
 use Rattle.dl_addr.specs.Locating.{ended_rows, located_after, located_under}
 
@@ -160,7 +160,7 @@ module _ (live : ℕ → Bool) where
 
     pub rows_of_unit : (order : Order) (offset : ℕ) (u : List ℕ) → rows_after [] (unit_visits order offset u) ≡ []
     rows_of_unit order offset u =
-        Rattle.dl_cmd.proofs.VisitLemmas.rows_after-append [] (visits order offset u) (end_visits order u)
+        Rattle.dl_run.proofs.VisitLemmas.rows_after-append [] (visits order offset u) (end_visits order u)
         ∙ rows_of_end (rows_after [] (visits order offset u)) (ends_open (unit_rows order u)) (header_of order u)
 
     pub located_of_units : (order : Order) (n offset : ℕ) (units : List (List ℕ)) (more : List Visit)

@@ -15,15 +15,15 @@ use Rattle.dl_look.specs.LiveRows.{live_rows, Tells}
 use Rattle.dl_look.specs.Units.{FirstAnswer, answer_of_units}
 use Rattle.dl_look.specs.declared.index.NoMemory.{NoMemory}
 use Rattle.dl_print.specs.ValueText.{strings_of}
-use Rattle.dl_cmd.specs.declared.fault.RunFault.TheVariants as fault
-use Rattle.dl_cmd.specs.Copying.{offset_after}
-use Rattle.dl_cmd.specs.RowsTold.{rows_after}
-use Rattle.dl_cmd.specs.Section.{Visit, of_end}
+use Rattle.dl_run.specs.declared.fault.RunFault.TheVariants as fault
+use Rattle.dl_run.specs.Copying.{offset_after}
+use Rattle.dl_run.specs.RowsTold.{rows_after}
+use Rattle.dl_run.specs.Section.{Visit, of_end}
 use Rattle.dl_rows.specs.declared.sink.Flow.{Flow}
 use Rattle.dl_rows.specs.declared.sink.Flow.TheVariants as flow
-use Rattle.dl_cmd.specs.Visiting.{GoesOn, StopsIn}
-use Rattle.dl_cmd.proofs.VisitLemmas.{rows_after-append}
-use Rattle.dl_cmd.proofs.Fronts.{map_none, or_none}
+use Rattle.dl_run.specs.Visiting.{GoesOn, StopsIn}
+use Rattle.dl_run.proofs.VisitLemmas.{rows_after-append}
+use Rattle.dl_run.proofs.Fronts.{map_none, or_none}
 use Rattle.dl_addr.specs.declared.locating.Locator.{Locator}
 use Rattle.dl_addr.specs.declared.texts.FileText.{FileText}
 use Rattle.dl_addr.specs.Answers.{SeenRow, located_seen}

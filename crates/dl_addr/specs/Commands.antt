@@ -8,10 +8,10 @@ use Rattle.std.specs.Io.KnownBytes.{Appends, Keeps}
 use Rattle.dl_num.specs.declared.fixed.Order.{Order}
 use Rattle.dl_print.specs.Output.{TellsOut}
 use Rattle.dl_print.specs.ValueText.{Strings}
-use Rattle.dl_cmd.specs.declared.fault.RunFault.{RunFault}
-use Rattle.dl_cmd.specs.declared.fault.RunFault.TheVariants as fault
+use Rattle.dl_run.specs.declared.fault.RunFault.{RunFault}
+use Rattle.dl_run.specs.declared.fault.RunFault.TheVariants as fault
 use Rattle.dl_print.specs.declared.summary.Summary.{Summary}
-use Rattle.dl_cmd.specs.Section.{EndsAs, HasUnits}
+use Rattle.dl_run.specs.Section.{EndsAs, HasUnits}
 use Rattle.dl_addr.specs.declared.asked.Asked.{Asked}
 use Rattle.dl_addr.specs.declared.question.Found.{Found}
 use Rattle.dl_addr.specs.declared.question.Found.TheVariants as found

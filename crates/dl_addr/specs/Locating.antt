@@ -10,12 +10,12 @@ use Rattle.dl_look.specs.Answer.{answer}
 use Rattle.dl_look.specs.FindersRows.{Stand}
 use Rattle.dl_look.specs.LiveRows.{live_rows, Tells}
 use Rattle.dl_print.specs.ValueText.{strings_of}
-use Rattle.dl_cmd.specs.declared.fault.RunFault.{RunFault}
-use Rattle.dl_cmd.specs.declared.fault.RunFault.TheVariants.{NoMemory}
-use Rattle.dl_cmd.specs.Copying.{offset_after}
-use Rattle.dl_cmd.specs.RowsTold.{rows_after}
-use Rattle.dl_cmd.specs.Section.{Visit, of_header, of_row, of_end}
-use Rattle.dl_cmd.specs.Visiting.{Story}
+use Rattle.dl_run.specs.declared.fault.RunFault.{RunFault}
+use Rattle.dl_run.specs.declared.fault.RunFault.TheVariants.{NoMemory}
+use Rattle.dl_run.specs.Copying.{offset_after}
+use Rattle.dl_run.specs.RowsTold.{rows_after}
+use Rattle.dl_run.specs.Section.{Visit, of_header, of_row, of_end}
+use Rattle.dl_run.specs.Visiting.{Story}
 use Rattle.dl_addr.specs.declared.locating.Locator.{Locator}
 use Rattle.dl_addr.specs.Code.{is_code}
 use Rattle.dl_addr.specs.Locations.{Located}

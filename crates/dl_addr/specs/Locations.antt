@@ -11,7 +11,7 @@ use Rattle.dl_look.specs.LiveRows.{live_answer}
 use Rattle.dl_print.specs.Digits.{hexadecimal_of}
 use Rattle.dl_print.specs.Text.{line}
 use Rattle.dl_print.specs.ValueText.{Strings}
-use Rattle.dl_cmd.specs.Section.{header_of}
+use Rattle.dl_run.specs.Section.{header_of}
 use Rattle.dl_addr.specs.declared.asked.Asked.{Asked}
 use Rattle.dl_addr.specs.declared.style.Form.{Form}
 use Rattle.dl_addr.specs.declared.style.Form.TheVariants.{Location, AddressAndLocation, Json}

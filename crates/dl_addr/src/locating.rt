@@ -6,7 +6,7 @@ ghost use Rattle.dl_addr.specs.Code.{is_code};
 
 use crate::style::Style;
 use crate::texts::{FileText, UnitFiles, keep_all};
-use dl_cmd::{RunFault, Visitor};
+use dl_run::{RunFault, Visitor};
 use dl_head::Header;
 use dl_look::{CodeRanges, Finders, LiveRows, NoMemory, Place};
 use dl_print::StringSections;
@@ -100,7 +100,7 @@ impl<'a> Locator<'a> {
     ghost use Rattle.std.specs.Prelude.{Bool, Option, option_map, []};
     ghost use Rattle.std.specs.Option.{option_and_then, option_copied};
     ghost use Rattle.dl_addr.specs.declared.locating.Locator as locator;
-    ghost use Rattle.dl_cmd.specs.Section.{Visit};
+    ghost use Rattle.dl_run.specs.Section.{Visit};
     ghost use Rattle.dl_look.specs.FinderRows.{unended};
     ghost use Rattle.dl_addr.specs.Code.{is_code};
     ghost use Rattle.dl_addr.specs.Locating.{Locating, located_by};

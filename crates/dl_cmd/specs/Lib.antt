@@ -1,19 +1,9 @@
 -- What the public contracts say rests on these, in reading order.
-pub mod RunText
-pub mod RunOutput
-pub mod Strings
-pub mod Section
-pub mod Visiting
-pub mod SectionText
-pub mod Commands
-pub mod SectionLaws
-pub mod CopyLaws
+pub mod CommandLine
+pub mod Job
+pub mod Words
+pub mod Address
+pub mod AskedLines
 -- Of contracts inside the crate, and of proofs; no public contract reaches these.
-pub mod UnitPrinted
-pub mod UnitsRead
-pub mod Told
-pub mod Checking
-pub mod Dumping
-pub mod RowsTold
-pub mod Finding
-pub mod Copying
+pub mod Line
+pub mod LinesRead

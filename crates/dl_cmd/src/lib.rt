@@ -1,26 +1,18 @@
-//! The commands over a section of line tables: what they read, print and answer; and the reading of
-//! its units for further ones.
+//! The program's commands, and the words of the command line that ask for them, with the addresses that words
+//! and lines say.
 #![tactic(auto)]
 
-mod checking;
-mod copying;
-mod dumping;
-mod fault;
-mod finding;
-mod input;
-pub mod laws;
-mod options;
-mod section;
-mod strings;
+mod address;
+mod asked_lines;
+mod command_line;
+mod job;
+mod line;
+mod words;
 
-pub use checking::check;
-pub use copying::copy;
-pub use dl_print::Summary;
-pub use dl_rows::Flow;
-pub use dumping::dump;
-pub use fault::RunFault;
-pub use finding::find;
-pub use input::{Input, ReadFailed};
-pub use options::{Options, SECTION_LIMIT};
-pub use section::{Visitor, read_units};
-pub use strings::read_strings;
+pub use address::{read_address, read_hex_address};
+pub use asked_lines::{AskedLines, read_asked};
+pub use dl_run::{
+    Options, RunFault, SECTION_LIMIT, Summary, check, copy, dump, find, read_strings,
+};
+pub use job::{AddrWords, Job};
+pub use words::{read_job, word_status};

@@ -1,11 +1,11 @@
 -- The command over the line table of a file.
 use Rattle.std.proofs.Common.{◌≡◌, ◌∙◌, ◌&&◌, ℕ, Bool, false, List, Option, Some, Result, ap, ap₂, sym, subst}
 use Rattle.std.specs.Io.KnownBytes.{Consumes}
-use Rattle.dl_words.specs.Job.{Text}
+use Rattle.dl_cmd.specs.Job.{Text}
 use Rattle.dl_num.specs.declared.fixed.Order.{Order}
 use Rattle.dl_elf.specs.LineTable.{LineTable}
-use Rattle.dl_cmd.specs.declared.options.TheConstants.{SECTION_LIMIT}
-use Rattle.dl_cmd.specs.declared.fault.RunFault.{RunFault}
+use Rattle.dl_run.specs.declared.options.TheConstants.{SECTION_LIMIT}
+use Rattle.dl_run.specs.declared.fault.RunFault.{RunFault}
 use Rattle.dl_print.specs.declared.summary.Summary.{Summary}
 use Rattle.dl_print.specs.ValueText.{Strings}
 use Rattle.dl_work.specs.declared.command.Command.{Command}

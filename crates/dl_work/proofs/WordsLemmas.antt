@@ -3,10 +3,10 @@ use Rattle.std.proofs.Common.{◌≡◌, Bor, ℕ, Bool, false, true, List, [], 
 use Rattle.std.specs.Prelude.{is_some}
 use Rattle.std.specs.List.{list_all}
 use Rattle.std.proofs.lemmas.List.Folds.{list_all-map}
-use Rattle.dl_words.specs.Job.{AddrTexts}
-use Rattle.dl_cmd.specs.declared.fault.RunFault.TheVariants as fault
+use Rattle.dl_cmd.specs.Job.{AddrTexts}
+use Rattle.dl_run.specs.declared.fault.RunFault.TheVariants as fault
 use Rattle.dl_addr.specs.declared.asked.Asked.{Asked}
-use Rattle.dl_words.specs.AskedLines.{address_by}
+use Rattle.dl_cmd.specs.AskedLines.{address_by}
 use Rattle.dl_work.specs.declared.stop.Stop.{Stop}
 use Rattle.dl_work.specs.declared.stop.Stop.TheVariants.{NotUnderstood, Run}
 use Rattle.dl_work.specs.Locate.{AddressesStop, WordsStop}

@@ -2,7 +2,7 @@
 use Rattle.std.proofs.Common.{◌≡◌, ℕ, List, Option, Some, None, Result, subst}
 use Rattle.std.specs.declared.io.Error.{Error}
 use Rattle.dl_print.specs.declared.summary.Summary.{Summary}
-use Rattle.dl_words.specs.Job.{Request, Text}
+use Rattle.dl_cmd.specs.Job.{Request, Text}
 use Rattle.dl_work.specs.declared.command.Command.{Command}
 use Rattle.dl_work.specs.declared.stop.Stop.{Stop}
 use Rattle.dl_work.specs.Asked.{SectionWords, command_of, file_of, section_of}

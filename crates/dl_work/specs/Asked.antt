@@ -6,11 +6,11 @@ use Rattle.dl_num.specs.declared.fixed.Order.TheVariants.{Little, Big}
 use Rattle.dl_look.specs.declared.place.Place.{Place}
 use Rattle.dl_elf.specs.declared.line_file.Wanted.{Wanted}
 use Rattle.dl_elf.specs.declared.line_file.Wanted.TheVariants.{LineSection, LineAndStringSections}
-use Rattle.dl_cmd.specs.declared.fault.RunFault.{RunFault}
+use Rattle.dl_run.specs.declared.fault.RunFault.{RunFault}
 use Rattle.dl_print.specs.declared.summary.Summary.{Summary}
-use Rattle.dl_words.specs.Address.{address_in}
-use Rattle.dl_cmd.specs.Commands.{Checks, Copies, Dumps, Finds}
-use Rattle.dl_words.specs.Job.{Request, Text, addr, check, copy, dump, find}
+use Rattle.dl_cmd.specs.Address.{address_in}
+use Rattle.dl_run.specs.Commands.{Checks, Copies, Dumps, Finds}
+use Rattle.dl_cmd.specs.Job.{Request, Text, addr, check, copy, dump, find}
 use Rattle.dl_print.specs.ValueText.{Strings}
 use Rattle.dl_work.specs.declared.command.Command.{Command}
 use Rattle.dl_work.specs.declared.command.Command.TheVariants.{Addr, Dump, Check, Find, Copy}
@@ -18,7 +18,7 @@ use Rattle.dl_work.specs.declared.command.TheConstants.{NOTHING}
 use Rattle.dl_addr.specs.declared.question.Found.{Found}
 use Rattle.dl_addr.specs.declared.question.Found.TheVariants as found
 use Rattle.dl_addr.specs.Commands.{Locates}
-use Rattle.dl_cmd.specs.declared.fault.RunFault.TheVariants.{NotFound}
+use Rattle.dl_run.specs.declared.fault.RunFault.TheVariants.{NotFound}
 
 -- the place of `find`; none where ADDRESS is no address
 abbrev pub place_of : (address : Option Text) (op : ℕ) → Option Place

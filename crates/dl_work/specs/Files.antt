@@ -1,10 +1,10 @@
 -- The string sections in the files of `--line-str` and `--str`. held: what the file of a path holds, where that is
 -- known.
 use Rattle.std.specs.Prelude.{⊤, ◌≡◌, ◌⊎◌, ◌<◌, ◌≤◌, ℕ, List, length, Option, Some, None, IfSome}
-use Rattle.dl_words.specs.Job.{Text}
+use Rattle.dl_cmd.specs.Job.{Text}
 use Rattle.dl_work.specs.declared.strings.TheConstants.{STRINGS_LIMIT}
-use Rattle.dl_cmd.specs.declared.fault.RunFault.{RunFault}
-use Rattle.dl_cmd.specs.declared.fault.RunFault.TheVariants as fault
+use Rattle.dl_run.specs.declared.fault.RunFault.{RunFault}
+use Rattle.dl_run.specs.declared.fault.RunFault.TheVariants as fault
 use Rattle.dl_print.specs.ValueText.{Strings}
 
 -- these are all bytes of a file, and not more than the limit

@@ -1,12 +1,12 @@
 -- How the program stops: its text, its status, and the stops at an ELF file.
 use Rattle.std.specs.Prelude.{◌≡◌, ℕ, List, ◌++◌, codes, decimal, Option, Some, None, option_map}
 use Rattle.std.specs.declared.io.Error.{Error}
-use Rattle.dl_words.specs.Job.{Text}
+use Rattle.dl_cmd.specs.Job.{Text}
 use Rattle.dl_elf.specs.FaultText.{fault_text}
 use Rattle.dl_elf.specs.declared.fault.ElfFault.TheVariants.{Read}
-use Rattle.dl_cmd.specs.RunText.{run_fault_text, status}
-use Rattle.dl_cmd.specs.declared.fault.RunFault.{RunFault}
-use Rattle.dl_cmd.specs.declared.fault.RunFault.TheVariants as fault
+use Rattle.dl_run.specs.RunText.{run_fault_text, status}
+use Rattle.dl_run.specs.declared.fault.RunFault.{RunFault}
+use Rattle.dl_run.specs.declared.fault.RunFault.TheVariants as fault
 use Rattle.dl_work.specs.declared.stop.FileFault.{FileFault}
 use Rattle.dl_work.specs.declared.stop.FileFault.TheVariants.{Open, Elf, ObjectCopy, NoMemory}
 use Rattle.dl_work.specs.declared.stop.Stop.{Stop}

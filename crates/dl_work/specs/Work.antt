@@ -5,10 +5,10 @@ use Rattle.std.specs.Prelude.{◌≡◌, ◌⊎◌, ℕ, List, [], Option, Some,
 use Rattle.std.specs.Io.KnownBytes.{Keeps}
 use Rattle.std.specs.declared.io.Error.{Error}
 use Rattle.dl_elf.specs.Source.{ForBytes}
-use Rattle.dl_cmd.specs.declared.options.TheConstants.{SECTION_LIMIT}
-use Rattle.dl_cmd.specs.declared.fault.RunFault.{RunFault}
+use Rattle.dl_run.specs.declared.options.TheConstants.{SECTION_LIMIT}
+use Rattle.dl_run.specs.declared.fault.RunFault.{RunFault}
 use Rattle.dl_print.specs.declared.summary.Summary.{Summary}
-use Rattle.dl_words.specs.Job.{Request, Text}
+use Rattle.dl_cmd.specs.Job.{Request, Text}
 use Rattle.dl_print.specs.ValueText.{Strings}
 use Rattle.dl_work.specs.declared.command.Command.{Command}
 use Rattle.dl_work.specs.declared.stop.Stop.{Stop}

@@ -1,15 +1,15 @@
 //! What the words of `addr` ask for.
 ghost use Rattle.std.specs.Prelude.{◌≡◌, IfErr, IfOk, None, Some, is_some, map, true};
 ghost use Rattle.std.specs.List.{list_all};
-ghost use Rattle.dl_words.specs.Job.{addr_words_made};
-ghost use Rattle.dl_words.specs.AskedLines.{address_by};
+ghost use Rattle.dl_cmd.specs.Job.{addr_words_made};
+ghost use Rattle.dl_cmd.specs.AskedLines.{address_by};
 ghost use Rattle.dl_work.specs.Locate.{AddressesStop, WordsStop, are_addresses, asked_in_words, base_in, form_in, says_section};
 
 use crate::stop::Stop;
 use dl_addr::{Asked, Form, Question, Style};
-use dl_cmd::RunFault;
+use dl_run::RunFault;
 use dl_look::CodeRanges;
-use dl_words::{AddrWords, AskedLines, read_address, read_hex_address};
+use dl_cmd::{AddrWords, AskedLines, read_address, read_hex_address};
 use std::alloc::Global;
 
 /// The address that a word says.

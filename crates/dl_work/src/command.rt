@@ -2,15 +2,15 @@
 ghost use Rattle.std.specs.Prelude.{◌≡◌, ◌≤◌, ◌&&◌, ℕ, List};
 ghost use Rattle.std.specs.Option.{option_copied};
 ghost use Rattle.std.specs.Io.KnownBytes.{Consumes};
-ghost use Rattle.dl_cmd.specs.Commands.{strings_in};
-ghost use Rattle.dl_words.specs.Job.{request_made};
+ghost use Rattle.dl_run.specs.Commands.{strings_in};
+ghost use Rattle.dl_cmd.specs.Job.{request_made};
 ghost use Rattle.dl_work.specs.Asked.{Does, answered, command_of, is_copy, place_of, wanted_of};
 
 use dl_addr::{Found, Question, addr};
-use dl_cmd::{Options, RunFault, SECTION_LIMIT, Summary, check, copy, dump, find};
+use dl_run::{Options, RunFault, SECTION_LIMIT, Summary, check, copy, dump, find};
 use dl_elf::Wanted;
 use dl_look::Place;
-use dl_words::{Job, read_address};
+use dl_cmd::{Job, read_address};
 use std::alloc::Global;
 use std::io::{Read, Write};
 

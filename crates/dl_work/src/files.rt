@@ -3,7 +3,7 @@ ghost use Rattle.std.specs.Prelude.{◌≡◌, ℕ, List, Option, IfErr, IfOk, M
 ghost use Rattle.std.specs.declared.io.Error.{Error};
 ghost use Rattle.dl_work.specs.Files.{FileHolds, FileStops};
 
-use dl_cmd::RunFault;
+use dl_run::RunFault;
 use dl_elf::ReadAt;
 use std::alloc::Global;
 use std::io;

@@ -1,7 +1,7 @@
 //! What the program does for `addr`: addresses, and where they are in the source.
 ghost use Rattle.std.specs.Prelude.{◌≡◌, ℕ, List, None, MatchResult};
 ghost use Rattle.std.specs.Io.KnownBytes.{Consumes};
-ghost use Rattle.dl_words.specs.Job.{addr_words_made};
+ghost use Rattle.dl_cmd.specs.Job.{addr_words_made};
 ghost use Rattle.dl_work.specs.Located.{is_not_found, located, unless_no_address};
 ghost use Rattle.dl_work.specs.Locate.{HasAsked, InputStops, LocatesFor, LocatesInFile, LocatesInSection};
 
@@ -13,8 +13,8 @@ use crate::over_file::on_file;
 use crate::over_input::{Section, on_input};
 use crate::stop::Stop;
 use dl_addr::Found;
-use dl_cmd::{RunFault, Summary};
-use dl_words::{AddrWords, AskedLines, read_asked};
+use dl_run::{RunFault, Summary};
+use dl_cmd::{AddrWords, AskedLines, read_asked};
 use std::alloc::Global;
 use std::io::{Read, Write};
 

@@ -8,7 +8,7 @@ use crate::command::Command;
 use crate::files::FileSource;
 use crate::stop::{FileFault, Stop};
 use crate::strings::StringSections;
-use dl_cmd::Summary;
+use dl_run::Summary;
 use dl_elf::{LineFile, ReadAt, open_line_file};
 use std::alloc::Global;
 use std::io::Write;

@@ -9,7 +9,7 @@ use crate::command::Command;
 use crate::files::FileSource;
 use crate::stop::Stop;
 use crate::strings::StringSections;
-use dl_cmd::{RunFault, Summary};
+use dl_run::{RunFault, Summary};
 use dl_num::Order;
 use std::alloc::Global;
 use std::io::{Read, Write};

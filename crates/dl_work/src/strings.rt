@@ -1,7 +1,7 @@
 //! The string sections that a command looks into.
 ghost use Rattle.std.specs.Prelude.{◌≡◌, ◌≤◌, ℕ, List, Option, IfErr, IfOk, IfSome, MatchResult, length, option_map};
 ghost use Rattle.std.specs.Option.{option_copied};
-ghost use Rattle.dl_cmd.specs.Commands.{strings_in};
+ghost use Rattle.dl_run.specs.Commands.{strings_in};
 ghost use Rattle.dl_elf.specs.LineTable.{GivesOption};
 ghost use Rattle.dl_work.specs.Files.{FilesStop, IsSectionOf, StringsAre};
 ghost use Rattle.dl_work.specs.Held.{strings_held};
@@ -9,7 +9,7 @@ ghost use Rattle.dl_work.specs.Tables.{IsWhole, SectionStops, StringsStop};
 
 use crate::files::FileSource;
 use crate::stop::Stop;
-use dl_cmd::{Options, RunFault, SECTION_LIMIT, read_strings};
+use dl_run::{Options, RunFault, SECTION_LIMIT, read_strings};
 use dl_elf::{ReadAt, SectionReader};
 use dl_num::Order;
 use std::alloc::Global;

@@ -1,7 +1,7 @@
 //! What the program does for a job.
 ghost use Rattle.std.specs.Prelude.{◌≡◌, ℕ, List, option_map};
 ghost use Rattle.std.specs.Io.KnownBytes.{Consumes};
-ghost use Rattle.dl_words.specs.Job.{request_made};
+ghost use Rattle.dl_cmd.specs.Job.{request_made};
 ghost use Rattle.dl_work.specs.Asked.{file_of, section_of};
 ghost use Rattle.dl_work.specs.Held.{section_seen};
 ghost use Rattle.dl_work.specs.Work.{Works};
@@ -11,8 +11,8 @@ use crate::files::FileSource;
 use crate::over_file::on_file;
 use crate::over_input::{Section, on_input};
 use crate::stop::Stop;
-use dl_cmd::Summary;
-use dl_words::Job;
+use dl_run::Summary;
+use dl_cmd::Job;
 use std::alloc::Global;
 use std::io::{Read, Write};
 

@@ -1,6 +1,6 @@
 //! The statuses of words that name no work, and of files that aren't there.
 use crate::{Ending, report, run_words};
-use dl_cmd::RunFault;
+use dl_run::RunFault;
 use dl_work::Stop;
 use std::alloc::AllocError;
 use std::test::Fail;

@@ -5,7 +5,7 @@ use crate::shelf::{
     TWO_OPERATIONS, Told, UNIT_LINE, bytes,
 };
 use dl_num::Order;
-use dl_words::Job;
+use dl_cmd::Job;
 use dl_work::{FileFault, Stop, work};
 use std::alloc::Global;
 use std::process::Abort;

@@ -3,7 +3,7 @@ use crate::shelf::{
     BOTH_STRINGS, COUNTS, ROW_LINES, SECOND_OPERATION, SMALLEST, Shelf, THREE_ROWS, TWO_OPERATIONS,
     Told, UNIT_LINE, bytes, dump, find,
 };
-use dl_words::Job;
+use dl_cmd::Job;
 use std::test::Fail;
 
 #[test]

@@ -4,7 +4,7 @@ use crate::shelf::{BOTH_STRINGS, LINE_STRINGS, STRINGS, Shelf, Told, bytes};
 use dl_addr::Found;
 
 use dl_num::Order;
-use dl_words::AddrWords;
+use dl_cmd::AddrWords;
 use dl_work::locate;
 use std::alloc::Global;
 use std::process::Abort;

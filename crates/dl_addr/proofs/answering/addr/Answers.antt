@@ -1,6 +1,6 @@
 use Rattle.std.proofs.Common.{sym, subst}
 use Rattle.std.proofs.KnownBytes.{Appends-nil}
-use Rattle.dl_cmd.specs.Commands.{strings_in}
+use Rattle.dl_run.specs.Commands.{strings_in}
 use Rattle.dl_addr.specs.Commands.{Locates}
 use Rattle.dl_addr.proofs.AnsweringLemmas.{is_told}
 use Rattle.dl_addr.proofs.answering.addr.Goals as goal

@@ -1,6 +1,6 @@
 use Rattle.std.proofs.Common.{refl}
 use Rattle.std.proofs.lemmas.Result.{err_from_is_err_and}
-use Rattle.dl_words.specs.Job.{addr_words_made}
+use Rattle.dl_cmd.specs.Job.{addr_words_made}
 use Rattle.dl_work.proofs.WordsLemmas.{words_asked, words_stop, words_understood}
 use Rattle.dl_work.proofs.addr_words.asked_words.Goals as goal
 

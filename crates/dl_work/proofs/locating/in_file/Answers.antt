@@ -2,7 +2,7 @@ use Rattle.std.proofs.Common.{[], ◌||◌, Err, inl, inr, refl, sym, ap, ◌∙
 use Rattle.std.specs.Option.{option_copied}
 use Rattle.std.proofs.KnownBytes.{Consumes-nil}
 use Rattle.std.proofs.lemmas.Result.{err_from_is_err_and}
-use Rattle.dl_words.specs.Job.{addr_words_made}
+use Rattle.dl_cmd.specs.Job.{addr_words_made}
 use Rattle.dl_addr.specs.Code.{is_code}
 use Rattle.dl_work.proofs.LocateLemmas.{file_done, file_refused, file_stops, input_stops}
 use Rattle.dl_work.proofs.locating.in_file.Goals as goal

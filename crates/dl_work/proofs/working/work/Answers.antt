@@ -1,5 +1,5 @@
 use Rattle.std.proofs.Common.{◌∙◌, ap, sym, option_map}
-use Rattle.dl_words.specs.Job.{request_made}
+use Rattle.dl_cmd.specs.Job.{request_made}
 use Rattle.dl_work.specs.Held.{section_seen}
 use Rattle.dl_work.proofs.WorkLemmas.{works_on_input}
 use Rattle.dl_work.proofs.working.work.Goals as goal

@@ -1,0 +1,6 @@
+use Rattle.std.proofs.Common.{codes, rules}
+use Rattle.clap.specs.Words.{new_app}
+use Rattle.dl_cmd.proofs.command_line.copy.Goals as goal
+
+pub returns : goal.returns
+returns c = c.add_input.ensures (new_app (codes "copy")) (search rules)

@@ -1,9 +1,0 @@
-use Rattle.std.proofs.Common.{refl}
-use Rattle.dl_cmd.specs.Section.{of_version}
-use Rattle.dl_cmd.proofs.SeekerLemmas.{seeks_past}
-use Rattle.dl_cmd.proofs.finding.SeekerVisitor.foreign.Goals as goal
-
-pub returns : goal.returns
-returns g c first start visits s =
-    seeks_past first c.args.self.now start (g.W.Write.contents c.args._output.now) visits
-    (of_version c.args._offset c.args._version) refl refl s

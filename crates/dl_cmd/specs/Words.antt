@@ -1,0 +1,63 @@
+-- What the words ask for, as clap reads them.
+use Rattle.std.specs.Prelude.{ℕ, Bool, List, [], Option, Some, None, unwrap_or, codes, if◌then◌else◌, false}
+use Rattle.std.specs.Option.{option_map_or}
+use Rattle.std.specs.Str.{bytes_eq}
+use Rattle.clap.specs.Words.{Row, all_of, first_of, one_of}
+use Rattle.clap.specs.Walk.{byte_or_zero}
+use Rattle.clap.specs.declared.error.kind.ErrorKind.{ErrorKind}
+use Rattle.clap.specs.declared.error.kind.ErrorKind.TheVariants.{DisplayHelp, DisplayVersion, OutOfMemory}
+use Rattle.dl_cmd.specs.Job.{AddrTexts, Request, Text, addr, check, copy, dump, find}
+
+-- the value of an argument that is a text, texts, a byte or a flag, in the matches of a subcommand
+abbrev pub text_of : Text → List Row → Option Text
+text_of id rows = first_of id rows
+
+abbrev pub texts_of : Text → List Row → List Text
+texts_of id rows = unwrap_or (all_of id rows) []
+
+abbrev pub byte_of : Text → List Row → ℕ
+byte_of id rows = option_map_or byte_or_zero (one_of id rows) 0
+
+abbrev pub flag_of : Text → List Row → Bool
+flag_of id rows = option_map_or (λ t. bytes_eq t (codes "true")) (first_of id rows) false
+
+abbrev pub addr_words_of : List Row → AddrTexts
+addr_words_of rows = record {
+  file = text_of (codes "file") rows;
+  addresses = texts_of (codes "address") rows;
+  hex = flag_of (codes "hex") rows;
+  base = text_of (codes "base") rows;
+  with_addresses = flag_of (codes "addresses") rows;
+  basenames = flag_of (codes "basenames") rows;
+  json = flag_of (codes "json") rows;
+  all = flag_of (codes "all") rows;
+  big = flag_of (codes "big") rows;
+  line_str = text_of (codes "line-str") rows;
+  strings = text_of (codes "str") rows;
+}
+
+-- what the subcommand of this name asks for, with these matches
+abbrev pub request_of : Text → List Row → Option Request
+request_of name rows =
+    let file = text_of (codes "file") rows in
+    let big = flag_of (codes "big") rows in
+    let line_str = text_of (codes "line-str") rows in
+    let strings = text_of (codes "str") rows in
+    if bytes_eq name (codes "addr") then Some (addr (addr_words_of rows)) else
+    if bytes_eq name (codes "dump") then Some (dump file big line_str strings) else
+    if bytes_eq name (codes "check") then Some (check file big) else
+    if bytes_eq name (codes "find")
+    then Some (find file big (text_of (codes "address") rows) (byte_of (codes "op") rows) line_str strings) else
+    if bytes_eq name (codes "copy") then Some (copy file big) else None
+
+-- the same of a reading of the words, which may hold no subcommand
+abbrev pub requested : Option (Text × List Row) → Option Request
+requested None = None
+requested (Some p) = request_of p.0 p.1
+
+-- the program's status where the words gave no job
+abbrev pub word_status_of : ErrorKind → ℕ
+word_status_of DisplayHelp = 0
+word_status_of DisplayVersion = 0
+word_status_of OutOfMemory = 3
+word_status_of _ = 2

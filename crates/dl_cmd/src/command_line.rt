@@ -1,0 +1,262 @@
+//! The command line: its subcommands and arguments, with their help.
+ghost use Rattle.std.specs.Prelude.{IfOk, [], ◌∷◌, codes};
+ghost use Rattle.clap.specs.Words.{App};
+ghost use Rattle.dl_cmd.specs.CommandLine.{Excludes, IsApp, IsRule, file_rule, line_str_rule, str_rule, big_rule, address_rule, op_rule, addr_file_rule, addresses_rule, base_rule, switch_rule, letter_rule, addr_app, with_addresses, with_input, with_printing, with_strings, dump_app, check_app, find_app, copy_app, command_line};
+
+use clap::{Arg, ArgAction, Command};
+use std::alloc::{AllocError, Global};
+
+/// The version of the program and of its crates.
+const VERSION: &str = "0.1.0";
+
+/// The ELF file that is read. It says its order, so `--big` may not be used with it.
+fn file<'a>(alloc: Global) -> Result<Arg<'a>, AllocError>
+    ensures rule { IfOk result (IsRule file_rule) }
+    ensures excludes { IfOk result (Excludes (codes "big" ∷ [])) }
+{
+    Arg::new(alloc, "file")
+        .value_name("FILE")
+        .help(
+            "ELF file to read; without it the bytes of a section .debug_line are read from \
+             standard input",
+        )
+        .conflicts_with("big")
+}
+
+/// The same of a command that looks into string sections. It has these too.
+fn file_with_strings<'a>(alloc: Global) -> Result<Arg<'a>, AllocError>
+    ensures rule { IfOk result (IsRule file_rule) }
+    ensures excludes { IfOk result (Excludes (codes "big" ∷ codes "line-str" ∷ codes "str" ∷ [])) }
+{
+    file(alloc)?
+        .conflicts_with("line-str")?
+        .conflicts_with("str")
+}
+
+fn big<'a>(alloc: Global) -> Arg<'a>
+    ensures { IsRule big_rule result }
+{
+    Arg::new(alloc, "big")
+        .long("big")
+        .action(ArgAction::SetTrue)
+        .help("Read the section on standard input as big-endian (it is little-endian else)")
+}
+
+fn line_str<'a>(alloc: Global) -> Arg<'a>
+    ensures { IsRule line_str_rule result }
+{
+    Arg::new(alloc, "line-str")
+        .long("line-str")
+        .value_name("PATH")
+        .help("File with the bytes of .debug_line_str, where paths may stand")
+}
+
+fn strings<'a>(alloc: Global) -> Arg<'a>
+    ensures { IsRule str_rule result }
+{
+    Arg::new(alloc, "str")
+        .long("str")
+        .value_name("PATH")
+        .help("File with the bytes of .debug_str, where paths may stand")
+}
+
+fn address<'a>(alloc: Global) -> Arg<'a>
+    ensures { IsRule address_rule result }
+{
+    Arg::new(alloc, "address")
+        .required(true)
+        .value_name("ADDRESS")
+        .help("Address to look up: 0x and hexadecimal digits, or decimal digits")
+}
+
+fn op<'a>(alloc: Global) -> Arg<'a>
+    ensures { IsRule op_rule result }
+{
+    Arg::new(alloc, "op")
+        .long("op")
+        .value_name("N")
+        .value_parser(clap::value_parser!(u8))
+        .default_value("0")
+        .help("Operation within the instruction at ADDRESS, from 0 to 255")
+}
+
+/// The file of `addr`, which may be `-` beside `--big`, `--line-str` and `--str`.
+fn addr_file<'a>(alloc: Global) -> Arg<'a>
+    ensures { IsRule addr_file_rule result }
+{
+    Arg::new(alloc, "file")
+        .required(true)
+        .value_name("FILE")
+        .help("ELF file to read, or - for the bytes of a section .debug_line on standard input")
+}
+
+fn addresses<'a>(alloc: Global) -> Arg<'a>
+    ensures { IsRule addresses_rule result }
+{
+    Arg::new(alloc, "address")
+        .action(ArgAction::Append)
+        .value_name("ADDRESS")
+        .help(
+            "Addresses to look up: 0x and hexadecimal digits, or decimal digits; without one they \
+             are read from standard input, one a line",
+        )
+}
+
+fn base<'a>(alloc: Global) -> Arg<'a>
+    ensures { IsRule base_rule result }
+{
+    Arg::new(alloc, "base")
+        .long("base")
+        .value_name("ADDRESS")
+        .help("Load address, which is subtracted from each address first")
+}
+
+/// An option `--id` without a value.
+fn switch<'a>(alloc: Global, id: &'a str, help: &'a str) -> Arg<'a>
+    ensures { IsRule (switch_rule id.entry.now) result }
+{
+    Arg::new(alloc, id)
+        .long(id)
+        .action(ArgAction::SetTrue)
+        .help(help)
+}
+
+/// An option `--id`, or by its letter, without a value.
+fn letter<'a>(alloc: Global, id: &'a str, short: char, help: &'a str) -> Arg<'a>
+    ensures { IsRule (letter_rule id.entry.now short) result }
+{
+    switch(alloc, id, help).short(short)
+}
+
+fn add_input<'a>(alloc: Global, command: Command<'a>) -> Result<Command<'a>, AllocError>
+    ensures { (a : App) → IsApp a command.entry → IfOk result (IsApp (with_input a)) }
+{
+    command.arg(big(alloc))?.arg(file(alloc)?)
+}
+
+fn add_strings<'a>(alloc: Global, command: Command<'a>) -> Result<Command<'a>, AllocError>
+    ensures { (a : App) → IsApp a command.entry → IfOk result (IsApp (with_strings a)) }
+{
+    command
+        .arg(big(alloc))?
+        .arg(line_str(alloc))?
+        .arg(strings(alloc))?
+        .arg(file_with_strings(alloc)?)
+}
+
+fn dump<'a>(alloc: Global) -> Result<Command<'a>, AllocError>
+    ensures { IfOk result (IsApp dump_app) }
+{
+    let command = Command::new(alloc, "dump")
+        .about("Print each unit with its directories, files and rows")
+        .after_help(
+            "Examples:\n  dwline dump program\n  dwline dump --line-str debug_line_str < debug_line",
+        );
+    add_strings(alloc, command)
+}
+
+fn check<'a>(alloc: Global) -> Result<Command<'a>, AllocError>
+    ensures { IfOk result (IsApp check_app) }
+{
+    let command = Command::new(alloc, "check")
+        .about("Read all units, and print how many units, sequences and rows there are")
+        .after_help("Examples:\n  dwline check program\n  dwline check --big < debug_line");
+    add_input(alloc, command)
+}
+
+fn find<'a>(alloc: Global) -> Result<Command<'a>, AllocError>
+    ensures { IfOk result (IsApp find_app) }
+{
+    let command = Command::new(alloc, "find")
+        .about("Print the source file and the row of an address")
+        .after_help("Examples:\n  dwline find 0x401136 program\n  dwline find 4198710 < debug_line")
+        .arg(address(alloc))?
+        .arg(op(alloc))?;
+    add_strings(alloc, command)
+}
+
+fn copy<'a>(alloc: Global) -> Result<Command<'a>, AllocError>
+    ensures { IfOk result (IsApp copy_app) }
+{
+    let command = Command::new(alloc, "copy")
+        .about("Write each unit anew, with the same header and rows, as the bytes of a section")
+        .after_help(
+            "Examples:\n  dwline copy program > debug_line\n  dwline copy < debug_line > copied",
+        );
+    add_input(alloc, command)
+}
+
+/// How answers are printed.
+fn add_printing<'a>(alloc: Global, command: Command<'a>) -> Result<Command<'a>, AllocError>
+    ensures { (a : App) → IsApp a command.entry → IfOk result (IsApp (with_printing a)) }
+{
+    command
+        .arg(letter(
+            alloc,
+            "addresses",
+            'a',
+            "Print each address before its location",
+        ))?
+        .arg(letter(
+            alloc,
+            "basenames",
+            's',
+            "Print the last component of each path alone",
+        ))?
+        .arg(switch(
+            alloc,
+            "json",
+            "Print a JSON object for each address, one a line",
+        ))
+}
+
+fn add_addresses<'a>(alloc: Global, command: Command<'a>) -> Result<Command<'a>, AllocError>
+    ensures { (a : App) → IsApp a command.entry → IfOk result (IsApp (with_addresses a)) }
+{
+    add_printing(alloc, command)?
+        .arg(switch(alloc, "hex", "Read digits without 0x as hexadecimal too"))?
+        .arg(base(alloc))?
+        .arg(switch(
+            alloc,
+            "all",
+            "Look into sequences too that begin outside executable sections",
+        ))?
+        .arg(big(alloc))?
+        .arg(line_str(alloc))?
+        .arg(strings(alloc))?
+        .arg(addr_file(alloc))?
+        .arg(addresses(alloc))
+}
+
+fn addr<'a>(alloc: Global) -> Result<Command<'a>, AllocError>
+    ensures { IfOk result (IsApp addr_app) }
+{
+    let command = Command::new(alloc, "addr")
+        .about("Print path, line and column of each address")
+        .after_help(
+            "Examples:\n  dwline addr program 0x401136 0x40113a\n  dwline addr program < addresses",
+        );
+    add_addresses(alloc, command)
+}
+
+/// The whole command line.
+pub fn make_command_line<'a>(alloc: Global) -> Result<Command<'a>, AllocError>
+    ensures { IfOk result (IsApp command_line) }
+{
+    Command::new(alloc, "dwline")
+        .about(
+            "Read line tables of DWARF 5: those of FILE, an ELF file, or without it of the bytes \
+             of a section .debug_line on standard input. What is asked for goes to standard output.",
+        )
+        .after_help(
+            "Examples:\n  dwline addr program 0x401136\n  dwline dump program\n  \
+             dwline dump --line-str debug_line_str < debug_line",
+        )
+        .version(VERSION)
+        .subcommand_required(true)
+        .subcommand(addr(alloc)?)?
+        .subcommand(dump(alloc)?)?
+        .subcommand(check(alloc)?)?
+        .subcommand(find(alloc)?)?
+        .subcommand(copy(alloc)?)
+}

@@ -1,0 +1,123 @@
+//! The words of the command line, and the job that they ask for.
+
+ghost use Rattle.std.specs.Prelude.{◌≡◌, Option, IfOk, map, option_map};
+ghost use Rattle.clap.specs.Words.{found_of, kind_of, rows_of, subcommand_of};
+ghost use Rattle.dl_cmd.specs.CommandLine.{command_line};
+ghost use Rattle.dl_cmd.specs.Job.{addr_words_made, request_made};
+ghost use Rattle.dl_cmd.specs.Words.{addr_words_of, byte_of, flag_of, request_of, requested, text_of, texts_of, word_status_of};
+
+use crate::command_line::make_command_line;
+use crate::job::{AddrWords, Job};
+use clap::error::ErrorKind;
+use clap::{ArgMatches, Error};
+use std::alloc::{AllocError, Global};
+
+fn text<'a>(matches: &ArgMatches<'a>, id: &str) -> Option<&'a str>
+    ensures { option_map (λ s. s.now) result ≡ text_of id.now (rows_of (found_of matches.now)) }
+{
+    matches.get_str(id)
+}
+
+fn byte(matches: &ArgMatches<'_>, id: &str) -> u8
+    ensures { result ≡ byte_of id.now (rows_of (found_of matches.now)) }
+{
+    matches.get_one::<u8>(id).unwrap_or(0)
+}
+
+fn flag(matches: &ArgMatches<'_>, id: &str) -> bool
+    ensures { result ≡ flag_of id.now (rows_of (found_of matches.now)) }
+{
+    match matches.get_str(id) {
+        Some(text) => text == "true",
+        None => false,
+    }
+}
+
+fn texts<'a>(alloc: Global, matches: &ArgMatches<'a>, id: &str) -> Result<Vec<&'a str>, AllocError>
+    ensures { IfOk result (λ v. map (λ s. s.now) v.items ≡ texts_of id.now (rows_of (found_of matches.now))) }
+{
+    match matches.get_strs(id) {
+        Some(found) => found.to_vec(alloc),
+        None => Ok(Vec::new(alloc)),
+    }
+}
+
+fn addr_words<'a>(alloc: Global, matches: &ArgMatches<'a>) -> Result<AddrWords<'a>, AllocError>
+    ensures { IfOk result (λ w. addr_words_made w ≡ addr_words_of (rows_of (found_of matches.now))) }
+{
+    Ok(AddrWords {
+        file: text(matches, "file"),
+        addresses: texts(alloc, matches, "address")?,
+        hex: flag(matches, "hex"),
+        base: text(matches, "base"),
+        with_addresses: flag(matches, "addresses"),
+        basenames: flag(matches, "basenames"),
+        json: flag(matches, "json"),
+        all: flag(matches, "all"),
+        big: flag(matches, "big"),
+        line_str: text(matches, "line-str"),
+        strings: text(matches, "str"),
+    })
+}
+
+fn job_of<'a>(
+    alloc: Global,
+    name: &str,
+    matches: &ArgMatches<'a>,
+) -> Result<Option<Job<'a>>, AllocError>
+    ensures { IfOk result (λ job. option_map request_made job
+        ≡ request_of name.now (rows_of (found_of matches.now))) }
+{
+    let job = match name {
+        "addr" => Job::Addr(addr_words(alloc, matches)?),
+        "dump" => Job::Dump {
+            file: text(matches, "file"),
+            big: flag(matches, "big"),
+            line_str: text(matches, "line-str"),
+            strings: text(matches, "str"),
+        },
+        "check" => Job::Check {
+            file: text(matches, "file"),
+            big: flag(matches, "big"),
+        },
+        "find" => Job::Find {
+            file: text(matches, "file"),
+            big: flag(matches, "big"),
+            address: text(matches, "address"),
+            op: byte(matches, "op"),
+            line_str: text(matches, "line-str"),
+            strings: text(matches, "str"),
+        },
+        "copy" => Job::Copy {
+            file: text(matches, "file"),
+            big: flag(matches, "big"),
+        },
+        _ => return Ok(None),
+    };
+    Ok(Some(job))
+}
+
+/// The job that the words ask for, the program's name first.
+///
+/// The error's text says what isn't understood, or is the help that was asked for.
+pub fn read_job<'a>(alloc: Global, words: &'a [&'a str]) -> Result<Option<Job<'a>>, Error>
+    ensures { IfOk result (λ job. option_map request_made job
+        ≡ requested (subcommand_of command_line (map (λ w. w.now) words.entry.now))) }
+{
+    let matches = make_command_line(alloc)?.try_get_matches_from(words)?;
+    match matches.subcommand() {
+        Some((name, inner)) => Ok(job_of(alloc, name, inner)?),
+        None => Ok(None),
+    }
+}
+
+/// The program's status where the words gave no job: 0 for help and for the version, 3 for want of memory, else 2.
+pub fn word_status(error: &Error) -> u8
+    ensures { result ≡ word_status_of (kind_of error.now) }
+{
+    match error.kind() {
+        ErrorKind::DisplayHelp | ErrorKind::DisplayVersion => 0,
+        ErrorKind::OutOfMemory => 3,
+        _ => 2,
+    }
+}

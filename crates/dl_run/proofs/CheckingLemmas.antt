@@ -1,0 +1,57 @@
+-- What a check comes to.
+use Rattle.std.proofs.Common.{inl, inr, ℕ, List, [], Option, Ok, Err, arith, refl}
+use Rattle.std.specs.Io.KnownBytes.{Appends}
+use Rattle.dl_num.specs.declared.fixed.Order.{Order}
+use Rattle.dl_run.specs.declared.checking.Checker.{Checker}
+use Rattle.dl_run.specs.declared.fault.RunFault.{RunFault}
+use Rattle.dl_run.specs.declared.fault.RunFault.TheVariants as fault
+use Rattle.dl_print.specs.declared.summary.Summary.{Summary}
+use Rattle.dl_run.specs.Checking.{check_story}
+use Rattle.dl_run.specs.Commands.{Checks}
+use Rattle.dl_run.specs.RunOutput.{TellsOut}
+use Rattle.dl_run.specs.Section.{EndsAs}
+use Rattle.dl_print.specs.Text.{summary_line}
+use Rattle.dl_run.specs.Visiting.{Ran}
+use Rattle.dl_print.proofs.Outs.{keeps_by_nothing}
+
+module _ (order : Order) (limit : ℕ) (bytes : List ℕ) (left : Option (List ℕ)) (first new : Checker)
+    (start mid now : Option (List ℕ)) where
+  -- the section is units to its end, and nothing is written yet
+  pub counted : (summary : Summary) → Ran check_story order limit bytes left first new start mid (Ok summary)
+      → ((units : List (List ℕ)) × EndsAs order limit bytes left units [] [] (Ok summary)) × Appends start mid []
+  counted summary (inl (units, ends, settled)) = ((units, ends), settled.out)
+  counted summary (inr done) = absurd done.4.tells
+
+  -- the line isn't out
+  pub line_lost : (summary : Summary) (out : ℕ)
+      → Ran check_story order limit bytes left first new start mid (Ok summary)
+      → TellsOut start now (summary_line summary) (fault.Write out)
+      → Checks order limit bytes left start now (Err (fault.Write out))
+  line_lost summary out ran t = let c = counted summary ran in (c.0.0, summary, c.0.1, t)
+
+  pub failed : (f : RunFault) → Ran check_story order limit bytes left first new start mid (Err f)
+      → Checks order limit bytes left start mid (Err f)
+  failed (fault.Write out) (units, b, back, has, writes) = absurd (omega (arith, writes.3.0))
+  failed (fault.Damage offset kind) (units, b, back, inl (ends, settled)) =
+      (units, b, back, ends, keeps_by_nothing start mid [] refl settled.out)
+  failed fault.NoMemory (units, b, back, inl (ends, settled)) =
+      (units, b, back, ends, keeps_by_nothing start mid [] refl settled.out)
+  failed fault.Read (units, b, back, inl (ends, settled)) =
+      (units, b, back, ends, keeps_by_nothing start mid [] refl settled.out)
+  failed fault.SectionTooLong (units, b, back, inl (ends, settled)) =
+      (units, b, back, ends, keeps_by_nothing start mid [] refl settled.out)
+  failed fault.NotFound (units, b, back, inl (ends, settled)) = absurd ends
+  failed (fault.ForeignUnit unit) (units, b, back, inl (ends, settled)) = absurd ends
+  failed (fault.Emit unit f) (units, b, back, inl (ends, settled)) = absurd ends
+  failed (fault.Damage offset kind) (units, b, back, inr (has, sound, stops)) = absurd stops.reason
+  failed fault.NoMemory (units, b, back, inr (has, sound, stops)) = absurd stops.reason
+  failed fault.Read (units, b, back, inr (has, sound, stops)) = absurd stops.reason
+  failed fault.SectionTooLong (units, b, back, inr (has, sound, stops)) = absurd stops.reason
+  failed fault.NotFound (units, b, back, inr (has, sound, stops)) = absurd stops.reason
+  failed (fault.ForeignUnit unit) (units, b, back, inr (has, sound, stops)) = absurd stops.reason
+  failed (fault.Emit unit f) (units, b, back, inr (has, sound, stops)) = absurd stops.reason
+
+  -- the line is out
+  pub line_out : (summary : Summary) → Ran check_story order limit bytes left first new start mid (Ok summary)
+      → Appends start now (summary_line summary) → Checks order limit bytes left start now (Ok summary)
+  line_out summary ran out = let c = counted summary ran in (c.0.0, c.0.1, out)

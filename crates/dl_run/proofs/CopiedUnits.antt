@@ -1,0 +1,230 @@
+-- What is written for units that were read is units of the same rows.
+use Rattle.std.proofs.Common.{◌≡◌, inr, ℕ, zero, suc, ◌^◌, ◌<◌, ◌≤◌, ℤ, pos, negsuc, Bool, true, false, List, [], ◌∷◌}
+use Rattle.std.proofs.Common.{◌++◌, drop, map, Option, Some, None, refl, sym, ap, subst, ◌∙◌, arith, append-nil}
+use Rattle.std.specs.Prelude.{option_map, unwrap_or, if◌then◌else◌}
+use Rattle.std.specs.List.{AllByRecursion, after_last, concat}
+use Rattle.std.specs.Option.{option_or, option_map_or}
+use Rattle.std.proofs.Math.Nat.{mod-lt}
+use Rattle.dl_num.specs.declared.fixed.Order.{Order}
+use Rattle.dl_num.specs.Laws.{AllBytes}
+use Rattle.dl_head.specs.Built.{with_standard_opcodes}
+use Rattle.dl_field.specs.HeaderData.{HeaderData}
+use Rattle.dl_head.specs.Header.{header_in}
+use Rattle.dl_field.specs.declared.params.Params.{Params}
+use Rattle.dl_head.specs.Sound.{IsSoundHeader}
+use Rattle.dl_head.proofs.HeaderLaws.{found_is_header}
+use Rattle.dl_head.proofs.HeaderSound.{standard_fault, usable}
+use Rattle.dl_head.proofs.ReadSound.{header_is_sound}
+use Rattle.dl_table.proofs.SoundLemmas.{all_push}
+use Rattle.dl_rows.specs.declared.operation.Operation.{Operation}
+use Rattle.dl_rows.specs.declared.operation.Operation.TheVariants as op
+use Rattle.dl_rows.specs.LineUnit.{IsUnit, rows_behind, unit_rows}
+use Rattle.dl_rows.specs.Matrix.{is_end, appends_row, last_set, last_part, parts, moves, line, modulo, row, row_from}
+use Rattle.dl_rows.specs.Matrix.{rows_after, sequence, fresh, set_file, set_column, set_isa, set_discriminator}
+use Rattle.dl_rows.specs.OperationSpelt.{operations_in}
+use Rattle.dl_rows.specs.Spelling.{SpellsOperation, SpellsProgram}
+use Rattle.dl_rows.proofs.OperandRanges.{bytes_front, bytes_back}
+use Rattle.dl_rows.proofs.ProgramLaws.{found_is_program}
+use Rattle.dl_emit.specs.Laws.{IsRow}
+use Rattle.dl_emit.specs.WrittenUnit.{unit_of}
+use Rattle.dl_emit.proofs.ReadAgain.{unit_is_read_again}
+use Rattle.dl_run.specs.Commands.{copied_unit, copied_units, IsCopied, AreCopied}
+use Rattle.dl_run.specs.CopyLaws.{IsAnew, CopiesAreUnits}
+use Rattle.dl_run.specs.Section.{header_of}
+use Rattle.dl_run.proofs.Fronts.{none_is_some, value_same}
+
+-- ---- the operands of operations that were read
+
+-- what the operation sets has 64 bits
+abbrev Small : Operation → Type 0
+Small (op.SetFile n) = n < 2 ^ 64
+Small (op.SetColumn n) = n < 2 ^ 64
+Small (op.SetIsa n) = n < 2 ^ 64
+Small (op.SetDiscriminator n) = n < 2 ^ 64
+Small o = Unit {0}
+
+small_of : (order : Order) (h : Params) (o : Operation) (w : List ℕ) → SpellsOperation order h o w → Small o
+small_of order h (op.SetFile n) w s = s.fits
+small_of order h (op.SetColumn n) w s = s.fits
+small_of order h (op.SetIsa n) w s = s.fits
+small_of order h (op.SetDiscriminator n) w s = s.fits
+small_of order h (op.Special b) w s = tt
+small_of order h (op.AdvanceLine i) w s = tt
+small_of order h (op.SetAddress n) w s = tt
+small_of order h op.Copy w s = tt
+small_of order h (op.AdvancePc n) w s = tt
+small_of order h op.NegateStatement w s = tt
+small_of order h op.SetBasicBlock w s = tt
+small_of order h op.ConstAddPc w s = tt
+small_of order h (op.FixedAdvancePc n) w s = tt
+small_of order h op.SetPrologueEnd w s = tt
+small_of order h op.SetEpilogueBegin w s = tt
+small_of order h op.EndSequence w s = tt
+small_of order h op.Skipped w s = tt
+
+all_small : (order : Order) (h : Params) (os : List Operation) (w : List ℕ) → SpellsProgram order h os w
+    → AllByRecursion Small os
+all_small order h [] w s = tt
+all_small order h (o ∷ os) w (front, back, e, s, q) = (small_of order h o front s, all_small order h os back q)
+
+-- ---- rows of such operations
+
+-- what a setting sets is small
+abbrev SetsSmall : (Operation → Option ℕ) → Type 0
+SetsSmall sets = (o : Operation) (n : ℕ) → Small o → sets o ≡ Some n → n < 2 ^ 64
+
+file_small : SetsSmall set_file
+file_small (op.SetFile m) n small e = subst (λ (k : ℕ). k < 2 ^ 64) (value_same m n e) small
+file_small o n small e = absurd (none_is_some e)
+
+column_small : SetsSmall set_column
+column_small (op.SetColumn m) n small e = subst (λ (k : ℕ). k < 2 ^ 64) (value_same m n e) small
+column_small o n small e = absurd (none_is_some e)
+
+isa_small : SetsSmall set_isa
+isa_small (op.SetIsa m) n small e = subst (λ (k : ℕ). k < 2 ^ 64) (value_same m n e) small
+isa_small o n small e = absurd (none_is_some e)
+
+discriminator_small : SetsSmall set_discriminator
+discriminator_small (op.SetDiscriminator m) n small e = subst (λ (k : ℕ). k < 2 ^ 64) (value_same m n e) small
+discriminator_small o n small e = absurd (none_is_some e)
+
+module _ (sets : Operation → Option ℕ) (each : SetsSmall sets) where
+  last_small : (os : List Operation) (n : ℕ) → AllByRecursion Small os → last_set sets os ≡ Some n → n < 2 ^ 64
+  last_small [] n small e = absurd (none_is_some e)
+  last_small (o ∷ os) n small e = by (last_set sets os) (last_small os n small.1) e where
+    by : (later : Option ℕ) → (later ≡ Some n → n < 2 ^ 64) → option_or later (sets o) ≡ Some n → n < 2 ^ 64
+    by (Some m) is e = is e
+    by None is e = each o n small.0 e
+
+  set_small : (os : List Operation) (d : ℕ) → d < 2 ^ 64 → AllByRecursion Small os
+      → unwrap_or (last_set sets os) d < 2 ^ 64
+  set_small os d lt small = by (last_set sets os) refl where
+    by : (o : Option ℕ) → last_set sets os ≡ o → unwrap_or o d < 2 ^ 64
+    by (Some n) is = last_small os n small is
+    by None is = lt
+
+all_drop : {A : Type 0} (P : A → Type 0) (n : ℕ) (xs : List A) → AllByRecursion P xs → AllByRecursion P (drop n xs)
+all_drop P zero xs all = all
+all_drop P (suc n) [] all = tt
+all_drop P (suc n) (x ∷ xs) all = all_drop P n xs all.1
+
+line_small : (z : ℤ) → modulo z (2 ^ 64) < 2 ^ 64
+line_small (pos n) = mod-lt n (omega arith)
+line_small (negsuc n) = omega arith
+
+module _ (h : Params) (some : 1 ≤ h.maximum_operations_per_instruction)
+    (most : h.maximum_operations_per_instruction < 2 ^ 8) where
+  row_is : (s f : List Operation) (end : Bool) → AllByRecursion Small s → AllByRecursion Small f
+      → IsRow (row_from h s f end)
+  row_is s f end small marks =
+      let index = mod-lt (last_part (parts h (moves s))) some in
+      record {
+        file = set_small set_file file_small s 1 (omega arith) small;
+        line = line_small (line h s);
+        column = set_small set_column column_small s 0 (omega arith) small;
+        isa = set_small set_isa isa_small s 0 (omega arith) small;
+        discriminator = set_small set_discriminator discriminator_small f 0 (omega arith) marks;
+        op_index = omega arith;
+      }
+
+  rows_are : (front os : List Operation) → AllByRecursion Small front → AllByRecursion Small os
+      → AllByRecursion IsRow (rows_after h front os)
+  rows_are front [] small more = tt
+  rows_are front (o ∷ os) small more =
+      by (appends_row o) (rows_are (front ++ o ∷ []) os (all_push Small front o small more.0) more.1) where
+        since : (p : Operation → Bool) → AllByRecursion Small (after_last p front ++ o ∷ [])
+        since p = all_push Small (after_last p front) o (all_drop Small _ front small) more.0
+
+        by : (b : Bool) → AllByRecursion IsRow (rows_after h (front ++ o ∷ []) os)
+            → AllByRecursion IsRow (if b then row h front o ∷ rows_after h (front ++ o ∷ []) os
+            else rows_after h (front ++ o ∷ []) os)
+        by true behind =
+            (row_is (sequence front o) (fresh front o) (is_end o) (since is_end) (since appends_row), behind)
+        by false behind = behind
+
+-- ---- one unit
+
+standard_sound : (h : HeaderData) → IsSoundHeader h → IsSoundHeader (with_standard_opcodes h)
+standard_sound h sound =
+    record {
+      params = standard_fault h sound.params;
+      maximum_operations = sound.maximum_operations;
+      line_base =
+          sound.line_base;
+      directories = sound.directories;
+      files = sound.files;
+    }
+
+-- the header of bytes, and the rows after it
+record HasHeader (order : Order) (u : List ℕ) (h : HeaderData) : Type 0 where
+  sound : IsSoundHeader h
+  rows : AllByRecursion IsRow (unit_rows order u)
+
+header_read : (order : Order) (u : List ℕ) (h : HeaderData) → AllBytes u → header_of order u ≡ Some h
+    → HasHeader order u h
+header_read order u h all is = by (header_in order u) refl where
+  by : (parts : Option (HeaderData × List ℕ)) → header_in order u ≡ parts → HasHeader order u h
+  by None e = absurd (none_is_some (sym (ap (λ (p : Option (HeaderData × List ℕ)). option_map (λ q. q.0) p) e) ∙ is))
+  by (Some (own, program)) e =
+      let same : own ≡ h =
+      value_same own h (sym (ap (λ (p : Option (HeaderData × List ℕ)). option_map (λ q. q.0) p) e) ∙ is) in
+      let w = found_is_header order own u program e in
+      let sound = header_is_sound order own w.0 w.2 (bytes_front w.0 program (subst AllBytes w.1 all)) in
+      let params = usable own.params own.directories own.files sound.params in
+      let found = found_is_program order own.params program (let opcodes = params.opcodes in omega arith) in
+      let small = all_small order own.params (operations_in order own.params program).found found.0 found.2 in
+      record {
+        sound = subst IsSoundHeader same sound;
+        rows = subst (AllByRecursion IsRow) (sym (ap (rows_behind order) e))
+            (rows_are own.params params.operations sound.maximum_operations []
+            (operations_in order own.params program).found tt small);
+      }
+
+copy_is_anew : (order : Order) (u : List ℕ) → AllBytes u → IsCopied order u → IsAnew order u (copied_unit order u)
+copy_is_anew order u all (h, is, none) =
+    let read = header_read order u h all is in
+    let std = with_standard_opcodes h in
+    let rows = unit_rows order u in
+    let again = unit_is_read_again order std rows (standard_sound h read.sound) read.rows none in
+    let anew : IsAnew order u (unit_of order std rows) = record {
+      header = h;
+      its_header = is;
+      operations = _;
+      unit = again.unit;
+      events_are = again.events_are;
+      rows = ap (rows_behind order) again.header ∙ again.program.same;
+    } in
+    subst (IsAnew order u)
+    (sym (ap (λ (o : Option HeaderData). option_map_or (λ g. unit_of order (with_standard_opcodes g) rows) o [])
+    is)) anew
+
+-- ---- units
+
+copies : (order : Order) (units : List (List ℕ)) → AllBytes (concat units) → AreCopied order units
+    → AllByRecursion (λ u. IsAnew order u (copied_unit order u)) units
+copies order [] all copied = tt
+copies order (u ∷ units) all copied = (
+  copy_is_anew order u (bytes_front u (concat units) all) copied.0,
+  copies order units (bytes_back u (concat units) all) copied.1,
+)
+
+are_units : (order : Order) (units : List (List ℕ)) → AllByRecursion (λ u. IsAnew order u (copied_unit order u)) units
+    → AllByRecursion (IsUnit order) (map (copied_unit order) units)
+are_units order [] anew = tt
+are_units order (u ∷ units) anew = (inr (_, _, anew.0.unit), are_units order units anew.1)
+
+joined : (order : Order) (units : List (List ℕ)) → copied_units order units ≡ concat (map (copied_unit order) units)
+joined order [] = refl
+joined order (u ∷ units) = ap (λ (l : List ℕ). copied_unit order u ++ l) (joined order units)
+
+pub copies_are_units : CopiesAreUnits
+copies_are_units order s units rest all has copied =
+    let anew = copies order units (bytes_front (concat units) rest (subst AllBytes has.whole all)) copied in (
+      record {
+        whole = joined order units ∙ sym (append-nil (concat (map (copied_unit order) units)));
+        each =
+            are_units order units anew;
+      },
+      anew,
+    )

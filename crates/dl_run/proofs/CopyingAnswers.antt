@@ -1,0 +1,243 @@
+-- What `copy` answers and writes.
+use Rattle.std.proofs.Common.{[], ◌≡◌, inl, inr, ℕ, List, ◌∷◌, ◌++◌, length}
+use Rattle.std.proofs.Common.{take, Option, Some, None, Result, Ok, Err, arith, refl, sym, ap, ◌∙◌, subst}
+use Rattle.std.proofs.Common.{append_assoc, append-nil}
+use Rattle.std.specs.Prelude.{option_map}
+use Rattle.std.specs.Io.KnownBytes.{Appends}
+use Rattle.std.specs.List.{AllByRecursion, concat}
+use Rattle.std.specs.Option.{option_or}
+use Rattle.dl_num.specs.declared.fixed.Order.{Order}
+use Rattle.dl_head.specs.Built.{with_standard_opcodes}
+use Rattle.dl_head.specs.Header.{foreign_in}
+use Rattle.dl_rows.specs.declared.row.Row.{Row}
+use Rattle.dl_rows.specs.LineUnit.{IsUnit}
+use Rattle.dl_rows.specs.Runs.{Sound}
+use Rattle.dl_emit.specs.declared.fault.EmitFault.{EmitFault}
+use Rattle.dl_emit.specs.WrittenUnit.{unit_of, refusal}
+use Rattle.dl_run.specs.declared.copying.Copier.{Copier}
+use Rattle.dl_run.specs.declared.fault.RunFault.{RunFault}
+use Rattle.dl_run.specs.declared.fault.RunFault.TheVariants as fault
+use Rattle.dl_print.specs.declared.summary.Summary.{Summary}
+use Rattle.dl_run.specs.Commands.{Copies, HasCopied, copied_units}
+use Rattle.dl_run.specs.Copying.{Copying, IsGrowth, StopsAt, offset_after, stop_after, text_after}
+use Rattle.dl_run.specs.Copying.{copy_story}
+use Rattle.dl_run.specs.RunOutput.{TellsOut}
+use Rattle.dl_run.specs.RowsTold.{rows_after}
+use Rattle.dl_run.specs.Section.{Visit, of_header, of_version, of_row, of_open, of_end, HasUnits, HasBegun}
+use Rattle.dl_run.specs.Section.{section_visits}
+use Rattle.dl_run.specs.Visiting.{Ran, Settled, VisitorStops}
+use Rattle.dl_run.proofs.Fronts.{none_is_some}
+use Rattle.dl_run.proofs.RangeLemmas.{too_long}
+use Rattle.dl_run.proofs.SectionLemmas.{has_front}
+use Rattle.dl_run.proofs.CopyingVisits.{stop_after-append, written, text_after-append}
+use Rattle.dl_run.proofs.CopyingSections.{Heard, StopIs, same_last, heard_of}
+
+stop_is_last : (order : Order) (n : ℕ) (rows : List Row) (visit : Visit) (f : RunFault)
+    → stop_after n rows (visit ∷ []) ≡ Some f → text_after order rows (visit ∷ []) ≡ []
+stop_is_last order n rows (of_header m h) f e = absurd (none_is_some e)
+stop_is_last order n rows (of_version m v) f e = refl
+stop_is_last order n rows (of_row r) f e = absurd (none_is_some e)
+stop_is_last order n rows of_open f e = absurd (none_is_some e)
+stop_is_last order n rows (of_end None) f e = refl
+stop_is_last order n rows (of_end (Some h)) f e =
+    by (refusal (with_standard_opcodes h) rows) (unit_of order (with_standard_opcodes h) rows) e where
+      by : (o : Option EmitFault) (unit : List ℕ) → option_or (option_map (fault.Emit n) o) None ≡ Some f
+          → written o (unit ++ []) ≡ []
+      by None unit e = absurd (none_is_some e)
+      by (Some g) unit e = refl
+
+module _ (order : Order) (limit : ℕ) (bytes : List ℕ) (left : Option (List ℕ)) (first new : Copier)
+    (start now : Option (List ℕ)) (own : first.order ≡ order) where
+  abbrev pub s : List ℕ
+  s = take limit bytes
+
+  heard_in : (units : List (List ℕ)) (b : List ℕ) (heard more : List Visit) → AllByRecursion (IsUnit order) units
+      → section_visits order units b ≡ heard ++ more → Heard order first.unit 0 units b heard more
+  heard_in units b heard more each e =
+      heard_of order first.unit 0 (length (concat units)) units b heard more each (omega arith) e
+
+  -- without a fault all units are copied
+  all_copied : (units : List (List ℕ)) (b : List ℕ) → AllByRecursion (IsUnit order) units
+      → Settled copy_story first start now (section_visits order units b) (Copying first new start now)
+      → HasCopied order units start now
+  all_copied units b each settled =
+      let visits = section_visits order units b in
+      let f = heard_in units b visits [] each (sym (append-nil visits)) in
+      let same : units ≡ f.done =
+      f.whole ∙ ap (λ (l : List (List ℕ)). f.done ++ l) (f.all refl settled.tells.goes_on).0 ∙ append-nil f.done in
+      let out : Appends start now (text_after order [] visits) =
+      subst (λ (o : Order). Appends start now (text_after o [] visits)) own settled.out in
+      subst (λ (l : List (List ℕ)). HasCopied order l start now) (sym same) (
+        f.copied,
+        subst (Appends start now) f.text out,
+      )
+
+  -- without a fault b isn't of another version
+  not_version : (units : List (List ℕ)) (b : List ℕ) → AllByRecursion (IsUnit order) units
+      → Settled copy_story first start now (section_visits order units b) (Copying first new start now)
+      → foreign_in order b ≡ None
+  not_version units b each settled =
+      let visits = section_visits order units b in
+      ((heard_in units b visits [] each (sym (append-nil visits))).all refl settled.tells.goes_on).1
+
+  failed_write : (units : List (List ℕ)) (b back : List ℕ) (heard more : List Visit) (out : ℕ)
+      → HasUnits order s units (b ++ back) → section_visits order units b ≡ heard ++ more
+      → TellsOut start now (text_after first.order [] heard) (fault.Write out)
+      → Copies order limit bytes left start now (Err (fault.Write out))
+  failed_write units b back heard more out has whole tells =
+      let f = heard_in units b heard more has.each whole in
+      let tells_own : TellsOut start now (text_after order [] heard) (fault.Write out) =
+      subst (λ (o : Order). TellsOut start now (text_after o [] heard) (fault.Write out)) own tells in (
+        f.done,
+        concat f.after ++ (b ++ back),
+        has_front order s units f.done f.after (b ++ back) f.whole has,
+        f.copied,
+        subst (λ (l : List ℕ). TellsOut start now l (fault.Write out)) f.text tells_own,
+      )
+
+  module _ (units : List (List ℕ)) (b back : List ℕ) (begun : HasBegun order s units b back) (f : RunFault)
+      (stops : VisitorStops copy_story first new start now (section_visits order units b) f) where
+    has : HasUnits order s units (b ++ back)
+    has = begun.has
+
+    out_before : Appends start now (text_after order [] stops.before)
+    out_before = subst (λ (o : Order). Appends start now (text_after o [] stops.before)) own stops.out
+
+    no_memory : Sound order b → StopsAt first (stops.before ++ stops.visit ∷ []) fault.NoMemory
+        → Copies order limit bytes left start now (Err fault.NoMemory)
+    no_memory sound (before, visit, same, growth) =
+        let h = heard_in units b stops.before (stops.visit ∷ stops.more) has.each stops.whole in
+        let a = h.current stops.visit stops.more refl
+        (subst IsGrowth (same_last before stops.before visit stops.visit (sym same)) growth) begun.in_unit sound
+        stops.tells.goes_on in
+        let rest : concat h.after ++ (b ++ back) ≡ a.c ++ (a.behind ++ back) =
+        sym (append_assoc (concat h.after) b back) ∙ ap (λ (l : List ℕ). l ++ back) a.whole
+        ∙ append_assoc a.c a.behind back in (
+          h.done,
+          a.c,
+          a.behind ++ back,
+          record {
+            has =
+                subst (HasUnits order s h.done) rest (has_front order s units h.done h.after (b ++ back) h.whole has);
+            in_unit = a.within;
+          },
+          a.sound,
+          a.not_foreign,
+          inr a.grows,
+          (h.copied, subst (Appends start now) h.text out_before),
+        )
+
+    abbrev heard : List Visit
+    heard = stops.before ++ stops.visit ∷ []
+
+    told : Heard order first.unit 0 units b heard stops.more
+    told = heard_in units b heard stops.more has.each (stops.whole
+        ∙ sym (append_assoc stops.before (stops.visit ∷ []) stops.more))
+
+    module _ (reason : stop_after first.unit [] heard ≡ Some f) where
+      at_last : stop_after (offset_after first.unit stops.before) (rows_after [] stops.before) (stops.visit ∷ [])
+          ≡ Some f
+      at_last =
+          ap (λ (o : Option RunFault). option_or o
+          (stop_after (offset_after first.unit stops.before) (rows_after [] stops.before) (stops.visit ∷ [])))
+          (sym stops.tells.goes_on)
+          ∙ sym (stop_after-append first.unit [] stops.before (stops.visit ∷ []))
+          ∙ reason
+
+      text_before : text_after order [] stops.before ≡ copied_units order told.done
+      text_before =
+          sym (append-nil (text_after order [] stops.before))
+          ∙ ap (λ (l : List ℕ). text_after order [] stops.before ++ l)
+          (sym (stop_is_last order (offset_after first.unit stops.before) (rows_after [] stops.before) stops.visit f
+          at_last))
+          ∙ sym (text_after-append order first.unit [] stops.before (stops.visit ∷ []) stops.tells.goes_on)
+          ∙ told.text
+
+      copied_before : HasCopied order told.done start now
+      copied_before = (told.copied, subst (Appends start now) text_before out_before)
+
+      done_in : HasUnits order s told.done (concat told.after ++ (b ++ back))
+      done_in = has_front order s units told.done told.after (b ++ back) told.whole has
+
+      by_stop : (g : RunFault) → StopIs order 0 told.done told.after b g
+          → Copies order limit bytes left start now (Err g)
+      by_stop (fault.ForeignUnit offset) (c, more, version, whole, at, within, foreign) =
+          let rest : concat told.after ++ (b ++ back) ≡ c ++ (more ++ back) =
+          sym (append_assoc (concat told.after) b back) ∙ ap (λ (l : List ℕ). l ++ back) whole
+          ∙ append_assoc c more back in (
+            told.done,
+            c,
+            more ++ back,
+            version,
+            record {
+              has = subst (HasUnits order s told.done) rest done_in;
+              in_unit = within;
+            },
+            at ∙ omega arith,
+            foreign,
+            copied_before,
+          )
+      by_stop (fault.Emit offset g) (u, later, h, whole, at, header, refused) =
+          let all : units ≡ (told.done ++ u ∷ []) ++ later =
+          told.whole ∙ ap (λ (l : List (List ℕ)). told.done ++ l) whole
+          ∙ sym (append_assoc told.done (u ∷ []) later) in (
+            told.done,
+            u,
+            concat later ++ (b ++ back),
+            h,
+            has_front order s units (told.done ++ u ∷ []) later (b ++ back) all has,
+            at ∙ omega arith,
+            header,
+            refused,
+            too_long order u h g header refused,
+            copied_before,
+          )
+      by_stop (fault.Damage at kind) stop = absurd stop
+      by_stop fault.NoMemory stop = absurd stop
+      by_stop fault.Read stop = absurd stop
+      by_stop (fault.Write out) stop = absurd stop
+      by_stop fault.SectionTooLong stop = absurd stop
+      by_stop fault.NotFound stop = absurd stop
+
+      stopped : Copies order limit bytes left start now (Err f)
+      stopped = by_stop f (told.stop begun.in_unit f reason)
+
+  pub copies : (result : Result Summary RunFault) → Ran copy_story order limit bytes left first new start now result
+      → Copies order limit bytes left start now result
+  copies (Ok summary) (inl (units, ends, settled)) = (units, ends, all_copied units [] ends.0.each settled)
+  copies (Ok summary) (inr (_, _, _, _, settled)) = absurd settled.tells
+  copies (Err (fault.Write out)) (units, b, back, has, (heard, more, whole, tells)) =
+      failed_write units b back heard more out has.has whole tells
+  copies (Err fault.NoMemory) (units, b, back, inl (ends, settled)) = (
+    units,
+    b,
+    back,
+    ends.0,
+    ends.1,
+    not_version units b ends.0.has.each settled,
+    inl ends.2,
+    all_copied units b ends.0.has.each settled,
+  )
+  copies (Err fault.NoMemory) (units, b, back, inr (begun, sound, stops)) =
+      no_memory units b back begun fault.NoMemory stops sound stops.reason
+  copies (Err (fault.ForeignUnit offset)) (units, b, back, inl (ends, settled)) = absurd ends
+  copies (Err (fault.ForeignUnit offset)) (units, b, back, inr (has, sound, stops)) =
+      stopped units b back has (fault.ForeignUnit offset) stops stops.reason
+  copies (Err (fault.Emit offset f)) (units, b, back, inl (ends, settled)) = absurd ends
+  copies (Err (fault.Emit offset f)) (units, b, back, inr (has, sound, stops)) =
+      stopped units b back has (fault.Emit offset f) stops stops.reason
+  copies (Err fault.NotFound) (units, b, back, inl (ends, settled)) = absurd ends
+  copies (Err fault.NotFound) (units, b, back, inr (has, sound, stops)) =
+      stopped units b back has fault.NotFound stops stops.reason
+  copies (Err (fault.Damage at kind)) (units, b, back, inl (ends, settled)) =
+      (units, b, back, ends, not_version units b ends.0.each settled, all_copied units b ends.0.each settled)
+  copies (Err (fault.Damage at kind)) (units, b, back, inr (has, sound, stops)) =
+      stopped units b back has (fault.Damage at kind) stops stops.reason
+  copies (Err fault.Read) (units, b, back, inl (ends, settled)) =
+      (units, b, back, ends, not_version units b ends.0.each settled, all_copied units b ends.0.each settled)
+  copies (Err fault.Read) (units, b, back, inr (has, sound, stops)) =
+      stopped units b back has fault.Read stops stops.reason
+  copies (Err fault.SectionTooLong) (units, b, back, inl (ends, settled)) =
+      (units, b, back, ends, not_version units b ends.0.each settled, all_copied units b ends.0.each settled)
+  copies (Err fault.SectionTooLong) (units, b, back, inr (has, sound, stops)) =
+      stopped units b back has fault.SectionTooLong stops stops.reason

@@ -1,0 +1,253 @@
+-- What is copied of visits one after the other, and of those of a unit.
+use Rattle.std.proofs.Common.{[], ◌≡◌, ◌⊎◌, inl, inr, ℕ, Bool, true, false, List, ◌∷◌, ◌++◌, map, flat_map}
+use Rattle.std.proofs.Common.{Option, Some, None, refl, sym, ap, ap₂, ◌∙◌}
+use Rattle.std.proofs.Common.{append_assoc, append-nil}
+use Rattle.std.specs.Prelude.{option_map}
+use Rattle.std.specs.Option.{option_or, option_map_or}
+use Rattle.dl_num.specs.declared.fixed.Order.{Order}
+use Rattle.dl_head.specs.Built.{with_standard_opcodes}
+use Rattle.dl_field.specs.HeaderData.{HeaderData}
+use Rattle.dl_head.specs.Header.{foreign_in, header_in}
+use Rattle.dl_rows.specs.declared.row.Row.{Row}
+use Rattle.dl_rows.specs.declared.reader.Event.TheVariants as event
+use Rattle.dl_rows.specs.LineUnit.{rows_behind, unit_rows, events_of}
+use Rattle.dl_rows.proofs.ReaderLemmas.{foreign_no_header}
+use Rattle.dl_emit.specs.declared.fault.EmitFault.{EmitFault}
+use Rattle.dl_emit.specs.WrittenUnit.{unit_of, refusal}
+use Rattle.dl_run.specs.declared.fault.RunFault.{RunFault}
+use Rattle.dl_run.specs.declared.fault.RunFault.TheVariants as fault
+use Rattle.dl_run.specs.Copying.{offset_after, end_stop, stop_after, end_text, text_after}
+use Rattle.dl_run.specs.RowsTold.{rows_after}
+use Rattle.dl_run.specs.Section.{Visit, of_header, of_version, of_row, of_open, of_end, header_of}
+use Rattle.dl_run.specs.Section.{event_visits, visits, open_visit}
+use Rattle.dl_run.proofs.Fronts.{or_assoc, none_is_some, value_same, neither, map_none, empty_both}
+
+-- ---- visits one after the other
+
+-- the offset after visits of two lists
+pub offset_after-append : (n : ℕ) (a b : List Visit) → offset_after n (a ++ b) ≡ offset_after (offset_after n a) b
+offset_after-append n [] b = refl
+offset_after-append n (of_header m h ∷ a) b = offset_after-append m a b
+offset_after-append n (of_version m v ∷ a) b = offset_after-append n a b
+offset_after-append n (of_row r ∷ a) b = offset_after-append n a b
+offset_after-append n (of_open ∷ a) b = offset_after-append n a b
+offset_after-append n (of_end h ∷ a) b = offset_after-append n a b
+
+-- the first fault of visits of two lists
+pub stop_after-append : (n : ℕ) (rows : List Row) (a b : List Visit)
+    → stop_after n rows (a ++ b) ≡ option_or (stop_after n rows a) (stop_after (offset_after n a) (rows_after rows a) b)
+stop_after-append n rows [] b = refl
+stop_after-append n rows (of_header m h ∷ a) b = stop_after-append m rows a b
+stop_after-append n rows (of_version m v ∷ a) b = refl
+stop_after-append n rows (of_row r ∷ a) b = stop_after-append n (rows ++ r ∷ []) a b
+stop_after-append n rows (of_open ∷ a) b = stop_after-append n rows a b
+stop_after-append n rows (of_end h ∷ a) b =
+    ap (option_or (end_stop n rows h)) (stop_after-append n [] a b)
+    ∙ sym (or_assoc (end_stop n rows h) (stop_after n [] a) (stop_after (offset_after n a) (rows_after [] a) b))
+
+-- the first fault of the front is that of the whole
+stop_front : (n : ℕ) (rows : List Row) (a b : List Visit) (f : RunFault) → stop_after n rows a ≡ Some f
+    → stop_after n rows (a ++ b) ≡ Some f
+stop_front n rows a b f is =
+    stop_after-append n rows a b
+    ∙ ap (λ (o : Option RunFault). option_or o (stop_after (offset_after n a) (rows_after rows a) b)) is
+
+-- what is written where the refusal is known
+abbrev pub written : Option EmitFault → List ℕ → List ℕ
+written o text = option_map_or (λ f. []) o text
+
+written-append : (o : Option EmitFault) (unit a b : List ℕ) → o ≡ None
+    → written o (unit ++ (a ++ b)) ≡ written o (unit ++ a) ++ b
+written-append None unit a b e = sym (append_assoc unit a b)
+written-append (Some f) unit a b e = absurd (none_is_some (sym e))
+
+written_empty : (o : Option EmitFault) (unit a b : List ℕ) → (a ≡ [] → b ≡ []) → written o (unit ++ a) ≡ []
+    → written o (unit ++ b) ≡ []
+written_empty None unit a b so e = let both = empty_both unit a e in ap₂ (λ (x y : List ℕ). x ++ y) both.0 (so both.1)
+written_empty (Some f) unit a b so e = refl
+
+end_text-append : (order : Order) (n : ℕ) (rows : List Row) (h : Option HeaderData) (a b : List ℕ)
+    → end_stop n rows h ≡ None → end_text order rows h (a ++ b) ≡ end_text order rows h a ++ b
+end_text-append order n rows None a b e = refl
+end_text-append order n rows (Some h) a b e =
+    let std = with_standard_opcodes h in
+    written-append (refusal std rows) (unit_of order std rows) a b (map_none (fault.Emit n) (refusal std rows) e)
+
+-- what is written of visits of two lists
+pub text_after-append : (order : Order) (n : ℕ) (rows : List Row) (a b : List Visit) → stop_after n rows a ≡ None
+    → text_after order rows (a ++ b) ≡ text_after order rows a ++ text_after order (rows_after rows a) b
+text_after-append order n rows [] b e = refl
+text_after-append order n rows (of_header m h ∷ a) b e = text_after-append order m rows a b e
+text_after-append order n rows (of_version m v ∷ a) b e = absurd (none_is_some (sym e))
+text_after-append order n rows (of_row r ∷ a) b e = text_after-append order n (rows ++ r ∷ []) a b e
+text_after-append order n rows (of_open ∷ a) b e = text_after-append order n rows a b e
+text_after-append order n rows (of_end h ∷ a) b e =
+    let none = neither (end_stop n rows h) (stop_after n [] a) e in
+    ap (end_text order rows h) (text_after-append order n [] a b none.1)
+    ∙ end_text-append order n rows h (text_after order [] a) (text_after order (rows_after [] a) b) none.0
+
+-- where nothing is written, nothing is of the front
+text_front : (order : Order) (rows : List Row) (a b : List Visit) → text_after order rows (a ++ b) ≡ []
+    → text_after order rows a ≡ []
+text_front order rows [] b e = refl
+text_front order rows (of_header m h ∷ a) b e = text_front order rows a b e
+text_front order rows (of_version m v ∷ a) b e = refl
+text_front order rows (of_row r ∷ a) b e = text_front order (rows ++ r ∷ []) a b e
+text_front order rows (of_open ∷ a) b e = text_front order rows a b e
+text_front order rows (of_end None ∷ a) b e = text_front order [] a b e
+text_front order rows (of_end (Some h) ∷ a) b e =
+    let std = with_standard_opcodes h in
+    written_empty (refusal std rows) (unit_of order std rows) (text_after order [] (a ++ b)) (text_after order [] a)
+    (text_front order [] a b) e
+
+-- ---- the visits of a unit, or of the front of one
+
+row_visits : (n : ℕ) (h : Option HeaderData) (rows : List Row)
+    → flat_map (event_visits n h) (map event.Row rows) ≡ map of_row rows
+row_visits n h [] = refl
+row_visits n h (r ∷ rows) = ap (λ (l : List Visit). of_row r ∷ l) (row_visits n h rows)
+
+stop_of_rows : (n : ℕ) (before rows : List Row) (more : List Visit)
+    → stop_after n before (map of_row rows ++ more) ≡ stop_after n (before ++ rows) more
+stop_of_rows n before [] more = ap (λ (l : List Row). stop_after n l more) (sym (append-nil before))
+stop_of_rows n before (r ∷ rows) more =
+    stop_of_rows n (before ++ r ∷ []) rows more
+    ∙ ap (λ (l : List Row). stop_after n l more) (append_assoc before (r ∷ []) rows)
+
+text_of_rows : (order : Order) (before rows : List Row) (more : List Visit)
+    → text_after order before (map of_row rows ++ more) ≡ text_after order (before ++ rows) more
+text_of_rows order before [] more = ap (λ (l : List Row). text_after order l more) (sym (append-nil before))
+text_of_rows order before (r ∷ rows) more =
+    text_of_rows order (before ++ r ∷ []) rows more
+    ∙ ap (λ (l : List Row). text_after order l more) (append_assoc before (r ∷ []) rows)
+
+stop_of_open : (n : ℕ) (rows : List Row) (is_open : Bool) (more : List Visit)
+    → stop_after n rows (open_visit is_open ++ more) ≡ stop_after n rows more
+stop_of_open n rows true more = refl
+stop_of_open n rows false more = refl
+
+text_of_open : (order : Order) (rows : List Row) (is_open : Bool) (more : List Visit)
+    → text_after order rows (open_visit is_open ++ more) ≡ text_after order rows more
+text_of_open order rows true more = refl
+text_of_open order rows false more = refl
+
+module _ (order : Order) (n : ℕ) (c : List ℕ) where
+  -- c says its version, which isn't 5
+  abbrev pub Foreign : Type 0
+  Foreign = (version : ℕ) × (foreign_in order c ≡ Some version)
+
+  -- c has a header
+  abbrev pub Own : Type 0
+  Own = (h : HeaderData) × (program : List ℕ) × (header_in order c ≡ Some (h, program))
+
+  -- c has neither yet
+  abbrev pub Neither : Type 0
+  Neither = (foreign_in order c ≡ None) × (header_in order c ≡ None)
+
+  by_version : (v : Option ℕ) (parts : Option (HeaderData × List ℕ)) → foreign_in order c ≡ v
+      → header_in order c ≡ parts → Foreign ⊎ (Own ⊎ Neither)
+  by_version (Some v) parts e is = inl (v, e)
+  by_version None (Some (h, program)) e is = inr (inl (h, program, is))
+  by_version None None e is = inr (inr (e, is))
+
+  -- one of these three holds
+  pub one_of : Foreign ⊎ (Own ⊎ Neither)
+  one_of = by_version (foreign_in order c) (header_in order c) refl refl
+
+  pub not_foreign : (own : Own) (v : Option ℕ) → foreign_in order c ≡ v → foreign_in order c ≡ None
+  not_foreign own None e = e
+  not_foreign own (Some v) e = absurd (none_is_some (sym (foreign_no_header order c v e) ∙ own.2))
+
+  abbrev visits_by : Option ℕ → Option (HeaderData × List ℕ) → List Visit
+  visits_by version parts = flat_map (event_visits n (option_map (λ p. p.0) parts)) (events_of order version parts)
+
+  -- its visits, by its case
+  pub foreign_visits : (f : Foreign) → visits order n c ≡ of_version n f.0 ∷ []
+  foreign_visits f = ap (λ (o : Option ℕ). visits_by o (header_in order c)) f.1
+
+  pub own_visits : (own : Own) → visits order n c ≡ of_header n own.0 ∷ map of_row (unit_rows order c)
+  own_visits own =
+      ap (λ (o : Option ℕ). visits_by o (header_in order c)) (not_foreign own (foreign_in order c) refl)
+      ∙ ap (λ (p : Option (HeaderData × List ℕ)). visits_by None p) own.2
+      ∙ ap (λ (l : List Visit). of_header n own.0 ∷ l)
+      (row_visits n (Some own.0) (rows_behind order (Some (own.0, own.1))))
+      ∙ ap (λ (p : Option (HeaderData × List ℕ)). of_header n own.0 ∷ map of_row (rows_behind order p)) (sym own.2)
+
+  pub no_visits : Neither → visits order n c ≡ []
+  no_visits none =
+      ap (λ (o : Option ℕ). visits_by o (header_in order c)) none.0
+      ∙ ap (λ (p : Option (HeaderData × List ℕ)). visits_by None p) none.1
+
+  -- the header of its visits
+  pub header_is : (own : Own) → header_of order c ≡ Some own.0
+  header_is own = ap (λ (p : Option (HeaderData × List ℕ)). option_map (λ q. q.0) p) own.2
+
+  -- ---- up to its end
+
+  module _ (is_open : Bool) where
+    abbrev pub front : List Visit
+    front = visits order n c ++ open_visit is_open
+
+    -- its rows come before the first fault of what follows
+    pub stop_of_own : (m : ℕ) (own : Own) (more : List Visit)
+        → stop_after m [] (front ++ more) ≡ stop_after n (unit_rows order c) more
+    stop_of_own m own more =
+        ap (stop_after m []) (append_assoc (visits order n c) (open_visit is_open) more)
+        ∙ ap (λ (l : List Visit). stop_after m [] (l ++ (open_visit is_open ++ more))) (own_visits own)
+        ∙ stop_of_rows n [] (unit_rows order c) (open_visit is_open ++ more)
+        ∙ stop_of_open n (unit_rows order c) is_open more
+
+    -- what is written of its rows and of what follows
+    pub text_of_own : (own : Own) (more : List Visit)
+        → text_after order [] (front ++ more) ≡ text_after order (unit_rows order c) more
+    text_of_own own more =
+        ap (text_after order []) (append_assoc (visits order n c) (open_visit is_open) more)
+        ∙ ap (λ (l : List Visit). text_after order [] (l ++ (open_visit is_open ++ more))) (own_visits own)
+        ∙ text_of_rows order [] (unit_rows order c) (open_visit is_open ++ more)
+        ∙ text_of_open order (unit_rows order c) is_open more
+
+    -- another version is the first fault, and nothing is written
+    pub stop_of_foreign : (m : ℕ) (f : Foreign) (more : List Visit)
+        → stop_after m [] (front ++ more) ≡ Some (fault.ForeignUnit n)
+    stop_of_foreign m f more =
+        ap (λ (l : List Visit). stop_after m [] ((l ++ open_visit is_open) ++ more)) (foreign_visits f)
+
+    pub text_of_foreign : (f : Foreign) (more : List Visit) → text_after order [] (front ++ more) ≡ []
+    text_of_foreign f more =
+        ap (λ (l : List Visit). text_after order [] ((l ++ open_visit is_open) ++ more)) (foreign_visits f)
+
+    stop_of_neither : (m : ℕ) → Neither → stop_after m [] (front ++ []) ≡ None
+    stop_of_neither m none =
+        ap (λ (l : List Visit). stop_after m [] ((l ++ open_visit is_open) ++ [])) (no_visits none)
+        ∙ stop_open is_open where
+          stop_open : (o : Bool) → stop_after m [] (open_visit o ++ []) ≡ None
+          stop_open true = refl
+          stop_open false = refl
+
+    text_of_neither : Neither → text_after order [] (front ++ []) ≡ []
+    text_of_neither none =
+        ap (λ (l : List Visit). text_after order [] ((l ++ open_visit is_open) ++ [])) (no_visits none)
+        ∙ text_of_open order [] is_open []
+
+    nothing_by : Foreign ⊎ (Own ⊎ Neither) → text_after order [] (front ++ []) ≡ []
+    nothing_by (inl f) = text_of_foreign f []
+    nothing_by (inr (inl own)) = text_of_own own []
+    nothing_by (inr (inr none)) = text_of_neither none
+
+    -- nothing is written before the end
+    pub nothing_before : (heard x : List Visit) → front ≡ heard ++ x → text_after order [] heard ≡ []
+    nothing_before heard x e =
+        text_front order [] heard x (ap (text_after order []) (sym e ∙ sym (append-nil front)) ∙ nothing_by one_of)
+
+    foreign_by : (m : ℕ) (f : RunFault) → stop_after m [] (front ++ []) ≡ Some f → Foreign ⊎ (Own ⊎ Neither)
+        → (v : Foreign) × (f ≡ fault.ForeignUnit n)
+    foreign_by m f is (inl v) = (v, value_same f (fault.ForeignUnit n) (sym is ∙ stop_of_foreign m v []))
+    foreign_by m f is (inr (inl own)) = absurd (none_is_some (sym (stop_of_own m own []) ∙ is))
+    foreign_by m f is (inr (inr none)) = absurd (none_is_some (sym (stop_of_neither m none) ∙ is))
+
+    -- the one fault before the end is that of another version
+    pub foreign_before : (m : ℕ) (heard x : List Visit) (f : RunFault) → front ≡ heard ++ x
+        → stop_after m [] heard ≡ Some f
+        → (v : Foreign) × (f ≡ fault.ForeignUnit n)
+    foreign_before m heard x f e is =
+        foreign_by m f (ap (stop_after m []) (append-nil front ∙ e) ∙ stop_front m [] heard x f is) one_of

@@ -1,0 +1,117 @@
+-- Events of a unit, and the visits, rows and versions that they tell.
+use Rattle.std.proofs.Common.{◌≡◌, ℕ, false, List, [], ◌∷◌, ◌++◌, map, flat_map, Option, Some, None, refl, sym, ap, ap₂}
+use Rattle.std.proofs.Common.{◌∙◌, append_assoc}
+use Rattle.std.specs.Prelude.{is_some}
+use Rattle.std.specs.List.{AllByRecursion, concat}
+use Rattle.std.proofs.lemmas.Grind.{flat_map-append}
+use Rattle.dl_num.specs.declared.fixed.Order.{Order}
+use Rattle.dl_field.specs.HeaderData.{HeaderData}
+use Rattle.dl_head.specs.Header.{foreign_in, header_in}
+use Rattle.dl_rows.specs.declared.row.Row.{Row}
+use Rattle.dl_rows.specs.declared.reader.Event.{Event}
+use Rattle.dl_rows.specs.declared.reader.Event.TheVariants as event
+use Rattle.dl_rows.specs.LineUnit.{rows_in, rows_behind, unit_rows, own_events, events_of, events}
+use Rattle.dl_rows.proofs.UnitLemmas.{header_on}
+use Rattle.dl_rows.proofs.ReaderLemmas.{foreign_no_header, no_rows}
+use Rattle.dl_rows.specs.Reading.{told}
+use Rattle.dl_run.specs.Section.{Visit, of_row, header_of, event_visits, visits}
+use Rattle.dl_run.specs.UnitsRead.{row_told, rows_told, is_foreign}
+
+-- ---- rows
+
+pub rows_told-rows : (rows : List Row) → rows_told (map event.Row rows) ≡ rows
+rows_told-rows [] = refl
+rows_told-rows (r ∷ rows) = ap (λ (l : List Row). r ∷ l) (rows_told-rows rows)
+
+pub rows_told-append : (es more : List Event) → rows_told (es ++ more) ≡ rows_told es ++ rows_told more
+rows_told-append [] more = refl
+rows_told-append (e ∷ es) more =
+    ap (λ (l : List Row). row_told e ++ l) (rows_told-append es more)
+    ∙ sym (append_assoc (row_told e) (rows_told es) (rows_told more))
+
+rows_of_own : (order : Order) (parts : Option (HeaderData × List ℕ))
+    → rows_told (own_events order parts) ≡ rows_behind order parts
+rows_of_own order None = refl
+rows_of_own order (Some (h, program)) = rows_told-rows (rows_in order h.params program)
+
+rows_by : (order : Order) (b : List ℕ) (version : Option ℕ) → foreign_in order b ≡ version
+    → rows_told (events_of order version (header_in order b)) ≡ unit_rows order b
+rows_by order b None is = rows_of_own order (header_in order b)
+rows_by order b (Some v) is = sym (no_rows order b (foreign_no_header order b v is))
+
+-- the rows of the events are those of the unit
+pub rows_of_events : (order : Order) (b : List ℕ) → rows_told (events order b) ≡ unit_rows order b
+rows_of_events order b = rows_by order b (foreign_in order b) refl
+
+-- an event that tells no row
+pub none_told : (e : Event) → row_told e ≡ [] → rows_told (told e) ≡ []
+none_told (event.Row r) none = none
+none_told event.More none = refl
+none_told event.Header none = refl
+none_told (event.Foreign version) none = refl
+none_told event.End none = refl
+none_told event.NoMemory none = refl
+
+-- rows are visits of their own, whatever the header
+pub rows_visited : (offset : ℕ) (h : Option HeaderData) (rows : List Row)
+    → flat_map (event_visits offset h) (map event.Row rows) ≡ map of_row rows
+rows_visited offset h [] = refl
+rows_visited offset h (r ∷ rows) = ap (λ (l : List Visit). of_row r ∷ l) (rows_visited offset h rows)
+
+-- ---- versions
+
+pub no_version : (rows : List Row) → is_foreign (map event.Row rows) ≡ false
+no_version [] = refl
+no_version (r ∷ rows) = no_version rows
+
+foreign_of_own : (order : Order) (parts : Option (HeaderData × List ℕ)) → is_foreign (own_events order parts) ≡ false
+foreign_of_own order None = refl
+foreign_of_own order (Some parts) = no_version (rows_in order parts.0.params parts.1)
+
+foreign_by : (order : Order) (version : Option ℕ) (parts : Option (HeaderData × List ℕ))
+    → is_foreign (events_of order version parts) ≡ is_some version
+foreign_by order None parts = foreign_of_own order parts
+foreign_by order (Some v) parts = refl
+
+pub foreign_of_events : (order : Order) (b : List ℕ) → is_foreign (events order b) ≡ is_some (foreign_in order b)
+foreign_of_events order b = foreign_by order (foreign_in order b) (header_in order b)
+
+-- ---- visits
+
+-- the header makes no difference where none was told
+headerless : (offset : ℕ) (h : Option HeaderData) (order : Order) (version : Option ℕ)
+    → flat_map (event_visits offset h) (events_of order version None)
+    ≡ flat_map (event_visits offset None) (events_of order version None)
+headerless offset h order None = refl
+headerless offset h order (Some v) = refl
+
+same_visits : (order : Order) (offset : ℕ) (b x : List ℕ) (parts : Option (HeaderData × List ℕ))
+    → header_in order b ≡ parts
+    → flat_map (event_visits offset (header_of order (b ++ x))) (events order b) ≡ visits order offset b
+same_visits order offset b x None is =
+    ap (λ (p : Option (HeaderData × List ℕ)). flat_map (event_visits offset (header_of order (b ++ x)))
+    (events_of order (foreign_in order b) p)) is
+    ∙ headerless offset (header_of order (b ++ x)) order (foreign_in order b)
+    ∙ sym (ap
+    (λ (p : Option (HeaderData × List ℕ)). flat_map
+    (event_visits offset (Rattle.std.specs.Option.option_map (λ parts. parts.0) p))
+    (events_of order (foreign_in order b) p)) is)
+same_visits order offset b x (Some (h, program)) is =
+    ap₂ (λ (p q : Option (HeaderData × List ℕ)). flat_map
+    (event_visits offset (Rattle.std.specs.Option.option_map (λ parts. parts.0) p))
+    (events_of order (foreign_in order b) q)) (header_on order b x h program is) is
+    ∙ sym (ap
+    (λ (p : Option (HeaderData × List ℕ)). flat_map
+    (event_visits offset (Rattle.std.specs.Option.option_map (λ parts. parts.0) p))
+    (events_of order (foreign_in order b) p)) is)
+
+-- where the events grow, so do the visits
+pub visits_grow : (order : Order) (offset : ℕ) (b x : List ℕ) (told : List Event)
+    → events order (b ++ x) ≡ events order b ++ told
+    → visits order offset (b ++ x) ≡ visits order offset b
+    ++ flat_map (event_visits offset (header_of order (b ++ x))) told
+visits_grow order offset b x told grows =
+    let at = event_visits offset (header_of order (b ++ x)) in
+    ap (flat_map at) grows
+    ∙ flat_map-append at (events order b) told
+    ∙ ap (λ (l : List Visit). l ++ flat_map at told) (same_visits order offset b x (header_in order b) refl)

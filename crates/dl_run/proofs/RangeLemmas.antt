@@ -1,0 +1,95 @@
+-- The rows of a unit are in the range of its params, so that it isn't written only where it is too long.
+use Rattle.std.proofs.Common.{◌≡◌, ℕ, ◌+◌, ◌*◌, ◌^◌, ◌%◌, ◌≤◌, Bool, true, false, nat_lt, List, [], ◌∷◌, ◌++◌, Option}
+use Rattle.std.proofs.Common.{Some, None, refl, sym, ap, ◌∙◌, arith}
+use Rattle.std.specs.Prelude.{option_map, ◌&&◌, if◌then◌else◌}
+use Rattle.std.specs.Option.{option_or}
+use Rattle.std.proofs.lemmas.Bool.{lt-ltb}
+use Rattle.std.proofs.lemmas.Nat.{pow_pos}
+use Rattle.std.proofs.Math.Nat.{mod-lt}
+use Rattle.dl_num.specs.declared.fixed.Order.{Order}
+use Rattle.dl_head.specs.Built.{with_standard_opcodes}
+use Rattle.dl_field.specs.HeaderData.{HeaderData}
+use Rattle.dl_head.specs.Header.{header_in}
+use Rattle.dl_head.specs.Written.{is_within_limit}
+use Rattle.dl_field.specs.declared.params.Params.{Params}
+use Rattle.dl_head.proofs.HeaderLaws.{found_is_header}
+use Rattle.dl_rows.specs.declared.operation.Operation.{Operation}
+use Rattle.dl_rows.specs.declared.row.Row.{Row}
+use Rattle.dl_rows.specs.LineUnit.{rows_behind, unit_rows}
+use Rattle.dl_rows.specs.Matrix.{address, appends_row, last_part, parts, moves, op_index, row, row_from, rows_after}
+use Rattle.dl_rows.specs.Matrix.{sequence, fresh, is_end}
+use Rattle.dl_rows.specs.OperationSpelt.{operations_in}
+use Rattle.dl_rows.proofs.HeaderParams.{header_is_usable}
+use Rattle.dl_emit.specs.declared.fault.EmitFault.{EmitFault}
+use Rattle.dl_emit.specs.declared.fault.EmitFault.TheVariants as emit
+use Rattle.dl_emit.specs.WrittenUnit.{refusal, is_in_range, out_of_range, program_len, unless}
+use Rattle.dl_run.specs.Section.{header_of}
+use Rattle.dl_run.proofs.Fronts.{none_is_some, value_same}
+
+both : (a b : Bool) → a ≡ true → b ≡ true → (a && b) ≡ true
+both true true p q = refl
+both true false p q = q
+both false b p q = p
+
+module _ (h : HeaderData) (some : 1 ≤ h.params.maximum_operations_per_instruction) where
+  abbrev its_params : Params
+  its_params = (with_standard_opcodes h).params
+
+  row_in_range : (s f : List Operation) (end : Bool) → is_in_range its_params (row_from h.params s f end) ≡ true
+  row_in_range s f end =
+      let most = h.params.maximum_operations_per_instruction in
+      let size = 2 ^ (8 * h.params.address_size) in
+      both (nat_lt (op_index h.params s) most) (nat_lt (address h.params s % size) size)
+      (lt-ltb (op_index h.params s) most (mod-lt (last_part (parts h.params (moves s))) (omega (arith, some))))
+      (lt-ltb (address h.params s % size) size (mod-lt (address h.params s) (pow_pos (8 * h.params.address_size))))
+
+  if_true : (b : Bool) (o : Option EmitFault) (f : EmitFault) → b ≡ true → o ≡ None → (if b then o else Some f) ≡ None
+  if_true true o f is none = none
+  if_true false o f is none = absurd cc
+
+  none_out : (i : ℕ) (front os : List Operation) → out_of_range its_params i (rows_after h.params front os) ≡ None
+  none_out i front [] = refl
+  none_out i front (o ∷ os) =
+      by (appends_row o) refl (none_out (i + 1) (front ++ o ∷ []) os) (none_out i (front ++ o ∷ []) os) where
+        behind : List Row
+        behind = rows_after h.params (front ++ o ∷ []) os
+
+        by : (b : Bool) → appends_row o ≡ b → out_of_range its_params (i + 1) behind ≡ None
+            → out_of_range its_params i behind ≡ None
+            → out_of_range its_params i (if appends_row o then row h.params front o ∷ behind else behind) ≡ None
+        by true is next same =
+            ap (λ (c : Bool). out_of_range its_params i (if c then row h.params front o ∷ behind else behind)) is
+            ∙ if_true (is_in_range its_params (row h.params front o)) (out_of_range its_params (i + 1) behind)
+            (emit.RowRange i) (row_in_range (sequence front o) (fresh front o) (is_end o)) next
+        by false is next same =
+            ap (λ (c : Bool). out_of_range its_params i (if c then row h.params front o ∷ behind else behind)) is ∙ same
+
+length_alone : (b : Bool) (f : EmitFault) → unless b emit.TooLong ≡ Some f → f ≡ emit.TooLong
+length_alone true f e = absurd (none_is_some e)
+length_alone false f e = value_same f emit.TooLong (sym e)
+
+refused_rows : (h : HeaderData) (rows : List Row) (f : EmitFault)
+    → out_of_range (with_standard_opcodes h).params 0 rows ≡ None → refusal (with_standard_opcodes h) rows ≡ Some f
+    → f ≡ emit.TooLong
+refused_rows h rows f none e =
+    let std = with_standard_opcodes h in
+    let within = is_within_limit std (program_len std.params rows) in
+    length_alone within f (sym (ap (λ (o : Option EmitFault). option_or o (unless within emit.TooLong)) none) ∙ e)
+
+-- a unit that was read is refused for its length alone
+pub too_long : (order : Order) (u : List ℕ) (h : HeaderData) (f : EmitFault) → header_of order u ≡ Some h
+    → refusal (with_standard_opcodes h) (unit_rows order u) ≡ Some f → f ≡ emit.TooLong
+too_long order u h f is refused = by (header_in order u) refl where
+  by : (parts : Option (HeaderData × List ℕ)) → header_in order u ≡ parts → f ≡ emit.TooLong
+  by None e = absurd (none_is_some (sym (ap (λ (p : Option (HeaderData × List ℕ)). option_map (λ q. q.0) p) e) ∙ is))
+  by (Some (own, program)) e =
+      let same : own ≡ h =
+      value_same own h (sym (ap (λ (p : Option (HeaderData × List ℕ)). option_map (λ q. q.0) p) e) ∙ is) in
+      let w = found_is_header order own u program e in
+      let usable = header_is_usable order own w.0 w.2 in
+      let rows : unit_rows order u ≡ rows_behind order (Some (own, program)) = ap (rows_behind order) e in
+      let refused_own = ap
+      (λ (d : HeaderData). refusal (with_standard_opcodes d) (rows_behind order (Some (own, program)))) same
+      ∙ ap (refusal (with_standard_opcodes h)) (sym rows) ∙ refused in
+      refused_rows own (rows_behind order (Some (own, program))) f
+      (none_out own usable.operations 0 [] (operations_in order own.params program).found) refused_own

@@ -1,0 +1,158 @@
+-- Rows that a visitor is told while a reader takes bytes, and what it stands for then.
+use Rattle.std.proofs.Common.{◌≡◌, ℕ, ◌+◌, ◌^◌, ◌-◌, min, List, [], ◌∷◌, ◌++◌, map, Option, Some, None}
+use Rattle.std.proofs.Common.{Result, Ok, Err, arith, refl, sym, ap, ◌∙◌, subst, append_assoc, append-nil}
+use Rattle.std.proofs.Common.{length-append}
+use Rattle.std.specs.Prelude.{⊤, cond}
+use Rattle.std.proofs.lemmas.List.Sums.{sum_by-append}
+use Rattle.std.proofs.lemmas.List.{map-append}
+use Rattle.std.proofs.lemmas.Option.{same_Some}
+use Rattle.dl_field.proofs.FieldLemmas.{none_some}
+use Rattle.dl_head.specs.declared.fault.Fault.{Fault}
+use Rattle.dl_rows.specs.declared.row.Row.{Row}
+use Rattle.dl_rows.specs.declared.reader.Event.{Event}
+use Rattle.dl_rows.specs.declared.reader.Event.TheVariants as event
+use Rattle.dl_rows.specs.declared.reader.Fed.{Fed}
+use Rattle.dl_rows.specs.declared.reader.Reader.{Reader}
+use Rattle.dl_rows.specs.LineUnit.{events}
+use Rattle.dl_rows.specs.ReaderAnswers.{FedBehind, RowsFed}
+use Rattle.dl_rows.specs.Reading.{SinkAt, SinkBehind}
+use Rattle.dl_run.specs.declared.fault.RunFault.{RunFault}
+use Rattle.dl_run.specs.declared.section.Told.{Told}
+use Rattle.dl_run.specs.declared.section.SectionUnits.{SectionUnits}
+use Rattle.dl_run.specs.Section.{Visit, of_row}
+use Rattle.dl_run.specs.Told.{ends, Counted, HeardRows, told_story, NoRow, RowsOf, StopsAtRow}
+use Rattle.dl_run.specs.Visiting.{Story, Stopped, Hears}
+use Rattle.dl_run.specs.UnitsRead.{row_told}
+
+pub ends-append : (xs ys : List Row) → ends (xs ++ ys) ≡ ends xs + ends ys
+ends-append xs ys = sum_by-append (λ (r : Row). cond r.end_sequence 1 0) xs ys
+
+-- one row more is counted
+pub counts_more : (old_rows old_ends rows_now ends_now rows_new ends_new : ℕ) (rows : List Row) (r : Row)
+    → Counted old_rows old_ends rows_now ends_now rows
+    → rows_new ≡ min (rows_now + 1) (2 ^ 64 - 1) → ends_new ≡ min (ends_now + cond r.end_sequence 1 0) (2 ^ 64 - 1)
+    → Counted old_rows old_ends rows_new ends_new (rows ++ r ∷ [])
+counts_more old_rows old_ends rows_now ends_now rows_new ends_new rows r counts more_rows more_ends = record {
+  of_rows =
+      λ small. let size =
+      length-append rows (r ∷ []) in omega (arith, counts.of_rows (omega (arith, small, size)), more_rows, small, size);
+  of_ends =
+      λ small. let size =
+      ends-append rows (r ∷ []) in omega (arith, counts.of_ends (omega (arith, small, size)), more_ends, small, size);
+}
+
+module _ {W V : Type 0} (story : Story V) (contents : W → Option (List ℕ)) where
+  -- rows that are told, and one at which the visitor stops
+  pub stops_behind : (u v w : V) (a b c : Option (List ℕ)) (rows : List Row) (r : Row) (f : RunFault)
+      → Hears {A = ⊤} story u v a b (map of_row rows) (Ok (tt {0}))
+      → Hears {A = ⊤} story v w b c (of_row r ∷ []) (Err f)
+      → Hears {A = ⊤} story u w a c (map of_row (rows ++ r ∷ [])) (Err f)
+  stops_behind u v w a b c rows r f told stops first start visits tells =
+      let s = stops first start (visits ++ map of_row rows) (told first start visits tells) in (
+        map of_row rows ++ s.0,
+        s.1,
+        map-append of_row rows (r ∷ []) ∙ ap (λ (l : List Visit). map of_row rows ++ l) s.2
+            ∙ sym (append_assoc (map of_row rows) s.0 s.1),
+        subst (λ (l : List Visit). Stopped story first w start c l f) (append_assoc visits (map of_row rows) s.0) s.3,
+      )
+
+  -- no row was told
+  pub told_start : (first : Told W V) → first.failed ≡ None → HeardRows story contents first first [] None (Ok (tt {0}))
+  told_start first none = record {
+    output = refl;
+    visitor = refl;
+    counts = record { of_rows = λ small. omega arith; of_ends = λ small. omega arith };
+    fails = none;
+    hears = λ fst start visits tells.
+        subst (λ (l : List Visit). story.tells fst first.visitor.now start (contents first.output.now) l)
+        (sym (append-nil visits)) tells;
+  }
+
+  -- the sink goes on, so no row is answered
+  pub goes_on_without : (first now : Told W V) (rows : List Row) (fed : Result Fed Fault) → now.failed ≡ None
+      → SinkBehind (told_story story contents first) now rows fed
+      → NoRow fed × HeardRows story contents first now rows None (Ok (tt {0}))
+  goes_on_without first now rows (Err fault) none heard = (tt, heard)
+  goes_on_without first now rows (Ok fed) none heard = at fed.event refl heard where
+    at : (e : Event) → fed.event ≡ e → SinkAt (told_story story contents first) now rows e
+        → (row_told fed.event ≡ []) × HeardRows story contents first now rows None (Ok (tt {0}))
+    at (event.Row r) is stopped = absurd (none_some none stopped.1.fails)
+    at event.More is told = (ap row_told is, told)
+    at event.Header is told = (ap row_told is, told)
+    at (event.Foreign version) is told = (ap row_told is, told)
+    at event.End is told = (ap row_told is, told)
+    at event.NoMemory is told = (ap row_told is, told)
+
+  -- the sink stopped, at the row that is answered
+  pub stops_with : (first now : Told W V) (rows : List Row) (f : RunFault) (fed : Result Fed Fault)
+      → now.failed ≡ Some f → SinkBehind (told_story story contents first) now rows fed
+      → (g : Fed) × (fed ≡ Ok g) × (r : Row) × (g.event ≡ event.Row r)
+      × HeardRows story contents first now (rows ++ r ∷ []) (Some f) (Err f)
+  stops_with first now rows f (Err fault) some heard = absurd (none_some heard.fails some)
+  stops_with first now rows f (Ok fed) some heard = at fed.event refl heard where
+    at : (e : Event) → fed.event ≡ e → SinkAt (told_story story contents first) now rows e
+        → (g : Fed) × (◌≡◌ {A = Result Fed Fault} (Ok fed) (Ok g)) × (r : Row) × (g.event ≡ event.Row r)
+        × HeardRows story contents first now (rows ++ r ∷ []) (Some f) (Err f)
+    at (event.Row r) is stopped =
+        let same = same_Some stopped.0 f (sym stopped.1.fails ∙ some) in (
+          fed,
+          refl,
+          r,
+          is,
+          subst (λ (e : RunFault). HeardRows story contents first now (rows ++ r ∷ []) (Some e) (Err e)) same
+              stopped.1,
+        )
+    at event.More is told = absurd (none_some told.fails some)
+    at event.Header is told = absurd (none_some told.fails some)
+    at (event.Foreign version) is told = absurd (none_some told.fails some)
+    at event.End is told = absurd (none_some told.fails some)
+    at event.NoMemory is told = absurd (none_some told.fails some)
+
+  -- w, after: what the visitor and the writer end as, where the sink still holds them
+  pub all_told : (b piece : List ℕ) (old : SectionUnits) (reader : Reader) (first sink : Told W V) (w : V) (now : W)
+      (fed : Result Fed Fault) → sink.failed ≡ None → reader.order ≡ old.reader.order
+      → first.rows ≡ old.rows → first.sequences ≡ old.sequences
+      → RowsFed (told_story story contents first) old.reader.order b piece [] fed reader sink
+      → (first.visitor.ghost_name ≡ sink.visitor.ghost_name → w ≡ sink.visitor.now)
+      → (first.output.ghost_name ≡ sink.output.ghost_name → now ≡ sink.output.now)
+      → RowsOf story b piece old (record old {
+        reader = reader;
+        sequences = sink.sequences;
+        rows =
+            sink.rows;
+      }) first.visitor.now w (contents first.output.now) (contents now) fed
+  all_told b piece old reader first sink w now fed none order rows_are ends_are f w_is now_is =
+      let so = goes_on_without first sink f.rows fed none f.sink in
+      let told = so.1 in
+      record {
+        rows = f.rows;
+        order = order;
+        fed_rows = f.fed;
+        same = refl;
+        counts =
+            subst (λ (n : ℕ). Counted n old.sequences sink.rows sink.sequences f.rows) rows_are
+            (subst (λ (n : ℕ). Counted first.rows n sink.rows sink.sequences f.rows) ends_are told.counts);
+        hears = rw (w_is (sym told.visitor), now_is (sym told.output)) told.hears;
+        no_row = so.0;
+      }
+
+  pub stopped_told : (b piece : List ℕ) (old new : SectionUnits) (first sink : Told W V) (w : V) (now : W) (f : RunFault)
+      (fed : Result Fed Fault) → sink.failed ≡ Some f → new.reader.order ≡ old.reader.order
+      → RowsFed (told_story story contents first) old.reader.order b piece [] fed new.reader sink
+      → (first.visitor.ghost_name ≡ sink.visitor.ghost_name → w ≡ sink.visitor.now)
+      → (first.output.ghost_name ≡ sink.output.ghost_name → now ≡ sink.output.now)
+      → StopsAtRow story b piece old new first.visitor.now w (contents first.output.now) (contents now) f
+  stopped_told b piece old new first sink w now f fed some order rf w_is now_is =
+      let so = stops_with first sink rf.rows f fed some rf.sink in
+      let told = so.4 in
+      record {
+        rows = rf.rows;
+        row = so.2;
+        fed = so.0;
+        is_row = so.3;
+        order = order;
+        fed_rows =
+            subst (λ (r : Result Fed Fault). FedBehind old.reader.order (events old.reader.order b
+            ++ map event.Row rf.rows) b piece r new.reader) so.1 rf.fed;
+        hears = rw (w_is (sym told.visitor), now_is (sym told.output)) told.hears;
+      }

@@ -1,0 +1,33 @@
+use Rattle.std.proofs.Common.{◌∷◌, ◌++◌, [], Option, subst}
+use Rattle.std.specs.Prelude.{MatchResult}
+use Rattle.std.proofs.lemmas.Result.{err_from_is_err_and}
+use Rattle.dl_field.specs.HeaderData.{HeaderData}
+use Rattle.dl_rows.specs.LineUnit.{ends_open, unit_rows}
+use Rattle.dl_run.specs.Section.{of_end, header_of, open_visit}
+use Rattle.dl_run.specs.Visiting.{GoesOn, StopsIn}
+use Rattle.dl_run.proofs.VisitLemmas.{stops_before, ends_behind}
+use Rattle.dl_run.proofs.section.SectionUnits.end.Goals as goal
+
+pub returns-in_err-close-clause-heard : goal.returns-in_err-close-clause-heard
+returns-in_err-close-clause-heard g c b stands first start visits tells =
+    let p = err_from_is_err_and c.from_residual.result c.from_residual.ensures.1 in
+    let order = c.args.self.now.reader.order in
+    rw (
+      p.1,
+      p.2,
+    ) (stops_before g.V.Visitor.story first c.close.new.visitor start (g.W.Write.contents c.close.new.output)
+    visits (open_visit (ends_open (unit_rows order b))) (of_end (header_of order b) ∷ []) _
+    (c.in_err-close.ensures b stands first start visits tells))
+
+pub returns-clause-heard : goal.returns-clause-heard
+returns-clause-heard g c b stands first start visits tells =
+    let story = g.V.Visitor.story in
+    let order = c.args.self.now.reader.order in
+    let more = open_visit (ends_open (unit_rows order b)) in
+    let now = g.W.Write.contents c.end.new.output in
+    let heard = subst (λ (h : Option HeaderData). MatchResult c.end.result
+    (GoesOn story first c.end.new.self start now ((visits ++ more) ++ of_end h ∷ []))
+    (StopsIn story first c.end.new.self start now (visits ++ more) (of_end h ∷ [])))
+    (c.next_unit.ensures.header b stands)
+    (c.end.ensures first start (visits ++ more) (c.in_ok-close.ensures b stands first start visits tells)) in
+    ends_behind story first c.end.new.self start now visits more (of_end (header_of order b) ∷ []) c.end.result heard

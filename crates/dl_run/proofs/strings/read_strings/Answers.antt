@@ -1,0 +1,28 @@
+use Rattle.std.proofs.Common.{◌++◌, arith, length-append}
+use Rattle.std.proofs.KnownBytes.{Consumes-trans}
+use Rattle.dl_run.proofs.strings.read_strings.Goals as goal
+
+pub returns-then-limit-len : goal.returns-then-limit-len
+returns-then-limit-len g c =
+    let l = c.loop-piece in
+    let piece = c.in-Ok.piece.now in (
+      l.bytes.items ++ piece,
+      Consumes-trans _ _ _ _ _ l.invariant.read c.in-Ok.ensures.ok,
+      omega (arith, c.if-limit-len.true, c.len.ensures, l.bytes.ok.0, length-append l.bytes.items piece),
+    )
+
+pub returns-then-is_err : goal.returns-then-is_err
+returns-then-is_err g c =
+    let l = c.loop-piece in
+    let piece = c.in-Ok.piece.now in (
+      l.bytes.items ++ piece,
+      Consumes-trans _ _ _ _ _ l.invariant.read c.in-Ok.ensures.ok,
+      omega (
+        arith,
+        c.if-limit-len.false,
+        c.len.ensures,
+        l.bytes.ok.0,
+        l.invariant.within,
+        length-append l.bytes.items piece,
+      ),
+    )

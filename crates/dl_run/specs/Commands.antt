@@ -1,0 +1,151 @@
+-- What the commands answer and write. bytes: what was read from a reader, which has `left` left. start, now: what the
+-- writer held at first, and holds now. None: it isn't known.
+use Rattle.std.specs.Prelude.{◌≡◌, ◌≢◌, ◌⊎◌, ℕ, List, [], ◌∷◌, ◌++◌, length, take, flat_map, Option, Some, None, Result}
+use Rattle.std.specs.Prelude.{Ok, Err}
+use Rattle.std.specs.List.{AllByRecursion, concat}
+use Rattle.std.specs.Option.{option_copied, option_map_or}
+use Rattle.std.specs.Io.KnownBytes.{Appends, Keeps}
+use Rattle.dl_num.specs.declared.fixed.Order.{Order}
+use Rattle.dl_head.specs.Built.{with_standard_opcodes}
+use Rattle.dl_head.specs.Header.{foreign_in}
+use Rattle.dl_field.specs.HeaderData.{HeaderData}
+use Rattle.dl_rows.specs.declared.row.Row.{Row}
+use Rattle.dl_rows.specs.LineUnit.{IsUnit, unit_rows}
+use Rattle.dl_rows.specs.Runs.{Sound}
+use Rattle.dl_look.specs.declared.place.Place.{Place}
+use Rattle.dl_look.specs.Answer.{answer}
+use Rattle.dl_emit.specs.declared.fault.EmitFault.TheVariants.{TooLong}
+use Rattle.dl_emit.specs.WrittenUnit.{unit_of, refusal}
+use Rattle.dl_run.specs.declared.fault.RunFault.{RunFault}
+use Rattle.dl_run.specs.declared.fault.RunFault.TheVariants as fault
+use Rattle.dl_run.specs.declared.options.Options.{Options}
+use Rattle.dl_print.specs.declared.summary.Summary.{Summary}
+use Rattle.dl_run.specs.RunOutput.{TellsOut}
+use Rattle.dl_run.specs.Section.{HasUnits, HasBegun, AddsCell, EndsAs, header_of, summary_of}
+use Rattle.dl_run.specs.SectionText.{section_text}
+use Rattle.dl_print.specs.Text.{row_line, summary_line}
+use Rattle.dl_print.specs.ValueText.{Strings}
+use Rattle.dl_print.specs.HeaderText.{file_text}
+
+-- the string sections that the options hand in
+abbrev pub strings_in : Options → Strings
+strings_in options =
+    record { line_strings = option_copied options.debug_line_str; strings = option_copied options.debug_str }
+
+-- `check`: the line of the counts where the section is units to its end, else nothing
+abbrev pub Checks : Order → (limit : ℕ) (bytes : List ℕ) (left start now : Option (List ℕ)) → Result Summary RunFault
+    → Type 0
+Checks order limit bytes left start now (Ok summary) =
+    (units : List (List ℕ)) × EndsAs order limit bytes left units [] [] (Ok summary)
+    × Appends start now (summary_line summary)
+Checks order limit bytes left start now (Err (fault.Write out)) =
+    (units : List (List ℕ)) × (summary : Summary) × EndsAs order limit bytes left units [] [] (Ok summary)
+    × TellsOut start now (summary_line summary) (fault.Write out)
+Checks order limit bytes left start now (Err f) =
+    (units : List (List ℕ)) × (b : List ℕ) × (back : List ℕ) × EndsAs order limit bytes left units b back (Err f)
+    × Keeps start now
+
+-- `dump`: the text of the units, and of what follows them up to the fault
+abbrev pub Dumps : Order → Strings → (limit : ℕ) (bytes : List ℕ) (left start now : Option (List ℕ))
+    → Result Summary RunFault → Type 0
+Dumps order strings limit bytes left start now (Err (fault.Write out)) =
+    (units : List (List ℕ)) × (b : List ℕ) × (back : List ℕ) × HasBegun order (take limit bytes) units b back
+    × TellsOut start now (section_text order strings units b) (fault.Write out)
+Dumps order strings limit bytes left start now result =
+    (units : List (List ℕ)) × (b : List ℕ) × (back : List ℕ) × EndsAs order limit bytes left units b back result
+    × Appends start now (section_text order strings units b)
+
+-- ---- `find`
+
+-- no unit has an answer for x
+abbrev pub NoneAnswers : Order → Place → List (List ℕ) → Type 0
+NoneAnswers order x units = AllByRecursion (λ u. answer (unit_rows order u) x ≡ None) units
+
+-- the first bytes are units, of which u, the last, is the first that has an answer for x: the row r; h is its header
+pub record IsFound (order : Order) (x : Place) (bytes : List ℕ) (units : List (List ℕ)) (u back : List ℕ)
+    (h : HeaderData) (r : Row) : Type 0 where
+  pub has : HasUnits order bytes (units ++ u ∷ []) back
+  pub none_before : NoneAnswers order x units
+  pub row : answer (unit_rows order u) x ≡ Some r
+  pub header : header_of order u ≡ Some h
+
+-- the line of the row's file, which the header's table may lack, and the line of the row
+abbrev pub found_text : Strings → HeaderData → Row → List ℕ
+found_text strings h r = file_text strings h.files r.file ++ row_line r
+
+-- `find`: the two lines of the first unit that has an answer for x; nothing where none has, or where a fault comes
+-- before
+abbrev pub Finds : Order → Strings → Place → (limit : ℕ) (bytes : List ℕ) (left start now : Option (List ℕ))
+    → Result Summary RunFault → Type 0
+Finds order strings x limit bytes left start now (Ok summary) =
+    (units : List (List ℕ)) × (u : List ℕ) × (back : List ℕ) × (h : HeaderData) × (r : Row)
+    × IsFound order x (take limit bytes) units u back h r
+    × (summary ≡ summary_of order (units ++ u ∷ [])) × Appends start now (found_text strings h r)
+Finds order strings x limit bytes left start now (Err (fault.Write out)) =
+    (units : List (List ℕ)) × (u : List ℕ) × (back : List ℕ) × (h : HeaderData) × (r : Row)
+    × IsFound order x (take limit bytes) units u back h r
+    × TellsOut start now (found_text strings h r) (fault.Write out)
+Finds order strings x limit bytes left start now (Err fault.NotFound) =
+    (units : List (List ℕ)) × (summary : Summary) × EndsAs order limit bytes left units [] [] (Ok summary)
+    × NoneAnswers order x units × Keeps start now
+Finds order strings x limit bytes left start now (Err f) =
+    (units : List (List ℕ)) × (b : List ℕ) × (back : List ℕ) × EndsAs order limit bytes left units b back (Err f)
+    × NoneAnswers order x units × Keeps start now
+
+-- ---- `copy`
+
+-- the unit of the same rows, under the header with standard opcodes; nothing for a unit of another version, which has
+-- no header
+abbrev pub copied_unit : Order → List ℕ → List ℕ
+copied_unit order u =
+    option_map_or (λ h. unit_of order (with_standard_opcodes h) (unit_rows order u)) (header_of order u) []
+
+abbrev pub copied_units : Order → List (List ℕ) → List ℕ
+copied_units order units = flat_map (copied_unit order) units
+
+-- u has a header, and its copy can be written
+abbrev pub IsCopied : Order → List ℕ → Type 0
+IsCopied order u =
+    (h : HeaderData) × (header_of order u ≡ Some h) × (refusal (with_standard_opcodes h) (unit_rows order u) ≡ None)
+
+abbrev pub AreCopied : Order → List (List ℕ) → Type 0
+AreCopied order units = AllByRecursion (IsCopied order) units
+
+-- these units are copied, and their copies are out
+abbrev pub HasCopied : Order → List (List ℕ) → (start now : Option (List ℕ)) → Type 0
+HasCopied order units start now = AreCopied order units × Appends start now (copied_units order units)
+
+-- memory grows: for a cell of b's header, which the byte after b adds; for a row; or for the copy of a unit that is
+-- whole
+abbrev pub Grows : Order → (b back : List ℕ) → Type 0
+Grows order b back = AddsCell order b back ⊎ ((unit_rows order b ≢ []) ⊎ IsUnit order b)
+
+-- `copy`: the copies of all units, or of those before the fault. A unit of another version is a fault, also where it is
+-- cut off, and so is a whole unit whose copy would be too long. The fault's offset is that of the unit.
+abbrev pub Copies : Order → (limit : ℕ) (bytes : List ℕ) (left start now : Option (List ℕ)) → Result Summary RunFault
+    → Type 0
+Copies order limit bytes left start now (Ok summary) =
+    (units : List (List ℕ)) × EndsAs order limit bytes left units [] [] (Ok summary) × HasCopied order units start now
+Copies order limit bytes left start now (Err (fault.ForeignUnit offset)) =
+    (units : List (List ℕ)) × (b : List ℕ) × (back : List ℕ) × (version : ℕ)
+    × HasBegun order (take limit bytes) units b back
+    × (offset ≡ length (concat units)) × (foreign_in order b ≡ Some version) × HasCopied order units start now
+Copies order limit bytes left start now (Err (fault.Emit offset f)) =
+    (units : List (List ℕ)) × (u : List ℕ) × (back : List ℕ) × (h : HeaderData)
+    × HasUnits order (take limit bytes) (units ++ u ∷ []) back
+    × (offset ≡ length (concat units)) × (header_of order u ≡ Some h)
+    × (refusal (with_standard_opcodes h) (unit_rows order u) ≡ Some f) × (f ≡ TooLong)
+    × HasCopied order units start now
+-- a growth was refused for b, which is in no other way at fault
+Copies order limit bytes left start now (Err fault.NoMemory) =
+    (units : List (List ℕ)) × (b : List ℕ) × (back : List ℕ) × HasBegun order (take limit bytes) units b back
+    × Sound order b × (foreign_in order b ≡ None)
+    × Grows order b back × HasCopied order units start now
+Copies order limit bytes left start now (Err (fault.Write out)) =
+    (units : List (List ℕ)) × (back : List ℕ) × HasUnits order (take limit bytes) units back × AreCopied order units
+    × TellsOut start now (copied_units order units) (fault.Write out)
+-- b isn't the front of a unit of another version
+Copies order limit bytes left start now (Err f) =
+    (units : List (List ℕ)) × (b : List ℕ) × (back : List ℕ) × EndsAs order limit bytes left units b back (Err f)
+    × (foreign_in order b ≡ None)
+    × HasCopied order units start now

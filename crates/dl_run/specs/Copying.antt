@@ -1,0 +1,83 @@
+-- What `copy` is told and writes. No promise rests on this file.
+use Rattle.std.specs.Prelude.{⊤, ◌≡◌, ℕ, List, [], ◌∷◌, ◌++◌, Option, Some, None, option_map}
+use Rattle.std.specs.Option.{option_or, option_map_or}
+use Rattle.dl_num.specs.declared.fixed.Order.{Order}
+use Rattle.dl_head.specs.Built.{with_standard_opcodes}
+use Rattle.dl_field.specs.HeaderData.{HeaderData}
+use Rattle.dl_rows.specs.declared.row.Row.{Row}
+use Rattle.dl_emit.specs.WrittenUnit.{unit_of, refusal}
+use Rattle.dl_run.specs.declared.copying.Copier.{Copier}
+use Rattle.dl_run.specs.declared.fault.RunFault.{RunFault}
+use Rattle.dl_run.specs.declared.fault.RunFault.TheVariants as fault
+use Rattle.dl_print.specs.Output.{HasPrinted}
+use Rattle.dl_run.specs.RowsTold.{rows_after}
+use Rattle.dl_run.specs.Section.{Visit, of_header, of_version, of_row, of_end}
+use Rattle.dl_run.specs.Visiting.{Story}
+
+-- ---- what visits give; rows: those of the current unit before the visits
+
+-- the offset of the last unit with a header; offset: that before the visits
+abbrev pub offset_after : ℕ → List Visit → ℕ
+offset_after offset [] = offset
+offset_after offset (of_header n h ∷ visits) = offset_after n visits
+offset_after offset (visit ∷ visits) = offset_after offset visits
+
+-- why the unit of this header isn't written
+abbrev pub end_stop : (offset : ℕ) → List Row → Option HeaderData → Option RunFault
+end_stop offset rows None = None
+end_stop offset rows (Some h) = option_map (fault.Emit offset) (refusal (with_standard_opcodes h) rows)
+
+-- the first unit that can't be written
+abbrev pub stop_after : (offset : ℕ) → List Row → List Visit → Option RunFault
+stop_after offset rows [] = None
+stop_after offset rows (of_header n h ∷ visits) = stop_after n rows visits
+stop_after offset rows (of_version n version ∷ visits) = Some (fault.ForeignUnit n)
+stop_after offset rows (of_row r ∷ visits) = stop_after offset (rows ++ r ∷ []) visits
+stop_after offset rows (of_end h ∷ visits) = option_or (end_stop offset rows h) (stop_after offset [] visits)
+stop_after offset rows (visit ∷ visits) = stop_after offset rows visits
+
+-- the unit of this header and what stands after it, or nothing where it isn't written
+abbrev pub end_text : Order → List Row → Option HeaderData → (behind : List ℕ) → List ℕ
+end_text order rows None behind = behind
+end_text order rows (Some h) behind =
+    option_map_or (λ f. []) (refusal (with_standard_opcodes h) rows) (unit_of order (with_standard_opcodes h) rows
+    ++ behind)
+
+-- the units before the first that can't be written
+abbrev pub text_after : Order → List Row → List Visit → List ℕ
+text_after order rows [] = []
+text_after order rows (of_version n version ∷ visits) = []
+text_after order rows (of_row r ∷ visits) = text_after order (rows ++ r ∷ []) visits
+text_after order rows (of_end h ∷ visits) = end_text order rows h (text_after order [] visits)
+text_after order rows (visit ∷ visits) = text_after order rows visits
+
+-- ---- the copier
+
+-- each unit so far is printed, and the rows since then are held
+pub record Copying (first now : Copier) (start held : Option (List ℕ)) (visits : List Visit) : Type 0 where
+  pub order : now.order ≡ first.order
+  pub offset : now.unit ≡ offset_after first.unit visits
+  pub rows : now.rows.items ≡ rows_after [] visits
+  pub goes_on : stop_after first.unit [] visits ≡ None
+  pub printed : HasPrinted start held (text_after first.order [] visits) now.printer
+
+-- memory grows for a row, and for the bytes of a unit that has a header
+abbrev pub IsGrowth : Visit → Type 0
+IsGrowth (of_row r) = ⊤
+IsGrowth (of_end (Some h)) = ⊤
+IsGrowth other = ⊥
+
+-- a growth is refused at the last visit
+abbrev pub StopsAt : (first : Copier) (visits : List Visit) → RunFault → Type 0
+StopsAt first visits fault.NoMemory =
+    (before : List Visit) × (visit : Visit) × (visits ≡ before ++ visit ∷ []) × IsGrowth visit
+StopsAt first visits f = stop_after first.unit [] visits ≡ Some f
+
+-- unit after unit
+abbrev pub copy_story : Story Copier
+copy_story = record {
+  text = λ first visits. text_after first.order [] visits;
+  tells = Copying;
+  is_done = λ first new start now visits. ⊥;
+  refuses = StopsAt;
+}

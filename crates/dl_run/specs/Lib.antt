@@ -1,0 +1,19 @@
+-- What the public contracts say rests on these, in reading order.
+pub mod RunText
+pub mod RunOutput
+pub mod Strings
+pub mod Section
+pub mod Visiting
+pub mod SectionText
+pub mod Commands
+pub mod SectionLaws
+pub mod CopyLaws
+-- Of contracts inside the crate, and of proofs; no public contract reaches these.
+pub mod UnitPrinted
+pub mod UnitsRead
+pub mod Told
+pub mod Checking
+pub mod Dumping
+pub mod RowsTold
+pub mod Finding
+pub mod Copying

@@ -1,0 +1,71 @@
+//! The command that counts units, sequences and rows.
+
+ghost use Rattle.std.specs.Prelude.{◌≤◌, ℕ, List};
+ghost use Rattle.std.specs.Io.KnownBytes.{Consumes};
+ghost use Rattle.dl_run.specs.Commands.{Checks};
+
+use crate::fault::RunFault;
+use crate::options::{Options, SECTION_LIMIT};
+use crate::section::{Visitor, read_units};
+use dl_head::Header;
+use dl_print::{Printer, Summary};
+use dl_rows::{Flow, Row};
+use std::alloc::Global;
+use std::io::{Read, Write};
+
+/// Prints nothing.
+#[derive(Drop)]
+struct Checker;
+
+impl<W: Write> Visitor<W> for Checker {
+    ghost use Rattle.dl_run.specs.Checking.{check_story};
+
+    ghost story = { check_story };
+
+    fn header(&mut self, _output: &mut W, _offset: u64, _header: &Header) -> Result<(), RunFault> {
+        Ok(())
+    }
+
+    fn foreign(&mut self, _output: &mut W, _offset: u64, _version: u16) -> Result<(), RunFault> {
+        Ok(())
+    }
+
+    #[inline(always)]
+    fn row(&mut self, _output: &mut W, _row: &Row) -> Result<(), RunFault> {
+        Ok(())
+    }
+
+    fn unterminated(&mut self, _output: &mut W) -> Result<(), RunFault> {
+        Ok(())
+    }
+
+    fn end(&mut self, _output: &mut W, _header: Option<Header>) -> Result<Flow, RunFault> {
+        Ok(Flow::On)
+    }
+
+    fn flush(&mut self, _output: &mut W) -> Result<(), RunFault> {
+        Ok(())
+    }
+}
+
+/// Reads all units of the input, and prints one line with their counts where none is damaged.
+///
+/// Before the input's end nothing is printed. The faults are those of `RunFault`; each growth of
+/// memory is one of `Reader::feed`.
+pub fn check<R: Read, W: Write>(
+    alloc: Global,
+    input: &mut R,
+    output: &mut W,
+    options: &Options<'_>,
+) -> Result<Summary, RunFault>
+    requires { options.now.limit ≤ SECTION_LIMIT }
+    ensures { (bs : List ℕ) × Consumes (R.remaining input.old) (R.remaining input.new) bs
+        × Checks options.now.order options.now.limit bs
+        (R.remaining input.new) (W.contents output.old) (W.contents output.new) result }
+{
+    let summary = read_units(alloc, input, output, options, &mut Checker)?;
+    let mut printer = Printer::new();
+    printer.summary(output, &summary)?;
+    printer.flush(output)?;
+    Ok(summary)
+}

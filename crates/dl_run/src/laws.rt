@@ -1,0 +1,57 @@
+//! Laws of the definitions of sections, each the contract of a function that does nothing.
+
+ghost use Rattle.dl_run.specs.CopyLaws.{CopiesAreUnits};
+ghost use Rattle.dl_run.specs.SectionLaws.{OneCut, OneEnd, MoreIsTold, OneChecking, OneFound, OneFinding, OneDumping, OneDump, DumpIsFront, OneCopying, OneCopy, CopyIsFront};
+
+/// Bytes are cut into units, up to bytes that no unit begins, in one way alone. Section 6.2.4.
+pub fn one_cut()
+    ensures { OneCut }
+{}
+
+/// How a section ends is settled by its bytes and the limit, but where a read fails or memory is
+/// refused: its units, the bytes after them, and the answer.
+pub fn one_end()
+    ensures { OneEnd }
+{}
+
+/// What is told of the front of a section is the front of what is told of the section, where memory is
+/// refused in neither.
+pub fn more_is_told()
+    ensures { MoreIsTold }
+{}
+
+/// What `check` answers is settled by the bytes and the limit, but where memory, input or output is the
+/// reason.
+pub fn one_checking()
+    ensures { OneChecking }
+{}
+
+/// What `find` answers is settled by the bytes, the limit and the place, but where memory, input or
+/// output is the reason; and so are the unit that it answers from, with its header, and the row.
+pub fn one_finding()
+    ensures answer { OneFinding }
+    ensures row { OneFound }
+{}
+
+/// What `dump` answers is settled by the bytes and the limit, but where memory, input or output is the
+/// reason; and so, with the string sections, is what it writes. What a failed write leaves is a front of
+/// that text.
+pub fn one_dumping()
+    ensures answer { OneDumping }
+    ensures text { OneDump }
+    ensures front { DumpIsFront }
+{}
+
+/// What `copy` writes for units that were read is a section of as many units: each has the header of its
+/// unit, with the standard opcodes, and comes to the same rows. Sections 6.2 and 6.2.4.
+pub fn copies_are_units()
+    ensures { CopiesAreUnits }
+{}
+
+/// What `copy` answers and writes is settled by the bytes and the limit, but where memory, input or
+/// output is the reason. What a failed write leaves is a front of those bytes.
+pub fn one_copying()
+    ensures answer { OneCopying }
+    ensures text { OneCopy }
+    ensures front { CopyIsFront }
+{}

@@ -1,0 +1,26 @@
+//! The commands over a section of line tables: what they read, print and answer; and the reading of
+//! its units for further ones.
+#![tactic(auto)]
+
+mod checking;
+mod copying;
+mod dumping;
+mod fault;
+mod finding;
+mod input;
+pub mod laws;
+mod options;
+mod section;
+mod strings;
+
+pub use checking::check;
+pub use copying::copy;
+pub use dl_print::Summary;
+pub use dl_rows::Flow;
+pub use dumping::dump;
+pub use fault::RunFault;
+pub use finding::find;
+pub use input::{Input, ReadFailed};
+pub use options::{Options, SECTION_LIMIT};
+pub use section::{Visitor, read_units};
+pub use strings::read_strings;

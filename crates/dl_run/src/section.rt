@@ -1,0 +1,390 @@
+//! The units of a section, read one after the other. Section 6.2.4.
+
+ghost use Rattle.std.specs.Prelude.{◌≡◌, ◌≤◌, ◌<◌, ◌+◌, ◌^◌, ◌++◌, ◌∷◌, ◌⊎◌, [], ℕ, List, Option, length, take, IfOk, OnOk};
+ghost use Rattle.dl_num.specs.declared.fixed.Order.{Order};
+ghost use Rattle.std.specs.Io.KnownBytes.{Appends, Consumes};
+ghost use Rattle.dl_rows.specs.LineUnit.{IsUnit, ends_open, unit_rows};
+ghost use Rattle.dl_rows.specs.Progress.{taken_of};
+ghost use Rattle.dl_rows.specs.Reading.{IsPause};
+ghost use Rattle.dl_rows.specs.ReaderStands.{StandsFor};
+ghost use Rattle.dl_rows.specs.Runs.{Sound};
+ghost use Rattle.dl_print.specs.Counts.{add};
+ghost use Rattle.dl_run.specs.Section.{Visit, NoUnitBegins, event_visits, header_of, open_visit, end_visits, section_visits};
+ghost use Rattle.dl_run.specs.Told.{FeedsTold};
+ghost use Rattle.dl_run.specs.Visiting.{Hears, HearsEnd, Ran};
+ghost use Rattle.dl_run.specs.UnitsRead.{UnitsAre, UnitsFed, Worked, Finishes, counted, row_told, is_failed_write};
+
+use crate::fault::RunFault;
+use crate::input::Input;
+use crate::options::{Options, SECTION_LIMIT};
+use dl_head::{Fault, Header};
+use dl_num::Order;
+use dl_print::Summary;
+use dl_rows::{Event, Fed, Flow, Reader, Row, RowSink};
+use std::alloc::Global;
+use std::io::{Read, Write};
+use std::mem;
+
+/// What a command does at the events of the units of a section, which `read_units` tells it in the
+/// order of their bytes. Sections 6.2.2 to 6.2.5.
+///
+/// An `Err` stops the reading, and is what `read_units` answers.
+pub trait Visitor<W: Write> {
+    ghost use Rattle.std.specs.Prelude.{◌∷◌, []};
+    ghost use Rattle.dl_rows.specs.declared.sink.Flow.{Flow};
+    ghost use Rattle.dl_run.specs.Section.{of_header, of_version, of_row, of_open, of_end};
+    ghost use Rattle.dl_run.specs.Visiting.{Story, Hears, HearsEnd, Settles};
+
+    /// What is said of the visitor and of what it prints.
+    ghost story: { Story Self };
+
+    /// A unit at this offset of the section has this header.
+    fn header(&mut self, output: &mut W, offset: u64, header: &Header) -> Result<(), RunFault>
+        ensures { Hears story self.old self.new (W.contents output.old) (W.contents output.new)
+            (of_header offset header.now ∷ []) result };
+
+    /// A unit at this offset of the section is of this version, which isn't 5.
+    fn foreign(&mut self, output: &mut W, offset: u64, version: u16) -> Result<(), RunFault>
+        ensures { Hears story self.old self.new (W.contents output.old) (W.contents output.new)
+            (of_version offset version ∷ []) result };
+
+    /// The current unit has this row.
+    fn row(&mut self, output: &mut W, row: &Row) -> Result<(), RunFault>
+        ensures { Hears story self.old self.new (W.contents output.old) (W.contents output.new)
+            (of_row row.now ∷ []) result };
+
+    /// The current unit is whole, and its last row isn't an end row.
+    fn unterminated(&mut self, output: &mut W) -> Result<(), RunFault>
+        ensures { Hears story self.old self.new (W.contents output.old) (W.contents output.new)
+            (of_open ∷ []) result };
+
+    /// The current unit is whole. Of another version than 5 it has no header. It answers whether the next
+    /// unit is read.
+    fn end(&mut self, output: &mut W, header: Option<Header>) -> Result<Flow, RunFault>
+        ensures { HearsEnd story self.old self.new (W.contents output.old) (W.contents output.new)
+            (of_end header ∷ []) result };
+
+    /// All that was read is worked through: what was printed of it goes out.
+    fn flush(&mut self, output: &mut W) -> Result<(), RunFault>
+        ensures { (flow : Flow) → Settles story self.old self.new
+            (W.contents output.old) (W.contents output.new) flow result };
+}
+
+/// Tells a visitor the rows of a unit, and counts them.
+#[derive(Drop)]
+struct Told<'a, W, V> {
+    output: &'a mut W,
+    visitor: &'a mut V,
+    /// End rows and rows.
+    sequences: u64,
+    rows: u64,
+    /// Why the visitor stopped.
+    failed: Option<RunFault>,
+}
+
+impl<W: Write, V: Visitor<W>> RowSink for Told<'_, W, V> {
+    ghost use Rattle.dl_run.specs.Told.{told_story};
+
+    ghost story = { told_story V.story W.contents };
+
+    #[inline(always)]
+    fn row(&mut self, row: &Row) -> Flow {
+        self.rows = self.rows.saturating_add(1);
+        self.sequences = self.sequences.saturating_add(u64::from(row.end_sequence));
+        match self.visitor.row(self.output, row) {
+            Ok(()) => Flow::On,
+            Err(fault) => {
+                self.failed = Some(fault);
+                Flow::Stop
+            }
+        }
+    }
+}
+
+/// Where a reader is in a section.
+#[derive(Drop)]
+struct SectionUnits {
+    alloc: Global,
+    order: Order,
+    reader: Reader,
+    /// The offset of the current unit.
+    offset: u64,
+    is_foreign: bool,
+    /// End rows and rows of the current unit.
+    sequences: u64,
+    rows: u64,
+    /// What the units before it come to.
+    summary: Summary,
+}
+
+impl SectionUnits {
+    fn new(alloc: Global, order: Order) -> SectionUnits
+        ensures units { UnitsAre order result [] [] [] }
+    {
+        SectionUnits {
+            alloc,
+            order,
+            reader: Reader::new(alloc, order),
+            offset: 0,
+            is_foreign: false,
+            sequences: 0,
+            rows: 0,
+            summary: Summary {
+                units: 0,
+                skipped: 0,
+                sequences: 0,
+                rows: 0,
+            },
+        }
+    }
+
+    /// Works through a piece of the section, and through the end of a unit that is whole with it, up
+    /// to where the visitor wants nothing more.
+    fn feed<W: Write, V: Visitor<W>>(
+        &mut self,
+        output: &mut W,
+        visitor: &mut V,
+        piece: &[u8],
+    ) -> Result<Flow, RunFault>
+        ensures { (order : Order) (t : List ℕ) (units : List (List ℕ)) (b : List ℕ) (first : V) (start : Option (List ℕ))
+            → UnitsAre order self.old t units b → length t + length piece.now < 2 ^ 64
+            → V.story.tells first visitor.old start (W.contents output.old) (section_visits order units b)
+            → UnitsFed V.story order (t ++ piece.now) first visitor.new start (W.contents output.new) self.new result }
+    {
+        let mut rest = piece;
+        'events: loop {
+            let fed = match self.feed_rows(output, visitor, rest)? {
+                Ok(fed) => fed,
+                Err(fault) => return Err(self.damage(fault)),
+            };
+            rest = &rest[fed.used..];
+            match fed.event {
+                Event::More if fed.used == 0 => return Ok(Flow::On),
+                Event::More => {}
+                Event::NoMemory => return Err(RunFault::NoMemory),
+                Event::End => match self.end(output, visitor)? {
+                    Flow::On => {}
+                    Flow::Stop => return Ok(Flow::Stop),
+                },
+                event => self.tell(output, visitor, event)?,
+            }
+        }
+    }
+
+    /// Feeds the reader, and tells the visitor the rows that come before its answer, and that of its
+    /// answer. `Err` where the visitor stopped.
+    fn feed_rows<W: Write, V: Visitor<W>>(
+        &mut self,
+        output: &mut W,
+        visitor: &mut V,
+        piece: &[u8],
+    ) -> Result<Result<Fed, Fault>, RunFault>
+        ensures used { IfOk result (λ fed. IfOk fed (λ f. f.used ≤ length piece.now)) }
+        ensures progress { IfOk result (λ fed. IfOk fed (λ f. IsPause f.event ⊎ (1 ≤ f.used))) }
+        ensures end { IfOk result (λ fed. IfOk fed (λ f. f.event ≡ Event.End → 1 ≤ taken_of self.old.reader + f.used)) }
+        ensures told { (b : List ℕ) → StandsFor self.old.reader b
+            → FeedsTold V.story b piece.now self.old self.new visitor.old visitor.new (W.contents output.old) (W.contents output.new) result }
+    {
+        let mut told = Told {
+            output,
+            visitor,
+            sequences: self.sequences,
+            rows: self.rows,
+            failed: None,
+        };
+        let fed = self.reader.feed_rows(piece, &mut told);
+        let Told {
+            output: _,
+            visitor: _,
+            sequences,
+            rows,
+            failed,
+        } = told;
+        self.sequences = sequences;
+        self.rows = rows;
+        match failed {
+            Some(fault) => Err(fault),
+            None => Ok(fed),
+        }
+    }
+
+    /// Tells the visitor what came of the current unit, but for a row.
+    #[inline]
+    fn tell<W: Write, V: Visitor<W>>(
+        &mut self,
+        output: &mut W,
+        visitor: &mut V,
+        event: Event,
+    ) -> Result<(), RunFault>
+        ensures counted { self.new ≡ counted event self.old }
+        ensures heard { (b : List ℕ) → row_told event ≡ [] → StandsFor self.old.reader b
+            → Hears V.story visitor.old visitor.new (W.contents output.old) (W.contents output.new)
+            (event_visits self.old.offset (header_of self.old.reader.order b) event) result }
+    {
+        match event {
+            Event::Header => match self.reader.header() {
+                Some(header) => visitor.header(output, self.offset, header),
+                None => Ok(()),
+            },
+            Event::Foreign(version) => {
+                self.is_foreign = true;
+                visitor.foreign(output, self.offset, version)
+            }
+            Event::More | Event::NoMemory | Event::End | Event::Row(_) => Ok(()),
+        }
+    }
+
+    /// Tells the visitor that the current unit is whole, and goes on after it.
+    fn end<W: Write, V: Visitor<W>>(
+        &mut self,
+        output: &mut W,
+        visitor: &mut V,
+    ) -> Result<Flow, RunFault>
+        ensures taken { OnOk result (taken_of self.new.reader ≡ 0) }
+        ensures units { (order : Order) (t : List ℕ) (units : List (List ℕ)) (b : List ℕ) → UnitsAre order self.old t units b
+            → IsUnit order b → length t < 2 ^ 64 → OnOk result (UnitsAre order self.new t (units ++ b ∷ []) []) }
+        ensures heard { (b : List ℕ) → StandsFor self.old.reader b
+            → HearsEnd V.story visitor.old visitor.new (W.contents output.old) (W.contents output.new)
+            (end_visits self.old.reader.order b) result }
+    {
+        self.close(output, visitor)?;
+        visitor.end(output, self.next_unit())
+    }
+
+    /// Tells the visitor where the last row of the current unit isn't an end row.
+    fn close<W: Write, V: Visitor<W>>(
+        &self,
+        output: &mut W,
+        visitor: &mut V,
+    ) -> Result<(), RunFault>
+        ensures { (b : List ℕ) → StandsFor self.now.reader b
+            → Hears V.story visitor.old visitor.new (W.contents output.old) (W.contents output.new)
+            (open_visit (ends_open (unit_rows self.now.reader.order b))) result }
+    {
+        if self.reader.in_sequence() {
+            visitor.unterminated(output)
+        } else {
+            Ok(())
+        }
+    }
+
+    /// Goes on after the current unit, which is whole, and answers its header.
+    fn next_unit(&mut self) -> Option<Header>
+        ensures taken { taken_of self.new.reader ≡ 0 }
+        ensures header { (b : List ℕ) → StandsFor self.old.reader b → result ≡ header_of self.old.reader.order b }
+        ensures units { (order : Order) (t : List ℕ) (units : List (List ℕ)) (b : List ℕ) → UnitsAre order self.old t units b
+            → IsUnit order b → length t < 2 ^ 64 → UnitsAre order self.new t (units ++ b ∷ []) [] }
+    {
+        let reader = mem::replace(&mut self.reader, Reader::new(self.alloc, self.order));
+        self.offset = self.offset.saturating_add(reader.taken());
+        self.summary
+            .add_unit(self.is_foreign, self.sequences, self.rows);
+        self.is_foreign = false;
+        self.sequences = 0;
+        self.rows = 0;
+        reader.into_header()
+    }
+
+    /// What the section comes to where its bytes are over.
+    fn finish(&self) -> Result<Summary, RunFault>
+        ensures { (order : Order) (t : List ℕ) (units : List (List ℕ)) (b : List ℕ) → UnitsAre order self.now t units b
+            → NoUnitBegins order b → Sound order b → length t < 2 ^ 64 → Finishes order t units b result }
+    {
+        match self.reader.finish() {
+            Ok(_) => Ok(self.summary),
+            Err(fault) => Err(self.damage(fault)),
+        }
+    }
+
+    /// The fault of the current unit, by its offset in the section.
+    fn damage(&self, fault: Fault) -> RunFault
+        ensures { result ≡ RunFault.Damage (add self.now.offset fault.offset) fault.kind }
+    {
+        RunFault::Damage {
+            offset: self.offset.saturating_add(fault.offset),
+            kind: fault.kind,
+        }
+    }
+}
+
+/// Reads the units of the input to its end, or to where the visitor wants nothing more, and tells the
+/// visitor of each event.
+///
+/// The first fault in the order of the bytes is answered, be it the section's or the visitor's; before
+/// it the visitor was told of all that the bytes before the fault give. `SectionTooLong` where the
+/// section goes past the limit, `Read` where the reader fails, `NoMemory` where a growth of
+/// `Reader::feed` is refused. The counts are those of the units that were read whole.
+pub fn read_units<R: Read, W: Write, V: Visitor<W>>(
+    alloc: Global,
+    input: &mut R,
+    output: &mut W,
+    options: &Options<'_>,
+    visitor: &mut V,
+) -> Result<Summary, RunFault>
+    requires { options.now.limit ≤ SECTION_LIMIT }
+    ensures { (bs : List ℕ) × Consumes (R.remaining input.old) (R.remaining input.new) bs
+        × (V.story.tells visitor.old visitor.old (W.contents output.old) (W.contents output.old) []
+        → Appends (W.contents output.old) (W.contents output.old) (V.story.text visitor.old [])
+        → Ran V.story options.now.order options.now.limit bs (R.remaining input.new) visitor.old visitor.new
+        (W.contents output.old) (W.contents output.new) result) }
+{
+    let mut buffer = Input::new();
+    let mut units = SectionUnits::new(alloc, options.order);
+    let mut left = options.limit;
+    'pieces: loop {
+        let Ok(piece) = buffer.next_piece(input) else {
+            return Err(RunFault::Read);
+        };
+        if piece.is_empty() {
+            return units.finish();
+        }
+        let within = front(piece, left);
+        match work_through(&mut units, output, visitor, within)? {
+            Flow::On => {}
+            Flow::Stop => return Ok(units.summary),
+        }
+        if within.len() < piece.len() {
+            return Err(RunFault::SectionTooLong);
+        }
+        left -= piece.len() as u64;
+    }
+}
+
+/// Works through a piece and settles what came of it, also where the piece is refused.
+fn work_through<W: Write, V: Visitor<W>>(
+    units: &mut SectionUnits,
+    output: &mut W,
+    visitor: &mut V,
+    piece: &[u8],
+) -> Result<Flow, RunFault>
+    ensures { (order : Order) (t : List ℕ) (done : List (List ℕ)) (b : List ℕ) (first : V) (start : Option (List ℕ))
+        → UnitsAre order units.old t done b → length t + length piece.now < 2 ^ 64
+        → V.story.tells first visitor.old start (W.contents output.old) (section_visits order done b)
+        → Worked V.story order (t ++ piece.now) first visitor.new start (W.contents output.new) units.new result }
+{
+    let answer = units.feed(output, visitor, piece);
+    if !is_failed_write(&answer) {
+        visitor.flush(output)?;
+    }
+    answer
+}
+
+/// Whether a write failed, after which nothing more is written.
+fn is_failed_write(answer: &Result<Flow, RunFault>) -> bool
+    ensures { result ≡ is_failed_write answer.now }
+{
+    matches!(answer, Err(RunFault::Write { .. }))
+}
+
+/// The first bytes of the piece, `most` of them or all.
+fn front<'a>(piece: &'a [u8], most: u64) -> &'a [u8]
+    ensures short { length result.now ≤ most }
+    ensures whole { length piece.entry.now ≤ length result.now → length piece.entry.now ≤ most }
+    ensures front { result.now ≡ take most piece.entry.now }
+{
+    if most < piece.len() as u64 {
+        &piece[..most as usize]
+    } else {
+        piece
+    }
+}

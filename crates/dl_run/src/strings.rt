@@ -1,0 +1,37 @@
+//! A string section, read whole.
+ghost use Rattle.std.specs.Prelude.{◌≡◌, ◌≤◌, ℕ, List, length, MatchResult};
+ghost use Rattle.std.specs.Io.KnownBytes.{Consumes, IsAtEnd};
+ghost use Rattle.dl_run.specs.Strings.{StopsReading};
+
+use crate::fault::RunFault;
+use crate::input::Input;
+use std::alloc::Global;
+use std::io::Read;
+
+/// All bytes of a string section, of which there may be `limit`.
+///
+/// `SectionTooLong` where there are more, `Read` where the reader fails, `NoMemory` where a growth
+/// is refused.
+pub fn read_strings<R: Read>(alloc: Global, input: &mut R, limit: u64) -> Result<Vec<u8>, RunFault>
+    ensures { (bs : List ℕ) × Consumes (R.remaining input.old) (R.remaining input.new) bs
+        × MatchResult result
+        (λ bytes. (bytes.items ≡ bs) × (length bs ≤ limit) × IsAtEnd (R.remaining input.new))
+        (StopsReading limit bs) }
+{
+    let mut bytes = Vec::new(alloc);
+    let mut buffer = Input::new();
+    loop {
+        let Ok(piece) = buffer.next_piece(input) else {
+            return Err(RunFault::Read);
+        };
+        if piece.is_empty() {
+            return Ok(bytes);
+        }
+        if limit - (bytes.len() as u64) < piece.len() as u64 {
+            return Err(RunFault::SectionTooLong);
+        }
+        if bytes.extend_from_slice(piece).is_err() {
+            return Err(RunFault::NoMemory);
+        }
+    }
+}

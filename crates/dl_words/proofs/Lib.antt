@@ -1,6 +1,0 @@
-pub mod CommandLineLemmas
-pub mod AddressLemmas
-pub mod LineTexts
-pub mod LineCuts
-pub mod LineLemmas
-pub mod WorkedLines

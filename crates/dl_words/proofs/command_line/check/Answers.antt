@@ -1,6 +1,0 @@
-use Rattle.std.proofs.Common.{codes, rules}
-use Rattle.clap.specs.Words.{new_app}
-use Rattle.dl_words.proofs.command_line.check.Goals as goal
-
-pub returns : goal.returns
-returns c = c.add_input.ensures (new_app (codes "check")) (search rules)

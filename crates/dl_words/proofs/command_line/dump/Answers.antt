@@ -1,6 +1,0 @@
-use Rattle.std.proofs.Common.{codes, rules}
-use Rattle.clap.specs.Words.{new_app}
-use Rattle.dl_words.proofs.command_line.dump.Goals as goal
-
-pub returns : goal.returns
-returns c = c.add_strings.ensures (new_app (codes "dump")) (search rules)

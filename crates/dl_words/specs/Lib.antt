@@ -1,9 +1,0 @@
--- What the public contracts say rests on these, in reading order.
-pub mod CommandLine
-pub mod Job
-pub mod Words
-pub mod Address
-pub mod AskedLines
--- Of contracts inside the crate, and of proofs; no public contract reaches these.
-pub mod Line
-pub mod LinesRead

@@ -1,9 +1,0 @@
-//! Words, and the addresses that words and lines say, through public calls alone.
-#![tactic(auto)]
-
-#[cfg(test)]
-mod addresses;
-#[cfg(test)]
-mod lines;
-#[cfg(test)]
-mod words;
