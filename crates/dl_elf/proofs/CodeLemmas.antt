@@ -4,7 +4,8 @@ use Rattle.dl_elf.specs.declared.file.Elf.{Elf}
 use Rattle.dl_elf.specs.declared.code.ExecutableRange.{ExecutableRange}
 use Rattle.dl_elf.specs.Code.{and_range, executable_range_at, executable_ranges, ranges_upto}
 
-ranges_more : (e : Elf) (f : List ℕ) (n : ℕ) (ranges : List ExecutableRange) (range : Option ExecutableRange) → 1 ≤ n → ranges ≡ ranges_upto e f (n - 1)
+ranges_more : (e : Elf) (f : List ℕ) (n : ℕ) (ranges : List ExecutableRange) (range : Option ExecutableRange) → 1 ≤ n
+    → ranges ≡ ranges_upto e f (n - 1)
     → range ≡ executable_range_at e f n → and_range ranges range ≡ ranges_upto e f (n + 1 - 1)
 ranges_more e f n ranges range from is told =
     let back : n ≡ suc (n - 1) = omega (arith, from) in
@@ -12,14 +13,18 @@ ranges_more e f n ranges range from is told =
     ap (λ r. and_range r range) is ∙ (ap (λ r. and_range (ranges_upto e f (n - 1)) r) told
     ∙ (ap (λ i. and_range (ranges_upto e f (n - 1)) (executable_range_at e f i)) back ∙ ap (λ i. ranges_upto e f i) on))
 
-pub ranges_pushed : (e : Elf) (f : List ℕ) (n : ℕ) (ranges : List ExecutableRange) (range : ExecutableRange) → 1 ≤ n → ranges ≡ ranges_upto e f (n - 1)
+pub ranges_pushed : (e : Elf) (f : List ℕ) (n : ℕ) (ranges : List ExecutableRange) (range : ExecutableRange) → 1 ≤ n
+    → ranges ≡ ranges_upto e f (n - 1)
     → Some range ≡ executable_range_at e f n → ranges ++ range ∷ [] ≡ ranges_upto e f (n + 1 - 1)
 ranges_pushed e f n ranges range = ranges_more e f n ranges (Some range)
 
-pub ranges_same : (e : Elf) (f : List ℕ) (n : ℕ) (ranges : List ExecutableRange) → 1 ≤ n → ranges ≡ ranges_upto e f (n - 1)
+pub ranges_same : (e : Elf) (f : List ℕ) (n : ℕ) (ranges : List ExecutableRange) → 1 ≤ n
+    → ranges ≡ ranges_upto e f (n - 1)
     → None ≡ executable_range_at e f n → ranges ≡ ranges_upto e f (n + 1 - 1)
 ranges_same e f n ranges = ranges_more e f n ranges None
 
-pub ranges_whole : (e : Elf) (f : List ℕ) (n : ℕ) (ranges : List ExecutableRange) → n - 1 ≤ e.count - 1 → e.count ≤ n → ranges ≡ ranges_upto e f (n - 1)
+pub ranges_whole : (e : Elf) (f : List ℕ) (n : ℕ) (ranges : List ExecutableRange) → n - 1 ≤ e.count - 1 → e.count ≤ n
+    → ranges ≡ ranges_upto e f (n - 1)
     → ranges ≡ executable_ranges e f
-ranges_whole e f n ranges within past is = let end : n - 1 ≡ e.count - 1 = omega (arith, within, past) in is ∙ ap (λ i. ranges_upto e f i) end
+ranges_whole e f n ranges within past is =
+    let end : n - 1 ≡ e.count - 1 = omega (arith, within, past) in is ∙ ap (λ i. ranges_upto e f i) end

@@ -1,5 +1,6 @@
 -- Section headers in known bytes.
-use Rattle.std.proofs.Common.{nat_eq, eq-eqb, inl, inr, ◌≡◌, ℕ, ◌+◌, ◌<◌, ◌≤◌, ◌^◌, List, length, take, drop, Option, Some, None, refl, sym, ap, ◌∙◌, arith, Bool, true, false, length-take, length-drop}
+use Rattle.std.proofs.Common.{nat_eq, eq-eqb, inl, inr, ◌≡◌, ℕ, ◌+◌, ◌<◌, ◌≤◌, ◌^◌, List, length, take, drop, Option}
+use Rattle.std.proofs.Common.{Some, None, refl, sym, ap, ◌∙◌, arith, Bool, true, false, length-take, length-drop}
 use Rattle.std.proofs.lemmas.Grind.{common_steps}
 use Rattle.std.proofs.lemmas.List.{length-take-le, take_all}
 use Rattle.std.proofs.lemmas.Bool.{leb-false, ne_eqb, leb-true, le-leb, lt-leb, cases_lt, false≢true}
@@ -23,17 +24,22 @@ whole_fill at n buffer f w h o e =
     let is : n ≡ length (take (length buffer) (drop at f)) = sym (length-take-le n buffer w) ∙ ap length e in
     omega (arith, is, h, length-take (length buffer) (drop at f), length-drop at f)
 
-pub section_outside : (h : FileHeader) (f : List ℕ) (i : ℕ) → length f < header_place h i + section_header_size h.class → section_in h f i ≡ None
+pub section_outside : (h : FileHeader) (f : List ℕ) (i : ℕ) → length f < header_place h i + section_header_size h.class
+    → section_in h f i ≡ None
 section_outside h f i l = grind (arith, common_steps, l)
 
-pub section_inside : (h : FileHeader) (f : List ℕ) (i : ℕ) → header_place h i + section_header_size h.class ≤ length f → section_in h f i ≡ Some (section_header h f i)
+pub section_inside : (h : FileHeader) (f : List ℕ) (i : ℕ) → header_place h i + section_header_size h.class ≤ length f
+    → section_in h f i ≡ Some (section_header h f i)
 section_inside h f i l = grind (arith, common_steps, l)
 
-pub section_read : (known : Option (List ℕ)) (h : FileHeader) (i at : ℕ) (buffer : List ℕ) → at ≡ header_place h i → length buffer ≡ section_header_size h.class
-    → FilledFrom known at true buffer → ForBytes known (λ f. Some (section_fields h.class h.order buffer) ≡ section_in h f i)
+pub section_read : (known : Option (List ℕ)) (h : FileHeader) (i at : ℕ) (buffer : List ℕ) → at ≡ header_place h i
+    → length buffer ≡ section_header_size h.class
+    → FilledFrom known at true buffer
+    → ForBytes known (λ f. Some (section_fields h.class h.order buffer) ≡ section_in h f i)
 section_read known h i at buffer a s e = λ f is l.
     let told = e f is l in
-    let inside : header_place h i + section_header_size h.class ≤ length f = rw (← a, ← s) (leb-true (at + length buffer) (length f) (sym told.0)) in
+    let inside : header_place h i + section_header_size h.class ≤ length f =
+    rw (← a, ← s) (leb-true (at + length buffer) (length f) (sym told.0)) in
     let bytes : buffer ≡ take (section_header_size h.class) (drop (header_place h i) f) = rw (← a, ← s) (told.1 refl) in
     ap (λ b. Some (section_fields h.class h.order b)) bytes ∙ sym (section_inside h f i inside)
 

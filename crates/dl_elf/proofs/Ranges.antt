@@ -1,5 +1,6 @@
 -- Ranges of known bytes: what is read of one, and what is left of it.
-use Rattle.std.proofs.Common.{◌≡◌, ℕ, ◌+◌, ◌-◌, ◌<◌, ◌≤◌, List, ◌++◌, length, take, drop, Option, Some, None, refl, sym, ap, ◌∙◌, arith, IfSome}
+use Rattle.std.proofs.Common.{◌≡◌, ℕ, ◌+◌, ◌-◌, ◌<◌, ◌≤◌, List, ◌++◌, length, take, drop, Option, Some, None, refl, sym}
+use Rattle.std.proofs.Common.{ap, ◌∙◌, arith, IfSome}
 use Rattle.std.proofs.lemmas.List.{take-append-le, drop-drop, length-take-le}
 use Rattle.std.proofs.Math.Seq.{take-add, take-append-add}
 use borrow.Rule.Slice.PartMut.{put_mid, post_of}
@@ -14,7 +15,8 @@ pub range_consumed : (known : Option (List ℕ)) (offset left n : ℕ) (buffer r
 range_consumed None offset left n buffer rest h w e = tt
 range_consumed (Some f) offset left n buffer rest h w e =
     let split : n + (left - n) ≡ left = omega arith in
-    let two : take left (drop offset f) ≡ take n (drop offset f) ++ take (left - n) (drop n (drop offset f)) = ap (λ k. take k (drop offset f)) (sym split) ∙ take-add n (left - n) (drop offset f) in
+    let two : take left (drop offset f) ≡ take n (drop offset f) ++ take (left - n) (drop n (drop offset f)) =
+    ap (λ k. take k (drop offset f)) (sym split) ∙ take-add n (left - n) (drop offset f) in
     let front : take n (buffer ++ rest) ≡ take n (drop offset f) = take-append-le n buffer rest w ∙ e.0 in
     rw (front, two, drop-drop n offset f) refl
 
@@ -24,16 +26,21 @@ pub fill_more : (offset filled n : ℕ) (f buffer part : List ℕ) → filled �
     → take (filled + n) (put_mid filled (length buffer - filled) buffer part) ≡ take (filled + n) (drop offset f)
 fill_more offset filled n f buffer part l w e e' =
     let behind : List ℕ = post_of filled (length buffer - filled) buffer in
-    let put : take (filled + n) (take filled buffer ++ (part ++ behind)) ≡ take filled buffer ++ take n (part ++ behind) =
-    ap (λ k. take (k + n) (take filled buffer ++ (part ++ behind))) (sym (length-take-le filled buffer l)) ∙ take-append-add (take filled buffer) (part ++ behind) n in
+    let put : take (filled + n) (take filled buffer ++ (part ++ behind)) ≡ take filled buffer
+    ++ take n (part ++ behind) =
+    ap (λ k. take (k + n) (take filled buffer ++ (part ++ behind))) (sym (length-take-le filled buffer l))
+    ∙ take-append-add (take filled buffer) (part ++ behind) n in
     let bytes : take (filled + n) (drop offset f) ≡ take filled (drop offset f) ++ take n (drop (offset + filled) f) =
-    take-add filled n (drop offset f) ∙ ap (λ ys. take filled (drop offset f) ++ take n ys) (drop-drop filled offset f) in
+    take-add filled n (drop offset f)
+    ∙ ap (λ ys. take filled (drop offset f) ++ take n ys) (drop-drop filled offset f) in
     put ∙ rw (take-append-le n part behind w, e, e') (sym bytes)
 
-pub fill_more_known : (known : Option (List ℕ)) (offset at filled n : ℕ) (buffer part : List ℕ) → filled ≤ length buffer → n ≤ length part → at ≡ offset + filled
+pub fill_more_known : (known : Option (List ℕ)) (offset at filled n : ℕ) (buffer part : List ℕ) → filled ≤ length buffer
+    → n ≤ length part → at ≡ offset + filled
     → ForBytes known (λ f. take filled buffer ≡ take filled (drop offset f))
     → IfSome known (λ f. (take n part ≡ take n (drop at f)) × (n ≡ 0 → 0 < length part → length f ≤ at))
-    → ForBytes known (λ f. take (filled + n) (put_mid filled (length buffer - filled) buffer part) ≡ take (filled + n) (drop offset f))
+    → ForBytes known (λ f. take (filled + n) (put_mid filled (length buffer - filled) buffer part)
+    ≡ take (filled + n) (drop offset f))
 fill_more_known known offset at filled n buffer part l w a e e' = λ f is short.
     let told = rw is at e' in
     fill_more offset filled n f buffer part l w (e f is short) (told.0 ∙ ap (λ k. take n (drop k f)) a)

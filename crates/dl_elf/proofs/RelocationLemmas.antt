@@ -23,6 +23,7 @@ none_relocates_more e f number n b none told is = λ k from below. elim (cases_l
       subst P same (holds_if_false (RelocatesAt e f number n) (¬ RelocatesAt e f number n) b told is))
 ]
 
-pub no_relocations : (e : Elf) (f : List ℕ) (number n : ℕ) → e.count ≤ n → NoneRelocates e f number n → ¬ HasRelocations e f number
+pub no_relocations : (e : Elf) (f : List ℕ) (number n : ℕ) → e.count ≤ n → NoneRelocates e f number n
+    → ¬ HasRelocations e f number
 no_relocations e f number n past none = λ has.
     let within = has.within in none has.at has.from (omega (arith, within, past)) has.relocates

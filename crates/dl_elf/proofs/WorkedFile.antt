@@ -17,7 +17,8 @@ abbrev pub worked_file : List ℕ
 worked_file =
     127 ∷ 69 ∷ 76 ∷ 70 ∷ 1 ∷ 2 ∷ 1 ∷ 0 ∷ 0 ∷ 0 ∷ 0 ∷ 0 ∷ 0 ∷ 0 ∷ 0 ∷ 0 ∷ 0 ∷ 1 ∷ 0 ∷ 20 ∷ 0 ∷ 0 ∷ 0 ∷ 1 ∷ 0 ∷ 0 ∷
     0 ∷ 0 ∷ 0 ∷ 0 ∷ 0 ∷ 0 ∷ 0 ∷ 0 ∷ 0 ∷ 82 ∷ 0 ∷ 0 ∷ 0 ∷ 0 ∷ 0 ∷ 52 ∷ 0 ∷ 0 ∷ 0 ∷ 0 ∷ 0 ∷ 40 ∷ 0 ∷ 5 ∷ 0 ∷ 4 ∷
-    1 ∷ 2 ∷ 3 ∷ 4 ∷ 5 ∷ 122 ∷ 122 ∷ 0 ∷ 46 ∷ 100 ∷ 101 ∷ 98 ∷ 117 ∷ 103 ∷ 95 ∷ 108 ∷ 105 ∷ 110 ∷ 101 ∷ 0 ∷ 46 ∷ 115 ∷ 104 ∷ 115 ∷ 116 ∷ 114 ∷
+    1 ∷ 2 ∷ 3 ∷ 4 ∷ 5 ∷ 122 ∷ 122 ∷ 0 ∷ 46 ∷ 100 ∷ 101 ∷ 98 ∷ 117 ∷ 103 ∷ 95 ∷ 108 ∷ 105 ∷ 110 ∷ 101 ∷ 0 ∷ 46 ∷ 115
+    ∷ 104 ∷ 115 ∷ 116 ∷ 114 ∷
     116 ∷ 97 ∷ 98 ∷ 0 ∷ 0 ∷ 0 ∷ 0 ∷ 0 ∷ 0 ∷ 0 ∷ 0 ∷ 0 ∷ 0 ∷ 0 ∷ 0 ∷ 0 ∷ 0 ∷ 0 ∷ 0 ∷ 0 ∷ 0 ∷ 0 ∷ 0 ∷ 0 ∷ 0 ∷ 0 ∷
     0 ∷ 0 ∷ 0 ∷ 0 ∷ 0 ∷ 0 ∷ 0 ∷ 0 ∷ 0 ∷ 0 ∷ 0 ∷ 0 ∷ 0 ∷ 1 ∷ 0 ∷ 0 ∷ 0 ∷ 0 ∷ 0 ∷ 0 ∷ 0 ∷ 1 ∷ 0 ∷ 0 ∷ 0 ∷ 8 ∷
     0 ∷ 0 ∷ 0 ∷ 0 ∷ 0 ∷ 0 ∷ 0 ∷ 0 ∷ 0 ∷ 0 ∷ 0 ∷ 52 ∷ 0 ∷ 0 ∷ 0 ∷ 2 ∷ 0 ∷ 0 ∷ 0 ∷ 0 ∷ 0 ∷ 0 ∷ 0 ∷ 0 ∷ 0 ∷ 0 ∷
@@ -28,10 +29,21 @@ worked_file =
     0 ∷ 59 ∷ 0 ∷ 0 ∷ 0 ∷ 23 ∷ 0 ∷ 0 ∷ 0 ∷ 0 ∷ 0 ∷ 0 ∷ 0 ∷ 0 ∷ 0 ∷ 0 ∷ 0 ∷ 1 ∷ 0 ∷ 0 ∷ 0 ∷ 0 ∷ []
 
 abbrev pub worked_header : FileHeader
-worked_header = record { class = Bits32; order = Big; file_type = 1; table_offset = 82; entry_size = 40; entry_count = 5; names_number = 4 }
+worked_header =
+    record {
+      class = Bits32;
+      order = Big;
+      file_type = 1;
+      table_offset = 82;
+      entry_size = 40;
+      entry_count =
+          5;
+      names_number = 4;
+    }
 
 abbrev pub worked_section : SectionHeader
-worked_section = record { name_offset = 1; section_type = 1; flags = 0; address = 0; offset = 52; size = 5; link = 0; info = 0 }
+worked_section =
+    record { name_offset = 1; section_type = 1; flags = 0; address = 0; offset = 52; size = 5; link = 0; info = 0 }
 
 abbrev pub worked_elf : Elf
 worked_elf = record { header = worked_header; count = 5; names = record { offset = 59; size = 23 } }

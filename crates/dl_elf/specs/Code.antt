@@ -1,5 +1,6 @@
 -- Where a file has code. f: the bytes of a file; e: the file as it is opened.
-use Rattle.std.specs.Prelude.{◌≡◌, ℕ, zero, suc, ◌-◌, ◌<◌, ◌≤◌, if◌then◌else◌, List, [], ◌∷◌, ◌++◌, Option, Some, None, option_and_then, Result, Ok, Err}
+use Rattle.std.specs.Prelude.{◌≡◌, ℕ, zero, suc, ◌-◌, ◌<◌, ◌≤◌, if◌then◌else◌, List, [], ◌∷◌, ◌++◌, Option, Some, None}
+use Rattle.std.specs.Prelude.{option_and_then, Result, Ok, Err}
 use Rattle.std.specs.declared.io.Error.{Error}
 use Rattle.dl_elf.specs.declared.section.SectionHeader.{SectionHeader}
 use Rattle.dl_elf.specs.declared.file.Elf.{Elf}
@@ -48,7 +49,8 @@ StopsRanges e f other = ⊥
 
 -- what find_code answers for a file with these bytes
 abbrev pub IsCode : List ℕ → Result Code CodeFault → Type 0
-IsCode f (Ok code) = (e : Elf) × (opened f ≡ Ok e) × (code.is_linked ≡ is_linked e.header) × (code.ranges.items ≡ executable_ranges e f)
+IsCode f (Ok code) =
+    (e : Elf) × (opened f ≡ Ok e) × (code.is_linked ≡ is_linked e.header) × (code.ranges.items ≡ executable_ranges e f)
 IsCode f (Err NoMemory) = (e : Elf) × (opened f ≡ Ok e) × HasCode e f
 IsCode f (Err (Refused (fault.Read error))) = Unit {0}
 IsCode f (Err (Refused other)) = opened f ≡ Err other

@@ -1,5 +1,6 @@
 -- ELF files: the file header and the section headers, in either class and order. System V ABI, chapter 4. f: the bytes of a file.
-use Rattle.std.specs.Prelude.{◌≡◌, ◌⊎◌, ℕ, Bool, ◌&&◌, ◌||◌, not, ◌==◌, nat_le, bit_and, if◌then◌else◌, List, length, take, drop, slice_index, Option, Some, None, option_and_then}
+use Rattle.std.specs.Prelude.{◌≡◌, ◌⊎◌, ℕ, Bool, ◌&&◌, ◌||◌, not, ◌==◌, nat_le, bit_and, if◌then◌else◌, List, length}
+use Rattle.std.specs.Prelude.{take, drop, slice_index, Option, Some, None, option_and_then}
 use Rattle.dl_num.specs.declared.fixed.Order.{Order}
 use Rattle.dl_num.specs.declared.fixed.Order.TheVariants.{Little, Big}
 use Rattle.dl_num.specs.Fixed.{fixed}
@@ -20,7 +21,9 @@ number_at order at size b = fixed order (bytes_at at size b)
 
 -- e_ident begins with the magic number, and EI_VERSION is EV_CURRENT
 abbrev pub is_magic : List ℕ → Bool
-is_magic f = (slice_index f 0 == 0x7f) && (slice_index f 1 == 0x45) && (slice_index f 2 == 0x4c) && (slice_index f 3 == 0x46) && (slice_index f 6 == 1)
+is_magic f =
+    (slice_index f 0 == 0x7f) && (slice_index f 1 == 0x45) && (slice_index f 2 == 0x4c) && (slice_index f 3 == 0x46)
+    && (slice_index f 6 == 1)
 
 -- EI_CLASS, byte 4
 abbrev pub class_of : ℕ → Option Class
@@ -63,7 +66,8 @@ whole_header f order class = if nat_le (header_size class) (length f) then Some 
 -- the header that f begins with
 abbrev pub header_in : List ℕ → Option FileHeader
 header_in f = if is_magic f
-    then option_and_then (λ class. option_and_then (λ order. whole_header f order class) (order_of (slice_index f 5))) (class_of (slice_index f 4))
+    then option_and_then (λ class. option_and_then (λ order. whole_header f order class) (order_of (slice_index f 5)))
+    (class_of (slice_index f 4))
     else None
 
 -- the header of an ELF file, which stands in its first 64 bytes; None where f is none

@@ -4,9 +4,11 @@ use Rattle.std.specs.List.{flat_map}
 use Rattle.std.specs.Char.{digit_char}
 use Rattle.std.specs.Fmt.{decimal}
 use Rattle.dl_elf.specs.declared.fault.ElfFault.{ElfFault}
-use Rattle.dl_elf.specs.declared.fault.ElfFault.TheVariants.{Read, NotElf, Damaged, NoLineSection, Compressed, Relocations}
+use Rattle.dl_elf.specs.declared.fault.ElfFault.TheVariants.{Read, NotElf, Damaged, NoLineSection, Compressed}
+use Rattle.dl_elf.specs.declared.fault.ElfFault.TheVariants.{Relocations}
 use Rattle.dl_elf.specs.declared.fault.Part.{Part}
-use Rattle.dl_elf.specs.declared.fault.Part.TheVariants.{SectionHeaderSize, SectionHeaders, NameTable, Section, CompressionHeader}
+use Rattle.dl_elf.specs.declared.fault.Part.TheVariants.{SectionHeaderSize, SectionHeaders, NameTable, Section}
+use Rattle.dl_elf.specs.declared.fault.Part.TheVariants.{CompressionHeader}
 use Rattle.dl_elf.specs.declared.compression.Compression.{Compression}
 use Rattle.dl_elf.specs.declared.compression.Compression.TheVariants.{Zlib, Zstd, Other}
 use Rattle.dl_elf.specs.declared.build_id.BuildId.{BuildId}
@@ -40,6 +42,9 @@ fault_text (Read error) = None
 fault_text NotElf = Some (codes "not an ELF file")
 fault_text (Damaged part) = Some (codes "damaged ELF file: " ++ part_text part)
 fault_text (NoLineSection None) = Some (codes "no section .debug_line")
-fault_text (NoLineSection (Some id)) = Some (codes "no section .debug_line (its debug information may be in " ++ build_id_text id ++ codes ")")
-fault_text (Compressed name method) = Some (codes "section " ++ name_bytes name ++ codes " is compressed " ++ compression_text method ++ codes "; run objcopy --decompress-debug-sections")
+fault_text (NoLineSection (Some id)) =
+    Some (codes "no section .debug_line (its debug information may be in " ++ build_id_text id ++ codes ")")
+fault_text (Compressed name method) =
+    Some (codes "section " ++ name_bytes name ++ codes " is compressed " ++ compression_text method
+    ++ codes "; run objcopy --decompress-debug-sections")
 fault_text Relocations = Some (codes "an object file with relocations isn't read yet")

@@ -3,7 +3,9 @@ use Rattle.std.specs.Prelude.{◌≡◌, ◌≢◌, ℕ, ◌+◌, ◌<◌, ◌�
 use Rattle.dl_elf.specs.declared.section.SectionHeader.{SectionHeader}
 use Rattle.dl_elf.specs.declared.file.Elf.{Elf}
 use Rattle.dl_elf.specs.declared.name.SectionName.{SectionName}
-use Rattle.dl_elf.specs.declared.name.SectionName.TheVariants.{DebugLine, ZdebugLine, DebugLineDwo, DebugLineStr, ZdebugLineStr, DebugLineStrDwo, DebugStr, ZdebugStr, DebugStrDwo, BuildIdNote}
+use Rattle.dl_elf.specs.declared.name.SectionName.TheVariants.{DebugLine, ZdebugLine, DebugLineDwo, DebugLineStr}
+use Rattle.dl_elf.specs.declared.name.SectionName.TheVariants.{ZdebugLineStr, DebugLineStrDwo, DebugStr, ZdebugStr}
+use Rattle.dl_elf.specs.declared.name.SectionName.TheVariants.{DebugStrDwo, BuildIdNote}
 use Rattle.dl_elf.specs.declared.named.NamedSection.{NamedSection}
 use Rattle.dl_elf.specs.Elf.{bytes_at}
 use Rattle.dl_elf.specs.Sections.{section_in}
@@ -48,7 +50,8 @@ Found e f name found = FoundBefore e f name e.count found
 
 -- the names in the order in which they are kept
 abbrev pub names : List SectionName
-names = DebugLine ∷ ZdebugLine ∷ DebugLineDwo ∷ DebugLineStr ∷ ZdebugLineStr ∷ DebugLineStrDwo ∷ DebugStr ∷ ZdebugStr ∷ DebugStrDwo ∷ BuildIdNote ∷ []
+names = DebugLine ∷ ZdebugLine ∷ DebugLineDwo ∷ DebugLineStr ∷ ZdebugLineStr ∷ DebugLineStrDwo ∷ DebugStr ∷ ZdebugStr
+    ∷ DebugStrDwo ∷ BuildIdNote ∷ []
 
 abbrev pub index_of : SectionName → ℕ
 index_of DebugLine = 0

@@ -1,10 +1,13 @@
 -- What open_line_file answers. f: the bytes of a file; e: the file as it is opened.
-use Rattle.std.specs.Prelude.{◌≡◌, ℕ, ◌<◌, ◌≤◌, Bool, ◌==◌, List, Option, Some, None, option_map, option_and_then, Result, Ok, Err, MatchResult}
+use Rattle.std.specs.Prelude.{◌≡◌, ℕ, ◌<◌, ◌≤◌, Bool, ◌==◌, List, Option, Some, None, option_map, option_and_then}
+use Rattle.std.specs.Prelude.{Result, Ok, Err, MatchResult}
 use Rattle.dl_num.specs.declared.fixed.Order.{Order}
 use Rattle.dl_elf.specs.declared.section.SectionHeader.{SectionHeader}
 use Rattle.dl_elf.specs.declared.file.Elf.{Elf}
 use Rattle.dl_elf.specs.declared.name.SectionName.{SectionName}
-use Rattle.dl_elf.specs.declared.name.SectionName.TheVariants.{DebugLine, ZdebugLine, DebugLineDwo, DebugLineStr, ZdebugLineStr, DebugLineStrDwo, DebugStr, ZdebugStr, DebugStrDwo, BuildIdNote}
+use Rattle.dl_elf.specs.declared.name.SectionName.TheVariants.{DebugLine, ZdebugLine, DebugLineDwo, DebugLineStr}
+use Rattle.dl_elf.specs.declared.name.SectionName.TheVariants.{ZdebugLineStr, DebugLineStrDwo, DebugStr, ZdebugStr}
+use Rattle.dl_elf.specs.declared.name.SectionName.TheVariants.{DebugStrDwo, BuildIdNote}
 use Rattle.dl_elf.specs.declared.named.NamedSection.{NamedSection}
 use Rattle.dl_elf.specs.declared.line_file.Wanted.{Wanted}
 use Rattle.dl_elf.specs.declared.line_file.Wanted.TheVariants.{LineSection, LineAndStringSections}
@@ -120,10 +123,13 @@ IsLineTable e f at wanted (Ok t) = (c : Chosen) × (chosen at wanted ≡ Some c)
     × (first_compressed e f c ≡ None) × (¬ HasRelocations e f c.line.number) × (t ≡ line_table e f c)
 IsLineTable e f at wanted (Err (fault.NoLineSection told)) = (chosen at wanted ≡ None)
     × (option_map build_id_bytes told ≡ build_id_of e f (at BuildIdNote))
-IsLineTable e f at wanted (Err (fault.Damaged part)) = (c : Chosen) × (chosen at wanted ≡ Some c) × (first_damage e f c ≡ Some part)
-IsLineTable e f at wanted (Err (fault.Compressed name method)) = (c : Chosen) × (chosen at wanted ≡ Some c) × (first_damage e f c ≡ None)
+IsLineTable e f at wanted (Err (fault.Damaged part)) =
+    (c : Chosen) × (chosen at wanted ≡ Some c) × (first_damage e f c ≡ Some part)
+IsLineTable e f at wanted (Err (fault.Compressed name method)) =
+    (c : Chosen) × (chosen at wanted ≡ Some c) × (first_damage e f c ≡ None)
     × (first_compressed e f c ≡ Some (name, method))
-IsLineTable e f at wanted (Err fault.Relocations) = (c : Chosen) × (chosen at wanted ≡ Some c) × (first_damage e f c ≡ None)
+IsLineTable e f at wanted (Err fault.Relocations) =
+    (c : Chosen) × (chosen at wanted ≡ Some c) × (first_damage e f c ≡ None)
     × (first_compressed e f c ≡ None) × HasRelocations e f c.line.number
 IsLineTable e f at wanted (Err fault.NotElf) = ⊥
 IsLineTable e f at wanted (Err (fault.Read error)) = ⊥

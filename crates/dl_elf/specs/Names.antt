@@ -1,7 +1,9 @@
 -- The names of the sections that are looked for. DWARF 5, sections 6.2 and 7.3.2.
 use Rattle.std.specs.Prelude.{ℕ, Bool, true, false, List, codes}
 use Rattle.dl_elf.specs.declared.name.SectionName.{SectionName}
-use Rattle.dl_elf.specs.declared.name.SectionName.TheVariants.{DebugLine, ZdebugLine, DebugLineDwo, DebugLineStr, ZdebugLineStr, DebugLineStrDwo, DebugStr, ZdebugStr, DebugStrDwo, BuildIdNote}
+use Rattle.dl_elf.specs.declared.name.SectionName.TheVariants.{DebugLine, ZdebugLine, DebugLineDwo, DebugLineStr}
+use Rattle.dl_elf.specs.declared.name.SectionName.TheVariants.{ZdebugLineStr, DebugLineStrDwo, DebugStr, ZdebugStr}
+use Rattle.dl_elf.specs.declared.name.SectionName.TheVariants.{DebugStrDwo, BuildIdNote}
 
 abbrev pub name_bytes : SectionName → List ℕ
 name_bytes DebugLine = codes ".debug_line"

@@ -1,7 +1,8 @@
 -- Notes, and the build ID among them. System V ABI, chapter 5, "Note Section": three numbers of four
 -- bytes, the sizes of name and description and the type, and then both, each padded to four bytes. The
 -- build ID is the description of a note of type 3 (NT_GNU_BUILD_ID) whose name is `GNU` and a zero byte.
-use Rattle.std.specs.Prelude.{ℕ, ◌+◌, ◌*◌, ◌/◌, zero, suc, Bool, ◌&&◌, ◌==◌, nat_le, bytes_eq, if◌then◌else◌, List, [], ◌∷◌, ◌++◌, length, drop, codes, Option, Some, None, option_and_then}
+use Rattle.std.specs.Prelude.{ℕ, ◌+◌, ◌*◌, ◌/◌, zero, suc, Bool, ◌&&◌, ◌==◌, nat_le, bytes_eq, if◌then◌else◌, List, []}
+use Rattle.std.specs.Prelude.{◌∷◌, ◌++◌, length, drop, codes, Option, Some, None, option_and_then}
 use Rattle.dl_num.specs.declared.fixed.Order.{Order}
 use Rattle.dl_elf.specs.declared.build_id.BuildId.{BuildId}
 use Rattle.dl_elf.specs.declared.file.Elf.{Elf}
@@ -28,7 +29,8 @@ has_note order b = nat_le 12 (length b) && nat_le (description_offset order b + 
 
 -- the first note of b is one of a build ID
 abbrev pub is_build_id : Order → List ℕ → Bool
-is_build_id order b = (number_at order 8 4 b == 3) && bytes_eq (bytes_at 12 (name_size order b) b) (codes "GNU" ++ 0 ∷ [])
+is_build_id order b =
+    (number_at order 8 4 b == 3) && bytes_eq (bytes_at 12 (name_size order b) b) (codes "GNU" ++ 0 ∷ [])
 
 abbrev pub description : Order → List ℕ → List ℕ
 description order b = bytes_at (description_offset order b) (description_size order b) b

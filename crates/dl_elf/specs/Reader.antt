@@ -20,7 +20,8 @@ reader_error r = r.error
 
 -- the file ends before the section does
 abbrev pub EndsEarly : {S : Type 0} → (S → Option (List ℕ)) → SectionReader S → Error → Type 0
-EndsEarly all_bytes r error = (error_kind error ≡ UnexpectedEof) × ForBytes (all_bytes r.source.now) (λ f. length f < r.offset + r.left)
+EndsEarly all_bytes r error =
+    (error_kind error ≡ UnexpectedEof) × ForBytes (all_bytes r.source.now) (λ f. length f < r.offset + r.left)
 
 -- a read fails with this error: it is one of the source, or the file ends early
 abbrev pub ReaderFails : {S : Type 0} → (S → Option (List ℕ)) → (S → Error → Type 0) → SectionReader S → Error → Type 0

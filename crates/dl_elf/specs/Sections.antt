@@ -1,5 +1,6 @@
 -- The sections of an ELF file, and how it is opened. System V ABI, chapter 4. f: the bytes of a file; h: its header.
-use Rattle.std.specs.Prelude.{ℕ, ◌+◌, ◌*◌, Bool, not, ◌||◌, ◌==◌, nat_le, nat_lt, if◌then◌else◌, List, length, Option, Some, None, Result, Ok, Err}
+use Rattle.std.specs.Prelude.{ℕ, ◌+◌, ◌*◌, Bool, not, ◌||◌, ◌==◌, nat_le, nat_lt, if◌then◌else◌, List, length, Option}
+use Rattle.std.specs.Prelude.{Some, None, Result, Ok, Err}
 use Rattle.dl_elf.specs.declared.header.FileHeader.{FileHeader}
 use Rattle.dl_elf.specs.declared.section.SectionHeader.{SectionHeader}
 use Rattle.dl_elf.specs.declared.file.Range.{Range}
@@ -23,7 +24,8 @@ section_header h f i = section_fields h.class h.order (bytes_at (header_place h 
 
 -- the same, where it lies in f
 abbrev pub section_in : FileHeader → List ℕ → ℕ → Option SectionHeader
-section_in h f i = if nat_le (header_place h i + section_header_size h.class) (length f) then Some (section_header h f i) else None
+section_in h f i =
+    if nat_le (header_place h i + section_header_size h.class) (length f) then Some (section_header h f i) else None
 
 -- how many sections there are, section header 0 being s: e_shnum, or sh_size of s
 abbrev pub section_count : FileHeader → SectionHeader → ℕ
@@ -35,7 +37,8 @@ name_table_number h s = if h.names_number == 0xffff then s.link else h.names_num
 
 -- where a section's bytes stand; one of type NOBITS has none
 abbrev pub section_range : SectionHeader → Range
-section_range s = if s.section_type == 8 then record { offset = s.offset; size = 0 } else record { offset = s.offset; size = s.size }
+section_range s =
+    if s.section_type == 8 then record { offset = s.offset; size = 0 } else record { offset = s.offset; size = s.size }
 
 -- the range lies in f
 abbrev pub range_within : Range → List ℕ → Bool
@@ -55,7 +58,8 @@ without_names h count = record { header = h; count = count; names = record { off
 abbrev pub with_names : FileHeader → ℕ → List ℕ → Option SectionHeader → Result Elf ElfFault
 with_names h count f None = Err (fault.Damaged part.NameTable)
 with_names h count f (Some s) = let names = section_range s in
-    if range_within names f then Ok (record { header = h; count = count; names = names }) else Err (fault.Damaged part.NameTable)
+    if range_within names f then Ok (record { header = h; count = count; names = names })
+    else Err (fault.Damaged part.NameTable)
 
 -- a file with this many sections, whose headers have to lie in it, and the name table of this number; 0 is none
 abbrev pub counted : FileHeader → List ℕ → (count names : ℕ) → Result Elf ElfFault

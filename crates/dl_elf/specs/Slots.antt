@@ -1,5 +1,6 @@
 -- The sections of the names as a pass keeps them: a slot for each name. No promise rests on this file.
-use Rattle.std.specs.Prelude.{ℕ, ◌+◌, ◌-◌, min, Bool, ◌&&◌, ◌==◌, nat_lt, if◌then◌else◌, List, length, take, bytes_eq, is_none, slice_index_or, Option, Some, None}
+use Rattle.std.specs.Prelude.{ℕ, ◌+◌, ◌-◌, min, Bool, ◌&&◌, ◌==◌, nat_lt, if◌then◌else◌, List, length, take, bytes_eq}
+use Rattle.std.specs.Prelude.{is_none, slice_index_or, Option, Some, None}
 use Rattle.dl_elf.specs.declared.section.SectionHeader.{SectionHeader}
 use Rattle.dl_elf.specs.declared.file.Elf.{Elf}
 use Rattle.dl_elf.specs.Elf.{bytes_at}
@@ -21,7 +22,8 @@ begins_with_name b name = let n = length (name_bytes name) in
 -- a slot after a section, where b begins with the section's name: the first section of the name stays
 abbrev pub noted : List ℕ → ℕ → SectionHeader → SectionName → Option NamedSection → Option NamedSection
 noted b number header name slot =
-    if is_none slot && begins_with_name b name then Some (record { name = name; number = number; header = header }) else slot
+    if is_none slot && begins_with_name b name then Some (record { name = name; number = number; header = header })
+    else slot
 
 abbrev pub slot_at : List (Option NamedSection) → ℕ → Option NamedSection
 slot_at slots k = slice_index_or slots k None

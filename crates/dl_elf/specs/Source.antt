@@ -1,5 +1,6 @@
 -- What reads at an offset give, where all the bytes are known.
-use Rattle.std.specs.Prelude.{◌≡◌, ℕ, ◌+◌, ◌^◌, ◌<◌, ◌≤◌, List, length, take, drop, Bool, nat_le, IsTrue, Option, Some, IfSome, Result, IfOk}
+use Rattle.std.specs.Prelude.{◌≡◌, ℕ, ◌+◌, ◌^◌, ◌<◌, ◌≤◌, List, length, take, drop, Bool, nat_le, IsTrue, Option, Some}
+use Rattle.std.specs.Prelude.{IfSome, Result, IfOk}
 use Rattle.std.specs.declared.io.impls.Cursor.{Cursor}
 use Rattle.std.specs.Io.Cursor.{cursor_inner}
 
@@ -24,4 +25,5 @@ FillsFrom known offset result buffer = ForBytes known (λ f. IfOk result (λ n.
 -- the bytes from the offset on fill the buffer
 abbrev pub FilledFrom : Option (List ℕ) → ℕ → Bool → List ℕ → Type 0
 FilledFrom known offset whole buffer = ForBytes known (λ f.
-    (whole ≡ nat_le (offset + length buffer) (length f)) × (IsTrue whole → buffer ≡ take (length buffer) (drop offset f)))
+    (whole ≡ nat_le (offset + length buffer) (length f))
+    × (IsTrue whole → buffer ≡ take (length buffer) (drop offset f)))

@@ -19,9 +19,15 @@ length-extended v w e =
     let sizes = ap (λ (n : ℕ). length (shortest_uleb n)) e in
     omega (arith, length-append (shortest_uleb (length v)) v, length-append (shortest_uleb (length w)) w, sizes, e)
 
-length-operation : (order : Order) (size : ℕ) (o : Operation) → length (operation_bytes order size o) ≡ length (operation_bytes Little size o)
-length-operation order size (op.SetAddress n) = length-extended (2 ∷ fixed_bytes order size n) (2 ∷ fixed_bytes Little size n) (omega (arith, fixed_has_its_size order size n, fixed_has_its_size Little size n))
+length-operation : (order : Order) (size : ℕ) (o : Operation)
+    → length (operation_bytes order size o) ≡ length (operation_bytes Little size o)
+length-operation order size (op.SetAddress n) =
+    length-extended (2 ∷ fixed_bytes order size n) (2 ∷ fixed_bytes Little size n)
+    (omega (arith, fixed_has_its_size order size n, fixed_has_its_size Little size n))
 length-operation order size o = refl
 
-pub length-program : (order : Order) (h : Params) (rows : List Row) → length (program_bytes order h rows) ≡ program_len h rows
-length-program order h rows = length-parts (operation_bytes order h.address_size) (operation_bytes Little h.address_size) (length-operation order h.address_size) (operations h rows)
+pub length-program : (order : Order) (h : Params) (rows : List Row)
+    → length (program_bytes order h rows) ≡ program_len h rows
+length-program order h rows =
+    length-parts (operation_bytes order h.address_size) (operation_bytes Little h.address_size)
+    (length-operation order h.address_size) (operations h rows)

@@ -1,5 +1,6 @@
 -- The program of rows, one row at a time: their ranges, the count of their bytes, and the bytes.
-use Rattle.std.proofs.Common.{◌≡◌, ℕ, ◌+◌, ◌^◌, ◌-◌, ◌<◌, ◌≤◌, min, true, false, List, ◌∷◌, ◌++◌, length, drop, get_or, Option, Some, None, refl, ap, ◌∙◌, arith, length-append, drop-cons, add-one}
+use Rattle.std.proofs.Common.{◌≡◌, ℕ, ◌+◌, ◌^◌, ◌-◌, ◌<◌, ◌≤◌, min, true, false, List, ◌∷◌, ◌++◌, length, drop, get_or}
+use Rattle.std.proofs.Common.{Option, Some, None, refl, ap, ◌∙◌, arith, length-append, drop-cons, add-one}
 use Rattle.std.proofs.lemmas.Grind.{flat_map-append}
 use Rattle.std.proofs.lemmas.List.{drop_all}
 use Rattle.std.proofs.lemmas.Bool.{eq-eqb}
@@ -14,8 +15,11 @@ use Rattle.dl_emit.specs.Program.{row_operations, operations_from, kept}
 use Rattle.dl_emit.specs.WrittenUnit.{operations_bytes, program_len, is_in_range, out_of_range, rows_refusal}
 
 -- the bytes of a row and of those after it
-pub program_cons : (order : Order) (h : Params) (before : Option Row) (r : Row) (rows : List Row) → operations_bytes order h (operations_from h before (r ∷ rows)) ≡ operations_bytes order h (row_operations h before r) ++ operations_bytes order h (operations_from h (kept r) rows)
-program_cons order h before r rows = flat_map-append (operation_bytes order h.address_size) (row_operations h before r) (operations_from h (kept r) rows)
+pub program_cons : (order : Order) (h : Params) (before : Option Row) (r : Row) (rows : List Row)
+    → operations_bytes order h (operations_from h before (r ∷ rows))
+    ≡ operations_bytes order h (row_operations h before r) ++ operations_bytes order h (operations_from h (kept r) rows)
+program_cons order h before r rows =
+    flat_map-append (operation_bytes order h.address_size) (row_operations h before r) (operations_from h (kept r) rows)
 
 module _ (h : Params) (rows : List Row) where
   -- the rows from one on
@@ -24,10 +28,12 @@ module _ (h : Params) (rows : List Row) where
 
   -- ---- ranges
 
-  pub row_in_range : (i : ℕ) (d : Row) → i < length rows → is_in_range h (get_or rows i d) ≡ true → out_of_range h (i + 1) (drop (i + 1) rows) ≡ out_of_range h i (drop i rows)
+  pub row_in_range : (i : ℕ) (d : Row) → i < length rows → is_in_range h (get_or rows i d) ≡ true
+      → out_of_range h (i + 1) (drop (i + 1) rows) ≡ out_of_range h i (drop i rows)
   row_in_range i d lt t = rw (rows_from i d lt, t) refl
 
-  pub row_out_of_range : (i : ℕ) (d : Row) → i < length rows → is_in_range h (get_or rows i d) ≡ false → out_of_range h i (drop i rows) ≡ Some (fault.RowRange i)
+  pub row_out_of_range : (i : ℕ) (d : Row) → i < length rows → is_in_range h (get_or rows i d) ≡ false
+      → out_of_range h i (drop i rows) ≡ Some (fault.RowRange i)
   row_out_of_range i d lt f = rw (rows_from i d lt, f) refl
 
   pub refused_rows : (o : Option EmitFault) → h.opcode_base ≡ 13 → out_of_range h 0 rows ≡ o → rows_refusal h rows ≡ o
@@ -40,17 +46,29 @@ module _ (h : Params) (rows : List Row) where
 
   -- len is the count of the bytes before the rest's
   abbrev pub Counts : ℕ → Option Row → List Row → Type 0
-  Counts len before rest = (n : ℕ) × (len ≡ min n (2 ^ 64 - 1)) × (n + length (operations_bytes Little h (operations_from h before rest)) ≡ program_len h rows)
+  Counts len before rest =
+      (n : ℕ) × (len ≡ min n (2 ^ 64 - 1))
+      × (n + length (operations_bytes Little h (operations_from h before rest)) ≡ program_len h rows)
 
-  pub counts_more : (len new more i : ℕ) (d : Row) (before : Option Row) → i < length rows → more ≡ length (operations_bytes Little h (row_operations h before (get_or rows i d))) → new ≡ min (len + more) (2 ^ 64 - 1) → Counts len before (drop i rows)
+  pub counts_more : (len new more i : ℕ) (d : Row) (before : Option Row) → i < length rows
+      → more ≡ length (operations_bytes Little h (row_operations h before (get_or rows i d)))
+      → new ≡ min (len + more) (2 ^ 64 - 1) → Counts len before (drop i rows)
       → Counts new (kept (get_or rows i d)) (drop (i + 1) rows)
   counts_more len new more i d before lt e is (n, counted, whole) =
       let r = get_or rows i d in
       let rest = drop (i + 1) rows in
-      let split : operations_bytes Little h (operations_from h before (drop i rows)) ≡ operations_bytes Little h (row_operations h before r) ++ operations_bytes Little h (operations_from h (kept r) rest) = rw (rows_from i d lt) (program_cons Little h before r rest) in
-      let sum = ap length split ∙ length-append (operations_bytes Little h (row_operations h before r)) (operations_bytes Little h (operations_from h (kept r) rest)) in
+      let split : operations_bytes Little h (operations_from h before (drop i rows))
+      ≡ operations_bytes Little h (row_operations h before r)
+      ++ operations_bytes Little h (operations_from h (kept r) rest) =
+      rw (rows_from i d lt) (program_cons Little h before r rest) in
+      let sum =
+      ap length split
+      ∙ length-append (operations_bytes Little h (row_operations h before r))
+      (operations_bytes Little h (operations_from h (kept r) rest)) in
       (n + more, omega arith, omega (arith, sum, whole, e))
 
-  pub counts_all : (len i : ℕ) (before : Option Row) → length rows ≤ i → Counts len before (drop i rows) → len ≡ min (program_len h rows) (2 ^ 64 - 1)
+  pub counts_all : (len i : ℕ) (before : Option Row) → length rows ≤ i → Counts len before (drop i rows)
+      → len ≡ min (program_len h rows) (2 ^ 64 - 1)
   counts_all len i before le (n, counted, whole) =
-      let none : length (operations_bytes Little h (operations_from h before (drop i rows))) ≡ 0 = rw (drop_all i rows le) refl in omega arith
+      let none : length (operations_bytes Little h (operations_from h before (drop i rows))) ≡ 0 =
+      rw (drop_all i rows le) refl in omega arith

@@ -11,5 +11,6 @@ pub record IsGathered (start now : Option (List ℕ)) (text held : List ℕ) (co
 
 -- the text stays, or a write of it failed
 abbrev pub Gathers : (old new : Option (List ℕ)) (before : ℕ) (held after : List ℕ) → Result ℕ HeadWrite → Type 0
-Gathers old new before held after result = (start : Option (List ℕ)) (text : List ℕ) → IsGathered start old text held before
+Gathers old new before held after result =
+    (start : Option (List ℕ)) (text : List ℕ) → IsGathered start old text held before
     → MatchResult result (λ n. IsGathered start new text after n) (λ f. TellsOut start new text f)

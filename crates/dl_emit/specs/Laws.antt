@@ -31,19 +31,24 @@ pub record IsParams (h : Params) : Type 0 where
   pub usable : IsUsable h
   pub line_base : FitsSigned w8 h.line_base
 
--- the bytes that are written for rows are a program, and are read again as its operations to the last byte, whose rows are the same
+-- the bytes that are written for rows are a program, and are read again as its operations to the last byte, whose rows
+-- are the same
 pub record IsReadAgain (order : Order) (h : Params) (rows : List Row) : Type 0 where
-  pub spells : SpellsProgram order h (operations_in order h (program_bytes order h rows)).found (program_bytes order h rows)
+  pub spells : SpellsProgram order h (operations_in order h (program_bytes order h rows)).found
+      (program_bytes order h rows)
   pub all : (operations_in order h (program_bytes order h rows)).rest ≡ []
   pub same : matrix h (operations_in order h (program_bytes order h rows)).found ≡ rows
 
 -- so it is of all rows that aren't refused
 abbrev pub ProgramIsReadAgain : Type 0
-ProgramIsReadAgain = (order : Order) (h : Params) (rows : List Row) → IsParams h → AllByRecursion IsRow rows → rows_refusal h rows ≡ None → IsReadAgain order h rows
+ProgramIsReadAgain =
+    (order : Order) (h : Params) (rows : List Row) → IsParams h → AllByRecursion IsRow rows → rows_refusal h rows ≡ None
+    → IsReadAgain order h rows
 
 -- the bytes that are written for a header and rows are a unit of this header, and come to it and exactly these rows
 pub record IsUnitAgain (order : Order) (h : HeaderData) (rows : List Row) : Type 0 where
-  pub unit : IsOwnUnit order h (operations_in order h.params (program_bytes order h.params rows)).found (unit_of order h rows)
+  pub unit : IsOwnUnit order h (operations_in order h.params (program_bytes order h.params rows)).found
+      (unit_of order h rows)
   pub events_are : events order (unit_of order h rows) ≡ event.Header ∷ map event.Row rows
   pub whole : unit_len order (unit_of order h rows) ≡ Some (length (unit_of order h rows))
   pub header : header_in order (unit_of order h rows) ≡ Some (h, program_bytes order h.params rows)
@@ -51,4 +56,6 @@ pub record IsUnitAgain (order : Order) (h : HeaderData) (rows : List Row) : Type
 
 -- so it is of all units that aren't refused
 abbrev pub UnitIsReadAgain : Type 0
-UnitIsReadAgain = (order : Order) (h : HeaderData) (rows : List Row) → IsSoundHeader h → AllByRecursion IsRow rows → refusal h rows ≡ None → IsUnitAgain order h rows
+UnitIsReadAgain =
+    (order : Order) (h : HeaderData) (rows : List Row) → IsSoundHeader h → AllByRecursion IsRow rows
+    → refusal h rows ≡ None → IsUnitAgain order h rows

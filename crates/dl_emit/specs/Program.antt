@@ -1,5 +1,6 @@
 -- The operations that are written for a list of rows, those of each row from the row before it alone. DWARF 5, sections 6.2.2 and 6.2.5.
-use Rattle.std.specs.Prelude.{ℕ, ◌+◌, ◌-◌, ◌*◌, ◌/◌, ◌%◌, ◌^◌, Bool, true, false, not, ◌&&◌, List, [], ◌∷◌, ◌++◌, ℤ, pos, negsuc, ◌-ℤ◌, Option, Some, None, nat_lt, nat_le, ◌==◌, if◌then◌else◌}
+use Rattle.std.specs.Prelude.{ℕ, ◌+◌, ◌-◌, ◌*◌, ◌/◌, ◌%◌, ◌^◌, Bool, true, false, not, ◌&&◌, List, [], ◌∷◌, ◌++◌, ℤ}
+use Rattle.std.specs.Prelude.{pos, negsuc, ◌-ℤ◌, Option, Some, None, nat_lt, nat_le, ◌==◌, if◌then◌else◌}
 use Rattle.std.specs.Int.{w64, cast_signed}
 use Rattle.std.specs.Option.{option_and_then}
 use Rattle.dl_field.specs.declared.params.Params.{Params}
@@ -64,7 +65,8 @@ advance_by h from to count =
 abbrev pub advance : Params → Row → Row → Option ℕ
 advance h before r =
     if nat_le before.address r.address
-    then option_and_then (advance_by h before.op_index r.op_index) (instructions h.minimum_instruction_length (r.address - before.address))
+    then option_and_then (advance_by h before.op_index r.op_index)
+    (instructions h.minimum_instruction_length (r.address - before.address))
     else None
 
 -- from one line to another modulo 2^64, as a number from -2^63 to 2^63 - 1
@@ -108,7 +110,8 @@ placed h r line None = op.SetAddress r.address ∷ appended h r.end_sequence lin
 -- the operations of a row, the row before it in its sequence being given
 abbrev pub row_operations : Params → Option Row → Row → List Operation
 row_operations h None r = settings (start h) r ++ marks r ++ placed h r (line_advance 1 r.line) None
-row_operations h (Some before) r = settings before r ++ marks r ++ placed h r (line_advance before.line r.line) (advance h before r)
+row_operations h (Some before) r =
+    settings before r ++ marks r ++ placed h r (line_advance before.line r.line) (advance h before r)
 
 -- the row before, for the row after r
 abbrev pub kept : Row → Option Row

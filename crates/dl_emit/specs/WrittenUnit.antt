@@ -1,5 +1,6 @@
 -- The unit that is written for a header and rows, and what isn't written. DWARF 5, section 6.2.
-use Rattle.std.specs.Prelude.{ℕ, ◌+◌, ◌*◌, ◌^◌, Bool, ◌&&◌, List, [], ◌∷◌, ◌++◌, length, Option, Some, None, nat_lt, ◌==◌, if◌then◌else◌}
+use Rattle.std.specs.Prelude.{ℕ, ◌+◌, ◌*◌, ◌^◌, Bool, ◌&&◌, List, [], ◌∷◌, ◌++◌, length, Option, Some, None, nat_lt}
+use Rattle.std.specs.Prelude.{◌==◌, if◌then◌else◌}
 use Rattle.std.specs.List.{flat_map}
 use Rattle.std.specs.Option.{option_or}
 use Rattle.dl_num.specs.declared.fixed.Order.{Order}
@@ -49,4 +50,5 @@ rows_refusal h rows = option_or (unless (h.opcode_base == 13) fault.OpcodeBase) 
 
 -- the first reason for which the unit isn't written
 abbrev pub refusal : HeaderData → List Row → Option EmitFault
-refusal h rows = option_or (rows_refusal h.params rows) (unless (is_within_limit h (program_len h.params rows)) fault.TooLong)
+refusal h rows =
+    option_or (rows_refusal h.params rows) (unless (is_within_limit h (program_len h.params rows)) fault.TooLong)

@@ -1,5 +1,6 @@
 -- A value of a table whose bytes come at once.
-use Rattle.std.proofs.Common.{Bor, ◌≡◌, ◌≢◌, inl, inr, ℕ, suc, ◌+◌, ◌-◌, ◌^◌, ◌<◌, ◌≤◌, ◌==◌, List, [], ◌∷◌, ◌++◌, length}
+use Rattle.std.proofs.Common.{Bor, ◌≡◌, ◌≢◌, inl, inr, ℕ, suc, ◌+◌, ◌-◌, ◌^◌, ◌<◌, ◌≤◌, ◌==◌, List, [], ◌∷◌, ◌++◌}
+use Rattle.std.proofs.Common.{length}
 use Rattle.std.proofs.Common.{take, drop, Option, Some, None, option_map, refl, sym, ap, subst, ◌∙◌, arith}
 use Rattle.std.proofs.Common.{append_assoc, length-append}
 use Rattle.std.specs.List.{position}
@@ -27,7 +28,8 @@ use Rattle.dl_field.specs.Field.{HasNoZero}
 use Rattle.dl_table.specs.Text.{text_in}
 use Rattle.dl_field.specs.TableStep.{value_due}
 use Rattle.dl_field.specs.Layout.{Layout}
-use Rattle.dl_field.specs.TablePlace.{OneCell, InValue, TableAt, TableMade, Enters, EntersAt, InFront, IsLast, SameTable, TakesValue, has_bytes}
+use Rattle.dl_field.specs.TablePlace.{OneCell, InValue, TableAt, TableMade, Enters, EntersAt, InFront, IsLast}
+use Rattle.dl_field.specs.TablePlace.{SameTable, TakesValue, has_bytes}
 use Rattle.dl_field.proofs.FieldLemmas.{none_some}
 use Rattle.dl_table.proofs.TextLemmas.{text_in-position}
 use Rattle.dl_field.proofs.PairLemmas.{table_at}
@@ -122,7 +124,8 @@ value_taken order old new at v h format bytes behind is s enters one going = rec
       (omega (arith, s.filled (length old.pool.items), s.cell)) enters
 
 -- `enter_front`, of a value that another one follows
-pub value_entered : (order : Order) (old new : TableReader) (at : Cursor) (v : ValuePhase) (h : StoredValue) (format : Format)
+pub value_entered : (order : Order) (old new : TableReader) (at : Cursor) (v : ValuePhase) (h : StoredValue)
+    (format : Format)
     (bytes behind : List ℕ) (o : Option (Bor (List ℕ))) → old.phase ≡ phase.Value at v
     → (IsLast at (length old.pairs.items) → ⊥) → InFront order v bytes h behind
     → MatchOption o (SameTable old new) (λ rest. (rest.now ≡ behind) × EntersAt old at h format new)

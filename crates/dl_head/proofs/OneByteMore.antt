@@ -219,7 +219,8 @@ pub live_of : (r : HeadReader) (b : List ℕ) → ending r.phase ≡ None → St
 live_of r b goes s = subst (λ (o : Option HeadStep). Stands r o b) goes s.stands
 
 -- a new reader
-pub new_stands : (r : HeadReader) (n : PartialNumber) → r.phase ≡ phase.UnitLength n → number_bytes n ≡ [] → number_size n ≡ 4
+pub new_stands : (r : HeadReader) (n : PartialNumber) → r.phase ≡ phase.UnitLength n → number_bytes n ≡ []
+    → number_size n ≡ 4
     → AtStart r [] → r.taken ≡ 0 → r.start ≡ 0 → r.header ≡ None
     → table_cells r.directories ≡ 0 → table_cells r.files ≡ 0 → StandsFor r []
 new_stands r n is none size at taken start header directories files = record {

@@ -1,5 +1,6 @@
 -- What holds of each answer.
-use Rattle.std.proofs.Common.{◌≡◌, Bool, true, false, List, [], ◌∷◌, ◌++◌, reverse, Some, None, refl, sym, ap, subst, ◌∙◌, append_assoc}
+use Rattle.std.proofs.Common.{◌≡◌, Bool, true, false, List, [], ◌∷◌, ◌++◌, reverse, Some, None, refl, sym, ap, subst}
+use Rattle.std.proofs.Common.{◌∙◌, append_assoc}
 use Rattle.std.specs.Prelude.{if◌then◌else◌}
 use Rattle.std.specs.List.{find}
 use Rattle.std.specs.Option.{option_and_then}
@@ -7,7 +8,8 @@ use Rattle.std.proofs.lemmas.List.{reverse-append}
 use Rattle.std.proofs.lemmas.Bool.{and_parts}
 use Rattle.dl_rows.specs.declared.row.Row.{Row}
 use Rattle.dl_look.specs.declared.place.Place.{Place}
-use Rattle.dl_look.specs.Answer.{place_of, is_below, is_at_most, is_rising, first_place, last_place, covers, sequences_after, sequences, last_upto, answer}
+use Rattle.dl_look.specs.Answer.{place_of, is_below, is_at_most, is_rising, first_place, last_place, covers}
+use Rattle.dl_look.specs.Answer.{sequences_after, sequences, last_upto, answer}
 use Rattle.dl_look.specs.FinderRows.{unended}
 use Rattle.dl_look.specs.Laws.{AnswersAreRows, AnswersAreUpto, AnswersAreNoEndRows}
 use Rattle.dl_look.proofs.PlaceOrder.{above-below}
@@ -34,14 +36,17 @@ Every-right P (x ∷ xs) ys a = Every-right P xs ys a.1
 Every-reverse : {A : Type 0} (P : A → Type 0) (xs : List A) → Every P xs → Every P (reverse xs)
 Every-reverse P [] a = tt
 Every-reverse P (x ∷ xs) a =
-    subst (Every P) (sym (reverse-append (x ∷ []) xs)) (Every-append P (reverse xs) (x ∷ []) (Every-reverse P xs a.1) (a.0, tt))
+    subst (Every P) (sym (reverse-append (x ∷ []) xs)) (Every-append P (reverse xs) (x ∷ []) (Every-reverse P xs a.1)
+    (a.0, tt))
 
-Every-both : {A : Type 0} (P Q R : A → Type 0) (xs : List A) → ((x : A) → P x → Q x → R x) → Every P xs → Every Q xs → Every R xs
+Every-both : {A : Type 0} (P Q R : A → Type 0) (xs : List A) → ((x : A) → P x → Q x → R x) → Every P xs → Every Q xs
+    → Every R xs
 Every-both P Q R [] f a b = tt
 Every-both P Q R (x ∷ xs) f a b = (f x a.0 b.0, Every-both P Q R xs f a.1 b.1)
 
 -- what is found is one of the elements, and passes the test
-find-Some : {A : Type 0} (P : A → Type 0) (test : A → Bool) (xs : List A) (y : A) → Every P xs → find test xs ≡ Some y → P y × (test y ≡ true)
+find-Some : {A : Type 0} (P : A → Type 0) (test : A → Bool) (xs : List A) (y : A) → Every P xs → find test xs ≡ Some y
+    → P y × (test y ≡ true)
 find-Some P test [] y a e = cc
 find-Some P test (x ∷ xs) y a e =
     elim (test x) as (λ b. test x ≡ b → (if b then Some x else find test xs) ≡ Some y → P y × (test y ≡ true)) [
@@ -50,9 +55,12 @@ find-Some P test (x ∷ xs) y a e =
     ] refl e
 
 -- the answer's sequence, which the answer is found in
-answer-Some : (P : List Row → Type 0) (rows : List Row) (x : Place) (r : Row) → Every P (sequences rows) → answer rows x ≡ Some r → (s : List Row) × P s × (answers_for x s ≡ true) × (last_upto x s ≡ Some r)
+answer-Some : (P : List Row → Type 0) (rows : List Row) (x : Place) (r : Row) → Every P (sequences rows)
+    → answer rows x ≡ Some r → (s : List Row) × P s × (answers_for x s ≡ true) × (last_upto x s ≡ Some r)
 answer-Some P rows x r all e =
-    elim (find (answers_for x) (sequences rows)) as (λ o. find (answers_for x) (sequences rows) ≡ o → option_and_then (last_upto x) o ≡ Some r → (s : List Row) × P s × (answers_for x s ≡ true) × (last_upto x s ≡ Some r)) [
+    elim (find (answers_for x) (sequences rows)) as (λ o. find (answers_for x) (sequences rows) ≡ o
+    → option_and_then (last_upto x) o ≡ Some r → (s : List Row) × P s × (answers_for x s ≡ true)
+    × (last_upto x s ≡ Some r)) [
       | None ↦ λ f n. cc
       | Some s ↦ λ f found. (let g = find-Some P (answers_for x) (sequences rows) s all f in (s, g.0, g.1, found))
     ] refl e
@@ -82,7 +90,9 @@ pub record IsSequence (s : List Row) : Type 0 where
 pub sequences-are : (begun rows : List Row) → Every NoEnd begun → Every IsSequence (sequences_after begun rows)
 sequences-are begun [] a = tt
 sequences-are begun (r ∷ rows) a =
-    elim r.end_sequence as (λ b. r.end_sequence ≡ b → Every IsSequence (if b then (begun ++ r ∷ []) ∷ sequences_after [] rows else sequences_after (begun ++ r ∷ []) rows)) [
+    elim r.end_sequence as (λ b. r.end_sequence ≡ b
+    → Every IsSequence (if b then (begun ++ r ∷ []) ∷ sequences_after [] rows
+    else sequences_after (begun ++ r ∷ []) rows)) [
       | true ↦ λ e. (record { inner = begun; last = r; is = refl; no_end = a; ends = e }, sequences-are [] rows tt)
       | false ↦ λ e. sequences-are (begun ++ r ∷ []) rows (Every-append NoEnd begun (r ∷ []) a (e, tt))
     ] refl
@@ -103,7 +113,9 @@ pub no_end_row : AnswersAreNoEndRows
 no_end_row rows x r e =
     let a = answer-Some IsSequence rows x r (sequences-are [] rows tt) e in
     let covering = (and_parts (is_rising a.0) (covers x a.0) a.2).1 in
-    let found = find-Some (EndAbove x) (λ q. is_at_most (place_of q) x) (reverse a.0) r (Every-reverse (EndAbove x) a.0 (ends_above x a.0 a.1 covering)) a.3 in
+    let found =
+    find-Some (EndAbove x) (λ q. is_at_most (place_of q) x) (reverse a.0) r
+    (Every-reverse (EndAbove x) a.0 (ends_above x a.0 a.1 covering)) a.3 in
     found.0 found.1
 
 -- ---- one of the rows
@@ -113,8 +125,10 @@ IsAmong rows r = (front back : List Row) × (rows ≡ front ++ r ∷ back)
 
 each_among : (front rows : List Row) → Every (IsAmong (front ++ rows)) rows
 each_among front [] = tt
-each_among front (r ∷ rows) =
-    ((front, rows, refl), subst (λ l. Every (IsAmong l) rows) (append_assoc front (r ∷ []) rows) (each_among (front ++ r ∷ []) rows))
+each_among front (r ∷ rows) = (
+  (front, rows, refl),
+  subst (λ l. Every (IsAmong l) rows) (append_assoc front (r ∷ []) rows) (each_among (front ++ r ∷ []) rows),
+)
 
 each_part : (P : Row → Type 0) (ss : List (List Row)) → Every P (joined ss) → Every (Every P) ss
 each_part P [] a = tt
@@ -123,6 +137,9 @@ each_part P (s ∷ ss) a = (Every-left P s (joined ss) a, each_part P ss (Every-
 pub one_of_the_rows : AnswersAreRows
 one_of_the_rows rows x r e =
     let all = subst (Every (IsAmong rows)) (sym (joined-sequences [] rows)) (each_among [] rows) in
-    let parts = each_part (IsAmong rows) (sequences rows) (Every-left (IsAmong rows) (joined (sequences rows)) (unended rows) all) in
+    let parts =
+    each_part (IsAmong rows) (sequences rows)
+    (Every-left (IsAmong rows) (joined (sequences rows)) (unended rows) all) in
     let a = answer-Some (Every (IsAmong rows)) rows x r parts e in
-    (find-Some (IsAmong rows) (λ q. is_at_most (place_of q) x) (reverse a.0) r (Every-reverse (IsAmong rows) a.0 a.1) a.3).0
+    (find-Some (IsAmong rows) (λ q. is_at_most (place_of q) x) (reverse a.0) r (Every-reverse (IsAmong rows) a.0 a.1)
+    a.3).0

@@ -1,5 +1,6 @@
 -- A rising sequence, halved between two rows that surround a place.
-use Rattle.std.proofs.Common.{◌≡◌, ℕ, zero, suc, ◌+◌, ◌-◌, ◌/◌, ◌^◌, ◌<◌, ◌≤◌, true, false, List, [], ◌∷◌, length, take, drop, get_or, Some, arith, refl, sym, ap, subst, ◌∙◌, length-take, length-drop}
+use Rattle.std.proofs.Common.{◌≡◌, ℕ, zero, suc, ◌+◌, ◌-◌, ◌/◌, ◌^◌, ◌<◌, ◌≤◌, true, false, List, [], ◌∷◌, length, take}
+use Rattle.std.proofs.Common.{drop, get_or, Some, arith, refl, sym, ap, subst, ◌∙◌, length-take, length-drop}
 use Rattle.std.proofs.lemmas.List.{get_or-take, get_or-drop}
 use Rattle.std.proofs.Math.Nat.{pow-suc, pow-zero}
 use Rattle.dl_rows.specs.declared.row.Row.{Row}
@@ -21,13 +22,15 @@ last_at [] n h = absurd (omega arith)
 last_at (r ∷ s) n h = let e : length s ≡ n = omega arith in last_at_length r s ∙ ap (place_at (r ∷ s)) e
 
 -- a sequence that covers a place has two rows or more
-two_rows : (s : List Row) (x : Place) → is_at_most (first_place s) x ≡ true → is_at_most (last_place s) x ≡ false → 1 < length s
+two_rows : (s : List Row) (x : Place) → is_at_most (first_place s) x ≡ true → is_at_most (last_place s) x ≡ false
+    → 1 < length s
 two_rows [] x a b = cc
 two_rows (r ∷ []) x a b = cc
 two_rows (r ∷ t ∷ s) x a b = omega arith
 
 -- the rows of a part
-part_row : (rows : List Row) (start len j : ℕ) → j < len → get_or (take len (drop start rows)) j no_row ≡ get_or rows (start + j) no_row
+part_row : (rows : List Row) (start len j : ℕ) → j < len
+    → get_or (take len (drop start rows)) j no_row ≡ get_or rows (start + j) no_row
 part_row rows start len j lt = get_or-take len (drop start rows) j no_row lt ∙ get_or-drop start rows j no_row
 
 part_length : (rows : List Row) (start len : ℕ) → start + len ≤ length rows → length (take len (drop start rows)) ≡ len
@@ -55,7 +58,8 @@ module _ (rows : List Row) (start len : ℕ) (x : Place) (within : start + len �
   abbrev part : List Row
   part = take len (drop start rows)
 
-  pub starts : (before : ℕ) → is_at_most (first_place part) x ≡ true → is_below x (last_place part) ≡ true → Around rows rows start len x start (start + len - 1) before before
+  pub starts : (before : ℕ) → is_at_most (first_place part) x ≡ true → is_below x (last_place part) ≡ true
+      → Around rows rows start len x start (start + len - 1) before before
   starts before low high =
       let n = part_length rows start len within in
       let over = above-below x (last_place part) high in
@@ -70,14 +74,16 @@ module _ (rows : List Row) (start len : ℕ) (x : Place) (within : start + len �
             let i : start + 0 ≡ start = omega arith in
             subst (λ p. is_at_most p x ≡ true) (e ∙ ap (place_at rows) i) low;
         above =
-            let e = last_at part (len - 1) (omega arith) ∙ ap place_of (part_row rows start len (len - 1) (omega arith)) in
+            let e = last_at part (len - 1) (omega arith)
+            ∙ ap place_of (part_row rows start len (len - 1) (omega arith)) in
             let i : start + (len - 1) ≡ start + len - 1 = omega arith in
             subst (λ p. is_at_most p x ≡ false) (e ∙ ap (place_at rows) i) over;
         steps = λ digits h. (digits, omega arith, omega arith);
         few = omega arith;
       }
 
-  pub ends : (now : List Row) (low high before probes : ℕ) → Around rows now start len x low high before probes → high - low ≤ 1 → is_rising part ≡ true → Some (get_or rows low no_row) ≡ last_upto x part
+  pub ends : (now : List Row) (low high before probes : ℕ) → Around rows now start len x low high before probes
+      → high - low ≤ 1 → is_rising part ≡ true → Some (get_or rows low no_row) ≡ last_upto x part
   ends now low high before probes a gap rising =
       let from = a.from in
       let to = a.to in
@@ -88,19 +94,24 @@ module _ (rows : List Row) (start len : ℕ) (x : Place) (within : start + len �
       let next = part_row rows start len (suc (low - start)) (omega arith) ∙ ap (λ i. get_or rows i no_row) k in
       let upto = subst (λ r. is_at_most (place_of r) x ≡ true) (sym row) a.upto in
       let above = subst (λ r. is_at_most (place_of r) x ≡ false) (sym next) a.above in
-      ap Some (sym row) ∙ sym (last_upto-between x (low - start) part rising (omega (arith, part_length rows start len within)) upto above)
+      ap Some (sym row)
+      ∙ sym (last_upto-between x (low - start) part rising (omega (arith, part_length rows start len within)) upto
+      above)
 
-  module _ (now : List Row) (low high before probes : ℕ) (a : Around rows now start len x low high before probes) (gap : 1 < high - low) (now' : List Row) (same : now' ≡ now) where
+  module _ (now : List Row) (low high before probes : ℕ) (a : Around rows now start len x low high before probes)
+      (gap : 1 < high - low) (now' : List Row) (same : now' ≡ now) where
     abbrev middle : ℕ
     middle = low + (high - low) / 2
 
-    steps_more : (less : ℕ) → less ≤ high - low - (high - low) / 2 → (digits : ℕ) → len < 2 ^ digits → (j : ℕ) × (probes + 1 + j ≤ before + digits) × (less ≤ 2 ^ j)
+    steps_more : (less : ℕ) → less ≤ high - low - (high - low) / 2 → (digits : ℕ) → len < 2 ^ digits
+        → (j : ℕ) × (probes + 1 + j ≤ before + digits) × (less ≤ 2 ^ j)
     steps_more less half digits h =
         let s = a.steps digits h in
         let m = halved (high - low) less s.0 gap s.2 half in
         (s.0 - 1, (let q = s.1 in let z = m.1 in omega arith), m.0)
 
-    pub goes_up : is_at_most (place_at rows middle) x ≡ true → Around rows now' start len x middle high before (probes + 1)
+    pub goes_up : is_at_most (place_at rows middle) x ≡ true
+        → Around rows now' start len x middle high before (probes + 1)
     goes_up upto =
         let from = a.from in
         let to = a.to in
@@ -117,7 +128,8 @@ module _ (rows : List Row) (start len : ℕ) (x : Place) (within : start + len �
           few = omega arith;
         }
 
-    pub goes_down : is_at_most (place_at rows middle) x ≡ false → Around rows now' start len x low middle before (probes + 1)
+    pub goes_down : is_at_most (place_at rows middle) x ≡ false
+        → Around rows now' start len x low middle before (probes + 1)
     goes_down above =
         let from = a.from in
         let to = a.to in

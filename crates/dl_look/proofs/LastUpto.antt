@@ -1,5 +1,6 @@
 -- The last row that isn't above a place.
-use Rattle.std.proofs.Common.{◌≡◌, ℕ, zero, suc, ◌<◌, Bool, true, false, List, [], ◌∷◌, ◌++◌, reverse, length, get_or, Option, Some, None, arith, refl, ap, ap₂, ◌∙◌}
+use Rattle.std.proofs.Common.{◌≡◌, ℕ, zero, suc, ◌<◌, Bool, true, false, List, [], ◌∷◌, ◌++◌, reverse, length, get_or}
+use Rattle.std.proofs.Common.{Option, Some, None, arith, refl, ap, ap₂, ◌∙◌}
 use Rattle.std.specs.Prelude.{if◌then◌else◌, is_none}
 use Rattle.std.specs.List.{find}
 use Rattle.std.specs.Option.{option_or}
@@ -43,7 +44,8 @@ last_upto-cons x r s =
     ap (find (λ r. is_at_most (place_of r) x)) (reverse-append (r ∷ []) s)
     ∙ find-append (λ r. is_at_most (place_of r) x) (reverse s) (r ∷ [])
 
-pub last_upto-push : (x : Place) (s : List Row) (r : Row) → last_upto x (s ++ r ∷ []) ≡ (if is_at_most (place_of r) x then Some r else last_upto x s)
+pub last_upto-push : (x : Place) (s : List Row) (r : Row)
+    → last_upto x (s ++ r ∷ []) ≡ (if is_at_most (place_of r) x then Some r else last_upto x s)
 last_upto-push x s r = ap (find (λ r. is_at_most (place_of r) x)) (reverse-append s (r ∷ []))
 
 if_upto_above : (x : Place) (r : Row) → is_at_most (place_of r) x ≡ false → if_upto x r ≡ None
@@ -61,7 +63,8 @@ stays_above p q x le above =
     ] refl
 
 -- all of a run that rises from above x is above x
-none_upto : (x : Place) (r : Row) (s : List Row) → is_rising (r ∷ s) ≡ true → is_at_most (place_of r) x ≡ false → last_upto x (r ∷ s) ≡ None
+none_upto : (x : Place) (r : Row) (s : List Row) → is_rising (r ∷ s) ≡ true → is_at_most (place_of r) x ≡ false
+    → last_upto x (r ∷ s) ≡ None
 none_upto x r [] h above = if_upto_above x r above
 none_upto x r (t ∷ s) h above =
     let p = and_parts (is_at_most (place_of r) (place_of t)) (is_rising (t ∷ s)) h in
@@ -73,10 +76,13 @@ pub some_upto : (x : Place) (s : List Row) → covers x s ≡ true → is_none (
 some_upto x [] h = absurd (below_least x (and_parts (is_at_most (first_place []) x) (is_below x (last_place [])) h).1)
 some_upto x (r ∷ s) h =
     let p = and_parts (is_at_most (place_of r) x) (is_below x (last_place (r ∷ s))) h in
-    ap is_none (last_upto-cons x r s ∙ ap (option_or (last_upto x s)) (if_upto_below x r p.0)) ∙ option_or-Some (last_upto x s) r
+    ap is_none (last_upto-cons x r s ∙ ap (option_or (last_upto x s)) (if_upto_below x r p.0))
+    ∙ option_or-Some (last_upto x s) r
 
 -- the row before one that is above x
-pub last_upto-between : (x : Place) (j : ℕ) (s : List Row) → is_rising s ≡ true → suc j < length s → is_at_most (place_at s j) x ≡ true → is_at_most (place_at s (suc j)) x ≡ false → last_upto x s ≡ Some (get_or s j no_row)
+pub last_upto-between : (x : Place) (j : ℕ) (s : List Row) → is_rising s ≡ true → suc j < length s
+    → is_at_most (place_at s j) x ≡ true → is_at_most (place_at s (suc j)) x ≡ false
+    → last_upto x s ≡ Some (get_or s j no_row)
 last_upto-between x j [] h lt upto above = absurd (omega arith)
 last_upto-between x j (r ∷ []) h lt upto above = absurd (omega arith)
 last_upto-between x zero (r ∷ t ∷ s) h lt upto above =

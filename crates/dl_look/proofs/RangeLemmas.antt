@@ -1,5 +1,7 @@
 -- Ranges of addresses in the order of their starts, and how far they reach.
-use Rattle.std.proofs.Common.{◌≡◌, ℕ, zero, suc, ◌+◌, ◌-◌, ◌<◌, ◌≤◌, Bool, true, false, ◌&&◌, ◌||◌, nat_le, nat_lt, List, [], ◌∷◌, ◌++◌, length, take, get_or, max, arith, refl, sym, ap, ap₂, ◌∙◌, inl, inr, subst}
+use Rattle.std.proofs.Common.{◌≡◌, ℕ, zero, suc, ◌+◌, ◌-◌, ◌<◌, ◌≤◌, Bool, true, false, ◌&&◌, ◌||◌, nat_le, nat_lt}
+use Rattle.std.proofs.Common.{List, [], ◌∷◌, ◌++◌, length, take, get_or, max, arith, refl, sym, ap, ap₂, ◌∙◌, inl, inr}
+use Rattle.std.proofs.Common.{subst}
 use Rattle.std.specs.List.{list_any}
 use Rattle.std.proofs.lemmas.Bool.{cases_lt}
 use Rattle.std.proofs.lemmas.Bool.Decides.{nat_tests}
@@ -7,9 +9,12 @@ use Rattle.std.proofs.lemmas.List.{take_all, take_more, length_push, get_or_push
 use Rattle.std.proofs.lemmas.List.Folds.{list_any-append, list_any-from_Any, list_any_none}
 use Rattle.dl_look.specs.declared.code_ranges.AddressRange.{AddressRange}
 use Rattle.dl_look.specs.declared.code_ranges.Reach.{Reach}
-use Rattle.dl_look.specs.Ranges.{AreReaches, AreRising, StartsRise, is_in, is_reached, no_range, no_reach, reach_end, reach_start, start_in}
+use Rattle.dl_look.specs.Ranges.{AreReaches, AreRising, StartsRise, is_in, is_reached, no_range, no_reach, reach_end}
+use Rattle.dl_look.specs.Ranges.{reach_start, start_in}
 
-starts_far : (ranges : List AddressRange) → ((k : ℕ) → k + 1 < length ranges → start_in ranges k ≤ start_in ranges (k + 1)) → (i d : ℕ) → i + d < length ranges
+starts_far : (ranges : List AddressRange)
+    → ((k : ℕ) → k + 1 < length ranges → start_in ranges k ≤ start_in ranges (k + 1)) → (i d : ℕ)
+    → i + d < length ranges
     → start_in ranges i ≤ start_in ranges (i + d)
 starts_far ranges step i zero h =
     let e : i ≡ i + 0 = omega arith in subst (λ j. start_in ranges i ≤ start_in ranges j) e (omega arith)
@@ -19,7 +24,8 @@ starts_far ranges step i (suc d) h =
     let next = step (i + d) (omega arith) in
     subst (λ j. start_in ranges i ≤ start_in ranges j) e (omega (arith, before, next))
 
-pub starts_rise : (ranges : List AddressRange) → ((k : ℕ) → k + 1 < length ranges → start_in ranges k ≤ start_in ranges (k + 1)) → StartsRise ranges
+pub starts_rise : (ranges : List AddressRange)
+    → ((k : ℕ) → k + 1 < length ranges → start_in ranges k ≤ start_in ranges (k + 1)) → StartsRise ranges
 starts_rise ranges step j k le lt =
     let e : j + (k - j) ≡ k = omega arith in
     subst (λ m. start_in ranges j ≤ start_in ranges m) e (starts_far ranges step j (k - j) (omega arith))
@@ -33,12 +39,20 @@ pub record SoFar (ranges : List AddressRange) (reaches : List Reach) (i furthest
   pub last : 0 < furthest → (0 < i) × (reach_end reaches (i - 1) ≡ furthest)
   pub same : (a : ℕ) → list_any (is_reached a) reaches ≡ list_any (is_in a) (take i ranges)
 
-reached : (reaches : List Reach) (a k : ℕ) → k < length reaches → reach_start reaches k ≤ a → a < reach_end reaches k → list_any (is_reached a) reaches ≡ true
+reached : (reaches : List Reach) (a k : ℕ) → k < length reaches → reach_start reaches k ≤ a → a < reach_end reaches k
+    → list_any (is_reached a) reaches ≡ true
 reached reaches a k lt from to =
-    list_any-from_Any (is_reached a) reaches (k, get_or reaches k no_reach, lt, get_or_default reaches k (get_or reaches k no_reach) no_reach lt, (grind (arith, nat_tests, from, to)))
+    list_any-from_Any (is_reached a) reaches (
+      k,
+      get_or reaches k no_reach,
+      lt,
+      get_or_default reaches k (get_or reaches k no_reach) no_reach lt,
+      (grind (arith, nat_tests, from, to)),
+    )
 
 -- a range more, which ends at `range_end`
-either : (old : Bool) (start a end range_end furthest : ℕ) → end ≡ max range_end furthest → (start ≤ a → a < furthest → old ≡ true)
+either : (old : Bool) (start a end range_end furthest : ℕ) → end ≡ max range_end furthest
+    → (start ≤ a → a < furthest → old ≡ true)
     → (old || (nat_le start a && nat_lt a end)) ≡ (old || (nat_le start a && nat_lt a range_end))
 either old start a end range_end furthest is far = elim (cases_lt a furthest) [
   | inl under ↦ elim (cases_lt a start) [
@@ -52,7 +66,8 @@ one : (b : Bool) → (b || false) ≡ b
 one true = refl
 one false = refl
 
-module _ (ranges : List AddressRange) (reaches : List Reach) (i furthest end : ℕ) (range : AddressRange) (rises : StartsRise ranges) (s : SoFar ranges reaches i furthest) (lt : i < length ranges)
+module _ (ranges : List AddressRange) (reaches : List Reach) (i furthest end : ℕ) (range : AddressRange)
+    (rises : StartsRise ranges) (s : SoFar ranges reaches i furthest) (lt : i < length ranges)
     (read : get_or ranges i no_range ≡ range) (is : end ≡ max (range.start + range.size) furthest) where
   abbrev new : Reach
   new = record { start = range.start; end = end }
@@ -74,15 +89,21 @@ module _ (ranges : List AddressRange) (reaches : List Reach) (i furthest end : �
 
   ends : (k : ℕ) → k < i + 1 → reach_end more k ≤ end
   ends k h = elim (cases_lt k i) [
-    | inl under ↦ (let e = ap (λ (r : Reach). r.end) (kept k under) in let b = s.ends k under in omega (arith, e, b, is))
-    | inr at ↦ (let same : k ≡ i = omega (arith, h, at) in let e = ap (λ j. reach_end more j) same ∙ ap (λ (r : Reach). r.end) at_new in omega (arith, e))
+    | inl under ↦ (let e = ap (λ (r : Reach). r.end) (kept k under) in let b = s.ends k under in
+        omega (arith, e, b, is))
+    | inr at ↦ (let same : k ≡ i = omega (
+      arith,
+      h,
+      at,
+    ) in let e = ap (λ j. reach_end more j) same ∙ ap (λ (r : Reach). r.end) at_new in omega (arith, e))
   ]
 
   starts : (k : ℕ) → k < i + 1 → reach_start more k ≡ start_in ranges k
   starts k h = elim (cases_lt k i) [
     | inl under ↦ ap (λ (r : Reach). r.start) (kept k under) ∙ s.starts k under
     | inr at ↦ (let same : k ≡ i = omega (arith, h, at) in
-        ap (λ j. reach_start more j) same ∙ (ap (λ (r : Reach). r.start) at_new ∙ (start_new ∙ ap (λ j. start_in ranges j) (sym same))))
+        ap (λ j. reach_start more j) same
+        ∙ (ap (λ (r : Reach). r.start) at_new ∙ (start_new ∙ ap (λ j. start_in ranges j) (sym same))))
   ]
 
   rising : AreRising more
@@ -93,15 +114,23 @@ module _ (ranges : List AddressRange) (reaches : List Reach) (i furthest end : �
       let to = starts k (omega (arith, within, n)) in (
         omega (arith, by_start, from, to),
         elim (cases_lt k i) [
-          | inl under ↦ (let e = ap (λ (r : Reach). r.end) (kept j (omega (arith, le, under))) in let e' = ap (λ (r : Reach). r.end) (kept k under) in
+          | inl under ↦ (let e = ap (λ (r : Reach). r.end) (kept j (omega (arith, le, under))) in
+              let e' = ap (λ (r : Reach). r.end) (kept k under) in
               let b = (s.rising j k le (let c = s.count in omega (arith, c, under))).1 in omega (arith, e, e', b))
-          | inr at ↦ (let same : k ≡ i = omega (arith, within, n, at) in let e = ap (λ j. reach_end more j) same ∙ ap (λ (r : Reach). r.end) at_new in
+          | inr at ↦ (let same : k ≡ i = omega (
+            arith,
+            within,
+            n,
+            at,
+          ) in let e = ap (λ j. reach_end more j) same ∙ ap (λ (r : Reach). r.end) at_new in
               let b = ends j (omega (arith, le, within, n)) in omega (arith, e, b))
         ],
       )
 
   last : 0 < end → (0 < i + 1) × (reach_end more (i + 1 - 1) ≡ end)
-  last h = let e : i + 1 - 1 ≡ i = omega arith in (omega arith, ap (λ j. reach_end more j) e ∙ ap (λ (r : Reach). r.end) at_new)
+  last h =
+      let e : i + 1 - 1 ≡ i =
+      omega arith in (omega arith, ap (λ j. reach_end more j) e ∙ ap (λ (r : Reach). r.end) at_new)
 
   covered : (a : ℕ) → range.start ≤ a → a < furthest → list_any (is_reached a) reaches ≡ true
   covered a from to =
@@ -112,7 +141,8 @@ module _ (ranges : List AddressRange) (reaches : List Reach) (i furthest end : �
       let start = s.starts (i - 1) (omega (arith, some)) in
       let n = s.count in
       let now = start_new in
-      reached reaches a (i - 1) (omega (arith, n, some)) (omega (arith, before, start, now, from)) (omega (arith, far, to))
+      reached reaches a (i - 1) (omega (arith, n, some)) (omega (arith, before, start, now, from))
+      (omega (arith, far, to))
 
   same : (a : ℕ) → list_any (is_reached a) more ≡ list_any (is_in a) (take (i + 1) ranges)
   same a =
@@ -121,7 +151,8 @@ module _ (ranges : List AddressRange) (reaches : List Reach) (i furthest end : �
       ∙ (either (list_any (is_reached a) reaches) range.start a end (range.start + range.size) furthest is (covered a)
       ∙ (ap₂ (λ b c. b || c) (s.same a) (sym (one (is_in a range)))
       ∙ (sym (list_any-append (is_in a) (take i ranges) (range ∷ []))
-      ∙ ap (list_any (is_in a)) (ap (λ r. take i ranges ++ r ∷ []) (sym read) ∙ sym (take_more ranges i no_range lt))))))
+      ∙ ap (list_any (is_in a)) (ap (λ r. take i ranges ++ r ∷ []) (sym read)
+      ∙ sym (take_more ranges i no_range lt))))))
 
   pub one_more : SoFar ranges more (i + 1) end
   one_more = record { count = count; rising = rising; ends = ends; starts = starts; last = last; same = same }
@@ -134,23 +165,31 @@ is_false start end a past = elim (cases_lt a start) [
   | inr from ↦ (let over = past from in grind (arith, nat_tests, over))
 ]
 
-pub none_begins : (reaches : List Reach) (a count : ℕ) → count ≤ 0 → ((k : ℕ) → count ≤ k → k < length reaches → a < reach_start reaches k) → false ≡ list_any (is_reached a) reaches
+pub none_begins : (reaches : List Reach) (a count : ℕ) → count ≤ 0
+    → ((k : ℕ) → count ≤ k → k < length reaches → a < reach_start reaches k) → false ≡ list_any (is_reached a) reaches
 none_begins reaches a count none above =
-    sym (list_any_none (is_reached a) reaches (λ k d lt. subst (λ r. is_reached a r ≡ false) (get_or_default reaches k no_reach d lt)
-    (let b = above k (omega (arith, none)) lt in is_false (reach_start reaches k) (reach_end reaches k) a (λ from. absurd (omega (arith, from, b))))))
+    sym (list_any_none (is_reached a) reaches
+    (λ k d lt. subst (λ r. is_reached a r ≡ false) (get_or_default reaches k no_reach d lt)
+    (let b = above k (omega (arith, none)) lt in
+    is_false (reach_start reaches k) (reach_end reaches k) a (λ from. absurd (omega (arith, from, b))))))
 
-pub last_tells : (reaches : List Reach) (a count : ℕ) (last : Reach) → AreRising reaches → count ≤ length reaches → 0 < count
-    → ((k : ℕ) → k < count → reach_start reaches k ≤ a) → ((k : ℕ) → count ≤ k → k < length reaches → a < reach_start reaches k)
+pub last_tells : (reaches : List Reach) (a count : ℕ) (last : Reach) → AreRising reaches → count ≤ length reaches
+    → 0 < count
+    → ((k : ℕ) → k < count → reach_start reaches k ≤ a)
+    → ((k : ℕ) → count ≤ k → k < length reaches → a < reach_start reaches k)
     → last ≡ get_or reaches (count - 1) no_reach → nat_lt a last.end ≡ list_any (is_reached a) reaches
 last_tells reaches a count last rises within some upto above read =
     let e = ap (λ (r : Reach). r.end) read in
     elim (cases_lt a last.end) [
       | inl under ↦ (let t : nat_lt a last.end ≡ true = grind (arith, nat_tests, under) in
-          t ∙ sym (reached reaches a (count - 1) (omega (arith, within, some)) (upto (count - 1) (omega (arith, some))) (omega (arith, e, under))))
+          t ∙ sym (reached reaches a (count - 1) (omega (arith, within, some)) (upto (count - 1) (omega (arith, some)))
+          (omega (arith, e, under))))
       | inr past ↦ (let t : nat_lt a last.end ≡ false = grind (arith, nat_tests, past) in
-          t ∙ sym (list_any_none (is_reached a) reaches (λ k d lt. subst (λ r. is_reached a r ≡ false) (get_or_default reaches k no_reach d lt)
+          t ∙ sym (list_any_none (is_reached a) reaches
+          (λ k d lt. subst (λ r. is_reached a r ≡ false) (get_or_default reaches k no_reach d lt)
           (is_false (reach_start reaches k) (reach_end reaches k) a (λ from. elim (cases_lt k count) [
-            | inl under ↦ (let ends = (rises k (count - 1) (omega (arith, under)) (omega (arith, within, some))).1 in omega (arith, ends, e, past))
+            | inl under ↦ (let ends = (rises k (count - 1) (omega (arith, under)) (omega (arith, within, some))).1 in
+                omega (arith, ends, e, past))
             | inr behind ↦ (let b = above k behind lt in absurd (omega (arith, from, b)))
           ])))))
     ]

@@ -1,5 +1,7 @@
 -- The sequences of rows, one after the other, and what an index keeps of them.
-use Rattle.std.proofs.Common.{◌≡◌, ℕ, zero, suc, ◌+◌, ◌<◌, ◌≤◌, Bool, true, false, ◌&&◌, List, [], ◌∷◌, ◌++◌, length, take, drop, get_or, Some, None, arith, refl, zero-add, sym, ap, ap₂, ◌∙◌, append_assoc, append-nil, length-append}
+use Rattle.std.proofs.Common.{◌≡◌, ℕ, zero, suc, ◌+◌, ◌<◌, ◌≤◌, Bool, true, false, ◌&&◌, List, [], ◌∷◌, ◌++◌, length}
+use Rattle.std.proofs.Common.{take, drop, get_or, Some, None, arith, refl, zero-add, sym, ap, ap₂, ◌∙◌, append_assoc}
+use Rattle.std.proofs.Common.{append-nil, length-append}
 use Rattle.std.specs.Prelude.{if◌then◌else◌}
 use Rattle.std.specs.Option.{option_and_then}
 use Rattle.std.specs.List.{find}
@@ -9,7 +11,8 @@ use Rattle.std.proofs.lemmas.Bool.{and_parts}
 use Rattle.dl_rows.specs.declared.row.Row.{Row}
 use Rattle.dl_look.specs.declared.place.Place.{Place}
 use Rattle.dl_look.specs.declared.probed.Span.{Span}
-use Rattle.dl_look.specs.Answer.{is_below, is_at_most, is_rising, first_place, last_place, sequences_after, sequences, covers, last_upto, answer}
+use Rattle.dl_look.specs.Answer.{is_below, is_at_most, is_rising, first_place, last_place, sequences_after, sequences}
+use Rattle.dl_look.specs.Answer.{covers, last_upto, answer}
 use Rattle.dl_look.specs.FinderRows.{unended_after, unended}
 use Rattle.dl_look.specs.Spans.{span_of, spans_from, spans}
 use Rattle.dl_look.proofs.MoreRows.{answers_for, answer_among}
@@ -19,10 +22,13 @@ joined [] = []
 joined (s ∷ ss) = s ++ joined ss
 
 -- the rows are their sequences, and those after the last end row
-pub joined-sequences : (begun rows : List Row) → joined (sequences_after begun rows) ++ unended_after begun rows ≡ begun ++ rows
+pub joined-sequences : (begun rows : List Row)
+    → joined (sequences_after begun rows) ++ unended_after begun rows ≡ begun ++ rows
 joined-sequences begun [] = sym (append-nil begun)
 joined-sequences begun (r ∷ rows) =
-    elim r.end_sequence as (λ b. joined (if b then (begun ++ r ∷ []) ∷ sequences_after [] rows else sequences_after (begun ++ r ∷ []) rows) ++ (if b then unended_after [] rows else unended_after (begun ++ r ∷ []) rows) ≡ begun ++ r ∷ rows) [
+    elim r.end_sequence as (λ b. joined (if b then (begun ++ r ∷ []) ∷ sequences_after [] rows
+    else sequences_after (begun ++ r ∷ []) rows) ++ (if b then unended_after [] rows
+    else unended_after (begun ++ r ∷ []) rows) ≡ begun ++ r ∷ rows) [
       | true ↦ append_assoc (begun ++ r ∷ []) (joined (sequences_after [] rows)) (unended_after [] rows)
           ∙ ap (λ l. (begun ++ r ∷ []) ++ l) (joined-sequences [] rows)
           ∙ append_assoc begun (r ∷ []) rows
@@ -40,25 +46,39 @@ length-spans rows = length-spans_from 0 (sequences rows)
 abbrev pub start_at : List (List Row) → ℕ → ℕ
 start_at ss i = length (joined (take i ss))
 
-get_or-spans_from : (k : ℕ) (ss : List (List Row)) (i : ℕ) (d : Span) → i < length ss → get_or (spans_from k ss) i d ≡ span_of (k + start_at ss i) (get_or ss i [])
+get_or-spans_from : (k : ℕ) (ss : List (List Row)) (i : ℕ) (d : Span) → i < length ss
+    → get_or (spans_from k ss) i d ≡ span_of (k + start_at ss i) (get_or ss i [])
 get_or-spans_from k [] i d h = absurd (omega arith)
 get_or-spans_from k (s ∷ ss) zero d h = let e : k ≡ k + 0 = omega arith in ap (λ n. span_of n s) e
 get_or-spans_from k (s ∷ ss) (suc i) d h =
-    let e : k + length s + start_at ss i ≡ k + length (s ++ joined (take i ss)) = omega (arith, length-append s (joined (take i ss))) in
+    let e : k + length s + start_at ss i ≡ k + length (s ++ joined (take i ss)) =
+    omega (arith, length-append s (joined (take i ss))) in
     get_or-spans_from (k + length s) ss i d (omega arith) ∙ ap (λ n. span_of n (get_or ss i [])) e
 
-part_is : (ss : List (List Row)) (rest : List Row) (i : ℕ) → i < length ss → take (length (get_or ss i [])) (drop (start_at ss i) (joined ss ++ rest)) ≡ get_or ss i []
+part_is : (ss : List (List Row)) (rest : List Row) (i : ℕ) → i < length ss
+    → take (length (get_or ss i [])) (drop (start_at ss i) (joined ss ++ rest)) ≡ get_or ss i []
 part_is [] rest i h = absurd (omega arith)
-part_is (s ∷ ss) rest zero h = ap (take (length s)) (append_assoc s (joined ss) rest) ∙ take-append_seam s (joined ss ++ rest)
+part_is (s ∷ ss) rest zero h =
+    ap (take (length s)) (append_assoc s (joined ss) rest) ∙ take-append_seam s (joined ss ++ rest)
 part_is (s ∷ ss) rest (suc i) h =
-    ap (take (length (get_or ss i []))) (ap₂ drop (length-append s (joined (take i ss))) (append_assoc s (joined ss) rest) ∙ drop-append-add s (joined ss ++ rest) (start_at ss i))
+    ap (take (length (get_or ss i [])))
+    (ap₂ drop (length-append s (joined (take i ss))) (append_assoc s (joined ss) rest)
+    ∙ drop-append-add s (joined ss ++ rest) (start_at ss i))
     ∙ part_is ss rest i (omega arith)
 
-part_fits : (ss : List (List Row)) (rest : List Row) (i : ℕ) → i < length ss → start_at ss i + length (get_or ss i []) ≤ length (joined ss ++ rest)
+part_fits : (ss : List (List Row)) (rest : List Row) (i : ℕ) → i < length ss
+    → start_at ss i + length (get_or ss i []) ≤ length (joined ss ++ rest)
 part_fits [] rest i h = absurd (omega arith)
 part_fits (s ∷ ss) rest zero h = omega (arith, length-append (s ++ joined ss) rest, length-append s (joined ss))
 part_fits (s ∷ ss) rest (suc i) h =
-    omega (arith, part_fits ss rest i (omega arith), length-append (s ++ joined ss) rest, length-append s (joined ss), length-append (joined ss) rest, length-append s (joined (take i ss)))
+    omega (
+      arith,
+      part_fits ss rest i (omega arith),
+      length-append (s ++ joined ss) rest,
+      length-append s (joined ss),
+      length-append (joined ss) rest,
+      length-append s (joined (take i ss)),
+    )
 
 -- before the sequence i is probed: the answer is among it and those after it
 pub record Passed (rows now : List Row) (x : Place) (i probes : ℕ) : Type 0 where
@@ -67,13 +87,16 @@ pub record Passed (rows now : List Row) (x : Place) (i probes : ℕ) : Type 0 wh
   pub count : probes ≡ i
   pub within : i ≤ length (sequences rows)
 
-pub all_passed : (rows now : List Row) (x : Place) (i probes : ℕ) → Passed rows now x i probes → length (sequences rows) ≤ i → None ≡ answer rows x
+pub all_passed : (rows now : List Row) (x : Place) (i probes : ℕ) → Passed rows now x i probes
+    → length (sequences rows) ≤ i → None ≡ answer rows x
 all_passed rows now x i probes p all =
     sym (p.others ∙ ap (λ ss. answer_among ss x) (drop_of_length-le (sequences rows) all))
 
-pub among_next : (s : List Row) (ss : List (List Row)) (x : Place) → answer_among (s ∷ ss) x ≡ (if answers_for x s then last_upto x s else answer_among ss x)
+pub among_next : (s : List Row) (ss : List (List Row)) (x : Place)
+    → answer_among (s ∷ ss) x ≡ (if answers_for x s then last_upto x s else answer_among ss x)
 among_next s ss x =
-    elim (answers_for x s) as (λ b. option_and_then (last_upto x) (if b then Some s else find (answers_for x) ss) ≡ (if b then last_upto x s else answer_among ss x)) [
+    elim (answers_for x s) as (λ b. option_and_then (last_upto x) (if b then Some s else find (answers_for x) ss)
+    ≡ (if b then last_upto x s else answer_among ss x)) [
       | true ↦ refl
       | false ↦ refl
     ]
@@ -87,7 +110,8 @@ pub record Hit (rows now : List Row) (x : Place) (start len : ℕ) : Type 0 wher
   pub value : last_upto x (take len (drop start now)) ≡ answer rows x
 
 -- the probe of the sequence i answers the span
-module _ (rows now new : List Row) (x : Place) (i probes : ℕ) (p : Passed rows now x i probes) (lt : i < length (sequences rows)) (span : Span) (is : span ≡ get_or (spans now) i span) (same : new ≡ now) where
+module _ (rows now new : List Row) (x : Place) (i probes : ℕ) (p : Passed rows now x i probes)
+    (lt : i < length (sequences rows)) (span : Span) (is : span ≡ get_or (spans now) i span) (same : new ≡ now) where
   abbrev sequence : List Row
   sequence = get_or (sequences rows) i []
 
@@ -96,7 +120,8 @@ module _ (rows now new : List Row) (x : Place) (i probes : ℕ) (p : Passed rows
 
   span_is : span ≡ span_of start sequence
   span_is =
-      is ∙ ap (λ l. get_or (spans l) i span) p.same ∙ get_or-spans_from 0 (sequences rows) i span lt ∙ ap (λ n. span_of n sequence) (zero-add start)
+      is ∙ ap (λ l. get_or (spans l) i span) p.same ∙ get_or-spans_from 0 (sequences rows) i span lt
+      ∙ ap (λ n. span_of n sequence) (zero-add start)
 
   all : joined (sequences rows) ++ unended rows ≡ rows
   all = joined-sequences [] rows
@@ -119,11 +144,14 @@ module _ (rows now new : List Row) (x : Place) (i probes : ℕ) (p : Passed rows
   says : (span.rising && (is_at_most span.first x && is_below x span.last)) ≡ answers_for x sequence
   says = ap (λ (s : Span). s.rising && (is_at_most s.first x && is_below x s.last)) span_is
 
-  split : answer rows x ≡ (if answers_for x sequence then last_upto x sequence else answer_among (drop (suc i) (sequences rows)) x)
+  split : answer rows x ≡ (if answers_for x sequence then last_upto x sequence
+      else answer_among (drop (suc i) (sequences rows)) x)
   split =
-      p.others ∙ ap (λ ss. answer_among ss x) (drop-cons (sequences rows) i [] lt) ∙ among_next sequence (drop (suc i) (sequences rows)) x
+      p.others ∙ ap (λ ss. answer_among ss x) (drop-cons (sequences rows) i [] lt)
+      ∙ among_next sequence (drop (suc i) (sequences rows)) x
 
-  pub hit : (span.rising && (is_at_most span.first x && is_below x span.last)) ≡ true → Hit rows new x span.start span.len
+  pub hit : (span.rising && (is_at_most span.first x && is_below x span.last)) ≡ true
+      → Hit rows new x span.start span.len
   hit test =
       let hits = sym says ∙ test in
       let rises = and_parts (is_rising sequence) (covers x sequence) hits in
@@ -133,15 +161,21 @@ module _ (rows now new : List Row) (x : Place) (i probes : ℕ) (p : Passed rows
         rising = ap is_rising part ∙ rises.0;
         low = ap (λ l. is_at_most (first_place l) x) part ∙ ends.0;
         high = ap (λ l. is_below x (last_place l)) part ∙ ends.1;
-        value = ap (last_upto x) part ∙ sym (split ∙ ap (λ (b : Bool). if b then last_upto x sequence else answer_among (drop (suc i) (sequences rows)) x) hits);
+        value = ap (last_upto x) part
+            ∙ sym (split ∙ ap (λ (b : Bool). if b then last_upto x sequence
+            else answer_among (drop (suc i) (sequences rows)) x) hits);
       }
 
-  pub miss : (span.rising && (is_at_most span.first x && is_below x span.last)) ≡ false → Passed rows new x (i + 1) (probes + 1)
+  pub miss : (span.rising && (is_at_most span.first x && is_below x span.last)) ≡ false
+      → Passed rows new x (i + 1) (probes + 1)
   miss test =
       let e : suc i ≡ i + 1 = omega arith in
       record {
         same = same ∙ p.same;
-        others = split ∙ ap (λ (b : Bool). if b then last_upto x sequence else answer_among (drop (suc i) (sequences rows)) x) (sym says ∙ test) ∙ ap (λ n. answer_among (drop n (sequences rows)) x) e;
+        others =
+            split ∙ ap (λ (b : Bool). if b then last_upto x sequence
+            else answer_among (drop (suc i) (sequences rows)) x) (sym says ∙ test)
+            ∙ ap (λ n. answer_among (drop n (sequences rows)) x) e;
         count = ap (λ n. n + 1) p.count;
         within = omega arith;
       }

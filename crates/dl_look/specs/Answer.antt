@@ -1,6 +1,7 @@
 -- The row that answers for a place. DWARF 5, section 6.2.2: address and op_index together are the place
 -- of a row, rows come in sequences, and the end row of a sequence is the first place after it.
-use Rattle.std.specs.Prelude.{Bool, true, ◌&&◌, ◌||◌, ◌==◌, nat_lt, nat_le, if◌then◌else◌, List, [], ◌∷◌, ◌++◌, reverse, Option}
+use Rattle.std.specs.Prelude.{Bool, true, ◌&&◌, ◌||◌, ◌==◌, nat_lt, nat_le, if◌then◌else◌, List, [], ◌∷◌, ◌++◌, reverse}
+use Rattle.std.specs.Prelude.{Option}
 use Rattle.std.specs.List.{find}
 use Rattle.std.specs.Option.{option_and_then}
 use Rattle.dl_rows.specs.declared.row.Row.{Row}

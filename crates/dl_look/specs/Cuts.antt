@@ -1,5 +1,6 @@
 -- From which places on which sequence of an index is the first rising one that covers. No promise rests on this file.
-use Rattle.std.specs.Prelude.{◌≡◌, ℕ, suc, ◌*◌, ◌<◌, ◌≤◌, Bool, true, false, ◌&&◌, if◌then◌else◌, List, [], ◌∷◌, length, slice_index_or, Option, Some, None}
+use Rattle.std.specs.Prelude.{◌≡◌, ℕ, suc, ◌*◌, ◌<◌, ◌≤◌, Bool, true, false, ◌&&◌, if◌then◌else◌, List, [], ◌∷◌, length}
+use Rattle.std.specs.Prelude.{slice_index_or, Option, Some, None}
 use Rattle.dl_look.specs.declared.place.Place.{Place}
 use Rattle.dl_look.specs.declared.probed.Span.{Span}
 use Rattle.dl_look.specs.declared.cuts.Cut.{Cut}
@@ -28,11 +29,15 @@ no_span = record { start = 0; len = 0; first = no_place; last = no_place; rising
 abbrev pub cut_place : List Cut → ℕ → Place
 cut_place cuts k = (slice_index_or cuts k no_cut).place
 
--- the cuts of spans: at most two a span, their places rise strictly, each tells the first rising span that covers its place, and
+-- the cuts of spans: at most two a span, their places rise strictly, each tells the first rising span that covers its
+-- place, and
 -- a cut stands at each place where a span begins or ends
 pub record AreCuts (spans : List Span) (cuts : List Cut) : Type 0 where
   pub few : length cuts ≤ 2 * length spans
   pub rise : (k m : ℕ) → k < m → m < length cuts → is_below (cut_place cuts k) (cut_place cuts m) ≡ true
-  pub right : (k : ℕ) → k < length cuts → (slice_index_or cuts k no_cut).sequence ≡ first_from 0 spans (cut_place cuts k)
-  pub begins : (i : ℕ) → i < length spans → (k : ℕ) × (k < length cuts) × (cut_place cuts k ≡ (slice_index_or spans i no_span).first)
-  pub ends : (i : ℕ) → i < length spans → (k : ℕ) × (k < length cuts) × (cut_place cuts k ≡ (slice_index_or spans i no_span).last)
+  pub right : (k : ℕ) → k < length cuts
+      → (slice_index_or cuts k no_cut).sequence ≡ first_from 0 spans (cut_place cuts k)
+  pub begins : (i : ℕ) → i < length spans
+      → (k : ℕ) × (k < length cuts) × (cut_place cuts k ≡ (slice_index_or spans i no_span).first)
+  pub ends : (i : ℕ) → i < length spans
+      → (k : ℕ) × (k < length cuts) × (cut_place cuts k ≡ (slice_index_or spans i no_span).last)

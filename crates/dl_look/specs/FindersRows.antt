@@ -1,5 +1,6 @@
 -- What finders keep of the places and of the rows that they were given. No promise rests on how this is said.
-use Rattle.std.specs.Prelude.{◌≡◌, ℕ, ◌<◌, true, false, if◌then◌else◌, nat_lt, List, [], ◌∷◌, ◌++◌, length, Option, Some, None}
+use Rattle.std.specs.Prelude.{◌≡◌, ℕ, ◌<◌, true, false, if◌then◌else◌, nat_lt, List, [], ◌∷◌, ◌++◌, length, Option}
+use Rattle.std.specs.Prelude.{Some, None}
 use Rattle.std.specs.Option.{option_or}
 use Rattle.dl_rows.specs.declared.row.Row.{Row}
 use Rattle.dl_look.specs.declared.place.Place.{Place}
@@ -8,7 +9,8 @@ use Rattle.dl_look.specs.declared.trail.Stretch.{Stretch}
 use Rattle.dl_look.specs.declared.finders.Finders.{Finders}
 use Rattle.dl_look.specs.declared.finders.State.{State}
 use Rattle.dl_look.specs.declared.finders.State.TheVariants.{Start, Passed, Open}
-use Rattle.dl_look.specs.Answer.{place_of, is_below, is_at_most, is_rising, first_place, last_place, covers, last_upto, answer}
+use Rattle.dl_look.specs.Answer.{place_of, is_below, is_at_most, is_rising, first_place, last_place, covers, last_upto}
+use Rattle.dl_look.specs.Answer.{answer}
 use Rattle.dl_look.specs.FinderRows.{unended}
 use Rattle.dl_look.specs.Ledgers.{answer_upto}
 use Rattle.dl_look.specs.Slots.{IsSlots, slot_place, slot_number}
@@ -38,7 +40,14 @@ Keeps slots trail (Open last end) s = IsTrail slots trail last end s
 -- the finders look for the places, and were given these units, which ended, and rows of the current unit
 pub record Stand (finders : Finders) (places : List Place) (units : List (List Row)) (rows : List Row) : Type 0 where
   pub slots : IsSlots places finders.slots.items
-  pub answers : (j : ℕ) → j < length finders.slots.items → answer_upto (length finders.ledger.log.items) finders.ledger (slot_number finders.slots.items j) ≡ option_or (answer_of_units units (slot_place finders.slots.items j)) (answer rows (slot_place finders.slots.items j))
-  pub ended : (j : ℕ) → j < length finders.slots.items → answer_upto finders.whole finders.ledger (slot_number finders.slots.items j) ≡ answer_of_units units (slot_place finders.slots.items j)
-  pub earlier : (front : List (List Row)) (last : List Row) → units ≡ front ++ last ∷ [] → (j : ℕ) → j < length finders.slots.items → answer_upto finders.before finders.ledger (slot_number finders.slots.items j) ≡ answer_of_units front (slot_place finders.slots.items j)
+  pub answers : (j : ℕ) → j < length finders.slots.items
+      → answer_upto (length finders.ledger.log.items) finders.ledger (slot_number finders.slots.items j)
+      ≡ option_or (answer_of_units units (slot_place finders.slots.items j))
+      (answer rows (slot_place finders.slots.items j))
+  pub ended : (j : ℕ) → j < length finders.slots.items
+      → answer_upto finders.whole finders.ledger (slot_number finders.slots.items j)
+      ≡ answer_of_units units (slot_place finders.slots.items j)
+  pub earlier : (front : List (List Row)) (last : List Row) → units ≡ front ++ last ∷ [] → (j : ℕ)
+      → j < length finders.slots.items → answer_upto finders.before finders.ledger (slot_number finders.slots.items j)
+      ≡ answer_of_units front (slot_place finders.slots.items j)
   pub kept : Keeps finders.slots.items finders.trail.items finders.state (unended rows)

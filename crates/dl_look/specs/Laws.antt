@@ -7,7 +7,9 @@ use Rattle.dl_look.specs.LiveRows.{live_rows, live_answer}
 
 -- it is one of the rows
 abbrev pub AnswersAreRows : Type 0
-AnswersAreRows = (rows : List Row) (x : Place) (r : Row) → answer rows x ≡ Some r → (front back : List Row) × (rows ≡ front ++ r ∷ back)
+AnswersAreRows =
+    (rows : List Row) (x : Place) (r : Row) → answer rows x ≡ Some r
+    → (front back : List Row) × (rows ≡ front ++ r ∷ back)
 
 -- it isn't above the place
 abbrev pub AnswersAreUpto : Type 0
@@ -19,4 +21,5 @@ AnswersAreNoEndRows = (rows : List Row) (x : Place) (r : Row) → answer rows x 
 
 -- that of the rows of live sequences is that of the first live rising sequence that covers the place
 abbrev pub AnswersOfLiveRows : Type 0
-AnswersOfLiveRows = (live : ℕ → Bool) (rows : List Row) (x : Place) → answer (live_rows live rows) x ≡ live_answer live rows x
+AnswersOfLiveRows =
+    (live : ℕ → Bool) (rows : List Row) (x : Place) → answer (live_rows live rows) x ≡ live_answer live rows x

@@ -1,5 +1,6 @@
 -- The answers of places, in the order in which they come. No promise rests on how this is said.
-use Rattle.std.specs.Prelude.{◌≡◌, ℕ, suc, ◌+◌, ◌<◌, ◌≤◌, if◌then◌else◌, false, nat_lt, List, [], ◌∷◌, length, slice_index_or, vec_capacity, Option, Some, None, is_none}
+use Rattle.std.specs.Prelude.{◌≡◌, ℕ, suc, ◌+◌, ◌<◌, ◌≤◌, if◌then◌else◌, false, nat_lt, List, [], ◌∷◌, length}
+use Rattle.std.specs.Prelude.{slice_index_or, vec_capacity, Option, Some, None, is_none}
 use Rattle.std.specs.Option.{option_and_then}
 use Rattle.dl_rows.specs.declared.row.Row.{Row}
 use Rattle.dl_look.specs.declared.slots.Slot.{Slot}
@@ -51,8 +52,10 @@ pub record IsSound (slots : List Slot) (ledger : Ledger) : Type 0 where
   pub linked : IsLinked ledger.links.next.items
   pub links : length ledger.links.next.items ≡ length slots + 1
   pub count : length ledger.entries.items ≡ length slots
-  pub «open» : (j : ℕ) → j < length slots → is_open ledger.links.next.items j ≡ is_none (entry_at ledger (slot_number slots j))
-  pub logged : (i e : ℕ) → entry_at ledger i ≡ Some e → (e < length ledger.log.items) × ((answered_at ledger e).number ≡ i)
+  pub «open» : (j : ℕ) → j < length slots
+      → is_open ledger.links.next.items j ≡ is_none (entry_at ledger (slot_number slots j))
+  pub logged : (i e : ℕ) → entry_at ledger i ≡ Some e
+      → (e < length ledger.log.items) × ((answered_at ledger e).number ≡ i)
   pub kept : (e : ℕ) → e < length ledger.log.items → entry_at ledger (answered_at ledger e).number ≡ Some e
   pub room : length ledger.log.items + unanswered ledger.entries.items ≡ length slots
   pub capacity : length slots ≤ vec_capacity ledger.log

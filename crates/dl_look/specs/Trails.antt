@@ -1,5 +1,6 @@
 -- Which row of the current sequence each slot has, in stretches of slots. No promise rests on how this is said.
-use Rattle.std.specs.Prelude.{ℕ, ◌<◌, ◌≤◌, ◌&&◌, if◌then◌else◌, nat_le, nat_lt, List, [], ◌∷◌, length, slice_index_or, Option, Some, None}
+use Rattle.std.specs.Prelude.{ℕ, ◌<◌, ◌≤◌, ◌&&◌, if◌then◌else◌, nat_le, nat_lt, List, [], ◌∷◌, length, slice_index_or}
+use Rattle.std.specs.Prelude.{Option, Some, None}
 use Rattle.dl_rows.specs.declared.row.Row.{Row}
 use Rattle.dl_look.specs.declared.trail.Stretch.{Stretch}
 use Rattle.dl_look.specs.Ledgers.{no_row}

@@ -17,7 +17,15 @@ FirstAnswer places units rows i r =
     (x : Place) × (slice_get places i ≡ Some x) × (answer_of_units units x ≡ None) × (answer rows x ≡ Some r)
 
 -- the places that the unit after the units is the first to answer, with their rows: each once, and no others
-pub record AreFirstAnswers (places : List Place) (units : List (List Row)) (rows : List Row) (answered : List Answered) : Type 0 where
-  pub right : (k : ℕ) (d : Answered) → k < length answered → FirstAnswer places units rows (slice_index_or answered k d).number (slice_index_or answered k d).row
-  pub all : (i : ℕ) (r : Row) → FirstAnswer places units rows i r → (k : ℕ) × (k < length answered) × ((d : Answered) → slice_index_or answered k d ≡ record { number = i; row = r })
-  pub once : (k m : ℕ) (d : Answered) → k < length answered → m < length answered → (slice_index_or answered k d).number ≡ (slice_index_or answered m d).number → k ≡ m
+pub record AreFirstAnswers (places : List Place) (units : List (List Row)) (rows : List Row)
+    (answered : List Answered) : Type 0 where
+  pub right : (k : ℕ) (d : Answered) → k < length answered
+      → FirstAnswer places units rows (slice_index_or answered k d).number (slice_index_or answered k d).row
+  pub all : (i : ℕ) (r : Row) → FirstAnswer places units rows i r
+      → (k : ℕ) × (k < length answered) × ((d : Answered) → slice_index_or answered k d ≡ record {
+        number = i;
+        row =
+            r;
+      })
+  pub once : (k m : ℕ) (d : Answered) → k < length answered → m < length answered
+      → (slice_index_or answered k d).number ≡ (slice_index_or answered m d).number → k ≡ m

@@ -13,5 +13,6 @@ big_from-all [] = refl
 big_from-all (b ∷ bytes) = rw (big_from-cons 0 (length bytes) b bytes, big_from-all bytes) refl
 
 -- the low byte of a number, and those of what is left
-pub little-more : (items whole : List ℕ) (k rest : ℕ) → items ++ little_bytes (suc k) rest ≡ whole → (items ++ rest % 256 ∷ []) ++ little_bytes k (rest / 256) ≡ whole
+pub little-more : (items whole : List ℕ) (k rest : ℕ) → items ++ little_bytes (suc k) rest ≡ whole
+    → (items ++ rest % 256 ∷ []) ++ little_bytes k (rest / 256) ≡ whole
 little-more items whole k rest h = append_assoc items (rest % 256 ∷ []) (little_bytes k (rest / 256)) ∙ h

@@ -1,5 +1,6 @@
 -- Numbers in LEB128 at the front of bytes.
-use Rattle.std.proofs.Common.{◌≡◌, ℕ, ◌<◌, ◌≤◌, Bool, true, false, nat_le, ◌&&◌, List, [], ◌∷◌, ◌++◌, length, refl, sym, ap, ◌∙◌, arith, inl, inr, Option, None, Some, MatchOption}
+use Rattle.std.proofs.Common.{◌≡◌, ℕ, ◌<◌, ◌≤◌, Bool, true, false, nat_le, ◌&&◌, List, [], ◌∷◌, ◌++◌, length, refl, sym}
+use Rattle.std.proofs.Common.{ap, ◌∙◌, arith, inl, inr, Option, None, Some, MatchOption}
 use Rattle.std.proofs.lemmas.Bool.{cases_lt, lt-ltb, le-ltb, le-leb, lt-leb}
 use Rattle.dl_num.specs.Leb.{AllContinue}
 use Rattle.dl_num.specs.LebFront.{is_leb, leb_front}
@@ -34,14 +35,18 @@ is_leb-once (a ∷ []) x v e = elim (cases_lt a 128) [
   | inl lt ↦ rw (lt-leb 128 a lt) refl
   | inr le ↦ absurd (true_false e (le-ltb a 128 le))
 ]
-is_leb-once (a ∷ c ∷ w) x v e = let t = and_left (nat_le 128 a) (is_leb (c ∷ w)) e in rw t (is_leb-once (c ∷ w) x v (and_right (nat_le 128 a) (is_leb (c ∷ w)) e))
+is_leb-once (a ∷ c ∷ w) x v e =
+    let t = and_left (nat_le 128 a) (is_leb (c ∷ w)) e in
+    rw t (is_leb-once (c ∷ w) x v (and_right (nat_le 128 a) (is_leb (c ∷ w)) e))
 
 -- the front of more bytes
 pub leb_front-append : (w y : List ℕ) → is_leb (leb_front w) ≡ true → leb_front (w ++ y) ≡ leb_front w
 leb_front-append [] y e = absurd cc
 leb_front-append (a ∷ w) y e = elim (cases_lt a 128) [
   | inl lt ↦ rw (lt-ltb a 128 lt) refl
-  | inr le ↦ let t = le-ltb a 128 le in rw t (ap (λ (z : List ℕ). a ∷ z) (leb_front-append w y (tail_leb a (leb_front w) le (rw t at e))))
+  | inr le ↦ let t =
+      le-ltb a 128 le in
+      rw t (ap (λ (z : List ℕ). a ∷ z) (leb_front-append w y (tail_leb a (leb_front w) le (rw t at e))))
 ] where
   tail_leb : (a : ℕ) (z : List ℕ) → 128 ≤ a → is_leb (a ∷ z) ≡ true → is_leb z ≡ true
   tail_leb a [] le e = absurd (true_false e (le-ltb a 128 le))
@@ -53,7 +58,8 @@ leb_front-leb [] e = refl
 leb_front-leb (a ∷ []) e = rw e refl
 leb_front-leb (a ∷ c ∷ w) e = elim (cases_lt a 128) [
   | inl lt ↦ absurd (true_false (and_left (nat_le 128 a) (is_leb (c ∷ w)) e) (lt-leb 128 a lt))
-  | inr le ↦ rw (le-ltb a 128 le) (ap (λ (z : List ℕ). a ∷ z) (leb_front-leb (c ∷ w) (and_right (nat_le 128 a) (is_leb (c ∷ w)) e)))
+  | inr le ↦ rw (le-ltb a 128 le)
+      (ap (λ (z : List ℕ). a ∷ z) (leb_front-leb (c ∷ w) (and_right (nat_le 128 a) (is_leb (c ∷ w)) e)))
 ]
 
 -- bytes that all continue are their own front
@@ -69,6 +75,7 @@ leb_front-le (a ∷ w) = elim (cases_lt a 128) [
 ]
 
 -- what holds of an answer, where more is known of each case
-pub answer-map : {A : Type 0} {P Q : Type 0} {R S : A → Type 0} (o : Option A) → (P → Q) → ((a : A) → R a → S a) → MatchOption o P R → MatchOption o Q S
+pub answer-map : {A : Type 0} {P Q : Type 0} {R S : A → Type 0} (o : Option A) → (P → Q) → ((a : A) → R a → S a)
+    → MatchOption o P R → MatchOption o Q S
 answer-map None f g m = f m
 answer-map (Some a) f g m = g a m

@@ -4,8 +4,10 @@ use Rattle.std.proofs.lemmas.Bool.{ltb-true, leb-true}
 use Rattle.std.proofs.Math.Seq.{drop-append_seam}
 use Rattle.dl_num.specs.Leb.{IsLeb, signed_groups}
 use Rattle.dl_num.specs.LebFront.{is_leb, leb_front}
-use Rattle.dl_num.specs.Laws.{OneUnsignedValue, OneSignedValue, NoUlebBeginsAnother, NoSlebBeginsAnother, LebIsTested, LebIsFront}
-use Rattle.dl_num.proofs.LebFrontLemmas.{is_leb-ends, is_leb-once, leb_front-append, leb_front-leb, and_left, and_right, true_false}
+use Rattle.dl_num.specs.Laws.{OneUnsignedValue, OneSignedValue, NoUlebBeginsAnother, NoSlebBeginsAnother, LebIsTested}
+use Rattle.dl_num.specs.Laws.{LebIsFront}
+use Rattle.dl_num.proofs.LebFrontLemmas.{is_leb-ends, is_leb-once, leb_front-append, leb_front-leb, and_left, and_right}
+use Rattle.dl_num.proofs.LebFrontLemmas.{true_false}
 
 last_same : (u v : List ℕ) (a b : ℕ) → u ++ a ∷ [] ≡ v ++ b ∷ [] → a ≡ b
 last_same [] [] a b e = cc
@@ -40,8 +42,16 @@ pub leb_is : (w : List ℕ) → is_leb w ≡ true → (front : List ℕ) × (las
 leb_is [] e = absurd cc
 leb_is (b ∷ []) e = ([], b, record { bytes = refl; continue = tt; ends = ltb-true b 128 e })
 leb_is (a ∷ c ∷ w) e =
-    let r = leb_is (c ∷ w) (and_right (nat_le 128 a) (is_leb (c ∷ w)) e) in
-    (a ∷ r.0, r.1, record { bytes = ap (λ (z : List ℕ). a ∷ z) r.2.bytes; continue = (leb-true 128 a (and_left (nat_le 128 a) (is_leb (c ∷ w)) e), r.2.continue); ends = r.2.ends })
+    let r = leb_is (c ∷ w) (and_right (nat_le 128 a) (is_leb (c ∷ w)) e) in (
+      a ∷ r.0,
+      r.1,
+      record {
+        bytes = ap (λ (z : List ℕ). a ∷ z) r.2.bytes;
+        continue =
+            (leb-true 128 a (and_left (nat_le 128 a) (is_leb (c ∷ w)) e), r.2.continue);
+        ends = r.2.ends;
+      },
+    )
 
 pub leb_tested : LebIsTested
 leb_tested w n = (λ a. (is_leb-of w a.0 a.1 a.2, a.3), λ t. (let r = leb_is w t.0 in (r.0, r.1, r.2, t.1)))

@@ -13,7 +13,8 @@ pub record SpellsFirst {A : Type 0} (spelt : List ℕ → Option A) (w : List �
 -- b is spellings of found, one after the other, and then rest, at whose front none stands
 abbrev pub IsCut : {A : Type 0} → (List ℕ → Option A) → List ℕ → List A → List ℕ → Type 0
 IsCut spelt b [] rest = (b ≡ rest) × SpellsNowhere spelt rest
-IsCut spelt b (a ∷ found) rest = (w : List ℕ) × (v : List ℕ) × (b ≡ w ++ v) × SpellsFirst spelt w a × IsCut spelt v found rest
+IsCut spelt b (a ∷ found) rest =
+    (w : List ℕ) × (v : List ℕ) × (b ≡ w ++ v) × SpellsFirst spelt w a × IsCut spelt v found rest
 
 -- what stands at the front of some bytes, and the bytes after it, where nothing more stands
 pub record Standing (A : Type 0) : Type 0 where

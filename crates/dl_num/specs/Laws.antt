@@ -58,7 +58,8 @@ FixedIsBelow = (order : Order) (w : List ℕ) → AllBytes w → fixed order w <
 
 -- there is one cut of any bytes, the computed one, where nothing spells the empty list
 abbrev pub CutIsStanding : (A : Type 0) → Type 0
-CutIsStanding A = (spelt : List ℕ → Option A) (b : List ℕ) (found : List A) (rest : List ℕ) → ◌≡◌ {A = Option A} (spelt []) None
+CutIsStanding A =
+    (spelt : List ℕ → Option A) (b : List ℕ) (found : List A) (rest : List ℕ) → ◌≡◌ {A = Option A} (spelt []) None
     → IsCut spelt b found rest ↔ (standing spelt b ≡ record { found = found; rest = rest })
 
 -- bytes that end a run of a step begin no others that do

@@ -1,6 +1,7 @@
 -- Numbers in LEB128: bytes of seven bits, the low group first, bit 7 set on each byte but the last.
 -- DWARF 5, section 7.6.
-use Rattle.std.specs.Prelude.{◌≡◌, ℕ, ◌+◌, ◌*◌, ◌^◌, ◌%◌, ◌<◌, ◌≤◌, ◌-ℤ◌, ℤ, pos, negsuc, nat_lt, if◌then◌else◌, List, [], ◌∷◌, ◌++◌, length}
+use Rattle.std.specs.Prelude.{◌≡◌, ℕ, ◌+◌, ◌*◌, ◌^◌, ◌%◌, ◌<◌, ◌≤◌, ◌-ℤ◌, ℤ, pos, negsuc, nat_lt, if◌then◌else◌, List}
+use Rattle.std.specs.Prelude.{[], ◌∷◌, ◌++◌, length}
 
 -- the sum of the groups of seven bits, that of byte i times 128^i
 abbrev pub groups : List ℕ → ℕ

@@ -1,5 +1,6 @@
 -- What the readers of LEB128 stand for and answer.
-use Rattle.std.specs.Prelude.{◌≡◌, ℕ, ◌+◌, ◌*◌, ◌^◌, ◌%◌, ◌≤◌, ◌-◌, ℤ, pos, negsuc, nat_lt, Bool, true, false, if◌then◌else◌, List, [], ◌∷◌, length, Option, Some, None, Result, Ok, Err}
+use Rattle.std.specs.Prelude.{◌≡◌, ℕ, ◌+◌, ◌*◌, ◌^◌, ◌%◌, ◌≤◌, ◌-◌, ℤ, pos, negsuc, nat_lt, Bool, true, false}
+use Rattle.std.specs.Prelude.{if◌then◌else◌, List, [], ◌∷◌, length, Option, Some, None, Result, Ok, Err}
 use Rattle.dl_num.specs.Leb.{groups, AllContinue, IsUleb, IsSleb, IsSigned64}
 use Rattle.dl_num.specs.declared.leb.LebRange.{LebRange}
 use Rattle.dl_num.specs.declared.leb.Uleb.{Uleb}

@@ -5,7 +5,12 @@ use Rattle.dl_num.specs.Magnitude.{byte_of}
 -- the groups of n as bytes, or their complements, the last without bit 7 and below end; there are at most count + 1
 abbrev pub group_bytes : ℕ → Bool → ℕ → ℕ → List ℕ
 group_bytes end negative zero n = byte_of negative n ∷ []
-group_bytes end negative (suc count) n = elim (nat_lt n end) [ true ↦ byte_of negative n ∷ [] | false ↦ (128 + byte_of negative (n % 128)) ∷ group_bytes end negative count (n / 128) ]
+group_bytes end negative (suc count) n =
+    elim (nat_lt n end) [
+      | true ↦ byte_of negative n ∷ []
+      | false ↦ (128 + byte_of negative (n % 128))
+          ∷ group_bytes end negative count (n / 128)
+    ]
 
 -- a number has no more groups than it is large
 abbrev pub shortest_uleb : ℕ → List ℕ

@@ -1,5 +1,6 @@
 -- Decimal digits, four at a time.
-use Rattle.std.proofs.Common.{◌≡◌, ℕ, ◌+◌, ◌/◌, ◌%◌, ◌^◌, ◌<◌, ◌≤◌, true, List, ◌++◌, length, decimal, nat_le, ap, ◌∙◌, arith, inl, inr, append_assoc, length-append}
+use Rattle.std.proofs.Common.{◌≡◌, ℕ, ◌+◌, ◌/◌, ◌%◌, ◌^◌, ◌<◌, ◌≤◌, true, List, ◌++◌, length, decimal, nat_le, ap, ◌∙◌}
+use Rattle.std.proofs.Common.{arith, inl, inr, append_assoc, length-append}
 use Rattle.std.proofs.lemmas.Fmt.{decimal_digit, decimal_step, length-decimal-le}
 use Rattle.std.proofs.lemmas.Bool.{le-leb, lt-leb, cases_lt}
 use Rattle.dl_print.specs.Digits.{digit_if, four_digits}
@@ -28,7 +29,8 @@ decimal_long n big fits =
 -- the digits that a number of four digits or fewer has
 abbrev pub short_digits : ℕ → List ℕ
 short_digits n =
-    digit_if (nat_le 1000 n) (n / 1000) ++ digit_if (nat_le 100 n) (n / 100 % 10) ++ digit_if (nat_le 10 n) (n / 10 % 10) ++ digit_if true (n % 10)
+    digit_if (nat_le 1000 n) (n / 1000) ++ digit_if (nat_le 100 n) (n / 100 % 10)
+    ++ digit_if (nat_le 10 n) (n / 10 % 10) ++ digit_if true (n % 10)
 
 one : (n : ℕ) → n < 10 → decimal n ≡ short_digits n
 one n h =
@@ -38,7 +40,14 @@ one n h =
 two : (n : ℕ) → 10 ≤ n → n < 100 → decimal n ≡ short_digits n
 two n low h =
     let tens : n / 10 % 10 ≡ n / 10 = omega arith in
-    rw (lt-leb 1000 n (omega arith), lt-leb 100 n h, le-leb 10 n low, decimal_step n low (omega arith), decimal_digit (n / 10) (omega arith), tens)
+    rw (
+      lt-leb 1000 n (omega arith),
+      lt-leb 100 n h,
+      le-leb 10 n low,
+      decimal_step n low (omega arith),
+      decimal_digit (n / 10) (omega arith),
+      tens,
+    )
 
 three : (n : ℕ) → 100 ≤ n → n < 1000 → decimal n ≡ short_digits n
 three n low h =
@@ -82,7 +91,8 @@ pub length-decimal_long : (n : ℕ) → 10000 ≤ n → n < 2 ^ 64 → length (d
 length-decimal_long n big fits = ap length (decimal_long n big fits) ∙ length-append _ _
 
 pub length-decimal_short : (n : ℕ) → n < 10000 → length (decimal n)
-    ≡ length (digit_if (nat_le 1000 n) (n / 1000)) + length (digit_if (nat_le 100 n) (n / 100 % 10)) + length (digit_if (nat_le 10 n) (n / 10 % 10)) + 1
+    ≡ length (digit_if (nat_le 1000 n) (n / 1000)) + length (digit_if (nat_le 100 n) (n / 100 % 10))
+    + length (digit_if (nat_le 10 n) (n / 10 % 10)) + 1
 length-decimal_short n h = ap length (decimal_short n h) ∙ omega (arith, length-append {A = ℕ})
 
 pub length-decimal_digit : (n : ℕ) → n < 10 → length (decimal n) ≡ 1

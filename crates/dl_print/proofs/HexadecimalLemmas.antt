@@ -1,5 +1,7 @@
 -- Hexadecimal digits, one and two at a time.
-use Rattle.std.proofs.Common.{◌≡◌, ℕ, zero, suc, ◌+◌, ◌-◌, ◌*◌, ◌/◌, ◌%◌, ◌^◌, ◌<◌, ◌≤◌, Bool, true, false, cond, eqb, List, [], ◌∷◌, ◌++◌, length, get_or, eqb→eq, ◌&&◌, T, replicate, refl, sym, ap, ◌∙◌, arith, inl, inr, pow-suc, append_assoc, append-nil, length-append}
+use Rattle.std.proofs.Common.{◌≡◌, ℕ, zero, suc, ◌+◌, ◌-◌, ◌*◌, ◌/◌, ◌%◌, ◌^◌, ◌<◌, ◌≤◌, Bool, true, false, cond, eqb}
+use Rattle.std.proofs.Common.{List, [], ◌∷◌, ◌++◌, length, get_or, eqb→eq, ◌&&◌, T, replicate, refl, sym, ap, ◌∙◌}
+use Rattle.std.proofs.Common.{arith, inl, inr, pow-suc, append_assoc, append-nil, length-append}
 use Rattle.std.proofs.Math.Nat.{div-div-eq-div-mul, div-le_self}
 use Rattle.std.specs.Prelude.{Result, Ok, Err, IsOk, OnOk}
 use Rattle.std.specs.Fmt.{digit_glyph, digits_onto, digits}
@@ -21,9 +23,11 @@ onto-append zero n acc = refl
 onto-append (suc k) n acc =
     let d = last_digit n in
     let rest = onto k (n / 16) in
-    elim (eqb (n / 16) 0) as (λ ends. cond ends (d ∷ acc) (rest (d ∷ acc)) ≡ cond ends (d ∷ []) (rest (d ∷ [])) ++ acc) [
+    elim (eqb (n / 16) 0) as (λ ends. cond ends (d ∷ acc) (rest (d ∷ acc)) ≡ cond ends (d ∷ []) (rest (d ∷ []))
+    ++ acc) [
       | true ↦ refl
-      | false ↦ onto-append k (n / 16) (d ∷ acc) ∙ sym (append_assoc (rest []) (d ∷ []) acc) ∙ ap (λ l. l ++ acc) (sym (onto-append k (n / 16) (d ∷ [])))
+      | false ↦ onto-append k (n / 16) (d ∷ acc) ∙ sym (append_assoc (rest []) (d ∷ []) acc)
+          ∙ ap (λ l. l ++ acc) (sym (onto-append k (n / 16) (d ∷ [])))
     ]
 
 -- a number below 16^k needs no more than k digits
@@ -31,7 +35,8 @@ onto_more : (k n : ℕ) (acc : List ℕ) → n < 16 ^ suc k → onto (suc k) n a
 onto_more zero n acc h = let ends : n / 16 ≡ 0 = omega arith in rw ends
 onto_more (suc k) n acc h =
     let d = last_digit n in
-    elim (eqb (n / 16) 0) as (λ ends. cond ends (d ∷ acc) (onto (suc k) (n / 16) (d ∷ acc)) ≡ cond ends (d ∷ acc) (onto (suc (suc k)) (n / 16) (d ∷ acc))) [
+    elim (eqb (n / 16) 0) as (λ ends. cond ends (d ∷ acc) (onto (suc k) (n / 16) (d ∷ acc))
+    ≡ cond ends (d ∷ acc) (onto (suc (suc k)) (n / 16) (d ∷ acc))) [
       | true ↦ refl
       | false ↦ onto_more k (n / 16) (d ∷ acc) (omega (arith, pow-suc 16 (suc k)))
     ]
@@ -40,7 +45,8 @@ pub hexadecimal_step : (n : ℕ) → 16 ≤ n → n < 2 ^ 64 → hexadecimal n �
 unfolding digits
 hexadecimal_step n big fits =
     let d = last_digit n in
-    rw (ne_eqb (n / 16) 0 (λ e. omega arith)) (onto_more 62 (n / 16) (d ∷ []) (omega arith) ∙ onto-append 64 (n / 16) (d ∷ []))
+    rw (ne_eqb (n / 16) 0 (λ e. omega arith)) (onto_more 62 (n / 16) (d ∷ []) (omega arith)
+    ∙ onto-append 64 (n / 16) (d ∷ []))
 
 pub hexadecimal_digit : (n : ℕ) → n < 16 → hexadecimal n ≡ last_digit n ∷ []
 hexadecimal_digit n h = let one : n % 16 ≡ n = omega arith in hex_one_digit false n h ∙ rw one
@@ -88,16 +94,26 @@ pub two_digits : (b : ℕ) → b < 256 → hexadecimal_of 2 b ≡ last_digit (b 
 two_digits b h =
     padded_step 1 b (omega arith) (omega arith) ∙ rw (hexadecimal_digit (b / 16) (omega arith))
 
-padded_pair : (k n : ℕ) → 0 < k → n < 2 ^ 64 → hexadecimal_of (suc (suc k)) n ≡ hexadecimal_of k (n / 256) ++ hexadecimal_of 2 (n % 256)
+padded_pair : (k n : ℕ) → 0 < k → n < 2 ^ 64
+    → hexadecimal_of (suc (suc k)) n ≡ hexadecimal_of k (n / 256) ++ hexadecimal_of 2 (n % 256)
 padded_pair k n some fits =
     let front : n / 16 / 16 ≡ n / 256 = omega arith in
     let high : n % 256 / 16 % 16 ≡ n / 16 % 16 = omega arith in
     let low : n % 256 % 16 ≡ n % 16 = omega arith in
-    rw (padded_step (suc k) n (omega arith) fits, padded_step k (n / 16) some (omega arith), front, two_digits (n % 256) (omega arith), high, low)
+    rw (
+      padded_step (suc k) n (omega arith) fits,
+      padded_step k (n / 16) some (omega arith),
+      front,
+      two_digits (n % 256) (omega arith),
+      high,
+      low,
+    )
     (append_assoc (hexadecimal_of k (n / 256)) _ _)
 
-pair_above : (k n c : ℕ) → 0 < k → 0 < c → n < 2 ^ 64 → hexadecimal_of (suc (suc k)) (n / c) ≡ hexadecimal_of k (n / (c * 256)) ++ hexadecimal_of 2 (n / c % 256)
-pair_above k n c some unit fits = rw (← div-div-eq-div-mul n c 256) (padded_pair k (n / c) some (omega (arith, div-le_self n c)))
+pair_above : (k n c : ℕ) → 0 < k → 0 < c → n < 2 ^ 64
+    → hexadecimal_of (suc (suc k)) (n / c) ≡ hexadecimal_of k (n / (c * 256)) ++ hexadecimal_of 2 (n / c % 256)
+pair_above k n c some unit fits =
+    rw (← div-div-eq-div-mul n c 256) (padded_pair k (n / c) some (omega (arith, div-le_self n c)))
 
 -- the digits of eight bytes, the highest first
 pub sixteen_digits : (n : ℕ) → n < 2 ^ 64 → hexadecimal_of 16 n ≡ hexadecimal_bytes (to_be_bytes w64 n)
@@ -117,9 +133,12 @@ sixteen_digits n fits =
 
 abbrev are_digits : ℕ → Bool
 are_digits zero = true
-are_digits (suc b) = (eqb (get_or BYTE_DIGITS (2 * b) 0) (last_digit (b / 16)) && eqb (get_or BYTE_DIGITS (2 * b + 1) 0) (last_digit b)) && are_digits b
+are_digits (suc b) =
+    (eqb (get_or BYTE_DIGITS (2 * b) 0) (last_digit (b / 16)) && eqb (get_or BYTE_DIGITS (2 * b + 1) 0) (last_digit b))
+    && are_digits b
 
-digits_below : (n b : ℕ) → T (are_digits n) → b < n → (get_or BYTE_DIGITS (2 * b) 0 ≡ last_digit (b / 16)) × (get_or BYTE_DIGITS (2 * b + 1) 0 ≡ last_digit b)
+digits_below : (n b : ℕ) → T (are_digits n) → b < n → (get_or BYTE_DIGITS (2 * b) 0 ≡ last_digit (b / 16))
+    × (get_or BYTE_DIGITS (2 * b + 1) 0 ≡ last_digit b)
 digits_below zero b t h = absurd (omega arith)
 digits_below (suc n) b t h = elim (cases_lt b n) [
   | inl below ↦ digits_below n b (and_r _ (are_digits n) t) below
@@ -129,7 +148,8 @@ digits_below (suc n) b t h = elim (cases_lt b n) [
       rw e (eqb→eq _ _ (and_l _ _ both), eqb→eq _ _ (and_r _ _ both))
 ]
 
-pub get_or-BYTE_DIGITS : (b : ℕ) → b < 256 → (get_or BYTE_DIGITS (2 * b) 0 ≡ last_digit (b / 16)) × (get_or BYTE_DIGITS (2 * b + 1) 0 ≡ last_digit b)
+pub get_or-BYTE_DIGITS : (b : ℕ) → b < 256 → (get_or BYTE_DIGITS (2 * b) 0 ≡ last_digit (b / 16))
+    × (get_or BYTE_DIGITS (2 * b + 1) 0 ≡ last_digit b)
 get_or-BYTE_DIGITS b h = digits_below 256 b tt h
 
 -- ---- the digits of the crate hex

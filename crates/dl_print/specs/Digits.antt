@@ -1,5 +1,6 @@
 -- Numbers and bytes in digits.
-use Rattle.std.specs.Prelude.{ℕ, Bool, if◌then◌else◌, ◌+◌, ◌-◌, ◌/◌, ◌%◌, false, List, [], ◌∷◌, ◌++◌, length, replicate, flat_map}
+use Rattle.std.specs.Prelude.{ℕ, Bool, if◌then◌else◌, ◌+◌, ◌-◌, ◌/◌, ◌%◌, false, List, [], ◌∷◌, ◌++◌, length, replicate}
+use Rattle.std.specs.Prelude.{flat_map}
 use Rattle.std.specs.Fmt.{digit_glyph, digits}
 
 -- the last hexadecimal digit, in lower case

@@ -36,4 +36,5 @@ header_text s offset h =
 -- the file of that number, or that the table has none
 abbrev pub file_text : Strings → TableData → ℕ → List ℕ
 file_text s files file =
-    option_map_or (λ e. entry_line s (codes "file ") file (with_content files.pairs e)) (slice_get files.entries file) (missing_line file)
+    option_map_or (λ e. entry_line s (codes "file ") file (with_content files.pairs e)) (slice_get files.entries file)
+    (missing_line file)

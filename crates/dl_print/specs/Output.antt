@@ -23,7 +23,8 @@ TellsOut start now text fault = (fault.out < length text) × HasOut start now te
 -- After whatever text was printed before, `more` is printed.
 abbrev pub PrintsMore : (old new : Option (List ℕ)) (before after : Printed) (more : List ℕ) → Type 0
 PrintsMore old new before after more =
-    (start : Option (List ℕ)) (text : List ℕ) → HasPrinted start old text before → HasPrinted start new (text ++ more) after
+    (start : Option (List ℕ)) (text : List ℕ) → HasPrinted start old text before
+    → HasPrinted start new (text ++ more) after
 
 -- What was printed before stays printed; or a write failed.
 abbrev pub Flushes : {A : Type 0} (old new : Option (List ℕ)) (before after : Printed) → Result A WriteFault → Type 0
@@ -31,7 +32,8 @@ Flushes old new before after result = (start : Option (List ℕ)) (text : List �
     → MatchResult result (λ _. HasPrinted start new text after) (λ f. TellsOut start new text f)
 
 -- After whatever text was printed before, `more` is printed; or a write failed.
-abbrev pub Prints : {A : Type 0} (old new : Option (List ℕ)) (before after : Printed) (more : List ℕ) → Result A WriteFault → Type 0
+abbrev pub Prints : {A : Type 0} (old new : Option (List ℕ)) (before after : Printed) (more : List ℕ)
+    → Result A WriteFault → Type 0
 Prints old new before after more result = (start : Option (List ℕ)) (text : List ℕ) → HasPrinted start old text before
     → MatchResult result (λ _. HasPrinted start new (text ++ more) after) (λ f. TellsOut start new (text ++ more) f)
 

@@ -13,7 +13,8 @@ line text = text ++ 10 ∷ []
 
 -- the address, and the numbers that each row has
 unfoldable pub place_text : Row → List ℕ
-place_text r = codes "row 0x" ++ hexadecimal_of 16 r.address ++ codes " " ++ decimal r.op_index ++ codes " " ++ decimal r.file
+place_text r =
+    codes "row 0x" ++ hexadecimal_of 16 r.address ++ codes " " ++ decimal r.op_index ++ codes " " ++ decimal r.file
     ++ codes " " ++ decimal r.line ++ codes " " ++ decimal r.column
 
 abbrev pub flag : Bool → List ℕ → List ℕ
@@ -21,7 +22,8 @@ flag is_set word = if is_set then word else []
 
 -- the flags that are set
 unfoldable pub flags_text : Row → List ℕ
-flags_text r = flag r.is_stmt (codes " stmt") ++ flag r.basic_block (codes " block") ++ flag r.prologue_end (codes " prologue")
+flags_text r =
+    flag r.is_stmt (codes " stmt") ++ flag r.basic_block (codes " block") ++ flag r.prologue_end (codes " prologue")
     ++ flag r.epilogue_begin (codes " epilogue") ++ flag r.end_sequence (codes " end")
 
 -- the name and the number, where it isn't 0
@@ -29,7 +31,9 @@ abbrev pub number_if_any : List ℕ → ℕ → List ℕ
 number_if_any name n = if n == 0 then [] else name ++ decimal n
 
 abbrev pub row_line : Row → List ℕ
-row_line r = line (place_text r ++ flags_text r ++ number_if_any (codes " isa ") r.isa ++ number_if_any (codes " disc ") r.discriminator)
+row_line r =
+    line (place_text r ++ flags_text r ++ number_if_any (codes " isa ") r.isa
+    ++ number_if_any (codes " disc ") r.discriminator)
 
 -- ---- units
 
@@ -40,11 +44,13 @@ format_name Dwarf64 = codes "dwarf64"
 -- a unit of version 5 at that offset of the section
 abbrev pub unit_line : ℕ → Format → ℕ → List ℕ
 unit_line offset format address_size =
-    line (codes "unit 0x" ++ hexadecimal offset ++ codes " " ++ format_name format ++ codes " version 5 address_size " ++ decimal address_size)
+    line (codes "unit 0x" ++ hexadecimal offset ++ codes " " ++ format_name format ++ codes " version 5 address_size "
+    ++ decimal address_size)
 
 -- a unit of another version
 abbrev pub foreign_line : ℕ → ℕ → List ℕ
-foreign_line offset version = line (codes "unit 0x" ++ hexadecimal offset ++ codes " version " ++ decimal version ++ codes " skipped")
+foreign_line offset version =
+    line (codes "unit 0x" ++ hexadecimal offset ++ codes " version " ++ decimal version ++ codes " skipped")
 
 -- a sequence that has no end row
 abbrev pub open_line : List ℕ
@@ -58,5 +64,6 @@ missing_line file = line (codes "file " ++ decimal file ++ codes " missing")
 
 abbrev pub summary_line : Summary → List ℕ
 summary_line s =
-    line (codes "units " ++ decimal s.units ++ codes " skipped " ++ decimal s.skipped ++ codes " sequences " ++ decimal s.sequences
+    line (codes "units " ++ decimal s.units ++ codes " skipped " ++ decimal s.skipped ++ codes " sequences "
+    ++ decimal s.sequences
     ++ codes " rows " ++ decimal s.rows)

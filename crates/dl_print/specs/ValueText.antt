@@ -1,5 +1,6 @@
 -- The texts of values, and the lines of directories and files.
-use Rattle.std.specs.Prelude.{ℕ, Bool, ◌||◌, List, [], ◌∷◌, ◌++◌, Option, Some, None, nat_lt, ◌==◌, if◌then◌else◌, flat_map, codes, decimal, option_and_then}
+use Rattle.std.specs.Prelude.{ℕ, Bool, ◌||◌, List, [], ◌∷◌, ◌++◌, Option, Some, None, nat_lt, ◌==◌, if◌then◌else◌}
+use Rattle.std.specs.Prelude.{flat_map, codes, decimal, option_and_then}
 use Rattle.dl_print.specs.Digits.{hexadecimal, hexadecimal_of, hexadecimal_bytes}
 use Rattle.dl_table.specs.Text.{text_at}
 use Rattle.dl_print.specs.declared.output.string_sections.StringSections.{StringSections}

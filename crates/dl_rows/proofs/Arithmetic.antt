@@ -1,5 +1,6 @@
 -- Sums that wrap, and quotients of sums.
-use Rattle.std.proofs.Common.{◌≡◌, ℕ, suc, ◌+◌, ◌*◌, ◌/◌, ◌^◌, ◌%◌, ◌-◌, ◌<◌, ◌≤◌, refl, sym, ap, ◌∙◌, arith, inl, inr, ℤ, pos, negsuc, ◌+ℤ◌}
+use Rattle.std.proofs.Common.{◌≡◌, ℕ, suc, ◌+◌, ◌*◌, ◌/◌, ◌^◌, ◌%◌, ◌-◌, ◌<◌, ◌≤◌, refl, sym, ap, ◌∙◌, arith, inl, inr}
+use Rattle.std.proofs.Common.{ℤ, pos, negsuc, ◌+ℤ◌}
 use Rattle.std.specs.Prelude.{unsigned_abs}
 use Rattle.std.specs.Int.{w64, cast_unsigned}
 use Rattle.std.proofs.lemmas.Bool.{cases_lt}
@@ -26,19 +27,26 @@ mod_split o n m =
 pub wrapped_step : (a m q : ℕ) → (a + (m * (q % 2 ^ 64)) % 2 ^ 64) % 2 ^ 64 ≡ (a + m * q) % 2 ^ 64
 wrapped_step a m q = rw (mul-mod_second m q (2 ^ 64)) (omega arith)
 
-pub advanced_is : (h : Params) (r : Registers) (by : ℕ) {maximum index minimum : ℕ} → 1 ≤ h.maximum_operations_per_instruction
+pub advanced_is : (h : Params) (r : Registers) (by : ℕ) {maximum index minimum : ℕ}
+    → 1 ≤ h.maximum_operations_per_instruction
     → maximum ≡ h.maximum_operations_per_instruction → index ≡ r.op_index → minimum ≡ h.minimum_instruction_length
-    → (record r { address = (r.address + (minimum * ((by / maximum + (index + by % maximum) / maximum) % 2 ^ 64)) % 2 ^ 64) % 2 ^ 64; op_index = (index + by % maximum) % maximum }) ≡ advanced h r by
+    → (record r {
+      address =
+          (r.address + (minimum * ((by / maximum + (index + by % maximum) / maximum) % 2 ^ 64)) % 2 ^ 64) % 2 ^ 64;
+      op_index = (index + by % maximum) % maximum;
+    }) ≡ advanced h r by
 advanced_is h r by some a b c =
     let d = div_split r.op_index by h.maximum_operations_per_instruction some in
     let m = mod_split r.op_index by h.maximum_operations_per_instruction in
-    let w = wrapped_step r.address h.minimum_instruction_length (by / h.maximum_operations_per_instruction + (r.op_index + by % h.maximum_operations_per_instruction) / h.maximum_operations_per_instruction) in
+    let w = wrapped_step r.address h.minimum_instruction_length (by / h.maximum_operations_per_instruction
+    + (r.op_index + by % h.maximum_operations_per_instruction) / h.maximum_operations_per_instruction) in
     rw (a, b, c, w, ← d, ← m) refl
 
 -- where an instruction has one operation, each operation is one
 pub advanced_by_one : (h : Params) (r : Registers) (by : ℕ) {maximum index minimum : ℕ} → maximum ≡ 1
     → maximum ≡ h.maximum_operations_per_instruction → index ≡ r.op_index → minimum ≡ h.minimum_instruction_length
-    → (record r { address = (r.address + (minimum * ((by + index) % 2 ^ 64)) % 2 ^ 64) % 2 ^ 64; op_index = 0 }) ≡ advanced h r by
+    → (record r { address = (r.address + (minimum * ((by + index) % 2 ^ 64)) % 2 ^ 64) % 2 ^ 64; op_index = 0 })
+    ≡ advanced h r by
 advanced_by_one h r by one a b c =
     let m : h.maximum_operations_per_instruction ≡ 1 = sym a ∙ one in
     let d : (r.op_index + by) / 1 ≡ by + r.op_index = omega arith in
@@ -47,7 +55,8 @@ advanced_by_one h r by one a b c =
     rw (b, c, w, m, d, z) refl
 
 -- a step of a line that wraps on the way
-pub modulo-add : (z i : ℤ) → unsigned_abs i < 2 ^ 64 → (modulo z (2 ^ 64) + cast_unsigned w64 i) % 2 ^ 64 ≡ modulo (z +ℤ i) (2 ^ 64)
+pub modulo-add : (z i : ℤ) → unsigned_abs i < 2 ^ 64
+    → (modulo z (2 ^ 64) + cast_unsigned w64 i) % 2 ^ 64 ≡ modulo (z +ℤ i) (2 ^ 64)
 modulo-add (pos a) (pos b) h = omega arith
 modulo-add (pos a) (negsuc b) h = elim (cases_lt b a) [
   | inl lt ↦ let e : pos a +ℤ negsuc b ≡ pos (a - suc b) = omega (arith, ints) in rw e (omega arith)

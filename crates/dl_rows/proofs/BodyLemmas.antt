@@ -1,5 +1,7 @@
 -- What bytes make of an operation that is begun: set_discriminator, opcodes that are passed over, and the bytes before an operand.
-use Rattle.std.proofs.Common.{◌≡◌, ◌≢◌, ℕ, ◌+◌, ◌-◌, ◌^◌, ◌<◌, ◌≤◌, Bool, true, false, List, [], ◌∷◌, ◌++◌, length, take, slice_index, slice_index_or, Some, Ok, Err, refl, sym, ap, subst, ◌∙◌, arith, inl, inr, append_assoc}
+use Rattle.std.proofs.Common.{◌≡◌, ◌≢◌, ℕ, ◌+◌, ◌-◌, ◌^◌, ◌<◌, ◌≤◌, Bool, true, false, List, [], ◌∷◌, ◌++◌, length}
+use Rattle.std.proofs.Common.{take, slice_index, slice_index_or, Some, Ok, Err, refl, sym, ap, subst, ◌∙◌, arith, inl}
+use Rattle.std.proofs.Common.{inr, append_assoc}
 use Rattle.std.proofs.lemmas.Bool.{cases_lt, ne_eqb}
 use Rattle.std.proofs.lemmas.List.{length-append, append-nil, take_more, take_all}
 use Rattle.dl_num.specs.declared.fixed.Order.{Order}
@@ -20,72 +22,104 @@ use Rattle.dl_rows.specs.OperationSpelt.{discriminator_spelt, extended_spelt, op
 use Rattle.dl_rows.specs.Phases.{HasLength, LebsLeft, PhaseStands, StepIs}
 use Rattle.dl_rows.proofs.FirstLemmas.{first_nil, open_byte}
 use Rattle.dl_rows.proofs.OperandLemmas.{Verdict}
-use Rattle.dl_rows.proofs.ExtendedLemmas.{extended_first, length_pending, length_begun, length_refused, body_out, discriminator_nowhere, discriminator_first, discriminator_out, discriminator_early, discriminator_late}
+use Rattle.dl_rows.proofs.ExtendedLemmas.{extended_first, length_pending, length_begun, length_refused, body_out}
+use Rattle.dl_rows.proofs.ExtendedLemmas.{discriminator_nowhere, discriminator_first, discriminator_out}
+use Rattle.dl_rows.proofs.ExtendedLemmas.{discriminator_early, discriminator_late}
 use Rattle.dl_rows.proofs.SkipLemmas.{skipped_nowhere, skipped_first, skipped_then}
 use Rattle.dl_rows.proofs.PhaseLemmas.{EndsAs, Answered, piece_is, body_first, body_none, first_same, nowhere_same}
 
 -- ---- set_discriminator
 
-pub discriminator_more : (order : Order) (h : Params) (left b : ℕ) (old new : Uleb) (v : List ℕ) → PhaseStands h (phase.Discriminator left old) v → 1 < left
-    → ((w : List ℕ) → UlebTook old w → UlebTook new (w ++ b ∷ [])) → PhaseStands h (phase.Discriminator (left - 1) new) (v ++ b ∷ [])
+pub discriminator_more : (order : Order) (h : Params) (left b : ℕ) (old new : Uleb) (v : List ℕ)
+    → PhaseStands h (phase.Discriminator left old) v → 1 < left
+    → ((w : List ℕ) → UlebTook old w → UlebTook new (w ++ b ∷ []))
+    → PhaseStands h (phase.Discriminator (left - 1) new) (v ++ b ∷ [])
 discriminator_more order h left b old new v s more took =
     let operand = s.2.1 in
     let l : length (operand ++ b ∷ []) ≡ length operand + 1 = length-append operand (b ∷ []) in
-    let m : 1 + length operand + left ≡ 1 + length (operand ++ b ∷ []) + (left - 1) = omega arith in
-    (s.0, omega arith, (s.2.0, operand ++ b ∷ [], piece_is s.2.0 operand (b ∷ []) v 4 s.2.2, subst (λ (z : ℕ). HasLength s.2.0 z) m s.2.3, took operand s.2.4))
+    let m : 1 + length operand + left ≡ 1 + length (operand ++ b ∷ []) + (left - 1) = omega arith in (
+      s.0,
+      omega arith,
+      (
+        s.2.0,
+        operand ++ b ∷ [],
+        piece_is s.2.0 operand (b ∷ []) v 4 s.2.2,
+        subst (λ (z : ℕ). HasLength s.2.0 z) m s.2.3,
+        took operand s.2.4,
+      ),
+    )
 
 -- the operand of a discriminator that is begun says nothing yet
-pub discriminator_pends : (order : Order) (h : Params) (left : ℕ) (old : Uleb) (v : List ℕ) → PhaseStands h (phase.Discriminator left old) v → SpellsNowhere (operation_spelt order h) v
+pub discriminator_pends : (order : Order) (h : Params) (left : ℕ) (old : Uleb) (v : List ℕ)
+    → PhaseStands h (phase.Discriminator left old) v → SpellsNowhere (operation_spelt order h) v
 discriminator_pends order h left old v s =
     let operand = s.2.1 in
     let n = 1 + length operand + left in
     let e : operand ++ [] ≡ operand = append-nil operand in
-    let none : SpellsNowhere (extended_spelt order h.address_size n 4) operand = nowhere_same (extended_spelt order h.address_size n 4) (discriminator_spelt n) operand (λ u. refl) (discriminator_nowhere n operand s.2.4.continue (omega arith)) in
+    let none : SpellsNowhere (extended_spelt order h.address_size n 4) operand =
+    nowhere_same (extended_spelt order h.address_size n 4) (discriminator_spelt n) operand (λ u. refl)
+    (discriminator_nowhere n operand s.2.4.continue (omega arith)) in
     subst (λ (z : List ℕ). SpellsNowhere (operation_spelt order h) z) (append-nil v)
-    (body_none order h s.2.0 operand [] v 4 n s.0 s.2.2 s.2.3 (subst (λ (z : List ℕ). SpellsNowhere (extended_spelt order h.address_size n 4) z) (sym e) none))
+    (body_none order h s.2.0 operand [] v 4 n s.0 s.2.2 s.2.3
+    (subst (λ (z : List ℕ). SpellsNowhere (extended_spelt order h.address_size n 4) z) (sym e) none))
 
 -- where the operand with one more byte is judged so
-discriminator_at : (order : Order) (h : Params) (left b : ℕ) (old : Uleb) (v : List ℕ) (a : Verdict) → (s : PhaseStands h (phase.Discriminator left old) v)
-    → SpellsFirst (discriminator_spelt (1 + length s.2.1 + left)) (s.2.1 ++ b ∷ []) a → SpellsFirst (operation_spelt order h) (v ++ b ∷ []) a
+discriminator_at : (order : Order) (h : Params) (left b : ℕ) (old : Uleb) (v : List ℕ) (a : Verdict)
+    → (s : PhaseStands h (phase.Discriminator left old) v)
+    → SpellsFirst (discriminator_spelt (1 + length s.2.1 + left)) (s.2.1 ++ b ∷ []) a
+    → SpellsFirst (operation_spelt order h) (v ++ b ∷ []) a
 discriminator_at order h left b old v a s first =
     let n = 1 + length s.2.1 + left in
     body_first order h s.2.0 s.2.1 (b ∷ []) v 4 n a s.0 s.2.2 s.2.3
     (first_same (extended_spelt order h.address_size n 4) (discriminator_spelt n) (s.2.1 ++ b ∷ []) a (λ u. refl) first)
 
-pub discriminator_ends : (order : Order) (h : Params) (b : ℕ) (old : Uleb) (v : List ℕ) (m : ℕ) → PhaseStands h (phase.Discriminator 1 old) v → m < 2 ^ 64
-    → ((w : List ℕ) → UlebTook old w → UlebIs (w ++ b ∷ []) (Ok m)) → SpellsFirst (operation_spelt order h) (v ++ b ∷ []) (Ok (op.SetDiscriminator m))
+pub discriminator_ends : (order : Order) (h : Params) (b : ℕ) (old : Uleb) (v : List ℕ) (m : ℕ)
+    → PhaseStands h (phase.Discriminator 1 old) v → m < 2 ^ 64
+    → ((w : List ℕ) → UlebTook old w → UlebIs (w ++ b ∷ []) (Ok m))
+    → SpellsFirst (operation_spelt order h) (v ++ b ∷ []) (Ok (op.SetDiscriminator m))
 discriminator_ends order h b old v m s lt is =
     let l : length (s.2.1 ++ b ∷ []) ≡ length s.2.1 + 1 = length-append s.2.1 (b ∷ []) in
-    discriminator_at order h 1 b old v (Ok (op.SetDiscriminator m)) s (discriminator_first (1 + length s.2.1 + 1) m (s.2.1 ++ b ∷ []) (is s.2.1 s.2.4) lt (omega arith))
+    discriminator_at order h 1 b old v (Ok (op.SetDiscriminator m)) s
+    (discriminator_first (1 + length s.2.1 + 1) m (s.2.1 ++ b ∷ []) (is s.2.1 s.2.4) lt (omega arith))
 
-pub discriminator_beyond : (order : Order) (h : Params) (left b : ℕ) (old : Uleb) (v : List ℕ) (e : LebRange) → PhaseStands h (phase.Discriminator left old) v
-    → ((w : List ℕ) → UlebTook old w → UlebIs (w ++ b ∷ []) (Err e)) → SpellsFirst (operation_spelt order h) (v ++ b ∷ []) (Err fault.LebRange)
+pub discriminator_beyond : (order : Order) (h : Params) (left b : ℕ) (old : Uleb) (v : List ℕ) (e : LebRange)
+    → PhaseStands h (phase.Discriminator left old) v
+    → ((w : List ℕ) → UlebTook old w → UlebIs (w ++ b ∷ []) (Err e))
+    → SpellsFirst (operation_spelt order h) (v ++ b ∷ []) (Err fault.LebRange)
 discriminator_beyond order h left b old v e s is =
     let l : length (s.2.1 ++ b ∷ []) ≡ length s.2.1 + 1 = length-append s.2.1 (b ∷ []) in
     let out = is s.2.1 s.2.4 in
-    discriminator_at order h left b old v (Err fault.LebRange) s (discriminator_out (1 + length s.2.1 + left) out.0 (s.2.1 ++ b ∷ []) out.1 out.2 (omega arith))
+    discriminator_at order h left b old v (Err fault.LebRange) s
+    (discriminator_out (1 + length s.2.1 + left) out.0 (s.2.1 ++ b ∷ []) out.1 out.2 (omega arith))
 
-pub discriminator_short : (order : Order) (h : Params) (left b : ℕ) (old : Uleb) (v : List ℕ) (m : ℕ) → PhaseStands h (phase.Discriminator left old) v → left ≢ 1 → m < 2 ^ 64
-    → ((w : List ℕ) → UlebTook old w → UlebIs (w ++ b ∷ []) (Ok m)) → SpellsFirst (operation_spelt order h) (v ++ b ∷ []) (Err fault.ExtendedLength)
+pub discriminator_short : (order : Order) (h : Params) (left b : ℕ) (old : Uleb) (v : List ℕ) (m : ℕ)
+    → PhaseStands h (phase.Discriminator left old) v → left ≢ 1 → m < 2 ^ 64
+    → ((w : List ℕ) → UlebTook old w → UlebIs (w ++ b ∷ []) (Ok m))
+    → SpellsFirst (operation_spelt order h) (v ++ b ∷ []) (Err fault.ExtendedLength)
 discriminator_short order h left b old v m s some lt is =
     let l : length (s.2.1 ++ b ∷ []) ≡ length s.2.1 + 1 = length-append s.2.1 (b ∷ []) in
     let more = ne-lt left s.1 some in
-    discriminator_at order h left b old v (Err fault.ExtendedLength) s (discriminator_early (1 + length s.2.1 + left) m (s.2.1 ++ b ∷ []) (is s.2.1 s.2.4) lt (omega arith))
+    discriminator_at order h left b old v (Err fault.ExtendedLength) s
+    (discriminator_early (1 + length s.2.1 + left) m (s.2.1 ++ b ∷ []) (is s.2.1 s.2.4) lt (omega arith))
   where
     ne-lt : (left : ℕ) → 1 ≤ left → left ≢ 1 → 2 ≤ left
     ne-lt left a n = elim (cases_lt 1 left) [ inl lt ↦ lt | inr le ↦ absurd (n (omega arith)) ]
 
-pub discriminator_long : (order : Order) (h : Params) (left b : ℕ) (old new : Uleb) (v : List ℕ) → PhaseStands h (phase.Discriminator left old) v → left ≤ 1
-    → ((w : List ℕ) → UlebTook old w → UlebTook new (w ++ b ∷ [])) → SpellsFirst (operation_spelt order h) (v ++ b ∷ []) (Err fault.ExtendedLength)
+pub discriminator_long : (order : Order) (h : Params) (left b : ℕ) (old new : Uleb) (v : List ℕ)
+    → PhaseStands h (phase.Discriminator left old) v → left ≤ 1
+    → ((w : List ℕ) → UlebTook old w → UlebTook new (w ++ b ∷ []))
+    → SpellsFirst (operation_spelt order h) (v ++ b ∷ []) (Err fault.ExtendedLength)
 discriminator_long order h left b old new v s one took =
     let l : length (s.2.1 ++ b ∷ []) ≡ length s.2.1 + 1 = length-append s.2.1 (b ∷ []) in
     let some = s.1 in
-    discriminator_at order h left b old v (Err fault.ExtendedLength) s (discriminator_late (1 + length s.2.1 + left) b s.2.1 (took s.2.1 s.2.4).continue s.2.4.continue (omega arith))
+    discriminator_at order h left b old v (Err fault.ExtendedLength) s
+    (discriminator_late (1 + length s.2.1 + left) b s.2.1 (took s.2.1 s.2.4).continue s.2.4.continue (omega arith))
 
 -- ---- bytes in two parts
 
 -- what bytes after front make of v and front, they and front make of v
-pub step_behind : (order : Order) (h : Params) (v front bytes : List ℕ) (r : OperationStep) → StepIs order h (v ++ front) bytes r → StepIs order h v (front ++ bytes) r
+pub step_behind : (order : Order) (h : Params) (v front bytes : List ℕ) (r : OperationStep)
+    → StepIs order h (v ++ front) bytes r → StepIs order h v (front ++ bytes) r
 step_behind order h v front bytes (step.Within p) s = (
   subst (λ (z : List ℕ). PhaseStands h p z) (append_assoc v front bytes) s.0,
   subst (λ (z : List ℕ). SpellsNowhere (operation_spelt order h) z) (append_assoc v front bytes) s.1,
@@ -102,43 +136,62 @@ step_behind order h v front bytes (step.Refuses k behind) s = (
 )
 
 -- the same where the bytes are told so
-pub step_from : (order : Order) (h : Params) (v front rest bytes : List ℕ) (r : OperationStep) → bytes ≡ front ++ rest → StepIs order h (v ++ front) rest r → StepIs order h v bytes r
-step_from order h v front rest bytes r e s = subst (λ (z : List ℕ). StepIs order h v z r) (sym e) (step_behind order h v front rest r s)
+pub step_from : (order : Order) (h : Params) (v front rest bytes : List ℕ) (r : OperationStep) → bytes ≡ front ++ rest
+    → StepIs order h (v ++ front) rest r → StepIs order h v bytes r
+step_from order h v front rest bytes r e s =
+    subst (λ (z : List ℕ). StepIs order h v z r) (sym e) (step_behind order h v front rest r s)
 
 -- bytes that end after one of them, where v and the front before it are told of together
-pub ends_behind : (order : Order) (h : Params) (v front bytes behind : List ℕ) (b : ℕ) (a : Verdict) → bytes ≡ (front ++ b ∷ []) ++ behind
+pub ends_behind : (order : Order) (h : Params) (v front bytes behind : List ℕ) (b : ℕ) (a : Verdict)
+    → bytes ≡ (front ++ b ∷ []) ++ behind
     → SpellsFirst (operation_spelt order h) ((v ++ front) ++ b ∷ []) a → EndsAs order h v bytes behind a
-ends_behind order h v front bytes behind b a e first =
-    (front ++ b ∷ [], e, subst (λ (z : List ℕ). SpellsFirst (operation_spelt order h) z a) (append_assoc v front (b ∷ [])) first)
+ends_behind order h v front bytes behind b a e first = (
+  front ++ b ∷ [],
+  e,
+  subst (λ (z : List ℕ). SpellsFirst (operation_spelt order h) z a) (append_assoc v front (b ∷ [])) first,
+)
 
 -- ---- the length of an extended opcode
 
-pub length_within : (order : Order) (h : Params) (old new : Uleb) (v bytes : List ℕ) → PhaseStands h (phase.Length old) v
-    → ((w : List ℕ) → UlebTook old w → UlebTook new (w ++ bytes)) → StepIs order h v bytes (step.Within (phase.Length new))
+pub length_within : (order : Order) (h : Params) (old new : Uleb) (v bytes : List ℕ)
+    → PhaseStands h (phase.Length old) v
+    → ((w : List ℕ) → UlebTook old w → UlebTook new (w ++ bytes))
+    → StepIs order h v bytes (step.Within (phase.Length new))
 length_within order h old new v bytes s took =
     let t = took s.1.0 s.1.2 in
-    let e = ap (λ (z : List ℕ). z ++ bytes) s.1.1 in
-    ((s.0, (s.1.0 ++ bytes, e, t)), subst (λ (z : List ℕ). SpellsNowhere (operation_spelt order h) z) (sym e) (length_begun order h s.0 (s.1.0 ++ bytes) t.continue))
+    let e = ap (λ (z : List ℕ). z ++ bytes) s.1.1 in (
+      (s.0, (s.1.0 ++ bytes, e, t)),
+      subst (λ (z : List ℕ). SpellsNowhere (operation_spelt order h) z) (sym e)
+          (length_begun order h s.0 (s.1.0 ++ bytes) t.continue),
+    )
 
 pub length_beyond : (order : Order) (h : Params) (old new : Uleb) (v bytes behind : List ℕ) (e : LebRange)
-    → PhaseStands h (phase.Length old) v → Answered old bytes behind (Err e) new → EndsAs order h v bytes behind (Err fault.LebRange)
+    → PhaseStands h (phase.Length old) v → Answered old bytes behind (Err e) new
+    → EndsAs order h v bytes behind (Err fault.LebRange)
 length_beyond order h old new v bytes behind e s answer =
     let a = answer s.1.0 s.1.2 in
     let out = a.2 in (
       a.0,
       a.1,
-      subst (λ (z : List ℕ). SpellsFirst (operation_spelt order h) z (Err fault.LebRange)) (sym (ap (λ (z : List ℕ). z ++ a.0) s.1.1))
-          (length_refused order h s.0 (s.1.0 ++ a.0) out.0 fault.LebRange out.1 (body_out order h.address_size out.0 out.2)),
+      subst (λ (z : List ℕ). SpellsFirst (operation_spelt order h) z (Err fault.LebRange))
+          (sym (ap (λ (z : List ℕ). z ++ a.0) s.1.1))
+          (length_refused order h s.0 (s.1.0 ++ a.0) out.0 fault.LebRange out.1
+          (body_out order h.address_size out.0 out.2)),
     )
 
 -- the length is complete, and the rest is what the bytes after it make
-pub length_read : (order : Order) (h : Params) (old new : Uleb) (v bytes behind : List ℕ) (n : ℕ) (r : OperationStep) → PhaseStands h (phase.Length old) v
-    → Answered old bytes behind (Ok n) new → ((w : List ℕ) → IsUleb w n → StepIs order h (0 ∷ w) behind r) → StepIs order h v bytes r
+pub length_read : (order : Order) (h : Params) (old new : Uleb) (v bytes behind : List ℕ) (n : ℕ) (r : OperationStep)
+    → PhaseStands h (phase.Length old) v
+    → Answered old bytes behind (Ok n) new → ((w : List ℕ) → IsUleb w n → StepIs order h (0 ∷ w) behind r)
+    → StepIs order h v bytes r
 length_read order h old new v bytes behind n r s answer rest =
     let a = answer s.1.0 s.1.2 in
-    step_from order h v a.0 behind bytes r a.1 (subst (λ (z : List ℕ). StepIs order h z behind r) (sym (ap (λ (z : List ℕ). z ++ a.0) s.1.1)) (rest (s.1.0 ++ a.0) a.2))
+    step_from order h v a.0 behind bytes r a.1
+    (subst (λ (z : List ℕ). StepIs order h z behind r) (sym (ap (λ (z : List ℕ). z ++ a.0) s.1.1))
+    (rest (s.1.0 ++ a.0) a.2))
 
-pub length_of_zero : (order : Order) (h : Params) (w bytes : List ℕ) → 1 ≤ h.opcode_base → IsUleb w 0 → EndsAs order h (0 ∷ w) bytes bytes (Err fault.ExtendedEmpty)
+pub length_of_zero : (order : Order) (h : Params) (w bytes : List ℕ) → 1 ≤ h.opcode_base → IsUleb w 0
+    → EndsAs order h (0 ∷ w) bytes bytes (Err fault.ExtendedEmpty)
 length_of_zero order h w bytes some u = (
   [],
   refl,
@@ -148,16 +201,19 @@ length_of_zero order h w bytes some u = (
 
 -- ---- an extended opcode
 
-pub extended_pends : (order : Order) (h : Params) (n : ℕ) (v bytes : List ℕ) → length bytes ≡ 0 → PhaseStands h (phase.Extended n) v → StepIs order h v bytes (step.Within (phase.Extended n))
+pub extended_pends : (order : Order) (h : Params) (n : ℕ) (v bytes : List ℕ) → length bytes ≡ 0
+    → PhaseStands h (phase.Extended n) v → StepIs order h v bytes (step.Within (phase.Extended n))
 extended_pends order h n v (x ∷ bytes) e s = absurd (omega arith)
 extended_pends order h n v [] e s =
     let same = append-nil v in (
       subst (λ (z : List ℕ). PhaseStands h (phase.Extended n) z) (sym same) s,
-      subst (λ (z : List ℕ). SpellsNowhere (operation_spelt order h) z) (sym (same ∙ s.1.1)) (length_pending order h s.0 s.1.0 n s.1.2),
+      subst (λ (z : List ℕ). SpellsNowhere (operation_spelt order h) z) (sym (same ∙ s.1.1))
+          (length_pending order h s.0 s.1.0 n s.1.2),
     )
 
 -- its number decides alone
-pub opcode_decides : (order : Order) (h : Params) (n x : ℕ) (v bytes behind : List ℕ) (a : Verdict) → PhaseStands h (phase.Extended n) v → bytes ≡ x ∷ behind
+pub opcode_decides : (order : Order) (h : Params) (n x : ℕ) (v bytes behind : List ℕ) (a : Verdict)
+    → PhaseStands h (phase.Extended n) v → bytes ≡ x ∷ behind
     → extended_spelt order h.address_size n x [] ≡ Some a → EndsAs order h v bytes behind a
 opcode_decides order h n x v bytes behind a s e is = (
   x ∷ [],
@@ -166,32 +222,44 @@ opcode_decides order h n x v bytes behind a s e is = (
       (extended_first order h s.0 s.1.0 n x [] a s.1.2 (first_nil (extended_spelt order h.address_size n x) a is)),
 )
 
-pub end_is : (order : Order) (size n x : ℕ) → x ≡ 1 → n ≡ 1 → extended_spelt order size n x [] ≡ Some (Ok op.EndSequence)
+pub end_is : (order : Order) (size n x : ℕ) → x ≡ 1 → n ≡ 1
+    → extended_spelt order size n x [] ≡ Some (Ok op.EndSequence)
 end_is order size n x e f = rw (e, f) refl
 
-pub end_of_wrong_length : (order : Order) (size n x : ℕ) → x ≡ 1 → n ≢ 1 → extended_spelt order size n x [] ≡ Some (Err fault.ExtendedLength)
+pub end_of_wrong_length : (order : Order) (size n x : ℕ) → x ≡ 1 → n ≢ 1
+    → extended_spelt order size n x [] ≡ Some (Err fault.ExtendedLength)
 end_of_wrong_length order size n x e f = rw (e, ne_eqb n 1 f) refl
 
-pub address_of_wrong_length : (order : Order) (size n x : ℕ) → x ≡ 2 → n ≢ 1 + size → extended_spelt order size n x [] ≡ Some (Err fault.ExtendedLength)
+pub address_of_wrong_length : (order : Order) (size n x : ℕ) → x ≡ 2 → n ≢ 1 + size
+    → extended_spelt order size n x [] ≡ Some (Err fault.ExtendedLength)
 address_of_wrong_length order size n x e f = rw (e, ne_eqb n (1 + size) f) refl
 
-pub discriminator_of_wrong_length : (order : Order) (size n x : ℕ) → x ≡ 4 → n ≡ 1 → extended_spelt order size n x [] ≡ Some (Err fault.ExtendedLength)
+pub discriminator_of_wrong_length : (order : Order) (size n x : ℕ) → x ≡ 4 → n ≡ 1
+    → extended_spelt order size n x [] ≡ Some (Err fault.ExtendedLength)
 discriminator_of_wrong_length order size n x e f = rw (e, f) refl
 
-pub unknown_alone : (order : Order) (size n x : ℕ) → x ≢ 1 → x ≢ 2 → x ≢ 4 → n ≡ 1 → extended_spelt order size n x [] ≡ Some (Ok op.Skipped)
+pub unknown_alone : (order : Order) (size n x : ℕ) → x ≢ 1 → x ≢ 2 → x ≢ 4 → n ≡ 1
+    → extended_spelt order size n x [] ≡ Some (Ok op.Skipped)
 unknown_alone order size n x a b c e = rw (ne_eqb x 1 a, ne_eqb x 2 b, ne_eqb x 4 c, e) refl
 
 -- ---- a standard opcode that isn't known
 
-pub skipped_within : (order : Order) (h : Params) (left now : ℕ) (v bytes : List ℕ) → PhaseStands h (phase.Skipped left) v
-    → ((count : ℕ) (w : List ℕ) → LebsLeft count w left → LebsLeft count (w ++ bytes) now) → StepIs order h v bytes (step.Within (phase.Skipped now))
+pub skipped_within : (order : Order) (h : Params) (left now : ℕ) (v bytes : List ℕ)
+    → PhaseStands h (phase.Skipped left) v
+    → ((count : ℕ) (w : List ℕ) → LebsLeft count w left → LebsLeft count (w ++ bytes) now)
+    → StepIs order h v bytes (step.Within (phase.Skipped now))
 skipped_within order h left now v bytes s more =
     let e = ap (λ (z : List ℕ). z ++ bytes) s.3.1 in
-    let l = more (slice_index h.lengths.items (s.0 - 1)) s.3.0 s.3.2 in
-    ((s.0, s.1, s.2, (s.3.0 ++ bytes, e, l)), subst (λ (z : List ℕ). SpellsNowhere (operation_spelt order h) z) (sym e) (skipped_nowhere order h s.0 (s.3.0 ++ bytes) now s.1 s.2 l))
+    let l = more (slice_index h.lengths.items (s.0 - 1)) s.3.0 s.3.2 in (
+      (s.0, s.1, s.2, (s.3.0 ++ bytes, e, l)),
+      subst (λ (z : List ℕ). SpellsNowhere (operation_spelt order h) z) (sym e)
+          (skipped_nowhere order h s.0 (s.3.0 ++ bytes) now s.1 s.2 l),
+    )
 
-pub skipped_ends : (order : Order) (h : Params) (left now b : ℕ) (v front bytes behind : List ℕ) → PhaseStands h (phase.Skipped left) v
-    → ((count : ℕ) (w : List ℕ) → LebsLeft count w left → LebsLeft count (w ++ front) now) → now ≤ 1 → b < 128 → bytes ≡ (front ++ b ∷ []) ++ behind
+pub skipped_ends : (order : Order) (h : Params) (left now b : ℕ) (v front bytes behind : List ℕ)
+    → PhaseStands h (phase.Skipped left) v
+    → ((count : ℕ) (w : List ℕ) → LebsLeft count w left → LebsLeft count (w ++ front) now) → now ≤ 1 → b < 128
+    → bytes ≡ (front ++ b ∷ []) ++ behind
     → EndsAs order h v bytes behind (Ok op.Skipped)
 skipped_ends order h left now b v front bytes behind s more one lt e =
     let l = more (slice_index h.lengths.items (s.0 - 1)) s.3.0 s.3.2 in
@@ -199,10 +267,12 @@ skipped_ends order h left now b v front bytes behind s more one lt e =
     let is : now ≡ 1 = omega arith in
     let last = subst (λ (z : ℕ). LebsLeft (slice_index h.lengths.items (s.0 - 1)) (s.3.0 ++ front) z) is l in
     ends_behind order h v front bytes behind b (Ok op.Skipped) e
-    (subst (λ (z : List ℕ). SpellsFirst (operation_spelt order h) (z ++ b ∷ []) (Ok op.Skipped)) (sym (ap (λ (z : List ℕ). z ++ front) s.3.1))
+    (subst (λ (z : List ℕ). SpellsFirst (operation_spelt order h) (z ++ b ∷ []) (Ok op.Skipped))
+    (sym (ap (λ (z : List ℕ). z ++ front) s.3.1))
     (skipped_first order h s.0 (s.3.0 ++ front) b s.1 s.2 last lt))
 
-pub skipped_at_once : (order : Order) (h : Params) (b : ℕ) (bytes : List ℕ) → 12 < b → b < h.opcode_base → slice_index h.lengths.items (b - 1) ≡ 0 → EndsAs order h (b ∷ []) bytes bytes (Ok op.Skipped)
+pub skipped_at_once : (order : Order) (h : Params) (b : ℕ) (bytes : List ℕ) → 12 < b → b < h.opcode_base
+    → slice_index h.lengths.items (b - 1) ≡ 0 → EndsAs order h (b ∷ []) bytes bytes (Ok op.Skipped)
 skipped_at_once order h b bytes above below none = (
   [],
   refl,
@@ -214,8 +284,10 @@ skipped_at_once order h b bytes above below none = (
 
 -- ---- one turn of a loop over bytes
 
-pub next_front : (v xs : List ℕ) (i : ℕ) → i < length xs → v ++ take (i + 1) xs ≡ (v ++ take i xs) ++ slice_index_or xs i 0 ∷ []
-next_front v xs i lt = ap (λ (z : List ℕ). v ++ z) (take_more xs i 0 lt) ∙ sym (append_assoc v (take i xs) (slice_index_or xs i 0 ∷ []))
+pub next_front : (v xs : List ℕ) (i : ℕ) → i < length xs
+    → v ++ take (i + 1) xs ≡ (v ++ take i xs) ++ slice_index_or xs i 0 ∷ []
+next_front v xs i lt =
+    ap (λ (z : List ℕ). v ++ z) (take_more xs i 0 lt) ∙ sym (append_assoc v (take i xs) (slice_index_or xs i 0 ∷ []))
 
 pub all_taken : (xs : List ℕ) (i : ℕ) → length xs ≤ i → take i xs ≡ xs
 all_taken xs i le = take_all i xs le
@@ -228,23 +300,38 @@ not_lt {n = n} {m = m} h = elim (cases_lt n m) [ inl lt ↦ absurd (false_true (
 
 -- ---- the operand of an extended opcode begins
 
-pub address_begins : (order : Order) (h : Params) (n x : ℕ) (new : PartialNumber) (v bytes behind : List ℕ) (r : OperationStep) → PhaseStands h (phase.Extended n) v → bytes ≡ x ∷ behind → x ≡ 2
+pub address_begins : (order : Order) (h : Params) (n x : ℕ) (new : PartialNumber) (v bytes behind : List ℕ)
+    (r : OperationStep) → PhaseStands h (phase.Extended n) v → bytes ≡ x ∷ behind → x ≡ 2
     → n ≡ 1 + h.address_size → number_bytes new ≡ [] → number_size new ≡ h.address_size
     → ((v : List ℕ) → PhaseStands h (phase.Address new) v → StepIs order h v behind r) → StepIs order h v bytes r
 address_begins order h n x new v bytes behind r s e is size none width rest =
-    let now : v ++ x ∷ [] ≡ 0 ∷ (s.1.0 ++ 2 ∷ number_bytes new) = ap (λ (z : List ℕ). z ++ x ∷ []) s.1.1 ∙ ap (λ (z : ℕ). 0 ∷ (s.1.0 ++ z ∷ [])) is ∙ ap (λ (z : List ℕ). 0 ∷ (s.1.0 ++ 2 ∷ z)) (sym none) in
-    step_from order h v (x ∷ []) behind bytes r e (rest (v ++ x ∷ []) (s.0, (s.1.0, now, subst (λ (z : ℕ). HasLength s.1.0 z) size s.1.2, width)))
+    let now : v ++ x ∷ [] ≡ 0 ∷ (s.1.0 ++ 2 ∷ number_bytes new) =
+    ap (λ (z : List ℕ). z ++ x ∷ []) s.1.1 ∙ ap (λ (z : ℕ). 0 ∷ (s.1.0 ++ z ∷ [])) is
+    ∙ ap (λ (z : List ℕ). 0 ∷ (s.1.0 ++ 2 ∷ z)) (sym none) in
+    step_from order h v (x ∷ []) behind bytes r e
+    (rest (v ++ x ∷ []) (s.0, (s.1.0, now, subst (λ (z : ℕ). HasLength s.1.0 z) size s.1.2, width)))
 
-pub discriminator_begins : (order : Order) (h : Params) (n x : ℕ) (new : Uleb) (v bytes behind : List ℕ) (r : OperationStep) → PhaseStands h (phase.Extended n) v → bytes ≡ x ∷ behind → x ≡ 4
-    → 1 < n → UlebTook new [] → ((v : List ℕ) → PhaseStands h (phase.Discriminator (n - 1) new) v → StepIs order h v behind r) → StepIs order h v bytes r
+pub discriminator_begins : (order : Order) (h : Params) (n x : ℕ) (new : Uleb) (v bytes behind : List ℕ)
+    (r : OperationStep) → PhaseStands h (phase.Extended n) v → bytes ≡ x ∷ behind → x ≡ 4
+    → 1 < n → UlebTook new [] → ((v : List ℕ) → PhaseStands h (phase.Discriminator (n - 1) new) v
+    → StepIs order h v behind r) → StepIs order h v bytes r
 discriminator_begins order h n x new v bytes behind r s e is more took rest =
-    let now : v ++ x ∷ [] ≡ 0 ∷ (s.1.0 ++ 4 ∷ []) = ap (λ (z : List ℕ). z ++ x ∷ []) s.1.1 ∙ ap (λ (z : ℕ). 0 ∷ (s.1.0 ++ z ∷ [])) is in
+    let now : v ++ x ∷ [] ≡ 0 ∷ (s.1.0 ++ 4 ∷ []) =
+    ap (λ (z : List ℕ). z ++ x ∷ []) s.1.1 ∙ ap (λ (z : ℕ). 0 ∷ (s.1.0 ++ z ∷ [])) is in
     let m : n ≡ 1 + 0 + (n - 1) = omega arith in
-    step_from order h v (x ∷ []) behind bytes r e (rest (v ++ x ∷ []) (s.0, omega arith, (s.1.0, [], now, subst (λ (z : ℕ). HasLength s.1.0 z) m s.1.2, took)))
+    step_from order h v (x ∷ []) behind bytes r e
+    (rest (v ++ x ∷ []) (s.0, omega arith, (s.1.0, [], now, subst (λ (z : ℕ). HasLength s.1.0 z) m s.1.2, took)))
 
-pub rest_begins : (order : Order) (h : Params) (n x : ℕ) (v bytes behind : List ℕ) (r : OperationStep) → PhaseStands h (phase.Extended n) v → bytes ≡ x ∷ behind → x ≢ 1 → x ≢ 2 → x ≢ 4
-    → 1 < n → ((v : List ℕ) → PhaseStands h (phase.Rest (n - 1)) v → StepIs order h v behind r) → StepIs order h v bytes r
+pub rest_begins : (order : Order) (h : Params) (n x : ℕ) (v bytes behind : List ℕ) (r : OperationStep)
+    → PhaseStands h (phase.Extended n) v → bytes ≡ x ∷ behind → x ≢ 1 → x ≢ 2 → x ≢ 4
+    → 1 < n → ((v : List ℕ) → PhaseStands h (phase.Rest (n - 1)) v → StepIs order h v behind r)
+    → StepIs order h v bytes r
 rest_begins order h n x v bytes behind r s e a b d more rest =
     let now : v ++ x ∷ [] ≡ 0 ∷ (s.1.0 ++ x ∷ []) = ap (λ (z : List ℕ). z ++ x ∷ []) s.1.1 in
     let m : n ≡ 1 + 0 + (n - 1) = omega arith in
-    step_from order h v (x ∷ []) behind bytes r e (rest (v ++ x ∷ []) (s.0, omega arith, (s.1.0, x, [], now, a, b, d, subst (λ (z : ℕ). HasLength s.1.0 z) m s.1.2)))
+    step_from order h v (x ∷ []) behind bytes r e
+    (rest (v ++ x ∷ []) (
+      s.0,
+      omega arith,
+      (s.1.0, x, [], now, a, b, d, subst (λ (z : ℕ). HasLength s.1.0 z) m s.1.2),
+    ))

@@ -1,5 +1,7 @@
 -- Rows that are told inside one call, and calls that tell one row each.
-use Rattle.std.proofs.Common.{◌≡◌, ◌+◌, ◌-◌, ◌<◌, ◌≤◌, ◌⊎◌, inl, inr, ◌≢◌, IfOk, ℕ, zero, suc, List, [], ◌∷◌, ◌++◌, length, map, take, drop, slice_get, Result, Ok, Err, refl, sym, ap, subst, ◌∙◌, arith, length-append, append_assoc, append-nil, length-drop}
+use Rattle.std.proofs.Common.{◌≡◌, ◌+◌, ◌-◌, ◌<◌, ◌≤◌, ◌⊎◌, inl, inr, ◌≢◌, IfOk, ℕ, zero, suc, List, [], ◌∷◌, ◌++◌}
+use Rattle.std.proofs.Common.{length, map, take, drop, slice_get, Result, Ok, Err, refl, sym, ap, subst, ◌∙◌, arith}
+use Rattle.std.proofs.Common.{length-append, append_assoc, append-nil, length-drop}
 use Rattle.std.proofs.lemmas.Bool.{cases_eq}
 use Rattle.std.proofs.lemmas.List.{append_cancel_left}
 use Rattle.std.proofs.lemmas.Option.{slice_get_within}
@@ -29,10 +31,12 @@ use Rattle.dl_rows.proofs.RowBytes.{RowTaken, row_taken}
 slice_drop : (n i : ℕ) (l : List ℕ) → slice_get (drop n l) i ≡ slice_get l (n + i)
 slice_drop zero i l = (let same : i ≡ 0 + i = omega arith in ap (slice_get l) same)
 slice_drop (suc n) i [] = refl
-slice_drop (suc n) i (x ∷ l) = (let same : suc (n + i) ≡ suc n + i = omega arith in slice_drop n i l ∙ ap (slice_get (x ∷ l)) same)
+slice_drop (suc n) i (x ∷ l) =
+    (let same : suc (n + i) ≡ suc n + i = omega arith in slice_drop n i l ∙ ap (slice_get (x ∷ l)) same)
 
 -- n bytes of the piece were used before, and more of the rest
-module _ (order : Order) (b piece : List ℕ) (n more : ℕ) (before after : List Event) (same : after ≡ before) (some : 1 ≤ n) (le : n ≤ length piece) where
+module _ (order : Order) (b piece : List ℕ) (n more : ℕ) (before after : List Event) (same : after ≡ before)
+    (some : 1 ≤ n) (le : n ≤ length piece) where
   abbrev mid : List ℕ
   mid = b ++ take n piece
 
@@ -51,13 +55,16 @@ module _ (order : Order) (b piece : List ℕ) (n more : ℕ) (before after : Lis
       let count : n + (more - 1) ≡ n + more - 1 = omega (arith, any) in
       joined b piece n (more - 1) ∙ ap (λ (k : ℕ). b ++ take k piece) count
 
-  last_on : 1 ≤ more → events order (mid ++ take (more - 1) rest) ≡ after → events order (b ++ take (n + more - 1) piece) ≡ before
+  last_on : 1 ≤ more → events order (mid ++ take (more - 1) rest) ≡ after
+      → events order (b ++ take (n + more - 1) piece) ≡ before
   last_on any e = ap (events order) (sym (last any)) ∙ e ∙ same
 
-  last_back : 1 ≤ more → events order (b ++ take (n + more - 1) piece) ≡ before → events order (mid ++ take (more - 1) rest) ≡ after
+  last_back : 1 ≤ more → events order (b ++ take (n + more - 1) piece) ≡ before
+      → events order (mid ++ take (more - 1) rest) ≡ after
   last_back any e = ap (events order) (last any) ∙ e ∙ sym same
 
-  memory_on : EventHoldsBehind order after mid rest more event.NoMemory → EventHoldsBehind order before b piece (n + more) event.NoMemory
+  memory_on : EventHoldsBehind order after mid rest more event.NoMemory
+      → EventHoldsBehind order before b piece (n + more) event.NoMemory
   memory_on holds = (
     holds.0,
     sym (slice_drop n more piece) ∙ holds.1,
@@ -65,7 +72,8 @@ module _ (order : Order) (b piece : List ℕ) (n more : ℕ) (before after : Lis
     subst (λ (z : List ℕ). cells order z < cells order (z ++ holds.0 ∷ [])) whole holds.3,
   )
 
-  memory_back : EventHoldsBehind order before b piece (n + more) event.NoMemory → EventHoldsBehind order after mid rest more event.NoMemory
+  memory_back : EventHoldsBehind order before b piece (n + more) event.NoMemory
+      → EventHoldsBehind order after mid rest more event.NoMemory
   memory_back holds = (
     holds.0,
     slice_drop n more piece ∙ holds.1,
@@ -74,15 +82,20 @@ module _ (order : Order) (b piece : List ℕ) (n more : ℕ) (before after : Lis
   )
 
   -- bytes were left for another call
-  holds_on : n < length piece → (e : Event) → EventHoldsBehind order after mid rest more e → EventHoldsBehind order before b piece (n + more) e
+  holds_on : n < length piece → (e : Event) → EventHoldsBehind order after mid rest more e
+      → EventHoldsBehind order before b piece (n + more) e
   holds_on lt event.More holds = (omega (arith, holds.0, size, lt), λ unit. omega (arith, some))
-  holds_on lt event.End holds = (subst (λ (z : List ℕ). IsUnit order z) whole holds.0, elim holds.1 [ inl none ↦ inr (omega (arith, none, lt)) | inr less ↦ inr (omega (arith, less, size, lt)) ])
+  holds_on lt event.End holds = (
+    subst (λ (z : List ℕ). IsUnit order z) whole holds.0,
+    elim holds.1 [ inl none ↦ inr (omega (arith, none, lt)) | inr less ↦ inr (omega (arith, less, size, lt)) ],
+  )
   holds_on lt event.NoMemory holds = memory_on holds
   holds_on lt event.Header holds = (omega (arith, some), last_on holds.0 holds.1)
   holds_on lt (event.Foreign version) holds = (omega (arith, some), last_on holds.0 holds.1)
   holds_on lt (event.Row row) holds = (omega (arith, some), last_on holds.0 holds.1)
 
-  tell_on : n < length piece → (gave : Result Event Fault) → MayGiveBehind order after mid rest more gave → MayGiveBehind order before b piece (n + more) gave
+  tell_on : n < length piece → (gave : Result Event Fault) → MayGiveBehind order after mid rest more gave
+      → MayGiveBehind order before b piece (n + more) gave
   tell_on lt (Ok e) m = record {
     within = omega (arith, m.within, size, lt);
     in_unit = subst (WithinUnit order) whole m.in_unit;
@@ -98,7 +111,8 @@ module _ (order : Order) (b piece : List ℕ) (n more : ℕ) (before after : Lis
   }
 
   -- an answer that tells an event isn't that of the first n bytes
-  holds_back : n < length piece → (e : Event) → (told e ≢ [] → 1 ≤ more) → EventHoldsBehind order before b piece (n + more) e → EventHoldsBehind order after mid rest more e
+  holds_back : n < length piece → (e : Event) → (told e ≢ [] → 1 ≤ more)
+      → EventHoldsBehind order before b piece (n + more) e → EventHoldsBehind order after mid rest more e
   holds_back lt event.More any holds = (omega (arith, holds.0, size, lt), λ unit. omega (arith, holds.0, lt))
   holds_back lt event.End any holds = (
     subst (λ (z : List ℕ). IsUnit order z) (sym whole) holds.0,
@@ -109,7 +123,8 @@ module _ (order : Order) (b piece : List ℕ) (n more : ℕ) (before after : Lis
   holds_back lt (event.Foreign version) any holds = (let one = any (λ k. absurd cc) in (one, last_back one holds.1))
   holds_back lt (event.Row row) any holds = (let one = any (λ k. absurd cc) in (one, last_back one holds.1))
 
-  tell_back : n < length piece → (gave : Result Event Fault) → (IfOk gave (λ e. told e ≢ [] → 1 ≤ more)) → MayGiveBehind order before b piece (n + more) gave → MayGiveBehind order after mid rest more gave
+  tell_back : n < length piece → (gave : Result Event Fault) → (IfOk gave (λ e. told e ≢ [] → 1 ≤ more))
+      → MayGiveBehind order before b piece (n + more) gave → MayGiveBehind order after mid rest more gave
   tell_back lt (Ok e) any m = record {
     within = omega (arith, m.within, size, lt);
     in_unit = subst (WithinUnit order) (sym whole) m.in_unit;
@@ -126,18 +141,24 @@ module _ (order : Order) (b piece : List ℕ) (n more : ℕ) (before after : Lis
 
 -- ---- calls tell what one call may
 
-alone : (order : Order) (b piece : List ℕ) (used : ℕ) (gave : Result Event Fault) → MayGiveBehind order (events order b) b piece used gave → MayGive order b piece used gave
+alone : (order : Order) (b piece : List ℕ) (used : ℕ) (gave : Result Event Fault)
+    → MayGiveBehind order (events order b) b piece used gave → MayGive order b piece used gave
 alone order b piece used (Ok e) m = m
 alone order b piece used (Err fault) m = m
 
-not_alone : (order : Order) (b piece : List ℕ) (used : ℕ) (gave : Result Event Fault) → MayGive order b piece used gave → MayGiveBehind order (events order b) b piece used gave
+not_alone : (order : Order) (b piece : List ℕ) (used : ℕ) (gave : Result Event Fault) → MayGive order b piece used gave
+    → MayGiveBehind order (events order b) b piece used gave
 not_alone order b piece used (Ok e) m = m
 not_alone order b piece used (Err fault) m = m
 
-tells_of : (order : Order) (b piece : List ℕ) (rows : List Row) (used : ℕ) (gave : Result Event Fault) → Calls order b piece rows used gave → MayTell order b piece rows used gave
-tells_of order b piece [] used gave calls = subst (λ (z : List Event). MayGiveBehind order z b piece used gave) (sym (append-nil (events order b))) (not_alone order b piece used gave calls)
+tells_of : (order : Order) (b piece : List ℕ) (rows : List Row) (used : ℕ) (gave : Result Event Fault)
+    → Calls order b piece rows used gave → MayTell order b piece rows used gave
+tells_of order b piece [] used gave calls =
+    subst (λ (z : List Event). MayGiveBehind order z b piece used gave) (sym (append-nil (events order b)))
+    (not_alone order b piece used gave calls)
 tells_of order b piece (r ∷ rows) used gave (n, may, inl (all, none, size, is)) =
-    let nothing : events order b ++ map event.Row (r ∷ rows) ≡ events order b ++ event.Row r ∷ [] = ap (λ (z : List Row). events order b ++ event.Row r ∷ map event.Row z) none in
+    let nothing : events order b ++ map event.Row (r ∷ rows) ≡ events order b ++ event.Row r ∷ [] =
+    ap (λ (z : List Row). events order b ++ event.Row r ∷ map event.Row z) none in
     let told_here : MayGiveBehind order (events order b ++ event.Row r ∷ []) b piece n (Ok event.More) = record {
       within = may.within;
       in_unit = may.in_unit;
@@ -146,34 +167,44 @@ tells_of order b piece (r ∷ rows) used gave (n, may, inl (all, none, size, is)
       sound = may.sound;
     } in
     subst (λ (k : ℕ). MayGiveBehind order (events order b ++ map event.Row (r ∷ rows)) b piece k gave) (sym size)
-    (subst (λ (g : Result Event Fault). MayGiveBehind order (events order b ++ map event.Row (r ∷ rows)) b piece n g) (sym is)
+    (subst (λ (g : Result Event Fault). MayGiveBehind order (events order b ++ map event.Row (r ∷ rows)) b piece n g)
+    (sym is)
     (subst (λ (z : List Event). MayGiveBehind order z b piece n (Ok event.More)) (sym nothing) told_here))
 tells_of order b piece (r ∷ rows) used gave (n, may, inr (lt, more, size, calls)) =
     let later = tells_of order (b ++ take n piece) (drop n piece) rows more gave calls in
     let same : events order (b ++ take n piece) ++ map event.Row rows ≡ events order b ++ map event.Row (r ∷ rows) =
-    ap (λ (z : List Event). z ++ map event.Row rows) may.grows ∙ append_assoc (events order b) (event.Row r ∷ []) (map event.Row rows) in
+    ap (λ (z : List Event). z ++ map event.Row rows) may.grows
+    ∙ append_assoc (events order b) (event.Row r ∷ []) (map event.Row rows) in
     subst (λ (k : ℕ). MayGiveBehind order (events order b ++ map event.Row (r ∷ rows)) b piece k gave) (sym size)
-    (tell_on order b piece n more (events order b ++ map event.Row (r ∷ rows)) (events order (b ++ take n piece) ++ map event.Row rows) same may.holds.0 may.within lt gave later)
+    (tell_on order b piece n more (events order b ++ map event.Row (r ∷ rows)) (events order (b ++ take n piece)
+    ++ map event.Row rows) same may.holds.0 may.within lt gave later)
 
 -- ---- one call tells what calls may
 
 -- what is said of the bytes that were used, whatever was answered
-record Used (order : Order) (before : List Event) (b piece : List ℕ) (used : ℕ) (gave : Result Event Fault) : Type 0 where
+record Used (order : Order) (before : List Event) (b piece : List ℕ) (used : ℕ) (gave : Result Event Fault) : Type
+    0 where
   within : used ≤ length piece
   in_unit : WithinUnit order (b ++ take used piece)
   es : List Event
   grows : events order (b ++ take used piece) ≡ before ++ es
 
-used_of : (order : Order) (before : List Event) (b piece : List ℕ) (used : ℕ) (gave : Result Event Fault) → MayGiveBehind order before b piece used gave → Used order before b piece used gave
-used_of order before b piece used (Ok e) m = record { within = m.within; in_unit = m.in_unit; es = told e; grows = m.grows }
-used_of order before b piece used (Err fault) m = record { within = m.within; in_unit = m.in_unit; es = []; grows = m.no_event ∙ sym (append-nil before) }
+used_of : (order : Order) (before : List Event) (b piece : List ℕ) (used : ℕ) (gave : Result Event Fault)
+    → MayGiveBehind order before b piece used gave → Used order before b piece used gave
+used_of order before b piece used (Ok e) m =
+    record { within = m.within; in_unit = m.in_unit; es = told e; grows = m.grows }
+used_of order before b piece used (Err fault) m =
+    record { within = m.within; in_unit = m.in_unit; es = []; grows = m.no_event ∙ sym (append-nil before) }
 
 -- the first row is what `feed` may answer
-first_call : (order : Order) (b piece : List ℕ) (used : ℕ) (gave : Result Event Fault) (r : Row) (before : List Event) (t : RowTaken order b piece used r)
+first_call : (order : Order) (b piece : List ℕ) (used : ℕ) (gave : Result Event Fault) (r : Row) (before : List Event)
+    (t : RowTaken order b piece used r)
     → MayGiveBehind order before b piece used gave → MayGive order b piece t.n (Ok (event.Row r))
 first_call order b piece used gave r before t m = record {
   within = omega (arith, u.within, t.total);
-  in_unit = λ k e. at_most k (u.in_unit k (ap (unit_len order) (sym whole) ∙ unit_len_on order (b ++ take t.n piece) (take t.more (drop t.n piece)) k e));
+  in_unit =
+      λ k e. at_most k (u.in_unit k (ap (unit_len order) (sym whole)
+      ∙ unit_len_on order (b ++ take t.n piece) (take t.more (drop t.n piece)) k e));
   grows = t.row;
   holds = (t.some, t.before);
   sound = sound gave m;
@@ -186,25 +217,46 @@ first_call order b piece used gave r before t m = record {
     whole = joined b piece t.n t.more ∙ ap (λ (k : ℕ). b ++ take k piece) (sym t.total)
 
     at_most : (k : ℕ) → length (b ++ take used piece) ≤ k → length (b ++ take t.n piece) ≤ k
-    at_most k le = (let e = ap length whole in omega (arith, le, e, length-append (b ++ take t.n piece) (take t.more (drop t.n piece))))
+    at_most k le =
+        (let e = ap length whole in
+        omega (arith, le, e, length-append (b ++ take t.n piece) (take t.more (drop t.n piece))))
 
     not_refused : (at : ℕ) (kind : FaultKind) → Refused order (b ++ take t.n piece) at kind → ⊥
     not_refused at kind refused = none_some t.quiet refused.decided
 
-    sound : (gave : Result Event Fault) → MayGiveBehind order before b piece used gave → (front back : List ℕ) (at : ℕ) (kind : FaultKind) → b ++ take t.n piece ≡ front ++ back → Refused order front at kind → ⊥
+    sound : (gave : Result Event Fault) → MayGiveBehind order before b piece used gave
+        → (front back : List ℕ) (at : ℕ) (kind : FaultKind) → b ++ take t.n piece ≡ front ++ back
+        → Refused order front at kind → ⊥
     sound (Ok e) may front back at kind k refused =
-        may.sound front (back ++ take t.more (drop t.n piece)) at kind (sym whole ∙ ap (λ (z : List ℕ). z ++ take t.more (drop t.n piece)) k ∙ append_assoc front back (take t.more (drop t.n piece))) refused
+        may.sound front (back ++ take t.more (drop t.n piece)) at kind (sym whole
+        ∙ ap (λ (z : List ℕ). z ++ take t.more (drop t.n piece)) k
+        ∙ append_assoc front back (take t.more (drop t.n piece))) refused
     sound (Err fault) may front back at kind k refused =
-        let same = one_refusal order front (b ++ take used piece) (back ++ take t.more (drop t.n piece)) [] at fault.offset kind fault.kind
-        (sym (append_assoc front back (take t.more (drop t.n piece))) ∙ ap (λ (z : List ℕ). z ++ take t.more (drop t.n piece)) (sym k) ∙ whole ∙ sym (append-nil (b ++ take used piece))) refused may.refused in
+        let same =
+        one_refusal order front (b ++ take used piece) (back ++ take t.more (drop t.n piece)) [] at fault.offset
+        kind fault.kind
+        (sym (append_assoc front back (take t.more (drop t.n piece)))
+        ∙ ap (λ (z : List ℕ). z ++ take t.more (drop t.n piece)) (sym k) ∙ whole
+        ∙ sym (append-nil (b ++ take used piece))) refused may.refused in
         let size = ap length same.0 in
         let sizes = ap length k in
         let all = ap length whole in
-        let none : back ≡ [] = nothing_left back (omega (arith, size, sizes, all, length-append front back, length-append (b ++ take t.n piece) (take t.more (drop t.n piece)))) in
-        not_refused at kind (subst (λ (z : List ℕ). Refused order z at kind) (sym (k ∙ ap (λ (z : List ℕ). front ++ z) none ∙ append-nil front)) refused)
+        let none : back ≡ [] =
+        nothing_left back (omega (
+          arith,
+          size,
+          sizes,
+          all,
+          length-append front back,
+          length-append (b ++ take t.n piece) (take t.more (drop t.n piece)),
+        )) in
+        not_refused at kind
+        (subst (λ (z : List ℕ). Refused order z at kind) (sym (k ∙ ap (λ (z : List ℕ). front ++ z) none
+        ∙ append-nil front)) refused)
 
 -- where nothing follows the first row, it was the only one, and the whole piece is used, or bytes are left
-record Ended (order : Order) (b piece : List ℕ) (used : ℕ) (rows : List Row) (gave : Result Event Fault) (n : ℕ) : Type 0 where
+record Ended (order : Order) (b piece : List ℕ) (used : ℕ) (rows : List Row) (gave : Result Event Fault)
+    (n : ℕ) : Type 0 where
   all : n ≡ length piece
   none : rows ≡ []
   size : used ≡ n
@@ -221,23 +273,31 @@ no_rows : (rows : List Row) → ◌≡◌ {A = List Event} (map event.Row rows) 
 no_rows [] e = refl
 no_rows (r ∷ rows) e = absurd cc
 
-module _ (order : Order) (b piece : List ℕ) (used : ℕ) (r : Row) (rows : List Row) (t : RowTaken order b piece used r) where
+module _ (order : Order) (b piece : List ℕ) (used : ℕ) (r : Row) (rows : List Row)
+    (t : RowTaken order b piece used r) where
   abbrev all_before : List Event
   all_before = events order b ++ map event.Row (r ∷ rows)
 
   same_events : events order (b ++ take t.n piece) ++ map event.Row rows ≡ all_before
-  same_events = ap (λ (z : List Event). z ++ map event.Row rows) t.row ∙ append_assoc (events order b) (event.Row r ∷ []) (map event.Row rows)
+  same_events =
+      ap (λ (z : List Event). z ++ map event.Row rows) t.row
+      ∙ append_assoc (events order b) (event.Row r ∷ []) (map event.Row rows)
 
   used_none : t.more ≡ 0 → used ≡ t.n
   used_none e = omega (arith, e, t.total)
 
   -- where the row comes with the last byte used, it is all that was told
-  only : t.more ≡ 0 → (es : List Event) → events order (b ++ take used piece) ≡ all_before ++ es → (rows ≡ []) × (es ≡ [])
+  only : t.more ≡ 0 → (es : List Event) → events order (b ++ take used piece) ≡ all_before ++ es
+      → (rows ≡ []) × (es ≡ [])
   only e es grows =
-      let here : events order (b ++ take used piece) ≡ events order (b ++ take t.n piece) = ap (λ (k : ℕ). events order (b ++ take k piece)) (used_none e) in
+      let here : events order (b ++ take used piece) ≡ events order (b ++ take t.n piece) =
+      ap (λ (k : ℕ). events order (b ++ take k piece)) (used_none e) in
       let none : events order (b ++ take t.n piece) ≡ events order (b ++ take t.n piece) ++ (map event.Row rows ++ es) =
-      sym here ∙ grows ∙ ap (λ (z : List Event). z ++ es) (sym same_events) ∙ append_assoc (events order (b ++ take t.n piece)) (map event.Row rows) es in
-      let both = parted (map event.Row rows) es (no_events (events order (b ++ take t.n piece)) (map event.Row rows ++ es) none) in
+      sym here ∙ grows ∙ ap (λ (z : List Event). z ++ es) (sym same_events)
+      ∙ append_assoc (events order (b ++ take t.n piece)) (map event.Row rows) es in
+      let both =
+      parted (map event.Row rows) es (no_events (events order (b ++ take t.n piece)) (map event.Row rows
+      ++ es) none) in
       (no_rows rows both.0, both.1)
 
   -- an answer that tells an event comes after the row
@@ -253,28 +313,54 @@ module _ (order : Order) (b piece : List ℕ) (used : ℕ) (r : Row) (rows : Lis
   ends_or_goes : (gave : Result Event Fault) → MayGiveBehind order all_before b piece used gave → Goes gave
   ends_or_goes (Ok event.More) m = on (cases_eq t.more 0) where
     on : (t.more ≡ 0) ⊎ (t.more ≢ 0) → Goes (Ok event.More)
-    on (inl none) = inl (record { all = omega (arith, m.holds.0, used_none none); none = (only none [] m.grows).0; size = used_none none; is = refl })
+    on (inl none) =
+        inl (record {
+          all = omega (arith, m.holds.0, used_none none);
+          none = (only none [] m.grows).0;
+          size =
+              used_none none;
+          is = refl;
+        })
     on (inr any) = inr (omega (arith, any, t.total, m.holds.0))
-  ends_or_goes (Ok event.End) m = inr (elim m.holds.1 [ inl none ↦ absurd (omega (arith, none, t.some, t.total)) | inr less ↦ omega (arith, less, t.total) ])
-  ends_or_goes (Ok event.NoMemory) m = (let less = slice_get_within piece used m.holds.0 m.holds.1 in inr (omega (arith, less, t.total)))
-  ends_or_goes (Ok event.Header) m = (let one = later event.Header m.grows (λ k. absurd cc) in inr (omega (arith, one, t.total, m.within)))
-  ends_or_goes (Ok (event.Foreign version)) m = (let one = later (event.Foreign version) m.grows (λ k. absurd cc) in inr (omega (arith, one, t.total, m.within)))
-  ends_or_goes (Ok (event.Row s)) m = (let one = later (event.Row s) m.grows (λ k. absurd cc) in inr (omega (arith, one, t.total, m.within)))
+  ends_or_goes (Ok event.End) m =
+      inr (elim m.holds.1 [
+        | inl none ↦ absurd (omega (arith, none, t.some, t.total))
+        | inr less ↦ omega (
+          arith,
+          less,
+          t.total,
+        )
+      ])
+  ends_or_goes (Ok event.NoMemory) m =
+      (let less = slice_get_within piece used m.holds.0 m.holds.1 in inr (omega (arith, less, t.total)))
+  ends_or_goes (Ok event.Header) m =
+      (let one = later event.Header m.grows (λ k. absurd cc) in inr (omega (arith, one, t.total, m.within)))
+  ends_or_goes (Ok (event.Foreign version)) m =
+      (let one = later (event.Foreign version) m.grows (λ k. absurd cc) in inr (omega (arith, one, t.total, m.within)))
+  ends_or_goes (Ok (event.Row s)) m =
+      (let one = later (event.Row s) m.grows (λ k. absurd cc) in inr (omega (arith, one, t.total, m.within)))
   ends_or_goes (Err fault) m = on (cases_eq t.more 0) where
     on : (t.more ≡ 0) ⊎ (t.more ≢ 0) → Goes (Err fault)
-    on (inl none) = absurd (none_some t.quiet (ap (λ (k : ℕ). unit_decided order (b ++ take k piece)) (sym (used_none none)) ∙ m.refused.decided))
+    on (inl none) =
+        absurd (none_some t.quiet (ap (λ (k : ℕ). unit_decided order (b ++ take k piece)) (sym (used_none none))
+        ∙ m.refused.decided))
     on (inr any) = inr (omega (arith, any, t.total, m.within))
 
-  any_later : (gave : Result Event Fault) → MayGiveBehind order all_before b piece used gave → IfOk gave (λ e. told e ≢ [] → 1 ≤ t.more)
+  any_later : (gave : Result Event Fault) → MayGiveBehind order all_before b piece used gave
+      → IfOk gave (λ e. told e ≢ [] → 1 ≤ t.more)
   any_later (Ok e) m = later e m.grows
   any_later (Err fault) m = tt
 
-calls_of : (order : Order) (b piece : List ℕ) (rows : List Row) (used : ℕ) (gave : Result Event Fault) → MayTell order b piece rows used gave → Calls order b piece rows used gave
-calls_of order b piece [] used gave m = alone order b piece used gave (subst (λ (z : List Event). MayGiveBehind order z b piece used gave) (append-nil (events order b)) m)
+calls_of : (order : Order) (b piece : List ℕ) (rows : List Row) (used : ℕ) (gave : Result Event Fault)
+    → MayTell order b piece rows used gave → Calls order b piece rows used gave
+calls_of order b piece [] used gave m =
+    alone order b piece used gave (subst (λ (z : List Event). MayGiveBehind order z b piece used gave)
+    (append-nil (events order b)) m)
 calls_of order b piece (r ∷ rows) used gave m =
     on (ends_or_goes order b piece used r rows t gave m)
     (λ lt. calls_of order (b ++ take t.n piece) (drop t.n piece) rows t.more gave
-    (tell_back order b piece t.n t.more (events order b ++ map event.Row (r ∷ rows)) (events order (b ++ take t.n piece) ++ map event.Row rows) (same_events order b piece used r rows t)
+    (tell_back order b piece t.n t.more (events order b ++ map event.Row (r ∷ rows)) (events order (b ++ take t.n piece)
+    ++ map event.Row rows) (same_events order b piece used r rows t)
     t.some (omega (arith, u.within, t.total)) lt gave (any_later order b piece used r rows t gave m)
     (subst (λ (k : ℕ). MayGiveBehind order (events order b ++ map event.Row (r ∷ rows)) b piece k gave) t.total m)))
   where
@@ -282,11 +368,23 @@ calls_of order b piece (r ∷ rows) used gave m =
     u = used_of order (events order b ++ map event.Row (r ∷ rows)) b piece used gave m
 
     t : RowTaken order b piece used r
-    t = row_taken order b piece used r (map event.Row rows ++ u.es) u.within (u.grows ∙ append_assoc (events order b) (map event.Row (r ∷ rows)) u.es)
+    t = row_taken order b piece used r (map event.Row rows ++ u.es) u.within (u.grows
+        ∙ append_assoc (events order b) (map event.Row (r ∷ rows)) u.es)
 
-    on : Ended order b piece used rows gave t.n ⊎ (t.n < length piece) → (t.n < length piece → Calls order (b ++ take t.n piece) (drop t.n piece) rows t.more gave) → Calls order b piece (r ∷ rows) used gave
-    on (inl e) more = (t.n, first_call order b piece used gave r (events order b ++ map event.Row (r ∷ rows)) t m, inl (e.all, e.none, e.size, e.is))
-    on (inr lt) more = (t.n, first_call order b piece used gave r (events order b ++ map event.Row (r ∷ rows)) t m, inr (lt, t.more, t.total, more lt))
+    on : Ended order b piece used rows gave t.n ⊎ (t.n < length piece)
+        → (t.n < length piece → Calls order (b ++ take t.n piece) (drop t.n piece) rows t.more gave)
+        → Calls order b piece (r ∷ rows) used gave
+    on (inl e) more = (
+      t.n,
+      first_call order b piece used gave r (events order b ++ map event.Row (r ∷ rows)) t m,
+      inl (e.all, e.none, e.size, e.is),
+    )
+    on (inr lt) more = (
+      t.n,
+      first_call order b piece used gave r (events order b ++ map event.Row (r ∷ rows)) t m,
+      inr (lt, t.more, t.total, more lt),
+    )
 
 pub rows_are_calls : RowsAreCalls
-rows_are_calls order b piece rows used gave = (calls_of order b piece rows used gave, tells_of order b piece rows used gave)
+rows_are_calls order b piece rows used gave =
+    (calls_of order b piece rows used gave, tells_of order b piece rows used gave)

@@ -1,5 +1,6 @@
 -- What the bytes of an extended opcode spell first: a zero byte, a length, the opcode, its operand.
-use Rattle.std.proofs.Common.{◌≡◌, ℕ, suc, ◌+◌, ◌^◌, ◌<◌, ◌≤◌, List, [], ◌∷◌, ◌++◌, length, drop, Option, Some, None, Ok, Err, refl, sym, ap, subst, ◌∙◌, arith}
+use Rattle.std.proofs.Common.{◌≡◌, ℕ, suc, ◌+◌, ◌^◌, ◌<◌, ◌≤◌, List, [], ◌∷◌, ◌++◌, length, drop, Option, Some, None}
+use Rattle.std.proofs.Common.{Ok, Err, refl, sym, ap, subst, ◌∙◌, arith}
 use Rattle.std.proofs.lemmas.Bool.{lt-ltb, le-ltb, lt-leb, eq-eqb, ne_eqb}
 use Rattle.std.proofs.lemmas.List.{length-append, append-nil, drop-append-le, drop_all}
 use Rattle.dl_num.specs.declared.fixed.Order.{Order}
@@ -11,94 +12,122 @@ use Rattle.dl_field.specs.declared.params.Params.{Params}
 use Rattle.dl_table.specs.declared.fault.FaultKind.{FaultKind}
 use Rattle.dl_table.specs.declared.fault.FaultKind.TheVariants as fault
 use Rattle.dl_rows.specs.declared.operation.Operation.TheVariants as op
-use Rattle.dl_rows.specs.OperationSpelt.{discriminator_spelt, extended_spelt, body_spelt, length_and_body, operation_spelt}
+use Rattle.dl_rows.specs.OperationSpelt.{discriminator_spelt, extended_spelt, body_spelt, length_and_body}
+use Rattle.dl_rows.specs.OperationSpelt.{operation_spelt}
 use Rattle.dl_rows.specs.Phases.{HasLength}
 use Rattle.dl_rows.proofs.FirstLemmas.{IsOpen, nowhere_behind, first_behind, open_byte, first_nil, nowhere_nil}
 use Rattle.dl_rows.proofs.OperandLemmas.{Verdict, continue_front, continue_before, leb_front_continues, is_leb-number}
 
 -- ---- the length
 
-pub length_open : (order : Order) (size : ℕ) (w : List ℕ) (n : ℕ) → IsUleb w n → IsOpen {A = Verdict} (length_and_body order size) w
+pub length_open : (order : Order) (size : ℕ) (w : List ℕ) (n : ℕ) → IsUleb w n
+    → IsOpen {A = Verdict} (length_and_body order size) w
 length_open order size w n u front x back e =
     let c = leb_front_continues w front u.1 u.0 x back u.2 e in
     rw (leb_front-continues front c, is_leb-continues front c) refl
 
-pub length_nowhere : (order : Order) (size : ℕ) (w : List ℕ) → AllContinue w → SpellsNowhere {A = Verdict} (length_and_body order size) w
+pub length_nowhere : (order : Order) (size : ℕ) (w : List ℕ) → AllContinue w
+    → SpellsNowhere {A = Verdict} (length_and_body order size) w
 length_nowhere order size w h front back e =
     let c = continue_front w front back h e in
     rw (leb_front-continues front c, is_leb-continues front c) refl
 
 -- after the length stands the body
-pub length_then : (order : Order) (size : ℕ) (w : List ℕ) (n : ℕ) → IsUleb w n → (u : List ℕ) → length_and_body order size (w ++ u) ≡ body_spelt order size n u
+pub length_then : (order : Order) (size : ℕ) (w : List ℕ) (n : ℕ) → IsUleb w n → (u : List ℕ)
+    → length_and_body order size (w ++ u) ≡ body_spelt order size n u
 length_then order size w n s u =
     let t = is_leb-number w s.0 s.1 s.2 in
     let same = leb_front-leb w t in
     let f : leb_front (w ++ u) ≡ w = leb_front-append w u (rw same t) ∙ same in
     let g : groups w ≡ n = sym s.3 in
-    let d : drop (length w) (w ++ u) ≡ u = drop-append-le (length w) w u (omega arith) ∙ ap (λ (z : List ℕ). z ++ u) (drop_all (length w) w (omega arith)) in
+    let d : drop (length w) (w ++ u) ≡ u =
+    drop-append-le (length w) w u (omega arith)
+    ∙ ap (λ (z : List ℕ). z ++ u) (drop_all (length w) w (omega arith)) in
     rw (f, t, g, d) refl
 
 pub zero_open : (order : Order) (h : Params) → IsOpen {A = Verdict} (operation_spelt order h) (0 ∷ [])
 zero_open order h = open_byte (operation_spelt order h) 0 refl
 
 -- after the zero byte stands the length
-pub zero_then : (order : Order) (h : Params) → 1 ≤ h.opcode_base → (u : List ℕ) → operation_spelt order h (0 ∷ u) ≡ length_and_body order h.address_size u
+pub zero_then : (order : Order) (h : Params) → 1 ≤ h.opcode_base → (u : List ℕ)
+    → operation_spelt order h (0 ∷ u) ≡ length_and_body order h.address_size u
 zero_then order h some u = rw (lt-leb h.opcode_base 0 some) refl
 
 -- ---- the opcode
 
-pub body_open : (order : Order) (size n opcode : ℕ) → 1 ≤ n → n < 2 ^ 64 → IsOpen {A = Verdict} (body_spelt order size n) (opcode ∷ [])
-body_open order size n opcode some lt = open_byte (body_spelt order size n) opcode (rw (ne_eqb n 0 (λ k. omega arith), lt-ltb n (2 ^ 64) lt) refl)
+pub body_open : (order : Order) (size n opcode : ℕ) → 1 ≤ n → n < 2 ^ 64
+    → IsOpen {A = Verdict} (body_spelt order size n) (opcode ∷ [])
+body_open order size n opcode some lt =
+    open_byte (body_spelt order size n) opcode (rw (ne_eqb n 0 (λ k. omega arith), lt-ltb n (2 ^ 64) lt) refl)
 
-pub body_then : (order : Order) (size n opcode : ℕ) → 1 ≤ n → n < 2 ^ 64 → (u : List ℕ) → body_spelt order size n (opcode ∷ u) ≡ extended_spelt order size n opcode u
+pub body_then : (order : Order) (size n opcode : ℕ) → 1 ≤ n → n < 2 ^ 64 → (u : List ℕ)
+    → body_spelt order size n (opcode ∷ u) ≡ extended_spelt order size n opcode u
 body_then order size n opcode some lt u = rw (ne_eqb n 0 (λ k. omega arith), lt-ltb n (2 ^ 64) lt) refl
 
-pub body_nowhere : (order : Order) (size n : ℕ) → 1 ≤ n → n < 2 ^ 64 → SpellsNowhere {A = Verdict} (body_spelt order size n) []
-body_nowhere order size n some lt = nowhere_nil (body_spelt order size n) (rw (ne_eqb n 0 (λ k. omega arith), lt-ltb n (2 ^ 64) lt) refl)
+pub body_nowhere : (order : Order) (size n : ℕ) → 1 ≤ n → n < 2 ^ 64
+    → SpellsNowhere {A = Verdict} (body_spelt order size n) []
+body_nowhere order size n some lt =
+    nowhere_nil (body_spelt order size n) (rw (ne_eqb n 0 (λ k. omega arith), lt-ltb n (2 ^ 64) lt) refl)
 
 -- ---- all before the operand
 
 -- the bytes before a length's body, and what the body spells first
-pub length_first : (order : Order) (h : Params) → 1 ≤ h.opcode_base → (w : List ℕ) (n : ℕ) (u : List ℕ) (v : Verdict) → IsUleb w n
+pub length_first : (order : Order) (h : Params) → 1 ≤ h.opcode_base → (w : List ℕ) (n : ℕ) (u : List ℕ) (v : Verdict)
+    → IsUleb w n
     → SpellsFirst (body_spelt order h.address_size n) u v → SpellsFirst (operation_spelt order h) (0 ∷ (w ++ u)) v
 length_first order h some w n u v s first =
     let size = h.address_size in
-    first_behind (operation_spelt order h) (length_and_body order size) (0 ∷ []) (w ++ u) v (zero_open order h) (zero_then order h some)
-    (first_behind (length_and_body order size) (body_spelt order size n) w u v (length_open order size w n s) (length_then order size w n s) first)
+    first_behind (operation_spelt order h) (length_and_body order size) (0 ∷ []) (w ++ u) v (zero_open order h)
+    (zero_then order h some)
+    (first_behind (length_and_body order size) (body_spelt order size n) w u v (length_open order size w n s)
+    (length_then order size w n s) first)
 
-pub length_is_nowhere : (order : Order) (h : Params) → 1 ≤ h.opcode_base → (w : List ℕ) (n : ℕ) (u : List ℕ) → IsUleb w n
+pub length_is_nowhere : (order : Order) (h : Params) → 1 ≤ h.opcode_base → (w : List ℕ) (n : ℕ) (u : List ℕ)
+    → IsUleb w n
     → SpellsNowhere (body_spelt order h.address_size n) u → SpellsNowhere (operation_spelt order h) (0 ∷ (w ++ u))
 length_is_nowhere order h some w n u s none =
     let size = h.address_size in
-    nowhere_behind (operation_spelt order h) (length_and_body order size) (0 ∷ []) (w ++ u) (zero_open order h) (zero_then order h some)
-    (nowhere_behind (length_and_body order size) (body_spelt order size n) w u (length_open order size w n s) (length_then order size w n s) none)
+    nowhere_behind (operation_spelt order h) (length_and_body order size) (0 ∷ []) (w ++ u) (zero_open order h)
+    (zero_then order h some)
+    (nowhere_behind (length_and_body order size) (body_spelt order size n) w u (length_open order size w n s)
+    (length_then order size w n s) none)
 
-pub extended_first : (order : Order) (h : Params) → 1 ≤ h.opcode_base → (w : List ℕ) (n opcode : ℕ) (u : List ℕ) (v : Verdict) → HasLength w n
-    → SpellsFirst (extended_spelt order h.address_size n opcode) u v → SpellsFirst (operation_spelt order h) (0 ∷ (w ++ opcode ∷ u)) v
+pub extended_first : (order : Order) (h : Params) → 1 ≤ h.opcode_base
+    → (w : List ℕ) (n opcode : ℕ) (u : List ℕ) (v : Verdict) → HasLength w n
+    → SpellsFirst (extended_spelt order h.address_size n opcode) u v
+    → SpellsFirst (operation_spelt order h) (0 ∷ (w ++ opcode ∷ u)) v
 extended_first order h some w n opcode u v s first =
     let size = h.address_size in
     length_first order h some w n (opcode ∷ u) v s.0
-    (first_behind (body_spelt order size n) (extended_spelt order size n opcode) (opcode ∷ []) u v (body_open order size n opcode s.1 s.2) (body_then order size n opcode s.1 s.2) first)
+    (first_behind (body_spelt order size n) (extended_spelt order size n opcode) (opcode ∷ []) u v
+    (body_open order size n opcode s.1 s.2) (body_then order size n opcode s.1 s.2) first)
 
-pub extended_nowhere : (order : Order) (h : Params) → 1 ≤ h.opcode_base → (w : List ℕ) (n opcode : ℕ) (u : List ℕ) → HasLength w n
-    → SpellsNowhere (extended_spelt order h.address_size n opcode) u → SpellsNowhere (operation_spelt order h) (0 ∷ (w ++ opcode ∷ u))
+pub extended_nowhere : (order : Order) (h : Params) → 1 ≤ h.opcode_base → (w : List ℕ) (n opcode : ℕ) (u : List ℕ)
+    → HasLength w n
+    → SpellsNowhere (extended_spelt order h.address_size n opcode) u
+    → SpellsNowhere (operation_spelt order h) (0 ∷ (w ++ opcode ∷ u))
 extended_nowhere order h some w n opcode u s none =
     let size = h.address_size in
     length_is_nowhere order h some w n (opcode ∷ u) s.0
-    (nowhere_behind (body_spelt order size n) (extended_spelt order size n opcode) (opcode ∷ []) u (body_open order size n opcode s.1 s.2) (body_then order size n opcode s.1 s.2) none)
+    (nowhere_behind (body_spelt order size n) (extended_spelt order size n opcode) (opcode ∷ []) u
+    (body_open order size n opcode s.1 s.2) (body_then order size n opcode s.1 s.2) none)
 
 -- the length alone
-pub length_pending : (order : Order) (h : Params) → 1 ≤ h.opcode_base → (w : List ℕ) (n : ℕ) → HasLength w n → SpellsNowhere (operation_spelt order h) (0 ∷ w)
+pub length_pending : (order : Order) (h : Params) → 1 ≤ h.opcode_base → (w : List ℕ) (n : ℕ) → HasLength w n
+    → SpellsNowhere (operation_spelt order h) (0 ∷ w)
 length_pending order h some w n s =
     subst (λ (z : List ℕ). SpellsNowhere (operation_spelt order h) (0 ∷ z)) (append-nil w)
     (length_is_nowhere order h some w n [] s.0 (body_nowhere order h.address_size n s.1 s.2))
 
-pub length_begun : (order : Order) (h : Params) → 1 ≤ h.opcode_base → (w : List ℕ) → AllContinue w → SpellsNowhere (operation_spelt order h) (0 ∷ w)
+pub length_begun : (order : Order) (h : Params) → 1 ≤ h.opcode_base → (w : List ℕ) → AllContinue w
+    → SpellsNowhere (operation_spelt order h) (0 ∷ w)
 length_begun order h some w c =
-    nowhere_behind (operation_spelt order h) (length_and_body order h.address_size) (0 ∷ []) w (zero_open order h) (zero_then order h some) (length_nowhere order h.address_size w c)
+    nowhere_behind (operation_spelt order h) (length_and_body order h.address_size) (0 ∷ []) w (zero_open order h)
+    (zero_then order h some) (length_nowhere order h.address_size w c)
 
 -- a length that is refused: 0, or 2^64 and more
-pub length_refused : (order : Order) (h : Params) → 1 ≤ h.opcode_base → (w : List ℕ) (n : ℕ) (k : FaultKind) → IsUleb w n
+pub length_refused : (order : Order) (h : Params) → 1 ≤ h.opcode_base → (w : List ℕ) (n : ℕ) (k : FaultKind)
+    → IsUleb w n
     → body_spelt order h.address_size n [] ≡ Some (Err k) → SpellsFirst (operation_spelt order h) (0 ∷ w) (Err k)
 length_refused order h some w n k s e =
     subst (λ (z : List ℕ). SpellsFirst (operation_spelt order h) (0 ∷ z) (Err k)) (append-nil w)
@@ -109,43 +138,71 @@ body_out order size n le = rw (ne_eqb n 0 (λ k. omega arith), le-ltb n (2 ^ 64)
 
 -- ---- set_discriminator
 
-pub discriminator_nowhere : (n : ℕ) (w : List ℕ) → AllContinue w → 1 + length w < n → SpellsNowhere {A = Verdict} (discriminator_spelt n) w
+pub discriminator_nowhere : (n : ℕ) (w : List ℕ) → AllContinue w → 1 + length w < n
+    → SpellsNowhere {A = Verdict} (discriminator_spelt n) w
 discriminator_nowhere n w c lt front back e =
     let l : length w ≡ length front + length back = ap length e ∙ length-append front back in
-    rw (ne_eqb n 1 (λ k. omega arith), is_leb-continues front (continue_front w front back c e), ne_eqb (1 + length front) n (λ k. omega arith)) refl
+    rw (
+      ne_eqb n 1 (λ k. omega arith),
+      is_leb-continues front (continue_front w front back c e),
+      ne_eqb (1 + length front) n (λ k. omega arith),
+    ) refl
 
 -- no proper front of the operand decides, where the operand fits in the length
-discriminator_open : (n : ℕ) (w front : List ℕ) (x : ℕ) (back before : List ℕ) (last : ℕ) → AllContinue before → w ≡ before ++ last ∷ [] → 1 + length w ≤ n
+discriminator_open : (n : ℕ) (w front : List ℕ) (x : ℕ) (back before : List ℕ) (last : ℕ) → AllContinue before
+    → w ≡ before ++ last ∷ [] → 1 + length w ≤ n
     → w ≡ front ++ x ∷ back → ◌≡◌ {A = Option Verdict} (discriminator_spelt n front) None
 discriminator_open n w front x back before last c is le e =
     let l : length w ≡ length front + suc (length back) = ap length e ∙ length-append front (x ∷ back) in
     let m = continue_before before last front x back c (sym is ∙ e) in
     rw (ne_eqb n 1 (λ k. omega arith), is_leb-continues front m, ne_eqb (1 + length front) n (λ k. omega arith)) refl
 
-pub discriminator_first : (n m : ℕ) (w : List ℕ) → IsUleb w m → m < 2 ^ 64 → 1 + length w ≡ n → SpellsFirst (discriminator_spelt n) w (Ok (op.SetDiscriminator m))
+pub discriminator_first : (n m : ℕ) (w : List ℕ) → IsUleb w m → m < 2 ^ 64 → 1 + length w ≡ n
+    → SpellsFirst (discriminator_spelt n) w (Ok (op.SetDiscriminator m))
 discriminator_first n m w u lt e = record {
-  spells = (let l : length w ≡ length u.0 + 1 = ap length u.2.bytes ∙ length-append u.0 (u.1 ∷ []) in let g : groups w ≡ m = sym u.3 in
-      rw (ne_eqb n 1 (λ k. omega arith), is_leb-number w u.0 u.1 u.2, g, lt-ltb m (2 ^ 64) lt, eq-eqb (1 + length w) n e) refl);
+  spells =
+      (let l : length w ≡ length u.0 + 1 = ap length u.2.bytes ∙ length-append u.0 (u.1
+      ∷ []) in let g : groups w ≡ m = sym u.3 in
+      rw (
+        ne_eqb n 1 (λ k. omega arith),
+        is_leb-number w u.0 u.1 u.2,
+        g,
+        lt-ltb m (2 ^ 64) lt,
+        eq-eqb (1 + length w) n e,
+      ) refl);
   shortest = λ front x back k. discriminator_open n w front x back u.0 u.1 u.2.continue u.2.bytes (omega arith) k;
 }
 
-pub discriminator_out : (n m : ℕ) (w : List ℕ) → IsUleb w m → 2 ^ 64 ≤ m → 1 + length w ≤ n → SpellsFirst (discriminator_spelt n) w (Err fault.LebRange)
+pub discriminator_out : (n m : ℕ) (w : List ℕ) → IsUleb w m → 2 ^ 64 ≤ m → 1 + length w ≤ n
+    → SpellsFirst (discriminator_spelt n) w (Err fault.LebRange)
 discriminator_out n m w u le e = record {
-  spells = (let l : length w ≡ length u.0 + 1 = ap length u.2.bytes ∙ length-append u.0 (u.1 ∷ []) in let g : groups w ≡ m = sym u.3 in
+  spells =
+      (let l : length w ≡ length u.0 + 1 = ap length u.2.bytes ∙ length-append u.0 (u.1
+      ∷ []) in let g : groups w ≡ m = sym u.3 in
       rw (ne_eqb n 1 (λ k. omega arith), is_leb-number w u.0 u.1 u.2, g, le-ltb m (2 ^ 64) le) refl);
   shortest = λ front x back k. discriminator_open n w front x back u.0 u.1 u.2.continue u.2.bytes e k;
 }
 
 -- the operand ends before its length does
-pub discriminator_early : (n m : ℕ) (w : List ℕ) → IsUleb w m → m < 2 ^ 64 → 1 + length w < n → SpellsFirst (discriminator_spelt n) w (Err fault.ExtendedLength)
+pub discriminator_early : (n m : ℕ) (w : List ℕ) → IsUleb w m → m < 2 ^ 64 → 1 + length w < n
+    → SpellsFirst (discriminator_spelt n) w (Err fault.ExtendedLength)
 discriminator_early n m w u lt e = record {
-  spells = (let l : length w ≡ length u.0 + 1 = ap length u.2.bytes ∙ length-append u.0 (u.1 ∷ []) in let g : groups w ≡ m = sym u.3 in
-      rw (ne_eqb n 1 (λ k. omega arith), is_leb-number w u.0 u.1 u.2, g, lt-ltb m (2 ^ 64) lt, ne_eqb (1 + length w) n (λ k. omega arith)) refl);
+  spells =
+      (let l : length w ≡ length u.0 + 1 = ap length u.2.bytes ∙ length-append u.0 (u.1
+      ∷ []) in let g : groups w ≡ m = sym u.3 in
+      rw (
+        ne_eqb n 1 (λ k. omega arith),
+        is_leb-number w u.0 u.1 u.2,
+        g,
+        lt-ltb m (2 ^ 64) lt,
+        ne_eqb (1 + length w) n (λ k. omega arith),
+      ) refl);
   shortest = λ front x back k. discriminator_open n w front x back u.0 u.1 u.2.continue u.2.bytes (omega arith) k;
 }
 
 -- the operand goes on at its length's end
-pub discriminator_late : (n b : ℕ) (w : List ℕ) → AllContinue (w ++ b ∷ []) → AllContinue w → 1 + length (w ++ b ∷ []) ≡ n → SpellsFirst (discriminator_spelt n) (w ++ b ∷ []) (Err fault.ExtendedLength)
+pub discriminator_late : (n b : ℕ) (w : List ℕ) → AllContinue (w ++ b ∷ []) → AllContinue w
+    → 1 + length (w ++ b ∷ []) ≡ n → SpellsFirst (discriminator_spelt n) (w ++ b ∷ []) (Err fault.ExtendedLength)
 discriminator_late n b w c d e = record {
   spells = (let l : length (w ++ b ∷ []) ≡ length w + 1 = length-append w (b ∷ []) in
       rw (ne_eqb n 1 (λ k. omega arith), is_leb-continues (w ++ b ∷ []) c, eq-eqb (1 + length (w ++ b ∷ [])) n e) refl);

@@ -17,7 +17,8 @@ split_front (a ∷ head) w (b ∷ front) back e =
 
 -- the proper fronts of some bytes spell nothing
 abbrev pub IsOpen : {A : Type 0} → (List ℕ → Option A) → List ℕ → Type 0
-IsOpen {A} spelt head = (front : List ℕ) (x : ℕ) (back : List ℕ) → head ≡ front ++ x ∷ back → ◌≡◌ {A = Option A} (spelt front) None
+IsOpen {A} spelt head =
+    (front : List ℕ) (x : ℕ) (back : List ℕ) → head ≡ front ++ x ∷ back → ◌≡◌ {A = Option A} (spelt front) None
 
 -- where head, and then u, are what operand says of u
 pub nowhere_behind : {A : Type 0} (spelt operand : List ℕ → Option A) (head w : List ℕ) → IsOpen spelt head
@@ -33,7 +34,8 @@ first_behind {A = A} spelt operand head w a begun same first = record {
   spells = same w ∙ first.spells;
   shortest = λ front x back e. elim (split_front head w front (x ∷ back) e) [
     | inl p ↦ begun front p.0 p.1 p.2
-    | inr q ↦ subst (λ (z : List ℕ). ◌≡◌ {A = Option A} (spelt z) None) (sym q.1) (same q.0 ∙ first.shortest q.0 x back q.2)
+    | inr q ↦ subst (λ (z : List ℕ). ◌≡◌ {A = Option A} (spelt z) None) (sym q.1) (same q.0
+        ∙ first.shortest q.0 x back q.2)
   ];
 }
 
@@ -46,7 +48,8 @@ nil_front [] back e = refl
 nil_front (b ∷ front) back e = absurd cc
 
 -- one byte has only the empty front
-pub open_byte : {A : Type 0} (spelt : List ℕ → Option A) (b : ℕ) → ◌≡◌ {A = Option A} (spelt []) None → IsOpen spelt (b ∷ [])
+pub open_byte : {A : Type 0} (spelt : List ℕ → Option A) (b : ℕ) → ◌≡◌ {A = Option A} (spelt []) None
+    → IsOpen spelt (b ∷ [])
 open_byte spelt b none [] x back e = none
 open_byte spelt b none (a ∷ front) x back e = absurd (no_nil front x back cc)
 
@@ -55,7 +58,8 @@ pub first_nil : {A : Type 0} (spelt : List ℕ → Option A) (a : A) → spelt [
 first_nil spelt a e = record { spells = e; shortest = λ front x back k. absurd (no_nil front x back k) }
 
 pub nowhere_nil : {A : Type 0} (spelt : List ℕ → Option A) → ◌≡◌ {A = Option A} (spelt []) None → SpellsNowhere spelt []
-nowhere_nil {A = A} spelt none front back e = subst (λ (z : List ℕ). ◌≡◌ {A = Option A} (spelt z) None) (sym (nil_front front back e)) none
+nowhere_nil {A = A} spelt none front back e =
+    subst (λ (z : List ℕ). ◌≡◌ {A = Option A} (spelt z) None) (sym (nil_front front back e)) none
 
 pub open_nil : {A : Type 0} (spelt : List ℕ → Option A) → IsOpen spelt []
 open_nil spelt front x back e = absurd (no_nil front x back e)

@@ -15,35 +15,44 @@ use Rattle.dl_head.proofs.FirstFields.{after_length, not_foreign, is_number, is_
 use Rattle.dl_head.proofs.RefusalLaws.{foreign_last}
 
 -- after a foreign version no field is spelled
-behind_version : (order : Order) (v : ℕ) (items : List Item) (w : List ℕ) → SpellsFields order (foreign_version v) items w → sum_by item_cells items ≡ 0
+behind_version : (order : Order) (v : ℕ) (items : List Item) (w : List ℕ)
+    → SpellsFields order (foreign_version v) items w → sum_by item_cells items ≡ 0
 behind_version order v [] w s = refl
 behind_version order v (i ∷ items) w s = absurd (none_some refl s.3)
 
 -- nor does a header follow its version
-from_version : (order : Order) (format : Format) (n m v : ℕ) (items : List Item) (w : List ℕ) → SpellsFields order (after_length format n m) items w
+from_version : (order : Order) (format : Format) (n m v : ℕ) (items : List Item) (w : List ℕ)
+    → SpellsFields order (after_length format n m) items w
     → following_all (after_length format n m) items ≡ foreign_version v → sum_by item_cells items ≡ 0
 from_version order format n m v items w s e = elim (cases_eq m 5) [
   | inl same ↦
-      let f : following_all (from_address_size n (format_alone format)) items ≡ foreign_version v = rw (eq-eqb m 5 same) at e in
+      let f : following_all (from_address_size n (format_alone format)) items ≡ foreign_version v =
+      rw (eq-eqb m 5 same) at e in
       absurd (not_foreign n (format_alone format) items v f)
-  | inr other ↦ (let t : SpellsFields order (foreign_version m) items w = rw (ne_eqb m 5 other) at s in behind_version order m items w t)
+  | inr other ↦ (let t : SpellsFields order (foreign_version m) items w = rw (ne_eqb m 5
+      other) at s in behind_version order m items w t)
 ]
 
 -- nor is its length or its version a cell
-in_fields : (order : Order) (v : ℕ) (items : List Item) (w : List ℕ) → SpellsFields order header_layout items w → following_all header_layout items ≡ foreign_version v → sum_by item_cells items ≡ 0
+in_fields : (order : Order) (v : ℕ) (items : List Item) (w : List ℕ) → SpellsFields order header_layout items w
+    → following_all header_layout items ≡ foreign_version v → sum_by item_cells items ≡ 0
 in_fields order v [] w s f = absurd (none_some {a = v} refl (ap foreign_made f))
 in_fields order v (i ∷ []) w s f =
     let a = is_length order s.0 i s.3 in
     absurd (none_some {a = v} (ap (λ (j : Item). foreign_made (following header_layout j)) a.item) (ap foreign_made f))
 in_fields order v (i ∷ j ∷ items) w s f =
     let a = is_length order s.0 i s.3 in
-    let next : SpellsFields order (number_then version (after_length a.format a.number)) (j ∷ items) s.1 = subst (λ (k : Item). SpellsFields order (following header_layout k) (j ∷ items) s.1) a.item s.4 in
+    let next : SpellsFields order (number_then version (after_length a.format a.number)) (j ∷ items) s.1 =
+    subst (λ (k : Item). SpellsFields order (following header_layout k) (j ∷ items) s.1) a.item s.4 in
     let n = is_number order version (after_length a.format a.number) next.0 j next.3 in
     let behind : following_all (after_length a.format a.number n.number) items ≡ foreign_version v =
-    ap (λ (k : Item). following_all (following (number_then version (after_length a.format a.number)) k) items) (sym n.item)
+    ap (λ (k : Item). following_all (following (number_then version (after_length a.format a.number)) k) items)
+    (sym n.item)
     ∙ ap (λ (k : Item). following_all (following header_layout k) (j ∷ items)) (sym a.item) ∙ f in
     let rest =
-    from_version order a.format a.number n.number v items next.1 (subst (λ (k : Item). SpellsFields order (following (number_then version (after_length a.format a.number)) k) items next.1) n.item next.4) behind in
+    from_version order a.format a.number n.number v items next.1
+    (subst (λ (k : Item). SpellsFields order (following (number_then version (after_length a.format a.number)) k)
+    items next.1) n.item next.4) behind in
     let first : item_cells i ≡ 0 = ap item_cells a.item in
     let second : item_cells j ≡ 0 = ap item_cells n.item in
     omega (arith, sum_by-cons item_cells i (j ∷ items), sum_by-cons item_cells j items, first, second, rest)
@@ -52,6 +61,8 @@ in_fields order v (i ∷ j ∷ items) w s f =
 pub foreign_no_cells : (order : Order) (v : ℕ) (b : List ℕ) → foreign_in order b ≡ Some v → cells order b ≡ 0
 foreign_no_cells order v b foreign =
     let s : Sound order header_layout b (cut order b) = cut_sound order header_layout [] b in
-    let last : following_all header_layout (cut order b).items ≡ foreign_version v = foreign_last (following_all header_layout (cut order b).items) v foreign in
+    let last : following_all header_layout (cut order b).items ≡ foreign_version v =
+    foreign_last (following_all header_layout (cut order b).items) v foreign in
     let items = in_fields order v (cut order b).items s.front s.spelt last in
-    ap (λ (l : Layout). sum_by item_cells (cut order b).items + rest_cells l (cut order b).rest) last ∙ ap (λ (n : ℕ). n + 0) items
+    ap (λ (l : Layout). sum_by item_cells (cut order b).items + rest_cells l (cut order b).rest) last
+    ∙ ap (λ (n : ℕ). n + 0) items

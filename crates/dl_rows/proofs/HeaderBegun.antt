@@ -22,11 +22,13 @@ pub begun_in : (s : State) (head : HeadReader) → s ≡ state.InHeader head →
 begun_in s head is begun = subst (λ (x : State). ∥ IsBegun x ∥₁) is begun
 
 -- how many bytes were taken
-pub taken_is : (head : HeadReader) (n : ℕ) → ∥ GoesOn head ∥₁ → ((b : List ℕ) → HeadStands head b → n ≡ length b) → n ≡ head.taken
+pub taken_is : (head : HeadReader) (n : ℕ) → ∥ GoesOn head ∥₁ → ((b : List ℕ) → HeadStands head b → n ≡ length b)
+    → n ≡ head.taken
 taken_is head n begun counts = ∥∥₁_elim begun (hlevel props) (λ g. counts g.0 g.1 ∙ sym g.1.taken)
 
 -- a reader that knows how long the unit is answers that
-pub length_known : (head : HeadReader) (o : Option ℕ) → ∥ KnowsLength head ∥₁ → ((b : List ℕ) → HeadStands head b → o ≡ unit_len head.order b) → o ≡ None → ⊥
+pub length_known : (head : HeadReader) (o : Option ℕ) → ∥ KnowsLength head ∥₁
+    → ((b : List ℕ) → HeadStands head b → o ≡ unit_len head.order b) → o ≡ None → ⊥
 length_known head o known tells none = ∥∥₁_elim known (hlevel props) (λ k. none_some none (tells k.0 k.1 ∙ k.2.1))
 
 -- a reader that has taken a header does so
@@ -34,30 +36,45 @@ pub header_knows : (head : HeadReader) → ∥ HasHeader head ∥₁ → ∥ Kno
 header_knows head has = ∥∥₁_elim has ∥∥₁_prop (λ k. ∣ (k.0, k.1, header_known head.order k.2.0 k.0 k.2.1) ∣₁)
 
 -- and gives it
-pub header_given : (head : HeadReader) (o : Option HeaderData) → ∥ HasHeader head ∥₁ → Gives head.order head o → o ≡ None → ⊥
+pub header_given : (head : HeadReader) (o : Option HeaderData) → ∥ HasHeader head ∥₁ → Gives head.order head o
+    → o ≡ None → ⊥
 header_given head o has gives none =
-    ∥∥₁_elim has (hlevel props) (λ k. (let n : Gives head.order head None = subst (λ (p : Option HeaderData). Gives head.order head p) none gives in n k.0 k.1 k.2.0 k.2.1))
+    ∥∥₁_elim has (hlevel props)
+    (λ k. (let n : Gives head.order head None = subst (λ (p : Option HeaderData). Gives head.order head
+    p) none gives in n k.0 k.1 k.2.0 k.2.1))
 
 -- a piece was offered to the reader of a header
 module _ (old new : HeadReader) (piece : List ℕ) (used : ℕ) (step : HeadStep) (begun : ∥ GoesOn old ∥₁)
     (offered : (b : List ℕ) → HeadStands old b → Answers old.order b answer.More → Offered old.order b piece used step new) (same : new.order ≡ old.order) where
-  answers : (s : HeadStep) → step ≡ s → (b : List ℕ) → Offered old.order b piece used step new → Answers new.order (b ++ take used piece) (so_far s)
+  answers : (s : HeadStep) → step ≡ s → (b : List ℕ) → Offered old.order b piece used step new
+      → Answers new.order (b ++ take used piece) (so_far s)
   answers s is b o =
-      subst (λ (order : Order). Answers order (b ++ take used piece) (so_far s)) (sym same) (subst (λ (t : HeadStep). Answers old.order (b ++ take used piece) (so_far t)) is o.answered.took.answers)
+      subst (λ (order : Order). Answers order (b ++ take used piece) (so_far s)) (sym same)
+      (subst (λ (t : HeadStep). Answers old.order (b ++ take used piece) (so_far t)) is o.answered.took.answers)
 
   -- the header still goes on
   pub goes_more : step ≡ answer.More → ∥ GoesOn new ∥₁
-  goes_more is = ∥∥₁_elim begun ∥∥₁_prop (λ g. (let o = offered g.0 g.1 g.2 in ∣ (g.0 ++ take used piece, o.stands, answers answer.More is g.0 o) ∣₁))
+  goes_more is =
+      ∥∥₁_elim begun ∥∥₁_prop (λ g. (let o = offered g.0 g.1 g.2 in
+      ∣ (g.0 ++ take used piece, o.stands, answers answer.More is g.0 o) ∣₁))
 
   pub goes_refused : step ≡ answer.NoMemory → ∥ GoesOn new ∥₁
-  goes_refused is = ∥∥₁_elim begun ∥∥₁_prop (λ g. (let o = offered g.0 g.1 g.2 in ∣ (g.0 ++ take used piece, o.stands, answers answer.NoMemory is g.0 o) ∣₁))
+  goes_refused is =
+      ∥∥₁_elim begun ∥∥₁_prop (λ g. (let o = offered g.0 g.1 g.2 in
+      ∣ (g.0 ++ take used piece, o.stands, answers answer.NoMemory is g.0 o) ∣₁))
 
   -- a foreign version is complete
   pub knows_foreign : (version : ℕ) → step ≡ answer.Foreign version → ∥ KnowsLength new ∥₁
   knows_foreign version is = ∥∥₁_elim begun ∥∥₁_prop (λ g.
       (let o = offered g.0 g.1 g.2 in
-      ∣ (g.0 ++ take used piece, o.stands, foreign_known new.order (g.0 ++ take used piece) version (answers (answer.Foreign version) is g.0 o)) ∣₁))
+      ∣ (
+        g.0 ++ take used piece,
+        o.stands,
+        foreign_known new.order (g.0 ++ take used piece) version (answers (answer.Foreign version) is g.0 o),
+      ) ∣₁))
 
   -- the header is complete
   pub has_header : step ≡ answer.Done → ∥ HasHeader new ∥₁
-  has_header is = ∥∥₁_elim begun ∥∥₁_prop (λ g. (let o = offered g.0 g.1 g.2 in ∣ (g.0 ++ take used piece, o.stands, answers answer.Done is g.0 o) ∣₁))
+  has_header is =
+      ∥∥₁_elim begun ∥∥₁_prop (λ g. (let o = offered g.0 g.1 g.2 in
+      ∣ (g.0 ++ take used piece, o.stands, answers answer.Done is g.0 o) ∣₁))

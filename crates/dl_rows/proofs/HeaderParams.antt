@@ -1,5 +1,7 @@
 -- The params of a header are usable, and line_base is a byte.
-use Rattle.std.proofs.Common.{◌≡◌, ℕ, zero, suc, ◌+◌, ◌-◌, ◌≤◌, Bool, true, false, if◌then◌else◌, ◌==◌, List, [], ◌∷◌, ◌++◌, length, Some, None, refl, sym, subst, arith, inl, inr, length-append, ◌∙◌, ◌<◌, ◌^◌, pos, negsuc, ◌-ℤ◌, Option, ap}
+use Rattle.std.proofs.Common.{◌≡◌, ℕ, zero, suc, ◌+◌, ◌-◌, ◌≤◌, Bool, true, false, if◌then◌else◌, ◌==◌, List, [], ◌∷◌}
+use Rattle.std.proofs.Common.{◌++◌, length, Some, None, refl, sym, subst, arith, inl, inr, length-append, ◌∙◌, ◌<◌, ◌^◌}
+use Rattle.std.proofs.Common.{pos, negsuc, ◌-ℤ◌, Option, ap}
 use Rattle.std.proofs.lemmas.Bool.{cases_lt, lt-ltb, le-ltb, cases_eq, eq-eqb, ne_eqb}
 use Rattle.std.specs.Prelude.{unsigned_abs}
 use Rattle.std.proofs.lemmas.Int.{ints}
@@ -18,8 +20,12 @@ use Rattle.dl_table.specs.TableData.{TableData}
 use Rattle.dl_field.specs.HeaderData.{HeaderData}
 use Rattle.dl_table.specs.Value.{Value, good}
 use Rattle.dl_field.specs.Field.{IsNumber}
-use Rattle.dl_field.specs.Layout.{Layout, initial_length_then, number_then, form_then, value_then, foreign_version, last_entry, Item, length_is, number_is, form_is, value_is, following, following_all, objection, number_size, field_spelt, pairs_layout, entry_layout, entries_layout, table_layout, NumberField}
-use Rattle.dl_head.specs.HeaderLayout.{header_layout, lengths_layout, tables_layout, from_address_size, format_alone, signed_byte}
+use Rattle.dl_field.specs.Layout.{Layout, initial_length_then, number_then, form_then, value_then, foreign_version}
+use Rattle.dl_field.specs.Layout.{last_entry, Item, length_is, number_is, form_is, value_is, following, following_all}
+use Rattle.dl_field.specs.Layout.{objection, number_size, field_spelt, pairs_layout, entry_layout, entries_layout}
+use Rattle.dl_field.specs.Layout.{table_layout, NumberField}
+use Rattle.dl_head.specs.HeaderLayout.{header_layout, lengths_layout, tables_layout, from_address_size, format_alone}
+use Rattle.dl_head.specs.HeaderLayout.{signed_byte}
 use Rattle.dl_head.specs.Header.{SpellsFields, IsHeader}
 use Rattle.dl_field.proofs.FieldLemmas.{none_some}
 use Rattle.dl_field.proofs.FieldLaws.{field_is_judged}
@@ -35,7 +41,8 @@ IsSmall field n = number_size field ≡ Some 1 → n < 256
 -- Each header to which good fields of the layout lead is so; where Bytes holds, what is read are bytes.
 abbrev LeadsTo : Type 0 → (HeaderData → Type 0) → Layout → Type 0
 LeadsTo Bytes P (initial_length_then next) = (f : Format) (n : ℕ) → LeadsTo Bytes P (next f n)
-LeadsTo Bytes P (number_then field next) = (n : ℕ) → objection field n ≡ None → (Bytes → IsSmall field n) → LeadsTo Bytes P (next n)
+LeadsTo Bytes P (number_then field next) =
+    (n : ℕ) → objection field n ≡ None → (Bytes → IsSmall field n) → LeadsTo Bytes P (next n)
 LeadsTo Bytes P (form_then next) = (f : Form) → LeadsTo Bytes P (next f)
 LeadsTo Bytes P (value_then format f next) = (v : Value) → LeadsTo Bytes P (next v)
 LeadsTo Bytes P (foreign_version v) = Unit {0}
@@ -45,7 +52,8 @@ number_same : (m n : ℕ) → number_is m ≡ number_is n → m ≡ n
 number_same m n e = cc
 
 -- a byte as a number
-small : (order : Order) (field : NumberField) (next : ℕ → Layout) (n : ℕ) (w : List ℕ) → AllBytes w → field_spelt order (number_then field next) w ≡ good (number_is n) → IsSmall field n
+small : (order : Order) (field : NumberField) (next : ℕ → Layout) (n : ℕ) (w : List ℕ) → AllBytes w
+    → field_spelt order (number_then field next) w ≡ good (number_is n) → IsSmall field n
 small order field next n w all e one =
     let is = (field_is_judged order (number_then field next) (number_is n) w).1 e in
     let fixed_is : IsNumber order (Some 1) is.0 w = subst (λ (o : Option ℕ). IsNumber order o is.0 w) one is.2 in
@@ -54,7 +62,8 @@ small order field next n w all e one =
     let same : n ≡ is.0 = number_same n is.0 is.1 in
     omega (arith, below, power, same, fixed_is.1)
 
-leads_on : (Bytes : Type 0) (P : HeaderData → Type 0) (order : Order) (layout : Layout) (i : Item) (items : List Item) (w : List ℕ) → (Bytes → AllBytes w) → SpellsFields order layout (i ∷ items) w → LeadsTo Bytes P layout
+leads_on : (Bytes : Type 0) (P : HeaderData → Type 0) (order : Order) (layout : Layout) (i : Item) (items : List Item)
+    (w : List ℕ) → (Bytes → AllBytes w) → SpellsFields order layout (i ∷ items) w → LeadsTo Bytes P layout
     → LeadsTo Bytes P (following layout i)
 leads_on Bytes P order (initial_length_then next) (length_is f n) items w all s leads = leads f n
 leads_on Bytes P order (initial_length_then next) (number_is n) items w all s leads = leads
@@ -64,7 +73,8 @@ leads_on Bytes P order (number_then field next) i items w all s leads =
     let n = is_number order field next s.0 i s.3 in
     let front = λ (h : Bytes). bytes_front s.0 s.1 (subst (λ (z : List ℕ). AllBytes z) s.2 (all h)) in
     subst (λ (j : Item). LeadsTo Bytes P (following (number_then field next) j)) (sym n.item)
-    (leads n.number n.fits (λ h. small order field next n.number s.0 (front h) (s.3 ∙ ap (λ (j : Item). good j) n.item)))
+    (leads n.number n.fits (λ h. small order field next n.number s.0 (front h) (s.3
+    ∙ ap (λ (j : Item). good j) n.item)))
 leads_on Bytes P order (form_then next) (form_is f) items w all s leads = leads f
 leads_on Bytes P order (form_then next) (length_is f n) items w all s leads = leads
 leads_on Bytes P order (form_then next) (number_is n) items w all s leads = leads
@@ -76,30 +86,44 @@ leads_on Bytes P order (value_then format f next) (form_is g) items w all s lead
 leads_on Bytes P order (foreign_version v) i items w all s leads = absurd (none_some refl s.3)
 leads_on Bytes P order (last_entry h) i items w all s leads = absurd (none_some refl s.3)
 
-leads_all : (Bytes : Type 0) (P : HeaderData → Type 0) (order : Order) (layout : Layout) (items : List Item) (w : List ℕ) → (Bytes → AllBytes w) → SpellsFields order layout items w → LeadsTo Bytes P layout
+leads_all : (Bytes : Type 0) (P : HeaderData → Type 0) (order : Order) (layout : Layout) (items : List Item)
+    (w : List ℕ) → (Bytes → AllBytes w) → SpellsFields order layout items w → LeadsTo Bytes P layout
     → LeadsTo Bytes P (following_all layout items)
 leads_all Bytes P order layout [] w all s leads = leads
 leads_all Bytes P order layout (i ∷ items) w all s leads =
-    leads_all Bytes P order (following layout i) items s.1 (λ h. bytes_back s.0 s.1 (subst (λ (z : List ℕ). AllBytes z) s.2 (all h))) s.4 (leads_on Bytes P order layout i items w all s leads)
+    leads_all Bytes P order (following layout i) items s.1
+    (λ h. bytes_back s.0 s.1 (subst (λ (z : List ℕ). AllBytes z) s.2 (all h))) s.4
+    (leads_on Bytes P order layout i items w all s leads)
 
 -- ---- the tables don't change the params
 
-leads_pairs : (Bytes : Type 0) (P : HeaderData → Type 0) (count : ℕ) (before : List Pair) (next : List Pair → Layout) → ((pairs : List Pair) → LeadsTo Bytes P (next pairs)) → LeadsTo Bytes P (pairs_layout count before next)
+leads_pairs : (Bytes : Type 0) (P : HeaderData → Type 0) (count : ℕ) (before : List Pair) (next : List Pair → Layout)
+    → ((pairs : List Pair) → LeadsTo Bytes P (next pairs)) → LeadsTo Bytes P (pairs_layout count before next)
 leads_pairs Bytes P zero before next all = all before
-leads_pairs Bytes P (suc count) before next all = λ code fits few f. leads_pairs Bytes P count (before ++ record { content = code; form = f } ∷ []) next all
+leads_pairs Bytes P (suc count) before next all =
+    λ code fits few f. leads_pairs Bytes P count (before ++ record { content = code; form = f } ∷ []) next all
 
-leads_entry : (Bytes : Type 0) (P : HeaderData → Type 0) (format : Format) (pairs : List Pair) (before : List Value) (next : List Value → Layout) → ((values : List Value) → LeadsTo Bytes P (next values)) → LeadsTo Bytes P (entry_layout format pairs before next)
+leads_entry : (Bytes : Type 0) (P : HeaderData → Type 0) (format : Format) (pairs : List Pair) (before : List Value)
+    (next : List Value → Layout) → ((values : List Value) → LeadsTo Bytes P (next values))
+    → LeadsTo Bytes P (entry_layout format pairs before next)
 leads_entry Bytes P format [] before next all = all before
-leads_entry Bytes P format (p ∷ pairs) before next all = λ v. leads_entry Bytes P format pairs (before ++ v ∷ []) next all
+leads_entry Bytes P format (p ∷ pairs) before next all =
+    λ v. leads_entry Bytes P format pairs (before ++ v ∷ []) next all
 
-leads_entries : (Bytes : Type 0) (P : HeaderData → Type 0) (format : Format) (pairs : List Pair) (count : ℕ) (before : List (List Value)) (next : List (List Value) → Layout) → ((entries : List (List Value)) → LeadsTo Bytes P (next entries))
+leads_entries : (Bytes : Type 0) (P : HeaderData → Type 0) (format : Format) (pairs : List Pair) (count : ℕ)
+    (before : List (List Value)) (next : List (List Value) → Layout)
+    → ((entries : List (List Value)) → LeadsTo Bytes P (next entries))
     → LeadsTo Bytes P (entries_layout format pairs count before next)
 leads_entries Bytes P format pairs zero before next all = all before
 leads_entries Bytes P format pairs (suc count) before next all =
-    leads_entry Bytes P format pairs [] (λ entry. entries_layout format pairs count (before ++ entry ∷ []) next) (λ entry. leads_entries Bytes P format pairs count (before ++ entry ∷ []) next all)
+    leads_entry Bytes P format pairs [] (λ entry. entries_layout format pairs count (before ++ entry ∷ []) next)
+    (λ entry. leads_entries Bytes P format pairs count (before ++ entry ∷ []) next all)
 
-leads_table : (Bytes : Type 0) (P : HeaderData → Type 0) (format : Format) (next : TableData → Layout) → ((t : TableData) → LeadsTo Bytes P (next t)) → LeadsTo Bytes P (table_layout format next)
-leads_table Bytes P format next all = λ pair_count fits few. leads_pairs Bytes P pair_count [] _ (λ pairs. λ count some below. leads_entries Bytes P format pairs count [] _ (λ entries. all _))
+leads_table : (Bytes : Type 0) (P : HeaderData → Type 0) (format : Format) (next : TableData → Layout)
+    → ((t : TableData) → LeadsTo Bytes P (next t)) → LeadsTo Bytes P (table_layout format next)
+leads_table Bytes P format next all =
+    λ pair_count fits few. leads_pairs Bytes P pair_count [] _
+    (λ pairs. λ count some below. leads_entries Bytes P format pairs count [] _ (λ entries. all _))
 
 -- the header's params are usable, and where they are read from bytes, line_base is one
 abbrev IsFit : Type 0 → Params → Type 0
@@ -110,16 +134,28 @@ Fit Bytes h = IsFit Bytes h.params
 
 leads_tables : (Bytes : Type 0) (p : Params) → IsFit Bytes p → LeadsTo Bytes (Fit Bytes) (tables_layout p)
 leads_tables Bytes p fit =
-    leads_table Bytes (Fit Bytes) p.format (λ directories. table_layout p.format λ files. last_entry (record { params = p; directories = directories; files = files }))
-    (λ directories. leads_table Bytes (Fit Bytes) p.format (λ files. last_entry (record { params = p; directories = directories; files = files })) (λ files. fit))
+    leads_table Bytes (Fit Bytes) p.format (λ directories. table_layout p.format λ files. last_entry (record {
+      params =
+          p;
+      directories = directories;
+      files = files;
+    }))
+    (λ directories. leads_table Bytes (Fit Bytes) p.format (λ files. last_entry (record {
+      params = p;
+      directories =
+          directories;
+      files = files;
+    })) (λ files. fit))
 
 -- ---- the fields that the params hold
 
-leads_lengths : (Bytes : Type 0) (P : HeaderData → Type 0) (opcode count : ℕ) (before : List ℕ) (next : List ℕ → Layout) → ((lengths : List ℕ) → length lengths ≡ length before + count → LeadsTo Bytes P (next lengths))
+leads_lengths : (Bytes : Type 0) (P : HeaderData → Type 0) (opcode count : ℕ) (before : List ℕ) (next : List ℕ → Layout)
+    → ((lengths : List ℕ) → length lengths ≡ length before + count → LeadsTo Bytes P (next lengths))
     → LeadsTo Bytes P (lengths_layout opcode count before next)
 leads_lengths Bytes P opcode zero before next all = all before (omega arith)
 leads_lengths Bytes P opcode (suc count) before next all =
-    λ n fits few. leads_lengths Bytes P (opcode + 1) count (before ++ n ∷ []) next (λ lengths size. all lengths (omega (arith, size, length-append before (n ∷ []))))
+    λ n fits few. leads_lengths Bytes P (opcode + 1) count (before ++ n ∷ []) next
+    (λ lengths size. all lengths (omega (arith, size, length-append before (n ∷ []))))
 
 fits_true : (b : Bool) (k : FaultKind) → (if b then None else Some k) ≡ None → b ≡ true
 fits_true true k e = refl
@@ -134,10 +170,14 @@ not_zero n k e = elim (cases_eq n 0) [
 signed_small : (n : ℕ) → n < 256 → unsigned_abs (signed_byte n) < 2 ^ 62
 signed_small n lt = elim (cases_lt n 128) [
   | inl low ↦ rw (lt-ltb n 128 low) (omega arith)
-  | inr high ↦ rw (le-ltb n 128 high) (let e : pos n -ℤ pos 256 ≡ negsuc (255 - n) = omega (arith, ints) in rw e (omega arith))
+  | inr high ↦ rw (le-ltb n 128 high) (let e : pos n -ℤ pos 256 ≡ negsuc (255 - n) = omega (
+    arith,
+    ints,
+  ) in rw e (omega arith))
 ]
 
-leads_fields : (Bytes : Type 0) (unit_length : ℕ) (p : Params) → LeadsTo Bytes (Fit Bytes) (from_address_size unit_length p)
+leads_fields : (Bytes : Type 0) (unit_length : ℕ) (p : Params)
+    → LeadsTo Bytes (Fit Bytes) (from_address_size unit_length p)
 leads_fields Bytes unit_length p =
     λ address size a segment s b header h c minimum m d maximum operations e is_stmt i f base j g range lines k opcodes some l.
     leads_lengths Bytes (Fit Bytes) 1 (opcodes - 1) [] _ (λ lengths count. leads_tables Bytes _ (
@@ -150,16 +190,19 @@ leads_fields Bytes unit_length p =
       λ bytes. signed_small base (g bytes refl),
     ))
 
-leads_version : (Bytes : Type 0) (format : Format) (n v : ℕ) → LeadsTo Bytes (Fit Bytes) (if v == 5 then from_address_size n (format_alone format) else foreign_version v)
+leads_version : (Bytes : Type 0) (format : Format) (n v : ℕ)
+    → LeadsTo Bytes (Fit Bytes) (if v == 5 then from_address_size n (format_alone format) else foreign_version v)
 leads_version Bytes format n v = elim (cases_eq v 5) [
   | inl same ↦ rw (eq-eqb v 5 same) (leads_fields Bytes n (format_alone format))
   | inr other ↦ rw (ne_eqb v 5 other) tt
 ]
 
-fit_of : (Bytes : Type 0) (order : Order) (h : HeaderData) (w : List ℕ) (is : IsHeader order h w) → (Bytes → AllBytes is.fields) → IsFit Bytes h.params
+fit_of : (Bytes : Type 0) (order : Order) (h : HeaderData) (w : List ℕ) (is : IsHeader order h w)
+    → (Bytes → AllBytes is.fields) → IsFit Bytes h.params
 fit_of Bytes order h w is all =
     subst (λ (l : Layout). LeadsTo Bytes (Fit Bytes) l) (made_last (following_all header_layout is.items) h is.made)
-    (leads_all Bytes (Fit Bytes) order header_layout is.items is.fields all is.spelt (λ format n v fits few. leads_version Bytes format n v))
+    (leads_all Bytes (Fit Bytes) order header_layout is.items is.fields all is.spelt
+    (λ format n v fits few. leads_version Bytes format n v))
 
 pub header_is_usable : (order : Order) (h : HeaderData) (w : List ℕ) → IsHeader order h w → IsUsable h.params
 header_is_usable order h w is = (fit_of ⊥ order h w is (λ never. absurd never)).0
@@ -167,5 +210,6 @@ header_is_usable order h w is = (fit_of ⊥ order h w is (λ never. absurd never
 pub header_fits : HeaderFits
 header_fits order h w all is = (
   header_is_usable order h w is,
-  (fit_of (AllBytes w) order h w is (λ bytes. bytes_front is.fields is.padding (subst (λ (z : List ℕ). AllBytes z) is.whole bytes))).1 all,
+  (fit_of (AllBytes w) order h w is
+      (λ bytes. bytes_front is.fields is.padding (subst (λ (z : List ℕ). AllBytes z) is.whole bytes))).1 all,
 )

@@ -1,5 +1,6 @@
 -- The bytes of a header, one more at a time, and the step to what is after it.
-use Rattle.std.proofs.Common.{◌≡◌, ℕ, List, [], ◌∷◌, ◌++◌, length, Option, Some, None, refl, sym, ap, subst, ◌∙◌, append-nil}
+use Rattle.std.proofs.Common.{◌≡◌, ℕ, List, [], ◌∷◌, ◌++◌, length, Option, Some, None, refl, sym, ap, subst, ◌∙◌}
+use Rattle.std.proofs.Common.{append-nil}
 use Rattle.dl_num.specs.declared.fixed.Order.{Order}
 use Rattle.dl_num.specs.Laws.{AllBytes}
 use Rattle.dl_num.proofs.FrontLemmas.{front_before}
@@ -24,7 +25,8 @@ use Rattle.dl_rows.proofs.UnitLemmas.{header_on, refused_in_header}
 use Rattle.dl_rows.proofs.UnitWhole.{NoneRefused}
 
 -- where a byte more doesn't complete a header, there is none
-pub no_header_on : (order : Order) (b : List ℕ) (x : ℕ) → header_in order b ≡ None → ((h : HeaderData) → IsHeader order h (b ++ x ∷ []) → ⊥) → header_in order (b ++ x ∷ []) ≡ None
+pub no_header_on : (order : Order) (b : List ℕ) (x : ℕ) → header_in order b ≡ None
+    → ((h : HeaderData) → IsHeader order h (b ++ x ∷ []) → ⊥) → header_in order (b ++ x ∷ []) ≡ None
 no_header_on order b x none not = on (header_in order (b ++ x ∷ [])) refl where
   behind : (h : HeaderData) (w rest : List ℕ) → b ++ x ∷ [] ≡ w ++ rest → IsHeader order h w → ⊥
   behind h w [] e is = not h (subst (λ (z : List ℕ). IsHeader order h z) (sym (e ∙ append-nil w)) is)
@@ -37,16 +39,22 @@ no_header_on order b x none not = on (header_in order (b ++ x ∷ [])) refl wher
   on (Some (h, rest)) e = let f = found_is_header order h (b ++ x ∷ []) rest e in absurd (behind h f.0 rest f.1 f.2)
 
 -- nor is anything refused, where the header isn't at the byte
-pub header_sound_on : (order : Order) (b : List ℕ) (x : ℕ) → NoneRefused order b → header_in order (b ++ x ∷ []) ≡ None → ((at : ℕ) (kind : FaultKind) → HeaderRefused order (b ++ x ∷ []) at kind → ⊥)
+pub header_sound_on : (order : Order) (b : List ℕ) (x : ℕ) → NoneRefused order b → header_in order (b ++ x ∷ []) ≡ None
+    → ((at : ℕ) (kind : FaultKind) → HeaderRefused order (b ++ x ∷ []) at kind → ⊥)
     → NoneRefused order (b ++ x ∷ [])
 header_sound_on order b x sound none not front [] at kind e r =
     let whole : front ≡ b ++ x ∷ [] = sym (e ∙ append-nil front) in
-    not at kind ((refused_in_header order (b ++ x ∷ []) at kind none).0 (subst (λ (w : List ℕ). Refused order w at kind) whole r))
-header_sound_on order b x sound none not front (y ∷ back) at kind e r = let z = front_before b front x y back e in sound front z.0 at kind z.1 r
+    not at kind
+    ((refused_in_header order (b ++ x ∷ []) at kind none).0
+    (subst (λ (w : List ℕ). Refused order w at kind) whole r))
+header_sound_on order b x sound none not front (y ∷ back) at kind e r =
+    let z = front_before b front x y back e in sound front z.0 at kind z.1 r
 
 -- in a header there is no event
-pub no_events : (order : Order) (b : List ℕ) → header_in order b ≡ None → foreign_in order b ≡ None → ◌≡◌ {A = List Event} (events order b) []
-no_events order b none own = ap (λ (o : Option ℕ). events_of order o (header_in order b)) own ∙ ap (own_events order) none
+pub no_events : (order : Order) (b : List ℕ) → header_in order b ≡ None → foreign_in order b ≡ None
+    → ◌≡◌ {A = List Event} (events order b) []
+no_events order b none own =
+    ap (λ (o : Option ℕ). events_of order o (header_in order b)) own ∙ ap (own_events order) none
 
 -- ---- the header's last byte
 
@@ -61,16 +69,22 @@ header_sound order h w is front back at kind e r = on (header_in order front) re
   whole = ap (header_in order) (sym (append-nil w)) ∙ header_is_found order h w [] is
 
   on : (o : Option (HeaderData × List ℕ)) → header_in order front ≡ o → ⊥
-  on None none = header_is_not_refused order h w [] front back at kind is (append-nil w ∙ e) ((refused_in_header order front at kind none).0 r)
+  on None none =
+      header_is_not_refused order h w [] front back at kind is (append-nil w
+      ∙ e) ((refused_in_header order front at kind none).0 r)
   on (Some (g, begun)) found =
-      let all : ◌≡◌ {A = Option (HeaderData × List ℕ)} (Some (g, begun ++ back)) (Some (h, [])) = sym (header_on order front back g begun found) ∙ ap (header_in order) (sym e) ∙ whole in
-      let both : begun ++ back ≡ [] = ap (λ (o : Option (HeaderData × List ℕ)). elim o [ Some p ↦ p.1 | None ↦ [] ]) all in
+      let all : ◌≡◌ {A = Option (HeaderData × List ℕ)} (Some (g, begun ++ back)) (Some (h, [])) =
+      sym (header_on order front back g begun found) ∙ ap (header_in order) (sym e) ∙ whole in
+      let both : begun ++ back ≡ [] =
+      ap (λ (o : Option (HeaderData × List ℕ)). elim o [ Some p ↦ p.1 | None ↦ [] ]) all in
       let none : begun ≡ [] = nil_left begun back both in
       none_some
       (ap (decided_behind order front) found
-      ∙ ap (λ (v : List ℕ). operation_decided order g.params (operations_in order g.params v).rest (length front) (unit_len order front)) none) r.decided
+      ∙ ap (λ (v : List ℕ). operation_decided order g.params (operations_in order g.params v).rest (length front)
+      (unit_len order front)) none) r.decided
 
-pub behind_header : (order : Order) (h : HeaderData) (t : UnitBody) (w : List ℕ) → IsHeader order h w → AllBytes w → Counts order t.bytes w → ProgramStands order h.params t.program [] → InProgram order h t w
+pub behind_header : (order : Order) (h : HeaderData) (t : UnitBody) (w : List ℕ) → IsHeader order h w → AllBytes w
+    → Counts order t.bytes w → ProgramStands order h.params t.program [] → InProgram order h t w
 behind_header order h t w is all counts stands =
     let fits = header_fits order h w all is in
     record {
@@ -84,5 +98,6 @@ behind_header order h t w is all counts stands =
       sound = header_sound order h w is;
     }
 
-pub header_event : (order : Order) (h : HeaderData) (w : List ℕ) → IsHeader order h w → events order w ≡ event.Header ∷ []
+pub header_event : (order : Order) (h : HeaderData) (w : List ℕ) → IsHeader order h w
+    → events order w ≡ event.Header ∷ []
 header_event order h w is = ap (events order) (sym (append-nil w)) ∙ events_here order h w is []

@@ -1,5 +1,7 @@
 -- What the bytes of an operand spell first.
-use Rattle.std.proofs.Common.{◌≡◌, ℕ, suc, ◌+◌, ◌^◌, ◌<◌, ◌≤◌, ℤ, pos, negsuc, true, false, ◌==◌, List, [], ◌∷◌, ◌++◌, length, Option, Some, None, Result, Ok, Err, if◌then◌else◌, refl, sym, ap, subst, ◌∙◌, arith, inl, inr}
+use Rattle.std.proofs.Common.{◌≡◌, ℕ, suc, ◌+◌, ◌^◌, ◌<◌, ◌≤◌, ℤ, pos, negsuc, true, false, ◌==◌, List, [], ◌∷◌, ◌++◌}
+use Rattle.std.proofs.Common.{length, Option, Some, None, Result, Ok, Err, if◌then◌else◌, refl, sym, ap, subst, ◌∙◌}
+use Rattle.std.proofs.Common.{arith, inl, inr}
 use Rattle.std.proofs.lemmas.Bool.{cases_lt, lt-ltb, le-ltb, eq-eqb, ne_eqb}
 use Rattle.std.proofs.lemmas.List.{length-append}
 use Rattle.dl_num.specs.Front.{SpellsNowhere, SpellsFirst}
@@ -36,11 +38,14 @@ continue_before (a ∷ before) last (b ∷ front) x back h e =
     (subst (λ (z : ℕ). 128 ≤ z) s h.0, continue_before before last front x back h.1 t)
 
 -- proper fronts of a number in LEB128
-pub leb_front_continues : (w front : List ℕ) (last : ℕ) (before : List ℕ) (x : ℕ) (back : List ℕ) → IsLeb w before last → w ≡ front ++ x ∷ back → AllContinue front
-leb_front_continues w front last before x back leb e = continue_before before last front x back leb.continue (sym leb.bytes ∙ e)
+pub leb_front_continues : (w front : List ℕ) (last : ℕ) (before : List ℕ) (x : ℕ) (back : List ℕ) → IsLeb w before last
+    → w ≡ front ++ x ∷ back → AllContinue front
+leb_front_continues w front last before x back leb e =
+    continue_before before last front x back leb.continue (sym leb.bytes ∙ e)
 
 pub is_leb-number : (w front : List ℕ) (last : ℕ) → IsLeb w front last → is_leb w ≡ true
-is_leb-number w front last leb = subst (λ (z : List ℕ). is_leb z ≡ true) (sym leb.bytes) (is_leb-ends front last leb.continue leb.ends)
+is_leb-number w front last leb =
+    subst (λ (z : List ℕ). is_leb z ≡ true) (sym leb.bytes) (is_leb-ends front last leb.continue leb.ends)
 
 last_byte-push : (w : List ℕ) (b : ℕ) → last_byte (w ++ b ∷ []) ≡ b
 last_byte-push [] b = refl
@@ -57,13 +62,15 @@ signed_number-is w i s =
 pub unsigned_nowhere : (make : ℕ → Operation) (w : List ℕ) → AllContinue w → SpellsNowhere (unsigned_operand make) w
 unsigned_nowhere make w h front back e = rw (is_leb-continues front (continue_front w front back h e)) refl
 
-pub unsigned_first : (make : ℕ → Operation) (w : List ℕ) (n : ℕ) → IsUleb w n → n < 2 ^ 64 → SpellsFirst (unsigned_operand make) w (Ok (make n))
+pub unsigned_first : (make : ℕ → Operation) (w : List ℕ) (n : ℕ) → IsUleb w n → n < 2 ^ 64
+    → SpellsFirst (unsigned_operand make) w (Ok (make n))
 unsigned_first make w n u lt = record {
   spells = (let g : groups w ≡ n = sym u.3 in rw (is_leb-number w u.0 u.1 u.2, g, lt-ltb n (2 ^ 64) lt) refl);
   shortest = λ front x back e. rw (is_leb-continues front (leb_front_continues w front u.1 u.0 x back u.2 e)) refl;
 }
 
-pub unsigned_out : (make : ℕ → Operation) (w : List ℕ) (n : ℕ) → IsUleb w n → 2 ^ 64 ≤ n → SpellsFirst (unsigned_operand make) w (Err fault.LebRange)
+pub unsigned_out : (make : ℕ → Operation) (w : List ℕ) (n : ℕ) → IsUleb w n → 2 ^ 64 ≤ n
+    → SpellsFirst (unsigned_operand make) w (Err fault.LebRange)
 unsigned_out make w n u le = record {
   spells = (let g : groups w ≡ n = sym u.3 in rw (is_leb-number w u.0 u.1 u.2, g, le-ltb n (2 ^ 64) le) refl);
   shortest = λ front x back e. rw (is_leb-continues front (leb_front_continues w front u.1 u.0 x back u.2 e)) refl;
@@ -82,13 +89,15 @@ fits_signed-false (negsuc n) h = elim (cases_lt n (2 ^ 63)) [ inl lt ↦ absurd 
 pub signed_nowhere : (make : ℤ → Operation) (w : List ℕ) → AllContinue w → SpellsNowhere (signed_operand make) w
 signed_nowhere make w h front back e = rw (is_leb-continues front (continue_front w front back h e)) refl
 
-pub signed_first : (make : ℤ → Operation) (w : List ℕ) (i : ℤ) → IsSleb w i → IsSigned64 i → SpellsFirst (signed_operand make) w (Ok (make i))
+pub signed_first : (make : ℤ → Operation) (w : List ℕ) (i : ℤ) → IsSleb w i → IsSigned64 i
+    → SpellsFirst (signed_operand make) w (Ok (make i))
 signed_first make w i s range = record {
   spells = rw (is_leb-number w s.0 s.1 s.2, signed_number-is w i s, fits_signed-true i range) refl;
   shortest = λ front x back e. rw (is_leb-continues front (leb_front_continues w front s.1 s.0 x back s.2 e)) refl;
 }
 
-pub signed_out : (make : ℤ → Operation) (w : List ℕ) (i : ℤ) → IsSleb w i → (IsSigned64 i → ⊥) → SpellsFirst (signed_operand make) w (Err fault.LebRange)
+pub signed_out : (make : ℤ → Operation) (w : List ℕ) (i : ℤ) → IsSleb w i → (IsSigned64 i → ⊥)
+    → SpellsFirst (signed_operand make) w (Err fault.LebRange)
 signed_out make w i s out = record {
   spells = rw (is_leb-number w s.0 s.1 s.2, signed_number-is w i s, fits_signed-false i out) refl;
   shortest = λ front x back e. rw (is_leb-continues front (leb_front_continues w front s.1 s.0 x back s.2 e)) refl;
@@ -100,13 +109,17 @@ signed_out make w i s out = record {
 abbrev pub sized : ℕ → (List ℕ → Operation) → List ℕ → Option Verdict
 sized size make w = if length w == size then Some (Ok (make w)) else None
 
-pub sized_nowhere : (size : ℕ) (make : List ℕ → Operation) (w : List ℕ) → length w < size → SpellsNowhere (sized size make) w
+pub sized_nowhere : (size : ℕ) (make : List ℕ → Operation) (w : List ℕ) → length w < size
+    → SpellsNowhere (sized size make) w
 sized_nowhere size make w lt front back e =
     let l : length w ≡ length front + length back = ap length e ∙ length-append front back in
     rw (ne_eqb (length front) size (λ k. omega arith)) refl
 
-pub sized_first : (size : ℕ) (make : List ℕ → Operation) (w : List ℕ) → length w ≡ size → SpellsFirst (sized size make) w (Ok (make w))
+pub sized_first : (size : ℕ) (make : List ℕ → Operation) (w : List ℕ) → length w ≡ size
+    → SpellsFirst (sized size make) w (Ok (make w))
 sized_first size make w e = record {
   spells = rw (eq-eqb (length w) size e) refl;
-  shortest = λ front x back k. (let l : length w ≡ length front + suc (length back) = ap length k ∙ length-append front (x ∷ back) in rw (ne_eqb (length front) size (λ m. omega arith)) refl);
+  shortest =
+      λ front x back k. (let l : length w ≡ length front + suc (length back) = ap length k ∙ length-append front (x
+      ∷ back) in rw (ne_eqb (length front) size (λ m. omega arith)) refl);
 }

@@ -30,19 +30,24 @@ signed_range : (i : ℤ) → IsSigned64 i → unsigned_abs i < 2 ^ 64
 signed_range (pos n) h = omega arith
 signed_range (negsuc n) h = omega arith
 
-address_range : (order : Order) (h : Params) (n : ℕ) (operand : List ℕ) → IsUsable h → AllBytes operand → length operand ≡ h.address_size → n ≡ fixed order operand → n < 2 ^ 64
+address_range : (order : Order) (h : Params) (n : ℕ) (operand : List ℕ) → IsUsable h → AllBytes operand
+    → length operand ≡ h.address_size → n ≡ fixed order operand → n < 2 ^ 64
 address_range order h n operand usable all size number =
     let lt = fixed_is_below order operand all in
-    size_cases h.address_size usable.address_size (λ e. below 1 (size ∙ e) lt (omega arith)) (λ e. below 2 (size ∙ e) lt (omega arith)) (λ e. below 4 (size ∙ e) lt (omega arith)) (λ e. below 8 (size ∙ e) lt (omega arith))
+    size_cases h.address_size usable.address_size (λ e. below 1 (size ∙ e) lt (omega arith))
+    (λ e. below 2 (size ∙ e) lt (omega arith)) (λ e. below 4 (size ∙ e) lt (omega arith))
+    (λ e. below 8 (size ∙ e) lt (omega arith))
   where
     below : (k : ℕ) → length operand ≡ k → fixed order operand < 256 ^ length operand → 256 ^ k ≤ 2 ^ 64 → n < 2 ^ 64
     below k e lt le = let p : 256 ^ length operand ≡ 256 ^ k = ap (λ (x : ℕ). 256 ^ x) e in omega arith
 
-pub range_of : (order : Order) (h : Params) (o : Operation) (v : List ℕ) → IsUsable h → AllBytes v → SpellsOperation order h o v → HasRange o
+pub range_of : (order : Order) (h : Params) (o : Operation) (v : List ℕ) → IsUsable h → AllBytes v
+    → SpellsOperation order h o v → HasRange o
 range_of order h (op.Special b) v usable all s = (subst (λ (z : List ℕ). AllBytes z) s.1 all).0
 range_of order h (op.AdvanceLine i) v usable all s = signed_range i s.fits
 range_of order h (op.SetAddress n) v usable all s =
-    let whole : AllBytes (0 ∷ (s.extended.size ++ 2 ∷ s.operand)) = subst (λ (z : List ℕ). AllBytes z) s.extended.bytes all in
+    let whole : AllBytes (0 ∷ (s.extended.size ++ 2 ∷ s.operand)) =
+    subst (λ (z : List ℕ). AllBytes z) s.extended.bytes all in
     address_range order h n s.operand usable (bytes_back s.extended.size (2 ∷ s.operand) whole.1).1 s.size s.number
 range_of order h op.Copy v usable all s = tt
 range_of order h (op.AdvancePc n) v usable all s = tt

@@ -1,5 +1,6 @@
 -- The place of a row, one operation more.
-use Rattle.std.proofs.Common.{◌≡◌, ℕ, ◌+◌, ◌*◌, ◌/◌, ◌%◌, ◌-◌, ◌<◌, ◌≤◌, refl, ap, ◌∙◌, arith, inl, inr, cond, Bool, true, false, not, ◌||◌, List, [], ◌∷◌, ◌++◌, length, Option, Some, None, sum_by}
+use Rattle.std.proofs.Common.{◌≡◌, ℕ, ◌+◌, ◌*◌, ◌/◌, ◌%◌, ◌-◌, ◌<◌, ◌≤◌, refl, ap, ◌∙◌, arith, inl, inr, cond, Bool}
+use Rattle.std.proofs.Common.{true, false, not, ◌||◌, List, [], ◌∷◌, ◌++◌, length, Option, Some, None, sum_by}
 use Rattle.std.specs.Option.{option_or}
 use Rattle.std.specs.List.{after_last, list_any, suffix_len}
 use Rattle.std.proofs.lemmas.List.{reverse-append, drop_all, drop-append-le, length-append}
@@ -10,23 +11,28 @@ use Rattle.dl_field.specs.declared.params.Params.{Params}
 use Rattle.dl_rows.proofs.Arithmetic.{div_split, mod_split}
 use Rattle.dl_rows.specs.declared.operation.Operation.{Operation}
 use Rattle.dl_rows.specs.declared.operation.Operation.TheVariants as op
-use Rattle.dl_rows.specs.Matrix.{last_set, advance, set_address, is_address, is_fixed_add, fixed_add, onto_first, parts, last_part, moves, address, op_index}
+use Rattle.dl_rows.specs.Matrix.{last_set, advance, set_address, is_address, is_fixed_add, fixed_add, onto_first, parts}
+use Rattle.dl_rows.specs.Matrix.{last_part, moves, address, op_index}
 
 -- ---- one element more at the end
 
-suffix-push : {X : Type 0} (p : X → Bool) (xs : List X) (x : X) → suffix_len p (xs ++ x ∷ []) ≡ cond (p x) (1 + suffix_len p xs) 0
+suffix-push : {X : Type 0} (p : X → Bool) (xs : List X) (x : X)
+    → suffix_len p (xs ++ x ∷ []) ≡ cond (p x) (1 + suffix_len p xs) 0
 suffix-push p xs x = rw (reverse-append xs (x ∷ [])) refl
 
-pub after_last-push : {X : Type 0} (p : X → Bool) (xs : List X) (x : X) → after_last p (xs ++ x ∷ []) ≡ cond (p x) [] (after_last p xs ++ x ∷ [])
+pub after_last-push : {X : Type 0} (p : X → Bool) (xs : List X) (x : X)
+    → after_last p (xs ++ x ∷ []) ≡ cond (p x) [] (after_last p xs ++ x ∷ [])
 after_last-push p xs x =
     let s = suffix-push (λ y. not (p y)) xs x in
     let l = length-append xs (x ∷ []) in
     elim (cases_Bool (p x)) [
-      | inl stops ↦ let t : suffix_len (λ y. not (p y)) (xs ++ x ∷ []) ≡ 0 = (rw stops at s) in rw (t, stops) (drop_all _ (xs ++ x ∷ []) (omega arith))
+      | inl stops ↦ let t : suffix_len (λ y. not (p y)) (xs ++ x ∷ []) ≡ 0 =
+          (rw stops at s) in rw (t, stops) (drop_all _ (xs ++ x ∷ []) (omega arith))
       | inr goes ↦
           let t : suffix_len (λ y. not (p y)) (xs ++ x ∷ []) ≡ 1 + suffix_len (λ y. not (p y)) xs = (rw goes at s) in
           let b = suffix_len-le-length (λ y. not (p y)) xs in
-          let n : length (xs ++ x ∷ []) - (1 + suffix_len (λ y. not (p y)) xs) ≡ length xs - suffix_len (λ y. not (p y)) xs = omega arith in
+          let n : length (xs ++ x ∷ []) - (1 + suffix_len (λ y. not (p y)) xs)
+          ≡ length xs - suffix_len (λ y. not (p y)) xs = omega arith in
           rw (t, goes, n) (drop-append-le (length xs - suffix_len (λ y. not (p y)) xs) xs (x ∷ []) (omega arith))
     ]
 
@@ -38,13 +44,21 @@ or_assoc : (a b c : Option ℕ) → option_or (option_or a b) c ≡ option_or a 
 or_assoc None b c = refl
 or_assoc (Some n) b c = refl
 
-pub last_set-push : (sets : Operation → Option ℕ) (os : List Operation) (o : Operation) → last_set sets (os ++ o ∷ []) ≡ option_or (sets o) (last_set sets os)
+pub last_set-push : (sets : Operation → Option ℕ) (os : List Operation) (o : Operation)
+    → last_set sets (os ++ o ∷ []) ≡ option_or (sets o) (last_set sets os)
 last_set-push sets [] o = or_none (sets o)
 last_set-push sets (x ∷ os) o = rw (last_set-push sets os o) (or_assoc (sets o) (last_set sets os) (sets x))
 
-pub any-push : (p : Operation → Bool) (os : List Operation) (o : Operation) → list_any p (os ++ o ∷ []) ≡ cond (p o) true (list_any p os)
+pub any-push : (p : Operation → Bool) (os : List Operation) (o : Operation)
+    → list_any p (os ++ o ∷ []) ≡ cond (p o) true (list_any p os)
 any-push p [] o = elim (p o) as (λ b. (b || false) ≡ cond b true false) [ true ↦ refl | false ↦ refl ]
-any-push p (x ∷ os) o = rw (any-push p os o) (elim (p o) as (λ b. (p x || cond b true (list_any p os)) ≡ cond b true (p x || list_any p os)) [ true ↦ (elim (p x) as (λ a. (a || true) ≡ true) [ true ↦ refl | false ↦ refl ]) | false ↦ refl ])
+any-push p (x ∷ os) o =
+    rw (any-push p os o) (elim (p o) as (λ b. (p x || cond b true (list_any p os))
+    ≡ cond b true (p x || list_any p os)) [
+      | true ↦ (elim (p x) as (λ a. (a || true)
+          ≡ true) [ true ↦ refl | false ↦ refl ])
+      | false ↦ refl
+    ])
 
 -- ---- parts
 
@@ -59,20 +73,26 @@ IsSome xs = (x : ℕ) × (ys : List ℕ) × (xs ≡ x ∷ ys)
 
 parts_some : (h : Params) (os : List Operation) → IsSome (parts h os)
 parts_some h [] = (0, [], refl)
-parts_some h (o ∷ os) = elim (is_fixed_add o) as (λ b. IsSome (cond b (0 ∷ parts h os) (onto_first (advance h o) (parts h os)))) [
-  | true ↦ (0, parts h os, refl)
-  | false ↦ let s = parts_some h os in (advance h o + s.0, s.1, rw s.2 refl)
-]
+parts_some h (o ∷ os) =
+    elim (is_fixed_add o) as (λ b. IsSome (cond b (0 ∷ parts h os) (onto_first (advance h o) (parts h os)))) [
+      | true ↦ (0, parts h os, refl)
+      | false ↦ let s = parts_some h os in (advance h o + s.0, s.1, rw s.2 refl)
+    ]
 
 onto_first-push : (a : ℕ) (xs : List ℕ) → IsSome xs → onto_first a (xs ++ 0 ∷ []) ≡ onto_first a xs ++ 0 ∷ []
 onto_first-push a xs s = rw s.2 refl
 
-parts-fixed : (h : Params) (os : List Operation) (o : Operation) → is_fixed_add o ≡ true → parts h (os ++ o ∷ []) ≡ parts h os ++ 0 ∷ []
+parts-fixed : (h : Params) (os : List Operation) (o : Operation) → is_fixed_add o ≡ true
+    → parts h (os ++ o ∷ []) ≡ parts h os ++ 0 ∷ []
 parts-fixed h [] o e = rw e refl
-parts-fixed h (x ∷ os) o e = rw (parts-fixed h os o e) (elim (is_fixed_add x) as (λ b. cond b (0 ∷ (parts h os ++ 0 ∷ [])) (onto_first (advance h x) (parts h os ++ 0 ∷ [])) ≡ cond b (0 ∷ parts h os) (onto_first (advance h x) (parts h os)) ++ 0 ∷ []) [
-  | true ↦ refl
-  | false ↦ onto_first-push (advance h x) (parts h os) (parts_some h os)
-])
+parts-fixed h (x ∷ os) o e =
+    rw (parts-fixed h os o e)
+    (elim (is_fixed_add x) as (λ b. cond b (0 ∷ (parts h os ++ 0 ∷ []))
+    (onto_first (advance h x) (parts h os ++ 0 ∷ [])) ≡ cond b (0 ∷ parts h os) (onto_first (advance h x) (parts h os))
+    ++ 0 ∷ []) [
+      | true ↦ refl
+      | false ↦ onto_first-push (advance h x) (parts h os) (parts_some h os)
+    ])
 
 onto_last-cons : (a : ℕ) (xs : List ℕ) → IsSome xs → 0 ∷ onto_last a xs ≡ onto_last a (0 ∷ xs)
 unfolding onto_last
@@ -86,13 +106,18 @@ onto_both-some a b x (y ∷ ys) = refl
 onto_both : (a b : ℕ) (xs : List ℕ) → IsSome xs → onto_first b (onto_last a xs) ≡ onto_last a (onto_first b xs)
 onto_both a b xs s = rw s.2 (onto_both-some a b s.0 s.1)
 
-parts-plain : (h : Params) (os : List Operation) (o : Operation) → is_fixed_add o ≡ false → parts h (os ++ o ∷ []) ≡ onto_last (advance h o) (parts h os)
+parts-plain : (h : Params) (os : List Operation) (o : Operation) → is_fixed_add o ≡ false
+    → parts h (os ++ o ∷ []) ≡ onto_last (advance h o) (parts h os)
 unfolding onto_last
 parts-plain h [] o e = rw e (ap (λ (n : ℕ). n ∷ []) (omega arith))
-parts-plain h (x ∷ os) o e = rw (parts-plain h os o e) (elim (is_fixed_add x) as (λ b. cond b (0 ∷ onto_last (advance h o) (parts h os)) (onto_first (advance h x) (onto_last (advance h o) (parts h os))) ≡ onto_last (advance h o) (cond b (0 ∷ parts h os) (onto_first (advance h x) (parts h os)))) [
-  | true ↦ onto_last-cons (advance h o) (parts h os) (parts_some h os)
-  | false ↦ onto_both (advance h o) (advance h x) (parts h os) (parts_some h os)
-])
+parts-plain h (x ∷ os) o e =
+    rw (parts-plain h os o e)
+    (elim (is_fixed_add x) as (λ b. cond b (0 ∷ onto_last (advance h o) (parts h os))
+    (onto_first (advance h x) (onto_last (advance h o) (parts h os)))
+    ≡ onto_last (advance h o) (cond b (0 ∷ parts h os) (onto_first (advance h x) (parts h os)))) [
+      | true ↦ onto_last-cons (advance h o) (parts h os) (parts_some h os)
+      | false ↦ onto_both (advance h o) (advance h x) (parts h os) (parts_some h os)
+    ])
 
 last_part-onto : (a : ℕ) (xs : List ℕ) → last_part (onto_last a xs) ≡ last_part xs + a
 unfolding onto_last
@@ -114,9 +139,16 @@ steps-cons m x xs = sum_by-cons (λ (a : ℕ). a / m) x xs
 
 steps-onto : (m a : ℕ) (xs : List ℕ) → 0 < m → steps m (onto_last a xs) ≡ steps m xs + (last_part xs % m + a) / m
 unfolding onto_last
-steps-onto m a [] h = let z : 0 % m ≡ 0 = zero-mod m in let q : 0 + a ≡ a = omega arith in rw (z, q, steps-cons) (omega arith)
-steps-onto m a (x ∷ []) h = rw (steps-cons m (x + a) [], steps-cons m x []) (let d = div_split a x m h in let e : x + a ≡ a + x = omega arith in let f : x % m + a ≡ a + x % m = omega arith in rw (e, f) (omega arith))
-steps-onto m a (x ∷ y ∷ ys) h = rw (steps-cons m x (onto_last a (y ∷ ys)), steps-cons m x (y ∷ ys)) (omega (arith, steps-onto m a (y ∷ ys) h))
+steps-onto m a [] h =
+    let z : 0 % m ≡ 0 = zero-mod m in let q : 0 + a ≡ a = omega arith in rw (z, q, steps-cons) (omega arith)
+steps-onto m a (x ∷ []) h =
+    rw (
+      steps-cons m (x + a) [],
+      steps-cons m x [],
+    )
+    (let d = div_split a x m h in let e : x + a ≡ a + x = omega arith in let f : x % m + a ≡ a + x % m = omega arith in rw (e, f) (omega arith))
+steps-onto m a (x ∷ y ∷ ys) h =
+    rw (steps-cons m x (onto_last a (y ∷ ys)), steps-cons m x (y ∷ ys)) (omega (arith, steps-onto m a (y ∷ ys) h))
 
 steps-push : (m : ℕ) (xs : List ℕ) → steps m (xs ++ 0 ∷ []) ≡ steps m xs
 steps-push m xs = let z : 0 / m ≡ 0 = zero-div m in sum_by_push (λ (a : ℕ). a / m) xs 0 ∙ omega arith
@@ -130,28 +162,40 @@ moves-address : (s : List Operation) (o : Operation) → is_address o ≡ true �
 moves-address s o e = after_last-push is_address s o ∙ rw e refl
 
 -- an operation that neither sets the address nor adds to it moves by its advance
-pub address-plain : (h : Params) (s : List Operation) (o : Operation) → 1 ≤ h.maximum_operations_per_instruction → is_address o ≡ false → is_fixed_add o ≡ false → set_address o ≡ None → fixed_add o ≡ 0
-    → address h (s ++ o ∷ []) ≡ address h s + h.minimum_instruction_length * ((op_index h s + advance h o) / h.maximum_operations_per_instruction)
+pub address-plain : (h : Params) (s : List Operation) (o : Operation) → 1 ≤ h.maximum_operations_per_instruction
+    → is_address o ≡ false → is_fixed_add o ≡ false → set_address o ≡ None → fixed_add o ≡ 0
+    → address h (s ++ o ∷ [])
+    ≡ address h s
+    + h.minimum_instruction_length * ((op_index h s + advance h o) / h.maximum_operations_per_instruction)
 address-plain h s o some a f n z =
     let m = moves-plain s o a in
     let p = parts-plain h (moves s) o f in
     let t = steps-onto h.maximum_operations_per_instruction (advance h o) (parts h (moves s)) some in
     rw (last_set-push set_address s o, n, m, sum_by_push fixed_add (moves s) o, z, p, t) (omega arith)
 
-pub op_index-plain : (h : Params) (s : List Operation) (o : Operation) → is_address o ≡ false → is_fixed_add o ≡ false → op_index h (s ++ o ∷ []) ≡ (op_index h s + advance h o) % h.maximum_operations_per_instruction
+pub op_index-plain : (h : Params) (s : List Operation) (o : Operation) → is_address o ≡ false → is_fixed_add o ≡ false
+    → op_index h (s ++ o ∷ []) ≡ (op_index h s + advance h o) % h.maximum_operations_per_instruction
 op_index-plain h s o a f =
     let m = moves-plain s o a in
     let p = parts-plain h (moves s) o f in
     let x = last_part (parts h (moves s)) in
     let c : x + advance h o ≡ advance h o + x = omega arith in
-    let d : x % h.maximum_operations_per_instruction + advance h o ≡ advance h o + x % h.maximum_operations_per_instruction = omega arith in
+    let d : x % h.maximum_operations_per_instruction + advance h o
+    ≡ advance h o + x % h.maximum_operations_per_instruction = omega arith in
     rw (m, p, last_part-onto, c, d) (mod_split (advance h o) x h.maximum_operations_per_instruction)
 
-pub address-fixed : (h : Params) (s : List Operation) (n : ℕ) → address h (s ++ op.FixedAdvancePc n ∷ []) ≡ address h s + n
+pub address-fixed : (h : Params) (s : List Operation) (n : ℕ)
+    → address h (s ++ op.FixedAdvancePc n ∷ []) ≡ address h s + n
 address-fixed h s n =
     let m = moves-plain s (op.FixedAdvancePc n) refl in
     let p = parts-fixed h (moves s) (op.FixedAdvancePc n) refl in
-    rw (last_set-push set_address s (op.FixedAdvancePc n), m, sum_by_push fixed_add (moves s) (op.FixedAdvancePc n), p, steps-push h.maximum_operations_per_instruction (parts h (moves s))) (omega arith)
+    rw (
+      last_set-push set_address s (op.FixedAdvancePc n),
+      m,
+      sum_by_push fixed_add (moves s) (op.FixedAdvancePc n),
+      p,
+      steps-push h.maximum_operations_per_instruction (parts h (moves s)),
+    ) (omega arith)
 
 pub op_index-fixed : (h : Params) (s : List Operation) (n : ℕ) → op_index h (s ++ op.FixedAdvancePc n ∷ []) ≡ 0
 op_index-fixed h s n =
@@ -167,4 +211,5 @@ address-set h s n =
     rw (last_set-push set_address s (op.SetAddress n), m, z) (omega arith)
 
 pub op_index-set : (h : Params) (s : List Operation) (n : ℕ) → op_index h (s ++ op.SetAddress n ∷ []) ≡ 0
-op_index-set h s n = let m = moves-address s (op.SetAddress n) refl in rw m (zero-mod h.maximum_operations_per_instruction)
+op_index-set h s n =
+    let m = moves-address s (op.SetAddress n) refl in rw m (zero-mod h.maximum_operations_per_instruction)

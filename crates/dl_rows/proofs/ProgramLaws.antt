@@ -1,5 +1,6 @@
 -- The laws of programs: what is cut off the front of bytes is the program that stands there, and has few rows.
-use Rattle.std.proofs.Common.{◌≡◌, ℕ, ◌≤◌, true, false, List, [], ◌∷◌, ◌++◌, length, Option, Some, None, Ok, Err, cond, refl, sym, ap, subst, ◌∙◌, arith, append_assoc}
+use Rattle.std.proofs.Common.{◌≡◌, ℕ, ◌≤◌, true, false, List, [], ◌∷◌, ◌++◌, length, Option, Some, None, Ok, Err, cond}
+use Rattle.std.proofs.Common.{refl, sym, ap, subst, ◌∙◌, arith, append_assoc}
 use Rattle.std.proofs.lemmas.List.{append-nil}
 use Rattle.dl_num.specs.declared.fixed.Order.{Order}
 use Rattle.dl_num.specs.Front.{SpellsNowhere, SpellsFirst, IsCut, Standing, standing_after}
@@ -18,7 +19,8 @@ use Rattle.dl_rows.proofs.OperationLaws.{spelt_is_spelled}
 abbrev pub spelt : Order → Params → List ℕ → Option Operation
 spelt order h w = good_one (operation_spelt order h w)
 
-first_of : (order : Order) (h : Params) (o : Operation) (w : List ℕ) → 1 ≤ h.opcode_base → SpellsOperation order h o w → SpellsFirst (spelt order h) w o
+first_of : (order : Order) (h : Params) (o : Operation) (w : List ℕ) → 1 ≤ h.opcode_base → SpellsOperation order h o w
+    → SpellsFirst (spelt order h) w o
 first_of order h o w some s =
     let f = spells_first order h o w some s in
     record { spells = ap good_one f.spells; shortest = λ front x back e. ap good_one (f.shortest front x back e) }
@@ -29,9 +31,11 @@ good_one_is (Some (Ok p)) o e = cc
 good_one_is (Some (Err kind)) o e = absurd cc
 
 -- a program, and then what is cut off the bytes after it
-pub program_cut : (order : Order) (h : Params) (p : List Operation) (w v : List ℕ) (found : List Operation) (rest : List ℕ) → 1 ≤ h.opcode_base
+pub program_cut : (order : Order) (h : Params) (p : List Operation) (w v : List ℕ) (found : List Operation)
+    (rest : List ℕ) → 1 ≤ h.opcode_base
     → SpellsProgram order h p w → IsCut (spelt order h) v found rest → IsCut (spelt order h) (w ++ v) (p ++ found) rest
-program_cut order h [] w v found rest some e c = subst (λ (z : List ℕ). IsCut (spelt order h) (z ++ v) found rest) (sym e) c
+program_cut order h [] w v found rest some e c =
+    subst (λ (z : List ℕ). IsCut (spelt order h) (z ++ v) found rest) (sym e) c
 program_cut order h (o ∷ p) w v found rest some (front, back, e, s, q) c = (
   front,
   back ++ v,
@@ -41,13 +45,16 @@ program_cut order h (o ∷ p) w v found rest some (front, back, e, s, q) c = (
 )
 
 -- the computed cut
-cut_of : (order : Order) (h : Params) (b : List ℕ) → IsCut (spelt order h) b (operations_in order h b).found (operations_in order h b).rest
-cut_of order h b = (one_cut Operation (spelt order h) b (operations_in order h b).found (operations_in order h b).rest refl).1 refl
+cut_of : (order : Order) (h : Params) (b : List ℕ)
+    → IsCut (spelt order h) b (operations_in order h b).found (operations_in order h b).rest
+cut_of order h b =
+    (one_cut Operation (spelt order h) b (operations_in order h b).found (operations_in order h b).rest refl).1 refl
 
 pub program_is_found : ProgramIsFound
 program_is_found order h p w v some s =
     let t = operations_in order h v in
-    (one_cut Operation (spelt order h) (w ++ v) (p ++ t.found) t.rest refl).0 (program_cut order h p w v t.found t.rest some s (cut_of order h v))
+    (one_cut Operation (spelt order h) (w ++ v) (p ++ t.found) t.rest refl).0
+    (program_cut order h p w v t.found t.rest some s (cut_of order h v))
 
 pub one_program : OneProgram
 one_program order h p q w some s t =
@@ -56,32 +63,44 @@ one_program order h p q w some s t =
     let e : p ++ [] ≡ q ++ [] = ap (λ (f : Standing Operation). f.found) (sym a ∙ b) in
     sym (append-nil p) ∙ e ∙ append-nil q
 
-cut_program : (order : Order) (h : Params) (found : List Operation) (b rest : List ℕ) → 1 ≤ h.opcode_base → IsCut (spelt order h) b found rest
+cut_program : (order : Order) (h : Params) (found : List Operation) (b rest : List ℕ) → 1 ≤ h.opcode_base
+    → IsCut (spelt order h) b found rest
     → (w : List ℕ) × (b ≡ w ++ rest) × SpellsProgram order h found w
 cut_program order h [] b rest some c = ([], c.0, refl)
 cut_program order h (o ∷ found) b rest some (front, v, e, first, c) =
     let r = cut_program order h found v rest some c in (
       front ++ r.0,
       e ∙ ap (λ (z : List ℕ). front ++ z) r.1 ∙ sym (append_assoc front r.0 rest),
-      (front, r.0, refl, (spelt_is_spelled order h o front some).1 (good_one_is (operation_spelt order h front) o first.spells), r.2),
+      (
+        front,
+        r.0,
+        refl,
+        (spelt_is_spelled order h o front some).1 (good_one_is (operation_spelt order h front) o first.spells),
+        r.2,
+      ),
     )
 
 pub found_is_program : FoundIsProgram
-found_is_program order h b some = cut_program order h (operations_in order h b).found b (operations_in order h b).rest some (cut_of order h b)
+found_is_program order h b some =
+    cut_program order h (operations_in order h b).found b (operations_in order h b).rest some (cut_of order h b)
 
-cut_nowhere : (order : Order) (h : Params) (found : List Operation) (b rest : List ℕ) → IsCut (spelt order h) b found rest → SpellsNowhere (spelt order h) rest
+cut_nowhere : (order : Order) (h : Params) (found : List Operation) (b rest : List ℕ)
+    → IsCut (spelt order h) b found rest → SpellsNowhere (spelt order h) rest
 cut_nowhere order h [] b rest c = c.1
 cut_nowhere order h (o ∷ found) b rest (front, v, e, first, c) = cut_nowhere order h found v rest c
 
 pub none_begins_rest : NoneBeginsRest
 none_begins_rest order h b o w v some e s =
-    let none = cut_nowhere order h (operations_in order h b).found b (operations_in order h b).rest (cut_of order h b) w v e in
-    let f : ◌≡◌ {A = Option Operation} (Some o) None = sym (ap good_one ((spelt_is_spelled order h o w some).0 s)) ∙ none in absurd cc
+    let none =
+    cut_nowhere order h (operations_in order h b).found b (operations_in order h b).rest (cut_of order h b) w v e in
+    let f : ◌≡◌ {A = Option Operation} (Some o) None =
+    sym (ap good_one ((spelt_is_spelled order h o w some).0 s)) ∙ none in absurd cc
 
 -- ---- few rows
 
 -- each thing that is found takes a byte
-found_le : {A : Type 0} (spells : List ℕ → Option A) (begun b : List ℕ) → length (standing_after spells begun b).found ≤ length b
+found_le : {A : Type 0} (spells : List ℕ → Option A) (begun b : List ℕ)
+    → length (standing_after spells begun b).found ≤ length b
 found_le spells begun [] = omega arith
 found_le {A = A} spells begun (x ∷ b) =
     let later = found_le spells [] b in
@@ -96,7 +115,9 @@ rows_le : (h : Params) (front os : List Operation) → length (rows_after h fron
 rows_le h front [] = omega arith
 rows_le h front (o ∷ os) =
     let later = rows_le h (front ++ o ∷ []) os in
-    elim (appends_row o) as (λ b. length (cond b (row h front o ∷ rows_after h (front ++ o ∷ []) os) (rows_after h (front ++ o ∷ []) os)) ≤ length (o ∷ os)) [
+    elim (appends_row o) as (λ b.
+    length (cond b (row h front o ∷ rows_after h (front ++ o ∷ []) os) (rows_after h (front ++ o ∷ []) os))
+    ≤ length (o ∷ os)) [
       | true ↦ omega arith
       | false ↦ omega arith
     ]

@@ -1,5 +1,6 @@
 -- An operation more of a program: its row, and what is kept after it.
-use Rattle.std.proofs.Common.{◌≡◌, ℕ, Bool, true, false, not, cond, ◌⊎◌, inl, inr, ◌==◌, List, [], ◌∷◌, ◌++◌, Some, None, refl, sym, ap, ◌∙◌}
+use Rattle.std.proofs.Common.{◌≡◌, ℕ, Bool, true, false, not, cond, ◌⊎◌, inl, inr, ◌==◌, List, [], ◌∷◌, ◌++◌, Some}
+use Rattle.std.proofs.Common.{None, refl, sym, ap, ◌∙◌}
 use Rattle.std.proofs.lemmas.List.{append-nil}
 use Rattle.dl_field.specs.declared.params.Params.{Params}
 use Rattle.dl_rows.specs.declared.row.Row.{Row}
@@ -39,7 +40,8 @@ settled-plain h (op.SetAddress n) r e = refl
 settled-plain h (op.SetDiscriminator n) r e = refl
 settled-plain h op.Skipped r e = refl
 
-pub appends_none : (o : Operation) → ((b : ℕ) → o ≡ op.Special b → ⊥) → (o ≡ op.Copy → ⊥) → (o ≡ op.EndSequence → ⊥) → appends_row o ≡ false
+pub appends_none : (o : Operation) → ((b : ℕ) → o ≡ op.Special b → ⊥) → (o ≡ op.Copy → ⊥) → (o ≡ op.EndSequence → ⊥)
+    → appends_row o ≡ false
 appends_none (op.Special b) s c e = absurd (s b refl)
 appends_none op.Copy s c e = absurd (c refl)
 appends_none op.EndSequence s c e = absurd (e refl)
@@ -58,25 +60,36 @@ appends_none (op.SetAddress n) s c e = refl
 appends_none (op.SetDiscriminator n) s c e = refl
 appends_none op.Skipped s c e = refl
 
-pub finishes_with_row : (h : Params) (before : List Operation) (o : Operation) (r : Row) (new : Program) (end : Bool) → FitsProgram h → HasRange o
+pub finishes_with_row : (h : Params) (before : List Operation) (o : Operation) (r : Row) (new : Program) (end : Bool)
+    → FitsProgram h → HasRange o
     → appends_row o ≡ true → end ≡ is_end o → r ≡ row_of h (applied h (registers_after h before) o) end
-    → new.registers ≡ settled h o (applied h (registers_after h before) o) → new.in_sequence ≡ not end → Finishes h before o (Some r) new
+    → new.registers ≡ settled h o (applied h (registers_after h before) o) → new.in_sequence ≡ not end
+    → Finishes h before o (Some r) new
 finishes_with_row h before o r new end fits range appends ends is registers was =
-    let made : r ≡ row h before o = is ∙ ap (row_of h (applied h (registers_after h before) o)) ends ∙ row_is h before o fits range in
+    let made : r ≡ row h before o =
+    is ∙ ap (row_of h (applied h (registers_after h before) o)) ends ∙ row_is h before o fits range in
     let rows : matrix h (before ++ o ∷ []) ≡ matrix h before ++ r ∷ [] =
-    matrix-push h before o ∙ ap (λ (b : Bool). matrix h before ++ cond b (row h before o ∷ []) []) appends ∙ ap (λ (z : Row). matrix h before ++ z ∷ []) (sym made) in
+    matrix-push h before o ∙ ap (λ (b : Bool). matrix h before ++ cond b (row h before o ∷ []) []) appends
+    ∙ ap (λ (z : Row). matrix h before ++ z ∷ []) (sym made) in
     record {
       registers = registers ∙ sym (registers_after-push h before o fits range);
       rows = rows;
-      in_sequence = was ∙ ap not (ends ∙ ap (λ (z : Row). z.end_sequence) (sym made)) ∙ sym (ap ends_open rows ∙ ends_open-push (matrix h before) r);
+      in_sequence =
+          was ∙ ap not (ends ∙ ap (λ (z : Row). z.end_sequence) (sym made))
+          ∙ sym (ap ends_open rows ∙ ends_open-push (matrix h before) r);
     }
 
-pub finishes_without : (h : Params) (before : List Operation) (o : Operation) (new : Program) → FitsProgram h → HasRange o → appends_row o ≡ false
-    → new.registers ≡ applied h (registers_after h before) o → new.in_sequence ≡ ends_open (matrix h before) → Finishes h before o None new
+pub finishes_without : (h : Params) (before : List Operation) (o : Operation) (new : Program) → FitsProgram h
+    → HasRange o → appends_row o ≡ false
+    → new.registers ≡ applied h (registers_after h before) o → new.in_sequence ≡ ends_open (matrix h before)
+    → Finishes h before o None new
 finishes_without h before o new fits range appends registers was =
-    let rows : matrix h (before ++ o ∷ []) ≡ matrix h before ++ [] = matrix-push h before o ∙ ap (λ (b : Bool). matrix h before ++ cond b (row h before o ∷ []) []) appends in
+    let rows : matrix h (before ++ o ∷ []) ≡ matrix h before ++ [] =
+    matrix-push h before o ∙ ap (λ (b : Bool). matrix h before ++ cond b (row h before o ∷ []) []) appends in
     record {
-      registers = registers ∙ sym (settled-plain h o (applied h (registers_after h before) o) appends) ∙ sym (registers_after-push h before o fits range);
+      registers =
+          registers ∙ sym (settled-plain h o (applied h (registers_after h before) o) appends)
+          ∙ sym (registers_after-push h before o fits range);
       rows = rows;
       in_sequence = was ∙ sym (ap ends_open (rows ∙ append-nil (matrix h before)));
     }
@@ -87,5 +100,6 @@ pub settled_special : (o : Operation) → ((b : ℕ) × (o ≡ op.Special b)) �
 settled_special o (inl s) = (ap appends_row s.1, sym (ap is_end s.1), λ h r. ap (λ (z : Operation). settled h z r) s.1)
 settled_special o (inr s) = (ap appends_row s, sym (ap is_end s), λ h r. ap (λ (z : Operation). settled h z r) s)
 
-pub settled_end : (h : Params) (o : Operation) (r : Registers) → o ≡ op.EndSequence → settled h o r ≡ initial (not (h.default_is_stmt == 0))
+pub settled_end : (h : Params) (o : Operation) (r : Registers) → o ≡ op.EndSequence
+    → settled h o r ≡ initial (not (h.default_is_stmt == 0))
 settled_end h o r e = ap (λ (z : Operation). settled h z r) e

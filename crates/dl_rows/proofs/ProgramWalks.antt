@@ -1,5 +1,6 @@
 -- A reader that goes through bytes of a program, operation by operation.
-use Rattle.std.proofs.Common.{◌≡◌, ◌↔◌, ◌==◌, not, false, ℕ, List, [], ◌∷◌, ◌++◌, Option, Some, None, Ok, refl, sym, ap, subst, ◌∙◌, arith, append_assoc}
+use Rattle.std.proofs.Common.{◌≡◌, ◌↔◌, ◌==◌, not, false, ℕ, List, [], ◌∷◌, ◌++◌, Option, Some, None, Ok, refl, sym, ap}
+use Rattle.std.proofs.Common.{subst, ◌∙◌, arith, append_assoc}
 use Rattle.std.proofs.lemmas.List.{append-nil}
 use Rattle.dl_num.specs.declared.fixed.Order.{Order}
 use Rattle.dl_num.specs.Front.{SpellsFirst}
@@ -23,7 +24,8 @@ use Rattle.dl_rows.proofs.OperandRanges.{range_of}
 use Rattle.dl_rows.proofs.ProgramTurns.{Turned, none_some, rows-found, rest-found, unrefused_join}
 use Rattle.dl_rows.proofs.RegisterLemmas.{starts}
 
-pub walk_start : (order : Order) (h : Params) (b bytes : List ℕ) (p : Program) → ProgramStands order h p b → Walked order h b bytes p bytes
+pub walk_start : (order : Order) (h : Params) (b bytes : List ℕ) (p : Program) → ProgramStands order h p b
+    → Walked order h b bytes p bytes
 walk_start order h b bytes p s =
     let same = append-nil b in
     record {
@@ -33,17 +35,22 @@ walk_start order h b bytes p s =
       rows = ap (rows_in order h) same;
       unrefused = λ front back e k bad. (
           let is : b ++ front ≡ b = ap (λ (z : List ℕ). b ++ z) (nil_front front back e) ∙ same in
-          none_some (ap (operation_spelt order h) (ap (λ (z : List ℕ). (operations_in order h z).rest) is ∙ rest-found order h b s.operations s.begun s.found) ∙ s.pending s.begun [] (sym (append-nil s.begun))) bad);
+          none_some (ap (operation_spelt order h) (ap (λ (z : List ℕ). (operations_in order h z).rest) is
+          ∙ rest-found order h b s.operations s.begun s.found) ∙ s.pending s.begun [] (sym (append-nil s.begun)))
+          bad);
     }
 
 -- the operation that bytes spell has operands in range
-pub range_here : (order : Order) (h : Params) (v : List ℕ) (o : Operation) → FitsProgram h → AllBytes v → SpellsFirst (operation_spelt order h) v (Ok o) → HasRange o
+pub range_here : (order : Order) (h : Params) (v : List ℕ) (o : Operation) → FitsProgram h → AllBytes v
+    → SpellsFirst (operation_spelt order h) v (Ok o) → HasRange o
 range_here order h v o fits all first =
     let opcodes = fits.usable.opcodes in
-    range_of order h o v fits.usable all (subst (λ (j : Option Verdict). Judged order h v j) first.spells (judged order h v (omega arith)))
+    range_of order h o v fits.usable all (subst (λ (j : Option Verdict). Judged order h v j) first.spells
+    (judged order h v (omega arith)))
 
 -- an operation more
-pub walk_on : (order : Order) (h : Params) (b bytes rest front behind : List ℕ) (p new : Program) (w : Walked order h b bytes p rest) → rest ≡ front ++ behind
+pub walk_on : (order : Order) (h : Params) (b bytes rest front behind : List ℕ) (p new : Program)
+    (w : Walked order h b bytes p rest) → rest ≡ front ++ behind
     → Turned order h (b ++ w.done) front None new → Walked order h b bytes new behind
 walk_on order h b bytes rest front behind p new w e t =
     let same = append_assoc b w.done front in
@@ -56,23 +63,29 @@ walk_on order h b bytes rest front behind p new w e t =
     }
 
 -- a row
-pub walk_row : (order : Order) (h : Params) (b bytes rest front behind : List ℕ) (p new : Program) (row : Row) (w : Walked order h b bytes p rest) → rest ≡ front ++ behind
+pub walk_row : (order : Order) (h : Params) (b bytes rest front behind : List ℕ) (p new : Program) (row : Row)
+    (w : Walked order h b bytes p rest) → rest ≡ front ++ behind
     → Turned order h (b ++ w.done) front (Some row) new
-    → (front : List ℕ) × (last : ℕ) × (bytes ≡ (front ++ last ∷ []) ++ behind) × ProgramStands order h new (b ++ (front ++ last ∷ []))
-    × (rows_in order h (b ++ front) ≡ rows_in order h b) × (rows_in order h (b ++ (front ++ last ∷ [])) ≡ rows_in order h b ++ row ∷ [])
+    → (front : List ℕ) × (last : ℕ) × (bytes ≡ (front ++ last ∷ []) ++ behind)
+    × ProgramStands order h new (b ++ (front ++ last ∷ []))
+    × (rows_in order h (b ++ front) ≡ rows_in order h b)
+    × (rows_in order h (b ++ (front ++ last ∷ [])) ≡ rows_in order h b ++ row ∷ [])
     × Unrefused order h b (front ++ last ∷ [])
 walk_row order h b bytes rest front behind p new row w e t =
     let before = t.before in
-    let whole : w.done ++ front ≡ (w.done ++ before.front) ++ before.last ∷ [] = ap (λ (z : List ℕ). w.done ++ z) before.bytes ∙ sym (append_assoc w.done before.front (before.last ∷ [])) in
+    let whole : w.done ++ front ≡ (w.done ++ before.front) ++ before.last ∷ [] =
+    ap (λ (z : List ℕ). w.done ++ z) before.bytes ∙ sym (append_assoc w.done before.front (before.last ∷ [])) in
     let same = append_assoc b w.done front in
     let here = same ∙ ap (λ (z : List ℕ). b ++ z) whole in (
       w.done ++ before.front,
       before.last,
-      w.split ∙ ap (λ (z : List ℕ). w.done ++ z) e ∙ sym (append_assoc w.done front behind) ∙ ap (λ (z : List ℕ). z ++ behind) whole,
+      w.split ∙ ap (λ (z : List ℕ). w.done ++ z) e ∙ sym (append_assoc w.done front behind)
+          ∙ ap (λ (z : List ℕ). z ++ behind) whole,
       subst (λ (z : List ℕ). ProgramStands order h new z) here t.stands,
       ap (rows_in order h) (sym (append_assoc b w.done before.front)) ∙ before.rows ∙ w.rows,
       ap (rows_in order h) (sym here) ∙ t.rows ∙ ap (λ (z : List Row). z ++ row ∷ []) w.rows,
-      subst (λ (z : List ℕ). Unrefused order h b z) whole (unrefused_join order h b w.done front w.unrefused t.unrefused),
+      subst (λ (z : List ℕ). Unrefused order h b z) whole
+          (unrefused_join order h b w.done front w.unrefused t.unrefused),
     )
 
 at_start : (h : Params) (at : OperationState) → PhaseStands h at [] → at ≡ phase.Start
@@ -88,12 +101,14 @@ at_start h (phase.Discriminator left number) s = absurd cc
 at_start h (phase.Rest left) s = absurd cc
 
 -- no operation is begun exactly where nothing is left behind the complete ones
-pub between : (order : Order) (h : Params) (p : Program) (b : List ℕ) → ProgramStands order h p b → (p.phase ≡ phase.Start) ↔ ((operations_in order h b).rest ≡ [])
+pub between : (order : Order) (h : Params) (p : Program) (b : List ℕ) → ProgramStands order h p b
+    → (p.phase ≡ phase.Start) ↔ ((operations_in order h b).rest ≡ [])
 between order h p b s =
     let rest = rest-found order h b s.operations s.begun s.found in (
       λ at. rest ∙ subst (λ (z : OperationState). PhaseStands h z s.begun) at s.phase,
       λ e. at_start h p.phase (subst (λ (z : List ℕ). PhaseStands h p.phase z) (sym rest ∙ e) s.phase),
     )
 
-pub in_sequence_is : (order : Order) (h : Params) (p : Program) (b : List ℕ) → ProgramStands order h p b → p.in_sequence ≡ ends_open (rows_in order h b)
+pub in_sequence_is : (order : Order) (h : Params) (p : Program) (b : List ℕ) → ProgramStands order h p b
+    → p.in_sequence ≡ ends_open (rows_in order h b)
 in_sequence_is order h p b s = s.in_sequence ∙ ap ends_open (sym (rows-found order h b s.operations s.begun s.found))

@@ -1,5 +1,6 @@
 -- What a reader of a unit answers, by what it stands for.
-use Rattle.std.proofs.Common.{◌≡◌, ◌≢◌, inr, ℕ, List, [], ◌∷◌, ◌++◌, length, length-append, map, IfOk, take, Result, Ok, Err, refl, sym, ap, subst, ◌∙◌, arith, append-nil}
+use Rattle.std.proofs.Common.{◌≡◌, ◌≢◌, inr, ℕ, List, [], ◌∷◌, ◌++◌, length, length-append, map, IfOk, take, Result, Ok}
+use Rattle.std.proofs.Common.{Err, refl, sym, ap, subst, ◌∙◌, arith, append-nil}
 use Rattle.dl_num.specs.declared.fixed.Order.{Order}
 use Rattle.dl_head.specs.declared.fault.Fault.{Fault}
 use Rattle.dl_table.specs.declared.fault.FaultKind.TheVariants.{Truncated}
@@ -41,47 +42,65 @@ no_bytes : (b piece : List ℕ) → b ++ take 0 piece ≡ b
 no_bytes b piece = append-nil b
 
 -- after a fault in the header
-feeds_stopped : (r new : Reader) (b piece : List ℕ) (stop : HeaderStop) → r.state ≡ state.StoppedInHeader stop → new.order ≡ r.order → new.state ≡ state.StoppedInHeader stop → StandsFor r b
+feeds_stopped : (r new : Reader) (b piece : List ℕ) (stop : HeaderStop) → r.state ≡ state.StoppedInHeader stop
+    → new.order ≡ r.order → new.state ≡ state.StoppedInHeader stop → StandsFor r b
     → ReaderFed r.order b piece (Err stop.fault) new
 feeds_stopped r new b piece stop is same made s =
     let at : StandsAt r.order (state.StoppedInHeader stop) b = subst (λ (x : State). StandsAt r.order x b) is s in (
       0,
       fails_again r.order b piece stop.fault at.in_unit at.refused,
       subst (λ (o : Order). StandsAt o new.state (b ++ take 0 piece)) (sym same)
-          (subst (λ (x : State). StandsAt r.order x (b ++ take 0 piece)) (sym made) (subst (λ (w : List ℕ). StandsAt r.order (state.StoppedInHeader stop) w) (sym (no_bytes b piece)) at)),
+          (subst (λ (x : State). StandsAt r.order x (b ++ take 0 piece)) (sym made)
+          (subst (λ (w : List ℕ). StandsAt r.order (state.StoppedInHeader stop) w) (sym (no_bytes b piece)) at)),
     )
 
 -- after a foreign version
-pub feeds_foreign : (r new : Reader) (t u : UnitBytes) (b piece : List ℕ) (fed : Fed) → r.state ≡ state.Foreign t → new.order ≡ r.order → new.state ≡ state.Foreign u → StandsFor r b
-    → ((version : ℕ) → InForeign r.order version t b → Feeds (InForeign r.order version) r.order b piece fed u) → Feeds StandsFor r.order b piece fed new
+pub feeds_foreign : (r new : Reader) (t u : UnitBytes) (b piece : List ℕ) (fed : Fed) → r.state ≡ state.Foreign t
+    → new.order ≡ r.order → new.state ≡ state.Foreign u → StandsFor r b
+    → ((version : ℕ) → InForeign r.order version t b → Feeds (InForeign r.order version) r.order b piece fed u)
+    → Feeds StandsFor r.order b piece fed new
 feeds_foreign r new t u b piece fed is order made s feeds =
     let at : StandsAt r.order (state.Foreign t) b = subst (λ (x : State). StandsAt r.order x b) is s in
     let f = feeds at.0 at.1 in
     let stands : StandsAt r.order (state.Foreign u) (b ++ take fed.used piece) = (at.0, f.stands) in
     record {
       answered = f.answered;
-      stands = subst (λ (o : Order). StandsAt o new.state (b ++ take fed.used piece)) (sym order) (subst (λ (x : State). StandsAt r.order x (b ++ take fed.used piece)) (sym made) stands);
+      stands =
+          subst (λ (o : Order). StandsAt o new.state (b ++ take fed.used piece)) (sym order)
+          (subst (λ (x : State). StandsAt r.order x (b ++ take fed.used piece)) (sym made) stands);
     }
 
 -- after the header
-body_fed : (order : Order) (h : HeaderData) (before : List Event) (b piece : List ℕ) (result : Result Fed Fault) (now : BodyState) (new : Reader) → new.order ≡ order → new.state ≡ state.AfterHeader h now
+body_fed : (order : Order) (h : HeaderData) (before : List Event) (b piece : List ℕ) (result : Result Fed Fault)
+    (now : BodyState) (new : Reader) → new.order ≡ order → new.state ≡ state.AfterHeader h now
     → BodyFedBehind order h before b piece result now → FedBehind order before b piece result new
 body_fed order h before b piece (Ok fed) now new same made f = record {
   answered = f.answered;
-  stands = subst (λ (o : Order). StandsAt o new.state (b ++ take fed.used piece)) (sym same) (subst (λ (x : State). StandsAt order x (b ++ take fed.used piece)) (sym made) f.stands);
+  stands =
+      subst (λ (o : Order). StandsAt o new.state (b ++ take fed.used piece)) (sym same)
+      (subst (λ (x : State). StandsAt order x (b ++ take fed.used piece)) (sym made) f.stands);
 }
 body_fed order h before b piece (Err fault) now new same made f = (
   f.0,
   f.1,
-  subst (λ (o : Order). StandsAt o new.state (b ++ take f.0 piece)) (sym same) (subst (λ (x : State). StandsAt order x (b ++ take f.0 piece)) (sym made) f.2),
+  subst (λ (o : Order). StandsAt o new.state (b ++ take f.0 piece)) (sym same)
+      (subst (λ (x : State). StandsAt order x (b ++ take f.0 piece)) (sym made) f.2),
 )
 
-pub feeds_body : {S : Type 0} (story : Story S) (r new : Reader) (h : HeaderData) (old now : BodyState) (b piece : List ℕ) (before : List Row) (result : Result Fed Fault) (sink : S) → r.state ≡ state.AfterHeader h old
-    → new.order ≡ r.order → new.state ≡ state.AfterHeader h now → StandsFor r b → (StandsAt r.order (state.AfterHeader h old) b → BodyTells story r.order h b piece before result now sink)
+pub feeds_body : {S : Type 0} (story : Story S) (r new : Reader) (h : HeaderData) (old now : BodyState)
+    (b piece : List ℕ) (before : List Row) (result : Result Fed Fault) (sink : S) → r.state ≡ state.AfterHeader h old
+    → new.order ≡ r.order → new.state ≡ state.AfterHeader h now → StandsFor r b
+    → (StandsAt r.order (state.AfterHeader h old) b → BodyTells story r.order h b piece before result now sink)
     → RowsFed story r.order b piece before result new sink
 feeds_body story r new h old now b piece before result sink is same made s tells =
     let f = tells (subst (λ (x : State). StandsAt r.order x b) is s) in
-    record { rows = f.rows; fed = body_fed r.order h (events r.order b ++ map event.Row f.rows) b piece result now new same made f.fed; sink = f.sink }
+    record {
+      rows = f.rows;
+      fed =
+          body_fed r.order h (events r.order b ++ map event.Row f.rows) b piece result now new same made f.fed;
+      sink =
+          f.sink;
+    }
 
 -- ---- a new reader
 
@@ -93,13 +112,23 @@ nothing_yet order = (
 )
 
 pub none_refused : (order : Order) → NoneRefused order []
-none_refused order front back at kind e r = none_some refl (subst (λ (w : List ℕ). Refused order w at kind) (nil_of front back e) r).decided where
-  nil_of : (front back : List ℕ) → ◌≡◌ {A = List ℕ} [] (front ++ back) → front ≡ []
-  nil_of [] back e = refl
-  nil_of (x ∷ front) back e = absurd cc
+none_refused order front back at kind e r =
+    none_some refl (subst (λ (w : List ℕ). Refused order w at kind) (nil_of front back e) r).decided where
+      nil_of : (front back : List ℕ) → ◌≡◌ {A = List ℕ} [] (front ++ back) → front ≡ []
+      nil_of [] back e = refl
+      nil_of (x ∷ front) back e = absurd cc
 
 pub new_stands : (order : Order) (head : HeadReader) → head.order ≡ order → HeadStands head [] → InHeader order head []
-new_stands order head same stands = record { same_order = same; stands = stands; more = nothing_yet order; bytes = tt; incomplete = refl; sound = none_refused order }
+new_stands order head same stands =
+    record {
+      same_order = same;
+      stands = stands;
+      more = nothing_yet order;
+      bytes = tt;
+      incomplete = refl;
+      sound =
+          none_refused order;
+    }
 
 -- ---- `finish` in a header
 
@@ -107,7 +136,8 @@ empty_of : (b : List ℕ) → length b ≡ 0 → b ≡ []
 empty_of [] e = refl
 empty_of (x ∷ b) e = absurd (omega (arith, e))
 
-pub finish_cut : (order : Order) (head : HeadReader) (b : List ℕ) (taken : ℕ) → taken ≡ length b → taken ≢ 0 → InHeader order head b → FinishIs order b (Err (record { offset = taken; kind = Truncated }))
+pub finish_cut : (order : Order) (head : HeadReader) (b : List ℕ) (taken : ℕ) → taken ≡ length b → taken ≢ 0
+    → InHeader order head b → FinishIs order b (Err (record { offset = taken; kind = Truncated }))
 finish_cut order head b taken is some s = inr (
   ap (λ (n : ℕ). record { offset = n; kind = Truncated }) is,
   λ nil. some (is ∙ ap length nil),
@@ -118,7 +148,8 @@ finish_cut order head b taken is some s = inr (
 -- ---- `feed_rows`, where no row comes, and `feed`
 
 -- an answer that is no row
-pub sink_goes_on : {S : Type 0} (story : Story S) (s : S) (rows : List Row) (e : Event) → ((r : Row) → e ≢ event.Row r) → story.hears s rows → SinkAt story s rows e
+pub sink_goes_on : {S : Type 0} (story : Story S) (s : S) (rows : List Row) (e : Event) → ((r : Row) → e ≢ event.Row r)
+    → story.hears s rows → SinkAt story s rows e
 sink_goes_on story s rows event.More none hears = hears
 sink_goes_on story s rows event.End none hears = hears
 sink_goes_on story s rows event.NoMemory none hears = hears
@@ -126,7 +157,8 @@ sink_goes_on story s rows event.Header none hears = hears
 sink_goes_on story s rows (event.Foreign version) none hears = hears
 sink_goes_on story s rows (event.Row r) none hears = absurd (none r refl)
 
-pub sink_behind : {S : Type 0} (story : Story S) (s : S) (rows : List Row) (result : Result Fed Fault) → IfOk result (λ fed. (r : Row) → fed.event ≢ event.Row r) → story.hears s rows → SinkBehind story s rows result
+pub sink_behind : {S : Type 0} (story : Story S) (s : S) (rows : List Row) (result : Result Fed Fault)
+    → IfOk result (λ fed. (r : Row) → fed.event ≢ event.Row r) → story.hears s rows → SinkBehind story s rows result
 sink_behind story s rows (Ok fed) none hears = sink_goes_on story s rows fed.event none hears
 sink_behind story s rows (Err fault) none hears = hears
 
@@ -138,30 +170,39 @@ no_row_paused event.Header pause r e = absurd pause
 no_row_paused (event.Foreign version) pause r e = absurd pause
 no_row_paused (event.Row x) pause r e = absurd pause
 
-behind_of_fed : (order : Order) (b piece : List ℕ) (result : Result Fed Fault) (new : Reader) → ReaderFed order b piece result new → FedBehind order (events order b) b piece result new
+behind_of_fed : (order : Order) (b piece : List ℕ) (result : Result Fed Fault) (new : Reader)
+    → ReaderFed order b piece result new → FedBehind order (events order b) b piece result new
 behind_of_fed order b piece (Ok fed) new f = f
 behind_of_fed order b piece (Err fault) new f = f
 
-fed_of_behind : (order : Order) (b piece : List ℕ) (result : Result Fed Fault) (new : Reader) → FedBehind order (events order b) b piece result new → ReaderFed order b piece result new
+fed_of_behind : (order : Order) (b piece : List ℕ) (result : Result Fed Fault) (new : Reader)
+    → FedBehind order (events order b) b piece result new → ReaderFed order b piece result new
 fed_of_behind order b piece (Ok fed) new f = f
 fed_of_behind order b piece (Err fault) new f = f
 
-pub no_rows : {S : Type 0} (story : Story S) (order : Order) (b piece : List ℕ) (before : List Row) (result : Result Fed Fault) (new : Reader) (s : S) → ReaderFed order b piece result new
+pub no_rows : {S : Type 0} (story : Story S) (order : Order) (b piece : List ℕ) (before : List Row)
+    (result : Result Fed Fault) (new : Reader) (s : S) → ReaderFed order b piece result new
     → SinkBehind story s before result → RowsFed story order b piece before result new s
 no_rows story order b piece before result new s fed sink = record {
   rows = [];
-  fed = subst (λ (es : List Event). FedBehind order es b piece result new) (sym (append-nil (events order b))) (behind_of_fed order b piece result new fed);
+  fed = subst (λ (es : List Event). FedBehind order es b piece result new) (sym (append-nil (events order b)))
+      (behind_of_fed order b piece result new fed);
   sink = subst (λ (rows : List Row). SinkBehind story s rows result) (sym (append-nil before)) sink;
 }
 
 -- the same after a fault in the header
-pub rows_stopped : {S : Type 0} (story : Story S) (r new : Reader) (b piece : List ℕ) (before : List Row) (stop : HeaderStop) (s : S) → r.state ≡ state.StoppedInHeader stop → new.order ≡ r.order
-    → new.state ≡ state.StoppedInHeader stop → StandsFor r b → story.hears s before → RowsFed story r.order b piece before (Err stop.fault) new s
-rows_stopped story r new b piece before stop s is same made stands hears = no_rows story r.order b piece before (Err stop.fault) new s (feeds_stopped r new b piece stop is same made stands) hears
+pub rows_stopped : {S : Type 0} (story : Story S) (r new : Reader) (b piece : List ℕ) (before : List Row)
+    (stop : HeaderStop) (s : S) → r.state ≡ state.StoppedInHeader stop → new.order ≡ r.order
+    → new.state ≡ state.StoppedInHeader stop → StandsFor r b → story.hears s before
+    → RowsFed story r.order b piece before (Err stop.fault) new s
+rows_stopped story r new b piece before stop s is same made stands hears =
+    no_rows story r.order b piece before (Err stop.fault) new s (feeds_stopped r new b piece stop is same made stands)
+    hears
 
 none_before : (rows : List Row) (r row : Row) → rows ++ r ∷ [] ≡ row ∷ [] → rows ≡ []
 none_before [] r row e = refl
-none_before (x ∷ rows) r row e = let l : length (x ∷ (rows ++ r ∷ [])) ≡ 1 = ap length e in absurd (omega (arith, l, length-append rows (r ∷ [])))
+none_before (x ∷ rows) r row e =
+    let l : length (x ∷ (rows ++ r ∷ [])) ≡ 1 = ap length e in absurd (omega (arith, l, length-append rows (r ∷ [])))
 
 each_none : (s : EachRow) (rows : List Row) (e : Event) → SinkAt each_row s rows e → rows ≡ []
 each_none s rows event.More at = at
@@ -171,13 +212,16 @@ each_none s rows event.Header at = at
 each_none s rows (event.Foreign version) at = at
 each_none s rows (event.Row r) at = none_before rows r at.0 at.1
 
-each_result : (s : EachRow) (rows : List Row) (result : Result Fed Fault) → SinkBehind each_row s rows result → rows ≡ []
+each_result : (s : EachRow) (rows : List Row) (result : Result Fed Fault) → SinkBehind each_row s rows result
+    → rows ≡ []
 each_result s rows (Ok fed) at = each_none s rows fed.event at
 each_result s rows (Err fault) at = at
 
 -- a sink that stops at each row hears none on the way
-pub fed_alone : (order : Order) (b piece : List ℕ) (result : Result Fed Fault) (new : Reader) (s : EachRow) → RowsFed each_row order b piece [] result new s → ReaderFed order b piece result new
+pub fed_alone : (order : Order) (b piece : List ℕ) (result : Result Fed Fault) (new : Reader) (s : EachRow)
+    → RowsFed each_row order b piece [] result new s → ReaderFed order b piece result new
 fed_alone order b piece result new s f =
     let none = each_result s f.rows result f.sink in
     fed_of_behind order b piece result new
-    (subst (λ (es : List Event). FedBehind order es b piece result new) (ap (λ (rows : List Row). events order b ++ map event.Row rows) none ∙ append-nil (events order b)) f.fed)
+    (subst (λ (es : List Event). FedBehind order es b piece result new)
+    (ap (λ (rows : List Row). events order b ++ map event.Row rows) none ∙ append-nil (events order b)) f.fed)

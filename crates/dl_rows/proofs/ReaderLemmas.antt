@@ -1,5 +1,6 @@
 -- What the public clauses of a reader need of what it stands for.
-use Rattle.std.proofs.Common.{◌≡◌, ◌≢◌, ◌≤◌, ◌^◌, inl, inr, ℕ, ◌+◌, ◌-◌, min, List, [], ◌∷◌, length, Option, Some, None, Result, Ok, Err, refl, sym, ap, subst, ◌∙◌, arith, append-nil}
+use Rattle.std.proofs.Common.{◌≡◌, ◌≢◌, ◌≤◌, ◌^◌, inl, inr, ℕ, ◌+◌, ◌-◌, min, List, [], ◌∷◌, length, Option, Some, None}
+use Rattle.std.proofs.Common.{Result, Ok, Err, refl, sym, ap, subst, ◌∙◌, arith, append-nil}
 use Rattle.std.proofs.lemmas.Bool.{cases_eq}
 use Rattle.dl_num.specs.declared.fixed.Order.{Order}
 use Rattle.dl_head.specs.declared.fault.Fault.{Fault}
@@ -31,7 +32,8 @@ use Rattle.dl_rows.proofs.UnitQuiet.{foreign_quiet}
 use Rattle.dl_rows.proofs.UnitWhole.{NoneRefused, unit_unless_refused}
 
 -- a foreign unit has no header
-pub foreign_no_header : (order : Order) (b : List ℕ) (version : ℕ) → foreign_in order b ≡ Some version → header_in order b ≡ None
+pub foreign_no_header : (order : Order) (b : List ℕ) (version : ℕ) → foreign_in order b ≡ Some version
+    → header_in order b ≡ None
 foreign_no_header order b version foreign = on (header_in order b) refl where
   on : (o : Option (HeaderData × List ℕ)) → header_in order b ≡ o → header_in order b ≡ None
   on None e = e
@@ -44,19 +46,27 @@ pub no_rows : (order : Order) (b : List ℕ) → header_in order b ≡ None → 
 no_rows order b none = ap (rows_behind order) none
 
 -- the rows after a header
-pub rows_here : (order : Order) (h : HeaderData) (t : UnitBody) (b : List ℕ) (is : InProgram order h t b) → unit_rows order b ≡ rows_in order h.params is.program
+pub rows_here : (order : Order) (h : HeaderData) (t : UnitBody) (b : List ℕ) (is : InProgram order h t b)
+    → unit_rows order b ≡ rows_in order h.params is.program
 rows_here order h t b is =
-    ap (unit_rows order) (sym (append-nil b)) ∙ rows_on order h t b [] is (omega arith) [] ∙ ap (λ (w : List ℕ). rows_in order h.params w) (append-nil is.program)
+    ap (unit_rows order) (sym (append-nil b)) ∙ rows_on order h t b [] is (omega arith) []
+    ∙ ap (λ (w : List ℕ). rows_in order h.params w) (append-nil is.program)
 
 -- the header that a reader after it has
-pub header_here : (order : Order) (h : HeaderData) (s : BodyState) (b : List ℕ) → BodyStands order h s b → (program : List ℕ) × (header_in order b ≡ Some (h, program))
-header_here order h (body.InProgram t) b is = (is.program, ap (header_in order) is.whole ∙ header_is_found order h is.header is.program is.spells)
-header_here order h (body.Stopped stop) b is = (is.program, ap (header_in order) is.whole ∙ header_is_found order h is.header is.program is.spells)
+pub header_here : (order : Order) (h : HeaderData) (s : BodyState) (b : List ℕ) → BodyStands order h s b
+    → (program : List ℕ) × (header_in order b ≡ Some (h, program))
+header_here order h (body.InProgram t) b is =
+    (is.program, ap (header_in order) is.whole ∙ header_is_found order h is.header is.program is.spells)
+header_here order h (body.Stopped stop) b is =
+    (is.program, ap (header_in order) is.whole ∙ header_is_found order h is.header is.program is.spells)
 
 -- its cells are those of the bytes
-pub cells_here : (order : Order) (h : HeaderData) (s : BodyState) (b : List ℕ) → BodyStands order h s b → cells order b ≡ header_cells h
-cells_here order h (body.InProgram t) b is = ap (cells order) is.whole ∙ (header_holds_its_cells order h is.header is.program is.spells).0
-cells_here order h (body.Stopped stop) b is = ap (cells order) is.whole ∙ (header_holds_its_cells order h is.header is.program is.spells).0
+pub cells_here : (order : Order) (h : HeaderData) (s : BodyState) (b : List ℕ) → BodyStands order h s b
+    → cells order b ≡ header_cells h
+cells_here order h (body.InProgram t) b is =
+    ap (cells order) is.whole ∙ (header_holds_its_cells order h is.header is.program is.spells).0
+cells_here order h (body.Stopped stop) b is =
+    ap (cells order) is.whole ∙ (header_holds_its_cells order h is.header is.program is.spells).0
 
 module _ (order : Order) (b : List ℕ) where
   -- how many bytes were taken
@@ -76,11 +86,13 @@ module _ (order : Order) (b : List ℕ) where
   within_here (state.AfterHeader h (body.Stopped stop)) s = s.in_unit
 
 -- the cells that a reader of the header holds
-pub cells_at : (order : Order) (head : HeadReader) (b : List ℕ) (n : ℕ) → head.order ≡ order → n ≡ min (cells head.order b) (2 ^ 64 - 1) → n ≡ min (cells order b) (2 ^ 64 - 1)
+pub cells_at : (order : Order) (head : HeadReader) (b : List ℕ) (n : ℕ) → head.order ≡ order
+    → n ≡ min (cells head.order b) (2 ^ 64 - 1) → n ≡ min (cells order b) (2 ^ 64 - 1)
 cells_at order head b n same is = is ∙ ap (λ (o : Order). min (cells o b) (2 ^ 64 - 1)) same
 
 -- those of a foreign unit
-pub no_cells : (order : Order) (version : ℕ) (b : List ℕ) → foreign_in order b ≡ Some version → 0 ≡ min (cells order b) (2 ^ 64 - 1)
+pub no_cells : (order : Order) (version : ℕ) (b : List ℕ) → foreign_in order b ≡ Some version
+    → 0 ≡ min (cells order b) (2 ^ 64 - 1)
 no_cells order version b foreign = sym (ap (λ (n : ℕ). min n (2 ^ 64 - 1)) (foreign_no_cells order version b foreign))
 
 -- ---- `finish`
@@ -90,28 +102,43 @@ some_bytes [] some = absurd (some refl)
 some_bytes (x ∷ b) some = omega arith
 
 -- bytes that are counted, and of which none is refused
-pub finish_counted : (order : Order) (t : UnitBytes) (b : List ℕ) (result : Result Finish Fault) → Counts order t b → b ≢ [] → NoneRefused order b → (t.left ≡ 0 → IsUnit order b)
-    → (t.left ≡ 0 → result ≡ Ok finish.Whole) → (t.left ≢ 0 → result ≡ Err (record { offset = t.taken; kind = Truncated })) → FinishIs order b result
+pub finish_counted : (order : Order) (t : UnitBytes) (b : List ℕ) (result : Result Finish Fault) → Counts order t b
+    → b ≢ [] → NoneRefused order b → (t.left ≡ 0 → IsUnit order b)
+    → (t.left ≡ 0 → result ≡ Ok finish.Whole)
+    → (t.left ≢ 0 → result ≡ Err (record { offset = t.taken; kind = Truncated })) → FinishIs order b result
 finish_counted order t b result counts some sound whole is_whole is_cut = elim (cases_eq t.left 0) [
   | inl none ↦ subst (FinishIs order b) (sym (is_whole none)) (whole none)
   | inr more ↦ subst (FinishIs order b) (sym (is_cut more)) (inr (
     ap (λ (n : ℕ). record { offset = n; kind = Truncated }) counts.taken,
     some,
-    λ unit. (let e = some_same (t.taken + t.left) (length b) (sym counts.left ∙ length_of_unit order b unit) in more (omega (arith, e, counts.taken))),
+    λ unit. (let e = some_same (t.taken + t.left) (length b) (sym counts.left ∙ length_of_unit order b unit) in
+        more (omega (arith, e, counts.taken))),
     λ place kind refused. sound b [] place kind (sym (append-nil b)) refused,
   ))
 ]
 
-pub finish_foreign : (order : Order) (version : ℕ) (t : UnitBytes) (b : List ℕ) (result : Result Finish Fault) → InForeign order version t b
-    → (t.left ≡ 0 → result ≡ Ok finish.Whole) → (t.left ≢ 0 → result ≡ Err (record { offset = t.taken; kind = Truncated })) → FinishIs order b result
+pub finish_foreign : (order : Order) (version : ℕ) (t : UnitBytes) (b : List ℕ) (result : Result Finish Fault)
+    → InForeign order version t b
+    → (t.left ≡ 0 → result ≡ Ok finish.Whole)
+    → (t.left ≢ 0 → result ≡ Err (record { offset = t.taken; kind = Truncated })) → FinishIs order b result
 finish_foreign order version t b result is = finish_counted order t b result is.counts
     (λ none. none_some {a = version} refl (ap (foreign_in order) (sym none) ∙ is.foreign))
     (foreign_quiet order b version (t.taken + t.left) is.foreign is.counts.left (omega (arith, is.counts.taken)))
-    (λ none. inl (version, foreign_unit order version b (is.counts.left ∙ ap (λ (n : ℕ). Some n) (omega (arith, none, is.counts.taken))) is.foreign))
+    (λ none. inl (
+      version,
+      foreign_unit order version b (is.counts.left ∙ ap (λ (n : ℕ). Some n) (omega (arith, none, is.counts.taken)))
+          is.foreign,
+    ))
 
-pub finish_program : (order : Order) (h : HeaderData) (t : UnitBody) (b : List ℕ) (result : Result Finish Fault) → InProgram order h t b
-    → (t.bytes.left ≡ 0 → result ≡ Ok finish.Whole) → (t.bytes.left ≢ 0 → result ≡ Err (record { offset = t.bytes.taken; kind = Truncated })) → FinishIs order b result
+pub finish_program : (order : Order) (h : HeaderData) (t : UnitBody) (b : List ℕ) (result : Result Finish Fault)
+    → InProgram order h t b
+    → (t.bytes.left ≡ 0 → result ≡ Ok finish.Whole)
+    → (t.bytes.left ≢ 0 → result ≡ Err (record { offset = t.bytes.taken; kind = Truncated }))
+    → FinishIs order b result
 finish_program order h t b result is = finish_counted order t.bytes b result is.counts
-    (λ none. none_some {a = (h, is.program)} (ap (header_in order) none) (ap (header_in order) is.whole ∙ header_is_found order h is.header is.program is.spells))
+    (λ none. none_some {a = (h, is.program)} (ap (header_in order) none) (ap (header_in order) is.whole
+    ∙ header_is_found order h is.header is.program is.spells))
     is.sound
-    (λ none. (unit_unless_refused order b (is.counts.left ∙ ap (λ (n : ℕ). Some n) (omega (arith, none, is.counts.taken)))).1 is.sound)
+    (λ none.
+    (unit_unless_refused order b (is.counts.left ∙ ap (λ (n : ℕ). Some n) (omega (arith, none, is.counts.taken)))).1
+    is.sound)

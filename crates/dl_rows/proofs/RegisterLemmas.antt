@@ -1,5 +1,7 @@
 -- The registers that are kept are the sums and last settings of the operations so far, and a row is made of them.
-use Rattle.std.proofs.Common.{◌≡◌, ℕ, suc, ◌+◌, ◌*◌, ◌/◌, ◌^◌, ◌%◌, ◌-◌, ◌<◌, ◌≤◌, ◌==◌, refl, sym, ap, ◌∙◌, arith, inl, inr, ℤ, pos, negsuc, ◌+ℤ◌, cond, true, false, not, List, [], ◌∷◌, ◌++◌, None, unwrap_or, fold, append_assoc}
+use Rattle.std.proofs.Common.{◌≡◌, ℕ, suc, ◌+◌, ◌*◌, ◌/◌, ◌^◌, ◌%◌, ◌-◌, ◌<◌, ◌≤◌, ◌==◌, refl, sym, ap, ◌∙◌, arith, inl}
+use Rattle.std.proofs.Common.{inr, ℤ, pos, negsuc, ◌+ℤ◌, cond, true, false, not, List, [], ◌∷◌, ◌++◌, None, unwrap_or}
+use Rattle.std.proofs.Common.{fold, append_assoc}
 use Rattle.std.specs.Prelude.{unsigned_abs}
 use Rattle.std.specs.Int.{w64, cast_unsigned}
 use Rattle.std.specs.Option.{option_or}
@@ -15,16 +17,23 @@ use Rattle.dl_num.specs.Fixed.{is_number_size}
 use Rattle.dl_rows.specs.declared.registers.Registers.{Registers}
 use Rattle.dl_rows.specs.declared.operation.Operation.{Operation}
 use Rattle.dl_rows.specs.declared.operation.Operation.TheVariants as op
-use Rattle.dl_rows.specs.Matrix.{is_end, appends_row, last_set, advance, set_address, is_address, is_fixed_add, fixed_add, parts, last_part, moves, address, op_index, line_step, line, set_file, set_column, set_isa, set_discriminator, turned, is_block, is_prologue, is_epilogue, modulo, row, rows_after, matrix}
+use Rattle.dl_rows.specs.Matrix.{is_end, appends_row, last_set, advance, set_address, is_address, is_fixed_add}
+use Rattle.dl_rows.specs.Matrix.{fixed_add, parts, last_part, moves, address, op_index, line_step, line, set_file}
+use Rattle.dl_rows.specs.Matrix.{set_column, set_isa, set_discriminator, turned, is_block, is_prologue, is_epilogue}
+use Rattle.dl_rows.specs.Matrix.{modulo, row, rows_after, matrix}
 use Rattle.dl_rows.specs.Machine.{initial, applied, row_of}
 use Rattle.dl_rows.specs.Sums.{registers_of, registers_after, settled, HasRange, FitsProgram}
 use Rattle.dl_rows.proofs.Arithmetic.{modulo-add, modulo-same}
-use Rattle.dl_rows.proofs.PlaceLemmas.{after_last-push, last_set-push, any-push, address-plain, op_index-plain, address-fixed, op_index-fixed, address-set, op_index-set, steps-cons}
+use Rattle.dl_rows.proofs.PlaceLemmas.{after_last-push, last_set-push, any-push, address-plain, op_index-plain}
+use Rattle.dl_rows.proofs.PlaceLemmas.{address-fixed, op_index-fixed, address-set, op_index-set, steps-cons}
 
-index_lt : (h : Params) (s : List Operation) → 1 ≤ h.maximum_operations_per_instruction → op_index h s < h.maximum_operations_per_instruction
+index_lt : (h : Params) (s : List Operation) → 1 ≤ h.maximum_operations_per_instruction
+    → op_index h s < h.maximum_operations_per_instruction
 index_lt h s some = mod-lt (last_part (parts h (moves s))) some
 
-stays : (h : Params) (s : List Operation) (o : Operation) → 1 ≤ h.maximum_operations_per_instruction → is_address o ≡ false → is_fixed_add o ≡ false → set_address o ≡ None → fixed_add o ≡ 0 → advance h o ≡ 0 → (address h (s ++ o ∷ []) ≡ address h s) × (op_index h (s ++ o ∷ []) ≡ op_index h s)
+stays : (h : Params) (s : List Operation) (o : Operation) → 1 ≤ h.maximum_operations_per_instruction
+    → is_address o ≡ false → is_fixed_add o ≡ false → set_address o ≡ None → fixed_add o ≡ 0 → advance h o ≡ 0
+    → (address h (s ++ o ∷ []) ≡ address h s) × (op_index h (s ++ o ∷ []) ≡ op_index h s)
 stays h s o some a f n z d =
     let lt = index_lt h s some in
     let same : op_index h s + 0 ≡ op_index h s = omega arith in
@@ -52,27 +61,53 @@ next h s f o a i l = record {
   discriminator = unwrap_or (option_or (set_discriminator o) (last_set set_discriminator f)) 0;
 }
 
-pushed : (h : Params) (s f : List Operation) (o : Operation) (a i l : ℕ) → address h (s ++ o ∷ []) % 2 ^ 64 ≡ a → op_index h (s ++ o ∷ []) ≡ i → modulo (line h (s ++ o ∷ [])) (2 ^ 64) ≡ l → registers_of h (s ++ o ∷ []) (f ++ o ∷ []) ≡ next h s f o a i l
+pushed : (h : Params) (s f : List Operation) (o : Operation) (a i l : ℕ) → address h (s ++ o ∷ []) % 2 ^ 64 ≡ a
+    → op_index h (s ++ o ∷ []) ≡ i → modulo (line h (s ++ o ∷ [])) (2 ^ 64) ≡ l
+    → registers_of h (s ++ o ∷ []) (f ++ o ∷ []) ≡ next h s f o a i l
 pushed h s f o a i l ea ei el =
-    rw (ea, ei, el, last_set-push set_file s o, last_set-push set_column s o, last_set-push set_isa s o, last_set-push set_discriminator f o, fold_push turned (not (h.default_is_stmt == 0)) s o, any-push is_block f o, any-push is_prologue f o, any-push is_epilogue f o) refl
+    rw (
+      ea,
+      ei,
+      el,
+      last_set-push set_file s o,
+      last_set-push set_column s o,
+      last_set-push set_isa s o,
+      last_set-push set_discriminator f o,
+      fold_push turned (not (h.default_is_stmt == 0)) s o,
+      any-push is_block f o,
+      any-push is_prologue f o,
+      any-push is_epilogue f o,
+    ) refl
 
 line-push : (h : Params) (s : List Operation) (o : Operation) → line h (s ++ o ∷ []) ≡ line h s +ℤ line_step h o
 line-push h s o = fold_push (λ (z : ℤ) (x : Operation). z +ℤ line_step h x) (pos 1) s o
 
-line_stays : (h : Params) (s : List Operation) (o : Operation) → line_step h o ≡ pos 0 → modulo (line h (s ++ o ∷ [])) (2 ^ 64) ≡ modulo (line h s) (2 ^ 64)
+line_stays : (h : Params) (s : List Operation) (o : Operation) → line_step h o ≡ pos 0
+    → modulo (line h (s ++ o ∷ [])) (2 ^ 64) ≡ modulo (line h s) (2 ^ 64)
 line_stays h s o z = rw (line-push h s o, z, modulo-same) refl
 
-line_moves : (h : Params) (s : List Operation) (o : Operation) → unsigned_abs (line_step h o) < 2 ^ 64 → modulo (line h (s ++ o ∷ [])) (2 ^ 64) ≡ (modulo (line h s) (2 ^ 64) + cast_unsigned w64 (line_step h o)) % 2 ^ 64
+line_moves : (h : Params) (s : List Operation) (o : Operation) → unsigned_abs (line_step h o) < 2 ^ 64
+    → modulo (line h (s ++ o ∷ [])) (2 ^ 64) ≡ (modulo (line h s) (2 ^ 64) + cast_unsigned w64 (line_step h o)) % 2 ^ 64
 line_moves h s o lt = rw (line-push h s o) (sym (modulo-add (line h s) (line_step h o) lt))
 
 -- an operation that doesn't move
-quiet : (h : Params) (s f : List Operation) (o : Operation) → 1 ≤ h.maximum_operations_per_instruction → is_address o ≡ false → is_fixed_add o ≡ false → set_address o ≡ None → fixed_add o ≡ 0 → advance h o ≡ 0 → line_step h o ≡ pos 0
-    → registers_of h (s ++ o ∷ []) (f ++ o ∷ []) ≡ next h s f o (address h s % 2 ^ 64) (op_index h s) (modulo (line h s) (2 ^ 64))
-quiet h s f o some a x n z d l = let p = stays h s o some a x n z d in pushed h s f o _ _ _ (ap (λ (y : ℕ). y % 2 ^ 64) p.0) p.1 (line_stays h s o l)
+quiet : (h : Params) (s f : List Operation) (o : Operation) → 1 ≤ h.maximum_operations_per_instruction
+    → is_address o ≡ false → is_fixed_add o ≡ false → set_address o ≡ None → fixed_add o ≡ 0 → advance h o ≡ 0
+    → line_step h o ≡ pos 0
+    → registers_of h (s ++ o ∷ []) (f ++ o ∷ [])
+    ≡ next h s f o (address h s % 2 ^ 64) (op_index h s) (modulo (line h s) (2 ^ 64))
+quiet h s f o some a x n z d l =
+    let p = stays h s o some a x n z d in pushed h s f o _ _ _ (ap (λ (y : ℕ). y % 2 ^ 64) p.0) p.1 (line_stays h s o l)
 
-place : (h : Params) (s : List Operation) (o : Operation) → 1 ≤ h.maximum_operations_per_instruction → is_address o ≡ false → is_fixed_add o ≡ false → set_address o ≡ None → fixed_add o ≡ 0
-    → address h (s ++ o ∷ []) % 2 ^ 64 ≡ (address h s % 2 ^ 64 + h.minimum_instruction_length * ((op_index h s + advance h o) / h.maximum_operations_per_instruction)) % 2 ^ 64
-place h s o some a x n z = rw (address-plain h s o some a x n z) (sym (wrapped (address h s) (h.minimum_instruction_length * ((op_index h s + advance h o) / h.maximum_operations_per_instruction))))
+place : (h : Params) (s : List Operation) (o : Operation) → 1 ≤ h.maximum_operations_per_instruction
+    → is_address o ≡ false → is_fixed_add o ≡ false → set_address o ≡ None → fixed_add o ≡ 0
+    → address h (s ++ o ∷ []) % 2 ^ 64
+    ≡ (address h s % 2 ^ 64
+    + h.minimum_instruction_length * ((op_index h s + advance h o) / h.maximum_operations_per_instruction)) % 2 ^ 64
+place h s o some a x n z =
+    rw (address-plain h s o some a x n z)
+    (sym (wrapped (address h s)
+    (h.minimum_instruction_length * ((op_index h s + advance h o) / h.maximum_operations_per_instruction))))
 
 abs_add : (z : ℤ) (n : ℕ) → unsigned_abs z < 2 ^ 62 → n < 256 → unsigned_abs (z +ℤ pos n) < 2 ^ 64
 abs_add (pos a) n h lt = omega arith
@@ -81,26 +116,51 @@ abs_add (negsuc a) n h lt = elim (cases_lt a n) [
   | inr le ↦ let e : negsuc a +ℤ pos n ≡ negsuc (a - n) = omega (arith, ints) in rw e (omega arith)
 ]
 
-step_lt : (h : Params) (b : ℕ) → unsigned_abs h.line_base < 2 ^ 62 → b < 256 → unsigned_abs (h.line_base +ℤ pos ((b - h.opcode_base) % h.line_range)) < 2 ^ 64
-step_lt h b good lt = let n = (b - h.opcode_base) % h.line_range in let small : n < 256 = omega (arith, div-add-mod' (b - h.opcode_base) h.line_range) in abs_add h.line_base n good small
+step_lt : (h : Params) (b : ℕ) → unsigned_abs h.line_base < 2 ^ 62 → b < 256
+    → unsigned_abs (h.line_base +ℤ pos ((b - h.opcode_base) % h.line_range)) < 2 ^ 64
+step_lt h b good lt =
+    let n = (b - h.opcode_base) % h.line_range in let small : n < 256 =
+    omega (arith, div-add-mod' (b - h.opcode_base) h.line_range) in abs_add h.line_base n good small
 
-pub registers_of-push : (h : Params) (s f : List Operation) (o : Operation) → FitsProgram h → HasRange o → registers_of h (s ++ o ∷ []) (f ++ o ∷ []) ≡ applied h (registers_of h s f) o
-registers_of-push h s f (op.Special b) good r = pushed h s f (op.Special b) _ _ _ (place h s (op.Special b) good.usable.operations refl refl refl refl) (op_index-plain h s (op.Special b) refl refl) (line_moves h s (op.Special b) (step_lt h b good.line_base r))
+pub registers_of-push : (h : Params) (s f : List Operation) (o : Operation) → FitsProgram h → HasRange o
+    → registers_of h (s ++ o ∷ []) (f ++ o ∷ []) ≡ applied h (registers_of h s f) o
+registers_of-push h s f (op.Special b) good r =
+    pushed h s f (op.Special b) _ _ _ (place h s (op.Special b) good.usable.operations refl refl refl refl)
+    (op_index-plain h s (op.Special b) refl refl) (line_moves h s (op.Special b) (step_lt h b good.line_base r))
 registers_of-push h s f op.Copy good r = quiet h s f op.Copy good.usable.operations refl refl refl refl refl refl
-registers_of-push h s f (op.AdvancePc n) good r = pushed h s f (op.AdvancePc n) _ _ _ (place h s (op.AdvancePc n) good.usable.operations refl refl refl refl) (op_index-plain h s (op.AdvancePc n) refl refl) (line_stays h s (op.AdvancePc n) refl)
-registers_of-push h s f (op.AdvanceLine i) good r = let p = stays h s (op.AdvanceLine i) good.usable.operations refl refl refl refl refl in pushed h s f (op.AdvanceLine i) _ _ _ (ap (λ (y : ℕ). y % 2 ^ 64) p.0) p.1 (line_moves h s (op.AdvanceLine i) r)
-registers_of-push h s f (op.SetFile n) good r = quiet h s f (op.SetFile n) good.usable.operations refl refl refl refl refl refl
-registers_of-push h s f (op.SetColumn n) good r = quiet h s f (op.SetColumn n) good.usable.operations refl refl refl refl refl refl
-registers_of-push h s f op.NegateStatement good r = quiet h s f op.NegateStatement good.usable.operations refl refl refl refl refl refl
-registers_of-push h s f op.SetBasicBlock good r = quiet h s f op.SetBasicBlock good.usable.operations refl refl refl refl refl refl
-registers_of-push h s f op.ConstAddPc good r = pushed h s f op.ConstAddPc _ _ _ (place h s op.ConstAddPc good.usable.operations refl refl refl refl) (op_index-plain h s op.ConstAddPc refl refl) (line_stays h s op.ConstAddPc refl)
-registers_of-push h s f (op.FixedAdvancePc n) good r = pushed h s f (op.FixedAdvancePc n) _ _ _ (rw (address-fixed h s n) (sym (wrapped (address h s) n))) (op_index-fixed h s n) (line_stays h s (op.FixedAdvancePc n) refl)
-registers_of-push h s f op.SetPrologueEnd good r = quiet h s f op.SetPrologueEnd good.usable.operations refl refl refl refl refl refl
-registers_of-push h s f op.SetEpilogueBegin good r = quiet h s f op.SetEpilogueBegin good.usable.operations refl refl refl refl refl refl
-registers_of-push h s f (op.SetIsa n) good r = quiet h s f (op.SetIsa n) good.usable.operations refl refl refl refl refl refl
-registers_of-push h s f op.EndSequence good r = quiet h s f op.EndSequence good.usable.operations refl refl refl refl refl refl
-registers_of-push h s f (op.SetAddress n) good r = pushed h s f (op.SetAddress n) _ _ _ (rw (address-set h s n) (mod-eq_of_lt r)) (op_index-set h s n) (line_stays h s (op.SetAddress n) refl)
-registers_of-push h s f (op.SetDiscriminator n) good r = quiet h s f (op.SetDiscriminator n) good.usable.operations refl refl refl refl refl refl
+registers_of-push h s f (op.AdvancePc n) good r =
+    pushed h s f (op.AdvancePc n) _ _ _ (place h s (op.AdvancePc n) good.usable.operations refl refl refl refl)
+    (op_index-plain h s (op.AdvancePc n) refl refl) (line_stays h s (op.AdvancePc n) refl)
+registers_of-push h s f (op.AdvanceLine i) good r =
+    let p = stays h s (op.AdvanceLine i) good.usable.operations refl refl refl refl refl in
+    pushed h s f (op.AdvanceLine i) _ _ _ (ap (λ (y : ℕ). y % 2 ^ 64) p.0) p.1 (line_moves h s (op.AdvanceLine i) r)
+registers_of-push h s f (op.SetFile n) good r =
+    quiet h s f (op.SetFile n) good.usable.operations refl refl refl refl refl refl
+registers_of-push h s f (op.SetColumn n) good r =
+    quiet h s f (op.SetColumn n) good.usable.operations refl refl refl refl refl refl
+registers_of-push h s f op.NegateStatement good r =
+    quiet h s f op.NegateStatement good.usable.operations refl refl refl refl refl refl
+registers_of-push h s f op.SetBasicBlock good r =
+    quiet h s f op.SetBasicBlock good.usable.operations refl refl refl refl refl refl
+registers_of-push h s f op.ConstAddPc good r =
+    pushed h s f op.ConstAddPc _ _ _ (place h s op.ConstAddPc good.usable.operations refl refl refl refl)
+    (op_index-plain h s op.ConstAddPc refl refl) (line_stays h s op.ConstAddPc refl)
+registers_of-push h s f (op.FixedAdvancePc n) good r =
+    pushed h s f (op.FixedAdvancePc n) _ _ _ (rw (address-fixed h s n) (sym (wrapped (address h s) n)))
+    (op_index-fixed h s n) (line_stays h s (op.FixedAdvancePc n) refl)
+registers_of-push h s f op.SetPrologueEnd good r =
+    quiet h s f op.SetPrologueEnd good.usable.operations refl refl refl refl refl refl
+registers_of-push h s f op.SetEpilogueBegin good r =
+    quiet h s f op.SetEpilogueBegin good.usable.operations refl refl refl refl refl refl
+registers_of-push h s f (op.SetIsa n) good r =
+    quiet h s f (op.SetIsa n) good.usable.operations refl refl refl refl refl refl
+registers_of-push h s f op.EndSequence good r =
+    quiet h s f op.EndSequence good.usable.operations refl refl refl refl refl refl
+registers_of-push h s f (op.SetAddress n) good r =
+    pushed h s f (op.SetAddress n) _ _ _ (rw (address-set h s n) (mod-eq_of_lt r)) (op_index-set h s n)
+    (line_stays h s (op.SetAddress n) refl)
+registers_of-push h s f (op.SetDiscriminator n) good r =
+    quiet h s f (op.SetDiscriminator n) good.usable.operations refl refl refl refl refl refl
 registers_of-push h s f op.Skipped good r = quiet h s f op.Skipped good.usable.operations refl refl refl refl refl refl
 
 pub starts : (h : Params) → initial (not (h.default_is_stmt == 0)) ≡ registers_of h [] []
@@ -109,7 +169,9 @@ starts h =
     let w : h.minimum_instruction_length * 0 ≡ 0 = omega arith in
     rw (steps-cons h.maximum_operations_per_instruction 0 [], z, w, zero-mod h.maximum_operations_per_instruction) refl
 
-pub settles : (h : Params) (s f : List Operation) (o : Operation) → settled h o (registers_of h (s ++ o ∷ []) (f ++ o ∷ [])) ≡ registers_of h (cond (is_end o) [] (s ++ o ∷ [])) (cond (appends_row o) [] (f ++ o ∷ []))
+pub settles : (h : Params) (s f : List Operation) (o : Operation)
+    → settled h o (registers_of h (s ++ o ∷ []) (f ++ o ∷ []))
+    ≡ registers_of h (cond (is_end o) [] (s ++ o ∷ [])) (cond (appends_row o) [] (f ++ o ∷ []))
 settles h s f (op.Special b) = refl
 settles h s f op.Copy = refl
 settles h s f (op.AdvancePc n) = refl
@@ -130,7 +192,8 @@ settles h s f op.Skipped = refl
 
 -- ---- rows
 
-pub size_cases : {P : Type 0} (n : ℕ) → is_number_size n ≡ true → (n ≡ 1 → P) → (n ≡ 2 → P) → (n ≡ 4 → P) → (n ≡ 8 → P) → P
+pub size_cases : {P : Type 0} (n : ℕ) → is_number_size n ≡ true → (n ≡ 1 → P) → (n ≡ 2 → P) → (n ≡ 4 → P) → (n ≡ 8 → P)
+    → P
 size_cases n e a b c d = elim (or_cases _ _ e) [
   | inl front ↦ elim (or_cases _ _ front) [
     | inl two ↦ elim (or_cases _ _ two) [ inl x ↦ a (eqb-true n 1 x) | inr x ↦ b (eqb-true n 2 x) ]
@@ -140,31 +203,44 @@ size_cases n e a b c d = elim (or_cases _ _ e) [
 ]
 
 cut_twice : (n x : ℕ) → is_number_size n ≡ true → x % 2 ^ 64 % 2 ^ (8 * n) ≡ x % 2 ^ (8 * n)
-cut_twice n x e = size_cases n e (λ is. rw is (omega arith)) (λ is. rw is (omega arith)) (λ is. rw is (omega arith)) (λ is. rw is (omega arith))
+cut_twice n x e =
+    size_cases n e (λ is. rw is (omega arith)) (λ is. rw is (omega arith)) (λ is. rw is (omega arith))
+    (λ is. rw is (omega arith))
 
 -- the row that the machine hands out is the row of the operations
-pub row_is : (h : Params) (front : List Operation) (o : Operation) → FitsProgram h → HasRange o → row_of h (applied h (registers_after h front) o) (is_end o) ≡ row h front o
+pub row_is : (h : Params) (front : List Operation) (o : Operation) → FitsProgram h → HasRange o
+    → row_of h (applied h (registers_after h front) o) (is_end o) ≡ row h front o
 row_is h front o good range =
     let s = after_last is_end front in
     let f = after_last appends_row front in
-    let one : applied h (registers_of h s f) o ≡ registers_of h (s ++ o ∷ []) (f ++ o ∷ []) = sym (registers_of-push h s f o good range) in
+    let one : applied h (registers_of h s f) o ≡ registers_of h (s ++ o ∷ []) (f ++ o ∷ []) =
+    sym (registers_of-push h s f o good range) in
     rw (one, cut_twice h.address_size (address h (s ++ o ∷ [])) good.usable.address_size) refl
 
 -- the registers one operation on
-pub registers_after-push : (h : Params) (os : List Operation) (o : Operation) → FitsProgram h → HasRange o → registers_after h (os ++ o ∷ []) ≡ settled h o (applied h (registers_after h os) o)
+pub registers_after-push : (h : Params) (os : List Operation) (o : Operation) → FitsProgram h → HasRange o
+    → registers_after h (os ++ o ∷ []) ≡ settled h o (applied h (registers_after h os) o)
 registers_after-push h os o good range =
     let s = after_last is_end os in
     let f = after_last appends_row os in
     rw (after_last-push is_end os o, after_last-push appends_row os o)
     (sym (settles h s f o) ∙ ap (settled h o) (registers_of-push h s f o good range))
 
-rows_after-push : (h : Params) (front os : List Operation) (o : Operation) → rows_after h front (os ++ o ∷ []) ≡ rows_after h front os ++ cond (appends_row o) (row h (front ++ os) o ∷ []) []
+rows_after-push : (h : Params) (front os : List Operation) (o : Operation)
+    → rows_after h front (os ++ o ∷ []) ≡ rows_after h front os ++ cond (appends_row o) (row h (front ++ os) o ∷ []) []
 rows_after-push h front [] o = rw append-nil refl
 rows_after-push h front (x ∷ os) o =
     let ih = rows_after-push h (front ++ x ∷ []) os o in
     let e = append_assoc front (x ∷ []) os in
-    rw (ih, e) (elim (appends_row x) as (λ b. cond b (row h front x ∷ (rows_after h (front ++ x ∷ []) os ++ cond (appends_row o) (row h (front ++ (x ∷ os)) o ∷ []) [])) (rows_after h (front ++ x ∷ []) os ++ cond (appends_row o) (row h (front ++ (x ∷ os)) o ∷ []) []) ≡ cond b (row h front x ∷ rows_after h (front ++ x ∷ []) os) (rows_after h (front ++ x ∷ []) os) ++ cond (appends_row o) (row h (front ++ (x ∷ os)) o ∷ []) []) [ true ↦ refl | false ↦ refl ])
+    rw (ih, e)
+    (elim (appends_row x) as (λ b.
+    cond b (row h front x
+    ∷ (rows_after h (front ++ x ∷ []) os ++ cond (appends_row o) (row h (front ++ (x ∷ os)) o ∷ []) []))
+    (rows_after h (front ++ x ∷ []) os ++ cond (appends_row o) (row h (front ++ (x ∷ os)) o ∷ []) [])
+    ≡ cond b (row h front x ∷ rows_after h (front ++ x ∷ []) os) (rows_after h (front ++ x ∷ []) os)
+    ++ cond (appends_row o) (row h (front ++ (x ∷ os)) o ∷ []) []) [ true ↦ refl | false ↦ refl ])
 
 -- one operation more, and its row where it appends one
-pub matrix-push : (h : Params) (os : List Operation) (o : Operation) → matrix h (os ++ o ∷ []) ≡ matrix h os ++ cond (appends_row o) (row h os o ∷ []) []
+pub matrix-push : (h : Params) (os : List Operation) (o : Operation)
+    → matrix h (os ++ o ∷ []) ≡ matrix h os ++ cond (appends_row o) (row h os o ∷ []) []
 matrix-push h os o = rows_after-push h [] os o

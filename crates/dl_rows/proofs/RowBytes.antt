@@ -1,5 +1,7 @@
 -- Which byte of some bytes of a program is the last that its first row takes.
-use Rattle.std.proofs.Common.{◌≡◌, ◌+◌, ◌-◌, ◌≤◌, ◌⊎◌, inl, inr, ℕ, suc, Bool, true, false, cond, List, [], ◌∷◌, ◌++◌, length, map, take, drop, Option, Some, None, refl, sym, ap, subst, ◌∙◌, arith, length-append, append_assoc, append-nil, length-take}
+use Rattle.std.proofs.Common.{◌≡◌, ◌+◌, ◌-◌, ◌≤◌, ◌⊎◌, inl, inr, ℕ, suc, Bool, true, false, cond, List, [], ◌∷◌, ◌++◌}
+use Rattle.std.proofs.Common.{length, map, take, drop, Option, Some, None, refl, sym, ap, subst, ◌∙◌, arith}
+use Rattle.std.proofs.Common.{length-append, append_assoc, append-nil, length-take}
 use Rattle.std.proofs.lemmas.List.{append_cancel_left, map-append, take-append-drop}
 use Rattle.std.proofs.Math.Seq.{take-append_seam}
 use Rattle.dl_num.specs.declared.fixed.Order.{Order}
@@ -23,35 +25,52 @@ use Rattle.dl_rows.proofs.UnitBodyLemmas.{events_here, decided_here, row_ends}
 -- ---- one byte more of a program
 
 -- a byte appends a row, or none
-pub byte_rows : (order : Order) (h : Params) (b : List ℕ) (x : ℕ) → (rows_in order h (b ++ x ∷ []) ≡ rows_in order h b) ⊎ ((r : Row) × (rows_in order h (b ++ x ∷ []) ≡ rows_in order h b ++ r ∷ []))
+pub byte_rows : (order : Order) (h : Params) (b : List ℕ) (x : ℕ) → (rows_in order h (b ++ x ∷ []) ≡ rows_in order h b)
+    ⊎ ((r : Row) × (rows_in order h (b ++ x ∷ []) ≡ rows_in order h b ++ r ∷ []))
 byte_rows order h b x = on (good_one (operation_spelt order h ((operations_in order h b).rest ++ x ∷ []))) refl where
   os : List Operation
   os = (operations_in order h b).found
 
   more : (o : Option Operation) → good_one (operation_spelt order h ((operations_in order h b).rest ++ x ∷ [])) ≡ o
-      → operations_in order h (b ++ x ∷ []) ≡ then_standing (operations_in order h b) (standing_on (λ w. good_one (operation_spelt order h w)) ((operations_in order h b).rest ++ x ∷ []) o [])
+      → operations_in order h (b ++ x ∷ [])
+      ≡ then_standing (operations_in order h b)
+      (standing_on (λ w. good_one (operation_spelt order h w)) ((operations_in order h b).rest ++ x ∷ []) o [])
   more o k =
       standing-append (λ w. good_one (operation_spelt order h w)) b (x ∷ [])
-      ∙ ap (λ (p : Option Operation). then_standing (operations_in order h b) (standing_on (λ w. good_one (operation_spelt order h w)) ((operations_in order h b).rest ++ x ∷ []) p [])) k
+      ∙ ap (λ (p : Option Operation). then_standing (operations_in order h b)
+      (standing_on (λ w. good_one (operation_spelt order h w)) ((operations_in order h b).rest ++ x ∷ []) p [])) k
 
-  pushed : (a : Operation) (v : Bool) → appends_row a ≡ v → rows_in order h (b ++ x ∷ []) ≡ matrix h os ++ cond (appends_row a) (row h os a ∷ []) []
-      → (rows_in order h (b ++ x ∷ []) ≡ rows_in order h b) ⊎ ((r : Row) × (rows_in order h (b ++ x ∷ []) ≡ rows_in order h b ++ r ∷ []))
+  pushed : (a : Operation) (v : Bool) → appends_row a ≡ v
+      → rows_in order h (b ++ x ∷ []) ≡ matrix h os ++ cond (appends_row a) (row h os a ∷ []) []
+      → (rows_in order h (b ++ x ∷ []) ≡ rows_in order h b)
+      ⊎ ((r : Row) × (rows_in order h (b ++ x ∷ []) ≡ rows_in order h b ++ r ∷ []))
   pushed a true e rows = inr (row h os a, rows ∙ ap (λ (v : Bool). matrix h os ++ cond v (row h os a ∷ []) []) e)
-  pushed a false e rows = inl (rows ∙ ap (λ (v : Bool). matrix h os ++ cond v (row h os a ∷ []) []) e ∙ append-nil (matrix h os))
+  pushed a false e rows =
+      inl (rows ∙ ap (λ (v : Bool). matrix h os ++ cond v (row h os a ∷ []) []) e ∙ append-nil (matrix h os))
 
-  on : (o : Option Operation) → good_one (operation_spelt order h ((operations_in order h b).rest ++ x ∷ [])) ≡ o → (rows_in order h (b ++ x ∷ []) ≡ rows_in order h b) ⊎ ((r : Row) × (rows_in order h (b ++ x ∷ []) ≡ rows_in order h b ++ r ∷ []))
-  on (Some a) k = pushed a (appends_row a) refl (ap (λ (t : Standing Operation). matrix h t.found) (more (Some a) k) ∙ matrix-push h os a)
+  on : (o : Option Operation) → good_one (operation_spelt order h ((operations_in order h b).rest ++ x ∷ [])) ≡ o
+      → (rows_in order h (b ++ x ∷ []) ≡ rows_in order h b)
+      ⊎ ((r : Row) × (rows_in order h (b ++ x ∷ []) ≡ rows_in order h b ++ r ∷ []))
+  on (Some a) k =
+      pushed a (appends_row a) refl (ap (λ (t : Standing Operation). matrix h t.found) (more (Some a) k)
+      ∙ matrix-push h os a)
   on None k = inl (ap (λ (t : Standing Operation). matrix h t.found) (more None k) ∙ ap (matrix h) (append-nil os))
 
 -- more bytes append rows
-pub rows_grow : (order : Order) (h : Params) (b v : List ℕ) → (more : List Row) × (rows_in order h (b ++ v) ≡ rows_in order h b ++ more)
+pub rows_grow : (order : Order) (h : Params) (b v : List ℕ)
+    → (more : List Row) × (rows_in order h (b ++ v) ≡ rows_in order h b ++ more)
 rows_grow order h b [] = ([], ap (rows_in order h) (append-nil b) ∙ sym (append-nil (rows_in order h b)))
 rows_grow order h b (x ∷ v) =
     let later = rows_grow order h (b ++ x ∷ []) v in
-    let whole : rows_in order h (b ++ x ∷ v) ≡ rows_in order h (b ++ x ∷ []) ++ later.0 = ap (rows_in order h) (sym (append_assoc b (x ∷ []) v)) ∙ later.1 in
+    let whole : rows_in order h (b ++ x ∷ v) ≡ rows_in order h (b ++ x ∷ []) ++ later.0 =
+    ap (rows_in order h) (sym (append_assoc b (x ∷ []) v)) ∙ later.1 in
     elim (byte_rows order h b x) [
       | inl same ↦ (later.0, whole ∙ ap (λ (rows : List Row). rows ++ later.0) same)
-      | inr (r, one) ↦ (r ∷ later.0, whole ∙ ap (λ (rows : List Row). rows ++ later.0) one ∙ append_assoc (rows_in order h b) (r ∷ []) later.0)
+      | inr (r, one) ↦ (
+        r ∷ later.0,
+        whole ∙ ap (λ (rows : List Row). rows ++ later.0) one
+            ∙ append_assoc (rows_in order h b) (r ∷ []) later.0,
+      )
     ]
 
 -- where bytes append rows, one of them is the last that the first row takes
@@ -69,12 +88,16 @@ same_head r s rows more e = cc
 some_more : (rows more : List Row) (r : Row) → rows ≡ rows ++ r ∷ more → ⊥
 some_more rows more r e = let l = ap length e in absurd (omega (arith, l, length-append rows (r ∷ more)))
 
-first_row : (order : Order) (h : Params) (p done todo : List ℕ) (r : Row) (rows : List Row) → rows_in order h (p ++ done) ≡ rows_in order h p
+first_row : (order : Order) (h : Params) (p done todo : List ℕ) (r : Row) (rows : List Row)
+    → rows_in order h (p ++ done) ≡ rows_in order h p
     → rows_in order h (p ++ (done ++ todo)) ≡ rows_in order h p ++ r ∷ rows → FirstRow order h p (done ++ todo) r
 first_row order h p done [] r rows none e =
-    absurd (some_more (rows_in order h p) rows r (sym none ∙ ap (λ (z : List ℕ). rows_in order h (p ++ z)) (sym (append-nil done)) ∙ e))
+    absurd (some_more (rows_in order h p) rows r (sym none
+    ∙ ap (λ (z : List ℕ). rows_in order h (p ++ z)) (sym (append-nil done)) ∙ e))
 first_row order h p done (x ∷ todo) r rows none e =
-    on (byte_rows order h (p ++ done) x) (λ same. first_row order h p (done ++ x ∷ []) todo r rows (ap (rows_in order h) (sym at) ∙ same ∙ none) (ap (λ (z : List ℕ). rows_in order h (p ++ z)) moved ∙ e))
+    on (byte_rows order h (p ++ done) x)
+    (λ same. first_row order h p (done ++ x ∷ []) todo r rows (ap (rows_in order h) (sym at) ∙ same
+    ∙ none) (ap (λ (z : List ℕ). rows_in order h (p ++ z)) moved ∙ e))
   where
     moved : (done ++ x ∷ []) ++ todo ≡ done ++ x ∷ todo
     moved = append_assoc done (x ∷ []) todo
@@ -82,16 +105,21 @@ first_row order h p done (x ∷ todo) r rows none e =
     at : (p ++ done) ++ x ∷ [] ≡ p ++ (done ++ x ∷ [])
     at = append_assoc p done (x ∷ [])
 
-    on : (rows_in order h ((p ++ done) ++ x ∷ []) ≡ rows_in order h (p ++ done)) ⊎ ((s : Row) × (rows_in order h ((p ++ done) ++ x ∷ []) ≡ rows_in order h (p ++ done) ++ s ∷ []))
-        → (rows_in order h ((p ++ done) ++ x ∷ []) ≡ rows_in order h (p ++ done) → FirstRow order h p ((done ++ x ∷ []) ++ todo) r) → FirstRow order h p (done ++ x ∷ todo) r
+    on : (rows_in order h ((p ++ done) ++ x ∷ []) ≡ rows_in order h (p ++ done))
+        ⊎ ((s : Row) × (rows_in order h ((p ++ done) ++ x ∷ []) ≡ rows_in order h (p ++ done) ++ s ∷ []))
+        → (rows_in order h ((p ++ done) ++ x ∷ []) ≡ rows_in order h (p ++ done)
+        → FirstRow order h p ((done ++ x ∷ []) ++ todo) r) → FirstRow order h p (done ++ x ∷ todo) r
     on (inl same) later = subst (λ (z : List ℕ). FirstRow order h p z r) moved (later same)
     on (inr (s, one)) later =
-        let here : rows_in order h (p ++ (done ++ x ∷ [])) ≡ rows_in order h p ++ s ∷ [] = ap (rows_in order h) (sym at) ∙ one ∙ ap (λ (z : List Row). z ++ s ∷ []) none in
+        let here : rows_in order h (p ++ (done ++ x ∷ [])) ≡ rows_in order h p ++ s ∷ [] =
+        ap (rows_in order h) (sym at) ∙ one ∙ ap (λ (z : List Row). z ++ s ∷ []) none in
         let grown = rows_grow order h (p ++ (done ++ x ∷ [])) todo in
         let all : rows_in order h p ++ r ∷ rows ≡ rows_in order h p ++ (s ∷ grown.0) =
-        sym e ∙ ap (λ (z : List ℕ). rows_in order h (p ++ z)) (sym moved) ∙ ap (rows_in order h) (sym (append_assoc p (done ++ x ∷ []) todo)) ∙ grown.1
+        sym e ∙ ap (λ (z : List ℕ). rows_in order h (p ++ z)) (sym moved)
+        ∙ ap (rows_in order h) (sym (append_assoc p (done ++ x ∷ []) todo)) ∙ grown.1
         ∙ ap (λ (z : List Row). z ++ grown.0) here ∙ append_assoc (rows_in order h p) (s ∷ []) grown.0 in
-        let same : r ≡ s = same_head r s rows grown.0 (append_cancel_left (rows_in order h p) (r ∷ rows) (s ∷ grown.0) all) in
+        let same : r ≡ s =
+        same_head r s rows grown.0 (append_cancel_left (rows_in order h p) (r ∷ rows) (s ∷ grown.0) all) in
         record {
           front = done;
           last = x;
@@ -119,10 +147,13 @@ data Comes (order : Order) (c : List ℕ) : Type 0 where
 
 comes : (order : Order) (c : List ℕ) → Comes order c
 comes order c = on (foreign_in order c) (header_in order c) refl refl where
-  on : (f : Option ℕ) (o : Option (HeaderData × List ℕ)) → foreign_in order c ≡ f → header_in order c ≡ o → Comes order c
+  on : (f : Option ℕ) (o : Option (HeaderData × List ℕ)) → foreign_in order c ≡ f → header_in order c ≡ o
+      → Comes order c
   on (Some v) o e k = foreign v (ap (λ (z : Option ℕ). events_of order z (header_in order c)) e)
   on None None e k = nothing (ap (λ (z : Option ℕ). events_of order z (header_in order c)) e ∙ ap (own_events order) k)
-  on None (Some parts) e k = own (map event.Row (rows_in order parts.0.params parts.1)) (ap (λ (z : Option ℕ). events_of order z (header_in order c)) e ∙ ap (own_events order) k)
+  on None (Some parts) e k =
+      own (map event.Row (rows_in order parts.0.params parts.1))
+      (ap (λ (z : Option ℕ). events_of order z (header_in order c)) e ∙ ap (own_events order) k)
 
 -- a row comes after a header alone
 no_row_first : (order : Order) (c : List ℕ) (r : Row) (es : List Event) → events order c ≡ event.Row r ∷ es → ⊥
@@ -132,21 +163,25 @@ no_row_first order c r es e = on (comes order c) where
   on (foreign v k) = (let f : event.Foreign v ∷ [] ≡ event.Row r ∷ es = sym k ∙ e in absurd cc)
   on (own fs k) = (let f : event.Header ∷ fs ≡ event.Row r ∷ es = sym k ∙ e in absurd cc)
 
-no_row_after_version : (order : Order) (c : List ℕ) (v : ℕ) (r : Row) (es : List Event) → events order c ≡ event.Foreign v ∷ event.Row r ∷ es → ⊥
+no_row_after_version : (order : Order) (c : List ℕ) (v : ℕ) (r : Row) (es : List Event)
+    → events order c ≡ event.Foreign v ∷ event.Row r ∷ es → ⊥
 no_row_after_version order c v r es e = on (comes order c) where
   on : Comes order c → ⊥
   on (nothing k) = (let f : ◌≡◌ {A = List Event} [] (event.Foreign v ∷ event.Row r ∷ es) = sym k ∙ e in absurd cc)
   on (foreign w k) = (let f : event.Foreign w ∷ [] ≡ event.Foreign v ∷ event.Row r ∷ es = sym k ∙ e in absurd cc)
   on (own fs k) = (let f : event.Header ∷ fs ≡ event.Foreign v ∷ event.Row r ∷ es = sym k ∙ e in absurd cc)
 
-has_header : (order : Order) (b c : List ℕ) (r : Row) (es : List Event) → events order c ≡ events order b ++ event.Row r ∷ es → HasHeader order b
+has_header : (order : Order) (b c : List ℕ) (r : Row) (es : List Event)
+    → events order c ≡ events order b ++ event.Row r ∷ es → HasHeader order b
 has_header order b c r es e = on (foreign_in order b) (header_in order b) refl refl where
-  on : (f : Option ℕ) (o : Option (HeaderData × List ℕ)) → foreign_in order b ≡ f → header_in order b ≡ o → HasHeader order b
+  on : (f : Option ℕ) (o : Option (HeaderData × List ℕ)) → foreign_in order b ≡ f → header_in order b ≡ o
+      → HasHeader order b
   on (Some v) o k l =
       let is : events order b ≡ event.Foreign v ∷ [] = ap (λ (z : Option ℕ). events_of order z (header_in order b)) k in
       absurd (no_row_after_version order c v r es (e ∙ ap (λ (z : List Event). z ++ event.Row r ∷ es) is))
   on None None k l =
-      let is : events order b ≡ [] = ap (λ (z : Option ℕ). events_of order z (header_in order b)) k ∙ ap (own_events order) l in
+      let is : events order b ≡ [] =
+      ap (λ (z : Option ℕ). events_of order z (header_in order b)) k ∙ ap (own_events order) l in
       absurd (no_row_first order c r es (e ∙ ap (λ (z : List Event). z ++ event.Row r ∷ es) is))
   on None (Some (h, program)) k l =
       let f = found_is_header order h b program l in
@@ -164,7 +199,8 @@ pub record RowTaken (order : Order) (b piece : List ℕ) (used : ℕ) (r : Row) 
   pub row : events order (b ++ take n piece) ≡ events order b ++ event.Row r ∷ []
   pub quiet : unit_decided order (b ++ take n piece) ≡ None
 
-rows_begin : (more : List Row) (r : Row) (es : List Event) → ◌≡◌ {A = List Event} (map event.Row more) (event.Row r ∷ es) → (rest : List Row) × (more ≡ r ∷ rest)
+rows_begin : (more : List Row) (r : Row) (es : List Event)
+    → ◌≡◌ {A = List Event} (map event.Row more) (event.Row r ∷ es) → (rest : List Row) × (more ≡ r ∷ rest)
 rows_begin [] r es e = absurd cc
 rows_begin (x ∷ more) r es e = (let same : x ≡ r = cc in (more, ap (λ (z : Row). z ∷ more) same))
 
@@ -188,41 +224,55 @@ module _ (order : Order) (b piece : List ℕ) (used : ℕ) (r : Row) (es : List 
   events_before = ap (events order) its.whole ∙ events_here order its.h its.header its.spells its.program
 
   -- rows that bytes append
-  rows_more : (v : List ℕ) (more : List Row) → rows_of v ≡ rows_before ++ more → events order (b ++ v) ≡ events order b ++ map event.Row more
+  rows_more : (v : List ℕ) (more : List Row) → rows_of v ≡ rows_before ++ more
+      → events order (b ++ v) ≡ events order b ++ map event.Row more
   rows_more v more e =
-      events_on v ∙ ap (λ (z : List Row). event.Header ∷ map event.Row z) e ∙ ap (λ (z : List Event). event.Header ∷ z) (map-append event.Row rows_before more)
+      events_on v ∙ ap (λ (z : List Row). event.Header ∷ map event.Row z) e
+      ∙ ap (λ (z : List Event). event.Header ∷ z) (map-append event.Row rows_before more)
       ∙ ap (λ (z : List Event). z ++ map event.Row more) (sym events_before)
 
   first : FirstRow order its.h.params its.program (take used piece) r
   first =
       let g = rows_grow order its.h.params its.program (take used piece) in
-      let e : events order b ++ map event.Row g.0 ≡ events order b ++ event.Row r ∷ es = sym (rows_more (take used piece) g.0 g.1) ∙ grown in
+      let e : events order b ++ map event.Row g.0 ≡ events order b ++ event.Row r ∷ es =
+      sym (rows_more (take used piece) g.0 g.1) ∙ grown in
       let begins = rows_begin g.0 r es (append_cancel_left (events order b) (map event.Row g.0) (event.Row r ∷ es) e) in
       first_row order its.h.params its.program [] (take used piece) r begins.0
-      (ap (rows_in order its.h.params) (append-nil its.program)) (g.1 ∙ ap (λ (z : List Row). rows_before ++ z) begins.1)
+      (ap (rows_in order its.h.params) (append-nil its.program)) (g.1
+      ∙ ap (λ (z : List Row). rows_before ++ z) begins.1)
 
   piece_is : piece ≡ first.front ++ (first.last ∷ first.back ++ drop used piece)
-  piece_is = sym (take-append-drop used piece) ∙ ap (λ (z : List ℕ). z ++ drop used piece) first.whole ∙ append_assoc first.front (first.last ∷ first.back) (drop used piece)
+  piece_is =
+      sym (take-append-drop used piece) ∙ ap (λ (z : List ℕ). z ++ drop used piece) first.whole
+      ∙ append_assoc first.front (first.last ∷ first.back) (drop used piece)
 
   front_is : take (length first.front) piece ≡ first.front
-  front_is = ap (take (length first.front)) piece_is ∙ take-append_seam first.front (first.last ∷ first.back ++ drop used piece)
+  front_is =
+      ap (take (length first.front)) piece_is
+      ∙ take-append_seam first.front (first.last ∷ first.back ++ drop used piece)
 
   row_is : take (suc (length first.front)) piece ≡ first.front ++ first.last ∷ []
   row_is =
-      let size : suc (length first.front) ≡ length (first.front ++ first.last ∷ []) = omega (arith, length-append first.front (first.last ∷ [])) in
+      let size : suc (length first.front) ≡ length (first.front ++ first.last ∷ []) =
+      omega (arith, length-append first.front (first.last ∷ [])) in
       ap (λ (k : ℕ). take k piece) size
-      ∙ ap (take (length (first.front ++ first.last ∷ []))) (piece_is ∙ sym (append_assoc first.front (first.last ∷ []) (first.back ++ drop used piece)))
+      ∙ ap (take (length (first.front ++ first.last ∷ []))) (piece_is
+      ∙ sym (append_assoc first.front (first.last ∷ []) (first.back ++ drop used piece)))
       ∙ take-append_seam (first.front ++ first.last ∷ []) (first.back ++ drop used piece)
 
   pub row_taken : RowTaken order b piece used r
   row_taken =
-      let whole : (its.program ++ first.front) ++ first.last ∷ [] ≡ its.program ++ (first.front ++ first.last ∷ []) = append_assoc its.program first.front (first.last ∷ []) in
-      let grows : rows_in order its.h.params ((its.program ++ first.front) ++ first.last ∷ []) ≡ rows_of first.front ++ r ∷ [] =
+      let whole : (its.program ++ first.front) ++ first.last ∷ [] ≡ its.program ++ (first.front ++ first.last ∷ []) =
+      append_assoc its.program first.front (first.last ∷ []) in
+      let grows : rows_in order its.h.params ((its.program ++ first.front) ++ first.last ∷ []) ≡ rows_of first.front
+      ++ r ∷ [] =
       ap (rows_in order its.h.params) whole ∙ first.row ∙ ap (λ (z : List Row). z ++ r ∷ []) (sym first.before) in
       let ends = row_ends order its.h.params (its.program ++ first.front) first.last r grows in
       let none : unit_decided order (its.header ++ (its.program ++ (first.front ++ first.last ∷ []))) ≡ None =
       decided_here order its.h its.header its.spells (its.program ++ (first.front ++ first.last ∷ []))
-      ∙ ap (λ (w : List ℕ). operation_decided order its.h.params w (length (its.header ++ (its.program ++ (first.front ++ first.last ∷ [])))) (unit_len order (its.header ++ (its.program ++ (first.front ++ first.last ∷ [])))))
+      ∙ ap (λ (w : List ℕ). operation_decided order its.h.params w
+      (length (its.header ++ (its.program ++ (first.front ++ first.last ∷ []))))
+      (unit_len order (its.header ++ (its.program ++ (first.front ++ first.last ∷ [])))))
       (ap (λ (z : List ℕ). (operations_in order its.h.params z).rest) (sym whole) ∙ ends) in
       let size = ap length first.whole in
       let one : suc (length first.front) - 1 ≡ length first.front = omega arith in
@@ -234,7 +284,8 @@ module _ (order : Order) (b piece : List ℕ) (used : ℕ) (r : Row) (es : List 
         before =
             ap (λ (k : ℕ). events order (b ++ take k piece)) one ∙ ap (λ (z : List ℕ). events order (b ++ z)) front_is
             ∙ rows_more first.front [] (first.before ∙ sym (append-nil rows_before)) ∙ append-nil (events order b);
-        row = ap (λ (z : List ℕ). events order (b ++ z)) row_is ∙ rows_more (first.front ++ first.last ∷ []) (r ∷ []) first.row;
+        row = ap (λ (z : List ℕ). events order (b ++ z)) row_is
+            ∙ rows_more (first.front ++ first.last ∷ []) (r ∷ []) first.row;
         quiet =
             ap (λ (z : List ℕ). unit_decided order (b ++ z)) row_is
             ∙ ap (λ (z : List ℕ). unit_decided order (z ++ (first.front ++ first.last ∷ []))) its.whole

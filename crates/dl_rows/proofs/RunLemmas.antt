@@ -1,5 +1,7 @@
 -- Bytes of a unit offered in turns.
-use Rattle.std.proofs.Common.{◌≡◌, ◌+◌, ◌<◌, ◌≤◌, ◌⊎◌, inl, inr, ℕ, Bool, true, false, cond, List, [], ◌∷◌, ◌++◌, length, min, take, drop, slice_get, Some, Result, Ok, Err, refl, sym, ap, subst, ◌∙◌, arith, length-append, append_assoc, append-nil, length-take, length-drop}
+use Rattle.std.proofs.Common.{◌≡◌, ◌+◌, ◌<◌, ◌≤◌, ◌⊎◌, inl, inr, ℕ, Bool, true, false, cond, List, [], ◌∷◌, ◌++◌}
+use Rattle.std.proofs.Common.{length, min, take, drop, slice_get, Some, Result, Ok, Err, refl, sym, ap, subst, ◌∙◌}
+use Rattle.std.proofs.Common.{arith, length-append, append_assoc, append-nil, length-take, length-drop}
 use Rattle.std.proofs.lemmas.Bool.{cases_eq}
 use Rattle.std.proofs.lemmas.List.{take-take, take-append-drop, length-take-le}
 use Rattle.std.proofs.lemmas.List.Sums.{sum_by-cons}
@@ -9,14 +11,16 @@ use Rattle.dl_head.specs.Header.{unit_len}
 use Rattle.dl_head.specs.Turns.{Answer, used_in, last_given, IsTrace, some_turns}
 use Rattle.dl_field.proofs.FieldLemmas.{none_some}
 use Rattle.dl_head.proofs.FrontLemmas.{fronts}
-use Rattle.dl_head.proofs.TurnLemmas.{joined, used_cons, goes_first, trace_rest, LastTurn, last_turn, Moves, moves_first}
+use Rattle.dl_head.proofs.TurnLemmas.{joined, used_cons, goes_first, trace_rest, LastTurn, last_turn, Moves}
+use Rattle.dl_head.proofs.TurnLemmas.{moves_first}
 use Rattle.dl_rows.specs.declared.reader.Event.{Event}
 use Rattle.dl_rows.specs.declared.reader.Event.TheVariants as event
 use Rattle.dl_rows.specs.declared.reader.run.Run.{Run}
 use Rattle.dl_rows.specs.LineUnit.{IsUnit, events}
 use Rattle.dl_rows.specs.Reading.{WithinUnit, told, EventHolds}
 use Rattle.dl_rows.specs.Refusal.{Refused}
-use Rattle.dl_rows.specs.Runs.{MayGive, May, is_end, goes_on, is_refusal, refusals, told_by, heard_in, outcome, Took, Sound, Runs, RunIs, TookUnit, UnitRuns, UnitRunIs, TraceRuns, TraceOfUnit}
+use Rattle.dl_rows.specs.Runs.{MayGive, May, is_end, goes_on, is_refusal, refusals, told_by, heard_in, outcome, Took}
+use Rattle.dl_rows.specs.Runs.{Sound, Runs, RunIs, TookUnit, UnitRuns, UnitRunIs, TraceRuns, TraceOfUnit}
 use Rattle.dl_rows.proofs.UnitLemmas.{unit_len_on}
 use Rattle.dl_rows.proofs.UnitLengths.{length_of_unit, nothing_left, no_unit_begins_another}
 use Rattle.dl_rows.proofs.UnitQuiet.{unit_is_not_refused}
@@ -27,9 +31,12 @@ Given = Answer (Result Event Fault)
 -- ---- what was taken
 
 -- the bytes of a turn
-pub turned : (b bytes : List ℕ) (taken n used : ℕ) → used ≤ length (take n (drop taken bytes)) → (b ++ take taken bytes) ++ take used (take n (drop taken bytes)) ≡ b ++ take (taken + used) bytes
+pub turned : (b bytes : List ℕ) (taken n used : ℕ) → used ≤ length (take n (drop taken bytes))
+    → (b ++ take taken bytes) ++ take used (take n (drop taken bytes)) ≡ b ++ take (taken + used) bytes
 turned b bytes taken n used le =
-    ap (λ (l : List ℕ). (b ++ take taken bytes) ++ l) (take-take used n (drop taken bytes) (omega (arith, le, length-take n (drop taken bytes)))) ∙ joined b bytes taken used
+    ap (λ (l : List ℕ). (b ++ take taken bytes) ++ l)
+    (take-take used n (drop taken bytes) (omega (arith, le, length-take n (drop taken bytes))))
+    ∙ joined b bytes taken used
 
 took_none : (order : Order) (b bytes : List ℕ) → WithinUnit order b → Took order b bytes 0 []
 took_none order b bytes in_unit = record {
@@ -39,61 +46,85 @@ took_none order b bytes in_unit = record {
 }
 
 -- the first turn
-took_first : (order : Order) (b bytes : List ℕ) (n used : ℕ) (gave : Result Event Fault) → MayGive order b (take n bytes) used gave → Took order b bytes used (told_by gave)
+took_first : (order : Order) (b bytes : List ℕ) (n used : ℕ) (gave : Result Event Fault)
+    → MayGive order b (take n bytes) used gave → Took order b bytes used (told_by gave)
 took_first order b bytes n used gave may = on gave may where
-  of_piece : (heard : List Event) → used ≤ length (take n bytes) → WithinUnit order (b ++ take used (take n bytes)) → events order (b ++ take used (take n bytes)) ≡ events order b ++ heard → Took order b bytes used heard
+  of_piece : (heard : List Event) → used ≤ length (take n bytes) → WithinUnit order (b ++ take used (take n bytes))
+      → events order (b ++ take used (take n bytes)) ≡ events order b ++ heard → Took order b bytes used heard
   of_piece heard le in_unit grows =
-      let same : b ++ take used (take n bytes) ≡ b ++ take used bytes = ap (λ (l : List ℕ). b ++ l) (take-take used n bytes (omega (arith, le, length-take n bytes))) in
-      record { within = omega (arith, le, length-take n bytes); in_unit = subst (WithinUnit order) same in_unit; grows = ap (λ (l : List ℕ). events order l) (sym same) ∙ grows }
+      let same : b ++ take used (take n bytes) ≡ b ++ take used bytes =
+      ap (λ (l : List ℕ). b ++ l) (take-take used n bytes (omega (arith, le, length-take n bytes))) in
+      record {
+        within = omega (arith, le, length-take n bytes);
+        in_unit = subst (WithinUnit order) same in_unit;
+        grows =
+            ap (λ (l : List ℕ). events order l) (sym same) ∙ grows;
+      }
 
   on : (gave : Result Event Fault) → MayGive order b (take n bytes) used gave → Took order b bytes used (told_by gave)
   on (Ok event) may = of_piece (told event) may.within may.in_unit may.grows
   on (Err fault) may = of_piece [] may.within may.in_unit (may.no_event ∙ sym (append-nil (events order b)))
 
 -- k bytes, and then more
-took_behind : (order : Order) (b bytes : List ℕ) (k used : ℕ) (first heard : List Event) → Took order b bytes k first → Took order (b ++ take k bytes) (drop k bytes) used heard
+took_behind : (order : Order) (b bytes : List ℕ) (k used : ℕ) (first heard : List Event) → Took order b bytes k first
+    → Took order (b ++ take k bytes) (drop k bytes) used heard
     → Took order b bytes (k + used) (first ++ heard)
 took_behind order b bytes k used first heard t o = record {
   within = omega (arith, t.within, o.within, length-drop k bytes);
   in_unit = subst (WithinUnit order) (joined b bytes k used) o.in_unit;
-  grows = ap (λ (l : List ℕ). events order l) (sym (joined b bytes k used)) ∙ o.grows ∙ ap (λ (l : List Event). l ++ heard) t.grows ∙ append_assoc (events order b) first heard;
+  grows = ap (λ (l : List ℕ). events order l) (sym (joined b bytes k used)) ∙ o.grows
+      ∙ ap (λ (l : List Event). l ++ heard) t.grows ∙ append_assoc (events order b) first heard;
 }
 
-trace_took : (order : Order) (b bytes turns : List ℕ) (answers : List Given) → WithinUnit order b → IsTrace (May order) goes_on b bytes turns answers → Took order b bytes (used_in answers) (heard_in answers)
+trace_took : (order : Order) (b bytes turns : List ℕ) (answers : List Given) → WithinUnit order b
+    → IsTrace (May order) goes_on b bytes turns answers → Took order b bytes (used_in answers) (heard_in answers)
 trace_took order b bytes turns [] in_unit t = took_none order b bytes in_unit
 trace_took order b bytes turns (a ∷ answers) in_unit t =
     let r = trace_rest (May order) goes_on b bytes turns a answers t in
     let first = took_first order b bytes r.0 a.used a.gave r.2 in
     subst (λ (k : ℕ). Took order b bytes k (heard_in (a ∷ answers))) (sym (used_cons a answers))
-    (took_behind order b bytes a.used (used_in answers) (told_by a.gave) (heard_in answers) first (trace_took order (b ++ take a.used bytes) (drop a.used bytes) r.1 answers first.in_unit r.3))
+    (took_behind order b bytes a.used (used_in answers) (told_by a.gave) (heard_in answers) first
+    (trace_took order (b ++ take a.used bytes) (drop a.used bytes) r.1 answers first.in_unit r.3))
 
 -- ---- what the last answer says
 
-module _ (order : Order) (b bytes turns : List ℕ) (first : Result Event Fault) (a : Given) (answers : List Given) (t : IsTrace (May order) goes_on b bytes turns (a ∷ answers)) where
+module _ (order : Order) (b bytes turns : List ℕ) (first : Result Event Fault) (a : Given) (answers : List Given)
+    (t : IsTrace (May order) goes_on b bytes turns (a ∷ answers)) where
   last : LastTurn (May order) goes_on b bytes (a ∷ answers) first
   last = last_turn (May order) goes_on b bytes turns a answers first t
 
   -- the last turn gave this
-  given : (gave : Result Event Fault) → last_given first (a ∷ answers) ≡ gave → MayGive order (b ++ take last.behind bytes) (take last.n (drop last.behind bytes)) last.answer.used gave
-  given gave is = subst (λ (g : Result Event Fault). MayGive order (b ++ take last.behind bytes) (take last.n (drop last.behind bytes)) last.answer.used g) (sym last.is_last ∙ is) last.may
+  given : (gave : Result Event Fault) → last_given first (a ∷ answers) ≡ gave
+      → MayGive order (b ++ take last.behind bytes) (take last.n (drop last.behind bytes)) last.answer.used gave
+  given gave is =
+      subst (λ (g : Result Event Fault). MayGive order (b ++ take last.behind bytes)
+      (take last.n (drop last.behind bytes)) last.answer.used g) (sym last.is_last ∙ is) last.may
 
   -- all that was taken
-  all : last.answer.used ≤ length (take last.n (drop last.behind bytes)) → (b ++ take last.behind bytes) ++ take last.answer.used (take last.n (drop last.behind bytes)) ≡ b ++ take (used_in (a ∷ answers)) bytes
+  all : last.answer.used ≤ length (take last.n (drop last.behind bytes))
+      → (b ++ take last.behind bytes) ++ take last.answer.used (take last.n (drop last.behind bytes))
+      ≡ b ++ take (used_in (a ∷ answers)) bytes
   all le = turned b bytes last.behind last.n last.answer.used le ∙ ap (λ (k : ℕ). b ++ take k bytes) (sym last.total)
 
-  pub last_sound : (event : Event) → last_given first (a ∷ answers) ≡ Ok event → Sound order (b ++ take (used_in (a ∷ answers)) bytes)
+  pub last_sound : (event : Event) → last_given first (a ∷ answers) ≡ Ok event
+      → Sound order (b ++ take (used_in (a ∷ answers)) bytes)
   last_sound event is = (let g = given (Ok event) is in subst (λ (l : List ℕ). Sound order l) (all g.within) g.sound)
 
-  pub last_whole : last_given first (a ∷ answers) ≡ Ok event.End → IsUnit order (b ++ take (used_in (a ∷ answers)) bytes)
+  pub last_whole : last_given first (a ∷ answers) ≡ Ok event.End
+      → IsUnit order (b ++ take (used_in (a ∷ answers)) bytes)
   last_whole is = (let g = given (Ok event.End) is in subst (λ (l : List ℕ). IsUnit order l) (all g.within) g.holds.0)
 
-  pub last_refused : (fault : Fault) → last_given first (a ∷ answers) ≡ Err fault → Refused order (b ++ take (used_in (a ∷ answers)) bytes) fault.offset fault.kind
-  last_refused fault is = (let g = given (Err fault) is in subst (λ (l : List ℕ). Refused order l fault.offset fault.kind) (all g.within) g.refused)
+  pub last_refused : (fault : Fault) → last_given first (a ∷ answers) ≡ Err fault
+      → Refused order (b ++ take (used_in (a ∷ answers)) bytes) fault.offset fault.kind
+  last_refused fault is =
+      (let g = given (Err fault) is in
+      subst (λ (l : List ℕ). Refused order l fault.offset fault.kind) (all g.within) g.refused)
 
 -- ---- how far turns go
 
 -- what an answer that others follow used
-advances : (order : Order) (d piece : List ℕ) (used : ℕ) (e : Event) → goes_on (Ok e) ≡ true → EventHolds order d piece used e → (used ≡ length piece) ⊎ (1 ≤ used + cond (is_refusal (Ok e)) 1 0)
+advances : (order : Order) (d piece : List ℕ) (used : ℕ) (e : Event) → goes_on (Ok e) ≡ true
+    → EventHolds order d piece used e → (used ≡ length piece) ⊎ (1 ≤ used + cond (is_refusal (Ok e)) 1 0)
 advances order d piece used event.More goes holds = inl holds.0
 advances order d piece used event.End goes holds = absurd cc
 advances order d piece used event.NoMemory goes holds = inr (omega arith)
@@ -102,7 +133,8 @@ advances order d piece used (event.Foreign version) goes holds = inr (omega (ari
 advances order d piece used (event.Row row) goes holds = inr (omega (arith, holds.0))
 
 -- a turn that leaves a unit whole, and doesn't tell its end, offered a byte
-unit_advances : (order : Order) (d piece : List ℕ) (used : ℕ) (e : Event) → goes_on (Ok e) ≡ true → EventHolds order d piece used e → IsUnit order (d ++ take used piece) → used ≤ length piece → 1 ≤ length piece
+unit_advances : (order : Order) (d piece : List ℕ) (used : ℕ) (e : Event) → goes_on (Ok e) ≡ true
+    → EventHolds order d piece used e → IsUnit order (d ++ take used piece) → used ≤ length piece → 1 ≤ length piece
 unit_advances order d piece used event.More goes holds unit le = (let some = holds.1 unit in omega (arith, some, le))
 unit_advances order d piece used event.End goes holds unit le = absurd cc
 unit_advances order d piece used event.NoMemory goes holds unit le = some_piece piece holds.1 where
@@ -115,21 +147,27 @@ unit_advances order d piece used (event.Row row) goes holds unit le = omega (ari
 
 -- how a turn that others follow advances
 module _ (order : Order) (b bytes : List ℕ) (n used : ℕ) where
-  pub first_advances : (gave : Result Event Fault) → goes_on gave ≡ true → MayGive order b (take n bytes) used gave → (used ≡ length (take n bytes)) ⊎ (1 ≤ used + cond (is_refusal gave) 1 0)
+  pub first_advances : (gave : Result Event Fault) → goes_on gave ≡ true → MayGive order b (take n bytes) used gave
+      → (used ≡ length (take n bytes)) ⊎ (1 ≤ used + cond (is_refusal gave) 1 0)
   first_advances (Ok e) goes may = advances order b (take n bytes) used e goes may.holds
   first_advances (Err fault) goes may = absurd cc
 
   -- it offered a byte, where the bytes are a unit after it
-  pub first_offers : (gave : Result Event Fault) → goes_on gave ≡ true → MayGive order b (take n bytes) used gave → IsUnit order (b ++ take used bytes) → 1 ≤ length (take n bytes)
+  pub first_offers : (gave : Result Event Fault) → goes_on gave ≡ true → MayGive order b (take n bytes) used gave
+      → IsUnit order (b ++ take used bytes) → 1 ≤ length (take n bytes)
   first_offers (Ok e) goes may unit =
-      let same : take used (take n bytes) ≡ take used bytes = take-take used n bytes (omega (arith, may.within, length-take n bytes)) in
-      unit_advances order b (take n bytes) used e goes may.holds (subst (λ (l : List ℕ). IsUnit order (b ++ l)) (sym same) unit) may.within
+      let same : take used (take n bytes) ≡ take used bytes =
+      take-take used n bytes (omega (arith, may.within, length-take n bytes)) in
+      unit_advances order b (take n bytes) used e goes may.holds
+      (subst (λ (l : List ℕ). IsUnit order (b ++ l)) (sym same) unit) may.within
   first_offers (Err fault) goes may unit = absurd cc
 
-refusals_cons : (a : Given) (answers : List Given) → refusals (a ∷ answers) ≡ cond (is_refusal a.gave) 1 0 + refusals answers
+refusals_cons : (a : Given) (answers : List Given)
+    → refusals (a ∷ answers) ≡ cond (is_refusal a.gave) 1 0 + refusals answers
 refusals_cons a answers = sum_by-cons (λ (c : Given). cond (is_refusal c.gave) 1 0) a answers
 
-trace_moves : (order : Order) (b bytes turns : List ℕ) (answers : List Given) (first : Result Event Fault) → WithinUnit order b → IsTrace (May order) goes_on b bytes turns answers
+trace_moves : (order : Order) (b bytes turns : List ℕ) (answers : List Given) (first : Result Event Fault)
+    → WithinUnit order b → IsTrace (May order) goes_on b bytes turns answers
     → goes_on (last_given first answers) ≡ true → Moves bytes turns (used_in answers) (refusals answers)
 trace_moves order b bytes [] answers first in_unit t goes = inr (omega arith)
 trace_moves order b bytes (n ∷ turns) [] first in_unit t goes = absurd t
@@ -139,7 +177,8 @@ trace_moves order b bytes (n ∷ turns) (a ∷ answers) first in_unit t goes =
     let later = trace_took order (b ++ take a.used bytes) (drop a.used bytes) turns answers here.in_unit (t.2 is) in
     subst (λ (k : ℕ). Moves bytes (n ∷ turns) k (refusals (a ∷ answers))) (sym (used_cons a answers))
     (subst (λ (k : ℕ). Moves bytes (n ∷ turns) (a.used + used_in answers) k) (sym (refusals_cons a answers))
-    (moves_first bytes turns n a.used (cond (is_refusal a.gave) 1 0) (used_in answers) (refusals answers) (used_of a.gave t.0) (first_advances order b bytes n a.used a.gave is t.0) later.within
+    (moves_first bytes turns n a.used (cond (is_refusal a.gave) 1 0) (used_in answers) (refusals answers)
+    (used_of a.gave t.0) (first_advances order b bytes n a.used a.gave is t.0) later.within
     (trace_moves order (b ++ take a.used bytes) (drop a.used bytes) turns answers a.gave here.in_unit (t.2 is) goes)))
   where
     used_of : (gave : Result Event Fault) → MayGive order b (take n bytes) a.used gave → a.used ≤ length (take n bytes)
@@ -147,13 +186,17 @@ trace_moves order b bytes (n ∷ turns) (a ∷ answers) first in_unit t goes =
     used_of (Err fault) may = may.within
 
 -- the first of turns over bytes that are a unit when all of them are answered
-module _ (order : Order) (b bytes turns : List ℕ) (n : ℕ) (a : Given) (answers : List Given) (in_unit : WithinUnit order b) (may : May order b (take n bytes) a) (is : goes_on a.gave ≡ true)
-    (t : IsTrace (May order) goes_on (b ++ take a.used bytes) (drop a.used bytes) turns answers) (unit : IsUnit order (b ++ take (used_in (a ∷ answers)) bytes)) where
+module _ (order : Order) (b bytes turns : List ℕ) (n : ℕ) (a : Given) (answers : List Given)
+    (in_unit : WithinUnit order b) (may : May order b (take n bytes) a) (is : goes_on a.gave ≡ true)
+    (t : IsTrace (May order) goes_on (b ++ take a.used bytes) (drop a.used bytes) turns answers)
+    (unit : IsUnit order (b ++ take (used_in (a ∷ answers)) bytes)) where
   first_took : Took order b bytes a.used (told_by a.gave)
   first_took = took_first order b bytes n a.used a.gave may
 
   pub unit_behind : IsUnit order ((b ++ take a.used bytes) ++ take (used_in answers) (drop a.used bytes))
-  unit_behind = subst (λ (l : List ℕ). IsUnit order l) (ap (λ (k : ℕ). b ++ take k bytes) (used_cons a answers) ∙ sym (joined b bytes a.used (used_in answers))) unit
+  unit_behind =
+      subst (λ (l : List ℕ). IsUnit order l) (ap (λ (k : ℕ). b ++ take k bytes) (used_cons a answers)
+      ∙ sym (joined b bytes a.used (used_in answers))) unit
 
   -- no bytes are left where it used none
   pub advanced : min n 1 ≤ a.used + cond (is_refusal a.gave) 1 0
@@ -164,31 +207,47 @@ module _ (order : Order) (b bytes turns : List ℕ) (n : ℕ) (a : Given) (answe
       | inl none ↦ elim (cases_eq (length bytes) 0) [
         | inr bytes_left ↦ omega (arith, all, none, bytes_left, length-take n bytes)
         | inl no_bytes ↦
-            let later = trace_took order (b ++ take a.used bytes) (drop a.used bytes) turns answers first_took.in_unit t in
+            let later =
+            trace_took order (b ++ take a.used bytes) (drop a.used bytes) turns answers first_took.in_unit t in
             let nothing : used_in answers ≡ 0 = omega (arith, later.within, length-drop a.used bytes, no_bytes) in
             let same : (b ++ take a.used bytes) ++ take (used_in answers) (drop a.used bytes) ≡ b ++ take a.used bytes =
-            ap (λ (k : ℕ). (b ++ take a.used bytes) ++ take k (drop a.used bytes)) nothing ∙ append-nil (b ++ take a.used bytes) in
-            let offered = first_offers order b bytes n a.used a.gave is may (subst (λ (l : List ℕ). IsUnit order l) same unit_behind) in
+            ap (λ (k : ℕ). (b ++ take a.used bytes) ++ take k (drop a.used bytes)) nothing
+            ∙ append-nil (b ++ take a.used bytes) in
+            let offered =
+            first_offers order b bytes n a.used a.gave is may
+            (subst (λ (l : List ℕ). IsUnit order l) same unit_behind) in
             absurd (omega (arith, all, none, offered))
       ]
     ]
   ]
 
 -- each turn that offered anything took a byte or was refused memory, where the unit is whole and its end isn't told
-trace_moves_in : (order : Order) (b bytes turns : List ℕ) (answers : List Given) (first : Result Event Fault) → WithinUnit order b → IsTrace (May order) goes_on b bytes turns answers
-    → goes_on (last_given first answers) ≡ true → IsUnit order (b ++ take (used_in answers) bytes) → some_turns turns ≤ used_in answers + refusals answers
+trace_moves_in : (order : Order) (b bytes turns : List ℕ) (answers : List Given) (first : Result Event Fault)
+    → WithinUnit order b → IsTrace (May order) goes_on b bytes turns answers
+    → goes_on (last_given first answers) ≡ true → IsUnit order (b ++ take (used_in answers) bytes)
+    → some_turns turns ≤ used_in answers + refusals answers
 trace_moves_in order b bytes [] answers first in_unit t goes unit = omega arith
 trace_moves_in order b bytes (n ∷ turns) [] first in_unit t goes unit = absurd t
 trace_moves_in order b bytes (n ∷ turns) (a ∷ answers) first in_unit t goes unit =
     let is = goes_first goes_on a answers t.1 goes in
     let here = took_first order b bytes n a.used a.gave t.0 in
-    let behind = trace_moves_in order (b ++ take a.used bytes) (drop a.used bytes) turns answers a.gave here.in_unit (t.2 is) goes (unit_behind order b bytes turns n a answers in_unit t.0 is (t.2 is) unit) in
-    omega (arith, used_cons a answers, refusals_cons a answers, sum_by-cons (λ k. min k 1) n turns, advanced order b bytes turns n a answers in_unit t.0 is (t.2 is) unit, behind)
+    let behind =
+    trace_moves_in order (b ++ take a.used bytes) (drop a.used bytes) turns answers a.gave here.in_unit
+    (t.2 is) goes (unit_behind order b bytes turns n a answers in_unit t.0 is (t.2 is) unit) in
+    omega (
+      arith,
+      used_cons a answers,
+      refusals_cons a answers,
+      sum_by-cons (λ k. min k 1) n turns,
+      advanced order b bytes turns n a answers in_unit t.0 is (t.2 is) unit,
+      behind,
+    )
 
 -- ---- what a trace comes to
 
 -- neither End nor want of memory
-pub other_event : (e : Event) → (e ≡ event.End → ⊥) → (e ≡ event.NoMemory → ⊥) → (goes_on (Ok e) ≡ true) × (is_refusal (Ok e) ≡ false)
+pub other_event : (e : Event) → (e ≡ event.End → ⊥) → (e ≡ event.NoMemory → ⊥)
+    → (goes_on (Ok e) ≡ true) × (is_refusal (Ok e) ≡ false)
 other_event event.More goes fed = (refl, refl)
 other_event event.End goes fed = absurd (goes refl)
 other_event event.NoMemory goes fed = absurd (fed refl)
@@ -213,7 +272,8 @@ end_event (event.Foreign version) ends = absurd cc
 end_event (event.Row row) ends = absurd cc
 
 module _ (order : Order) (b bytes turns : List ℕ) where
-  runs_to : (answers : List Given) (gave : Result Event Fault) → WithinUnit order b → IsTrace (May order) goes_on b bytes turns answers → last_given (Ok event.More) answers ≡ gave
+  runs_to : (answers : List Given) (gave : Result Event Fault) → WithinUnit order b
+      → IsTrace (May order) goes_on b bytes turns answers → last_given (Ok event.More) answers ≡ gave
       → RunIs order b bytes turns (heard_in answers) (outcome answers gave)
   runs_to [] (Ok e) in_unit t is = record {
     took = took_none order b bytes in_unit;
@@ -236,8 +296,10 @@ module _ (order : Order) (b bytes turns : List ℕ) where
   runs_to (a ∷ answers) (Ok e) in_unit t is = record {
     took = trace_took order b bytes turns (a ∷ answers) in_unit t;
     sound = λ some. last_sound order b bytes turns (Ok event.More) a answers t e is;
-    whole = λ ends. last_whole order b bytes turns (Ok event.More) a answers t (is ∙ ap (λ (e : Event). Ok e) (end_event e ends));
-    moved = λ goes. trace_moves order b bytes turns (a ∷ answers) (Ok event.More) in_unit t (ap goes_on is ∙ going_event e goes);
+    whole = λ ends. last_whole order b bytes turns (Ok event.More) a answers t (is
+        ∙ ap (λ (e : Event). Ok e) (end_event e ends));
+    moved = λ goes. trace_moves order b bytes turns (a ∷ answers) (Ok event.More) in_unit t (ap goes_on is
+        ∙ going_event e goes);
   }
   runs_to (a ∷ answers) (Err fault) in_unit t is = (
     used_in (a ∷ answers),
@@ -246,43 +308,63 @@ module _ (order : Order) (b bytes turns : List ℕ) where
   )
 
 pub trace_runs : TraceRuns
-trace_runs order b bytes turns answers in_unit t = runs_to order b bytes turns answers (last_given (Ok event.More) answers) in_unit t refl
+trace_runs order b bytes turns answers in_unit t =
+    runs_to order b bytes turns answers (last_given (Ok event.More) answers) in_unit t refl
 
 -- ---- a unit in turns
 
 -- of a unit and any bytes after it, what is taken is a front of the unit
-unit_front : (order : Order) (c u more rest : List ℕ) → c ++ more ≡ u ++ rest → IsUnit order u → WithinUnit order c → (v : List ℕ) × (u ≡ c ++ v)
+unit_front : (order : Order) (c u more rest : List ℕ) → c ++ more ≡ u ++ rest → IsUnit order u → WithinUnit order c
+    → (v : List ℕ) × (u ≡ c ++ v)
 unit_front order c u more rest e unit within = elim (fronts c u more rest e) [
   | inl same ↦ ([], sym same ∙ sym (append-nil c))
   | inr (inl goes) ↦ (goes.0 ∷ goes.1, goes.2)
   | inr (inr goes) ↦
-      let len = ap (λ (w : List ℕ). unit_len order w) goes.2 ∙ unit_len_on order u (goes.0 ∷ goes.1) (length u) (length_of_unit order u unit) in
+      let len =
+      ap (λ (w : List ℕ). unit_len order w) goes.2
+      ∙ unit_len_on order u (goes.0 ∷ goes.1) (length u) (length_of_unit order u unit) in
       let le = within (length u) len in
       absurd (omega (arith, le, ap length goes.2, length-append u (goes.0 ∷ goes.1)))
 ]
 
 -- the same of b and the first bytes that were offered
-taken_front : (order : Order) (b bytes u rest : List ℕ) (taken : ℕ) → b ++ bytes ≡ u ++ rest → IsUnit order u → WithinUnit order (b ++ take taken bytes) → (v : List ℕ) × (u ≡ (b ++ take taken bytes) ++ v)
+taken_front : (order : Order) (b bytes u rest : List ℕ) (taken : ℕ) → b ++ bytes ≡ u ++ rest → IsUnit order u
+    → WithinUnit order (b ++ take taken bytes) → (v : List ℕ) × (u ≡ (b ++ take taken bytes) ++ v)
 taken_front order b bytes u rest taken e unit within =
     unit_front order (b ++ take taken bytes) u (drop taken bytes) rest
-    (append_assoc b (take taken bytes) (drop taken bytes) ∙ ap (λ (w : List ℕ). b ++ w) (take-append-drop taken bytes) ∙ e) unit within
+    (append_assoc b (take taken bytes) (drop taken bytes) ∙ ap (λ (w : List ℕ). b ++ w) (take-append-drop taken bytes)
+    ∙ e) unit within
 
-no_fault : (order : Order) (b bytes u rest : List ℕ) (heard : List Event) (fault : Fault) → b ++ bytes ≡ u ++ rest → IsUnit order u
+no_fault : (order : Order) (b bytes u rest : List ℕ) (heard : List Event) (fault : Fault) → b ++ bytes ≡ u ++ rest
+    → IsUnit order u
     → (used : ℕ) × Took order b bytes used heard × Refused order (b ++ take used bytes) fault.offset fault.kind → ⊥
 no_fault order b bytes u rest heard fault e unit r =
-    let f = taken_front order b bytes u rest r.0 e unit r.1.in_unit in unit_is_not_refused order u unit (b ++ take r.0 bytes) f.0 fault.offset fault.kind f.1 r.2
+    let f = taken_front order b bytes u rest r.0 e unit r.1.in_unit in
+    unit_is_not_refused order u unit (b ++ take r.0 bytes) f.0 fault.offset fault.kind f.1 r.2
 
-module _ (order : Order) (b bytes turns u rest : List ℕ) (heard : List Event) (run : Run) (e : b ++ bytes ≡ u ++ rest) (unit : IsUnit order u)
-    (r : Runs order b bytes turns heard run) (moves : run.ended ≡ false → IsUnit order (b ++ take run.taken bytes) → some_turns turns ≤ run.taken + run.refused) where
+module _ (order : Order) (b bytes turns u rest : List ℕ) (heard : List Event) (run : Run) (e : b ++ bytes ≡ u ++ rest)
+    (unit : IsUnit order u)
+    (r : Runs order b bytes turns heard run)
+    (moves : run.ended ≡ false → IsUnit order (b
+    ++ take run.taken bytes) → some_turns turns ≤ run.taken + run.refused) where
   front : (v : List ℕ) × (u ≡ (b ++ take run.taken bytes) ++ v)
   front = taken_front order b bytes u rest run.taken e unit r.took.in_unit
 
   -- how many bytes of the unit are left
   size : length u ≡ length b + run.taken + length front.0
-  size = omega (arith, ap length front.1, length-append (b ++ take run.taken bytes) front.0, length-append b (take run.taken bytes), length-take-le run.taken bytes r.took.within)
+  size = omega (
+    arith,
+    ap length front.1,
+    length-append (b ++ take run.taken bytes) front.0,
+    length-append b (take run.taken bytes),
+    length-take-le run.taken bytes r.took.within,
+  )
 
-  none_left : (ended : Bool) → run.ended ≡ ended → (run.ended ≡ true) ⊎ (length u + run.refused ≤ length b + some_turns turns) → length front.0 ≡ 0
-  none_left true is k = ap length (no_unit_begins_another order (b ++ take run.taken bytes) front.0 (r.whole is) (subst (IsUnit order) front.1 unit))
+  none_left : (ended : Bool) → run.ended ≡ ended → (run.ended ≡ true)
+      ⊎ (length u + run.refused ≤ length b + some_turns turns) → length front.0 ≡ 0
+  none_left true is k =
+      ap length (no_unit_begins_another order (b ++ take run.taken bytes) front.0 (r.whole is)
+      (subst (IsUnit order) front.1 unit))
   none_left false is (inl told) = (let f : true ≡ false = sym told ∙ is in absurd cc)
   none_left false is (inr enough) = elim (r.moved is) [
     | inl all ↦ omega (arith, all, size, ap length e, length-append b bytes, length-append u rest)
@@ -291,14 +373,17 @@ module _ (order : Order) (b bytes turns u rest : List ℕ) (heard : List Event) 
 
   took_unit : length front.0 ≡ 0 → TookUnit order b bytes u run.taken heard
   took_unit none =
-      let same : b ++ take run.taken bytes ≡ u = sym (append-nil (b ++ take run.taken bytes)) ∙ ap (λ (w : List ℕ). (b ++ take run.taken bytes) ++ w) (sym (nothing_left front.0 none)) ∙ sym front.1 in
+      let same : b ++ take run.taken bytes ≡ u =
+      sym (append-nil (b ++ take run.taken bytes))
+      ∙ ap (λ (w : List ℕ). (b ++ take run.taken bytes) ++ w) (sym (nothing_left front.0 none)) ∙ sym front.1 in
       record {
         count = omega (arith, size, none);
         is = same;
         grows = ap (events order) (sym same) ∙ r.took.grows;
       }
 
-  told_end : (ended : Bool) → run.ended ≡ ended → length u + run.refused < length b + some_turns turns → run.ended ≡ true
+  told_end : (ended : Bool) → run.ended ≡ ended → length u + run.refused < length b + some_turns turns
+      → run.ended ≡ true
   told_end true is more = is
   told_end false is more =
       let t = took_unit (none_left run.ended refl (inr (omega (arith, more)))) in
@@ -312,13 +397,24 @@ module _ (order : Order) (b bytes turns u rest : List ℕ) (heard : List Event) 
     ended = λ more. told_end run.ended refl more;
   }
 
-unit_run : (order : Order) (b bytes turns u rest : List ℕ) (answers : List Given) (gave : Result Event Fault) → WithinUnit order b → IsTrace (May order) goes_on b bytes turns answers
-    → b ++ bytes ≡ u ++ rest → IsUnit order u → last_given (Ok event.More) answers ≡ gave → RunIs order b bytes turns (heard_in answers) (outcome answers gave)
+unit_run : (order : Order) (b bytes turns u rest : List ℕ) (answers : List Given) (gave : Result Event Fault)
+    → WithinUnit order b → IsTrace (May order) goes_on b bytes turns answers
+    → b ++ bytes ≡ u ++ rest → IsUnit order u → last_given (Ok event.More) answers ≡ gave
+    → RunIs order b bytes turns (heard_in answers) (outcome answers gave)
     → UnitRunIs order b bytes turns u (heard_in answers) (outcome answers gave)
 unit_run order b bytes turns u rest answers (Ok told) in_unit t e unit is r =
-    unit_runs order b bytes turns u rest (heard_in answers) (record { taken = used_in answers; refused = refusals answers; ended = is_end told }) e unit r (λ goes. trace_moves_in order b bytes turns answers (Ok event.More) in_unit t (ap goes_on is ∙ going_event told goes))
-unit_run order b bytes turns u rest answers (Err fault) in_unit t e unit is r = no_fault order b bytes u rest (heard_in answers) fault e unit r
+    unit_runs order b bytes turns u rest (heard_in answers) (record {
+      taken = used_in answers;
+      refused =
+          refusals answers;
+      ended =
+          is_end told;
+    }) e unit r (λ goes. trace_moves_in order b bytes turns answers (Ok event.More) in_unit t
+    (ap goes_on is ∙ going_event told goes))
+unit_run order b bytes turns u rest answers (Err fault) in_unit t e unit is r =
+    no_fault order b bytes u rest (heard_in answers) fault e unit r
 
 pub trace_of_unit : TraceOfUnit
 trace_of_unit order b bytes turns u rest answers in_unit t e unit =
-    unit_run order b bytes turns u rest answers (last_given (Ok event.More) answers) in_unit t e unit refl (trace_runs order b bytes turns answers in_unit t)
+    unit_run order b bytes turns u rest answers (last_given (Ok event.More) answers) in_unit t e unit refl
+    (trace_runs order b bytes turns answers in_unit t)

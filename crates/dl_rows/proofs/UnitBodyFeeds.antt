@@ -1,5 +1,7 @@
 -- What a reader answers after the header of a unit, or after a foreign version.
-use Rattle.std.proofs.Common.{◌≡◌, ◌≢◌, ℕ, suc, get_or, ◌+◌, ◌-◌, ◌^◌, ◌<◌, ◌≤◌, ◌⊎◌, inl, inr, List, [], ◌∷◌, ◌++◌, length, map, take, drop, min, Some, Err, refl, sym, ap, subst, ◌∙◌, arith, length-append, append_assoc, append-nil, length-take}
+use Rattle.std.proofs.Common.{◌≡◌, ◌≢◌, ℕ, suc, get_or, ◌+◌, ◌-◌, ◌^◌, ◌<◌, ◌≤◌, ◌⊎◌, inl, inr, List, [], ◌∷◌, ◌++◌}
+use Rattle.std.proofs.Common.{length, map, take, drop, min, Some, Err, refl, sym, ap, subst, ◌∙◌, arith, length-append}
+use Rattle.std.proofs.Common.{append_assoc, append-nil, length-take}
 use Rattle.std.proofs.lemmas.Bool.{cases_eq, cases_lt, eq-eqb, ne_eqb, lt-ltb, le-ltb}
 use Rattle.std.proofs.lemmas.List.{take-append-drop, map-append}
 use Rattle.std.proofs.Math.Seq.{take-append_seam}
@@ -33,7 +35,8 @@ use Rattle.dl_rows.specs.UnitBodies.{Counts, InProgram, Stops, paused}
 use Rattle.dl_rows.proofs.OperandRanges.{bytes_front}
 use Rattle.dl_rows.proofs.ProgramTurns.{rest-found, unrefused_join}
 use Rattle.dl_rows.proofs.ProgramWalks.{in_sequence_is}
-use Rattle.dl_rows.proofs.UnitBodyLemmas.{counts_within, counts_on, program_on, events_more, refused_on, decides_bad, decides_overrun, rows_on, row_ends}
+use Rattle.dl_rows.proofs.UnitBodyLemmas.{counts_within, counts_on, program_on, events_more, refused_on, decides_bad}
+use Rattle.dl_rows.proofs.UnitBodyLemmas.{decides_overrun, rows_on, row_ends}
 use Rattle.dl_rows.proofs.UnitLengths.{some_same, length_of_unit}
 use Rattle.dl_rows.proofs.UnitWhole.{NoneRefused, unit_unless_refused}
 
@@ -43,12 +46,17 @@ fed_of used e = record { used = used; event = e }
 
 -- a front of the piece that is as long as what is taken
 take_front : (piece u z : List ℕ) (used : ℕ) → piece ≡ u ++ z → used ≡ length u → take used piece ≡ u
-take_front piece u z used e size = ap (λ (n : ℕ). take n piece) size ∙ ap (λ (w : List ℕ). take (length u) w) e ∙ take-append_seam u z
+take_front piece u z used e size =
+    ap (λ (n : ℕ). take n piece) size ∙ ap (λ (w : List ℕ). take (length u) w) e ∙ take-append_seam u z
 
-piece_is : (piece u behind : List ℕ) (most : ℕ) → take most piece ≡ u ++ behind → piece ≡ u ++ (behind ++ drop most piece)
-piece_is piece u behind most e = sym (take-append-drop most piece) ∙ ap (λ (w : List ℕ). w ++ drop most piece) e ∙ append_assoc u behind (drop most piece)
+piece_is : (piece u behind : List ℕ) (most : ℕ) → take most piece ≡ u ++ behind
+    → piece ≡ u ++ (behind ++ drop most piece)
+piece_is piece u behind most e =
+    sym (take-append-drop most piece) ∙ ap (λ (w : List ℕ). w ++ drop most piece) e
+    ∙ append_assoc u behind (drop most piece)
 
-taken_le : (piece u behind : List ℕ) (most : ℕ) → take most piece ≡ u ++ behind → (length u ≤ most) × (length u ≤ length piece)
+taken_le : (piece u behind : List ℕ) (most : ℕ) → take most piece ≡ u ++ behind
+    → (length u ≤ most) × (length u ≤ length piece)
 taken_le piece u behind most e =
     let l = ap length e in
     let m = length-take most piece in
@@ -58,14 +66,22 @@ taken_le piece u behind most e =
 
 -- an end, or more is wanted
 paused_cases : (taken left used len : ℕ) → 1 ≤ taken
-    → ((paused taken left used len ≡ event.End) × (left ≡ 0) × ((used ≡ 0) ⊎ (used < len))) ⊎ ((paused taken left used len ≡ event.More) × (left ≡ 0 → (1 ≤ used) × (len ≤ used)))
+    → ((paused taken left used len ≡ event.End) × (left ≡ 0) × ((used ≡ 0) ⊎ (used < len)))
+    ⊎ ((paused taken left used len ≡ event.More) × (left ≡ 0 → (1 ≤ used) × (len ≤ used)))
 paused_cases taken left used len some = elim (cases_eq left 0) [
   | inr other ↦ inr (rw (ne_eqb taken 0 any, ne_eqb left 0 other) refl, λ none. absurd (other none))
   | inl none ↦ elim (cases_eq used 0) [
     | inl nothing ↦ inl (rw (ne_eqb taken 0 any, eq-eqb left 0 none, eq-eqb used 0 nothing) refl, none, inl nothing)
     | inr something ↦ elim (cases_lt used len) [
-      | inl lt ↦ inl (rw (ne_eqb taken 0 any, eq-eqb left 0 none, ne_eqb used 0 something, lt-ltb used len lt) refl, none, inr lt)
-      | inr le ↦ inr (rw (ne_eqb taken 0 any, eq-eqb left 0 none, ne_eqb used 0 something, le-ltb used len le) refl, λ same. (omega (arith, something), le))
+      | inl lt ↦ inl (
+        rw (ne_eqb taken 0 any, eq-eqb left 0 none, ne_eqb used 0 something, lt-ltb used len lt) refl,
+        none,
+        inr lt,
+      )
+      | inr le ↦ inr (
+        rw (ne_eqb taken 0 any, eq-eqb left 0 none, ne_eqb used 0 something, le-ltb used len le) refl,
+        λ same. (omega (arith, something), le),
+      )
     ]
   ]
 ]
@@ -75,12 +91,16 @@ paused_cases taken left used len some = elim (cases_eq left 0) [
 
 -- bytes that a header stands in are some
 some_bytes : (order : Order) (h : HeaderData) (t : UnitBody) (b : List ℕ) → InProgram order h t b → 1 ≤ length b
-some_bytes order h t [] is = absurd (none_some {a = (h, is.program)} refl (ap (header_in order) is.whole ∙ header_is_found order h is.header is.program is.spells))
+some_bytes order h t [] is =
+    absurd (none_some {a =
+    (h, is.program)} refl (ap (header_in order) is.whole ∙ header_is_found order h is.header is.program is.spells))
 some_bytes order h t (x ∷ b) is = omega arith
 
 -- an answer, u being what is taken of the piece
-feeds_with : {S : Type 0} (StandsFor : S → List ℕ → Type 0) (order : Order) (before : List Event) (b piece u : List ℕ) (s : S) (fed : Fed) (e : Event) → take fed.used piece ≡ u → fed.used ≤ length piece → fed.event ≡ e
-    → StandsFor s (b ++ u) → events order (b ++ u) ≡ before ++ told e → EventHoldsBehind order before b piece fed.used e → NoneRefused order (b ++ u) → WithinUnit order (b ++ u) → FeedsBehind StandsFor order before b piece fed s
+feeds_with : {S : Type 0} (StandsFor : S → List ℕ → Type 0) (order : Order) (before : List Event) (b piece u : List ℕ)
+    (s : S) (fed : Fed) (e : Event) → take fed.used piece ≡ u → fed.used ≤ length piece → fed.event ≡ e
+    → StandsFor s (b ++ u) → events order (b ++ u) ≡ before ++ told e → EventHoldsBehind order before b piece fed.used e
+    → NoneRefused order (b ++ u) → WithinUnit order (b ++ u) → FeedsBehind StandsFor order before b piece fed s
 feeds_with StandsFor order before b piece u s fed e same le is stands grows holds sound in_unit = record {
   answered = record {
     within = le;
@@ -93,14 +113,23 @@ feeds_with StandsFor order before b piece u s fed e same le is stands grows hold
 }
 
 -- a pause after the events before, where nothing is refused
-pub pauses_behind : {S : Type 0} (StandsFor : S → List ℕ → Type 0) (order : Order) (before : List Event) (b piece : List ℕ) (left : ℕ) (new : UnitBytes) (s : S) (fed : Fed) → fed.used ≡ length (take left piece)
-    → fed.event ≡ paused new.taken new.left fed.used (length piece) → new.left ≡ left - fed.used → 1 ≤ length (b ++ take left piece)
-    → Counts order new (b ++ take left piece) → StandsFor s (b ++ take left piece) → events order (b ++ take left piece) ≡ before
-    → NoneRefused order (b ++ take left piece) → (new.left ≡ 0 → IsUnit order (b ++ take left piece)) → FeedsBehind StandsFor order before b piece fed s
-pauses_behind StandsFor order before b piece left new s fed size is left_is some counts stands same sound whole = elim (paused_cases new.taken new.left fed.used (length piece) (omega (arith, some, counts.taken))) [
-  | inl e ↦ feeds_with StandsFor order before b piece u s fed event.End back within (is ∙ e.0) stands grows (subst (λ (w : List ℕ). IsUnit order (b ++ w)) (sym back) (whole e.1), e.2) sound in_unit
-  | inr m ↦ feeds_with StandsFor order before b piece u s fed event.More back within (is ∙ m.0) stands grows (all m.1, λ unit. (m.1 (none_left unit)).0) sound in_unit
-]
+pub pauses_behind : {S : Type 0} (StandsFor : S → List ℕ → Type 0) (order : Order) (before : List Event)
+    (b piece : List ℕ) (left : ℕ) (new : UnitBytes) (s : S) (fed : Fed) → fed.used ≡ length (take left piece)
+    → fed.event ≡ paused new.taken new.left fed.used (length piece) → new.left ≡ left - fed.used
+    → 1 ≤ length (b ++ take left piece)
+    → Counts order new (b ++ take left piece) → StandsFor s (b ++ take left piece)
+    → events order (b ++ take left piece) ≡ before
+    → NoneRefused order (b ++ take left piece) → (new.left ≡ 0 → IsUnit order (b ++ take left piece))
+    → FeedsBehind StandsFor order before b piece fed s
+pauses_behind StandsFor order before b piece left new s fed size is left_is some counts stands same sound whole =
+    elim (paused_cases new.taken new.left fed.used (length piece) (omega (arith, some, counts.taken))) [
+      | inl e ↦ feeds_with StandsFor order before b piece u s fed event.End back within (is
+          ∙ e.0) stands grows (subst (λ (w : List ℕ). IsUnit order (b ++ w)) (sym back) (whole e.1), e.2) sound in_unit
+      | inr m ↦ feeds_with StandsFor order before b piece u s fed event.More back within (is ∙ m.0) stands grows (
+        all m.1,
+        λ unit. (m.1 (none_left unit)).0,
+      ) sound in_unit
+    ]
   where
     u : List ℕ
     u = take left piece
@@ -128,16 +157,24 @@ pauses_behind StandsFor order before b piece left new s fed size is left_is some
 
     none_left : IsUnit order (b ++ take fed.used piece) → new.left ≡ 0
     none_left unit =
-        let len = length_of_unit order (b ++ take left piece) (subst (λ (w : List ℕ). IsUnit order (b ++ w)) back unit) in
-        let e : new.taken + new.left ≡ length (b ++ take left piece) = some_same (new.taken + new.left) (length (b ++ take left piece)) (sym counts.left ∙ len) in
+        let len =
+        length_of_unit order (b ++ take left piece) (subst (λ (w : List ℕ). IsUnit order (b ++ w)) back unit) in
+        let e : new.taken + new.left ≡ length (b ++ take left piece) =
+        some_same (new.taken + new.left) (length (b ++ take left piece)) (sym counts.left ∙ len) in
         omega (arith, e, counts.taken)
 
 -- the same, where the events stay the same
-pub pauses : {S : Type 0} (StandsFor : S → List ℕ → Type 0) (order : Order) (b piece : List ℕ) (left : ℕ) (new : UnitBytes) (s : S) (fed : Fed) → fed.used ≡ length (take left piece)
-    → fed.event ≡ paused new.taken new.left fed.used (length piece) → new.left ≡ left - fed.used → 1 ≤ length (b ++ take left piece)
-    → Counts order new (b ++ take left piece) → StandsFor s (b ++ take left piece) → events order (b ++ take left piece) ≡ events order b
-    → NoneRefused order (b ++ take left piece) → (new.left ≡ 0 → IsUnit order (b ++ take left piece)) → Feeds StandsFor order b piece fed s
-pauses StandsFor order b piece left new s fed size event left_is some counts stands same sound whole = pauses_behind StandsFor order (events order b) b piece left new s fed size event left_is some counts stands same sound whole
+pub pauses : {S : Type 0} (StandsFor : S → List ℕ → Type 0) (order : Order) (b piece : List ℕ) (left : ℕ)
+    (new : UnitBytes) (s : S) (fed : Fed) → fed.used ≡ length (take left piece)
+    → fed.event ≡ paused new.taken new.left fed.used (length piece) → new.left ≡ left - fed.used
+    → 1 ≤ length (b ++ take left piece)
+    → Counts order new (b ++ take left piece) → StandsFor s (b ++ take left piece)
+    → events order (b ++ take left piece) ≡ events order b
+    → NoneRefused order (b ++ take left piece) → (new.left ≡ 0 → IsUnit order (b ++ take left piece))
+    → Feeds StandsFor order b piece fed s
+pauses StandsFor order b piece left new s fed size event left_is some counts stands same sound whole =
+    pauses_behind StandsFor order (events order b) b piece left new s fed size event left_is some counts stands same
+    sound whole
 
 -- ---- inside a program
 
@@ -147,86 +184,138 @@ all_bytes [] h = tt
 all_bytes (b ∷ w) h = (h 0 (omega arith), all_bytes w (λ i lt. h (suc i) (omega arith)))
 
 -- what the reader of a program gives for the bytes that are left of the unit
-pub tells_in : {S : Type 0} (story : Story S) (order : Order) (h : HeaderData) (p : Params) (t new : UnitBody) (b piece bytes : List ℕ) (before : List Row) (given : ProgramStep) (q : Program) (s : S) (is : InProgram order h t b) → h.params ≡ p
+pub tells_in : {S : Type 0} (story : Story S) (order : Order) (h : HeaderData) (p : Params) (t new : UnitBody)
+    (b piece bytes : List ℕ) (before : List Row) (given : ProgramStep) (q : Program) (s : S)
+    (is : InProgram order h t b) → h.params ≡ p
     → bytes ≡ take t.bytes.left piece → AllBytes piece → new.program ≡ q
-    → ((c : List ℕ) → FitsProgram p → AllBytes bytes → ProgramStands order p t.program c → Tells story order p c bytes before given q s) → Tells story order h.params is.program (take t.bytes.left piece) before given new.program s
+    → ((c : List ℕ) → FitsProgram p → AllBytes bytes → ProgramStands order p t.program c
+    → Tells story order p c bytes before given q s)
+    → Tells story order h.params is.program (take t.bytes.left piece) before given new.program s
 tells_in story order h p t new b piece bytes before given q s is params front all program gives =
-    let some : AllBytes (take t.bytes.left piece) = bytes_front (take t.bytes.left piece) (drop t.bytes.left piece) (subst (λ (w : List ℕ). AllBytes w) (sym (take-append-drop t.bytes.left piece)) all) in
-    subst (λ (r : Program). Tells story order h.params is.program (take t.bytes.left piece) before given r s) (sym program)
+    let some : AllBytes (take t.bytes.left piece) =
+    bytes_front (take t.bytes.left piece) (drop t.bytes.left piece)
+    (subst (λ (w : List ℕ). AllBytes w) (sym (take-append-drop t.bytes.left piece)) all) in
+    subst (λ (r : Program). Tells story order h.params is.program (take t.bytes.left piece) before given r s)
+    (sym program)
     (subst (λ (w : List ℕ). Tells story order h.params is.program w before given q s) front
-    (subst (λ (r : Params). FitsProgram r → AllBytes bytes → ProgramStands order r t.program is.program → Tells story order r is.program bytes before given q s) (sym params) (gives is.program) is.fits (subst (λ (w : List ℕ). AllBytes w) (sym front) some) is.stands))
+    (subst (λ (r : Params). FitsProgram r → AllBytes bytes → ProgramStands order r t.program is.program
+    → Tells story order r is.program bytes before given q s) (sym params) (gives is.program) is.fits
+    (subst (λ (w : List ℕ). AllBytes w) (sym front) some) is.stands))
 
 -- what is said of bytes that give a row
 abbrev pub RowGiven : Order → HeaderData → List ℕ → List ℕ → List Row → Row → List ℕ → Program → Type 0
 RowGiven order h program bytes rows row behind new =
-    (front : List ℕ) × (last : ℕ) × (bytes ≡ (front ++ last ∷ []) ++ behind) × ProgramStands order h.params new (program ++ (front ++ last ∷ []))
-    × (rows_in order h.params (program ++ front) ≡ rows_in order h.params program ++ rows) × (rows_in order h.params (program ++ (front ++ last ∷ [])) ≡ (rows_in order h.params program ++ rows) ++ row ∷ [])
+    (front : List ℕ) × (last : ℕ) × (bytes ≡ (front ++ last ∷ []) ++ behind)
+    × ProgramStands order h.params new (program ++ (front ++ last ∷ []))
+    × (rows_in order h.params (program ++ front) ≡ rows_in order h.params program ++ rows)
+    × (rows_in order h.params (program ++ (front ++ last ∷ [])) ≡ (rows_in order h.params program ++ rows) ++ row
+    ∷ [])
     × Unrefused order h.params program (front ++ last ∷ [])
 
 -- what is said of bytes that give nothing
 abbrev pub NothingGiven : Order → HeaderData → List ℕ → List ℕ → List Row → Program → Type 0
 NothingGiven order h program bytes rows new =
-    ProgramStands order h.params new (program ++ bytes) × (rows_in order h.params (program ++ bytes) ≡ rows_in order h.params program ++ rows) × Unrefused order h.params program bytes
+    ProgramStands order h.params new (program ++ bytes)
+    × (rows_in order h.params (program ++ bytes) ≡ rows_in order h.params program ++ rows)
+    × Unrefused order h.params program bytes
 
 -- what is said of bytes that end in a bad operation
 abbrev pub BadGiven : Order → HeaderData → List ℕ → List ℕ → List Row → FaultKind → List ℕ → Program → Type 0
 BadGiven order h program bytes rows kind behind new =
-    (front : List ℕ) × (last : ℕ) × (bytes ≡ (front ++ last ∷ []) ++ behind) × (rows_in order h.params (program ++ (front ++ last ∷ [])) ≡ rows_in order h.params program ++ rows)
-    × Unrefused order h.params program front × (operation_spelt order h.params (operations_in order h.params (program ++ (front ++ last ∷ []))).rest ≡ Some (Err kind))
+    (front : List ℕ) × (last : ℕ) × (bytes ≡ (front ++ last ∷ []) ++ behind)
+    × (rows_in order h.params (program ++ (front ++ last ∷ [])) ≡ rows_in order h.params program ++ rows)
+    × Unrefused order h.params program front
+    × (operation_spelt order h.params (operations_in order h.params (program ++ (front ++ last ∷ []))).rest
+    ≡ Some (Err kind))
     × (new.begun ≡ min (length (operations_in order h.params (program ++ (front ++ last ∷ []))).rest) (2 ^ 64 - 1))
     × (new.in_sequence ≡ ends_open (rows_in order h.params (program ++ (front ++ last ∷ []))))
 
 -- where rows were told up to a place, what is said of the bytes after it, said of all
-pub flat_row : (order : Order) (h : HeaderData) (program bytes : List ℕ) (rows : List Row) (since : List ℕ) (row : Row) (behind : List ℕ) (new : Program) (t : Told order h.params program bytes rows since)
-    → ((front : List ℕ) × (last : ℕ) × (since ≡ (front ++ last ∷ []) ++ behind) × ProgramStands order h.params new ((program ++ t.done) ++ (front ++ last ∷ []))
-    × (rows_in order h.params ((program ++ t.done) ++ front) ≡ rows_in order h.params (program ++ t.done)) × (rows_in order h.params ((program ++ t.done) ++ (front ++ last ∷ [])) ≡ rows_in order h.params (program ++ t.done) ++ row ∷ [])
-    × Unrefused order h.params (program ++ t.done) (front ++ last ∷ [])) → RowGiven order h program bytes rows row behind new
+pub flat_row : (order : Order) (h : HeaderData) (program bytes : List ℕ) (rows : List Row) (since : List ℕ) (row : Row)
+    (behind : List ℕ) (new : Program) (t : Told order h.params program bytes rows since)
+    → ((front : List ℕ) × (last : ℕ) × (since ≡ (front ++ last ∷ []) ++ behind)
+    × ProgramStands order h.params new ((program ++ t.done) ++ (front ++ last ∷ []))
+    × (rows_in order h.params ((program ++ t.done) ++ front) ≡ rows_in order h.params (program ++ t.done))
+    × (rows_in order h.params ((program ++ t.done) ++ (front ++ last ∷ []))
+    ≡ rows_in order h.params (program ++ t.done) ++ row ∷ [])
+    × Unrefused order h.params (program ++ t.done) (front ++ last ∷ []))
+    → RowGiven order h program bytes rows row behind new
 flat_row order h program bytes rows since row behind new t (front, last, e, stands, before, grown, unrefused) =
     let u = front ++ last ∷ [] in
     let line = append_assoc t.done front (last ∷ []) in
-    let here : (program ++ t.done) ++ u ≡ program ++ ((t.done ++ front) ++ last ∷ []) = append_assoc program t.done u ∙ ap (λ (w : List ℕ). program ++ w) (sym line) in (
+    let here : (program ++ t.done) ++ u ≡ program ++ ((t.done ++ front) ++ last ∷ []) =
+    append_assoc program t.done u ∙ ap (λ (w : List ℕ). program ++ w) (sym line) in (
       t.done ++ front,
       last,
-      t.split ∙ ap (λ (w : List ℕ). t.done ++ w) e ∙ sym (append_assoc t.done u behind) ∙ ap (λ (w : List ℕ). w ++ behind) (sym line),
+      t.split ∙ ap (λ (w : List ℕ). t.done ++ w) e ∙ sym (append_assoc t.done u behind)
+          ∙ ap (λ (w : List ℕ). w ++ behind) (sym line),
       subst (λ (w : List ℕ). ProgramStands order h.params new w) here stands,
       ap (rows_in order h.params) (sym (append_assoc program t.done front)) ∙ before ∙ t.told,
       ap (rows_in order h.params) (sym here) ∙ grown ∙ ap (λ (z : List Row). z ++ row ∷ []) t.told,
-      subst (λ (w : List ℕ). Unrefused order h.params program w) (sym line) (unrefused_join order h.params program t.done u t.unrefused unrefused),
+      subst (λ (w : List ℕ). Unrefused order h.params program w) (sym line)
+          (unrefused_join order h.params program t.done u t.unrefused unrefused),
     )
 
-pub flat_nothing : (order : Order) (h : HeaderData) (program bytes : List ℕ) (rows : List Row) (since : List ℕ) (new : Program) (t : Told order h.params program bytes rows since)
-    → ProgramStands order h.params new ((program ++ t.done) ++ since) × (rows_in order h.params ((program ++ t.done) ++ since) ≡ rows_in order h.params (program ++ t.done)) × Unrefused order h.params (program ++ t.done) since
+pub flat_nothing : (order : Order) (h : HeaderData) (program bytes : List ℕ) (rows : List Row) (since : List ℕ)
+    (new : Program) (t : Told order h.params program bytes rows since)
+    → ProgramStands order h.params new ((program ++ t.done) ++ since)
+    × (rows_in order h.params ((program ++ t.done) ++ since) ≡ rows_in order h.params (program ++ t.done))
+    × Unrefused order h.params (program ++ t.done) since
     → NothingGiven order h program bytes rows new
 flat_nothing order h program bytes rows since new t (stands, quiet, unrefused) =
-    let here : (program ++ t.done) ++ since ≡ program ++ bytes = append_assoc program t.done since ∙ ap (λ (w : List ℕ). program ++ w) (sym t.split) in (
+    let here : (program ++ t.done) ++ since ≡ program ++ bytes =
+    append_assoc program t.done since ∙ ap (λ (w : List ℕ). program ++ w) (sym t.split) in (
       subst (λ (w : List ℕ). ProgramStands order h.params new w) here stands,
       ap (rows_in order h.params) (sym here) ∙ quiet ∙ t.told,
-      subst (λ (w : List ℕ). Unrefused order h.params program w) (sym t.split) (unrefused_join order h.params program t.done since t.unrefused unrefused),
+      subst (λ (w : List ℕ). Unrefused order h.params program w) (sym t.split)
+          (unrefused_join order h.params program t.done since t.unrefused unrefused),
     )
 
-pub flat_bad : (order : Order) (h : HeaderData) (program bytes : List ℕ) (rows : List Row) (since : List ℕ) (kind : FaultKind) (behind : List ℕ) (new : Program) (t : Told order h.params program bytes rows since)
-    → ((front : List ℕ) × (last : ℕ) × (since ≡ (front ++ last ∷ []) ++ behind) × (rows_in order h.params ((program ++ t.done) ++ (front ++ last ∷ [])) ≡ rows_in order h.params (program ++ t.done))
-    × Unrefused order h.params (program ++ t.done) front × (operation_spelt order h.params (operations_in order h.params ((program ++ t.done) ++ (front ++ last ∷ []))).rest ≡ Some (Err kind))
-    × (new.begun ≡ min (length (operations_in order h.params ((program ++ t.done) ++ (front ++ last ∷ []))).rest) (2 ^ 64 - 1))
-    × (new.in_sequence ≡ ends_open (rows_in order h.params ((program ++ t.done) ++ (front ++ last ∷ []))))) → BadGiven order h program bytes rows kind behind new
+pub flat_bad : (order : Order) (h : HeaderData) (program bytes : List ℕ) (rows : List Row) (since : List ℕ)
+    (kind : FaultKind) (behind : List ℕ) (new : Program) (t : Told order h.params program bytes rows since)
+    → ((front : List ℕ) × (last : ℕ) × (since ≡ (front ++ last ∷ []) ++ behind)
+    × (rows_in order h.params ((program ++ t.done) ++ (front ++ last ∷ []))
+    ≡ rows_in order h.params (program ++ t.done))
+    × Unrefused order h.params (program ++ t.done) front
+    × (operation_spelt order h.params
+    (operations_in order h.params ((program ++ t.done) ++ (front ++ last ∷ []))).rest ≡ Some (Err kind))
+    × (new.begun ≡ min (length (operations_in order h.params ((program ++ t.done) ++ (front ++ last ∷ []))).rest)
+    (2 ^ 64 - 1))
+    × (new.in_sequence ≡ ends_open (rows_in order h.params ((program ++ t.done) ++ (front ++ last ∷ [])))))
+    → BadGiven order h program bytes rows kind behind new
 flat_bad order h program bytes rows since kind behind new t (front, last, e, quiet, unrefused, spelt, count, open_is) =
     let u = front ++ last ∷ [] in
     let line = append_assoc t.done front (last ∷ []) in
-    let here : (program ++ t.done) ++ u ≡ program ++ ((t.done ++ front) ++ last ∷ []) = append_assoc program t.done u ∙ ap (λ (w : List ℕ). program ++ w) (sym line) in (
+    let here : (program ++ t.done) ++ u ≡ program ++ ((t.done ++ front) ++ last ∷ []) =
+    append_assoc program t.done u ∙ ap (λ (w : List ℕ). program ++ w) (sym line) in (
       t.done ++ front,
       last,
-      t.split ∙ ap (λ (w : List ℕ). t.done ++ w) e ∙ sym (append_assoc t.done u behind) ∙ ap (λ (w : List ℕ). w ++ behind) (sym line),
+      t.split ∙ ap (λ (w : List ℕ). t.done ++ w) e ∙ sym (append_assoc t.done u behind)
+          ∙ ap (λ (w : List ℕ). w ++ behind) (sym line),
       ap (rows_in order h.params) (sym here) ∙ quiet ∙ t.told,
       unrefused_join order h.params program t.done front t.unrefused unrefused,
-      subst (λ (w : List ℕ). operation_spelt order h.params (operations_in order h.params w).rest ≡ Some (Err kind)) here spelt,
+      subst (λ (w : List ℕ). operation_spelt order h.params (operations_in order h.params w).rest
+          ≡ Some (Err kind)) here spelt,
       subst (λ (w : List ℕ). new.begun ≡ min (length (operations_in order h.params w).rest) (2 ^ 64 - 1)) here count,
       subst (λ (w : List ℕ). new.in_sequence ≡ ends_open (rows_in order h.params w)) here open_is,
     )
 
-pub feeds_row : (order : Order) (h : HeaderData) (t new : UnitBody) (b piece behind : List ℕ) (rows : List Row) (row : Row) (used : ℕ) (is : InProgram order h t b) → RowGiven order h is.program (take t.bytes.left piece) rows row behind new.program
-    → used ≡ length (take t.bytes.left piece) - length behind → new.bytes.taken ≡ min (t.bytes.taken + used) (2 ^ 64 - 1) → new.bytes.left ≡ t.bytes.left - used
-    → FeedsBehind (InProgram order h) order (events order b ++ map event.Row rows) b piece (fed_of used (event.Row row)) new
-feeds_row order h t new b piece behind rows row used is (front, last, e, stands, before, grown, unrefused) size taken left =
+pub feeds_row : (order : Order) (h : HeaderData) (t new : UnitBody) (b piece behind : List ℕ) (rows : List Row)
+    (row : Row) (used : ℕ) (is : InProgram order h t b)
+    → RowGiven order h is.program (take t.bytes.left piece) rows row behind new.program
+    → used ≡ length (take t.bytes.left piece) - length behind
+    → new.bytes.taken ≡ min (t.bytes.taken + used) (2 ^ 64 - 1) → new.bytes.left ≡ t.bytes.left - used
+    → FeedsBehind (InProgram order h) order (events order b ++ map event.Row rows) b piece (fed_of used (event.Row row))
+    new
+feeds_row order h t new b piece behind rows row used is (
+  front,
+  last,
+  e,
+  stands,
+  before,
+  grown,
+  unrefused,
+) size taken left =
     let u = front ++ last ∷ [] in
     let le = taken_le piece u behind t.bytes.left e in
     let exact : used ≡ length u = omega (arith, size, ap length e, length-append u behind) in
@@ -234,82 +323,156 @@ feeds_row order h t new b piece behind rows row used is (front, last, e, stands,
     let same = take_front piece u (behind ++ drop t.bytes.left piece) used whole exact in
     let ends : (operations_in order h.params (is.program ++ u)).rest ≡ [] =
     subst (λ (w : List ℕ). (operations_in order h.params w).rest ≡ []) (append_assoc is.program front (last ∷ []))
-    (row_ends order h.params (is.program ++ front) last row (ap (rows_in order h.params) (append_assoc is.program front (last ∷ [])) ∙ grown ∙ ap (λ (rs : List Row). rs ++ row ∷ []) (sym before))) in
+    (row_ends order h.params (is.program ++ front) last row
+    (ap (rows_in order h.params) (append_assoc is.program front (last ∷ [])) ∙ grown
+    ∙ ap (λ (rs : List Row). rs ++ row ∷ []) (sym before))) in
     let now : InProgram order h new (b ++ u) =
-    program_on order h t b u is le.0 new stands unrefused (λ full. ends) (taken ∙ ap (λ (n : ℕ). min (t.bytes.taken + n) (2 ^ 64 - 1)) exact) (left ∙ ap (λ (n : ℕ). t.bytes.left - n) exact) in
+    program_on order h t b u is le.0 new stands unrefused (λ full. ends) (taken
+    ∙ ap (λ (n : ℕ). min (t.bytes.taken + n) (2 ^ 64 - 1)) exact) (left ∙ ap (λ (n : ℕ). t.bytes.left - n) exact) in
     let one : 1 ≤ used = omega (arith, exact, length-append front (last ∷ [])) in
     let fewer : used - 1 ≡ length front = omega (arith, exact, length-append front (last ∷ [])) in
-    let front_is = take_front piece front ((last ∷ []) ++ (behind ++ drop t.bytes.left piece)) (used - 1) (whole ∙ append_assoc front (last ∷ []) (behind ++ drop t.bytes.left piece)) fewer in
-    feeds_with (InProgram order h) order (events order b ++ map event.Row rows) b piece u new (fed_of used (event.Row row)) (event.Row row) same (omega (arith, exact, le.1)) refl now (events_more order h t b u is le.0 u (rows ++ row ∷ []) (grown ∙ append_assoc (rows_in order h.params is.program) rows (row ∷ [])) ∙ ap (λ (es : List Event). events order b ++ es) (map-append event.Row rows (row ∷ [])) ∙ sym (append_assoc (events order b) (map event.Row rows) (event.Row row ∷ [])))
-    (one, ap (λ (w : List ℕ). events order (b ++ w)) front_is ∙ events_more order h t b front is (omega (arith, le.0, length-append front (last ∷ []))) front rows before)
+    let front_is =
+    take_front piece front ((last ∷ []) ++ (behind ++ drop t.bytes.left piece)) (used - 1) (whole
+    ∙ append_assoc front (last ∷ []) (behind ++ drop t.bytes.left piece)) fewer in
+    feeds_with (InProgram order h) order (events order b ++ map event.Row rows) b piece u new
+    (fed_of used (event.Row row)) (event.Row row) same (omega (arith, exact, le.1)) refl now
+    (events_more order h t b u is le.0 u (rows ++ row ∷ []) (grown
+    ∙ append_assoc (rows_in order h.params is.program) rows (row ∷ []))
+    ∙ ap (λ (es : List Event). events order b ++ es) (map-append event.Row rows (row ∷ []))
+    ∙ sym (append_assoc (events order b) (map event.Row rows) (event.Row row ∷ []))) (
+      one,
+      ap (λ (w : List ℕ). events order (b ++ w)) front_is
+          ∙ events_more order h t b front is (omega (arith, le.0, length-append front (last ∷ []))) front rows before,
+    )
     now.sound (counts_within order new.bytes (b ++ u) now.counts)
 
-pub feeds_nothing : (order : Order) (h : HeaderData) (t new : UnitBody) (b piece : List ℕ) (rows : List Row) (fed : Fed) (is : InProgram order h t b) → NothingGiven order h is.program (take t.bytes.left piece) rows new.program
-    → fed.used ≡ length (take t.bytes.left piece) → fed.event ≡ paused new.bytes.taken new.bytes.left fed.used (length piece)
-    → new.bytes.taken ≡ min (t.bytes.taken + length (take t.bytes.left piece)) (2 ^ 64 - 1) → new.bytes.left ≡ t.bytes.left - length (take t.bytes.left piece)
-    → (new.bytes.left ≡ 0 → (operations_in order h.params (is.program ++ take t.bytes.left piece)).rest ≡ []) → FeedsBehind (InProgram order h) order (events order b ++ map event.Row rows) b piece fed new
+pub feeds_nothing : (order : Order) (h : HeaderData) (t new : UnitBody) (b piece : List ℕ) (rows : List Row) (fed : Fed)
+    (is : InProgram order h t b) → NothingGiven order h is.program (take t.bytes.left piece) rows new.program
+    → fed.used ≡ length (take t.bytes.left piece)
+    → fed.event ≡ paused new.bytes.taken new.bytes.left fed.used (length piece)
+    → new.bytes.taken ≡ min (t.bytes.taken + length (take t.bytes.left piece)) (2 ^ 64 - 1)
+    → new.bytes.left ≡ t.bytes.left - length (take t.bytes.left piece)
+    → (new.bytes.left ≡ 0 → (operations_in order h.params (is.program ++ take t.bytes.left piece)).rest ≡ [])
+    → FeedsBehind (InProgram order h) order (events order b ++ map event.Row rows) b piece fed new
 feeds_nothing order h t new b piece rows fed is (stands, grown, unrefused) size answer taken left between =
     let u = take t.bytes.left piece in
     let le : length u ≤ t.bytes.left = (let l = length-take t.bytes.left piece in omega (arith, l)) in
     let now : InProgram order h new (b ++ u) =
-    program_on order h t b u is le new stands unrefused (λ full. between (omega (arith, left, full, is.counts.taken, length-append b u))) taken left in
-    pauses_behind (InProgram order h) order (events order b ++ map event.Row rows) b piece t.bytes.left new.bytes new fed size answer (left ∙ ap (λ (n : ℕ). t.bytes.left - n) (sym size)) (some_bytes order h new (b ++ u) now) now.counts now
+    program_on order h t b u is le new stands unrefused
+    (λ full. between (omega (arith, left, full, is.counts.taken, length-append b u))) taken left in
+    pauses_behind (InProgram order h) order (events order b ++ map event.Row rows) b piece t.bytes.left new.bytes new
+    fed size answer (left ∙ ap (λ (n : ℕ). t.bytes.left - n) (sym size)) (some_bytes order h new (b ++ u) now)
+    now.counts now
     (events_more order h t b u is le u rows grown) now.sound
-    (λ none. (unit_unless_refused order (b ++ u) (now.counts.left ∙ ap (λ (n : ℕ). Some n) (omega (arith, none, now.counts.taken)))).1 now.sound)
+    (λ none. (unit_unless_refused order (b ++ u) (now.counts.left
+    ∙ ap (λ (n : ℕ). Some n) (omega (arith, none, now.counts.taken)))).1 now.sound)
 
 abbrev fault_of : ℕ → FaultKind → Fault
 fault_of at kind = record { offset = at; kind = kind }
 
 -- a fault, u being what is taken of the piece
-fails_with : (order : Order) (before : List Event) (b piece u : List ℕ) (used : ℕ) (new : UnitBody) (answer made : Fault) → take used piece ≡ u → used ≤ length piece → answer ≡ made → Refused order (b ++ u) made.offset made.kind
-    → events order (b ++ u) ≡ before → Stops order new (b ++ u) → (n : ℕ) × FailsBehind order before b piece answer n × Stops order new (b ++ take n piece)
+fails_with : (order : Order) (before : List Event) (b piece u : List ℕ) (used : ℕ) (new : UnitBody)
+    (answer made : Fault) → take used piece ≡ u → used ≤ length piece → answer ≡ made
+    → Refused order (b ++ u) made.offset made.kind
+    → events order (b ++ u) ≡ before → Stops order new (b ++ u) → (n : ℕ) × FailsBehind order before b piece answer n
+    × Stops order new (b ++ take n piece)
 fails_with order before b piece u used new answer made same le is refused events_are stops = (
   used,
   record {
     within = le;
     in_unit = subst (λ (w : List ℕ). WithinUnit order (b ++ w)) (sym same) stops.in_unit;
-    refused = subst (λ (f : Fault). Refused order (b ++ take used piece) f.offset f.kind) (sym is) (subst (λ (w : List ℕ). Refused order (b ++ w) made.offset made.kind) (sym same) refused);
+    refused =
+        subst (λ (f : Fault). Refused order (b ++ take used piece) f.offset f.kind) (sym is)
+        (subst (λ (w : List ℕ). Refused order (b ++ w) made.offset made.kind) (sym same) refused);
     no_event = ap (λ (w : List ℕ). events order (b ++ w)) same ∙ events_are;
   },
   subst (λ (w : List ℕ). Stops order new (b ++ w)) (sym same) stops,
 )
 
 -- the unit ends in an operation
-pub fails_overrun : (order : Order) (h : HeaderData) (t new : UnitBody) (b piece : List ℕ) (rows : List Row) (answer : Fault) (is : InProgram order h t b) → NothingGiven order h is.program (take t.bytes.left piece) rows new.program
-    → new.bytes.taken ≡ min (t.bytes.taken + length (take t.bytes.left piece)) (2 ^ 64 - 1) → new.bytes.left ≡ t.bytes.left - length (take t.bytes.left piece) → new.bytes.left ≡ 0
-    → ((operations_in order h.params (is.program ++ take t.bytes.left piece)).rest ≡ [] → ⊥) → answer ≡ record { offset = new.bytes.taken - new.program.begun; kind = fault.OpcodeOverrun }
-    → (n : ℕ) × FailsBehind order (events order b ++ map event.Row rows) b piece answer n × Stops order new (b ++ take n piece)
+pub fails_overrun : (order : Order) (h : HeaderData) (t new : UnitBody) (b piece : List ℕ) (rows : List Row)
+    (answer : Fault) (is : InProgram order h t b)
+    → NothingGiven order h is.program (take t.bytes.left piece) rows new.program
+    → new.bytes.taken ≡ min (t.bytes.taken + length (take t.bytes.left piece)) (2 ^ 64 - 1)
+    → new.bytes.left ≡ t.bytes.left - length (take t.bytes.left piece) → new.bytes.left ≡ 0
+    → ((operations_in order h.params (is.program ++ take t.bytes.left piece)).rest ≡ [] → ⊥)
+    → answer ≡ record { offset = new.bytes.taken - new.program.begun; kind = fault.OpcodeOverrun }
+    → (n : ℕ) × FailsBehind order (events order b ++ map event.Row rows) b piece answer n
+    × Stops order new (b ++ take n piece)
 fails_overrun order h t new b piece rows answer is (stands, grown, unrefused) taken left none begun answer_is =
     let u = take t.bytes.left piece in
     let long = length-take t.bytes.left piece in
     let le : length u ≤ t.bytes.left = omega (arith, long) in
-    let full : length (b ++ u) ≡ t.bytes.taken + t.bytes.left = omega (arith, left, none, le, is.counts.taken, length-append b u) in
+    let full : length (b ++ u) ≡ t.bytes.taken + t.bytes.left =
+    omega (arith, left, none, le, is.counts.taken, length-append b u) in
     let decides = decides_overrun order h t b u is le full begun (λ k. unrefused u [] (sym (append-nil u)) k) in
-    let count = stands.count ∙ ap (λ (w : List ℕ). min (length w) (2 ^ 64 - 1)) (sym (rest-found order h.params (is.program ++ u) stands.operations stands.begun stands.found)) in
+    let count =
+    stands.count
+    ∙ ap (λ (w : List ℕ). min (length w) (2 ^ 64 - 1))
+    (sym (rest-found order h.params (is.program ++ u) stands.operations stands.begun stands.found)) in
     let counts = counts_on order t.bytes new.bytes b u is.counts le taken left in
-    let refused = refused_on order h t b u is le fault.OpcodeOverrun decides (λ front x back e k. unrefused front (x ∷ back) e k) new.bytes.taken new.program.begun taken count in
-    fails_with order (events order b ++ map event.Row rows) b piece u (length u) new answer (record { offset = new.bytes.taken - new.program.begun; kind = fault.OpcodeOverrun })
-    (take_front piece u (drop t.bytes.left piece) (length u) (sym (take-append-drop t.bytes.left piece)) refl) (omega (arith, long)) answer_is refused (events_more order h t b u is le u rows grown)
-    (record { taken = counts.taken; in_unit = counts_within order new.bytes (b ++ u) counts; in_sequence = in_sequence_is order h.params new.program (is.program ++ u) stands ∙ ap ends_open (sym (rows_on order h t b u is le u)) })
+    let refused =
+    refused_on order h t b u is le fault.OpcodeOverrun decides (λ front x back e k. unrefused front (x ∷ back) e k)
+    new.bytes.taken new.program.begun taken count in
+    fails_with order (events order b ++ map event.Row rows) b piece u (length u) new answer (record {
+      offset =
+          new.bytes.taken - new.program.begun;
+      kind = fault.OpcodeOverrun;
+    })
+    (take_front piece u (drop t.bytes.left piece) (length u) (sym (take-append-drop t.bytes.left piece)) refl)
+    (omega (arith, long)) answer_is refused (events_more order h t b u is le u rows grown)
+    (record {
+      taken = counts.taken;
+      in_unit = counts_within order new.bytes (b ++ u) counts;
+      in_sequence =
+          in_sequence_is order h.params new.program (is.program ++ u) stands
+          ∙ ap ends_open (sym (rows_on order h t b u is le u));
+    })
 
-pub fails_bad : (order : Order) (h : HeaderData) (t new : UnitBody) (b piece behind : List ℕ) (rows : List Row) (kind : FaultKind) (answer : Fault) (used : ℕ) (is : InProgram order h t b)
-    → BadGiven order h is.program (take t.bytes.left piece) rows kind behind new.program → used ≡ length (take t.bytes.left piece) - length behind
-    → new.bytes.taken ≡ min (t.bytes.taken + used) (2 ^ 64 - 1) → new.bytes.left ≡ t.bytes.left - used → answer ≡ record { offset = new.bytes.taken - new.program.begun; kind = kind }
-    → (n : ℕ) × FailsBehind order (events order b ++ map event.Row rows) b piece answer n × Stops order new (b ++ take n piece)
-fails_bad order h t new b piece behind rows kind answer used is (front, last, e, grown, unrefused, spelt, count, open_is) size taken left answer_is =
+pub fails_bad : (order : Order) (h : HeaderData) (t new : UnitBody) (b piece behind : List ℕ) (rows : List Row)
+    (kind : FaultKind) (answer : Fault) (used : ℕ) (is : InProgram order h t b)
+    → BadGiven order h is.program (take t.bytes.left piece) rows kind behind new.program
+    → used ≡ length (take t.bytes.left piece) - length behind
+    → new.bytes.taken ≡ min (t.bytes.taken + used) (2 ^ 64 - 1) → new.bytes.left ≡ t.bytes.left - used
+    → answer ≡ record { offset = new.bytes.taken - new.program.begun; kind = kind }
+    → (n : ℕ) × FailsBehind order (events order b ++ map event.Row rows) b piece answer n
+    × Stops order new (b ++ take n piece)
+fails_bad order h t new b piece behind rows kind answer used is (
+  front,
+  last,
+  e,
+  grown,
+  unrefused,
+  spelt,
+  count,
+  open_is,
+) size taken left answer_is =
     let u = front ++ last ∷ [] in
     let le = taken_le piece u behind t.bytes.left e in
     let exact : used ≡ length u = omega (arith, size, ap length e, length-append u behind) in
     let counted = taken ∙ ap (λ (n : ℕ). min (t.bytes.taken + n) (2 ^ 64 - 1)) exact in
-    let counts = counts_on order t.bytes new.bytes b u is.counts le.0 counted (left ∙ ap (λ (n : ℕ). t.bytes.left - n) exact) in
+    let counts =
+    counts_on order t.bytes new.bytes b u is.counts le.0 counted (left ∙ ap (λ (n : ℕ). t.bytes.left - n) exact) in
     let refused =
-    refused_on order h t b u is le.0 kind (decides_bad order h t b u is le.0 kind spelt) (λ f x back k. (let z = front_before front f last x back k in unrefused f z.0 z.1)) new.bytes.taken new.program.begun counted count in
-    fails_with order (events order b ++ map event.Row rows) b piece u used new answer (record { offset = new.bytes.taken - new.program.begun; kind = kind })
-    (take_front piece u (behind ++ drop t.bytes.left piece) used (piece_is piece u behind t.bytes.left e) exact) (omega (arith, exact, le.1)) answer_is refused (events_more order h t b u is le.0 u rows grown)
-    (record { taken = counts.taken; in_unit = counts_within order new.bytes (b ++ u) counts; in_sequence = open_is ∙ ap ends_open (sym (rows_on order h t b u is le.0 u)) })
+    refused_on order h t b u is le.0 kind (decides_bad order h t b u is le.0 kind spelt) (λ f x back k. (let z =
+    front_before front f last x back k in unrefused f z.0 z.1)) new.bytes.taken new.program.begun counted count in
+    fails_with order (events order b ++ map event.Row rows) b piece u used new answer (record {
+      offset =
+          new.bytes.taken - new.program.begun;
+      kind = kind;
+    })
+    (take_front piece u (behind ++ drop t.bytes.left piece) used (piece_is piece u behind t.bytes.left e) exact)
+    (omega (arith, exact, le.1)) answer_is refused (events_more order h t b u is le.0 u rows grown)
+    (record {
+      taken = counts.taken;
+      in_unit = counts_within order new.bytes (b ++ u) counts;
+      in_sequence =
+          open_is ∙ ap ends_open (sym (rows_on order h t b u is le.0 u));
+    })
 
 -- after a pause a sink goes on
-pub sink_paused : {S : Type 0} (story : Story S) (s : S) (rows : List Row) (e : Event) → IsPause e → story.hears s rows → SinkAt story s rows e
+pub sink_paused : {S : Type 0} (story : Story S) (s : S) (rows : List Row) (e : Event) → IsPause e → story.hears s rows
+    → SinkAt story s rows e
 sink_paused story s rows event.More pause hears = hears
 sink_paused story s rows event.End pause hears = hears
 sink_paused story s rows event.NoMemory pause hears = hears

@@ -1,5 +1,7 @@
 -- What is refused after a header.
-use Rattle.std.proofs.Common.{◌≡◌, ℕ, ◌+◌, ◌<◌, ◌≤◌, Bool, if◌then◌else◌, List, [], ◌∷◌, ◌++◌, length, Option, Some, None, Ok, Err, refl, sym, ap, subst, ◌∙◌, arith, inl, inr, ◌⊎◌, append_assoc, append-nil, length-append}
+use Rattle.std.proofs.Common.{◌≡◌, ℕ, ◌+◌, ◌<◌, ◌≤◌, Bool, if◌then◌else◌, List, [], ◌∷◌, ◌++◌, length, Option, Some}
+use Rattle.std.proofs.Common.{None, Ok, Err, refl, sym, ap, subst, ◌∙◌, arith, inl, inr, ◌⊎◌, append_assoc, append-nil}
+use Rattle.std.proofs.Common.{length-append}
 use Rattle.std.proofs.lemmas.Bool.{cases_eq, eq-eqb, ne_eqb}
 use Rattle.dl_num.specs.declared.fixed.Order.{Order}
 use Rattle.dl_num.specs.Front.{SpellsNowhere, Standing}
@@ -32,16 +34,19 @@ use Rattle.dl_rows.proofs.UnitWhole.{NoneRefused, silent}
 kind_same : (k j : FaultKind) → ◌≡◌ {A = Option FaultKind} (Some k) (Some j) → k ≡ j
 kind_same k j e = cc
 
-no_bytes : (order : Order) (h : Params) (kind : FaultKind) → ◌≡◌ {A = Judgement Operation} (operation_spelt order h []) (bad kind) → ⊥
+no_bytes : (order : Order) (h : Params) (kind : FaultKind)
+    → ◌≡◌ {A = Judgement Operation} (operation_spelt order h []) (bad kind) → ⊥
 no_bytes order h kind e = none_some refl e
 
 -- where a front has no header, it decides nothing
-quiet_in_header : (order : Order) (h : HeaderData) (w v front back : List ℕ) → IsHeader order h w → w ++ v ≡ front ++ back → header_in order front ≡ None → unit_decided order front ≡ None
+quiet_in_header : (order : Order) (h : HeaderData) (w v front back : List ℕ) → IsHeader order h w
+    → w ++ v ≡ front ++ back → header_in order front ≡ None → unit_decided order front ≡ None
 quiet_in_header order h w v front back is e none = silent order front front [] refused (sym (append-nil front)) where
   refused : NoneRefused order front
   refused begun more at kind split r =
       let none_begun = no_header_before order begun more (ap (header_in order) (sym split) ∙ none) in
-      header_is_not_refused order h w v begun (more ++ back) at kind is (e ∙ ap (λ (z : List ℕ). z ++ back) split ∙ append_assoc begun more back) ((refused_in_header order begun at kind none_begun).0 r)
+      header_is_not_refused order h w v begun (more ++ back) at kind is (e ∙ ap (λ (z : List ℕ). z ++ back) split
+      ∙ append_assoc begun more back) ((refused_in_header order begun at kind none_begun).0 r)
 
 -- an overrun is decided at the end, and is one
 ended : (kind k : FaultKind) (n : ℕ) (end : Option ℕ) → at_end kind n end ≡ Some k → (end ≡ Some n) × (k ≡ kind)
@@ -59,7 +64,9 @@ some_apart : {k : FaultKind} {o : Operation} → ◌≡◌ {A = Judgement Operat
 some_apart {k = k} {o = o} e = absurd cc
 
 -- what is judged good or incomplete isn't bad, and what isn't good is no operation
-good_one_none : (order : Order) (h : Params) (w : List ℕ) → 1 ≤ h.opcode_base → ((o : Operation) → SpellsOperation order h o w → ⊥) → ◌≡◌ {A = Option Operation} (good_one (operation_spelt order h w)) None
+good_one_none : (order : Order) (h : Params) (w : List ℕ) → 1 ≤ h.opcode_base
+    → ((o : Operation) → SpellsOperation order h o w → ⊥)
+    → ◌≡◌ {A = Option Operation} (good_one (operation_spelt order h w)) None
 good_one_none order h w some none = on (operation_spelt order h w) refl where
   on : (j : Judgement Operation) → operation_spelt order h w ≡ j → ◌≡◌ {A = Option Operation} (good_one j) None
   on (Some (Ok o)) e = absurd (none o ((spelt_is_spelled order h o w some).1 e))
@@ -67,33 +74,56 @@ good_one_none order h w some none = on (operation_spelt order h w) refl where
   on None e = refl
 
 -- after a program stands what no operation begins
-rest_is : (order : Order) (h : Params) (p : List Operation) (done begun : List ℕ) → 1 ≤ h.opcode_base → SpellsProgram order h p done
-    → ((o : Operation) (front back : List ℕ) → begun ≡ front ++ back → SpellsOperation order h o front → ⊥) → (operations_in order h (done ++ begun)).rest ≡ begun
+rest_is : (order : Order) (h : Params) (p : List Operation) (done begun : List ℕ) → 1 ≤ h.opcode_base
+    → SpellsProgram order h p done
+    → ((o : Operation) (front back : List ℕ) → begun ≡ front ++ back → SpellsOperation order h o front → ⊥)
+    → (operations_in order h (done ++ begun)).rest ≡ begun
 rest_is order h p done begun some s none =
-    let nowhere : SpellsNowhere (spelt order h) begun = λ front back e. good_one_none order h front some (λ o t. none o front back e t) in
-    ap (λ (t : Standing Operation). t.rest) ((one_cut Operation (spelt order h) (done ++ begun) (p ++ []) begun refl).0 (program_cut order h p done begun [] begun some s (refl, nowhere)))
+    let nowhere : SpellsNowhere (spelt order h) begun =
+    λ front back e. good_one_none order h front some (λ o t. none o front back e t) in
+    ap (λ (t : Standing Operation). t.rest) ((one_cut Operation (spelt order h) (done ++ begun) (p ++ []) begun refl).0
+    (program_cut order h p done begun [] begun some s (refl, nowhere)))
 
 -- a front that decides nothing is incomplete
-quiet_incomplete : (order : Order) (h : Params) (w : List ℕ) (n : ℕ) (end : Option ℕ) → 1 ≤ h.opcode_base → ((o : Operation) → SpellsOperation order h o w → ⊥) → operation_decided order h w n end ≡ None → IsIncomplete order h w
-quiet_incomplete order h w n end some none e = (none, λ kind bad. judged kind w e ((bad_is_faulty order h kind w some).0 bad)) where
-  judged : (kind : FaultKind) (w : List ℕ) → operation_decided order h w n end ≡ None → ◌≡◌ {A = Judgement Operation} (operation_spelt order h w) (bad kind) → ⊥
-  judged kind [] e j = no_bytes order h kind j
-  judged kind (x ∷ w) e j = none_some e (ap (λ (i : Judgement Operation). or_else (bad_kind i) (at_end fault.OpcodeOverrun n end)) j)
+quiet_incomplete : (order : Order) (h : Params) (w : List ℕ) (n : ℕ) (end : Option ℕ) → 1 ≤ h.opcode_base
+    → ((o : Operation) → SpellsOperation order h o w → ⊥) → operation_decided order h w n end ≡ None
+    → IsIncomplete order h w
+quiet_incomplete order h w n end some none e =
+    (none, λ kind bad. judged kind w e ((bad_is_faulty order h kind w some).0 bad)) where
+      judged : (kind : FaultKind) (w : List ℕ) → operation_decided order h w n end ≡ None
+          → ◌≡◌ {A = Judgement Operation} (operation_spelt order h w) (bad kind) → ⊥
+      judged kind [] e j = no_bytes order h kind j
+      judged kind (x ∷ w) e j =
+          none_some e (ap (λ (i : Judgement Operation). or_else (bad_kind i) (at_end fault.OpcodeOverrun n end)) j)
 
 -- what the bytes of an operation decide
-operation_faults : (order : Order) (h : Params) (b begun : List ℕ) (kind : FaultKind) → 1 ≤ h.opcode_base → operation_decided order h begun (length b) (unit_len order b) ≡ Some kind
-    → ((o : Operation) → SpellsOperation order h o begun → ⊥) → IsBadOperation h begun kind ⊎ (IsCutShort order h b begun × (kind ≡ fault.OpcodeOverrun))
+operation_faults : (order : Order) (h : Params) (b begun : List ℕ) (kind : FaultKind) → 1 ≤ h.opcode_base
+    → operation_decided order h begun (length b) (unit_len order b) ≡ Some kind
+    → ((o : Operation) → SpellsOperation order h o begun → ⊥) → IsBadOperation h begun kind
+    ⊎ (IsCutShort order h b begun × (kind ≡ fault.OpcodeOverrun))
 operation_faults order h b [] kind some e none = absurd (none_some {a = kind} refl e)
 operation_faults order h b (x ∷ w) kind some e none = on (operation_spelt order h (x ∷ w)) refl e where
-  cut_short : (j : Judgement Operation) → operation_spelt order h (x ∷ w) ≡ j → ((k : FaultKind) → ◌≡◌ {A = Judgement Operation} j (bad k) → ⊥) → at_end fault.OpcodeOverrun (length b) (unit_len order b) ≡ Some kind
+  cut_short : (j : Judgement Operation) → operation_spelt order h (x ∷ w) ≡ j
+      → ((k : FaultKind) → ◌≡◌ {A = Judgement Operation} j (bad k) → ⊥)
+      → at_end fault.OpcodeOverrun (length b) (unit_len order b) ≡ Some kind
       → IsCutShort order h b (x ∷ w) × (kind ≡ fault.OpcodeOverrun)
   cut_short j is good f =
-      let end = ended fault.OpcodeOverrun kind (length b) (unit_len order b) f in
-      (record { last = end.0; some = omega arith; incomplete = (none, λ k faulty. good k (sym is ∙ (bad_is_faulty order h k (x ∷ w) some).0 faulty)) }, end.1)
+      let end = ended fault.OpcodeOverrun kind (length b) (unit_len order b) f in (
+        record {
+          last = end.0;
+          some = omega arith;
+          incomplete =
+              (none, λ k faulty. good k (sym is ∙ (bad_is_faulty order h k (x ∷ w) some).0 faulty));
+        },
+        end.1,
+      )
 
-  on : (j : Judgement Operation) → operation_spelt order h (x ∷ w) ≡ j → or_else (bad_kind j) (at_end fault.OpcodeOverrun (length b) (unit_len order b)) ≡ Some kind
+  on : (j : Judgement Operation) → operation_spelt order h (x ∷ w) ≡ j
+      → or_else (bad_kind j) (at_end fault.OpcodeOverrun (length b) (unit_len order b)) ≡ Some kind
       → IsBadOperation h (x ∷ w) kind ⊎ (IsCutShort order h b (x ∷ w) × (kind ≡ fault.OpcodeOverrun))
-  on (Some (Err k)) j f = inl ((bad_is_faulty order h kind (x ∷ w) some).1 (j ∙ ap (λ (y : FaultKind). let i : Judgement Operation = bad y in i) (kind_same k kind f)))
+  on (Some (Err k)) j f =
+      inl ((bad_is_faulty order h kind (x ∷ w) some).1 (j ∙ ap (λ (y : FaultKind). let i : Judgement Operation =
+      bad y in i) (kind_same k kind f)))
   on (Some (Ok o)) j f = inr (cut_short (Some (Ok o)) j (λ k g. some_apart g) f)
   on None j f = inr (cut_short None j (λ k g. none_some refl g) f)
 
@@ -106,7 +136,8 @@ refused_in_program order b h program at kind found r = record {
   spells = p.2;
   place = subst (λ (w : List ℕ). at + length w ≡ length b) (ap (left_behind order b) found) r.place;
   shortest = shortest;
-  fault = operation_faults order h.params b rest kind some (sym (ap (decided_behind order b) found) ∙ r.decided) (λ o s. none o rest [] (sym (append-nil rest)) s);
+  fault = operation_faults order h.params b rest kind some (sym (ap (decided_behind order b) found)
+      ∙ r.decided) (λ o s. none o rest [] (sym (append-nil rest)) s);
 } where
   head : (w : List ℕ) × (b ≡ w ++ program) × IsHeader order h w
   head = found_is_header order h b program found
@@ -126,48 +157,65 @@ refused_in_program order b h program at kind found r = record {
   -- a shorter front of b decides nothing
   shortest : (front : List ℕ) (x : ℕ) (back : List ℕ) → rest ≡ front ++ x ∷ back → IsIncomplete order h.params front
   shortest front x back e =
-      let none_here = λ (o : Operation) (w v : List ℕ) (is : front ≡ w ++ v). none o w (v ++ x ∷ back) (e ∙ ap (λ (z : List ℕ). z ++ x ∷ back) is ∙ append_assoc w v (x ∷ back)) in
+      let none_here =
+      λ (o : Operation) (w v : List ℕ) (is : front ≡ w ++ v). none o w (v ++ x ∷ back) (e
+      ∙ ap (λ (z : List ℕ). z ++ x ∷ back) is ∙ append_assoc w v (x ∷ back)) in
       let c = head.0 ++ (p.0 ++ front) in
       let whole : b ≡ c ++ x ∷ back =
-      head.1 ∙ ap (λ (z : List ℕ). head.0 ++ z) (p.1 ∙ ap (λ (z : List ℕ). p.0 ++ z) e ∙ sym (append_assoc p.0 front (x ∷ back))) ∙ sym (append_assoc head.0 (p.0 ++ front) (x ∷ back)) in
-      let decided : operation_decided order h.params (operations_in order h.params (p.0 ++ front)).rest (length c) (unit_len order c) ≡ None =
-      sym (ap (decided_behind order c) (header_is_found order h head.0 (p.0 ++ front) head.2)) ∙ r.shortest c x back whole in
-      quiet_incomplete order h.params front (length c) (unit_len order c) some (λ o s. none_here o front [] (sym (append-nil front)) s)
-      (sym (ap (λ (z : List ℕ). operation_decided order h.params z (length c) (unit_len order c)) (rest_is order h.params (operations_in order h.params program).found p.0 front some p.2 (λ o w v is s. none_here o w v is s))) ∙ decided)
+      head.1 ∙ ap (λ (z : List ℕ). head.0 ++ z) (p.1 ∙ ap (λ (z : List ℕ). p.0 ++ z) e
+      ∙ sym (append_assoc p.0 front (x ∷ back))) ∙ sym (append_assoc head.0 (p.0 ++ front) (x ∷ back)) in
+      let decided : operation_decided order h.params (operations_in order h.params (p.0 ++ front)).rest (length c)
+      (unit_len order c) ≡ None =
+      sym (ap (decided_behind order c) (header_is_found order h head.0 (p.0 ++ front) head.2))
+      ∙ r.shortest c x back whole in
+      quiet_incomplete order h.params front (length c) (unit_len order c) some
+      (λ o s. none_here o front [] (sym (append-nil front)) s)
+      (sym (ap (λ (z : List ℕ). operation_decided order h.params z (length c) (unit_len order c))
+      (rest_is order h.params (operations_in order h.params program).found p.0 front some p.2
+      (λ o w v is s. none_here o w v is s))) ∙ decided)
 
 -- ---- and the other way
 
-incomplete_quiet : (order : Order) (h : Params) (w : List ℕ) (n : ℕ) (end : Option ℕ) → 1 ≤ h.opcode_base → IsIncomplete order h w → ((e : ℕ) → end ≡ Some e → n < e) → operation_decided order h w n end ≡ None
+incomplete_quiet : (order : Order) (h : Params) (w : List ℕ) (n : ℕ) (end : Option ℕ) → 1 ≤ h.opcode_base
+    → IsIncomplete order h w → ((e : ℕ) → end ≡ Some e → n < e) → operation_decided order h w n end ≡ None
 incomplete_quiet order h [] n end some none before = refl
 incomplete_quiet order h (x ∷ w) n end some none before = on (operation_spelt order h (x ∷ w)) refl where
   before_end : (o : Option ℕ) → end ≡ o → at_end fault.OpcodeOverrun n o ≡ None
   before_end None k = refl
   before_end (Some m) k = rw (ne_eqb n m (λ same. omega (arith, same, before m k))) refl
 
-  on : (j : Judgement Operation) → operation_spelt order h (x ∷ w) ≡ j → or_else (bad_kind j) (at_end fault.OpcodeOverrun n end) ≡ None
+  on : (j : Judgement Operation) → operation_spelt order h (x ∷ w) ≡ j
+      → or_else (bad_kind j) (at_end fault.OpcodeOverrun n end) ≡ None
   on (Some (Err k)) j = absurd (none.1 k ((bad_is_faulty order h k (x ∷ w) some).1 j))
   on (Some (Ok o)) j = before_end end refl
   on None j = before_end end refl
 
 -- the bytes of the operation decide the fault
-faults_decided : (order : Order) (h : Params) (b begun : List ℕ) (kind : FaultKind) → 1 ≤ h.opcode_base → IsBadOperation h begun kind ⊎ (IsCutShort order h b begun × (kind ≡ fault.OpcodeOverrun))
+faults_decided : (order : Order) (h : Params) (b begun : List ℕ) (kind : FaultKind) → 1 ≤ h.opcode_base
+    → IsBadOperation h begun kind ⊎ (IsCutShort order h b begun × (kind ≡ fault.OpcodeOverrun))
     → operation_decided order h begun (length b) (unit_len order b) ≡ Some kind
-faults_decided order h b [] kind some (inl is_bad) = absurd (no_bytes order h kind ((bad_is_faulty order h kind [] some).0 is_bad))
+faults_decided order h b [] kind some (inl is_bad) =
+    absurd (no_bytes order h kind ((bad_is_faulty order h kind [] some).0 is_bad))
 faults_decided order h b [] kind some (inr (short, is)) = absurd (omega (arith, short.some))
-faults_decided order h b (x ∷ w) kind some (inl is_bad) = ap (λ (j : Judgement Operation). or_else (bad_kind j) (at_end fault.OpcodeOverrun (length b) (unit_len order b))) ((bad_is_faulty order h kind (x ∷ w) some).0 is_bad)
+faults_decided order h b (x ∷ w) kind some (inl is_bad) =
+    ap (λ (j : Judgement Operation). or_else (bad_kind j) (at_end fault.OpcodeOverrun (length b) (unit_len order b)))
+    ((bad_is_faulty order h kind (x ∷ w) some).0 is_bad)
 faults_decided order h b (x ∷ w) kind some (inr (short, is)) = on (operation_spelt order h (x ∷ w)) refl where
   at_last : at_end fault.OpcodeOverrun (length b) (unit_len order b) ≡ Some kind
   at_last =
       ap (at_end fault.OpcodeOverrun (length b)) short.last
-      ∙ ap (λ (v : Bool). let o : Option FaultKind = if v then Some fault.OpcodeOverrun else None in o) (eq-eqb (length b) (length b) refl)
+      ∙ ap (λ (v : Bool). let o : Option FaultKind = if v then Some fault.OpcodeOverrun else None in
+      o) (eq-eqb (length b) (length b) refl)
       ∙ ap (λ (k : FaultKind). let o : Option FaultKind = Some k in o) (sym is)
 
-  on : (j : Judgement Operation) → operation_spelt order h (x ∷ w) ≡ j → or_else (bad_kind j) (at_end fault.OpcodeOverrun (length b) (unit_len order b)) ≡ Some kind
+  on : (j : Judgement Operation) → operation_spelt order h (x ∷ w) ≡ j
+      → or_else (bad_kind j) (at_end fault.OpcodeOverrun (length b) (unit_len order b)) ≡ Some kind
   on (Some (Err k)) j = absurd (short.incomplete.1 k ((bad_is_faulty order h k (x ∷ w) some).1 j))
   on (Some (Ok o)) j = at_last
   on None j = at_last
 
-module _ (order : Order) (b : List ℕ) (h : HeaderData) (program : List ℕ) (at : ℕ) (kind : FaultKind) (found : header_in order b ≡ Some (h, program)) (within : WithinUnit order b)
+module _ (order : Order) (b : List ℕ) (h : HeaderData) (program : List ℕ) (at : ℕ) (kind : FaultKind)
+    (found : header_in order b ≡ Some (h, program)) (within : WithinUnit order b)
     (r : RefusesOperation order h.params b program at kind) where
   abbrev head : (w : List ℕ) × (b ≡ w ++ program) × IsHeader order h w
   head = found_is_header order h b program found
@@ -178,42 +226,64 @@ module _ (order : Order) (b : List ℕ) (h : HeaderData) (program : List ℕ) (a
   -- what is begun is no operation
   not_whole : (o : Operation) → SpellsOperation order h.params o r.begun → ⊥
   not_whole o s = elim r.fault [
-    | inl is_bad ↦ no_spelling_is_faulty order h.params o kind r.begun [] base (subst (SpellsOperation order h.params o) (sym (append-nil r.begun)) s) is_bad.faulty
+    | inl is_bad ↦ no_spelling_is_faulty order h.params o kind r.begun [] base
+        (subst (SpellsOperation order h.params o) (sym (append-nil r.begun)) s) is_bad.faulty
     | inr short ↦ short.0.incomplete.0 o s
   ]
 
-  none_begins : (o : Operation) (front back : List ℕ) → r.begun ≡ front ++ back → SpellsOperation order h.params o front → ⊥
+  none_begins : (o : Operation) (front back : List ℕ) → r.begun ≡ front ++ back → SpellsOperation order h.params o front
+      → ⊥
   none_begins o front [] e s = not_whole o (subst (SpellsOperation order h.params o) (sym (e ∙ append-nil front)) s)
   none_begins o front (x ∷ back) e s = (r.shortest front x back e).0 o s
 
   rest_begun : (operations_in order h.params program).rest ≡ r.begun
-  rest_begun = ap (λ (w : List ℕ). (operations_in order h.params w).rest) r.whole ∙ rest_is order h.params r.operations r.done r.begun base r.spells none_begins
+  rest_begun =
+      ap (λ (w : List ℕ). (operations_in order h.params w).rest) r.whole
+      ∙ rest_is order h.params r.operations r.done r.begun base r.spells none_begins
 
   -- the unit goes on after a shorter front
-  before_end : (front : List ℕ) (x : ℕ) (back : List ℕ) → b ≡ front ++ x ∷ back → (n : ℕ) → unit_len order front ≡ Some n → length front + length (x ∷ back) ≤ n
+  before_end : (front : List ℕ) (x : ℕ) (back : List ℕ) → b ≡ front ++ x ∷ back → (n : ℕ)
+      → unit_len order front ≡ Some n → length front + length (x ∷ back) ≤ n
   before_end front x back e n len =
       let le = within n (ap (unit_len order) e ∙ unit_len_on order front (x ∷ back) n len) in
       omega (arith, le, ap length e, length-append front (x ∷ back))
 
   -- a shorter front with a part of the program
-  quiet_program : (front : List ℕ) (x : ℕ) (back v : List ℕ) → b ≡ front ++ x ∷ back → program ≡ v ++ x ∷ back → operation_decided order h.params (operations_in order h.params v).rest (length front) (unit_len order front) ≡ None
+  quiet_program : (front : List ℕ) (x : ℕ) (back v : List ℕ) → b ≡ front ++ x ∷ back → program ≡ v ++ x ∷ back
+      → operation_decided order h.params (operations_in order h.params v).rest (length front) (unit_len order front)
+      ≡ None
   quiet_program front x back v e part = elim (fronts v r.done (x ∷ back) r.begun (sym part ∙ r.whole)) [
     | inl same ↦
         let spelled = subst (SpellsProgram order h.params r.operations) (sym same ∙ sym (append-nil v)) r.spells in
-        operation_quiet order h.params r.operations v [] (operations_in order h.params v).rest (length front) (unit_len order front) base spelled refl (λ n len. omega (arith, before_end front x back e n len))
+        operation_quiet order h.params r.operations v [] (operations_in order h.params v).rest (length front)
+        (unit_len order front) base spelled refl (λ n len. omega (arith, before_end front x back e n len))
     | inr (inl more) ↦
         let spelled = subst (SpellsProgram order h.params r.operations) more.2 r.spells in
-        let longer = behind_front v (x ∷ back) ((more.0 ∷ more.1) ++ r.begun) (sym part ∙ r.whole ∙ ap (λ (z : List ℕ). z ++ r.begun) more.2 ∙ append_assoc v (more.0 ∷ more.1) r.begun) in
-        operation_quiet order h.params r.operations v (more.0 ∷ more.1) (operations_in order h.params v).rest (length front) (unit_len order front) base spelled refl
-        (λ n len. omega (arith, before_end front x back e n len, ap length longer, length-append (more.0 ∷ more.1) r.begun))
+        let longer =
+        behind_front v (x ∷ back) ((more.0 ∷ more.1) ++ r.begun) (sym part ∙ r.whole
+        ∙ ap (λ (z : List ℕ). z ++ r.begun) more.2 ∙ append_assoc v (more.0 ∷ more.1) r.begun) in
+        operation_quiet order h.params r.operations v (more.0 ∷ more.1) (operations_in order h.params v).rest
+        (length front) (unit_len order front) base spelled refl
+        (λ n len. omega (
+          arith,
+          before_end front x back e n len,
+          ap length longer,
+          length-append (more.0 ∷ more.1) r.begun,
+        ))
     | inr (inr more) ↦
         let w = more.0 ∷ more.1 in
-        let begun : r.begun ≡ w ++ x ∷ back = sym (behind_front r.done (w ++ x ∷ back) r.begun (sym (append_assoc r.done w (x ∷ back)) ∙ ap (λ (z : List ℕ). z ++ x ∷ back) (sym more.2) ∙ sym part ∙ r.whole)) in
+        let begun : r.begun ≡ w ++ x ∷ back =
+        sym (behind_front r.done (w ++ x ∷ back) r.begun (sym (append_assoc r.done w (x ∷ back))
+        ∙ ap (λ (z : List ℕ). z ++ x ∷ back) (sym more.2) ∙ sym part ∙ r.whole)) in
         let none : (o : Operation) (u t : List ℕ) → w ≡ u ++ t → SpellsOperation order h.params o u → ⊥ =
-        λ o u t is s. none_begins o u (t ++ x ∷ back) (begun ∙ ap (λ (z : List ℕ). z ++ x ∷ back) is ∙ append_assoc u t (x ∷ back)) s in
-        let rest : (operations_in order h.params v).rest ≡ w = ap (λ (z : List ℕ). (operations_in order h.params z).rest) more.2 ∙ rest_is order h.params r.operations r.done w base r.spells none in
+        λ o u t is s. none_begins o u (t ++ x ∷ back) (begun ∙ ap (λ (z : List ℕ). z ++ x ∷ back) is
+        ∙ append_assoc u t (x ∷ back)) s in
+        let rest : (operations_in order h.params v).rest ≡ w =
+        ap (λ (z : List ℕ). (operations_in order h.params z).rest) more.2
+        ∙ rest_is order h.params r.operations r.done w base r.spells none in
         ap (λ (z : List ℕ). operation_decided order h.params z (length front) (unit_len order front)) rest
-        ∙ incomplete_quiet order h.params w (length front) (unit_len order front) base (r.shortest w x back begun) (λ n len. omega (arith, before_end front x back e n len))
+        ∙ incomplete_quiet order h.params w (length front) (unit_len order front) base (r.shortest w x back begun)
+        (λ n len. omega (arith, before_end front x back e n len))
   ]
 
   quiet_before : NothingBefore (unit_decided order) b
@@ -221,17 +291,25 @@ module _ (order : Order) (b : List ℕ) (h : HeaderData) (program : List ℕ) (a
     on : (o : Option (HeaderData × List ℕ)) → header_in order front ≡ o → unit_decided order front ≡ None
     on None none = quiet_in_header order h head.0 program front (x ∷ back) head.2 (sym head.1 ∙ e) none
     on (Some (g, v)) is =
-        let same = parts_same g h (v ++ x ∷ back) program (sym (header_on order front (x ∷ back) g v is) ∙ ap (header_in order) (sym e) ∙ found) in
+        let same =
+        parts_same g h (v ++ x ∷ back) program (sym (header_on order front (x ∷ back) g v is)
+        ∙ ap (header_in order) (sym e) ∙ found) in
         ap (decided_behind order front) is
-        ∙ ap (λ (d : HeaderData). operation_decided order d.params (operations_in order d.params v).rest (length front) (unit_len order front)) same.0
+        ∙ ap (λ (d : HeaderData). operation_decided order d.params (operations_in order d.params v).rest (length front)
+        (unit_len order front)) same.0
         ∙ quiet_program front x back v e (sym same.1)
 
   pub operation_refused : Refused order b at kind
   operation_refused = record {
-    place = subst (λ (w : List ℕ). at + length w ≡ length b) (sym (ap (left_behind order b) found ∙ rest_begun)) r.place;
-    decided = ap (decided_behind order b) found ∙ ap (λ (w : List ℕ). operation_decided order h.params w (length b) (unit_len order b)) rest_begun ∙ faults_decided order h.params b r.begun kind base r.fault;
+    place = subst (λ (w : List ℕ). at + length w ≡ length b) (sym (ap (left_behind order b) found ∙ rest_begun))
+        r.place;
+    decided =
+        ap (decided_behind order b) found
+        ∙ ap (λ (w : List ℕ). operation_decided order h.params w (length b) (unit_len order b)) rest_begun
+        ∙ faults_decided order h.params b r.begun kind base r.fault;
     shortest = quiet_before;
   }
 
 pub operation_is_refused : OperationIsRefused
-operation_is_refused order b h program at kind found within r = operation_refused order b h program at kind found within r
+operation_is_refused order b h program at kind found within r =
+    operation_refused order b h program at kind found within r

@@ -10,19 +10,25 @@ use Rattle.dl_field.proofs.FieldLemmas.{none_some}
 use Rattle.dl_head.proofs.HeaderLaws.{header_cut}
 use Rattle.dl_head.proofs.FirstFields.{is_length}
 
-known_by : (order : Order) (b : List ℕ) (items : List Item) (rest : List ℕ) → cut order b ≡ cut_of items rest → (items ≡ [] → ⊥) → (n : ℕ) × (unit_len order b ≡ Some n)
-known_by order b items rest e some = on items e some (subst (λ (c : Cut). Sound order header_layout b c) e (cut_sound order header_layout [] b)) where
-  on : (items : List Item) → cut order b ≡ cut_of items rest → (items ≡ [] → ⊥) → Sound order header_layout b (cut_of items rest) → (n : ℕ) × (unit_len order b ≡ Some n)
-  on [] e some s = absurd (some refl)
-  on (i ∷ more) e some s =
-      let is = is_length order s.spelt.0 i s.spelt.3 in
-      (_, ap (λ (c : Cut). unit_end c.items) e ∙ ap (λ (j : Item). unit_end (j ∷ more)) is.item)
+known_by : (order : Order) (b : List ℕ) (items : List Item) (rest : List ℕ) → cut order b ≡ cut_of items rest
+    → (items ≡ [] → ⊥) → (n : ℕ) × (unit_len order b ≡ Some n)
+known_by order b items rest e some =
+    on items e some (subst (λ (c : Cut). Sound order header_layout b c) e (cut_sound order header_layout [] b)) where
+      on : (items : List Item) → cut order b ≡ cut_of items rest → (items ≡ [] → ⊥)
+          → Sound order header_layout b (cut_of items rest) → (n : ℕ) × (unit_len order b ≡ Some n)
+      on [] e some s = absurd (some refl)
+      on (i ∷ more) e some s =
+          let is = is_length order s.spelt.0 i s.spelt.3 in
+          (_, ap (λ (c : Cut). unit_end c.items) e ∙ ap (λ (j : Item). unit_end (j ∷ more)) is.item)
 
-pub foreign_known : (order : Order) (b : List ℕ) (v : ℕ) → foreign_in order b ≡ Some v → (n : ℕ) × (unit_len order b ≡ Some n)
+pub foreign_known : (order : Order) (b : List ℕ) (v : ℕ) → foreign_in order b ≡ Some v
+    → (n : ℕ) × (unit_len order b ≡ Some n)
 foreign_known order b v foreign =
-    known_by order b (cut order b).items (cut order b).rest refl (λ none. none_some (ap (λ (l : List Item). foreign_made (following_all header_layout l)) none) foreign)
+    known_by order b (cut order b).items (cut order b).rest refl
+    (λ none. none_some (ap (λ (l : List Item). foreign_made (following_all header_layout l)) none) foreign)
 
-pub header_known : (order : Order) (h : HeaderData) (w : List ℕ) → IsHeader order h w → (n : ℕ) × (unit_len order w ≡ Some n)
+pub header_known : (order : Order) (h : HeaderData) (w : List ℕ) → IsHeader order h w
+    → (n : ℕ) × (unit_len order w ≡ Some n)
 header_known order h w is =
     known_by order w is.items (is.padding ++ []) (ap (cut order) (sym (append-nil w)) ∙ header_cut order h w [] is)
     (λ none. none_some {a = h} (ap (λ (l : List Item). header_made (following_all header_layout l)) none) is.made)

@@ -1,5 +1,6 @@
 -- The laws of units and refusals that need no more than those of headers and programs.
-use Rattle.std.proofs.Common.{◌≡◌, ℕ, List, [], ◌∷◌, length, Option, Some, None, sym, ap, subst, ◌∙◌, arith, inl, inr, append-nil}
+use Rattle.std.proofs.Common.{◌≡◌, ℕ, List, [], ◌∷◌, length, Option, Some, None, sym, ap, subst, ◌∙◌, arith, inl, inr}
+use Rattle.std.proofs.Common.{append-nil}
 use Rattle.std.specs.Prelude.{map}
 use Rattle.dl_num.specs.declared.fixed.Order.{Order}
 use Rattle.dl_num.specs.Front.{Standing}
@@ -21,28 +22,35 @@ use Rattle.dl_rows.proofs.ProgramLaws.{program_is_found, a_row_for_a_byte}
 use Rattle.dl_rows.proofs.UnitLengths.{foreign_of}
 
 pub foreign_comes_to : ForeignComesTo
-foreign_comes_to order version u is = ap (λ (o : Option ℕ). events_of order o (header_in order u)) (foreign_of order version u is)
+foreign_comes_to order version u is =
+    ap (λ (o : Option ℕ). events_of order o (header_in order u)) (foreign_of order version u is)
 
 pub unit_comes_to : UnitComesTo
 unit_comes_to order h p u is =
     let opcodes = (header_is_usable order h is.header is.spells_header).opcodes in
-    let own : foreign_in order u ≡ None = ap (foreign_in order) is.whole ∙ header_is_not_foreign order h is.header is.program is.spells_header in
-    let parts : header_in order u ≡ Some (h, is.program) = ap (header_in order) is.whole ∙ header_is_found order h is.header is.program is.spells_header in
+    let own : foreign_in order u ≡ None =
+    ap (foreign_in order) is.whole ∙ header_is_not_foreign order h is.header is.program is.spells_header in
+    let parts : header_in order u ≡ Some (h, is.program) =
+    ap (header_in order) is.whole ∙ header_is_found order h is.header is.program is.spells_header in
     let found = program_is_found order h.params p is.program [] (omega arith) is.spells_program in
     let operations : (operations_in order h.params is.program).found ≡ p =
-    ap (λ (b : List ℕ). (operations_in order h.params b).found) (sym (append-nil is.program)) ∙ ap (λ (s : Standing Operation). s.found) found ∙ append-nil p in
+    ap (λ (b : List ℕ). (operations_in order h.params b).found) (sym (append-nil is.program))
+    ∙ ap (λ (s : Standing Operation). s.found) found ∙ append-nil p in
     ap (λ (o : Option ℕ). events_of order o (header_in order u)) own
     ∙ ap (own_events order) parts
     ∙ ap (λ (q : List Operation). event.Header ∷ map event.Row (matrix h.params q)) operations
 
-not_longer : (order : Order) (b c : List ℕ) (at at2 : ℕ) (kind kind2 : FaultKind) → Refused order b at kind → Refused order c at2 kind2 → GoesOn b c → ⊥
+not_longer : (order : Order) (b c : List ℕ) (at at2 : ℕ) (kind kind2 : FaultKind) → Refused order b at kind
+    → Refused order c at2 kind2 → GoesOn b c → ⊥
 not_longer order b c at at2 kind kind2 r s g = none_some (s.shortest b g.0 g.1 g.2) r.decided
 
 kind_same : (k j : FaultKind) → ◌≡◌ {A = Option FaultKind} (Some k) (Some j) → k ≡ j
 kind_same k j e = cc
 
-same_refusal : (order : Order) (b : List ℕ) (at at2 : ℕ) (kind kind2 : FaultKind) → Refused order b at kind → Refused order b at2 kind2 → (at ≡ at2) × (kind ≡ kind2)
-same_refusal order b at at2 kind kind2 r s = (omega (arith, r.place, s.place), kind_same kind kind2 (sym r.decided ∙ s.decided))
+same_refusal : (order : Order) (b : List ℕ) (at at2 : ℕ) (kind kind2 : FaultKind) → Refused order b at kind
+    → Refused order b at2 kind2 → (at ≡ at2) × (kind ≡ kind2)
+same_refusal order b at at2 kind kind2 r s =
+    (omega (arith, r.place, s.place), kind_same kind kind2 (sym r.decided ∙ s.decided))
 
 pub one_refusal : OneRefusal
 one_refusal order b c v u at at2 kind kind2 e r s = elim (fronts b c v u e) [

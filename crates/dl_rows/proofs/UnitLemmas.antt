@@ -1,5 +1,6 @@
 -- Fronts of a unit: what a header and a length that stand in them are, and what they decide.
-use Rattle.std.proofs.Common.{◌≡◌, ℕ, ◌+◌, List, ◌∷◌, ◌++◌, length, Option, Some, None, refl, sym, ap, subst, ◌∙◌, append_assoc}
+use Rattle.std.proofs.Common.{◌≡◌, ℕ, ◌+◌, List, ◌∷◌, ◌++◌, length, Option, Some, None, refl, sym, ap, subst, ◌∙◌}
+use Rattle.std.proofs.Common.{append_assoc}
 use Rattle.dl_num.specs.declared.fixed.Order.{Order}
 use Rattle.dl_field.specs.HeaderData.{HeaderData}
 use Rattle.dl_field.specs.Layout.{following_all}
@@ -14,10 +15,12 @@ use Rattle.dl_rows.specs.Refusal.{left_behind, decided_behind, unit_decided}
 use Rattle.dl_rows.specs.UnitLaws.{RefusedInHeader}
 
 -- a header stands there still where more bytes come
-pub header_on : (order : Order) (b v : List ℕ) (h : HeaderData) (program : List ℕ) → header_in order b ≡ Some (h, program) → header_in order (b ++ v) ≡ Some (h, program ++ v)
+pub header_on : (order : Order) (b v : List ℕ) (h : HeaderData) (program : List ℕ)
+    → header_in order b ≡ Some (h, program) → header_in order (b ++ v) ≡ Some (h, program ++ v)
 header_on order b v h program e =
     let f = found_is_header order h b program e in
-    ap (header_in order) (ap (λ (z : List ℕ). z ++ v) f.1 ∙ append_assoc f.0 program v) ∙ header_is_found order h f.0 (program ++ v) f.2
+    ap (header_in order) (ap (λ (z : List ℕ). z ++ v) f.1 ∙ append_assoc f.0 program v)
+    ∙ header_is_found order h f.0 (program ++ v) f.2
 
 -- where there is none, there was none
 pub no_header_before : (order : Order) (b v : List ℕ) → header_in order (b ++ v) ≡ None → header_in order b ≡ None
@@ -30,10 +33,12 @@ no_header_before order b v none = on (header_in order b) refl where
 pub unit_len_on : (order : Order) (b v : List ℕ) (n : ℕ) → unit_len order b ≡ Some n → unit_len order (b ++ v) ≡ Some n
 unit_len_on order b v n e =
     ap (λ (c : Cut). unit_end c.items) (cut-append order b v)
-    ∙ unit_end-append (cut order b).items (cut_after order (following_all header_layout (cut order b).items) (cut order b).rest v).items n e
+    ∙ unit_end-append (cut order b).items (cut_after order (following_all header_layout (cut order b).items)
+    (cut order b).rest v).items n e
 
 -- what bytes without a whole header decide
-pub decided_in_header : (order : Order) (b : List ℕ) → header_in order b ≡ None → unit_decided order b ≡ header_decided order b
+pub decided_in_header : (order : Order) (b : List ℕ) → header_in order b ≡ None
+    → unit_decided order b ≡ header_decided order b
 decided_in_header order b none = ap (decided_behind order b) none
 
 pub refused_in_header : RefusedInHeader
@@ -53,5 +58,7 @@ refused_in_header order b at kind none = (
     left : left_behind order b (header_in order b) ≡ (cut order b).rest
     left = ap (left_behind order b) none
 
-    before : (front : List ℕ) (x : ℕ) (back : List ℕ) → b ≡ front ++ x ∷ back → unit_decided order front ≡ header_decided order front
-    before front x back e = decided_in_header order front (no_header_before order front (x ∷ back) (ap (header_in order) (sym e) ∙ none))
+    before : (front : List ℕ) (x : ℕ) (back : List ℕ) → b ≡ front ++ x ∷ back
+        → unit_decided order front ≡ header_decided order front
+    before front x back e =
+        decided_in_header order front (no_header_before order front (x ∷ back) (ap (header_in order) (sym e) ∙ none))

@@ -1,5 +1,6 @@
 -- No front of a unit is refused.
-use Rattle.std.proofs.Common.{◌≡◌, ℕ, ◌+◌, ◌≤◌, List, [], ◌∷◌, ◌++◌, length, Option, Some, None, Ok, Err, refl, sym, ap, subst, ◌∙◌, arith, inl, inr, length-append, append_assoc, append-nil}
+use Rattle.std.proofs.Common.{◌≡◌, ℕ, ◌+◌, ◌≤◌, List, [], ◌∷◌, ◌++◌, length, Option, Some, None, Ok, Err, refl, sym, ap}
+use Rattle.std.proofs.Common.{subst, ◌∙◌, arith, inl, inr, length-append, append_assoc, append-nil}
 use Rattle.std.proofs.lemmas.Bool.{ne_eqb}
 use Rattle.dl_num.specs.declared.fixed.Order.{Order}
 use Rattle.dl_num.specs.Front.{Standing}
@@ -37,7 +38,8 @@ record Completed (order : Order) (h : Params) (begun back : List ℕ) : Type 0 w
   spells : SpellsOperation order h operation (begun ++ byte ∷ more)
 
 -- the rest of a front of a program, and what follows it, is a program
-rest_program : (order : Order) (h : Params) (p : List Operation) (b back : List ℕ) → 1 ≤ h.opcode_base → SpellsProgram order h p (b ++ back)
+rest_program : (order : Order) (h : Params) (p : List Operation) (b back : List ℕ) → 1 ≤ h.opcode_base
+    → SpellsProgram order h p (b ++ back)
     → (q : List Operation) × SpellsProgram order h q ((operations_in order h b).rest ++ back)
 rest_program order h p b back some s =
     let rest = (operations_in order h b).rest in
@@ -46,16 +48,21 @@ rest_program order h p b back some s =
     let later = program_is_found order h (operations_in order h b).found f.0 (rest ++ back) some f.2 in
     let all = program_is_found order h p (b ++ back) [] some s in
     let none : (operations_in order h (rest ++ back)).rest ≡ [] =
-    ap (λ (t : Standing Operation). t.rest) (sym later ∙ ap (operations_in order h) (sym whole ∙ sym (append-nil (b ++ back))) ∙ all) in
+    ap (λ (t : Standing Operation). t.rest) (sym later
+    ∙ ap (operations_in order h) (sym whole ∙ sym (append-nil (b ++ back))) ∙ all) in
     let g = found_is_program order h (rest ++ back) some in
-    let same : g.0 ≡ rest ++ back = sym (append-nil g.0) ∙ ap (λ (z : List ℕ). g.0 ++ z) (sym none) ∙ sym g.1 in
-    ((operations_in order h (rest ++ back)).found, subst (λ (z : List ℕ). SpellsProgram order h (operations_in order h (rest ++ back)).found z) same g.2)
+    let same : g.0 ≡ rest ++ back = sym (append-nil g.0) ∙ ap (λ (z : List ℕ). g.0 ++ z) (sym none) ∙ sym g.1 in (
+      (operations_in order h (rest ++ back)).found,
+      subst (λ (z : List ℕ). SpellsProgram order h (operations_in order h (rest ++ back)).found z) same g.2,
+    )
 
-completed : (order : Order) (h : Params) (p : List Operation) (b back begun : List ℕ) → 1 ≤ h.opcode_base → SpellsProgram order h p (b ++ back) → (operations_in order h b).rest ≡ begun → 1 ≤ length begun
+completed : (order : Order) (h : Params) (p : List Operation) (b back begun : List ℕ) → 1 ≤ h.opcode_base
+    → SpellsProgram order h p (b ++ back) → (operations_in order h b).rest ≡ begun → 1 ≤ length begun
     → Completed order h begun back
 completed order h p b back begun some s e long = on next.0 next.1 where
   next : (q : List Operation) × SpellsProgram order h q (begun ++ back)
-  next = let r = rest_program order h p b back some s in (r.0, subst (λ (z : List ℕ). SpellsProgram order h r.0 (z ++ back)) e r.1)
+  next = let r =
+      rest_program order h p b back some s in (r.0, subst (λ (z : List ℕ). SpellsProgram order h r.0 (z ++ back)) e r.1)
 
   -- no operation stands at the front of what is left
   none : (o : Operation) (w v : List ℕ) → begun ≡ w ++ v → SpellsOperation order h o w → ⊥
@@ -70,15 +77,18 @@ completed order h p b back begun some s e long = on next.0 next.1 where
       byte = goes.0;
       more = goes.1;
       rest = rest;
-      bytes = behind_front begun back ((goes.0 ∷ goes.1) ++ rest) (k ∙ ap (λ (z : List ℕ). z ++ rest) goes.2 ∙ append_assoc begun (goes.0 ∷ goes.1) rest);
+      bytes = behind_front begun back ((goes.0 ∷ goes.1) ++ rest) (k ∙ ap (λ (z : List ℕ). z ++ rest) goes.2
+          ∙ append_assoc begun (goes.0 ∷ goes.1) rest);
       spells = subst (λ (z : List ℕ). SpellsOperation order h o z) goes.2 t;
     }
     | inr (inr goes) ↦ absurd (none o front (goes.0 ∷ goes.1) goes.2 t)
   ]
 
 -- a front of a program in its unit decides nothing
-pub operation_quiet : (order : Order) (h : Params) (p : List Operation) (b back begun : List ℕ) (n : ℕ) (end : Option ℕ) → 1 ≤ h.opcode_base → SpellsProgram order h p (b ++ back)
-    → (operations_in order h b).rest ≡ begun → ((e : ℕ) → end ≡ Some e → n + length back ≤ e) → operation_decided order h begun n end ≡ None
+pub operation_quiet : (order : Order) (h : Params) (p : List Operation) (b back begun : List ℕ) (n : ℕ) (end : Option ℕ)
+    → 1 ≤ h.opcode_base → SpellsProgram order h p (b ++ back)
+    → (operations_in order h b).rest ≡ begun → ((e : ℕ) → end ≡ Some e → n + length back ≤ e)
+    → operation_decided order h begun n end ≡ None
 operation_quiet order h p b back [] n end some s e ends = refl
 operation_quiet order h p b back (x ∷ w) n end some s e ends = on (operation_spelt order h (x ∷ w)) refl where
   c : Completed order h (x ∷ w) back
@@ -86,31 +96,46 @@ operation_quiet order h p b back (x ∷ w) n end some s e ends = on (operation_s
 
   before_end : (o : Option ℕ) → end ≡ o → at_end fault.OpcodeOverrun n o ≡ None
   before_end None k = refl
-  before_end (Some m) k = rw (ne_eqb n m (λ same. omega (arith, same, ends m k, ap length c.bytes, length-append (c.byte ∷ c.more) c.rest))) refl
+  before_end (Some m) k =
+      rw (ne_eqb n m (λ same. omega (arith, same, ends m k, ap length c.bytes, length-append (c.byte ∷ c.more) c.rest)))
+      refl
 
-  on : (j : Judgement Operation) → operation_spelt order h (x ∷ w) ≡ j → or_else (bad_kind j) (at_end fault.OpcodeOverrun n end) ≡ None
-  on (Some (Err k)) j = absurd (no_spelling_is_faulty order h c.operation k (x ∷ w) (c.byte ∷ c.more) some c.spells ((bad_is_faulty order h k (x ∷ w) some).1 j).faulty)
+  on : (j : Judgement Operation) → operation_spelt order h (x ∷ w) ≡ j
+      → or_else (bad_kind j) (at_end fault.OpcodeOverrun n end) ≡ None
+  on (Some (Err k)) j =
+      absurd (no_spelling_is_faulty order h c.operation k (x ∷ w) (c.byte ∷ c.more) some c.spells
+      ((bad_is_faulty order h k (x ∷ w) some).1 j).faulty)
   on (Some (Ok o)) j = before_end end refl
   on None j = before_end end refl
 
 -- ---- fronts of a unit
 
-pub parts_same : (g h : HeaderData) (v w : List ℕ) → ◌≡◌ {A = Option (HeaderData × List ℕ)} (Some (g, v)) (Some (h, w)) → (g ≡ h) × (v ≡ w)
-parts_same g h v w e =
-    (ap (λ (o : Option (HeaderData × List ℕ)). elim o [ Some p ↦ p.0 | None ↦ g ]) e, ap (λ (o : Option (HeaderData × List ℕ)). elim o [ Some p ↦ p.1 | None ↦ v ]) e)
+pub parts_same : (g h : HeaderData) (v w : List ℕ) → ◌≡◌ {A = Option (HeaderData × List ℕ)} (Some (g, v)) (Some (h, w))
+    → (g ≡ h) × (v ≡ w)
+parts_same g h v w e = (
+  ap (λ (o : Option (HeaderData × List ℕ)). elim o [ Some p ↦ p.0 | None ↦ g ]) e,
+  ap (λ (o : Option (HeaderData × List ℕ)). elim o [ Some p ↦ p.1 | None ↦ v ]) e,
+)
 
 -- a front with the header decides nothing
-own_quiet : (order : Order) (h : HeaderData) (p : List Operation) (u front back : List ℕ) (g : HeaderData) (begun : List ℕ) → IsOwnUnit order h p u → u ≡ front ++ back
+own_quiet : (order : Order) (h : HeaderData) (p : List Operation) (u front back : List ℕ) (g : HeaderData)
+    (begun : List ℕ) → IsOwnUnit order h p u → u ≡ front ++ back
     → header_in order front ≡ Some (g, begun) → unit_decided order front ≡ None
 own_quiet order h p u front back g begun is e found =
-    let all : header_in order u ≡ Some (h, is.program) = ap (header_in order) is.whole ∙ header_is_found order h is.header is.program is.spells_header in
-    let same = parts_same g h (begun ++ back) is.program (sym (header_on order front back g begun found) ∙ ap (header_in order) (sym e) ∙ all) in
+    let all : header_in order u ≡ Some (h, is.program) =
+    ap (header_in order) is.whole ∙ header_is_found order h is.header is.program is.spells_header in
+    let same =
+    parts_same g h (begun ++ back) is.program (sym (header_on order front back g begun found)
+    ∙ ap (header_in order) (sym e) ∙ all) in
     let opcodes = (header_is_usable order h is.header is.spells_header).opcodes in
     let program : SpellsProgram order g.params p (begun ++ back) =
-    subst (λ (d : HeaderData). SpellsProgram order d.params p (begun ++ back)) (sym same.0) (subst (λ (w : List ℕ). SpellsProgram order h.params p w) (sym same.1) is.spells_program) in
-    let some : 1 ≤ g.params.opcode_base = subst (λ (d : HeaderData). 1 ≤ d.params.opcode_base) (sym same.0) (omega arith) in
+    subst (λ (d : HeaderData). SpellsProgram order d.params p (begun ++ back)) (sym same.0)
+    (subst (λ (w : List ℕ). SpellsProgram order h.params p w) (sym same.1) is.spells_program) in
+    let some : 1 ≤ g.params.opcode_base =
+    subst (λ (d : HeaderData). 1 ≤ d.params.opcode_base) (sym same.0) (omega arith) in
     ap (decided_behind order front) found
-    ∙ operation_quiet order g.params p begun back (operations_in order g.params begun).rest (length front) (unit_len order front) some program refl ends
+    ∙ operation_quiet order g.params p begun back (operations_in order g.params begun).rest (length front)
+    (unit_len order front) some program refl ends
   where
     ends : (n : ℕ) → unit_len order front ≡ Some n → length front + length back ≤ n
     ends n k =
@@ -120,20 +145,28 @@ own_quiet order h p u front back g begun is e found =
         omega (arith, l, ap length e, length-append front back)
 
 -- no front of the bytes of a foreign unit, or of a front of one, is refused
-pub foreign_quiet : (order : Order) (b : List ℕ) (version n : ℕ) → foreign_in order b ≡ Some version → unit_len order b ≡ Some n → length b ≤ n
+pub foreign_quiet : (order : Order) (b : List ℕ) (version n : ℕ) → foreign_in order b ≡ Some version
+    → unit_len order b ≡ Some n → length b ≤ n
     → (front back : List ℕ) (at : ℕ) (kind : FaultKind) → b ≡ front ++ back → Refused order front at kind → ⊥
 foreign_quiet order b version n foreign len le front back at kind e r = on (header_in order front) refl where
   on : (o : Option (HeaderData × List ℕ)) → header_in order front ≡ o → ⊥
-  on None none = foreign_is_not_refused order b front back version n at kind foreign len le e ((refused_in_header order front at kind none).0 r)
+  on None none =
+      foreign_is_not_refused order b front back version n at kind foreign len le e
+      ((refused_in_header order front at kind none).0 r)
   on (Some (g, begun)) found =
       let f = found_is_header order g front begun found in
       none_some (header_is_not_foreign order g f.0 (begun ++ back) f.2)
-      (ap (foreign_in order) (sym (append_assoc f.0 begun back) ∙ ap (λ (w : List ℕ). w ++ back) (sym f.1) ∙ sym e) ∙ foreign)
+      (ap (foreign_in order) (sym (append_assoc f.0 begun back) ∙ ap (λ (w : List ℕ). w ++ back) (sym f.1) ∙ sym e)
+      ∙ foreign)
 
-pub unit_is_not_refused : (order : Order) (u : List ℕ) → IsUnit order u → (front back : List ℕ) (at : ℕ) (kind : FaultKind) → u ≡ front ++ back → Refused order front at kind → ⊥
+pub unit_is_not_refused : (order : Order) (u : List ℕ) → IsUnit order u
+    → (front back : List ℕ) (at : ℕ) (kind : FaultKind) → u ≡ front ++ back → Refused order front at kind → ⊥
 unit_is_not_refused order u (inl (v, foreign)) front back at kind e r =
-    foreign_quiet order u v (length u) (foreign_of order v u foreign) (length_of_unit order u (inl (v, foreign))) (omega arith) front back at kind e r
+    foreign_quiet order u v (length u) (foreign_of order v u foreign) (length_of_unit order u (inl (v, foreign)))
+    (omega arith) front back at kind e r
 unit_is_not_refused order u (inr (h, p, own)) front back at kind e r = on (header_in order front) refl where
   on : (o : Option (HeaderData × List ℕ)) → header_in order front ≡ o → ⊥
-  on None none = header_is_not_refused order h own.header own.program front back at kind own.spells_header (sym own.whole ∙ e) ((refused_in_header order front at kind none).0 r)
+  on None none =
+      header_is_not_refused order h own.header own.program front back at kind own.spells_header (sym own.whole
+      ∙ e) ((refused_in_header order front at kind none).0 r)
   on (Some (g, begun)) found = none_some (own_quiet order h p u front back g begun own e found) r.decided

@@ -1,5 +1,7 @@
 -- Bytes as long as their initial length says, of which no front is refused, are a unit.
-use Rattle.std.proofs.Common.{◌≡◌, ℕ, ◌+◌, ◌-◌, ◌≤◌, Bool, true, nat_le, ◌&&◌, if◌then◌else◌, List, [], ◌∷◌, ◌++◌, length, take, drop, Option, Some, None, refl, sym, ap, subst, ◌∙◌, arith, inl, inr, length-append, append_assoc, append-nil}
+use Rattle.std.proofs.Common.{◌≡◌, ℕ, ◌+◌, ◌-◌, ◌≤◌, Bool, true, nat_le, ◌&&◌, if◌then◌else◌, List, [], ◌∷◌, ◌++◌}
+use Rattle.std.proofs.Common.{length, take, drop, Option, Some, None, refl, sym, ap, subst, ◌∙◌, arith, inl, inr}
+use Rattle.std.proofs.Common.{length-append, append_assoc, append-nil}
 use Rattle.std.proofs.lemmas.Bool.{cases_eq, eq-eqb, ne_eqb, le-leb}
 use Rattle.std.proofs.lemmas.List.{take-append-drop, length-take-le}
 use Rattle.dl_num.specs.declared.fixed.Order.{Order}
@@ -10,9 +12,13 @@ use Rattle.dl_table.specs.declared.fault.FaultKind.TheVariants as fault
 use Rattle.dl_table.specs.declared.form.Format.{Format}
 use Rattle.dl_field.specs.declared.params.Params.{Params}
 use Rattle.dl_field.specs.HeaderData.{HeaderData}
-use Rattle.dl_field.specs.Layout.{any_byte, address_size, version, Layout, initial_length_then, number_then, form_then, value_then, foreign_version, last_entry, Item, length_is, number_is, following, following_all, field_spelt}
-use Rattle.dl_head.specs.HeaderLayout.{header_layout, initial_size, fixed_part, from_minimum_length, from_header_length, from_segment_selector_size, from_address_size, format_alone}
-use Rattle.dl_head.specs.Header.{SpellsFields, Cut, cut, unit_end, unit_len, header_end, header_made, header_up_to, foreign_made, foreign_in, header_in}
+use Rattle.dl_field.specs.Layout.{any_byte, address_size, version, Layout, initial_length_then, number_then, form_then}
+use Rattle.dl_field.specs.Layout.{value_then, foreign_version, last_entry, Item, length_is, number_is, following}
+use Rattle.dl_field.specs.Layout.{following_all, field_spelt}
+use Rattle.dl_head.specs.HeaderLayout.{header_layout, initial_size, fixed_part, from_minimum_length, from_header_length}
+use Rattle.dl_head.specs.HeaderLayout.{from_segment_selector_size, from_address_size, format_alone}
+use Rattle.dl_head.specs.Header.{SpellsFields, Cut, cut, unit_end, unit_len, header_end, header_made, header_up_to}
+use Rattle.dl_head.specs.Header.{foreign_made, foreign_in, header_in}
 use Rattle.dl_head.specs.Refusal.{or_else, bad_kind, at_end, field_overrun, header_decided}
 use Rattle.dl_field.proofs.FieldLemmas.{none_some}
 use Rattle.dl_head.proofs.CutLemmas.{cut_fields, cut_sound, Sound}
@@ -42,7 +48,13 @@ left_le order b = on (header_in order b) refl where
       let f = found_is_header order h b program e in
       let opcodes = (header_is_usable order h f.0 f.2).opcodes in
       let p = found_is_program order h.params program (omega arith) in
-      omega (arith, ap length f.1, length-append f.0 program, ap length p.1, length-append p.0 (operations_in order h.params program).rest)
+      omega (
+        arith,
+        ap length f.1,
+        length-append f.0 program,
+        ap length p.1,
+        length-append p.0 (operations_in order h.params program).rest,
+      )
 
 -- the first front that decides anything
 record RefusedFront (order : Order) (b : List ℕ) : Type 0 where
@@ -53,46 +65,62 @@ record RefusedFront (order : Order) (b : List ℕ) : Type 0 where
   whole : b ≡ front ++ back
   refused : Refused order front at kind
 
-refused_front : (order : Order) (b : List ℕ) (kind : FaultKind) → unit_decided order b ≡ Some kind → RefusedFront order b
-refused_front order b kind e = on (standing (unit_decided order) b).found ((one_cut FaultKind (unit_decided order) b _ _ refl).1 refl) where
-  on : (found : List FaultKind) → IsCut (unit_decided order) b found (standing (unit_decided order) b).rest → RefusedFront order b
-  on [] c = absurd (none_some (c.1 b [] (sym c.0 ∙ sym (append-nil b))) e)
-  on (k ∷ found) (w, v, whole, first, c) = record {
-    front = w;
-    back = v;
-    at = length w - length (left_over order w);
-    kind = k;
-    whole = whole;
-    refused = record { place = (let l = left_le order w in omega (arith, l)); decided = first.spells; shortest = first.shortest };
-  }
+refused_front : (order : Order) (b : List ℕ) (kind : FaultKind) → unit_decided order b ≡ Some kind
+    → RefusedFront order b
+refused_front order b kind e =
+    on (standing (unit_decided order) b).found ((one_cut FaultKind (unit_decided order) b _ _ refl).1 refl) where
+      on : (found : List FaultKind) → IsCut (unit_decided order) b found (standing (unit_decided order) b).rest
+          → RefusedFront order b
+      on [] c = absurd (none_some (c.1 b [] (sym c.0 ∙ sym (append-nil b))) e)
+      on (k ∷ found) (w, v, whole, first, c) = record {
+        front = w;
+        back = v;
+        at = length w - length (left_over order w);
+        kind = k;
+        whole = whole;
+        refused =
+            record {
+              place = (let l = left_le order w in omega (arith, l));
+              decided = first.spells;
+              shortest =
+                  first.shortest;
+            };
+      }
 
 -- no front of b is refused
 abbrev pub NoneRefused : Order → List ℕ → Type 0
-NoneRefused order b = (front back : List ℕ) (at : ℕ) (kind : FaultKind) → b ≡ front ++ back → Refused order front at kind → ⊥
+NoneRefused order b =
+    (front back : List ℕ) (at : ℕ) (kind : FaultKind) → b ≡ front ++ back → Refused order front at kind → ⊥
 
-pub silent : (order : Order) (b front back : List ℕ) → NoneRefused order b → b ≡ front ++ back → unit_decided order front ≡ None
+pub silent : (order : Order) (b front back : List ℕ) → NoneRefused order b → b ≡ front ++ back
+    → unit_decided order front ≡ None
 silent order b front back none e = on (unit_decided order front) refl where
   on : (o : Option FaultKind) → unit_decided order front ≡ o → unit_decided order front ≡ None
   on None d = d
   on (Some k) d =
       let r = refused_front order front k d in
-      absurd (none r.front (r.back ++ back) r.at r.kind (e ∙ ap (λ (w : List ℕ). w ++ back) r.whole ∙ append_assoc r.front r.back back) r.refused)
+      absurd (none r.front (r.back ++ back) r.at r.kind (e ∙ ap (λ (w : List ℕ). w ++ back) r.whole
+      ∙ append_assoc r.front r.back back) r.refused)
 
 -- ---- where a header ends without being complete
 
 decides : (o : Option FaultKind) (kind : FaultKind) (n : ℕ) → or_else o (at_end kind n (Some n)) ≡ None → ⊥
 decides (Some k) kind n e = none_some e refl
-decides None kind n e = none_some {a = kind} (sym (ap (λ (b : Bool). if b then Some kind else None) (eq-eqb n n refl)) ∙ e) refl
+decides None kind n e =
+    none_some {a = kind} (sym (ap (λ (b : Bool). if b then Some kind else None) (eq-eqb n n refl)) ∙ e) refl
 
 -- all fields that header_length and what follows it leave decide something at the header's last byte
-end_decides : (order : Order) (b : List ℕ) → header_end (cut order b).items ≡ Some (length b) → header_in order b ≡ None → header_decided order b ≡ None → ⊥
+end_decides : (order : Order) (b : List ℕ) → header_end (cut order b).items ≡ Some (length b) → header_in order b ≡ None
+    → header_decided order b ≡ None → ⊥
 end_decides order b end none quiet = on (following_all header_layout (cut order b).items) refl where
   s : Sound order header_layout b (cut order b)
   s = cut_sound order header_layout [] b
 
   -- a field is incomplete
   incomplete : (l : Layout) → following_all header_layout (cut order b).items ≡ l
-      → decided_on order (length b) (cut order b).items (cut order b).rest l ≡ or_else (bad_kind (field_spelt order l (cut order b).rest)) (field_overrun (length b) (cut order b).items (header_end (cut order b).items))
+      → decided_on order (length b) (cut order b).items (cut order b).rest l
+      ≡ or_else (bad_kind (field_spelt order l (cut order b).rest))
+      (field_overrun (length b) (cut order b).items (header_end (cut order b).items))
       → ⊥
   incomplete l e same =
       let bad = bad_kind (field_spelt order l (cut order b).rest) in
@@ -103,7 +131,8 @@ end_decides order b end none quiet = on (following_all header_layout (cut order 
   on : (l : Layout) → following_all header_layout (cut order b).items ≡ l → ⊥
   on (last_entry h) e =
       let fields = length b - length (cut order b).rest in
-      let within : (nat_le fields (length b) && nat_le (length b) (length b)) ≡ true = rw (le-leb fields (length b) (omega arith)) (le-leb (length b) (length b) (omega arith)) in
+      let within : (nat_le fields (length b) && nat_le (length b) (length b)) ≡ true =
+      rw (le-leb fields (length b) (omega arith)) (le-leb (length b) (length b) (omega arith)) in
       let found : header_in order b ≡ Some (h, drop (length b) b) =
       ap (λ (l : Layout). header_up_to b fields (header_made l) (header_end (cut order b).items)) e
       ∙ ap (λ (o : Option ℕ). header_up_to b fields (Some h) o) end
@@ -111,19 +140,25 @@ end_decides order b end none quiet = on (following_all header_layout (cut order 
       none_some none found
   on (foreign_version v) e =
       let o = opening_of order (cut order b).items s.front (length b) s.spelt end in
-      not_foreign o.unit_length (format_alone o.format) (number_is o.address ∷ number_is o.segment ∷ number_is o.header ∷ o.more) v
+      not_foreign o.unit_length (format_alone o.format) (number_is o.address ∷ number_is o.segment ∷ number_is o.header
+      ∷ o.more) v
       (sym (ap (λ (l : List Item). following_all header_layout l) o.items_are) ∙ e)
   on (initial_length_then next) e = incomplete (initial_length_then next) e refl
   on (number_then field next) e = incomplete (number_then field next) e refl
   on (form_then next) e = incomplete (form_then next) e refl
   on (value_then format f next) e = incomplete (value_then format f next) e refl
 
-spells_split : (order : Order) (layout : Layout) (items more : List Item) (w : List ℕ) → SpellsFields order layout (items ++ more) w
+spells_split : (order : Order) (layout : Layout) (items more : List Item) (w : List ℕ)
+    → SpellsFields order layout (items ++ more) w
     → (u : List ℕ) × (v : List ℕ) × (w ≡ u ++ v) × SpellsFields order layout items u
 spells_split order layout [] more w s = ([], w, refl, refl)
 spells_split order layout (i ∷ items) more w s =
-    let r = spells_split order (following layout i) items more s.1 s.4 in
-    (s.0 ++ r.0, r.1, s.2 ∙ ap (λ (z : List ℕ). s.0 ++ z) r.2 ∙ sym (append_assoc s.0 r.0 r.1), (s.0, r.0, refl, s.3, r.3))
+    let r = spells_split order (following layout i) items more s.1 s.4 in (
+      s.0 ++ r.0,
+      r.1,
+      s.2 ∙ ap (λ (z : List ℕ). s.0 ++ z) r.2 ∙ sym (append_assoc s.0 r.0 r.1),
+      (s.0, r.0, refl, s.3, r.3),
+    )
 
 format_same : (f g : Format) (m n : ℕ) → length_is f m ≡ length_is g n → f ≡ g
 format_same f g m n e = cc
@@ -140,105 +175,144 @@ record UpToHeader (order : Order) (b : List ℕ) : Type 0 where
 
 -- the values of the fields up to header_length
 abbrev five : Format → ℕ → ℕ → ℕ → ℕ → List Item
-five f n address segment header = length_is f n ∷ number_is 5 ∷ number_is address ∷ number_is segment ∷ number_is header ∷ []
+five f n address segment header =
+    length_is f n ∷ number_is 5 ∷ number_is address ∷ number_is segment ∷ number_is header ∷ []
 
-five_size : (order : Order) (f : Format) (n address segment header : ℕ) (w : List ℕ) → SpellsFields order header_layout (five f n address segment header) w → length w ≡ initial_size f + fixed_part f
-five_size order f n address segment header w s = sized (opening_of order (five f n address segment header) w (initial_size f + fixed_part f + header) s refl) where
-  nothing : (p : Params) (more : List Item) (rest : List ℕ) → more ≡ [] → SpellsFields order (from_minimum_length p) more rest → length rest ≡ 0
-  nothing p more rest none t = ap length (subst (λ (l : List Item). SpellsFields order (from_minimum_length p) l rest) none t)
+five_size : (order : Order) (f : Format) (n address segment header : ℕ) (w : List ℕ)
+    → SpellsFields order header_layout (five f n address segment header) w → length w ≡ initial_size f + fixed_part f
+five_size order f n address segment header w s =
+    sized (opening_of order (five f n address segment header) w (initial_size f + fixed_part f + header) s refl) where
+      nothing : (p : Params) (more : List Item) (rest : List ℕ) → more ≡ []
+          → SpellsFields order (from_minimum_length p) more rest → length rest ≡ 0
+      nothing p more rest none t =
+          ap length (subst (λ (l : List Item). SpellsFields order (from_minimum_length p) l rest) none t)
 
-  sized : Opening order (five f n address segment header) w → length w ≡ initial_size f + fixed_part f
-  sized o =
-      let same : o.format ≡ f = format_same o.format f o.unit_length n (cc) in
-      let none : o.more ≡ [] = cc in
-      let zero : length o.rest ≡ 0 = nothing o.p o.more o.rest none o.spelt in
-      let sizes : initial_size o.format + fixed_part o.format ≡ initial_size f + fixed_part f = ap (λ (g : Format). initial_size g + fixed_part g) same in
-      omega (arith, o.size, zero, sizes)
+      sized : Opening order (five f n address segment header) w → length w ≡ initial_size f + fixed_part f
+      sized o =
+          let same : o.format ≡ f = format_same o.format f o.unit_length n (cc) in
+          let none : o.more ≡ [] = cc in
+          let zero : length o.rest ≡ 0 = nothing o.p o.more o.rest none o.spelt in
+          let sizes : initial_size o.format + fixed_part o.format ≡ initial_size f + fixed_part f =
+          ap (λ (g : Format). initial_size g + fixed_part g) same in
+          omega (arith, o.size, zero, sizes)
 
-up_to_fields : (order : Order) (b u behind : List ℕ) (f : Format) (n address segment header : ℕ) → b ≡ u ++ behind → SpellsFields order header_layout (five f n address segment header) u
+up_to_fields : (order : Order) (b u behind : List ℕ) (f : Format) (n address segment header : ℕ) → b ≡ u ++ behind
+    → SpellsFields order header_layout (five f n address segment header) u
     → header ≤ length behind → UpToHeader order b
 up_to_fields order b u behind f n address segment header whole s le =
     let size = five_size order f n address segment header u s in
     record {
       front = u ++ take header behind;
       back = drop header behind;
-      whole = whole ∙ ap (λ (w : List ℕ). u ++ w) (sym (take-append-drop header behind)) ∙ sym (append_assoc u (take header behind) (drop header behind));
+      whole = whole ∙ ap (λ (w : List ℕ). u ++ w) (sym (take-append-drop header behind))
+          ∙ sym (append_assoc u (take header behind) (drop header behind));
       ends =
-          ap (λ (c : Cut). header_end c.items) (cut_fields order header_layout (five f n address segment header) u (take header behind) s)
-          ∙ ap (λ (m : ℕ). Some m) (omega (arith, size, length-append u (take header behind), length-take-le header behind le));
+          ap (λ (c : Cut). header_end c.items) (cut_fields order header_layout (five f n address segment header) u
+          (take header behind) s)
+          ∙ ap (λ (m : ℕ). Some m) (omega (
+            arith,
+            size,
+            length-append u (take header behind),
+            length-take-le header behind le,
+          ));
     }
 
-up_to_header : (order : Order) (b : List ℕ) (end : ℕ) → unit_len order b ≡ Some (length b) → header_end (cut order b).items ≡ Some end → UpToHeader order b
+up_to_header : (order : Order) (b : List ℕ) (end : ℕ) → unit_len order b ≡ Some (length b)
+    → header_end (cut order b).items ≡ Some end → UpToHeader order b
 up_to_header order b end len e =
     let s : Sound order header_layout b (cut order b) = cut_sound order header_layout [] b in
-    opened (cut order b).items s.front (cut order b).rest s.whole s.spelt len (opening_of order (cut order b).items s.front end s.spelt e)
+    opened (cut order b).items s.front (cut order b).rest s.whole s.spelt len
+    (opening_of order (cut order b).items s.front end s.spelt e)
   where
-    opened : (items : List Item) (fields rest : List ℕ) → b ≡ fields ++ rest → SpellsFields order header_layout items fields → unit_end items ≡ Some (length b) → Opening order items fields → UpToHeader order b
+    opened : (items : List Item) (fields rest : List ℕ) → b ≡ fields ++ rest
+        → SpellsFields order header_layout items fields → unit_end items ≡ Some (length b) → Opening order items fields
+        → UpToHeader order b
     opened items fields rest whole s unit o =
-        let u = spells_split order header_layout (five o.format o.unit_length o.address o.segment o.header) o.more fields (subst (λ (l : List Item). SpellsFields order header_layout l fields) o.items_are s) in
+        let u = spells_split order header_layout (five o.format o.unit_length o.address o.segment o.header) o.more
+        fields (subst (λ (l : List Item). SpellsFields order header_layout l fields) o.items_are s) in
         let behind = u.1 ++ rest in
         let all : b ≡ u.0 ++ behind = whole ∙ ap (λ (w : List ℕ). w ++ rest) u.2 ∙ append_assoc u.0 u.1 rest in
         let size = five_size order o.format o.unit_length o.address o.segment o.header u.0 u.3 in
-        let long : initial_size o.format + o.unit_length ≡ length b = some_same _ _ (ap unit_end (sym o.items_are) ∙ unit) in
+        let long : initial_size o.format + o.unit_length ≡ length b =
+        some_same _ _ (ap unit_end (sym o.items_are) ∙ unit) in
         up_to_fields order b u.0 behind o.format o.unit_length o.address o.segment o.header all u.3
         (omega (arith, o.fits, size, long, ap length all, length-append u.0 behind))
 
 -- ---- where header_length isn't complete
 
-made_address : (order : Order) (n : ℕ) (p : Params) (items : List Item) (w : List ℕ) → length items ≤ 2 → SpellsFields order (from_address_size n p) items w
+made_address : (order : Order) (n : ℕ) (p : Params) (items : List Item) (w : List ℕ) → length items ≤ 2
+    → SpellsFields order (from_address_size n p) items w
     → header_made (following_all (from_address_size n p) items) ≡ None
 made_address order n p [] w le s = refl
 made_address order n p (i ∷ []) w le s =
-    let a = is_number order address_size (λ a. from_segment_selector_size n (record p { address_size = a })) s.0 i s.3 in
+    let a = is_number order address_size (λ a. from_segment_selector_size n (record p { address_size = a })) s.0 i
+    s.3 in
     ap (λ (x : Item). header_made (following (from_address_size n p) x)) a.item
 made_address order n p (i ∷ j ∷ []) w le s =
-    let a = is_number order address_size (λ a. from_segment_selector_size n (record p { address_size = a })) s.0 i s.3 in
+    let a = is_number order address_size (λ a. from_segment_selector_size n (record p { address_size = a })) s.0 i
+    s.3 in
     let q : Params = record p { address_size = a.number } in
-    let t : SpellsFields order (from_segment_selector_size n q) (j ∷ []) s.1 = subst (λ (x : Item). SpellsFields order (following (from_address_size n p) x) (j ∷ []) s.1) a.item s.4 in
+    let t : SpellsFields order (from_segment_selector_size n q) (j ∷ []) s.1 =
+    subst (λ (x : Item). SpellsFields order (following (from_address_size n p) x) (j ∷ []) s.1) a.item s.4 in
     let b = is_number order any_byte (λ b. from_header_length n (record q { segment_selector_size = b })) t.0 j t.3 in
-    ap (λ (x : Item). header_made (following (following (from_address_size n p) x) j)) a.item ∙ ap (λ (x : Item). header_made (following (from_segment_selector_size n q) x)) b.item
+    ap (λ (x : Item). header_made (following (following (from_address_size n p) x) j)) a.item
+    ∙ ap (λ (x : Item). header_made (following (from_segment_selector_size n q) x)) b.item
 made_address order n p (i ∷ j ∷ k ∷ items) w le s = absurd (omega arith)
 
-made_foreign : (order : Order) (v : ℕ) (items : List Item) (w : List ℕ) → SpellsFields order (foreign_version v) items w → header_made (following_all (foreign_version v) items) ≡ None
+made_foreign : (order : Order) (v : ℕ) (items : List Item) (w : List ℕ) → SpellsFields order (foreign_version v) items w
+    → header_made (following_all (foreign_version v) items) ≡ None
 made_foreign order v [] w s = refl
 made_foreign order v (i ∷ items) w s = absurd (none_some refl s.3)
 
-made_version : (order : Order) (f : Format) (n v : ℕ) (items : List Item) (w : List ℕ) → length items ≤ 2 → SpellsFields order (after_length f n v) items w
+made_version : (order : Order) (f : Format) (n v : ℕ) (items : List Item) (w : List ℕ) → length items ≤ 2
+    → SpellsFields order (after_length f n v) items w
     → header_made (following_all (after_length f n v) items) ≡ None
 made_version order f n v items w le s = elim (cases_eq v 5) [
   | inl same ↦ rw (eq-eqb v 5 same) (made_address order n (format_alone f) items w le (rw (eq-eqb v 5 same) at s))
   | inr other ↦ rw (ne_eqb v 5 other) (made_foreign order v items w (rw (ne_eqb v 5 other) at s))
 ]
 
-made_early : (order : Order) (i : Item) (items : List Item) (w : List ℕ) → length items ≤ 3 → SpellsFields order header_layout (i ∷ items) w → header_made (following_all header_layout (i ∷ items)) ≡ None
-made_early order i [] w le s = ap (λ (x : Item). header_made (following header_layout x)) (is_length order s.0 i s.3).item
+made_early : (order : Order) (i : Item) (items : List Item) (w : List ℕ) → length items ≤ 3
+    → SpellsFields order header_layout (i ∷ items) w → header_made (following_all header_layout (i ∷ items)) ≡ None
+made_early order i [] w le s =
+    ap (λ (x : Item). header_made (following header_layout x)) (is_length order s.0 i s.3).item
 made_early order i (j ∷ items) w le s =
     let a = is_length order s.0 i s.3 in
-    let t : SpellsFields order (number_then version (after_length a.format a.number)) (j ∷ items) s.1 = subst (λ (x : Item). SpellsFields order (following header_layout x) (j ∷ items) s.1) a.item s.4 in
+    let t : SpellsFields order (number_then version (after_length a.format a.number)) (j ∷ items) s.1 =
+    subst (λ (x : Item). SpellsFields order (following header_layout x) (j ∷ items) s.1) a.item s.4 in
     let b = is_number order version (after_length a.format a.number) t.0 j t.3 in
     ap (λ (x : Item). header_made (following_all (following header_layout x) (j ∷ items))) a.item
-    ∙ ap (λ (x : Item). header_made (following_all (following (number_then version (after_length a.format a.number)) x) items)) b.item
-    ∙ made_version order a.format a.number b.number items t.1 (omega arith) (subst (λ (x : Item). SpellsFields order (following (number_then version (after_length a.format a.number)) x) items t.1) b.item t.4)
+    ∙ ap (λ (x : Item). header_made (following_all (following (number_then version (after_length a.format a.number)) x)
+    items)) b.item
+    ∙ made_version order a.format a.number b.number items t.1 (omega arith)
+    (subst (λ (x : Item). SpellsFields order (following (number_then version (after_length a.format a.number)) x)
+    items t.1) b.item t.4)
 
 -- a complete header has its header_length
-made_ends : (order : Order) (items : List Item) (w : List ℕ) → SpellsFields order header_layout items w → header_end items ≡ None → header_made (following_all header_layout items) ≡ None
+made_ends : (order : Order) (items : List Item) (w : List ℕ) → SpellsFields order header_layout items w
+    → header_end items ≡ None → header_made (following_all header_layout items) ≡ None
 made_ends order [] w s e = refl
 made_ends order (i ∷ []) w s e = made_early order i [] w (omega arith) s
 made_ends order (i ∷ j ∷ []) w s e = made_early order i (j ∷ []) w (omega arith) s
 made_ends order (i ∷ j ∷ k ∷ []) w s e = made_early order i (j ∷ k ∷ []) w (omega arith) s
 made_ends order (i ∷ j ∷ k ∷ l ∷ []) w s e = made_early order i (j ∷ k ∷ l ∷ []) w (omega arith) s
-made_ends order (i ∷ j ∷ k ∷ l ∷ m ∷ more) w s e = absurd (none_some e (ap header_end (opening order i j k l m more w s).items_are))
+made_ends order (i ∷ j ∷ k ∷ l ∷ m ∷ more) w s e =
+    absurd (none_some e (ap header_end (opening order i j k l m more w s).items_are))
 
 -- the unit's last byte decides something
-unit_decides : (order : Order) (b : List ℕ) → unit_len order b ≡ Some (length b) → header_end (cut order b).items ≡ None → foreign_in order b ≡ None → header_decided order b ≡ None → ⊥
+unit_decides : (order : Order) (b : List ℕ) → unit_len order b ≡ Some (length b) → header_end (cut order b).items ≡ None
+    → foreign_in order b ≡ None → header_decided order b ≡ None → ⊥
 unit_decides order b len end foreign quiet = on (following_all header_layout (cut order b).items) refl where
   incomplete : (l : Layout) → following_all header_layout (cut order b).items ≡ l
-      → decided_on order (length b) (cut order b).items (cut order b).rest l ≡ or_else (bad_kind (field_spelt order l (cut order b).rest)) (field_overrun (length b) (cut order b).items (header_end (cut order b).items))
+      → decided_on order (length b) (cut order b).items (cut order b).rest l
+      ≡ or_else (bad_kind (field_spelt order l (cut order b).rest))
+      (field_overrun (length b) (cut order b).items (header_end (cut order b).items))
       → ⊥
   incomplete l e same =
       let bad = bad_kind (field_spelt order l (cut order b).rest) in
       decides bad fault.UnitOverrun (length b)
-      (sym (ap (λ (o : Option ℕ). or_else bad (field_overrun (length b) (cut order b).items o)) end ∙ ap (λ (o : Option ℕ). or_else bad (at_end fault.UnitOverrun (length b) o)) len) ∙ sym same
+      (sym (ap (λ (o : Option ℕ). or_else bad (field_overrun (length b) (cut order b).items o)) end
+      ∙ ap (λ (o : Option ℕ). or_else bad (at_end fault.UnitOverrun (length b) o)) len) ∙ sym same
       ∙ sym (ap (decided_on order (length b) (cut order b).items (cut order b).rest) e) ∙ quiet)
 
   on : (l : Layout) → following_all header_layout (cut order b).items ≡ l → ⊥
@@ -254,22 +328,30 @@ unit_decides order b len end foreign quiet = on (following_all header_layout (cu
 -- ---- whole units
 
 -- where nothing is refused and the unit isn't foreign, the header is complete
-header_whole : (order : Order) (b : List ℕ) → unit_len order b ≡ Some (length b) → NoneRefused order b → foreign_in order b ≡ None → header_in order b ≡ None → ⊥
+header_whole : (order : Order) (b : List ℕ) → unit_len order b ≡ Some (length b) → NoneRefused order b
+    → foreign_in order b ≡ None → header_in order b ≡ None → ⊥
 header_whole order b len none foreign no_header = on (header_end (cut order b).items) refl where
   on : (o : Option ℕ) → header_end (cut order b).items ≡ o → ⊥
-  on None e = unit_decides order b len e foreign (sym (decided_in_header order b no_header) ∙ silent order b b [] none (sym (append-nil b)))
+  on None e =
+      unit_decides order b len e foreign (sym (decided_in_header order b no_header)
+      ∙ silent order b b [] none (sym (append-nil b)))
   on (Some end) e =
       let f = up_to_header order b end len e in
       let before = no_header_before order f.front f.back (ap (header_in order) (sym f.whole) ∙ no_header) in
-      end_decides order f.front f.ends before (sym (decided_in_header order f.front before) ∙ silent order b f.front f.back none f.whole)
+      end_decides order f.front f.ends before (sym (decided_in_header order f.front before)
+      ∙ silent order b f.front f.back none f.whole)
 
-own_unit : (order : Order) (b : List ℕ) (h : HeaderData) (program : List ℕ) → unit_len order b ≡ Some (length b) → unit_decided order b ≡ None → header_in order b ≡ Some (h, program)
+own_unit : (order : Order) (b : List ℕ) (h : HeaderData) (program : List ℕ) → unit_len order b ≡ Some (length b)
+    → unit_decided order b ≡ None → header_in order b ≡ Some (h, program)
     → IsOwnUnit order h (operations_in order h.params program).found b
 own_unit order b h program len quiet e =
     let f = found_is_header order h b program e in
     let opcodes = (header_is_usable order h f.0 f.2).opcodes in
     let p = found_is_program order h.params program (omega arith) in
-    let over = none_over (operations_in order h.params program).rest (sym (ap (decided_behind order b) e ∙ ap (λ (o : Option ℕ). operation_decided order h.params (operations_in order h.params program).rest (length b) o) len) ∙ quiet) in
+    let over =
+    none_over (operations_in order h.params program).rest (sym (ap (decided_behind order b) e
+    ∙ ap (λ (o : Option ℕ). operation_decided order h.params (operations_in order h.params program).rest
+    (length b) o) len) ∙ quiet) in
     let whole : p.0 ≡ program = sym (p.1 ∙ ap (λ (w : List ℕ). p.0 ++ w) over ∙ append-nil p.0) in
     record {
       its_length = (length_is_computed order b).1 len;
@@ -277,19 +359,27 @@ own_unit order b h program len quiet e =
       program = program;
       whole = f.1;
       spells_header = f.2;
-      spells_program = subst (λ (w : List ℕ). SpellsProgram order h.params (operations_in order h.params program).found w) whole p.2;
+      spells_program =
+          subst (λ (w : List ℕ). SpellsProgram order h.params (operations_in order h.params program).found w) whole p.2;
     }
   where
     none_over : (w : List ℕ) → operation_decided order h.params w (length b) (Some (length b)) ≡ None → w ≡ []
     none_over [] d = refl
-    none_over (x ∷ w) d = absurd (decides (bad_kind (operation_spelt order h.params (x ∷ w))) fault.OpcodeOverrun (length b) d)
+    none_over (x ∷ w) d =
+        absurd (decides (bad_kind (operation_spelt order h.params (x ∷ w))) fault.OpcodeOverrun (length b) d)
 
 unit_whole : (order : Order) (b : List ℕ) → unit_len order b ≡ Some (length b) → NoneRefused order b → IsUnit order b
 unit_whole order b len none = on (foreign_in order b) refl (header_in order b) refl where
-  on : (o : Option ℕ) → foreign_in order b ≡ o → (q : Option (HeaderData × List ℕ)) → header_in order b ≡ q → IsUnit order b
+  on : (o : Option ℕ) → foreign_in order b ≡ o → (q : Option (HeaderData × List ℕ)) → header_in order b ≡ q
+      → IsUnit order b
   on (Some v) foreign q e = inl (v, foreign_unit order v b len foreign)
   on None foreign None e = absurd (header_whole order b len none foreign e)
-  on None foreign (Some (h, program)) e = inr (h, (operations_in order h.params program).found, own_unit order b h program len (silent order b b [] none (sym (append-nil b))) e)
+  on None foreign (Some (h, program)) e =
+      inr (
+        h,
+        (operations_in order h.params program).found,
+        own_unit order b h program len (silent order b b [] none (sym (append-nil b))) e,
+      )
 
 pub unit_unless_refused : UnitUnlessRefused
 unit_unless_refused order b len = (unit_is_not_refused order b, unit_whole order b len)

@@ -1,5 +1,6 @@
 -- Worked rows, computed: what the definitions make of small programs.
-use Rattle.std.proofs.Common.{◌≡◌, refl, ℕ, ◌+◌, List, [], ◌∷◌, ◌++◌, length, Option, Some, None, Ok, Err, true, false, negsuc}
+use Rattle.std.proofs.Common.{◌≡◌, refl, ℕ, ◌+◌, List, [], ◌∷◌, ◌++◌, length, Option, Some, None, Ok, Err, true, false}
+use Rattle.std.proofs.Common.{negsuc}
 use Rattle.std.specs.Prelude.{map, take}
 use Rattle.dl_num.specs.declared.fixed.Order.{Order}
 use Rattle.dl_num.specs.declared.fixed.Order.TheVariants.{Little, Big}
@@ -90,29 +91,36 @@ end_row_alone : rows Little plain (0 ∷ 1 ∷ 1 ∷ []) ≡ (record {
 }) ∷ []
 end_row_alone = refl
 
-three_rows : places (rows Little plain (0 ∷ 9 ∷ 2 ∷ 0 ∷ 16 ∷ 64 ∷ 0 ∷ 0 ∷ 0 ∷ 0 ∷ 0 ∷ 19 ∷ 75 ∷ 2 ∷ 2 ∷ 0 ∷ 1 ∷ 1 ∷ [])) ≡ (4198400, 0, 2) ∷ (4198404, 0, 3) ∷ (4198406, 0, 3) ∷ []
+three_rows : places (rows Little plain (0 ∷ 9 ∷ 2 ∷ 0 ∷ 16 ∷ 64 ∷ 0 ∷ 0 ∷ 0 ∷ 0 ∷ 0 ∷ 19 ∷ 75 ∷ 2 ∷ 2 ∷ 0 ∷ 1 ∷ 1 ∷ []))
+    ≡ (4198400, 0, 2) ∷ (4198404, 0, 3) ∷ (4198406, 0, 3) ∷ []
 three_rows = refl
 
 -- the address in the other order
-three_rows_big : places (rows Big plain (0 ∷ 9 ∷ 2 ∷ 0 ∷ 0 ∷ 0 ∷ 0 ∷ 0 ∷ 64 ∷ 16 ∷ 0 ∷ 19 ∷ 75 ∷ 2 ∷ 2 ∷ 0 ∷ 1 ∷ 1 ∷ [])) ≡ (4198400, 0, 2) ∷ (4198404, 0, 3) ∷ (4198406, 0, 3) ∷ []
+three_rows_big : places (rows Big plain (0 ∷ 9 ∷ 2 ∷ 0 ∷ 0 ∷ 0 ∷ 0 ∷ 0 ∷ 64 ∷ 16 ∷ 0 ∷ 19 ∷ 75 ∷ 2 ∷ 2 ∷ 0 ∷ 1 ∷ 1
+    ∷ [])) ≡ (4198400, 0, 2) ∷ (4198404, 0, 3) ∷ (4198406, 0, 3) ∷ []
 three_rows_big = refl
 
-special_opcodes : places (rows Little plain (0 ∷ 9 ∷ 2 ∷ 0 ∷ 16 ∷ 64 ∷ 0 ∷ 0 ∷ 0 ∷ 0 ∷ 0 ∷ 19 ∷ 75 ∷ 0 ∷ 1 ∷ 1 ∷ [])) ≡ (4198400, 0, 2) ∷ (4198404, 0, 3) ∷ (4198404, 0, 3) ∷ []
+special_opcodes : places (rows Little plain (0 ∷ 9 ∷ 2 ∷ 0 ∷ 16 ∷ 64 ∷ 0 ∷ 0 ∷ 0 ∷ 0 ∷ 0 ∷ 19 ∷ 75 ∷ 0 ∷ 1 ∷ 1 ∷ []))
+    ≡ (4198400, 0, 2) ∷ (4198404, 0, 3) ∷ (4198404, 0, 3) ∷ []
 special_opcodes = refl
 
 -- three operations fill an instruction
-op_index : places (rows Little bundles (0 ∷ 9 ∷ 2 ∷ 0 ∷ 16 ∷ 0 ∷ 0 ∷ 0 ∷ 0 ∷ 0 ∷ 0 ∷ 32 ∷ 32 ∷ 32 ∷ [])) ≡ (4096, 1, 1) ∷ (4096, 2, 1) ∷ (4112, 0, 1) ∷ []
+op_index : places (rows Little bundles (0 ∷ 9 ∷ 2 ∷ 0 ∷ 16 ∷ 0 ∷ 0 ∷ 0 ∷ 0 ∷ 0 ∷ 0 ∷ 32 ∷ 32 ∷ 32 ∷ []))
+    ≡ (4096, 1, 1) ∷ (4096, 2, 1) ∷ (4112, 0, 1) ∷ []
 op_index = refl
 
 -- address and line wrap, at their own sizes
-four_byte_address : places (rows Little four_bytes (0 ∷ 5 ∷ 2 ∷ 255 ∷ 255 ∷ 255 ∷ 255 ∷ 2 ∷ 1 ∷ 1 ∷ 3 ∷ 126 ∷ 1 ∷ [])) ≡ (0, 0, 1) ∷ (0, 0, 18446744073709551615) ∷ []
+four_byte_address : places (rows Little four_bytes (0 ∷ 5 ∷ 2 ∷ 255 ∷ 255 ∷ 255 ∷ 255 ∷ 2 ∷ 1 ∷ 1 ∷ 3 ∷ 126 ∷ 1 ∷ []))
+    ≡ (0, 0, 1) ∷ (0, 0, 18446744073709551615) ∷ []
 four_byte_address = refl
 
 -- op_index and an advance of 2^64 - 1 aren't added in 64 bits
-huge_advance : places (rows Little triples (32 ∷ 2 ∷ 255 ∷ 255 ∷ 255 ∷ 255 ∷ 255 ∷ 255 ∷ 255 ∷ 255 ∷ 255 ∷ 1 ∷ 1 ∷ [])) ≡ (0, 1, 1) ∷ (6148914691236517205, 1, 1) ∷ []
+huge_advance : places (rows Little triples (32 ∷ 2 ∷ 255 ∷ 255 ∷ 255 ∷ 255 ∷ 255 ∷ 255 ∷ 255 ∷ 255 ∷ 255 ∷ 1 ∷ 1 ∷ []))
+    ≡ (0, 1, 1) ∷ (6148914691236517205, 1, 1) ∷ []
 huge_advance = refl
 
-greatest_line_step : places (rows Little plain (3 ∷ 128 ∷ 128 ∷ 128 ∷ 128 ∷ 128 ∷ 128 ∷ 128 ∷ 128 ∷ 128 ∷ 127 ∷ 1 ∷ [])) ≡ (0, 0, 9223372036854775809) ∷ []
+greatest_line_step : places (rows Little plain (3 ∷ 128 ∷ 128 ∷ 128 ∷ 128 ∷ 128 ∷ 128 ∷ 128 ∷ 128 ∷ 128 ∷ 127 ∷ 1 ∷ []))
+    ≡ (0, 0, 9223372036854775809) ∷ []
 greatest_line_step = refl
 
 -- opcode 10 is a special one
@@ -120,11 +128,13 @@ opcode_base_10 : places (rows Little base_10 (3 ∷ 10 ∷ 10 ∷ [])) ≡ (0, 0
 opcode_base_10 = refl
 
 -- unknown opcodes are passed over: a standard one by its number of operands, an extended one by its length
-opcode_base_14 : places (rows Little base_14 (13 ∷ 128 ∷ 1 ∷ 5 ∷ 0 ∷ 4 ∷ 128 ∷ 170 ∷ 187 ∷ 204 ∷ 0 ∷ 1 ∷ 1 ∷ [])) ≡ (0, 0, 1) ∷ []
+opcode_base_14 : places (rows Little base_14 (13 ∷ 128 ∷ 1 ∷ 5 ∷ 0 ∷ 4 ∷ 128 ∷ 170 ∷ 187 ∷ 204 ∷ 0 ∷ 1 ∷ 1 ∷ []))
+    ≡ (0, 0, 1) ∷ []
 opcode_base_14 = refl
 
 -- operands that are passed over may have any size
-long_operands : places (rows Little base_14 (13 ∷ 255 ∷ 255 ∷ 255 ∷ 255 ∷ 255 ∷ 255 ∷ 255 ∷ 255 ∷ 255 ∷ 255 ∷ 255 ∷ 1 ∷ 5 ∷ 1 ∷ [])) ≡ (0, 0, 1) ∷ []
+long_operands : places (rows Little base_14 (13 ∷ 255 ∷ 255 ∷ 255 ∷ 255 ∷ 255 ∷ 255 ∷ 255 ∷ 255 ∷ 255 ∷ 255 ∷ 255 ∷ 1
+    ∷ 5 ∷ 1 ∷ [])) ≡ (0, 0, 1) ∷ []
 long_operands = refl
 
 -- the operand of fixed_advance_pc is added as it is, and op_index becomes 0
@@ -137,11 +147,14 @@ fixed_advance_big = refl
 constant_advance : places (rows Little plain (8 ∷ 1 ∷ [])) ≡ (17, 0, 1) ∷ []
 constant_advance = refl
 
-addresses_set_twice : places (rows Little plain (0 ∷ 9 ∷ 2 ∷ 8 ∷ 0 ∷ 0 ∷ 0 ∷ 0 ∷ 0 ∷ 0 ∷ 0 ∷ 18 ∷ 0 ∷ 9 ∷ 2 ∷ 4 ∷ 0 ∷ 0 ∷ 0 ∷ 0 ∷ 0 ∷ 0 ∷ 0 ∷ 3 ∷ 9 ∷ 1 ∷ 26 ∷ 255 ∷ 2 ∷ 17 ∷ 1 ∷ [])) ≡ (8, 0, 1) ∷ (4, 0, 10) ∷ (4, 0, 18) ∷ (21, 0, 17) ∷ (38, 0, 17) ∷ []
+addresses_set_twice : places (rows Little plain (0 ∷ 9 ∷ 2 ∷ 8 ∷ 0 ∷ 0 ∷ 0 ∷ 0 ∷ 0 ∷ 0 ∷ 0 ∷ 18 ∷ 0 ∷ 9 ∷ 2 ∷ 4 ∷ 0 ∷ 0
+    ∷ 0 ∷ 0 ∷ 0 ∷ 0 ∷ 0 ∷ 3 ∷ 9 ∷ 1 ∷ 26 ∷ 255 ∷ 2 ∷ 17 ∷ 1 ∷ [])) ≡ (8, 0, 1) ∷ (4, 0, 10) ∷ (4, 0, 18) ∷ (21, 0, 17)
+    ∷ (38, 0, 17) ∷ []
 addresses_set_twice = refl
 
 -- padding is part of a number
-padded_column : map (λ r. r.column) (rows Little plain (5 ∷ 131 ∷ 128 ∷ 128 ∷ 128 ∷ 128 ∷ 128 ∷ 128 ∷ 128 ∷ 128 ∷ 128 ∷ 128 ∷ 0 ∷ 1 ∷ [])) ≡ 3 ∷ []
+padded_column : map (λ r. r.column) (rows Little plain (5 ∷ 131 ∷ 128 ∷ 128 ∷ 128 ∷ 128 ∷ 128 ∷ 128 ∷ 128 ∷ 128 ∷ 128
+    ∷ 128 ∷ 0 ∷ 1 ∷ [])) ≡ 3 ∷ []
 padded_column = refl
 
 -- a discriminator holds for one row
@@ -158,17 +171,21 @@ file_0 = refl
 
 -- ---- bad operations: after how many bytes, and of which kind
 
-padded_too_far : refusal Little plain (5 ∷ 131 ∷ 128 ∷ 128 ∷ 128 ∷ 128 ∷ 128 ∷ 128 ∷ 128 ∷ 128 ∷ 128 ∷ 128 ∷ 1 ∷ 1 ∷ []) ≡ Some (13, fault.LebRange)
+padded_too_far : refusal Little plain (5 ∷ 131 ∷ 128 ∷ 128 ∷ 128 ∷ 128 ∷ 128 ∷ 128 ∷ 128 ∷ 128 ∷ 128 ∷ 128 ∷ 1 ∷ 1 ∷ [])
+    ≡ Some (13, fault.LebRange)
 padded_too_far = refl
 
-line_out_of_range : refusal Little plain (3 ∷ 128 ∷ 128 ∷ 128 ∷ 128 ∷ 128 ∷ 128 ∷ 128 ∷ 128 ∷ 128 ∷ 1 ∷ 1 ∷ []) ≡ Some (11, fault.LebRange)
+line_out_of_range : refusal Little plain (3 ∷ 128 ∷ 128 ∷ 128 ∷ 128 ∷ 128 ∷ 128 ∷ 128 ∷ 128 ∷ 128 ∷ 1 ∷ 1 ∷ [])
+    ≡ Some (11, fault.LebRange)
 line_out_of_range = refl
 
-length_out_of_range : refusal Little plain (0 ∷ 128 ∷ 128 ∷ 128 ∷ 128 ∷ 128 ∷ 128 ∷ 128 ∷ 128 ∷ 128 ∷ 2 ∷ []) ≡ Some (11, fault.LebRange)
+length_out_of_range : refusal Little plain (0 ∷ 128 ∷ 128 ∷ 128 ∷ 128 ∷ 128 ∷ 128 ∷ 128 ∷ 128 ∷ 128 ∷ 2 ∷ [])
+    ≡ Some (11, fault.LebRange)
 length_out_of_range = refl
 
 -- the greatest length, whose bytes have not all come
-greatest_length : refusal Little plain (0 ∷ 255 ∷ 255 ∷ 255 ∷ 255 ∷ 255 ∷ 255 ∷ 255 ∷ 255 ∷ 255 ∷ 1 ∷ 128 ∷ 0 ∷ []) ≡ None
+greatest_length : refusal Little plain (0 ∷ 255 ∷ 255 ∷ 255 ∷ 255 ∷ 255 ∷ 255 ∷ 255 ∷ 255 ∷ 255 ∷ 1 ∷ 128 ∷ 0 ∷ [])
+    ≡ None
 greatest_length = refl
 
 no_length : refusal Little plain (0 ∷ 0 ∷ []) ≡ Some (2, fault.ExtendedEmpty)
@@ -184,7 +201,8 @@ long_discriminator : refusal Little plain (0 ∷ 3 ∷ 4 ∷ 5 ∷ 0 ∷ []) ≡
 long_discriminator = refl
 
 -- an operand out of range that ends before its length does: out of range counts
-range_before_length : refusal Little plain (0 ∷ 32 ∷ 4 ∷ 128 ∷ 128 ∷ 128 ∷ 128 ∷ 128 ∷ 128 ∷ 128 ∷ 128 ∷ 128 ∷ 2 ∷ 0 ∷ []) ≡ Some (13, fault.LebRange)
+range_before_length : refusal Little plain (0 ∷ 32 ∷ 4 ∷ 128 ∷ 128 ∷ 128 ∷ 128 ∷ 128 ∷ 128 ∷ 128 ∷ 128 ∷ 128 ∷ 2 ∷ 0
+    ∷ []) ≡ Some (13, fault.LebRange)
 range_before_length = refl
 
 -- the bytes before it are taken

@@ -1,5 +1,6 @@
 -- Worked units, computed: what the definitions make of small units, whole, cut and bad.
-use Rattle.std.proofs.Common.{◌≡◌, refl, ℕ, ◌+◌, ◌-◌, List, [], ◌∷◌, ◌++◌, length, take, Option, Some, None, true, false}
+use Rattle.std.proofs.Common.{◌≡◌, refl, ℕ, ◌+◌, ◌-◌, List, [], ◌∷◌, ◌++◌, length, take, Option, Some, None, true}
+use Rattle.std.proofs.Common.{false}
 use Rattle.dl_num.specs.declared.fixed.Order.TheVariants.{Little, Big}
 use Rattle.dl_table.specs.declared.fault.FaultKind.{FaultKind}
 use Rattle.dl_table.specs.declared.fault.FaultKind.TheVariants as fault
@@ -14,7 +15,8 @@ use Rattle.dl_rows.specs.Refusal.{left_over, unit_decided}
 -- a unit of so many bytes after unit_length, with empty tables: 34 bytes, and the program
 abbrev unit_of : ℕ → List ℕ → List ℕ
 unit_of unit_length program =
-    unit_length ∷ 0 ∷ 0 ∷ 0 ∷ 5 ∷ 0 ∷ 8 ∷ 0 ∷ 0x16 ∷ 0 ∷ 0 ∷ 0 ∷ 1 ∷ 1 ∷ 1 ∷ 0xfb ∷ 0x0e ∷ 0x0d ∷ (standard_lengths ++ 0 ∷ 0 ∷ 0 ∷ 0 ∷ []) ++ program
+    unit_length ∷ 0 ∷ 0 ∷ 0 ∷ 5 ∷ 0 ∷ 8 ∷ 0 ∷ 0x16 ∷ 0 ∷ 0 ∷ 0 ∷ 1 ∷ 1 ∷ 1 ∷ 0xfb ∷ 0x0e ∷ 0x0d
+    ∷ (standard_lengths ++ 0 ∷ 0 ∷ 0 ∷ 0 ∷ []) ++ program
 
 abbrev unit : List ℕ → List ℕ
 unit program = unit_of (0x1e + length program) program
@@ -67,7 +69,8 @@ empty_events = refl
 abbrev three_rows : List ℕ
 three_rows = 0 ∷ 9 ∷ 2 ∷ 0 ∷ 0x10 ∷ 0x40 ∷ 0 ∷ 0 ∷ 0 ∷ 0 ∷ 0 ∷ 0x13 ∷ 0x4b ∷ 2 ∷ 2 ∷ 0 ∷ 1 ∷ 1 ∷ []
 
-three_rows_events : events Little (unit three_rows) ≡ event.Header ∷ event.Row (row_at 0x401000 2) ∷ event.Row (row_at 0x401004 3) ∷ event.Row (end_at 0x401006 3) ∷ []
+three_rows_events : events Little (unit three_rows) ≡ event.Header ∷ event.Row (row_at 0x401000 2)
+    ∷ event.Row (row_at 0x401004 3) ∷ event.Row (end_at 0x401006 3) ∷ []
 three_rows_events = refl
 
 abbrev foreign : List ℕ
@@ -94,10 +97,12 @@ long_end_sequence : refusal (take 37 (unit (0 ∷ 2 ∷ 1 ∷ 0 ∷ []))) ≡ (S
 long_end_sequence = refl
 
 -- the greatest length of an extended opcode, and one more
-longest_extended : refusal (unit (0 ∷ 0xff ∷ 0xff ∷ 0xff ∷ 0xff ∷ 0xff ∷ 0xff ∷ 0xff ∷ 0xff ∷ 0xff ∷ 1 ∷ 0x80 ∷ 0 ∷ [])) ≡ (Some fault.OpcodeOverrun, 34)
+longest_extended : refusal (unit (0 ∷ 0xff ∷ 0xff ∷ 0xff ∷ 0xff ∷ 0xff ∷ 0xff ∷ 0xff ∷ 0xff ∷ 0xff ∷ 1 ∷ 0x80 ∷ 0 ∷ []))
+    ≡ (Some fault.OpcodeOverrun, 34)
 longest_extended = refl
 
-length_out_of_range : refusal (unit (0 ∷ 0x80 ∷ 0x80 ∷ 0x80 ∷ 0x80 ∷ 0x80 ∷ 0x80 ∷ 0x80 ∷ 0x80 ∷ 0x80 ∷ 2 ∷ [])) ≡ (Some fault.LebRange, 34)
+length_out_of_range : refusal (unit (0 ∷ 0x80 ∷ 0x80 ∷ 0x80 ∷ 0x80 ∷ 0x80 ∷ 0x80 ∷ 0x80 ∷ 0x80 ∷ 0x80 ∷ 2 ∷ []))
+    ≡ (Some fault.LebRange, 34)
 length_out_of_range = refl
 
 reserved_length : refusal (0xf0 ∷ 0xff ∷ 0xff ∷ 0xff ∷ []) ≡ (Some fault.ReservedLength, 0)

@@ -62,7 +62,8 @@ pub record DiscriminatorOut (w : List ℕ) : Type 0 where
 
 -- end_sequence has an operand, set_address one that isn't of address_size bytes, or set_discriminator none
 abbrev pub IsWrongLength : Params → ℕ → ℕ → Type 0
-IsWrongLength h opcode n = ((opcode ≡ 1) × (n ≢ 1)) ⊎ ((opcode ≡ 2) × (n ≢ 1 + h.address_size)) ⊎ ((opcode ≡ 4) × (n ≡ 1))
+IsWrongLength h opcode n =
+    ((opcode ≡ 1) × (n ≢ 1)) ⊎ ((opcode ≡ 2) × (n ≢ 1 + h.address_size)) ⊎ ((opcode ≡ 4) × (n ≡ 1))
 
 -- w ends with an extended opcode whose length is wrong
 pub record WrongAtOpcode (h : Params) (w : List ℕ) : Type 0 where

@@ -10,20 +10,23 @@ use Rattle.dl_rows.specs.Reading.{AnsweredBehind, FailsBehind}
 use Rattle.dl_rows.specs.Runs.{MayGive}
 
 abbrev pub MayGiveBehind : Order → (before : List Event) → (b piece : List ℕ) → ℕ → Result Event Fault → Type 0
-MayGiveBehind order before b piece used (Ok event) = AnsweredBehind order before b piece (record { used = used; event = event })
+MayGiveBehind order before b piece used (Ok event) =
+    AnsweredBehind order before b piece (record { used = used; event = event })
 MayGiveBehind order before b piece used (Err fault) = FailsBehind order before b piece fault used
 
 -- what `feed_rows` may answer after b to a piece, having told these rows on the way
 abbrev pub MayTell : Order → (b piece : List ℕ) → List Row → ℕ → Result Event Fault → Type 0
 MayTell order b piece rows used gave = MayGiveBehind order (events order b ++ map event.Row rows) b piece used gave
 
--- what calls of `feed` may answer, each being given what the one before it left of the piece: these rows, and then gave, used bytes being used
+-- what calls of `feed` may answer, each being given what the one before it left of the piece: these rows, and then
+-- gave, used bytes being used
 -- in all. Where a row comes with the last byte of the piece, there is no call after it.
 abbrev pub Calls : Order → (b piece : List ℕ) → List Row → ℕ → Result Event Fault → Type 0
 Calls order b piece [] used gave = MayGive order b piece used gave
 Calls order b piece (row ∷ rows) used gave = (n : ℕ) × MayGive order b piece n (Ok (event.Row row)) × (
     ((n ≡ length piece) × (rows ≡ []) × (used ≡ n) × (gave ≡ Ok event.More))
-    ⊎ ((n < length piece) × (more : ℕ) × (used ≡ n + more) × Calls order (b ++ take n piece) (drop n piece) rows more gave))
+    ⊎ ((n < length piece) × (more : ℕ) × (used ≡ n + more)
+    × Calls order (b ++ take n piece) (drop n piece) rows more gave))
 
 -- `feed_rows` may answer exactly what calls of `feed` may
 abbrev pub RowsAreCalls : Type 0

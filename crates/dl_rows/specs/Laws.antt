@@ -42,8 +42,13 @@ OneProgram = (order : Order) (h : Params) (p q : List Operation) (w : List ℕ) 
 
 -- the operations of a program are found, and then those of what follows it
 abbrev pub ProgramIsFound : Type 0
-ProgramIsFound = (order : Order) (h : Params) (p : List Operation) (w v : List ℕ) → 1 ≤ h.opcode_base → SpellsProgram order h p w
-    → operations_in order h (w ++ v) ≡ record { found = p ++ (operations_in order h v).found; rest = (operations_in order h v).rest }
+ProgramIsFound =
+    (order : Order) (h : Params) (p : List Operation) (w v : List ℕ) → 1 ≤ h.opcode_base → SpellsProgram order h p w
+    → operations_in order h (w ++ v) ≡ record {
+      found = p ++ (operations_in order h v).found;
+      rest =
+          (operations_in order h v).rest;
+    }
 
 -- what is found is spelled by the bytes before the rest
 abbrev pub FoundIsProgram : Type 0

@@ -44,7 +44,8 @@ pub record IsOwnUnit (order : Order) (h : HeaderData) (p : List Operation) (u : 
 
 -- u is one unit
 abbrev pub IsUnit : Order → List ℕ → Type 0
-IsUnit order u = ((version : ℕ) × IsForeignUnit order version u) ⊎ ((h : HeaderData) × (p : List Operation) × IsOwnUnit order h p u)
+IsUnit order u =
+    ((version : ℕ) × IsForeignUnit order version u) ⊎ ((h : HeaderData) × (p : List Operation) × IsOwnUnit order h p u)
 
 -- ---- what bytes come to, computed
 

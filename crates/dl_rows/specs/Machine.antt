@@ -26,7 +26,8 @@ initial default_is_stmt = record {
 -- an operation advance, section 6.2.5.1
 abbrev pub advanced : Params → Registers → ℕ → Registers
 advanced h r by = record r {
-  address = (r.address + h.minimum_instruction_length * ((r.op_index + by) / h.maximum_operations_per_instruction)) % 2 ^ 64;
+  address =
+      (r.address + h.minimum_instruction_length * ((r.op_index + by) / h.maximum_operations_per_instruction)) % 2 ^ 64;
   op_index = (r.op_index + by) % h.maximum_operations_per_instruction;
 }
 
@@ -36,7 +37,8 @@ line_advanced r by = record r { line = (r.line + cast_unsigned w64 by) % 2 ^ 64 
 -- after an operation, before what holds for one row alone is cleared
 abbrev pub applied : Params → Registers → Operation → Registers
 applied h r (op.Special b) =
-    line_advanced (advanced h r ((b - h.opcode_base) / h.line_range)) (h.line_base +ℤ pos ((b - h.opcode_base) % h.line_range))
+    line_advanced (advanced h r ((b - h.opcode_base) / h.line_range))
+    (h.line_base +ℤ pos ((b - h.opcode_base) % h.line_range))
 applied h r op.Copy = r
 applied h r (op.AdvancePc n) = advanced h r n
 applied h r (op.AdvanceLine i) = line_advanced r i

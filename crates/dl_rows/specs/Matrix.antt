@@ -1,5 +1,6 @@
 -- The rows of a program: sums and last settings over its operations. DWARF 5, section 6.2.2.
-use Rattle.std.specs.Prelude.{ℕ, ◌+◌, ◌-◌, ◌*◌, ◌/◌, ◌%◌, ◌^◌, ◌+ℤ◌, ℤ, pos, Bool, true, false, not, if◌then◌else◌, List, [], ◌∷◌, ◌++◌, Option, Some, None, unwrap_or, sum_by, fold, unsigned_abs, ◌==◌}
+use Rattle.std.specs.Prelude.{ℕ, ◌+◌, ◌-◌, ◌*◌, ◌/◌, ◌%◌, ◌^◌, ◌+ℤ◌, ℤ, pos, Bool, true, false, not, if◌then◌else◌}
+use Rattle.std.specs.Prelude.{List, [], ◌∷◌, ◌++◌, Option, Some, None, unwrap_or, sum_by, fold, unsigned_abs, ◌==◌}
 use Rattle.std.specs.Option.{option_or}
 use Rattle.std.specs.List.{after_last, list_any}
 use Rattle.std.specs.Int.{int_rem_euclid}
@@ -78,7 +79,9 @@ abbrev pub moves : List Operation → List Operation
 moves s = after_last is_address s
 
 abbrev pub address : Params → List Operation → ℕ
-address h s = unwrap_or (last_set set_address s) 0 + sum_by fixed_add (moves s) + h.minimum_instruction_length * sum_by (λ a. a / h.maximum_operations_per_instruction) (parts h (moves s))
+address h s =
+    unwrap_or (last_set set_address s) 0 + sum_by fixed_add (moves s) + h.minimum_instruction_length * sum_by
+    (λ a. a / h.maximum_operations_per_instruction) (parts h (moves s))
 
 abbrev pub op_index : Params → List Operation → ℕ
 op_index h s = last_part (parts h (moves s)) % h.maximum_operations_per_instruction
@@ -155,7 +158,8 @@ row h front final = row_from h (sequence front final) (fresh front final) (is_en
 -- the rows of ps, where those in front stand before them
 abbrev pub rows_after : Params → List Operation → List Operation → List Row
 rows_after h front [] = []
-rows_after h front (o ∷ os) = if appends_row o then row h front o ∷ rows_after h (front ++ o ∷ []) os else rows_after h (front ++ o ∷ []) os
+rows_after h front (o ∷ os) =
+    if appends_row o then row h front o ∷ rows_after h (front ++ o ∷ []) os else rows_after h (front ++ o ∷ []) os
 
 -- one row for each prefix that ends in an operation that appends one
 abbrev pub matrix : Params → List Operation → List Row

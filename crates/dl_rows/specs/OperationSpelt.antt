@@ -1,5 +1,6 @@
 -- What bytes are as an operation, computed. DWARF 5, sections 6.2.5.1 to 6.2.5.3.
-use Rattle.std.specs.Prelude.{ℕ, zero, suc, ◌+◌, ◌-◌, ◌^◌, ℤ, pos, negsuc, Bool, not, ◌&&◌, ◌||◌, List, [], ◌∷◌, length, Option, Some, None, Ok, Err, nat_lt, nat_le, ◌==◌, if◌then◌else◌, slice_get, slice_index}
+use Rattle.std.specs.Prelude.{ℕ, zero, suc, ◌+◌, ◌-◌, ◌^◌, ℤ, pos, negsuc, Bool, not, ◌&&◌, ◌||◌, List, [], ◌∷◌, length}
+use Rattle.std.specs.Prelude.{Option, Some, None, Ok, Err, nat_lt, nat_le, ◌==◌, if◌then◌else◌, slice_get, slice_index}
 use Rattle.dl_num.specs.declared.fixed.Order.{Order}
 use Rattle.dl_num.specs.Fixed.{fixed}
 use Rattle.dl_num.specs.Leb.{groups, signed_groups}
@@ -22,7 +23,8 @@ pub data Standard : Type 0 where
 abbrev pub standard_opcodes : List Standard
 standard_opcodes =
     bare op.Copy ∷ unsigned (λ n. op.AdvancePc n) ∷ signed (λ i. op.AdvanceLine i) ∷ unsigned (λ n. op.SetFile n)
-    ∷ unsigned (λ n. op.SetColumn n) ∷ bare op.NegateStatement ∷ bare op.SetBasicBlock ∷ bare op.ConstAddPc ∷ two_bytes (λ n. op.FixedAdvancePc n)
+    ∷ unsigned (λ n. op.SetColumn n) ∷ bare op.NegateStatement ∷ bare op.SetBasicBlock ∷ bare op.ConstAddPc
+    ∷ two_bytes (λ n. op.FixedAdvancePc n)
     ∷ bare op.SetPrologueEnd ∷ bare op.SetEpilogueBegin ∷ unsigned (λ n. op.SetIsa n) ∷ []
 
 abbrev pub is_empty : List ℕ → Bool
@@ -43,10 +45,13 @@ abbrev pub signed_number : List ℕ → ℤ
 signed_number w = signed_groups w (last_byte w)
 
 abbrev pub unsigned_operand : (ℕ → Operation) → List ℕ → Judgement Operation
-unsigned_operand make w = if is_leb w then (if nat_lt (groups w) (2 ^ 64) then good (make (groups w)) else bad fault.LebRange) else None
+unsigned_operand make w =
+    if is_leb w then (if nat_lt (groups w) (2 ^ 64) then good (make (groups w)) else bad fault.LebRange) else None
 
 abbrev pub signed_operand : (ℤ → Operation) → List ℕ → Judgement Operation
-signed_operand make w = if is_leb w then (if fits_signed (signed_number w) then good (make (signed_number w)) else bad fault.LebRange) else None
+signed_operand make w =
+    if is_leb w then (if fits_signed (signed_number w) then good (make (signed_number w)) else bad fault.LebRange)
+    else None
 
 abbrev pub standard_spelt : Order → Option Standard → List ℕ → Judgement Operation
 standard_spelt order (Some (bare o)) w = if is_empty w then good o else None
@@ -72,16 +77,19 @@ discriminator_spelt n w =
 -- an extended opcode with its operand w, section 6.2.5.3; n is the length of both
 abbrev pub extended_spelt : Order → ℕ → ℕ → ℕ → List ℕ → Judgement Operation
 extended_spelt order address_size n opcode w =
-    if opcode == 1 then (if is_empty w then (if n == 1 then good op.EndSequence else bad fault.ExtendedLength) else None) else
+    if opcode == 1 then (if is_empty w then (if n == 1 then good op.EndSequence else bad fault.ExtendedLength)
+    else None) else
     if opcode == 2 then
-    (if n == 1 + address_size then (if length w == address_size then good (op.SetAddress (fixed order w)) else None) else
+    (if n == 1 + address_size then (if length w == address_size then good (op.SetAddress (fixed order w)) else None)
+    else
     if is_empty w then bad fault.ExtendedLength else None) else
     if opcode == 4 then discriminator_spelt n w else
     if 1 + length w == n then good op.Skipped else None
 
 -- what follows a length n: nothing yet, or the extended opcode
 abbrev pub body_spelt : Order → ℕ → ℕ → List ℕ → Judgement Operation
-body_spelt order address_size n [] = if n == 0 then bad fault.ExtendedEmpty else if nat_lt n (2 ^ 64) then None else bad fault.LebRange
+body_spelt order address_size n [] =
+    if n == 0 then bad fault.ExtendedEmpty else if nat_lt n (2 ^ 64) then None else bad fault.LebRange
 body_spelt order address_size n (opcode ∷ w) =
     if (n == 0) || not (nat_lt n (2 ^ 64)) then None else extended_spelt order address_size n opcode w
 

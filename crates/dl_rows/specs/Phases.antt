@@ -1,5 +1,6 @@
 -- What a reader that is inside an operation stands for. No promise rests on how this is said.
-use Rattle.std.specs.Prelude.{◌≡◌, ◌≢◌, false, ℕ, ◌+◌, ◌-◌, ◌^◌, ◌<◌, ◌≤◌, List, [], ◌∷◌, ◌++◌, length, slice_index, Ok, Err}
+use Rattle.std.specs.Prelude.{◌≡◌, ◌≢◌, false, ℕ, ◌+◌, ◌-◌, ◌^◌, ◌<◌, ◌≤◌, List, [], ◌∷◌, ◌++◌, length, slice_index, Ok}
+use Rattle.std.specs.Prelude.{Err}
 use Rattle.dl_num.specs.declared.fixed.Order.{Order}
 use Rattle.dl_num.specs.Front.{SpellsNowhere, SpellsFirst}
 use Rattle.dl_num.specs.Leb.{AllContinue, IsUleb}
@@ -52,7 +53,8 @@ HasLength w n = IsUleb w n × (1 ≤ n) × (n < 2 ^ 64)
 -- the bytes of the operation that have come are v
 abbrev pub PhaseStands : Params → OperationState → List ℕ → Type 0
 PhaseStands h phase.Start v = v ≡ []
-PhaseStands h (phase.Unsigned o number) v = (opcode_of o < h.opcode_base) × ((w : List ℕ) × (v ≡ opcode_of o ∷ w) × UlebTook number w)
+PhaseStands h (phase.Unsigned o number) v =
+    (opcode_of o < h.opcode_base) × ((w : List ℕ) × (v ≡ opcode_of o ∷ w) × UlebTook number w)
 PhaseStands h (phase.Line number) v = (3 < h.opcode_base) × ((w : List ℕ) × (v ≡ 3 ∷ w) × SlebTook number w)
 PhaseStands h (phase.FixedAdd number) v = (9 < h.opcode_base) × (v ≡ 9 ∷ number_bytes number) × (number_size number ≡ 2)
 PhaseStands h (phase.Skipped left) v =
@@ -64,15 +66,18 @@ PhaseStands h (phase.Address number) v =
     (1 ≤ h.opcode_base) × ((w : List ℕ) × (v ≡ 0 ∷ (w ++ 2 ∷ number_bytes number)) × HasLength w (1 + h.address_size)
     × (number_size number ≡ h.address_size))
 PhaseStands h (phase.Discriminator left number) v =
-    (1 ≤ h.opcode_base) × (1 ≤ left) × ((w operand : List ℕ) × (v ≡ 0 ∷ (w ++ 4 ∷ operand)) × HasLength w (1 + length operand + left)
+    (1 ≤ h.opcode_base) × (1 ≤ left)
+    × ((w operand : List ℕ) × (v ≡ 0 ∷ (w ++ 4 ∷ operand)) × HasLength w (1 + length operand + left)
     × UlebTook number operand)
 PhaseStands h (phase.Rest left) v =
-    (1 ≤ h.opcode_base) × (1 ≤ left) × ((w : List ℕ) × (opcode : ℕ) × (operand : List ℕ) × (v ≡ 0 ∷ (w ++ opcode ∷ operand))
+    (1 ≤ h.opcode_base) × (1 ≤ left)
+    × ((w : List ℕ) × (opcode : ℕ) × (operand : List ℕ) × (v ≡ 0 ∷ (w ++ opcode ∷ operand))
     × (opcode ≢ 1) × (opcode ≢ 2) × (opcode ≢ 4) × HasLength w (1 + length operand + left))
 
 -- what bytes after v make of the operation
 abbrev pub StepIs : Order → Params → List ℕ → List ℕ → OperationStep → Type 0
-StepIs order h v bytes (step.Within p) = PhaseStands h p (v ++ bytes) × SpellsNowhere (operation_spelt order h) (v ++ bytes)
+StepIs order h v bytes (step.Within p) =
+    PhaseStands h p (v ++ bytes) × SpellsNowhere (operation_spelt order h) (v ++ bytes)
 StepIs order h v bytes (step.Ends o behind) =
     (front : List ℕ) × (bytes ≡ front ++ behind.now) × SpellsFirst (operation_spelt order h) (v ++ front) (Ok o)
 StepIs order h v bytes (step.Refuses k behind) =

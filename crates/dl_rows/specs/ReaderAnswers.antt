@@ -17,15 +17,18 @@ use Rattle.dl_rows.specs.ReaderStands.{StandsFor}
 -- `feed`: an event, or the fault of the bytes that it took (none, where the fault stood before)
 abbrev pub ReaderFed : Order → List ℕ → List ℕ → Result Fed Fault → Reader → Type 0
 ReaderFed order b piece (Ok fed) new = Feeds StandsFor order b piece fed new
-ReaderFed order b piece (Err fault) new = (used : ℕ) × Fails order b piece fault used × StandsFor new (b ++ take used piece)
+ReaderFed order b piece (Err fault) new =
+    (used : ℕ) × Fails order b piece fault used × StandsFor new (b ++ take used piece)
 
 -- an answer after the events before
 abbrev pub FedBehind : Order → (before : List Event) → (b piece : List ℕ) → Result Fed Fault → Reader → Type 0
 FedBehind order before b piece (Ok fed) new = FeedsBehind StandsFor order before b piece fed new
-FedBehind order before b piece (Err fault) new = (used : ℕ) × FailsBehind order before b piece fault used × StandsFor new (b ++ take used piece)
+FedBehind order before b piece (Err fault) new =
+    (used : ℕ) × FailsBehind order before b piece fault used × StandsFor new (b ++ take used piece)
 
 -- `feed_rows`: the sink, which had heard the rows before, heard those that come before the answer
-pub record RowsFed {S : Type 0} (story : Story S) (order : Order) (b piece : List ℕ) (before : List Row) (result : Result Fed Fault) (new : Reader) (s : S) : Type 0 where
+pub record RowsFed {S : Type 0} (story : Story S) (order : Order) (b piece : List ℕ) (before : List Row)
+    (result : Result Fed Fault) (new : Reader) (s : S) : Type 0 where
   pub rows : List Row
   pub fed : FedBehind order (events order b ++ map event.Row rows) b piece result new
   pub sink : SinkBehind story s (before ++ rows) result

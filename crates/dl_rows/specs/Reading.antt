@@ -1,5 +1,6 @@
 -- What a reader of a unit answers. Places count from the unit's first byte. DWARF 5, section 6.2.4.
-use Rattle.std.specs.Prelude.{◌≡◌, ◌≢◌, ◌<◌, ◌≤◌, ◌⊎◌, ◌-◌, ℕ, List, [], ◌∷◌, ◌++◌, length, take, Some, None, slice_get, Result, Ok, Err}
+use Rattle.std.specs.Prelude.{◌≡◌, ◌≢◌, ◌<◌, ◌≤◌, ◌⊎◌, ◌-◌, ℕ, List, [], ◌∷◌, ◌++◌, length, take, Some, None, slice_get}
+use Rattle.std.specs.Prelude.{Result, Ok, Err}
 use Rattle.dl_num.specs.declared.fixed.Order.{Order}
 use Rattle.dl_head.specs.declared.fault.Fault.{Fault}
 use Rattle.dl_table.specs.declared.fault.FaultKind.{FaultKind}
@@ -34,13 +35,16 @@ told event.End = []
 told event.NoMemory = []
 told other = other ∷ []
 
--- What is said of an answer, b being the bytes taken before the call, used bytes of the piece taken in it, and before the
+-- What is said of an answer, b being the bytes taken before the call, used bytes of the piece taken in it, and before
+-- the
 -- events up to this answer.
 abbrev pub EventHoldsBehind : Order → (before : List Event) → List ℕ → List ℕ → ℕ → Event → Type 0
 -- the whole piece is used; where it ends a unit, it isn't empty
-EventHoldsBehind order before b piece used event.More = (used ≡ length piece) × (IsUnit order (b ++ take used piece) → 1 ≤ used)
+EventHoldsBehind order before b piece used event.More =
+    (used ≡ length piece) × (IsUnit order (b ++ take used piece) → 1 ≤ used)
 -- a unit is whole
-EventHoldsBehind order before b piece used event.End = IsUnit order (b ++ take used piece) × ((used ≡ 0) ⊎ (used < length piece))
+EventHoldsBehind order before b piece used event.End =
+    IsUnit order (b ++ take used piece) × ((used ≡ 0) ⊎ (used < length piece))
 -- the next byte of a header adds a cell
 EventHoldsBehind order before b piece used event.NoMemory =
     (byte : ℕ) × (slice_get piece used ≡ Some byte) × (header_in order (b ++ take used piece) ≡ None)
@@ -60,14 +64,16 @@ pub record AnsweredBehind (order : Order) (before : List Event) (b piece : List 
   pub grows : events order (b ++ take fed.used piece) ≡ before ++ told fed.event
   pub holds : EventHoldsBehind order before b piece fed.used fed.event
   -- nothing that was taken is refused
-  pub sound : (front back : List ℕ) (at : ℕ) (kind : FaultKind) → b ++ take fed.used piece ≡ front ++ back → Refused order front at kind → ⊥
+  pub sound : (front back : List ℕ) (at : ℕ) (kind : FaultKind) → b ++ take fed.used piece ≡ front ++ back
+      → Refused order front at kind → ⊥
 
 -- the same, where nothing was told in the call before
 abbrev pub Answered : Order → (b piece : List ℕ) → Fed → Type 0
 Answered order b piece fed = AnsweredBehind order (events order b) b piece fed
 
 -- an answer of an event after those before, the reader then being new
-pub record FeedsBehind {S : Type 0} (StandsFor : S → List ℕ → Type 0) (order : Order) (before : List Event) (b piece : List ℕ) (fed : Fed) (new : S) : Type 0 where
+pub record FeedsBehind {S : Type 0} (StandsFor : S → List ℕ → Type 0) (order : Order) (before : List Event)
+    (b piece : List ℕ) (fed : Fed) (new : S) : Type 0 where
   pub answered : AnsweredBehind order before b piece fed
   pub stands : StandsFor new (b ++ take fed.used piece)
 
@@ -76,7 +82,8 @@ abbrev pub Feeds : {S : Type 0} → (S → List ℕ → Type 0) → Order → (b
 Feeds StandsFor order b piece fed new = FeedsBehind StandsFor order (events order b) b piece fed new
 
 -- an answer of a fault after the events before: the bytes up to the one that decides it are refused
-pub record FailsBehind (order : Order) (before : List Event) (b piece : List ℕ) (fault : Fault) (used : ℕ) : Type 0 where
+pub record FailsBehind (order : Order) (before : List Event) (b piece : List ℕ) (fault : Fault)
+    (used : ℕ) : Type 0 where
   pub within : used ≤ length piece
   pub in_unit : WithinUnit order (b ++ take used piece)
   pub refused : Refused order (b ++ take used piece) fault.offset fault.kind
@@ -102,4 +109,5 @@ FinishIs order b (Ok finish.Empty) = b ≡ []
 FinishIs order b (Ok finish.Whole) = IsUnit order b
 FinishIs order b (Err f) =
     Refused order b f.offset f.kind
-    ⊎ ((f ≡ record { offset = length b; kind = Truncated }) × (b ≢ []) × (IsUnit order b → ⊥) × ((at : ℕ) (kind : FaultKind) → Refused order b at kind → ⊥))
+    ⊎ ((f ≡ record { offset = length b; kind = Truncated }) × (b ≢ []) × (IsUnit order b → ⊥)
+    × ((at : ℕ) (kind : FaultKind) → Refused order b at kind → ⊥))

@@ -17,20 +17,24 @@ left_behind order b (Some (h, program)) = (operations_in order h.params program)
 abbrev pub left_over : Order → List ℕ → List ℕ
 left_over order b = left_behind order b (header_in order b)
 
--- what the last of n bytes decides, w being those of the current operation: it is bad, or the last byte of the unit too and incomplete
+-- what the last of n bytes decides, w being those of the current operation: it is bad, or the last byte of the unit too
+-- and incomplete
 abbrev pub operation_decided : Order → Params → List ℕ → ℕ → Option ℕ → Option FaultKind
 operation_decided order h [] n end = None
-operation_decided order h (x ∷ w) n end = or_else (bad_kind (operation_spelt order h (x ∷ w))) (at_end fault.OpcodeOverrun n end)
+operation_decided order h (x ∷ w) n end =
+    or_else (bad_kind (operation_spelt order h (x ∷ w))) (at_end fault.OpcodeOverrun n end)
 
 abbrev pub decided_behind : Order → List ℕ → Option (HeaderData × List ℕ) → Option FaultKind
 decided_behind order b None = header_decided order b
-decided_behind order b (Some (h, program)) = operation_decided order h.params (operations_in order h.params program).rest (length b) (unit_len order b)
+decided_behind order b (Some (h, program)) =
+    operation_decided order h.params (operations_in order h.params program).rest (length b) (unit_len order b)
 
 -- the kind that the last byte of b decides
 abbrev pub unit_decided : Order → List ℕ → Option FaultKind
 unit_decided order b = decided_behind order b (header_in order b)
 
--- b, a front of a unit, is refused: its last byte decides the kind, nothing shorter decides anything, and the place is where the good fields and the operations end
+-- b, a front of a unit, is refused: its last byte decides the kind, nothing shorter decides anything, and the place is
+-- where the good fields and the operations end
 pub record Refused (order : Order) (b : List ℕ) (at : ℕ) (kind : FaultKind) : Type 0 where
   pub place : at + length (left_over order b) ≡ length b
   pub decided : unit_decided order b ≡ Some kind

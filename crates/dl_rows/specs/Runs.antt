@@ -1,5 +1,6 @@
 -- What turns over the bytes of a unit come to. DWARF 5, section 6.2.4.
-use Rattle.std.specs.Prelude.{◌≡◌, ◌+◌, ◌<◌, ◌≤◌, ◌⊎◌, ℕ, Bool, true, false, List, [], ◌++◌, length, take, count_by, flat_map, Result, Ok, Err}
+use Rattle.std.specs.Prelude.{◌≡◌, ◌+◌, ◌<◌, ◌≤◌, ◌⊎◌, ℕ, Bool, true, false, List, [], ◌++◌, length, take, count_by}
+use Rattle.std.specs.Prelude.{flat_map, Result, Ok, Err}
 use Rattle.dl_num.specs.declared.fixed.Order.{Order}
 use Rattle.dl_head.specs.declared.fault.Fault.{Fault}
 use Rattle.dl_table.specs.declared.fault.FaultKind.{FaultKind}
@@ -55,7 +56,8 @@ outcome answers (Ok event) = Ok (record { taken = used_in answers; refused = ref
 outcome answers (Err fault) = Err fault
 
 -- bytes offered in turns: what was answered, what a listener heard, and what the run says of it
-pub record Traced (order : Order) (b bytes turns : List ℕ) (Hears : List Event → Type 0) (result : Result Run Fault) (new : Reader) : Type 0 where
+pub record Traced (order : Order) (b bytes turns : List ℕ) (Hears : List Event → Type 0) (result : Result Run Fault)
+    (new : Reader) : Type 0 where
   pub answers : List (Answer (Result Event Fault))
   pub trace : IsTrace (May order) goes_on b bytes turns answers
   pub result_is : result ≡ outcome answers (last_given (Ok event.More) answers)
@@ -85,7 +87,8 @@ pub record Runs (order : Order) (b bytes turns : List ℕ) (heard : List Event) 
 -- or up to a fault
 abbrev pub RunIs : Order → (b bytes turns : List ℕ) → List Event → Result Run Fault → Type 0
 RunIs order b bytes turns heard (Ok run) = Runs order b bytes turns heard run
-RunIs order b bytes turns heard (Err fault) = (used : ℕ) × Took order b bytes used heard × Refused order (b ++ take used bytes) fault.offset fault.kind
+RunIs order b bytes turns heard (Err fault) =
+    (used : ℕ) × Took order b bytes used heard × Refused order (b ++ take used bytes) fault.offset fault.kind
 
 -- ---- where the bytes complete a unit
 
@@ -99,7 +102,8 @@ pub record TookUnit (order : Order) (b bytes u : List ℕ) (taken : ℕ) (heard 
 pub record UnitRuns (order : Order) (b bytes turns u : List ℕ) (heard : List Event) (run : Run) : Type 0 where
   pub within : length b + run.taken ≤ length u
   -- where the end is told, or there are as many turns that offer anything as bytes of u after b and refusals of memory
-  pub whole : (run.ended ≡ true) ⊎ (length u + run.refused ≤ length b + some_turns turns) → TookUnit order b bytes u run.taken heard
+  pub whole : (run.ended ≡ true) ⊎ (length u + run.refused ≤ length b + some_turns turns)
+      → TookUnit order b bytes u run.taken heard
   -- with one turn more the end is told
   pub ended : length u + run.refused < length b + some_turns turns → run.ended ≡ true
 
@@ -112,10 +116,16 @@ UnitRunIs order b bytes turns u heard (Err fault) = ⊥
 
 -- the events that are heard are those of the bytes that are used, of which no front is refused; at a fault they are
 abbrev pub TraceRuns : Type 0
-TraceRuns = (order : Order) (b bytes turns : List ℕ) (answers : List (Answer (Result Event Fault))) → WithinUnit order b → IsTrace (May order) goes_on b bytes turns answers
+TraceRuns =
+    (order : Order) (b bytes turns : List ℕ) (answers : List (Answer (Result Event Fault))) → WithinUnit order b
+    → IsTrace (May order) goes_on b bytes turns answers
     → RunIs order b bytes turns (heard_in answers) (outcome answers (last_given (Ok event.More) answers))
 
--- where the bytes complete a unit, whatever follows it: no fault, no byte after it, and with enough turns exactly its bytes and events
+-- where the bytes complete a unit, whatever follows it: no fault, no byte after it, and with enough turns exactly its
+-- bytes and events
 abbrev pub TraceOfUnit : Type 0
-TraceOfUnit = (order : Order) (b bytes turns u rest : List ℕ) (answers : List (Answer (Result Event Fault))) → WithinUnit order b → IsTrace (May order) goes_on b bytes turns answers
-    → b ++ bytes ≡ u ++ rest → IsUnit order u → UnitRunIs order b bytes turns u (heard_in answers) (outcome answers (last_given (Ok event.More) answers))
+TraceOfUnit =
+    (order : Order) (b bytes turns u rest : List ℕ) (answers : List (Answer (Result Event Fault))) → WithinUnit order b
+    → IsTrace (May order) goes_on b bytes turns answers
+    → b ++ bytes ≡ u ++ rest → IsUnit order u
+    → UnitRunIs order b bytes turns u (heard_in answers) (outcome answers (last_given (Ok event.More) answers))

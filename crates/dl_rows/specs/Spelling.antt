@@ -103,4 +103,6 @@ SpellsOperation order h op.Skipped w = SkipsStandard h w ⊎ SkipsExtended w
 -- w is the spellings of the operations, joined
 abbrev pub SpellsProgram : Order → Params → List Operation → List ℕ → Type 0
 SpellsProgram order h [] w = w ≡ []
-SpellsProgram order h (o ∷ p) w = (front : List ℕ) × (rest : List ℕ) × (w ≡ front ++ rest) × SpellsOperation order h o front × SpellsProgram order h p rest
+SpellsProgram order h (o ∷ p) w =
+    (front : List ℕ) × (rest : List ℕ) × (w ≡ front ++ rest) × SpellsOperation order h o front
+    × SpellsProgram order h p rest

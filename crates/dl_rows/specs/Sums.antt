@@ -6,7 +6,8 @@ use Rattle.dl_field.specs.Usable.{IsUsable}
 use Rattle.dl_rows.specs.declared.registers.Registers.{Registers}
 use Rattle.dl_rows.specs.declared.operation.Operation.{Operation}
 use Rattle.dl_rows.specs.declared.operation.Operation.TheVariants as op
-use Rattle.dl_rows.specs.Matrix.{is_end, appends_row, last_set, address, op_index, line, set_file, set_column, set_isa, set_discriminator, turned, is_block, is_prologue, is_epilogue, modulo}
+use Rattle.dl_rows.specs.Matrix.{is_end, appends_row, last_set, address, op_index, line, set_file, set_column, set_isa}
+use Rattle.dl_rows.specs.Matrix.{set_discriminator, turned, is_block, is_prologue, is_epilogue, modulo}
 use Rattle.dl_rows.specs.Machine.{initial, cleared}
 
 -- the sums and last settings of s and f, address and line wrapped

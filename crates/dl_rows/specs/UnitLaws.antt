@@ -1,5 +1,6 @@
 -- Laws of the definitions of units and refusals. Each holds in either byte order, which is the same throughout a law.
-use Rattle.std.specs.Prelude.{◌^◌, ◌<◌, unsigned_abs, ◌⊎◌, ◌+◌, ◌≡◌, ℕ, ◌≤◌, ◌↔◌, List, [], ◌∷◌, ◌++◌, length, map, Some, None}
+use Rattle.std.specs.Prelude.{◌^◌, ◌<◌, unsigned_abs, ◌⊎◌, ◌+◌, ◌≡◌, ℕ, ◌≤◌, ◌↔◌, List, [], ◌∷◌, ◌++◌, length, map}
+use Rattle.std.specs.Prelude.{Some, None}
 use Rattle.dl_num.specs.declared.fixed.Order.{Order}
 use Rattle.dl_num.specs.Laws.{AllBytes}
 use Rattle.dl_field.specs.Usable.{IsUsable}
@@ -20,7 +21,9 @@ use Rattle.dl_rows.specs.Refusal.{Refused}
 
 -- the params of a header are usable, and its line_base is one byte
 abbrev pub HeaderFits : Type 0
-HeaderFits = (order : Order) (h : HeaderData) (w : List ℕ) → AllBytes w → IsHeader order h w → IsUsable h.params × (unsigned_abs h.params.line_base < 2 ^ 62)
+HeaderFits =
+    (order : Order) (h : HeaderData) (w : List ℕ) → AllBytes w → IsHeader order h w
+    → IsUsable h.params × (unsigned_abs h.params.line_base < 2 ^ 62)
 
 -- bytes are as long as their good initial length says exactly where the computed length is theirs
 abbrev pub LengthIsComputed : Type 0
@@ -32,7 +35,9 @@ NoUnitBeginsAnother = (order : Order) (u v : List ℕ) → IsUnit order u → Is
 
 -- what a unit comes to
 abbrev pub ForeignComesTo : Type 0
-ForeignComesTo = (order : Order) (version : ℕ) (u : List ℕ) → IsForeignUnit order version u → events order u ≡ event.Foreign version ∷ []
+ForeignComesTo =
+    (order : Order) (version : ℕ) (u : List ℕ) → IsForeignUnit order version u
+    → events order u ≡ event.Foreign version ∷ []
 
 abbrev pub UnitComesTo : Type 0
 UnitComesTo = (order : Order) (h : HeaderData) (p : List Operation) (u : List ℕ) → IsOwnUnit order h p u
@@ -45,11 +50,14 @@ OneRefusal = (order : Order) (b c v u : List ℕ) (at at2 : ℕ) (kind kind2 : F
 
 -- bytes without a whole header are refused where they are in their header
 abbrev pub RefusedInHeader : Type 0
-RefusedInHeader = (order : Order) (b : List ℕ) (at : ℕ) (kind : FaultKind) → header_in order b ≡ None → Refused order b at kind ↔ HeaderRefused order b at kind
+RefusedInHeader =
+    (order : Order) (b : List ℕ) (at : ℕ) (kind : FaultKind) → header_in order b ≡ None
+    → Refused order b at kind ↔ HeaderRefused order b at kind
 
 -- w is no operation, and no bad one
 abbrev pub IsIncomplete : Order → Params → List ℕ → Type 0
-IsIncomplete order h w = ((o : Operation) → SpellsOperation order h o w → ⊥) × ((kind : FaultKind) → IsBadOperation h w kind → ⊥)
+IsIncomplete order h w =
+    ((o : Operation) → SpellsOperation order h o w → ⊥) × ((kind : FaultKind) → IsBadOperation h w kind → ⊥)
 
 -- b ends in the unit's last bytes, begun, which are some, and incomplete
 pub record IsCutShort (order : Order) (h : Params) (b begun : List ℕ) : Type 0 where
@@ -70,19 +78,26 @@ pub record RefusesOperation (order : Order) (h : Params) (b program : List ℕ) 
 
 -- where the header is complete, an operation is refused
 abbrev pub RefusedInProgram : Type 0
-RefusedInProgram = (order : Order) (b : List ℕ) (h : HeaderData) (program : List ℕ) (at : ℕ) (kind : FaultKind) → header_in order b ≡ Some (h, program)
+RefusedInProgram =
+    (order : Order) (b : List ℕ) (h : HeaderData) (program : List ℕ) (at : ℕ) (kind : FaultKind)
+    → header_in order b ≡ Some (h, program)
     → Refused order b at kind → RefusesOperation order h.params b program at kind
 
 -- and where one is, in bytes that are no longer than their unit, they are refused
 abbrev pub OperationIsRefused : Type 0
-OperationIsRefused = (order : Order) (b : List ℕ) (h : HeaderData) (program : List ℕ) (at : ℕ) (kind : FaultKind) → header_in order b ≡ Some (h, program) → WithinUnit order b
+OperationIsRefused =
+    (order : Order) (b : List ℕ) (h : HeaderData) (program : List ℕ) (at : ℕ) (kind : FaultKind)
+    → header_in order b ≡ Some (h, program) → WithinUnit order b
     → RefusesOperation order h.params b program at kind → Refused order b at kind
 
 -- bytes as long as their good initial length says are a unit exactly where no front of them is refused
 abbrev pub UnitUnlessRefused : Type 0
 UnitUnlessRefused = (order : Order) (b : List ℕ) → unit_len order b ≡ Some (length b)
-    → IsUnit order b ↔ ((front back : List ℕ) (at : ℕ) (kind : FaultKind) → b ≡ front ++ back → Refused order front at kind → ⊥)
+    → IsUnit order b ↔ ((front back : List ℕ) (at : ℕ) (kind : FaultKind) → b ≡ front ++ back
+    → Refused order front at kind → ⊥)
 
 -- at most one row for each byte of the program
 abbrev pub RowForProgramByte : Type 0
-RowForProgramByte = (order : Order) (b : List ℕ) (h : HeaderData) (program : List ℕ) → header_in order b ≡ Some (h, program) → length (unit_rows order b) ≤ length program
+RowForProgramByte =
+    (order : Order) (b : List ℕ) (h : HeaderData) (program : List ℕ) → header_in order b ≡ Some (h, program)
+    → length (unit_rows order b) ≤ length program

@@ -110,7 +110,8 @@ module _ (order : Order) (u : SectionUnits) (t piece : List ℕ) (units : List (
         offset = ap (λ (z : SectionUnits). z.offset) but ∙ ap (λ (z : SectionUnits). z.offset) same ∙ are.offset;
         foreign = foreign_more v e _ (ap (λ (z : SectionUnits). z.is_foreign) same ∙ are.foreign) ∙ sym foreign_are;
         sequences =
-            ap (λ (z : SectionUnits). z.sequences) but ∙ counts.of_ends (omega (arith, are.sequences, size, all_ends, few))
+            ap (λ (z : SectionUnits). z.sequences) but
+            ∙ counts.of_ends (omega (arith, are.sequences, size, all_ends, few))
             ∙ ap (λ (n : ℕ). n + ends rows) are.sequences ∙ sym all_ends;
         rows = ap (λ (z : SectionUnits). z.rows) but ∙ counts.of_rows (omega (arith, are.rows, size, lengths))
             ∙ ap (λ (n : ℕ). n + length rows) are.rows ∙ sym lengths;

@@ -62,7 +62,8 @@ told_visits offset h (event.Row r) = refl
 
 module _ {S : Type 0} (story : Story S) (order : Order) (t piece : List ℕ) (first : S) (start : Option (List ℕ))
     (u : SectionUnits) (new : S) (now : Option (List ℕ)) (rest : List ℕ)
-    (so : FedUpTo story order t piece first start u new now rest) (short : length t + length piece < 2 ^ 64) (v : SectionUnits)
+    (so : FedUpTo story order t piece first start u new now rest) (short : length t + length piece < 2 ^ 64)
+    (v : SectionUnits)
     (own : v.reader.order ≡ u.reader.order) where
   abbrev pub read_so_far : List ℕ
   read_so_far = t ++ take so.n piece
@@ -259,7 +260,8 @@ module _ {S : Type 0} (story : Story S) (order : Order) (t piece : List ℕ) (fi
       pub told_event : event_visits v.offset (header_of v.reader.order (with_bytes fed.used)) fed.event
           ≡ visits_of fed.used fed.event
       told_event =
-          ap (λ (z : SectionUnits). event_visits z.offset (header_of v.reader.order (with_bytes fed.used)) fed.event) r.same
+          ap (λ (z : SectionUnits). event_visits z.offset (header_of v.reader.order (with_bytes fed.used)) fed.event)
+          r.same
 
       -- an event was told
       pub goes_on : (new2 : S) (now2 : Option (List ℕ))
@@ -273,7 +275,8 @@ module _ {S : Type 0} (story : Story S) (order : Order) (t piece : List ℕ) (fi
         rest_is = left ∙ ap (drop fed.used) so.rest_is ∙ drop-drop fed.used so.n piece;
         units = so.units;
         b = with_bytes fed.used;
-        are = subst (λ (z : SectionUnits). UnitsAre order z (t ++ take (so.n + fed.used) piece) so.units (with_bytes fed.used))
+        are = subst (λ (z : SectionUnits). UnitsAre order z (t ++ take (so.n + fed.used) piece) so.units
+            (with_bytes fed.used))
             (sym same) (subst (λ (l : List ℕ). UnitsAre order v_after l so.units (with_bytes fed.used))
             (joined fed.used) are_after);
         tells = subst (λ (l : List Visit). story.tells first new2 start now2 l)
@@ -361,7 +364,8 @@ module _ {S : Type 0} (story : Story S) (order : Order) (t piece : List ℕ) (fi
       pub are_ended : fed.event ≡ event.End
           → UnitsAre order v (read_so_far ++ take fed.used rest) so.units (with_bytes fed.used)
       are_ended is =
-          subst (λ (z : SectionUnits). UnitsAre order z (read_so_far ++ take fed.used rest) so.units (with_bytes fed.used))
+          subst (λ (z : SectionUnits). UnitsAre order z (read_so_far ++ take fed.used rest) so.units
+          (with_bytes fed.used))
           (ap (λ (e : Event). counted e v) is) are_after
 
       pub still_small : length (read_so_far ++ take fed.used rest) < 2 ^ 64

@@ -136,7 +136,8 @@ module _ {W V : Type 0} (story : Story V) (contents : W → Option (List ℕ)) w
         no_row = so.0;
       }
 
-  pub stopped_told : (b piece : List ℕ) (old new : SectionUnits) (first sink : Told W V) (w : V) (now : W) (f : RunFault)
+  pub stopped_told : (b piece : List ℕ) (old new : SectionUnits) (first sink : Told W V) (w : V) (now : W)
+      (f : RunFault)
       (fed : Result Fed Fault) → sink.failed ≡ Some f → new.reader.order ≡ old.reader.order
       → RowsFed (told_story story contents first) old.reader.order b piece [] fed new.reader sink
       → (first.visitor.ghost_name ≡ sink.visitor.ghost_name → w ≡ sink.visitor.now)

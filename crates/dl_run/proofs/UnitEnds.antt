@@ -26,7 +26,8 @@ use Rattle.dl_run.proofs.FeedLemmas.{visits_so_far, with_bytes}
 
 module _ {S : Type 0} (story : Story S) (order : Order) (t piece : List ℕ) (first : S) (start : Option (List ℕ))
     (u : SectionUnits) (new : S) (now : Option (List ℕ)) (rest : List ℕ)
-    (so : FedUpTo story order t piece first start u new now rest) (short : length t + length piece < 2 ^ 64) (v : SectionUnits)
+    (so : FedUpTo story order t piece first start u new now rest) (short : length t + length piece < 2 ^ 64)
+    (v : SectionUnits)
     (own : v.reader.order ≡ u.reader.order) (w : S) (after : Option (List ℕ)) (fed : Fed)
     (r : RowsOf story so.b rest u v new w now after (Ok fed)) where
   -- the bytes of the current unit

@@ -9,4 +9,6 @@ loop-at-preserved g c = (
 )
 
 pub returns-clause-answer : goal.returns-clause-answer
-returns-clause-answer g c = λ f is short. no_relocations c.args.elf.now f c.args.number c.loop-at.at c.loop-at-test.false (c.loop-at.invariant.1 f is short)
+returns-clause-answer g c =
+    λ f is short. no_relocations c.args.elf.now f c.args.number c.loop-at.at c.loop-at-test.false
+    (c.loop-at.invariant.1 f is short)

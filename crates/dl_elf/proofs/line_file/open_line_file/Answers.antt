@@ -10,7 +10,8 @@ use Rattle.dl_elf.proofs.line_file.open_line_file.Goals as goal
 pub returns-in_default-clause-opens : goal.returns-in_default-clause-opens
 returns-in_default-clause-opens g c = λ f is short.
     let e = c.in_ok-elf.elf in
-    has_table f e (slot_of c.in_ok-sections.sections.found) c.args.wanted (Err (fault.NoLineSection c.in_ok-read_build_id.field-0))
+    has_table f e (slot_of c.in_ok-sections.sections.found) c.args.wanted
+    (Err (fault.NoLineSection c.in_ok-read_build_id.field-0))
     (c.in_ok-elf.ensures.answer f is short) (c.in_ok-sections.ensures.found f is short) (
       sym c.new.ensures ∙ c.in_default.is,
       c.in_ok-read_build_id.ensures.told f is short ∙ ap (λ note. build_id_of e f note) c.get-note.ensures,
@@ -18,13 +19,15 @@ returns-in_default-clause-opens g c = λ f is short.
 
 pub returns-in-Some-2-clause-opens : goal.returns-in-Some-2-clause-opens
 returns-in-Some-2-clause-opens g c = λ f is short.
-    has_table f c.in_ok-elf.elf (slot_of c.in_ok-sections.sections.found) c.args.wanted (Err (fault.Damaged c.in-Some-2.part))
+    has_table f c.in_ok-elf.elf (slot_of c.in_ok-sections.sections.found) c.args.wanted
+    (Err (fault.Damaged c.in-Some-2.part))
     (c.in_ok-elf.ensures.answer f is short) (c.in_ok-sections.ensures.found f is short)
     (c.in-Some.chosen, sym c.new.ensures ∙ c.in-Some.is, sym (c.in_ok-part.ensures.part f is short) ∙ c.in-Some-2.is)
 
 pub returns-in-Some-3-clause-opens : goal.returns-in-Some-3-clause-opens
 returns-in-Some-3-clause-opens g c = λ f is short.
-    has_table f c.in_ok-elf.elf (slot_of c.in_ok-sections.sections.found) c.args.wanted (Err (fault.Compressed c.in-Some-3.name c.in-Some-3.method))
+    has_table f c.in_ok-elf.elf (slot_of c.in_ok-sections.sections.found) c.args.wanted
+    (Err (fault.Compressed c.in-Some-3.name c.in-Some-3.method))
     (c.in_ok-elf.ensures.answer f is short) (c.in_ok-sections.ensures.found f is short) (
       c.in-Some.chosen,
       sym c.new.ensures ∙ c.in-Some.is,
@@ -42,7 +45,8 @@ returns-then-branch-clause-opens g c = λ f is short.
       sym c.new.ensures ∙ c.in-Some.is,
       sym (c.in_ok-part.ensures.part f is short) ∙ c.in_default-2.is,
       sym (c.in_ok-name.ensures.compressed f is short) ∙ c.in_default-3.is,
-      holds_if_true (HasRelocations e f number) (¬ HasRelocations e f number) c.in_ok-has_relocations.field-0 (c.in_ok-has_relocations.ensures.answer f is short) c.if-branch.true,
+      holds_if_true (HasRelocations e f number) (¬ HasRelocations e f number) c.in_ok-has_relocations.field-0
+          (c.in_ok-has_relocations.ensures.answer f is short) c.if-branch.true,
     )
 
 pub returns-clause-opens : goal.returns-clause-opens
@@ -57,7 +61,8 @@ returns-clause-opens g c = λ f is short.
             sym c.new.ensures ∙ c.in-Some.is,
             sym (c.in_ok-part.ensures.part f is short) ∙ c.in_default-2.is,
             sym (c.in_ok-name.ensures.compressed f is short) ∙ c.in_default-3.is,
-            holds_if_false (HasRelocations e f number) (¬ HasRelocations e f number) c.in_ok-has_relocations.field-0 (c.in_ok-has_relocations.ensures.answer f is short) c.if-branch.false,
+            holds_if_false (HasRelocations e f number) (¬ HasRelocations e f number) c.in_ok-has_relocations.field-0
+                (c.in_ok-has_relocations.ensures.answer f is short) c.if-branch.false,
             refl,
           ),
       record {

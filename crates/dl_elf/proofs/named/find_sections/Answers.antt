@@ -14,4 +14,5 @@ pub returns-clause-found : goal.returns-clause-found
 returns-clause-found g c = λ f is short.
     let end = c.loop-number.invariant in
     all_found c.args.elf.now f c.loop-number.sections.found
-    (found_at_end c.args.elf.now f c.loop-number.number c.loop-number.sections.found (omega arith) c.loop-number-test.false end.upto (end.found f is short))
+    (found_at_end c.args.elf.now f c.loop-number.number c.loop-number.sections.found
+    (omega arith) c.loop-number-test.false end.upto (end.found f is short))

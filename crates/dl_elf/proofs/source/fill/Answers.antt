@@ -8,6 +8,7 @@ pub loop-filled-preserved : goal.loop-filled-preserved
 loop-filled-preserved g c =
     let fits : c.in_ok-n.n ≤ length c.read_some.new.buffer = c.in_ok-n.ensures.bound.0 in (
       grind (arith, overwrites, places, fits),
-      fill_more_known (g.S.ReadAt.all_bytes c.args.source.now) c.args.offset c.in-Some.at c.loop-filled.filled c.in_ok-n.n c.loop-filled.buffer c.read_some.new.buffer
+      fill_more_known (g.S.ReadAt.all_bytes c.args.source.now) c.args.offset c.in-Some.at c.loop-filled.filled
+          c.in_ok-n.n c.loop-filled.buffer c.read_some.new.buffer
           c.loop-filled.invariant.0 fits c.in-Some.ensures.1 c.loop-filled.invariant.1 c.in_ok-n.ensures.bytes,
     )

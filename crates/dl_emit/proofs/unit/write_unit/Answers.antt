@@ -9,30 +9,37 @@ pub returns-in_err-program_len-clause-written : goal.returns-in_err-program_len-
 returns-in_err-program_len-clause-written g c =
     let told = rw c.params.ensures.value at c.in_err-program_len.ensures.err in
     let p = err_from_is_err_and c.from_residual.result c.from_residual.ensures.1 in
-    rw (p.1, p.2) (refused_first c.args.header.now c.args.rows.now c.args.order _ _ c.in_err-program_len.field-0.0 told (Keeps-refl _))
+    rw (p.1, p.2) (refused_first c.args.header.now c.args.rows.now c.args.order _ _ c.in_err-program_len.field-0.0 told
+    (Keeps-refl _))
 
 pub returns-in_err-out-clause-written : goal.returns-in_err-out-clause-written
 returns-in_err-out-clause-written g c =
     let told = rw c.params.ensures.value at c.in_ok-program_len.ensures in
     let p = err_from_is_err_and c.from_residual-in_err-out.result c.from_residual-in_err-out.ensures.1 in
-    rw (p.1, p.2) (header_failed c.args.header.now c.args.rows.now c.args.order _ _ c.in_ok-program_len.program_len c.in_err-out.field-0.0 told.ok told.len c.in_err-out.ensures)
+    rw (p.1, p.2) (header_failed c.args.header.now c.args.rows.now c.args.order _ _ c.in_ok-program_len.program_len
+    c.in_err-out.field-0.0 told.ok told.len c.in_err-out.ensures)
 
 pub returns-in_err-write_program-clause-written : goal.returns-in_err-write_program-clause-written
 returns-in_err-write_program-clause-written g c =
     let told = rw c.params.ensures.value at c.in_ok-program_len.ensures in
     let written = rw c.params-2.ensures.value at c.in_err-write_program.ensures.written in
-    let p = err_from_is_err_and c.from_residual-in_err-write_program.result c.from_residual-in_err-write_program.ensures.1 in
-    rw (p.1, p.2) (program_written c.args.header.now c.args.rows.now c.args.order _ _ c.in_ok-program_len.program_len c.in_ok-out.out _ (Err c.in_err-write_program.field-0.0) told.ok told.len c.in_ok-out.ensures written)
+    let p = err_from_is_err_and c.from_residual-in_err-write_program.result
+    c.from_residual-in_err-write_program.ensures.1 in
+    rw (p.1, p.2) (program_written c.args.header.now c.args.rows.now c.args.order _ _ c.in_ok-program_len.program_len
+    c.in_ok-out.out _ (Err c.in_err-write_program.field-0.0) told.ok told.len c.in_ok-out.ensures written)
 
 pub returns-clause-written : goal.returns-clause-written
 returns-clause-written g c =
     let told = rw c.params.ensures.value at c.in_ok-program_len.ensures in
     let written = rw c.params-2.ensures.value at c.in_ok-write_program.ensures.written in
-    program_written c.args.header.now c.args.rows.now c.args.order _ _ c.in_ok-program_len.program_len c.in_ok-out.out _ (Ok c.in_ok-write_program.field-0) told.ok told.len c.in_ok-out.ensures written
+    program_written c.args.header.now c.args.rows.now c.args.order _ _ c.in_ok-program_len.program_len c.in_ok-out.out _
+    (Ok c.in_ok-write_program.field-0) told.ok told.len c.in_ok-out.ensures written
 
 pub returns-clause-readable : goal.returns-clause-readable
 returns-clause-readable g c =
     let told = rw c.params.ensures.value at c.in_ok-program_len.ensures in
     let written = rw c.params-2.ensures.value at c.in_ok-write_program.ensures.written in
-    let out = program_written c.args.header.now c.args.rows.now c.args.order _ _ c.in_ok-program_len.program_len c.in_ok-out.out _ (Ok c.in_ok-write_program.field-0) told.ok told.len c.in_ok-out.ensures written in
+    let out =
+    program_written c.args.header.now c.args.rows.now c.args.order _ _ c.in_ok-program_len.program_len
+    c.in_ok-out.out _ (Ok c.in_ok-write_program.field-0) told.ok told.len c.in_ok-out.ensures written in
     unit_is_read_again c.args.order c.args.header.now c.args.rows.now c.params.ensures.sound told.rows out.0

@@ -9,7 +9,9 @@ loop-range-preserved c =
     let ranges = c.args.ranges.now in
     let end = c.max-end.ensures ∙ ap₂ (λ a b. max (a + b) l.end) c.from.ensures c.from-in-loop-range.ensures in
     record {
-      so_far = rw c.push_reserved.ensures.items (one_more ranges l.reaches.items l.range-index l.end c.max-end.result (get_or ranges l.range-index no_range) c.requires l.invariant.so_far
+      so_far =
+          rw c.push_reserved.ensures.items (one_more ranges l.reaches.items l.range-index l.end c.max-end.result
+          (get_or ranges l.range-index no_range) c.requires l.invariant.so_far
           c.loop-range-test.true refl end);
       capacity = search rules;
     }

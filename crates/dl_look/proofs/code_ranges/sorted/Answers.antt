@@ -7,8 +7,12 @@ use Rattle.dl_look.proofs.RangeLemmas.{starts_rise}
 use Rattle.dl_look.proofs.code_ranges.sorted.Goals as goal
 
 pub returns-clause-rise : goal.returns-clause-rise
-returns-clause-rise c = starts_rise c.sort_unstable.new.self.items (λ k lt. (let h = c.sort_unstable.ensures.sorted k no_range (omega arith) lt in grind (arith, nat_tests)))
+returns-clause-rise c =
+    starts_rise c.sort_unstable.new.self.items (λ k lt. (let h =
+    c.sort_unstable.ensures.sorted k no_range (omega arith) lt in grind (arith, nat_tests)))
 
 pub returns-clause-same : goal.returns-clause-same
-returns-clause-same c = λ p. sym (list_any-IsPermutation p c.in-Ok.sorted.items c.sort_unstable.new.self.items c.sort_unstable.ensures.permutation)
+returns-clause-same c =
+    λ p. sym (list_any-IsPermutation p c.in-Ok.sorted.items c.sort_unstable.new.self.items
+    c.sort_unstable.ensures.permutation)
     ∙ ap (list_any p) (c.in-Ok.ensures.items_if_clones_equal (λ x y e. e))

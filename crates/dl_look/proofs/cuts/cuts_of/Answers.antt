@@ -6,7 +6,8 @@ use Rattle.dl_look.specs.Cuts.{first_from}
 use Rattle.dl_look.specs.Slots.{no_slot, slot_place}
 use Rattle.dl_look.proofs.CutLemmas.{new_cut, same_cut, are_cuts}
 use Rattle.dl_look.proofs.cuts.cuts_of.Goals as goal
-use Rattle.dl_look.proofs.cuts.cuts_of.Goals.{then-i-eq0, then-i-eq0-via-then-i-eq0, then-i-eq0-via-else-i-eq0+then-is_below, else-i-eq0+else-is_below}
+use Rattle.dl_look.proofs.cuts.cuts_of.Goals.{then-i-eq0, then-i-eq0-via-then-i-eq0}
+use Rattle.dl_look.proofs.cuts.cuts_of.Goals.{then-i-eq0-via-else-i-eq0+then-is_below, else-i-eq0+else-is_below}
 
 pub loop-i-preserved : goal.loop-i-preserved
 loop-i-preserved c =
@@ -20,22 +21,35 @@ loop-i-preserved c =
     let lt' : l.i < length c.as_slice-2.result.now = omega (arith, ap length seen) in
     elim c.if-i-eq0.branch [
       | then-i-eq0 w ↦ (
-          let place = ap (λ (s : Slot). s.place) (get_or_read slots l.i w.index-then-i-eq0.result.now lt w.index-then-i-eq0.ensures no_slot) in
-          let sequence = get_or_read c.in_ok-sequences.sequences.items l.i w.index-then-i-eq0-2.result.now (omega (arith, c.in_ok-sequences.ensures.count)) w.index-then-i-eq0-2.ensures None
+          let place =
+          ap (λ (s : Slot). s.place)
+          (get_or_read slots l.i w.index-then-i-eq0.result.now lt w.index-then-i-eq0.ensures no_slot) in
+          let sequence =
+          get_or_read c.in_ok-sequences.sequences.items l.i w.index-then-i-eq0-2.result.now
+          (omega (arith, c.in_ok-sequences.ensures.count)) w.index-then-i-eq0-2.ensures None
           ∙ c.in_ok-sequences.ensures.first l.i lt'
           ∙ ap (λ s. first_from 0 spans (slot_place s l.i)) seen in
-          let above = elim w.then-i-eq0.branch as (λ b. (l.i ≡ 0) ⊎ ((0 < l.i) × (is_below (slot_place slots (l.i - 1)) (slot_place slots l.i) ≡ true))) [
+          let above =
+          elim w.then-i-eq0.branch as (λ b. (l.i ≡ 0)
+          ⊎ ((0 < l.i) × (is_below (slot_place slots (l.i - 1)) (slot_place slots l.i) ≡ true))) [
             | then-i-eq0-via-then-i-eq0 w' ↦ inl w'.if-i-eq0.true
             | then-i-eq0-via-else-i-eq0+then-is_below w' ↦ inr (
               omega (arith, w'.if-i-eq0.false),
               ap₂ is_below
-                  (sym (ap (λ (s : Slot). s.place) (get_or_read slots (l.i - 1) w'.index.result.now before w'.index.ensures no_slot)))
-                  (sym (ap (λ (s : Slot). s.place) (get_or_read slots l.i w'.index-else-i-eq0.result.now lt w'.index-else-i-eq0.ensures no_slot)))
+                  (sym (ap (λ (s : Slot). s.place)
+                  (get_or_read slots (l.i - 1) w'.index.result.now before w'.index.ensures no_slot)))
+                  (sym (ap (λ (s : Slot). s.place)
+                  (get_or_read slots l.i w'.index-else-i-eq0.result.now lt w'.index-else-i-eq0.ensures no_slot)))
                   ∙ sym w'.is_below.ensures ∙ w'.if-is_below.true,
             )
           ] in
           rw w.cuts-is (record {
-            cuts = new_cut spans slots l.cuts.items l.i l.invariant.cuts given.rising lt w.push_reserved.new.self.items (record { place = w.index-then-i-eq0.result.now.place; sequence = w.index-then-i-eq0-2.result.now }) w.push_reserved.ensures.items place sequence above;
+            cuts = new_cut spans slots l.cuts.items l.i l.invariant.cuts given.rising lt w.push_reserved.new.self.items
+                (record {
+                  place = w.index-then-i-eq0.result.now.place;
+                  sequence =
+                      w.index-then-i-eq0-2.result.now;
+                }) w.push_reserved.ensures.items place sequence above;
             capacity = omega (arith, w.push_reserved.ensures.capacity, l.invariant.capacity);
           }))
       | else-i-eq0+else-is_below w ↦ (
@@ -43,8 +57,10 @@ loop-i-preserved c =
           rw w.cuts-is (record {
             cuts = same_cut spans slots l.cuts.items l.i l.invariant.cuts given.rising lt some (
                 ap₂ is_below
-                (sym (ap (λ (s : Slot). s.place) (get_or_read slots (l.i - 1) w.index.result.now before w.index.ensures no_slot)))
-                (sym (ap (λ (s : Slot). s.place) (get_or_read slots l.i w.index-else-i-eq0.result.now lt w.index-else-i-eq0.ensures no_slot)))
+                (sym (ap (λ (s : Slot). s.place)
+                (get_or_read slots (l.i - 1) w.index.result.now before w.index.ensures no_slot)))
+                (sym (ap (λ (s : Slot). s.place)
+                (get_or_read slots l.i w.index-else-i-eq0.result.now lt w.index-else-i-eq0.ensures no_slot)))
                 ∙ sym w.is_below.ensures ∙ w.if-is_below.false);
             capacity = l.invariant.capacity;
           }))
@@ -52,4 +68,6 @@ loop-i-preserved c =
 
 pub returns : goal.returns
 returns c =
-    are_cuts c.args.spans.now c.as_slice.result.now c.in_ok-slots.slots.items c.loop-i.cuts.items c.loop-i.i (c.as_slice.ensures.value ∙ c.in_ok-ends.ensures) c.in_ok-slots.ensures c.loop-i.invariant.cuts (omega (arith, c.in_ok-slots.slots.ok.0))
+    are_cuts c.args.spans.now c.as_slice.result.now c.in_ok-slots.slots.items c.loop-i.cuts.items c.loop-i.i
+    (c.as_slice.ensures.value ∙ c.in_ok-ends.ensures) c.in_ok-slots.ensures c.loop-i.invariant.cuts
+    (omega (arith, c.in_ok-slots.slots.ok.0))

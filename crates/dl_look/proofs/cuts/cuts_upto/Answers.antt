@@ -9,7 +9,8 @@ loop-low-preserved-then-is_at_most c =
     record {
       apart = omega arith;
       within = i.within;
-      upto = search_up c.args.cuts.now c.args.place (l.low + (l.high - l.low) / 2) c.requires (omega arith) (sym c.if-is_at_most.ensures);
+      upto = search_up c.args.cuts.now c.args.place (l.low + (l.high - l.low) / 2) c.requires (omega arith)
+          (sym c.if-is_at_most.ensures);
       above = i.above;
     }
 
@@ -21,5 +22,6 @@ loop-low-preserved c =
       apart = omega arith;
       within = omega arith;
       upto = i.upto;
-      above = search_down c.args.cuts.now c.args.place (l.low + (l.high - l.low) / 2) c.requires (omega arith) (sym c.if-is_at_most.ensures);
+      above = search_down c.args.cuts.now c.args.place (l.low + (l.high - l.low) / 2) c.requires (omega arith)
+          (sym c.if-is_at_most.ensures);
     }

@@ -24,13 +24,19 @@ loop-i-preserved c =
             links = omega (arith, w.cover.ensures.links, w.cover.ensures.count, i.links);
             count = w.cover.ensures.count ∙ i.count;
             opens = λ j lt. w.cover.ensures.opens j (omega (arith, w.cover.ensures.count));
-            first = λ j lt. first_more spans l.i (slot_place slots j) (nat_le low.result j && nat_lt j high.result) (get_or l.sequences.items j None) _ (omega arith) (within_span slots s low.result high.result j lt low.ensures.below low.ensures.rest high.ensures.below high.ensures.rest w.if-span.true) (i.first j lt) (w.cover.ensures.given j (omega arith));
+            first = λ j lt. first_more spans l.i (slot_place slots j) (nat_le low.result j && nat_lt j high.result)
+                (get_or l.sequences.items j None) _ (omega arith)
+                (within_span slots s low.result high.result j lt low.ensures.below low.ensures.rest high.ensures.below
+                high.ensures.rest w.if-span.true) (i.first j lt) (w.cover.ensures.given j (omega arith));
           }))
       | else-span w ↦ rw (w.links-is, w.sequences-is) (record {
         linked = i.linked;
         links = i.links;
         count = i.count;
         opens = i.opens;
-        first = λ j lt. first_more spans l.i (slot_place slots j) false (get_or l.sequences.items j None) (get_or l.sequences.items j None) (omega arith) (sym (ap (λ b. b && (is_at_most s.first (slot_place slots j) && is_below (slot_place slots j) s.last)) w.if-span.false)) (i.first j lt) (sym (or-none (get_or l.sequences.items j None)));
+        first = λ j lt. first_more spans l.i (slot_place slots j) false (get_or l.sequences.items j None)
+            (get_or l.sequences.items j None) (omega arith)
+            (sym (ap (λ b. b && (is_at_most s.first (slot_place slots j) && is_below (slot_place slots j) s.last))
+            w.if-span.false)) (i.first j lt) (sym (or-none (get_or l.sequences.items j None)));
       })
     ]

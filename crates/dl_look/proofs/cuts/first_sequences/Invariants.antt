@@ -10,6 +10,8 @@ invariant-loop-i l =
       linked : IsLinked l.links.next.items;
       links : length l.links.next.items ≡ length l.sequences.items + 1;
       count : length l.sequences.items ≡ length l.slots;
-      opens : (j : ℕ) → j < length l.sequences.items → is_open l.links.next.items j ≡ is_none (get_or l.sequences.items j None);
-      first : (j : ℕ) → j < length l.slots → get_or l.sequences.items j None ≡ first_from 0 (take l.i l.spans) (slot_place l.slots j);
+      opens : (j : ℕ) → j < length l.sequences.items
+          → is_open l.links.next.items j ≡ is_none (get_or l.sequences.items j None);
+      first : (j : ℕ) → j < length l.slots
+          → get_or l.sequences.items j None ≡ first_from 0 (take l.i l.spans) (slot_place l.slots j);
     }

@@ -8,7 +8,8 @@ search_between-requires g c =
     let rows = g.T.Probed.list c.args.table.now in
     let probe = c.sequence-span.ensures in
     let lt : c.loop-i.i < length (sequences rows) = omega (arith, length-spans rows) in
-    let h = hit rows _ _ _ _ _ c.loop-i.invariant lt _ probe.value probe.same (sym c.covers.ensures ∙ c.if-covers.true) in
+    let h = hit rows _ _ _ _ _ c.loop-i.invariant lt _ probe.value probe.same (sym c.covers.ensures
+    ∙ c.if-covers.true) in
     record {
       within = h.within;
       small = (let same = ap length (probe.same ∙ c.loop-i.invariant.same) in omega arith);
@@ -23,7 +24,8 @@ returns-then-covers g c =
     let rows = g.T.Probed.list c.args.table.now in
     let probe = c.sequence-span.ensures in
     let lt : c.loop-i.i < length (sequences rows) = omega (arith, length-spans rows) in
-    let h = hit rows _ _ _ _ _ c.loop-i.invariant lt _ probe.value probe.same (sym c.covers.ensures ∙ c.if-covers.true) in
+    let h = hit rows _ _ _ _ _ c.loop-i.invariant lt _ probe.value probe.same (sym c.covers.ensures
+    ∙ c.if-covers.true) in
     let same = ap length (probe.same ∙ c.loop-i.invariant.same) in
     record {
       value = c.search_between.ensures.value ∙ h.value;
@@ -36,7 +38,8 @@ loop-i-preserved g c =
     let rows = g.T.Probed.list c.args.table.now in
     let probe = c.sequence-span.ensures in
     let lt : c.loop-i.i < length (sequences rows) = omega (arith, length-spans rows) in
-    rw probe.counted (miss rows _ _ _ _ _ c.loop-i.invariant lt _ probe.value probe.same (sym c.covers.ensures ∙ c.if-covers.false))
+    rw probe.counted (miss rows _ _ _ _ _ c.loop-i.invariant lt _ probe.value probe.same (sym c.covers.ensures
+    ∙ c.if-covers.false))
 
 pub returns-clause-value : goal.returns-clause-value
 returns-clause-value g c =

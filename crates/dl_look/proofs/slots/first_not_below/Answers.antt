@@ -9,7 +9,8 @@ loop-low-preserved-then-is_below c =
     record {
       apart = omega arith;
       within = i.within;
-      below = goes_up c.args.slots.now c.args.place (l.low + (l.high - l.low) / 2) c.requires (omega arith) (sym c.if-is_below.ensures);
+      below = goes_up c.args.slots.now c.args.place (l.low + (l.high - l.low) / 2) c.requires (omega arith)
+          (sym c.if-is_below.ensures);
       rest = i.rest;
     }
 
@@ -21,5 +22,6 @@ loop-low-preserved c =
       apart = omega arith;
       within = omega arith;
       below = i.below;
-      rest = goes_down c.args.slots.now c.args.place (l.low + (l.high - l.low) / 2) c.requires (sym c.if-is_below.ensures);
+      rest = goes_down c.args.slots.now c.args.place (l.low + (l.high - l.low) / 2) c.requires
+          (sym c.if-is_below.ensures);
     }

@@ -9,5 +9,6 @@ returns c =
     let i = c.loop-number.invariant in
     let n = c.loop-number.auto.number-end in
     let t = c.loop-number-test.false in
-    in_order c.args.places.now c.loop-number.slots.items c.sort_unstable.new.self.items (omega arith) (λ j lt. i.numbers j (omega arith)) (λ j lt. i.places j (omega arith)) c.sort_unstable.ensures.permutation
+    in_order c.args.places.now c.loop-number.slots.items c.sort_unstable.new.self.items (omega arith)
+    (λ j lt. i.numbers j (omega arith)) (λ j lt. i.places j (omega arith)) c.sort_unstable.ensures.permutation
     (λ k lt. (let h = c.sort_unstable.ensures.sorted k no_slot (omega arith) lt in grind (arith, nat_tests)))

@@ -24,9 +24,12 @@ loop-i-preserved c =
           let old = answer_upto (length ledger.log.items) ledger (slot_number c.args.slots.now j) in
           let row = get_or trail l.i no_stretch in
           give.given j lt
-          ∙ ap (λ o. option_or o (if nat_le row.start j && nat_lt j c.if-i-trail.high then Some row.row else None)) (l.invariant.given j lt)
-          ∙ option_or_assoc old (row_at (take l.i trail) (start_of (drop l.i trail) c.args.end) j) (if nat_le row.start j && nat_lt j c.if-i-trail.high then Some row.row else None)
-          ∙ ap (λ e. option_or old (option_or (row_at (take l.i trail) (start_of (drop l.i trail) c.args.end) j) (if nat_le row.start j && nat_lt j e then Some row.row else None))) high
+          ∙ ap (λ o. option_or o (if nat_le row.start j && nat_lt j c.if-i-trail.high then Some row.row else None))
+          (l.invariant.given j lt)
+          ∙ option_or_assoc old (row_at (take l.i trail) (start_of (drop l.i trail) c.args.end) j)
+          (if nat_le row.start j && nat_lt j c.if-i-trail.high then Some row.row else None)
+          ∙ ap (λ e. option_or old (option_or (row_at (take l.i trail) (start_of (drop l.i trail) c.args.end) j)
+          (if nat_le row.start j && nat_lt j e then Some row.row else None))) high
           ∙ sym (ap (option_or old) (row_at-more trail c.args.end l.i j (omega arith))));
       before = λ limit i le. give.before limit i (omega (arith, l.invariant.grown)) ∙ l.invariant.before limit i le;
       grown = omega (arith, l.invariant.grown);

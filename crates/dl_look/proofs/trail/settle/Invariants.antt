@@ -9,7 +9,10 @@ abbrev pub invariant-loop-i : goal.invariant-loop-i
 invariant-loop-i l =
     record {
       sound : IsSound l.slots l.ledger;
-      given : (j : ℕ) → j < length l.slots → answer_upto (length l.ledger.log.items) l.ledger (slot_number l.slots j) ≡ option_or (answer_upto (length l.fn.ledger.log.items) l.fn.ledger (slot_number l.slots j)) (row_at (take l.i l.trail) (start_of (drop l.i l.trail) l.end) j);
-      before : (limit i : ℕ) → limit ≤ length l.fn.ledger.log.items → answer_upto limit l.ledger i ≡ answer_upto limit l.fn.ledger i;
+      given : (j : ℕ) → j < length l.slots → answer_upto (length l.ledger.log.items) l.ledger (slot_number l.slots j)
+          ≡ option_or (answer_upto (length l.fn.ledger.log.items) l.fn.ledger (slot_number l.slots j))
+          (row_at (take l.i l.trail) (start_of (drop l.i l.trail) l.end) j);
+      before : (limit i : ℕ) → limit ≤ length l.fn.ledger.log.items
+          → answer_upto limit l.ledger i ≡ answer_upto limit l.fn.ledger i;
       grown : length l.fn.ledger.log.items ≤ length l.ledger.log.items;
     }

@@ -10,5 +10,6 @@ loop-preserved c =
     let before = rw one at c.loop.invariant.same in
     record {
       len = omega arith;
-      same = rw c.push.ensures.items (little-more c.loop.bytes.items (little_bytes c.args.size c.args.number) left c.loop.rest before);
+      same = rw c.push.ensures.items (little-more c.loop.bytes.items (little_bytes c.args.size c.args.number) left
+          c.loop.rest before);
     }

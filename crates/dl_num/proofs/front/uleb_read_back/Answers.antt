@@ -8,4 +8,6 @@ returns-in_err-found c =
     absurd (not_open _ spells.0 spells.1 spells.2 (rw c.as_slice.ensures.value at c.in_err-found.ensures))
 
 pub returns : goal.returns
-returns c = ap Some (uleb_back _ _ c.args.number (rw c.as_slice.ensures.value c.uleb_bytes-bytes.ensures.shortest.spells) c.ranges.number.fits _ c.in_ok-found.ensures)
+returns c =
+    ap Some (uleb_back _ _ c.args.number (rw c.as_slice.ensures.value c.uleb_bytes-bytes.ensures.shortest.spells)
+    c.ranges.number.fits _ c.in_ok-found.ensures)

@@ -7,6 +7,12 @@ returns-in-Err g c = record {
   printed = λ start text h.
       let some = c.in-Err.ensures.part in
       let rest = ap length h.rest in
-      let within = h.first.within in
-      (omega (arith, length-drop {A = ℕ}), HasOut-pending start _ _ text _ _ _ h (record { within = omega arith; written = c.in-Err.ensures.err }));
+      let within = h.first.within in (
+        omega (arith, length-drop {A = ℕ}),
+        HasOut-pending start _ _ text _ _ _ h (record {
+          within =
+              omega arith;
+          written = c.in-Err.ensures.err;
+        }),
+      );
 }

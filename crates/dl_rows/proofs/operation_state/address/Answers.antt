@@ -8,4 +8,5 @@ returns-in-Ok-clause-step c h v s =
 
 pub returns-in-Err-clause-step : goal.returns-in-Err-clause-step
 returns-in-Err-clause-step c h v s =
-    address_within c.args.order h c.args.number c.in-Err.number v c.args.bytes.now s c.in-Err.ensures.size c.in-Err.ensures.taken c.in-Err.ensures.lacks
+    address_within c.args.order h c.args.number c.in-Err.number v c.args.bytes.now s c.in-Err.ensures.size
+    c.in-Err.ensures.taken c.in-Err.ensures.lacks

@@ -14,4 +14,9 @@ returns-clause-step c order =
     let count = slice_index c.args.params.now.lengths.items (c.args.opcode - 1) in
     let some = rw (c.deref.ensures.0, c.from.ensures) at c.if-count-eq0.false in
     let left : LebsLeft count [] count = lebs_start count (omega (arith, some)) in
-    c.skipped.ensures.step order c.args.params.now _ (c.args.opcode, c.requires.unknown, c.requires.below, ([], refl, rw (c.deref.ensures.0, c.from.ensures) left))
+    c.skipped.ensures.step order c.args.params.now _ (
+      c.args.opcode,
+      c.requires.unknown,
+      c.requires.below,
+      ([], refl, rw (c.deref.ensures.0, c.from.ensures) left),
+    )

@@ -10,7 +10,8 @@ loop-i-preserved-then-not-push c count w l =
     let xs = c.args.bytes.now in
     let i = c.loop-i.i in
     subst (λ (z : List ℕ). LebsLeft count z c.loop-i.left) (sym (next_front w xs i c.loop-i-test.true))
-    (lebs_more count (w ++ take i xs) c.loop-i.left (slice_index_or xs i 0) (c.loop-i.invariant count w l) (let e = c.if-not-push.ensures in not_lt e.1))
+    (lebs_more count (w ++ take i xs) c.loop-i.left (slice_index_or xs i 0) (c.loop-i.invariant count w l) (let e =
+    c.if-not-push.ensures in not_lt e.1))
 
 pub loop-i-preserved : goal.loop-i-preserved
 loop-i-preserved c count w l =
@@ -18,18 +19,21 @@ loop-i-preserved c count w l =
     let i = c.loop-i.i in
     let is : c.loop-i.left ≡ suc (c.loop-i.left - 1) = omega (arith, c.if-left-le1.false) in
     subst (λ (z : List ℕ). LebsLeft count z (c.loop-i.left - 1)) (sym (next_front w xs i c.loop-i-test.true))
-    (lebs_next count (w ++ take i xs) (c.loop-i.left - 1) (slice_index_or xs i 0) (subst (λ (z : ℕ). LebsLeft count (w ++ take i xs) z) is (c.loop-i.invariant count w l))
+    (lebs_next count (w ++ take i xs) (c.loop-i.left - 1) (slice_index_or xs i 0)
+    (subst (λ (z : ℕ). LebsLeft count (w ++ take i xs) z) is (c.loop-i.invariant count w l))
     (c.if-not-push.ensures.0 refl) (omega (arith, c.if-left-le1.false)))
 
 pub returns-then-left-le1-clause-step : goal.returns-then-left-le1-clause-step
 returns-then-left-le1-clause-step c order h v s =
     let xs = c.args.bytes.now in
     let i = c.loop-i.i in
-    skipped_ends order h c.args.left c.loop-i.left (slice_index_or xs i 0) v (take i xs) xs _ s c.loop-i.invariant c.if-left-le1.true (c.if-not-push.ensures.0 refl)
+    skipped_ends order h c.args.left c.loop-i.left (slice_index_or xs i 0) v (take i xs) xs _ s c.loop-i.invariant
+    c.if-left-le1.true (c.if-not-push.ensures.0 refl)
     (split_at xs i c.loop-i-test.true)
 
 pub returns-clause-step : goal.returns-clause-step
 returns-clause-step c order h v s =
     let xs = c.args.bytes.now in
     let e = all_taken xs c.loop-i.i (omega (arith, c.loop-i-test.false)) in
-    skipped_within order h c.args.left c.loop-i.left v xs s (λ count w l. subst (λ (z : List ℕ). LebsLeft count (w ++ z) c.loop-i.left) e (c.loop-i.invariant count w l))
+    skipped_within order h c.args.left c.loop-i.left v xs s
+    (λ count w l. subst (λ (z : List ℕ). LebsLeft count (w ++ z) c.loop-i.left) e (c.loop-i.invariant count w l))

@@ -4,6 +4,7 @@ use Rattle.dl_elf.proofs.named.Sections.note.Given as goal
 
 abbrev pub invariant-loop-index : goal.invariant-loop-index
 invariant-loop-index l = record {
-  done : (k : ℕ) → k < l.index → slot_at l.self.found k ≡ noted l.bytes l.number l.header (name_at k) (slot_at l.initial.self.found k);
+  done : (k : ℕ) → k < l.index
+      → slot_at l.self.found k ≡ noted l.bytes l.number l.header (name_at k) (slot_at l.initial.self.found k);
   rest : (k : ℕ) → l.index ≤ k → slot_at l.self.found k ≡ slot_at l.initial.self.found k;
 }

@@ -9,8 +9,10 @@ returns-clause-bytes g c =
     let fits : n ≤ length c.read_at.new.buffer = c.in_ok-n.ensures.bound.0 in
     let same = c.read_at.auto.buffer in
     let within : c.shorter-room.result ≤ c.args.self.now.left = omega (arith, c.shorter-room.ensures) in
-    let left : n ≤ c.args.self.now.left = omega (arith, fits, same, within, length-take c.shorter-room.result c.args.buffer.now) in
+    let left : n ≤ c.args.self.now.left =
+    omega (arith, fits, same, within, length-take c.shorter-room.result c.args.buffer.now) in
     let is : c.in-Some.offset ≡ c.args.self.now.offset + n = c.in-Some.ensures.1 in (
-      rw is (range_consumed (g.S.ReadAt.all_bytes c.args.self.now.source.now) c.args.self.now.offset c.args.self.now.left n c.read_at.new.buffer (drop c.shorter-room.result c.args.buffer.now) left fits told),
+      rw is (range_consumed (g.S.ReadAt.all_bytes c.args.self.now.source.now) c.args.self.now.offset
+          c.args.self.now.left n c.read_at.new.buffer (drop c.shorter-room.result c.args.buffer.now) left fits told),
       λ e l. absurd (c.if-n-eq0.false e),
     )

@@ -16,7 +16,8 @@ pub returns-in_ok-held-in-Number : goal.returns-in_ok-held-in-Number
 returns-in_ok-held-in-Number c =
     let old = c.args.self.now in
     let at = c.in-Value.at in
-    value_entered c.args.order old c.enter_front.new.self at (value.Number c.in-Number.form c.in-Number.number) c.in_ok-held-in-Number.held c.args.format
+    value_entered c.args.order old c.enter_front.new.self at (value.Number c.in-Number.form c.in-Number.number)
+    c.in_ok-held-in-Number.held c.args.format
     c.args.bytes.now c.in_ok-held-in-Number.behind.now c.enter_front.result
     (c.in-Value.is ∙ ap (λ (v : ValuePhase). phase.Value at v) c.in-Number.is)
     (λ last.
@@ -29,7 +30,8 @@ pub returns-in_ok-held-in-Leb : goal.returns-in_ok-held-in-Leb
 returns-in_ok-held-in-Leb c =
     let old = c.args.self.now in
     let at = c.in-Value.at in
-    value_entered c.args.order old c.enter_front-in-Leb.new.self at (value.Leb c.in-Leb.number) c.in_ok-held-in-Leb.held c.args.format
+    value_entered c.args.order old c.enter_front-in-Leb.new.self at (value.Leb c.in-Leb.number) c.in_ok-held-in-Leb.held
+    c.args.format
     c.args.bytes.now c.in_ok-held-in-Leb.behind.now c.enter_front-in-Leb.result
     (c.in-Value.is ∙ ap (λ (v : ValuePhase). phase.Value at v) c.in-Leb.is)
     (λ last.
@@ -42,7 +44,8 @@ pub returns-in_ok-held-in-Data16 : goal.returns-in_ok-held-in-Data16
 returns-in_ok-held-in-Data16 c =
     let old = c.args.self.now in
     let at = c.in-Value.at in
-    value_entered c.args.order old c.enter_front-in-Data16.new.self at (value.Data16 c.in-Data16.sixteen) c.in_ok-held-in-Data16.held c.args.format
+    value_entered c.args.order old c.enter_front-in-Data16.new.self at (value.Data16 c.in-Data16.sixteen)
+    c.in_ok-held-in-Data16.held c.args.format
     c.args.bytes.now c.in_ok-held-in-Data16.behind.now c.enter_front-in-Data16.result
     (c.in-Value.is ∙ ap (λ (v : ValuePhase). phase.Value at v) c.in-Data16.is)
     (λ last.

@@ -13,8 +13,13 @@ returns c places units rows st =
     let slots = f.slots.items in
     record {
       slots = st.slots;
-      answers = λ j lt. st.answers j lt ∙ sym (option_or-none (answer_of_units (units ++ rows ∷ []) (slot_place slots j)) ∙ answer_of_units-push units rows (slot_place slots j));
-      ended = λ j lt. ap (λ l. answer_upto (length l) f.ledger (slot_number slots j)) c.log.ensures ∙ st.answers j lt ∙ sym (answer_of_units-push units rows (slot_place slots j));
-      earlier = λ front last is j lt. st.ended j lt ∙ ap (λ us. answer_of_units us (slot_place slots j)) (same_from_push units front rows last is).0;
+      answers =
+          λ j lt. st.answers j lt ∙ sym (option_or-none (answer_of_units (units ++ rows ∷ []) (slot_place slots j))
+          ∙ answer_of_units-push units rows (slot_place slots j));
+      ended = λ j lt. ap (λ l. answer_upto (length l) f.ledger (slot_number slots j)) c.log.ensures ∙ st.answers j lt
+          ∙ sym (answer_of_units-push units rows (slot_place slots j));
+      earlier =
+          λ front last is j lt. st.ended j lt
+          ∙ ap (λ us. answer_of_units us (slot_place slots j)) (same_from_push units front rows last is).0;
       kept = refl;
     }

@@ -16,34 +16,44 @@ returns-in-Start c places units rows st =
       answers = λ j lt. st.answers j lt ∙ same_answer units rows c.args.row.now (slot_place slots j) c.requires;
       ended = st.ended;
       earlier = st.earlier;
-      kept = keeps_begun slots c.as_slice.result.now c.as_slice.ensures.value rows c.args.row.now c.kept.result c.kept.ensures c.requires c.of-place.result c.of-place.ensures c.clear.new.self.items c.first_not_below-end.result none c.clear.ensures.items c.first_not_below-end.ensures.below c.first_not_below-end.ensures.rest;
+      kept = keeps_begun slots c.as_slice.result.now c.as_slice.ensures.value rows c.args.row.now c.kept.result
+          c.kept.ensures c.requires c.of-place.result c.of-place.ensures c.clear.new.self.items
+          c.first_not_below-end.result none c.clear.ensures.items c.first_not_below-end.ensures.below
+          c.first_not_below-end.ensures.rest;
     }
 
 pub returns-in-Open : goal.returns-in-Open
 returns-in-Open c places units rows st =
     let f = c.args.self.now in
     let slots = f.slots.items in
-    let a = kept_in slots f.trail.items (unended rows) f.state (Open c.in-Open.last c.in-Open.end) c.in-Open.is st.kept in
+    let a = kept_in slots f.trail.items (unended rows) f.state (Open c.in-Open.last c.in-Open.end) c.in-Open.is
+    st.kept in
     let rises = ap (λ p. is_at_most p c.of-place.result) (sym c.of.ensures) ∙ sym c.if-is_at_most.ensures in
     record {
       slots = st.slots;
       answers = λ j lt. st.answers j lt ∙ same_answer units rows c.args.row.now (slot_place slots j) c.requires;
       ended = st.ended;
       earlier = st.earlier;
-      kept = keeps_on slots c.as_slice-in-Open.result.now c.as_slice-in-Open.ensures.value rows c.args.row.now c.kept-in-Open.result c.kept-in-Open.ensures c.requires c.of-place.result c.of-place.ensures f.trail.items c.pass.new.trail.items c.in-Open.last c.in-Open.end c.pass.result a rises c.pass.ensures.split c.pass.ensures.rows;
+      kept = keeps_on slots c.as_slice-in-Open.result.now c.as_slice-in-Open.ensures.value rows c.args.row.now
+          c.kept-in-Open.result c.kept-in-Open.ensures c.requires c.of-place.result c.of-place.ensures f.trail.items
+          c.pass.new.trail.items c.in-Open.last c.in-Open.end c.pass.result a rises c.pass.ensures.split
+          c.pass.ensures.rows;
     }
 
 pub returns-in-Open-2 : goal.returns-in-Open-2
 returns-in-Open-2 c places units rows st =
     let f = c.args.self.now in
     let slots = f.slots.items in
-    let a = kept_in slots f.trail.items (unended rows) f.state (Open c.in-Open.last c.in-Open.end) c.in-Open.is st.kept in
+    let a = kept_in slots f.trail.items (unended rows) f.state (Open c.in-Open.last c.in-Open.end) c.in-Open.is
+    st.kept in
     record {
       slots = st.slots;
       answers = λ j lt. st.answers j lt ∙ same_answer units rows c.args.row.now (slot_place slots j) c.requires;
       ended = st.ended;
       earlier = st.earlier;
-      kept = keeps_fallen slots f.trail.items c.in-Open.last c.in-Open.end rows c.args.row.now c.of-place.result c.requires c.of-place.ensures a (ap (λ p. is_at_most p c.of-place.result) (sym c.of.ensures) ∙ sym c.if-is_at_most.ensures);
+      kept = keeps_fallen slots f.trail.items c.in-Open.last c.in-Open.end rows c.args.row.now c.of-place.result
+          c.requires c.of-place.ensures a (ap (λ p. is_at_most p c.of-place.result) (sym c.of.ensures)
+          ∙ sym c.if-is_at_most.ensures);
     }
 
 pub returns-in-Passed : goal.returns-in-Passed
@@ -56,5 +66,6 @@ returns-in-Passed c places units rows st =
       answers = λ j lt. st.answers j lt ∙ same_answer units rows c.args.row.now (slot_place slots j) c.requires;
       ended = st.ended;
       earlier = st.earlier;
-      kept = kept_in slots f.trail.items (unended (rows ++ c.args.row.now ∷ [])) Passed f.state (sym c.in-Passed.is) (keeps_passed rows c.args.row.now c.requires passed);
+      kept = kept_in slots f.trail.items (unended (rows ++ c.args.row.now ∷ [])) Passed f.state (sym c.in-Passed.is)
+          (keeps_passed rows c.args.row.now c.requires passed);
     }

@@ -6,16 +6,31 @@ use Rattle.dl_look.proofs.ledger.Ledger.answer_slot.Goals as goal
 
 pub push_reserved-requires : goal.push_reserved-requires
 push_reserved-requires c =
-    omega (arith, c.args.self.now.log.ok.0, one_left c.args.slots.now c.args.self.now c.args.at c.requires.numbered c.requires.sound c.requires.within c.requires.open)
+    omega (
+      arith,
+      c.args.self.now.log.ok.0,
+      one_left c.args.slots.now c.args.self.now c.args.at c.requires.numbered c.requires.sound c.requires.within
+          c.requires.open,
+    )
 
 pub returns-clause-sound : goal.returns-clause-sound
 returns-clause-sound c =
     let count : c.len.result ≡ length c.args.self.now.log.items = omega (arith, c.args.self.now.log.ok.0) in
     let entries = ap (λ n. set c.args.self.now.entries.items (slot_number c.args.slots.now c.args.at) (Some n)) count in
-    one_more c.args.slots.now c.args.self.now _ c.args.at c.args.row.now c.requires.numbered c.requires.sound c.requires.within c.requires.open c.close.ensures.linked c.close.ensures.count c.close.ensures.closed c.close.ensures.same entries c.push_reserved.ensures.items c.push_reserved.ensures.capacity
+    one_more c.args.slots.now c.args.self.now _ c.args.at c.args.row.now c.requires.numbered c.requires.sound
+    c.requires.within c.requires.open c.close.ensures.linked c.close.ensures.count c.close.ensures.closed
+    c.close.ensures.same entries c.push_reserved.ensures.items c.push_reserved.ensures.capacity
 
 pub returns-clause-given : goal.returns-clause-given
 returns-clause-given c =
     let count : c.len.result ≡ length c.args.self.now.log.items = omega (arith, c.args.self.now.log.ok.0) in
     let entries = ap (λ n. set c.args.self.now.entries.items (slot_number c.args.slots.now c.args.at) (Some n)) count in
-    one_given c.args.slots.now c.args.self.now (record { links = c.close.new.self; entries = with_item c.args.self.now.entries (slot_number c.args.slots.now c.args.at) (Some c.len.result); log = c.push_reserved.new.self }) c.args.at c.args.row.now c.requires.numbered c.requires.sound c.requires.within c.requires.open c.close.ensures.linked c.close.ensures.count c.close.ensures.closed c.close.ensures.same entries c.push_reserved.ensures.items c.push_reserved.ensures.capacity
+    one_given c.args.slots.now c.args.self.now (record {
+      links = c.close.new.self;
+      entries =
+          with_item c.args.self.now.entries (slot_number c.args.slots.now c.args.at) (Some c.len.result);
+      log =
+          c.push_reserved.new.self;
+    }) c.args.at c.args.row.now c.requires.numbered c.requires.sound c.requires.within
+    c.requires.open c.close.ensures.linked c.close.ensures.count c.close.ensures.closed c.close.ensures.same entries
+    c.push_reserved.ensures.items c.push_reserved.ensures.capacity

@@ -15,7 +15,10 @@ returns-clause-sound c =
       linked = c.in_ok-links.ensures.linked;
       links = c.in_ok-links.ensures.count;
       count = ap length all ∙ length-replicate n None;
-      «open» = λ j lt. (c.in_ok-links.ensures.open j (omega arith) ∙ sym (ap is_none (ap (λ l. get_or l (slot_number c.args.slots.now j) None) all ∙ none-replicate n (slot_number c.args.slots.now j))));
+      «open» =
+          λ j lt. (c.in_ok-links.ensures.open j (omega arith)
+          ∙ sym (ap is_none (ap (λ l. get_or l (slot_number c.args.slots.now j) None) all
+          ∙ none-replicate n (slot_number c.args.slots.now j))));
       logged = λ i e h. absurd (let z = ap (λ l. get_or l i None) all ∙ none-replicate n i in cc);
       kept = λ e lt. absurd (let z = ap length empty in omega arith);
       room = let z = ap length empty in let u = ap unanswered all ∙ unanswered-replicate n in omega arith;

@@ -7,7 +7,8 @@ invariant-loop-at l =
     record {
       linked : IsLinked l.self.next.items;
       count : length l.self.next.items ≡ length l.initial.self.next.items;
-      same : (j : ℕ) → j < length l.initial.self.next.items → is_open l.self.next.items j ≡ is_open l.initial.self.next.items j;
+      same : (j : ℕ) → j < length l.initial.self.next.items
+          → is_open l.self.next.items j ≡ is_open l.initial.self.next.items j;
       ahead : l.from ≤ l.at;
       within : l.at < length l.initial.self.next.items;
       closed : (j : ℕ) → l.from ≤ j → j < l.at → is_open l.self.next.items j ≡ false;

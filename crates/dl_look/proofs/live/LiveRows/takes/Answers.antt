@@ -4,7 +4,8 @@ use Rattle.dl_look.specs.FinderRows.{unended}
 use Rattle.dl_look.specs.LiveRows.{IsAt, live_rows}
 use Rattle.dl_look.proofs.LiveLemmas.{Decided, next_at, live_more, at_more}
 use Rattle.dl_look.proofs.live.LiveRows.takes.Goals as goal
-use Rattle.dl_look.proofs.live.LiveRows.takes.Goals.{in-Between, in-Live, in-Dead, then-row, else-row+then-live, else-row+else-live}
+use Rattle.dl_look.proofs.live.LiveRows.takes.Goals.{in-Between, in-Live, in-Dead, then-row, else-row+then-live}
+use Rattle.dl_look.proofs.live.LiveRows.takes.Goals.{else-row+else-live}
 
 pub returns-clause-told : goal.returns-clause-told
 returns-clause-told c live rows told says =
@@ -31,4 +32,5 @@ returns-clause-goes_on c live rows told says =
       | else-row+then-live w ↦ w.self-is ∙ sym (ap₂ next_at w.if-row.false w.if-live.true)
       | else-row+else-live w ↦ w.self-is ∙ sym (ap₂ next_at w.if-row.false w.if-live.false)
     ] in
-    subst (λ a. IsAt a live (unended (rows ++ r ∷ []))) (sym (now ∙ ap (next_at r.end_sequence) decided)) (at_more at live rows r c.args.live told says)
+    subst (λ a. IsAt a live (unended (rows ++ r ∷ []))) (sym (now ∙ ap (next_at r.end_sequence) decided))
+    (at_more at live rows r c.args.live told says)

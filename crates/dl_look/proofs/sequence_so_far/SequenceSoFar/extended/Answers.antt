@@ -11,7 +11,9 @@ with_last run last rising = Some (record { first = run.first; last = last; risin
 pub returns-then-run : goal.returns-then-run
 returns-then-run c rows r e p =
     let run = c.in-Some.run' in
-    let rising = c.is_at_most.ensures ∙ ap (is_at_most run.last) p ∙ sym (ap (λ (b : Bool). b && is_at_most run.last (place_of r)) c.if-run.true) in
+    let rising =
+    c.is_at_most.ensures ∙ ap (is_at_most run.last) p
+    ∙ sym (ap (λ (b : Bool). b && is_at_most run.last (place_of r)) c.if-run.true) in
     ap₂ (with_last run) p rising ∙ sym (run_of-push rows r run (sym c.in-Some.is ∙ e))
 
 pub returns-else-run : goal.returns-else-run

@@ -11,5 +11,6 @@ abbrev pub invariant-loop-content : goal.invariant-loop-content
 invariant-loop-content g l = record {
   done : List (ℕ × Value);
   split : values_left l.initial.content-iterator ≡ done ++ values_left l.content-iterator;
-  printed : PrintsMore (g.W.Write.contents l.initial.output) (g.W.Write.contents l.output) l.initial.self l.self (items_text (strings_of l.strings) done);
+  printed : PrintsMore (g.W.Write.contents l.initial.output) (g.W.Write.contents l.output) l.initial.self l.self
+      (items_text (strings_of l.strings) done);
 }

@@ -16,7 +16,11 @@ returns-in_err-unit g c = record {
       let directories = table_text s (codes "dir ") header.directories in
       let files = table_text s (codes "file ") header.files in
       let tells = rw c.params-params.ensures.value at (c.in_err-unit.ensures.printed start text h) in
-      rw (p.1, p.2) (TellsOut-front start _ text (unit ++ directories) files _ (TellsOut-front start _ text unit directories _ tells));
+      rw (
+        p.1,
+        p.2,
+      ) (TellsOut-front start _ text (unit ++ directories) files _
+      (TellsOut-front start _ text unit directories _ tells));
 }
 
 pub returns-in_err-table : goal.returns-in_err-table
@@ -28,7 +32,9 @@ returns-in_err-table g c = record {
       let unit = unit_line c.args.offset header.params.format header.params.address_size in
       let directories = table_text s (codes "dir ") header.directories in
       let files = table_text s (codes "file ") header.files in
-      let tells = rw (c.params-params.ensures.value, c.directories.ensures) at (c.in_err-table.ensures.printed start _ (c.in_ok-unit.ensures.printed start text h)) in
+      let tells =
+      rw (c.params-params.ensures.value, c.directories.ensures) at
+      (c.in_err-table.ensures.printed start _ (c.in_ok-unit.ensures.printed start text h)) in
       rw (p.1, p.2) (TellsOut-part start _ text unit directories files (unit ++ directories ++ files) _ refl tells);
 }
 
@@ -43,6 +49,7 @@ returns g c = record {
       let first = rw c.params-params.ensures.value at c.in_ok-unit.ensures.printed in
       let second = rw c.directories.ensures at c.in_ok-table.ensures.printed in
       let both = PrintsMore-then _ _ _ _ _ _ unit directories (unit ++ directories) refl first second in
-      let third = rw c.files.ensures at (c.table-2.ensures.printed start (text ++ (unit ++ directories)) (both start text h)) in
+      let third =
+      rw c.files.ensures at (c.table-2.ensures.printed start (text ++ (unit ++ directories)) (both start text h)) in
       rw (append_assoc text (unit ++ directories) files) at third;
 }

@@ -15,7 +15,8 @@ returns-in_err-self-inside g c = record {
 pub returns : goal.returns
 returns g c = record {
   printed = λ start text h.
-      let none : take c.self.inside.held c.self.inside.buffer ≡ [] = ap (λ (p : Printed). p.pending) c.self.view_is ∙ c.requires.empty in
+      let none : take c.self.inside.held c.self.inside.buffer ≡ [] =
+      ap (λ (p : Printed). p.pending) c.self.view_is ∙ c.requires.empty in
       let more = rw (c.requires.empty, ← c.self.view_is) at (HasPrinted-more start _ text c.args.bytes.now _ _ h) in
       rw none (c.in_ok-self-inside.ensures.printed start _ more);
 }

@@ -10,7 +10,8 @@ returns-in_err-quoted_part g c = record {
       let p = err_from_is_err_and c.from_residual.result c.from_residual.ensures.1 in
       let i = c.loop-done.done in
       let tells = c.in_err-quoted_part.ensures.printed start _ (c.loop-done.invariant.printed start text h) in
-      rw (p.1, p.2) (TellsOut-piece quoted_byte c.args.bytes.now i c.min-end.result (omega (arith, c.min-end.ensures)) start _ text _ tells);
+      rw (p.1, p.2) (TellsOut-piece quoted_byte c.args.bytes.now i c.min-end.result (omega (arith, c.min-end.ensures))
+      start _ text _ tells);
 }
 
 pub loop-done-preserved : goal.loop-done-preserved
@@ -19,5 +20,7 @@ loop-done-preserved g c =
     let w = c.args.bytes.now in
     record {
       within = omega (arith, c.min-end.ensures);
-      printed = PrintsMore-piece quoted_byte w l.done c.min-end.result (omega (arith, c.min-end.ensures)) _ _ _ _ _ _ l.invariant.printed c.in_ok-quoted_part.ensures.printed;
+      printed =
+          PrintsMore-piece quoted_byte w l.done c.min-end.result (omega (arith, c.min-end.ensures)) _ _ _ _ _ _
+          l.invariant.printed c.in_ok-quoted_part.ensures.printed;
     }

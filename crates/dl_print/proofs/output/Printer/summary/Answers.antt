@@ -7,5 +7,9 @@ pub returns-in_err-make_room : goal.returns-in_err-make_room
 returns-in_err-make_room g c = record {
   printed = λ start text h.
       let p = err_from_is_err_and c.from_residual.result c.from_residual.ensures.1 in
-      rw (p.1, p.2) (TellsOut-more start _ text (summary_line c.args.summary.now) _ (c.in_err-make_room.ensures.printed start text h));
+      rw (
+        p.1,
+        p.2,
+      ) (TellsOut-more start _ text (summary_line c.args.summary.now) _
+      (c.in_err-make_room.ensures.printed start text h));
 }

@@ -20,9 +20,15 @@ returns-in_err-entry g c = record {
       let entries = c.args.table.now.entries in
       let turn : i < length entries = omega (arith, c.loop-i-test.true, c.len-i-end.ensures) in
       let items = with_content pairs (get_or entries i []) in
-      let held : entry_items c.in-Some.entry ≡ items = items_at pairs entries i turn (entry_items c.in-Some.entry) c.in-Some.ensures in
+      let held : entry_items c.in-Some.entry ≡ items =
+      items_at pairs entries i turn (entry_items c.in-Some.entry) c.in-Some.ensures in
       let tells = c.in_err-entry.ensures.printed start _ (c.loop-i.invariant start text h) in
-      rw (p.1, p.2) (TellsOut-part start _ text (entry_lines s name pairs 0 (take i entries)) (entry_line s name i items) (entry_lines s name pairs (0 + length (take (i + 1) entries)) (drop (i + 1) entries)) (entry_lines s name pairs 0 entries) _
+      rw (
+        p.1,
+        p.2,
+      ) (TellsOut-part start _ text (entry_lines s name pairs 0 (take i entries)) (entry_line s name i items)
+      (entry_lines s name pairs (0 + length (take (i + 1) entries)) (drop (i + 1) entries))
+      (entry_lines s name pairs 0 entries) _
       (lines_split s name pairs entries i [] turn) (rw held at tells));
 }
 
@@ -37,8 +43,10 @@ loop-i-preserved g c =
     let items = with_content pairs (get_or entries i []) in
     elim c.match-entry.branch [
       | in-Some+in_ok-entry w ↦
-          let held : entry_items w.in-Some.entry ≡ items = items_at pairs entries i turn (entry_items w.in-Some.entry) w.in-Some.ensures in
-          rw (w.self-is, w.output-is) (PrintsMore-then _ _ _ _ _ _ (entry_lines s name pairs 0 (take i entries)) (entry_line s name i items) (entry_lines s name pairs 0 (take (i + 1) entries))
+          let held : entry_items w.in-Some.entry ≡ items =
+          items_at pairs entries i turn (entry_items w.in-Some.entry) w.in-Some.ensures in
+          rw (w.self-is, w.output-is) (PrintsMore-then _ _ _ _ _ _ (entry_lines s name pairs 0 (take i entries))
+          (entry_line s name i items) (entry_lines s name pairs 0 (take (i + 1) entries))
           (lines_more s name pairs entries i [] turn) c.loop-i.invariant (rw held at w.in_ok-entry.ensures.printed))
       | in_default w ↦ absurd (never_none pairs entries i turn w.in_default.ensures)
     ]

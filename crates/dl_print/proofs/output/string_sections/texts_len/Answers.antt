@@ -11,8 +11,10 @@ loop-len-preserved c =
     let front = take (len - 1) bytes in
     let last = get_or bytes (len - 1) 0 in
     let one : len - 1 + 1 ≡ len = omega arith in
-    let whole : take len bytes ≡ front ++ last ∷ [] = ap (λ (n : ℕ). take n bytes) (sym one) ∙ take_more bytes (len - 1) 0 (omega arith) in
+    let whole : take len bytes ≡ front ++ last ∷ [] =
+    ap (λ (n : ℕ). take n bytes) (sym one) ∙ take_more bytes (len - 1) 0 (omega arith) in
     record {
       within = omega arith;
-      texts = λ n. sym (text_at-push front last n c.if-bytes-len-ne0.true) ∙ ap (λ (l : List ℕ). text_at l n) (sym whole) ∙ c.loop-len.invariant.texts n;
+      texts = λ n. sym (text_at-push front last n c.if-bytes-len-ne0.true)
+          ∙ ap (λ (l : List ℕ). text_at l n) (sym whole) ∙ c.loop-len.invariant.texts n;
     }

@@ -6,4 +6,11 @@ pub returns-clause-written : goal.returns-clause-written
 returns-clause-written c =
     let b = c.args.byte in
     let digits = get_or-BYTE_DIGITS b c.ranges.byte.fits in
-    rw (c.write_byte.ensures.written, c.write_byte-at.ensures.written, append_assoc, two_digits b c.ranges.byte.fits, digits.0, digits.1)
+    rw (
+      c.write_byte.ensures.written,
+      c.write_byte-at.ensures.written,
+      append_assoc,
+      two_digits b c.ranges.byte.fits,
+      digits.0,
+      digits.1,
+    )

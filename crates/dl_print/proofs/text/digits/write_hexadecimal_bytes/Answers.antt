@@ -12,7 +12,10 @@ returns-clause-written c =
     let room = at + 2 * length bytes - at in
     let digits = c.encode_to_slice.new.output in
     let encoded = c.encode_to_slice.ensures in
-    let fits : length (take room (drop at buffer)) ≡ 2 * length bytes = omega (arith, length-take room (drop at buffer), length-drop at buffer) in
+    let fits : length (take room (drop at buffer)) ≡ 2 * length bytes =
+    omega (arith, length-take room (drop at buffer), length-drop at buffer) in
     let same : digits ≡ encode_lower bytes = on_ok c.encode_to_slice.result (encoded.fits.1 fits) encoded.written in
     let long : length digits ≡ 2 * length bytes = c.encode_to_slice.auto.output ∙ fits in
-    take-put_mid at room buffer digits (at + 2 * length bytes) (omega (arith, long)) (omega arith) ∙ ap (λ w. take at buffer ++ w) (same ∙ encode_lower-digits bytes (λ i. let small = c.type_inv.bytes i in omega arith))
+    take-put_mid at room buffer digits (at + 2 * length bytes) (omega (arith, long)) (omega arith)
+    ∙ ap (λ w. take at buffer ++ w) (same ∙ encode_lower-digits bytes (λ i. let small = c.type_inv.bytes i in
+    omega arith))

@@ -1,7 +1,8 @@
 use Rattle.dl_rows.proofs.operation_state.OperationState.push.Goals as goal
 
 pub returns-in-Unsigned-clause-step : goal.returns-in-Unsigned-clause-step
-returns-in-Unsigned-clause-step c v s = c.unsigned.ensures.step c.args.order c.args.params.now v (rw c.in-Unsigned.is at s)
+returns-in-Unsigned-clause-step c v s =
+    c.unsigned.ensures.step c.args.order c.args.params.now v (rw c.in-Unsigned.is at s)
 
 pub returns-in-Line-clause-step : goal.returns-in-Line-clause-step
 returns-in-Line-clause-step c v s = c.line.ensures.step c.args.order c.args.params.now v (rw c.in-Line.is at s)
@@ -22,7 +23,8 @@ pub returns-in-Address-clause-step : goal.returns-in-Address-clause-step
 returns-in-Address-clause-step c v s = c.address.ensures.step c.args.params.now v (rw c.in-Address.is at s)
 
 pub returns-in-Discriminator-clause-step : goal.returns-in-Discriminator-clause-step
-returns-in-Discriminator-clause-step c v s = c.discriminator.ensures.step c.args.order c.args.params.now v (rw c.in-Discriminator.is at s)
+returns-in-Discriminator-clause-step c v s =
+    c.discriminator.ensures.step c.args.order c.args.params.now v (rw c.in-Discriminator.is at s)
 
 pub returns-in-Rest-clause-step : goal.returns-in-Rest-clause-step
 returns-in-Rest-clause-step c v s = c.rest.ensures.step c.args.order c.args.params.now v (rw c.in-Rest.is at s)

@@ -10,18 +10,22 @@ use Rattle.dl_rows.proofs.program.Program.walk.Goals as goal
 pub loop-bytes-init : goal.loop-bytes-init
 loop-bytes-init g c = record {
   fewer = omega arith;
-  tells = λ b before first fits all s hears. tell_start (g.S.RowSink.story first) c.args.order c.args.params.now b c.args.bytes.now before c.args.self.now c.args.sink.now s hears;
+  tells = λ b before first fits all s hears. tell_start (g.S.RowSink.story first) c.args.order c.args.params.now b
+      c.args.bytes.now before c.args.self.now c.args.sink.now s hears;
 }
 
 pub returns-in-Row-clause-given : goal.returns-in-Row-clause-given
 returns-in-Row-clause-given g c b before first fits all s hears =
-    tells_after (g.S.RowSink.story first) c.args.order c.args.params.now b c.args.bytes.now before c.loop-bytes.self c.loop-bytes.bytes.now c.loop-bytes.sink c.short_operations.new.sink c.short_operations.new.self
+    tells_after (g.S.RowSink.story first) c.args.order c.args.params.now b c.args.bytes.now before c.loop-bytes.self
+    c.loop-bytes.bytes.now c.loop-bytes.sink c.short_operations.new.sink c.short_operations.new.self
     (c.loop-bytes.invariant.tells b before first fits all s hears) (given.Row c.in-Row.row c.in-Row.behind) all
     (λ v heard bytes stands told. c.in-Row.ensures.told v heard first fits bytes stands told)
 
 pub returns-in-Within-clause-given : goal.returns-in-Within-clause-given
 returns-in-Within-clause-given g c b before first fits all s hears =
-    let t = tell_after (g.S.RowSink.story first) c.args.order c.args.params.now b c.args.bytes.now before c.loop-bytes.self c.loop-bytes.bytes.now c.loop-bytes.sink c.short_operations.new.sink c.short_operations.new.self
+    let t = tell_after (g.S.RowSink.story first) c.args.order c.args.params.now b c.args.bytes.now before
+    c.loop-bytes.self c.loop-bytes.bytes.now c.loop-bytes.sink c.short_operations.new.sink
+    c.short_operations.new.self
     (c.loop-bytes.invariant.tells b before first fits all s hears) c.in-UpTo.behind.now all
     (λ v heard bytes stands told. c.in-UpTo.ensures.told v heard first fits bytes stands told) in
     let bytes = since_bytes c.args.order c.args.params.now b c.args.bytes.now t.rows t.since t.told all in
@@ -29,7 +33,8 @@ returns-in-Within-clause-given g c b before first fits all s hears =
       rows = t.rows;
       since = t.since;
       told = t.told;
-      gives = walk_within c.args.order c.args.params.now (b ++ t.told.done) t.since c.in-UpTo.behind.now c.short_operations.new.self c.in-Within.phase _ t.walked bytes
+      gives = walk_within c.args.order c.args.params.now (b ++ t.told.done) t.since c.in-UpTo.behind.now
+          c.short_operations.new.self c.in-Within.phase _ t.walked bytes
           (c.in-Within.ensures.step t.walked.stands.begun t.walked.stands.phase) c.saturating_add-self.ensures;
       sink = t.hears;
     }
@@ -38,21 +43,30 @@ pub loop-bytes-preserved-in-On : goal.loop-bytes-preserved-in-On
 loop-bytes-preserved-in-On g c = record {
   fewer = omega (arith, c.in-Ends.ensures.within, c.in-UpTo.ensures.left, c.loop-bytes.invariant.fewer);
   tells = λ b before first fits all s hears. (
-      let t = tell_after (g.S.RowSink.story first) c.args.order c.args.params.now b c.args.bytes.now before c.loop-bytes.self c.loop-bytes.bytes.now c.loop-bytes.sink c.short_operations.new.sink c.short_operations.new.self
+      let t = tell_after (g.S.RowSink.story first) c.args.order c.args.params.now b c.args.bytes.now before
+      c.loop-bytes.self c.loop-bytes.bytes.now c.loop-bytes.sink c.short_operations.new.sink
+      c.short_operations.new.self
       (c.loop-bytes.invariant.tells b before first fits all s hears) c.in-UpTo.behind.now all
       (λ v heard bytes stands told. c.in-UpTo.ensures.told v heard first fits bytes stands told) in
       let bytes = since_bytes c.args.order c.args.params.now b c.args.bytes.now t.rows t.since t.told all in
       let o = c.in-Ends.ensures.step t.walked.stands.begun t.walked.stands.phase in
-      tell_row (g.S.RowSink.story first) c.args.order c.args.params.now b c.args.bytes.now before c.short_operations.new.self c.in-UpTo.behind.now c.in-Ends.behind.now c.short_operations.new.sink c.row.new.self c.finish.new.self c.in-Some.row t
-      (walk_row c.args.order c.args.params.now (b ++ t.told.done) t.since c.in-UpTo.behind.now o.0 c.in-Ends.behind.now c.short_operations.new.self c.finish.new.self c.in-Some.row t.walked o.1
-      (walk_turns c.args.order c.args.params.now (b ++ t.told.done) t.since c.in-UpTo.behind.now o.0 c.in-Ends.behind.now c.short_operations.new.self c.finish.new.self c.in-Ends.operation _ t.walked fits bytes o.1 o.2
+      tell_row (g.S.RowSink.story first) c.args.order c.args.params.now b c.args.bytes.now before
+      c.short_operations.new.self c.in-UpTo.behind.now c.in-Ends.behind.now c.short_operations.new.sink
+      c.row.new.self c.finish.new.self c.in-Some.row t
+      (walk_row c.args.order c.args.params.now (b ++ t.told.done) t.since c.in-UpTo.behind.now o.0 c.in-Ends.behind.now
+      c.short_operations.new.self c.finish.new.self c.in-Some.row t.walked o.1
+      (walk_turns c.args.order c.args.params.now (b ++ t.told.done) t.since c.in-UpTo.behind.now o.0
+      c.in-Ends.behind.now c.short_operations.new.self c.finish.new.self c.in-Ends.operation _ t.walked fits bytes
+      o.1 o.2
       c.in-Some.ensures.finishes c.finish.ensures.phase c.finish.ensures.begun))
       (c.in-On.ensures first (before ++ t.rows) t.hears));
 }
 
 pub returns-in-Stop-clause-given : goal.returns-in-Stop-clause-given
 returns-in-Stop-clause-given g c b before first fits all s hears =
-    let t = tell_after (g.S.RowSink.story first) c.args.order c.args.params.now b c.args.bytes.now before c.loop-bytes.self c.loop-bytes.bytes.now c.loop-bytes.sink c.short_operations.new.sink c.short_operations.new.self
+    let t = tell_after (g.S.RowSink.story first) c.args.order c.args.params.now b c.args.bytes.now before
+    c.loop-bytes.self c.loop-bytes.bytes.now c.loop-bytes.sink c.short_operations.new.sink
+    c.short_operations.new.self
     (c.loop-bytes.invariant.tells b before first fits all s hears) c.in-UpTo.behind.now all
     (λ v heard bytes stands told. c.in-UpTo.ensures.told v heard first fits bytes stands told) in
     let bytes = since_bytes c.args.order c.args.params.now b c.args.bytes.now t.rows t.since t.told all in
@@ -61,8 +75,11 @@ returns-in-Stop-clause-given g c b before first fits all s hears =
       rows = t.rows;
       since = t.since;
       told = t.told;
-      gives = walk_row c.args.order c.args.params.now (b ++ t.told.done) t.since c.in-UpTo.behind.now o.0 c.in-Ends.behind.now c.short_operations.new.self c.finish.new.self c.in-Some.row t.walked o.1
-          (walk_turns c.args.order c.args.params.now (b ++ t.told.done) t.since c.in-UpTo.behind.now o.0 c.in-Ends.behind.now c.short_operations.new.self c.finish.new.self c.in-Ends.operation _ t.walked fits bytes o.1 o.2
+      gives = walk_row c.args.order c.args.params.now (b ++ t.told.done) t.since c.in-UpTo.behind.now o.0
+          c.in-Ends.behind.now c.short_operations.new.self c.finish.new.self c.in-Some.row t.walked o.1
+          (walk_turns c.args.order c.args.params.now (b ++ t.told.done) t.since c.in-UpTo.behind.now o.0
+          c.in-Ends.behind.now c.short_operations.new.self c.finish.new.self c.in-Ends.operation _ t.walked fits
+          bytes o.1 o.2
           c.in-Some.ensures.finishes c.finish.ensures.phase c.finish.ensures.begun);
       sink = c.in-Stop.ensures first (before ++ t.rows) t.hears;
     }
@@ -71,20 +88,29 @@ pub loop-bytes-preserved : goal.loop-bytes-preserved
 loop-bytes-preserved g c = record {
   fewer = omega (arith, c.in-Ends.ensures.within, c.in-UpTo.ensures.left, c.loop-bytes.invariant.fewer);
   tells = λ b before first fits all s hears. (
-      let t = tell_after (g.S.RowSink.story first) c.args.order c.args.params.now b c.args.bytes.now before c.loop-bytes.self c.loop-bytes.bytes.now c.loop-bytes.sink c.short_operations.new.sink c.short_operations.new.self
+      let t = tell_after (g.S.RowSink.story first) c.args.order c.args.params.now b c.args.bytes.now before
+      c.loop-bytes.self c.loop-bytes.bytes.now c.loop-bytes.sink c.short_operations.new.sink
+      c.short_operations.new.self
       (c.loop-bytes.invariant.tells b before first fits all s hears) c.in-UpTo.behind.now all
       (λ v heard bytes stands told. c.in-UpTo.ensures.told v heard first fits bytes stands told) in
       let bytes = since_bytes c.args.order c.args.params.now b c.args.bytes.now t.rows t.since t.told all in
       let o = c.in-Ends.ensures.step t.walked.stands.begun t.walked.stands.phase in
-      tell_on (g.S.RowSink.story first) c.args.order c.args.params.now b c.args.bytes.now before c.short_operations.new.self c.finish.new.self c.in-UpTo.behind.now c.in-Ends.behind.now c.short_operations.new.sink t
-      (walk_on c.args.order c.args.params.now (b ++ t.told.done) t.since c.in-UpTo.behind.now o.0 c.in-Ends.behind.now c.short_operations.new.self c.finish.new.self t.walked o.1
-      (walk_turns c.args.order c.args.params.now (b ++ t.told.done) t.since c.in-UpTo.behind.now o.0 c.in-Ends.behind.now c.short_operations.new.self c.finish.new.self c.in-Ends.operation None t.walked fits bytes o.1 o.2
+      tell_on (g.S.RowSink.story first) c.args.order c.args.params.now b c.args.bytes.now before
+      c.short_operations.new.self c.finish.new.self c.in-UpTo.behind.now c.in-Ends.behind.now
+      c.short_operations.new.sink t
+      (walk_on c.args.order c.args.params.now (b ++ t.told.done) t.since c.in-UpTo.behind.now o.0 c.in-Ends.behind.now
+      c.short_operations.new.self c.finish.new.self t.walked o.1
+      (walk_turns c.args.order c.args.params.now (b ++ t.told.done) t.since c.in-UpTo.behind.now o.0
+      c.in-Ends.behind.now c.short_operations.new.self c.finish.new.self c.in-Ends.operation None t.walked fits
+      bytes o.1 o.2
       (rw c.in_default.is at c.finish.ensures.finishes) c.finish.ensures.phase c.finish.ensures.begun)));
 }
 
 pub returns-in-Refuses-clause-given : goal.returns-in-Refuses-clause-given
 returns-in-Refuses-clause-given g c b before first fits all s hears =
-    let t = tell_after (g.S.RowSink.story first) c.args.order c.args.params.now b c.args.bytes.now before c.loop-bytes.self c.loop-bytes.bytes.now c.loop-bytes.sink c.short_operations.new.sink c.short_operations.new.self
+    let t = tell_after (g.S.RowSink.story first) c.args.order c.args.params.now b c.args.bytes.now before
+    c.loop-bytes.self c.loop-bytes.bytes.now c.loop-bytes.sink c.short_operations.new.sink
+    c.short_operations.new.self
     (c.loop-bytes.invariant.tells b before first fits all s hears) c.in-UpTo.behind.now all
     (λ v heard bytes stands told. c.in-UpTo.ensures.told v heard first fits bytes stands told) in
     let bytes = since_bytes c.args.order c.args.params.now b c.args.bytes.now t.rows t.since t.told all in
@@ -93,7 +119,9 @@ returns-in-Refuses-clause-given g c b before first fits all s hears =
       rows = t.rows;
       since = t.since;
       told = t.told;
-      gives = walk_refuses c.args.order c.args.params.now (b ++ t.told.done) t.since c.in-UpTo.behind.now c.short_operations.new.self c.in-Refuses.kind c.in-Refuses.behind.now _ t.walked o.0 o.1 o.2 c.saturating_add-self-in-Refuses.ensures;
+      gives = walk_refuses c.args.order c.args.params.now (b ++ t.told.done) t.since c.in-UpTo.behind.now
+          c.short_operations.new.self c.in-Refuses.kind c.in-Refuses.behind.now _ t.walked o.0 o.1 o.2
+          c.saturating_add-self-in-Refuses.ensures;
       sink = t.hears;
     }
 
@@ -106,6 +134,7 @@ returns-clause-given g c b before first fits all s hears =
       since = t.since;
       told = t.told;
       gives = walk_over c.args.order c.args.params.now (b ++ t.told.done) t.since c.loop-bytes.self
-          (subst (λ (z : List ℕ). Walked c.args.order c.args.params.now (b ++ t.told.done) t.since c.loop-bytes.self z) over t.walked);
+          (subst (λ (z : List ℕ). Walked c.args.order c.args.params.now (b ++ t.told.done) t.since c.loop-bytes.self z)
+          over t.walked);
       sink = t.hears;
     }

@@ -9,7 +9,8 @@ use Rattle.dl_rows.proofs.program.Program.walk.Given as goal
 abbrev pub invariant-loop-bytes : goal.invariant-loop-bytes
 invariant-loop-bytes g l = record {
   fewer : length l.bytes ≤ length l.fn.bytes;
-  tells : (b : List ℕ) (before : List Row) (first : g.row.S.Denot) → FitsProgram l.fn.params → AllBytes l.fn.bytes → ProgramStands l.fn.order l.fn.params l.fn.self b → (g.S.RowSink.story first).hears l.fn.sink before
+  tells : (b : List ℕ) (before : List Row) (first : g.row.S.Denot) → FitsProgram l.fn.params → AllBytes l.fn.bytes
+      → ProgramStands l.fn.order l.fn.params l.fn.self b → (g.S.RowSink.story first).hears l.fn.sink before
       → Telling (g.S.RowSink.story first) l.fn.order l.fn.params b l.fn.bytes before l.self l.bytes l.sink;
 }
 

@@ -6,7 +6,8 @@ use Rattle.dl_head.specs.Standing.{StandsFor as HeadStands}
 use Rattle.dl_rows.specs.declared.reader.State.{State}
 use Rattle.dl_rows.specs.ReaderStates.{InHeader, HasHeader, StandsAt}
 use Rattle.dl_rows.specs.UnitBodies.{Counts}
-use Rattle.dl_rows.proofs.HeadFeeds.{head_took, taken_bytes, come_to, goes_stands, feeds_goes, holds_more, holds_refused, fails_head, stopped_head, feeds_version, feeds_header}
+use Rattle.dl_rows.proofs.HeadFeeds.{head_took, taken_bytes, come_to, goes_stands, feeds_goes, holds_more}
+use Rattle.dl_rows.proofs.HeadFeeds.{holds_refused, fails_head, stopped_head, feeds_version, feeds_header}
 use Rattle.dl_rows.proofs.HeaderBegun.{begun_in, goes_more, goes_refused, knows_foreign, has_header}
 use Rattle.dl_rows.proofs.ReaderLemmas.{cells_at}
 use Rattle.dl_rows.proofs.UnitBodyFeeds.{all_bytes}
@@ -14,25 +15,29 @@ use Rattle.dl_rows.proofs.reader.Reader.feed_head.Goals as goal
 
 pub invariant_of-self : goal.invariant_of-self
 invariant_of-self c = record {
-  begun = goes_more c.in-InHeader.head c.offer-used.new.self c.args.piece.now c.offer-used.result.0 c.offer-used.result.1 (begun_in c.args.self.now.state c.in-InHeader.head c.in-InHeader.is c.args.self.now.begun)
+  begun = goes_more c.in-InHeader.head c.offer-used.new.self c.args.piece.now c.offer-used.result.0
+      c.offer-used.result.1 (begun_in c.args.self.now.state c.in-InHeader.head c.in-InHeader.is c.args.self.now.begun)
       c.offer-used.ensures.offered c.offer-used.ensures.order c.in-More.is;
 }
 
 pub invariant_of-self-in-NoMemory : goal.invariant_of-self-in-NoMemory
 invariant_of-self-in-NoMemory c = record {
-  begun = goes_refused c.in-InHeader.head c.offer-used.new.self c.args.piece.now c.offer-used.result.0 c.offer-used.result.1 (begun_in c.args.self.now.state c.in-InHeader.head c.in-InHeader.is c.args.self.now.begun)
+  begun = goes_refused c.in-InHeader.head c.offer-used.new.self c.args.piece.now c.offer-used.result.0
+      c.offer-used.result.1 (begun_in c.args.self.now.state c.in-InHeader.head c.in-InHeader.is c.args.self.now.begun)
       c.offer-used.ensures.offered c.offer-used.ensures.order c.in-NoMemory.is;
 }
 
 pub bytes_of-requires : goal.bytes_of-requires
 bytes_of-requires c =
-    knows_foreign c.in-InHeader.head c.offer-used.new.self c.args.piece.now c.offer-used.result.0 c.offer-used.result.1 (begun_in c.args.self.now.state c.in-InHeader.head c.in-InHeader.is c.args.self.now.begun)
+    knows_foreign c.in-InHeader.head c.offer-used.new.self c.args.piece.now c.offer-used.result.0 c.offer-used.result.1
+    (begun_in c.args.self.now.state c.in-InHeader.head c.in-InHeader.is c.args.self.now.begun)
     c.offer-used.ensures.offered c.offer-used.ensures.order c.in-Foreign.version c.in-Foreign.is
 
 pub after_header-requires : goal.after_header-requires
 after_header-requires c =
     subst (λ (head : HeadReader). ∥ HasHeader head ∥₁) (sym c.replace-read.ensures.value)
-    (has_header c.in-InHeader.head c.offer-used.new.self c.args.piece.now c.offer-used.result.0 c.offer-used.result.1 (begun_in c.args.self.now.state c.in-InHeader.head c.in-InHeader.is c.args.self.now.begun)
+    (has_header c.in-InHeader.head c.offer-used.new.self c.args.piece.now c.offer-used.result.0 c.offer-used.result.1
+    (begun_in c.args.self.now.state c.in-InHeader.head c.in-InHeader.is c.args.self.now.begun)
     c.offer-used.ensures.offered c.offer-used.ensures.order c.in-Done.is)
 
 pub invariant_of-self-in-Done : goal.invariant_of-self-in-Done
@@ -43,12 +48,15 @@ returns-in-Fault-clause-fed c b s =
     let order = c.args.self.now.order in
     let was : InHeader order c.in-InHeader.head b = subst (λ (x : State). StandsAt order x b) c.in-InHeader.is s in
     let w = b ++ take c.offer-used.result.0 c.args.piece.now in
-    let h = head_took order c.in-InHeader.head c.offer-used.new.self b c.args.piece.now c.offer-used.result.0 c.offer-used.result.1 was (all_bytes c.args.piece.now (λ i lt. omega (arith, c.type_inv.piece i)))
+    let h = head_took order c.in-InHeader.head c.offer-used.new.self b c.args.piece.now c.offer-used.result.0
+    c.offer-used.result.1 was (all_bytes c.args.piece.now (λ i lt. omega (arith, c.type_inv.piece i)))
     c.offer-used.ensures.offered c.offer-used.ensures.order in
     let refused = come_to h _ c.in-Fault.is in (
       c.offer-used.result.0,
-      fails_head order c.in-InHeader.head c.offer-used.new.self b c.args.piece.now c.offer-used.result.0 c.offer-used.result.1 was h c.in-Fault.fault refused,
-      stopped_head order c.in-InHeader.head c.offer-used.new.self b c.args.piece.now c.offer-used.result.0 c.offer-used.result.1 was h c.in-Fault.fault refused _ refl (c.taken.ensures w h.stands)
+      fails_head order c.in-InHeader.head c.offer-used.new.self b c.args.piece.now c.offer-used.result.0
+          c.offer-used.result.1 was h c.in-Fault.fault refused,
+      stopped_head order c.in-InHeader.head c.offer-used.new.self b c.args.piece.now c.offer-used.result.0
+          c.offer-used.result.1 was h c.in-Fault.fault refused _ refl (c.taken.ensures w h.stands)
           (cells_at order c.offer-used.new.self w c.cells.result h.same_order (c.cells.ensures w h.stands)),
     )
 
@@ -56,35 +64,54 @@ pub returns-in-More-clause-fed : goal.returns-in-More-clause-fed
 returns-in-More-clause-fed c b s =
     let order = c.args.self.now.order in
     let was : InHeader order c.in-InHeader.head b = subst (λ (x : State). StandsAt order x b) c.in-InHeader.is s in
-    let h = head_took order c.in-InHeader.head c.offer-used.new.self b c.args.piece.now c.offer-used.result.0 c.offer-used.result.1 was (all_bytes c.args.piece.now (λ i lt. omega (arith, c.type_inv.piece i)))
+    let h = head_took order c.in-InHeader.head c.offer-used.new.self b c.args.piece.now c.offer-used.result.0
+    c.offer-used.result.1 was (all_bytes c.args.piece.now (λ i lt. omega (arith, c.type_inv.piece i)))
     c.offer-used.ensures.offered c.offer-used.ensures.order in
     let goes = come_to h answer.More c.in-More.is in
-    feeds_goes order c.in-InHeader.head c.offer-used.new.self b c.args.piece.now c.offer-used.result.0 c.offer-used.result.1 was h goes _ _
-    (goes_stands order c.in-InHeader.head c.offer-used.new.self b c.args.piece.now c.offer-used.result.0 c.offer-used.result.1 was h goes) refl refl
-    (holds_more order c.in-InHeader.head c.offer-used.new.self b c.args.piece.now c.offer-used.result.0 c.offer-used.result.1 was h goes (h.whole c.in-More.is))
+    feeds_goes order c.in-InHeader.head c.offer-used.new.self b c.args.piece.now c.offer-used.result.0
+    c.offer-used.result.1 was h goes _ _
+    (goes_stands order c.in-InHeader.head c.offer-used.new.self b c.args.piece.now c.offer-used.result.0
+    c.offer-used.result.1 was h goes) refl refl
+    (holds_more order c.in-InHeader.head c.offer-used.new.self b c.args.piece.now c.offer-used.result.0
+    c.offer-used.result.1 was h goes (h.whole c.in-More.is))
 
 pub returns-in-NoMemory-clause-fed : goal.returns-in-NoMemory-clause-fed
 returns-in-NoMemory-clause-fed c b s =
     let order = c.args.self.now.order in
     let was : InHeader order c.in-InHeader.head b = subst (λ (x : State). StandsAt order x b) c.in-InHeader.is s in
-    let h = head_took order c.in-InHeader.head c.offer-used.new.self b c.args.piece.now c.offer-used.result.0 c.offer-used.result.1 was (all_bytes c.args.piece.now (λ i lt. omega (arith, c.type_inv.piece i)))
+    let h = head_took order c.in-InHeader.head c.offer-used.new.self b c.args.piece.now c.offer-used.result.0
+    c.offer-used.result.1 was (all_bytes c.args.piece.now (λ i lt. omega (arith, c.type_inv.piece i)))
     c.offer-used.ensures.offered c.offer-used.ensures.order in
     let goes = come_to h answer.NoMemory c.in-NoMemory.is in
-    feeds_goes order c.in-InHeader.head c.offer-used.new.self b c.args.piece.now c.offer-used.result.0 c.offer-used.result.1 was h goes _ _
-    (goes_stands order c.in-InHeader.head c.offer-used.new.self b c.args.piece.now c.offer-used.result.0 c.offer-used.result.1 was h goes) refl refl
-    (holds_refused order c.in-InHeader.head c.offer-used.new.self b c.args.piece.now c.offer-used.result.0 c.offer-used.result.1 was h goes c.in-NoMemory.is)
+    feeds_goes order c.in-InHeader.head c.offer-used.new.self b c.args.piece.now c.offer-used.result.0
+    c.offer-used.result.1 was h goes _ _
+    (goes_stands order c.in-InHeader.head c.offer-used.new.self b c.args.piece.now c.offer-used.result.0
+    c.offer-used.result.1 was h goes) refl refl
+    (holds_refused order c.in-InHeader.head c.offer-used.new.self b c.args.piece.now c.offer-used.result.0
+    c.offer-used.result.1 was h goes c.in-NoMemory.is)
 
 pub returns-in-Foreign-clause-fed : goal.returns-in-Foreign-clause-fed
 returns-in-Foreign-clause-fed c b s =
     let order = c.args.self.now.order in
     let was : InHeader order c.in-InHeader.head b = subst (λ (x : State). StandsAt order x b) c.in-InHeader.is s in
     let w = b ++ take c.offer-used.result.0 c.args.piece.now in
-    let h = head_took order c.in-InHeader.head c.offer-used.new.self b c.args.piece.now c.offer-used.result.0 c.offer-used.result.1 was (all_bytes c.args.piece.now (λ i lt. omega (arith, c.type_inv.piece i)))
+    let h = head_took order c.in-InHeader.head c.offer-used.new.self b c.args.piece.now c.offer-used.result.0
+    c.offer-used.result.1 was (all_bytes c.args.piece.now (λ i lt. omega (arith, c.type_inv.piece i)))
     c.offer-used.ensures.offered c.offer-used.ensures.order in
     let foreign = come_to h (answer.Foreign c.in-Foreign.version) c.in-Foreign.is in
-    let some = c.offer-used.ensures.progress (λ e. no_more (sym c.in-Foreign.is ∙ e)) (λ e. no_refusal (sym c.in-Foreign.is ∙ e)) in
-    feeds_version order c.in-InHeader.head c.offer-used.new.self b c.args.piece.now c.offer-used.result.0 c.offer-used.result.1 was h _ c.in-Foreign.version foreign some
-    (c.in-Foreign.version, record { counts = subst (λ (o : Order). Counts o c.bytes_of.result w) h.same_order (c.bytes_of.ensures w h.stands); foreign = foreign })
+    let some =
+    c.offer-used.ensures.progress (λ e. no_more (sym c.in-Foreign.is ∙ e)) (λ e. no_refusal (sym c.in-Foreign.is
+    ∙ e)) in
+    feeds_version order c.in-InHeader.head c.offer-used.new.self b c.args.piece.now c.offer-used.result.0
+    c.offer-used.result.1 was h _ c.in-Foreign.version foreign some (
+      c.in-Foreign.version,
+      record {
+        counts =
+            subst (λ (o : Order). Counts o c.bytes_of.result w) h.same_order (c.bytes_of.ensures w h.stands);
+        foreign =
+            foreign;
+      },
+    )
   where
     no_more : answer.Foreign c.in-Foreign.version ≡ answer.More → ⊥
     no_more e = absurd cc
@@ -97,14 +124,18 @@ returns-in-Done-clause-fed c b s =
     let order = c.args.self.now.order in
     let was : InHeader order c.in-InHeader.head b = subst (λ (x : State). StandsAt order x b) c.in-InHeader.is s in
     let w = b ++ take c.offer-used.result.0 c.args.piece.now in
-    let h = head_took order c.in-InHeader.head c.offer-used.new.self b c.args.piece.now c.offer-used.result.0 c.offer-used.result.1 was (all_bytes c.args.piece.now (λ i lt. omega (arith, c.type_inv.piece i)))
+    let h = head_took order c.in-InHeader.head c.offer-used.new.self b c.args.piece.now c.offer-used.result.0
+    c.offer-used.result.1 was (all_bytes c.args.piece.now (λ i lt. omega (arith, c.type_inv.piece i)))
     c.offer-used.ensures.offered c.offer-used.ensures.order in
     let header = come_to h answer.Done c.in-Done.is in
-    let some = c.offer-used.ensures.progress (λ e. no_more (sym c.in-Done.is ∙ e)) (λ e. no_refusal (sym c.in-Done.is ∙ e)) in
+    let some =
+    c.offer-used.ensures.progress (λ e. no_more (sym c.in-Done.is ∙ e)) (λ e. no_refusal (sym c.in-Done.is ∙ e)) in
     let read = c.replace-read.ensures.value in
-    feeds_header order c.in-InHeader.head c.offer-used.new.self b c.args.piece.now c.offer-used.result.0 c.offer-used.result.1 was h _ header.0 header.1 some
+    feeds_header order c.in-InHeader.head c.offer-used.new.self b c.args.piece.now c.offer-used.result.0
+    c.offer-used.result.1 was h _ header.0 header.1 some
     (subst (λ (o : Order). StandsAt o c.after_header.result w) (ap (λ (r : HeadReader). r.order) read ∙ h.same_order)
-    (c.after_header.ensures.stands w (subst (λ (r : HeadReader). HeadStands r w) (sym read) h.stands) (taken_bytes b c.args.piece.now c.offer-used.result.0 was.bytes h.bytes)))
+    (c.after_header.ensures.stands w (subst (λ (r : HeadReader). HeadStands r w) (sym read) h.stands)
+    (taken_bytes b c.args.piece.now c.offer-used.result.0 was.bytes h.bytes)))
   where
     no_more : answer.Done ≡ answer.More → ⊥
     no_more e = absurd cc

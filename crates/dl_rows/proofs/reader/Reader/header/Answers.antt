@@ -7,4 +7,5 @@ use Rattle.dl_rows.proofs.reader.Reader.header.Goals as goal
 pub returns : goal.returns
 returns c b s =
     let order = c.args.self.now.order in
-    header_here order c.in-AfterHeader.header c.in-AfterHeader.field-1 b (subst (λ (x : State). StandsAt order x b) c.in-AfterHeader.is s)
+    header_here order c.in-AfterHeader.header c.in-AfterHeader.field-1 b
+    (subst (λ (x : State). StandsAt order x b) c.in-AfterHeader.is s)

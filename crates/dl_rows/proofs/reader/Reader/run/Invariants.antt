@@ -9,5 +9,7 @@ invariant-loop-turn g l = record {
   refusals : l.run.refused ≤ l.turn-index;
   goes : l.run.ended ≡ false;
   order : l.self.order ≡ l.fn.self.order;
-  going : (b : List ℕ) → StandsFor l.fn.self b → Going g.L.Listener.heard l.fn.self.order b l.bytes (take l.turn-index l.turns) l.run l.fn.listener l.listener l.self;
+  going : (b : List ℕ) → StandsFor l.fn.self b
+      → Going g.L.Listener.heard l.fn.self.order b l.bytes (take l.turn-index l.turns) l.run l.fn.listener l.listener
+      l.self;
 }
