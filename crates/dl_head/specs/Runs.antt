@@ -76,8 +76,7 @@ TraceRuns = (order : Order) (b bytes turns : List ℕ) (answers : List (Answer H
     → Runs order b bytes turns (record {
       taken = used_in answers;
       refused = refusals answers;
-      last = last_given
-          answer.More answers;
+      last = last_given answer.More answers;
     })
 
 -- Law: a header that the bytes complete, whatever follows it, is read whole where as many turns offer anything as bytes
