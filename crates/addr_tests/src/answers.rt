@@ -1,8 +1,8 @@
 //! Which row answers for an address, and what stands in the lines.
 use crate::sections::{DEAD, OVER, PATHS, PLAIN, TOP, asked, assert_addr, plain, section};
 use dl_addr::{Form, Found, Question, Style};
-use dl_run::RunFault;
 use dl_head::FaultKind;
+use dl_run::RunFault;
 use std::test::Fail;
 
 /// A unit of version 4.

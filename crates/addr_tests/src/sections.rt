@@ -2,8 +2,8 @@
 ghost use Rattle.std.specs.Prelude.{◌≤◌};
 
 use dl_addr::{Asked, Form, Found, Question, Style, addr};
-use dl_run::{Options, RunFault, SECTION_LIMIT};
 use dl_num::Order;
+use dl_run::{Options, RunFault, SECTION_LIMIT};
 use std::alloc::Global;
 use std::process::Abort;
 use std::test::Fail;

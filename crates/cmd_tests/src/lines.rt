@@ -1,7 +1,7 @@
 //! Addresses that come on an input, one a line.
 use dl_addr::Asked;
-use dl_run::RunFault;
 use dl_cmd::read_asked;
+use dl_run::RunFault;
 use std::alloc::Global;
 use std::process::Abort;
 use std::test::Fail;
@@ -69,7 +69,10 @@ fn each_growth(rt: HostRuntime) -> Result<(), Fail> {
             Ok(lines) => assert_eq!(&rt; lines.asked.len(), 6),
             Err(fault) => {
                 assert_eq!(&rt; fault, RunFault::NoMemory);
-                assert!(&rt; *byte == b'\n' || at.saturating_add(1) == LINES.len(), "{at}");
+                assert!(&rt;
+                    *byte == b'\n' || at.saturating_add(1) == LINES.len(),
+                    "{at}"
+                );
                 refused = refused.saturating_add(1);
             }
         }

@@ -18,9 +18,9 @@ use crate::asked::Asked;
 use crate::locating::{Answer, Locator};
 use crate::printing::print_line;
 use crate::question::{Found, Question};
-use dl_run::{Options, RunFault, SECTION_LIMIT, read_units};
 use dl_look::{NoMemory, Place};
 use dl_print::{Printer, StringSections, Summary, WriteFault};
+use dl_run::{Options, RunFault, SECTION_LIMIT, read_units};
 use std::alloc::Global;
 use std::io::{Read, Write};
 

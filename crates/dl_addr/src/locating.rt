@@ -6,11 +6,11 @@ ghost use Rattle.dl_addr.specs.Code.{is_code};
 
 use crate::style::Style;
 use crate::texts::{FileText, UnitFiles, keep_all};
-use dl_run::{RunFault, Visitor};
 use dl_head::Header;
 use dl_look::{CodeRanges, Finders, LiveRows, NoMemory, Place};
 use dl_print::StringSections;
 use dl_rows::{Flow, Row};
+use dl_run::{RunFault, Visitor};
 use std::alloc::Global;
 use std::io::Write;
 

@@ -1,4 +1,5 @@
--- A 32-bit, big-endian file of 282 bytes, by the definitions: sections 1 to 3 are `.debug_line`, the first of them NOBITS.
+-- A 32-bit, big-endian file of 282 bytes, by the definitions: sections 1 to 3 are `.debug_line`, the first
+-- of them NOBITS.
 use Rattle.std.proofs.Common.{◌≡◌, ℕ, List, [], ◌∷◌, Some, None, Ok, refl, lit<}
 use Rattle.dl_num.specs.declared.fixed.Order.TheVariants.{Big}
 use Rattle.dl_elf.specs.declared.header.Class.TheVariants.{Bits32}

@@ -1,4 +1,4 @@
--- ELF files: the file header and the section headers, in either class and order. System V ABI, chapter 4. f: the bytes of a file.
+-- The file header and section headers of ELF files, of either class and order. System V ABI, chapter 4. f: the file.
 use Rattle.std.specs.Prelude.{◌≡◌, ◌⊎◌, ℕ, Bool, ◌&&◌, ◌||◌, not, ◌==◌, nat_le, bit_and, if◌then◌else◌, List, length}
 use Rattle.std.specs.Prelude.{take, drop, slice_index, Option, Some, None, option_and_then}
 use Rattle.dl_num.specs.declared.fixed.Order.{Order}

@@ -1,4 +1,5 @@
--- The step from a row to the next one: the operation advance, the line advance and the special opcode lead there. DWARF 5, section 6.2.5.1.
+-- The step from a row to the next one: the operation advance, the line advance and the special opcode lead there.
+-- DWARF 5, section 6.2.5.1.
 use Rattle.std.proofs.Common.{◌≡◌, ℕ, ◌+◌, ◌-◌, ◌*◌, ◌/◌, ◌%◌, ◌^◌, ◌<◌, ◌≤◌, Bool, true, false, ◌&&◌, ◌==◌, nat_lt}
 use Rattle.std.proofs.Common.{nat_le, if◌then◌else◌, ℤ, pos, negsuc, ◌+ℤ◌, ◌-ℤ◌, Option, Some, None, refl, ap, ◌∙◌}
 use Rattle.std.proofs.Common.{arith, inl, inr}

@@ -1,4 +1,4 @@
--- The operations that are written for a list of rows, those of each row from the row before it alone. DWARF 5, sections 6.2.2 and 6.2.5.
+-- The operations that are written for rows, those of each from the row before it. DWARF 5, sections 6.2.2 and 6.2.5.
 use Rattle.std.specs.Prelude.{ℕ, ◌+◌, ◌-◌, ◌*◌, ◌/◌, ◌%◌, ◌^◌, Bool, true, false, not, ◌&&◌, List, [], ◌∷◌, ◌++◌, ℤ}
 use Rattle.std.specs.Prelude.{pos, negsuc, ◌-ℤ◌, Option, Some, None, nat_lt, nat_le, ◌==◌, if◌then◌else◌}
 use Rattle.std.specs.Int.{w64, cast_signed}

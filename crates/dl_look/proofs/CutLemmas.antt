@@ -326,7 +326,8 @@ pub are_cuts : (spans : List Span) (places : List Place) (slots : List Slot) (cu
     → AreCuts spans cuts
 are_cuts spans places slots cuts i ends given so_far all =
     let cut_at =
-    λ (e : ℕ) (p : Place) (lt : e < length (flat_map ends_of_span spans)) (is : get_or (flat_map ends_of_span spans) e no_place ≡ p). (
+    λ (e : ℕ) (p : Place) (lt : e < length (flat_map ends_of_span spans))
+    (is : get_or (flat_map ends_of_span spans) e no_place ≡ p). (
     let less : e < length places = omega (arith, ap length ends) in
     let j = given.each e less in
     let h = j.1 in

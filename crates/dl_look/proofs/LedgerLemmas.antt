@@ -58,7 +58,11 @@ module _ (slots : List Slot) (old new : Ledger) (at : ℕ) (row : Row) (numbered
     (sound : IsSound slots old) (lt : at < length slots) (opened : is_open old.links.next.items at ≡ true)
     (linked : IsLinked new.links.next.items) (count : length new.links.next.items ≡ length old.links.next.items)
     (closed : is_open new.links.next.items at ≡ false)
-    (others : (j : ℕ) → j < length old.links.next.items → j ≢ at → is_open new.links.next.items j ≡ is_open old.links.next.items j) (entries : new.entries.items ≡ set old.entries.items (slot_number slots at) (Some (length old.log.items))) (log : new.log.items ≡ old.log.items ++ record { number = slot_number slots at; row = row } ∷ []) (capacity : vec_capacity new.log ≡ vec_capacity old.log) where
+    (others : (j : ℕ) → j < length old.links.next.items → j ≢ at
+    → is_open new.links.next.items j ≡ is_open old.links.next.items j)
+    (entries : new.entries.items ≡ set old.entries.items (slot_number slots at) (Some (length old.log.items)))
+    (log : new.log.items ≡ old.log.items ++ record { number = slot_number slots at; row = row } ∷ [])
+    (capacity : vec_capacity new.log ≡ vec_capacity old.log) where
   abbrev number : ℕ
   number = slot_number slots at
 
@@ -204,7 +208,21 @@ answer_some slots ledger i sound h =
 module _ (slots : List Slot) (old now mid : Ledger) (low high at further : ℕ) (row : Row) (numbered : IsNumbered slots)
     (g : Given slots old now low high at row) (lt : at < high) (to : high ≤ length slots) (sound : IsSound slots mid)
     (shut : is_open mid.links.next.items at ≡ false)
-    (others : (j : ℕ) → j < length now.links.next.items → j ≢ at → is_open mid.links.next.items j ≡ is_open now.links.next.items j) (gets : answer_upto (length mid.log.items) mid (slot_number slots at) ≡ Some row) (same : (i : ℕ) → i ≢ slot_number slots at → answer_upto (length mid.log.items) mid i ≡ answer_upto (length now.log.items) now i) (before : (limit i : ℕ) → limit ≤ length now.log.items → answer_upto limit mid i ≡ answer_upto limit now i) (grown : length mid.log.items ≡ length now.log.items + 1) (links : Links) (linked : IsLinked links.next.items) (count : length links.next.items ≡ length mid.links.next.items) (stay : (j : ℕ) → j < length mid.links.next.items → is_open links.next.items j ≡ is_open mid.links.next.items j) (ahead : at + 1 ≤ further) (within : further < length mid.links.next.items) (opened : is_open links.next.items further ≡ true) (closed : (j : ℕ) → at + 1 ≤ j → j < further → is_open links.next.items j ≡ false) where
+    (others : (j : ℕ) → j < length now.links.next.items → j ≢ at
+    → is_open mid.links.next.items j ≡ is_open now.links.next.items j)
+    (gets : answer_upto (length mid.log.items) mid (slot_number slots at) ≡ Some row)
+    (same : (i : ℕ) → i ≢ slot_number slots at
+    → answer_upto (length mid.log.items) mid i ≡ answer_upto (length now.log.items) now i)
+    (before : (limit i : ℕ) → limit ≤ length now.log.items → answer_upto limit mid i ≡ answer_upto limit now i)
+    (grown : length mid.log.items ≡ length now.log.items + 1)
+    (links : Links)
+    (linked : IsLinked links.next.items)
+    (count : length links.next.items ≡ length mid.links.next.items)
+    (stay : (j : ℕ) → j < length mid.links.next.items → is_open links.next.items j ≡ is_open mid.links.next.items j)
+    (ahead : at + 1 ≤ further)
+    (within : further < length mid.links.next.items)
+    (opened : is_open links.next.items further ≡ true)
+    (closed : (j : ℕ) → at + 1 ≤ j → j < further → is_open links.next.items j ≡ false) where
   abbrev next : Ledger
   next = record { links = links; entries = mid.entries; log = mid.log }
 

@@ -1,4 +1,4 @@
--- The places that were given, in order, each with its number among these. Section 6.2.2. No promise rests on how this is said.
+-- The places that were given, in order, each with its number. Section 6.2.2. No promise rests on how this is said.
 use Rattle.std.specs.Prelude.{◌≡◌, ℕ, ◌<◌, ◌≤◌, true, List, length, slice_index_or}
 use Rattle.dl_look.specs.declared.place.Place.{Place}
 use Rattle.dl_look.specs.declared.slots.Slot.{Slot}

@@ -1,4 +1,5 @@
--- The number that a whole list of bytes spells is the one that byteorder reads at its front; a number's bytes, the lowest first.
+-- The number that a whole list of bytes spells is the one that byteorder reads at its front;
+-- a number's bytes, the lowest first.
 use Rattle.std.proofs.Common.{◌≡◌, ℕ, suc, ◌/◌, ◌%◌, List, [], ◌∷◌, ◌++◌, length, refl, ◌∙◌, append_assoc}
 use Rattle.byteorder.specs.Endian.{little_from, big_from}
 use Rattle.byteorder.specs.Numbers.{little_from-cons, big_from-cons}

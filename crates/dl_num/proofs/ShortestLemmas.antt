@@ -109,7 +109,8 @@ group_more end negative items whole rest b some ge is (count, le, h) = more coun
       → Completes end negative (items ++ b ∷ []) (rest / 128) whole
   more zero le h = absurd (omega arith)
   more (suc count) le h =
-      let grouped = subst (λ (t : Bool). items ++ bytes_on end negative count rest t ≡ whole) (le-ltb rest end ge) h in (
+      let grouped =
+      subst (λ (t : Bool). items ++ bytes_on end negative count rest t ≡ whole) (le-ltb rest end ge) h in (
         count,
         omega arith,
         rw is (append_assoc items ((128 + byte_of negative (rest % 128)) ∷ [])

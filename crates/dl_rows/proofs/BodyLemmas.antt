@@ -1,4 +1,5 @@
--- What bytes make of an operation that is begun: set_discriminator, opcodes that are passed over, and the bytes before an operand.
+-- What bytes make of an operation that is begun: set_discriminator, opcodes that are passed over,
+-- and the bytes before an operand.
 use Rattle.std.proofs.Common.{◌≡◌, ◌≢◌, ℕ, ◌+◌, ◌-◌, ◌^◌, ◌<◌, ◌≤◌, Bool, true, false, List, [], ◌∷◌, ◌++◌, length}
 use Rattle.std.proofs.Common.{take, slice_index, slice_index_or, Some, Ok, Err, refl, sym, ap, subst, ◌∙◌, arith, inl}
 use Rattle.std.proofs.Common.{inr, append_assoc}

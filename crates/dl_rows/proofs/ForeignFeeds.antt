@@ -10,7 +10,7 @@ use Rattle.dl_rows.specs.declared.unit_body.UnitBytes.{UnitBytes}
 use Rattle.dl_rows.specs.LineUnit.{events_of, events}
 use Rattle.dl_rows.specs.Reading.{Feeds}
 use Rattle.dl_rows.specs.UnitBodies.{InForeign, paused}
-use Rattle.dl_rows.proofs.UnitBodyFeeds.{pauses}
+use Rattle.dl_rows.proofs.UnitBodyPauses.{pauses}
 use Rattle.dl_rows.proofs.UnitBodyLemmas.{counts_on}
 use Rattle.dl_rows.proofs.UnitLengths.{foreign_unit}
 use Rattle.dl_rows.proofs.UnitQuiet.{foreign_quiet}

@@ -45,7 +45,9 @@ header_given head o has gives none =
 
 -- a piece was offered to the reader of a header
 module _ (old new : HeadReader) (piece : List ℕ) (used : ℕ) (step : HeadStep) (begun : ∥ GoesOn old ∥₁)
-    (offered : (b : List ℕ) → HeadStands old b → Answers old.order b answer.More → Offered old.order b piece used step new) (same : new.order ≡ old.order) where
+    (offered : (b : List ℕ) → HeadStands old b → Answers old.order b answer.More
+    → Offered old.order b piece used step new)
+    (same : new.order ≡ old.order) where
   answers : (s : HeadStep) → step ≡ s → (b : List ℕ) → Offered old.order b piece used step new
       → Answers new.order (b ++ take used piece) (so_far s)
   answers s is b o =

@@ -179,7 +179,8 @@ signed_small n lt = elim (cases_lt n 128) [
 leads_fields : (Bytes : Type 0) (unit_length : ℕ) (p : Params)
     → LeadsTo Bytes (Fit Bytes) (from_address_size unit_length p)
 leads_fields Bytes unit_length p =
-    λ address size a segment s b header h c minimum m d maximum operations e is_stmt i f base j g range lines k opcodes some l.
+    λ address size a segment s b header h c minimum m d maximum operations e is_stmt i f base j g range
+    lines k opcodes some l.
     leads_lengths Bytes (Fit Bytes) 1 (opcodes - 1) [] _ (λ lengths count. leads_tables Bytes _ (
       record {
         address_size = fits_true (is_number_size address) fault.AddressSize size;

@@ -11,6 +11,7 @@ pub mod HeaderBegun
 pub mod HeaderParams
 pub mod JoinLemmas
 pub mod Judged
+pub mod JudgedNumbers
 pub mod OperandLemmas
 pub mod OperandRanges
 pub mod OperationLaws
@@ -29,11 +30,13 @@ pub mod RegisterLemmas
 pub mod RowBytes
 pub mod RunLemmas
 pub mod RunTurns
+pub mod RunUnits
 pub mod ShortExtended
 pub mod SkipLemmas
 pub mod SpeltFirst
 pub mod UnitBodyFeeds
 pub mod UnitBodyLemmas
+pub mod UnitBodyPauses
 pub mod UnitFaults
 pub mod UnitKnown
 pub mod UnitLaws

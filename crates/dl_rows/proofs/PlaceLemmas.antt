@@ -146,7 +146,8 @@ steps-onto m a (x ∷ []) h =
       steps-cons m (x + a) [],
       steps-cons m x [],
     )
-    (let d = div_split a x m h in let e : x + a ≡ a + x = omega arith in let f : x % m + a ≡ a + x % m = omega arith in rw (e, f) (omega arith))
+    (let d = div_split a x m h in let e : x + a ≡ a + x = omega arith in
+    let f : x % m + a ≡ a + x % m = omega arith in rw (e, f) (omega arith))
 steps-onto m a (x ∷ y ∷ ys) h =
     rw (steps-cons m x (onto_last a (y ∷ ys)), steps-cons m x (y ∷ ys)) (omega (arith, steps-onto m a (y ∷ ys) h))
 

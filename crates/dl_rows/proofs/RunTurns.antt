@@ -22,7 +22,8 @@ use Rattle.dl_rows.specs.ReaderAnswers.{ReaderFed}
 use Rattle.dl_rows.specs.Runs.{MayGive, May, is_end, goes_on, is_refusal, refusals, told_by, heard_in, outcome, Traced}
 use Rattle.dl_rows.specs.Runs.{RunIs, UnitRunIs}
 use Rattle.dl_rows.proofs.ReaderLemmas.{within_here}
-use Rattle.dl_rows.proofs.RunLemmas.{Given, turned, trace_runs, trace_of_unit}
+use Rattle.dl_rows.proofs.RunLemmas.{Given, turned, trace_runs}
+use Rattle.dl_rows.proofs.RunUnits.{trace_of_unit}
 
 -- the turns so far, which others follow
 pub record Going {S : Type 0} (Heard : S → List Event → Type 0) (order : Order) (b bytes turns : List ℕ) (run : Run)

@@ -1,10 +1,8 @@
 -- What a reader answers after the header of a unit, or after a foreign version.
-use Rattle.std.proofs.Common.{◌≡◌, ◌≢◌, ℕ, suc, get_or, ◌+◌, ◌-◌, ◌^◌, ◌<◌, ◌≤◌, ◌⊎◌, inl, inr, List, [], ◌∷◌, ◌++◌}
+use Rattle.std.proofs.Common.{◌≡◌, ◌≢◌, ℕ, suc, get_or, ◌+◌, ◌-◌, ◌^◌, ◌<◌, ◌≤◌, ◌⊎◌, List, [], ◌∷◌, ◌++◌}
 use Rattle.std.proofs.Common.{length, map, take, drop, min, Some, Err, refl, sym, ap, subst, ◌∙◌, arith, length-append}
 use Rattle.std.proofs.Common.{append_assoc, append-nil, length-take}
-use Rattle.std.proofs.lemmas.Bool.{cases_eq, cases_lt, eq-eqb, ne_eqb, lt-ltb, le-ltb}
 use Rattle.std.proofs.lemmas.List.{take-append-drop, map-append}
-use Rattle.std.proofs.Math.Seq.{take-append_seam}
 use Rattle.dl_num.specs.declared.fixed.Order.{Order}
 use Rattle.dl_num.specs.Laws.{AllBytes}
 use Rattle.dl_num.proofs.FrontLemmas.{front_before}
@@ -13,9 +11,6 @@ use Rattle.dl_table.specs.declared.fault.FaultKind.{FaultKind}
 use Rattle.dl_table.specs.declared.fault.FaultKind.TheVariants as fault
 use Rattle.dl_field.specs.declared.params.Params.{Params}
 use Rattle.dl_field.specs.HeaderData.{HeaderData}
-use Rattle.dl_head.specs.Header.{header_in}
-use Rattle.dl_field.proofs.FieldLemmas.{none_some}
-use Rattle.dl_head.proofs.HeaderLaws.{header_is_found}
 use Rattle.dl_rows.specs.declared.program.Program.{Program}
 use Rattle.dl_rows.specs.declared.program.ProgramStep.{ProgramStep}
 use Rattle.dl_rows.specs.declared.reader.Event.{Event}
@@ -23,158 +18,21 @@ use Rattle.dl_rows.specs.declared.reader.Event.TheVariants as event
 use Rattle.dl_rows.specs.declared.reader.Fed.{Fed}
 use Rattle.dl_rows.specs.declared.row.Row.{Row}
 use Rattle.dl_rows.specs.declared.unit_body.UnitBody.{UnitBody}
-use Rattle.dl_rows.specs.declared.unit_body.UnitBytes.{UnitBytes}
 use Rattle.dl_rows.specs.OperationSpelt.{operation_spelt, operations_in}
-use Rattle.dl_rows.specs.LineUnit.{IsUnit, rows_in, ends_open, events}
+use Rattle.dl_rows.specs.LineUnit.{rows_in, ends_open, events}
 use Rattle.dl_rows.specs.Programs.{ProgramStands, Unrefused, Told, Tells}
-use Rattle.dl_rows.specs.Reading.{WithinUnit, told, EventHoldsBehind, Feeds, FeedsBehind, FailsBehind, IsPause, SinkAt}
+use Rattle.dl_rows.specs.Reading.{WithinUnit, told, FeedsBehind, FailsBehind, IsPause, SinkAt}
 use Rattle.dl_rows.specs.Refusal.{Refused}
 use Rattle.dl_rows.specs.Sinks.{Story}
 use Rattle.dl_rows.specs.Sums.{FitsProgram}
-use Rattle.dl_rows.specs.UnitBodies.{Counts, InProgram, Stops, paused}
+use Rattle.dl_rows.specs.UnitBodies.{InProgram, Stops, paused}
 use Rattle.dl_rows.proofs.OperandRanges.{bytes_front}
 use Rattle.dl_rows.proofs.ProgramTurns.{rest-found, unrefused_join}
 use Rattle.dl_rows.proofs.ProgramWalks.{in_sequence_is}
 use Rattle.dl_rows.proofs.UnitBodyLemmas.{counts_within, counts_on, program_on, events_more, refused_on, decides_bad}
 use Rattle.dl_rows.proofs.UnitBodyLemmas.{decides_overrun, rows_on, row_ends}
-use Rattle.dl_rows.proofs.UnitLengths.{some_same, length_of_unit}
-use Rattle.dl_rows.proofs.UnitWhole.{NoneRefused, unit_unless_refused}
-
--- the fields of an answer
-abbrev fed_of : ℕ → Event → Fed
-fed_of used e = record { used = used; event = e }
-
--- a front of the piece that is as long as what is taken
-take_front : (piece u z : List ℕ) (used : ℕ) → piece ≡ u ++ z → used ≡ length u → take used piece ≡ u
-take_front piece u z used e size =
-    ap (λ (n : ℕ). take n piece) size ∙ ap (λ (w : List ℕ). take (length u) w) e ∙ take-append_seam u z
-
-piece_is : (piece u behind : List ℕ) (most : ℕ) → take most piece ≡ u ++ behind
-    → piece ≡ u ++ (behind ++ drop most piece)
-piece_is piece u behind most e =
-    sym (take-append-drop most piece) ∙ ap (λ (w : List ℕ). w ++ drop most piece) e
-    ∙ append_assoc u behind (drop most piece)
-
-taken_le : (piece u behind : List ℕ) (most : ℕ) → take most piece ≡ u ++ behind
-    → (length u ≤ most) × (length u ≤ length piece)
-taken_le piece u behind most e =
-    let l = ap length e in
-    let m = length-take most piece in
-    (omega (arith, l, m, length-append u behind), omega (arith, l, m, length-append u behind))
-
--- ---- where nothing is told
-
--- an end, or more is wanted
-paused_cases : (taken left used len : ℕ) → 1 ≤ taken
-    → ((paused taken left used len ≡ event.End) × (left ≡ 0) × ((used ≡ 0) ⊎ (used < len)))
-    ⊎ ((paused taken left used len ≡ event.More) × (left ≡ 0 → (1 ≤ used) × (len ≤ used)))
-paused_cases taken left used len some = elim (cases_eq left 0) [
-  | inr other ↦ inr (rw (ne_eqb taken 0 any, ne_eqb left 0 other) refl, λ none. absurd (other none))
-  | inl none ↦ elim (cases_eq used 0) [
-    | inl nothing ↦ inl (rw (ne_eqb taken 0 any, eq-eqb left 0 none, eq-eqb used 0 nothing) refl, none, inl nothing)
-    | inr something ↦ elim (cases_lt used len) [
-      | inl lt ↦ inl (
-        rw (ne_eqb taken 0 any, eq-eqb left 0 none, ne_eqb used 0 something, lt-ltb used len lt) refl,
-        none,
-        inr lt,
-      )
-      | inr le ↦ inr (
-        rw (ne_eqb taken 0 any, eq-eqb left 0 none, ne_eqb used 0 something, le-ltb used len le) refl,
-        λ same. (omega (arith, something), le),
-      )
-    ]
-  ]
-]
-  where
-    any : taken ≢ 0
-    any same = omega arith
-
--- bytes that a header stands in are some
-some_bytes : (order : Order) (h : HeaderData) (t : UnitBody) (b : List ℕ) → InProgram order h t b → 1 ≤ length b
-some_bytes order h t [] is =
-    absurd (none_some {a =
-    (h, is.program)} refl (ap (header_in order) is.whole ∙ header_is_found order h is.header is.program is.spells))
-some_bytes order h t (x ∷ b) is = omega arith
-
--- an answer, u being what is taken of the piece
-feeds_with : {S : Type 0} (StandsFor : S → List ℕ → Type 0) (order : Order) (before : List Event) (b piece u : List ℕ)
-    (s : S) (fed : Fed) (e : Event) → take fed.used piece ≡ u → fed.used ≤ length piece → fed.event ≡ e
-    → StandsFor s (b ++ u) → events order (b ++ u) ≡ before ++ told e → EventHoldsBehind order before b piece fed.used e
-    → NoneRefused order (b ++ u) → WithinUnit order (b ++ u) → FeedsBehind StandsFor order before b piece fed s
-feeds_with StandsFor order before b piece u s fed e same le is stands grows holds sound in_unit = record {
-  answered = record {
-    within = le;
-    in_unit = subst (λ (w : List ℕ). WithinUnit order (b ++ w)) (sym same) in_unit;
-    grows = ap (λ (w : List ℕ). events order (b ++ w)) same ∙ grows ∙ ap (λ (x : Event). before ++ told x) (sym is);
-    holds = subst (λ (x : Event). EventHoldsBehind order before b piece fed.used x) (sym is) holds;
-    sound = subst (λ (w : List ℕ). NoneRefused order (b ++ w)) (sym same) sound;
-  };
-  stands = subst (λ (w : List ℕ). StandsFor s (b ++ w)) (sym same) stands;
-}
-
--- a pause after the events before, where nothing is refused
-pub pauses_behind : {S : Type 0} (StandsFor : S → List ℕ → Type 0) (order : Order) (before : List Event)
-    (b piece : List ℕ) (left : ℕ) (new : UnitBytes) (s : S) (fed : Fed) → fed.used ≡ length (take left piece)
-    → fed.event ≡ paused new.taken new.left fed.used (length piece) → new.left ≡ left - fed.used
-    → 1 ≤ length (b ++ take left piece)
-    → Counts order new (b ++ take left piece) → StandsFor s (b ++ take left piece)
-    → events order (b ++ take left piece) ≡ before
-    → NoneRefused order (b ++ take left piece) → (new.left ≡ 0 → IsUnit order (b ++ take left piece))
-    → FeedsBehind StandsFor order before b piece fed s
-pauses_behind StandsFor order before b piece left new s fed size is left_is some counts stands same sound whole =
-    elim (paused_cases new.taken new.left fed.used (length piece) (omega (arith, some, counts.taken))) [
-      | inl e ↦ feeds_with StandsFor order before b piece u s fed event.End back within (is
-          ∙ e.0) stands grows (subst (λ (w : List ℕ). IsUnit order (b ++ w)) (sym back) (whole e.1), e.2) sound in_unit
-      | inr m ↦ feeds_with StandsFor order before b piece u s fed event.More back within (is ∙ m.0) stands grows (
-        all m.1,
-        λ unit. (m.1 (none_left unit)).0,
-      ) sound in_unit
-    ]
-  where
-    u : List ℕ
-    u = take left piece
-
-    back : take fed.used piece ≡ take left piece
-    back = take_front piece (take left piece) (drop left piece) fed.used (sym (take-append-drop left piece)) size
-
-    long : length (take left piece) ≡ min left (length piece)
-    long = length-take left piece
-
-    within : fed.used ≤ length piece
-    within = omega (arith, size, long)
-
-    in_unit : WithinUnit order (b ++ take left piece)
-    in_unit = counts_within order new (b ++ take left piece) counts
-
-    grows : events order (b ++ take left piece) ≡ before ++ []
-    grows = same ∙ sym (append-nil before)
-
-    all : (new.left ≡ 0 → (1 ≤ fed.used) × (length piece ≤ fed.used)) → fed.used ≡ length piece
-    all more = elim (cases_eq new.left 0) [
-      | inl none ↦ (let m = more none in omega (arith, within, m.1))
-      | inr other ↦ omega (arith, other, left_is, size, long)
-    ]
-
-    none_left : IsUnit order (b ++ take fed.used piece) → new.left ≡ 0
-    none_left unit =
-        let len =
-        length_of_unit order (b ++ take left piece) (subst (λ (w : List ℕ). IsUnit order (b ++ w)) back unit) in
-        let e : new.taken + new.left ≡ length (b ++ take left piece) =
-        some_same (new.taken + new.left) (length (b ++ take left piece)) (sym counts.left ∙ len) in
-        omega (arith, e, counts.taken)
-
--- the same, where the events stay the same
-pub pauses : {S : Type 0} (StandsFor : S → List ℕ → Type 0) (order : Order) (b piece : List ℕ) (left : ℕ)
-    (new : UnitBytes) (s : S) (fed : Fed) → fed.used ≡ length (take left piece)
-    → fed.event ≡ paused new.taken new.left fed.used (length piece) → new.left ≡ left - fed.used
-    → 1 ≤ length (b ++ take left piece)
-    → Counts order new (b ++ take left piece) → StandsFor s (b ++ take left piece)
-    → events order (b ++ take left piece) ≡ events order b
-    → NoneRefused order (b ++ take left piece) → (new.left ≡ 0 → IsUnit order (b ++ take left piece))
-    → Feeds StandsFor order b piece fed s
-pauses StandsFor order b piece left new s fed size event left_is some counts stands same sound whole =
-    pauses_behind StandsFor order (events order b) b piece left new s fed size event left_is some counts stands same
-    sound whole
+use Rattle.dl_rows.proofs.UnitWhole.{unit_unless_refused}
+use Rattle.dl_rows.proofs.UnitBodyPauses.{fed_of, feeds_with, pauses_behind, piece_is, some_bytes, take_front, taken_le}
 
 -- ---- inside a program
 

@@ -1,4 +1,4 @@
--- A unit of a line table, and what the bytes of one come to. DWARF 5, section 6.2.4; initial lengths are of section 7.4.
+-- A unit of a line table, and what its bytes come to. DWARF 5, section 6.2.4; initial lengths are of section 7.4.
 use Rattle.std.specs.Prelude.{◌≡◌, ◌≢◌, ◌⊎◌, ℕ, Bool, false, not, List, [], ◌∷◌, ◌++◌, length, map, Option, Some, None}
 use Rattle.dl_num.specs.declared.fixed.Order.{Order}
 use Rattle.dl_table.specs.declared.form.Format.{Format}

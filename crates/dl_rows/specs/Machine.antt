@@ -1,4 +1,4 @@
--- The registers of the line number state machine as they are kept, address and line modulo 2^64. DWARF 5, sections 6.2.2 and 6.2.5. No promise rests on this file.
+-- The registers of the state machine, modulo 2^64. Sections 6.2.2 and 6.2.5. No promise rests on this file.
 use Rattle.std.specs.Prelude.{ℕ, ◌+◌, ◌-◌, ◌*◌, ◌/◌, ◌%◌, ◌^◌, ◌+ℤ◌, ℤ, pos, Bool, true, false, not}
 use Rattle.std.specs.Int.{w64, cast_unsigned}
 use Rattle.dl_field.specs.declared.params.Params.{Params}

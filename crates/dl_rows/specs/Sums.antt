@@ -1,4 +1,4 @@
--- The registers that are kept between the operations of a program, as sums and last settings. No promise rests on how this is said.
+-- The registers that are kept between operations, as sums and last settings. No promise rests on how this is said.
 use Rattle.std.specs.Prelude.{◌^◌, ◌%◌, ◌<◌, ◌==◌, not, unsigned_abs, List, unwrap_or, fold}
 use Rattle.std.specs.List.{after_last, list_any}
 use Rattle.dl_field.specs.declared.params.Params.{Params}

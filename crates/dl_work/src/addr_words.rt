@@ -7,9 +7,9 @@ ghost use Rattle.dl_work.specs.Locate.{AddressesStop, WordsStop, are_addresses, 
 
 use crate::stop::Stop;
 use dl_addr::{Asked, Form, Question, Style};
-use dl_run::RunFault;
-use dl_look::CodeRanges;
 use dl_cmd::{AddrWords, AskedLines, read_address, read_hex_address};
+use dl_look::CodeRanges;
+use dl_run::RunFault;
 use std::alloc::Global;
 
 /// The address that a word says.

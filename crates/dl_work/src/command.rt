@@ -7,10 +7,10 @@ ghost use Rattle.dl_cmd.specs.Job.{request_made};
 ghost use Rattle.dl_work.specs.Asked.{Does, answered, command_of, is_copy, place_of, wanted_of};
 
 use dl_addr::{Found, Question, addr};
-use dl_run::{Options, RunFault, SECTION_LIMIT, Summary, check, copy, dump, find};
+use dl_cmd::{Job, read_address};
 use dl_elf::Wanted;
 use dl_look::Place;
-use dl_cmd::{Job, read_address};
+use dl_run::{Options, RunFault, SECTION_LIMIT, Summary, check, copy, dump, find};
 use std::alloc::Global;
 use std::io::{Read, Write};
 

@@ -3,8 +3,8 @@ ghost use Rattle.std.specs.Prelude.{◌≡◌, ℕ, List, Option, IfErr, IfOk, M
 ghost use Rattle.std.specs.declared.io.Error.{Error};
 ghost use Rattle.dl_work.specs.Files.{FileHolds, FileStops};
 
-use dl_run::RunFault;
 use dl_elf::ReadAt;
+use dl_run::RunFault;
 use std::alloc::Global;
 use std::io;
 

@@ -13,8 +13,8 @@ use crate::over_file::on_file;
 use crate::over_input::{Section, on_input};
 use crate::stop::Stop;
 use dl_addr::Found;
-use dl_run::{RunFault, Summary};
 use dl_cmd::{AddrWords, AskedLines, read_asked};
+use dl_run::{RunFault, Summary};
 use std::alloc::Global;
 use std::io::{Read, Write};
 

@@ -8,8 +8,8 @@ use crate::command::Command;
 use crate::files::FileSource;
 use crate::stop::{FileFault, Stop};
 use crate::strings::StringSections;
-use dl_run::Summary;
 use dl_elf::{LineFile, ReadAt, open_line_file};
+use dl_run::Summary;
 use std::alloc::Global;
 use std::io::Write;
 

@@ -9,8 +9,8 @@ use crate::command::Command;
 use crate::files::FileSource;
 use crate::stop::Stop;
 use crate::strings::StringSections;
-use dl_run::{RunFault, Summary};
 use dl_num::Order;
+use dl_run::{RunFault, Summary};
 use std::alloc::Global;
 use std::io::{Read, Write};
 

@@ -3,8 +3,8 @@ ghost use Rattle.std.specs.Prelude.{◌≡◌, IfSome, OnOk};
 ghost use Rattle.std.specs.Io.KnownBytes.{Appends};
 ghost use Rattle.dl_work.specs.Stops.{StopsAt, file_fault_status, file_fault_text, stop_line, stop_status, stop_text};
 
-use dl_run::RunFault;
 use dl_elf::ElfFault;
+use dl_run::RunFault;
 use std::io::Write;
 use std::{fmt, io};
 

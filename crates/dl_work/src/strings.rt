@@ -9,9 +9,9 @@ ghost use Rattle.dl_work.specs.Tables.{IsWhole, SectionStops, StringsStop};
 
 use crate::files::FileSource;
 use crate::stop::Stop;
-use dl_run::{Options, RunFault, SECTION_LIMIT, read_strings};
 use dl_elf::{ReadAt, SectionReader};
 use dl_num::Order;
+use dl_run::{Options, RunFault, SECTION_LIMIT, read_strings};
 use std::alloc::Global;
 
 /// How many bytes a string section may have: 2^32.

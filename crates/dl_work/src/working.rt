@@ -11,8 +11,8 @@ use crate::files::FileSource;
 use crate::over_file::on_file;
 use crate::over_input::{Section, on_input};
 use crate::stop::Stop;
-use dl_run::Summary;
 use dl_cmd::Job;
+use dl_run::Summary;
 use std::alloc::Global;
 use std::io::{Read, Write};
 

@@ -2,8 +2,8 @@
 #![tactic(auto)]
 
 use dl_addr::Found;
-use dl_run::{RunFault, read_strings};
 use dl_cmd::{Job, read_job, word_status};
+use dl_run::{RunFault, read_strings};
 use dl_work::{FileSource, Stop, locate, work};
 use std::alloc::{AllocError, Global};
 use std::fs::File;

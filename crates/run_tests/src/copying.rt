@@ -2,9 +2,9 @@
 ghost use Rattle.std.specs.Prelude.{◌≤◌};
 
 use crate::sections::{FOREIGN, THREE_ROWS, bytes, counts, damage, options};
-use dl_run::{Options, RunFault, SECTION_LIMIT, Summary, copy};
 use dl_head::FaultKind;
 use dl_num::Order;
+use dl_run::{Options, RunFault, SECTION_LIMIT, Summary, copy};
 use std::alloc::Global;
 use std::process::Abort;
 use std::test::Fail;

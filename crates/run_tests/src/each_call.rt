@@ -1,8 +1,8 @@
 //! A fault at each read, each write and each growth of each command in turn.
 use crate::sections::{THREE_ROWS, bytes, counts, damage, options};
-use dl_run::{RunFault, SECTION_LIMIT, Summary, check, copy, dump, find};
 use dl_head::FaultKind;
 use dl_look::Place;
+use dl_run::{RunFault, SECTION_LIMIT, Summary, check, copy, dump, find};
 use std::alloc::Global;
 use std::io::Read;
 use std::process::Abort;

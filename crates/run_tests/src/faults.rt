@@ -1,8 +1,8 @@
 //! The texts and the statuses of faults.
 use arrayvec::ArrayString;
-use dl_run::RunFault;
 use dl_emit::EmitFault;
 use dl_head::FaultKind;
+use dl_run::RunFault;
 use std::fmt::Write;
 use std::test::Fail;
 

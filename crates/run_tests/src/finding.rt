@@ -2,11 +2,11 @@
 ghost use Rattle.std.specs.Prelude.{◌≤◌};
 
 use crate::sections::{FOREIGN, SMALLEST, THREE_ROWS, bytes, damage, options};
-use dl_run::{Options, RunFault, SECTION_LIMIT, Summary, find};
 use dl_head::FaultKind;
 use dl_look::{Index, Place};
 use dl_num::Order;
 use dl_rows::{Event, Reader, Row};
+use dl_run::{Options, RunFault, SECTION_LIMIT, Summary, find};
 use std::alloc::{AllocError, Global};
 use std::process::Abort;
 use std::test::Fail;

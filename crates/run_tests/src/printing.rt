@@ -2,10 +2,10 @@
 ghost use Rattle.std.specs.Prelude.{◌≤◌};
 
 use crate::sections::options;
-use dl_run::{Options, RunFault, SECTION_LIMIT, dump};
 use dl_emit::write_unit;
 use dl_head::{Form, Format, Header, Pair, Table, ValueRef};
 use dl_num::Order;
+use dl_run::{Options, RunFault, SECTION_LIMIT, dump};
 use std::alloc::Global;
 use std::process::Abort;
 use std::test::Fail;

@@ -1,9 +1,9 @@
 //! Worked sections for `dump` and `check`.
 ghost use Rattle.std.specs.Prelude.{◌≤◌};
 
-use dl_run::{Options, RunFault, SECTION_LIMIT, Summary, check, dump};
 use dl_head::FaultKind;
 use dl_num::Order;
+use dl_run::{Options, RunFault, SECTION_LIMIT, Summary, check, dump};
 use std::alloc::Global;
 use std::process::Abort;
 use std::test::Fail;

@@ -4,8 +4,8 @@ use crate::shelf::{
     BOTH_STRINGS, COUNTS, LINE_STRINGS, ROW_LINES, SECOND_OPERATION, STRINGS, Shelf, THREE_ROWS,
     TWO_OPERATIONS, Told, UNIT_LINE, bytes,
 };
-use dl_num::Order;
 use dl_cmd::Job;
+use dl_num::Order;
 use dl_work::{FileFault, Stop, work};
 use std::alloc::Global;
 use std::process::Abort;

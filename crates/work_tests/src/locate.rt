@@ -2,9 +2,8 @@
 use crate::elf::{EXECUTABLE, file};
 use crate::shelf::{BOTH_STRINGS, LINE_STRINGS, STRINGS, Shelf, Told, bytes};
 use dl_addr::Found;
-
-use dl_num::Order;
 use dl_cmd::AddrWords;
+use dl_num::Order;
 use dl_work::locate;
 use std::alloc::Global;
 use std::process::Abort;
@@ -61,12 +60,7 @@ fn with_strings(alloc: Global) -> Result<Vec<u8>, Fail> {
 }
 
 /// Looks up what the words ask for.
-fn told(
-    alloc: Global,
-    elf: &[u8],
-    words: &AddrWords<'_>,
-    input: &[u8],
-) -> Result<Told, Fail> {
+fn told(alloc: Global, elf: &[u8], words: &AddrWords<'_>, input: &[u8]) -> Result<Told, Fail> {
     let shelf = Shelf::new(elf);
     let mut input = input;
     let mut output = Vec::new(alloc);
@@ -146,8 +140,7 @@ fn every_option(rt: HostRuntime) -> Result<(), Fail> {
         all: true,
         ..plain(alloc, Some("elf"), &["402000", "401000", "fff"])?
     };
-    let lines =
-        "0x0000000000402000 yz:1\n0x0000000000401000 ??:0\n0x0000000000000fff ??:0\n";
+    let lines = "0x0000000000402000 yz:1\n0x0000000000401000 ??:0\n0x0000000000000fff ??:0\n";
     assert_located(&rt, alloc, &words, UNREAD, 1, lines, "", left)?;
     let words = AddrWords {
         json: true,

@@ -1,7 +1,7 @@
 //! Files by their paths, and worked sections.
-use dl_run::{RunFault, read_strings};
-use dl_elf::ReadAt;
 use dl_cmd::Job;
+use dl_elf::ReadAt;
+use dl_run::{RunFault, read_strings};
 use dl_work::{FileSource, work};
 use std::alloc::Global;
 use std::io;

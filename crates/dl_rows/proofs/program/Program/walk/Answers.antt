@@ -1,7 +1,7 @@
 use Rattle.std.proofs.Common.{List, ℕ, None, ◌++◌, sym, subst, ◌∙◌, arith}
 use Rattle.dl_rows.specs.declared.program.ProgramStep.TheVariants as given
 use Rattle.dl_rows.specs.Programs.{Walked}
-use Rattle.dl_rows.proofs.Judged.{empty_is}
+use Rattle.dl_rows.proofs.JudgedNumbers.{empty_is}
 use Rattle.dl_rows.proofs.ProgramWalks.{walk_on, walk_row}
 use Rattle.dl_rows.proofs.ProgramEnds.{walk_over, walk_within, walk_refuses, walk_turns}
 use Rattle.dl_rows.proofs.ProgramTold.{tell_start, tell_on, tell_row, tell_after, tells_after, since_bytes}
