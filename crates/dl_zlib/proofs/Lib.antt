@@ -8,5 +8,7 @@ pub mod FieldLemmas
 pub mod KeptLemmas
 pub mod PieceLemmas
 pub mod ReadLemmas
+pub mod RunLemmas
+pub mod TurnLemmas
 pub mod WalkLemmas
 mod Worked

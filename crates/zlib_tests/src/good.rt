@@ -15,7 +15,7 @@ fn check(stream: &[u8], output: &[u8], turned: &[u16]) -> Option<(&'static str, 
         return Some(("front", front));
     }
     let bit = first_other_bit(stream, output, turned);
-    if bit != stream.len() * 8 {
+    if bit != turned.len() || bit / 8 != stream.len() {
         return Some(("bit", bit));
     }
     None
