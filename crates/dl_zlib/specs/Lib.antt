@@ -8,4 +8,5 @@ pub mod Buffer
 pub mod Kept
 pub mod BasesKept
 pub mod PieceKept
+pub mod LengthsKept
 pub mod Turns
