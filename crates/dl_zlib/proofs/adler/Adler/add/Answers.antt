@@ -8,5 +8,6 @@ pub loop-rest-preserved : goal.loop-rest-preserved
 loop-rest-preserved c =
     let new = c.add_turn-adler.result in
     ap (sums new.low new.high) (take_rest c.loop-rest.rest.now c.min-len.result)
-    ∙ sums-front c.loop-rest.adler.low c.loop-rest.adler.high new.low new.high c.min-len.result c.loop-rest.rest.now c.add_turn-adler.ensures
+    ∙ sums-front c.loop-rest.adler.low c.loop-rest.adler.high new.low new.high c.min-len.result c.loop-rest.rest.now
+        c.add_turn-adler.ensures
     ∙ c.loop-rest.invariant
