@@ -1,0 +1,198 @@
+//! Good streams: whole, in pieces, cut short, and with each bit turned over.
+use crate::feeding::{Outcome, first_long_front, first_other_bit, read_stream};
+use crate::streams;
+
+/// The first stream that isn't read whole at each length of pieces, is read whole without its last byte, or comes to
+/// something else with a bit turned over; and at which of these.
+fn check(stream: &[u8], output: &[u8], turned: &[u16]) -> Option<(&'static str, usize)> {
+    for piece_len in 1..stream.len() + 2 {
+        if read_stream(stream, piece_len, Some(output)) != Outcome::Whole {
+            return Some(("pieces", piece_len));
+        }
+    }
+    let front = first_long_front(stream, output);
+    if front != stream.len() {
+        return Some(("front", front));
+    }
+    let bit = first_other_bit(stream, output, turned);
+    if bit != turned.len() || bit / 8 != stream.len() {
+        return Some(("bit", bit));
+    }
+    None
+}
+
+#[test]
+fn nothing(rt: HostRuntime) {
+    assert_eq!(rt;
+        check(
+            &streams::NOTHING,
+            &streams::NOTHING_OUTPUT,
+            &streams::NOTHING_TURNED
+        ),
+        None
+    );
+}
+
+#[test]
+fn level_0(rt: HostRuntime) {
+    assert_eq!(rt;
+        check(
+            &streams::LEVEL_0,
+            &streams::LEVEL_0_OUTPUT,
+            &streams::LEVEL_0_TURNED
+        ),
+        None
+    );
+}
+
+#[test]
+fn level_1(rt: HostRuntime) {
+    assert_eq!(rt;
+        check(
+            &streams::LEVEL_1,
+            &streams::LEVEL_1_OUTPUT,
+            &streams::LEVEL_1_TURNED
+        ),
+        None
+    );
+}
+
+#[test]
+fn level_6(rt: HostRuntime) {
+    assert_eq!(rt;
+        check(
+            &streams::LEVEL_6,
+            &streams::LEVEL_6_OUTPUT,
+            &streams::LEVEL_6_TURNED
+        ),
+        None
+    );
+}
+
+#[test]
+fn level_9(rt: HostRuntime) {
+    assert_eq!(rt;
+        check(
+            &streams::LEVEL_9,
+            &streams::LEVEL_9_OUTPUT,
+            &streams::LEVEL_9_TURNED
+        ),
+        None
+    );
+}
+
+#[test]
+fn fixed(rt: HostRuntime) {
+    assert_eq!(rt;
+        check(
+            &streams::FIXED,
+            &streams::FIXED_OUTPUT,
+            &streams::FIXED_TURNED
+        ),
+        None
+    );
+}
+
+#[test]
+fn huffman_only(rt: HostRuntime) {
+    assert_eq!(rt;
+        check(
+            &streams::HUFFMAN_ONLY,
+            &streams::HUFFMAN_ONLY_OUTPUT,
+            &streams::HUFFMAN_ONLY_TURNED
+        ),
+        None
+    );
+}
+
+#[test]
+fn runs(rt: HostRuntime) {
+    assert_eq!(rt;
+        check(&streams::RUNS, &streams::RUNS_OUTPUT, &streams::RUNS_TURNED),
+        None
+    );
+}
+
+#[test]
+fn flushed(rt: HostRuntime) {
+    assert_eq!(rt;
+        check(
+            &streams::FLUSHED,
+            &streams::FLUSHED_OUTPUT,
+            &streams::FLUSHED_TURNED
+        ),
+        None
+    );
+}
+
+#[test]
+fn libdeflate(rt: HostRuntime) {
+    assert_eq!(rt;
+        check(
+            &streams::LIBDEFLATE,
+            &streams::LIBDEFLATE_OUTPUT,
+            &streams::LIBDEFLATE_TURNED
+        ),
+        None
+    );
+}
+
+#[test]
+fn zopfli(rt: HostRuntime) {
+    assert_eq!(rt;
+        check(
+            &streams::ZOPFLI,
+            &streams::ZOPFLI_OUTPUT,
+            &streams::ZOPFLI_TURNED
+        ),
+        None
+    );
+}
+
+#[test]
+fn empty_stored(rt: HostRuntime) {
+    assert_eq!(rt;
+        check(
+            &streams::EMPTY_STORED,
+            &streams::EMPTY_STORED_OUTPUT,
+            &streams::EMPTY_STORED_TURNED
+        ),
+        None
+    );
+}
+
+#[test]
+fn no_distance(rt: HostRuntime) {
+    assert_eq!(rt;
+        check(
+            &streams::NO_DISTANCE,
+            &streams::NO_DISTANCE_OUTPUT,
+            &streams::NO_DISTANCE_TURNED
+        ),
+        None
+    );
+}
+
+#[test]
+fn one_distance(rt: HostRuntime) {
+    assert_eq!(rt;
+        check(
+            &streams::ONE_DISTANCE,
+            &streams::ONE_DISTANCE_OUTPUT,
+            &streams::ONE_DISTANCE_TURNED
+        ),
+        None
+    );
+}
+
+#[test]
+fn longest_copy(rt: HostRuntime) {
+    assert_eq!(rt;
+        check(
+            &streams::LONGEST_COPY,
+            &streams::LONGEST_COPY_OUTPUT,
+            &streams::LONGEST_COPY_TURNED
+        ),
+        None
+    );
+}
