@@ -20,8 +20,8 @@ use Rattle.dl_rows.specs.OperationSpelt.{standard_opcodes, standard_spelt, are_l
 use Rattle.dl_rows.specs.OperationSpelt.{extended_spelt, body_spelt, length_and_body, operation_spelt}
 use Rattle.dl_rows.specs.Spelling.{IsExtended, SpellsOperation}
 use Rattle.dl_rows.specs.BadOperation.{BeginsExtended, BeginsDiscriminator, IsWrongLength, IsFaulty}
-use Rattle.dl_rows.proofs.JudgedNumbers.{below, empty_is, fits, fits_not, leb_split, lebs_are, no_number, not_below, number_is}
-use Rattle.dl_rows.proofs.JudgedNumbers.{AreNumbers, signed_is}
+use Rattle.dl_rows.proofs.JudgedNumbers.{below, empty_is, fits, fits_not, leb_split, lebs_are, no_number}
+use Rattle.dl_rows.proofs.JudgedNumbers.{AreNumbers, not_below, number_is, signed_is}
 
 -- what holds of w where this is computed of it
 abbrev pub Judged : Order → Params → List ℕ → Judgement Operation → Type 0
