@@ -1,6 +1,6 @@
 //! A header in pieces, where memory may be refused and asked for again.
 
-ghost use Rattle.std.specs.Prelude.{◌≡◌, ◌≢◌, ◌≤◌, ℕ, List, length, take, drop};
+ghost use Rattle.std.specs.Prelude.{◌≡◌, ◌≢◌, ◌+◌, ◌^◌, ◌<◌, ◌≤◌, ℕ, List, length, take, drop};
 
 use crate::reader::{HeadReader, HeadStep};
 
@@ -93,7 +93,7 @@ impl HeadReader {
             return 0;
         };
         let used = bytes.len() - behind.len();
-        self.taken = self.taken.saturating_add(used as u64);
+        self.taken += used as u64;
         self.start = self.taken;
         used
     }
@@ -101,11 +101,10 @@ impl HeadReader {
     /// The first bytes of the piece, up to the one before the last of the header.
     #[inline(always)]
     fn inside<'a>(&self, piece: &'a [u8]) -> &'a [u8]
-        ensures { IsInside self.now piece.entry.now result.now }
+        ensures inside { IsInside self.now piece.entry.now result.now }
+        ensures fits { self.now.taken + length result.now < 2 ^ 64 }
     {
-        let Some(end) = self.end else {
-            return &piece[..0];
-        };
+        let end = self.end.unwrap_or(0);
         let left = end.saturating_sub(self.taken).saturating_sub(1);
         if left < piece.len() as u64 {
             &piece[..left as usize]
