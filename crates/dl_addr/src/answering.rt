@@ -1,6 +1,7 @@
 //! The command that answers addresses with locations.
 
-ghost use Rattle.std.specs.Prelude.{◌≡◌, ◌≤◌, ℕ, List, [], Option, Some, IfOk, if◌then◌else◌, map, option_map, slice_get};
+ghost use Rattle.std.specs.Prelude.{◌≡◌, ◌≤◌, ℕ, List, [], Option, Some, IfOk, if◌then◌else◌, map, option_map};
+ghost use Rattle.std.specs.Prelude.{slice_get};
 ghost use Rattle.std.specs.Io.KnownBytes.{Consumes};
 ghost use Rattle.dl_look.specs.declared.place.Place as place;
 ghost use Rattle.dl_run.specs.Commands.{strings_in};
@@ -107,8 +108,10 @@ fn print_all<W: Write>(
     question: &Question<'_>,
 ) -> Result<Found, WriteFault>
     ensures { (first : locators.Locator) (start held : Option (List ℕ)) (visits : List Visit)
-        → Locating first locator.now start held visits → IsMadeFor first (map (looked_up question.now.base) question.now.asked.now)
-        → PrintsAll (W.contents output.old) (W.contents output.new) question.now (answer_for first visits question.now.base) result }
+        → Locating first locator.now start held visits
+        → IsMadeFor first (map (looked_up question.now.base) question.now.asked.now)
+        → PrintsAll (W.contents output.old) (W.contents output.new) question.now
+        (answer_for first visits question.now.base) result }
 {
     let mut printer = Printer::new();
     let mut found = Found::All;
@@ -131,9 +134,11 @@ fn answer_to<'a>(
     base: u64,
     number: usize,
 ) -> Option<Answer<'a>>
-    ensures { (first : locators.Locator) (start held : Option (List ℕ)) (visits : List Visit) (places : List place.Place)
+    ensures { (first : locators.Locator) (start held : Option (List ℕ)) (visits : List Visit)
+        (places : List place.Place)
         → Locating first locator.now start held visits → IsMadeFor first places
-        → slice_get places number ≡ Some (looked_up base asked) → option_map answer_seen result ≡ answer_for first visits base asked }
+        → slice_get places number ≡ Some (looked_up base asked)
+        → option_map answer_seen result ≡ answer_for first visits base asked }
 {
     match asked.place(base) {
         Some(_) => locator.answer(number),

@@ -159,7 +159,8 @@ impl<'a> Locator<'a> {
     pub fn answer(&self, number: usize) -> Option<Answer<'_>>
         ensures { (first : locator.Locator) (start held : Option (List ℕ)) (visits : List Visit) (places : List Place)
             → Locating first self.now start held visits → IsMadeFor first places
-            → option_map answer_seen result ≡ option_map (located_seen first) (option_and_then (λ x. located_by first x visits) (slice_get places number)) }
+            → option_map answer_seen result ≡ option_map (located_seen first)
+            (option_and_then (λ x. located_by first x visits) (slice_get places number)) }
     {
         match self.finders.answer(number) {
             Some(row) => self.answer_of(row, number),
@@ -178,7 +179,8 @@ impl<'a> Locator<'a> {
 
     /// The text that is kept for the place of this number.
     fn file(&self, number: usize) -> Option<&FileText>
-        ensures { option_copied result ≡ option_and_then (slice_get self.now.texts.items) (slice_get self.now.kept.items number) }
+        ensures { option_copied result ≡ option_and_then (slice_get self.now.texts.items)
+            (slice_get self.now.kept.items number) }
     {
         let text = self.kept.as_slice().get(number)?;
         self.texts.as_slice().get(*text)

@@ -6,7 +6,8 @@ ghost use Rattle.dl_table.specs.EntryHeld.{entry_items};
 ghost use Rattle.dl_table.specs.Held.{value_lent};
 ghost use Rattle.dl_print.specs.ValueText.{strings_of};
 ghost use Rattle.dl_addr.specs.Parts.{path_seen};
-ghost use Rattle.dl_addr.specs.Paths.{text_of, own_path, directory_of, number_or_zero, entry_of, is_letter, is_slash, has_drive, is_whole, file_path, path_of};
+ghost use Rattle.dl_addr.specs.Paths.{text_of, own_path, directory_of, number_or_zero, entry_of, is_letter, is_slash};
+ghost use Rattle.dl_addr.specs.Paths.{has_drive, is_whole, file_path, path_of};
 
 use dl_head::{Entry, Header, Table, ValueRef};
 use dl_print::{StringSections, text_in_section};

@@ -1,6 +1,7 @@
 //! The texts of the paths of files that answer.
 
-ghost use Rattle.std.specs.Prelude.{◌≡◌, ◌≢◌, ◌<◌, ◌≤◌, ◌+◌, ◌⊎◌, ℕ, length, replicate, slice_get, slice_index_or, IfOk, IfSome, OnOk, None, Some};
+ghost use Rattle.std.specs.Prelude.{◌≡◌, ◌≢◌, ◌<◌, ◌≤◌, ◌+◌, ◌⊎◌, ℕ, length, replicate, slice_get, slice_index_or};
+ghost use Rattle.std.specs.Prelude.{IfOk, IfSome, OnOk, None, Some};
 ghost use Rattle.std.specs.Option.{option_copied, option_map_or};
 ghost use Rattle.dl_look.specs.Ledgers.{no_answer};
 ghost use Rattle.dl_addr.specs.Texts.{AreNumbers, AreSeen, Grows, IsKept, IsOther, text_at, text_of_file};

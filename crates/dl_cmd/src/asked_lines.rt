@@ -69,8 +69,10 @@ impl Lines {
 
     /// Takes a byte.
     fn take(&mut self, byte: u8) -> Result<(), RunFault>
-        ensures taken { (base : ℕ) (done : List ℕ) → Stands base done self.old → OnOk result (Stands base (done ++ byte ∷ []) self.new) }
-        ensures memory { (base : ℕ) (done : List ℕ) → Stands base done self.old → IfErr result (RefusesAsked base (done ++ byte ∷ [])) }
+        ensures taken { (base : ℕ) (done : List ℕ) → Stands base done self.old
+            → OnOk result (Stands base (done ++ byte ∷ []) self.new) }
+        ensures memory { (base : ℕ) (done : List ℕ) → Stands base done self.old
+            → IfErr result (RefusesAsked base (done ++ byte ∷ [])) }
     {
         if byte != b'\n' {
             self.line = self.line.after(self.base, byte);
@@ -85,8 +87,10 @@ impl Lines {
 
     /// Takes bytes.
     fn take_all(&mut self, bytes: &[u8]) -> Result<(), RunFault>
-        ensures taken { (base : ℕ) (done : List ℕ) → Stands base done self.old → OnOk result (Stands base (done ++ bytes.now) self.new) }
-        ensures memory { (base : ℕ) (done : List ℕ) → Stands base done self.old → IfErr result (RefusesAsked base (done ++ bytes.now)) }
+        ensures taken { (base : ℕ) (done : List ℕ) → Stands base done self.old
+            → OnOk result (Stands base (done ++ bytes.now) self.new) }
+        ensures memory { (base : ℕ) (done : List ℕ) → Stands base done self.old
+            → IfErr result (RefusesAsked base (done ++ bytes.now)) }
     {
         for byte in bytes {
             self.take(*byte)?;
@@ -97,7 +101,8 @@ impl Lines {
     /// What is asked for, where the input ends here.
     fn end(self) -> Result<AskedLines, RunFault>
         ensures asked { (hex : Bool) (done : List ℕ) → Stands (base_of hex) done self → IfOk result (IsAsked hex done) }
-        ensures memory { (hex : Bool) (done : List ℕ) → Stands (base_of hex) done self → IfErr result (StopsAsking hex done) }
+        ensures memory { (hex : Bool) (done : List ℕ) → Stands (base_of hex) done self
+            → IfErr result (StopsAsking hex done) }
     {
         let mut lines = self;
         let last = lines.line.asked_at_end();

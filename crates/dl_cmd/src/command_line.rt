@@ -1,7 +1,11 @@
 //! The command line: its subcommands and arguments, with their help.
 ghost use Rattle.std.specs.Prelude.{IfOk, [], ◌∷◌, codes};
 ghost use Rattle.clap.specs.Words.{App};
-ghost use Rattle.dl_cmd.specs.CommandLine.{Excludes, IsApp, IsRule, file_rule, line_str_rule, str_rule, big_rule, address_rule, op_rule, addr_file_rule, addresses_rule, base_rule, switch_rule, letter_rule, addr_app, with_addresses, with_input, with_printing, with_strings, dump_app, check_app, find_app, copy_app, command_line};
+ghost use Rattle.dl_cmd.specs.CommandLine.{Excludes, IsApp, IsRule, file_rule, line_str_rule, str_rule, big_rule};
+ghost use Rattle.dl_cmd.specs.CommandLine.{address_rule, op_rule, addr_file_rule, addresses_rule, base_rule};
+ghost use Rattle.dl_cmd.specs.CommandLine.{switch_rule, letter_rule, addr_app, with_addresses, with_input};
+ghost use Rattle.dl_cmd.specs.CommandLine.{with_printing, with_strings, dump_app, check_app, find_app, copy_app};
+ghost use Rattle.dl_cmd.specs.CommandLine.{command_line};
 
 use clap::{Arg, ArgAction, Command};
 use std::alloc::{AllocError, Global};

@@ -4,7 +4,8 @@ ghost use Rattle.std.specs.Prelude.{◌≡◌, Option, IfOk, map, option_map};
 ghost use Rattle.clap.specs.Words.{found_of, kind_of, rows_of, subcommand_of};
 ghost use Rattle.dl_cmd.specs.CommandLine.{command_line};
 ghost use Rattle.dl_cmd.specs.Job.{addr_words_made, request_made};
-ghost use Rattle.dl_cmd.specs.Words.{addr_words_of, byte_of, flag_of, request_of, requested, text_of, texts_of, word_status_of};
+ghost use Rattle.dl_cmd.specs.Words.{addr_words_of, byte_of, flag_of, request_of, requested, text_of, texts_of};
+ghost use Rattle.dl_cmd.specs.Words.{word_status_of};
 
 use crate::command_line::make_command_line;
 use crate::job::{AddrWords, Job};

@@ -58,7 +58,8 @@ impl CodeRanges {
 /// The ranges in the order of their starts.
 fn sorted(alloc: Global, ranges: &[AddressRange]) -> Result<Vec<AddressRange>, NoMemory>
     ensures rise { IfOk result (λ sorted. StartsRise sorted.items) }
-    ensures same { IfOk result (λ sorted. (p : range.AddressRange → Bool) → list_any p sorted.items ≡ list_any p ranges.now) }
+    ensures same { IfOk result (λ sorted. (p : range.AddressRange → Bool)
+        → list_any p sorted.items ≡ list_any p ranges.now) }
 {
     let Ok(mut sorted) = ranges.to_vec(alloc) else {
         return Err(NoMemory);

@@ -1,6 +1,7 @@
 //! From which places on which sequence of an index is the first rising one that covers.
 
-ghost use Rattle.std.specs.Prelude.{◌≡◌, ℕ, ◌+◌, ◌<◌, ◌≤◌, ◌&&◌, if◌then◌else◌, IfOk, length, true, false, nat_le, nat_lt, Some, None, is_none, slice_index_or};
+ghost use Rattle.std.specs.Prelude.{◌≡◌, ℕ, ◌+◌, ◌<◌, ◌≤◌, ◌&&◌, if◌then◌else◌, IfOk, length, true, false, nat_le};
+ghost use Rattle.std.specs.Prelude.{nat_lt, Some, None, is_none, slice_index_or};
 ghost use Rattle.std.specs.List.{flat_map};
 ghost use Rattle.std.specs.Option.{option_or};
 ghost use Rattle.dl_look.specs.Answer.{is_at_most};
@@ -102,7 +103,8 @@ fn cover(
         → is_open links.new.next.items j ≡ is_none (slice_index_or sequences.new.items j None) }
     ensures given { (j : ℕ) → j < length sequences.old.items
         → slice_index_or sequences.new.items j None
-        ≡ option_or (slice_index_or sequences.old.items j None) (if nat_le low j && nat_lt j high then Some sequence else None) }
+        ≡ option_or (slice_index_or sequences.old.items j None)
+        (if nat_le low j && nat_lt j high then Some sequence else None) }
 {
     let mut at = links.first_open(low);
     while at < high {

@@ -185,7 +185,8 @@ impl Finders {
     /// where none has, and where there is no place of this number.
     pub fn answer(&self, number: usize) -> Option<Row>
         ensures { (places : List Place) (units : List (List Row)) (rows : List Row)
-            → Stand self.now places units rows → result ≡ option_and_then (answer_of_units units) (slice_get places number) }
+            → Stand self.now places units rows → result
+            ≡ option_and_then (answer_of_units units) (slice_get places number) }
     {
         self.ledger.answer(number, self.whole)
     }

@@ -36,7 +36,8 @@ impl Model for Index {
 
     ghost view = { λ kept. kept.rows.items };
 
-    ghost invariant = { λ kept. (kept.spans.items ≡ Spans.spans kept.rows.items) × AreCuts kept.spans.items kept.cuts.items };
+    ghost invariant = { λ kept. (kept.spans.items ≡ Spans.spans kept.rows.items)
+        × AreCuts kept.spans.items kept.cuts.items };
 }
 
 impl Index {

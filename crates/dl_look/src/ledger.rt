@@ -26,7 +26,8 @@ pub struct Ledger {
 }
 
 impl Ledger {
-    ghost use Rattle.std.specs.Prelude.{◌≡◌, ℕ, ◌+◌, ◌<◌, ◌≤◌, ◌≢◌, ◌&&◌, if◌then◌else◌, IfOk, length, true, false, [], Some, None, nat_le, nat_lt};
+    ghost use Rattle.std.specs.Prelude.{◌≡◌, ℕ, ◌+◌, ◌<◌, ◌≤◌, ◌≢◌, ◌&&◌, if◌then◌else◌, IfOk, length, true, false, []};
+    ghost use Rattle.std.specs.Prelude.{Some, None, nat_le, nat_lt};
     ghost use Rattle.std.specs.Option.{option_or};
     ghost use Rattle.dl_look.specs.Links.{is_open};
     ghost use Rattle.dl_look.specs.Slots.{IsNumbered, slot_number};
@@ -81,7 +82,8 @@ impl Ledger {
         ensures sound { IsSound slots.now self.new }
         ensures given { (j : ℕ) → j < length slots.now
             → answer_upto (length self.new.log.items) self.new (slot_number slots.now j)
-            ≡ option_or (answer_upto (length self.old.log.items) self.old (slot_number slots.now j)) (if nat_le low j && nat_lt j high then Some row.now else None) }
+            ≡ option_or (answer_upto (length self.old.log.items) self.old (slot_number slots.now j))
+            (if nat_le low j && nat_lt j high then Some row.now else None) }
         ensures before { (limit i : ℕ) → limit ≤ length self.old.log.items
             → answer_upto limit self.new i ≡ answer_upto limit self.old i }
         ensures grown { length self.old.log.items ≤ length self.new.log.items }

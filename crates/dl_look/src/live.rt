@@ -55,7 +55,8 @@ impl LiveRows {
     pub fn takes(&mut self, row: &Row, live: bool) -> bool
         ensures told { (is_live : ℕ → Bool) (rows : List Row) → Tells self.old is_live rows
             → (unended rows ≡ [] → live ≡ is_live row.now.address)
-            → live_rows is_live (rows ++ row.now ∷ []) ≡ live_rows is_live rows ++ (if result then row.now ∷ [] else []) }
+            → live_rows is_live (rows ++ row.now ∷ [])
+            ≡ live_rows is_live rows ++ (if result then row.now ∷ [] else []) }
         ensures goes_on { (is_live : ℕ → Bool) (rows : List Row) → Tells self.old is_live rows
             → (unended rows ≡ [] → live ≡ is_live row.now.address)
             → Tells self.new is_live (rows ++ row.now ∷ []) }

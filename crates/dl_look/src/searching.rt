@@ -1,6 +1,7 @@
 //! The look-up of a place by few probes: the sequences by their two ends, then one by halves.
 ghost use Rattle.std.specs.Prelude.{◌≡◌, ℕ, ◌+◌, ◌<◌, ◌≤◌, ◌^◌, IsTrue, Some, length, take, drop};
-ghost use Rattle.dl_look.specs.Answer.{answer, sequences, is_rising, first_place, last_place, is_at_most, is_below, last_upto};
+ghost use Rattle.dl_look.specs.Answer.{answer, sequences, is_rising, first_place, last_place, is_at_most, is_below};
+ghost use Rattle.dl_look.specs.Answer.{last_upto};
 
 use crate::place::Place;
 use crate::probed::Probed;

@@ -1,6 +1,7 @@
 //! Which row of the current sequence each slot has, as far as the sequence has come.
 
-ghost use Rattle.std.specs.Prelude.{◌≡◌, ℕ, ◌<◌, ◌≤◌, ◌&&◌, if◌then◌else◌, length, true, nat_le, nat_lt, Some, None, vec_capacity};
+ghost use Rattle.std.specs.Prelude.{◌≡◌, ℕ, ◌<◌, ◌≤◌, ◌&&◌, if◌then◌else◌, length, true, nat_le, nat_lt, Some, None};
+ghost use Rattle.std.specs.Prelude.{vec_capacity};
 ghost use Rattle.std.specs.Option.{option_or};
 ghost use Rattle.dl_look.specs.Answer.{is_below};
 ghost use Rattle.dl_look.specs.Ledgers.{IsSound, answer_upto};
@@ -55,7 +56,8 @@ pub fn settle(trail: &[Stretch], end: usize, slots: &[Slot], ledger: &mut Ledger
     ensures sound { IsSound slots.now ledger.new }
     ensures given { (j : ℕ) → j < length slots.now
         → answer_upto (length ledger.new.log.items) ledger.new (slot_number slots.now j)
-        ≡ option_or (answer_upto (length ledger.old.log.items) ledger.old (slot_number slots.now j)) (row_at trail.now end j) }
+        ≡ option_or (answer_upto (length ledger.old.log.items) ledger.old (slot_number slots.now j))
+        (row_at trail.now end j) }
     ensures before { (limit i : ℕ) → limit ≤ length ledger.old.log.items
         → answer_upto limit ledger.new i ≡ answer_upto limit ledger.old i }
     ensures grown { length ledger.old.log.items ≤ length ledger.new.log.items }

@@ -1,6 +1,9 @@
 //! Laws of the definitions of numbers, each the contract of a function that does nothing.
 
-ghost use Rattle.dl_num.specs.Laws.{OneUnsignedValue, OneSignedValue, NoUlebBeginsAnother, NoSlebBeginsAnother, LebIsTested, LebIsFront, ComputedIsShortest, ComputedSlebIsShortest, FixedReadsBack, FixedHasItsSize, BytesReadBack, FixedIsBelow, CutIsStanding, OneEnd};
+ghost use Rattle.dl_num.specs.Laws.{OneUnsignedValue, OneSignedValue, NoUlebBeginsAnother, NoSlebBeginsAnother};
+ghost use Rattle.dl_num.specs.Laws.{LebIsTested, LebIsFront, ComputedIsShortest, ComputedSlebIsShortest};
+ghost use Rattle.dl_num.specs.Laws.{FixedReadsBack, FixedHasItsSize, BytesReadBack, FixedIsBelow, CutIsStanding};
+ghost use Rattle.dl_num.specs.Laws.{OneEnd};
 
 /// Bytes in LEB128 spell one number. Section 7.6.
 pub fn one_value()

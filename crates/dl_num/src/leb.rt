@@ -1,8 +1,10 @@
 //! Numbers in LEB128, byte by byte. Section 7.6.
 
-ghost use Rattle.std.specs.Prelude.{◌≡◌, ◌<◌, ◌≤◌, ◌+◌, ◌*◌, ◌↔◌, ℕ, List, [], ◌∷◌, ◌++◌, length, IsTrue, IsNone, IfSome, IfOk, MatchOption, ◌^◌};
+ghost use Rattle.std.specs.Prelude.{◌≡◌, ◌<◌, ◌≤◌, ◌+◌, ◌*◌, ◌↔◌, ℕ, List, [], ◌∷◌, ◌++◌, length, IsTrue, IsNone};
+ghost use Rattle.std.specs.Prelude.{IfSome, IfOk, MatchOption, ◌^◌};
 ghost use Rattle.dl_num.specs.Leb.{IsSigned64};
-ghost use Rattle.dl_num.specs.LebReader.{fitting, UlebTook, UlebIs, UlebAnswer, SlebTook, SlebIs, SlebAnswer, signed_of};
+ghost use Rattle.dl_num.specs.LebReader.{fitting, UlebTook, UlebIs, UlebAnswer, SlebTook, SlebIs, SlebAnswer};
+ghost use Rattle.dl_num.specs.LebReader.{signed_of};
 
 /// The number doesn't fit 64 bits.
 #[derive(Debug, Clone, Copy, PartialEq, Eq)]
@@ -58,8 +60,10 @@ impl Uleb {
     pub fn take_from<'a>(&mut self, bytes: &'a [u8]) -> Option<(Result<u64, LebRange>, &'a [u8])>
         ensures used { IfSome result (λ found. length found.1.now < length bytes.entry.now) }
         ensures fits { IfSome result (λ found. IfOk found.0 (λ n. n < 2 ^ 64)) }
-        ensures answer { (w : List ℕ) → UlebTook self.old w → MatchOption result (UlebTook self.new (w ++ bytes.entry.now))
-            (λ found. (front : List ℕ) × (bytes.entry.now ≡ front ++ found.1.now) × UlebIs (w ++ front) found.0 × UlebTook self.new []) }
+        ensures answer { (w : List ℕ) → UlebTook self.old w
+            → MatchOption result (UlebTook self.new (w ++ bytes.entry.now))
+            (λ found. (front : List ℕ) × (bytes.entry.now ≡ front ++ found.1.now) × UlebIs (w ++ front) found.0
+            × UlebTook self.new []) }
     {
         for (i, byte) in bytes.iter().enumerate() {
             if let Some(answer) = self.push(*byte) {
@@ -116,8 +120,10 @@ impl Sleb {
     pub fn take_from<'a>(&mut self, bytes: &'a [u8]) -> Option<(Result<i64, LebRange>, &'a [u8])>
         ensures used { IfSome result (λ found. length found.1.now < length bytes.entry.now) }
         ensures fits { IfSome result (λ found. IfOk found.0 IsSigned64) }
-        ensures answer { (w : List ℕ) → SlebTook self.old w → MatchOption result (SlebTook self.new (w ++ bytes.entry.now))
-            (λ found. (front : List ℕ) × (bytes.entry.now ≡ front ++ found.1.now) × SlebIs (w ++ front) found.0 × SlebTook self.new []) }
+        ensures answer { (w : List ℕ) → SlebTook self.old w
+            → MatchOption result (SlebTook self.new (w ++ bytes.entry.now))
+            (λ found. (front : List ℕ) × (bytes.entry.now ≡ front ++ found.1.now) × SlebIs (w ++ front) found.0
+            × SlebTook self.new []) }
     {
         for (i, byte) in bytes.iter().enumerate() {
             if let Some(number) = self.push(*byte) {

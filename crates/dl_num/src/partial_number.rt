@@ -61,7 +61,8 @@ impl PartialNumber {
     /// else the number with all of them.
     pub fn take_from<'a>(self, order: Order, bytes: &'a [u8]) -> Result<(u64, &'a [u8]), Self>
         ensures whole { IfOk result (λ found. (front : List ℕ) × (bytes.entry.now ≡ front ++ found.1.now)
-            × (length (number_bytes self ++ front) ≡ number_size self) × (found.0 ≡ fixed order (number_bytes self ++ front))) }
+            × (length (number_bytes self ++ front) ≡ number_size self)
+            × (found.0 ≡ fixed order (number_bytes self ++ front))) }
         ensures used { IfOk result (λ found. length found.1.now < length bytes.entry.now) }
         ensures size { IfErr result (λ number. number_size number ≡ number_size self) }
         ensures taken { IfErr result (λ number. number_bytes number ≡ number_bytes self ++ bytes.entry.now) }

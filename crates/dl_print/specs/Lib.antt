@@ -6,3 +6,5 @@ pub mod ValueText
 pub mod HeaderText
 pub mod Printed
 pub mod Output
+-- Of contracts inside the crate, and of proofs; no public contract reaches these.
+pub mod Spellings

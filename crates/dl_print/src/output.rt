@@ -4,7 +4,8 @@ mod string_sections;
 mod tables;
 mod values;
 
-ghost use Rattle.std.specs.Prelude.{◌≡◌, ◌+◌, ◌^◌, ◌<◌, ◌≤◌, ℕ, List, [], ◌++◌, Option, length, take, IfSome, IfNone, IfOk, OnOk, IfErr, MatchResult};
+ghost use Rattle.std.specs.Prelude.{◌≡◌, ◌+◌, ◌^◌, ◌<◌, ◌≤◌, ℕ, List, [], ◌++◌, Option, length, take, IfSome, IfNone};
+ghost use Rattle.std.specs.Prelude.{IfOk, OnOk, IfErr, MatchResult};
 ghost use Rattle.std.specs.Io.KnownBytes.{Appends, Keeps};
 ghost use Rattle.dl_print.specs.Output.{HasOut, HasPrinted, TellsOut, Flushes, Prints, printed_len};
 

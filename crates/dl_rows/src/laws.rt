@@ -1,9 +1,13 @@
 //! Laws of the definitions of operations, programs, rows and units, each the contract of a function that does nothing.
 
-ghost use Rattle.dl_rows.specs.Laws.{SpeltIsSpelled, BadIsFaulty, NoOperationBeginsAnother, OneOperation, NoSpellingIsFaulty, OneProgram, ProgramIsFound, FoundIsProgram, NoneBeginsRest, RowForByte};
+ghost use Rattle.dl_rows.specs.Laws.{SpeltIsSpelled, BadIsFaulty, NoOperationBeginsAnother, OneOperation};
+ghost use Rattle.dl_rows.specs.Laws.{NoSpellingIsFaulty, OneProgram, ProgramIsFound, FoundIsProgram, NoneBeginsRest};
+ghost use Rattle.dl_rows.specs.Laws.{RowForByte};
 ghost use Rattle.dl_rows.specs.Calls.{RowsAreCalls};
 ghost use Rattle.dl_rows.specs.Runs.{TraceRuns, TraceOfUnit};
-ghost use Rattle.dl_rows.specs.UnitLaws.{HeaderFits, LengthIsComputed, NoUnitBeginsAnother, ForeignComesTo, UnitComesTo, OneRefusal, RefusedInHeader, RefusedInProgram, OperationIsRefused, UnitUnlessRefused, RowForProgramByte};
+ghost use Rattle.dl_rows.specs.UnitLaws.{HeaderFits, LengthIsComputed, NoUnitBeginsAnother, ForeignComesTo};
+ghost use Rattle.dl_rows.specs.UnitLaws.{UnitComesTo, OneRefusal, RefusedInHeader, RefusedInProgram};
+ghost use Rattle.dl_rows.specs.UnitLaws.{OperationIsRefused, UnitUnlessRefused, RowForProgramByte};
 
 /// What computes an operation of bytes agrees with the relations: on spellings, and on bad bytes
 /// with the kind of the fault. Sections 6.2.5.1 to 6.2.5.3.

@@ -1,6 +1,7 @@
 //! One operation of a line number program, from bytes that may end inside it. Sections 6.2.5.1 to 6.2.5.3.
 
-ghost use Rattle.std.specs.Prelude.{◌≡◌, ◌<◌, ◌≤◌, ◌-◌, ◌∷◌, ◌++◌, [], ℕ, List, length, IfSome, IfNone, slice_index, Ok};
+ghost use Rattle.std.specs.Prelude.{◌≡◌, ◌<◌, ◌≤◌, ◌-◌, ◌∷◌, ◌++◌, [], ℕ, List, length, IfSome, IfNone, slice_index};
+ghost use Rattle.std.specs.Prelude.{Ok};
 ghost use Rattle.dl_num.specs.declared.fixed.Order.{Order};
 ghost use Rattle.dl_num.specs.Front.{SpellsFirst};
 ghost use Rattle.dl_num.specs.Leb.{IsUleb};
@@ -118,7 +119,8 @@ impl OperationState {
 /// The operation of an opcode that has no operand.
 #[inline(always)]
 fn without_operand(params: &Params, opcode: u8) -> Option<Operation>
-    ensures some { (order : Order) → IfSome result (λ o. SpellsFirst (operation_spelt order params.now) (opcode ∷ []) (Ok o)) }
+    ensures some { (order : Order) → IfSome result
+        (λ o. SpellsFirst (operation_spelt order params.now) (opcode ∷ []) (Ok o)) }
     ensures none { IfNone result (HasOperand params.now opcode) }
 {
     if opcode >= params.opcode_base {
@@ -172,7 +174,8 @@ pub fn short_operation<'a>(
 #[inline(always)]
 fn short_unsigned<'a>(opcode: UnsignedOpcode, bytes: &'a [u8]) -> Option<(Operation, &'a [u8])>
     ensures operation { (order : Order) (h : Params) → opcode_of opcode < h.opcode_base → IfSome result (λ found.
-        (front : List ℕ) × (bytes.entry.now ≡ front ++ found.1.now) × SpellsFirst (operation_spelt order h) (opcode_of opcode ∷ front) (Ok found.0)) }
+        (front : List ℕ) × (bytes.entry.now ≡ front ++ found.1.now)
+        × SpellsFirst (operation_spelt order h) (opcode_of opcode ∷ front) (Ok found.0)) }
 {
     let (operand, behind) = short_uleb_at_front(bytes)?;
     Some((opcode.operation(operand), behind))
@@ -261,7 +264,8 @@ fn operands<'a>(params: &Params, opcode: u8, bytes: &'a [u8]) -> OperationStep<'
 
 fn unsigned<'a>(opcode: UnsignedOpcode, mut number: Uleb, bytes: &'a [u8]) -> OperationStep<'a>
     ensures within { Leaves (length bytes.entry.now) result }
-    ensures step { (order : Order) (h : Params) (v : List ℕ) → PhaseStands h (phase.Unsigned opcode number) v → StepIs order h v bytes.entry.now result }
+    ensures step { (order : Order) (h : Params) (v : List ℕ) → PhaseStands h (phase.Unsigned opcode number) v
+        → StepIs order h v bytes.entry.now result }
 {
     let Some((answer, behind)) = number.take_from(bytes) else {
         return OperationStep::Within(OperationState::Unsigned(opcode, number));
@@ -274,7 +278,8 @@ fn unsigned<'a>(opcode: UnsignedOpcode, mut number: Uleb, bytes: &'a [u8]) -> Op
 
 fn line<'a>(mut number: Sleb, bytes: &'a [u8]) -> OperationStep<'a>
     ensures within { Leaves (length bytes.entry.now) result }
-    ensures step { (order : Order) (h : Params) (v : List ℕ) → PhaseStands h (phase.Line number) v → StepIs order h v bytes.entry.now result }
+    ensures step { (order : Order) (h : Params) (v : List ℕ) → PhaseStands h (phase.Line number) v
+        → StepIs order h v bytes.entry.now result }
 {
     let Some((answer, behind)) = number.take_from(bytes) else {
         return OperationStep::Within(OperationState::Line(number));
@@ -287,7 +292,8 @@ fn line<'a>(mut number: Sleb, bytes: &'a [u8]) -> OperationStep<'a>
 
 fn fixed_add<'a>(order: Order, number: PartialNumber, bytes: &'a [u8]) -> OperationStep<'a>
     ensures within { Leaves (length bytes.entry.now) result }
-    ensures step { (h : Params) (v : List ℕ) → PhaseStands h (phase.FixedAdd number) v → StepIs order h v bytes.entry.now result }
+    ensures step { (h : Params) (v : List ℕ) → PhaseStands h (phase.FixedAdd number) v
+        → StepIs order h v bytes.entry.now result }
 {
     match number.take_from(order, bytes) {
         Ok((by, behind)) => OperationStep::Ends(Operation::FixedAdvancePc(by), behind),
@@ -297,7 +303,8 @@ fn fixed_add<'a>(order: Order, number: PartialNumber, bytes: &'a [u8]) -> Operat
 
 fn skipped<'a>(mut left: u8, bytes: &'a [u8]) -> OperationStep<'a>
     ensures within { Leaves (length bytes.entry.now) result }
-    ensures step { (order : Order) (h : Params) (v : List ℕ) → PhaseStands h (phase.Skipped left) v → StepIs order h v bytes.entry.now result }
+    ensures step { (order : Order) (h : Params) (v : List ℕ) → PhaseStands h (phase.Skipped left) v
+        → StepIs order h v bytes.entry.now result }
 {
     for (i, byte) in bytes.iter().enumerate() {
         if !Skip::new().push(*byte) {
@@ -314,7 +321,8 @@ fn skipped<'a>(mut left: u8, bytes: &'a [u8]) -> OperationStep<'a>
 fn length<'a>(order: Order, params: &Params, mut number: Uleb, bytes: &'a [u8]) -> OperationStep<'a>
     requires { IsUsable params.now }
     ensures within { Leaves (length bytes.entry.now) result }
-    ensures step { (v : List ℕ) → PhaseStands params.now (phase.Length number) v → StepIs order params.now v bytes.entry.now result }
+    ensures step { (v : List ℕ) → PhaseStands params.now (phase.Length number) v
+        → StepIs order params.now v bytes.entry.now result }
 {
     let Some((answer, behind)) = number.take_from(bytes) else {
         return OperationStep::Within(OperationState::Length(number));
@@ -340,7 +348,8 @@ fn body<'a>(order: Order, params: &Params, len: u64, bytes: &'a [u8]) -> Operati
 fn extended<'a>(order: Order, params: &Params, len: u64, bytes: &'a [u8]) -> OperationStep<'a>
     requires { IsUsable params.now }
     ensures within { Leaves (length bytes.entry.now) result }
-    ensures step { (v : List ℕ) → PhaseStands params.now (phase.Extended len) v → StepIs order params.now v bytes.entry.now result }
+    ensures step { (v : List ℕ) → PhaseStands params.now (phase.Extended len) v
+        → StepIs order params.now v bytes.entry.now result }
 {
     let Some((opcode, bytes)) = bytes.split_first() else {
         return OperationStep::Within(OperationState::Extended(len));
@@ -363,7 +372,8 @@ fn extended<'a>(order: Order, params: &Params, len: u64, bytes: &'a [u8]) -> Ope
 
 fn address<'a>(order: Order, number: PartialNumber, bytes: &'a [u8]) -> OperationStep<'a>
     ensures within { Leaves (length bytes.entry.now) result }
-    ensures step { (h : Params) (v : List ℕ) → PhaseStands h (phase.Address number) v → StepIs order h v bytes.entry.now result }
+    ensures step { (h : Params) (v : List ℕ) → PhaseStands h (phase.Address number) v
+        → StepIs order h v bytes.entry.now result }
 {
     match number.take_from(order, bytes) {
         Ok((address, behind)) => OperationStep::Ends(Operation::SetAddress(address), behind),
@@ -373,7 +383,8 @@ fn address<'a>(order: Order, number: PartialNumber, bytes: &'a [u8]) -> Operatio
 
 fn discriminator<'a>(mut left: u64, mut number: Uleb, bytes: &'a [u8]) -> OperationStep<'a>
     ensures within { Leaves (length bytes.entry.now) result }
-    ensures step { (order : Order) (h : Params) (v : List ℕ) → PhaseStands h (phase.Discriminator left number) v → StepIs order h v bytes.entry.now result }
+    ensures step { (order : Order) (h : Params) (v : List ℕ) → PhaseStands h (phase.Discriminator left number) v
+        → StepIs order h v bytes.entry.now result }
 {
     for (i, byte) in bytes.iter().enumerate() {
         let Some(answer) = number.push(*byte) else {
@@ -398,7 +409,8 @@ fn discriminator<'a>(mut left: u64, mut number: Uleb, bytes: &'a [u8]) -> Operat
 
 fn rest<'a>(left: u64, bytes: &'a [u8]) -> OperationStep<'a>
     ensures within { Leaves (length bytes.entry.now) result }
-    ensures step { (order : Order) (h : Params) (v : List ℕ) → PhaseStands h (phase.Rest left) v → StepIs order h v bytes.entry.now result }
+    ensures step { (order : Order) (h : Params) (v : List ℕ) → PhaseStands h (phase.Rest left) v
+        → StepIs order h v bytes.entry.now result }
 {
     let len = bytes.len() as u64;
     if left <= len {

@@ -55,7 +55,8 @@ impl Program {
 
     /// At the first operation.
     pub fn new(default_is_stmt: bool) -> Self
-        ensures stands { (order : Order) (h : Params) → default_is_stmt ≡ not (h.default_is_stmt == 0) → ProgramStands order h result [] }
+        ensures stands { (order : Order) (h : Params) → default_is_stmt ≡ not (h.default_is_stmt == 0)
+            → ProgramStands order h result [] }
         ensures in_sequence { result.in_sequence ≡ false }
     {
         Program {
@@ -85,7 +86,8 @@ impl Program {
     /// Whether there was a row, and the last one isn't an end row.
     pub fn in_sequence(&self) -> bool
         ensures field { result ≡ self.now.in_sequence }
-        ensures rows { (order : Order) (h : Params) (b : List ℕ) → ProgramStands order h self.now b → result ≡ ends_open (rows_in order h b) }
+        ensures rows { (order : Order) (h : Params) (b : List ℕ) → ProgramStands order h self.now b
+            → result ≡ ends_open (rows_in order h b) }
     {
         self.in_sequence
     }
@@ -101,8 +103,10 @@ impl Program {
     ) -> ProgramStep<'a>
         requires { IsUsable params.now }
         ensures left { GivenLeaves (length bytes.entry.now) result }
-        ensures given { (b : List ℕ) (before : List Row) (first : S) → FitsProgram params.now → AllBytes bytes.entry.now → ProgramStands order params.now self.old b
-            → (S.story first).hears sink.old before → Tells (S.story first) order params.now b bytes.entry.now before result self.new sink.new }
+        ensures given { (b : List ℕ) (before : List Row) (first : S) → FitsProgram params.now → AllBytes bytes.entry.now
+            → ProgramStands order params.now self.old b
+            → (S.story first).hears sink.old before
+            → Tells (S.story first) order params.now b bytes.entry.now before result self.new sink.new }
     {
         let mut program = *self;
         let given = program.walk(order, params, bytes, sink);
@@ -121,8 +125,10 @@ impl Program {
     ) -> ProgramStep<'a>
         requires { IsUsable params.now }
         ensures left { GivenLeaves (length bytes.entry.now) result }
-        ensures given { (b : List ℕ) (before : List Row) (first : S) → FitsProgram params.now → AllBytes bytes.entry.now → ProgramStands order params.now self.old b
-            → (S.story first).hears sink.old before → Tells (S.story first) order params.now b bytes.entry.now before result self.new sink.new }
+        ensures given { (b : List ℕ) (before : List Row) (first : S) → FitsProgram params.now → AllBytes bytes.entry.now
+            → ProgramStands order params.now self.old b
+            → (S.story first).hears sink.old before
+            → Tells (S.story first) order params.now b bytes.entry.now before result self.new sink.new }
     {
         while !bytes.is_empty() {
             match self.short_operations(order, params, bytes, sink) {
@@ -169,8 +175,10 @@ impl Program {
         requires { IsUsable params.now }
         ensures left { TakenLeaves (length bytes.entry.now) result }
         ensures phase { self.new.phase ≡ self.old.phase }
-        ensures told { (b : List ℕ) (before : List Row) (first : S) → FitsProgram params.now → AllBytes bytes.entry.now → ProgramStands order params.now self.old b
-            → (S.story first).hears sink.old before → TakenTells (S.story first) order params.now b bytes.entry.now before result self.new sink.new }
+        ensures told { (b : List ℕ) (before : List Row) (first : S) → FitsProgram params.now → AllBytes bytes.entry.now
+            → ProgramStands order params.now self.old b
+            → (S.story first).hears sink.old before
+            → TakenTells (S.story first) order params.now b bytes.entry.now before result self.new sink.new }
     {
         if !self.is_between() {
             return Taken::UpTo(bytes);

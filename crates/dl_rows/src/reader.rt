@@ -127,7 +127,8 @@ impl Reader {
         ensures used { IfOk result (λ fed. fed.used ≤ length piece.now) }
         ensures progress { IfOk result (λ fed. IsPause fed.event ⊎ (1 ≤ fed.used)) }
         ensures end { IfOk result (λ fed. fed.event ≡ Event.End → 1 ≤ taken_of self.old + fed.used) }
-        ensures fed { (b : List ℕ) (before : List Row) (first : S) → StandsFor self.old b → (S.story first).hears sink.old before
+        ensures fed { (b : List ℕ) (before : List Row) (first : S) → StandsFor self.old b
+            → (S.story first).hears sink.old before
             → RowsFed (S.story first) self.old.order b piece.now before result self.new sink.new }
         ensures order { self.new.order ≡ self.old.order }
     {
@@ -170,7 +171,8 @@ impl Reader {
     pub fn taken(&self) -> u64
         ensures field { result ≡ taken_of self.now }
         ensures bytes { (b : List ℕ) → StandsFor self.now b → result ≡ length b }
-        ensures in_unit { (b : List ℕ) → StandsFor self.now b → (n : ℕ) → unit_len self.now.order b ≡ Some n → result ≤ n }
+        ensures in_unit { (b : List ℕ) → StandsFor self.now b → (n : ℕ) → unit_len self.now.order b ≡ Some n
+            → result ≤ n }
     {
         match &self.state {
             State::InHeader(head) => head.taken(),

@@ -24,7 +24,8 @@ pub trait RowSink {
 
     /// The next row.
     fn row(&mut self, row: &Row) -> Flow
-        ensures { (first : Self) (rows : List Row) → (story first).hears self.old rows → Heard (story first) self.new (rows ++ row.now ∷ []) result };
+        ensures { (first : Self) (rows : List Row) → (story first).hears self.old rows
+            → Heard (story first) self.new (rows ++ row.now ∷ []) result };
 }
 
 /// Stops at each row.

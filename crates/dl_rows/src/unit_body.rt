@@ -63,7 +63,8 @@ impl UnitBytes {
     /// How a unit stands of which these bytes were taken, where no more come.
     pub fn finish(&self) -> Result<Finish, Fault>
         ensures whole { self.now.left ≡ 0 → result ≡ Ok finish.Whole }
-        ensures truncated { self.now.left ≢ 0 → result ≡ Err (record { offset = self.now.taken; kind = kind.Truncated }) }
+        ensures truncated { self.now.left ≢ 0 → result
+            ≡ Err (record { offset = self.now.taken; kind = kind.Truncated }) }
     {
         if self.left == 0 {
             return Ok(Finish::Whole);
@@ -113,8 +114,10 @@ impl UnitBody {
         ensures used { IfOk result (λ fed. fed.used ≤ length piece.now) }
         ensures progress { IfOk result (λ fed. IsPause fed.event ⊎ (1 ≤ fed.used)) }
         ensures end { IfOk result (λ fed. fed.event ≡ Event.End → 1 ≤ self.old.bytes.taken + fed.used) }
-        ensures fed { (h : HeaderData) (b : List ℕ) (before : List Row) (first : S) → h.params ≡ params.now → InProgram order h self.old b
-            → (S.story first).hears sink.old before → ProgramTells (S.story first) order h b piece.now before result self.new sink.new }
+        ensures fed { (h : HeaderData) (b : List ℕ) (before : List Row) (first : S) → h.params ≡ params.now
+            → InProgram order h self.old b
+            → (S.story first).hears sink.old before
+            → ProgramTells (S.story first) order h b piece.now before result self.new sink.new }
     {
         let bytes = front(piece, self.bytes.left);
         match self.program.push(order, params, bytes, sink) {
@@ -142,7 +145,12 @@ impl UnitBody {
 
     /// What is kept after this fault.
     fn stop(&self, fault: Fault) -> BodyStop
-        ensures { result ≡ record { fault = fault; taken = self.now.bytes.taken; in_sequence = self.now.program.in_sequence } }
+        ensures { result ≡ record {
+          fault = fault;
+          taken = self.now.bytes.taken;
+          in_sequence =
+              self.now.program.in_sequence;
+        } }
     {
         BodyStop {
             fault,
@@ -180,8 +188,10 @@ impl BodyState {
         ensures used { IfOk result (λ fed. fed.used ≤ length piece.now) }
         ensures progress { IfOk result (λ fed. IsPause fed.event ⊎ (1 ≤ fed.used)) }
         ensures end { IfOk result (λ fed. fed.event ≡ Event.End → 1 ≤ taken_in_body self.old + fed.used) }
-        ensures fed { (h : HeaderData) (b : List ℕ) (before : List Row) (first : S) → h.params ≡ params.now → BodyStands order h self.old b
-            → (S.story first).hears sink.old before → BodyTells (S.story first) order h b piece.now before result self.new sink.new }
+        ensures fed { (h : HeaderData) (b : List ℕ) (before : List Row) (first : S) → h.params ≡ params.now
+            → BodyStands order h self.old b
+            → (S.story first).hears sink.old before
+            → BodyTells (S.story first) order h b piece.now before result self.new sink.new }
     {
         match self {
             BodyState::InProgram(body) => {
@@ -207,7 +217,8 @@ impl BodyState {
 
     /// Whether there was a row, and the last one isn't an end row.
     pub fn in_sequence(&self) -> bool
-        ensures { (order : Order) (h : HeaderData) (b : List ℕ) → BodyStands order h self.now b → result ≡ ends_open (unit_rows order b) }
+        ensures { (order : Order) (h : HeaderData) (b : List ℕ) → BodyStands order h self.now b
+            → result ≡ ends_open (unit_rows order b) }
     {
         match self {
             BodyState::InProgram(body) => body.program.in_sequence(),
@@ -217,7 +228,8 @@ impl BodyState {
 
     /// How the unit stands where no more bytes come.
     pub fn finish(&self) -> Result<Finish, Fault>
-        ensures { (order : Order) (h : HeaderData) (b : List ℕ) → BodyStands order h self.now b → FinishIs order b result }
+        ensures { (order : Order) (h : HeaderData) (b : List ℕ) → BodyStands order h self.now b
+            → FinishIs order b result }
     {
         match self {
             BodyState::InProgram(body) => body.bytes.finish(),

@@ -3,7 +3,8 @@ ghost use Rattle.std.specs.Prelude.{◌≡◌, IfErr, IfOk, None, Some, is_some,
 ghost use Rattle.std.specs.List.{list_all};
 ghost use Rattle.dl_cmd.specs.Job.{addr_words_made};
 ghost use Rattle.dl_cmd.specs.AskedLines.{address_by};
-ghost use Rattle.dl_work.specs.Locate.{AddressesStop, WordsStop, are_addresses, asked_in_words, base_in, form_in, says_section};
+ghost use Rattle.dl_work.specs.Locate.{AddressesStop, WordsStop, are_addresses, asked_in_words, base_in, form_in};
+ghost use Rattle.dl_work.specs.Locate.{says_section};
 
 use crate::stop::Stop;
 use dl_addr::{Asked, Form, Question, Style};
@@ -36,7 +37,8 @@ pub fn base<'a>(words: &AddrWords<'a>) -> Result<u64, Stop<'a>>
 
 /// The addresses that these words say.
 fn addresses<'a>(alloc: Global, hex: bool, words: &[&str]) -> Result<Vec<Asked>, Stop<'a>>
-    ensures asked { IfOk result (λ asked. asked.items ≡ map (λ s. record { address = address_by hex s.now }) words.now) }
+    ensures asked { IfOk result (λ asked. asked.items
+        ≡ map (λ s. record { address = address_by hex s.now }) words.now) }
     ensures understood { IfOk result (λ asked. list_all (λ s. is_some (address_by hex s.now)) words.now ≡ true) }
     ensures stops { IfErr result (AddressesStop (λ s. is_some (address_by hex s.now)) words.now) }
 {

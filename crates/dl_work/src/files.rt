@@ -22,7 +22,8 @@ pub trait FileSource {
     /// The file at a path, open to be read.
     fn open(&self, path: &str) -> io::Result<Self::File>
         ensures bytes { IfOk result (λ file. Self.File.all_bytes file ≡ held self.now path.now) }
-        ensures reads { IfOk result (λ file. (e : Error) → Self.File.fails_with file e → fails_with self.now path.now e) }
+        ensures reads { IfOk result (λ file. (e : Error) → Self.File.fails_with file e
+            → fails_with self.now path.now e) }
         ensures fails { IfErr result (fails_with self.now path.now) };
 
     /// All bytes of the file at a path, of which there may be `limit`.

@@ -33,7 +33,8 @@ impl StringSections {
         strings: Option<&str>,
     ) -> Result<StringSections, RunFault>
         ensures { MatchResult result
-            (λ s. StringsAre (F.held files.now) (option_copied line_str.entry) (option_copied strings.entry) (strings_held s))
+            (λ s. StringsAre (F.held files.now) (option_copied line_str.entry) (option_copied strings.entry)
+            (strings_held s))
             (FilesStop (F.held files.now) (option_copied line_str.entry) (option_copied strings.entry)) }
     {
         let debug_line_str = read_named(alloc, files, line_str)?;
@@ -53,7 +54,8 @@ impl StringSections {
     ) -> Result<StringSections, Stop<'p>>
         ensures { (line_bytes : Option (List ℕ)) → (bytes : Option (List ℕ))
             → GivesOption S.all_bytes line_str.entry line_bytes → GivesOption S.all_bytes strings.entry bytes
-            → MatchResult result (λ s. IsWhole line_bytes bytes (strings_held s)) (StringsStop path.entry.now line_bytes bytes) }
+            → MatchResult result (λ s. IsWhole line_bytes bytes (strings_held s))
+            (StringsStop path.entry.now line_bytes bytes) }
     {
         let debug_line_str = read_section(alloc, path, line_str)?;
         let debug_str = read_section(alloc, path, strings)?;

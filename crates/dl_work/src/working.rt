@@ -81,7 +81,8 @@ pub fn work<'a, F: FileSource, R: Read, W: Write>(
     output: &mut W,
 ) -> Result<Summary, Stop<'a>>
     ensures { (bytes : List ℕ) × Consumes (R.remaining input.old) (R.remaining input.new) bytes
-        × Works (F.held files.now) (F.fails_with files.now) (option_map request_made job.entry) bytes (R.remaining input.new)
+        × Works (F.held files.now) (F.fails_with files.now) (option_map request_made job.entry) bytes
+        (R.remaining input.new)
         (W.contents output.old) (W.contents output.new) result }
 {
     let Some(job) = job else {

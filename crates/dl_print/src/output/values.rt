@@ -1,10 +1,12 @@
 //! Printing values, of any length.
-ghost use Rattle.std.specs.Prelude.{◌≡◌, ◌+◌, ◌*◌, ◌^◌, ◌<◌, ◌≤◌, ◌++◌, length, OnOk, codes, decimal};
+ghost use Rattle.std.specs.Prelude.{◌≡◌, ◌+◌, ◌*◌, ◌^◌, ◌<◌, ◌≤◌, ◌++◌, length, flat_map, OnOk, codes, decimal};
 ghost use Rattle.std.specs.Option.{option_copied};
 ghost use Rattle.dl_print.specs.Digits.{hexadecimal, hexadecimal_bytes, hexadecimal_of};
 ghost use Rattle.dl_print.specs.Output.{Prints, printed_len};
 ghost use Rattle.dl_table.specs.Held.{value_lent};
-ghost use Rattle.dl_print.specs.ValueText.{quoted, quoted_bytes, offset_text, quoted_or_offset, text_in_section, value_text, named_value, content_name, strings_of};
+ghost use Rattle.dl_print.specs.Spellings.{spelled};
+ghost use Rattle.dl_print.specs.ValueText.{quoted, quoted_bytes, offset_text, quoted_or_offset};
+ghost use Rattle.dl_print.specs.ValueText.{text_in_section, value_text, named_value, content_name, strings_of};
 
 use super::Printer;
 use super::string_sections::{StringSection, StringSections, text_in_section};
@@ -19,6 +21,15 @@ use std::io::Write;
 /// How many bytes of a value are printed in one go.
 const PART: usize = 64;
 
+/// How the bytes of a value are spelled.
+#[derive(Clone, Copy)]
+enum Spelling {
+    /// Two hexadecimal digits for each.
+    Digits,
+    /// As they stand between quotes.
+    Quoted,
+}
+
 impl Printer {
     /// Prints two digits for each of a few bytes.
     fn hexadecimal_part<W: Write>(&mut self, output: &mut W, bytes: &[u8]) -> Result<(), WriteFault>
@@ -31,27 +42,13 @@ impl Printer {
         Ok(())
     }
 
-    /// Prints two digits for each byte.
-    fn hexadecimal<W: Write>(&mut self, output: &mut W, bytes: &[u8]) -> Result<(), WriteFault>
-        ensures printed { Prints (W.contents output.old) (W.contents output.new)
-            self.old self.new (hexadecimal_bytes bytes.now) result }
-    {
-        let mut done = 0;
-        while done < bytes.len() {
-            let end = bytes.len().min(done + PART);
-            self.hexadecimal_part(output, &bytes[done..end])?;
-            done = end;
-        }
-        Ok(())
-    }
-
     /// Prints the bytes of a block.
     fn block<W: Write>(&mut self, output: &mut W, bytes: &[u8]) -> Result<(), WriteFault>
         ensures printed { Prints (W.contents output.old) (W.contents output.new)
             self.old self.new (codes "block:" ++ hexadecimal_bytes bytes.now) result }
     {
         self.put(output, b"block:")?;
-        self.hexadecimal(output, bytes)
+        self.spelled(output, Spelling::Digits, bytes)
     }
 
     /// Prints a name, of at most 16 bytes, and after it a number in decimal.
@@ -107,15 +104,37 @@ impl Printer {
         Ok(())
     }
 
-    /// Prints bytes as they stand between quotes.
-    fn quoted_bytes<W: Write>(&mut self, output: &mut W, bytes: &[u8]) -> Result<(), WriteFault>
+    /// Prints a few bytes, spelled so.
+    fn spelled_part<W: Write>(
+        &mut self,
+        output: &mut W,
+        spelling: Spelling,
+        bytes: &[u8],
+    ) -> Result<(), WriteFault>
+        requires short { length bytes.now ≤ 64 }
         ensures printed { Prints (W.contents output.old) (W.contents output.new)
-            self.old self.new (quoted_bytes bytes.now) result }
+            self.old self.new (flat_map (spelled spelling) bytes.now) result }
+    {
+        match spelling {
+            Spelling::Digits => self.hexadecimal_part(output, bytes),
+            Spelling::Quoted => self.quoted_part(output, bytes),
+        }
+    }
+
+    /// Prints bytes, spelled so.
+    fn spelled<W: Write>(
+        &mut self,
+        output: &mut W,
+        spelling: Spelling,
+        bytes: &[u8],
+    ) -> Result<(), WriteFault>
+        ensures printed { Prints (W.contents output.old) (W.contents output.new)
+            self.old self.new (flat_map (spelled spelling) bytes.now) result }
     {
         let mut done = 0;
         while done < bytes.len() {
             let end = bytes.len().min(done + PART);
-            self.quoted_part(output, &bytes[done..end])?;
+            self.spelled_part(output, spelling, &bytes[done..end])?;
             done = end;
         }
         Ok(())
@@ -127,7 +146,7 @@ impl Printer {
             self.old self.new (quoted text.now) result }
     {
         self.put(output, b"\"")?;
-        self.quoted_bytes(output, text)?;
+        self.spelled(output, Spelling::Quoted, text)?;
         self.put(output, b"\"")
     }
 
@@ -185,7 +204,7 @@ impl Printer {
             ValueRef::StrSup(at) => self.offset(output, b"strp_sup", at),
             ValueRef::Number(number) => self.number(output, b"", number),
             ValueRef::Block(bytes) => self.block(output, bytes),
-            ValueRef::Data16(bytes) => self.hexadecimal(output, &bytes),
+            ValueRef::Data16(bytes) => self.spelled(output, Spelling::Digits, &bytes),
         }
     }
 

@@ -1,6 +1,7 @@
 //! Numbers in digits, written into a buffer from a place on.
 ghost use Rattle.std.specs.Prelude.{◌≡◌, ◌+◌, ◌*◌, ◌<◌, ◌≤◌, [], ◌∷◌, ◌++◌, length, take, codes, decimal};
-ghost use Rattle.dl_print.specs.Digits.{hexadecimal, hexadecimal_of, hexadecimal_bytes, last_digit, digit_if, four_digits};
+ghost use Rattle.dl_print.specs.Digits.{hexadecimal, hexadecimal_of, hexadecimal_bytes, last_digit, digit_if};
+ghost use Rattle.dl_print.specs.Digits.{four_digits};
 
 /// The two hexadecimal digits of each byte.
 static BYTE_DIGITS: [u8; 512] = *b"\

@@ -46,9 +46,11 @@ impl Reader {
         ensures traced { (b : List ℕ) → StandsFor self.old b
             → Traced self.old.order b bytes.now turns.now (Hears L.heard listener.old listener.new) result self.new }
         ensures runs { (b : List ℕ) → StandsFor self.old b
-            → (heard : List Event) × Hears L.heard listener.old listener.new heard × RunIs self.old.order b bytes.now turns.now heard result }
+            → (heard : List Event) × Hears L.heard listener.old listener.new heard
+            × RunIs self.old.order b bytes.now turns.now heard result }
         ensures unit { (b u rest : List ℕ) → StandsFor self.old b → b ++ bytes.now ≡ u ++ rest → IsUnit self.old.order u
-            → (heard : List Event) × Hears L.heard listener.old listener.new heard × UnitRunIs self.old.order b bytes.now turns.now u heard result }
+            → (heard : List Event) × Hears L.heard listener.old listener.new heard
+            × UnitRunIs self.old.order b bytes.now turns.now u heard result }
         ensures order { self.new.order ≡ self.old.order }
     {
         let mut run = Run {
