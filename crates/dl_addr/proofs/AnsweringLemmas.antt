@@ -159,11 +159,11 @@ module _ (order : Order) (q : Question) (s : Strings) (first : Locator) (knows :
         let asked = was_asked a.0 a.1 a.2 in
         let before_is : (x : Place) → located_by first x stops.before ≡ located order live split.front x =
         λ x. live_is x stops.before split.front (λ l. split.located_before l x) in
-        let behind_is : (x : Place)
+        let after_is : (x : Place)
         → located_by first x (stops.before ++ of_end r.h ∷ [])
         ≡ located order live (split.front ++ split.u ∷ []) x =
         λ x. live_is x (stops.before ++ of_end r.h ∷ []) (split.front ++ split.u ∷ [])
-        (λ l. split.located_behind l x) in
+        (λ l. split.located_later l x) in
         let all : units ≡ (split.front ++ split.u ∷ []) ++ split.after =
         split.whole ∙ sym (append_assoc split.front (split.u ∷ []) split.after) in (
           r.is,
@@ -183,7 +183,7 @@ module _ (order : Order) (q : Question) (s : Strings) (first : Locator) (knows :
                     ap (located order live split.front) asked.2 ∙ sym (before_is a.1) ∙ ap (located_by first a.1) last.0
                     ∙ a.3;
                 answers =
-                    ap is_some (ap (located order live (split.front ++ split.u ∷ [])) asked.2 ∙ sym (behind_is a.1)
+                    ap is_some (ap (located order live (split.front ++ split.u ∷ [])) asked.2 ∙ sym (after_is a.1)
                     ∙ ap (λ (v : Visit). located_by first a.1 (stops.before ++ v ∷ [])) (sym last.1)) ∙ a.4;
               },
             );

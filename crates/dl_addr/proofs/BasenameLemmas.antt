@@ -3,12 +3,12 @@ use Rattle.std.proofs.Common.{◌≡◌, ℕ, ◌<◌, zero, suc, Bool, true, fa
 use Rattle.std.proofs.Common.{◌∙◌, arith}
 use Rattle.std.specs.Prelude.{if◌then◌else◌, ◌||◌}
 use Rattle.std.specs.List.{list_any}
-use Rattle.dl_addr.specs.Shown.{behind_last}
+use Rattle.dl_addr.specs.Shown.{after_the_last}
 
 module _ (sep : ℕ → Bool) where
-  pub behind_none : (path : List ℕ) → list_any sep path ≡ false → behind_last sep path ≡ path
-  behind_none [] none = refl
-  behind_none (b ∷ path) none = ap (λ (c : Bool). if c then behind_last sep path else b ∷ path) none
+  pub after_none : (path : List ℕ) → list_any sep path ≡ false → after_the_last sep path ≡ path
+  after_none [] none = refl
+  after_none (b ∷ path) none = ap (λ (c : Bool). if c then after_the_last sep path else b ∷ path) none
 
   or_true : (b c : Bool) → c ≡ true → (b || c) ≡ true
   or_true true c e = refl
@@ -26,16 +26,16 @@ module _ (sep : ℕ → Bool) where
   any_at (b ∷ path) (suc i) d lt is = or_true (sep b) (list_any sep path) (any_at path i d (omega arith) is)
 
   -- a separator, and none after it
-  pub behind_at : (path : List ℕ) (i d : ℕ) → i < length path → sep (get_or path i d) ≡ true
-      → list_any sep (drop (suc i) path) ≡ false → behind_last sep path ≡ drop (suc i) path
-  behind_at [] i d lt is none = absurd (omega arith)
-  behind_at (b ∷ path) zero d lt is none =
-      ap (λ (c : Bool). if c then behind_last sep path else b ∷ path) (or_left (sep b) (list_any sep path) is)
-      ∙ behind_none path none
-  behind_at (b ∷ path) (suc i) d lt is none =
-      ap (λ (c : Bool). if c then behind_last sep path
+  pub after_at : (path : List ℕ) (i d : ℕ) → i < length path → sep (get_or path i d) ≡ true
+      → list_any sep (drop (suc i) path) ≡ false → after_the_last sep path ≡ drop (suc i) path
+  after_at [] i d lt is none = absurd (omega arith)
+  after_at (b ∷ path) zero d lt is none =
+      ap (λ (c : Bool). if c then after_the_last sep path else b ∷ path) (or_left (sep b) (list_any sep path) is)
+      ∙ after_none path none
+  after_at (b ∷ path) (suc i) d lt is none =
+      ap (λ (c : Bool). if c then after_the_last sep path
       else b ∷ path) (or_true (sep b) (list_any sep path) (any_at path i d (omega arith) is))
-      ∙ behind_at path i d (omega arith) is none
+      ∙ after_at path i d (omega arith) is none
 
   -- one byte more that is no separator
   pub none_more : (path : List ℕ) (i d : ℕ) → i < length path → sep (get_or path i d) ≡ false

@@ -82,7 +82,7 @@ module _ (order : Order) where
     pub whole : units ≡ front ++ u ∷ after
     pub located_before : (live : ℕ → Bool) (x : Place)
         → located_after live x [] n before ≡ located_from order live offset front x
-    pub located_behind : (live : ℕ → Bool) (x : Place)
+    pub located_later : (live : ℕ → Bool) (x : Place)
         → located_after live x [] n (before ++ of_end h ∷ []) ≡ located_from order live offset (front ++ u ∷ []) x
 
   none_located : (live : ℕ → Bool) (x : Place) (rows : List Row) (n : ℕ) (vs : List Visit) → list_any is_end vs ≡ false
@@ -94,11 +94,11 @@ module _ (order : Order) where
   none_located live x rows n (of_open ∷ vs) e = none_located live x rows n vs e
   none_located live x rows n (of_end h ∷ vs) e = absurd (true≢false e)
 
-  behind_unit : (live : ℕ → Bool) (x : Place) (n offset : ℕ) (u : List ℕ) (rest : List Visit)
+  after_unit : (live : ℕ → Bool) (x : Place) (n offset : ℕ) (u : List ℕ) (rest : List Visit)
       → located_after live x [] n (unit_visits order offset u ++ rest)
       ≡ option_or (located_in order live offset u x)
       (located_after live x [] (offset_after n (unit_visits order offset u)) rest)
-  behind_unit live x n offset u rest =
+  after_unit live x n offset u rest =
       let own_visits = unit_visits order offset u in
       located_after-append live x [] n own_visits rest
       ∙ ap (λ (l : List Row). option_or (located_after live x [] n own_visits)
@@ -140,13 +140,13 @@ module _ (order : Order) where
           whole = ap (λ (l : List (List ℕ)). u ∷ l) s.whole;
           located_before = λ live y. (
               ap (located_after live y [] n) here
-              ∙ behind_unit live y n offset u x
+              ∙ after_unit live y n offset u x
               ∙ ap (option_or (located_in order live offset u y)) (s.located_before live y));
-          located_behind = λ live y. (
+          located_later = λ live y. (
               ap (λ (l : List Visit). located_after live y [] n (l ++ of_end h ∷ [])) here
               ∙ ap (located_after live y [] n) (append_assoc (unit_visits order offset u) x (of_end h ∷ []))
-              ∙ behind_unit live y n offset u (x ++ of_end h ∷ [])
-              ∙ ap (option_or (located_in order live offset u y)) (s.located_behind live y));
+              ∙ after_unit live y n offset u (x ++ of_end h ∷ [])
+              ∙ ap (option_or (located_in order live offset u y)) (s.located_later live y));
         } where
           here : before ≡ unit_visits order offset u ++ x
           here = is ∙ sym (append_assoc (own offset u) (of_end (header_of order u) ∷ []) x)
@@ -163,7 +163,7 @@ module _ (order : Order) where
           located_before =
               λ live y. ap (located_after live y [] n) here
               ∙ none_located live y [] n (own offset u) (none_own offset u);
-          located_behind = λ live y. (
+          located_later = λ live y. (
               ap (λ (l : List Visit). located_after live y [] n (l ++ of_end h ∷ [])) here
               ∙ ap (λ (v : Option HeaderData). located_after live y [] n (own offset u ++ of_end v ∷ [])) same
               ∙ ap (located_after live y [] n) (own_end offset u)

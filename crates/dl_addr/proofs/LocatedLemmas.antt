@@ -10,7 +10,7 @@ use Rattle.dl_head.specs.Header.{foreign_in, header_in}
 use Rattle.dl_rows.specs.declared.row.Row.{Row}
 use Rattle.dl_rows.specs.declared.reader.Event.{Event}
 use Rattle.dl_rows.specs.declared.reader.Event.TheVariants as event
-use Rattle.dl_rows.specs.LineUnit.{rows_in, rows_behind, unit_rows, ends_open, events, events_of}
+use Rattle.dl_rows.specs.LineUnit.{rows_in, rows_later, unit_rows, ends_open, events, events_of}
 use Rattle.dl_rows.proofs.ReaderLemmas.{foreign_no_header}
 use Rattle.dl_look.specs.declared.place.Place.{Place}
 use Rattle.dl_look.specs.Answer.{answer}
@@ -69,13 +69,13 @@ module _ (live : ℕ → Bool) where
         ∙ sym (or_assoc (located_under live x rows n h) (located_after live x [] n a)
         (located_after live x (rows_after [] a) (offset_after n a) b))
 
-    row_of_or : (n : ℕ) (h : Option HeaderData) (a : Option Row) (behind : Option Located) (rest : Option Row)
-        → rest ≡ option_map (λ (l : Located). l.row) behind
+    row_of_or : (n : ℕ) (h : Option HeaderData) (a : Option Row) (tail : Option Located) (rest : Option Row)
+        → rest ≡ option_map (λ (l : Located). l.row) tail
         → option_or a rest
         ≡ option_map (λ (l : Located). l.row)
-        (option_or (option_map (λ (r : Row). record { row = r; header = h; unit = n }) a) behind)
-    row_of_or n h None behind rest e = e
-    row_of_or n h (Some r) behind rest e = refl
+        (option_or (option_map (λ (r : Row). record { row = r; header = h; unit = n }) a) tail)
+    row_of_or n h None tail rest e = e
+    row_of_or n h (Some r) tail rest e = refl
 
     -- the rows that are located are what the units that ended answer
     pub rows_located : (rows : List Row) (n : ℕ) (visits : List Visit)
@@ -131,7 +131,7 @@ module _ (live : ℕ → Bool) where
         × List ℕ)) → ((v : ℕ) → version ≡ Some v → parts ≡ None)
         → located_after live x [] n (flat_map (event_visits offset (option_map (λ p. p.0) parts))
         (events_of order version parts) ++ (open_visit is_open ++ of_end (option_map (λ p. p.0) parts) ∷ []))
-        ≡ located_under live x (rows_behind order parts) offset (option_map (λ p. p.0) parts)
+        ≡ located_under live x (rows_later order parts) offset (option_map (λ p. p.0) parts)
     of_unit order n offset is_open (Some v) None only =
         located_of_end [] n is_open None ∙ nothing_under n None ∙ sym (nothing_under offset None)
     of_unit order n offset is_open (Some v) (Some (h, program)) only =

@@ -207,12 +207,12 @@ module _ (first old mid : Locator) (start held : Option (List ℕ)) (visits : Li
       ∙ ap (λ (n : ℕ). (path_text first.style (path_of (strings_of first.strings) h r.file), n)) s.unit
 
   -- it goes on after the unit
-  pub behind : (is : result ≡ Ok tt) (finders : Finders) (told : LiveRows)
+  pub tail : (is : result ≡ Ok tt) (finders : Finders) (told : LiveRows)
       → ((places : List Place) (units : List (List Row)) (rows : List Row) → Stand mid.finders places units rows
       → Stand finders places (units ++ rows ∷ []) [])
       → ((live : ℕ → Bool) → Tells told live [])
       → Locating first (record mid { finders = finders; live = told }) start held all
-  behind is finders told ended tells = record {
+  tail is finders told ended tells = record {
     code = keeps.code ∙ s.code;
     style = keeps.style ∙ s.style;
     strings = keeps.strings ∙ s.strings;

@@ -20,10 +20,10 @@ abbrev pub shown : List ℕ → List ℕ
 shown path = flat_map shown_byte path
 
 -- what stands after the last separator; all of it where there is none
-abbrev pub behind_last : (is_separator : ℕ → Bool) → List ℕ → List ℕ
-behind_last is_separator [] = []
-behind_last is_separator (b ∷ path) =
-    if list_any is_separator (b ∷ path) then behind_last is_separator path else b ∷ path
+abbrev pub after_the_last : (is_separator : ℕ → Bool) → List ℕ → List ℕ
+after_the_last is_separator [] = []
+after_the_last is_separator (b ∷ path) =
+    if list_any is_separator (b ∷ path) then after_the_last is_separator path else b ∷ path
 
 -- a slash; in a path that begins with a drive a backslash too
 abbrev pub separates : (with_drive : Bool) → ℕ → Bool
@@ -31,7 +31,7 @@ separates with_drive b = (b == 0x2f) || (with_drive && is_slash b)
 
 -- the last component
 abbrev pub basename : List ℕ → List ℕ
-basename path = behind_last (separates (has_drive path)) path
+basename path = after_the_last (separates (has_drive path)) path
 
 -- as the form of the line has it
 abbrev pub text_in : Form → List ℕ → List ℕ

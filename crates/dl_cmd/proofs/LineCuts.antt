@@ -104,34 +104,34 @@ input_ends : (hex : Bool) (line : List ℕ) (l : Line) → Read (base_of hex) li
     → asked_at_end l ≡ asked_of_line hex line
 input_ends hex line l r = ap asked_of r.so_far ∙ line_asks hex line
 
-asked_behind : (hex : Bool) (line : List ℕ) (l : Line) (b : List ℕ) → Read (base_of hex) line l
+asked_after : (hex : Bool) (line : List ℕ) (l : Line) (b : List ℕ) → Read (base_of hex) line l
     → asked_from (base_of hex) l b ≡ asked_of_lines hex (lines_after line b)
-asked_behind hex line l [] r = ap (λ a. and_asked a []) (input_ends hex line l r)
-asked_behind hex line l (c ∷ b) r =
+asked_after hex line l [] r = ap (λ a. and_asked a []) (input_ends hex line l r)
+asked_after hex line l (c ∷ b) r =
     let next = after_byte (base_of hex) l c in
     elim (c == 10) as (λ x. (if x then and_asked (asked_of l.text) (asked_from (base_of hex) new_line b)
     else asked_from (base_of hex) next b) ≡ asked_of_lines hex (if x then without_return line ∷ lines_after [] b
     else lines_after (line ++ c ∷ []) b)) [
-      | true ↦ ap₂ and_asked (line_ends hex line l r) (asked_behind hex [] new_line b (read_none (base_of hex)))
-      | false ↦ asked_behind hex (line ++ c ∷ []) next b (read_byte (base_of hex) line l c r)
+      | true ↦ ap₂ and_asked (line_ends hex line l r) (asked_after hex [] new_line b (read_none (base_of hex)))
+      | false ↦ asked_after hex (line ++ c ∷ []) next b (read_byte (base_of hex) line l c r)
     ]
 
-numbered_behind : (hex : Bool) (n : ℕ) (line : List ℕ) (l : Line) (b : List ℕ) → Read (base_of hex) line l
+numbered_after : (hex : Bool) (n : ℕ) (line : List ℕ) (l : Line) (b : List ℕ) → Read (base_of hex) line l
     → no_address_from (base_of hex) l n b ≡ no_address_among hex n (lines_after line b)
-numbered_behind hex n line l [] r = ap (λ a. if_no_address a n None) (input_ends hex line l r)
-numbered_behind hex n line l (c ∷ b) r =
+numbered_after hex n line l [] r = ap (λ a. if_no_address a n None) (input_ends hex line l r)
+numbered_after hex n line l (c ∷ b) r =
     let next = after_byte (base_of hex) l c in
     elim (c == 10) as (λ x. (if x
     then if_no_address (asked_of l.text) n (no_address_from (base_of hex) new_line (suc n) b)
     else no_address_from (base_of hex) next n b) ≡ no_address_among hex n (if x
     then without_return line ∷ lines_after [] b else lines_after (line ++ c ∷ []) b)) [
       | true ↦ ap₂ (λ a o. if_no_address a n o) (line_ends hex line l r)
-          (numbered_behind hex (suc n) [] new_line b (read_none (base_of hex)))
-      | false ↦ numbered_behind hex n (line ++ c ∷ []) next b (read_byte (base_of hex) line l c r)
+          (numbered_after hex (suc n) [] new_line b (read_none (base_of hex)))
+      | false ↦ numbered_after hex n (line ++ c ∷ []) next b (read_byte (base_of hex) line l c r)
     ]
 
 pub lines_asked : (hex : Bool) (b : List ℕ) → asked_from (base_of hex) new_line b ≡ asked_in hex b
-lines_asked hex b = asked_behind hex [] new_line b (read_none (base_of hex))
+lines_asked hex b = asked_after hex [] new_line b (read_none (base_of hex))
 
 pub lines_numbered : (hex : Bool) (b : List ℕ) → no_address_from (base_of hex) new_line 1 b ≡ no_address_in hex b
-lines_numbered hex b = numbered_behind hex 1 [] new_line b (read_none (base_of hex))
+lines_numbered hex b = numbered_after hex 1 [] new_line b (read_none (base_of hex))

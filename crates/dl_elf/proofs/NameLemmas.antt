@@ -56,20 +56,20 @@ index_of-small DebugStrDwo = lit< tt
 index_of-small BuildIdNote = lit< tt
 
 -- a text that stands at the front of the first room items, and an item after it
-behind_front : (t b xs : List ℕ) (room x : ℕ) → b ≡ take room xs → length t < length b → take (length t) b ≡ t
+after_front : (t b xs : List ℕ) (room x : ℕ) → b ≡ take room xs → length t < length b → take (length t) b ≡ t
     → get_or b (length t) 0 ≡ x
     → (length t < room) × (take (length t + 1) xs ≡ t ++ x ∷ [])
-behind_front t b xs room x is long front next =
+after_front t b xs room x is long front next =
     let few : length b ≤ room = omega (arith, ap length is, length-take room xs) in
     let both : take (length t + 1) b ≡ t ++ x ∷ [] = take_more b (length t) 0 long ∙ rw (front, next) refl in
     let within : take (length t + 1) b ≡ take (length t + 1) xs =
     ap (λ ys. take (length t + 1) ys) is ∙ take-take (length t + 1) room xs (omega (arith, long, few)) in
     (omega (arith, long, few), sym within ∙ both)
 
-front_behind : (t b xs : List ℕ) (room x : ℕ) → b ≡ take room xs → length t < room
+front_after : (t b xs : List ℕ) (room x : ℕ) → b ≡ take room xs → length t < room
     → take (length t + 1) xs ≡ t ++ x ∷ []
     → (length t < length b) × (take (length t) b ≡ t) × (get_or b (length t) 0 ≡ x)
-front_behind t b xs room x is fits all =
+front_after t b xs room x is fits all =
     let n : ℕ = length t in
     let here : take (n + 1) b ≡ t ++ x ∷ [] =
     ap (λ ys. take (n + 1) ys) is ∙ (take-take (n + 1) room xs (omega (arith, fits)) ∙ all) in
@@ -103,7 +103,7 @@ begins-named e f name s b is begins =
     (Decides-eqb (slice_index_or b (length t) 0) 0).0
     (and_right (nat_lt (length t) (length b) && bytes_eq (take (length t) b) t) (slice_index_or b (length t) 0 == 0)
     begins) in
-    let told = behind_front t b (drop at f) room 0 is long front next in
+    let told = after_front t b (drop at f) room 0 is long front next in
     let fits : length t < min 20 (e.names.size - s.name_offset) = told.0 in
     record { within = omega (arith, fits); bytes = told.1 }
 
@@ -117,7 +117,7 @@ named-begins e f name s b is named =
     let small : length (name_bytes name) < 20 = name-short name in
     let within : s.name_offset + length (name_bytes name) < e.names.size = named.within in
     let fits : length (name_bytes name) < min 20 (e.names.size - s.name_offset) = omega (arith, small, within) in
-    let told = front_behind t b (drop at f) room 0 is fits named.bytes in
+    let told = front_after t b (drop at f) room 0 is fits named.bytes in
     rw (
       lt-ltb (length t) (length b) told.0,
       (bytes_eq-Decides (take (length t) b) t).1 told.1,

@@ -25,15 +25,15 @@ pub fill_more : (offset filled n : ℕ) (f buffer part : List ℕ) → filled �
     → take filled buffer ≡ take filled (drop offset f) → take n part ≡ take n (drop (offset + filled) f)
     → take (filled + n) (put_mid filled (length buffer - filled) buffer part) ≡ take (filled + n) (drop offset f)
 fill_more offset filled n f buffer part l w e e' =
-    let behind : List ℕ = post_of filled (length buffer - filled) buffer in
-    let put : take (filled + n) (take filled buffer ++ (part ++ behind)) ≡ take filled buffer
-    ++ take n (part ++ behind) =
-    ap (λ k. take (k + n) (take filled buffer ++ (part ++ behind))) (sym (length-take-le filled buffer l))
-    ∙ take-append-add (take filled buffer) (part ++ behind) n in
+    let tail : List ℕ = post_of filled (length buffer - filled) buffer in
+    let put : take (filled + n) (take filled buffer ++ (part ++ tail)) ≡ take filled buffer
+    ++ take n (part ++ tail) =
+    ap (λ k. take (k + n) (take filled buffer ++ (part ++ tail))) (sym (length-take-le filled buffer l))
+    ∙ take-append-add (take filled buffer) (part ++ tail) n in
     let bytes : take (filled + n) (drop offset f) ≡ take filled (drop offset f) ++ take n (drop (offset + filled) f) =
     take-add filled n (drop offset f)
     ∙ ap (λ ys. take filled (drop offset f) ++ take n ys) (drop-drop filled offset f) in
-    put ∙ rw (take-append-le n part behind w, e, e') (sym bytes)
+    put ∙ rw (take-append-le n part tail w, e, e') (sym bytes)
 
 pub fill_more_known : (known : Option (List ℕ)) (offset at filled n : ℕ) (buffer part : List ℕ) → filled ≤ length buffer
     → n ≤ length part → at ≡ offset + filled

@@ -18,8 +18,8 @@ use Rattle.dl_emit.proofs.RunLemmas.{run}
 use Rattle.dl_emit.proofs.StepLemmas.{Leads, advance_leads, address_is, op_index_is, line_is, IsSpecial, special_is}
 
 -- the registers after a row of a sequence
-abbrev pub behind : Row → Registers
-behind r = record {
+abbrev pub tail : Row → Registers
+tail r = record {
   address = r.address;
   file = r.file;
   line = r.line;
@@ -122,7 +122,7 @@ module _ (h : Params) where
   regroup a b c d e = simp append_assoc
 
   run_settings : (before r : Row) (rest : List Operation)
-      → run h (behind before) (settings before r ++ rest) ≡ run h (record (behind before) {
+      → run h (tail before) (settings before r ++ rest) ≡ run h (record (tail before) {
         file = r.file;
         column =
             r.column;
@@ -130,7 +130,7 @@ module _ (h : Params) where
         isa = r.isa;
       }) rest
   run_settings before r rest =
-      let q = behind before in
+      let q = tail before in
       let file = when (not (r.file == before.file)) (op.SetFile r.file) in
       let column = when (not (r.column == before.column)) (op.SetColumn r.column) in
       let stmt = when (differs r.is_stmt before.is_stmt) op.NegateStatement in
@@ -142,7 +142,7 @@ module _ (h : Params) where
       ∙ run_isa (record q { file = r.file; column = r.column; is_stmt = r.is_stmt }) r.isa rest
 
   run_marks : (before r : Row) (rest : List Operation)
-      → run h (record (behind before) {
+      → run h (record (tail before) {
         file = r.file;
         column = r.column;
         is_stmt = r.is_stmt;
@@ -151,7 +151,7 @@ module _ (h : Params) where
       }) (marks r ++ rest) ≡ run h (set before r) rest
   run_marks before r rest =
       let q : Registers =
-      record (behind before) { file = r.file; column = r.column; is_stmt = r.is_stmt; isa = r.isa } in
+      record (tail before) { file = r.file; column = r.column; is_stmt = r.is_stmt; isa = r.isa } in
       let discriminator = when (not (r.discriminator == 0)) (op.SetDiscriminator r.discriminator) in
       let block = when r.basic_block op.SetBasicBlock in
       let prologue = when r.prologue_end op.SetPrologueEnd in
@@ -263,12 +263,12 @@ module _ (h : Params) where
     pub address : r.address < 2 ^ (8 * h.address_size)
 
   arrives : (q m : Registers) (r : Row) (end : Bool) (rest : List Operation) → Fits r → end ≡ r.end_sequence
-      → m ≡ set r r → row_of h m end ∷ run h (next end m) rest ≡ r ∷ run h (behind (unwrap_or (kept r) (start h))) rest
+      → m ≡ set r r → row_of h m end ∷ run h (next end m) rest ≡ r ∷ run h (tail (unwrap_or (kept r) (start h))) rest
   arrives q m r end rest fits ends at =
       let address : r.address % 2 ^ (8 * h.address_size) ≡ r.address = mod-eq_of_lt fits.address in
       rw (at, ends) (rw address (ap (λ (n : Registers). r ∷ run h n rest) (goes_on r.end_sequence)))
     where
-      goes_on : (b : Bool) → next b (set r r) ≡ behind (unwrap_or (if b then None else Some r) (start h))
+      goes_on : (b : Bool) → next b (set r r) ≡ tail (unwrap_or (if b then None else Some r) (start h))
       goes_on true = refl
       goes_on false = refl
 
@@ -276,7 +276,7 @@ module _ (h : Params) where
       → IsPlace before.address before.line before.op_index → Fits r → (o : Option ℕ)
       → ((k : ℕ) → o ≡ Some k → Leads h before r k)
       → run h (set before r) (placed h r (line_advance before.line r.line) o ++ rest)
-      ≡ r ∷ run h (behind (unwrap_or (kept r) (start h))) rest
+      ≡ r ∷ run h (tail (unwrap_or (kept r) (start h))) rest
   run_placed before r rest base from to (Some k) leads =
       let line = line_advance before.line r.line in
       let step = leads k refl in
@@ -311,11 +311,11 @@ module _ (h : Params) where
   run_row : (before r : Row) (rest : List Operation) → h.opcode_base ≡ 13
       → IsPlace before.address before.line before.op_index → Fits r → (o : Option ℕ)
       → ((k : ℕ) → o ≡ Some k → Leads h before r k)
-      → run h (behind before) ((settings before r ++ marks r ++ placed h r (line_advance before.line r.line) o) ++ rest)
-      ≡ r ∷ run h (behind (unwrap_or (kept r) (start h))) rest
+      → run h (tail before) ((settings before r ++ marks r ++ placed h r (line_advance before.line r.line) o) ++ rest)
+      ≡ r ∷ run h (tail (unwrap_or (kept r) (start h))) rest
   run_row before r rest base from to o leads =
       let place = placed h r (line_advance before.line r.line) o in
-      ap (run h (behind before)) (three (settings before r) (marks r) place rest)
+      ap (run h (tail before)) (three (settings before r) (marks r) place rest)
       ∙ run_settings before r (marks r ++ (place ++ rest)) ∙ run_marks before r (place ++ rest)
       ∙ run_placed before r rest base from to o leads
 
@@ -325,15 +325,15 @@ module _ (h : Params) where
   -- the operations of rows, run to these rows
   pub run_rows : (rows : List Row) (before : Option Row) → h.opcode_base ≡ 13 → 1 ≤ h.maximum_operations_per_instruction
       → AllByRecursion Fits rows → (let b = unwrap_or before (start h) in IsPlace b.address b.line b.op_index)
-      → run h (behind (unwrap_or before (start h))) (operations_from h before rows) ≡ rows
+      → run h (tail (unwrap_or before (start h))) (operations_from h before rows) ≡ rows
   run_rows [] before base some fits from = refl
   run_rows (r ∷ rows) before base some fits from =
       first before from
       ∙ ap (λ (l : List Row). r ∷ l) (run_rows rows (kept r) base some fits.1 (goes_on r.end_sequence))
     where
       first : (before : Option Row) → (let b = unwrap_or before (start h) in IsPlace b.address b.line b.op_index)
-          → run h (behind (unwrap_or before (start h))) (row_operations h before r ++ operations_from h (kept r) rows)
-          ≡ r ∷ run h (behind (unwrap_or (kept r) (start h))) (operations_from h (kept r) rows)
+          → run h (tail (unwrap_or before (start h))) (row_operations h before r ++ operations_from h (kept r) rows)
+          ≡ r ∷ run h (tail (unwrap_or (kept r) (start h))) (operations_from h (kept r) rows)
       first None from = run_row (start h) r (operations_from h (kept r) rows) base from fits.0 None (λ k e. absurd cc)
       first (Some b) from =
           run_row b r (operations_from h (kept r) rows) base from fits.0 (advance h b r)

@@ -8,7 +8,7 @@ use Rattle.dl_num.specs.declared.leb.LebRange.{LebRange}
 use Rattle.dl_num.specs.declared.leb.Uleb.{Uleb}
 use Rattle.dl_num.specs.Fixed.{fixed}
 use Rattle.dl_num.specs.Leb.{groups, IsUleb}
-use Rattle.dl_num.specs.LebFront.{is_leb, leb_front, behind_leb}
+use Rattle.dl_num.specs.LebFront.{is_leb, leb_front, after_leb}
 use Rattle.dl_num.specs.LebReader.{UlebTook, UlebIs}
 use Rattle.dl_num.proofs.LebFrontLemmas.{is_leb-continues, leb_front-continues, leb_front-leb}
 use Rattle.dl_num.proofs.LebLaws.{leb_tested, leb_is_front}
@@ -39,7 +39,7 @@ leb_part n size bytes is lt =
     let number : is_leb (leb_front (size ++ bytes)) ≡ true = ap is_leb f.0 ∙ t.0 in
     let value : groups (leb_front (size ++ bytes)) ≡ n = ap groups f.0 ∙ sym t.1 in
     let small : groups (leb_front (size ++ bytes)) < 2 ^ 64 = omega (arith, value, is.1) in
-    let other : length (behind_leb (size ++ bytes)) ≢ groups (leb_front (size ++ bytes)) =
+    let other : length (after_leb (size ++ bytes)) ≢ groups (leb_front (size ++ bytes)) =
     λ same. omega (arith, same, value, ap length f.1, lt) in
     rw (number, lt-ltb _ _ small, ne_eqb _ _ other) refl
 

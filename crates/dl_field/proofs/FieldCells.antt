@@ -9,7 +9,7 @@ use Rattle.dl_num.specs.declared.leb.Uleb.{Uleb}
 use Rattle.dl_num.specs.declared.leb.LebRange.{LebRange}
 use Rattle.dl_num.specs.Fixed.{fixed}
 use Rattle.dl_num.specs.Leb.{groups}
-use Rattle.dl_num.specs.LebFront.{is_leb, leb_front, behind_leb}
+use Rattle.dl_num.specs.LebFront.{is_leb, leb_front, after_leb}
 use Rattle.dl_num.specs.LebReader.{UlebTook, UlebIs}
 use Rattle.dl_num.proofs.LebFrontLemmas.{and_left, is_leb-continues, leb_front-continues, leb_front-leb}
 use Rattle.dl_num.proofs.LebLaws.{leb_tested, leb_is_front}
@@ -164,7 +164,7 @@ block_whole order k w v e =
 leb_block_whole : (w : List ℕ) (v : Value) → leb_block_spelt w ≡ good v → value_cells v ≡ begun_leb_block w
 leb_block_whole w v e = elim (cases_Bool (is_leb (leb_front w))) [
   | inl t ↦ elim (cases_Bool (nat_lt (groups (leb_front w)) (2 ^ 64))) [
-    | inl lt ↦ ap value_cells (good_if (length (behind_leb w) == groups (leb_front w)) (block (behind_leb w)) v
+    | inl lt ↦ ap value_cells (good_if (length (after_leb w) == groups (leb_front w)) (block (after_leb w)) v
         (rw (t, lt) at e)).1 ∙ rw (t, lt) refl
     | inr le ↦ elim (cases_Bool (is_leb w)) [
       | inl u ↦ absurd (bad_good (rw (t, le, u) at e))

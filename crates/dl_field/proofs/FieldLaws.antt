@@ -10,7 +10,7 @@ use Rattle.std.proofs.Math.Seq.{drop-append_seam, take-append_seam}
 use Rattle.dl_num.specs.declared.fixed.Order.{Order}
 use Rattle.dl_num.specs.Fixed.{fixed}
 use Rattle.dl_num.specs.Leb.{groups, IsUleb}
-use Rattle.dl_num.specs.LebFront.{is_leb, leb_front, behind_leb}
+use Rattle.dl_num.specs.LebFront.{is_leb, leb_front, after_leb}
 use Rattle.dl_num.proofs.LebFrontLemmas.{true_false, and_left, and_right}
 use Rattle.dl_num.proofs.LebLaws.{leb_tested, leb_is_front}
 use Rattle.dl_table.specs.declared.fault.FaultKind.{FaultKind}
@@ -101,13 +101,13 @@ block_good order k w v is =
     let bytes = is.0 in
     let size = is.2.0 in
     let front : take k w ≡ size = ap (λ (l : List ℕ). take k l) is.2.1 ∙ take_at size bytes k is.2.2.0 in
-    let behind : drop k w ≡ bytes = ap (λ (n : ℕ). drop n w) (sym is.2.2.0)
+    let tail : drop k w ≡ bytes = ap (λ (n : ℕ). drop n w) (sym is.2.2.0)
     ∙ ap (λ (l : List ℕ). drop (length size) l) is.2.1 ∙ drop-append_seam size bytes in
     let lengths : length w ≡ k + length bytes = omega (arith, ap length is.2.1, length-append size bytes, is.2.2.0) in
     let whole : length w ≡ k + fixed order (take k w) = lengths
     ∙ ap (λ (n : ℕ). k + n) (is.2.2.1 ∙ ap (λ (l : List ℕ). fixed order l) (sym front)) in
     make_if (rw (le-leb k (length w) (omega (arith, lengths))) (eq-eqb _ _ whole))
-    (is.1 ∙ ap (λ (l : List ℕ). block l) (sym behind))
+    (is.1 ∙ ap (λ (l : List ℕ). block l) (sym tail))
 
 -- a number in LEB128 is its groups
 uleb_is : (w : List ℕ) → is_leb w ≡ true → IsUleb w (groups w)
@@ -131,12 +131,12 @@ leb_good w v is =
     let lt : groups w < 2 ^ 64 = omega (arith, is.2.1, t.1) in
     rw (t.0, lt-ltb _ _ lt, is.1, t.1) refl
 
-front_behind : (w : List ℕ) → is_leb (leb_front w) ≡ true → w ≡ leb_front w ++ behind_leb w
-front_behind [] t = absurd cc
-front_behind (b ∷ w) t = elim (cases_lt b 128) [
+front_after : (w : List ℕ) → is_leb (leb_front w) ≡ true → w ≡ leb_front w ++ after_leb w
+front_after [] t = absurd cc
+front_after (b ∷ w) t = elim (cases_lt b 128) [
   | inl lt ↦ rw (lt-ltb b 128 lt) refl
   | inr le ↦ rw (le-ltb b 128 le)
-      (ap (λ (l : List ℕ). b ∷ l) (front_behind w (tail_leb b (leb_front w) le (rw (le-ltb b 128 le) at t))))
+      (ap (λ (l : List ℕ). b ∷ l) (front_after w (tail_leb b (leb_front w) le (rw (le-ltb b 128 le) at t))))
 ] where
   tail_leb : (a : ℕ) (z : List ℕ) → 128 ≤ a → is_leb (a ∷ z) ≡ true → is_leb z ≡ true
   tail_leb a [] le e = absurd (true_false e (le-ltb a 128 le))
@@ -146,14 +146,14 @@ leb_block_at : (w : List ℕ) (v : Value) → is_leb (leb_front w) ≡ true → 
     → (bytes : List ℕ) × (v ≡ block bytes) × IsBlock IsUleb64 bytes w
 leb_block_at w v t e = elim (cases_lt (groups (leb_front w)) (2 ^ 64)) [
   | inl lt ↦
-      let g = good_if (length (behind_leb w) == groups (leb_front w)) (block (behind_leb w)) v
+      let g = good_if (length (after_leb w) == groups (leb_front w)) (block (after_leb w)) v
       (rw (t, lt-ltb _ _ lt) at e) in
-      let size : length (behind_leb w) ≡ groups (leb_front w) = eqb-true _ _ g.0 in (
-        behind_leb w,
+      let size : length (after_leb w) ≡ groups (leb_front w) = eqb-true _ _ g.0 in (
+        after_leb w,
         g.1,
         (
           leb_front w,
-          front_behind w t,
+          front_after w t,
           (subst (λ (n : ℕ). IsUleb (leb_front w) n) (sym size) (uleb_is (leb_front w) t), omega (arith, size, lt)),
         ),
       )
@@ -180,12 +180,12 @@ leb_block_good w v is =
     let t = uleb_test size (length bytes) n in
     let f = leb_is_front size bytes (length bytes) n in
     let front : leb_front w ≡ size = ap leb_front is.2.1 ∙ f.0 in
-    let behind : behind_leb w ≡ bytes = ap behind_leb is.2.1 ∙ f.1 in
-    let whole : length (behind_leb w) ≡ groups (leb_front w) = ap length behind ∙ t.1 ∙ ap groups (sym front) in
+    let tail : after_leb w ≡ bytes = ap after_leb is.2.1 ∙ f.1 in
+    let whole : length (after_leb w) ≡ groups (leb_front w) = ap length tail ∙ t.1 ∙ ap groups (sym front) in
     let number : is_leb (leb_front w) ≡ true = ap is_leb front ∙ t.0 in
-    let lt : groups (leb_front w) < 2 ^ 64 = omega (arith, is.2.2.1, whole, ap length behind) in
-    let made : leb_block_spelt w ≡ good (block (behind_leb w)) = rw (number, lt-ltb _ _ lt, eq-eqb _ _ whole) refl in
-    made ∙ ap (λ (u : Value). let o : Judgement Value = good u in o) (ap (λ (l : List ℕ). block l) behind ∙ sym is.1)
+    let lt : groups (leb_front w) < 2 ^ 64 = omega (arith, is.2.2.1, whole, ap length tail) in
+    let made : leb_block_spelt w ≡ good (block (after_leb w)) = rw (number, lt-ltb _ _ lt, eq-eqb _ _ whole) refl in
+    made ∙ ap (λ (u : Value). let o : Judgement Value = good u in o) (ap (λ (l : List ℕ). block l) tail ∙ sym is.1)
 
 pub value_is_spelt : (order : Order) (format : Format) (f : Form) (w : List ℕ) (v : Value)
     → value_spelt order format f w ≡ good v → IsValue order format f v w
@@ -348,7 +348,7 @@ length_is_good order w Dwarf32 n is =
     short ∙ ap short_length (sym is.0.1) ∙ made
 length_is_good order w Dwarf64 n is =
     let front : take 4 w ≡ is.0 = ap (λ (l : List ℕ). take 4 l) is.2 ∙ take_at is.0 is.1 4 is.3.0 in
-    let behind : drop 4 w ≡ is.1 = ap (λ (k : ℕ). drop k w) (sym is.3.0)
+    let tail : drop 4 w ≡ is.1 = ap (λ (k : ℕ). drop k w) (sym is.3.0)
     ∙ ap (λ (l : List ℕ). drop (length is.0) l) is.2 ∙ drop-append_seam is.0 is.1 in
     let twelve : length w ≡ 12 = omega (arith, ap length is.2, length-append is.0 is.1, is.3.0, is.4.0) in
     let escape : fixed order (take 4 w) ≡ 0xffffffff = ap (λ (l : List ℕ). fixed order l) front ∙ sym is.3.1 in
@@ -356,7 +356,7 @@ length_is_good order w Dwarf64 n is =
     let long : initial_length_spelt order w ≡ long_length (fixed order (drop 4 w)) =
     rw (ne_eqb _ _ a, eq-eqb _ _ twelve, eq-eqb _ _ escape) refl in
     let made : long_length n ≡ good (length_is Dwarf64 n) = rw (le-leb n unit_length_limit is.5) refl in
-    long ∙ ap long_length (ap (λ (l : List ℕ). fixed order l) behind ∙ sym is.4.1) ∙ made
+    long ∙ ap long_length (ap (λ (l : List ℕ). fixed order l) tail ∙ sym is.4.1) ∙ made
 
 -- ---- every field
 

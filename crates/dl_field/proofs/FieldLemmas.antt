@@ -8,7 +8,7 @@ use Rattle.dl_num.specs.declared.fixed.Order.{Order}
 use Rattle.dl_num.specs.declared.fixed.Order.TheVariants.{Little, Big}
 use Rattle.dl_num.specs.Fixed.{fixed}
 use Rattle.dl_num.specs.Leb.{groups}
-use Rattle.dl_num.specs.LebFront.{is_leb, leb_front, behind_leb}
+use Rattle.dl_num.specs.LebFront.{is_leb, leb_front, after_leb}
 use Rattle.dl_num.proofs.LebFrontLemmas.{true_false, and_left, and_right, is_leb-once, leb_front-append, leb_front-le}
 use Rattle.dl_table.specs.declared.form.Format.{Format}
 use Rattle.dl_table.specs.declared.form.Format.TheVariants.{Dwarf32, Dwarf64}
@@ -84,7 +84,7 @@ leb_block_front w r e = elim (cases_Bool (is_leb (leb_front w))) [
 ]
 
 leb_block_cases : (w : List ℕ) (r : Result Value FaultKind) → leb_block_spelt w ≡ Some r
-    → ((groups (leb_front w) < 2 ^ 64) × (length (behind_leb w) ≡ groups (leb_front w)))
+    → ((groups (leb_front w) < 2 ^ 64) × (length (after_leb w) ≡ groups (leb_front w)))
     ⊎ ((2 ^ 64 ≤ groups (leb_front w)) × (is_leb w ≡ true))
 leb_block_cases w r e =
     let front = leb_block_front w r e in
@@ -92,7 +92,7 @@ leb_block_cases w r e =
       | inl lt ↦ inl (
         lt,
         eqb-true _ _
-            (if_some (length (behind_leb w) == groups (leb_front w)) _ r (rw (front, lt-ltb _ _ lt) at e)),
+            (if_some (length (after_leb w) == groups (leb_front w)) _ r (rw (front, lt-ltb _ _ lt) at e)),
       )
       | inr le ↦ inr (le, if_some (is_leb w) _ r (rw (front, le-ltb _ _ le) at e))
     ]
@@ -102,12 +102,12 @@ leb_block_once w x v r s e f =
     let front = leb_block_front w r e in
     let same : leb_front (w ++ x ∷ v) ≡ leb_front w = leb_front-append w (x ∷ v) front in
     let size = ap (λ (z : List ℕ). groups z) same in
-    let behind : behind_leb (w ++ x ∷ v) ≡ behind_leb w ++ x ∷ v =
+    let tail : after_leb (w ++ x ∷ v) ≡ after_leb w ++ x ∷ v =
     ap (λ (z : List ℕ). drop (length z) (w ++ x ∷ v)) same
     ∙ drop-append-le (length (leb_front w)) w (x ∷ v) (leb_front-le w) in
     elim (leb_block_cases w r e) [
       | inl a ↦ elim (leb_block_cases (w ++ x ∷ v) s f) [
-        | inl b ↦ longer (behind_leb w) x v (groups (leb_front w)) a.1 (ap length (sym behind) ∙ b.1 ∙ size)
+        | inl b ↦ longer (after_leb w) x v (groups (leb_front w)) a.1 (ap length (sym tail) ∙ b.1 ∙ size)
         | inr b ↦ absurd (omega (arith, size, a.0, b.0))
       ]
       | inr a ↦ elim (leb_block_cases (w ++ x ∷ v) s f) [

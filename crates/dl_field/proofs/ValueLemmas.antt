@@ -25,12 +25,12 @@ use Rattle.dl_field.specs.TablePlace.{joined, AreWide, Holds, Summed, values_lef
 use Rattle.dl_field.specs.TablePlace.{GoesOn}
 use Rattle.dl_table.proofs.HeldLemmas.{values_end-push, values_held-more}
 
-pub drop_behind : {A : Type 0} (xs : List A) (i : ℕ) (x : A) (more : List A) → drop i xs ≡ x ∷ more
+pub drop_after : {A : Type 0} (xs : List A) (i : ℕ) (x : A) (more : List A) → drop i xs ≡ x ∷ more
     → drop (suc i) xs ≡ more
-drop_behind [] zero x more e = absurd cc
-drop_behind [] (suc i) x more e = absurd cc
-drop_behind (y ∷ xs) zero x more e = let f : xs ≡ more = cc in f
-drop_behind (y ∷ xs) (suc i) x more e = drop_behind xs i x more e
+drop_after [] zero x more e = absurd cc
+drop_after [] (suc i) x more e = absurd cc
+drop_after (y ∷ xs) zero x more e = let f : xs ≡ more = cc in f
+drop_after (y ∷ xs) (suc i) x more e = drop_after xs i x more e
 
 drop_none : {A : Type 0} (xs : List A) (i : ℕ) → length xs ≤ i → drop i xs ≡ []
 drop_none [] zero h = refl
@@ -84,12 +84,12 @@ pub after_value : (format : Format) (next : TableData → Layout) (pairs : List 
 after_value format next pairs entries before left p later u e =
     let k : List Value → Layout = λ entry. entries_layout format pairs (left - 1) (entries ++ entry ∷ []) λ all. next
     (record { format = format; pairs = pairs; entries = all }) in
-    let behind : drop (length (before ++ u ∷ [])) pairs ≡ later =
+    let tail : drop (length (before ++ u ∷ [])) pairs ≡ later =
     ap (λ (n : ℕ). drop n pairs) (let n : length (before ++ u ∷ [])
     ≡ suc (length before) = omega (arith, length-append before (u ∷ [])) in n)
-    ∙ drop_behind pairs (length before) p later e in
+    ∙ drop_after pairs (length before) p later e in
     ap (λ (l : List Pair). following (entry_layout format l before k) (value_is u)) e
-    ∙ ap (λ (l : List Pair). entry_layout format l (before ++ u ∷ []) k) (sym behind)
+    ∙ ap (λ (l : List Pair). entry_layout format l (before ++ u ∷ []) k) (sym tail)
 
 -- the first field of what is left
 pub at_value : (format : Format) (next : TableData → Layout) (pairs : List Pair) (entries : List (List Value))

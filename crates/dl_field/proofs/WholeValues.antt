@@ -40,10 +40,10 @@ use Rattle.dl_field.proofs.ByteCells.{adds_value, text_field}
 -- ---- the value at the front of bytes
 
 -- a number in LEB128
-pub leb_in_front : (order : Order) (u : Uleb) (bytes front behind : List ℕ) (n : ℕ)
-    → ((w : List ℕ) → UlebTook u w → w ≡ []) → bytes ≡ front ++ behind → IsUleb front n → n < 2 ^ 64
-    → InFront order (value.Leb u) bytes (held.Number n) behind
-leb_in_front order u bytes front behind n new e is lt = record {
+pub leb_in_front : (order : Order) (u : Uleb) (bytes front tail : List ℕ) (n : ℕ)
+    → ((w : List ℕ) → UlebTook u w → w ≡ []) → bytes ≡ front ++ tail → IsUleb front n → n < 2 ^ 64
+    → InFront order (value.Leb u) bytes (held.Number n) tail
+leb_in_front order u bytes front tail n new e is lt = record {
   front = front;
   bytes_are = e;
   spelt = λ format f pool rest at.
@@ -58,10 +58,10 @@ leb_in_front order u bytes front behind n new e is lt = record {
 }
 
 -- sixteen bytes
-pub sixteen_in_front : (order : Order) (s : Sixteen) (bytes sixteen behind : List ℕ) → operand_bytes s.operand ≡ []
-    → sixteen ≡ take 16 bytes → behind ≡ drop 16 bytes → 16 ≤ length bytes
-    → InFront order (value.Data16 s) bytes (held.Data16 sixteen) behind
-sixteen_in_front order s bytes sixteen behind new first later long = record {
+pub sixteen_in_front : (order : Order) (s : Sixteen) (bytes sixteen tail : List ℕ) → operand_bytes s.operand ≡ []
+    → sixteen ≡ take 16 bytes → tail ≡ drop 16 bytes → 16 ≤ length bytes
+    → InFront order (value.Data16 s) bytes (held.Data16 sixteen) tail
+sixteen_in_front order s bytes sixteen tail new first later long = record {
   front = sixteen;
   bytes_are = sym (take-append-drop 16 bytes) ∙ ap (λ (l : List ℕ). l ++ drop 16 bytes) (sym first)
       ∙ ap (λ (l : List ℕ). sixteen ++ l) (sym later);
@@ -96,10 +96,10 @@ in_value order t at (value.LebBlockLength u) format next layout rest none is = i
 
 -- `whole_value`, of a value that is no text
 pub value_taken : (order : Order) (old new : TableReader) (at : Cursor) (v : ValuePhase) (h : StoredValue)
-    (format : Format) (bytes behind : List ℕ) → old.phase ≡ phase.Value at v
-    → InFront order v bytes h behind → Enters old at h format byte_makes.Ends new → OneCell old byte_makes.Ends new
-    → (new.phase ≡ phase.Whole → ⊥) → TakesValue order format old bytes behind new
-value_taken order old new at v h format bytes behind is s enters one going = record {
+    (format : Format) (bytes tail : List ℕ) → old.phase ≡ phase.Value at v
+    → InFront order v bytes h tail → Enters old at h format byte_makes.Ends new → OneCell old byte_makes.Ends new
+    → (new.phase ≡ phase.Whole → ⊥) → TakesValue order format old bytes tail new
+value_taken order old new at v h format bytes tail is s enters one going = record {
   front = s.front;
   bytes_are = s.bytes_are;
   follows = record {
@@ -126,13 +126,13 @@ value_taken order old new at v h format bytes behind is s enters one going = rec
 -- `enter_front`, of a value that another one follows
 pub value_entered : (order : Order) (old new : TableReader) (at : Cursor) (v : ValuePhase) (h : StoredValue)
     (format : Format)
-    (bytes behind : List ℕ) (o : Option (Bor (List ℕ))) → old.phase ≡ phase.Value at v
-    → (IsLast at (length old.pairs.items) → ⊥) → InFront order v bytes h behind
-    → MatchOption o (SameTable old new) (λ rest. (rest.now ≡ behind) × EntersAt old at h format new)
+    (bytes tail : List ℕ) (o : Option (Bor (List ℕ))) → old.phase ≡ phase.Value at v
+    → (IsLast at (length old.pairs.items) → ⊥) → InFront order v bytes h tail
+    → MatchOption o (SameTable old new) (λ rest. (rest.now ≡ tail) × EntersAt old at h format new)
     → MatchOption o (SameTable old new) (λ rest. TakesValue order format old bytes rest.now new)
-value_entered order old new at v h format bytes behind o is more front = answer-map o (λ same. same) λ rest made.
+value_entered order old new at v h format bytes tail o is more front = answer-map o (λ same. same) λ rest made.
     subst (λ (l : List ℕ). TakesValue order format old bytes l new) (sym made.0)
-    (value_taken order old new at v h format bytes behind is front made.1.0 made.1.1
+    (value_taken order old new at v h format bytes tail is front made.1.0 made.1.1
     λ whole. more (made.1.2 whole (among_values old at v is)))
 
 -- ---- texts
@@ -143,7 +143,7 @@ zero_front [] t e = absurd (none_some {a = t} refl e)
 zero_front (b ∷ w) t e = elim (cases_eq b 0) [
   | inl zero ↦ at_zero zero (rw (eq-eqb b 0 zero) at e)
   | inr other ↦
-      behind other (text_in w) refl (λ u is. zero_front w u is) (rw (ne_eqb b 0 other) at e)
+      tail other (text_in w) refl (λ u is. zero_front w u is) (rw (ne_eqb b 0 other) at e)
 ] where
   at_zero : b ≡ 0 → Some [] ≡ Some t → HasNoZero t × (b ∷ w ≡ (t ++ 0 ∷ []) ++ drop (length t + 1) (b ∷ w))
   at_zero zero f =
@@ -151,11 +151,11 @@ zero_front (b ∷ w) t e = elim (cases_eq b 0) [
       subst (λ (l : List ℕ). HasNoZero l × (b ∷ w ≡ (l ++ 0 ∷ []) ++ drop (length l + 1) (b ∷ w))) none
       (tt, ap (λ (n : ℕ). n ∷ w) zero)
 
-  behind : b ≢ 0 → (o : Option (List ℕ)) → text_in w ≡ o
+  tail : b ≢ 0 → (o : Option (List ℕ)) → text_in w ≡ o
       → ((u : List ℕ) → text_in w ≡ Some u → HasNoZero u × (w ≡ (u ++ 0 ∷ []) ++ drop (length u + 1) w))
       → option_map (λ text. b ∷ text) o ≡ Some t → HasNoZero t × (b ∷ w ≡ (t ++ 0 ∷ []) ++ drop (length t + 1) (b ∷ w))
-  behind other None is later_of f = absurd (none_some {a = t} refl f)
-  behind other (Some u) is later_of f =
+  tail other None is later_of f = absurd (none_some {a = t} refl f)
+  tail other (Some u) is later_of f =
       let more : b ∷ u ≡ t = cc in
       let later = later_of u is in
       subst (λ (l : List ℕ). HasNoZero l × (b ∷ w ≡ (l ++ 0 ∷ []) ++ drop (length l + 1) (b ∷ w))) more (

@@ -1,7 +1,7 @@
 -- The cells that a field holds: a pair or a value that is complete, and what has come of one. DWARF 5, section 6.2.4.1.
 use Rattle.std.specs.Prelude.{ℕ, ◌+◌, ◌-◌, ◌^◌, ◌&&◌, List, length, nat_lt, nat_le, if◌then◌else◌}
 use Rattle.dl_num.specs.Leb.{groups}
-use Rattle.dl_num.specs.LebFront.{is_leb, leb_front, behind_leb}
+use Rattle.dl_num.specs.LebFront.{is_leb, leb_front, after_leb}
 use Rattle.dl_table.specs.declared.form.Form.{Form}
 use Rattle.dl_table.specs.declared.form.Form.TheVariants as form
 use Rattle.dl_table.specs.TableCells.{value_cells}
@@ -20,7 +20,7 @@ begun_block k w = if nat_le k (length w) then 1 + (length w - k) else 0
 
 -- the same, its length being a number in LEB128 below 2^64
 abbrev pub begun_leb_block : List ℕ → ℕ
-begun_leb_block w = if is_leb (leb_front w) && nat_lt (groups (leb_front w)) (2 ^ 64) then 1 + length (behind_leb w)
+begun_leb_block w = if is_leb (leb_front w) && nat_lt (groups (leb_front w)) (2 ^ 64) then 1 + length (after_leb w)
     else 0
 
 -- what the first bytes of a value hold, as long as it isn't complete

@@ -82,7 +82,7 @@ after_pairs format next some pairs =
     number_then (entry_count some) λ count. entries_layout format pairs count [] λ entries. next
     (record { format = format; pairs = pairs; entries = entries })
 
--- the pairs that are left behind those that were read, and what follows them
+-- the pairs that are left tail those that were read, and what follows them
 abbrev pub pairs_left : Format → (TableData → Layout) → ℕ → List Pair → Layout
 pairs_left format next left pairs = pairs_layout left pairs (after_pairs format next true)
 
@@ -371,10 +371,10 @@ has_bytes form.Block4 = true
 has_bytes form.Block = true
 has_bytes f = false
 
--- `at_front`: the bytes in front of behind are those of the value, of which none came before
-pub record InFront (order : Order) (v : ValuePhase) (bytes : List ℕ) (h : StoredValue) (behind : List ℕ) : Type 0 where
+-- `at_front`: the bytes in front of tail are those of the value, of which none came before
+pub record InFront (order : Order) (v : ValuePhase) (bytes : List ℕ) (h : StoredValue) (tail : List ℕ) : Type 0 where
   pub front : List ℕ
-  pub bytes_are : bytes ≡ front ++ behind
+  pub bytes_are : bytes ≡ front ++ tail
   pub spelt : (format : Format) (f : Form) (pool rest : List ℕ) → ValueAt format f v pool rest
       → value_spelt order format f (rest ++ front) ≡ good (value_held pool h)
   pub one : (format : Format) (f : Form) (pool rest : List ℕ) → ValueAt format f v pool rest → has_bytes f ≡ false
@@ -383,11 +383,11 @@ pub record InFront (order : Order) (v : ValuePhase) (bytes : List ℕ) (h : Stor
   pub cell : cells_held h ≡ 1
   pub within : held_end h ≡ 0
 
--- `whole_value`: the bytes in front of behind are those of the current value, and another one follows it
-pub record TakesValue (order : Order) (format : Format) (old : TableReader) (bytes behind : List ℕ)
+-- `whole_value`: the bytes in front of tail are those of the current value, and another one follows it
+pub record TakesValue (order : Order) (format : Format) (old : TableReader) (bytes tail : List ℕ)
     (new : TableReader) : Type 0 where
   pub front : List ℕ
-  pub bytes_are : bytes ≡ front ++ behind
+  pub bytes_are : bytes ≡ front ++ tail
   pub follows : BytesFollow order format old front byte_makes.Ends new
   pub going : new.phase ≡ phase.Whole → ⊥
 

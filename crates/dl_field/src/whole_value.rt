@@ -29,8 +29,8 @@ fn number_at_front(
     if !number.is_new() {
         return None;
     }
-    let (number, behind) = fixed_at_front(order, number.size(), bytes)?;
-    Some((held_number(form, number), behind))
+    let (number, tail) = fixed_at_front(order, number.size(), bytes)?;
+    Some((held_number(form, number), tail))
 }
 
 /// The number in LEB128 that the bytes begin with, and the bytes after it, where none of its bytes has come.
@@ -42,8 +42,8 @@ fn leb_at_front(number: Uleb, bytes: &[u8]) -> Option<(StoredValue, &[u8])>
     if !number.is_new() {
         return None;
     }
-    let (number, behind) = short_uleb_at_front(bytes)?;
-    Some((StoredValue::Number(number), behind))
+    let (number, tail) = short_uleb_at_front(bytes)?;
+    Some((StoredValue::Number(number), tail))
 }
 
 /// The sixteen bytes that the bytes begin with, and the bytes after them, where none of them has come. None
@@ -55,8 +55,8 @@ fn sixteen_at_front(sixteen: Sixteen, bytes: &[u8]) -> Option<(StoredValue, &[u8
     if !sixteen.is_new() {
         return None;
     }
-    let (sixteen, behind) = bytes.split_first_chunk::<16>()?;
-    Some((StoredValue::Data16(*sixteen), behind))
+    let (sixteen, tail) = bytes.split_first_chunk::<16>()?;
+    Some((StoredValue::Data16(*sixteen), tail))
 }
 
 impl TableReader {
@@ -74,7 +74,7 @@ impl TableReader {
         bytes: &'a [u8],
     ) -> Option<&'a [u8]>
         ensures { MatchOption result (SameTable self.old self.new)
-            (λ behind. TakesValue order format self.old bytes.entry.now behind.now self.new) }
+            (λ tail. TakesValue order format self.old bytes.entry.now tail.now self.new) }
     {
         let TablePhase::Value(at, value) = self.phase else {
             return None;
@@ -84,16 +84,16 @@ impl TableReader {
         }
         match value {
             ValuePhase::Number(form, number) => {
-                let (held, behind) = number_at_front(form, number, order, bytes)?;
-                self.enter_front(at, held, format, behind)
+                let (held, tail) = number_at_front(form, number, order, bytes)?;
+                self.enter_front(at, held, format, tail)
             }
             ValuePhase::Leb(number) => {
-                let (held, behind) = leb_at_front(number, bytes)?;
-                self.enter_front(at, held, format, behind)
+                let (held, tail) = leb_at_front(number, bytes)?;
+                self.enter_front(at, held, format, tail)
             }
             ValuePhase::Data16(sixteen) => {
-                let (held, behind) = sixteen_at_front(sixteen, bytes)?;
-                self.enter_front(at, held, format, behind)
+                let (held, tail) = sixteen_at_front(sixteen, bytes)?;
+                self.enter_front(at, held, format, tail)
             }
             ValuePhase::Text(start) => self.whole_text(at, start, format, bytes),
             _ => None,
@@ -108,16 +108,16 @@ impl TableReader {
         at: Cursor,
         held: StoredValue,
         format: Format,
-        behind: &'a [u8],
+        tail: &'a [u8],
     ) -> Option<&'a [u8]>
         requires in_row { at.column < length self.old.pairs.items }
         requires whole { values_end self.old.values.items ≤ length self.old.pool.items }
         requires held { held_end held ≤ length self.old.pool.items }
         ensures { MatchOption result (SameTable self.old self.new)
-            (λ rest. (rest.now ≡ behind.entry.now) × EntersAt self.old at held format self.new) }
+            (λ rest. (rest.now ≡ tail.entry.now) × EntersAt self.old at held format self.new) }
     {
         match self.enter(at, held, format) {
-            FieldStep::Ends => Some(behind),
+            FieldStep::Ends => Some(tail),
             _ => None,
         }
     }
@@ -134,7 +134,7 @@ impl TableReader {
         requires phase { self.old.phase ≡ phase.Value at (value.Text start) }
         requires more { IsLast at (length self.old.pairs.items) → ⊥ }
         ensures { MatchOption result (SameTable self.old self.new)
-            (λ behind. (order : Order) → TakesValue order format self.old bytes.entry.now behind.now self.new) }
+            (λ tail. (order : Order) → TakesValue order format self.old bytes.entry.now tail.now self.new) }
     {
         if start != self.pool.len() {
             return None;

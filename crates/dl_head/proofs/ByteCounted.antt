@@ -16,7 +16,7 @@ use Rattle.dl_head.specs.HeaderLayout.{header_layout, from_end, initial_size}
 use Rattle.dl_head.specs.Header.{Cut, cut, unit_end, unit_len, header_made, foreign_made, foreign_in, IsHeader}
 use Rattle.dl_head.specs.Refusal.{header_decided, HeaderRefused}
 use Rattle.dl_head.specs.Cells.{cells}
-use Rattle.dl_head.specs.Place.{Behind, SameUnit, end_of_unit}
+use Rattle.dl_head.specs.Place.{Past, SameUnit, end_of_unit}
 use Rattle.dl_head.specs.Standing.{Below, Live, Unmade, ending, Stands, StandsFor, unit_known, Fails, Completes}
 use Rattle.dl_head.specs.Standing.{SettlesAt, Settles}
 use Rattle.dl_head.specs.Reading.{Answers}
@@ -142,9 +142,9 @@ fails_at_end r fin b m result next end f =
 
 -- the header is whole
 pub header_whole : (r : HeadReader) (b : List ℕ) (m : Moved r b)
-    → Behind r m.items (from_end r.params r.directories r.files) → r.end ≡ Some r.taken
+    → Past r m.items (from_end r.params r.directories r.files) → r.end ≡ Some r.taken
     → IsHeader r.order (record { params = r.params; directories = r.directories; files = r.files }) b
-header_whole r b m behind end =
+header_whole r b m tail end =
     let s : Sound r.order header_layout b (cut_of m.items m.rest) =
     subst (λ (c : Cut). Sound r.order header_layout b c) m.cut_is (cut_sound r.order header_layout [] b) in
     record {
@@ -153,16 +153,16 @@ header_whole r b m behind end =
       padding = m.rest;
       whole = s.whole;
       spelt = s.spelt;
-      made = ap header_made behind.follows;
-      end = behind.header_ends ∙ sym behind.end ∙ end ∙ ap (λ (n : ℕ). Some n) m.taken_is;
+      made = ap header_made tail.follows;
+      end = tail.header_ends ∙ sym tail.end ∙ end ∙ ap (λ (n : ℕ). Some n) m.taken_is;
     }
 
 done : (r fin : HeadReader) (b : List ℕ) (m : Moved r b) (result : HeadStep)
-    → Behind r m.items (from_end r.params r.directories r.files) → r.end ≡ Some r.taken
+    → Past r m.items (from_end r.params r.directories r.files) → r.end ≡ Some r.taken
     → (result ≡ answer.Done) × Completes r fin → Answers r.order b result × StandsFor fin b
-done r fin b m result behind end f =
+done r fin b m result tail end f =
     let h : HeaderData = record { params = r.params; directories = r.directories; files = r.files } in
-    let whole = header_whole r b m behind end in
+    let whole = header_whole r b m tail end in
     let c = f.1 in (
       subst (λ (a : HeadStep). Answers r.order b a) (sym f.0) (h, whole),
       record {
@@ -231,9 +231,9 @@ settled r fin b m result s = on (place_of r r.phase m.items m.rest refl m.at) (a
       ((settles_field r fin result r.phase goes out s).1 end)
   on (in_field goes out next) (inr other) = same_reader r fin b answer.More result (goes_on r b goes m other)
       ((settles_field r fin result r.phase goes out s).0 other)
-  on (in_padding is behind) (inl end) = done r fin b m result behind end
+  on (in_padding is tail) (inl end) = done r fin b m result tail end
       ((subst (λ (p : Phase). SettlesAt r p result fin) is s).1 end)
-  on (in_padding is behind) (inr other) = same_reader r fin b answer.More result (goes_on r b (ap ending is) m other)
+  on (in_padding is tail) (inr other) = same_reader r fin b answer.More result (goes_on r b (ap ending is) m other)
       ((subst (λ (p : Phase). SettlesAt r p result fin) is s).0 other)
   on (in_foreign v is follows) at = foreign r fin b m result v is follows
       (subst (λ (p : Phase). SettlesAt r p result fin) is s)

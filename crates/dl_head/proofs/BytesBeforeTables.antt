@@ -51,8 +51,8 @@ no_cells order (last_entry h) rest w e = refl
 abbrev pub NoCell : List Item → Type 0
 NoCell items = is_no_cell (following_all header_layout items) ≡ true
 
-pub none_behind : (items is : List Item) → items ≡ is → NoCell is → NoCell items
-none_behind items is e none = subst NoCell (sym e) none
+pub none_later : (items is : List Item) → items ≡ is → NoCell is → NoCell items
+none_later items is e none = subst NoCell (sym e) none
 
 pub layout_no_cell : (items : List Item) (layout : Layout) → following_all header_layout items ≡ layout
     → is_no_cell layout ≡ true → NoCell items
@@ -77,7 +77,7 @@ pub length_no_cell : (r : HeadReader) (items : List Item) (rest : List ℕ) → 
     → AtPhase r phase.OpcodeLength items rest → NoCell items
 length_no_cell r items rest e at =
     let p = r.params in
-    layout_no_cell items _ (at.0.behind.follows ∙ lengths_open p (p.opcode_base - 1 - length p.lengths.items)
+    layout_no_cell items _ (at.0.tail.follows ∙ lengths_open p (p.opcode_base - 1 - length p.lengths.items)
     p.lengths.items (some_left r e)) refl
 
 -- ---- what the byte makes

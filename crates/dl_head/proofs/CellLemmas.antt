@@ -7,7 +7,7 @@ use Rattle.std.proofs.lemmas.List.Sums.{sum_by-cons}
 use Rattle.dl_num.specs.declared.fixed.Order.{Order}
 use Rattle.dl_num.specs.Fixed.{fixed}
 use Rattle.dl_num.specs.Leb.{groups}
-use Rattle.dl_num.specs.LebFront.{is_leb, leb_front, behind_leb}
+use Rattle.dl_num.specs.LebFront.{is_leb, leb_front, after_leb}
 use Rattle.dl_num.proofs.LebFrontLemmas.{and_left, and_right, leb_front-le}
 use Rattle.dl_table.specs.declared.fault.FaultKind.TheVariants.{LebRange}
 use Rattle.dl_table.specs.declared.form.Format.{Format}
@@ -69,16 +69,16 @@ leb_cells w v e = elim (cases_Bool (is_leb w)) [
 ]
 
 -- the bytes after a number in LEB128 are fewer
-behind_some : (w : List ℕ) → is_leb (leb_front w) ≡ true → 1 + length (behind_leb w) ≤ length w
-behind_some w t = omega (arith, leb_some (leb_front w) t, leb_front-le w, length-drop (length (leb_front w)) w)
+after_some : (w : List ℕ) → is_leb (leb_front w) ≡ true → 1 + length (after_leb w) ≤ length w
+after_some w t = omega (arith, leb_some (leb_front w) t, leb_front-le w, length-drop (length (leb_front w)) w)
 
 leb_block_below : (w : List ℕ) (v : Value) → is_leb (leb_front w) ≡ true
     → (if nat_lt (groups (leb_front w)) (2 ^ 64)
-    then (if length (behind_leb w) == groups (leb_front w) then good (block (behind_leb w)) else None) else
+    then (if length (after_leb w) == groups (leb_front w) then good (block (after_leb w)) else None) else
     if is_leb w then bad LebRange else None) ≡ good v → value_cells v ≤ length w
 leb_block_below w v t e = elim (cases_lt (groups (leb_front w)) (2 ^ 64)) [
-  | inl lt ↦ let same = good_if (length (behind_leb w) == groups (leb_front w)) (block (behind_leb w)) v
-      (rw (lt-ltb _ _ lt) at e) in rw same.1 (behind_some w t)
+  | inl lt ↦ let same = good_if (length (after_leb w) == groups (leb_front w)) (block (after_leb w)) v
+      (rw (lt-ltb _ _ lt) at e) in rw same.1 (after_some w t)
   | inr le ↦ elim (cases_Bool (is_leb w)) [
     | inl u ↦ absurd (bad_good (rw (le-ltb _ _ le, u) at e))
     | inr n ↦ absurd (none_some {a = Ok v} refl (rw (le-ltb _ _ le, n) at e))
@@ -151,7 +151,7 @@ begun_few k w some = elim (cases_lt (length w) k) [
 
 begun_leb_few : (w : List ℕ) → begun_leb_block w ≤ length w
 begun_leb_few w = elim (cases_Bool (is_leb (leb_front w) && nat_lt (groups (leb_front w)) (2 ^ 64))) [
-  | inl t ↦ rw t (behind_some w (and_left (is_leb (leb_front w)) (nat_lt (groups (leb_front w)) (2 ^ 64)) t))
+  | inl t ↦ rw t (after_some w (and_left (is_leb (leb_front w)) (nat_lt (groups (leb_front w)) (2 ^ 64)) t))
   | inr n ↦ rw n (omega arith)
 ]
 

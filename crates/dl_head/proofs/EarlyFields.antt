@@ -143,7 +143,7 @@ pub header_length_late : (r new : HeadReader) (items : List Item) (n : ℕ) → 
     → IsFresh new.table
     → Late new (items ++ number_is n ∷ []) (from_minimum_length new.params)
 header_length_late r new items n early follows unit end overrun fresh = record {
-  behind = record {
+  tail = record {
     follows = ap (λ (k : List Item). following_all header_layout (k ++ number_is n ∷ [])) early.items_are ∙ follows;
     unit = ap (λ (k : List Item). unit_end (k ++ number_is n ∷ [])) early.items_are ∙ ap (λ (k : ℕ). Some k) (sym unit);
     header = initial_size r.params.format + fixed_part r.params.format + n;

@@ -28,9 +28,9 @@ fronts (x ∷ b) (y ∷ c) v u e =
     ]
 
 -- what is left of a list after a front of it
-pub behind_front : (b v u : List ℕ) → b ++ v ≡ b ++ u → v ≡ u
-behind_front [] v u e = e
-behind_front (x ∷ b) v u e = behind_front b v u (let f : b ++ v ≡ b ++ u = cc in f)
+pub after_front : (b v u : List ℕ) → b ++ v ≡ b ++ u → v ≡ u
+after_front [] v u e = e
+after_front (x ∷ b) v u e = after_front b v u (let f : b ++ v ≡ b ++ u = cc in f)
 
 -- b ends inside the spelling of the field i: the fields before it are cut off, and rest begins its spelling
 pub record Inside (order : Order) (layout : Layout) (items : List Item) (b : List ℕ) : Type 0 where
@@ -106,7 +106,7 @@ inside_cases order layout i items front rest b x back e same later (inl is) =
       x,
       back,
       sym
-          (behind_front front (x ∷ back) rest (ap (λ (l : List ℕ). l ++ x ∷ back) (sym is) ∙ same)),
+          (after_front front (x ∷ back) rest (ap (λ (l : List ℕ). l ++ x ∷ back) (sym is) ∙ same)),
     ) in
     subst (λ (l : List ℕ). Inside order layout (i ∷ items) l) (append-nil front ∙ sym is)
     (later_inside order layout i items front [] e (later [] goes))
@@ -116,7 +116,7 @@ inside_cases order layout i items front rest b x back e same later (inr (inr g))
     let goes : GoesOn (g.0 ∷ g.1) rest = (
       x,
       back,
-      sym (behind_front front (g.0 ∷ g.1 ++ x ∷ back) rest
+      sym (after_front front (g.0 ∷ g.1 ++ x ∷ back) rest
           (sym (append_assoc front (g.0 ∷ g.1) (x ∷ back)) ∙ ap (λ (l : List ℕ). l ++ x ∷ back) (sym g.2) ∙ same)),
     ) in
     subst (λ (l : List ℕ). Inside order layout (i ∷ items) l) (sym g.2)

@@ -28,8 +28,8 @@ use Rattle.dl_field.specs.TablePlace.{PushFollows}
 use Rattle.dl_table.specs.TableCells.{table_cells}
 use Rattle.dl_field.specs.TableStep.{value_filled}
 use Rattle.dl_head.specs.HeadStep.{tables_fit}
-use Rattle.dl_head.specs.Place.{Behind, InTable, At, end_of_unit, held_cells, BytesMade}
-use Rattle.dl_head.proofs.OneFieldMore.{behind_on}
+use Rattle.dl_head.specs.Place.{Past, InTable, At, end_of_unit, held_cells, BytesMade}
+use Rattle.dl_head.proofs.OneFieldMore.{after_on}
 use Rattle.dl_field.proofs.PairLemmas.{table_at}
 
 -- ---- a table that is as it was
@@ -169,9 +169,9 @@ same_end : (old new : HeadReader) → SameFields old new → end_of_unit new ≡
 same_end old new s = ap (λ (f : Format). initial_size f + new.unit_length) s.format
     ∙ ap (λ (n : ℕ). initial_size old.params.format + n) s.unit_length
 
-behind_same : (old new : HeadReader) (items : List Item) (layout : Layout) → SameFields old new
-    → Behind old items layout → Behind new items layout
-behind_same old new items layout s b = record {
+after_same : (old new : HeadReader) (items : List Item) (layout : Layout) → SameFields old new
+    → Past old items layout → Past new items layout
+after_same old new items layout s b = record {
   follows = b.follows;
   unit = b.unit ∙ ap (λ (n : ℕ). Some n) (sym (same_end old new s));
   header = b.header;
@@ -183,11 +183,11 @@ behind_same old new items layout s b = record {
 -- the current table, by another reader
 in_table : (old new : HeadReader) (mid : TableReader) (items : List Item) (layout : Layout) (rest : List ℕ)
     (next : TableData → Layout) → SameFields old new → new.table ≡ mid → (mid.phase ≡ table.Whole → ⊥)
-    → Behind new items layout → TableAt old.order mid mid.phase old.params.format next layout rest
+    → Past new items layout → TableAt old.order mid mid.phase old.params.format next layout rest
     → InTable new items rest next
-in_table old new mid items layout rest next s e going behind at = record {
+in_table old new mid items layout rest next s e going tail at = record {
   layout = layout;
-  behind = behind;
+  tail = tail;
   at =
       subst (λ (o : Order). TableAt o new.table new.table.phase new.params.format next layout rest) (sym s.order)
       (subst (λ (f : Format). TableAt old.order new.table new.table.phase f next layout rest) (sym s.format)
@@ -204,27 +204,27 @@ pub table_goes_on : (old new : HeadReader) (mid : TableReader) (items : List Ite
 table_goes_on old new mid items rest bytes byte_makes.Within next in_old push going e s to =
     let made = push.made in_old.going next in_old.layout rest in_old.at in
     let w = rest ++ bytes in (
-      ap (λ (l : Layout). field_spelt old.order l w) in_old.behind.follows ∙ made.0,
+      ap (λ (l : Layout). field_spelt old.order l w) in_old.tail.follows ∙ made.0,
       to items w (in_table old new mid items in_old.layout w next s e going
-          (behind_same old new items in_old.layout s in_old.behind) made.1),
+          (after_same old new items in_old.layout s in_old.tail) made.1),
     )
 table_goes_on old new mid items rest bytes byte_makes.Ends next in_old push going e s to =
     let made = push.made in_old.going next in_old.layout rest in_old.at in (
       made.0,
-      ap (λ (l : Layout). field_spelt old.order l (rest ++ bytes)) in_old.behind.follows ∙ made.1,
+      ap (λ (l : Layout). field_spelt old.order l (rest ++ bytes)) in_old.tail.follows ∙ made.1,
       to (items ++ made.0 ∷ []) []
           (in_table old new mid (items ++ made.0 ∷ []) (following in_old.layout made.0) [] next s e going
-          (behind_on old new items in_old.layout (following in_old.layout made.0) made.0 in_old.behind refl s.end
+          (after_on old new items in_old.layout (following in_old.layout made.0) made.0 in_old.tail refl s.end
           s.overrun (same_end old new s)) made.2),
     )
 table_goes_on old new mid items rest bytes (byte_makes.Refuses kind) next in_old push going e s to =
     let made = push.made in_old.going next in_old.layout rest in_old.at in
-    ap (λ (l : Layout). field_spelt old.order l (rest ++ bytes)) in_old.behind.follows ∙ made.0
+    ap (λ (l : Layout). field_spelt old.order l (rest ++ bytes)) in_old.tail.follows ∙ made.0
 table_goes_on old new mid items rest bytes byte_makes.NoMemory next in_old push going e s to =
     let made = push.made in_old.going next in_old.layout rest in_old.at in
     to items rest
     (in_table old new mid items in_old.layout rest next s e going
-    (behind_same old new items in_old.layout s in_old.behind)
+    (after_same old new items in_old.layout s in_old.tail)
     (table_same old.order old.table mid old.params.format next in_old.layout rest made.0 in_old.at))
 
 -- the table is as it was
@@ -234,7 +234,7 @@ pub table_stays : (old new : HeadReader) (mid : TableReader) (items : List Item)
     → InTable new items rest next
 table_stays old new mid items rest next in_old same e s =
     in_table old new mid items in_old.layout rest next s e (λ whole. in_old.going (sym same.phase ∙ whole))
-    (behind_same old new items in_old.layout s in_old.behind)
+    (after_same old new items in_old.layout s in_old.tail)
     (table_same old.order old.table mid old.params.format next in_old.layout rest same in_old.at)
 
 some_byte : (rest : List ℕ) (byte : ℕ) → rest ++ byte ∷ [] ≡ [] → ⊥
@@ -274,13 +274,13 @@ pub table_ends : (old new : HeadReader) (mid : TableReader) (d : TableData) (ite
     (byte : ℕ) (result : FieldStep) (next : TableData → Layout) → InTable old items rest next
     → PushFollows old.order old.params.format old.table byte result mid → mid.phase ≡ table.Whole → Gives old mid next d
     → SameFields old new
-    → ((is : List Item) → Behind new is (next d) → At new is []) → BytesMade old items rest (byte ∷ []) result new
+    → ((is : List Item) → Past new is (next d) → At new is []) → BytesMade old items rest (byte ∷ []) result new
 table_ends old new mid d items rest byte result next is push whole taken s to =
     let e = table_whole old mid items rest byte result next is push whole in
     subst (λ (n : FieldStep). BytesMade old items rest (byte ∷ []) n new) (sym e.1) (
       e.0,
-      ap (λ (l : Layout). field_spelt old.order l (rest ++ byte ∷ [])) is.behind.follows ∙ e.2,
-      to (items ++ e.0 ∷ []) (behind_on old new items is.layout (next d) e.0 is.behind
+      ap (λ (l : Layout). field_spelt old.order l (rest ++ byte ∷ [])) is.tail.follows ∙ e.2,
+      to (items ++ e.0 ∷ []) (after_on old new items is.layout (next d) e.0 is.tail
           (taken (following is.layout e.0) e.3).0 s.end s.overrun (same_end old new s)),
     )
 
@@ -306,7 +306,7 @@ table_adds old mid items rest bytes result next n held in_old push before after 
     let w = rest ++ bytes in
     let adds = adds_beside old.order in_old.layout rest w result n (reader_cells old.table) (reader_cells mid)
     (held_cells old) held before after (push.cells in_old.going next in_old.layout rest in_old.at) in
-    subst (λ (l : Layout). Adds old.order l rest w result (held_cells old) held) (sym in_old.behind.follows) adds
+    subst (λ (l : Layout). Adds old.order l rest w result (held_cells old) held) (sym in_old.tail.follows) adds
 
 -- the table that is taken holds what its reader held
 pub table_kept : (old : HeadReader) (mid : TableReader) (d : TableData) (items : List Item) (rest : List ℕ) (byte : ℕ)
@@ -334,10 +334,10 @@ counted e = absurd cc
 
 -- the table of files follows
 pub at_files : (r : HeadReader) (items : List Item) (layout : Layout) (next : TableData → Layout)
-    → layout ≡ table_layout r.params.format next → IsFresh r.table → Behind r items layout → InTable r items [] next
-at_files r items layout next e fresh behind = record {
+    → layout ≡ table_layout r.params.format next → IsFresh r.table → Past r items layout → InTable r items [] next
+at_files r items layout next e fresh tail = record {
   layout = layout;
-  behind = behind;
+  tail = tail;
   at = subst (λ (p : TablePhase). TableAt r.order r.table p r.params.format next layout []) (sym fresh.phase)
       (fresh, e, refl);
   going = λ whole. counted (sym fresh.phase ∙ whole);

@@ -14,7 +14,7 @@ use Rattle.dl_field.specs.Layout.{Layout, Item, length_is, number_is, form_is, v
 use Rattle.dl_head.specs.HeaderLayout.{header_layout, initial_size, fixed_part}
 use Rattle.dl_head.specs.Header.{SpellsFields, cut, unit_end, header_end}
 use Rattle.dl_head.specs.Refusal.{at_end, field_overrun}
-use Rattle.dl_head.specs.Place.{Early, Behind, AtPhase, end_of_unit}
+use Rattle.dl_head.specs.Place.{Early, Past, AtPhase, end_of_unit}
 use Rattle.dl_head.specs.Standing.{Below, unit_known}
 use Rattle.dl_head.proofs.CutLemmas.{cut_of, cut_good, cut_sound, Sound}
 use Rattle.dl_head.proofs.FirstFields.{Opening, opening_of}
@@ -68,8 +68,8 @@ early_end r items is e none unit =
       unit = ap (λ (o : Option ℕ). unit_known (end_of_unit r) o) e.end ∙ sym unit_is;
     }
 
-behind_end : (r : HeadReader) (items : List Item) (layout : Layout) → Behind r items layout → EndIs r items
-behind_end r items layout e = record {
+after_end : (r : HeadReader) (items : List Item) (layout : Layout) → Past r items layout → EndIs r items
+after_end r items layout e = record {
   end = e.end ∙ ap (λ (o : Option ℕ). first_end o (unit_end items)) (sym e.header_ends);
   overrun = e.overrun ∙ ap overrun_of (sym e.header_ends);
   unit = ap (λ (o : Option ℕ). unit_known (end_of_unit r) o) e.end ∙ sym e.unit;
@@ -91,16 +91,16 @@ end_is r (phase.VersionEnd first) items rest at = early_end r items _ at.0 refl 
 end_is r (phase.HeaderLength n) items rest at = early_end r items _ at.0 refl refl
 end_is r (phase.Byte field.AddressSize) items rest at = early_end r items _ at.0 refl refl
 end_is r (phase.Byte field.SegmentSelectorSize) items rest at = early_end r items _ at.0 refl refl
-end_is r (phase.Byte field.MinimumInstructionLength) items rest at = behind_end r items _ at.0.behind
-end_is r (phase.Byte field.MaximumOperations) items rest at = behind_end r items _ at.0.behind
-end_is r (phase.Byte field.DefaultIsStmt) items rest at = behind_end r items _ at.0.behind
-end_is r (phase.Byte field.LineBase) items rest at = behind_end r items _ at.0.behind
-end_is r (phase.Byte field.LineRange) items rest at = behind_end r items _ at.0.behind
-end_is r (phase.Byte field.OpcodeBase) items rest at = behind_end r items _ at.0.behind
-end_is r phase.OpcodeLength items rest at = behind_end r items _ at.0.behind
-end_is r phase.Directories items rest at = behind_end r items at.layout at.behind
-end_is r phase.Files items rest at = behind_end r items at.layout at.behind
-end_is r phase.Padding items rest at = behind_end r items _ at
+end_is r (phase.Byte field.MinimumInstructionLength) items rest at = after_end r items _ at.0.tail
+end_is r (phase.Byte field.MaximumOperations) items rest at = after_end r items _ at.0.tail
+end_is r (phase.Byte field.DefaultIsStmt) items rest at = after_end r items _ at.0.tail
+end_is r (phase.Byte field.LineBase) items rest at = after_end r items _ at.0.tail
+end_is r (phase.Byte field.LineRange) items rest at = after_end r items _ at.0.tail
+end_is r (phase.Byte field.OpcodeBase) items rest at = after_end r items _ at.0.tail
+end_is r phase.OpcodeLength items rest at = after_end r items _ at.0.tail
+end_is r phase.Directories items rest at = after_end r items at.layout at.tail
+end_is r phase.Files items rest at = after_end r items at.layout at.tail
+end_is r phase.Padding items rest at = after_end r items _ at
 end_is r (phase.Foreign v) items rest at = early_end r items _ at.0 refl refl
 end_is r phase.Done items rest at = absurd at
 end_is r (phase.Failed f) items rest at = absurd at

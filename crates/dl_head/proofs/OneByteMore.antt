@@ -151,7 +151,7 @@ kept_stands r new b goes stands l at counts same_cells = record {
 
   ends_not : Place new new.phase items → ending new.phase ≡ None
   ends_not (in_field none out next) = none
-  ends_not (in_padding is behind) = ap ending is
+  ends_not (in_padding is tail) = ap ending is
   ends_not (in_foreign v is follows) = absurd
       (none_some (not_foreign r r.phase items goes (place_of r r.phase items rest refl l.0.at))
       (ap foreign_made follows))

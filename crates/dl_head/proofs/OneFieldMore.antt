@@ -18,7 +18,7 @@ use Rattle.dl_head.specs.HeaderLayout.{header_layout, signed_byte, lengths_layou
 use Rattle.dl_head.specs.HeaderLayout.{from_opcode_base}
 use Rattle.dl_head.specs.Bytes.{byte_kind}
 use Rattle.dl_head.specs.HeadStep.{lengths_fit}
-use Rattle.dl_head.specs.Place.{from_byte, from_length, end_of_unit, Behind, Late, AtPhase, At}
+use Rattle.dl_head.specs.Place.{from_byte, from_length, end_of_unit, Past, Late, AtPhase, At}
 use Rattle.dl_field.specs.TablePlace.{IsFresh, TableAt}
 use Rattle.dl_field.specs.declared.table_reader.TablePhase.{TablePhase}
 use Rattle.dl_field.specs.declared.table_reader.TablePhase.TheVariants as table
@@ -39,16 +39,16 @@ pub at_field : (r : HeadReader) (f g : ByteField) (items : List Item) (rest : Li
 at_field r f g items rest is e at = at_phase r (phase.Byte g) items rest
     (e ∙ ap (λ (h : ByteField). phase.Byte h) is) at
 
-pub behind_on : (r new : HeadReader) (items : List Item) (layout next : Layout) (i : Item) → Behind r items layout
+pub after_on : (r new : HeadReader) (items : List Item) (layout next : Layout) (i : Item) → Past r items layout
     → following layout i ≡ next
-    → new.end ≡ r.end → new.overrun ≡ r.overrun → end_of_unit new ≡ end_of_unit r → Behind new (items ++ i ∷ []) next
-behind_on r new items layout next i behind e end overrun unit = record {
-  follows = following_all-append header_layout items (i ∷ []) ∙ ap (λ (l : Layout). following l i) behind.follows ∙ e;
-  unit = unit_end-append items (i ∷ []) (end_of_unit r) behind.unit ∙ ap (λ (n : ℕ). Some n) (sym unit);
-  header = behind.header;
-  header_ends = header_end-append items (i ∷ []) behind.header behind.header_ends;
-  end = end ∙ behind.end;
-  overrun = overrun ∙ behind.overrun;
+    → new.end ≡ r.end → new.overrun ≡ r.overrun → end_of_unit new ≡ end_of_unit r → Past new (items ++ i ∷ []) next
+after_on r new items layout next i tail e end overrun unit = record {
+  follows = following_all-append header_layout items (i ∷ []) ∙ ap (λ (l : Layout). following l i) tail.follows ∙ e;
+  unit = unit_end-append items (i ∷ []) (end_of_unit r) tail.unit ∙ ap (λ (n : ℕ). Some n) (sym unit);
+  header = tail.header;
+  header_ends = header_end-append items (i ∷ []) tail.header tail.header_ends;
+  end = end ∙ tail.end;
+  overrun = overrun ∙ tail.overrun;
 }
 
 pub late_on : (r new : HeadReader) (items : List Item) (layout next : Layout) (i : Item) → Late r items layout
@@ -56,7 +56,7 @@ pub late_on : (r new : HeadReader) (items : List Item) (layout next : Layout) (i
     → new.end ≡ r.end → new.overrun ≡ r.overrun → end_of_unit new ≡ end_of_unit r → IsFresh new.table
     → Late new (items ++ i ∷ []) next
 late_on r new items layout next i late e end overrun unit fresh =
-    record { behind = behind_on r new items layout next i late.behind e end overrun unit; fresh = fresh }
+    record { tail = after_on r new items layout next i late.tail e end overrun unit; fresh = fresh }
 
 -- ---- fields of one byte
 
@@ -68,12 +68,12 @@ byte_follows r field.AddressSize items rest at =
     (ap (λ (l : List Item). following_all header_layout l) at.0.items_are, at.1)
 byte_follows r field.SegmentSelectorSize items rest at =
     (ap (λ (l : List Item). following_all header_layout l) at.0.items_are, at.1)
-byte_follows r field.MinimumInstructionLength items rest at = (at.0.behind.follows, at.1)
-byte_follows r field.MaximumOperations items rest at = (at.0.behind.follows, at.1)
-byte_follows r field.DefaultIsStmt items rest at = (at.0.behind.follows, at.1)
-byte_follows r field.LineBase items rest at = (at.0.behind.follows, at.1)
-byte_follows r field.LineRange items rest at = (at.0.behind.follows, at.1)
-byte_follows r field.OpcodeBase items rest at = (at.0.behind.follows, at.1)
+byte_follows r field.MinimumInstructionLength items rest at = (at.0.tail.follows, at.1)
+byte_follows r field.MaximumOperations items rest at = (at.0.tail.follows, at.1)
+byte_follows r field.DefaultIsStmt items rest at = (at.0.tail.follows, at.1)
+byte_follows r field.LineBase items rest at = (at.0.tail.follows, at.1)
+byte_follows r field.LineRange items rest at = (at.0.tail.follows, at.1)
+byte_follows r field.OpcodeBase items rest at = (at.0.tail.follows, at.1)
 
 byte_is : (order : Order) (f : ByteField) (unit_length : ℕ) (p : Params) (x : ℕ)
     → field_spelt order (from_byte f unit_length p) (x ∷ [])
@@ -186,7 +186,7 @@ before_tables : (r : HeadReader) (items : List Item) → Late r items (tables_la
     → AtPhase r phase.Directories items []
 before_tables r items late = record {
   layout = tables_layout r.params;
-  behind = late.behind;
+  tail = late.tail;
   at = subst (λ (p : TablePhase). TableAt r.order r.table p r.params.format (from_files r.params)
       (tables_layout r.params) []) (sym late.fresh.phase) (late.fresh, refl, refl);
   going = λ whole. fresh_whole (sym late.fresh.phase ∙ whole);

@@ -23,9 +23,9 @@ use Rattle.dl_head.specs.Written.{header_bytes, written_limit}
 same_size : (order : Order) (k n : ℕ) → length (fixed_bytes order k n) ≡ length (fixed_bytes Little k n)
 same_size order k n = fixed_has_its_size order k n ∙ sym (fixed_has_its_size Little k n)
 
-same_behind : (order : Order) (k n : ℕ) (w : List ℕ)
+same_after : (order : Order) (k n : ℕ) (w : List ℕ)
     → length (fixed_bytes order k n ++ w) ≡ length (fixed_bytes Little k n ++ w)
-same_behind order k n w =
+same_after order k n w =
     omega (
       arith,
       length-append (fixed_bytes order k n) w,
@@ -35,12 +35,12 @@ same_behind order k n w =
 
 pub length-value : (order : Order) (format : Format) (f : Form) (v : Value)
     → length (value_bytes order format f v) ≡ length (value_bytes Little format f v)
-length-value order format form.Block2 (block w) = same_behind order 2 (length w) w
-length-value order format form.Block4 (block w) = same_behind order 4 (length w) w
+length-value order format form.Block2 (block w) = same_after order 2 (length w) w
+length-value order format form.Block4 (block w) = same_after order 4 (length w) w
 length-value order format form.Data2 (number n) = same_size order 2 n
 length-value order format form.Data4 (number n) = same_size order 4 n
 length-value order format form.Data8 (number n) = same_size order 8 n
-length-value order format form.Block1 (block w) = same_behind order 1 (length w) w
+length-value order format form.Block1 (block w) = same_after order 1 (length w) w
 length-value order format form.Data1 (number n) = same_size order 1 n
 length-value order format form.Strp (str n) = same_size order (offset_size format) n
 length-value order format form.StrpSup (str_sup n) = same_size order (offset_size format) n

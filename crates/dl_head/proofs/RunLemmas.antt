@@ -56,18 +56,18 @@ took_of_piece order b bytes n used last t = record {
       ∙ ap (λ (l : List ℕ). l ++ drop n bytes) e
 
 -- k bytes that came to nothing, and then more
-took_behind : (order : Order) (b bytes : List ℕ) (k used : ℕ) (first last : HeadStep) → Took order b bytes k first
+took_after : (order : Order) (b bytes : List ℕ) (k used : ℕ) (first last : HeadStep) → Took order b bytes k first
     → so_far first ≡ answer.More
     → Took order (b ++ take k bytes) (drop k bytes) used last → Took order b bytes (k + used) last
-took_behind order b bytes k used first last t goes o = record {
+took_after order b bytes k used first last t goes o = record {
   within = omega (arith, t.within, o.within, length-drop k bytes);
   answers = subst (λ (l : List ℕ). Answers order l (so_far last)) (joined b bytes k used) o.answers;
   before = λ i lt. elim (cases_lt i k) [
     | inl shorter ↦ t.before i shorter
-    | inr behind ↦
+    | inr tail ↦
         let more : Answers order ((b ++ take k bytes) ++ take (i - k) (drop k bytes)) answer.More =
-        o.before (i - k) (omega (arith, lt, behind)) in
-        let same : k + (i - k) ≡ i = omega (arith, behind) in
+        o.before (i - k) (omega (arith, lt, tail)) in
+        let same : k + (i - k) ≡ i = omega (arith, tail) in
         subst (λ (m : ℕ). Answers order (b ++ take m bytes) answer.More) same
         (subst (λ (l : List ℕ). Answers order l answer.More) (joined b bytes k (i - k)) more)
   ];
@@ -103,9 +103,9 @@ goes_of answer.Done e = absurd cc
 goes_of (answer.Fault f) e = absurd cc
 
 -- after an answer that others follow
-goes_behind : (order : Order) (b bytes : List ℕ) (n : ℕ) (a : Answer HeadStep) → Answered order b (take n bytes) a
+goes_after : (order : Order) (b bytes : List ℕ) (n : ℕ) (a : Answer HeadStep) → Answered order b (take n bytes) a
     → so_far a.gave ≡ answer.More → Answers order (b ++ take a.used bytes) answer.More
-goes_behind order b bytes n a answered goes =
+goes_after order b bytes n a answered goes =
     subst (λ (s : HeadStep). Answers order (b ++ take a.used bytes) s) goes
     (took_of_piece order b bytes n a.used a.gave answered.took).answers
 
@@ -123,10 +123,10 @@ trace_took order b bytes (n ∷ turns) (a ∷ c ∷ answers) more t = elim (true
   | inl is ↦
       let goes = more_of a.gave is in
       subst (λ (k : ℕ). Took order b bytes k (last_given c.gave answers)) (sym (used_cons a (c ∷ answers)))
-      (took_behind order b bytes a.used (used_in (c ∷ answers)) a.gave (last_given c.gave answers)
+      (took_after order b bytes a.used (used_in (c ∷ answers)) a.gave (last_given c.gave answers)
       (took_of_piece order b bytes n a.used a.gave t.0.took) goes
       (trace_took order (b ++ take a.used bytes) (drop a.used bytes) turns (c ∷ answers)
-      (goes_behind order b bytes n a t.0 goes) (t.2 is)))
+      (goes_after order b bytes n a t.0 goes) (t.2 is)))
   | inr is ↦ (let none : c ∷ answers ≡ [] = t.1 is in absurd cc)
 ]
 
@@ -149,10 +149,10 @@ trace_moves order b bytes [] answers first more t goes = inr (omega arith)
 trace_moves order b bytes (n ∷ turns) [] first more t goes = absurd t
 trace_moves order b bytes (n ∷ turns) (a ∷ answers) first more t goes =
     let is = goes_first goes_on a answers t.1 goes in
-    let behind = goes_behind order b bytes n a t.0 (more_of a.gave is) in
-    let moves = trace_moves order (b ++ take a.used bytes) (drop a.used bytes) turns answers a.gave behind (t.2 is)
+    let tail = goes_after order b bytes n a t.0 (more_of a.gave is) in
+    let moves = trace_moves order (b ++ take a.used bytes) (drop a.used bytes) turns answers a.gave tail (t.2 is)
     goes in
-    let within = (trace_took order (b ++ take a.used bytes) (drop a.used bytes) turns answers behind (t.2 is)).within in
+    let within = (trace_took order (b ++ take a.used bytes) (drop a.used bytes) turns answers tail (t.2 is)).within in
     subst (λ (k : ℕ). Moves bytes (n ∷ turns) k (refusals (a ∷ answers))) (sym (used_cons a answers))
     (subst (λ (k : ℕ). Moves bytes (n ∷ turns) (a.used + used_in answers) k)
     (sym (sum_by-cons (λ (c : Answer HeadStep). cond (is_refusal c.gave) 1 0) a answers))

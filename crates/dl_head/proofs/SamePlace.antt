@@ -10,7 +10,7 @@ use Rattle.dl_field.specs.Layout.{Layout, Item}
 use Rattle.dl_head.specs.HeadStep.{end_near, lengths_fit, tables_fit, formats_fit, AreStandard}
 use Rattle.dl_table.specs.TableCells.{table_cells}
 use Rattle.dl_head.specs.TableSpelt.{TableStands}
-use Rattle.dl_head.specs.Place.{AtStart, Early, Behind, Late, InTable, AtPhase}
+use Rattle.dl_head.specs.Place.{AtStart, Early, Past, Late, InTable, AtPhase}
 
 -- the ghost fields of a reader, which each write proves anew
 pub record Guards (r : HeadReader) : Type 0 where
@@ -61,9 +61,9 @@ start_counted r g s t items e =
       before = record { no_lengths = e.before.no_lengths; fresh = e.before.fresh };
     }
 
-behind_counted : (r : HeadReader) (g : Guards r) (s t : ℕ) (items : List Item) (l : Layout) → Behind r items l
-    → Behind (counted r g s t) items l
-behind_counted r g s t items l e =
+after_counted : (r : HeadReader) (g : Guards r) (s t : ℕ) (items : List Item) (l : Layout) → Past r items l
+    → Past (counted r g s t) items l
+after_counted r g s t items l e =
     record {
       follows = e.follows;
       unit = e.unit;
@@ -75,12 +75,12 @@ behind_counted r g s t items l e =
 
 late_counted : (r : HeadReader) (g : Guards r) (s t : ℕ) (items : List Item) (l : Layout) → Late r items l
     → Late (counted r g s t) items l
-late_counted r g s t items l e = record { behind = behind_counted r g s t items l e.behind; fresh = e.fresh }
+late_counted r g s t items l e = record { tail = after_counted r g s t items l e.tail; fresh = e.fresh }
 
 table_counted : (r : HeadReader) (g : Guards r) (s t : ℕ) (items : List Item) (rest : List ℕ)
     (next : TableData → Layout) → InTable r items rest next → InTable (counted r g s t) items rest next
 table_counted r g s t items rest next e =
-    record { layout = e.layout; behind = behind_counted r g s t items e.layout e.behind; at = e.at; going = e.going }
+    record { layout = e.layout; tail = after_counted r g s t items e.layout e.tail; at = e.at; going = e.going }
 
 pub at_counted : (r : HeadReader) (g : Guards r) (s t : ℕ) (p : Phase) (items : List Item) (rest : List ℕ)
     → AtPhase r p items rest → AtPhase (counted r g s t) p items rest
@@ -101,7 +101,7 @@ at_counted r g s t (phase.Byte field.OpcodeBase) items rest at = (late_counted r
 at_counted r g s t phase.OpcodeLength items rest at = (late_counted r g s t items _ at.0, at.1)
 at_counted r g s t phase.Directories items rest at = table_counted r g s t items rest _ at
 at_counted r g s t phase.Files items rest at = table_counted r g s t items rest _ at
-at_counted r g s t phase.Padding items rest at = behind_counted r g s t items _ at
+at_counted r g s t phase.Padding items rest at = after_counted r g s t items _ at
 at_counted r g s t (phase.Foreign v) items rest at = (early_counted r g s t items _ at.0, at.1)
 at_counted r g s t phase.Done items rest at = absurd at
 at_counted r g s t (phase.Failed f) items rest at = absurd at

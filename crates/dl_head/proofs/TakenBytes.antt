@@ -28,7 +28,7 @@ use Rattle.dl_head.specs.Header.{Cut, cut, header_end, unit_end, foreign_made, f
 use Rattle.dl_head.specs.Refusal.{or_else, bad_kind, field_overrun, header_overrun, cut_decided, header_decided}
 use Rattle.dl_head.specs.HeadStep.{end_near}
 use Rattle.dl_field.specs.TablePlace.{TableAt}
-use Rattle.dl_head.specs.Place.{Behind, AtPhase, from_byte, from_length, length_item}
+use Rattle.dl_head.specs.Place.{Past, AtPhase, from_byte, from_length, length_item}
 use Rattle.dl_num.specs.NumberBytes.{number_bytes}
 use Rattle.dl_head.specs.Standing.{Below, Live, ending}
 use Rattle.dl_head.specs.Reading.{Answers}
@@ -109,7 +109,7 @@ table_next order t table.Whole format next layout rest at going = absurd (going 
 
 pub data Place (r : HeadReader) (p : Phase) (items : List Item) : Type 0 where
   in_field : ending p ≡ None → (p ≡ phase.Padding → ⊥) → IsNext (following_all header_layout items) → Place r p items
-  in_padding : p ≡ phase.Padding → Behind r items (from_end r.params r.directories r.files) → Place r p items
+  in_padding : p ≡ phase.Padding → Past r items (from_end r.params r.directories r.files) → Place r p items
   in_foreign : (v : ℕ) → p ≡ phase.Foreign v → following_all header_layout items ≡ foreign_version v → Place r p items
 
 next_of : (items is : List Item) → items ≡ is → IsNext (following_all header_layout is)
@@ -141,14 +141,14 @@ place_of r (phase.HeaderLength n) items rest e at = in_field refl (λ q. absurd 
 place_of r (phase.Byte f) items rest e at = in_field refl (λ q. absurd cc)
     (subst IsNext (sym (byte_follows r f items rest at).0) (byte_next f r.unit_length r.params))
 place_of r phase.OpcodeLength items rest e at =
-    in_field refl (λ q. absurd cc) (subst IsNext (sym at.0.behind.follows) (length_next r e))
+    in_field refl (λ q. absurd cc) (subst IsNext (sym at.0.tail.follows) (length_next r e))
 place_of r phase.Directories items rest e at =
     in_field refl (λ q. absurd cc)
-    (subst IsNext (sym at.behind.follows)
+    (subst IsNext (sym at.tail.follows)
     (table_next r.order r.table r.table.phase r.params.format _ at.layout rest at.at at.going))
 place_of r phase.Files items rest e at =
     in_field refl (λ q. absurd cc)
-    (subst IsNext (sym at.behind.follows)
+    (subst IsNext (sym at.tail.follows)
     (table_next r.order r.table r.table.phase r.params.format _ at.layout rest at.at at.going))
 place_of r phase.Padding items rest e at = in_padding refl at
 place_of r (phase.Foreign v) items rest e at =
@@ -184,15 +184,15 @@ initial_of r (phase.VersionEnd first) items rest at none = known r.end _ at.0.en
 initial_of r (phase.HeaderLength n) items rest at none = known r.end _ at.0.end none
 initial_of r (phase.Byte field.AddressSize) items rest at none = known r.end _ at.0.end none
 initial_of r (phase.Byte field.SegmentSelectorSize) items rest at none = known r.end _ at.0.end none
-initial_of r (phase.Byte field.MinimumInstructionLength) items rest at none = known r.end _ at.0.behind.end none
-initial_of r (phase.Byte field.MaximumOperations) items rest at none = known r.end _ at.0.behind.end none
-initial_of r (phase.Byte field.DefaultIsStmt) items rest at none = known r.end _ at.0.behind.end none
-initial_of r (phase.Byte field.LineBase) items rest at none = known r.end _ at.0.behind.end none
-initial_of r (phase.Byte field.LineRange) items rest at none = known r.end _ at.0.behind.end none
-initial_of r (phase.Byte field.OpcodeBase) items rest at none = known r.end _ at.0.behind.end none
-initial_of r phase.OpcodeLength items rest at none = known r.end _ at.0.behind.end none
-initial_of r phase.Directories items rest at none = known r.end _ at.behind.end none
-initial_of r phase.Files items rest at none = known r.end _ at.behind.end none
+initial_of r (phase.Byte field.MinimumInstructionLength) items rest at none = known r.end _ at.0.tail.end none
+initial_of r (phase.Byte field.MaximumOperations) items rest at none = known r.end _ at.0.tail.end none
+initial_of r (phase.Byte field.DefaultIsStmt) items rest at none = known r.end _ at.0.tail.end none
+initial_of r (phase.Byte field.LineBase) items rest at none = known r.end _ at.0.tail.end none
+initial_of r (phase.Byte field.LineRange) items rest at none = known r.end _ at.0.tail.end none
+initial_of r (phase.Byte field.OpcodeBase) items rest at none = known r.end _ at.0.tail.end none
+initial_of r phase.OpcodeLength items rest at none = known r.end _ at.0.tail.end none
+initial_of r phase.Directories items rest at none = known r.end _ at.tail.end none
+initial_of r phase.Files items rest at none = known r.end _ at.tail.end none
 initial_of r phase.Padding items rest at none = known r.end _ at.end none
 initial_of r (phase.Foreign v) items rest at none = known r.end _ at.0.end none
 initial_of r phase.Done items rest at none = absurd at
@@ -269,7 +269,7 @@ foreign_of order b items rest e = ap (λ (c : Cut). foreign_made (following_all 
 pub not_foreign : (r : HeadReader) (p : Phase) (items : List Item) → ending p ≡ None → Place r p items
     → foreign_made (following_all header_layout items) ≡ None
 not_foreign r p items goes (in_field none out next) = next_not_foreign (following_all header_layout items) next
-not_foreign r p items goes (in_padding is behind) = ap foreign_made behind.follows
+not_foreign r p items goes (in_padding is tail) = ap foreign_made tail.follows
 not_foreign r p items goes (in_foreign v is follows) = absurd (none_some goes (ap ending is))
 
 -- bytes that end inside a field, before the end, come to nothing

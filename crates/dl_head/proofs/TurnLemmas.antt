@@ -56,9 +56,9 @@ module _ {A : Type 0} (May : List ℕ → List ℕ → Answer A → Type 0) (goe
   trace_on b bytes (m ∷ turns) (c ∷ answers) n later a first t goes may last =
       let more = goes_first goes_on c answers t.1 goes in
       let used = used_in answers in
-      let behind = subst (λ (k : ℕ). May (b ++ take k bytes) (take n (drop k bytes)) a) (used_cons c answers) may in
+      let tail = subst (λ (k : ℕ). May (b ++ take k bytes) (take n (drop k bytes)) a) (used_cons c answers) may in
       let here = subst (λ (l : List ℕ). May l (take n (drop (c.used + used) bytes)) a)
-      (sym (joined b bytes c.used used)) behind in (
+      (sym (joined b bytes c.used used)) tail in (
         t.0,
         λ ends. absurd (true_false more ends),
         λ is. trace_on (b ++ take c.used bytes) (drop c.used bytes) turns answers n later a c.gave (t.2 is) goes
@@ -99,11 +99,11 @@ module _ {A : Type 0} (May : List ℕ → List ℕ → Answer A → Type 0) (goe
 
   -- the turn that was answered last
   pub record LastTurn (b bytes : List ℕ) (answers : List (Answer A)) (first : A) : Type 0 where
-    pub behind : ℕ
+    pub tail : ℕ
     pub n : ℕ
     pub answer : Answer A
-    pub may : May (b ++ take behind bytes) (take n (drop behind bytes)) answer
-    pub total : used_in answers ≡ behind + answer.used
+    pub may : May (b ++ take tail bytes) (take n (drop tail bytes)) answer
+    pub total : used_in answers ≡ tail + answer.used
     pub is_last : last_given first answers ≡ answer.gave
 
   pub last_turn : (b bytes turns : List ℕ) (a : Answer A) (answers : List (Answer A)) (first : A)
@@ -111,7 +111,7 @@ module _ {A : Type 0} (May : List ℕ → List ℕ → Answer A → Type 0) (goe
   last_turn b bytes turns a [] first t =
       let r = trace_rest b bytes turns a [] t in
       record {
-        behind = 0;
+        tail = 0;
         n = r.0;
         answer = a;
         may = subst (λ (l : List ℕ). May l (take r.0 bytes) a)
@@ -123,13 +123,13 @@ module _ {A : Type 0} (May : List ℕ → List ℕ → Answer A → Type 0) (goe
       let r = trace_rest b bytes turns a (c ∷ answers) t in
       let l = last_turn (b ++ take a.used bytes) (drop a.used bytes) r.1 c answers a.gave r.3 in
       record {
-        behind = a.used + l.behind;
+        tail = a.used + l.tail;
         n = l.n;
         answer = l.answer;
-        may = subst (λ (d : List ℕ). May (b ++ take (a.used + l.behind) bytes) (take l.n d) l.answer)
-            (drop-drop l.behind a.used bytes)
-            (subst (λ (d : List ℕ). May d (take l.n (drop l.behind (drop a.used bytes))) l.answer)
-            (joined b bytes a.used l.behind) l.may);
+        may = subst (λ (d : List ℕ). May (b ++ take (a.used + l.tail) bytes) (take l.n d) l.answer)
+            (drop-drop l.tail a.used bytes)
+            (subst (λ (d : List ℕ). May d (take l.n (drop l.tail (drop a.used bytes))) l.answer)
+            (joined b bytes a.used l.tail) l.may);
         total = used_cons a (c ∷ answers) ∙ ap (λ (k : ℕ). a.used + k) l.total ∙ omega arith;
         is_last = l.is_last;
       }

@@ -209,9 +209,9 @@ whole_taken r new b w on l next made adds same header start taken below = record
 -- ---- in a table
 
 -- what follows the current table
-abbrev pub behind_table : Phase → Params → TableData → (TableData → Layout)
-behind_table phase.Directories p directories = from_files p
-behind_table other p directories = from_end p directories
+abbrev pub after_the_table : Phase → Params → TableData → (TableData → Layout)
+after_the_table phase.Directories p directories = from_files p
+after_the_table other p directories = from_end p directories
 
 -- what holds in both tables
 by_table : (P : Phase → Type 0) → P phase.Directories → P phase.Files → (p : Phase) → in_table p ≡ true → P p
@@ -230,15 +230,15 @@ by_table P directories files (phase.Foreign v) is = absurd cc
 by_table P directories files (phase.Failed f) is = absurd cc
 
 table_of_phase : (r : HeadReader) (p : Phase) (items : List Item) (rest : List ℕ) → in_table p ≡ true
-    → AtPhase r p items rest → InTable r items rest (behind_table p r.params r.directories)
+    → AtPhase r p items rest → InTable r items rest (after_the_table p r.params r.directories)
 table_of_phase r p items rest is = by_table
-    (λ q. AtPhase r q items rest → InTable r items rest (behind_table q r.params r.directories)) (λ at. at) (λ at. at) p
+    (λ q. AtPhase r q items rest → InTable r items rest (after_the_table q r.params r.directories)) (λ at. at) (λ at. at) p
     is
 
 pub phase_of_table : (r : HeadReader) (p : Phase) (items : List Item) (rest : List ℕ) → in_table p ≡ true
-    → InTable r items rest (behind_table p r.params r.directories) → AtPhase r p items rest
+    → InTable r items rest (after_the_table p r.params r.directories) → AtPhase r p items rest
 phase_of_table r p items rest is = by_table
-    (λ q. InTable r items rest (behind_table q r.params r.directories) → AtPhase r q items rest) (λ at. at) (λ at. at) p
+    (λ q. InTable r items rest (after_the_table q r.params r.directories) → AtPhase r q items rest) (λ at. at) (λ at. at) p
     is
 
 pub table_goes : (p : Phase) → in_table p ≡ true → ending p ≡ None
@@ -247,13 +247,13 @@ table_goes p is = by_table (λ q. ending q ≡ None) refl refl p is
 next_field : (r : HeadReader) (p : Phase) (items : List Item) → in_table p ≡ true → Place r p items
     → IsNext (following_all header_layout items)
 next_field r p items is (in_field goes out next) = next
-next_field r p items is (in_padding e behind) = absurd (true_false is (ap in_table e))
+next_field r p items is (in_padding e tail) = absurd (true_false is (ap in_table e))
 next_field r p items is (in_foreign v e follows) = absurd (true_false is (ap in_table e))
 
 -- nothing of a value is taken
 pub value_refused : (r new : HeadReader) (b : List ℕ) → in_table r.phase ≡ true → SameTable r.table new.table
     → SameFields r new → SameCounts r new
-    → ((is : List Item) (w : List ℕ) → InTable new is w (behind_table r.phase r.params r.directories) → At new is w)
+    → ((is : List Item) (w : List ℕ) → InTable new is w (after_the_table r.phase r.params r.directories) → At new is w)
     → held_cells new ≡ table_cells r.directories + table_cells r.files + reader_cells new.table
     → StandsFor r b → Answers r.order b answer.More → TakesAll r.order b [] new
 value_refused r new b table same fields counts to held s more =
@@ -266,35 +266,35 @@ value_refused r new b table same fields counts to held s more =
     (omega (arith, held, ap length same.pairs, ap length same.values, ap length same.pool))) more
 
 -- the bytes that a value takes of a piece
-front_of : (piece bytes front behind : List ℕ) (len : ℕ) → bytes ≡ take len piece → bytes ≡ front ++ behind
-    → take (length bytes - length behind) piece ≡ front
-front_of piece bytes front behind len e f =
-    let size : length bytes - length behind ≡ length front = omega (arith, ap length f, length-append front behind) in
-    let whole : piece ≡ front ++ (behind ++ drop len piece) = sym (take-append-drop len piece)
-    ∙ ap (λ (l : List ℕ). l ++ drop len piece) (sym e ∙ f) ∙ append_assoc front behind (drop len piece) in
+front_of : (piece bytes front tail : List ℕ) (len : ℕ) → bytes ≡ take len piece → bytes ≡ front ++ tail
+    → take (length bytes - length tail) piece ≡ front
+front_of piece bytes front tail len e f =
+    let size : length bytes - length tail ≡ length front = omega (arith, ap length f, length-append front tail) in
+    let whole : piece ≡ front ++ (tail ++ drop len piece) = sym (take-append-drop len piece)
+    ∙ ap (λ (l : List ℕ). l ++ drop len piece) (sym e ∙ f) ∙ append_assoc front tail (drop len piece) in
     ap (λ (n : ℕ). take n piece) size ∙ ap (λ (l : List ℕ). take (length front) l) whole
-    ∙ take-append_seam front (behind ++ drop len piece)
+    ∙ take-append_seam front (tail ++ drop len piece)
 
 -- a value is taken
-pub value_whole : (r new : HeadReader) (b piece bytes behind : List ℕ) → in_table r.phase ≡ true
+pub value_whole : (r new : HeadReader) (b piece bytes tail : List ℕ) → in_table r.phase ≡ true
     → ending new.phase ≡ None → IsInside r piece bytes
-    → (v : TakesValue r.order r.params.format r.table bytes behind new.table)
-    → SameFields r new → ((is : List Item) (w : List ℕ) → InTable new is w (behind_table r.phase r.params r.directories)
+    → (v : TakesValue r.order r.params.format r.table bytes tail new.table)
+    → SameFields r new → ((is : List Item) (w : List ℕ) → InTable new is w (after_the_table r.phase r.params r.directories)
     → At new is w)
     → held_cells new ≡ table_cells r.directories + table_cells r.files + reader_cells new.table → new.header ≡ r.header
     → new.start ≡ new.taken
-    → new.taken ≡ min (r.taken + (length bytes - length behind)) (2 ^ 64 - 1) → StandsFor r b
-    → TakesAll r.order b (take (length bytes - length behind) piece) new
-value_whole r new b piece bytes behind table on inside v fields to held header start taken s =
+    → new.taken ≡ min (r.taken + (length bytes - length tail)) (2 ^ 64 - 1) → StandsFor r b
+    → TakesAll r.order b (take (length bytes - length tail) piece) new
+value_whole r new b piece bytes tail table on inside v fields to held header start taken s =
     subst (λ (l : List ℕ). TakesAll r.order b l new)
-    (sym (front_of piece bytes v.front behind inside.len inside.bytes_are v.bytes_are))
+    (sym (front_of piece bytes v.front tail inside.len inside.bytes_are v.bytes_are))
     (whole_taken r new b v.front on l
     (next_field r r.phase l.0.items table (place_of r r.phase l.0.items l.0.rest refl l.0.at))
     (table_goes_on r new new.table l.0.items l.0.rest v.front byte_makes.Ends _ at v.follows v.going refl fields to)
     (table_adds r new.table l.0.items l.0.rest v.front byte_makes.Ends _
     (table_cells r.directories + table_cells r.files) (held_cells new) at v.follows refl held)
     fields header (omega (arith, start, counted)) counted
-    (subst (λ (o : Option ℕ). Below (length b + length v.front) o) (sym at.behind.end)
+    (subst (λ (o : Option ℕ). Below (length b + length v.front) o) (sym at.tail.end)
     (omega (arith, lt, size, s.taken))))
   where
     goes : ending r.phase ≡ None
@@ -303,20 +303,20 @@ value_whole r new b piece bytes behind table on inside v fields to held header s
     l : Live r b × Unmade r b
     l = live_of r b goes s
 
-    at : InTable r l.0.items l.0.rest (behind_table r.phase r.params r.directories)
+    at : InTable r l.0.items l.0.rest (after_the_table r.phase r.params r.directories)
     at = table_of_phase r r.phase l.0.items l.0.rest table l.0.at
 
-    below : length b < at.behind.header
-    below = subst (λ (o : Option ℕ). Below (length b) o) at.behind.end l.0.below
+    below : length b < at.tail.header
+    below = subst (λ (o : Option ℕ). Below (length b) o) at.tail.end l.0.below
 
-    lt : r.taken + length bytes < at.behind.header
-    lt = inside.below at.behind.header at.behind.end (omega (arith, below, s.taken))
+    lt : r.taken + length bytes < at.tail.header
+    lt = inside.below at.tail.header at.tail.end (omega (arith, below, s.taken))
 
-    near : at.behind.header ≤ 2 ^ 41
-    near = leb-true at.behind.header (2 ^ 41) (subst (λ (o : Option ℕ). end_near o ≡ true) at.behind.end r.near)
+    near : at.tail.header ≤ 2 ^ 41
+    near = leb-true at.tail.header (2 ^ 41) (subst (λ (o : Option ℕ). end_near o ≡ true) at.tail.end r.near)
 
-    size : length bytes ≡ length v.front + length behind
-    size = ap length v.bytes_are ∙ length-append v.front behind
+    size : length bytes ≡ length v.front + length tail
+    size = ap length v.bytes_are ∙ length-append v.front tail
 
     counted : new.taken ≡ length b + length v.front
     counted = omega (arith, taken, lt, near, size, s.taken)
@@ -334,12 +334,12 @@ piece_bytes [] h = tt
 piece_bytes (b ∷ w) h = (h 0 (omega arith), piece_bytes w (λ i lt. h (suc i) (omega arith)))
 
 -- the bytes of a value that is taken of a piece
-pub front_is_bytes : (piece bytes front behind : List ℕ) (len : ℕ) → bytes ≡ take len piece → bytes ≡ front ++ behind
+pub front_is_bytes : (piece bytes front tail : List ℕ) (len : ℕ) → bytes ≡ take len piece → bytes ≡ front ++ tail
     → ((i : ℕ) → i < length piece → get_or piece i 0 < 256) → AllBytes front
-front_is_bytes piece bytes front behind len e f h =
+front_is_bytes piece bytes front tail len e f h =
     let first : AllBytes (take len piece) = front_bytes (take len piece) (drop len piece)
     (subst AllBytes (sym (take-append-drop len piece)) (piece_bytes piece h)) in
-    front_bytes front behind (subst AllBytes (sym e ∙ f) first)
+    front_bytes front tail (subst AllBytes (sym e ∙ f) first)
 
 -- ---- a piece
 
@@ -352,10 +352,10 @@ offering_whole order b piece i n r new o le t = record {
   more = front n (omega arith);
   before = λ j lt. elim (cases_lt j i) [
     | inl shorter ↦ o.before j shorter
-    | inr behind ↦
-        let same : i + (j - i) ≡ j = omega (arith, behind) in
+    | inr tail ↦
+        let same : i + (j - i) ≡ j = omega (arith, tail) in
         subst (λ (m : ℕ). Answers order (b ++ take m piece) answer.More) same
-        (front (j - i) (omega (arith, lt, behind)))
+        (front (j - i) (omega (arith, lt, tail)))
   ];
 } where
   front : (j : ℕ) → j ≤ n → Answers order (b ++ take (i + j) piece) answer.More

@@ -65,7 +65,7 @@ pub record Early (r : HeadReader) (items is : List Item) : Type 0 where
   pub before : IsBefore r
 
 -- the fields after header_length
-pub record Behind (r : HeadReader) (items : List Item) (layout : Layout) : Type 0 where
+pub record Past (r : HeadReader) (items : List Item) (layout : Layout) : Type 0 where
   pub follows : following_all header_layout items ≡ layout
   pub unit : unit_end items ≡ Some (end_of_unit r)
   pub header : ℕ
@@ -75,13 +75,13 @@ pub record Behind (r : HeadReader) (items : List Item) (layout : Layout) : Type 
 
 -- those of them before the tables
 pub record Late (r : HeadReader) (items : List Item) (layout : Layout) : Type 0 where
-  pub behind : Behind r items layout
+  pub tail : Past r items layout
   pub fresh : IsFresh r.table
 
 -- the reader is in the bytes rest of a field of the current table, which next follows
 pub record InTable (r : HeadReader) (items : List Item) (rest : List ℕ) (next : TableData → Layout) : Type 0 where
   pub layout : Layout
-  pub behind : Behind r items layout
+  pub tail : Past r items layout
   pub at : TableAt r.order r.table r.table.phase r.params.format next layout rest
   pub going : r.table.phase ≡ table.Whole → ⊥
 
@@ -121,7 +121,7 @@ AtPhase r (phase.Byte f) items rest = Late r items (from_byte f r.unit_length r.
 AtPhase r phase.OpcodeLength items rest = Late r items (from_length r.params) × (rest ≡ [])
 AtPhase r phase.Directories items rest = InTable r items rest (from_files r.params)
 AtPhase r phase.Files items rest = InTable r items rest (from_end r.params r.directories)
-AtPhase r phase.Padding items rest = Behind r items (from_end r.params r.directories r.files)
+AtPhase r phase.Padding items rest = Past r items (from_end r.params r.directories r.files)
 AtPhase r (phase.Foreign v) items rest = Early r items (length_item r ∷ number_is v ∷ []) × (v ≢ 5)
 AtPhase r p items rest = ⊥
 

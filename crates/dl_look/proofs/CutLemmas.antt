@@ -112,7 +112,7 @@ module _ (old now : List (Option ℕ)) (next mid further : List ℕ) (low high a
       sym (ap is_none (new_other j ne ∙ c.given j less ∙ as_was)) ∙ sym (new_opens j less)
       ∙ closed j (omega arith) between in
       as_was ∙ sym (or-some (get_or old j None) (picked at' j) has)))
-      (λ behind. ap (option_or (get_or old j None)) (alike j ne (inr behind)))
+      (λ tail. ap (option_or (get_or old j None)) (alike j ne (inr tail)))
       (cases_lt j at'))
       (cases_lt j at)
 
@@ -131,7 +131,7 @@ module _ (old now : List (Option ℕ)) (next mid further : List ℕ) (low high a
       ⊎_elim
       (λ earlier. stay j (omega (arith, c.links)) ∙ others j (omega (arith, c.links)) (omega arith)
       ∙ c.closed j from earlier)
-      (λ behind. ⊎_elim
+      (λ tail. ⊎_elim
       (λ is. stay j (omega (arith, c.links)) ∙ ap (is_open mid) is ∙ shut)
       (λ ne. closed j (omega arith) under)
       (cases_eq j at))

@@ -115,8 +115,8 @@ module _ (slots : List Slot) (trail new : List Stretch) (last : Row) (end end' :
       else None) (covers_before x ∙ ap (λ b. is_at_most (first_place s) x && b) (below ∙ sym further)
       ∙ sym (covers_more x)) (sym (upto_before x further))
 
-  rows_behind : (j : ℕ) → j < length slots → end ≤ j → row_at new end' j ≡ row_so_far (slot_place slots j) (s ++ r ∷ [])
-  rows_behind j lt more =
+  rows_later : (j : ℕ) → j < length slots → end ≤ j → row_at new end' j ≡ row_so_far (slot_place slots j) (s ++ r ∷ [])
+  rows_later j lt more =
       let x = slot_place slots j in
       let above = a.split j lt ∙ le-ltb j end more in
       let from = not_below-at_most x (place_of last) above in
@@ -135,7 +135,7 @@ module _ (slots : List Slot) (trail new : List Stretch) (last : Row) (end end' :
       else None) (covers_more x ∙ ap (λ b. b && is_below x (place_of r)) started))
 
   pub rows_more : (j : ℕ) → j < length slots → row_at new end' j ≡ row_so_far (slot_place slots j) (s ++ r ∷ [])
-  rows_more j lt = ⊎_elim (rows_before j lt) (rows_behind j lt) (cases_lt j end)
+  rows_more j lt = ⊎_elim (rows_before j lt) (rows_later j lt) (cases_lt j end)
 
   pub rising_more : is_rising (s ++ r ∷ []) ≡ true
   rising_more =

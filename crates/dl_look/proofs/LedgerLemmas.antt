@@ -293,8 +293,8 @@ module _ (slots : List Slot) (old now mid : Ledger) (low high at further : ℕ) 
       (λ under. ap (λ (b : Bool). option_or (answer_before j) (if b then Some row else None)) (alike j ne (inl under)))
       (λ from. ⊎_elim
       (λ between. passes j less (omega arith) between)
-      (λ behind. ap (λ (b : Bool). option_or (answer_before j) (if b then Some row else None))
-      (alike j ne (inr behind)))
+      (λ tail. ap (λ (b : Bool). option_or (answer_before j) (if b then Some row else None))
+      (alike j ne (inr tail)))
       (cases_lt j further))
       (cases_lt j at)
 
@@ -314,7 +314,7 @@ module _ (slots : List Slot) (old now mid : Ledger) (low high at further : ℕ) 
       let m = sound.links in
       ⊎_elim
       (λ earlier. stay j (omega arith) ∙ others j (omega arith) (omega arith) ∙ g.closed j from earlier)
-      (λ behind. ⊎_elim
+      (λ tail. ⊎_elim
       (λ is. stay j (omega arith) ∙ ap (is_open mid.links.next.items) is ∙ shut)
       (λ ne. closed j (omega arith) under)
       (cases_eq j at))

@@ -190,6 +190,6 @@ last_tells reaches a count last rises within some upto above read =
           (is_false (reach_start reaches k) (reach_end reaches k) a (λ from. elim (cases_lt k count) [
             | inl under ↦ (let ends = (rises k (count - 1) (omega (arith, under)) (omega (arith, within, some))).1 in
                 omega (arith, ends, e, past))
-            | inr behind ↦ (let b = above k behind lt in absurd (omega (arith, from, b)))
+            | inr tail ↦ (let b = above k tail lt in absurd (omega (arith, from, b)))
           ])))))
     ]

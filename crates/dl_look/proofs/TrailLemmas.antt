@@ -53,8 +53,8 @@ pub start_within : (trail : List Stretch) (end k : ℕ) → k < length trail
     → start_of (drop k trail) end ≡ (get_or trail k no_stretch).start
 start_within trail end k lt = ap (λ l. start_of l end) (drop_more trail k no_stretch lt)
 
-pub start_behind : (trail : List Stretch) (end k : ℕ) → length trail ≤ k → start_of (drop k trail) end ≡ end
-start_behind trail end k le = ap (λ l. start_of l end) (drop_all k trail le)
+pub start_after : (trail : List Stretch) (end k : ℕ) → length trail ≤ k → start_of (drop k trail) end ≡ end
+start_after trail end k le = ap (λ l. start_of l end) (drop_all k trail le)
 
 -- the slots before end are below the place, those from end on aren't
 pub split_at : (slots : List Slot) (place : Place) (end : ℕ)

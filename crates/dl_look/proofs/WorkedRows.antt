@@ -48,8 +48,8 @@ at_the_end_row = refl
 where_a_sequence_falls : line_at 0x25 ≡ None
 where_a_sequence_falls = refl
 
-behind_where_it_falls : line_at 0x35 ≡ None
-behind_where_it_falls = refl
+after_where_it_falls : line_at 0x35 ≡ None
+after_where_it_falls = refl
 
 without_an_end_row : line_at 0x55 ≡ None
 without_an_end_row = refl

@@ -4,7 +4,7 @@ use Rattle.dl_num.specs.declared.fixed.Order.{Order}
 use Rattle.dl_num.specs.Fixed.{fixed, fixed_bytes}
 use Rattle.dl_num.specs.Leb.{groups, IsUleb, IsSleb, IsShortestUleb, IsShortestSleb}
 use Rattle.dl_num.specs.Shortest.{shortest_uleb, shortest_sleb}
-use Rattle.dl_num.specs.LebFront.{is_leb, leb_front, behind_leb}
+use Rattle.dl_num.specs.LebFront.{is_leb, leb_front, after_leb}
 use Rattle.dl_num.specs.Front.{IsCut, standing}
 use Rattle.dl_num.specs.Steps.{Verdict, EndsWith}
 
@@ -33,7 +33,7 @@ LebIsTested = (w : List ℕ) (n : ℕ) → IsUleb w n ↔ (IsTrue (is_leb w) × 
 
 -- the front of a spelling and what follows it is the spelling
 abbrev pub LebIsFront : Type 0
-LebIsFront = (w v : List ℕ) (n : ℕ) → IsUleb w n → (leb_front (w ++ v) ≡ w) × (behind_leb (w ++ v) ≡ v)
+LebIsFront = (w v : List ℕ) (n : ℕ) → IsUleb w n → (leb_front (w ++ v) ≡ w) × (after_leb (w ++ v) ≡ v)
 
 -- the computed shortest spelling is one
 abbrev pub ComputedIsShortest : Type 0

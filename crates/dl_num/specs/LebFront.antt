@@ -13,5 +13,5 @@ leb_front [] = []
 leb_front (b ∷ w) = if nat_lt b 128 then b ∷ [] else b ∷ leb_front w
 
 -- what follows the number at the front
-abbrev pub behind_leb : List ℕ → List ℕ
-behind_leb w = drop (length (leb_front w)) w
+abbrev pub after_leb : List ℕ → List ℕ
+after_leb w = drop (length (leb_front w)) w

@@ -201,18 +201,18 @@ fn numbers_of_fixed_size(rt: HostRuntime) {
         }
         assert_eq!(rt; last, Some(value));
         let whole = PartialNumber::new(size).take_from(order, bytes);
-        let (found, behind) = whole.ok().expect(&rt, "a number");
+        let (found, tail) = whole.ok().expect(&rt, "a number");
         assert_eq!(rt; found, value);
-        assert!(rt; behind.is_empty());
+        assert!(rt; tail.is_empty());
     }
     let lacking = PartialNumber::new(4)
         .take_from(Order::Big, &[0x12, 0x34])
         .err();
     let lacking = lacking.expect(&rt, "a number that lacks bytes");
     let whole = lacking.take_from(Order::Big, &[0x56, 0x78, 0xaa]).ok();
-    let (found, behind) = whole.expect(&rt, "a number");
+    let (found, tail) = whole.expect(&rt, "a number");
     assert_eq!(rt; found, 0x1234_5678);
-    assert_eq!(rt; behind, [0xaa].as_slice());
+    assert_eq!(rt; tail, [0xaa].as_slice());
 }
 
 /// The examples of figures 7.7 and 7.8 of section 7.6, and spellings of three bytes by Python's
@@ -228,9 +228,9 @@ fn short_spellings(rt: HostRuntime) {
         (12857, &[0xb9, 0x64, 0xff]),
     ];
     for (number, bytes) in unsigned {
-        let (found, behind) = short_uleb_at_front(bytes).expect(&rt, "a number");
+        let (found, tail) = short_uleb_at_front(bytes).expect(&rt, "a number");
         assert_eq!(rt; found, number);
-        assert_eq!(rt; behind, [0xff].as_slice());
+        assert_eq!(rt; tail, [0xff].as_slice());
     }
     let signed: [(i64, &[u8]); 12] = [
         (2, &[0x02, 0xff]),
@@ -247,9 +247,9 @@ fn short_spellings(rt: HostRuntime) {
         (-1_048_576, &[0x80, 0x80, 0x40, 0xff]),
     ];
     for (number, bytes) in signed {
-        let (found, behind) = short_sleb_at_front(bytes).expect(&rt, "a number");
+        let (found, tail) = short_sleb_at_front(bytes).expect(&rt, "a number");
         assert_eq!(rt; found, number);
-        assert_eq!(rt; behind, [0xff].as_slice());
+        assert_eq!(rt; tail, [0xff].as_slice());
     }
     for bytes in [[].as_slice(), &[0x80], &[0x80, 0x80, 0x01]] {
         assert!(rt; short_uleb_at_front(bytes).is_none());

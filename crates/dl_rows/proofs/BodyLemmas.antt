@@ -119,20 +119,20 @@ discriminator_long order h left b old new v s one took =
 -- ---- bytes in two parts
 
 -- what bytes after front make of v and front, they and front make of v
-pub step_behind : (order : Order) (h : Params) (v front bytes : List ℕ) (r : OperationStep)
+pub step_after : (order : Order) (h : Params) (v front bytes : List ℕ) (r : OperationStep)
     → StepIs order h (v ++ front) bytes r → StepIs order h v (front ++ bytes) r
-step_behind order h v front bytes (step.Within p) s = (
+step_after order h v front bytes (step.Within p) s = (
   subst (λ (z : List ℕ). PhaseStands h p z) (append_assoc v front bytes) s.0,
   subst (λ (z : List ℕ). SpellsNowhere (operation_spelt order h) z) (append_assoc v front bytes) s.1,
 )
-step_behind order h v front bytes (step.Ends o behind) s = (
+step_after order h v front bytes (step.Ends o tail) s = (
   front ++ s.0,
-  ap (λ (z : List ℕ). front ++ z) s.1 ∙ sym (append_assoc front s.0 behind.now),
+  ap (λ (z : List ℕ). front ++ z) s.1 ∙ sym (append_assoc front s.0 tail.now),
   subst (λ (z : List ℕ). SpellsFirst (operation_spelt order h) z (Ok o)) (append_assoc v front s.0) s.2,
 )
-step_behind order h v front bytes (step.Refuses k behind) s = (
+step_after order h v front bytes (step.Refuses k tail) s = (
   front ++ s.0,
-  ap (λ (z : List ℕ). front ++ z) s.1 ∙ sym (append_assoc front s.0 behind.now),
+  ap (λ (z : List ℕ). front ++ z) s.1 ∙ sym (append_assoc front s.0 tail.now),
   subst (λ (z : List ℕ). SpellsFirst (operation_spelt order h) z (Err k)) (append_assoc v front s.0) s.2,
 )
 
@@ -140,13 +140,13 @@ step_behind order h v front bytes (step.Refuses k behind) s = (
 pub step_from : (order : Order) (h : Params) (v front rest bytes : List ℕ) (r : OperationStep) → bytes ≡ front ++ rest
     → StepIs order h (v ++ front) rest r → StepIs order h v bytes r
 step_from order h v front rest bytes r e s =
-    subst (λ (z : List ℕ). StepIs order h v z r) (sym e) (step_behind order h v front rest r s)
+    subst (λ (z : List ℕ). StepIs order h v z r) (sym e) (step_after order h v front rest r s)
 
 -- bytes that end after one of them, where v and the front before it are told of together
-pub ends_behind : (order : Order) (h : Params) (v front bytes behind : List ℕ) (b : ℕ) (a : Verdict)
-    → bytes ≡ (front ++ b ∷ []) ++ behind
-    → SpellsFirst (operation_spelt order h) ((v ++ front) ++ b ∷ []) a → EndsAs order h v bytes behind a
-ends_behind order h v front bytes behind b a e first = (
+pub ends_after : (order : Order) (h : Params) (v front bytes tail : List ℕ) (b : ℕ) (a : Verdict)
+    → bytes ≡ (front ++ b ∷ []) ++ tail
+    → SpellsFirst (operation_spelt order h) ((v ++ front) ++ b ∷ []) a → EndsAs order h v bytes tail a
+ends_after order h v front bytes tail b a e first = (
   front ++ b ∷ [],
   e,
   subst (λ (z : List ℕ). SpellsFirst (operation_spelt order h) z a) (append_assoc v front (b ∷ [])) first,
@@ -166,10 +166,10 @@ length_within order h old new v bytes s took =
           (length_begun order h s.0 (s.1.0 ++ bytes) t.continue),
     )
 
-pub length_beyond : (order : Order) (h : Params) (old new : Uleb) (v bytes behind : List ℕ) (e : LebRange)
-    → PhaseStands h (phase.Length old) v → Answered old bytes behind (Err e) new
-    → EndsAs order h v bytes behind (Err fault.LebRange)
-length_beyond order h old new v bytes behind e s answer =
+pub length_beyond : (order : Order) (h : Params) (old new : Uleb) (v bytes tail : List ℕ) (e : LebRange)
+    → PhaseStands h (phase.Length old) v → Answered old bytes tail (Err e) new
+    → EndsAs order h v bytes tail (Err fault.LebRange)
+length_beyond order h old new v bytes tail e s answer =
     let a = answer s.1.0 s.1.2 in
     let out = a.2 in (
       a.0,
@@ -181,14 +181,14 @@ length_beyond order h old new v bytes behind e s answer =
     )
 
 -- the length is complete, and the rest is what the bytes after it make
-pub length_read : (order : Order) (h : Params) (old new : Uleb) (v bytes behind : List ℕ) (n : ℕ) (r : OperationStep)
+pub length_read : (order : Order) (h : Params) (old new : Uleb) (v bytes tail : List ℕ) (n : ℕ) (r : OperationStep)
     → PhaseStands h (phase.Length old) v
-    → Answered old bytes behind (Ok n) new → ((w : List ℕ) → IsUleb w n → StepIs order h (0 ∷ w) behind r)
+    → Answered old bytes tail (Ok n) new → ((w : List ℕ) → IsUleb w n → StepIs order h (0 ∷ w) tail r)
     → StepIs order h v bytes r
-length_read order h old new v bytes behind n r s answer rest =
+length_read order h old new v bytes tail n r s answer rest =
     let a = answer s.1.0 s.1.2 in
-    step_from order h v a.0 behind bytes r a.1
-    (subst (λ (z : List ℕ). StepIs order h z behind r) (sym (ap (λ (z : List ℕ). z ++ a.0) s.1.1))
+    step_from order h v a.0 tail bytes r a.1
+    (subst (λ (z : List ℕ). StepIs order h z tail r) (sym (ap (λ (z : List ℕ). z ++ a.0) s.1.1))
     (rest (s.1.0 ++ a.0) a.2))
 
 pub length_of_zero : (order : Order) (h : Params) (w bytes : List ℕ) → 1 ≤ h.opcode_base → IsUleb w 0
@@ -213,10 +213,10 @@ extended_pends order h n v [] e s =
     )
 
 -- its number decides alone
-pub opcode_decides : (order : Order) (h : Params) (n x : ℕ) (v bytes behind : List ℕ) (a : Verdict)
-    → PhaseStands h (phase.Extended n) v → bytes ≡ x ∷ behind
-    → extended_spelt order h.address_size n x [] ≡ Some a → EndsAs order h v bytes behind a
-opcode_decides order h n x v bytes behind a s e is = (
+pub opcode_decides : (order : Order) (h : Params) (n x : ℕ) (v bytes tail : List ℕ) (a : Verdict)
+    → PhaseStands h (phase.Extended n) v → bytes ≡ x ∷ tail
+    → extended_spelt order h.address_size n x [] ≡ Some a → EndsAs order h v bytes tail a
+opcode_decides order h n x v bytes tail a s e is = (
   x ∷ [],
   e,
   subst (λ (z : List ℕ). SpellsFirst (operation_spelt order h) z a) (sym (ap (λ (z : List ℕ). z ++ x ∷ []) s.1.1))
@@ -257,17 +257,17 @@ skipped_within order h left now v bytes s more =
           (skipped_nowhere order h s.0 (s.3.0 ++ bytes) now s.1 s.2 l),
     )
 
-pub skipped_ends : (order : Order) (h : Params) (left now b : ℕ) (v front bytes behind : List ℕ)
+pub skipped_ends : (order : Order) (h : Params) (left now b : ℕ) (v front bytes tail : List ℕ)
     → PhaseStands h (phase.Skipped left) v
     → ((count : ℕ) (w : List ℕ) → LebsLeft count w left → LebsLeft count (w ++ front) now) → now ≤ 1 → b < 128
-    → bytes ≡ (front ++ b ∷ []) ++ behind
-    → EndsAs order h v bytes behind (Ok op.Skipped)
-skipped_ends order h left now b v front bytes behind s more one lt e =
+    → bytes ≡ (front ++ b ∷ []) ++ tail
+    → EndsAs order h v bytes tail (Ok op.Skipped)
+skipped_ends order h left now b v front bytes tail s more one lt e =
     let l = more (slice_index h.lengths.items (s.0 - 1)) s.3.0 s.3.2 in
     let some = l.some in
     let is : now ≡ 1 = omega arith in
     let last = subst (λ (z : ℕ). LebsLeft (slice_index h.lengths.items (s.0 - 1)) (s.3.0 ++ front) z) is l in
-    ends_behind order h v front bytes behind b (Ok op.Skipped) e
+    ends_after order h v front bytes tail b (Ok op.Skipped) e
     (subst (λ (z : List ℕ). SpellsFirst (operation_spelt order h) (z ++ b ∷ []) (Ok op.Skipped))
     (sym (ap (λ (z : List ℕ). z ++ front) s.3.1))
     (skipped_first order h s.0 (s.3.0 ++ front) b s.1 s.2 last lt))
@@ -301,36 +301,36 @@ not_lt {n = n} {m = m} h = elim (cases_lt n m) [ inl lt ↦ absurd (false_true (
 
 -- ---- the operand of an extended opcode begins
 
-pub address_begins : (order : Order) (h : Params) (n x : ℕ) (new : PartialNumber) (v bytes behind : List ℕ)
-    (r : OperationStep) → PhaseStands h (phase.Extended n) v → bytes ≡ x ∷ behind → x ≡ 2
+pub address_begins : (order : Order) (h : Params) (n x : ℕ) (new : PartialNumber) (v bytes tail : List ℕ)
+    (r : OperationStep) → PhaseStands h (phase.Extended n) v → bytes ≡ x ∷ tail → x ≡ 2
     → n ≡ 1 + h.address_size → number_bytes new ≡ [] → number_size new ≡ h.address_size
-    → ((v : List ℕ) → PhaseStands h (phase.Address new) v → StepIs order h v behind r) → StepIs order h v bytes r
-address_begins order h n x new v bytes behind r s e is size none width rest =
+    → ((v : List ℕ) → PhaseStands h (phase.Address new) v → StepIs order h v tail r) → StepIs order h v bytes r
+address_begins order h n x new v bytes tail r s e is size none width rest =
     let now : v ++ x ∷ [] ≡ 0 ∷ (s.1.0 ++ 2 ∷ number_bytes new) =
     ap (λ (z : List ℕ). z ++ x ∷ []) s.1.1 ∙ ap (λ (z : ℕ). 0 ∷ (s.1.0 ++ z ∷ [])) is
     ∙ ap (λ (z : List ℕ). 0 ∷ (s.1.0 ++ 2 ∷ z)) (sym none) in
-    step_from order h v (x ∷ []) behind bytes r e
+    step_from order h v (x ∷ []) tail bytes r e
     (rest (v ++ x ∷ []) (s.0, (s.1.0, now, subst (λ (z : ℕ). HasLength s.1.0 z) size s.1.2, width)))
 
-pub discriminator_begins : (order : Order) (h : Params) (n x : ℕ) (new : Uleb) (v bytes behind : List ℕ)
-    (r : OperationStep) → PhaseStands h (phase.Extended n) v → bytes ≡ x ∷ behind → x ≡ 4
+pub discriminator_begins : (order : Order) (h : Params) (n x : ℕ) (new : Uleb) (v bytes tail : List ℕ)
+    (r : OperationStep) → PhaseStands h (phase.Extended n) v → bytes ≡ x ∷ tail → x ≡ 4
     → 1 < n → UlebTook new [] → ((v : List ℕ) → PhaseStands h (phase.Discriminator (n - 1) new) v
-    → StepIs order h v behind r) → StepIs order h v bytes r
-discriminator_begins order h n x new v bytes behind r s e is more took rest =
+    → StepIs order h v tail r) → StepIs order h v bytes r
+discriminator_begins order h n x new v bytes tail r s e is more took rest =
     let now : v ++ x ∷ [] ≡ 0 ∷ (s.1.0 ++ 4 ∷ []) =
     ap (λ (z : List ℕ). z ++ x ∷ []) s.1.1 ∙ ap (λ (z : ℕ). 0 ∷ (s.1.0 ++ z ∷ [])) is in
     let m : n ≡ 1 + 0 + (n - 1) = omega arith in
-    step_from order h v (x ∷ []) behind bytes r e
+    step_from order h v (x ∷ []) tail bytes r e
     (rest (v ++ x ∷ []) (s.0, omega arith, (s.1.0, [], now, subst (λ (z : ℕ). HasLength s.1.0 z) m s.1.2, took)))
 
-pub rest_begins : (order : Order) (h : Params) (n x : ℕ) (v bytes behind : List ℕ) (r : OperationStep)
-    → PhaseStands h (phase.Extended n) v → bytes ≡ x ∷ behind → x ≢ 1 → x ≢ 2 → x ≢ 4
-    → 1 < n → ((v : List ℕ) → PhaseStands h (phase.Rest (n - 1)) v → StepIs order h v behind r)
+pub rest_begins : (order : Order) (h : Params) (n x : ℕ) (v bytes tail : List ℕ) (r : OperationStep)
+    → PhaseStands h (phase.Extended n) v → bytes ≡ x ∷ tail → x ≢ 1 → x ≢ 2 → x ≢ 4
+    → 1 < n → ((v : List ℕ) → PhaseStands h (phase.Rest (n - 1)) v → StepIs order h v tail r)
     → StepIs order h v bytes r
-rest_begins order h n x v bytes behind r s e a b d more rest =
+rest_begins order h n x v bytes tail r s e a b d more rest =
     let now : v ++ x ∷ [] ≡ 0 ∷ (s.1.0 ++ x ∷ []) = ap (λ (z : List ℕ). z ++ x ∷ []) s.1.1 in
     let m : n ≡ 1 + 0 + (n - 1) = omega arith in
-    step_from order h v (x ∷ []) behind bytes r e
+    step_from order h v (x ∷ []) tail bytes r e
     (rest (v ++ x ∷ []) (
       s.0,
       omega arith,

@@ -12,10 +12,10 @@ use Rattle.dl_rows.specs.declared.unit_body.BodyState.TheVariants as body
 use Rattle.dl_rows.specs.declared.unit_body.BodyStop.{BodyStop}
 use Rattle.dl_rows.specs.declared.unit_body.UnitBody.{UnitBody}
 use Rattle.dl_rows.specs.LineUnit.{events}
-use Rattle.dl_rows.specs.Reading.{WithinUnit, Fails, FailsBehind}
+use Rattle.dl_rows.specs.Reading.{WithinUnit, Fails, FailsAfter}
 use Rattle.dl_rows.specs.Refusal.{Refused}
 use Rattle.dl_rows.specs.Sinks.{Story}
-use Rattle.dl_rows.specs.UnitBodies.{InProgram, BodyStopped, BodyFedBehind, ProgramTells, BodyTells}
+use Rattle.dl_rows.specs.UnitBodies.{InProgram, BodyStopped, BodyFedAfter, ProgramTells, BodyTells}
 
 no_bytes : (b piece : List ℕ) → b ++ take 0 piece ≡ b
 no_bytes b piece = append-nil b
@@ -36,7 +36,7 @@ pub tells_fed : {S : Type 0} (story : Story S) (order : Order) (h : HeaderData) 
     → ProgramTells story order h b piece before (Ok fed) new sink
     → BodyTells story order h b piece before (Ok fed) (body.InProgram new) sink
 tells_fed story order h new b piece before fed sink t =
-    let f : BodyFedBehind order h (events order b ++ map event.Row t.rows) b piece (Ok fed) (body.InProgram new) =
+    let f : BodyFedAfter order h (events order b ++ map event.Row t.rows) b piece (Ok fed) (body.InProgram new) =
     record { answered = t.fed.answered; stands = t.fed.stands } in
     record { rows = t.rows; fed = f; sink = t.sink }
 
@@ -65,7 +65,7 @@ tells_fault story order h old new b piece before fault stop sink is made t =
       whole = ap (λ (v : List ℕ). v ++ take used piece) is.whole ∙ append_assoc is.header is.program (take used piece);
       spells = is.spells;
     } in
-    let f : BodyFedBehind order h (events order b ++ map event.Row t.rows) b piece (Err fault) (body.Stopped stop) =
+    let f : BodyFedAfter order h (events order b ++ map event.Row t.rows) b piece (Err fault) (body.Stopped stop) =
     (used, t.fed.1, subst (λ (s : BodyStop). BodyStopped order h s w) (sym made) stopped) in
     record { rows = t.rows; fed = f; sink = t.sink }
 
@@ -75,10 +75,10 @@ pub tells_again : {S : Type 0} (story : Story S) (order : Order) (h : HeaderData
     → BodyTells story order h b piece before (Err stop.fault) (body.Stopped stop) sink
 tells_again story order h b piece before stop sink is hears =
     let none : events order b ≡ events order b ++ map event.Row [] = sym (append-nil (events order b)) in
-    let fails : FailsBehind order (events order b ++ map event.Row []) b piece stop.fault 0 =
-    subst (λ (es : List Event). FailsBehind order es b piece stop.fault 0) none
+    let fails : FailsAfter order (events order b ++ map event.Row []) b piece stop.fault 0 =
+    subst (λ (es : List Event). FailsAfter order es b piece stop.fault 0) none
     (fails_again order b piece stop.fault is.in_unit is.refused) in
-    let f : BodyFedBehind order h (events order b ++ map event.Row []) b piece (Err stop.fault) (body.Stopped stop) =
+    let f : BodyFedAfter order h (events order b ++ map event.Row []) b piece (Err stop.fault) (body.Stopped stop) =
     (0, fails, subst (λ (w : List ℕ). BodyStopped order h stop w) (sym (no_bytes b piece)) is) in
     record {
       rows = [];

@@ -15,10 +15,10 @@ use Rattle.dl_head.proofs.TurnLemmas.{joined}
 use Rattle.dl_rows.specs.declared.reader.Event.{Event}
 use Rattle.dl_rows.specs.declared.reader.Event.TheVariants as event
 use Rattle.dl_rows.specs.declared.row.Row.{Row}
-use Rattle.dl_rows.specs.Calls.{MayGiveBehind, MayTell, Calls, RowsAreCalls}
+use Rattle.dl_rows.specs.Calls.{MayGiveAfter, MayTell, Calls, RowsAreCalls}
 use Rattle.dl_rows.specs.LineUnit.{IsUnit, events}
 use Rattle.dl_rows.specs.Matrix.{row}
-use Rattle.dl_rows.specs.Reading.{WithinUnit, told, EventHoldsBehind}
+use Rattle.dl_rows.specs.Reading.{WithinUnit, told, EventHoldsAfter}
 use Rattle.dl_rows.specs.Refusal.{unit_decided, Refused}
 use Rattle.dl_rows.specs.Runs.{MayGive}
 use Rattle.dl_rows.proofs.UnitLaws.{one_refusal}
@@ -63,8 +63,8 @@ module _ (order : Order) (b piece : List ℕ) (n more : ℕ) (before after : Lis
       → events order (mid ++ take (more - 1) rest) ≡ after
   last_back any e = ap (events order) (last any) ∙ e ∙ sym same
 
-  memory_on : EventHoldsBehind order after mid rest more event.NoMemory
-      → EventHoldsBehind order before b piece (n + more) event.NoMemory
+  memory_on : EventHoldsAfter order after mid rest more event.NoMemory
+      → EventHoldsAfter order before b piece (n + more) event.NoMemory
   memory_on holds = (
     holds.0,
     sym (slice_drop n more piece) ∙ holds.1,
@@ -72,8 +72,8 @@ module _ (order : Order) (b piece : List ℕ) (n more : ℕ) (before after : Lis
     subst (λ (z : List ℕ). cells order z < cells order (z ++ holds.0 ∷ [])) whole holds.3,
   )
 
-  memory_back : EventHoldsBehind order before b piece (n + more) event.NoMemory
-      → EventHoldsBehind order after mid rest more event.NoMemory
+  memory_back : EventHoldsAfter order before b piece (n + more) event.NoMemory
+      → EventHoldsAfter order after mid rest more event.NoMemory
   memory_back holds = (
     holds.0,
     slice_drop n more piece ∙ holds.1,
@@ -82,8 +82,8 @@ module _ (order : Order) (b piece : List ℕ) (n more : ℕ) (before after : Lis
   )
 
   -- bytes were left for another call
-  holds_on : n < length piece → (e : Event) → EventHoldsBehind order after mid rest more e
-      → EventHoldsBehind order before b piece (n + more) e
+  holds_on : n < length piece → (e : Event) → EventHoldsAfter order after mid rest more e
+      → EventHoldsAfter order before b piece (n + more) e
   holds_on lt event.More holds = (omega (arith, holds.0, size, lt), λ unit. omega (arith, some))
   holds_on lt event.End holds = (
     subst (λ (z : List ℕ). IsUnit order z) whole holds.0,
@@ -94,8 +94,8 @@ module _ (order : Order) (b piece : List ℕ) (n more : ℕ) (before after : Lis
   holds_on lt (event.Foreign version) holds = (omega (arith, some), last_on holds.0 holds.1)
   holds_on lt (event.Row row) holds = (omega (arith, some), last_on holds.0 holds.1)
 
-  tell_on : n < length piece → (gave : Result Event Fault) → MayGiveBehind order after mid rest more gave
-      → MayGiveBehind order before b piece (n + more) gave
+  tell_on : n < length piece → (gave : Result Event Fault) → MayGiveAfter order after mid rest more gave
+      → MayGiveAfter order before b piece (n + more) gave
   tell_on lt (Ok e) m = record {
     within = omega (arith, m.within, size, lt);
     in_unit = subst (WithinUnit order) whole m.in_unit;
@@ -112,7 +112,7 @@ module _ (order : Order) (b piece : List ℕ) (n more : ℕ) (before after : Lis
 
   -- an answer that tells an event isn't that of the first n bytes
   holds_back : n < length piece → (e : Event) → (told e ≢ [] → 1 ≤ more)
-      → EventHoldsBehind order before b piece (n + more) e → EventHoldsBehind order after mid rest more e
+      → EventHoldsAfter order before b piece (n + more) e → EventHoldsAfter order after mid rest more e
   holds_back lt event.More any holds = (omega (arith, holds.0, size, lt), λ unit. omega (arith, holds.0, lt))
   holds_back lt event.End any holds = (
     subst (λ (z : List ℕ). IsUnit order z) (sym whole) holds.0,
@@ -124,7 +124,7 @@ module _ (order : Order) (b piece : List ℕ) (n more : ℕ) (before after : Lis
   holds_back lt (event.Row row) any holds = (let one = any (λ k. absurd cc) in (one, last_back one holds.1))
 
   tell_back : n < length piece → (gave : Result Event Fault) → (IfOk gave (λ e. told e ≢ [] → 1 ≤ more))
-      → MayGiveBehind order before b piece (n + more) gave → MayGiveBehind order after mid rest more gave
+      → MayGiveAfter order before b piece (n + more) gave → MayGiveAfter order after mid rest more gave
   tell_back lt (Ok e) any m = record {
     within = omega (arith, m.within, size, lt);
     in_unit = subst (WithinUnit order) (sym whole) m.in_unit;
@@ -142,40 +142,40 @@ module _ (order : Order) (b piece : List ℕ) (n more : ℕ) (before after : Lis
 -- ---- calls tell what one call may
 
 alone : (order : Order) (b piece : List ℕ) (used : ℕ) (gave : Result Event Fault)
-    → MayGiveBehind order (events order b) b piece used gave → MayGive order b piece used gave
+    → MayGiveAfter order (events order b) b piece used gave → MayGive order b piece used gave
 alone order b piece used (Ok e) m = m
 alone order b piece used (Err fault) m = m
 
 not_alone : (order : Order) (b piece : List ℕ) (used : ℕ) (gave : Result Event Fault) → MayGive order b piece used gave
-    → MayGiveBehind order (events order b) b piece used gave
+    → MayGiveAfter order (events order b) b piece used gave
 not_alone order b piece used (Ok e) m = m
 not_alone order b piece used (Err fault) m = m
 
 tells_of : (order : Order) (b piece : List ℕ) (rows : List Row) (used : ℕ) (gave : Result Event Fault)
     → Calls order b piece rows used gave → MayTell order b piece rows used gave
 tells_of order b piece [] used gave calls =
-    subst (λ (z : List Event). MayGiveBehind order z b piece used gave) (sym (append-nil (events order b)))
+    subst (λ (z : List Event). MayGiveAfter order z b piece used gave) (sym (append-nil (events order b)))
     (not_alone order b piece used gave calls)
 tells_of order b piece (r ∷ rows) used gave (n, may, inl (all, none, size, is)) =
     let nothing : events order b ++ map event.Row (r ∷ rows) ≡ events order b ++ event.Row r ∷ [] =
     ap (λ (z : List Row). events order b ++ event.Row r ∷ map event.Row z) none in
-    let told_here : MayGiveBehind order (events order b ++ event.Row r ∷ []) b piece n (Ok event.More) = record {
+    let told_here : MayGiveAfter order (events order b ++ event.Row r ∷ []) b piece n (Ok event.More) = record {
       within = may.within;
       in_unit = may.in_unit;
       grows = may.grows ∙ sym (append-nil (events order b ++ event.Row r ∷ []));
       holds = (all, λ unit. may.holds.0);
       sound = may.sound;
     } in
-    subst (λ (k : ℕ). MayGiveBehind order (events order b ++ map event.Row (r ∷ rows)) b piece k gave) (sym size)
-    (subst (λ (g : Result Event Fault). MayGiveBehind order (events order b ++ map event.Row (r ∷ rows)) b piece n g)
+    subst (λ (k : ℕ). MayGiveAfter order (events order b ++ map event.Row (r ∷ rows)) b piece k gave) (sym size)
+    (subst (λ (g : Result Event Fault). MayGiveAfter order (events order b ++ map event.Row (r ∷ rows)) b piece n g)
     (sym is)
-    (subst (λ (z : List Event). MayGiveBehind order z b piece n (Ok event.More)) (sym nothing) told_here))
+    (subst (λ (z : List Event). MayGiveAfter order z b piece n (Ok event.More)) (sym nothing) told_here))
 tells_of order b piece (r ∷ rows) used gave (n, may, inr (lt, more, size, calls)) =
     let later = tells_of order (b ++ take n piece) (drop n piece) rows more gave calls in
     let same : events order (b ++ take n piece) ++ map event.Row rows ≡ events order b ++ map event.Row (r ∷ rows) =
     ap (λ (z : List Event). z ++ map event.Row rows) may.grows
     ∙ append_assoc (events order b) (event.Row r ∷ []) (map event.Row rows) in
-    subst (λ (k : ℕ). MayGiveBehind order (events order b ++ map event.Row (r ∷ rows)) b piece k gave) (sym size)
+    subst (λ (k : ℕ). MayGiveAfter order (events order b ++ map event.Row (r ∷ rows)) b piece k gave) (sym size)
     (tell_on order b piece n more (events order b ++ map event.Row (r ∷ rows)) (events order (b ++ take n piece)
     ++ map event.Row rows) same may.holds.0 may.within lt gave later)
 
@@ -190,7 +190,7 @@ record Used (order : Order) (before : List Event) (b piece : List ℕ) (used : �
   grows : events order (b ++ take used piece) ≡ before ++ es
 
 used_of : (order : Order) (before : List Event) (b piece : List ℕ) (used : ℕ) (gave : Result Event Fault)
-    → MayGiveBehind order before b piece used gave → Used order before b piece used gave
+    → MayGiveAfter order before b piece used gave → Used order before b piece used gave
 used_of order before b piece used (Ok e) m =
     record { within = m.within; in_unit = m.in_unit; es = told e; grows = m.grows }
 used_of order before b piece used (Err fault) m =
@@ -199,7 +199,7 @@ used_of order before b piece used (Err fault) m =
 -- the first row is what `feed` may answer
 first_call : (order : Order) (b piece : List ℕ) (used : ℕ) (gave : Result Event Fault) (r : Row) (before : List Event)
     (t : RowTaken order b piece used r)
-    → MayGiveBehind order before b piece used gave → MayGive order b piece t.n (Ok (event.Row r))
+    → MayGiveAfter order before b piece used gave → MayGive order b piece t.n (Ok (event.Row r))
 first_call order b piece used gave r before t m = record {
   within = omega (arith, u.within, t.total);
   in_unit =
@@ -224,7 +224,7 @@ first_call order b piece used gave r before t m = record {
     not_refused : (at : ℕ) (kind : FaultKind) → Refused order (b ++ take t.n piece) at kind → ⊥
     not_refused at kind refused = none_some t.quiet refused.decided
 
-    sound : (gave : Result Event Fault) → MayGiveBehind order before b piece used gave
+    sound : (gave : Result Event Fault) → MayGiveAfter order before b piece used gave
         → (front back : List ℕ) (at : ℕ) (kind : FaultKind) → b ++ take t.n piece ≡ front ++ back
         → Refused order front at kind → ⊥
     sound (Ok e) may front back at kind k refused =
@@ -310,7 +310,7 @@ module _ (order : Order) (b piece : List ℕ) (used : ℕ) (r : Row) (rows : Lis
   abbrev Goes : (gave : Result Event Fault) → Type 0
   Goes gave = Ended order b piece used rows gave t.n ⊎ (t.n < length piece)
 
-  ends_or_goes : (gave : Result Event Fault) → MayGiveBehind order all_before b piece used gave → Goes gave
+  ends_or_goes : (gave : Result Event Fault) → MayGiveAfter order all_before b piece used gave → Goes gave
   ends_or_goes (Ok event.More) m = on (cases_eq t.more 0) where
     on : (t.more ≡ 0) ⊎ (t.more ≢ 0) → Goes (Ok event.More)
     on (inl none) =
@@ -346,7 +346,7 @@ module _ (order : Order) (b piece : List ℕ) (used : ℕ) (r : Row) (rows : Lis
         ∙ m.refused.decided))
     on (inr any) = inr (omega (arith, any, t.total, m.within))
 
-  any_later : (gave : Result Event Fault) → MayGiveBehind order all_before b piece used gave
+  any_later : (gave : Result Event Fault) → MayGiveAfter order all_before b piece used gave
       → IfOk gave (λ e. told e ≢ [] → 1 ≤ t.more)
   any_later (Ok e) m = later e m.grows
   any_later (Err fault) m = tt
@@ -354,7 +354,7 @@ module _ (order : Order) (b piece : List ℕ) (used : ℕ) (r : Row) (rows : Lis
 calls_of : (order : Order) (b piece : List ℕ) (rows : List Row) (used : ℕ) (gave : Result Event Fault)
     → MayTell order b piece rows used gave → Calls order b piece rows used gave
 calls_of order b piece [] used gave m =
-    alone order b piece used gave (subst (λ (z : List Event). MayGiveBehind order z b piece used gave)
+    alone order b piece used gave (subst (λ (z : List Event). MayGiveAfter order z b piece used gave)
     (append-nil (events order b)) m)
 calls_of order b piece (r ∷ rows) used gave m =
     on (ends_or_goes order b piece used r rows t gave m)
@@ -362,7 +362,7 @@ calls_of order b piece (r ∷ rows) used gave m =
     (tell_back order b piece t.n t.more (events order b ++ map event.Row (r ∷ rows)) (events order (b ++ take t.n piece)
     ++ map event.Row rows) (same_events order b piece used r rows t)
     t.some (omega (arith, u.within, t.total)) lt gave (any_later order b piece used r rows t gave m)
-    (subst (λ (k : ℕ). MayGiveBehind order (events order b ++ map event.Row (r ∷ rows)) b piece k gave) t.total m)))
+    (subst (λ (k : ℕ). MayGiveAfter order (events order b ++ map event.Row (r ∷ rows)) b piece k gave) t.total m)))
   where
     u : Used order (events order b ++ map event.Row (r ∷ rows)) b piece used gave
     u = used_of order (events order b ++ map event.Row (r ∷ rows)) b piece used gave m

@@ -15,7 +15,7 @@ use Rattle.dl_rows.specs.declared.operation.Operation.TheVariants as op
 use Rattle.dl_rows.specs.OperationSpelt.{discriminator_spelt, extended_spelt, body_spelt, length_and_body}
 use Rattle.dl_rows.specs.OperationSpelt.{operation_spelt}
 use Rattle.dl_rows.specs.Phases.{HasLength}
-use Rattle.dl_rows.proofs.FirstLemmas.{IsOpen, nowhere_behind, first_behind, open_byte, first_nil, nowhere_nil}
+use Rattle.dl_rows.proofs.FirstLemmas.{IsOpen, nowhere_after, first_after, open_byte, first_nil, nowhere_nil}
 use Rattle.dl_rows.proofs.OperandLemmas.{Verdict, continue_front, continue_before, leb_front_continues, is_leb-number}
 
 -- ---- the length
@@ -77,9 +77,9 @@ pub length_first : (order : Order) (h : Params) → 1 ≤ h.opcode_base → (w :
     → SpellsFirst (body_spelt order h.address_size n) u v → SpellsFirst (operation_spelt order h) (0 ∷ (w ++ u)) v
 length_first order h some w n u v s first =
     let size = h.address_size in
-    first_behind (operation_spelt order h) (length_and_body order size) (0 ∷ []) (w ++ u) v (zero_open order h)
+    first_after (operation_spelt order h) (length_and_body order size) (0 ∷ []) (w ++ u) v (zero_open order h)
     (zero_then order h some)
-    (first_behind (length_and_body order size) (body_spelt order size n) w u v (length_open order size w n s)
+    (first_after (length_and_body order size) (body_spelt order size n) w u v (length_open order size w n s)
     (length_then order size w n s) first)
 
 pub length_is_nowhere : (order : Order) (h : Params) → 1 ≤ h.opcode_base → (w : List ℕ) (n : ℕ) (u : List ℕ)
@@ -87,9 +87,9 @@ pub length_is_nowhere : (order : Order) (h : Params) → 1 ≤ h.opcode_base →
     → SpellsNowhere (body_spelt order h.address_size n) u → SpellsNowhere (operation_spelt order h) (0 ∷ (w ++ u))
 length_is_nowhere order h some w n u s none =
     let size = h.address_size in
-    nowhere_behind (operation_spelt order h) (length_and_body order size) (0 ∷ []) (w ++ u) (zero_open order h)
+    nowhere_after (operation_spelt order h) (length_and_body order size) (0 ∷ []) (w ++ u) (zero_open order h)
     (zero_then order h some)
-    (nowhere_behind (length_and_body order size) (body_spelt order size n) w u (length_open order size w n s)
+    (nowhere_after (length_and_body order size) (body_spelt order size n) w u (length_open order size w n s)
     (length_then order size w n s) none)
 
 pub extended_first : (order : Order) (h : Params) → 1 ≤ h.opcode_base
@@ -99,7 +99,7 @@ pub extended_first : (order : Order) (h : Params) → 1 ≤ h.opcode_base
 extended_first order h some w n opcode u v s first =
     let size = h.address_size in
     length_first order h some w n (opcode ∷ u) v s.0
-    (first_behind (body_spelt order size n) (extended_spelt order size n opcode) (opcode ∷ []) u v
+    (first_after (body_spelt order size n) (extended_spelt order size n opcode) (opcode ∷ []) u v
     (body_open order size n opcode s.1 s.2) (body_then order size n opcode s.1 s.2) first)
 
 pub extended_nowhere : (order : Order) (h : Params) → 1 ≤ h.opcode_base → (w : List ℕ) (n opcode : ℕ) (u : List ℕ)
@@ -109,7 +109,7 @@ pub extended_nowhere : (order : Order) (h : Params) → 1 ≤ h.opcode_base → 
 extended_nowhere order h some w n opcode u s none =
     let size = h.address_size in
     length_is_nowhere order h some w n (opcode ∷ u) s.0
-    (nowhere_behind (body_spelt order size n) (extended_spelt order size n opcode) (opcode ∷ []) u
+    (nowhere_after (body_spelt order size n) (extended_spelt order size n opcode) (opcode ∷ []) u
     (body_open order size n opcode s.1 s.2) (body_then order size n opcode s.1 s.2) none)
 
 -- the length alone
@@ -122,7 +122,7 @@ length_pending order h some w n s =
 pub length_begun : (order : Order) (h : Params) → 1 ≤ h.opcode_base → (w : List ℕ) → AllContinue w
     → SpellsNowhere (operation_spelt order h) (0 ∷ w)
 length_begun order h some w c =
-    nowhere_behind (operation_spelt order h) (length_and_body order h.address_size) (0 ∷ []) w (zero_open order h)
+    nowhere_after (operation_spelt order h) (length_and_body order h.address_size) (0 ∷ []) w (zero_open order h)
     (zero_then order h some) (length_nowhere order h.address_size w c)
 
 -- a length that is refused: 0, or 2^64 and more

@@ -21,16 +21,16 @@ IsOpen {A} spelt head =
     (front : List ℕ) (x : ℕ) (back : List ℕ) → head ≡ front ++ x ∷ back → ◌≡◌ {A = Option A} (spelt front) None
 
 -- where head, and then u, are what operand says of u
-pub nowhere_behind : {A : Type 0} (spelt operand : List ℕ → Option A) (head w : List ℕ) → IsOpen spelt head
+pub nowhere_after : {A : Type 0} (spelt operand : List ℕ → Option A) (head w : List ℕ) → IsOpen spelt head
     → ((u : List ℕ) → spelt (head ++ u) ≡ operand u) → SpellsNowhere operand w → SpellsNowhere spelt (head ++ w)
-nowhere_behind {A = A} spelt operand head w begun same none front back e = elim (split_front head w front back e) [
+nowhere_after {A = A} spelt operand head w begun same none front back e = elim (split_front head w front back e) [
   | inl p ↦ begun front p.0 p.1 p.2
   | inr q ↦ subst (λ (z : List ℕ). ◌≡◌ {A = Option A} (spelt z) None) (sym q.1) (same q.0 ∙ none q.0 back q.2)
 ]
 
-pub first_behind : {A : Type 0} (spelt operand : List ℕ → Option A) (head w : List ℕ) (a : A) → IsOpen spelt head
+pub first_after : {A : Type 0} (spelt operand : List ℕ → Option A) (head w : List ℕ) (a : A) → IsOpen spelt head
     → ((u : List ℕ) → spelt (head ++ u) ≡ operand u) → SpellsFirst operand w a → SpellsFirst spelt (head ++ w) a
-first_behind {A = A} spelt operand head w a begun same first = record {
+first_after {A = A} spelt operand head w a begun same first = record {
   spells = same w ∙ first.spells;
   shortest = λ front x back e. elim (split_front head w front (x ∷ back) e) [
     | inl p ↦ begun front p.0 p.1 p.2

@@ -15,10 +15,10 @@ use Rattle.dl_head.proofs.FirstFields.{after_length, not_foreign, is_number, is_
 use Rattle.dl_head.proofs.RefusalLaws.{foreign_last}
 
 -- after a foreign version no field is spelled
-behind_version : (order : Order) (v : ℕ) (items : List Item) (w : List ℕ)
+after_version : (order : Order) (v : ℕ) (items : List Item) (w : List ℕ)
     → SpellsFields order (foreign_version v) items w → sum_by item_cells items ≡ 0
-behind_version order v [] w s = refl
-behind_version order v (i ∷ items) w s = absurd (none_some refl s.3)
+after_version order v [] w s = refl
+after_version order v (i ∷ items) w s = absurd (none_some refl s.3)
 
 -- nor does a header follow its version
 from_version : (order : Order) (format : Format) (n m v : ℕ) (items : List Item) (w : List ℕ)
@@ -30,7 +30,7 @@ from_version order format n m v items w s e = elim (cases_eq m 5) [
       rw (eq-eqb m 5 same) at e in
       absurd (not_foreign n (format_alone format) items v f)
   | inr other ↦ (let t : SpellsFields order (foreign_version m) items w = rw (ne_eqb m 5
-      other) at s in behind_version order m items w t)
+      other) at s in after_version order m items w t)
 ]
 
 -- nor is its length or its version a cell
@@ -45,14 +45,14 @@ in_fields order v (i ∷ j ∷ items) w s f =
     let next : SpellsFields order (number_then version (after_length a.format a.number)) (j ∷ items) s.1 =
     subst (λ (k : Item). SpellsFields order (following header_layout k) (j ∷ items) s.1) a.item s.4 in
     let n = is_number order version (after_length a.format a.number) next.0 j next.3 in
-    let behind : following_all (after_length a.format a.number n.number) items ≡ foreign_version v =
+    let tail : following_all (after_length a.format a.number n.number) items ≡ foreign_version v =
     ap (λ (k : Item). following_all (following (number_then version (after_length a.format a.number)) k) items)
     (sym n.item)
     ∙ ap (λ (k : Item). following_all (following header_layout k) (j ∷ items)) (sym a.item) ∙ f in
     let rest =
     from_version order a.format a.number n.number v items next.1
     (subst (λ (k : Item). SpellsFields order (following (number_then version (after_length a.format a.number)) k)
-    items next.1) n.item next.4) behind in
+    items next.1) n.item next.4) tail in
     let first : item_cells i ≡ 0 = ap item_cells a.item in
     let second : item_cells j ≡ 0 = ap item_cells n.item in
     omega (arith, sum_by-cons item_cells i (j ∷ items), sum_by-cons item_cells j items, first, second, rest)

@@ -17,7 +17,7 @@ use Rattle.dl_rows.specs.declared.unit_body.UnitBody.{UnitBody}
 use Rattle.dl_rows.specs.LineUnit.{own_events, events_of, events}
 use Rattle.dl_rows.specs.OperationSpelt.{operations_in}
 use Rattle.dl_rows.specs.Programs.{ProgramStands}
-use Rattle.dl_rows.specs.Refusal.{decided_behind, operation_decided, Refused}
+use Rattle.dl_rows.specs.Refusal.{decided_after, operation_decided, Refused}
 use Rattle.dl_rows.specs.UnitBodies.{Counts, InProgram}
 use Rattle.dl_rows.proofs.HeaderParams.{header_fits}
 use Rattle.dl_rows.proofs.UnitBodyLemmas.{events_here}
@@ -28,15 +28,15 @@ use Rattle.dl_rows.proofs.UnitWhole.{NoneRefused}
 pub no_header_on : (order : Order) (b : List ℕ) (x : ℕ) → header_in order b ≡ None
     → ((h : HeaderData) → IsHeader order h (b ++ x ∷ []) → ⊥) → header_in order (b ++ x ∷ []) ≡ None
 no_header_on order b x none not = on (header_in order (b ++ x ∷ [])) refl where
-  behind : (h : HeaderData) (w rest : List ℕ) → b ++ x ∷ [] ≡ w ++ rest → IsHeader order h w → ⊥
-  behind h w [] e is = not h (subst (λ (z : List ℕ). IsHeader order h z) (sym (e ∙ append-nil w)) is)
-  behind h w (y ∷ rest) e is =
+  tail : (h : HeaderData) (w rest : List ℕ) → b ++ x ∷ [] ≡ w ++ rest → IsHeader order h w → ⊥
+  tail h w [] e is = not h (subst (λ (z : List ℕ). IsHeader order h z) (sym (e ∙ append-nil w)) is)
+  tail h w (y ∷ rest) e is =
       let z = front_before b w x y rest e in
       none_some none (ap (header_in order) z.1 ∙ header_is_found order h w z.0 is)
 
   on : (o : Option (HeaderData × List ℕ)) → header_in order (b ++ x ∷ []) ≡ o → header_in order (b ++ x ∷ []) ≡ None
   on None e = e
-  on (Some (h, rest)) e = let f = found_is_header order h (b ++ x ∷ []) rest e in absurd (behind h f.0 rest f.1 f.2)
+  on (Some (h, rest)) e = let f = found_is_header order h (b ++ x ∷ []) rest e in absurd (tail h f.0 rest f.1 f.2)
 
 -- nor is anything refused, where the header isn't at the byte
 pub header_sound_on : (order : Order) (b : List ℕ) (x : ℕ) → NoneRefused order b → header_in order (b ++ x ∷ []) ≡ None
@@ -79,13 +79,13 @@ header_sound order h w is front back at kind e r = on (header_in order front) re
       ap (λ (o : Option (HeaderData × List ℕ)). elim o [ Some p ↦ p.1 | None ↦ [] ]) all in
       let none : begun ≡ [] = nil_left begun back both in
       none_some
-      (ap (decided_behind order front) found
+      (ap (decided_after order front) found
       ∙ ap (λ (v : List ℕ). operation_decided order g.params (operations_in order g.params v).rest (length front)
       (unit_len order front)) none) r.decided
 
-pub behind_header : (order : Order) (h : HeaderData) (t : UnitBody) (w : List ℕ) → IsHeader order h w → AllBytes w
+pub after_the_header : (order : Order) (h : HeaderData) (t : UnitBody) (w : List ℕ) → IsHeader order h w → AllBytes w
     → Counts order t.bytes w → ProgramStands order h.params t.program [] → InProgram order h t w
-behind_header order h t w is all counts stands =
+after_the_header order h t w is all counts stands =
     let fits = header_fits order h w all is in
     record {
       counts = counts;

@@ -8,7 +8,7 @@ use Rattle.std.proofs.lemmas.List.{append-nil}
 use Rattle.dl_num.specs.declared.fixed.Order.{Order}
 use Rattle.dl_num.specs.Fixed.{fixed}
 use Rattle.dl_num.specs.Leb.{groups, IsUleb}
-use Rattle.dl_num.specs.LebFront.{is_leb, leb_front, behind_leb}
+use Rattle.dl_num.specs.LebFront.{is_leb, leb_front, after_leb}
 use Rattle.dl_num.proofs.LebLaws.{leb_is}
 use Rattle.dl_field.specs.declared.params.Params.{Params}
 use Rattle.dl_table.specs.declared.fault.FaultKind.TheVariants as fault
@@ -345,9 +345,9 @@ pub judged : (order : Order) (h : Params) (w : List ℕ) → 1 ≤ h.opcode_base
     → Judged order h w (operation_spelt order h w)
 judged order h [] some = tt
 judged order h (zero ∷ w) some = rw (lt-leb h.opcode_base 0 some)
-    (cond_both (is_leb (leb_front w)) (body_spelt order h.address_size (groups (leb_front w)) (behind_leb w)) None
+    (cond_both (is_leb (leb_front w)) (body_spelt order h.address_size (groups (leb_front w)) (after_leb w)) None
     (Judged order h (0 ∷ w))
-    (λ t. body_judged order h (0 ∷ w) (leb_front w) (groups (leb_front w)) (behind_leb w)
+    (λ t. body_judged order h (0 ∷ w) (leb_front w) (groups (leb_front w)) (after_leb w)
     (ap (λ (z : List ℕ). 0 ∷ z) (sym (leb_split w))) (number_is (leb_front w) t))
     (λ f. tt))
 judged order h (suc k ∷ w) some =

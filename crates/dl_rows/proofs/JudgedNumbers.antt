@@ -5,7 +5,7 @@ use Rattle.std.proofs.Common.{if◌then◌else◌, refl, sym, ap, subst, ◌∙�
 use Rattle.std.specs.List.{concat, AllByRecursion}
 use Rattle.std.proofs.lemmas.Bool.{cases_lt, lt-ltb, le-ltb, eqb-true, ltb-true, ltb-false}
 use Rattle.dl_num.specs.Leb.{groups, signed_groups, IsUleb, IsSleb, IsSigned64}
-use Rattle.dl_num.specs.LebFront.{is_leb, leb_front, behind_leb}
+use Rattle.dl_num.specs.LebFront.{is_leb, leb_front, after_leb}
 use Rattle.dl_num.proofs.LebLaws.{leb_is, is_leb-of}
 use Rattle.dl_num.proofs.LebFrontLemmas.{and_left, and_right, true_false}
 use Rattle.dl_rows.specs.OperationSpelt.{is_empty, fits_signed, signed_number}
@@ -52,7 +52,7 @@ empty_is [] e = refl
 empty_is (b ∷ w) e = let l = eqb-true (length (b ∷ w)) 0 e in absurd (omega arith)
 
 -- the number at the front, and what follows it
-pub leb_split : (w : List ℕ) → leb_front w ++ behind_leb w ≡ w
+pub leb_split : (w : List ℕ) → leb_front w ++ after_leb w ≡ w
 leb_split [] = refl
 leb_split (b ∷ w) = elim (cases_lt b 128) [
   | inl lt ↦ rw (lt-ltb b 128 lt) refl
@@ -69,8 +69,8 @@ pub record AreNumbers (count : ℕ) (w : List ℕ) : Type 0 where
 pub lebs_are : (count : ℕ) (w : List ℕ) → are_lebs count w ≡ true → AreNumbers count w
 lebs_are zero w e = record { operands = []; as_many = refl; each = tt; bytes = empty_is w e }
 lebs_are (suc count) w e =
-    let t = and_left (is_leb (leb_front w)) (are_lebs count (behind_leb w)) e in
-    let r = lebs_are count (behind_leb w) (and_right (is_leb (leb_front w)) (are_lebs count (behind_leb w)) e) in
+    let t = and_left (is_leb (leb_front w)) (are_lebs count (after_leb w)) e in
+    let r = lebs_are count (after_leb w) (and_right (is_leb (leb_front w)) (are_lebs count (after_leb w)) e) in
     record {
       operands = leb_front w ∷ r.operands;
       as_many = ap suc r.as_many;

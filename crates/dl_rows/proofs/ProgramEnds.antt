@@ -97,18 +97,18 @@ walk_within order h b bytes rest p at n w all s e =
     whole = append_assoc b w.done rest ∙ ap (λ (z : List ℕ). b ++ z) (sym w.split)
 
 -- the current operation ends in a bad byte
-pub walk_refuses : (order : Order) (h : Params) (b bytes rest : List ℕ) (p : Program) (k : FaultKind) (behind : List ℕ)
+pub walk_refuses : (order : Order) (h : Params) (b bytes rest : List ℕ) (p : Program) (k : FaultKind) (tail : List ℕ)
     (n : ℕ) (w : Walked order h b bytes p rest)
-    → (front : List ℕ) → rest ≡ front ++ behind
+    → (front : List ℕ) → rest ≡ front ++ tail
     → SpellsFirst (operation_spelt order h) (w.stands.begun ++ front) (Err k)
-    → n ≡ min (p.begun + (length rest - length behind)) (2 ^ 64 - 1)
-    → (front : List ℕ) × (last : ℕ) × (bytes ≡ (front ++ last ∷ []) ++ behind)
+    → n ≡ min (p.begun + (length rest - length tail)) (2 ^ 64 - 1)
+    → (front : List ℕ) × (last : ℕ) × (bytes ≡ (front ++ last ∷ []) ++ tail)
     × (rows_in order h (b ++ (front ++ last ∷ [])) ≡ rows_in order h b)
     × Unrefused order h b front
     × (operation_spelt order h (operations_in order h (b ++ (front ++ last ∷ []))).rest ≡ Some (Err k))
     × (n ≡ min (length (operations_in order h (b ++ (front ++ last ∷ []))).rest) (2 ^ 64 - 1))
     × (p.in_sequence ≡ ends_open (rows_in order h (b ++ (front ++ last ∷ []))))
-walk_refuses order h b bytes rest p k behind n w front e first count =
+walk_refuses order h b bytes rest p k tail n w front e first count =
     let before = before_last order h p (b ++ w.done) front (Err k) w.stands first in
     let whole : w.done ++ front ≡ (w.done ++ before.front) ++ before.last ∷ [] =
     ap (λ (z : List ℕ). w.done ++ z) before.bytes ∙ sym (append_assoc w.done before.front (before.last ∷ [])) in
@@ -118,12 +118,12 @@ walk_refuses order h b bytes rest p k behind n w front e first count =
     let rest_is =
     ap (λ (z : List ℕ). (operations_in order h z).rest) (sym here)
     ∙ rest-found order h ((b ++ w.done) ++ front) w.stands.operations (w.stands.begun ++ front) found in
-    let l : length rest ≡ length front + length behind = ap length e ∙ length-append front behind in
+    let l : length rest ≡ length front + length tail = ap length e ∙ length-append front tail in
     let taken : n ≡ min (p.begun + length front) (2 ^ 64 - 1) = omega arith in (
       w.done ++ before.front,
       before.last,
-      w.split ∙ ap (λ (z : List ℕ). w.done ++ z) e ∙ sym (append_assoc w.done front behind)
-          ∙ ap (λ (z : List ℕ). z ++ behind) whole,
+      w.split ∙ ap (λ (z : List ℕ). w.done ++ z) e ∙ sym (append_assoc w.done front tail)
+          ∙ ap (λ (z : List ℕ). z ++ tail) whole,
       ap (rows_in order h) (sym here)
           ∙ rows-found order h ((b ++ w.done) ++ front) w.stands.operations (w.stands.begun ++ front) found
           ∙ sym (rows-found order h (b ++ w.done) w.stands.operations w.stands.begun w.stands.found) ∙ w.rows,
@@ -144,14 +144,14 @@ Finishing h old o row new =
     → Finishes h before o row new
 
 -- the current operation ends
-pub walk_turns : (order : Order) (h : Params) (b bytes rest front behind : List ℕ) (p new : Program) (o : Operation)
+pub walk_turns : (order : Order) (h : Params) (b bytes rest front tail : List ℕ) (p new : Program) (o : Operation)
     (row : Option Row) (w : Walked order h b bytes p rest) → FitsProgram h
-    → AllBytes bytes → rest ≡ front ++ behind → SpellsFirst (operation_spelt order h) (w.stands.begun ++ front) (Ok o)
+    → AllBytes bytes → rest ≡ front ++ tail → SpellsFirst (operation_spelt order h) (w.stands.begun ++ front) (Ok o)
     → Finishing h p o row new
     → new.phase ≡ phase.Start → new.begun ≡ 0 → Turned order h (b ++ w.done) front row new
-walk_turns order h b bytes rest front behind p new o row w fits all e first finishing at zero =
+walk_turns order h b bytes rest front tail p new o row w fits all e first finishing at zero =
     let taken =
-    bytes_front front behind (subst (λ (z : List ℕ). AllBytes z) e (bytes_left order h b bytes rest p w all)) in
+    bytes_front front tail (subst (λ (z : List ℕ). AllBytes z) e (bytes_left order h b bytes rest p w all)) in
     let range =
     range_here order h (w.stands.begun ++ front) o fits (bytes_joined w.stands.begun front w.stands.bytes taken)
     first in
@@ -159,13 +159,13 @@ walk_turns order h b bytes rest front behind p new o row w fits all e first fini
     (finishing w.stands.operations fits range w.stands.registers w.stands.in_sequence) at zero
 
 -- the same between two operations, where the bytes spell the whole operation
-pub walk_turns_whole : (order : Order) (h : Params) (b bytes rest front behind : List ℕ) (p new : Program)
+pub walk_turns_whole : (order : Order) (h : Params) (b bytes rest front tail : List ℕ) (p new : Program)
     (o : Operation) (row : Option Row) (w : Walked order h b bytes p rest)
-    → FitsProgram h → AllBytes bytes → p.phase ≡ phase.Start → rest ≡ front ++ behind
+    → FitsProgram h → AllBytes bytes → p.phase ≡ phase.Start → rest ≡ front ++ tail
     → SpellsFirst (operation_spelt order h) front (Ok o) → Finishing h p o row new
     → new.phase ≡ p.phase → new.begun ≡ p.begun → Turned order h (b ++ w.done) front row new
-walk_turns_whole order h b bytes rest front behind p new o row w fits all at e first finishing same_phase same_count =
+walk_turns_whole order h b bytes rest front tail p new o row w fits all at e first finishing same_phase same_count =
     let none = none_begun order h p (b ++ w.done) w.stands at in
     let whole = subst (λ (z : List ℕ). SpellsFirst (operation_spelt order h) (z ++ front) (Ok o)) (sym none.0) first in
-    walk_turns order h b bytes rest front behind p new o row w fits all e whole finishing (same_phase ∙ at) (same_count
+    walk_turns order h b bytes rest front tail p new o row w fits all e whole finishing (same_phase ∙ at) (same_count
     ∙ none.1)

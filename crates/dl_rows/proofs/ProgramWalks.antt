@@ -49,29 +49,29 @@ range_here order h v o fits all first =
     (judged order h v (omega arith)))
 
 -- an operation more
-pub walk_on : (order : Order) (h : Params) (b bytes rest front behind : List ℕ) (p new : Program)
-    (w : Walked order h b bytes p rest) → rest ≡ front ++ behind
-    → Turned order h (b ++ w.done) front None new → Walked order h b bytes new behind
-walk_on order h b bytes rest front behind p new w e t =
+pub walk_on : (order : Order) (h : Params) (b bytes rest front tail : List ℕ) (p new : Program)
+    (w : Walked order h b bytes p rest) → rest ≡ front ++ tail
+    → Turned order h (b ++ w.done) front None new → Walked order h b bytes new tail
+walk_on order h b bytes rest front tail p new w e t =
     let same = append_assoc b w.done front in
     record {
       done = w.done ++ front;
-      split = w.split ∙ ap (λ (z : List ℕ). w.done ++ z) e ∙ sym (append_assoc w.done front behind);
+      split = w.split ∙ ap (λ (z : List ℕ). w.done ++ z) e ∙ sym (append_assoc w.done front tail);
       stands = subst (λ (z : List ℕ). ProgramStands order h new z) same t.stands;
       rows = ap (rows_in order h) (sym same) ∙ t.rows ∙ append-nil (rows_in order h (b ++ w.done)) ∙ w.rows;
       unrefused = unrefused_join order h b w.done front w.unrefused t.unrefused;
     }
 
 -- a row
-pub walk_row : (order : Order) (h : Params) (b bytes rest front behind : List ℕ) (p new : Program) (row : Row)
-    (w : Walked order h b bytes p rest) → rest ≡ front ++ behind
+pub walk_row : (order : Order) (h : Params) (b bytes rest front tail : List ℕ) (p new : Program) (row : Row)
+    (w : Walked order h b bytes p rest) → rest ≡ front ++ tail
     → Turned order h (b ++ w.done) front (Some row) new
-    → (front : List ℕ) × (last : ℕ) × (bytes ≡ (front ++ last ∷ []) ++ behind)
+    → (front : List ℕ) × (last : ℕ) × (bytes ≡ (front ++ last ∷ []) ++ tail)
     × ProgramStands order h new (b ++ (front ++ last ∷ []))
     × (rows_in order h (b ++ front) ≡ rows_in order h b)
     × (rows_in order h (b ++ (front ++ last ∷ [])) ≡ rows_in order h b ++ row ∷ [])
     × Unrefused order h b (front ++ last ∷ [])
-walk_row order h b bytes rest front behind p new row w e t =
+walk_row order h b bytes rest front tail p new row w e t =
     let before = t.before in
     let whole : w.done ++ front ≡ (w.done ++ before.front) ++ before.last ∷ [] =
     ap (λ (z : List ℕ). w.done ++ z) before.bytes ∙ sym (append_assoc w.done before.front (before.last ∷ [])) in
@@ -79,8 +79,8 @@ walk_row order h b bytes rest front behind p new row w e t =
     let here = same ∙ ap (λ (z : List ℕ). b ++ z) whole in (
       w.done ++ before.front,
       before.last,
-      w.split ∙ ap (λ (z : List ℕ). w.done ++ z) e ∙ sym (append_assoc w.done front behind)
-          ∙ ap (λ (z : List ℕ). z ++ behind) whole,
+      w.split ∙ ap (λ (z : List ℕ). w.done ++ z) e ∙ sym (append_assoc w.done front tail)
+          ∙ ap (λ (z : List ℕ). z ++ tail) whole,
       subst (λ (z : List ℕ). ProgramStands order h new z) here t.stands,
       ap (rows_in order h) (sym (append_assoc b w.done before.front)) ∙ before.rows ∙ w.rows,
       ap (rows_in order h) (sym here) ∙ t.rows ∙ ap (λ (z : List Row). z ++ row ∷ []) w.rows,
@@ -100,7 +100,7 @@ at_start h (phase.Address number) s = absurd cc
 at_start h (phase.Discriminator left number) s = absurd cc
 at_start h (phase.Rest left) s = absurd cc
 
--- no operation is begun exactly where nothing is left behind the complete ones
+-- no operation is begun exactly where nothing is left tail the complete ones
 pub between : (order : Order) (h : Params) (p : Program) (b : List ℕ) → ProgramStands order h p b
     → (p.phase ≡ phase.Start) ↔ ((operations_in order h b).rest ≡ [])
 between order h p b s =

@@ -26,12 +26,12 @@ use Rattle.dl_rows.specs.declared.unit_body.UnitBytes.{UnitBytes}
 use Rattle.dl_rows.specs.Each.{each_row}
 use Rattle.dl_rows.specs.Sinks.{Story}
 use Rattle.dl_rows.specs.LineUnit.{events}
-use Rattle.dl_rows.specs.Reading.{Feeds, IsPause, SinkAt, SinkBehind, FinishIs}
+use Rattle.dl_rows.specs.Reading.{Feeds, IsPause, SinkAt, SinkAfter, FinishIs}
 use Rattle.dl_rows.specs.Refusal.{Refused}
 use Rattle.dl_rows.specs.ReaderStands.{StandsFor}
-use Rattle.dl_rows.specs.ReaderAnswers.{ReaderFed, FedBehind, RowsFed}
+use Rattle.dl_rows.specs.ReaderAnswers.{ReaderFed, FedAfter, RowsFed}
 use Rattle.dl_rows.specs.ReaderStates.{InHeader, StandsAt}
-use Rattle.dl_rows.specs.UnitBodies.{InForeign, BodyFedBehind, BodyTells}
+use Rattle.dl_rows.specs.UnitBodies.{InForeign, BodyFedAfter, BodyTells}
 use Rattle.dl_rows.proofs.BodyStops.{fails_again}
 use Rattle.dl_rows.proofs.HeadFeeds.{no_unit}
 use Rattle.dl_rows.proofs.UnitWhole.{NoneRefused}
@@ -73,7 +73,7 @@ feeds_foreign r new t u b piece fed is order made s feeds =
 -- after the header
 body_fed : (order : Order) (h : HeaderData) (before : List Event) (b piece : List ℕ) (result : Result Fed Fault)
     (now : BodyState) (new : Reader) → new.order ≡ order → new.state ≡ state.AfterHeader h now
-    → BodyFedBehind order h before b piece result now → FedBehind order before b piece result new
+    → BodyFedAfter order h before b piece result now → FedAfter order before b piece result new
 body_fed order h before b piece (Ok fed) now new same made f = record {
   answered = f.answered;
   stands =
@@ -157,10 +157,10 @@ sink_goes_on story s rows event.Header none hears = hears
 sink_goes_on story s rows (event.Foreign version) none hears = hears
 sink_goes_on story s rows (event.Row r) none hears = absurd (none r refl)
 
-pub sink_behind : {S : Type 0} (story : Story S) (s : S) (rows : List Row) (result : Result Fed Fault)
-    → IfOk result (λ fed. (r : Row) → fed.event ≢ event.Row r) → story.hears s rows → SinkBehind story s rows result
-sink_behind story s rows (Ok fed) none hears = sink_goes_on story s rows fed.event none hears
-sink_behind story s rows (Err fault) none hears = hears
+pub sink_after : {S : Type 0} (story : Story S) (s : S) (rows : List Row) (result : Result Fed Fault)
+    → IfOk result (λ fed. (r : Row) → fed.event ≢ event.Row r) → story.hears s rows → SinkAfter story s rows result
+sink_after story s rows (Ok fed) none hears = sink_goes_on story s rows fed.event none hears
+sink_after story s rows (Err fault) none hears = hears
 
 pub no_row_paused : (e : Event) → IsPause e → (r : Row) → e ≢ event.Row r
 no_row_paused event.More pause r e = absurd cc
@@ -170,24 +170,24 @@ no_row_paused event.Header pause r e = absurd pause
 no_row_paused (event.Foreign version) pause r e = absurd pause
 no_row_paused (event.Row x) pause r e = absurd pause
 
-behind_of_fed : (order : Order) (b piece : List ℕ) (result : Result Fed Fault) (new : Reader)
-    → ReaderFed order b piece result new → FedBehind order (events order b) b piece result new
-behind_of_fed order b piece (Ok fed) new f = f
-behind_of_fed order b piece (Err fault) new f = f
+after_of_fed : (order : Order) (b piece : List ℕ) (result : Result Fed Fault) (new : Reader)
+    → ReaderFed order b piece result new → FedAfter order (events order b) b piece result new
+after_of_fed order b piece (Ok fed) new f = f
+after_of_fed order b piece (Err fault) new f = f
 
-fed_of_behind : (order : Order) (b piece : List ℕ) (result : Result Fed Fault) (new : Reader)
-    → FedBehind order (events order b) b piece result new → ReaderFed order b piece result new
-fed_of_behind order b piece (Ok fed) new f = f
-fed_of_behind order b piece (Err fault) new f = f
+fed_of_after : (order : Order) (b piece : List ℕ) (result : Result Fed Fault) (new : Reader)
+    → FedAfter order (events order b) b piece result new → ReaderFed order b piece result new
+fed_of_after order b piece (Ok fed) new f = f
+fed_of_after order b piece (Err fault) new f = f
 
 pub no_rows : {S : Type 0} (story : Story S) (order : Order) (b piece : List ℕ) (before : List Row)
     (result : Result Fed Fault) (new : Reader) (s : S) → ReaderFed order b piece result new
-    → SinkBehind story s before result → RowsFed story order b piece before result new s
+    → SinkAfter story s before result → RowsFed story order b piece before result new s
 no_rows story order b piece before result new s fed sink = record {
   rows = [];
-  fed = subst (λ (es : List Event). FedBehind order es b piece result new) (sym (append-nil (events order b)))
-      (behind_of_fed order b piece result new fed);
-  sink = subst (λ (rows : List Row). SinkBehind story s rows result) (sym (append-nil before)) sink;
+  fed = subst (λ (es : List Event). FedAfter order es b piece result new) (sym (append-nil (events order b)))
+      (after_of_fed order b piece result new fed);
+  sink = subst (λ (rows : List Row). SinkAfter story s rows result) (sym (append-nil before)) sink;
 }
 
 -- the same after a fault in the header
@@ -212,7 +212,7 @@ each_none s rows event.Header at = at
 each_none s rows (event.Foreign version) at = at
 each_none s rows (event.Row r) at = none_before rows r at.0 at.1
 
-each_result : (s : EachRow) (rows : List Row) (result : Result Fed Fault) → SinkBehind each_row s rows result
+each_result : (s : EachRow) (rows : List Row) (result : Result Fed Fault) → SinkAfter each_row s rows result
     → rows ≡ []
 each_result s rows (Ok fed) at = each_none s rows fed.event at
 each_result s rows (Err fault) at = at
@@ -222,6 +222,6 @@ pub fed_alone : (order : Order) (b piece : List ℕ) (result : Result Fed Fault)
     → RowsFed each_row order b piece [] result new s → ReaderFed order b piece result new
 fed_alone order b piece result new s f =
     let none = each_result s f.rows result f.sink in
-    fed_of_behind order b piece result new
-    (subst (λ (es : List Event). FedBehind order es b piece result new)
+    fed_of_after order b piece result new
+    (subst (λ (es : List Event). FedAfter order es b piece result new)
     (ap (λ (rows : List Row). events order b ++ map event.Row rows) none ∙ append-nil (events order b)) f.fed)

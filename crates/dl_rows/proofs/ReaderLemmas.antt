@@ -21,7 +21,7 @@ use Rattle.dl_rows.specs.declared.unit_body.BodyState.{BodyState}
 use Rattle.dl_rows.specs.declared.unit_body.BodyState.TheVariants as body
 use Rattle.dl_rows.specs.declared.unit_body.UnitBody.{UnitBody}
 use Rattle.dl_rows.specs.declared.unit_body.UnitBytes.{UnitBytes}
-use Rattle.dl_rows.specs.LineUnit.{IsUnit, rows_in, rows_behind, unit_rows}
+use Rattle.dl_rows.specs.LineUnit.{IsUnit, rows_in, rows_later, unit_rows}
 use Rattle.dl_rows.specs.Reading.{WithinUnit, FinishIs}
 use Rattle.dl_rows.specs.ReaderStates.{StandsAt, taken_in}
 use Rattle.dl_rows.specs.UnitBodies.{Counts, InProgram, InForeign, BodyStands}
@@ -43,7 +43,7 @@ foreign_no_header order b version foreign = on (header_in order b) refl where
 
 -- where there is no header, there are no rows
 pub no_rows : (order : Order) (b : List ℕ) → header_in order b ≡ None → unit_rows order b ≡ []
-no_rows order b none = ap (rows_behind order) none
+no_rows order b none = ap (rows_later order) none
 
 -- the rows after a header
 pub rows_here : (order : Order) (h : HeaderData) (t : UnitBody) (b : List ℕ) (is : InProgram order h t b)

@@ -60,10 +60,10 @@ took_first order b bytes n used gave may = on gave may where
   on (Err fault) may = of_piece [] may.within may.in_unit (may.no_event ∙ sym (append-nil (events order b)))
 
 -- k bytes, and then more
-took_behind : (order : Order) (b bytes : List ℕ) (k used : ℕ) (first heard : List Event) → Took order b bytes k first
+took_after : (order : Order) (b bytes : List ℕ) (k used : ℕ) (first heard : List Event) → Took order b bytes k first
     → Took order (b ++ take k bytes) (drop k bytes) used heard
     → Took order b bytes (k + used) (first ++ heard)
-took_behind order b bytes k used first heard t o = record {
+took_after order b bytes k used first heard t o = record {
   within = omega (arith, t.within, o.within, length-drop k bytes);
   in_unit = subst (WithinUnit order) (joined b bytes k used) o.in_unit;
   grows = ap (λ (l : List ℕ). events order l) (sym (joined b bytes k used)) ∙ o.grows
@@ -77,7 +77,7 @@ trace_took order b bytes turns (a ∷ answers) in_unit t =
     let r = trace_rest (May order) goes_on b bytes turns a answers t in
     let first = took_first order b bytes r.0 a.used a.gave r.2 in
     subst (λ (k : ℕ). Took order b bytes k (heard_in (a ∷ answers))) (sym (used_cons a answers))
-    (took_behind order b bytes a.used (used_in answers) (told_by a.gave) (heard_in answers) first
+    (took_after order b bytes a.used (used_in answers) (told_by a.gave) (heard_in answers) first
     (trace_took order (b ++ take a.used bytes) (drop a.used bytes) r.1 answers first.in_unit r.3))
 
 -- ---- what the last answer says
@@ -89,16 +89,16 @@ module _ (order : Order) (b bytes turns : List ℕ) (first : Result Event Fault)
 
   -- the last turn gave this
   given : (gave : Result Event Fault) → last_given first (a ∷ answers) ≡ gave
-      → MayGive order (b ++ take last.behind bytes) (take last.n (drop last.behind bytes)) last.answer.used gave
+      → MayGive order (b ++ take last.tail bytes) (take last.n (drop last.tail bytes)) last.answer.used gave
   given gave is =
-      subst (λ (g : Result Event Fault). MayGive order (b ++ take last.behind bytes)
-      (take last.n (drop last.behind bytes)) last.answer.used g) (sym last.is_last ∙ is) last.may
+      subst (λ (g : Result Event Fault). MayGive order (b ++ take last.tail bytes)
+      (take last.n (drop last.tail bytes)) last.answer.used g) (sym last.is_last ∙ is) last.may
 
   -- all that was taken
-  all : last.answer.used ≤ length (take last.n (drop last.behind bytes))
-      → (b ++ take last.behind bytes) ++ take last.answer.used (take last.n (drop last.behind bytes))
+  all : last.answer.used ≤ length (take last.n (drop last.tail bytes))
+      → (b ++ take last.tail bytes) ++ take last.answer.used (take last.n (drop last.tail bytes))
       ≡ b ++ take (used_in (a ∷ answers)) bytes
-  all le = turned b bytes last.behind last.n last.answer.used le ∙ ap (λ (k : ℕ). b ++ take k bytes) (sym last.total)
+  all le = turned b bytes last.tail last.n last.answer.used le ∙ ap (λ (k : ℕ). b ++ take k bytes) (sym last.total)
 
   pub last_sound : (event : Event) → last_given first (a ∷ answers) ≡ Ok event
       → Sound order (b ++ take (used_in (a ∷ answers)) bytes)
@@ -187,8 +187,8 @@ module _ (order : Order) (b bytes turns : List ℕ) (n : ℕ) (a : Given) (answe
   first_took : Took order b bytes a.used (told_by a.gave)
   first_took = took_first order b bytes n a.used a.gave may
 
-  pub unit_behind : IsUnit order ((b ++ take a.used bytes) ++ take (used_in answers) (drop a.used bytes))
-  unit_behind =
+  pub unit_after : IsUnit order ((b ++ take a.used bytes) ++ take (used_in answers) (drop a.used bytes))
+  unit_after =
       subst (λ (l : List ℕ). IsUnit order l) (ap (λ (k : ℕ). b ++ take k bytes) (used_cons a answers)
       ∙ sym (joined b bytes a.used (used_in answers))) unit
 
@@ -209,7 +209,7 @@ module _ (order : Order) (b bytes turns : List ℕ) (n : ℕ) (a : Given) (answe
             ∙ append-nil (b ++ take a.used bytes) in
             let offered =
             first_offers order b bytes n a.used a.gave is may
-            (subst (λ (l : List ℕ). IsUnit order l) same unit_behind) in
+            (subst (λ (l : List ℕ). IsUnit order l) same unit_after) in
             absurd (omega (arith, all, none, offered))
       ]
     ]
@@ -225,16 +225,16 @@ trace_moves_in order b bytes (n ∷ turns) [] first in_unit t goes unit = absurd
 trace_moves_in order b bytes (n ∷ turns) (a ∷ answers) first in_unit t goes unit =
     let is = goes_first goes_on a answers t.1 goes in
     let here = took_first order b bytes n a.used a.gave t.0 in
-    let behind =
+    let tail =
     trace_moves_in order (b ++ take a.used bytes) (drop a.used bytes) turns answers a.gave here.in_unit
-    (t.2 is) goes (unit_behind order b bytes turns n a answers in_unit t.0 is (t.2 is) unit) in
+    (t.2 is) goes (unit_after order b bytes turns n a answers in_unit t.0 is (t.2 is) unit) in
     omega (
       arith,
       used_cons a answers,
       refusals_cons a answers,
       sum_by-cons (λ k. min k 1) n turns,
       advanced order b bytes turns n a answers in_unit t.0 is (t.2 is) unit,
-      behind,
+      tail,
     )
 
 -- ---- what a trace comes to

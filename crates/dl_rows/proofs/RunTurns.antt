@@ -154,13 +154,13 @@ module _ {S : Type 0} (Heard : S → List Event → Type 0) (order : Order) (b b
         goes_to fed.used (Ok fed.event) fed_here.answered fed_here.answered.within fed_here.stands hears next more
         next_is counted goes
 
-    abbrev behind : List Given
-    behind = g.answers ++ (record { used = fed.used; gave = Ok fed.event }) ∷ []
+    abbrev tail : List Given
+    tail = g.answers ++ (record { used = fed.used; gave = Ok fed.event }) ∷ []
 
-    taken_now : used_in behind ≡ used_in g.answers + fed.used
+    taken_now : used_in tail ≡ used_in g.answers + fed.used
     taken_now = sum_by_push (λ (a : Given). a.used) g.answers (record { used = fed.used; gave = Ok fed.event })
 
-    refusals_now : fed.event ≡ event.End → refusals behind ≡ refusals g.answers
+    refusals_now : fed.event ≡ event.End → refusals tail ≡ refusals g.answers
     refusals_now ends =
         sum_by_push (λ (a : Given). cond (is_refusal a.gave) 1 0) g.answers (record {
           used = fed.used;
@@ -182,12 +182,12 @@ module _ {S : Type 0} (Heard : S → List Event → Type 0) (order : Order) (b b
         Result Run Fault} (λ (k : ℕ). Ok (record { taken = k; refused = run.refused; ended = true }))
         (ap (λ (r : Run). r.taken + fed.used) g.run_is ∙ sym taken_now)
         ∙ ap {B =
-        Result Run Fault} (λ (k : ℕ). Ok (record { taken = used_in behind; refused = k; ended = true }))
+        Result Run Fault} (λ (k : ℕ). Ok (record { taken = used_in tail; refused = k; ended = true }))
         (ap (λ (r : Run). r.refused) g.run_is ∙ sym (refusals_now ends))
         ∙ ap {B =
         Result Run Fault} (λ (v : Bool). Ok (record {
-          taken = used_in behind;
-          refused = refusals behind;
+          taken = used_in tail;
+          refused = refusals tail;
           ended =
               v;
         })) (sym (ap is_end ends)))

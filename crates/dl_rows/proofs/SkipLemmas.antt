@@ -14,7 +14,7 @@ use Rattle.dl_field.specs.declared.params.Params.{Params}
 use Rattle.dl_rows.specs.declared.operation.Operation.TheVariants as op
 use Rattle.dl_rows.specs.OperationSpelt.{are_lebs, operation_spelt}
 use Rattle.dl_rows.specs.Phases.{LebsLeft}
-use Rattle.dl_rows.proofs.FirstLemmas.{nowhere_behind, first_behind, open_byte, nil_front}
+use Rattle.dl_rows.proofs.FirstLemmas.{nowhere_after, first_after, open_byte, nil_front}
 use Rattle.dl_rows.proofs.OperandLemmas.{Verdict}
 
 -- a number that is begun isn't one
@@ -106,7 +106,7 @@ pub skipped_nowhere : (order : Order) (h : Params) (b : ℕ) (w : List ℕ) (lef
     → LebsLeft (slice_index h.lengths.items (b - 1)) w left
     → SpellsNowhere (operation_spelt order h) (b ∷ w)
 skipped_nowhere order h b w left above below l =
-    nowhere_behind (operation_spelt order h) (skipped (slice_index h.lengths.items (b - 1))) (b ∷ []) w
+    nowhere_after (operation_spelt order h) (skipped (slice_index h.lengths.items (b - 1))) (b ∷ []) w
     (open_byte (operation_spelt order h) b refl) (skipped_then order h b above below)
     (λ front back e. rw (l.nowhere front back e) refl)
 
@@ -115,7 +115,7 @@ pub skipped_first : (order : Order) (h : Params) (b : ℕ) (w : List ℕ) (c : �
     → SpellsFirst (operation_spelt order h) (b ∷ (w ++ c ∷ [])) (Ok op.Skipped)
 skipped_first order h b w c above below l lt =
     let count = slice_index h.lengths.items (b - 1) in
-    first_behind (operation_spelt order h) (skipped count) (b ∷ []) (w ++ c ∷ []) (Ok op.Skipped)
+    first_after (operation_spelt order h) (skipped count) (b ∷ []) (w ++ c ∷ []) (Ok op.Skipped)
     (open_byte (operation_spelt order h) b refl) (skipped_then order h b above below)
     (record {
       spells = rw (lebs_last count w c l lt) refl;

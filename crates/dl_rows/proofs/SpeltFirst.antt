@@ -10,7 +10,7 @@ use Rattle.dl_num.specs.declared.fixed.Order.{Order}
 use Rattle.dl_num.specs.Fixed.{fixed}
 use Rattle.dl_num.specs.Front.{SpellsFirst}
 use Rattle.dl_num.specs.Leb.{groups}
-use Rattle.dl_num.specs.LebFront.{is_leb, leb_front, behind_leb}
+use Rattle.dl_num.specs.LebFront.{is_leb, leb_front, after_leb}
 use Rattle.dl_num.proofs.LebLaws.{is_leb-of, leb_is_front}
 use Rattle.dl_num.proofs.LebFrontLemmas.{and_left, and_right, true_false, leb_front-append, leb_front-le}
 use Rattle.dl_field.specs.declared.params.Params.{Params}
@@ -20,7 +20,7 @@ use Rattle.dl_rows.specs.OperationSpelt.{unsigned_operand, signed_operand, are_l
 use Rattle.dl_rows.specs.OperationSpelt.{extended_spelt, operation_spelt}
 use Rattle.dl_rows.specs.Spelling.{IsBare, HasUnsigned, IsExtended, IsNumber, SkipsStandard, SkipsExtended}
 use Rattle.dl_rows.specs.Spelling.{SpellsOperation}
-use Rattle.dl_rows.proofs.FirstLemmas.{first_behind, open_byte, first_nil, open_nil}
+use Rattle.dl_rows.proofs.FirstLemmas.{first_after, open_byte, first_nil, open_nil}
 use Rattle.dl_rows.proofs.OperandLemmas.{Verdict, unsigned_first, signed_first, sized, sized_first}
 use Rattle.dl_rows.proofs.ExtendedLemmas.{extended_first, discriminator_first}
 use Rattle.dl_rows.proofs.SkipLemmas.{skipped_then}
@@ -28,7 +28,7 @@ use Rattle.dl_rows.proofs.SkipLemmas.{skipped_then}
 -- what spells the same spells the same first
 first_same : {A : Type 0} (spelt other : List ℕ → Option A) (w : List ℕ) (a : A) → ((u : List ℕ) → spelt u ≡ other u)
     → SpellsFirst other w a → SpellsFirst spelt w a
-first_same spelt other w a same first = first_behind spelt other [] w a (open_nil spelt) same first
+first_same spelt other w a same first = first_after spelt other [] w a (open_nil spelt) same first
 
 first_at : {A : Type 0} (spelt : List ℕ → Option A) (v w : List ℕ) (a : A) → w ≡ v → SpellsFirst spelt v a
     → SpellsFirst spelt w a
@@ -40,7 +40,7 @@ bare_first : (order : Order) (h : Params) (o : Operation) (opcode : ℕ) (w : Li
     → operation_spelt order h (opcode ∷ []) ≡ Some (Ok o)
     → IsBare h opcode w → SpellsFirst (operation_spelt order h) w (Ok o)
 bare_first order h o opcode w e s = first_at (operation_spelt order h) (opcode ∷ []) w (Ok o) s.bytes
-    (first_behind (operation_spelt order h) (λ u. operation_spelt order h (opcode ∷ u)) (opcode ∷ []) [] (Ok o)
+    (first_after (operation_spelt order h) (λ u. operation_spelt order h (opcode ∷ u)) (opcode ∷ []) [] (Ok o)
     (open_byte (operation_spelt order h) opcode refl) (λ u. refl)
     (first_nil (λ u. operation_spelt order h (opcode ∷ u)) (Ok o) e))
 
@@ -51,7 +51,7 @@ operand_first : (order : Order) (h : Params) (o : Operation) (opcode : ℕ) (ope
     → SpellsFirst spelt operand (Ok o) → SpellsFirst (operation_spelt order h) w (Ok o)
 operand_first order h o opcode operand w spelt same e first =
     first_at (operation_spelt order h) (opcode ∷ operand) w (Ok o) e
-    (first_behind (operation_spelt order h) spelt (opcode ∷ []) operand (Ok o)
+    (first_after (operation_spelt order h) spelt (opcode ∷ []) operand (Ok o)
     (open_byte (operation_spelt order h) opcode refl) same first)
 
 unsigned_case : (order : Order) (h : Params) (make : ℕ → Operation) (opcode n : ℕ) (w : List ℕ)
@@ -63,8 +63,8 @@ unsigned_case order h make opcode n w same s =
 
 -- ---- operands that nobody reads
 
-behind_append : (w v : List ℕ) → is_leb (leb_front w) ≡ true → behind_leb (w ++ v) ≡ behind_leb w ++ v
-behind_append w v e = rw (leb_front-append w v e) (drop-append-le (length (leb_front w)) w v (leb_front-le w))
+after_append : (w v : List ℕ) → is_leb (leb_front w) ≡ true → after_leb (w ++ v) ≡ after_leb w ++ v
+after_append w v e = rw (leb_front-append w v e) (drop-append-le (length (leb_front w)) w v (leb_front-le w))
 
 -- numbers begin no others that are as many
 lebs_once : (count : ℕ) (w : List ℕ) (x : ℕ) (v : List ℕ) → are_lebs count w ≡ true
@@ -72,11 +72,11 @@ lebs_once : (count : ℕ) (w : List ℕ) (x : ℕ) (v : List ℕ) → are_lebs c
 lebs_once zero [] x v e = ne_eqb (length (x ∷ v)) 0 (λ k. omega arith)
 lebs_once zero (b ∷ w) x v e = absurd (true_false e (ne_eqb (length (b ∷ w)) 0 (λ k. omega arith)))
 lebs_once (suc count) w x v e =
-    let l = and_left (is_leb (leb_front w)) (are_lebs count (behind_leb w)) e in
-    let r = and_right (is_leb (leb_front w)) (are_lebs count (behind_leb w)) e in
-    let later : are_lebs count (behind_leb (w ++ x ∷ v)) ≡ false =
-    ap (are_lebs count) (behind_append w (x ∷ v) l) ∙ lebs_once count (behind_leb w) x v r in
-    and_false (is_leb (leb_front (w ++ x ∷ v))) (are_lebs count (behind_leb (w ++ x ∷ v))) later
+    let l = and_left (is_leb (leb_front w)) (are_lebs count (after_leb w)) e in
+    let r = and_right (is_leb (leb_front w)) (are_lebs count (after_leb w)) e in
+    let later : are_lebs count (after_leb (w ++ x ∷ v)) ≡ false =
+    ap (are_lebs count) (after_append w (x ∷ v) l) ∙ lebs_once count (after_leb w) x v r in
+    and_false (is_leb (leb_front (w ++ x ∷ v))) (are_lebs count (after_leb (w ++ x ∷ v))) later
 
 pub lebs-concat : (operands : List (List ℕ)) → AllByRecursion IsNumber operands
     → are_lebs (length operands) (concat operands) ≡ true
@@ -84,7 +84,7 @@ lebs-concat [] each = refl
 lebs-concat (w ∷ operands) each =
     let v = concat operands in
     let f = leb_is_front w v (groups w) (each.0.0, each.0.1, each.0.2, refl) in
-    and_from (is_leb (leb_front (w ++ v))) (are_lebs (length operands) (behind_leb (w ++ v)))
+    and_from (is_leb (leb_front (w ++ v))) (are_lebs (length operands) (after_leb (w ++ v)))
     (ap is_leb f.0 ∙ is_leb-of w each.0.0 each.0.1 each.0.2) (ap (are_lebs (length operands)) f.1
     ∙ lebs-concat operands each.1)
 
@@ -152,7 +152,7 @@ skips_extended order h w some s = extended_case order h op.Skipped s.opcode s.op
 pub spells_first : (order : Order) (h : Params) (o : Operation) (w : List ℕ) → 1 ≤ h.opcode_base
     → SpellsOperation order h o w → SpellsFirst (operation_spelt order h) w (Ok o)
 spells_first order h (op.Special b) w some s = first_at (operation_spelt order h) (b ∷ []) w (Ok (op.Special b)) s.1
-    (first_behind (operation_spelt order h) (λ u. operation_spelt order h (b ∷ u)) (b ∷ []) [] (Ok (op.Special b))
+    (first_after (operation_spelt order h) (λ u. operation_spelt order h (b ∷ u)) (b ∷ []) [] (Ok (op.Special b))
     (open_byte (operation_spelt order h) b refl) (λ u. refl)
     (first_nil (λ u. operation_spelt order h (b ∷ u)) (Ok (op.Special b)) (rw (le-leb h.opcode_base b s.0) refl)))
 spells_first order h op.Copy w some s = bare_first order h op.Copy 1 w (rw (lt-leb h.opcode_base 1 s.below) refl) s

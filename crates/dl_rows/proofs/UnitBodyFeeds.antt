@@ -21,7 +21,7 @@ use Rattle.dl_rows.specs.declared.unit_body.UnitBody.{UnitBody}
 use Rattle.dl_rows.specs.OperationSpelt.{operation_spelt, operations_in}
 use Rattle.dl_rows.specs.LineUnit.{rows_in, ends_open, events}
 use Rattle.dl_rows.specs.Programs.{ProgramStands, Unrefused, Told, Tells}
-use Rattle.dl_rows.specs.Reading.{WithinUnit, told, FeedsBehind, FailsBehind, IsPause, SinkAt}
+use Rattle.dl_rows.specs.Reading.{WithinUnit, told, FeedsAfter, FailsAfter, IsPause, SinkAt}
 use Rattle.dl_rows.specs.Refusal.{Refused}
 use Rattle.dl_rows.specs.Sinks.{Story}
 use Rattle.dl_rows.specs.Sums.{FitsProgram}
@@ -32,7 +32,7 @@ use Rattle.dl_rows.proofs.ProgramWalks.{in_sequence_is}
 use Rattle.dl_rows.proofs.UnitBodyLemmas.{counts_within, counts_on, program_on, events_more, refused_on, decides_bad}
 use Rattle.dl_rows.proofs.UnitBodyLemmas.{decides_overrun, rows_on, row_ends}
 use Rattle.dl_rows.proofs.UnitWhole.{unit_unless_refused}
-use Rattle.dl_rows.proofs.UnitBodyPauses.{fed_of, feeds_with, pauses_behind, piece_is, some_bytes, take_front, taken_le}
+use Rattle.dl_rows.proofs.UnitBodyPauses.{fed_of, feeds_with, pauses_after, piece_is, some_bytes, take_front, taken_le}
 
 -- ---- inside a program
 
@@ -62,8 +62,8 @@ tells_in story order h p t new b piece bytes before given q s is params front al
 
 -- what is said of bytes that give a row
 abbrev pub RowGiven : Order → HeaderData → List ℕ → List ℕ → List Row → Row → List ℕ → Program → Type 0
-RowGiven order h program bytes rows row behind new =
-    (front : List ℕ) × (last : ℕ) × (bytes ≡ (front ++ last ∷ []) ++ behind)
+RowGiven order h program bytes rows row tail new =
+    (front : List ℕ) × (last : ℕ) × (bytes ≡ (front ++ last ∷ []) ++ tail)
     × ProgramStands order h.params new (program ++ (front ++ last ∷ []))
     × (rows_in order h.params (program ++ front) ≡ rows_in order h.params program ++ rows)
     × (rows_in order h.params (program ++ (front ++ last ∷ [])) ≡ (rows_in order h.params program ++ rows) ++ row
@@ -79,8 +79,8 @@ NothingGiven order h program bytes rows new =
 
 -- what is said of bytes that end in a bad operation
 abbrev pub BadGiven : Order → HeaderData → List ℕ → List ℕ → List Row → FaultKind → List ℕ → Program → Type 0
-BadGiven order h program bytes rows kind behind new =
-    (front : List ℕ) × (last : ℕ) × (bytes ≡ (front ++ last ∷ []) ++ behind)
+BadGiven order h program bytes rows kind tail new =
+    (front : List ℕ) × (last : ℕ) × (bytes ≡ (front ++ last ∷ []) ++ tail)
     × (rows_in order h.params (program ++ (front ++ last ∷ [])) ≡ rows_in order h.params program ++ rows)
     × Unrefused order h.params program front
     × (operation_spelt order h.params (operations_in order h.params (program ++ (front ++ last ∷ []))).rest
@@ -90,23 +90,23 @@ BadGiven order h program bytes rows kind behind new =
 
 -- where rows were told up to a place, what is said of the bytes after it, said of all
 pub flat_row : (order : Order) (h : HeaderData) (program bytes : List ℕ) (rows : List Row) (since : List ℕ) (row : Row)
-    (behind : List ℕ) (new : Program) (t : Told order h.params program bytes rows since)
-    → ((front : List ℕ) × (last : ℕ) × (since ≡ (front ++ last ∷ []) ++ behind)
+    (tail : List ℕ) (new : Program) (t : Told order h.params program bytes rows since)
+    → ((front : List ℕ) × (last : ℕ) × (since ≡ (front ++ last ∷ []) ++ tail)
     × ProgramStands order h.params new ((program ++ t.done) ++ (front ++ last ∷ []))
     × (rows_in order h.params ((program ++ t.done) ++ front) ≡ rows_in order h.params (program ++ t.done))
     × (rows_in order h.params ((program ++ t.done) ++ (front ++ last ∷ []))
     ≡ rows_in order h.params (program ++ t.done) ++ row ∷ [])
     × Unrefused order h.params (program ++ t.done) (front ++ last ∷ []))
-    → RowGiven order h program bytes rows row behind new
-flat_row order h program bytes rows since row behind new t (front, last, e, stands, before, grown, unrefused) =
+    → RowGiven order h program bytes rows row tail new
+flat_row order h program bytes rows since row tail new t (front, last, e, stands, before, grown, unrefused) =
     let u = front ++ last ∷ [] in
     let line = append_assoc t.done front (last ∷ []) in
     let here : (program ++ t.done) ++ u ≡ program ++ ((t.done ++ front) ++ last ∷ []) =
     append_assoc program t.done u ∙ ap (λ (w : List ℕ). program ++ w) (sym line) in (
       t.done ++ front,
       last,
-      t.split ∙ ap (λ (w : List ℕ). t.done ++ w) e ∙ sym (append_assoc t.done u behind)
-          ∙ ap (λ (w : List ℕ). w ++ behind) (sym line),
+      t.split ∙ ap (λ (w : List ℕ). t.done ++ w) e ∙ sym (append_assoc t.done u tail)
+          ∙ ap (λ (w : List ℕ). w ++ tail) (sym line),
       subst (λ (w : List ℕ). ProgramStands order h.params new w) here stands,
       ap (rows_in order h.params) (sym (append_assoc program t.done front)) ∙ before ∙ t.told,
       ap (rows_in order h.params) (sym here) ∙ grown ∙ ap (λ (z : List Row). z ++ row ∷ []) t.told,
@@ -130,8 +130,8 @@ flat_nothing order h program bytes rows since new t (stands, quiet, unrefused) =
     )
 
 pub flat_bad : (order : Order) (h : HeaderData) (program bytes : List ℕ) (rows : List Row) (since : List ℕ)
-    (kind : FaultKind) (behind : List ℕ) (new : Program) (t : Told order h.params program bytes rows since)
-    → ((front : List ℕ) × (last : ℕ) × (since ≡ (front ++ last ∷ []) ++ behind)
+    (kind : FaultKind) (tail : List ℕ) (new : Program) (t : Told order h.params program bytes rows since)
+    → ((front : List ℕ) × (last : ℕ) × (since ≡ (front ++ last ∷ []) ++ tail)
     × (rows_in order h.params ((program ++ t.done) ++ (front ++ last ∷ []))
     ≡ rows_in order h.params (program ++ t.done))
     × Unrefused order h.params (program ++ t.done) front
@@ -140,16 +140,16 @@ pub flat_bad : (order : Order) (h : HeaderData) (program bytes : List ℕ) (rows
     × (new.begun ≡ min (length (operations_in order h.params ((program ++ t.done) ++ (front ++ last ∷ []))).rest)
     (2 ^ 64 - 1))
     × (new.in_sequence ≡ ends_open (rows_in order h.params ((program ++ t.done) ++ (front ++ last ∷ [])))))
-    → BadGiven order h program bytes rows kind behind new
-flat_bad order h program bytes rows since kind behind new t (front, last, e, quiet, unrefused, spelt, count, open_is) =
+    → BadGiven order h program bytes rows kind tail new
+flat_bad order h program bytes rows since kind tail new t (front, last, e, quiet, unrefused, spelt, count, open_is) =
     let u = front ++ last ∷ [] in
     let line = append_assoc t.done front (last ∷ []) in
     let here : (program ++ t.done) ++ u ≡ program ++ ((t.done ++ front) ++ last ∷ []) =
     append_assoc program t.done u ∙ ap (λ (w : List ℕ). program ++ w) (sym line) in (
       t.done ++ front,
       last,
-      t.split ∙ ap (λ (w : List ℕ). t.done ++ w) e ∙ sym (append_assoc t.done u behind)
-          ∙ ap (λ (w : List ℕ). w ++ behind) (sym line),
+      t.split ∙ ap (λ (w : List ℕ). t.done ++ w) e ∙ sym (append_assoc t.done u tail)
+          ∙ ap (λ (w : List ℕ). w ++ tail) (sym line),
       ap (rows_in order h.params) (sym here) ∙ quiet ∙ t.told,
       unrefused_join order h.params program t.done front t.unrefused unrefused,
       subst (λ (w : List ℕ). operation_spelt order h.params (operations_in order h.params w).rest
@@ -158,14 +158,14 @@ flat_bad order h program bytes rows since kind behind new t (front, last, e, qui
       subst (λ (w : List ℕ). new.in_sequence ≡ ends_open (rows_in order h.params w)) here open_is,
     )
 
-pub feeds_row : (order : Order) (h : HeaderData) (t new : UnitBody) (b piece behind : List ℕ) (rows : List Row)
+pub feeds_row : (order : Order) (h : HeaderData) (t new : UnitBody) (b piece tail : List ℕ) (rows : List Row)
     (row : Row) (used : ℕ) (is : InProgram order h t b)
-    → RowGiven order h is.program (take t.bytes.left piece) rows row behind new.program
-    → used ≡ length (take t.bytes.left piece) - length behind
+    → RowGiven order h is.program (take t.bytes.left piece) rows row tail new.program
+    → used ≡ length (take t.bytes.left piece) - length tail
     → new.bytes.taken ≡ min (t.bytes.taken + used) (2 ^ 64 - 1) → new.bytes.left ≡ t.bytes.left - used
-    → FeedsBehind (InProgram order h) order (events order b ++ map event.Row rows) b piece (fed_of used (event.Row row))
+    → FeedsAfter (InProgram order h) order (events order b ++ map event.Row rows) b piece (fed_of used (event.Row row))
     new
-feeds_row order h t new b piece behind rows row used is (
+feeds_row order h t new b piece tail rows row used is (
   front,
   last,
   e,
@@ -175,10 +175,10 @@ feeds_row order h t new b piece behind rows row used is (
   unrefused,
 ) size taken left =
     let u = front ++ last ∷ [] in
-    let le = taken_le piece u behind t.bytes.left e in
-    let exact : used ≡ length u = omega (arith, size, ap length e, length-append u behind) in
-    let whole = piece_is piece u behind t.bytes.left e in
-    let same = take_front piece u (behind ++ drop t.bytes.left piece) used whole exact in
+    let le = taken_le piece u tail t.bytes.left e in
+    let exact : used ≡ length u = omega (arith, size, ap length e, length-append u tail) in
+    let whole = piece_is piece u tail t.bytes.left e in
+    let same = take_front piece u (tail ++ drop t.bytes.left piece) used whole exact in
     let ends : (operations_in order h.params (is.program ++ u)).rest ≡ [] =
     subst (λ (w : List ℕ). (operations_in order h.params w).rest ≡ []) (append_assoc is.program front (last ∷ []))
     (row_ends order h.params (is.program ++ front) last row
@@ -190,8 +190,8 @@ feeds_row order h t new b piece behind rows row used is (
     let one : 1 ≤ used = omega (arith, exact, length-append front (last ∷ [])) in
     let fewer : used - 1 ≡ length front = omega (arith, exact, length-append front (last ∷ [])) in
     let front_is =
-    take_front piece front ((last ∷ []) ++ (behind ++ drop t.bytes.left piece)) (used - 1) (whole
-    ∙ append_assoc front (last ∷ []) (behind ++ drop t.bytes.left piece)) fewer in
+    take_front piece front ((last ∷ []) ++ (tail ++ drop t.bytes.left piece)) (used - 1) (whole
+    ∙ append_assoc front (last ∷ []) (tail ++ drop t.bytes.left piece)) fewer in
     feeds_with (InProgram order h) order (events order b ++ map event.Row rows) b piece u new
     (fed_of used (event.Row row)) (event.Row row) same (omega (arith, exact, le.1)) refl now
     (events_more order h t b u is le.0 u (rows ++ row ∷ []) (grown
@@ -211,14 +211,14 @@ pub feeds_nothing : (order : Order) (h : HeaderData) (t new : UnitBody) (b piece
     → new.bytes.taken ≡ min (t.bytes.taken + length (take t.bytes.left piece)) (2 ^ 64 - 1)
     → new.bytes.left ≡ t.bytes.left - length (take t.bytes.left piece)
     → (new.bytes.left ≡ 0 → (operations_in order h.params (is.program ++ take t.bytes.left piece)).rest ≡ [])
-    → FeedsBehind (InProgram order h) order (events order b ++ map event.Row rows) b piece fed new
+    → FeedsAfter (InProgram order h) order (events order b ++ map event.Row rows) b piece fed new
 feeds_nothing order h t new b piece rows fed is (stands, grown, unrefused) size answer taken left between =
     let u = take t.bytes.left piece in
     let le : length u ≤ t.bytes.left = (let l = length-take t.bytes.left piece in omega (arith, l)) in
     let now : InProgram order h new (b ++ u) =
     program_on order h t b u is le new stands unrefused
     (λ full. between (omega (arith, left, full, is.counts.taken, length-append b u))) taken left in
-    pauses_behind (InProgram order h) order (events order b ++ map event.Row rows) b piece t.bytes.left new.bytes new
+    pauses_after (InProgram order h) order (events order b ++ map event.Row rows) b piece t.bytes.left new.bytes new
     fed size answer (left ∙ ap (λ (n : ℕ). t.bytes.left - n) (sym size)) (some_bytes order h new (b ++ u) now)
     now.counts now
     (events_more order h t b u is le u rows grown) now.sound
@@ -232,7 +232,7 @@ fault_of at kind = record { offset = at; kind = kind }
 fails_with : (order : Order) (before : List Event) (b piece u : List ℕ) (used : ℕ) (new : UnitBody)
     (answer made : Fault) → take used piece ≡ u → used ≤ length piece → answer ≡ made
     → Refused order (b ++ u) made.offset made.kind
-    → events order (b ++ u) ≡ before → Stops order new (b ++ u) → (n : ℕ) × FailsBehind order before b piece answer n
+    → events order (b ++ u) ≡ before → Stops order new (b ++ u) → (n : ℕ) × FailsAfter order before b piece answer n
     × Stops order new (b ++ take n piece)
 fails_with order before b piece u used new answer made same le is refused events_are stops = (
   used,
@@ -255,7 +255,7 @@ pub fails_overrun : (order : Order) (h : HeaderData) (t new : UnitBody) (b piece
     → new.bytes.left ≡ t.bytes.left - length (take t.bytes.left piece) → new.bytes.left ≡ 0
     → ((operations_in order h.params (is.program ++ take t.bytes.left piece)).rest ≡ [] → ⊥)
     → answer ≡ record { offset = new.bytes.taken - new.program.begun; kind = fault.OpcodeOverrun }
-    → (n : ℕ) × FailsBehind order (events order b ++ map event.Row rows) b piece answer n
+    → (n : ℕ) × FailsAfter order (events order b ++ map event.Row rows) b piece answer n
     × Stops order new (b ++ take n piece)
 fails_overrun order h t new b piece rows answer is (stands, grown, unrefused) taken left none begun answer_is =
     let u = take t.bytes.left piece in
@@ -287,15 +287,15 @@ fails_overrun order h t new b piece rows answer is (stands, grown, unrefused) ta
           ∙ ap ends_open (sym (rows_on order h t b u is le u));
     })
 
-pub fails_bad : (order : Order) (h : HeaderData) (t new : UnitBody) (b piece behind : List ℕ) (rows : List Row)
+pub fails_bad : (order : Order) (h : HeaderData) (t new : UnitBody) (b piece tail : List ℕ) (rows : List Row)
     (kind : FaultKind) (answer : Fault) (used : ℕ) (is : InProgram order h t b)
-    → BadGiven order h is.program (take t.bytes.left piece) rows kind behind new.program
-    → used ≡ length (take t.bytes.left piece) - length behind
+    → BadGiven order h is.program (take t.bytes.left piece) rows kind tail new.program
+    → used ≡ length (take t.bytes.left piece) - length tail
     → new.bytes.taken ≡ min (t.bytes.taken + used) (2 ^ 64 - 1) → new.bytes.left ≡ t.bytes.left - used
     → answer ≡ record { offset = new.bytes.taken - new.program.begun; kind = kind }
-    → (n : ℕ) × FailsBehind order (events order b ++ map event.Row rows) b piece answer n
+    → (n : ℕ) × FailsAfter order (events order b ++ map event.Row rows) b piece answer n
     × Stops order new (b ++ take n piece)
-fails_bad order h t new b piece behind rows kind answer used is (
+fails_bad order h t new b piece tail rows kind answer used is (
   front,
   last,
   e,
@@ -306,8 +306,8 @@ fails_bad order h t new b piece behind rows kind answer used is (
   open_is,
 ) size taken left answer_is =
     let u = front ++ last ∷ [] in
-    let le = taken_le piece u behind t.bytes.left e in
-    let exact : used ≡ length u = omega (arith, size, ap length e, length-append u behind) in
+    let le = taken_le piece u tail t.bytes.left e in
+    let exact : used ≡ length u = omega (arith, size, ap length e, length-append u tail) in
     let counted = taken ∙ ap (λ (n : ℕ). min (t.bytes.taken + n) (2 ^ 64 - 1)) exact in
     let counts =
     counts_on order t.bytes new.bytes b u is.counts le.0 counted (left ∙ ap (λ (n : ℕ). t.bytes.left - n) exact) in
@@ -319,7 +319,7 @@ fails_bad order h t new b piece behind rows kind answer used is (
           new.bytes.taken - new.program.begun;
       kind = kind;
     })
-    (take_front piece u (behind ++ drop t.bytes.left piece) used (piece_is piece u behind t.bytes.left e) exact)
+    (take_front piece u (tail ++ drop t.bytes.left piece) used (piece_is piece u tail t.bytes.left e) exact)
     (omega (arith, exact, le.1)) answer_is refused (events_more order h t b u is le.0 u rows grown)
     (record {
       taken = counts.taken;

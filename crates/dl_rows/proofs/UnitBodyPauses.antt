@@ -16,7 +16,7 @@ use Rattle.dl_rows.specs.declared.reader.Fed.{Fed}
 use Rattle.dl_rows.specs.declared.unit_body.UnitBody.{UnitBody}
 use Rattle.dl_rows.specs.declared.unit_body.UnitBytes.{UnitBytes}
 use Rattle.dl_rows.specs.LineUnit.{IsUnit, events}
-use Rattle.dl_rows.specs.Reading.{WithinUnit, told, EventHoldsBehind, Feeds, FeedsBehind}
+use Rattle.dl_rows.specs.Reading.{WithinUnit, told, EventHoldsAfter, Feeds, FeedsAfter}
 use Rattle.dl_rows.specs.UnitBodies.{Counts, InProgram, paused}
 use Rattle.dl_rows.proofs.UnitBodyLemmas.{counts_within}
 use Rattle.dl_rows.proofs.UnitLengths.{some_same, length_of_unit}
@@ -31,18 +31,18 @@ pub take_front : (piece u z : List ℕ) (used : ℕ) → piece ≡ u ++ z → us
 take_front piece u z used e size =
     ap (λ (n : ℕ). take n piece) size ∙ ap (λ (w : List ℕ). take (length u) w) e ∙ take-append_seam u z
 
-pub piece_is : (piece u behind : List ℕ) (most : ℕ) → take most piece ≡ u ++ behind
-    → piece ≡ u ++ (behind ++ drop most piece)
-piece_is piece u behind most e =
+pub piece_is : (piece u tail : List ℕ) (most : ℕ) → take most piece ≡ u ++ tail
+    → piece ≡ u ++ (tail ++ drop most piece)
+piece_is piece u tail most e =
     sym (take-append-drop most piece) ∙ ap (λ (w : List ℕ). w ++ drop most piece) e
-    ∙ append_assoc u behind (drop most piece)
+    ∙ append_assoc u tail (drop most piece)
 
-pub taken_le : (piece u behind : List ℕ) (most : ℕ) → take most piece ≡ u ++ behind
+pub taken_le : (piece u tail : List ℕ) (most : ℕ) → take most piece ≡ u ++ tail
     → (length u ≤ most) × (length u ≤ length piece)
-taken_le piece u behind most e =
+taken_le piece u tail most e =
     let l = ap length e in
     let m = length-take most piece in
-    (omega (arith, l, m, length-append u behind), omega (arith, l, m, length-append u behind))
+    (omega (arith, l, m, length-append u tail), omega (arith, l, m, length-append u tail))
 
 -- ---- where nothing is told
 
@@ -82,29 +82,29 @@ some_bytes order h t (x ∷ b) is = omega arith
 pub feeds_with : {S : Type 0} (StandsFor : S → List ℕ → Type 0) (order : Order) (before : List Event)
     (b piece u : List ℕ)
     (s : S) (fed : Fed) (e : Event) → take fed.used piece ≡ u → fed.used ≤ length piece → fed.event ≡ e
-    → StandsFor s (b ++ u) → events order (b ++ u) ≡ before ++ told e → EventHoldsBehind order before b piece fed.used e
-    → NoneRefused order (b ++ u) → WithinUnit order (b ++ u) → FeedsBehind StandsFor order before b piece fed s
+    → StandsFor s (b ++ u) → events order (b ++ u) ≡ before ++ told e → EventHoldsAfter order before b piece fed.used e
+    → NoneRefused order (b ++ u) → WithinUnit order (b ++ u) → FeedsAfter StandsFor order before b piece fed s
 feeds_with StandsFor order before b piece u s fed e same le is stands grows holds sound in_unit = record {
   answered = record {
     within = le;
     in_unit = subst (λ (w : List ℕ). WithinUnit order (b ++ w)) (sym same) in_unit;
     grows = ap (λ (w : List ℕ). events order (b ++ w)) same ∙ grows ∙ ap (λ (x : Event). before ++ told x) (sym is);
-    holds = subst (λ (x : Event). EventHoldsBehind order before b piece fed.used x) (sym is) holds;
+    holds = subst (λ (x : Event). EventHoldsAfter order before b piece fed.used x) (sym is) holds;
     sound = subst (λ (w : List ℕ). NoneRefused order (b ++ w)) (sym same) sound;
   };
   stands = subst (λ (w : List ℕ). StandsFor s (b ++ w)) (sym same) stands;
 }
 
 -- a pause after the events before, where nothing is refused
-pub pauses_behind : {S : Type 0} (StandsFor : S → List ℕ → Type 0) (order : Order) (before : List Event)
+pub pauses_after : {S : Type 0} (StandsFor : S → List ℕ → Type 0) (order : Order) (before : List Event)
     (b piece : List ℕ) (left : ℕ) (new : UnitBytes) (s : S) (fed : Fed) → fed.used ≡ length (take left piece)
     → fed.event ≡ paused new.taken new.left fed.used (length piece) → new.left ≡ left - fed.used
     → 1 ≤ length (b ++ take left piece)
     → Counts order new (b ++ take left piece) → StandsFor s (b ++ take left piece)
     → events order (b ++ take left piece) ≡ before
     → NoneRefused order (b ++ take left piece) → (new.left ≡ 0 → IsUnit order (b ++ take left piece))
-    → FeedsBehind StandsFor order before b piece fed s
-pauses_behind StandsFor order before b piece left new s fed size is left_is some counts stands same sound whole =
+    → FeedsAfter StandsFor order before b piece fed s
+pauses_after StandsFor order before b piece left new s fed size is left_is some counts stands same sound whole =
     elim (paused_cases new.taken new.left fed.used (length piece) (omega (arith, some, counts.taken))) [
       | inl e ↦ feeds_with StandsFor order before b piece u s fed event.End back within (is
           ∙ e.0) stands grows (subst (λ (w : List ℕ). IsUnit order (b ++ w)) (sym back) (whole e.1), e.2) sound in_unit
@@ -156,5 +156,5 @@ pub pauses : {S : Type 0} (StandsFor : S → List ℕ → Type 0) (order : Order
     → NoneRefused order (b ++ take left piece) → (new.left ≡ 0 → IsUnit order (b ++ take left piece))
     → Feeds StandsFor order b piece fed s
 pauses StandsFor order b piece left new s fed size event left_is some counts stands same sound whole =
-    pauses_behind StandsFor order (events order b) b piece left new s fed size event left_is some counts stands same
+    pauses_after StandsFor order (events order b) b piece left new s fed size event left_is some counts stands same
     sound whole

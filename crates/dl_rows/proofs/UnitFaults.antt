@@ -14,7 +14,7 @@ use Rattle.dl_table.specs.Value.{Judgement, bad}
 use Rattle.dl_head.specs.Header.{IsHeader, header_in, unit_len}
 use Rattle.dl_head.specs.Refusal.{or_else, bad_kind, at_end, NothingBefore}
 use Rattle.dl_field.proofs.FieldLemmas.{none_some}
-use Rattle.dl_head.proofs.FrontLemmas.{fronts, behind_front}
+use Rattle.dl_head.proofs.FrontLemmas.{fronts, after_front}
 use Rattle.dl_head.proofs.HeaderLaws.{found_is_header, header_is_found}
 use Rattle.dl_head.proofs.QuietLemmas.{header_is_not_refused}
 use Rattle.dl_rows.specs.declared.operation.Operation.{Operation}
@@ -22,7 +22,7 @@ use Rattle.dl_rows.specs.BadOperation.{IsBadOperation}
 use Rattle.dl_rows.specs.OperationSpelt.{operation_spelt, good_one, operations_in}
 use Rattle.dl_rows.specs.Spelling.{SpellsOperation, SpellsProgram}
 use Rattle.dl_rows.specs.Reading.{WithinUnit}
-use Rattle.dl_rows.specs.Refusal.{left_behind, decided_behind, unit_decided, operation_decided, Refused}
+use Rattle.dl_rows.specs.Refusal.{left_after, decided_after, unit_decided, operation_decided, Refused}
 use Rattle.dl_rows.specs.UnitLaws.{IsIncomplete, IsCutShort, RefusesOperation, RefusedInProgram, OperationIsRefused}
 use Rattle.dl_rows.proofs.HeaderParams.{header_is_usable}
 use Rattle.dl_rows.proofs.OperationLaws.{spelt_is_spelled, bad_is_faulty, no_spelling_is_faulty}
@@ -134,9 +134,9 @@ refused_in_program order b h program at kind found r = record {
   begun = rest;
   whole = p.1;
   spells = p.2;
-  place = subst (λ (w : List ℕ). at + length w ≡ length b) (ap (left_behind order b) found) r.place;
+  place = subst (λ (w : List ℕ). at + length w ≡ length b) (ap (left_after order b) found) r.place;
   shortest = shortest;
-  fault = operation_faults order h.params b rest kind some (sym (ap (decided_behind order b) found)
+  fault = operation_faults order h.params b rest kind some (sym (ap (decided_after order b) found)
       ∙ r.decided) (λ o s. none o rest [] (sym (append-nil rest)) s);
 } where
   head : (w : List ℕ) × (b ≡ w ++ program) × IsHeader order h w
@@ -166,7 +166,7 @@ refused_in_program order b h program at kind found r = record {
       ∙ sym (append_assoc p.0 front (x ∷ back))) ∙ sym (append_assoc head.0 (p.0 ++ front) (x ∷ back)) in
       let decided : operation_decided order h.params (operations_in order h.params (p.0 ++ front)).rest (length c)
       (unit_len order c) ≡ None =
-      sym (ap (decided_behind order c) (header_is_found order h head.0 (p.0 ++ front) head.2))
+      sym (ap (decided_after order c) (header_is_found order h head.0 (p.0 ++ front) head.2))
       ∙ r.shortest c x back whole in
       quiet_incomplete order h.params front (length c) (unit_len order c) some
       (λ o s. none_here o front [] (sym (append-nil front)) s)
@@ -260,7 +260,7 @@ module _ (order : Order) (b : List ℕ) (h : HeaderData) (program : List ℕ) (a
     | inr (inl more) ↦
         let spelled = subst (SpellsProgram order h.params r.operations) more.2 r.spells in
         let longer =
-        behind_front v (x ∷ back) ((more.0 ∷ more.1) ++ r.begun) (sym part ∙ r.whole
+        after_front v (x ∷ back) ((more.0 ∷ more.1) ++ r.begun) (sym part ∙ r.whole
         ∙ ap (λ (z : List ℕ). z ++ r.begun) more.2 ∙ append_assoc v (more.0 ∷ more.1) r.begun) in
         operation_quiet order h.params r.operations v (more.0 ∷ more.1) (operations_in order h.params v).rest
         (length front) (unit_len order front) base spelled refl
@@ -273,7 +273,7 @@ module _ (order : Order) (b : List ℕ) (h : HeaderData) (program : List ℕ) (a
     | inr (inr more) ↦
         let w = more.0 ∷ more.1 in
         let begun : r.begun ≡ w ++ x ∷ back =
-        sym (behind_front r.done (w ++ x ∷ back) r.begun (sym (append_assoc r.done w (x ∷ back))
+        sym (after_front r.done (w ++ x ∷ back) r.begun (sym (append_assoc r.done w (x ∷ back))
         ∙ ap (λ (z : List ℕ). z ++ x ∷ back) (sym more.2) ∙ sym part ∙ r.whole)) in
         let none : (o : Operation) (u t : List ℕ) → w ≡ u ++ t → SpellsOperation order h.params o u → ⊥ =
         λ o u t is s. none_begins o u (t ++ x ∷ back) (begun ∙ ap (λ (z : List ℕ). z ++ x ∷ back) is
@@ -294,17 +294,17 @@ module _ (order : Order) (b : List ℕ) (h : HeaderData) (program : List ℕ) (a
         let same =
         parts_same g h (v ++ x ∷ back) program (sym (header_on order front (x ∷ back) g v is)
         ∙ ap (header_in order) (sym e) ∙ found) in
-        ap (decided_behind order front) is
+        ap (decided_after order front) is
         ∙ ap (λ (d : HeaderData). operation_decided order d.params (operations_in order d.params v).rest (length front)
         (unit_len order front)) same.0
         ∙ quiet_program front x back v e (sym same.1)
 
   pub operation_refused : Refused order b at kind
   operation_refused = record {
-    place = subst (λ (w : List ℕ). at + length w ≡ length b) (sym (ap (left_behind order b) found ∙ rest_begun))
+    place = subst (λ (w : List ℕ). at + length w ≡ length b) (sym (ap (left_after order b) found ∙ rest_begun))
         r.place;
     decided =
-        ap (decided_behind order b) found
+        ap (decided_after order b) found
         ∙ ap (λ (w : List ℕ). operation_decided order h.params w (length b) (unit_len order b)) rest_begun
         ∙ faults_decided order h.params b r.begun kind base r.fault;
     shortest = quiet_before;

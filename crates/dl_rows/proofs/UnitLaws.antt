@@ -14,7 +14,7 @@ use Rattle.dl_rows.specs.declared.operation.Operation.{Operation}
 use Rattle.dl_rows.specs.declared.reader.Event.TheVariants as event
 use Rattle.dl_rows.specs.Matrix.{matrix}
 use Rattle.dl_rows.specs.OperationSpelt.{operations_in}
-use Rattle.dl_rows.specs.LineUnit.{events_of, rows_behind, own_events}
+use Rattle.dl_rows.specs.LineUnit.{events_of, rows_later, own_events}
 use Rattle.dl_rows.specs.Refusal.{Refused}
 use Rattle.dl_rows.specs.UnitLaws.{ForeignComesTo, UnitComesTo, OneRefusal, RowForProgramByte}
 use Rattle.dl_rows.proofs.HeaderParams.{header_is_usable}
@@ -64,5 +64,5 @@ one_refusal order b c v u at at2 kind kind2 e r s = elim (fronts b c v u e) [
 pub row_for_program_byte : RowForProgramByte
 row_for_program_byte order b h program e =
     let few = a_row_for_a_byte order h.params program in
-    let rows = ap (λ (o : Option (HeaderData × List ℕ)). length (rows_behind order o)) e in
+    let rows = ap (λ (o : Option (HeaderData × List ℕ)). length (rows_later order o)) e in
     omega (arith, few, rows)

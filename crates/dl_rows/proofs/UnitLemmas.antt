@@ -11,7 +11,7 @@ use Rattle.dl_head.proofs.CutLemmas.{cut-append}
 use Rattle.dl_field.proofs.FieldLemmas.{none_some}
 use Rattle.dl_head.proofs.HeaderLaws.{found_is_header, header_is_found}
 use Rattle.dl_head.proofs.QuietLemmas.{unit_end-append}
-use Rattle.dl_rows.specs.Refusal.{left_behind, decided_behind, unit_decided}
+use Rattle.dl_rows.specs.Refusal.{left_after, decided_after, unit_decided}
 use Rattle.dl_rows.specs.UnitLaws.{RefusedInHeader}
 
 -- a header stands there still where more bytes come
@@ -39,7 +39,7 @@ unit_len_on order b v n e =
 -- what bytes without a whole header decide
 pub decided_in_header : (order : Order) (b : List ℕ) → header_in order b ≡ None
     → unit_decided order b ≡ header_decided order b
-decided_in_header order b none = ap (decided_behind order b) none
+decided_in_header order b none = ap (decided_after order b) none
 
 pub refused_in_header : RefusedInHeader
 refused_in_header order b at kind none = (
@@ -55,8 +55,8 @@ refused_in_header order b at kind none = (
   },
 )
   where
-    left : left_behind order b (header_in order b) ≡ (cut order b).rest
-    left = ap (left_behind order b) none
+    left : left_after order b (header_in order b) ≡ (cut order b).rest
+    left = ap (left_after order b) none
 
     before : (front : List ℕ) (x : ℕ) (back : List ℕ) → b ≡ front ++ x ∷ back
         → unit_decided order front ≡ header_decided order front

@@ -183,14 +183,14 @@ foreign_in_fields order v u fields rest (i ∷ j ∷ items) whole s e f =
     let next : SpellsFields order (number_then version (after_length a.format a.number)) (j ∷ items) s.1 =
     subst (λ (k : Item). SpellsFields order (following header_layout k) (j ∷ items) s.1) a.item s.4 in
     let n = is_number order version (after_length a.format a.number) next.0 j next.3 in
-    let behind : following_all (after_length a.format a.number n.number) items ≡ foreign_version v =
+    let tail : following_all (after_length a.format a.number n.number) items ≡ foreign_version v =
     ap (λ (k : Item). following_all (following (number_then version (after_length a.format a.number)) k) items)
     (sym n.item)
     ∙ ap (λ (k : Item). following_all (following header_layout k) (j ∷ items)) (sym a.item) ∙ f in
     let found =
     version_of order a.format a.number n.number v items next.1
     (subst (λ (k : Item). SpellsFields order (following (number_then version (after_length a.format a.number)) k)
-    items next.1) n.item next.4) behind in
+    items next.1) n.item next.4) tail in
     let judged =
     (field_is_judged order (number_then version (after_length a.format a.number)) (number_is n.number) next.0).1
     (next.3 ∙ ap (λ (k : Item). good k) n.item) in

@@ -12,14 +12,14 @@ use Rattle.dl_table.specs.Value.{Judgement}
 use Rattle.dl_head.specs.Header.{unit_len, foreign_in, header_in}
 use Rattle.dl_head.specs.Refusal.{or_else, bad_kind, at_end}
 use Rattle.dl_field.proofs.FieldLemmas.{none_some}
-use Rattle.dl_head.proofs.FrontLemmas.{fronts, behind_front}
+use Rattle.dl_head.proofs.FrontLemmas.{fronts, after_front}
 use Rattle.dl_head.proofs.HeaderLaws.{found_is_header, header_is_found, header_is_not_foreign}
 use Rattle.dl_head.proofs.QuietLemmas.{header_is_not_refused, foreign_is_not_refused}
 use Rattle.dl_rows.specs.declared.operation.Operation.{Operation}
 use Rattle.dl_rows.specs.OperationSpelt.{operation_spelt, operations_in}
 use Rattle.dl_rows.specs.Spelling.{SpellsOperation, SpellsProgram}
 use Rattle.dl_rows.specs.LineUnit.{IsOwnUnit, IsUnit}
-use Rattle.dl_rows.specs.Refusal.{operation_decided, decided_behind, unit_decided, Refused}
+use Rattle.dl_rows.specs.Refusal.{operation_decided, decided_after, unit_decided, Refused}
 use Rattle.dl_rows.proofs.HeaderParams.{header_is_usable}
 use Rattle.dl_rows.proofs.OperationLaws.{bad_is_faulty, no_spelling_is_faulty}
 use Rattle.dl_rows.proofs.ProgramLaws.{program_is_found, found_is_program, none_begins_rest}
@@ -77,7 +77,7 @@ completed order h p b back begun some s e long = on next.0 next.1 where
       byte = goes.0;
       more = goes.1;
       rest = rest;
-      bytes = behind_front begun back ((goes.0 ∷ goes.1) ++ rest) (k ∙ ap (λ (z : List ℕ). z ++ rest) goes.2
+      bytes = after_front begun back ((goes.0 ∷ goes.1) ++ rest) (k ∙ ap (λ (z : List ℕ). z ++ rest) goes.2
           ∙ append_assoc begun (goes.0 ∷ goes.1) rest);
       spells = subst (λ (z : List ℕ). SpellsOperation order h o z) goes.2 t;
     }
@@ -133,7 +133,7 @@ own_quiet order h p u front back g begun is e found =
     (subst (λ (w : List ℕ). SpellsProgram order h.params p w) (sym same.1) is.spells_program) in
     let some : 1 ≤ g.params.opcode_base =
     subst (λ (d : HeaderData). 1 ≤ d.params.opcode_base) (sym same.0) (omega arith) in
-    ap (decided_behind order front) found
+    ap (decided_after order front) found
     ∙ operation_quiet order g.params p begun back (operations_in order g.params begun).rest (length front)
     (unit_len order front) some program refl ends
   where

@@ -28,7 +28,7 @@ use Rattle.dl_head.proofs.RefusalLaws.{decided_on}
 use Rattle.dl_rows.specs.OperationSpelt.{operation_spelt, operations_in}
 use Rattle.dl_rows.specs.Spelling.{SpellsProgram}
 use Rattle.dl_rows.specs.LineUnit.{IsOwnUnit, IsUnit}
-use Rattle.dl_rows.specs.Refusal.{left_behind, left_over, operation_decided, decided_behind, unit_decided, Refused}
+use Rattle.dl_rows.specs.Refusal.{left_after, left_over, operation_decided, decided_after, unit_decided, Refused}
 use Rattle.dl_rows.specs.UnitLaws.{UnitUnlessRefused}
 use Rattle.dl_rows.proofs.HeaderParams.{header_is_usable}
 use Rattle.dl_rows.proofs.ProgramLaws.{found_is_program}
@@ -40,7 +40,7 @@ use Rattle.dl_rows.proofs.UnitQuiet.{unit_is_not_refused}
 
 pub left_le : (order : Order) (b : List ℕ) → length (left_over order b) ≤ length b
 left_le order b = on (header_in order b) refl where
-  on : (o : Option (HeaderData × List ℕ)) → header_in order b ≡ o → length (left_behind order b o) ≤ length b
+  on : (o : Option (HeaderData × List ℕ)) → header_in order b ≡ o → length (left_after order b o) ≤ length b
   on None e =
       let s : Sound order header_layout b (cut order b) = cut_sound order header_layout [] b in
       omega (arith, ap length s.whole, length-append s.front (cut order b).rest)
@@ -196,24 +196,24 @@ five_size order f n address segment header w s =
           ap (λ (g : Format). initial_size g + fixed_part g) same in
           omega (arith, o.size, zero, sizes)
 
-up_to_fields : (order : Order) (b u behind : List ℕ) (f : Format) (n address segment header : ℕ) → b ≡ u ++ behind
+up_to_fields : (order : Order) (b u tail : List ℕ) (f : Format) (n address segment header : ℕ) → b ≡ u ++ tail
     → SpellsFields order header_layout (five f n address segment header) u
-    → header ≤ length behind → UpToHeader order b
-up_to_fields order b u behind f n address segment header whole s le =
+    → header ≤ length tail → UpToHeader order b
+up_to_fields order b u tail f n address segment header whole s le =
     let size = five_size order f n address segment header u s in
     record {
-      front = u ++ take header behind;
-      back = drop header behind;
-      whole = whole ∙ ap (λ (w : List ℕ). u ++ w) (sym (take-append-drop header behind))
-          ∙ sym (append_assoc u (take header behind) (drop header behind));
+      front = u ++ take header tail;
+      back = drop header tail;
+      whole = whole ∙ ap (λ (w : List ℕ). u ++ w) (sym (take-append-drop header tail))
+          ∙ sym (append_assoc u (take header tail) (drop header tail));
       ends =
           ap (λ (c : Cut). header_end c.items) (cut_fields order header_layout (five f n address segment header) u
-          (take header behind) s)
+          (take header tail) s)
           ∙ ap (λ (m : ℕ). Some m) (omega (
             arith,
             size,
-            length-append u (take header behind),
-            length-take-le header behind le,
+            length-append u (take header tail),
+            length-take-le header tail le,
           ));
     }
 
@@ -230,13 +230,13 @@ up_to_header order b end len e =
     opened items fields rest whole s unit o =
         let u = spells_split order header_layout (five o.format o.unit_length o.address o.segment o.header) o.more
         fields (subst (λ (l : List Item). SpellsFields order header_layout l fields) o.items_are s) in
-        let behind = u.1 ++ rest in
-        let all : b ≡ u.0 ++ behind = whole ∙ ap (λ (w : List ℕ). w ++ rest) u.2 ∙ append_assoc u.0 u.1 rest in
+        let tail = u.1 ++ rest in
+        let all : b ≡ u.0 ++ tail = whole ∙ ap (λ (w : List ℕ). w ++ rest) u.2 ∙ append_assoc u.0 u.1 rest in
         let size = five_size order o.format o.unit_length o.address o.segment o.header u.0 u.3 in
         let long : initial_size o.format + o.unit_length ≡ length b =
         some_same _ _ (ap unit_end (sym o.items_are) ∙ unit) in
-        up_to_fields order b u.0 behind o.format o.unit_length o.address o.segment o.header all u.3
-        (omega (arith, o.fits, size, long, ap length all, length-append u.0 behind))
+        up_to_fields order b u.0 tail o.format o.unit_length o.address o.segment o.header all u.3
+        (omega (arith, o.fits, size, long, ap length all, length-append u.0 tail))
 
 -- ---- where header_length isn't complete
 
@@ -349,7 +349,7 @@ own_unit order b h program len quiet e =
     let opcodes = (header_is_usable order h f.0 f.2).opcodes in
     let p = found_is_program order h.params program (omega arith) in
     let over =
-    none_over (operations_in order h.params program).rest (sym (ap (decided_behind order b) e
+    none_over (operations_in order h.params program).rest (sym (ap (decided_after order b) e
     ∙ ap (λ (o : Option ℕ). operation_decided order h.params (operations_in order h.params program).rest
     (length b) o) len) ∙ quiet) in
     let whole : p.0 ≡ program = sym (p.1 ∙ ap (λ (w : List ℕ). p.0 ++ w) over ∙ append-nil p.0) in

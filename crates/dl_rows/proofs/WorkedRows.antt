@@ -206,5 +206,5 @@ range_before_length : refusal Little plain (0 ∷ 32 ∷ 4 ∷ 128 ∷ 128 ∷ 1
 range_before_length = refl
 
 -- the bytes before it are taken
-behind_two_rows : refusal Little plain (1 ∷ 0 ∷ 1 ∷ 1 ∷ 0 ∷ 0 ∷ []) ≡ Some (2, fault.ExtendedEmpty)
-behind_two_rows = refl
+after_two_rows : refusal Little plain (1 ∷ 0 ∷ 1 ∷ 1 ∷ 0 ∷ 0 ∷ []) ≡ Some (2, fault.ExtendedEmpty)
+after_two_rows = refl

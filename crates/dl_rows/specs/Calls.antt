@@ -6,17 +6,17 @@ use Rattle.dl_rows.specs.declared.reader.Event.{Event}
 use Rattle.dl_rows.specs.declared.reader.Event.TheVariants as event
 use Rattle.dl_rows.specs.declared.row.Row.{Row}
 use Rattle.dl_rows.specs.LineUnit.{events}
-use Rattle.dl_rows.specs.Reading.{AnsweredBehind, FailsBehind}
+use Rattle.dl_rows.specs.Reading.{AnsweredAfter, FailsAfter}
 use Rattle.dl_rows.specs.Runs.{MayGive}
 
-abbrev pub MayGiveBehind : Order → (before : List Event) → (b piece : List ℕ) → ℕ → Result Event Fault → Type 0
-MayGiveBehind order before b piece used (Ok event) =
-    AnsweredBehind order before b piece (record { used = used; event = event })
-MayGiveBehind order before b piece used (Err fault) = FailsBehind order before b piece fault used
+abbrev pub MayGiveAfter : Order → (before : List Event) → (b piece : List ℕ) → ℕ → Result Event Fault → Type 0
+MayGiveAfter order before b piece used (Ok event) =
+    AnsweredAfter order before b piece (record { used = used; event = event })
+MayGiveAfter order before b piece used (Err fault) = FailsAfter order before b piece fault used
 
 -- what `feed_rows` may answer after b to a piece, having told these rows on the way
 abbrev pub MayTell : Order → (b piece : List ℕ) → List Row → ℕ → Result Event Fault → Type 0
-MayTell order b piece rows used gave = MayGiveBehind order (events order b ++ map event.Row rows) b piece used gave
+MayTell order b piece rows used gave = MayGiveAfter order (events order b ++ map event.Row rows) b piece used gave
 
 -- what calls of `feed` may answer, each being given what the one before it left of the piece: these rows, and then
 -- gave, used bytes being used

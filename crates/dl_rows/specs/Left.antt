@@ -1,4 +1,4 @@
--- How many bytes are left behind a step. No promise rests on this file.
+-- How many bytes are left tail a step. No promise rests on this file.
 use Rattle.std.specs.Prelude.{ℕ, ◌+◌, ◌≤◌, length}
 use Rattle.dl_rows.specs.declared.operation.Operation.{Operation}
 use Rattle.dl_rows.specs.declared.operation.Operation.TheVariants as op
@@ -21,22 +21,22 @@ rows_of other = 0
 -- at most n bytes are left, and fewer where a row is appended
 abbrev pub Leaves : ℕ → OperationStep → Type 0
 Leaves n (step.Within p) = Unit {0}
-Leaves n (step.Ends o behind) = length behind.now + rows_of o ≤ n
-Leaves n (step.Refuses k behind) = length behind.now ≤ n
+Leaves n (step.Ends o tail) = length tail.now + rows_of o ≤ n
+Leaves n (step.Refuses k tail) = length tail.now ≤ n
 
 -- fewer than n bytes are left
 abbrev pub LeavesFewer : ℕ → OperationStep → Type 0
-LeavesFewer n (step.Ends o behind) = length behind.now + 1 ≤ n
+LeavesFewer n (step.Ends o tail) = length tail.now + 1 ≤ n
 LeavesFewer n other = Unit {0}
 
 abbrev pub GivenLeaves : ℕ → ProgramStep → Type 0
 GivenLeaves n given.Nothing = Unit {0}
-GivenLeaves n (given.Row r behind) = length behind.now + 1 ≤ n
-GivenLeaves n (given.Refuses k behind) = length behind.now ≤ n
+GivenLeaves n (given.Row r tail) = length tail.now + 1 ≤ n
+GivenLeaves n (given.Refuses k tail) = length tail.now ≤ n
 
 abbrev pub TakenLeaves : ℕ → Taken → Type 0
-TakenLeaves n (taken.UpTo behind) = length behind.now ≤ n
-TakenLeaves n (taken.Row r behind) = length behind.now + 1 ≤ n
+TakenLeaves n (taken.UpTo tail) = length tail.now ≤ n
+TakenLeaves n (taken.Row r tail) = length tail.now + 1 ≤ n
 
 -- 0 between operations, else 1
 abbrev pub inside : OperationState → ℕ

@@ -53,13 +53,13 @@ IsUnit order u =
 abbrev pub rows_in : Order → Params → List ℕ → List Row
 rows_in order h program = matrix h (operations_in order h program).found
 
-abbrev pub rows_behind : Order → Option (HeaderData × List ℕ) → List Row
-rows_behind order None = []
-rows_behind order (Some (h, program)) = rows_in order h.params program
+abbrev pub rows_later : Order → Option (HeaderData × List ℕ) → List Row
+rows_later order None = []
+rows_later order (Some (h, program)) = rows_in order h.params program
 
 -- the rows in b, which has none until its header is complete
 abbrev pub unit_rows : Order → List ℕ → List Row
-unit_rows order b = rows_behind order (header_in order b)
+unit_rows order b = rows_later order (header_in order b)
 
 -- there is a row, and the last one isn't an end row
 abbrev pub ends_open : List Row → Bool
@@ -69,7 +69,7 @@ ends_open (r ∷ s ∷ rows) = ends_open (s ∷ rows)
 
 abbrev pub own_events : Order → Option (HeaderData × List ℕ) → List Event
 own_events order None = []
-own_events order (Some parts) = event.Header ∷ map event.Row (rows_behind order (Some parts))
+own_events order (Some parts) = event.Header ∷ map event.Row (rows_later order (Some parts))
 
 abbrev pub events_of : Order → Option ℕ → Option (HeaderData × List ℕ) → List Event
 events_of order (Some version) parts = event.Foreign version ∷ []

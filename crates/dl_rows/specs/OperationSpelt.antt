@@ -4,7 +4,7 @@ use Rattle.std.specs.Prelude.{Option, Some, None, Ok, Err, nat_lt, nat_le, ◌==
 use Rattle.dl_num.specs.declared.fixed.Order.{Order}
 use Rattle.dl_num.specs.Fixed.{fixed}
 use Rattle.dl_num.specs.Leb.{groups, signed_groups}
-use Rattle.dl_num.specs.LebFront.{is_leb, leb_front, behind_leb}
+use Rattle.dl_num.specs.LebFront.{is_leb, leb_front, after_leb}
 use Rattle.dl_num.specs.Front.{Standing, standing}
 use Rattle.dl_field.specs.declared.params.Params.{Params}
 use Rattle.dl_table.specs.declared.fault.FaultKind.TheVariants as fault
@@ -63,7 +63,7 @@ standard_spelt order None w = None
 -- w is count numbers in LEB128, of any size
 abbrev pub are_lebs : ℕ → List ℕ → Bool
 are_lebs zero w = is_empty w
-are_lebs (suc count) w = is_leb (leb_front w) && are_lebs count (behind_leb w)
+are_lebs (suc count) w = is_leb (leb_front w) && are_lebs count (after_leb w)
 
 -- the operand of set_discriminator; n is the length of the extended opcode with it
 abbrev pub discriminator_spelt : ℕ → List ℕ → Judgement Operation
@@ -96,7 +96,7 @@ body_spelt order address_size n (opcode ∷ w) =
 -- what follows the zero byte: the length in LEB128, the extended opcode, the operand
 abbrev pub length_and_body : Order → ℕ → List ℕ → Judgement Operation
 length_and_body order address_size w =
-    if is_leb (leb_front w) then body_spelt order address_size (groups (leb_front w)) (behind_leb w) else None
+    if is_leb (leb_front w) then body_spelt order address_size (groups (leb_front w)) (after_leb w) else None
 
 -- what w is as an operation
 abbrev pub operation_spelt : Order → Params → List ℕ → Judgement Operation

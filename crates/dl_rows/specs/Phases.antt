@@ -78,7 +78,7 @@ PhaseStands h (phase.Rest left) v =
 abbrev pub StepIs : Order → Params → List ℕ → List ℕ → OperationStep → Type 0
 StepIs order h v bytes (step.Within p) =
     PhaseStands h p (v ++ bytes) × SpellsNowhere (operation_spelt order h) (v ++ bytes)
-StepIs order h v bytes (step.Ends o behind) =
-    (front : List ℕ) × (bytes ≡ front ++ behind.now) × SpellsFirst (operation_spelt order h) (v ++ front) (Ok o)
-StepIs order h v bytes (step.Refuses k behind) =
-    (front : List ℕ) × (bytes ≡ front ++ behind.now) × SpellsFirst (operation_spelt order h) (v ++ front) (Err k)
+StepIs order h v bytes (step.Ends o tail) =
+    (front : List ℕ) × (bytes ≡ front ++ tail.now) × SpellsFirst (operation_spelt order h) (v ++ front) (Ok o)
+StepIs order h v bytes (step.Refuses k tail) =
+    (front : List ℕ) × (bytes ≡ front ++ tail.now) × SpellsFirst (operation_spelt order h) (v ++ front) (Err k)

@@ -10,7 +10,7 @@ use Rattle.dl_rows.specs.declared.row.Row.{Row}
 use Rattle.dl_rows.specs.declared.reader.Event.{Event}
 use Rattle.dl_rows.specs.declared.reader.Event.TheVariants as event
 use Rattle.dl_rows.specs.LineUnit.{events}
-use Rattle.dl_rows.specs.Reading.{Feeds, FeedsBehind, Fails, FailsBehind, SinkBehind}
+use Rattle.dl_rows.specs.Reading.{Feeds, FeedsAfter, Fails, FailsAfter, SinkAfter}
 use Rattle.dl_rows.specs.Sinks.{Story}
 use Rattle.dl_rows.specs.ReaderStands.{StandsFor}
 
@@ -21,17 +21,17 @@ ReaderFed order b piece (Err fault) new =
     (used : ℕ) × Fails order b piece fault used × StandsFor new (b ++ take used piece)
 
 -- an answer after the events before
-abbrev pub FedBehind : Order → (before : List Event) → (b piece : List ℕ) → Result Fed Fault → Reader → Type 0
-FedBehind order before b piece (Ok fed) new = FeedsBehind StandsFor order before b piece fed new
-FedBehind order before b piece (Err fault) new =
-    (used : ℕ) × FailsBehind order before b piece fault used × StandsFor new (b ++ take used piece)
+abbrev pub FedAfter : Order → (before : List Event) → (b piece : List ℕ) → Result Fed Fault → Reader → Type 0
+FedAfter order before b piece (Ok fed) new = FeedsAfter StandsFor order before b piece fed new
+FedAfter order before b piece (Err fault) new =
+    (used : ℕ) × FailsAfter order before b piece fault used × StandsFor new (b ++ take used piece)
 
 -- `feed_rows`: the sink, which had heard the rows before, heard those that come before the answer
 pub record RowsFed {S : Type 0} (story : Story S) (order : Order) (b piece : List ℕ) (before : List Row)
     (result : Result Fed Fault) (new : Reader) (s : S) : Type 0 where
   pub rows : List Row
-  pub fed : FedBehind order (events order b ++ map event.Row rows) b piece result new
-  pub sink : SinkBehind story s (before ++ rows) result
+  pub fed : FedAfter order (events order b ++ map event.Row rows) b piece result new
+  pub sink : SinkAfter story s (before ++ rows) result
 
 -- `header` and `into_header`: the header that b begins with
 abbrev pub HeaderIs : Reader → Option HeaderData → Type 0

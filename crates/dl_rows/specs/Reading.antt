@@ -38,51 +38,51 @@ told other = other ∷ []
 -- What is said of an answer, b being the bytes taken before the call, used bytes of the piece taken in it, and before
 -- the
 -- events up to this answer.
-abbrev pub EventHoldsBehind : Order → (before : List Event) → List ℕ → List ℕ → ℕ → Event → Type 0
+abbrev pub EventHoldsAfter : Order → (before : List Event) → List ℕ → List ℕ → ℕ → Event → Type 0
 -- the whole piece is used; where it ends a unit, it isn't empty
-EventHoldsBehind order before b piece used event.More =
+EventHoldsAfter order before b piece used event.More =
     (used ≡ length piece) × (IsUnit order (b ++ take used piece) → 1 ≤ used)
 -- a unit is whole
-EventHoldsBehind order before b piece used event.End =
+EventHoldsAfter order before b piece used event.End =
     IsUnit order (b ++ take used piece) × ((used ≡ 0) ⊎ (used < length piece))
 -- the next byte of a header adds a cell
-EventHoldsBehind order before b piece used event.NoMemory =
+EventHoldsAfter order before b piece used event.NoMemory =
     (byte : ℕ) × (slice_get piece used ≡ Some byte) × (header_in order (b ++ take used piece) ≡ None)
     × (cells order (b ++ take used piece) < cells order ((b ++ take used piece) ++ byte ∷ []))
 -- what is told comes with the last byte used
-EventHoldsBehind order before b piece used other = (1 ≤ used) × (events order (b ++ take (used - 1) piece) ≡ before)
+EventHoldsAfter order before b piece used other = (1 ≤ used) × (events order (b ++ take (used - 1) piece) ≡ before)
 
 -- the same, where nothing was told in the call before
 abbrev pub EventHolds : Order → List ℕ → List ℕ → ℕ → Event → Type 0
-EventHolds order b piece used e = EventHoldsBehind order (events order b) b piece used e
+EventHolds order b piece used e = EventHoldsAfter order (events order b) b piece used e
 
 -- what a piece may be answered after b and the events before, where that is an event
-pub record AnsweredBehind (order : Order) (before : List Event) (b piece : List ℕ) (fed : Fed) : Type 0 where
+pub record AnsweredAfter (order : Order) (before : List Event) (b piece : List ℕ) (fed : Fed) : Type 0 where
   pub within : fed.used ≤ length piece
   pub in_unit : WithinUnit order (b ++ take fed.used piece)
   -- the events grow by what is told, and by nothing else
   pub grows : events order (b ++ take fed.used piece) ≡ before ++ told fed.event
-  pub holds : EventHoldsBehind order before b piece fed.used fed.event
+  pub holds : EventHoldsAfter order before b piece fed.used fed.event
   -- nothing that was taken is refused
   pub sound : (front back : List ℕ) (at : ℕ) (kind : FaultKind) → b ++ take fed.used piece ≡ front ++ back
       → Refused order front at kind → ⊥
 
 -- the same, where nothing was told in the call before
 abbrev pub Answered : Order → (b piece : List ℕ) → Fed → Type 0
-Answered order b piece fed = AnsweredBehind order (events order b) b piece fed
+Answered order b piece fed = AnsweredAfter order (events order b) b piece fed
 
 -- an answer of an event after those before, the reader then being new
-pub record FeedsBehind {S : Type 0} (StandsFor : S → List ℕ → Type 0) (order : Order) (before : List Event)
+pub record FeedsAfter {S : Type 0} (StandsFor : S → List ℕ → Type 0) (order : Order) (before : List Event)
     (b piece : List ℕ) (fed : Fed) (new : S) : Type 0 where
-  pub answered : AnsweredBehind order before b piece fed
+  pub answered : AnsweredAfter order before b piece fed
   pub stands : StandsFor new (b ++ take fed.used piece)
 
 -- an answer of an event
 abbrev pub Feeds : {S : Type 0} → (S → List ℕ → Type 0) → Order → (b piece : List ℕ) → Fed → S → Type 0
-Feeds StandsFor order b piece fed new = FeedsBehind StandsFor order (events order b) b piece fed new
+Feeds StandsFor order b piece fed new = FeedsAfter StandsFor order (events order b) b piece fed new
 
 -- an answer of a fault after the events before: the bytes up to the one that decides it are refused
-pub record FailsBehind (order : Order) (before : List Event) (b piece : List ℕ) (fault : Fault)
+pub record FailsAfter (order : Order) (before : List Event) (b piece : List ℕ) (fault : Fault)
     (used : ℕ) : Type 0 where
   pub within : used ≤ length piece
   pub in_unit : WithinUnit order (b ++ take used piece)
@@ -91,7 +91,7 @@ pub record FailsBehind (order : Order) (before : List Event) (b piece : List ℕ
 
 -- an answer of a fault
 abbrev pub Fails : Order → (b piece : List ℕ) → Fault → ℕ → Type 0
-Fails order b piece fault used = FailsBehind order (events order b) b piece fault used
+Fails order b piece fault used = FailsAfter order (events order b) b piece fault used
 
 -- the sink stopped at the row of this event, or goes on
 abbrev pub SinkAt : {S : Type 0} → Story S → S → List Row → Event → Type 0
@@ -99,9 +99,9 @@ SinkAt story s rows (event.Row r) = story.stops s (rows ++ r ∷ [])
 SinkAt story s rows other = story.hears s rows
 
 -- a sink that heard these rows in a call, after which stands this answer: it stopped at the answer's row, or goes on
-abbrev pub SinkBehind : {S : Type 0} → Story S → S → List Row → Result Fed Fault → Type 0
-SinkBehind story s rows (Ok fed) = SinkAt story s rows fed.event
-SinkBehind story s rows (Err fault) = story.hears s rows
+abbrev pub SinkAfter : {S : Type 0} → Story S → S → List Row → Result Fed Fault → Type 0
+SinkAfter story s rows (Ok fed) = SinkAt story s rows fed.event
+SinkAfter story s rows (Err fault) = story.hears s rows
 
 -- `finish`: no byte was taken; a unit was; b is refused; or it is none of these
 abbrev pub FinishIs : Order → List ℕ → Result Finish Fault → Type 0

@@ -10,12 +10,12 @@ use Rattle.dl_head.specs.Refusal.{or_else, bad_kind, at_end, header_decided, Not
 use Rattle.dl_rows.specs.OperationSpelt.{operation_spelt, operations_in}
 
 -- what is left of b after the good fields, or, once there is a header, after it and the operations that are complete
-abbrev pub left_behind : Order → List ℕ → Option (HeaderData × List ℕ) → List ℕ
-left_behind order b None = (cut order b).rest
-left_behind order b (Some (h, program)) = (operations_in order h.params program).rest
+abbrev pub left_after : Order → List ℕ → Option (HeaderData × List ℕ) → List ℕ
+left_after order b None = (cut order b).rest
+left_after order b (Some (h, program)) = (operations_in order h.params program).rest
 
 abbrev pub left_over : Order → List ℕ → List ℕ
-left_over order b = left_behind order b (header_in order b)
+left_over order b = left_after order b (header_in order b)
 
 -- what the last of n bytes decides, w being those of the current operation: it is bad, or the last byte of the unit too
 -- and incomplete
@@ -24,14 +24,14 @@ operation_decided order h [] n end = None
 operation_decided order h (x ∷ w) n end =
     or_else (bad_kind (operation_spelt order h (x ∷ w))) (at_end fault.OpcodeOverrun n end)
 
-abbrev pub decided_behind : Order → List ℕ → Option (HeaderData × List ℕ) → Option FaultKind
-decided_behind order b None = header_decided order b
-decided_behind order b (Some (h, program)) =
+abbrev pub decided_after : Order → List ℕ → Option (HeaderData × List ℕ) → Option FaultKind
+decided_after order b None = header_decided order b
+decided_after order b (Some (h, program)) =
     operation_decided order h.params (operations_in order h.params program).rest (length b) (unit_len order b)
 
 -- the kind that the last byte of b decides
 abbrev pub unit_decided : Order → List ℕ → Option FaultKind
-unit_decided order b = decided_behind order b (header_in order b)
+unit_decided order b = decided_after order b (header_in order b)
 
 -- b, a front of a unit, is refused: its last byte decides the kind, nothing shorter decides anything, and the place is
 -- where the good fields and the operations end

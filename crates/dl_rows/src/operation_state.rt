@@ -159,8 +159,8 @@ pub fn short_operation<'a>(
         0 => short_extended(order, params, bytes),
         2 => short_unsigned(UnsignedOpcode::AdvancePc, bytes),
         3 => {
-            let (lines, behind) = short_sleb_at_front(bytes)?;
-            Some((Operation::AdvanceLine(lines), behind))
+            let (lines, tail) = short_sleb_at_front(bytes)?;
+            Some((Operation::AdvanceLine(lines), tail))
         }
         4 => short_unsigned(UnsignedOpcode::SetFile, bytes),
         5 => short_unsigned(UnsignedOpcode::SetColumn, bytes),
@@ -177,8 +177,8 @@ fn short_unsigned<'a>(opcode: UnsignedOpcode, bytes: &'a [u8]) -> Option<(Operat
         (front : List ℕ) × (bytes.entry.now ≡ front ++ found.1.now)
         × SpellsFirst (operation_spelt order h) (opcode_of opcode ∷ front) (Ok found.0)) }
 {
-    let (operand, behind) = short_uleb_at_front(bytes)?;
-    Some((opcode.operation(operand), behind))
+    let (operand, tail) = short_uleb_at_front(bytes)?;
+    Some((opcode.operation(operand), tail))
 }
 
 /// The operation of the extended opcode whose length these bytes begin with and the bytes after it,
@@ -200,15 +200,15 @@ fn short_extended<'a>(
         1 if *len == 1 => Some((Operation::EndSequence, bytes)),
         2 if *len < 128 && u64::from(*len) == 1 + u64::from(params.address_size) => {
             let size = usize::from(params.address_size);
-            let (address, behind) = fixed_at_front(order, size, bytes)?;
-            Some((Operation::SetAddress(address), behind))
+            let (address, tail) = fixed_at_front(order, size, bytes)?;
+            Some((Operation::SetAddress(address), tail))
         }
         4 if *len < 128 => {
-            let (value, behind) = short_uleb_at_front(bytes)?;
-            if usize::from(*len) + behind.len() != 1 + bytes.len() {
+            let (value, tail) = short_uleb_at_front(bytes)?;
+            if usize::from(*len) + tail.len() != 1 + bytes.len() {
                 return None;
             }
-            Some((Operation::SetDiscriminator(value), behind))
+            Some((Operation::SetDiscriminator(value), tail))
         }
         _ => None,
     }
@@ -220,12 +220,12 @@ fn start<'a>(order: Order, params: &Params, bytes: &'a [u8]) -> OperationStep<'a
     ensures progress { LeavesFewer (length bytes.entry.now) result }
     ensures step { StepIs order params.now [] bytes.entry.now result }
 {
-    let Some((opcode, behind)) = bytes.split_first() else {
+    let Some((opcode, tail)) = bytes.split_first() else {
         return OperationStep::Within(OperationState::Start);
     };
     match without_operand(params, *opcode) {
-        Some(operation) => OperationStep::Ends(operation, behind),
-        None => operand(order, params, *opcode, behind),
+        Some(operation) => OperationStep::Ends(operation, tail),
+        None => operand(order, params, *opcode, tail),
     }
 }
 
@@ -267,12 +267,12 @@ fn unsigned<'a>(opcode: UnsignedOpcode, mut number: Uleb, bytes: &'a [u8]) -> Op
     ensures step { (order : Order) (h : Params) (v : List ℕ) → PhaseStands h (phase.Unsigned opcode number) v
         → StepIs order h v bytes.entry.now result }
 {
-    let Some((answer, behind)) = number.take_from(bytes) else {
+    let Some((answer, tail)) = number.take_from(bytes) else {
         return OperationStep::Within(OperationState::Unsigned(opcode, number));
     };
     match answer {
-        Ok(operand) => OperationStep::Ends(opcode.operation(operand), behind),
-        Err(LebRange) => OperationStep::Refuses(FaultKind::LebRange, behind),
+        Ok(operand) => OperationStep::Ends(opcode.operation(operand), tail),
+        Err(LebRange) => OperationStep::Refuses(FaultKind::LebRange, tail),
     }
 }
 
@@ -281,12 +281,12 @@ fn line<'a>(mut number: Sleb, bytes: &'a [u8]) -> OperationStep<'a>
     ensures step { (order : Order) (h : Params) (v : List ℕ) → PhaseStands h (phase.Line number) v
         → StepIs order h v bytes.entry.now result }
 {
-    let Some((answer, behind)) = number.take_from(bytes) else {
+    let Some((answer, tail)) = number.take_from(bytes) else {
         return OperationStep::Within(OperationState::Line(number));
     };
     match answer {
-        Ok(lines) => OperationStep::Ends(Operation::AdvanceLine(lines), behind),
-        Err(LebRange) => OperationStep::Refuses(FaultKind::LebRange, behind),
+        Ok(lines) => OperationStep::Ends(Operation::AdvanceLine(lines), tail),
+        Err(LebRange) => OperationStep::Refuses(FaultKind::LebRange, tail),
     }
 }
 
@@ -296,7 +296,7 @@ fn fixed_add<'a>(order: Order, number: PartialNumber, bytes: &'a [u8]) -> Operat
         → StepIs order h v bytes.entry.now result }
 {
     match number.take_from(order, bytes) {
-        Ok((by, behind)) => OperationStep::Ends(Operation::FixedAdvancePc(by), behind),
+        Ok((by, tail)) => OperationStep::Ends(Operation::FixedAdvancePc(by), tail),
         Err(number) => OperationStep::Within(OperationState::FixedAdd(number)),
     }
 }
@@ -324,12 +324,12 @@ fn length<'a>(order: Order, params: &Params, mut number: Uleb, bytes: &'a [u8]) 
     ensures step { (v : List ℕ) → PhaseStands params.now (phase.Length number) v
         → StepIs order params.now v bytes.entry.now result }
 {
-    let Some((answer, behind)) = number.take_from(bytes) else {
+    let Some((answer, tail)) = number.take_from(bytes) else {
         return OperationStep::Within(OperationState::Length(number));
     };
     match answer {
-        Ok(len) => body(order, params, len, behind),
-        Err(LebRange) => OperationStep::Refuses(FaultKind::LebRange, behind),
+        Ok(len) => body(order, params, len, tail),
+        Err(LebRange) => OperationStep::Refuses(FaultKind::LebRange, tail),
     }
 }
 
@@ -376,7 +376,7 @@ fn address<'a>(order: Order, number: PartialNumber, bytes: &'a [u8]) -> Operatio
         → StepIs order h v bytes.entry.now result }
 {
     match number.take_from(order, bytes) {
-        Ok((address, behind)) => OperationStep::Ends(Operation::SetAddress(address), behind),
+        Ok((address, tail)) => OperationStep::Ends(Operation::SetAddress(address), tail),
         Err(number) => OperationStep::Within(OperationState::Address(number)),
     }
 }
@@ -394,14 +394,11 @@ fn discriminator<'a>(mut left: u64, mut number: Uleb, bytes: &'a [u8]) -> Operat
             left -= 1;
             continue;
         };
-        let behind = &bytes[i + 1..];
+        let tail = &bytes[i + 1..];
         return match answer {
-            Ok(value) if left == 1 => OperationStep::Ends(
-                Operation::SetDiscriminator(value),
-                behind,
-            ),
-            Ok(_) => OperationStep::Refuses(FaultKind::ExtendedLength, behind),
-            Err(LebRange) => OperationStep::Refuses(FaultKind::LebRange, behind),
+            Ok(value) if left == 1 => OperationStep::Ends(Operation::SetDiscriminator(value), tail),
+            Ok(_) => OperationStep::Refuses(FaultKind::ExtendedLength, tail),
+            Err(LebRange) => OperationStep::Refuses(FaultKind::LebRange, tail),
         };
     }
     OperationStep::Within(OperationState::Discriminator(left, number))

@@ -132,8 +132,8 @@ impl Program {
     {
         while !bytes.is_empty() {
             match self.short_operations(order, params, bytes, sink) {
-                Taken::UpTo(behind) => bytes = behind,
-                Taken::Row(row, behind) => return ProgramStep::Row(row, behind),
+                Taken::UpTo(tail) => bytes = tail,
+                Taken::Row(row, tail) => return ProgramStep::Row(row, tail),
             }
             match self.phase.push(order, params, bytes) {
                 OperationStep::Within(phase) => {
@@ -141,21 +141,21 @@ impl Program {
                     self.begun = self.begun.saturating_add(bytes.len() as u64);
                     return ProgramStep::Nothing;
                 }
-                OperationStep::Ends(operation, behind) => {
+                OperationStep::Ends(operation, tail) => {
                     self.phase = OperationState::Start;
                     self.begun = 0;
-                    bytes = behind;
+                    bytes = tail;
                     if let Some(row) = self.finish(params, operation) {
                         match sink.row(&row) {
                             Flow::On => {}
-                            Flow::Stop => return ProgramStep::Row(row, behind),
+                            Flow::Stop => return ProgramStep::Row(row, tail),
                         }
                     }
                 }
-                OperationStep::Refuses(kind, behind) => {
-                    let used = bytes.len() - behind.len();
+                OperationStep::Refuses(kind, tail) => {
+                    let used = bytes.len() - tail.len();
                     self.begun = self.begun.saturating_add(used as u64);
-                    return ProgramStep::Refuses(kind, behind);
+                    return ProgramStep::Refuses(kind, tail);
                 }
             }
         }
@@ -183,12 +183,12 @@ impl Program {
         if !self.is_between() {
             return Taken::UpTo(bytes);
         }
-        while let Some((operation, behind)) = short_operation(order, params, bytes) {
-            bytes = behind;
+        while let Some((operation, tail)) = short_operation(order, params, bytes) {
+            bytes = tail;
             if let Some(row) = self.finish(params, operation) {
                 match sink.row(&row) {
                     Flow::On => {}
-                    Flow::Stop => return Taken::Row(row, behind),
+                    Flow::Stop => return Taken::Row(row, tail),
                 }
             }
         }

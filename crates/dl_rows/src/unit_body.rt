@@ -121,8 +121,8 @@ impl UnitBody {
     {
         let bytes = front(piece, self.bytes.left);
         match self.program.push(order, params, bytes, sink) {
-            ProgramStep::Row(row, behind) => {
-                let used = bytes.len() - behind.len();
+            ProgramStep::Row(row, tail) => {
+                let used = bytes.len() - tail.len();
                 self.bytes.count(used);
                 Ok(Fed {
                     used,
@@ -136,8 +136,8 @@ impl UnitBody {
                 }
                 Ok(self.bytes.pause(bytes.len(), piece))
             }
-            ProgramStep::Refuses(kind, behind) => {
-                self.bytes.count(bytes.len() - behind.len());
+            ProgramStep::Refuses(kind, tail) => {
+                self.bytes.count(bytes.len() - tail.len());
                 Err(self.fault(kind))
             }
         }

@@ -18,7 +18,7 @@ use Rattle.dl_head.proofs.ReadSound.{header_is_sound}
 use Rattle.dl_table.proofs.SoundLemmas.{all_push}
 use Rattle.dl_rows.specs.declared.operation.Operation.{Operation}
 use Rattle.dl_rows.specs.declared.operation.Operation.TheVariants as op
-use Rattle.dl_rows.specs.LineUnit.{IsUnit, rows_behind, unit_rows}
+use Rattle.dl_rows.specs.LineUnit.{IsUnit, rows_later, unit_rows}
 use Rattle.dl_rows.specs.Matrix.{is_end, appends_row, last_set, last_part, parts, moves, line, modulo, row, row_from}
 use Rattle.dl_rows.specs.Matrix.{rows_after, sequence, fresh, set_file, set_column, set_isa, set_discriminator}
 use Rattle.dl_rows.specs.OperationSpelt.{operations_in}
@@ -139,9 +139,9 @@ module _ (h : Params) (some : 1 ≤ h.maximum_operations_per_instruction)
         by : (b : Bool) → AllByRecursion IsRow (rows_after h (front ++ o ∷ []) os)
             → AllByRecursion IsRow (if b then row h front o ∷ rows_after h (front ++ o ∷ []) os
             else rows_after h (front ++ o ∷ []) os)
-        by true behind =
-            (row_is (sequence front o) (fresh front o) (is_end o) (since is_end) (since appends_row), behind)
-        by false behind = behind
+        by true tail =
+            (row_is (sequence front o) (fresh front o) (is_end o) (since is_end) (since appends_row), tail)
+        by false tail = tail
 
 -- ---- one unit
 
@@ -176,7 +176,7 @@ header_read order u h all is = by (header_in order u) refl where
       let small = all_small order own.params (operations_in order own.params program).found found.0 found.2 in
       record {
         sound = subst IsSoundHeader same sound;
-        rows = subst (AllByRecursion IsRow) (sym (ap (rows_behind order) e))
+        rows = subst (AllByRecursion IsRow) (sym (ap (rows_later order) e))
             (rows_are own.params params.operations sound.maximum_operations []
             (operations_in order own.params program).found tt small);
       }
@@ -193,7 +193,7 @@ copy_is_anew order u all (h, is, none) =
       operations = _;
       unit = again.unit;
       events_are = again.events_are;
-      rows = ap (rows_behind order) again.header ∙ again.program.same;
+      rows = ap (rows_later order) again.header ∙ again.program.same;
     } in
     subst (IsAnew order u)
     (sym (ap (λ (o : Option HeaderData). option_map_or (λ g. unit_of order (with_standard_opcodes g) rows) o [])

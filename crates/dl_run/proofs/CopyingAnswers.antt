@@ -110,12 +110,12 @@ module _ (order : Order) (limit : ℕ) (bytes : List ℕ) (left : Option (List �
         let a = h.current stops.visit stops.more refl
         (subst IsGrowth (same_last before stops.before visit stops.visit (sym same)) growth) begun.in_unit sound
         stops.tells.goes_on in
-        let rest : concat h.after ++ (b ++ back) ≡ a.c ++ (a.behind ++ back) =
+        let rest : concat h.after ++ (b ++ back) ≡ a.c ++ (a.tail ++ back) =
         sym (append_assoc (concat h.after) b back) ∙ ap (λ (l : List ℕ). l ++ back) a.whole
-        ∙ append_assoc a.c a.behind back in (
+        ∙ append_assoc a.c a.tail back in (
           h.done,
           a.c,
-          a.behind ++ back,
+          a.tail ++ back,
           record {
             has =
                 subst (HasUnits order s h.done) rest (has_front order s units h.done h.after (b ++ back) h.whole has);

@@ -43,25 +43,25 @@ StopIs order n done after b (fault.Emit offset f) =
 StopIs order n done after b other = ⊥
 
 -- one unit more is done
-stop_behind : (order : Order) (n : ℕ) (u : List ℕ) (done after : List (List ℕ)) (b : List ℕ) (f : RunFault)
+stop_later : (order : Order) (n : ℕ) (u : List ℕ) (done after : List (List ℕ)) (b : List ℕ) (f : RunFault)
     → StopIs order (n + length u) done after b f → StopIs order n (u ∷ done) after b f
-stop_behind order n u done after b (fault.ForeignUnit offset) (c, back, version, whole, at, within, foreign) =
+stop_later order n u done after b (fault.ForeignUnit offset) (c, back, version, whole, at, within, foreign) =
     (c, back, version, whole, omega (arith, at, length-append u (concat done)), within, foreign)
-stop_behind order n u done after b (fault.Emit offset f) (v, later, h, whole, at, header, refused) =
+stop_later order n u done after b (fault.Emit offset f) (v, later, h, whole, at, header, refused) =
     (v, later, h, whole, omega (arith, at, length-append u (concat done)), header, refused)
-stop_behind order n u done after b (fault.Damage at kind) s = absurd s
-stop_behind order n u done after b fault.NoMemory s = absurd s
-stop_behind order n u done after b fault.Read s = absurd s
-stop_behind order n u done after b (fault.Write out) s = absurd s
-stop_behind order n u done after b fault.SectionTooLong s = absurd s
-stop_behind order n u done after b fault.NotFound s = absurd s
+stop_later order n u done after b (fault.Damage at kind) s = absurd s
+stop_later order n u done after b fault.NoMemory s = absurd s
+stop_later order n u done after b fault.Read s = absurd s
+stop_later order n u done after b (fault.Write out) s = absurd s
+stop_later order n u done after b fault.SectionTooLong s = absurd s
+stop_later order n u done after b fault.NotFound s = absurd s
 
 -- of the units that aren't copied, or of b after them, the current bytes are at fault in no way, and memory grows for
 -- them
 pub record CurrentUnit (order : Order) (after : List (List ℕ)) (b : List ℕ) : Type 0 where
   pub c : List ℕ
-  pub behind : List ℕ
-  pub whole : concat after ++ b ≡ c ++ behind
+  pub tail : List ℕ
+  pub whole : concat after ++ b ≡ c ++ tail
   pub within : WithinUnit order c
   pub sound : Sound order c
   pub not_foreign : foreign_in order c ≡ None
@@ -201,15 +201,15 @@ module _ (order : Order) where
         ap (λ (o : Option HeaderData). option_map_or (λ h. unit_of order (with_standard_opcodes h) its_rows) o [])
         (sym (header_is order n u own))
 
-    goes_behind : refusal its_header its_rows ≡ None → Heard order n (n + length u) units b x more
+    goes_after : refusal its_header its_rows ≡ None → Heard order n (n + length u) units b x more
         → Heard order m n (u ∷ units) b heard more
-    goes_behind r later = record {
+    goes_after r later = record {
       done = u ∷ later.done;
       after = later.after;
       whole = ap (λ (l : List (List ℕ)). u ∷ l) later.whole;
       copied = ((own.0, header_is order n u own, r), later.copied);
       text = text_is None r ∙ ap₂ (λ (v w : List ℕ). v ++ w) its_copy later.text;
-      stop = λ within f is. stop_behind order n u later.done later.after b f (later.stop within f (sym (stop_is None r)
+      stop = λ within f is. stop_later order n u later.done later.after b f (later.stop within f (sym (stop_is None r)
           ∙ is));
       all = λ none quiet. later.all none (sym (stop_is None r) ∙ quiet);
       current =
@@ -219,7 +219,7 @@ module _ (order : Order) where
 
     by_refusal : (o : Option EmitFault) → refusal its_header its_rows ≡ o → Heard order n (n + length u) units b x more
         → Heard order m n (u ∷ units) b heard more
-    by_refusal None r later = goes_behind r later
+    by_refusal None r later = goes_after r later
     by_refusal (Some f) r later = stops_refused f r
 
   -- of each front of the visits of units and of bytes after them
@@ -253,7 +253,7 @@ module _ (order : Order) where
             absurd (not_at_version m k v.0 [] heard visit others (sym (foreign_visits order k b v) ∙ at) quiet growth)
         last_current (inr (inl own)) visit others at growth within sound quiet = record {
           c = b;
-          behind = [];
+          tail = [];
           whole = sym (append-nil b);
           within = within;
           sound = sound;
@@ -320,7 +320,7 @@ module _ (order : Order) where
                 ∙ at) quiet growth)
             unit_current (inr own) visit others at growth quiet = record {
               c = u;
-              behind = concat units ++ b;
+              tail = concat units ++ b;
               whole = append_assoc u (concat units) b;
               within = unit_within u all.0;
               sound = unit_is_not_refused order u all.0;

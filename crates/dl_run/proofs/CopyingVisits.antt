@@ -10,7 +10,7 @@ use Rattle.dl_field.specs.HeaderData.{HeaderData}
 use Rattle.dl_head.specs.Header.{foreign_in, header_in}
 use Rattle.dl_rows.specs.declared.row.Row.{Row}
 use Rattle.dl_rows.specs.declared.reader.Event.TheVariants as event
-use Rattle.dl_rows.specs.LineUnit.{rows_behind, unit_rows, events_of}
+use Rattle.dl_rows.specs.LineUnit.{rows_later, unit_rows, events_of}
 use Rattle.dl_rows.proofs.ReaderLemmas.{foreign_no_header}
 use Rattle.dl_emit.specs.declared.fault.EmitFault.{EmitFault}
 use Rattle.dl_emit.specs.WrittenUnit.{unit_of, refusal}
@@ -170,8 +170,8 @@ module _ (order : Order) (n : ℕ) (c : List ℕ) where
       ap (λ (o : Option ℕ). visits_by o (header_in order c)) (not_foreign own (foreign_in order c) refl)
       ∙ ap (λ (p : Option (HeaderData × List ℕ)). visits_by None p) own.2
       ∙ ap (λ (l : List Visit). of_header n own.0 ∷ l)
-      (row_visits n (Some own.0) (rows_behind order (Some (own.0, own.1))))
-      ∙ ap (λ (p : Option (HeaderData × List ℕ)). of_header n own.0 ∷ map of_row (rows_behind order p)) (sym own.2)
+      (row_visits n (Some own.0) (rows_later order (Some (own.0, own.1))))
+      ∙ ap (λ (p : Option (HeaderData × List ℕ)). of_header n own.0 ∷ map of_row (rows_later order p)) (sym own.2)
 
   pub no_visits : Neither → visits order n c ≡ []
   no_visits none =

@@ -11,7 +11,7 @@ use Rattle.dl_rows.specs.declared.reader.Event.TheVariants as event
 use Rattle.dl_rows.specs.declared.reader.Fed.{Fed}
 use Rattle.dl_rows.specs.declared.reader.Reader.{Reader}
 use Rattle.dl_rows.specs.LineUnit.{events}
-use Rattle.dl_rows.specs.Reading.{told, FeedsBehind}
+use Rattle.dl_rows.specs.Reading.{told, FeedsAfter}
 use Rattle.dl_rows.specs.ReaderStands.{StandsFor}
 use Rattle.dl_run.specs.declared.section.SectionUnits.{SectionUnits}
 use Rattle.dl_run.specs.Told.{ends, Counted}
@@ -65,7 +65,7 @@ module _ (order : Order) (u : SectionUnits) (t piece : List ℕ) (units : List (
     rows =
         v.rows;
   } → Counted u.rows u.sequences v.rows v.sequences rows → row_told fed.event ≡ []
-      → FeedsBehind StandsFor order (events order b ++ map event.Row rows) b piece fed v.reader
+      → FeedsAfter StandsFor order (events order b ++ map event.Row rows) b piece fed v.reader
       → UnitsAre order (counted fed.event v) (t ++ take fed.used piece) units (b ++ take fed.used piece)
   more_read rows fed same counts none f =
       let x = take fed.used piece in

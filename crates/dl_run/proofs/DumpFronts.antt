@@ -16,7 +16,7 @@ use Rattle.dl_table.specs.Value.{Judgement}
 use Rattle.dl_head.specs.Header.{foreign_in, header_in}
 use Rattle.dl_head.specs.Refusal.{HeaderRefused}
 use Rattle.dl_field.specs.HeaderData.{HeaderData}
-use Rattle.dl_head.proofs.FrontLemmas.{fronts, behind_front}
+use Rattle.dl_head.proofs.FrontLemmas.{fronts, after_front}
 use Rattle.dl_head.proofs.HeaderLaws.{found_is_header}
 use Rattle.dl_head.proofs.QuietLemmas.{header_is_not_refused, foreign_is_not_refused}
 use Rattle.dl_rows.specs.declared.operation.Operation.{Operation}
@@ -26,7 +26,7 @@ use Rattle.dl_rows.specs.LineUnit.{IsUnit, events}
 use Rattle.dl_rows.specs.Matrix.{matrix}
 use Rattle.dl_rows.specs.OperationSpelt.{good_one, operation_spelt, operations_in}
 use Rattle.dl_rows.specs.Reading.{WithinUnit}
-use Rattle.dl_rows.specs.Refusal.{Refused, left_behind}
+use Rattle.dl_rows.specs.Refusal.{Refused, left_after}
 use Rattle.dl_rows.specs.Runs.{Sound}
 use Rattle.dl_rows.specs.UnitLaws.{IsCutShort, RefusesOperation}
 use Rattle.dl_rows.proofs.HeaderParams.{header_is_usable}
@@ -78,7 +78,7 @@ no_more_found order h program x kind some faulty =
 
 same_rest : (done begun w rest : List ℕ) → done ++ begun ≡ w ++ rest → length begun ≡ length rest → begun ≡ rest
 same_rest done begun w rest e same = elim (fronts done w begun rest e) [
-  | inl one ↦ behind_front w begun rest (ap (λ (l : List ℕ). l ++ begun) (sym one) ∙ e)
+  | inl one ↦ after_front w begun rest (ap (λ (l : List ℕ). l ++ begun) (sym one) ∙ e)
   | inr (inl g) ↦ absurd (omega (
     arith,
     same,
@@ -119,7 +119,7 @@ module _ (order : Order) (b x : List ℕ) (at : ℕ) (kind : FaultKind) (refused
     rest_is =
         let p = found_is_program order h.params program some in
         let place : at + length (operations_in order h.params program).rest ≡ length b =
-        subst (λ (w : List ℕ). at + length w ≡ length b) (ap (left_behind order b) is) refused.place in
+        subst (λ (w : List ℕ). at + length w ≡ length b) (ap (left_after order b) is) refused.place in
         same_rest r.done r.begun p.0 (operations_in order h.params program).rest (sym r.whole
         ∙ p.1) (omega (arith, place, r.place))
 

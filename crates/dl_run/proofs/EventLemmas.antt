@@ -10,7 +10,7 @@ use Rattle.dl_head.specs.Header.{foreign_in, header_in}
 use Rattle.dl_rows.specs.declared.row.Row.{Row}
 use Rattle.dl_rows.specs.declared.reader.Event.{Event}
 use Rattle.dl_rows.specs.declared.reader.Event.TheVariants as event
-use Rattle.dl_rows.specs.LineUnit.{rows_in, rows_behind, unit_rows, own_events, events_of, events}
+use Rattle.dl_rows.specs.LineUnit.{rows_in, rows_later, unit_rows, own_events, events_of, events}
 use Rattle.dl_rows.proofs.UnitLemmas.{header_on}
 use Rattle.dl_rows.proofs.ReaderLemmas.{foreign_no_header, no_rows}
 use Rattle.dl_rows.specs.Reading.{told}
@@ -30,7 +30,7 @@ rows_told-append (e ∷ es) more =
     ∙ sym (append_assoc (row_told e) (rows_told es) (rows_told more))
 
 rows_of_own : (order : Order) (parts : Option (HeaderData × List ℕ))
-    → rows_told (own_events order parts) ≡ rows_behind order parts
+    → rows_told (own_events order parts) ≡ rows_later order parts
 rows_of_own order None = refl
 rows_of_own order (Some (h, program)) = rows_told-rows (rows_in order h.params program)
 

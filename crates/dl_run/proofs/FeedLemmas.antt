@@ -17,9 +17,9 @@ use Rattle.dl_rows.specs.declared.reader.Event.{Event}
 use Rattle.dl_rows.specs.declared.reader.Event.TheVariants as event
 use Rattle.dl_rows.specs.declared.reader.Fed.{Fed}
 use Rattle.dl_rows.specs.LineUnit.{events}
-use Rattle.dl_rows.specs.Reading.{WithinUnit, told, EventHoldsBehind, FeedsBehind}
+use Rattle.dl_rows.specs.Reading.{WithinUnit, told, EventHoldsAfter, FeedsAfter}
 use Rattle.dl_rows.specs.ReaderStands.{StandsFor}
-use Rattle.dl_rows.specs.ReaderAnswers.{FedBehind}
+use Rattle.dl_rows.specs.ReaderAnswers.{FedAfter}
 use Rattle.dl_run.specs.declared.fault.RunFault.{RunFault}
 use Rattle.dl_run.specs.declared.fault.RunFault.TheVariants as fault
 use Rattle.dl_rows.specs.declared.sink.Flow.TheVariants as flow
@@ -150,7 +150,7 @@ module _ {S : Type 0} (story : Story S) (order : Order) (t piece : List ℕ) (fi
       → StopsAtRow story so.b rest u v new w now after f
       → UnitsFed story order (t ++ piece) first w start after x (Err f)
   stops_at_row w after x f s =
-      let fed = subst (λ (o : Order). FeedsBehind StandsFor o (events o so.b ++ map event.Row s.rows) so.b rest s.fed
+      let fed = subst (λ (o : Order). FeedsAfter StandsFor o (events o so.b ++ map event.Row s.rows) so.b rest s.fed
       v.reader) so.are.reader_order s.fed_rows in
       let used = s.fed.used in
       let stops = s.hears first start visits_before so.tells in
@@ -186,7 +186,7 @@ module _ {S : Type 0} (story : Story S) (order : Order) (t piece : List ℕ) (fi
           at_place : UnitsFed story order (t ++ piece) first w start after x
               (Err (fault.Damage (add v.offset f.offset) f.kind))
           at_place =
-              let fed = subst (λ (o : Order). FedBehind o (events o so.b ++ map event.Row r.rows) so.b rest
+              let fed = subst (λ (o : Order). FedAfter o (events o so.b ++ map event.Row r.rows) so.b rest
               (Err f) v.reader)
               so.are.reader_order r.fed_rows in
               let used = fed.0 in
@@ -226,8 +226,8 @@ module _ {S : Type 0} (story : Story S) (order : Order) (t piece : List ℕ) (fi
               )
 
     module _ (fed : Fed) (r : RowsOf story so.b rest u v new w now after (Ok fed)) where
-      pub feeds : FeedsBehind StandsFor order (events order so.b ++ map event.Row r.rows) so.b rest fed v.reader
-      feeds = subst (λ (o : Order). FeedsBehind StandsFor o (events o so.b ++ map event.Row r.rows) so.b rest fed
+      pub feeds : FeedsAfter StandsFor order (events order so.b ++ map event.Row r.rows) so.b rest fed v.reader
+      feeds = subst (λ (o : Order). FeedsAfter StandsFor o (events o so.b ++ map event.Row r.rows) so.b rest fed
           v.reader) so.are.reader_order r.fed_rows
 
       -- what is left of the piece
@@ -317,7 +317,7 @@ module _ {S : Type 0} (story : Story S) (order : Order) (t piece : List ℕ) (fi
       pub idle : fed.event ≡ event.More → fed.used ≡ 0
           → UnitsFed story order (t ++ piece) first w start after v (Ok flow.On)
       idle is zero =
-          let holds = subst (λ (e : Event). EventHoldsBehind order (events order so.b ++ map event.Row r.rows) so.b rest
+          let holds = subst (λ (e : Event). EventHoldsAfter order (events order so.b ++ map event.Row r.rows) so.b rest
           fed.used e) is feeds.answered.holds in
           let same : v_after ≡ v = ap (λ (e : Event). counted e v) is in
           let over : read_so_far ++ take fed.used rest ≡ t ++ piece =
@@ -336,7 +336,7 @@ module _ {S : Type 0} (story : Story S) (order : Order) (t piece : List ℕ) (fi
       pub unmet : fed.event ≡ event.NoMemory → (x : SectionUnits)
           → UnitsFed story order (t ++ piece) first w start after x (Err fault.NoMemory)
       unmet is x =
-          let holds = subst (λ (e : Event). EventHoldsBehind order (events order so.b ++ map event.Row r.rows) so.b rest
+          let holds = subst (λ (e : Event). EventHoldsAfter order (events order so.b ++ map event.Row r.rows) so.b rest
           fed.used e) is feeds.answered.holds in
           let wants : AddsCell order (with_bytes fed.used) (drop fed.used rest) =
           (holds.0, drop (fed.used + 1) rest, dropped rest fed.used holds.0 holds.1, holds.3) in (

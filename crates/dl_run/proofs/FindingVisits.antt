@@ -11,7 +11,7 @@ use Rattle.dl_head.specs.Header.{header_in}
 use Rattle.dl_rows.specs.declared.row.Row.{Row}
 use Rattle.dl_rows.specs.declared.reader.Event.{Event}
 use Rattle.dl_rows.specs.declared.reader.Event.TheVariants as event
-use Rattle.dl_rows.specs.LineUnit.{rows_in, rows_behind, unit_rows, ends_open, events}
+use Rattle.dl_rows.specs.LineUnit.{rows_in, rows_later, unit_rows, ends_open, events}
 use Rattle.dl_look.specs.declared.place.Place.{Place}
 use Rattle.dl_look.specs.Answer.{answer}
 use Rattle.dl_run.specs.Commands.{IsFound, NoneAnswers}
@@ -179,8 +179,8 @@ module _ (order : Order) (x : Place) where
   -- ---- where none is found
 
   none_by : (parts : Option (HeaderData × List ℕ))
-      → answer_under x (rows_behind order parts) (option_map (λ p. p.0) parts) ≡ None
-      → answer (rows_behind order parts) x ≡ None
+      → answer_under x (rows_later order parts) (option_map (λ p. p.0) parts) ≡ None
+      → answer (rows_later order parts) x ≡ None
   none_by None e = refl
   none_by (Some (h, program)) e = map_none (λ (r : Row). (h, r)) (answer (rows_in order h.params program) x) e
 

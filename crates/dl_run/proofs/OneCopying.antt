@@ -195,8 +195,8 @@ module _ (order : Order) (limit : ℕ) (bytes : List ℕ) where
           none_is_some (sym (foreign_no_header order b2 version foreign) ∙ ap (header_in order) e
           ∙ header_on order b (x ∷ v) h program is)
 
-    some_behind : (x : ℕ) (v : List ℕ) → b2 ≡ b ++ x ∷ v → back ≡ [] → ⊥
-    some_behind x v e nothing =
+    some_after : (x : ℕ) (v : List ℕ) → b2 ≡ b ++ x ∷ v → back ≡ [] → ⊥
+    some_after x v e nothing =
         omega (
           arith,
           ap length whole,
@@ -209,10 +209,10 @@ module _ (order : Order) (limit : ℕ) (bytes : List ℕ) where
 
     not_longer : (x : ℕ) (v : List ℕ) (result : Result Summary RunFault) → b2 ≡ b ++ x ∷ v
         → Ending order limit bytes units b back result → ⊥
-    not_longer x v result e (is_whole empty nothing fits is) = some_behind x v e nothing
+    not_longer x v result e (is_whole empty nothing fits is) = some_after x v e nothing
     not_longer x v result e (is_refused at kind refused is) = not_refused x v at kind e refused
-    not_longer x v result e (is_short nothing some sound fits is) = some_behind x v e nothing
-    not_longer x v result e (is_long nothing sound long is) = some_behind x v e nothing
+    not_longer x v result e (is_short nothing some sound fits is) = some_after x v e nothing
+    not_longer x v result e (is_long nothing sound long is) = some_after x v e nothing
 
     no_version : (result : Result Summary RunFault) → Ending order limit bytes units b back result → ⊥
     no_version result ending = elim (fronts b b2 back back2 whole) [

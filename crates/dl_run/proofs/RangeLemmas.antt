@@ -15,7 +15,7 @@ use Rattle.dl_field.specs.declared.params.Params.{Params}
 use Rattle.dl_head.proofs.HeaderLaws.{found_is_header}
 use Rattle.dl_rows.specs.declared.operation.Operation.{Operation}
 use Rattle.dl_rows.specs.declared.row.Row.{Row}
-use Rattle.dl_rows.specs.LineUnit.{rows_behind, unit_rows}
+use Rattle.dl_rows.specs.LineUnit.{rows_later, unit_rows}
 use Rattle.dl_rows.specs.Matrix.{address, appends_row, last_part, parts, moves, op_index, row, row_from, rows_after}
 use Rattle.dl_rows.specs.Matrix.{sequence, fresh, is_end}
 use Rattle.dl_rows.specs.OperationSpelt.{operations_in}
@@ -51,18 +51,18 @@ module _ (h : HeaderData) (some : 1 ≤ h.params.maximum_operations_per_instruct
   none_out i front [] = refl
   none_out i front (o ∷ os) =
       by (appends_row o) refl (none_out (i + 1) (front ++ o ∷ []) os) (none_out i (front ++ o ∷ []) os) where
-        behind : List Row
-        behind = rows_after h.params (front ++ o ∷ []) os
+        tail : List Row
+        tail = rows_after h.params (front ++ o ∷ []) os
 
-        by : (b : Bool) → appends_row o ≡ b → out_of_range its_params (i + 1) behind ≡ None
-            → out_of_range its_params i behind ≡ None
-            → out_of_range its_params i (if appends_row o then row h.params front o ∷ behind else behind) ≡ None
+        by : (b : Bool) → appends_row o ≡ b → out_of_range its_params (i + 1) tail ≡ None
+            → out_of_range its_params i tail ≡ None
+            → out_of_range its_params i (if appends_row o then row h.params front o ∷ tail else tail) ≡ None
         by true is next same =
-            ap (λ (c : Bool). out_of_range its_params i (if c then row h.params front o ∷ behind else behind)) is
-            ∙ if_true (is_in_range its_params (row h.params front o)) (out_of_range its_params (i + 1) behind)
+            ap (λ (c : Bool). out_of_range its_params i (if c then row h.params front o ∷ tail else tail)) is
+            ∙ if_true (is_in_range its_params (row h.params front o)) (out_of_range its_params (i + 1) tail)
             (emit.RowRange i) (row_in_range (sequence front o) (fresh front o) (is_end o)) next
         by false is next same =
-            ap (λ (c : Bool). out_of_range its_params i (if c then row h.params front o ∷ behind else behind)) is ∙ same
+            ap (λ (c : Bool). out_of_range its_params i (if c then row h.params front o ∷ tail else tail)) is ∙ same
 
 length_alone : (b : Bool) (f : EmitFault) → unless b emit.TooLong ≡ Some f → f ≡ emit.TooLong
 length_alone true f e = absurd (none_is_some e)
@@ -87,9 +87,9 @@ too_long order u h f is refused = by (header_in order u) refl where
       value_same own h (sym (ap (λ (p : Option (HeaderData × List ℕ)). option_map (λ q. q.0) p) e) ∙ is) in
       let w = found_is_header order own u program e in
       let usable = header_is_usable order own w.0 w.2 in
-      let rows : unit_rows order u ≡ rows_behind order (Some (own, program)) = ap (rows_behind order) e in
+      let rows : unit_rows order u ≡ rows_later order (Some (own, program)) = ap (rows_later order) e in
       let refused_own = ap
-      (λ (d : HeaderData). refusal (with_standard_opcodes d) (rows_behind order (Some (own, program)))) same
+      (λ (d : HeaderData). refusal (with_standard_opcodes d) (rows_later order (Some (own, program)))) same
       ∙ ap (refusal (with_standard_opcodes h)) (sym rows) ∙ refused in
-      refused_rows own (rows_behind order (Some (own, program))) f
+      refused_rows own (rows_later order (Some (own, program))) f
       (none_out own usable.operations 0 [] (operations_in order own.params program).found) refused_own

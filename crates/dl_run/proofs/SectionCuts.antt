@@ -7,7 +7,7 @@ use Rattle.std.proofs.lemmas.List.{nil_from_length, take_all}
 use Rattle.dl_num.specs.declared.fixed.Order.{Order}
 use Rattle.dl_table.specs.declared.fault.FaultKind.{FaultKind}
 use Rattle.dl_table.specs.declared.fault.FaultKind.TheVariants.{Truncated}
-use Rattle.dl_head.proofs.FrontLemmas.{GoesOn, fronts, behind_front}
+use Rattle.dl_head.proofs.FrontLemmas.{GoesOn, fronts, after_front}
 use Rattle.dl_rows.specs.LineUnit.{IsUnit}
 use Rattle.dl_rows.specs.Refusal.{Refused}
 use Rattle.dl_rows.specs.Runs.{Sound}
@@ -37,7 +37,7 @@ pub one_front : (order : Order) (u v x y : List ℕ) → IsUnit order u → IsUn
     → (u ≡ v) × (x ≡ y)
 one_front order u v x y one two e =
     let same = same_front order u v one two (fronts u v x y e) in
-    (same, behind_front v x y (ap (λ (l : List ℕ). l ++ x) (sym same) ∙ e))
+    (same, after_front v x y (ap (λ (l : List ℕ). l ++ x) (sym same) ∙ e))
 
 pub cuts : (order : Order) (units units2 : List (List ℕ)) (rest rest2 : List ℕ) → AllByRecursion (IsUnit order) units
     → AllByRecursion (IsUnit order) units2
@@ -128,8 +128,8 @@ refused_front : (order : Order) (b back b2 : List ℕ) (at : ℕ) (kind : FaultK
     → Refused order b at kind → Sound order b2 → ⊥
 refused_front order b back b2 at kind e refused sound = sound b back at kind (sym e) refused
 
-behind_nothing : (b back : List ℕ) → back ≡ [] → b ++ back ≡ b
-behind_nothing b back nothing = ap (λ (l : List ℕ). b ++ l) nothing ∙ append-nil b
+after_nothing : (b back : List ℕ) → back ≡ [] → b ++ back ≡ b
+after_nothing b back nothing = ap (λ (l : List ℕ). b ++ l) nothing ∙ append-nil b
 
 no_front : (b back : List ℕ) → b ++ back ≡ [] → b ≡ []
 no_front b back e = nil_from_length b (omega (arith, ap length e, length-append b back))
@@ -140,7 +140,7 @@ module _ (order : Order) (limit : ℕ) (bytes : List ℕ) (units : List (List �
   Same b b2 back back2 result result2 = (b ≡ b2) × (back ≡ back2) × (result ≡ result2)
 
   both : (b b2 back back2 : List ℕ) → back ≡ [] → back2 ≡ [] → b ++ back ≡ b2 ++ back2 → b ≡ b2
-  both b b2 back back2 nothing nothing2 e = sym (behind_nothing b back nothing) ∙ e ∙ behind_nothing b2 back2 nothing2
+  both b b2 back back2 nothing nothing2 e = sym (after_nothing b back nothing) ∙ e ∙ after_nothing b2 back2 nothing2
 
   same_end : (b b2 back back2 : List ℕ) (result result2 : Result Summary RunFault) → b ++ back ≡ b2 ++ back2
       → Ending order limit bytes units b back result → Ending order limit bytes units b2 back2 result2
@@ -148,28 +148,28 @@ module _ (order : Order) (limit : ℕ) (bytes : List ℕ) (units : List (List �
   same_end b b2 back back2 result result2 e (is_whole none nothing fits is) (is_whole none2 nothing2 fits2 is2) =
       (none ∙ sym none2, nothing ∙ sym nothing2, is ∙ sym is2)
   same_end b b2 back back2 result result2 e (is_whole none nothing fits is) (is_refused at kind refused is2) =
-      absurd (nothing_refused order b2 at kind (no_front b2 back2 (sym e ∙ behind_nothing b back nothing ∙ none))
+      absurd (nothing_refused order b2 at kind (no_front b2 back2 (sym e ∙ after_nothing b back nothing ∙ none))
       refused)
   same_end b b2 back back2 result result2 e (is_whole none nothing fits is) (is_short nothing2 some sound fits2 is2) =
       absurd (some (sym (both b b2 back back2 nothing nothing2 e) ∙ none))
   same_end b b2 back back2 result result2 e (is_whole none nothing fits is) (is_long nothing2 sound long is2) =
       absurd (omega (arith, fits, long))
   same_end b b2 back back2 result result2 e (is_refused at kind refused is) (is_whole none nothing fits is2) =
-      absurd (nothing_refused order b at kind (no_front b back (e ∙ behind_nothing b2 back2 nothing ∙ none)) refused)
+      absurd (nothing_refused order b at kind (no_front b back (e ∙ after_nothing b2 back2 nothing ∙ none)) refused)
   same_end b b2 back back2 result result2 e (is_refused at kind refused is) (is_refused at2 kind2 refused2 is2) =
       let one = one_refusal order b b2 back back2 at at2 kind kind2 e refused refused2 in (
         one.0,
-        behind_front b2 back back2 (ap (λ (l : List ℕ). l ++ back) (sym one.0) ∙ e),
+        after_front b2 back back2 (ap (λ (l : List ℕ). l ++ back) (sym one.0) ∙ e),
         is ∙ damage_is (ap (λ (n : ℕ). length (concat units) + n) one.1) one.2 ∙ sym is2,
       )
   same_end b b2 back back2 result result2 e (is_refused at kind refused is) (is_short nothing some sound fits is2) =
-      absurd (refused_front order b back b2 at kind (e ∙ behind_nothing b2 back2 nothing) refused sound)
+      absurd (refused_front order b back b2 at kind (e ∙ after_nothing b2 back2 nothing) refused sound)
   same_end b b2 back back2 result result2 e (is_refused at kind refused is) (is_long nothing sound long is2) =
-      absurd (refused_front order b back b2 at kind (e ∙ behind_nothing b2 back2 nothing) refused sound)
+      absurd (refused_front order b back b2 at kind (e ∙ after_nothing b2 back2 nothing) refused sound)
   same_end b b2 back back2 result result2 e (is_short nothing some sound fits is) (is_whole none2 nothing2 fits2 is2) =
       absurd (some (both b b2 back back2 nothing nothing2 e ∙ none2))
   same_end b b2 back back2 result result2 e (is_short nothing some sound fits is) (is_refused at kind refused is2) =
-      absurd (refused_front order b2 back2 b at kind (sym e ∙ behind_nothing b back nothing) refused sound)
+      absurd (refused_front order b2 back2 b at kind (sym e ∙ after_nothing b back nothing) refused sound)
   same_end b b2 back back2 result result2 e (is_short nothing some sound fits is)
       (is_short nothing2 some2 sound2 fits2 is2) =
       (both b b2 back back2 nothing nothing2 e, nothing ∙ sym nothing2, is ∙ sym is2)
@@ -178,7 +178,7 @@ module _ (order : Order) (limit : ℕ) (bytes : List ℕ) (units : List (List �
   same_end b b2 back back2 result result2 e (is_long nothing sound long is) (is_whole none2 nothing2 fits2 is2) =
       absurd (omega (arith, fits2, long))
   same_end b b2 back back2 result result2 e (is_long nothing sound long is) (is_refused at kind refused is2) =
-      absurd (refused_front order b2 back2 b at kind (sym e ∙ behind_nothing b back nothing) refused sound)
+      absurd (refused_front order b2 back2 b at kind (sym e ∙ after_nothing b back nothing) refused sound)
   same_end b b2 back back2 result result2 e (is_long nothing sound long is) (is_short nothing2 some sound2 fits is2) =
       absurd (omega (arith, fits, long))
   same_end b b2 back back2 result result2 e (is_long nothing sound long is) (is_long nothing2 sound2 long2 is2) =

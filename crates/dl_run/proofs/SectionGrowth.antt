@@ -20,7 +20,7 @@ use Rattle.dl_head.specs.Header.{unit_len}
 use Rattle.dl_head.proofs.CutLemmas.{cut_sound, Sound as CutSound}
 use Rattle.dl_field.proofs.FieldLemmas.{none_some}
 use Rattle.dl_field.proofs.FieldLaws.{field_is_judged}
-use Rattle.dl_head.proofs.FrontLemmas.{GoesOn, fronts, behind_front}
+use Rattle.dl_head.proofs.FrontLemmas.{GoesOn, fronts, after_front}
 use Rattle.dl_rows.specs.Reading.{WithinUnit}
 use Rattle.dl_rows.specs.Refusal.{Refused}
 use Rattle.dl_rows.specs.Runs.{Sound}
@@ -121,14 +121,14 @@ pub record Stops (order : Order) (t : List ℕ) (units : List (List ℕ)) (b bac
   pub none : NoUnitBegins order (b ++ back)
   pub how : ((at : ℕ) × (kind : FaultKind) × Refused order b at kind) ⊎ ((back ≡ []) × Sound order b)
 
-behind_nothing : (b back : List ℕ) → back ≡ [] → b ++ back ≡ b
-behind_nothing b back nothing = ap (λ (l : List ℕ). b ++ l) nothing ∙ append-nil b
+after_nothing : (b back : List ℕ) → back ≡ [] → b ++ back ≡ b
+after_nothing b back nothing = ap (λ (l : List ℕ). b ++ l) nothing ∙ append-nil b
 
 stops_at_end : (order : Order) (t : List ℕ) (units : List (List ℕ)) (b back : List ℕ) → HasUnits order t units b
     → back ≡ [] → NoUnitBegins order b → Sound order b → Stops order t units b back
 stops_at_end order t units b back has nothing none sound = record {
-  has = subst (HasUnits order t units) (sym (behind_nothing b back nothing)) has;
-  none = subst (NoUnitBegins order) (sym (behind_nothing b back nothing)) none;
+  has = subst (HasUnits order t units) (sym (after_nothing b back nothing)) has;
+  none = subst (NoUnitBegins order) (sym (after_nothing b back nothing)) none;
   how = inr (nothing, sound);
 }
 
@@ -205,12 +205,12 @@ module _ (order : Order) (t m : List ℕ) (units units2 : List (List ℕ)) (b b2
         | inr (
           nothing,
           sound,
-        ) ↦ absurd (sound b (back ++ m) at kind (sym (cut.1 ∙ behind_nothing b2 back2 nothing)) refused)
+        ) ↦ absurd (sound b (back ++ m) at kind (sym (cut.1 ∙ after_nothing b2 back2 nothing)) refused)
       ]
 
   module _ (nothing : back ≡ []) (sound : Sound order b) where
     t_is : t ≡ concat units ++ b
-    t_is = s.has.whole ∙ ap (λ (l : List ℕ). concat units ++ l) (behind_nothing b back nothing)
+    t_is = s.has.whole ∙ ap (λ (l : List ℕ). concat units ++ l) (after_nothing b back nothing)
 
     both : (concat units ++ b) ++ m ≡ (concat units2 ++ b2) ++ back2
     both = ap (λ (l : List ℕ). l ++ m) (sym t_is) ∙ s2.has.whole ∙ sym (append_assoc (concat units2) b2 back2)
@@ -220,13 +220,13 @@ module _ (order : Order) (t m : List ℕ) (units units2 : List (List ℕ)) (b b2
         → GoesOn (concat units2 ++ b2) (concat units ++ b) → ⊥
     no_earlier at kind refused (x, w, goes) =
         let rest : (x ∷ w) ++ m ≡ back2 =
-        behind_front (concat units2 ++ b2) ((x ∷ w) ++ m) back2 (sym (append_assoc (concat units2 ++ b2) (x ∷ w) m)
+        after_front (concat units2 ++ b2) ((x ∷ w) ++ m) back2 (sym (append_assoc (concat units2 ++ b2) (x ∷ w) m)
         ∙ ap (λ (l : List ℕ). l ++ m) (sym goes) ∙ both) in
         let none : NoUnitBegins order (b2 ++ x ∷ w) = λ u more e is.
         s2.none u (more ++ m) (ap (λ (l : List ℕ). b2 ++ l) (sym rest) ∙ sym (append_assoc b2 (x ∷ w) m)
         ∙ ap (λ (l : List ℕ). l ++ m) e ∙ append_assoc u more m) is in
         let cut = cuts order units units2 b (b2 ++ x ∷ w) s.has.each s2.has.each
-        (subst (NoUnitBegins order) (behind_nothing b back nothing) s.none) none (goes
+        (subst (NoUnitBegins order) (after_nothing b back nothing) s.none) none (goes
         ∙ append_assoc (concat units2) b2 (x ∷ w)) in
         sound b2 (x ∷ w) at kind cut.1 refused
 

@@ -59,11 +59,11 @@ seeks_past first now start held visits visit none same s =
     }) s.not_found refl none (subst (λ (l : List Row). StandsFor now.finder first.place l) (sym same) s.stands)
 
 -- a unit ended that gives no answer
-pub seeks_behind : (first old new : Seeker) (start held : Option (List ℕ)) (visits : List Visit) (h : Option HeaderData)
+pub seeks_after : (first old new : Seeker) (start held : Option (List ℕ)) (visits : List Visit) (h : Option HeaderData)
     → Seeks first old start held visits → SeeksOn old new → new.found ≡ false → new.printer ≡ old.printer
     → answer_under first.place (rows_after [] visits) h ≡ None → StandsFor new.finder old.place []
     → Seeks first new start held (visits ++ of_end h ∷ [])
-seeks_behind first old new start held visits h s same not_found printer none stands =
+seeks_after first old new start held visits h s same not_found printer none stands =
     seeks_on first old new start held visits (of_end h ∷ []) s same not_found printer
     (or_none (answer_under first.place (rows_after [] visits) h)
     ∙ none) (subst (λ (p : Place). StandsFor new.finder p []) s.same.place stands)

@@ -14,8 +14,8 @@ use Rattle.dl_rows.specs.declared.reader.Event.TheVariants as event
 use Rattle.dl_rows.specs.declared.reader.Fed.{Fed}
 use Rattle.dl_rows.specs.declared.reader.Reader.{Reader}
 use Rattle.dl_rows.specs.LineUnit.{events}
-use Rattle.dl_rows.specs.ReaderAnswers.{FedBehind, RowsFed}
-use Rattle.dl_rows.specs.Reading.{SinkAt, SinkBehind}
+use Rattle.dl_rows.specs.ReaderAnswers.{FedAfter, RowsFed}
+use Rattle.dl_rows.specs.Reading.{SinkAt, SinkAfter}
 use Rattle.dl_run.specs.declared.fault.RunFault.{RunFault}
 use Rattle.dl_run.specs.declared.section.Told.{Told}
 use Rattle.dl_run.specs.declared.section.SectionUnits.{SectionUnits}
@@ -43,11 +43,11 @@ counts_more old_rows old_ends rows_now ends_now rows_new ends_new rows r counts 
 
 module _ {W V : Type 0} (story : Story V) (contents : W → Option (List ℕ)) where
   -- rows that are told, and one at which the visitor stops
-  pub stops_behind : (u v w : V) (a b c : Option (List ℕ)) (rows : List Row) (r : Row) (f : RunFault)
+  pub stops_after : (u v w : V) (a b c : Option (List ℕ)) (rows : List Row) (r : Row) (f : RunFault)
       → Hears {A = ⊤} story u v a b (map of_row rows) (Ok (tt {0}))
       → Hears {A = ⊤} story v w b c (of_row r ∷ []) (Err f)
       → Hears {A = ⊤} story u w a c (map of_row (rows ++ r ∷ [])) (Err f)
-  stops_behind u v w a b c rows r f told stops first start visits tells =
+  stops_after u v w a b c rows r f told stops first start visits tells =
       let s = stops first start (visits ++ map of_row rows) (told first start visits tells) in (
         map of_row rows ++ s.0,
         s.1,
@@ -70,7 +70,7 @@ module _ {W V : Type 0} (story : Story V) (contents : W → Option (List ℕ)) w
 
   -- the sink goes on, so no row is answered
   pub goes_on_without : (first now : Told W V) (rows : List Row) (fed : Result Fed Fault) → now.failed ≡ None
-      → SinkBehind (told_story story contents first) now rows fed
+      → SinkAfter (told_story story contents first) now rows fed
       → NoRow fed × HeardRows story contents first now rows None (Ok (tt {0}))
   goes_on_without first now rows (Err fault) none heard = (tt, heard)
   goes_on_without first now rows (Ok fed) none heard = at fed.event refl heard where
@@ -85,7 +85,7 @@ module _ {W V : Type 0} (story : Story V) (contents : W → Option (List ℕ)) w
 
   -- the sink stopped, at the row that is answered
   pub stops_with : (first now : Told W V) (rows : List Row) (f : RunFault) (fed : Result Fed Fault)
-      → now.failed ≡ Some f → SinkBehind (told_story story contents first) now rows fed
+      → now.failed ≡ Some f → SinkAfter (told_story story contents first) now rows fed
       → (g : Fed) × (fed ≡ Ok g) × (r : Row) × (g.event ≡ event.Row r)
       × HeardRows story contents first now (rows ++ r ∷ []) (Some f) (Err f)
   stops_with first now rows f (Err fault) some heard = absurd (none_some heard.fails some)
@@ -153,7 +153,7 @@ module _ {W V : Type 0} (story : Story V) (contents : W → Option (List ℕ)) w
         is_row = so.3;
         order = order;
         fed_rows =
-            subst (λ (r : Result Fed Fault). FedBehind old.reader.order (events old.reader.order b
+            subst (λ (r : Result Fed Fault). FedAfter old.reader.order (events old.reader.order b
             ++ map event.Row rf.rows) b piece r new.reader) so.1 rf.fed;
         hears = rw (w_is (sym told.visitor), now_is (sym told.output)) told.hears;
       }

@@ -9,7 +9,7 @@ use Rattle.dl_rows.specs.declared.reader.Event.{Event}
 use Rattle.dl_rows.specs.declared.reader.Event.TheVariants as event
 use Rattle.dl_rows.specs.declared.reader.Fed.{Fed}
 use Rattle.dl_rows.specs.LineUnit.{IsUnit, events}
-use Rattle.dl_rows.specs.Reading.{told, EventHoldsBehind, FeedsBehind}
+use Rattle.dl_rows.specs.Reading.{told, EventHoldsAfter, FeedsAfter}
 use Rattle.dl_rows.specs.ReaderStands.{StandsFor}
 use Rattle.dl_run.specs.declared.fault.RunFault.{RunFault}
 use Rattle.dl_rows.specs.declared.sink.Flow.{Flow}
@@ -42,13 +42,13 @@ module _ {S : Type 0} (story : Story S) (order : Order) (t piece : List ℕ) (fi
   abbrev pub visits_of_rows : List Visit
   visits_of_rows = visits_so_far story order t piece first start u new now rest so short v own w after fed r
 
-  fed_so : FeedsBehind StandsFor order (events order so.b ++ map event.Row r.rows) so.b rest fed v.reader
+  fed_so : FeedsAfter StandsFor order (events order so.b ++ map event.Row r.rows) so.b rest fed v.reader
   fed_so = feeds story order t piece first start u new now rest so short v own w after fed r
 
   -- the unit is whole
   pub is_unit : fed.event ≡ event.End → IsUnit order bytes
   is_unit is =
-      (subst (λ (e : Event). EventHoldsBehind order (events order so.b ++ map event.Row r.rows) so.b rest fed.used
+      (subst (λ (e : Event). EventHoldsAfter order (events order so.b ++ map event.Row r.rows) so.b rest fed.used
       e) is fed_so.answered.holds).0
 
   abbrev pub units_after : List (List ℕ)

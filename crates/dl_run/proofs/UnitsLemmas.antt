@@ -117,10 +117,10 @@ module _ (order : Order) (u : SectionUnits) (t : List ℕ) (units : List (List �
       ∙ sym (ap length (concat-push units b))
 
   -- after the unit
-  pub left_behind : (new : SectionUnits) → new.order ≡ order → StandsFor new.reader [] → new.reader.order ≡ order
+  pub left_after : (new : SectionUnits) → new.order ≡ order → StandsFor new.reader [] → new.reader.order ≡ order
       → new.offset ≡ add u.offset (length b) → new.is_foreign ≡ false → new.sequences ≡ 0 → new.rows ≡ 0
       → new.summary ≡ with_unit u.is_foreign u.sequences u.rows u.summary → UnitsAre order new t (units ++ b ∷ []) []
-  left_behind new own stands same offset foreign sequences rows summary = record {
+  left_after new own stands same offset foreign sequences rows summary = record {
     has = all;
     order_is = own;
     reader_order = same;

@@ -15,24 +15,24 @@ module _ {S : Type 0} (story : Story S) (first new : S) (start now : Option (Lis
   stops_before visits more others f s =
       (s.0, s.1 ++ others, ap (λ (l : List Visit). l ++ others) s.2 ∙ append_assoc s.0 s.1 others, s.3)
 
-  pub stops_behind : (visits more others : List Visit) (f : RunFault)
+  pub stops_after : (visits more others : List Visit) (f : RunFault)
       → StopsIn story first new start now (visits ++ more) others f
       → StopsIn story first new start now visits (more ++ others) f
-  stops_behind visits more others f s = (
+  stops_after visits more others f s = (
     more ++ s.0,
     s.1,
     ap (λ (l : List Visit). more ++ l) s.2 ∙ sym (append_assoc more s.0 s.1),
     subst (λ (l : List Visit). Stopped story first new start now l f) (append_assoc visits more s.0) s.3,
   )
 
-  pub ends_behind : (visits more others : List Visit) (result : Result Flow RunFault)
+  pub ends_after : (visits more others : List Visit) (result : Result Flow RunFault)
       → MatchResult result (GoesOn story first new start now ((visits ++ more) ++ others))
       (StopsIn story first new start now (visits ++ more) others)
       → MatchResult result (GoesOn story first new start now (visits ++ (more ++ others)))
       (StopsIn story first new start now visits (more ++ others))
-  ends_behind visits more others (Ok flow) goes =
+  ends_after visits more others (Ok flow) goes =
       subst (λ (l : List Visit). GoesOn story first new start now l flow) (append_assoc visits more others) goes
-  ends_behind visits more others (Err f) stops = stops_behind visits more others f stops
+  ends_after visits more others (Err f) stops = stops_after visits more others f stops
 
 -- the rows that visits tell
 pub rows_after-append : (rows : List Row) (a b : List Visit)

@@ -37,11 +37,11 @@ stop_after offset rows (of_end h ∷ visits) = option_or (end_stop offset rows h
 stop_after offset rows (visit ∷ visits) = stop_after offset rows visits
 
 -- the unit of this header and what stands after it, or nothing where it isn't written
-abbrev pub end_text : Order → List Row → Option HeaderData → (behind : List ℕ) → List ℕ
-end_text order rows None behind = behind
-end_text order rows (Some h) behind =
+abbrev pub end_text : Order → List Row → Option HeaderData → (tail : List ℕ) → List ℕ
+end_text order rows None tail = tail
+end_text order rows (Some h) tail =
     option_map_or (λ f. []) (refusal (with_standard_opcodes h) rows) (unit_of order (with_standard_opcodes h) rows
-    ++ behind)
+    ++ tail)
 
 -- the units before the first that can't be written
 abbrev pub text_after : Order → List Row → List Visit → List ℕ

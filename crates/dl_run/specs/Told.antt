@@ -7,7 +7,7 @@ use Rattle.dl_rows.specs.declared.reader.Event.TheVariants as event
 use Rattle.dl_rows.specs.declared.reader.Fed.{Fed}
 use Rattle.dl_rows.specs.Sinks as sinks
 use Rattle.dl_rows.specs.LineUnit.{events}
-use Rattle.dl_rows.specs.ReaderAnswers.{FedBehind}
+use Rattle.dl_rows.specs.ReaderAnswers.{FedAfter}
 use Rattle.dl_run.specs.declared.fault.RunFault.{RunFault}
 use Rattle.dl_run.specs.declared.section.Told.{Told}
 use Rattle.dl_run.specs.declared.section.SectionUnits.{SectionUnits}
@@ -49,7 +49,7 @@ pub record RowsOf {V : Type 0} (story : Story V) (b piece : List ℕ) (old new :
     (before after : Option (List ℕ)) (fed : Result Fed Fault) : Type 0 where
   pub rows : List Row
   pub order : new.reader.order ≡ old.reader.order
-  pub fed_rows : FedBehind old.reader.order (events old.reader.order b ++ map event.Row rows) b piece fed new.reader
+  pub fed_rows : FedAfter old.reader.order (events old.reader.order b ++ map event.Row rows) b piece fed new.reader
   pub same : new ≡ record old { reader = new.reader; sequences = new.sequences; rows = new.rows }
   pub counts : Counted old.rows old.sequences new.rows new.sequences rows
   pub hears : Hears story v w before after (map of_row rows) (Ok (tt {0}))
@@ -63,7 +63,7 @@ pub record StopsAtRow {V : Type 0} (story : Story V) (b piece : List ℕ) (old n
   pub fed : Fed
   pub is_row : fed.event ≡ event.Row row
   pub order : new.reader.order ≡ old.reader.order
-  pub fed_rows : FedBehind old.reader.order (events old.reader.order b ++ map event.Row rows) b piece
+  pub fed_rows : FedAfter old.reader.order (events old.reader.order b ++ map event.Row rows) b piece
       (Ok fed) new.reader
   pub hears : Hears {A = ⊤} story v w before after (map of_row (rows ++ row ∷ [])) (Err f)
 

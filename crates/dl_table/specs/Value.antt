@@ -4,7 +4,7 @@ use Rattle.std.specs.Prelude.{Some, None, Result, Ok, Err, nat_lt, nat_le, ◌==
 use Rattle.dl_num.specs.declared.fixed.Order.{Order}
 use Rattle.dl_num.specs.Fixed.{fixed}
 use Rattle.dl_num.specs.Leb.{groups}
-use Rattle.dl_num.specs.LebFront.{is_leb, leb_front, behind_leb}
+use Rattle.dl_num.specs.LebFront.{is_leb, leb_front, after_leb}
 use Rattle.dl_table.specs.declared.form.Format.{Format}
 use Rattle.dl_table.specs.declared.form.Format.TheVariants.{Dwarf32, Dwarf64}
 use Rattle.dl_table.specs.declared.form.Form.{Form}
@@ -95,7 +95,7 @@ abbrev pub leb_block_spelt : List ℕ → Judgement Value
 leb_block_spelt w =
     let size = groups (leb_front w) in
     if not (is_leb (leb_front w)) then None else
-    if nat_lt size (2 ^ 64) then (if length (behind_leb w) == size then good (block (behind_leb w)) else None) else
+    if nat_lt size (2 ^ 64) then (if length (after_leb w) == size then good (block (after_leb w)) else None) else
     if is_leb w then bad LebRange else None
 
 -- what w is as a value of the form

@@ -89,10 +89,10 @@ impl HeadReader {
         }
         let bytes = self.inside(piece);
         let format = self.params.format;
-        let Some(behind) = self.table.whole_value(self.order, format, bytes) else {
+        let Some(tail) = self.table.whole_value(self.order, format, bytes) else {
             return 0;
         };
-        let used = bytes.len() - behind.len();
+        let used = bytes.len() - tail.len();
         self.taken += used as u64;
         self.start = self.taken;
         used

@@ -4,7 +4,7 @@ use Rattle.std.specs.Option.{option_or}
 use Rattle.dl_look.specs.Slots.{slot_number}
 use Rattle.dl_look.specs.Ledgers.{answer_upto}
 use Rattle.dl_look.specs.Trails.{row_at, start_of, no_stretch}
-use Rattle.dl_look.proofs.TrailLemmas.{option_or_assoc, row_at-more, start_within, start_behind}
+use Rattle.dl_look.proofs.TrailLemmas.{option_or_assoc, row_at-more, start_within, start_after}
 use Rattle.dl_look.proofs.trail.settle.Goals as goal
 use Rattle.dl_look.proofs.trail.settle.Goals.{then-i-trail, else-i-trail}
 
@@ -16,7 +16,7 @@ loop-i-preserved c =
     let give = c.give.ensures in
     let high = elim c.if-i-trail.branch as (λ b. c.if-i-trail.high ≡ start_of (drop (l.i + 1) trail) c.args.end) [
       | then-i-trail w ↦ w.high-is ∙ sym (start_within trail c.args.end (l.i + 1) (omega arith))
-      | else-i-trail w ↦ w.high-is ∙ sym (start_behind trail c.args.end (l.i + 1) (omega arith))
+      | else-i-trail w ↦ w.high-is ∙ sym (start_after trail c.args.end (l.i + 1) (omega arith))
     ] in
     record {
       sound = give.sound;

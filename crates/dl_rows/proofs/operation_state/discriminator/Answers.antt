@@ -3,7 +3,7 @@ use Rattle.dl_num.specs.declared.fixed.Order.TheVariants.{Little}
 use Rattle.dl_num.proofs.ReadBack.{split_at}
 use Rattle.dl_rows.specs.declared.operation_state.OperationState.TheVariants as phase
 use Rattle.dl_rows.specs.Phases.{PhaseStands}
-use Rattle.dl_rows.proofs.BodyLemmas.{next_front, all_taken, ends_behind, discriminator_more, discriminator_pends}
+use Rattle.dl_rows.proofs.BodyLemmas.{next_front, all_taken, ends_after, discriminator_more, discriminator_pends}
 use Rattle.dl_rows.proofs.BodyLemmas.{discriminator_ends, discriminator_beyond, discriminator_short, discriminator_long}
 use Rattle.dl_rows.proofs.operation_state.discriminator.Goals as goal
 
@@ -30,7 +30,7 @@ pub returns-then-left-le1-clause-step : goal.returns-then-left-le1-clause-step
 returns-then-left-le1-clause-step c order h v s =
     let xs = c.args.bytes.now in
     let i = c.loop-i.i in
-    ends_behind order h v (take i xs) xs _ (slice_index_or xs i 0) _ (split_at xs i c.loop-i-test.true)
+    ends_after order h v (take i xs) xs _ (slice_index_or xs i 0) _ (split_at xs i c.loop-i-test.true)
     (discriminator_long order h c.loop-i.left (slice_index_or xs i 0) c.loop-i.number c.push.new.self (v ++ take i xs)
     (c.loop-i.invariant h v s) c.if-left-le1.true c.in_default.ensures.answer)
 
@@ -39,7 +39,7 @@ returns-in-Ok-clause-step c order h v s =
     let xs = c.args.bytes.now in
     let i = c.loop-i.i in
     let answer = rw c.in-Ok.is at c.in-Some.ensures.answer in
-    ends_behind order h v (take i xs) xs _ (slice_index_or xs i 0) _ (split_at xs i c.loop-i-test.true)
+    ends_after order h v (take i xs) xs _ (slice_index_or xs i 0) _ (split_at xs i c.loop-i-test.true)
     (discriminator_ends order h (slice_index_or xs i 0) c.loop-i.number (v ++ take i xs) c.in-Ok.value
     (subst (λ (z : ℕ). PhaseStands h (phase.Discriminator z c.loop-i.number) (v ++ take i xs)) c.if-left-eq1.true
     (c.loop-i.invariant h v s))
@@ -50,7 +50,7 @@ returns-in-Ok-2-clause-step c order h v s =
     let xs = c.args.bytes.now in
     let i = c.loop-i.i in
     let answer = rw c.in-Ok-2.is at c.in-Some.ensures.answer in
-    ends_behind order h v (take i xs) xs _ (slice_index_or xs i 0) _ (split_at xs i c.loop-i-test.true)
+    ends_after order h v (take i xs) xs _ (slice_index_or xs i 0) _ (split_at xs i c.loop-i-test.true)
     (discriminator_short order h c.loop-i.left (slice_index_or xs i 0) c.loop-i.number
     (v ++ take i xs) c.in-Ok-2.field-0 (c.loop-i.invariant h v s) c.if-left-eq1.false
     (rw c.in-Ok-2.is at c.in-Some.ensures.fits) (λ w t. (answer w t).0))
@@ -60,6 +60,6 @@ returns-in-Err-clause-step c order h v s =
     let xs = c.args.bytes.now in
     let i = c.loop-i.i in
     let answer = rw c.in-Err.is at c.in-Some.ensures.answer in
-    ends_behind order h v (take i xs) xs _ (slice_index_or xs i 0) _ (split_at xs i c.loop-i-test.true)
+    ends_after order h v (take i xs) xs _ (slice_index_or xs i 0) _ (split_at xs i c.loop-i-test.true)
     (discriminator_beyond order h c.loop-i.left (slice_index_or xs i 0) c.loop-i.number
     (v ++ take i xs) c.in-Err.field-0 (c.loop-i.invariant h v s) (λ w t. (answer w t).0))

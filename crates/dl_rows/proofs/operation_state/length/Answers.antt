@@ -8,11 +8,11 @@ returns-in_default-clause-step c v s =
 pub returns-in-Ok-clause-step : goal.returns-in-Ok-clause-step
 returns-in-Ok-clause-step c v s =
     length_read c.args.order c.args.params.now c.args.number c.take_from.new.self v c.args.bytes.now
-    c.in-Some.behind.now c.in-Ok.len c.body.result s
+    c.in-Some.tail.now c.in-Ok.len c.body.result s
     (rw c.in-Ok.is at c.in-Some.ensures.answer) c.body.ensures.step
 
 pub returns-in-Err-clause-step : goal.returns-in-Err-clause-step
 returns-in-Err-clause-step c v s =
     length_beyond c.args.order c.args.params.now c.args.number c.take_from.new.self v c.args.bytes.now
-    c.in-Some.behind.now c.in-Err.field-0 s
+    c.in-Some.tail.now c.in-Err.field-0 s
     (rw c.in-Err.is at c.in-Some.ensures.answer)

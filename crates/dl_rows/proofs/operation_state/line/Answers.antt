@@ -11,12 +11,12 @@ returns-in_default-clause-step c order h v s =
 pub returns-in-Ok-clause-step : goal.returns-in-Ok-clause-step
 returns-in-Ok-clause-step c order h v s =
     let fits = rw c.in-Ok.is at c.in-Some.ensures.fits in
-    subst (λ (z : ℤ). EndsAs order h v c.args.bytes.now c.in-Some.behind.now (Ok (op.AdvanceLine z)))
+    subst (λ (z : ℤ). EndsAs order h v c.args.bytes.now c.in-Some.tail.now (Ok (op.AdvanceLine z)))
     (sym (to_z-of_z w64 c.in-Ok.lines (signed_fits c.in-Ok.lines fits)))
-    (line_ends order h c.args.number c.take_from.new.self v c.args.bytes.now c.in-Some.behind.now c.in-Ok.lines fits s
+    (line_ends order h c.args.number c.take_from.new.self v c.args.bytes.now c.in-Some.tail.now c.in-Ok.lines fits s
     (rw c.in-Ok.is at c.in-Some.ensures.answer))
 
 pub returns-in-Err-clause-step : goal.returns-in-Err-clause-step
 returns-in-Err-clause-step c order h v s =
-    line_refuses order h c.args.number c.take_from.new.self v c.args.bytes.now c.in-Some.behind.now c.in-Err.field-0 s
+    line_refuses order h c.args.number c.take_from.new.self v c.args.bytes.now c.in-Some.tail.now c.in-Err.field-0 s
     (rw c.in-Err.is at c.in-Some.ensures.answer)

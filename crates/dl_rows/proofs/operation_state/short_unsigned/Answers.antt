@@ -4,7 +4,7 @@ use Rattle.dl_rows.proofs.operation_state.short_unsigned.Goals as goal
 pub returns : goal.returns
 returns c = record {
   operation =
-      λ order h below. short_unsigned order h c.args.opcode c.args.bytes.now c.in_ok-operand.behind.now
+      λ order h below. short_unsigned order h c.args.opcode c.args.bytes.now c.in_ok-operand.tail.now
       c.in_ok-operand.operand c.operation.result below
       c.in_ok-operand.ensures.fits c.in_ok-operand.ensures.number c.operation.ensures.value;
 }

@@ -8,5 +8,5 @@ returns-in-Some-without_operand-clause-step c =
 
 pub returns-in-None-clause-step : goal.returns-in-None-clause-step
 returns-in-None-clause-step c =
-    step_from c.args.order c.args.params.now [] (c.in-Some.opcode.now ∷ []) c.in-Some.behind.now c.args.bytes.now
+    step_from c.args.order c.args.params.now [] (c.in-Some.opcode.now ∷ []) c.in-Some.tail.now c.args.bytes.now
     c.operand.result c.in-Some.ensures.cases.0 c.operand.ensures.step

@@ -18,7 +18,7 @@ returns-in_ok-held-in-Number c =
     let at = c.in-Value.at in
     value_entered c.args.order old c.enter_front.new.self at (value.Number c.in-Number.form c.in-Number.number)
     c.in_ok-held-in-Number.held c.args.format
-    c.args.bytes.now c.in_ok-held-in-Number.behind.now c.enter_front.result
+    c.args.bytes.now c.in_ok-held-in-Number.tail.now c.enter_front.result
     (c.in-Value.is ∙ ap (λ (v : ValuePhase). phase.Value at v) c.in-Number.is)
     (λ last.
     let is_last = c.is_last.ensures.1 (subst (λ (n : ℕ). IsLast at n) (sym (c.len.ensures ∙ old.pairs.ok.0)) last) in
@@ -32,7 +32,7 @@ returns-in_ok-held-in-Leb c =
     let at = c.in-Value.at in
     value_entered c.args.order old c.enter_front-in-Leb.new.self at (value.Leb c.in-Leb.number) c.in_ok-held-in-Leb.held
     c.args.format
-    c.args.bytes.now c.in_ok-held-in-Leb.behind.now c.enter_front-in-Leb.result
+    c.args.bytes.now c.in_ok-held-in-Leb.tail.now c.enter_front-in-Leb.result
     (c.in-Value.is ∙ ap (λ (v : ValuePhase). phase.Value at v) c.in-Leb.is)
     (λ last.
     let is_last = c.is_last.ensures.1 (subst (λ (n : ℕ). IsLast at n) (sym (c.len.ensures ∙ old.pairs.ok.0)) last) in
@@ -46,7 +46,7 @@ returns-in_ok-held-in-Data16 c =
     let at = c.in-Value.at in
     value_entered c.args.order old c.enter_front-in-Data16.new.self at (value.Data16 c.in-Data16.sixteen)
     c.in_ok-held-in-Data16.held c.args.format
-    c.args.bytes.now c.in_ok-held-in-Data16.behind.now c.enter_front-in-Data16.result
+    c.args.bytes.now c.in_ok-held-in-Data16.tail.now c.enter_front-in-Data16.result
     (c.in-Value.is ∙ ap (λ (v : ValuePhase). phase.Value at v) c.in-Data16.is)
     (λ last.
     let is_last = c.is_last.ensures.1 (subst (λ (n : ℕ). IsLast at n) (sym (c.len.ensures ∙ old.pairs.ok.0)) last) in

@@ -22,7 +22,7 @@ returns-in-Some-clause-follows c =
           table_ends old _ mid d items rest c.args.byte c.push-next.result next
           (at_phase old _ items rest c.requires at) c.push-next.ensures taken.0 (taken.2 next)
           (record { order = refl; format = refl; unit_length = refl; end = refl; overrun = refl })
-          (λ is behind. behind);
+          (λ is tail. tail);
       cells = λ items rest at.
           let a = at_phase old _ items rest c.requires at in
           let kept = table_kept old mid d items rest c.args.byte c.push-next.result next a c.push-next.ensures taken.0

@@ -14,7 +14,7 @@ returns-then-is_wrong_length-clause-follows c = record {
   made = λ items rest at.
       let a = at_phase c.args.self.now _ items rest c.requires at in
       let p = c.args.self.now.params in
-      length_judged c.args.self.now.order p items rest c.args.byte a.0.behind.follows
+      length_judged c.args.self.now.order p items rest c.args.byte a.0.tail.follows
       (some_left c.args.self.now c.requires) a.1
       ∙ ap (λ (n : ℕ). judged (objection (opcode_length (n + 1)) c.args.byte) c.args.byte)
       (sym c.len-opcode.ensures.value)
@@ -28,7 +28,7 @@ returns-clause-follows c = record {
       let a = at_phase c.args.self.now _ items rest c.requires at in
       let p = c.args.self.now.params in (
         number_is c.args.byte,
-        length_judged c.args.self.now.order p items rest c.args.byte a.0.behind.follows
+        length_judged c.args.self.now.order p items rest c.args.byte a.0.tail.follows
             (some_left c.args.self.now c.requires) a.1
             ∙ ap (λ (n : ℕ). judged (objection (opcode_length (n + 1)) c.args.byte) c.args.byte)
             (sym c.len-opcode.ensures.value)

@@ -28,7 +28,7 @@ pub invariant_of-self-2-clause-read : goal.invariant_of-self-2-clause-read
 invariant_of-self-2-clause-read c =
     let old = c.args.self.now in
     let v = c.in-Some.ensures in
-    let bytes = front_is_bytes c.args.piece.now c.inside-bytes.result.now v.front c.in-Some.behind.now
+    let bytes = front_is_bytes c.args.piece.now c.inside-bytes.result.now v.front c.in-Some.tail.now
     c.inside-bytes.ensures.inside.len c.inside-bytes.ensures.inside.bytes_are v.bytes_are
     (λ i lt. omega (arith, c.type_inv.piece i)) in
     stands_on old.phase old.order old.params.format old.table c.whole_value.new.self
@@ -40,7 +40,7 @@ pub returns-clause-takes : goal.returns-clause-takes
 returns-clause-takes c b s more =
     let old = c.args.self.now in
     let table = sym c.is_table.ensures ∙ c.if-not-is_table.false in
-    value_whole old _ b c.args.piece.now c.inside-bytes.result.now c.in-Some.behind.now table
+    value_whole old _ b c.args.piece.now c.inside-bytes.result.now c.in-Some.tail.now table
     (table_goes old.phase table) c.inside-bytes.ensures.inside c.in-Some.ensures
     (record { order = refl; format = refl; unit_length = refl; end = refl; overrun = refl })
     (λ is w now. phase_of_table _ old.phase is w table now) refl refl refl (omega (arith, c.inside-bytes.ensures.fits)) s

@@ -27,12 +27,12 @@ loop-operation-preserved-in-On g c = record {
       let at = c.loop-operation.invariant.between ∙ c.is_between.ensures.phase c.if-not-is_between.false in
       let o = c.in-Some.ensures.operation in
       tell_row (g.S.RowSink.story first) c.args.order c.args.params.now b c.args.bytes.now before c.loop-operation.self
-      c.loop-operation.bytes.now c.in-Some.behind.now c.loop-operation.sink c.row.new.self c.finish.new.self
+      c.loop-operation.bytes.now c.in-Some.tail.now c.loop-operation.sink c.row.new.self c.finish.new.self
       c.in-Some-finish.row t
       (walk_row c.args.order c.args.params.now (b ++ t.told.done) t.since c.loop-operation.bytes.now o.0
-      c.in-Some.behind.now c.loop-operation.self c.finish.new.self c.in-Some-finish.row t.walked o.1
+      c.in-Some.tail.now c.loop-operation.self c.finish.new.self c.in-Some-finish.row t.walked o.1
       (walk_turns_whole c.args.order c.args.params.now (b ++ t.told.done) t.since c.loop-operation.bytes.now o.0
-      c.in-Some.behind.now c.loop-operation.self c.finish.new.self c.in-Some.operation _ t.walked fits bytes at o.1
+      c.in-Some.tail.now c.loop-operation.self c.finish.new.self c.in-Some.operation _ t.walked fits bytes at o.1
       o.2
       c.in-Some-finish.ensures.finishes c.finish.ensures.phase c.finish.ensures.begun))
       (c.in-On.ensures first (before ++ t.rows) t.hears));
@@ -49,9 +49,9 @@ returns-in-Stop-clause-told g c b before first fits all s hears =
       since = t.since;
       told = t.told;
       gives = walk_row c.args.order c.args.params.now (b ++ t.told.done) t.since c.loop-operation.bytes.now o.0
-          c.in-Some.behind.now c.loop-operation.self c.finish.new.self c.in-Some-finish.row t.walked o.1
+          c.in-Some.tail.now c.loop-operation.self c.finish.new.self c.in-Some-finish.row t.walked o.1
           (walk_turns_whole c.args.order c.args.params.now (b ++ t.told.done) t.since c.loop-operation.bytes.now o.0
-          c.in-Some.behind.now c.loop-operation.self c.finish.new.self c.in-Some.operation _ t.walked fits bytes at
+          c.in-Some.tail.now c.loop-operation.self c.finish.new.self c.in-Some.operation _ t.walked fits bytes at
           o.1 o.2
           c.in-Some-finish.ensures.finishes c.finish.ensures.phase c.finish.ensures.begun);
       sink = c.in-Stop.ensures first (before ++ t.rows) t.hears;
@@ -67,11 +67,11 @@ loop-operation-preserved g c = record {
       let at = c.loop-operation.invariant.between ∙ c.is_between.ensures.phase c.if-not-is_between.false in
       let o = c.in-Some.ensures.operation in
       tell_on (g.S.RowSink.story first) c.args.order c.args.params.now b c.args.bytes.now before c.loop-operation.self
-      c.finish.new.self c.loop-operation.bytes.now c.in-Some.behind.now c.loop-operation.sink t
+      c.finish.new.self c.loop-operation.bytes.now c.in-Some.tail.now c.loop-operation.sink t
       (walk_on c.args.order c.args.params.now (b ++ t.told.done) t.since c.loop-operation.bytes.now o.0
-      c.in-Some.behind.now c.loop-operation.self c.finish.new.self t.walked o.1
+      c.in-Some.tail.now c.loop-operation.self c.finish.new.self t.walked o.1
       (walk_turns_whole c.args.order c.args.params.now (b ++ t.told.done) t.since c.loop-operation.bytes.now o.0
-      c.in-Some.behind.now c.loop-operation.self c.finish.new.self c.in-Some.operation None t.walked fits bytes at
+      c.in-Some.tail.now c.loop-operation.self c.finish.new.self c.in-Some.operation None t.walked fits bytes at
       o.1 o.2
       (rw c.in_default-finish.is at c.finish.ensures.finishes) c.finish.ensures.phase c.finish.ensures.begun)));
 }

@@ -18,7 +18,7 @@ pub returns-in-Row-clause-given : goal.returns-in-Row-clause-given
 returns-in-Row-clause-given g c b before first fits all s hears =
     tells_after (g.S.RowSink.story first) c.args.order c.args.params.now b c.args.bytes.now before c.loop-bytes.self
     c.loop-bytes.bytes.now c.loop-bytes.sink c.short_operations.new.sink c.short_operations.new.self
-    (c.loop-bytes.invariant.tells b before first fits all s hears) (given.Row c.in-Row.row c.in-Row.behind) all
+    (c.loop-bytes.invariant.tells b before first fits all s hears) (given.Row c.in-Row.row c.in-Row.tail) all
     (λ v heard bytes stands told. c.in-Row.ensures.told v heard first fits bytes stands told)
 
 pub returns-in-Within-clause-given : goal.returns-in-Within-clause-given
@@ -26,14 +26,14 @@ returns-in-Within-clause-given g c b before first fits all s hears =
     let t = tell_after (g.S.RowSink.story first) c.args.order c.args.params.now b c.args.bytes.now before
     c.loop-bytes.self c.loop-bytes.bytes.now c.loop-bytes.sink c.short_operations.new.sink
     c.short_operations.new.self
-    (c.loop-bytes.invariant.tells b before first fits all s hears) c.in-UpTo.behind.now all
+    (c.loop-bytes.invariant.tells b before first fits all s hears) c.in-UpTo.tail.now all
     (λ v heard bytes stands told. c.in-UpTo.ensures.told v heard first fits bytes stands told) in
     let bytes = since_bytes c.args.order c.args.params.now b c.args.bytes.now t.rows t.since t.told all in
     record {
       rows = t.rows;
       since = t.since;
       told = t.told;
-      gives = walk_within c.args.order c.args.params.now (b ++ t.told.done) t.since c.in-UpTo.behind.now
+      gives = walk_within c.args.order c.args.params.now (b ++ t.told.done) t.since c.in-UpTo.tail.now
           c.short_operations.new.self c.in-Within.phase _ t.walked bytes
           (c.in-Within.ensures.step t.walked.stands.begun t.walked.stands.phase) c.saturating_add-self.ensures;
       sink = t.hears;
@@ -46,17 +46,17 @@ loop-bytes-preserved-in-On g c = record {
       let t = tell_after (g.S.RowSink.story first) c.args.order c.args.params.now b c.args.bytes.now before
       c.loop-bytes.self c.loop-bytes.bytes.now c.loop-bytes.sink c.short_operations.new.sink
       c.short_operations.new.self
-      (c.loop-bytes.invariant.tells b before first fits all s hears) c.in-UpTo.behind.now all
+      (c.loop-bytes.invariant.tells b before first fits all s hears) c.in-UpTo.tail.now all
       (λ v heard bytes stands told. c.in-UpTo.ensures.told v heard first fits bytes stands told) in
       let bytes = since_bytes c.args.order c.args.params.now b c.args.bytes.now t.rows t.since t.told all in
       let o = c.in-Ends.ensures.step t.walked.stands.begun t.walked.stands.phase in
       tell_row (g.S.RowSink.story first) c.args.order c.args.params.now b c.args.bytes.now before
-      c.short_operations.new.self c.in-UpTo.behind.now c.in-Ends.behind.now c.short_operations.new.sink
+      c.short_operations.new.self c.in-UpTo.tail.now c.in-Ends.tail.now c.short_operations.new.sink
       c.row.new.self c.finish.new.self c.in-Some.row t
-      (walk_row c.args.order c.args.params.now (b ++ t.told.done) t.since c.in-UpTo.behind.now o.0 c.in-Ends.behind.now
+      (walk_row c.args.order c.args.params.now (b ++ t.told.done) t.since c.in-UpTo.tail.now o.0 c.in-Ends.tail.now
       c.short_operations.new.self c.finish.new.self c.in-Some.row t.walked o.1
-      (walk_turns c.args.order c.args.params.now (b ++ t.told.done) t.since c.in-UpTo.behind.now o.0
-      c.in-Ends.behind.now c.short_operations.new.self c.finish.new.self c.in-Ends.operation _ t.walked fits bytes
+      (walk_turns c.args.order c.args.params.now (b ++ t.told.done) t.since c.in-UpTo.tail.now o.0
+      c.in-Ends.tail.now c.short_operations.new.self c.finish.new.self c.in-Ends.operation _ t.walked fits bytes
       o.1 o.2
       c.in-Some.ensures.finishes c.finish.ensures.phase c.finish.ensures.begun))
       (c.in-On.ensures first (before ++ t.rows) t.hears));
@@ -67,7 +67,7 @@ returns-in-Stop-clause-given g c b before first fits all s hears =
     let t = tell_after (g.S.RowSink.story first) c.args.order c.args.params.now b c.args.bytes.now before
     c.loop-bytes.self c.loop-bytes.bytes.now c.loop-bytes.sink c.short_operations.new.sink
     c.short_operations.new.self
-    (c.loop-bytes.invariant.tells b before first fits all s hears) c.in-UpTo.behind.now all
+    (c.loop-bytes.invariant.tells b before first fits all s hears) c.in-UpTo.tail.now all
     (λ v heard bytes stands told. c.in-UpTo.ensures.told v heard first fits bytes stands told) in
     let bytes = since_bytes c.args.order c.args.params.now b c.args.bytes.now t.rows t.since t.told all in
     let o = c.in-Ends.ensures.step t.walked.stands.begun t.walked.stands.phase in
@@ -75,10 +75,10 @@ returns-in-Stop-clause-given g c b before first fits all s hears =
       rows = t.rows;
       since = t.since;
       told = t.told;
-      gives = walk_row c.args.order c.args.params.now (b ++ t.told.done) t.since c.in-UpTo.behind.now o.0
-          c.in-Ends.behind.now c.short_operations.new.self c.finish.new.self c.in-Some.row t.walked o.1
-          (walk_turns c.args.order c.args.params.now (b ++ t.told.done) t.since c.in-UpTo.behind.now o.0
-          c.in-Ends.behind.now c.short_operations.new.self c.finish.new.self c.in-Ends.operation _ t.walked fits
+      gives = walk_row c.args.order c.args.params.now (b ++ t.told.done) t.since c.in-UpTo.tail.now o.0
+          c.in-Ends.tail.now c.short_operations.new.self c.finish.new.self c.in-Some.row t.walked o.1
+          (walk_turns c.args.order c.args.params.now (b ++ t.told.done) t.since c.in-UpTo.tail.now o.0
+          c.in-Ends.tail.now c.short_operations.new.self c.finish.new.self c.in-Ends.operation _ t.walked fits
           bytes o.1 o.2
           c.in-Some.ensures.finishes c.finish.ensures.phase c.finish.ensures.begun);
       sink = c.in-Stop.ensures first (before ++ t.rows) t.hears;
@@ -91,17 +91,17 @@ loop-bytes-preserved g c = record {
       let t = tell_after (g.S.RowSink.story first) c.args.order c.args.params.now b c.args.bytes.now before
       c.loop-bytes.self c.loop-bytes.bytes.now c.loop-bytes.sink c.short_operations.new.sink
       c.short_operations.new.self
-      (c.loop-bytes.invariant.tells b before first fits all s hears) c.in-UpTo.behind.now all
+      (c.loop-bytes.invariant.tells b before first fits all s hears) c.in-UpTo.tail.now all
       (λ v heard bytes stands told. c.in-UpTo.ensures.told v heard first fits bytes stands told) in
       let bytes = since_bytes c.args.order c.args.params.now b c.args.bytes.now t.rows t.since t.told all in
       let o = c.in-Ends.ensures.step t.walked.stands.begun t.walked.stands.phase in
       tell_on (g.S.RowSink.story first) c.args.order c.args.params.now b c.args.bytes.now before
-      c.short_operations.new.self c.finish.new.self c.in-UpTo.behind.now c.in-Ends.behind.now
+      c.short_operations.new.self c.finish.new.self c.in-UpTo.tail.now c.in-Ends.tail.now
       c.short_operations.new.sink t
-      (walk_on c.args.order c.args.params.now (b ++ t.told.done) t.since c.in-UpTo.behind.now o.0 c.in-Ends.behind.now
+      (walk_on c.args.order c.args.params.now (b ++ t.told.done) t.since c.in-UpTo.tail.now o.0 c.in-Ends.tail.now
       c.short_operations.new.self c.finish.new.self t.walked o.1
-      (walk_turns c.args.order c.args.params.now (b ++ t.told.done) t.since c.in-UpTo.behind.now o.0
-      c.in-Ends.behind.now c.short_operations.new.self c.finish.new.self c.in-Ends.operation None t.walked fits
+      (walk_turns c.args.order c.args.params.now (b ++ t.told.done) t.since c.in-UpTo.tail.now o.0
+      c.in-Ends.tail.now c.short_operations.new.self c.finish.new.self c.in-Ends.operation None t.walked fits
       bytes o.1 o.2
       (rw c.in_default.is at c.finish.ensures.finishes) c.finish.ensures.phase c.finish.ensures.begun)));
 }
@@ -111,7 +111,7 @@ returns-in-Refuses-clause-given g c b before first fits all s hears =
     let t = tell_after (g.S.RowSink.story first) c.args.order c.args.params.now b c.args.bytes.now before
     c.loop-bytes.self c.loop-bytes.bytes.now c.loop-bytes.sink c.short_operations.new.sink
     c.short_operations.new.self
-    (c.loop-bytes.invariant.tells b before first fits all s hears) c.in-UpTo.behind.now all
+    (c.loop-bytes.invariant.tells b before first fits all s hears) c.in-UpTo.tail.now all
     (λ v heard bytes stands told. c.in-UpTo.ensures.told v heard first fits bytes stands told) in
     let bytes = since_bytes c.args.order c.args.params.now b c.args.bytes.now t.rows t.since t.told all in
     let o = c.in-Refuses.ensures.step t.walked.stands.begun t.walked.stands.phase in
@@ -119,8 +119,8 @@ returns-in-Refuses-clause-given g c b before first fits all s hears =
       rows = t.rows;
       since = t.since;
       told = t.told;
-      gives = walk_refuses c.args.order c.args.params.now (b ++ t.told.done) t.since c.in-UpTo.behind.now
-          c.short_operations.new.self c.in-Refuses.kind c.in-Refuses.behind.now _ t.walked o.0 o.1 o.2
+      gives = walk_refuses c.args.order c.args.params.now (b ++ t.told.done) t.since c.in-UpTo.tail.now
+          c.short_operations.new.self c.in-Refuses.kind c.in-Refuses.tail.now _ t.walked o.0 o.1 o.2
           c.saturating_add-self-in-Refuses.ensures;
       sink = t.hears;
     }

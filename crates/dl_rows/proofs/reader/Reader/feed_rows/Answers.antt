@@ -1,12 +1,12 @@
 use Rattle.std.proofs.Common.{Ok, refl, sym}
-use Rattle.dl_rows.proofs.ReaderFeeds.{rows_stopped, feeds_foreign, feeds_body, no_rows, sink_behind, no_row_paused}
+use Rattle.dl_rows.proofs.ReaderFeeds.{rows_stopped, feeds_foreign, feeds_body, no_rows, sink_after, no_row_paused}
 use Rattle.dl_rows.proofs.reader.Reader.feed_rows.Goals as goal
 
 pub returns-in-InHeader-clause-fed : goal.returns-in-InHeader-clause-fed
 returns-in-InHeader-clause-fed g c b before first s hears =
     no_rows (g.S.RowSink.story first) c.args.self.now.order b c.args.piece.now before c.feed_head.result
     c.feed_head.new.self c.args.sink.now (c.feed_head.ensures.fed b s)
-    (sink_behind (g.S.RowSink.story first) c.args.sink.now before c.feed_head.result c.feed_head.ensures.no_row hears)
+    (sink_after (g.S.RowSink.story first) c.args.sink.now before c.feed_head.result c.feed_head.ensures.no_row hears)
 
 pub returns-in-StoppedInHeader-clause-fed : goal.returns-in-StoppedInHeader-clause-fed
 returns-in-StoppedInHeader-clause-fed g c b before first s hears =
@@ -20,7 +20,7 @@ returns-in-Foreign-clause-fed g c b before first s hears =
     (feeds_foreign c.args.self.now _ c.in-Foreign.bytes c.pass_over.new.self b c.args.piece.now c.pass_over.result
     c.in-Foreign.is refl refl s
     (λ version in_foreign. c.pass_over.ensures.fed c.args.self.now.order version b in_foreign))
-    (sink_behind (g.S.RowSink.story first) c.args.sink.now before (Ok c.pass_over.result)
+    (sink_after (g.S.RowSink.story first) c.args.sink.now before (Ok c.pass_over.result)
     (no_row_paused c.pass_over.result.event c.pass_over.ensures.pause) hears)
 
 pub returns-in-AfterHeader-clause-fed : goal.returns-in-AfterHeader-clause-fed

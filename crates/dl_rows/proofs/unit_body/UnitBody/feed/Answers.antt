@@ -17,7 +17,7 @@ returns-in-Row-clause-fed g c h b before first e is hears =
           c.push.new.self;
       bytes =
           c.count.new.self;
-    }) b c.args.piece.now c.front-bytes.result.now before (given.Row c.in-Row.row c.in-Row.behind)
+    }) b c.args.piece.now c.front-bytes.result.now before (given.Row c.in-Row.row c.in-Row.tail)
     c.push.new.self c.push.new.sink is e c.front-bytes.ensures all
     refl (λ d fits bytes stands. c.in-Row.ensures.given d before first fits bytes stands hears) in
     record {
@@ -26,11 +26,11 @@ returns-in-Row-clause-fed g c h b before first e is hears =
         program = c.push.new.self;
         bytes =
             c.count.new.self;
-      }) b c.args.piece.now c.in-Row.behind.now t.rows c.in-Row.row
-          (length c.front-bytes.result.now - length c.in-Row.behind.now) is
-          (flat_row c.args.order h is.program _ t.rows t.since c.in-Row.row c.in-Row.behind.now c.push.new.self t.told
+      }) b c.args.piece.now c.in-Row.tail.now t.rows c.in-Row.row
+          (length c.front-bytes.result.now - length c.in-Row.tail.now) is
+          (flat_row c.args.order h is.program _ t.rows t.since c.in-Row.row c.in-Row.tail.now c.push.new.self t.told
           t.gives)
-          (ap (λ (w : List ℕ). length w - length c.in-Row.behind.now) c.front-bytes.ensures) c.count.ensures.taken
+          (ap (λ (w : List ℕ). length w - length c.in-Row.tail.now) c.front-bytes.ensures) c.count.ensures.taken
           c.count.ensures.left;
       sink = t.sink;
     }
@@ -44,7 +44,7 @@ returns-in-Refuses-clause-fed g c h b before first e is hears =
       bytes =
           c.count-in-Refuses.new.self;
     }) b c.args.piece.now c.front-bytes.result.now before
-    (given.Refuses c.in-Refuses.kind c.in-Refuses.behind) c.push.new.self c.push.new.sink is e c.front-bytes.ensures
+    (given.Refuses c.in-Refuses.kind c.in-Refuses.tail) c.push.new.self c.push.new.sink is e c.front-bytes.ensures
     all
     refl (λ d fits bytes stands. c.in-Refuses.ensures.given d before first fits bytes stands hears) in
     record {
@@ -53,11 +53,11 @@ returns-in-Refuses-clause-fed g c h b before first e is hears =
         program = c.push.new.self;
         bytes =
             c.count-in-Refuses.new.self;
-      }) b c.args.piece.now c.in-Refuses.behind.now t.rows c.in-Refuses.kind
-          c.fault-in-Refuses.result (length c.front-bytes.result.now - length c.in-Refuses.behind.now) is
-          (flat_bad c.args.order h is.program _ t.rows t.since c.in-Refuses.kind c.in-Refuses.behind.now c.push.new.self
+      }) b c.args.piece.now c.in-Refuses.tail.now t.rows c.in-Refuses.kind
+          c.fault-in-Refuses.result (length c.front-bytes.result.now - length c.in-Refuses.tail.now) is
+          (flat_bad c.args.order h is.program _ t.rows t.since c.in-Refuses.kind c.in-Refuses.tail.now c.push.new.self
           t.told t.gives)
-          (ap (λ (w : List ℕ). length w - length c.in-Refuses.behind.now) c.front-bytes.ensures)
+          (ap (λ (w : List ℕ). length w - length c.in-Refuses.tail.now) c.front-bytes.ensures)
           c.count-in-Refuses.ensures.taken c.count-in-Refuses.ensures.left c.fault-in-Refuses.ensures;
       sink = t.sink;
     }

@@ -6,7 +6,7 @@ use Rattle.dl_run.specs.RowsTold.{rows_after}
 use Rattle.dl_run.specs.Section.{of_end}
 use Rattle.dl_print.specs.Text.{row_line}
 use Rattle.dl_print.specs.ValueText.{strings_of}
-use Rattle.dl_run.proofs.SeekerLemmas.{seeks_behind, has_found, stops_printing, no_answer, no_header}
+use Rattle.dl_run.proofs.SeekerLemmas.{seeks_after, has_found, stops_printing, no_answer, no_header}
 use Rattle.dl_print.proofs.Outs.{TellsOut-more}
 use Rattle.dl_run.proofs.finding.SeekerVisitor.end.Goals.{in_default-via-in-Some+in_default, in_default-via-in_default}
 use Rattle.dl_run.proofs.finding.SeekerVisitor.end.Goals as goal
@@ -20,7 +20,7 @@ returns-in_default g c first start visits s =
       | in_default-via-in-Some+in_default w ↦ no_header first.place rows c.args.header w.in_default.is-1
       | in_default-via-in_default w ↦ no_answer first.place rows c.args.header (sym answers ∙ w.in_default.is-0)
     ] in
-    seeks_behind first c.args.self.now new start (g.W.Write.contents c.args.output.now) visits c.args.header s
+    seeks_after first c.args.self.now new start (g.W.Write.contents c.args.output.now) visits c.args.header s
     (record { place = refl; strings = refl }) s.not_found refl none c.new-self.ensures
 
 pub returns-in_err-file : goal.returns-in_err-file

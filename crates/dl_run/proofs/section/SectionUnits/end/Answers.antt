@@ -5,7 +5,7 @@ use Rattle.dl_field.specs.HeaderData.{HeaderData}
 use Rattle.dl_rows.specs.LineUnit.{ends_open, unit_rows}
 use Rattle.dl_run.specs.Section.{of_end, header_of, open_visit}
 use Rattle.dl_run.specs.Visiting.{GoesOn, StopsIn}
-use Rattle.dl_run.proofs.VisitLemmas.{stops_before, ends_behind}
+use Rattle.dl_run.proofs.VisitLemmas.{stops_before, ends_after}
 use Rattle.dl_run.proofs.section.SectionUnits.end.Goals as goal
 
 pub returns-in_err-close-clause-heard : goal.returns-in_err-close-clause-heard
@@ -30,4 +30,4 @@ returns-clause-heard g c b stands first start visits tells =
     (StopsIn story first c.end.new.self start now (visits ++ more) (of_end h ∷ [])))
     (c.next_unit.ensures.header b stands)
     (c.end.ensures first start (visits ++ more) (c.in_ok-close.ensures b stands first start visits tells)) in
-    ends_behind story first c.end.new.self start now visits more (of_end (header_of order b) ∷ []) c.end.result heard
+    ends_after story first c.end.new.self start now visits more (of_end (header_of order b) ∷ []) c.end.result heard

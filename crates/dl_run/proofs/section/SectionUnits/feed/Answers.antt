@@ -136,7 +136,7 @@ events-preserved-in-On g c = record {
       r.order w after c.in-Ok.fed r)
       (rows_told story order t c.args.piece.now first start l.self l.visitor before l.rest.now so short v r.order w
       after c.in-Ok.fed r) in
-      let behind = c.in_ok-end-in-End.ensures.units order _ so.units _
+      let tail = c.in_ok-end-in-End.ensures.units order _ so.units _
       (are_ended story order t c.args.piece.now first start l.self l.visitor before l.rest.now so short v r.order w
       after c.in-Ok.fed r c.in-End.is)
       (is_unit story order t c.args.piece.now first start l.self l.visitor before l.rest.now so short v r.order w
@@ -144,7 +144,7 @@ events-preserved-in-On g c = record {
       (still_small story order t c.args.piece.now first start l.self l.visitor before l.rest.now so short v r.order
       w after c.in-Ok.fed r) in
       next_unit story order t c.args.piece.now first start l.self l.visitor before l.rest.now so short v r.order w after
-      c.in-Ok.fed r c.in-End.is c.end.new.visitor (g.W.Write.contents c.end.new.output) c.end.new.self behind
+      c.in-Ok.fed r c.in-End.is c.end.new.visitor (g.W.Write.contents c.end.new.output) c.end.new.self tail
       c.in_ok-end-in-End.field-0 c.in-On.is heard;
 }
 
@@ -165,14 +165,14 @@ returns-in-Stop g c order t units b first start are short tells =
     (visits_so_far story order t c.args.piece.now first start l.self l.visitor before l.rest.now so short v r.order
     w after c.in-Ok.fed r) (rows_told story order t c.args.piece.now first start l.self l.visitor before l.rest.now
     so short v r.order w after c.in-Ok.fed r) in
-    let behind = c.in_ok-end-in-End.ensures.units order _ so.units _
+    let tail = c.in_ok-end-in-End.ensures.units order _ so.units _
     (are_ended story order t c.args.piece.now first start l.self l.visitor before l.rest.now so short v r.order w
     after c.in-Ok.fed r c.in-End.is)
     (is_unit story order t c.args.piece.now first start l.self l.visitor before l.rest.now so short v r.order w
     after c.in-Ok.fed r c.in-End.is) (still_small story order t c.args.piece.now first start l.self l.visitor before
     l.rest.now so short v r.order w after c.in-Ok.fed r) in
     no_more story order t c.args.piece.now first start l.self l.visitor before l.rest.now so short v r.order w after
-    c.in-Ok.fed r c.in-End.is c.end.new.visitor (g.W.Write.contents c.end.new.output) c.end.new.self behind
+    c.in-Ok.fed r c.in-End.is c.end.new.visitor (g.W.Write.contents c.end.new.output) c.end.new.self tail
     c.in_ok-end-in-End.field-0 c.in-Stop.is heard
 
 pub events-preserved : goal.events-preserved

@@ -2,7 +2,7 @@ use Rattle.std.proofs.Common.{refl, sym, ap, subst, ◌∙◌, ℕ, []}
 use Rattle.dl_rows.specs.declared.reader.Reader.{Reader}
 use Rattle.dl_rows.specs.ReaderStands.{StandsFor}
 use Rattle.dl_print.specs.Counts.{add}
-use Rattle.dl_run.proofs.UnitsLemmas.{header_is, left_behind}
+use Rattle.dl_run.proofs.UnitsLemmas.{header_is, left_after}
 use Rattle.dl_run.proofs.section.SectionUnits.next_unit.Goals as goal
 
 pub returns-clause-header : goal.returns-clause-header
@@ -14,7 +14,7 @@ returns-clause-units c order t units b are is short =
     let u = c.args.self.now in
     let taken = c.taken.ensures.bytes b
     (subst (λ (r : Reader). StandsFor r b) (sym c.replace-reader.ensures.value) are.stands) in
-    left_behind order u t units b are is short _ are.order_is
+    left_after order u t units b are is short _ are.order_is
     (subst (λ (r : Reader). StandsFor r []) (sym c.replace-reader.ensures.after) c.new.ensures.stands)
     (ap (λ (r : Reader). r.order) c.replace-reader.ensures.after ∙ c.new.ensures.order ∙ are.order_is)
     (c.saturating_add-self.ensures ∙ ap (λ (n : ℕ). add u.offset n) taken)

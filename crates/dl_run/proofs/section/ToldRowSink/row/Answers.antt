@@ -1,6 +1,6 @@
 use Rattle.std.proofs.Common.{arith, refl}
 use Rattle.std.proofs.lemmas.Grind.{common_steps}
-use Rattle.dl_run.proofs.ToldLemmas.{stops_behind, counts_more}
+use Rattle.dl_run.proofs.ToldLemmas.{stops_after, counts_more}
 use Rattle.dl_run.proofs.section.ToldRowSink.row.Goals as goal
 
 pub returns-in-Err : goal.returns-in-Err
@@ -14,7 +14,7 @@ returns-in-Err g c first rows told = (
         c.saturating_add-self.result c.saturating_add-self-2.result rows c.args.row.now told.counts
         c.saturating_add-self.ensures (grind (arith, common_steps));
     fails = refl;
-    hears = stops_behind g.V.Visitor.story g.W.Write.contents first.visitor.now c.args.self.now.visitor.now
+    hears = stops_after g.V.Visitor.story g.W.Write.contents first.visitor.now c.args.self.now.visitor.now
         c.row.new.self (g.W.Write.contents first.output.now) (g.W.Write.contents c.args.self.now.output.now)
         (g.W.Write.contents c.row.new.output) rows c.args.row.now c.in-Err.fault told.hears c.in-Err.ensures;
   },
