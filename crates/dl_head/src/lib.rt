@@ -5,6 +5,7 @@ pub mod fault;
 pub mod header;
 pub mod laws;
 pub mod reader;
+mod sizes;
 pub mod write;
 
 pub use dl_field::{Params, params};

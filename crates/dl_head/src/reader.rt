@@ -17,6 +17,7 @@ mod run;
 
 use crate::fault::Fault;
 use crate::header::Header;
+use crate::sizes::initial_size;
 use byte_field::ByteField;
 use dl_field::{FieldStep, Params, TableReader};
 use dl_num::{Order, PartialNumber};
@@ -177,7 +178,7 @@ impl HeadReader {
         ensures within { (b : List ℕ) → StandsFor self.now b → IfSome result (λ n. length b ≤ n) }
     {
         match self.end {
-            Some(_) => Some(lengths::initial_size(self.params.format) + self.unit_length),
+            Some(_) => Some(initial_size(self.params.format) + self.unit_length),
             None => None,
         }
     }

@@ -3,7 +3,7 @@
 ghost use Rattle.std.specs.Prelude.{◌≡◌, ◌↔◌, ◌++◌, ◌+◌, ◌-◌, ◌^◌, IsOk, IfOk, IsTrue, length, min};
 ghost use Rattle.dl_num.specs.declared.fixed.Order.{Order};
 ghost use Rattle.dl_num.specs.declared.fixed.Order.TheVariants.{Little};
-ghost use Rattle.dl_head.specs.HeaderLayout.{fixed_part, initial_size};
+ghost use Rattle.dl_head.specs.HeaderLayout.{fixed_part as fixed_part_of};
 ghost use Rattle.dl_num.specs.Fixed.{fixed_bytes};
 ghost use Rattle.dl_head.specs.Spelled.{byte_parts, front_parts, number_parts, version_parts};
 ghost use Rattle.dl_table.specs.Value.{offset_size as offset_size_of};
@@ -13,6 +13,7 @@ ghost use Rattle.dl_table.specs.Written.{table_bytes};
 ghost use Rattle.dl_head.specs.Written.{byte_of, header_bytes, header_length_of, initial_length_bytes, is_within_limit, written_limit};
 
 use crate::header::Header;
+use crate::sizes::{fixed_part, initial_size};
 use dl_field::Params;
 use dl_num::Order;
 use dl_table::counted::{put, put_number};
@@ -37,7 +38,7 @@ pub fn header_len(header: &Header, program_len: u64) -> Result<u64, TooLong>
     if unit > longest_unit(format) {
         return Err(TooLong);
     }
-    Ok(initial_len(format) + fields_len(header))
+    Ok(initial_size(format) + fields_len(header))
 }
 
 /// Writes the bytes of a unit before its program, which has so many bytes, and answers how many they
@@ -208,11 +209,10 @@ fn signed_byte(number: i8) -> u8
 
 /// How many bytes there are from the version on; 2^64 - 1 where there are more.
 fn fields_len(header: &Header) -> u64
-    ensures { result ≡ min (fixed_part header.now.params.format + header_length_of header.now)
+    ensures { result ≡ min (fixed_part_of header.now.params.format + header_length_of header.now)
         (2 ^ 64 - 1) }
 {
-    let before = header.params().format.offset_size() as u64 + 4;
-    before.saturating_add(header_length(header))
+    fixed_part(header.params().format).saturating_add(header_length(header))
 }
 
 /// header_length; 2^64 - 1 where it is more.
@@ -223,16 +223,6 @@ fn header_length(header: &Header) -> u64
     numbers
         .saturating_add(header.directories().spelled_len())
         .saturating_add(header.files().spelled_len())
-}
-
-/// The size of the initial length. Section 7.4.
-fn initial_len(format: Format) -> u64
-    ensures { result ≡ initial_size format }
-{
-    match format {
-        Format::Dwarf32 => 4,
-        Format::Dwarf64 => 12,
-    }
 }
 
 /// The greatest unit_length that is written.

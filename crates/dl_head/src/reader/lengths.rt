@@ -2,37 +2,17 @@
 
 ghost use Rattle.std.specs.Prelude.{◌≡◌, ◌+◌, ◌≤◌, ◌∷◌, []};
 ghost use Rattle.dl_num.specs.Fixed.{fixed};
-ghost use Rattle.dl_head.specs.HeaderLayout.{initial_size as initial_size_of, fixed_part as fixed_part_of};
 ghost use Rattle.dl_table.specs.TableCells.{table_cells};
 
 use crate::reader::byte_field::ByteField;
 use crate::reader::{HeadReader, Phase};
+use crate::sizes::{fixed_part, initial_size};
 use dl_field::FieldStep;
 use dl_num::{Order, PartialNumber};
 use dl_table::{FaultKind, Format};
 
 /// The greatest unit_length that is accepted.
 const UNIT_LENGTH_LIMIT: u64 = 1 << 40;
-
-/// The size in bytes of the initial length. Section 7.4.
-pub(super) fn initial_size(format: Format) -> u64
-    ensures { result ≡ initial_size_of format }
-{
-    match format {
-        Format::Dwarf32 => 4,
-        Format::Dwarf64 => 12,
-    }
-}
-
-/// The size in bytes of the fields from version to header_length.
-fn fixed_part(format: Format) -> u64
-    ensures { result ≡ fixed_part_of format }
-{
-    match format {
-        Format::Dwarf32 => 8,
-        Format::Dwarf64 => 12,
-    }
-}
 
 impl HeadReader {
     ghost use Rattle.dl_head.specs.declared.reader.Phase.TheVariants as phase;
