@@ -17,6 +17,15 @@ use crate::table::{Pair, Table, row, whole_rows};
 use dl_num::{Order, uleb_bytes};
 use std::io::Write;
 
+/// How the numbers of a table are written.
+#[derive(Clone, Copy)]
+struct Encoding {
+    /// The order in which their bytes stand.
+    order: Order,
+    /// How many bytes an offset has.
+    format: Format,
+}
+
 impl Table {
     /// Writes the table on top of the `out` bytes that are out, with shortest numbers, and answers how
     /// many are out then; 2^64 - 1 where they are more. Section 6.2.4.1.
@@ -24,11 +33,14 @@ impl Table {
         ensures written { Writes (W.contents output.old) (W.contents output.new) out
             (table_bytes order self.now) result }
     {
+        let encoding = Encoding {
+            order,
+            format: self.format,
+        };
         put_table(
             output,
             out,
-            order,
-            self.format,
+            encoding,
             self.pairs.as_slice(),
             self.values.as_slice(),
             self.pool.as_slice(),
@@ -39,8 +51,7 @@ impl Table {
 fn put_table<W: Write>(
     output: &mut W,
     out: u64,
-    order: Order,
-    format: Format,
+    encoding: Encoding,
     pairs: &[Pair],
     values: &[StoredValue],
     pool: &[u8],
@@ -48,10 +59,10 @@ fn put_table<W: Write>(
     requires few { length pairs.now ≤ 255 }
     requires within { values_end values.now ≤ length pool.now }
     ensures written { Writes (W.contents output.old) (W.contents output.new) out
-        (table_parts order format pairs.now values.now pool.now) result }
+        (table_parts encoding.order encoding.format pairs.now values.now pool.now) result }
 {
     let out = put_format(output, out, pairs)?;
-    put_entries(output, out, order, format, pairs, values, pool)
+    put_entries(output, out, encoding, pairs, values, pool)
 }
 
 /// Writes the count of the pairs, and the pairs.
@@ -68,19 +79,18 @@ fn put_format<W: Write>(output: &mut W, out: u64, pairs: &[Pair]) -> Result<u64,
 fn put_entries<W: Write>(
     output: &mut W,
     out: u64,
-    order: Order,
-    format: Format,
+    encoding: Encoding,
     pairs: &[Pair],
     values: &[StoredValue],
     pool: &[u8],
 ) -> Result<u64, HeadWrite>
     requires { values_end values.now ≤ length pool.now }
     ensures written { Writes (W.contents output.old) (W.contents output.new) out
-        (entry_parts order format pairs.now values.now pool.now) result }
+        (entry_parts encoding.order encoding.format pairs.now values.now pool.now) result }
 {
     let count = whole_rows(values.len(), pairs.len());
     let out = put_uleb(output, out, count as u64)?;
-    put_rows(output, out, order, format, pairs, values, pool)
+    put_rows(output, out, encoding, pairs, values, pool)
 }
 
 fn put_uleb<W: Write>(output: &mut W, out: u64, number: u64) -> Result<u64, HeadWrite>
@@ -113,20 +123,19 @@ fn put_pair<W: Write>(output: &mut W, out: u64, pair: Pair) -> Result<u64, HeadW
 fn put_rows<W: Write>(
     output: &mut W,
     mut out: u64,
-    order: Order,
-    format: Format,
+    encoding: Encoding,
     pairs: &[Pair],
     values: &[StoredValue],
     pool: &[u8],
 ) -> Result<u64, HeadWrite>
     requires { values_end values.now ≤ length pool.now }
     ensures written { Writes (W.contents output.old) (W.contents output.new) out
-        (flat_map (entry_bytes order format pairs.now)
-        (table_of format pairs.now values.now pool.now).entries) result }
+        (flat_map (entry_bytes encoding.order encoding.format pairs.now)
+        (table_of encoding.format pairs.now values.now pool.now).entries) result }
 {
     for i in 0..whole_rows(values.len(), pairs.len()) {
         let held = row(values, pairs.len(), i);
-        out = put_row(output, out, order, format, pairs, held, pool)?;
+        out = put_row(output, out, encoding, pairs, held, pool)?;
     }
     Ok(out)
 }
@@ -134,8 +143,7 @@ fn put_rows<W: Write>(
 fn put_row<W: Write>(
     output: &mut W,
     mut out: u64,
-    order: Order,
-    format: Format,
+    encoding: Encoding,
     pairs: &[Pair],
     held: &[StoredValue],
     pool: &[u8],
@@ -143,10 +151,10 @@ fn put_row<W: Write>(
     requires within { values_end held.now ≤ length pool.now }
     requires whole { length held.now ≡ length pairs.now }
     ensures written { Writes (W.contents output.old) (W.contents output.new) out
-        (entry_bytes order format pairs.now (map (value_held pool.now) held.now)) result }
+        (entry_bytes encoding.order encoding.format pairs.now (map (value_held pool.now) held.now)) result }
 {
     for (i, pair) in pairs.iter().enumerate() {
-        out = put_held(output, out, order, format, pair.form, held[i], pool)?;
+        out = put_held(output, out, encoding, pair.form, held[i], pool)?;
     }
     Ok(out)
 }
@@ -154,45 +162,61 @@ fn put_row<W: Write>(
 fn put_held<W: Write>(
     output: &mut W,
     out: u64,
-    order: Order,
-    format: Format,
+    encoding: Encoding,
     form: Form,
     held: StoredValue,
     pool: &[u8],
 ) -> Result<u64, HeadWrite>
     requires { held_end held ≤ length pool.now }
     ensures written { Writes (W.contents output.old) (W.contents output.new) out
-        (value_bytes order format form (value_held pool.now held)) result }
+        (value_bytes encoding.order encoding.format form (value_held pool.now held)) result }
 {
     let value = held.lend(pool);
-    put_value(output, out, order, format, form, &value)
+    put_value(output, out, encoding, form, &value)
 }
 
 /// Writes a value in its form; nothing where it isn't one of the form. Section 7.5.5.
 fn put_value<W: Write>(
     output: &mut W,
     out: u64,
-    order: Order,
-    format: Format,
+    encoding: Encoding,
     form: Form,
     value: &ValueRef<'_>,
 ) -> Result<u64, HeadWrite>
     ensures written { Writes (W.contents output.old) (W.contents output.new) out
-        (value_bytes order format form (value_lent value.now)) result }
+        (value_bytes encoding.order encoding.format form (value_lent value.now)) result }
 {
     match *value {
         ValueRef::Text(bytes) if form == Form::String => put_text(output, out, bytes),
         ValueRef::LineStr(offset) if form == Form::LineStrp => {
-            put_number(output, out, order, format.offset_size(), offset)
+            put_number(
+                output,
+                out,
+                encoding.order,
+                encoding.format.offset_size(),
+                offset,
+            )
         }
         ValueRef::Str(offset) if form == Form::Strp => {
-            put_number(output, out, order, format.offset_size(), offset)
+            put_number(
+                output,
+                out,
+                encoding.order,
+                encoding.format.offset_size(),
+                offset,
+            )
         }
         ValueRef::StrSup(offset) if form == Form::StrpSup => {
-            put_number(output, out, order, format.offset_size(), offset)
+            put_number(
+                output,
+                out,
+                encoding.order,
+                encoding.format.offset_size(),
+                offset,
+            )
         }
-        ValueRef::Number(number) => put_number_of(output, out, order, form, number),
-        ValueRef::Block(bytes) => put_block(output, out, order, form, bytes),
+        ValueRef::Number(number) => put_number_of(output, out, encoding.order, form, number),
+        ValueRef::Block(bytes) => put_block(output, out, encoding.order, form, bytes),
         ValueRef::Data16(bytes) if form == Form::Data16 => put_sixteen(output, out, bytes),
         _ => Ok(out),
     }

@@ -25,8 +25,8 @@ returns-in_err-out g c = record {
       let width = length pairs in
       let count = length c.args.values.now / width in
       let all = map (value_held c.args.pool.now) c.args.values.now in
-      let entries = (table_of c.args.format pairs c.args.values.now c.args.pool.now).entries in
-      let bytes = entry_bytes c.args.order c.args.format pairs in
+      let entries = (table_of c.args.encoding.format pairs c.args.values.now c.args.pool.now).entries in
+      let bytes = entry_bytes c.args.encoding.order c.args.encoding.format pairs in
       let i = c.loop-i.i in
       let turn : i < length entries = omega (arith, length-rows count width all) in
       let row = row_at count width c.args.pool.now c.args.values.now i c.row-held.result.now (omega arith)
@@ -47,8 +47,8 @@ loop-i-preserved g c = λ start text h.
     let width = length pairs in
     let count = length c.args.values.now / width in
     let all = map (value_held c.args.pool.now) c.args.values.now in
-    let entries = (table_of c.args.format pairs c.args.values.now c.args.pool.now).entries in
-    let bytes = entry_bytes c.args.order c.args.format pairs in
+    let entries = (table_of c.args.encoding.format pairs c.args.values.now c.args.pool.now).entries in
+    let bytes = entry_bytes c.args.encoding.order c.args.encoding.format pairs in
     let i = c.loop-i.i in
     let turn : i < length entries = omega (arith, length-rows count width all) in
     let row = row_at count width c.args.pool.now c.args.values.now i c.row-held.result.now (omega arith)
@@ -62,9 +62,9 @@ returns g c = record {
       let pairs = c.args.pairs.now in
       let width = length pairs in
       let count = length c.args.values.now / width in
-      let entries = (table_of c.args.format pairs c.args.values.now c.args.pool.now).entries in
+      let entries = (table_of c.args.encoding.format pairs c.args.values.now c.args.pool.now).entries in
       let whole = take_all c.loop-i.i entries
       (omega (arith, length-rows count width (map (value_held c.args.pool.now) c.args.values.now))) in
-      IsOut-same start _ text _ _ _ (ap (flat_map (entry_bytes c.args.order c.args.format pairs)) whole)
+      IsOut-same start _ text _ _ _ (ap (flat_map (entry_bytes c.args.encoding.order c.args.encoding.format pairs)) whole)
       (c.loop-i.invariant start text h);
 }

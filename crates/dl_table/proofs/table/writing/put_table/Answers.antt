@@ -9,6 +9,6 @@ returns-in_err-out g c = record {
       let pairs = c.args.pairs.now in
       let p = err_from_is_err_and c.from_residual.result c.from_residual.ensures.1 in
       rw (p.1, p.2) (TellsOut-front start _ text (format_parts pairs)
-      (entry_parts c.args.order c.args.format pairs c.args.values.now c.args.pool.now) _
+      (entry_parts c.args.encoding.order c.args.encoding.format pairs c.args.values.now c.args.pool.now) _
       (c.in_err-out.ensures.written start text h));
 }
