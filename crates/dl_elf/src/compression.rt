@@ -1,7 +1,8 @@
 //! How a section is compressed. System V ABI, chapter 4, "Section Compression".
 ghost use Rattle.std.specs.Prelude.{◌≡◌, option_map, option_and_then, IfOk, IfErr};
 ghost use Rattle.dl_elf.specs.Source.{ForBytes};
-ghost use Rattle.dl_elf.specs.Compressed.{method_of, has_compression_header, compression_header_size, section_damage, section_compression};
+ghost use Rattle.dl_elf.specs.Compressed.{method_of, has_compression_header, compression_header_size, section_damage};
+ghost use Rattle.dl_elf.specs.Compressed.{section_compression};
 
 use crate::fault::Part;
 use crate::file::{Elf, section_range};

@@ -1,7 +1,8 @@
 //! The header of an ELF file. System V ABI, chapter 4, "ELF Header".
 ghost use Rattle.std.specs.Prelude.{◌≡◌, ◌+◌, ◌≤◌, ◌<◌, length, IsTrue};
 ghost use Rattle.dl_num.specs.Fixed.{is_number_size};
-ghost use Rattle.dl_elf.specs.Elf.{number_at, class_of, order_of, header_size, header_fields, header_in, is_linked, is_magic};
+ghost use Rattle.dl_elf.specs.Elf.{number_at, class_of, order_of, header_size, header_fields, header_in, is_linked};
+ghost use Rattle.dl_elf.specs.Elf.{is_magic};
 
 use dl_num::{Order, number_of};
 

@@ -7,7 +7,9 @@ ghost use Rattle.dl_elf.specs.Compressed.{section_damage};
 ghost use Rattle.dl_elf.specs.Window.{Shows};
 ghost use Rattle.dl_elf.specs.Slots.{slot_of};
 ghost use Rattle.dl_elf.specs.SectionsHeld.{slots};
-ghost use Rattle.dl_elf.specs.LineTable.{Opens, Gives, GivesOption, HasRelocations, RelocatesAt, compressed, first_damage, first_compressed, line_section, debug_line_str_section, debug_str_section};
+ghost use Rattle.dl_elf.specs.LineTable.{Opens, Gives, GivesOption, HasRelocations, RelocatesAt, compressed};
+ghost use Rattle.dl_elf.specs.LineTable.{first_damage, first_compressed, line_section, debug_line_str_section};
+ghost use Rattle.dl_elf.specs.LineTable.{debug_str_section};
 
 use crate::build_id::read_build_id;
 use crate::compression::{Compression, damage, method};
@@ -223,7 +225,8 @@ fn relocates_at<S: ReadAt>(
 
 /// A reader of a section's bytes.
 fn reader_of<'a, S: ReadAt>(source: &'a S, section: &NamedSection) -> SectionReader<'a, S>
-    ensures { ForBytes (S.all_bytes source.entry.now) (λ f. Gives S.all_bytes result (section_bytes section.now.header f)) }
+    ensures { ForBytes (S.all_bytes source.entry.now)
+        (λ f. Gives S.all_bytes result (section_bytes section.now.header f)) }
 {
     let range = section_range(&section.header);
     SectionReader::new(source, range.offset, range.size)

@@ -59,7 +59,8 @@ impl Sections {
 
     /// Keeps the section under each name that `bytes` begin with and that has no section yet.
     fn note(&mut self, number: u64, header: &SectionHeader, bytes: &[u8])
-        ensures { (k : ℕ) → k < 10 → slot_at (slots self.new) k ≡ noted bytes.now number header.now (name_at k) (slot_at (slots self.old) k) }
+        ensures { (k : ℕ) → k < 10 → slot_at (slots self.new) k
+            ≡ noted bytes.now number header.now (name_at k) (slot_at (slots self.old) k) }
     {
         for (index, name) in SectionName::ALL.iter().enumerate() {
             self.found[index] = noted(bytes, number, header, *name, self.found[index]);
@@ -135,7 +136,8 @@ fn look_at<S: ReadAt>(
     ensures headers { Shows (S.all_bytes source.now) headers.new }
     ensures names { Shows (S.all_bytes source.now) names.new }
     ensures found { ForBytes (S.all_bytes source.now) (λ f. OnOk result
-        (AreFoundBefore elf.now f number (slots sections.old) → AreFoundBefore elf.now f (number + 1) (slots sections.new))) }
+        (AreFoundBefore elf.now f number (slots sections.old)
+        → AreFoundBefore elf.now f (number + 1) (slots sections.new))) }
     ensures fails { IfErr result (S.fails_with source.now) }
 {
     let header = section_at(source, headers, &elf.header, number)?;

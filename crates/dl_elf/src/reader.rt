@@ -49,7 +49,8 @@ impl<'a, S: ReadAt> SectionReader<'a, S> {
     /// Reads bytes into the front of the buffer, and moves after them.
     fn read_next(&mut self, buffer: &mut [u8]) -> io::Result<usize>
         ensures bound { ReadsAtMost result buffer.new }
-        ensures bytes { ReadConsumes (reader_remaining S.all_bytes self.old) (reader_remaining S.all_bytes self.new) result buffer.new }
+        ensures bytes { ReadConsumes (reader_remaining S.all_bytes self.old)
+            (reader_remaining S.all_bytes self.new) result buffer.new }
         ensures fails { IfErr result (ReaderFails S.all_bytes S.fails_with self.old) }
     {
         let room = shorter(buffer.len(), self.left);
@@ -81,7 +82,8 @@ impl<'a, S: ReadAt> Read for SectionReader<'a, S> {
 
     fn read(&mut self, buffer: &mut [u8]) -> io::Result<usize>
         ensures bound { ReadsAtMost result buffer.new }
-        ensures bytes { ReadConsumes (reader_remaining S.all_bytes self.old) (reader_remaining S.all_bytes self.new) result buffer.new }
+        ensures bytes { ReadConsumes (reader_remaining S.all_bytes self.old)
+            (reader_remaining S.all_bytes self.new) result buffer.new }
         ensures fails { IfErr result (ReaderFails S.all_bytes S.fails_with self.old) }
         ensures error { reader_error self.new ≡ result_err result }
     {

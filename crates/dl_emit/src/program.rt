@@ -2,7 +2,10 @@
 
 ghost use Rattle.std.specs.Prelude.{◌≡◌, ◌+◌, ◌≤◌, ◌<◌, ◌^◌, ◌++◌, length, Option, unwrap_or, if◌then◌else◌};
 ghost use Rattle.dl_field.specs.Usable.{IsUsable};
-ghost use Rattle.dl_emit.specs.Program.{when, settings, marks, instructions as instructions_of, advance_by as advance_by_of, advance as advance_of, line_advance as line_advance_of, special as special_of, advances, appended, placed, row_operations, start as start_of, kept as kept_of};
+ghost use Rattle.dl_emit.specs.Program.{when, settings, marks, instructions as instructions_of};
+ghost use Rattle.dl_emit.specs.Program.{advance_by as advance_by_of, advance as advance_of};
+ghost use Rattle.dl_emit.specs.Program.{line_advance as line_advance_of, special as special_of, advances, appended};
+ghost use Rattle.dl_emit.specs.Program.{placed, row_operations, start as start_of, kept as kept_of};
 ghost use Rattle.dl_emit.specs.Room.{room};
 ghost use Rattle.dl_emit.specs.WrittenUnit.{operations_bytes};
 

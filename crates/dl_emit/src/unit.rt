@@ -3,7 +3,8 @@
 ghost use Rattle.std.specs.Prelude.{◌≡◌, ◌<◌, ◌≤◌, ◌+◌, ◌^◌, ◌-◌, length, min, None, Some, IsTrue, IfOk, IfErr, OnOk};
 ghost use Rattle.dl_field.specs.Usable.{IsUsable};
 ghost use Rattle.dl_table.specs.Writing.{Writes};
-ghost use Rattle.dl_emit.specs.WrittenUnit.{is_in_range as is_in_range_of, rows_refusal, program_bytes, program_len as program_len_of};
+ghost use Rattle.dl_emit.specs.WrittenUnit.{is_in_range as is_in_range_of, rows_refusal, program_bytes};
+ghost use Rattle.dl_emit.specs.WrittenUnit.{program_len as program_len_of};
 ghost use Rattle.dl_emit.specs.Gathered.{Gathers};
 ghost use Rattle.dl_emit.specs.Writing.{Measures, WritesUnit};
 ghost use Rattle.dl_emit.specs.Laws.{IsRow, IsUnitAgain};

@@ -21,8 +21,9 @@ use Rattle.dl_table.specs.Held.{value_held}
 use Rattle.dl_table.specs.Value.{Value, block, value_spelt}
 use Rattle.dl_field.specs.Layout.{Layout, value_is, following, field_spelt, value_judged}
 use Rattle.dl_field.specs.Cells.{begun_cells}
-use Rattle.dl_field.specs.TablePlace.{IsLengthOf, Holds, Summed, values_left, InValue, InBlock, TableAt, TableMade}
-use Rattle.dl_field.specs.TablePlace.{BeginsBlock, GoesOn}
+use Rattle.dl_field.specs.TablePlace.{IsLengthOf, Holds, Summed, values_left, InValue, InBlock, TableAt}
+use Rattle.dl_field.specs.TableMoves.{TableMade}
+use Rattle.dl_field.specs.TableMoves.{BeginsBlock, GoesOn}
 use Rattle.dl_field.specs.TableStep.{value_filled}
 use Rattle.dl_field.proofs.BlockLemmas.{part_block, whole_block, one_more}
 use Rattle.dl_field.proofs.ByteCells.{block_layout, length_field}

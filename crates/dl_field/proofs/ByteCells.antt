@@ -14,8 +14,10 @@ use Rattle.dl_table.specs.TableData.{TableData}
 use Rattle.dl_table.specs.Value.{Value, good}
 use Rattle.dl_field.specs.Cells.{item_cells, begun_cells, rest_cells}
 use Rattle.dl_field.specs.Layout.{NumberField, Layout, number_then, form_then, value_then, Item, field_spelt}
-use Rattle.dl_field.specs.TablePlace.{reader_cells, field_cells, has_bytes, Adds, KeepsCells, OneCell, EachCell}
-use Rattle.dl_field.specs.TablePlace.{IsLengthOf, InValue, InBlock, TableMade}
+use Rattle.dl_field.specs.TablePlace.{reader_cells, field_cells}
+use Rattle.dl_field.specs.TableMoves.{has_bytes, Adds, KeepsCells, OneCell, EachCell}
+use Rattle.dl_field.specs.TablePlace.{IsLengthOf, InValue, InBlock}
+use Rattle.dl_field.specs.TableMoves.{TableMade}
 use Rattle.dl_field.proofs.FieldCells.{cells_good, cells_open, cells_bad, number_cells, form_cell, no_bytes}
 use Rattle.dl_field.proofs.FieldCells.{value_item_cell, value_bytes, begun_with}
 use Rattle.dl_field.proofs.BlockLemmas.{one_more}

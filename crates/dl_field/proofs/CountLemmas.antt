@@ -17,7 +17,8 @@ use Rattle.dl_table.specs.Held.{value_held, values_end, cells_held}
 use Rattle.dl_table.specs.Value.{good, bad}
 use Rattle.dl_field.specs.Layout.{Layout, entry_count, number_is, following, field_spelt, entries_layout, objection}
 use Rattle.dl_field.specs.Layout.{judged}
-use Rattle.dl_field.specs.TablePlace.{after_pairs, NoValues, Holds, Summed, values_left, IsWhole, TableAt, GoesOn}
+use Rattle.dl_field.specs.TablePlace.{after_pairs, NoValues, Holds, Summed, values_left, IsWhole, TableAt}
+use Rattle.dl_field.specs.TableMoves.{GoesOn}
 use Rattle.dl_field.proofs.PairLemmas.{number_open, number_whole}
 
 abbrev some_pairs : List Pair → Bool

@@ -24,7 +24,8 @@ use Rattle.dl_table.specs.Value.{Value, text, line_str, str, str_sup, number, bl
 use Rattle.dl_table.specs.Value.{is_text, text_spelt, block_spelt, leb_spelt, leb_block_spelt, value_spelt}
 use Rattle.dl_field.specs.Layout.{NumberField, Layout, number_then, form_then, value_then, Item, value_is, field_spelt}
 use Rattle.dl_field.specs.Layout.{number_size, sized_spelt, number_judged, judged, objection, value_judged}
-use Rattle.dl_field.specs.TablePlace.{field_cells, has_bytes, number_bytes_of, length_bytes_of, IsLengthOf}
+use Rattle.dl_field.specs.TablePlace.{field_cells, number_bytes_of, length_bytes_of, IsLengthOf}
+use Rattle.dl_field.specs.TableMoves.{has_bytes}
 use Rattle.dl_field.proofs.FieldLemmas.{none_some, some_same}
 use Rattle.dl_field.proofs.GoodLemmas.{good_if, good_value, bad_good, value_item, is_form}
 

@@ -26,8 +26,9 @@ use Rattle.dl_table.specs.Value.{good, bad, form_code, all_forms, form_of_code}
 use Rattle.dl_field.specs.Layout.{NumberField, Layout, number_then, form_then, content_code, number_is, form_is}
 use Rattle.dl_field.specs.Layout.{following, field_spelt, pairs_layout, table_layout, number_judged, sized_spelt}
 use Rattle.dl_field.specs.Layout.{form_judged, objection, judged}
-use Rattle.dl_field.specs.TablePlace.{after_pairs, pairs_left, form_left, NoValues, TableAt, SameTable, TableMade}
-use Rattle.dl_field.specs.TablePlace.{BeginsPair, TakesContent, TakesForm}
+use Rattle.dl_field.specs.TablePlace.{after_pairs, pairs_left, form_left, NoValues, TableAt}
+use Rattle.dl_field.specs.TableMoves.{SameTable, TableMade}
+use Rattle.dl_field.specs.TableMoves.{BeginsPair, TakesContent, TakesForm}
 use Rattle.dl_field.proofs.FieldLemmas.{fixed-one}
 use Rattle.dl_field.proofs.FieldCells.{cells_good}
 use Rattle.dl_field.proofs.FieldLaws.{form_has_code}

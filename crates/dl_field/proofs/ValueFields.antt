@@ -28,7 +28,8 @@ use Rattle.dl_field.specs.Field.{HasNoZero}
 use Rattle.dl_table.specs.Value.{Value, text, number, data16, Judgement, good, bad, is_text, text_spelt, number_spelt}
 use Rattle.dl_table.specs.Value.{leb_spelt, value_spelt}
 use Rattle.dl_field.specs.Layout.{Layout, value_then, value_is, value_judged, field_spelt}
-use Rattle.dl_field.specs.TablePlace.{number_bytes_of, number_value, InValue, TableMade, Enters}
+use Rattle.dl_field.specs.TablePlace.{number_bytes_of, number_value, InValue}
+use Rattle.dl_field.specs.TableMoves.{TableMade, Enters}
 use Rattle.dl_field.proofs.FieldLemmas.{none_some, some_same}
 use Rattle.dl_field.proofs.FieldCells.{cells_good, some_cell}
 use Rattle.dl_field.proofs.FieldLaws.{text_good}

@@ -21,8 +21,9 @@ use Rattle.dl_table.specs.Held.{held_end, value_held, cells_held}
 use Rattle.dl_field.specs.TableStep.{value_filled}
 use Rattle.dl_table.specs.Value.{Value}
 use Rattle.dl_field.specs.Layout.{Layout, value_then, value_is, following, entry_layout, entries_layout}
-use Rattle.dl_field.specs.TablePlace.{joined, AreWide, Holds, Summed, values_left, InValue, IsWhole, TableAt, Moves}
-use Rattle.dl_field.specs.TablePlace.{GoesOn}
+use Rattle.dl_field.specs.TablePlace.{joined, AreWide, Holds, Summed, values_left, InValue, IsWhole, TableAt}
+use Rattle.dl_field.specs.TableMoves.{Moves}
+use Rattle.dl_field.specs.TableMoves.{GoesOn}
 use Rattle.dl_table.proofs.HeldLemmas.{values_end-push, values_held-more}
 
 pub drop_after : {A : Type 0} (xs : List A) (i : ℕ) (x : A) (more : List A) → drop i xs ≡ x ∷ more

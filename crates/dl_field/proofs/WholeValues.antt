@@ -28,8 +28,9 @@ use Rattle.dl_field.specs.Field.{HasNoZero}
 use Rattle.dl_table.specs.Text.{text_in}
 use Rattle.dl_field.specs.TableStep.{value_due}
 use Rattle.dl_field.specs.Layout.{Layout}
-use Rattle.dl_field.specs.TablePlace.{OneCell, InValue, TableAt, TableMade, Enters, EntersAt, InFront, IsLast}
-use Rattle.dl_field.specs.TablePlace.{SameTable, TakesValue, has_bytes}
+use Rattle.dl_field.specs.TablePlace.{InValue, TableAt}
+use Rattle.dl_field.specs.TableMoves.{OneCell, TableMade, Enters, EntersAt, InFront, IsLast}
+use Rattle.dl_field.specs.TableMoves.{SameTable, TakesValue, has_bytes}
 use Rattle.dl_field.proofs.FieldLemmas.{none_some}
 use Rattle.dl_table.proofs.TextLemmas.{text_in-position}
 use Rattle.dl_field.proofs.PairLemmas.{table_at}

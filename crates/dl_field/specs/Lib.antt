@@ -8,3 +8,4 @@ pub mod Laws
 -- For what a value stands; public contracts name this, and don't rest on how it is said.
 pub mod TableStep
 pub mod TablePlace
+pub mod TableMoves

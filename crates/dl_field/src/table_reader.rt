@@ -28,7 +28,7 @@ pub(crate) enum TablePhase {
 }
 
 impl TablePhase {
-    ghost use Rattle.dl_field.specs.TablePlace.{BeginsPair};
+    ghost use Rattle.dl_field.specs.TableMoves.{BeginsPair};
 
     /// The next pair, so many being left, or the count of the entries.
     fn of_pairs(left: u8) -> TablePhase
@@ -62,7 +62,9 @@ pub struct TableReader {
 
 impl TableReader {
     ghost use Rattle.dl_field.specs.declared.table_reader.TablePhase.TheVariants as phase;
-    ghost use Rattle.dl_field.specs.TablePlace.{IsFresh, reader_cells, MakesTable, Takes, TableFollows, TakesContent, TakesForm, TakesCount, KeepsCells, OneCell, PushFollows, ValueFollows};
+    ghost use Rattle.dl_field.specs.TablePlace.{IsFresh, reader_cells};
+    ghost use Rattle.dl_field.specs.TableMoves.{MakesTable, Takes, TableFollows, TakesContent, TakesForm, TakesCount};
+    ghost use Rattle.dl_field.specs.TableMoves.{KeepsCells, OneCell, PushFollows, ValueFollows};
     ghost use Rattle.dl_num.specs.declared.fixed.Order.{Order};
 
     /// No byte yet. It takes no memory.

@@ -17,7 +17,7 @@ pub(crate) struct Cursor {
 }
 
 impl Cursor {
-    ghost use Rattle.dl_field.specs.TablePlace.{IsLast, Moves};
+    ghost use Rattle.dl_field.specs.TableMoves.{IsLast, Moves};
 
     /// Whether no value follows, where an entry has so many.
     #[inline(always)]

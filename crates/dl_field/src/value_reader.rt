@@ -16,7 +16,9 @@ impl TableReader {
     ghost use Rattle.dl_field.specs.declared.table_reader.TablePhase.TheVariants as phase;
     ghost use Rattle.dl_field.specs.declared.value_phase.ValuePhase.TheVariants as value;
     ghost use Rattle.dl_field.specs.declared.field_step.FieldStep.TheVariants as byte_makes;
-    ghost use Rattle.dl_field.specs.TablePlace.{reader_cells, GoesOn, Enters, IsLast, BeginsBlock, OneCell, EachCell, ValueFollows, ValueAdds};
+    ghost use Rattle.dl_field.specs.TablePlace.{reader_cells};
+    ghost use Rattle.dl_field.specs.TableMoves.{GoesOn, Enters, IsLast, BeginsBlock, OneCell, EachCell, ValueFollows};
+    ghost use Rattle.dl_field.specs.TableMoves.{ValueAdds};
 
     /// Takes the next byte of a value.
     pub(crate) fn value(

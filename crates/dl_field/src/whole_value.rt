@@ -4,7 +4,7 @@ ghost use Rattle.std.specs.Prelude.{◌≡◌, ◌+◌, ◌<◌, ◌≤◌, leng
 ghost use Rattle.dl_num.specs.declared.fixed.Order.{Order};
 ghost use Rattle.dl_field.specs.declared.value_phase.ValuePhase.TheVariants as value;
 ghost use Rattle.dl_table.specs.Held.{held_end, values_end};
-ghost use Rattle.dl_field.specs.TablePlace.{InFront};
+ghost use Rattle.dl_field.specs.TableMoves.{InFront};
 
 use crate::field_step::FieldStep;
 use crate::sixteen::Sixteen;
@@ -37,7 +37,8 @@ fn number_at_front(
 /// None where the bytes end before it does, and where it has more than two bytes.
 #[inline(always)]
 fn leb_at_front(number: Uleb, bytes: &[u8]) -> Option<(StoredValue, &[u8])>
-    ensures { IfSome result (λ found. (order : Order) → InFront order (value.Leb number) bytes.entry.now found.0 found.1.now) }
+    ensures { IfSome result (λ found. (order : Order)
+        → InFront order (value.Leb number) bytes.entry.now found.0 found.1.now) }
 {
     if !number.is_new() {
         return None;
@@ -50,7 +51,8 @@ fn leb_at_front(number: Uleb, bytes: &[u8]) -> Option<(StoredValue, &[u8])>
 /// where there are fewer.
 #[inline(always)]
 fn sixteen_at_front(sixteen: Sixteen, bytes: &[u8]) -> Option<(StoredValue, &[u8])>
-    ensures { IfSome result (λ found. (order : Order) → InFront order (value.Data16 sixteen) bytes.entry.now found.0 found.1.now) }
+    ensures { IfSome result (λ found. (order : Order)
+        → InFront order (value.Data16 sixteen) bytes.entry.now found.0 found.1.now) }
 {
     if !sixteen.is_new() {
         return None;
@@ -61,7 +63,7 @@ fn sixteen_at_front(sixteen: Sixteen, bytes: &[u8]) -> Option<(StoredValue, &[u8
 
 impl TableReader {
     ghost use Rattle.dl_field.specs.declared.table_reader.TablePhase.TheVariants as phase;
-    ghost use Rattle.dl_field.specs.TablePlace.{EntersAt, SameTable, TakesValue, IsLast};
+    ghost use Rattle.dl_field.specs.TableMoves.{EntersAt, SameTable, TakesValue, IsLast};
 
     /// Takes a value that the bytes begin with, and gives the bytes after it. None, and nothing is
     /// taken, where the bytes end before the value does, where it is a block or the table's last value,

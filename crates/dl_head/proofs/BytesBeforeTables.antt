@@ -15,7 +15,8 @@ use Rattle.dl_field.specs.Cells.{item_cells, rest_cells}
 use Rattle.dl_field.specs.Layout.{Layout, initial_length_then, number_then, form_then, value_then, foreign_version}
 use Rattle.dl_field.specs.Layout.{last_entry, Item, following_all, field_spelt, initial_length_spelt}
 use Rattle.dl_head.specs.HeaderLayout.{header_layout}
-use Rattle.dl_field.specs.TablePlace.{field_cells, Adds}
+use Rattle.dl_field.specs.TablePlace.{field_cells}
+use Rattle.dl_field.specs.TableMoves.{Adds}
 use Rattle.dl_head.specs.Place.{from_byte, At, AtPhase, held_cells, Made, BytesMade, Follows, PushFollows}
 use Rattle.dl_head.proofs.FirstFields.{is_length}
 use Rattle.dl_field.proofs.FieldCells.{cells_good, cells_open, cells_bad, number_cells}

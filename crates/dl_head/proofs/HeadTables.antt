@@ -23,8 +23,9 @@ use Rattle.dl_field.specs.Layout.{Layout, number_then, content_code, Item, follo
 use Rattle.dl_field.specs.Layout.{table_layout}
 use Rattle.dl_head.specs.HeaderLayout.{header_layout, initial_size}
 use Rattle.dl_field.specs.TablePlace.{IsFresh, NoValues, form_left, after_pairs, values_left, Holds, Summed, InValue}
-use Rattle.dl_field.specs.TablePlace.{InBlock, IsWhole, reader_cells, Adds, ValueAt, TableAt, SameTable, BytesFollow}
-use Rattle.dl_field.specs.TablePlace.{PushFollows}
+use Rattle.dl_field.specs.TablePlace.{InBlock, IsWhole, reader_cells, ValueAt, TableAt}
+use Rattle.dl_field.specs.TableMoves.{Adds, SameTable, BytesFollow}
+use Rattle.dl_field.specs.TableMoves.{PushFollows}
 use Rattle.dl_table.specs.TableCells.{table_cells}
 use Rattle.dl_field.specs.TableStep.{value_filled}
 use Rattle.dl_head.specs.HeadStep.{tables_fit}

@@ -17,7 +17,8 @@ use Rattle.dl_table.specs.TableData.{TableData}
 use Rattle.dl_table.specs.Value.{Value, good}
 use Rattle.dl_field.specs.Layout.{Layout, Item, following_all, field_spelt, table_layout}
 use Rattle.dl_head.specs.Header.{SpellsFields}
-use Rattle.dl_field.specs.TablePlace.{IsFresh, TableAt, SameTable, MakesTable, BytesFollow, PushFollows}
+use Rattle.dl_field.specs.TablePlace.{IsFresh, TableAt}
+use Rattle.dl_field.specs.TableMoves.{SameTable, MakesTable, BytesFollow, PushFollows}
 use Rattle.dl_head.specs.TableSpelt.{alone, TableSpelt, TableReads, TableStands}
 use Rattle.dl_head.proofs.CutLemmas.{following_all-append}
 use Rattle.dl_head.proofs.HeadTables.{table_same}

@@ -25,7 +25,8 @@ use Rattle.dl_head.specs.HeaderLayout.{header_layout, from_files, from_end}
 use Rattle.dl_head.specs.Header.{cut}
 use Rattle.dl_head.specs.Refusal.{header_decided, NothingBefore}
 use Rattle.dl_head.specs.Cells.{cells}
-use Rattle.dl_field.specs.TablePlace.{reader_cells, Adds, SameTable, TakesValue}
+use Rattle.dl_field.specs.TablePlace.{reader_cells}
+use Rattle.dl_field.specs.TableMoves.{Adds, SameTable, TakesValue}
 use Rattle.dl_head.specs.TableSpelt.{TableReads, TableStands}
 use Rattle.dl_head.specs.Place.{InTable, AtPhase, At, SameCounts, Made, held_cells}
 use Rattle.dl_head.specs.Standing.{Below, Live, Unmade, ending, StandsFor}
@@ -232,13 +233,15 @@ by_table P directories files (phase.Failed f) is = absurd cc
 table_of_phase : (r : HeadReader) (p : Phase) (items : List Item) (rest : List ℕ) → in_table p ≡ true
     → AtPhase r p items rest → InTable r items rest (after_the_table p r.params r.directories)
 table_of_phase r p items rest is = by_table
-    (λ q. AtPhase r q items rest → InTable r items rest (after_the_table q r.params r.directories)) (λ at. at) (λ at. at) p
+    (λ q. AtPhase r q items rest → InTable r items rest (after_the_table q r.params r.directories)) (λ at. at)
+    (λ at. at) p
     is
 
 pub phase_of_table : (r : HeadReader) (p : Phase) (items : List Item) (rest : List ℕ) → in_table p ≡ true
     → InTable r items rest (after_the_table p r.params r.directories) → AtPhase r p items rest
 phase_of_table r p items rest is = by_table
-    (λ q. InTable r items rest (after_the_table q r.params r.directories) → AtPhase r q items rest) (λ at. at) (λ at. at) p
+    (λ q. InTable r items rest (after_the_table q r.params r.directories) → AtPhase r q items rest) (λ at. at)
+    (λ at. at) p
     is
 
 pub table_goes : (p : Phase) → in_table p ≡ true → ending p ≡ None
@@ -279,7 +282,8 @@ front_of piece bytes front tail len e f =
 pub value_whole : (r new : HeadReader) (b piece bytes tail : List ℕ) → in_table r.phase ≡ true
     → ending new.phase ≡ None → IsInside r piece bytes
     → (v : TakesValue r.order r.params.format r.table bytes tail new.table)
-    → SameFields r new → ((is : List Item) (w : List ℕ) → InTable new is w (after_the_table r.phase r.params r.directories)
+    → SameFields r new → ((is : List Item) (w : List ℕ) → InTable new is w
+    (after_the_table r.phase r.params r.directories)
     → At new is w)
     → held_cells new ≡ table_cells r.directories + table_cells r.files + reader_cells new.table → new.header ≡ r.header
     → new.start ≡ new.taken

@@ -16,7 +16,8 @@ use Rattle.dl_table.specs.declared.form.Format.{Format}
 use Rattle.dl_field.specs.declared.params.Params.{Params}
 use Rattle.dl_table.specs.TableData.{TableData}
 use Rattle.dl_table.specs.TableCells.{table_cells}
-use Rattle.dl_field.specs.TablePlace.{IsFresh, TableAt, Adds, reader_cells}
+use Rattle.dl_field.specs.TablePlace.{IsFresh, TableAt, reader_cells}
+use Rattle.dl_field.specs.TableMoves.{Adds}
 use Rattle.dl_table.specs.Value.{good, bad, offset_size}
 use Rattle.dl_field.specs.Layout.{Layout, Item, length_is, number_is, following_all, field_spelt, unit_length_limit}
 use Rattle.dl_head.specs.HeaderLayout.{header_layout, lengths_layout, tables_layout, from_files, from_end, initial_size}

@@ -3,7 +3,8 @@
 ghost use Rattle.std.specs.Prelude.{◌≡◌, ◌↔◌, IsTrue, ◌-◌, ◌^◌, None, Some, IfErr, IfOk, IfNone, OnOk, min};
 ghost use Rattle.std.specs.Option.{option_map};
 ghost use Rattle.dl_field.specs.Usable.{IsUsable};
-ghost use Rattle.dl_head.specs.Built.{param_fault as param_fault_of, with_standard_opcodes as standard, wrong_length as wrong_length_of};
+ghost use Rattle.dl_head.specs.Built.{param_fault as param_fault_of, with_standard_opcodes as standard};
+ghost use Rattle.dl_head.specs.Built.{wrong_length as wrong_length_of};
 ghost use Rattle.dl_table.specs.Sound.{IsSoundTable};
 ghost use Rattle.dl_head.specs.Sound.{IsSoundHeader};
 ghost use Rattle.dl_field.specs.HeaderData.{header_cells};

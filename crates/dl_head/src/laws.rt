@@ -1,7 +1,9 @@
 //! Laws of the definitions of headers, each the contract of a function that does nothing. Section 6.2.4.
 
 ghost use Rattle.dl_field.specs.Laws.{FieldIsJudged};
-ghost use Rattle.dl_head.specs.Laws.{OneHeader, HeaderIsFound, FoundIsHeader, CutIsComputed, HeaderIsNotForeign, OneHeaderRefusal, RefusalIsComputed, HeaderIsNotRefused, ForeignIsNotRefused, FewCells, HeaderHoldsItsCells};
+ghost use Rattle.dl_head.specs.Laws.{OneHeader, HeaderIsFound, FoundIsHeader, CutIsComputed, HeaderIsNotForeign};
+ghost use Rattle.dl_head.specs.Laws.{OneHeaderRefusal, RefusalIsComputed, HeaderIsNotRefused, ForeignIsNotRefused};
+ghost use Rattle.dl_head.specs.Laws.{FewCells, HeaderHoldsItsCells};
 ghost use Rattle.dl_head.specs.Reading.{OneAnswer};
 ghost use Rattle.dl_head.specs.WrittenLaws.{WrittenIsHeader, WrittenHasItsLength, ReadIsSound};
 ghost use Rattle.dl_head.specs.Runs.{TraceRuns, HeaderIsRead};

@@ -10,7 +10,8 @@ ghost use Rattle.dl_table.specs.Value.{offset_size as offset_size_of};
 ghost use Rattle.dl_table.specs.Writing.{Writes};
 ghost use Rattle.dl_head.specs.Writing.{WritesHeader};
 ghost use Rattle.dl_table.specs.Written.{table_bytes};
-ghost use Rattle.dl_head.specs.Written.{byte_of, header_bytes, header_length_of, initial_length_bytes, is_within_limit, written_limit};
+ghost use Rattle.dl_head.specs.Written.{byte_of, header_bytes, header_length_of, initial_length_bytes, is_within_limit};
+ghost use Rattle.dl_head.specs.Written.{written_limit};
 
 use crate::header::Header;
 use crate::sizes::{fixed_part, initial_size};

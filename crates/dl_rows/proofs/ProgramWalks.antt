@@ -100,7 +100,7 @@ at_start h (phase.Address number) s = absurd cc
 at_start h (phase.Discriminator left number) s = absurd cc
 at_start h (phase.Rest left) s = absurd cc
 
--- no operation is begun exactly where nothing is left tail the complete ones
+-- no operation is begun exactly where nothing is left after the complete ones
 pub between : (order : Order) (h : Params) (p : Program) (b : List ℕ) → ProgramStands order h p b
     → (p.phase ≡ phase.Start) ↔ ((operations_in order h b).rest ≡ [])
 between order h p b s =

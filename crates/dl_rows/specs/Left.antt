@@ -1,4 +1,4 @@
--- How many bytes are left tail a step. No promise rests on this file.
+-- How many bytes are left after a step. No promise rests on this file.
 use Rattle.std.specs.Prelude.{ℕ, ◌+◌, ◌≤◌, length}
 use Rattle.dl_rows.specs.declared.operation.Operation.{Operation}
 use Rattle.dl_rows.specs.declared.operation.Operation.TheVariants as op

@@ -1,7 +1,8 @@
 //! Laws of the definitions of sections, each the contract of a function that does nothing.
 
 ghost use Rattle.dl_run.specs.CopyLaws.{CopiesAreUnits};
-ghost use Rattle.dl_run.specs.SectionLaws.{OneCut, OneEnd, MoreIsTold, OneChecking, OneFound, OneFinding, OneDumping, OneDump, DumpIsFront, OneCopying, OneCopy, CopyIsFront};
+ghost use Rattle.dl_run.specs.SectionLaws.{OneCut, OneEnd, MoreIsTold, OneChecking, OneFound, OneFinding, OneDumping};
+ghost use Rattle.dl_run.specs.SectionLaws.{OneDump, DumpIsFront, OneCopying, OneCopy, CopyIsFront};
 
 /// Bytes are cut into units, up to bytes that no unit begins, in one way alone. Section 6.2.4.
 pub fn one_cut()

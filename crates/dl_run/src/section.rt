@@ -1,6 +1,7 @@
 //! The units of a section, read one after the other. Section 6.2.4.
 
-ghost use Rattle.std.specs.Prelude.{◌≡◌, ◌≤◌, ◌<◌, ◌+◌, ◌^◌, ◌++◌, ◌∷◌, ◌⊎◌, [], ℕ, List, Option, length, take, IfOk, OnOk};
+ghost use Rattle.std.specs.Prelude.{◌≡◌, ◌≤◌, ◌<◌, ◌+◌, ◌^◌, ◌++◌, ◌∷◌, ◌⊎◌, [], ℕ, List, Option, length, take, IfOk};
+ghost use Rattle.std.specs.Prelude.{OnOk};
 ghost use Rattle.dl_num.specs.declared.fixed.Order.{Order};
 ghost use Rattle.std.specs.Io.KnownBytes.{Appends, Consumes};
 ghost use Rattle.dl_rows.specs.LineUnit.{IsUnit, ends_open, unit_rows};
@@ -9,7 +10,8 @@ ghost use Rattle.dl_rows.specs.Reading.{IsPause};
 ghost use Rattle.dl_rows.specs.ReaderStands.{StandsFor};
 ghost use Rattle.dl_rows.specs.Runs.{Sound};
 ghost use Rattle.dl_print.specs.Counts.{add};
-ghost use Rattle.dl_run.specs.Section.{Visit, NoUnitBegins, event_visits, header_of, open_visit, end_visits, section_visits};
+ghost use Rattle.dl_run.specs.Section.{Visit, NoUnitBegins, event_visits, header_of, open_visit, end_visits};
+ghost use Rattle.dl_run.specs.Section.{section_visits};
 ghost use Rattle.dl_run.specs.Told.{FeedsTold};
 ghost use Rattle.dl_run.specs.Visiting.{Hears, HearsEnd, Ran};
 ghost use Rattle.dl_run.specs.UnitsRead.{UnitsAre, UnitsFed, Worked, Finishes, counted, row_told, is_failed_write};
@@ -146,7 +148,8 @@ impl SectionUnits {
         visitor: &mut V,
         piece: &[u8],
     ) -> Result<Flow, RunFault>
-        ensures { (order : Order) (t : List ℕ) (units : List (List ℕ)) (b : List ℕ) (first : V) (start : Option (List ℕ))
+        ensures { (order : Order) (t : List ℕ) (units : List (List ℕ)) (b : List ℕ) (first : V)
+            (start : Option (List ℕ))
             → UnitsAre order self.old t units b → length t + length piece.now < 2 ^ 64
             → V.story.tells first visitor.old start (W.contents output.old) (section_visits order units b)
             → UnitsFed V.story order (t ++ piece.now) first visitor.new start (W.contents output.new) self.new result }
@@ -183,7 +186,8 @@ impl SectionUnits {
         ensures progress { IfOk result (λ fed. IfOk fed (λ f. IsPause f.event ⊎ (1 ≤ f.used))) }
         ensures end { IfOk result (λ fed. IfOk fed (λ f. f.event ≡ Event.End → 1 ≤ taken_of self.old.reader + f.used)) }
         ensures told { (b : List ℕ) → StandsFor self.old.reader b
-            → FeedsTold V.story b piece.now self.old self.new visitor.old visitor.new (W.contents output.old) (W.contents output.new) result }
+            → FeedsTold V.story b piece.now self.old self.new visitor.old visitor.new (W.contents output.old)
+            (W.contents output.new) result }
     {
         let mut told = Told {
             output,
@@ -241,7 +245,8 @@ impl SectionUnits {
         visitor: &mut V,
     ) -> Result<Flow, RunFault>
         ensures taken { OnOk result (taken_of self.new.reader ≡ 0) }
-        ensures units { (order : Order) (t : List ℕ) (units : List (List ℕ)) (b : List ℕ) → UnitsAre order self.old t units b
+        ensures units { (order : Order) (t : List ℕ) (units : List (List ℕ)) (b : List ℕ)
+            → UnitsAre order self.old t units b
             → IsUnit order b → length t < 2 ^ 64 → OnOk result (UnitsAre order self.new t (units ++ b ∷ []) []) }
         ensures heard { (b : List ℕ) → StandsFor self.old.reader b
             → HearsEnd V.story visitor.old visitor.new (W.contents output.old) (W.contents output.new)
@@ -272,7 +277,8 @@ impl SectionUnits {
     fn next_unit(&mut self) -> Option<Header>
         ensures taken { taken_of self.new.reader ≡ 0 }
         ensures header { (b : List ℕ) → StandsFor self.old.reader b → result ≡ header_of self.old.reader.order b }
-        ensures units { (order : Order) (t : List ℕ) (units : List (List ℕ)) (b : List ℕ) → UnitsAre order self.old t units b
+        ensures units { (order : Order) (t : List ℕ) (units : List (List ℕ)) (b : List ℕ)
+            → UnitsAre order self.old t units b
             → IsUnit order b → length t < 2 ^ 64 → UnitsAre order self.new t (units ++ b ∷ []) [] }
     {
         let reader = mem::replace(&mut self.reader, Reader::new(self.alloc, self.order));

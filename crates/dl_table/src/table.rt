@@ -1,6 +1,7 @@
 //! Tables of directories and files. Section 6.2.4.1.
 
-ghost use Rattle.std.specs.Prelude.{◌≡◌, ◌+◌, ◌-◌, ◌*◌, ◌/◌, ◌^◌, ◌<◌, ◌≤◌, ◌↔◌, ◌∷◌, ◌++◌, [], IsTrue, IfOk, OnOk, OnErr, Err, length, take, drop, map, min, slice_get};
+ghost use Rattle.std.specs.Prelude.{◌≡◌, ◌+◌, ◌-◌, ◌*◌, ◌/◌, ◌^◌, ◌<◌, ◌≤◌, ◌↔◌, ◌∷◌, ◌++◌, [], IsTrue, IfOk, OnOk};
+ghost use Rattle.std.specs.Prelude.{OnErr, Err, length, take, drop, map, min, slice_get};
 ghost use Rattle.std.specs.Option.{option_map};
 ghost use Rattle.dl_table.specs.Built.{entry_fault, format_fault, Refuses};
 ghost use Rattle.std.specs.List.{sum_by};

@@ -1,6 +1,7 @@
 //! Entries that are added to a table: which values it takes, and how it holds them.
 
-ghost use Rattle.std.specs.Prelude.{◌≡◌, ◌++◌, ◌∷◌, [], ◌+◌, ◌-◌, ◌^◌, ◌<◌, ◌≤◌, length, map, vec_len, vec_capacity, IfSome, IfNone, sum_by};
+ghost use Rattle.std.specs.Prelude.{◌≡◌, ◌++◌, ◌∷◌, [], ◌+◌, ◌-◌, ◌^◌, ◌<◌, ◌≤◌, length, map, vec_len, vec_capacity};
+ghost use Rattle.std.specs.Prelude.{IfSome, IfNone, sum_by};
 ghost use Rattle.dl_table.specs.Built.{fits_form, fits_offset, wrong_value as wrong_value_of};
 ghost use Rattle.dl_table.specs.Held.{bytes_at, bytes_lent, held_end, values_end, pooled, value_held, value_lent};
 ghost use Rattle.dl_table.specs.Value.{data16, number as number_value};

@@ -1,5 +1,5 @@
 use Rattle.std.proofs.Common.{◌∷◌, ◌++◌, [], ℕ, subst}
-use Rattle.dl_field.specs.TablePlace.{TakesContent}
+use Rattle.dl_field.specs.TableMoves.{TakesContent}
 use Rattle.dl_field.proofs.PairLemmas.{table_at, same_table, answered_none, answered_ok, answered_err, content_within}
 use Rattle.dl_field.proofs.PairLemmas.{content_bad, content_made}
 use Rattle.dl_field.proofs.table_reader.TableReader.content_code.Goals as goal

@@ -1,5 +1,5 @@
 use Rattle.std.proofs.Common.{ℕ, Some, None, refl, subst, ◌∙◌}
-use Rattle.dl_field.specs.TablePlace.{Moves}
+use Rattle.dl_field.specs.TableMoves.{Moves}
 use Rattle.dl_field.proofs.ValueLemmas.{moved, ended}
 use Rattle.dl_field.proofs.table_reader.TableReader.end_value.Goals as goal
 

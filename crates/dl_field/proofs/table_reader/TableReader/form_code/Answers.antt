@@ -1,5 +1,5 @@
 use Rattle.std.proofs.Common.{◌∷◌, ◌++◌, [], ℕ, subst}
-use Rattle.dl_field.specs.TablePlace.{TakesForm}
+use Rattle.dl_field.specs.TableMoves.{TakesForm}
 use Rattle.dl_field.proofs.PairLemmas.{table_at, same_table, answered_none, answered_ok, answered_err, form_within}
 use Rattle.dl_field.proofs.PairLemmas.{form_range, form_made}
 use Rattle.dl_field.proofs.table_reader.TableReader.form_code.Goals as goal

@@ -1,11 +1,11 @@
 use Rattle.std.proofs.Common.{◌<◌, ◌^◌, ℕ, [], ◌∷◌, ◌++◌, refl, ap, subst, ◌∙◌, arith}
 use Rattle.dl_field.specs.declared.value_phase.ValuePhase.TheVariants as value
 use Rattle.dl_field.specs.Layout.{value_judged}
-use Rattle.dl_field.specs.TablePlace.{BeginsBlock}
+use Rattle.dl_field.specs.TableMoves.{BeginsBlock}
 use Rattle.dl_field.proofs.PairLemmas.{table_at, same_table, answered_none, answered_ok, answered_err}
 use Rattle.dl_field.proofs.ValueFields.{value_field}
 use Rattle.dl_field.proofs.BlockLemmas.{leb_length_of, leb_length_open, leb_length_large}
-use Rattle.dl_field.specs.TablePlace.{has_bytes}
+use Rattle.dl_field.specs.TableMoves.{has_bytes}
 use Rattle.dl_field.proofs.FieldCells.{leb_unbegun, leb_large_unbegun}
 use Rattle.dl_field.proofs.ByteCells.{adds_one, open_field, length_field}
 use Rattle.dl_field.proofs.BlockSteps.{block_made}

@@ -1,7 +1,8 @@
 use Rattle.std.proofs.Common.{sym, subst, ◌∙◌, ap}
 use Rattle.dl_field.specs.declared.table_reader.TableReader.{TableReader}
 use Rattle.dl_table.specs.TableData.{TableData}
-use Rattle.dl_field.specs.TablePlace.{IsFresh, MakesTable}
+use Rattle.dl_field.specs.TablePlace.{IsFresh}
+use Rattle.dl_field.specs.TableMoves.{MakesTable}
 use Rattle.dl_table.specs.Held.{table_of}
 use Rattle.dl_field.proofs.TakenLemmas.{table_taken}
 use Rattle.dl_field.proofs.table_reader.TableReader.take.Goals as goal

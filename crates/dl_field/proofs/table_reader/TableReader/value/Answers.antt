@@ -3,7 +3,7 @@ use Rattle.dl_field.specs.declared.value_phase.ValuePhase.{ValuePhase}
 use Rattle.dl_field.specs.declared.value_phase.ValuePhase.TheVariants as value
 use Rattle.dl_field.specs.declared.table_reader.TablePhase.TheVariants as phase
 use Rattle.dl_field.proofs.PairLemmas.{table_at}
-use Rattle.dl_field.specs.TablePlace.{has_bytes}
+use Rattle.dl_field.specs.TableMoves.{has_bytes}
 use Rattle.dl_field.proofs.FieldCells.{number_no_bytes}
 use Rattle.dl_field.proofs.ByteCells.{adds_one, adds_value, text_field, block_field}
 use Rattle.dl_field.proofs.table_reader.TableReader.value.Goals as goal

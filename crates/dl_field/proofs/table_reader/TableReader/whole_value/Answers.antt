@@ -2,7 +2,7 @@ use Rattle.std.proofs.Common.{ℕ, ◌≡◌, ◌∙◌, true, false, sym, ap, s
 use Rattle.dl_field.specs.declared.table_reader.TablePhase.TheVariants as phase
 use Rattle.dl_field.specs.declared.value_phase.ValuePhase.{ValuePhase}
 use Rattle.dl_field.specs.declared.value_phase.ValuePhase.TheVariants as value
-use Rattle.dl_field.specs.TablePlace.{IsLast}
+use Rattle.dl_field.specs.TableMoves.{IsLast}
 use Rattle.dl_field.proofs.WholeValues.{value_entered}
 use Rattle.dl_field.proofs.table_reader.TableReader.whole_value.Goals as goal
 

@@ -43,4 +43,5 @@ returns-clause-takes c b s more =
     value_whole old _ b c.args.piece.now c.inside-bytes.result.now c.in-Some.tail.now table
     (table_goes old.phase table) c.inside-bytes.ensures.inside c.in-Some.ensures
     (record { order = refl; format = refl; unit_length = refl; end = refl; overrun = refl })
-    (λ is w now. phase_of_table _ old.phase is w table now) refl refl refl (omega (arith, c.inside-bytes.ensures.fits)) s
+    (λ is w now. phase_of_table _ old.phase is w table now) refl refl refl (omega (arith, c.inside-bytes.ensures.fits))
+    s

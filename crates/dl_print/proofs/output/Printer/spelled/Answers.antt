@@ -24,6 +24,7 @@ loop-done-preserved g c =
     record {
       within = omega (arith, c.min-end.ensures);
       printed =
-          PrintsMore-piece (spelled c.args.spelling) w l.done c.min-end.result (omega (arith, c.min-end.ensures)) _ _ _ _ _ _
+          PrintsMore-piece (spelled c.args.spelling) w l.done c.min-end.result (omega (arith, c.min-end.ensures)) _ _ _
+          _ _ _
           l.invariant.printed c.in_ok-spelled_part.ensures.printed;
     }

@@ -27,14 +27,17 @@ returns-in_err-out g c = record {
       let p = err_from_is_err_and c.from_residual.result c.from_residual.ensures.1 in
       let tells = c.in_err-out.ensures.written start _ (c.loop-i.invariant start text h) in
       rw (p.1, p.2) (TellsOut-piece start _ text (bytes (take i pairs) (take i all))
-      (value_bytes c.args.encoding.order c.args.encoding.format (get_or pairs i no_pair).form (value_held pool (get_or held i no_text)))
+      (value_bytes c.args.encoding.order c.args.encoding.format (get_or pairs i no_pair).form
+      (value_held pool (get_or held i no_text)))
       (bytes (drop (i + 1) pairs) (drop (i + 1) all)) (bytes pairs all) _
-      (entry_split c.args.encoding.order c.args.encoding.format pairs pool held i no_text c.loop-i-test.true c.requires.whole) tells);
+      (entry_split c.args.encoding.order c.args.encoding.format pairs pool held i no_text c.loop-i-test.true
+      c.requires.whole) tells);
 }
 
 pub loop-i-preserved : goal.loop-i-preserved
 loop-i-preserved g c = λ start text h.
     let i = c.loop-i.i in
-    let more = entry_more c.args.encoding.order c.args.encoding.format c.args.pairs.now c.args.pool.now c.args.held.now i no_text
+    let more = entry_more c.args.encoding.order c.args.encoding.format c.args.pairs.now c.args.pool.now c.args.held.now
+    i no_text
     c.loop-i-test.true (omega arith) in
     IsOut-piece start _ text _ _ _ _ more (c.in_ok-out.ensures.written start _ (c.loop-i.invariant start text h))

@@ -65,6 +65,7 @@ returns g c = record {
       let entries = (table_of c.args.encoding.format pairs c.args.values.now c.args.pool.now).entries in
       let whole = take_all c.loop-i.i entries
       (omega (arith, length-rows count width (map (value_held c.args.pool.now) c.args.values.now))) in
-      IsOut-same start _ text _ _ _ (ap (flat_map (entry_bytes c.args.encoding.order c.args.encoding.format pairs)) whole)
+      IsOut-same start _ text _ _ _ (ap (flat_map (entry_bytes c.args.encoding.order c.args.encoding.format pairs))
+      whole)
       (c.loop-i.invariant start text h);
 }
