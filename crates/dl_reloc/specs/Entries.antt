@@ -1,0 +1,75 @@
+-- Entries of relocations, and the values of symbols. System V ABI, chapter 4, "Relocation" and "Symbol Table".
+use Rattle.std.specs.Prelude.{ℕ, ◌+◌, ◌*◌, ◌/◌, ◌%◌, ◌^◌, ◌==◌, nat_lt, if◌then◌else◌, List, length, take, drop, Option}
+use Rattle.std.specs.Prelude.{Some, None}
+use Rattle.dl_num.specs.declared.fixed.Order.{Order}
+use Rattle.dl_num.specs.Fixed.{fixed}
+use Rattle.dl_reloc.specs.declared.target.Class.{Class}
+use Rattle.dl_reloc.specs.declared.target.Class.TheVariants.{Bits32, Bits64}
+use Rattle.dl_reloc.specs.declared.target.Form.{Form}
+use Rattle.dl_reloc.specs.declared.target.Form.TheVariants.{Rela, Rel}
+use Rattle.dl_reloc.specs.declared.entry.Entry.{Entry}
+
+-- the number that `size` bytes spell from `at` on
+abbrev pub number_at : Order → (at size : ℕ) → List ℕ → ℕ
+number_at order at size b = fixed order (take size (drop at b))
+
+-- how many whole items a table has; what follows the last of them belongs to none
+abbrev pub count : (size : ℕ) → List ℕ → ℕ
+count size table = length table / size
+
+-- the bytes of item i of a table
+abbrev pub item : (size i : ℕ) → List ℕ → List ℕ
+item size i table = take size (drop (i * size) table)
+
+-- ---- entries
+
+-- how many bytes an entry has
+abbrev pub entry_size : Class → Form → ℕ
+entry_size Bits32 Rel = 8
+entry_size Bits32 Rela = 12
+entry_size Bits64 Rel = 16
+entry_size Bits64 Rela = 24
+
+-- a signed number of 32 bits, modulo 2^64
+abbrev pub extended : ℕ → ℕ
+extended n = if nat_lt n 0x80000000 then n else (n + 0xffffffff00000000) % 2 ^ 64
+
+-- r_addend, modulo 2^64; an entry of REL has none
+abbrev pub addend_in : Class → Form → Order → List ℕ → Option ℕ
+addend_in class Rel order b = None
+addend_in Bits32 Rela order b = Some (extended (number_at order 8 4 b))
+addend_in Bits64 Rela order b = Some (number_at order 16 8 b)
+
+-- r_offset, then r_info, whose upper 24 or 32 bits are the symbol's number and whose lower 8 or 32 the type
+abbrev pub entry_in : Class → Form → Order → List ℕ → Entry
+entry_in Bits32 form order b = let info = number_at order 4 4 b in record {
+  offset = number_at order 0 4 b;
+  symbol = info / 2 ^ 8;
+  number = info % 2 ^ 8;
+  addend = addend_in Bits32 form order b;
+}
+entry_in Bits64 form order b = let info = number_at order 8 8 b in record {
+  offset = number_at order 0 8 b;
+  symbol = info / 2 ^ 32;
+  number = info % 2 ^ 32;
+  addend = addend_in Bits64 form order b;
+}
+
+-- ---- symbols
+
+-- how many bytes a symbol has
+abbrev pub symbol_size : Class → ℕ
+symbol_size Bits32 = 16
+symbol_size Bits64 = 24
+
+-- st_value
+abbrev pub value_in : Class → Order → List ℕ → ℕ
+value_in Bits32 order b = number_at order 4 4 b
+value_in Bits64 order b = number_at order 8 8 b
+
+-- the value of symbol i; that of number 0 (STN_UNDEF) is 0; None where the table has no symbol i
+abbrev pub symbol_value : Class → Order → (symbols : List ℕ) → ℕ → Option ℕ
+symbol_value class order symbols i =
+    if i == 0 then Some 0
+    else if nat_lt i (count (symbol_size class) symbols)
+    then Some (value_in class order (item (symbol_size class) i symbols)) else None

@@ -1,0 +1,5 @@
+-- What the public contracts say rests on these, in reading order.
+pub mod Entries
+pub mod Changes
+pub mod Types
+pub mod Relocated

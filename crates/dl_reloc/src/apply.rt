@@ -1,0 +1,107 @@
+//! Relocations applied in order.
+ghost use Rattle.std.specs.Prelude.{◌≡◌, ◌≢◌, ◌+◌, ◌≤◌, ◌<◌, length, MatchOption, MatchResult, Ok, Err};
+ghost use Rattle.dl_reloc.specs.Changes.{change_size};
+ghost use Rattle.dl_reloc.specs.Relocated.{applied, place_changed, relocated};
+
+use crate::change::{Change, number_of};
+use crate::entry::{Entry, entry_size};
+use crate::machine::change_of;
+use crate::symbol::symbol_value;
+use crate::table::{count, item};
+use crate::target::{Form, Target};
+use dl_num::{Order, fixed_bytes};
+
+/// Why relocations can't be applied.
+#[derive(Clone, Copy, Debug, PartialEq, Eq)]
+pub enum RelocationFault {
+    /// A type of this number isn't known of the machine, or the machine isn't known.
+    UnknownType(u64),
+    /// The bytes that one changes don't lie in the section.
+    PlaceOutside,
+    /// The symbol table doesn't have a symbol that one names.
+    SymbolOutside,
+}
+
+/// Changes the bytes at a place by a symbol of this value. Where there is no addend, it is what stands there.
+fn change_place(order: Order, change: Change, value: u64, addend: Option<u64>, place: &mut [u8])
+    requires some { 1 ≤ change_size change }
+    requires size { length place.old ≡ change_size change }
+    ensures { place.new ≡ place_changed order change value addend place.old }
+{
+    let old = number_of(order, place);
+    let sum = value.wrapping_add(addend.unwrap_or(old));
+    let bytes = fixed_bytes(order, change.size(), change.result(old, sum));
+    place.copy_from_slice(bytes.as_slice());
+}
+
+/// Where the place begins that has this many bytes; None where it doesn't lie in the section.
+fn place_within(offset: u64, size: usize, len: usize) -> Option<usize>
+    requires { size ≤ 8 }
+    ensures { MatchOption result (len < offset + size) (λ at. (at ≡ offset) × (offset + size ≤ len)) }
+{
+    let len = len as u64;
+    if len < offset || len - offset < size as u64 {
+        return None;
+    }
+    Some(offset as usize)
+}
+
+/// Applies one entry.
+fn apply(
+    target: &Target,
+    symbols: &[u8],
+    entry: &Entry,
+    bytes: &mut [u8],
+) -> Result<(), RelocationFault>
+    ensures { MatchResult result
+        (λ _. applied target.now symbols.now entry.now bytes.old ≡ Ok bytes.new)
+        (λ fault. applied target.now symbols.now entry.now bytes.old ≡ Err fault) }
+{
+    let Some(change) = change_of(target, entry.number) else {
+        return Err(RelocationFault::UnknownType(entry.number));
+    };
+    let size = change.size();
+    if size == 0 {
+        return Ok(());
+    }
+    let Some(at) = place_within(entry.offset, size, bytes.len()) else {
+        return Err(RelocationFault::PlaceOutside);
+    };
+    let Some(value) = symbol_value(target.class, target.order, symbols, entry.symbol) else {
+        return Err(RelocationFault::SymbolOutside);
+    };
+    change_place(
+        target.order,
+        change,
+        value,
+        entry.addend,
+        &mut bytes[at..at + size],
+    );
+    Ok(())
+}
+
+/// Applies the entries of a relocation section to the bytes of the section that they are for, in order.
+///
+/// `symbols` are the bytes of the symbol table that belongs to the entries. What is left of them, or of
+/// `entries`, after the last whole one belongs to none. Sums are taken modulo the width of the place. The
+/// first entry that has a fault decides; of one entry the type comes first, then the place, then the symbol.
+/// After a fault what stands in `bytes` isn't said. The work for an entry doesn't depend on the sizes.
+pub fn relocate(
+    target: &Target,
+    form: Form,
+    entries: &[u8],
+    symbols: &[u8],
+    bytes: &mut [u8],
+) -> Result<(), RelocationFault>
+    ensures { MatchResult result
+        (λ _. relocated target.now form entries.now symbols.now bytes.old ≡ Ok bytes.new)
+        (λ fault. relocated target.now form entries.now symbols.now bytes.old ≡ Err fault) }
+{
+    let size = entry_size(target.class, form);
+    for index in 0..count(entries, size) {
+        let entry = item(entries, size, index);
+        let entry = Entry::read(target.class, form, target.order, entry);
+        apply(target, symbols, &entry, bytes)?;
+    }
+    Ok(())
+}

@@ -1,0 +1,41 @@
+//! A row: relocations, and what they make of bytes.
+use dl_num::Order;
+use dl_reloc::{Class, Form, RelocationFault, Target, relocate};
+use std::alloc::Global;
+use std::test::Fail;
+
+/// Relocations, and what they make of bytes.
+#[derive(Clone, Copy, Debug)]
+pub struct Row<'a> {
+    pub name: &'a str,
+    pub machine: u64,
+    pub class: Class,
+    pub order: Order,
+    pub form: Form,
+    pub entries: &'a [u8],
+    pub symbols: &'a [u8],
+    pub bytes: &'a [u8],
+    pub relocated: &'a [u8],
+}
+
+/// Relocates the row's bytes, which are then in `bytes`.
+fn answer(row: &Row<'_>, bytes: &mut [u8]) -> Result<(), RelocationFault> {
+    let target = Target {
+        machine: row.machine,
+        class: row.class,
+        order: row.order,
+    };
+    relocate(&target, row.form, row.entries, row.symbols, bytes)
+}
+
+/// Whether the relocations make of the row's bytes what it says.
+pub fn is_relocated(alloc: Global, row: &Row<'_>) -> Result<bool, Fail> {
+    let mut bytes = Vec::from_slice(alloc, row.bytes)?;
+    Ok(answer(row, &mut bytes).is_ok() && bytes.as_slice() == row.relocated)
+}
+
+/// The fault of the row's relocations; None where they have none.
+pub fn fault(alloc: Global, row: &Row<'_>) -> Result<Option<RelocationFault>, Fail> {
+    let mut bytes = Vec::from_slice(alloc, row.bytes)?;
+    Ok(answer(row, &mut bytes).err())
+}
