@@ -23,7 +23,8 @@ pub entry_applied : (t : Target) (symbols : List ℕ) (e : Entry) (b : List ℕ)
     → applied t symbols e b ≡ Ok (put_mid at k b new)
 entry_applied t symbols e b change value at k new is some within symbol place size told =
     ap (by_change t symbols e b) is
-    ∙ rw (ne_eqb (change_size change) 0 some, le-leb (e.offset + change_size change) (length b) within) (ap (by_symbol t.order change e b) symbol
+    ∙ rw (ne_eqb (change_size change) 0 some, le-leb (e.offset + change_size change) (length b) within)
+    (ap (by_symbol t.order change e b) symbol
     ∙ rw (told, place, size) refl)
 
 -- the entry that was read
@@ -58,8 +59,8 @@ fault_stays t form entries symbols (suc end) n b fault le is = elim (cases_lt n 
 ]
 
 -- entry n of all has a fault, and those before it have none
-pub relocated_to_fault : (t : Target) (form : Form) (entries symbols : List ℕ) (n end : ℕ) (b before : List ℕ) (e : Entry)
-    (fault : RelocationFault) → n < end → end ≡ count (entry_size t.class form) entries
+pub relocated_to_fault : (t : Target) (form : Form) (entries symbols : List ℕ) (n end : ℕ) (b before : List ℕ)
+    (e : Entry) (fault : RelocationFault) → n < end → end ≡ count (entry_size t.class form) entries
     → applied_upto t form entries symbols n b ≡ Ok before
     → e ≡ entry_at t form entries n → applied t symbols e before ≡ Err fault
     → relocated t form entries symbols b ≡ Err fault

@@ -1,5 +1,5 @@
--- What a relocation does to the bytes at its place. ABI supplements, "Relocation Types". S + A is the sum of its symbol's
--- value and its addend.
+-- What a relocation does to the bytes at its place. ABI supplements, "Relocation Types". S + A is the sum of its
+-- symbol's value and its addend.
 use Rattle.std.specs.Prelude.{ℕ, ◌+◌, ◌-◌, ◌*◌, ◌/◌, ◌%◌, ◌^◌}
 use Rattle.dl_reloc.specs.declared.change.Width.{Width}
 use Rattle.dl_reloc.specs.declared.change.Width.TheVariants.{Bits8, Bits16, Bits24, Bits32, Bits64}

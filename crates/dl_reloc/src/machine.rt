@@ -1,6 +1,7 @@
 //! What the types of relocations do, by machine. ABI supplements, "Relocation Types".
 ghost use Rattle.std.specs.Prelude.{◌≡◌};
-ghost use Rattle.dl_reloc.specs.Types.{aarch64, change_of, loongarch, loongarch_difference, mips, riscv, riscv_difference, riscv_field, word_type, word_types, x86_64};
+ghost use Rattle.dl_reloc.specs.Types.{aarch64, change_of, loongarch, loongarch_difference, mips, riscv};
+ghost use Rattle.dl_reloc.specs.Types.{riscv_difference, riscv_field, word_type, word_types, x86_64};
 
 use crate::change::{Change, Width};
 use crate::target::{Class, Target};
