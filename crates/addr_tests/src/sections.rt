@@ -103,12 +103,6 @@ pub fn plain<'a>(asked: &'a [Asked]) -> Question<'a> {
     }
 }
 
-/// What `addr` answers where each address has a row.
-pub const ALL: Result<Found, RunFault> = Ok(Found::All);
-
-/// What it answers where one has none.
-pub const NOT_ALL: Result<Found, RunFault> = Ok(Found::NotAll);
-
 /// Asserts what `addr` prints and answers, the section coming whole and byte by byte.
 pub fn assert_addr(
     rt: &impl Abort,
