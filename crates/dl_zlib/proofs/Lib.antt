@@ -1,18 +1,25 @@
 pub mod AdlerLemmas
 pub mod BaseLemmas
+pub mod BlockLemmas
 pub mod BufferLemmas
+pub mod CheckLemmas
 pub mod CodeLaws
 pub mod CopyLemmas
 pub mod DecodeLemmas
 pub mod FieldLemmas
 pub mod FieldsLemmas
+pub mod HeaderLemmas
 pub mod KeptLemmas
+pub mod LongLemmas
+pub mod OnwardLemmas
 pub mod LengthLemmas
 pub mod PieceLemmas
+pub mod PiecesLemmas
 pub mod ReadLemmas
 pub mod RepeatLemmas
 pub mod RunLemmas
 pub mod ShortLemmas
+pub mod StoredLemmas
 pub mod TurnLemmas
 pub mod WalkLemmas
 mod Worked

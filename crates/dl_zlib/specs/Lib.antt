@@ -11,3 +11,5 @@ pub mod BasesKept
 pub mod PieceKept
 pub mod LengthsKept
 pub mod Turns
+pub mod Blocks
+pub mod Onward
