@@ -105,7 +105,7 @@ fn assert_many_rows(rt: &impl Abort, reader: &mut Reader, unit: &[u8]) -> Result
 }
 
 #[test]
-fn behind_a_header_nothing_grows(rt: HostRuntime) -> Result<(), Fail> {
+fn after_a_header_nothing_grows(rt: HostRuntime) -> Result<(), Fail> {
     let mut unit = many_rows(rt.alloc())?;
     assert_eq!(rt; unit.get(..4), Some(&[0xbe, 0x86, 0x01, 0x00][..]));
     // Bytes after the unit, so that its end is told.

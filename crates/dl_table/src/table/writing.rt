@@ -5,7 +5,7 @@ ghost use Rattle.std.specs.List.{flat_map};
 ghost use Rattle.dl_num.specs.Fixed.{fixed_bytes};
 ghost use Rattle.dl_num.specs.Shortest.{shortest_uleb};
 ghost use Rattle.dl_table.specs.Held.{held_end, table_of, value_held, value_lent, values_end};
-ghost use Rattle.dl_table.specs.Value.{block, number as number_value};
+ghost use Rattle.dl_table.specs.Value.{block, number as number_value, offset_size};
 ghost use Rattle.dl_table.specs.Spelled.{entry_parts, format_parts, table_parts};
 ghost use Rattle.dl_table.specs.Writing.{Writes};
 ghost use Rattle.dl_table.specs.Written.{entry_bytes, pair_bytes, table_bytes, value_bytes};
@@ -188,38 +188,28 @@ fn put_value<W: Write>(
 {
     match *value {
         ValueRef::Text(bytes) if form == Form::String => put_text(output, out, bytes),
-        ValueRef::LineStr(offset) if form == Form::LineStrp => {
-            put_number(
-                output,
-                out,
-                encoding.order,
-                encoding.format.offset_size(),
-                offset,
-            )
-        }
-        ValueRef::Str(offset) if form == Form::Strp => {
-            put_number(
-                output,
-                out,
-                encoding.order,
-                encoding.format.offset_size(),
-                offset,
-            )
-        }
-        ValueRef::StrSup(offset) if form == Form::StrpSup => {
-            put_number(
-                output,
-                out,
-                encoding.order,
-                encoding.format.offset_size(),
-                offset,
-            )
-        }
+        ValueRef::LineStr(offset) if form == Form::LineStrp => put_offset(output, out, encoding, offset),
+        ValueRef::Str(offset) if form == Form::Strp => put_offset(output, out, encoding, offset),
+        ValueRef::StrSup(offset) if form == Form::StrpSup => put_offset(output, out, encoding, offset),
         ValueRef::Number(number) => put_number_of(output, out, encoding.order, form, number),
         ValueRef::Block(bytes) => put_block(output, out, encoding.order, form, bytes),
         ValueRef::Data16(bytes) if form == Form::Data16 => put_sixteen(output, out, bytes),
         _ => Ok(out),
     }
+}
+
+/// Writes an offset into a section, of the size that its format has. Section 7.4.
+fn put_offset<W: Write>(
+    output: &mut W,
+    out: u64,
+    encoding: Encoding,
+    offset: u64,
+) -> Result<u64, HeadWrite>
+    ensures written { Writes (W.contents output.old) (W.contents output.new) out
+        (fixed_bytes encoding.order (offset_size encoding.format) offset) result }
+{
+    let size = encoding.format.offset_size();
+    put_number(output, out, encoding.order, size, offset)
 }
 
 /// Writes a text and its zero byte.
