@@ -1,6 +1,8 @@
 //! Which row answers for an address, and what stands in the lines.
-use crate::sections::{DEAD, OVER, PATHS, PLAIN, TOP, asked, assert_addr, plain, section};
-use dl_addr::{Form, Found, Question, Style};
+use crate::sections::{
+    ALL, DEAD, NOT_ALL, OVER, PATHS, PLAIN, TOP, asked, assert_addr, plain, section,
+};
+use dl_addr::{Form, Question, Style};
 use dl_head::FaultKind;
 use dl_run::RunFault;
 use std::test::Fail;
@@ -32,14 +34,7 @@ fn each_address_has_its_line(rt: HostRuntime) -> Result<(), Fail> {
     let question = plain(asked.as_slice());
     let text = "/whole.c:14:4\n??:0\n??:0\n/src/main.c:10\n/whole.c:14:4\n??:0\n??:30:2\n??:0\n\
                 /t/top.c:1:1\n??:0\n";
-    assert_addr(
-        &rt,
-        alloc,
-        section.as_slice(),
-        &question,
-        text,
-        Ok(Found::NotAll),
-    );
+    assert_addr(&rt, alloc, section.as_slice(), &question, text, NOT_ALL);
     Ok(())
 }
 
@@ -51,14 +46,7 @@ fn the_first_sequence_answers(rt: HostRuntime) -> Result<(), Fail> {
     let asked = asked(alloc, &[Some(0x140), Some(0x17f), Some(0x180), Some(0x45)])?;
     let question = plain(asked.as_slice());
     let text = "/o/one.c:1:1\n/o/one.c:1:1\n/o/two.c:2:2\n/d/dead.c:2:2\n";
-    assert_addr(
-        &rt,
-        alloc,
-        section.as_slice(),
-        &question,
-        text,
-        Ok(Found::All),
-    );
+    assert_addr(&rt, alloc, section.as_slice(), &question, text, ALL);
     Ok(())
 }
 
@@ -81,14 +69,7 @@ fn bases_and_addresses(rt: HostRuntime) -> Result<(), Fail> {
     };
     let text = "0x0000555500001010 /src/main.c:11:1\n0x0000000000001010 ??:0\n??:0\n\
                 0xffffffffffffffff ??:0\n";
-    assert_addr(
-        &rt,
-        alloc,
-        section.as_slice(),
-        &question,
-        text,
-        Ok(Found::NotAll),
-    );
+    assert_addr(&rt, alloc, section.as_slice(), &question, text, NOT_ALL);
     Ok(())
 }
 
@@ -115,7 +96,7 @@ fn no_address(rt: HostRuntime) -> Result<(), Fail> {
     let alloc = rt.alloc();
     let question = plain(&[]);
     let whole = section(alloc, &[PATHS, TOP])?;
-    assert_addr(&rt, alloc, whole.as_slice(), &question, "", Ok(Found::All));
+    assert_addr(&rt, alloc, whole.as_slice(), &question, "", ALL);
     let damaged = section(alloc, &[PATHS, "05"])?;
     let fault = RunFault::Damage {
         offset: 245,

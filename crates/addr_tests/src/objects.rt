@@ -1,6 +1,6 @@
 //! Lines that are JSON objects.
-use crate::sections::{OVER, PATHS, PLAIN, asked, assert_addr, plain, section};
-use dl_addr::{Form, Found, Question, Style};
+use crate::sections::{NOT_ALL, OVER, PATHS, PLAIN, asked, assert_addr, plain, section};
+use dl_addr::{Form, Question, Style};
 use std::test::Fail;
 
 /// A unit of two files, in a directory `/q"` and by the names `a\b` and, in bytes that are no UTF-8, `\xff`
@@ -36,13 +36,6 @@ fn objects(rt: HostRuntime) -> Result<(), Fail> {
                 \"discriminator\":0,\"is_stmt\":true,\"unit\":\"0x65\"}\n\
                 {\"address\":\"0x0000000000001071\",\"path\":\"/src/x\\u0001y\u{7f}.c\",\"line\":17,\"column\":7,\
                 \"discriminator\":0,\"is_stmt\":true,\"unit\":\"0xbb\"}\n{\"address\":\"0x0000000000000018\"}\n";
-    assert_addr(
-        &rt,
-        alloc,
-        section.as_slice(),
-        &question,
-        text,
-        Ok(Found::NotAll),
-    );
+    assert_addr(&rt, alloc, section.as_slice(), &question, text, NOT_ALL);
     Ok(())
 }

@@ -1,6 +1,8 @@
 //! The paths of files.
-use crate::sections::{NODIR, PATHS, PLAIN, RELATIVE, asked, assert_addr, options, plain, section};
-use dl_addr::{Found, Question, Style, addr};
+use crate::sections::{
+    ALL, NODIR, PATHS, PLAIN, RELATIVE, asked, assert_addr, options, plain, section,
+};
+use dl_addr::{Question, Style, addr};
 use dl_run::Options;
 use std::test::Fail;
 use test_support::{Sink, Source};
@@ -30,14 +32,7 @@ fn paths(rt: HostRuntime) -> Result<(), Fail> {
     let text = "/src/main.c:10\n/src/main.c:11:1\n/src/lib/a.c:12:2\n/abs/b.c:13:3\n/whole.c:14:4\n\
                 C:\\win/c.c:15:5\nE:\\e.c:16:6\n/src/x\\x01y\\x7f.c:17:7\n??:18:8\nD:/w/h.c:19:9\n??:30:2\n";
     let question = plain(asked.as_slice());
-    assert_addr(
-        &rt,
-        alloc,
-        section.as_slice(),
-        &question,
-        text,
-        Ok(Found::All),
-    );
+    assert_addr(&rt, alloc, section.as_slice(), &question, text, ALL);
     let names = "main.c:10\nmain.c:11:1\na.c:12:2\nb.c:13:3\nwhole.c:14:4\n\
                  c.c:15:5\ne.c:16:6\nx\\x01y\\x7f.c:17:7\n??:18:8\nh.c:19:9\n??:30:2\n";
     let question = Question {
@@ -47,14 +42,7 @@ fn paths(rt: HostRuntime) -> Result<(), Fail> {
         },
         ..question
     };
-    assert_addr(
-        &rt,
-        alloc,
-        section.as_slice(),
-        &question,
-        names,
-        Ok(Found::All),
-    );
+    assert_addr(&rt, alloc, section.as_slice(), &question, names, ALL);
     Ok(())
 }
 
@@ -66,14 +54,7 @@ fn directory_0(rt: HostRuntime) -> Result<(), Fail> {
     let asked = asked(alloc, &[Some(0x2000), Some(0x2010), Some(0x3000)])?;
     let text = "work/m.c:1:1\nwork/lib/m.c:2:2\n??:1:1\n";
     let question = plain(asked.as_slice());
-    assert_addr(
-        &rt,
-        alloc,
-        section.as_slice(),
-        &question,
-        text,
-        Ok(Found::All),
-    );
+    assert_addr(&rt, alloc, section.as_slice(), &question, text, ALL);
     Ok(())
 }
 
@@ -108,7 +89,7 @@ fn string_sections(rt: HostRuntime) -> Result<(), Fail> {
             ..options()
         };
         let answered = addr(alloc, &mut input, &mut output, &question, &options);
-        assert_eq!(&rt; answered, Ok(Found::All));
+        assert_eq!(&rt; answered, ALL);
         assert_eq!(&rt; output.held.as_slice(), text.as_bytes());
     }
     Ok(())

@@ -103,6 +103,12 @@ pub fn plain<'a>(asked: &'a [Asked]) -> Question<'a> {
     }
 }
 
+/// Each of the asked addresses has an answer.
+pub const ALL: Result<Found, RunFault> = Ok(Found::All);
+
+/// One of the asked addresses at least has no answer.
+pub const NOT_ALL: Result<Found, RunFault> = Ok(Found::NotAll);
+
 /// Asserts what `addr` prints and answers, the section coming whole and byte by byte.
 pub fn assert_addr(
     rt: &impl Abort,
