@@ -6,8 +6,10 @@ pub mod CheckLemmas
 pub mod CodeLaws
 pub mod CopyLemmas
 pub mod DecodeLemmas
+pub mod FeedLemmas
 pub mod FieldLemmas
 pub mod FieldsLemmas
+pub mod FrontLemmas
 pub mod HeaderLemmas
 pub mod KeptLemmas
 pub mod LongLemmas
@@ -19,6 +21,7 @@ pub mod ReadLemmas
 pub mod RepeatLemmas
 pub mod RunLemmas
 pub mod ShortLemmas
+pub mod StandLemmas
 pub mod StoredLemmas
 pub mod TurnLemmas
 pub mod WalkLemmas
