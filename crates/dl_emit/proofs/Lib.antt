@@ -1,4 +1,5 @@
 pub mod GatherLemmas
+pub mod GrownLemmas
 pub mod LengthLemmas
 pub mod ProgramLemmas
 pub mod ReadAgain

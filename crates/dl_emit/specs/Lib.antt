@@ -4,6 +4,7 @@ pub mod Program
 pub mod WrittenUnit
 pub mod Laws
 pub mod Writing
+pub mod Grown
 -- Of contracts inside the crate, and of proofs; no public contract reaches these.
 pub mod Gathered
 pub mod HeadFault

@@ -3,9 +3,11 @@
 
 mod bytes;
 mod fault;
+mod growing;
 pub mod laws;
 mod program;
 mod unit;
 
 pub use fault::EmitFault;
+pub use growing::Program;
 pub use unit::{measure, write_unit};

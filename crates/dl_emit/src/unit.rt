@@ -54,7 +54,7 @@ pub fn write_unit<W: Write>(
 }
 
 /// Whether the row can be one of a unit with these params.
-fn is_in_range(params: &Params, row: Row) -> bool
+pub fn is_in_range(params: &Params, row: Row) -> bool
     requires { IsUsable params.now }
     ensures value { result ≡ is_in_range_of params.now row }
     ensures row { IsRow row }

@@ -12,6 +12,7 @@ use Rattle.dl_table.specs.declared.table.Pair.{Pair}
 use Rattle.dl_table.specs.declared.fault.FaultKind.{FaultKind}
 use Rattle.dl_table.specs.declared.fault.FaultKind.TheVariants as fault
 use Rattle.dl_table.specs.TableData.{TableData}
+use Rattle.dl_field.specs.declared.params.Params.{Params}
 use Rattle.dl_field.specs.HeaderData.{HeaderData}
 use Rattle.dl_table.specs.Value.{Value, Judgement, good, bad, form_of_code, offset_size, value_spelt}
 
@@ -48,6 +49,10 @@ pub data Layout : Type 0 where
 -- the operands of the standard opcodes 1 to 12, section 6.2.5.2
 abbrev pub standard_lengths : List ℕ
 standard_lengths = 0 ∷ 1 ∷ 1 ∷ 1 ∷ 1 ∷ 0 ∷ 0 ∷ 0 ∷ 1 ∷ 0 ∷ 0 ∷ 1 ∷ []
+
+-- the params with opcode_base 13 and the lengths of section 6.2.5.2
+abbrev pub standard_params : Params → Params
+standard_params p = record p { opcode_base = 13; lengths = record { items = standard_lengths } }
 
 -- count pairs of a content code and a form code
 abbrev pub pairs_layout : ℕ → List Pair → (List Pair → Layout) → Layout

@@ -1,7 +1,7 @@
 //! The fields of a header that are numbers. Section 6.2.4.
 
 ghost use Rattle.std.specs.Prelude.{◌≡◌, [], ◌≤◌, IsTrue, Some, None, if◌then◌else◌};
-ghost use Rattle.dl_field.specs.Layout.{objection, opcode_length};
+ghost use Rattle.dl_field.specs.Layout.{objection, opcode_length, standard_params};
 ghost use Rattle.dl_table.specs.declared.fault.FaultKind.TheVariants as fault;
 ghost use Rattle.dl_field.specs.Usable.{IsUsable};
 
@@ -56,6 +56,25 @@ impl Params {
             line_range: 1,
             opcode_base: 1,
             lengths: ArrayVec::new(),
+        }
+    }
+
+    /// The same with opcode_base 13 and the twelve lengths of section 6.2.5.2.
+    pub fn with_standard_opcodes(&self) -> Params
+        ensures value { result ≡ standard_params self.now }
+        ensures usable { IsUsable self.now → IsUsable result }
+    {
+        Params {
+            format: self.format,
+            address_size: self.address_size,
+            segment_selector_size: self.segment_selector_size,
+            minimum_instruction_length: self.minimum_instruction_length,
+            maximum_operations_per_instruction: self.maximum_operations_per_instruction,
+            default_is_stmt: self.default_is_stmt,
+            line_base: self.line_base,
+            line_range: self.line_range,
+            opcode_base: 13,
+            lengths: standard_lengths(),
         }
     }
 }

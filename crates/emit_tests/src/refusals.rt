@@ -1,7 +1,7 @@
 //! Units that aren't written.
 
 use crate::vectors::{OPCODE_BASE_10, header};
-use dl_emit::{EmitFault, measure, write_unit};
+use dl_emit::{EmitFault, Program, measure, write_unit};
 use dl_head::Header;
 use dl_num::Order;
 use dl_rows::Row;
@@ -10,13 +10,26 @@ use std::process::Abort;
 use std::test::Fail;
 use test_support::{Sink, bytes, row, unit_with};
 
-/// Asserts that nothing is written, for this reason.
-fn assert_refused(rt: &impl Abort, alloc: Global, head: &Header, rows: &[Row], fault: EmitFault) {
+/// Asserts that nothing is written, for this reason, neither of the rows at once nor of a program of them.
+fn assert_refused(
+    rt: &impl Abort,
+    alloc: Global,
+    head: &Header,
+    rows: &[Row],
+    fault: EmitFault,
+) -> Result<(), Fail> {
     assert_eq!(rt; measure(head, rows), Err(fault));
     let mut output = Sink::new(alloc, 1000, 7);
     let written = write_unit(&mut output, Order::Little, head, rows);
     assert_eq!(rt; written, Err(fault));
+    let mut program = Program::new(alloc, Order::Little);
+    program.begin(head);
+    for row in rows {
+        program.push(row)?;
+    }
+    assert_eq!(rt; program.write(&mut output, head), Err(fault));
     assert_eq!(rt; output.held.len(), 0);
+    Ok(())
 }
 
 #[test]
@@ -25,9 +38,8 @@ fn opcode_base_10(rt: HostRuntime) -> Result<(), Fail> {
     let head = bytes(alloc, OPCODE_BASE_10)?;
     let head = header(alloc, Order::Little, head.as_slice())?;
     let fault = EmitFault::OpcodeBase;
-    assert_refused(&rt, alloc, &head, &[row(0, 0, 6)], fault);
-    assert_refused(&rt, alloc, &head, &[row(0, 1, 6)], fault);
-    Ok(())
+    assert_refused(&rt, alloc, &head, &[row(0, 0, 6)], fault)?;
+    assert_refused(&rt, alloc, &head, &[row(0, 1, 6)], fault)
 }
 
 #[test]
@@ -36,15 +48,36 @@ fn rows_out_of_range(rt: HostRuntime) -> Result<(), Fail> {
     let unit = unit_with(alloc, &[(12, 0x10), (13, 3)], "")?;
     let head = header(alloc, Order::Little, unit.as_slice())?;
     let first = EmitFault::RowRange(0);
-    assert_refused(&rt, alloc, &head, &[row(0x1000, 3, 1)], first);
+    assert_refused(&rt, alloc, &head, &[row(0x1000, 3, 1)], first)?;
     let rows = [row(0, 2, 1), row(0, 3, 1), row(0, 4, 1)];
-    assert_refused(&rt, alloc, &head, &rows, EmitFault::RowRange(1));
+    assert_refused(&rt, alloc, &head, &rows, EmitFault::RowRange(1))?;
     for (size, beyond) in [(1, 1 << 8), (2, 1 << 16), (4, 1 << 32)] {
         let unit = unit_with(alloc, &[(6, size)], "")?;
         let head = header(alloc, Order::Little, unit.as_slice())?;
         let rows = [row(beyond - 1, 0, 1), row(beyond, 0, 1)];
-        assert_refused(&rt, alloc, &head, &rows, EmitFault::RowRange(1));
+        assert_refused(&rt, alloc, &head, &rows, EmitFault::RowRange(1))?;
         assert!(rt; measure(&head, &[row(beyond - 1, 0, 1)]).is_ok());
     }
+    Ok(())
+}
+
+/// A program begins anew with a header: no row of before is one of it, and none is refused any more.
+#[test]
+fn a_program_begins_anew(rt: HostRuntime) -> Result<(), Fail> {
+    let alloc = rt.alloc();
+    let unit = unit_with(alloc, &[(6, 4)], "")?;
+    let head = header(alloc, Order::Little, unit.as_slice())?;
+    let mut program = Program::new(alloc, Order::Little);
+    program.begin(&head);
+    program.push(&row(1 << 32, 0, 1))?;
+    program.push(&row(0, 0, 1))?;
+    program.begin(&head);
+    program.push(&row(4, 0, 2))?;
+    let mut output = Sink::new(alloc, 1000, 1000);
+    let rows = [row(4, 0, 2)];
+    assert_eq!(&rt; program.write(&mut output, &head), measure(&head, &rows));
+    let mut whole = Sink::new(alloc, 1000, 1000);
+    assert!(&rt; write_unit(&mut whole, Order::Little, &head, &rows).is_ok());
+    assert_eq!(&rt; output.held.as_slice(), whole.held.as_slice());
     Ok(())
 }

@@ -1,7 +1,7 @@
 //! Worked units.
 
 use crate::vectors::{header, plain, rows, three_rows};
-use dl_emit::{measure, write_unit};
+use dl_emit::{Program, measure, write_unit};
 use dl_head::{Form, Format, Header, Pair, Table, ValueRef};
 use dl_num::Order;
 use dl_rows::Row;
@@ -28,6 +28,14 @@ fn assert_unit(
         assert_eq!(rt; write_unit(&mut output, order, head, written), Ok(len));
         assert_eq!(rt; output.held.as_slice(), unit);
     }
+    let mut program = Program::new(alloc, order);
+    program.begin(head);
+    for row in written {
+        program.push(row)?;
+    }
+    let mut output = Sink::new(alloc, 1000, 7);
+    assert_eq!(rt; program.write(&mut output, head), Ok(len));
+    assert_eq!(rt; output.held.as_slice(), unit);
     let again = header(alloc, order, unit)?;
     assert!(rt; again == *head);
     let read = rows(alloc, order, unit)?;

@@ -1,0 +1,44 @@
+use Rattle.std.proofs.Common.{◌∙◌, sym, ap, subst, arith, length, length-append, Option, ◌≡◌, true, Bool, ℕ, List, ◌++◌}
+use Rattle.std.specs.Option.{is_some}
+use Rattle.dl_field.specs.declared.params.Params.{Params}
+use Rattle.dl_rows.specs.declared.row.Row.{Row}
+use Rattle.dl_emit.specs.Grown.{ProgramData, IsGrown}
+use Rattle.dl_emit.specs.WrittenUnit.{operations_bytes}
+use Rattle.dl_emit.proofs.GrownLemmas.{stays_refused, becomes_refused, grows, row_has_bytes, refused_none}
+use Rattle.dl_emit.proofs.growing.Program.push.Goals as goal
+
+pub returns-then-is_some-clause-grown : goal.returns-then-is_some-clause-grown
+returns-then-is_some-clause-grown c h rows g =
+    stays_refused c.args.self.now _ h rows c.args.row.now g
+    (ap (λ (p : ProgramData). is_some p.refused) (sym c.self.view_is) ∙ sym c.is_some.ensures ∙ c.if-is_some.true)
+
+pub returns-then-not-is_in_range-clause-grown : goal.returns-then-not-is_in_range-clause-grown
+returns-then-not-is_in_range-clause-grown c h rows g =
+    let order = c.args.self.now.order in
+    becomes_refused _ order h rows c.args.row.now
+    (subst (λ (p : ProgramData). IsGrown p order h rows) (sym c.self.view_is) g)
+    (refused_none _ (sym c.is_some.ensures ∙ c.if-is_some.false))
+    (sym c.is_in_range.ensures.value ∙ c.if-not-is_in_range.true)
+
+pub invariant_of-self-2 : goal.invariant_of-self-2
+invariant_of-self-2 c =
+    let inside = c.self.inside in
+    let some = row_has_bytes inside.order inside.params inside.before c.args.row.now in
+    let row : c.put_row.new.bytes.items ≡ _ = rw c.new-bytes.ensures at c.put_row.ensures.items in
+    let more = ap length (c.in_ok-extend_from_slice.ensures.items) in
+    let sum = length-append inside.bytes.items c.as_slice.result.now in
+    let held = ap length c.as_slice.ensures.value in
+    let bytes = ap length row in
+    (c.self.invariant.0, omega (arith, c.self.invariant.1, some, more, sum, held, bytes))
+
+pub returns-clause-grown : goal.returns-clause-grown
+returns-clause-grown c h rows g =
+    let inside = c.self.inside in
+    let order = c.args.self.now.order in
+    let row = rw c.new-bytes.ensures at c.put_row.ensures.items in
+    let grown =
+    grows _ order h rows c.args.row.now
+    (subst (λ (p : ProgramData). IsGrown p order h rows) (sym c.self.view_is) g) c.put_row.new.bytes.items
+    (refused_none _ (sym c.is_some.ensures ∙ c.if-is_some.false))
+    (sym c.is_in_range.ensures.value ∙ c.if-not-is_in_range.false) c.is_in_range.ensures.row row in
+    rw (c.kept-self-inside.ensures, c.in_ok-extend_from_slice.ensures.items, c.as_slice.ensures.value) grown
