@@ -21,6 +21,7 @@ pub mod ReadLemmas
 pub mod RepeatLemmas
 pub mod RunLemmas
 pub mod ShortLemmas
+pub mod ShrinkLemmas
 pub mod StandLemmas
 pub mod StoredLemmas
 pub mod TurnLemmas
