@@ -7,7 +7,10 @@ pub mod FieldLaws
 pub mod FieldLemmas
 pub mod GoodLemmas
 pub mod PairLemmas
+pub mod SameTables
 pub mod TakenLemmas
 pub mod ValueFields
 pub mod ValueLemmas
+pub mod WholeBlocks
+pub mod WholeRuns
 pub mod WholeValues

@@ -1,5 +1,5 @@
 -- A value of a table whose bytes come at once.
-use Rattle.std.proofs.Common.{Bor, ◌≡◌, ◌≢◌, inl, inr, ℕ, suc, ◌+◌, ◌-◌, ◌^◌, ◌<◌, ◌≤◌, ◌==◌, List, [], ◌∷◌, ◌++◌}
+use Rattle.std.proofs.Common.{Bor, ◌≡◌, ◌≢◌, inl, inr, ℕ, suc, ◌+◌, ◌-◌, ◌<◌, ◌≤◌, ◌==◌, List, [], ◌∷◌, ◌++◌}
 use Rattle.std.proofs.Common.{length}
 use Rattle.std.proofs.Common.{take, drop, Option, Some, None, option_map, refl, sym, ap, subst, ◌∙◌, arith}
 use Rattle.std.proofs.Common.{append_assoc, length-append}
@@ -11,7 +11,6 @@ use Rattle.dl_num.proofs.LebFrontLemmas.{answer-map}
 use Rattle.dl_num.specs.declared.fixed.Order.{Order}
 use Rattle.dl_num.specs.declared.leb.Uleb.{Uleb}
 use Rattle.dl_num.specs.Leb.{IsUleb}
-use Rattle.dl_num.specs.LebReader.{UlebTook}
 use Rattle.dl_num.specs.OperandBytes.{operand_bytes}
 use Rattle.dl_table.specs.declared.form.Format.{Format}
 use Rattle.dl_table.specs.declared.table.held.StoredValue.{StoredValue}
@@ -29,8 +28,8 @@ use Rattle.dl_table.specs.Text.{text_in}
 use Rattle.dl_field.specs.TableStep.{value_due}
 use Rattle.dl_field.specs.Layout.{Layout}
 use Rattle.dl_field.specs.TablePlace.{InValue, TableAt}
-use Rattle.dl_field.specs.TableMoves.{OneCell, TableMade, Enters, EntersAt, InFront, IsLast}
-use Rattle.dl_field.specs.TableMoves.{SameTable, TakesValue, has_bytes}
+use Rattle.dl_field.specs.TableMoves.{OneCell, TableMade, Enters, EntersAt, InFront, LebInFront, IsLast}
+use Rattle.dl_field.specs.TableMoves.{SameTable, TakesFront, TakesValue, has_bytes}
 use Rattle.dl_field.proofs.FieldLemmas.{none_some}
 use Rattle.dl_table.proofs.TextLemmas.{text_in-position}
 use Rattle.dl_field.proofs.PairLemmas.{table_at}
@@ -40,17 +39,21 @@ use Rattle.dl_field.proofs.ByteCells.{adds_value, text_field}
 
 -- ---- the value at the front of bytes
 
+-- a number in LEB128 has a byte
+pub some_byte : (w : List ℕ) (n : ℕ) → IsUleb w n → 1 ≤ length w
+some_byte w n is = omega (arith, ap length is.2.bytes, length-append is.0 (is.1 ∷ []))
+
 -- a number in LEB128
-pub leb_in_front : (order : Order) (u : Uleb) (bytes front tail : List ℕ) (n : ℕ)
-    → ((w : List ℕ) → UlebTook u w → w ≡ []) → bytes ≡ front ++ tail → IsUleb front n → n < 2 ^ 64
+pub leb_in_front : (order : Order) (u : Uleb) (bytes tail : List ℕ) (n : ℕ) → LebInFront u bytes n tail
     → InFront order (value.Leb u) bytes (held.Number n) tail
-leb_in_front order u bytes front tail n new e is lt = record {
-  front = front;
-  bytes_are = e;
+leb_in_front order u bytes tail n s = record {
+  front = s.front;
+  bytes_are = s.bytes_are;
+  some = some_byte s.front n s.spelt.0;
   spelt = λ format f pool rest at.
-      let none = new rest at.1 in
-      let whole : IsUleb (rest ++ front) n = subst (λ (l : List ℕ). IsUleb (l ++ front) n) (sym none) is in
-      leb_form order format f (rest ++ front) _ at.0 (leb_held (rest ++ front) n _ whole lt refl);
+      let none = s.none rest at.1 in
+      let whole : IsUleb (rest ++ s.front) n = subst (λ (l : List ℕ). IsUleb (l ++ s.front) n) (sym none) s.spelt.0 in
+      leb_form order format f (rest ++ s.front) _ at.0 (leb_held (rest ++ s.front) n _ whole s.spelt.1 refl);
   one = λ format f pool rest at. ap has_bytes at.0;
   filled = λ m. refl;
   none_due = refl;
@@ -66,6 +69,7 @@ sixteen_in_front order s bytes sixteen tail new first later long = record {
   front = sixteen;
   bytes_are = sym (take-append-drop 16 bytes) ∙ ap (λ (l : List ℕ). l ++ drop 16 bytes) (sym first)
       ∙ ap (λ (l : List ℕ). sixteen ++ l) (sym later);
+  some = omega (arith, ap length first, length-take-le 16 bytes long);
   spelt = λ format f pool rest at.
       let none : rest ≡ [] = sym at.1 ∙ new in
       sixteen_spelt order format f (rest ++ sixteen) sixteen pool at.0 (ap (λ (l : List ℕ). l ++ sixteen) (sym none))
@@ -84,7 +88,7 @@ pub among_values : (t : TableReader) (at : Cursor) (v : ValuePhase) → t.phase 
 among_values t at v is whole = let e : phase.Value at v ≡ phase.Whole = sym is ∙ whole in absurd cc
 
 -- the reader isn't in a block
-in_value : (order : Order) (t : TableReader) (at : Cursor) (v : ValuePhase) (format : Format)
+pub in_value : (order : Order) (t : TableReader) (at : Cursor) (v : ValuePhase) (format : Format)
     (next : TableData → Layout) (layout : Layout) (rest : List ℕ) → value_due v ≡ 0
     → TableAt order t (phase.Value at v) format next layout rest → InValue t at v format next layout rest
 in_value order t at (value.Block left) format next layout rest none is = absurd (omega (arith, none, is.some))
@@ -95,14 +99,15 @@ in_value order t at (value.Data16 s) format next layout rest none is = is
 in_value order t at (value.BlockLength n) format next layout rest none is = is
 in_value order t at (value.LebBlockLength u) format next layout rest none is = is
 
--- `whole_value`, of a value that is no text
+-- a value that is no text is taken
 pub value_taken : (order : Order) (old new : TableReader) (at : Cursor) (v : ValuePhase) (h : StoredValue)
     (format : Format) (bytes tail : List ℕ) → old.phase ≡ phase.Value at v
     → InFront order v bytes h tail → Enters old at h format byte_makes.Ends new → OneCell old byte_makes.Ends new
-    → (new.phase ≡ phase.Whole → ⊥) → TakesValue order format old bytes tail new
-value_taken order old new at v h format bytes tail is s enters one going = record {
+    → TakesFront order format old bytes tail new
+value_taken order old new at v h format bytes tail is s enters one = record {
   front = s.front;
   bytes_are = s.bytes_are;
+  some = s.some;
   follows = record {
     made = λ g next layout rest t. made next layout rest (in_old next layout rest t);
     cells = λ g next layout rest t.
@@ -110,7 +115,6 @@ value_taken order old new at v h format bytes tail is s enters one going = recor
         adds_value order old new at v format next layout rest (rest ++ s.front) byte_makes.Ends a
         (s.one format a.pair.form old.pool.items rest a.value) (made next layout rest a) one;
   };
-  going = going;
 } where
   in_old : (next : TableData → Layout) (layout : Layout) (rest : List ℕ)
       → TableAt order old old.phase format next layout rest → InValue old at v format next layout rest
@@ -124,17 +128,37 @@ value_taken order old new at v h format bytes tail is s enters one going = recor
       (s.spelt format a.pair.form old.pool.items rest a.value)
       (omega (arith, s.filled (length old.pool.items), s.cell)) enters
 
--- `enter_front`, of a value that another one follows
+-- `enter_front`
+pub front_entered : (order : Order) (old new : TableReader) (at : Cursor) (v : ValuePhase) (h : StoredValue)
+    (format : Format) (bytes tail : List ℕ) (o : Option (Bor (List ℕ))) → old.phase ≡ phase.Value at v
+    → InFront order v bytes h tail
+    → MatchOption o (SameTable old new) (λ rest. (rest.now ≡ tail) × EntersAt old at h format new)
+    → MatchOption o (SameTable old new) (λ rest. TakesFront order format old bytes rest.now new)
+front_entered order old new at v h format bytes tail o is front = answer-map o (λ same. same) λ rest made.
+    subst (λ (l : List ℕ). TakesFront order format old bytes l new) (sym made.0)
+    (value_taken order old new at v h format bytes tail is front made.1.0 made.1.1)
+
+-- the same, of a value that another one follows
 pub value_entered : (order : Order) (old new : TableReader) (at : Cursor) (v : ValuePhase) (h : StoredValue)
     (format : Format)
     (bytes tail : List ℕ) (o : Option (Bor (List ℕ))) → old.phase ≡ phase.Value at v
     → (IsLast at (length old.pairs.items) → ⊥) → InFront order v bytes h tail
     → MatchOption o (SameTable old new) (λ rest. (rest.now ≡ tail) × EntersAt old at h format new)
     → MatchOption o (SameTable old new) (λ rest. TakesValue order format old bytes rest.now new)
-value_entered order old new at v h format bytes tail o is more front = answer-map o (λ same. same) λ rest made.
-    subst (λ (l : List ℕ). TakesValue order format old bytes l new) (sym made.0)
-    (value_taken order old new at v h format bytes tail is front made.1.0 made.1.1
-    λ whole. more (made.1.2 whole (among_values old at v is)))
+value_entered order old new at v h format bytes tail o is more front = answer-map o (λ same. same) λ rest made. (
+  subst (λ (l : List ℕ). TakesFront order format old bytes l new) (sym made.0)
+      (value_taken order old new at v h format bytes tail is front made.1.0 made.1.1),
+  λ whole. more (made.1.2 whole (among_values old at v is)),
+)
+
+-- the same, of a text
+pub text_entered : (order : Order) (old new : TableReader) (at : Cursor) (format : Format) (bytes : List ℕ)
+    (o : Option (Bor (List ℕ))) → (IsLast at (length old.pairs.items) → ⊥)
+    → MatchOption o (SameTable old new) (λ tail. ((p : Order) → TakesFront p format old bytes tail.now new)
+    × (new.phase ≡ phase.Whole → IsLast at (length old.pairs.items)))
+    → MatchOption o (SameTable old new) (λ tail. TakesValue order format old bytes tail.now new)
+text_entered order old new at format bytes o more = answer-map o (λ same. same) λ rest made.
+    (made.0 order, λ whole. more (made.1 whole))
 
 -- ---- texts
 
@@ -176,13 +200,14 @@ pub text_taken : (order : Order) (old mid new : TableReader) (at : Cursor) (star
     → mid.pairs.items ≡ old.pairs.items → mid.values.items ≡ old.values.items
     → mid.pool.items ≡ old.pool.items ++ take len bytes → start ≡ length old.pool.items → len < length bytes
     → position (λ b. b == 0) bytes ≡ Some len → Enters mid at (held.Text (record { start = start; len = len })) format
-    byte_makes.Ends new → OneCell mid byte_makes.Ends new → (new.phase ≡ phase.Whole → ⊥)
-    → TakesValue order format old bytes (take (length bytes - (len + 1)) (drop (len + 1) bytes)) new
-text_taken order old mid new at start len format bytes is same pairs values pool begun lt found enters one going =
+    byte_makes.Ends new → OneCell mid byte_makes.Ends new
+    → TakesFront order format old bytes (take (length bytes - (len + 1)) (drop (len + 1) bytes)) new
+text_taken order old mid new at start len format bytes is same pairs values pool begun lt found enters one =
     record {
       front = front;
       bytes_are = split.1 ∙ ap (λ (l : List ℕ). front ++ l)
           (ap (λ (n : ℕ). drop (n + 1) bytes) size ∙ sym (take_rest bytes (len + 1)));
+      some = omega (arith, length-append text (0 ∷ []));
       follows = record {
         made = λ g next layout rest t. made next layout rest (in_old next layout rest t);
         cells = λ g next layout rest t.
@@ -198,7 +223,6 @@ text_taken order old mid new at start len format bytes is same pairs values pool
               length-append text (0 ∷ []),
             );
       };
-      going = going;
     } where
       text : List ℕ
       text = take len bytes

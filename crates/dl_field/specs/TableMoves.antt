@@ -1,9 +1,11 @@
 -- What a byte, or a value, makes of the reader of a table. No promise rests on how this is said.
 use Rattle.std.specs.Prelude.{◌≡◌, ℕ, ◌+◌, ◌-◌, ◌^◌, ◌<◌, ◌≤◌, Bool, true, false, not, ◌==◌, List, [], ◌∷◌, ◌++◌}
 use Rattle.std.specs.Prelude.{length, Some, None, Option, ◌⊎◌, Result}
+use Rattle.std.specs.List.{concat}
 use Rattle.dl_num.specs.declared.fixed.Order.{Order}
-use Rattle.dl_num.specs.LebReader.{UlebIs}
+use Rattle.dl_num.specs.LebReader.{UlebIs, UlebTook}
 use Rattle.dl_num.specs.declared.leb.LebRange.{LebRange}
+use Rattle.dl_num.specs.declared.leb.Uleb.{Uleb}
 use Rattle.dl_table.specs.declared.fault.FaultKind.TheVariants as fault
 use Rattle.dl_table.specs.declared.form.Format.{Format}
 use Rattle.dl_table.specs.declared.form.Form.{Form}
@@ -23,8 +25,9 @@ use Rattle.dl_table.specs.Held.{value_held, held_end, cells_held, table_of}
 use Rattle.dl_table.specs.Held.{IsWhole as AreRows}
 use Rattle.dl_table.specs.Sound.{IsSoundTable}
 use Rattle.dl_field.specs.TableStep.{value_due, value_filled}
-use Rattle.dl_field.specs.Cells.{rest_cells}
-use Rattle.dl_table.specs.Value.{Value, number, block, good, bad, form_of_code}
+use Rattle.dl_field.specs.Cells.{begun_cells, rest_cells}
+use Rattle.dl_field.specs.Field.{IsUleb64}
+use Rattle.dl_table.specs.Value.{Value, block, good, bad, form_of_code}
 use Rattle.dl_table.specs.Value.{value_spelt}
 use Rattle.dl_field.specs.Layout.{Layout, Item, value_is, following}
 use Rattle.dl_field.specs.Layout.{field_spelt, pairs_layout}
@@ -199,10 +202,11 @@ has_bytes form.Block4 = true
 has_bytes form.Block = true
 has_bytes f = false
 
--- `at_front`: the bytes in front of tail are those of the value, of which none came before
+-- `value_at_front`: the bytes in front of tail are those of the value, of which none came before
 pub record InFront (order : Order) (v : ValuePhase) (bytes : List ℕ) (h : StoredValue) (tail : List ℕ) : Type 0 where
   pub front : List ℕ
   pub bytes_are : bytes ≡ front ++ tail
+  pub some : 1 ≤ length front
   pub spelt : (format : Format) (f : Form) (pool rest : List ℕ) → ValueAt format f v pool rest
       → value_spelt order format f (rest ++ front) ≡ good (value_held pool h)
   pub one : (format : Format) (f : Form) (pool rest : List ℕ) → ValueAt format f v pool rest → has_bytes f ≡ false
@@ -211,13 +215,61 @@ pub record InFront (order : Order) (v : ValuePhase) (bytes : List ℕ) (h : Stor
   pub cell : cells_held h ≡ 1
   pub within : held_end h ≡ 0
 
--- `whole_value`: the bytes in front of tail are those of the current value, and another one follows it
-pub record TakesValue (order : Order) (format : Format) (old : TableReader) (bytes tail : List ℕ)
+-- `leb_at_front`: the bytes in front of tail spell a number in LEB128, of which none came before
+pub record LebInFront (u : Uleb) (bytes : List ℕ) (n : ℕ) (tail : List ℕ) : Type 0 where
+  pub front : List ℕ
+  pub bytes_are : bytes ≡ front ++ tail
+  pub spelt : IsUleb64 n front
+  pub none : (w : List ℕ) → UlebTook u w → w ≡ []
+
+-- `length_at_front`: the bytes in front of tail are those of the length of a block, of which none came before
+pub record LengthInFront (order : Order) (v : ValuePhase) (bytes : List ℕ) (size : ℕ) (tail : List ℕ) : Type 0 where
+  pub front : List ℕ
+  pub bytes_are : bytes ≡ front ++ tail
+  pub some : 1 ≤ length front
+  pub spelt : (format : Format) (f : Form) (pool rest : List ℕ) → ValueAt format f v pool rest
+      → IsLengthOf order f size (rest ++ front)
+  pub unbegun : (format : Format) (f : Form) (pool rest : List ℕ) → ValueAt format f v pool rest
+      → begun_cells f rest ≡ 0
+  pub filled : (n : ℕ) → value_filled v n ≡ n
+  pub none_due : value_due v ≡ 0
+
+-- `whole_block`: the bytes in front of tail are a block of this size, and its value is entered
+pub record EntersBlock (old : TableReader) (at : Cursor) (size : ℕ) (format : Format) (bytes tail : List ℕ)
     (new : TableReader) : Type 0 where
   pub front : List ℕ
   pub bytes_are : bytes ≡ front ++ tail
+  pub all : length front ≡ size
+  pub made : (order : Order) (next : TableData → Layout) (layout : Layout) (v : ValuePhase) (rest : List ℕ)
+      → InValue old at v format next layout rest → value_filled v (length old.pool.items) ≡ length old.pool.items
+      → TableAt order new new.phase format next (following layout (value_is (block front))) []
+  pub cells : reader_cells new ≡ reader_cells old + 1 + length front
+
+-- `value_front`: the bytes in front of tail are those of the current value
+pub record TakesFront (order : Order) (format : Format) (old : TableReader) (bytes tail : List ℕ)
+    (new : TableReader) : Type 0 where
+  pub front : List ℕ
+  pub bytes_are : bytes ≡ front ++ tail
+  pub some : 1 ≤ length front
   pub follows : BytesFollow order format old front byte_makes.Ends new
-  pub going : new.phase ≡ phase.Whole → ⊥
+
+-- `whole_value`: and another value follows it
+abbrev pub TakesValue : Order → Format → TableReader → List ℕ → List ℕ → TableReader → Type 0
+TakesValue order format old bytes tail new = TakesFront order format old bytes tail new × (new.phase ≡ phase.Whole → ⊥)
+
+-- values that these bytes spell are taken, one after the other, and another value follows each
+abbrev pub TakesEach : Order → Format → TableReader → List (List ℕ) → TableReader → Type 0
+TakesEach order format old [] new = SameTable old new
+TakesEach order format old (w ∷ values) new =
+    (mid : TableReader) × (1 ≤ length w) × BytesFollow order format old w byte_makes.Ends mid
+    × (mid.phase ≡ phase.Whole → ⊥) × TakesEach order format mid values new
+
+-- `whole_values`: these bytes are values, and another value follows each
+pub record TakesValues (order : Order) (format : Format) (old : TableReader) (bytes : List ℕ)
+    (new : TableReader) : Type 0 where
+  pub values : List (List ℕ)
+  pub bytes_are : bytes ≡ concat values
+  pub each : TakesEach order format old values new
 
 -- what is held makes a table
 pub record MakesTable (t : TableReader) (format : Format) : Type 0 where

@@ -22,7 +22,7 @@ use Rattle.dl_table.specs.Held.{value_held, values_end, cells_held}
 use Rattle.dl_field.specs.TableStep.{value_filled}
 use Rattle.dl_field.specs.Cells.{item_cells, rest_cells}
 use Rattle.dl_field.specs.Field.{IsFixed, IsUleb64, HasNoZero}
-use Rattle.dl_table.specs.Value.{Value, line_str, str, str_sup, number, block, offset_size}
+use Rattle.dl_table.specs.Value.{Value, line_str, str, str_sup, number, offset_size}
 use Rattle.dl_field.specs.Layout.{Layout, number_then, form_then, content_code, entry_count}
 use Rattle.dl_field.specs.Layout.{field_spelt, pairs_layout, entry_layout, entries_layout, table_layout}
 

@@ -1,6 +1,7 @@
 //! The values of a table, byte by byte. Section 7.5.5.
 
-ghost use Rattle.std.specs.Prelude.{◌≡◌, ◌≢◌, ◌+◌, ◌<◌, ◌≤◌, ◌^◌, ℕ, List, length, vec_len, vec_capacity};
+ghost use Rattle.std.specs.Prelude.{◌≡◌, ◌≢◌, ◌+◌, ◌<◌, ◌≤◌, ◌^◌, ◌++◌, ◌∷◌, [], ℕ, List, length};
+ghost use Rattle.std.specs.Prelude.{vec_len, vec_capacity};
 ghost use Rattle.dl_num.specs.declared.fixed.Order.{Order};
 ghost use Rattle.dl_table.specs.Held.{cells_held, held_end, values_end, value_held};
 ghost use Rattle.dl_field.specs.TablePlace.{number_value};
@@ -203,6 +204,8 @@ impl TableReader {
         requires held { held_end held ≤ length self.old.pool.items }
         ensures made { Enters self.old at held format result self.new }
         ensures cells { OneCell self.old result self.new }
+        ensures goes { result ≡ byte_makes.Ends → GoesOn self.old.pairs.items self.old.pool.items
+            (self.old.values.items ++ held ∷ []) (at.column + 1) at.left format self.new }
         ensures room { vec_len self.old.values < vec_capacity self.old.values → result ≡ byte_makes.Ends }
         ensures last { self.new.phase ≡ phase.Whole → self.old.phase ≢ phase.Whole
             → IsLast at (length self.old.pairs.items) }

@@ -1,17 +1,17 @@
 //! Values of a table whose bytes all stand at the front of a piece. Section 7.5.5.
 
-ghost use Rattle.std.specs.Prelude.{◌≡◌, ◌+◌, ◌<◌, ◌≤◌, length, IfSome, MatchOption};
+ghost use Rattle.std.specs.Prelude.{◌≡◌, ◌≢◌, ◌+◌, ◌<◌, ◌≤◌, length, take, IfSome, MatchOption};
 ghost use Rattle.dl_num.specs.declared.fixed.Order.{Order};
 ghost use Rattle.dl_field.specs.declared.value_phase.ValuePhase.TheVariants as value;
 ghost use Rattle.dl_table.specs.Held.{held_end, values_end};
-ghost use Rattle.dl_field.specs.TableMoves.{InFront};
+ghost use Rattle.dl_field.specs.TableMoves.{InFront, LebInFront, LengthInFront};
 
 use crate::field_step::FieldStep;
 use crate::sixteen::Sixteen;
 use crate::table_reader::{TablePhase, TableReader};
 use crate::value_phase::{Cursor, ValuePhase};
 use crate::value_reader::held_number;
-use dl_num::{Order, PartialNumber, Uleb, fixed_at_front, short_uleb_at_front};
+use dl_num::{Order, PartialNumber, Uleb, fixed_at_front, short_uleb_at_front, uleb_at_front};
 use dl_table::text::first_zero;
 use dl_table::{Extent, Form, Format, StoredValue};
 
@@ -36,7 +36,7 @@ fn number_at_front(
 /// The number in LEB128 that the bytes begin with, and the bytes after it, where none of its bytes has come.
 /// None where the bytes end before it does, and where it has more than two bytes.
 #[inline(always)]
-fn leb_at_front(number: Uleb, bytes: &[u8]) -> Option<(StoredValue, &[u8])>
+fn short_leb_at_front(number: Uleb, bytes: &[u8]) -> Option<(StoredValue, &[u8])>
     ensures { IfSome result (λ found. (order : Order)
         → InFront order (value.Leb number) bytes.entry.now found.0 found.1.now) }
 {
@@ -61,20 +61,111 @@ fn sixteen_at_front(sixteen: Sixteen, bytes: &[u8]) -> Option<(StoredValue, &[u8
     Some((StoredValue::Data16(*sixteen), tail))
 }
 
+/// The number in LEB128 that the bytes begin with, and the bytes after it, where none of its bytes has come.
+/// None where the bytes end before it does, and where it is 2^64 or more.
+fn leb_at_front(number: Uleb, bytes: &[u8]) -> Option<(u64, &[u8])>
+    ensures { IfSome result (λ found. LebInFront number bytes.entry.now found.0 found.1.now) }
+{
+    if !number.is_new() {
+        return None;
+    }
+    let (number, tail) = uleb_at_front(bytes)?;
+    Some((number.ok()?, tail))
+}
+
+/// The number, offset or sixteen bytes that the bytes begin with, and the bytes after it, where none of its bytes
+/// has come. None where the bytes end before it does, where it isn't good, and for other values.
+fn value_at_front(value: ValuePhase, order: Order, bytes: &[u8]) -> Option<(StoredValue, &[u8])>
+    ensures { IfSome result (λ found. InFront order value bytes.entry.now found.0 found.1.now) }
+{
+    match value {
+        ValuePhase::Number(form, number) => number_at_front(form, number, order, bytes),
+        ValuePhase::Leb(number) => {
+            let (number, tail) = leb_at_front(number, bytes)?;
+            Some((StoredValue::Number(number), tail))
+        }
+        ValuePhase::Data16(sixteen) => sixteen_at_front(sixteen, bytes),
+        _ => None,
+    }
+}
+
+/// The length of a block that the bytes begin with, and the bytes after it, where none of its bytes has come. None
+/// where the bytes end before it does, where it is 2^64 or more, and for values that are no blocks.
+fn length_at_front(value: ValuePhase, order: Order, bytes: &[u8]) -> Option<(u64, &[u8])>
+    ensures { IfSome result (λ found. LengthInFront order value bytes.entry.now found.0 found.1.now) }
+{
+    match value {
+        ValuePhase::BlockLength(number) => {
+            if !number.is_new() {
+                return None;
+            }
+            fixed_at_front(order, number.size(), bytes)
+        }
+        ValuePhase::LebBlockLength(number) => leb_at_front(number, bytes),
+        _ => None,
+    }
+}
+
 impl TableReader {
     ghost use Rattle.dl_field.specs.declared.table_reader.TablePhase.TheVariants as phase;
-    ghost use Rattle.dl_field.specs.TableMoves.{EntersAt, SameTable, TakesValue, IsLast};
+    ghost use Rattle.dl_field.specs.declared.field_step.FieldStep.TheVariants as byte_makes;
+    ghost use Rattle.dl_field.specs.TableMoves.{EntersAt, EntersBlock, SameTable, TakesFront, TakesValue, IsLast};
+    ghost use Rattle.dl_field.specs.TableMoves.{BytesFollow, TakesValues};
 
-    /// Takes a value that the bytes begin with, and gives the bytes after it. None, and nothing is
-    /// taken, where the bytes end before the value does, where it is a block or the table's last value,
-    /// and where memory is refused: `push` takes its bytes then.
+    /// Takes a value that the bytes begin with, or else the first byte, save where memory is refused for that; the
+    /// reader is then unchanged. How many bytes that is, and what they make of the field.
+    #[inline(never)]
+    pub fn push_front(&mut self, order: Order, format: Format, bytes: &[u8]) -> (usize, FieldStep)
+        requires { 1 ≤ length bytes.now }
+        ensures follows { BytesFollow order format self.old (take result.0 bytes.now) result.1 self.new }
+        ensures some { 1 ≤ result.0 }
+        ensures within { result.0 ≤ length bytes.now }
+        ensures one { result.1 ≢ byte_makes.Ends → result.0 ≡ 1 }
+    {
+        match self.value_front(order, format, bytes) {
+            Some(tail) => (bytes.len() - tail.len(), FieldStep::Ends),
+            None => (1, self.push(order, format, bytes[0])),
+        }
+    }
+
+    /// Takes a value that the bytes begin with, and gives the bytes after it. None, and nothing is taken, where
+    /// the bytes end before the value does, where it isn't good, and where memory is refused.
+    fn value_front<'a>(&mut self, order: Order, format: Format, bytes: &'a [u8]) -> Option<&'a [u8]>
+        ensures { MatchOption result (SameTable self.old self.new)
+            (λ tail. TakesFront order format self.old bytes.entry.now tail.now self.new) }
+    {
+        let TablePhase::Value(at, value) = self.phase else {
+            return None;
+        };
+        if let ValuePhase::Text(start) = value {
+            return self.whole_text(at, start, format, bytes);
+        }
+        if let Some((size, tail)) = length_at_front(value, order, bytes) {
+            return self.whole_block(at, size, format, tail);
+        }
+        let (held, tail) = value_at_front(value, order, bytes)?;
+        self.enter_front(at, held, format, tail)
+    }
+
+    /// Takes values that the bytes begin with, up to one that `push_front` takes: how many bytes they have.
     #[inline(always)]
-    pub fn whole_value<'a>(
-        &mut self,
-        order: Order,
-        format: Format,
-        bytes: &'a [u8],
-    ) -> Option<&'a [u8]>
+    pub fn whole_values(&mut self, order: Order, format: Format, bytes: &[u8]) -> usize
+        ensures within { result ≤ length bytes.now }
+        ensures values { TakesValues order format self.old (take result bytes.now) self.new }
+    {
+        let mut rest = bytes;
+        while let Some(tail) = self.whole_value(order, format, rest) {
+            rest = tail;
+        }
+        bytes.len() - rest.len()
+    }
+
+    /// Takes a value that the bytes begin with, and gives the bytes after it, where it is of a common kind: no
+    /// block, no number in LEB128 of more than two bytes, and not the table's last value. None, and nothing is
+    /// taken, where it isn't, where the bytes end before the value does, and where memory is refused:
+    /// `push_front` takes its bytes then.
+    #[inline(always)]
+    fn whole_value<'a>(&mut self, order: Order, format: Format, bytes: &'a [u8]) -> Option<&'a [u8]>
         ensures { MatchOption result (SameTable self.old self.new)
             (λ tail. TakesValue order format self.old bytes.entry.now tail.now self.new) }
     {
@@ -90,7 +181,7 @@ impl TableReader {
                 self.enter_front(at, held, format, tail)
             }
             ValuePhase::Leb(number) => {
-                let (held, tail) = leb_at_front(number, bytes)?;
+                let (held, tail) = short_leb_at_front(number, bytes)?;
                 self.enter_front(at, held, format, tail)
             }
             ValuePhase::Data16(sixteen) => {
@@ -126,6 +217,7 @@ impl TableReader {
 
     /// Takes a text that the bytes begin with, none of whose bytes has come, and gives the bytes after
     /// its zero byte.
+    #[inline(always)]
     fn whole_text<'a>(
         &mut self,
         at: Cursor,
@@ -133,10 +225,10 @@ impl TableReader {
         format: Format,
         bytes: &'a [u8],
     ) -> Option<&'a [u8]>
-        requires phase { self.old.phase ≡ phase.Value at (value.Text start) }
-        requires more { IsLast at (length self.old.pairs.items) → ⊥ }
+        requires { self.old.phase ≡ phase.Value at (value.Text start) }
         ensures { MatchOption result (SameTable self.old self.new)
-            (λ tail. (order : Order) → TakesValue order format self.old bytes.entry.now tail.now self.new) }
+            (λ tail. ((order : Order) → TakesFront order format self.old bytes.entry.now tail.now self.new)
+            × (self.new.phase ≡ phase.Whole → IsLast at (length self.old.pairs.items))) }
     {
         if start != self.pool.len() {
             return None;
@@ -150,6 +242,38 @@ impl TableReader {
         }
         match self.enter(at, StoredValue::Text(Extent { start, len }), format) {
             FieldStep::Ends => Some(&bytes[len + 1..]),
+            _ => None,
+        }
+    }
+
+    /// Enters a block of this size that the bytes begin with, and gives the bytes after it. None, and nothing is
+    /// entered, where they are fewer, and where memory is refused.
+    fn whole_block<'a>(
+        &mut self,
+        at: Cursor,
+        size: u64,
+        format: Format,
+        bytes: &'a [u8],
+    ) -> Option<&'a [u8]>
+        requires in_row { at.column < length self.old.pairs.items }
+        requires whole { values_end self.old.values.items ≤ length self.old.pool.items }
+        requires among { self.old.phase ≢ phase.Whole }
+        ensures { MatchOption result (SameTable self.old self.new)
+            (λ tail. EntersBlock self.old at size format bytes.entry.now tail.now self.new) }
+    {
+        if size > bytes.len() as u64 {
+            return None;
+        }
+        let start = self.pool.len();
+        let len = size as usize;
+        if self.values.reserve(1).is_err() {
+            return None;
+        }
+        if self.pool.extend_from_slice(&bytes[..len]).is_err() {
+            return None;
+        }
+        match self.enter(at, StoredValue::Block(Extent { start, len }), format) {
+            FieldStep::Ends => Some(&bytes[len..]),
             _ => None,
         }
     }

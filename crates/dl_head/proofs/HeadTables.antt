@@ -1,11 +1,9 @@
 -- The header reader in its tables: from a byte of the current table to the header's.
-use Rattle.std.proofs.Common.{◌≡◌, ℕ, ◌+◌, List, [], ◌∷◌, ◌++◌, length, drop, not, ◌==◌, Some, refl, sym, ap, subst}
-use Rattle.std.proofs.Common.{◌∙◌, arith}
+use Rattle.std.proofs.Common.{◌≡◌, ℕ, ◌+◌, ◌≤◌, List, [], ◌∷◌, ◌++◌, length, Some, refl, sym, ap, subst}
+use Rattle.std.proofs.Common.{◌∙◌, arith, length-append}
 use Rattle.std.proofs.lemmas.Bool.{eqb-true}
 use Rattle.dl_num.specs.declared.fixed.Order.{Order}
 use Rattle.dl_table.specs.declared.form.Format.{Format}
-use Rattle.dl_table.specs.declared.table.Pair.{Pair}
-use Rattle.dl_table.specs.declared.table.held.StoredValue.{StoredValue}
 use Rattle.dl_head.specs.declared.reader.HeadReader.{HeadReader}
 use Rattle.dl_head.specs.declared.reader.Phase.{Phase}
 use Rattle.dl_head.specs.declared.reader.Phase.TheVariants as phase
@@ -14,149 +12,22 @@ use Rattle.dl_field.specs.declared.field_step.FieldStep.TheVariants as byte_make
 use Rattle.dl_field.specs.declared.table_reader.TableReader.{TableReader}
 use Rattle.dl_field.specs.declared.table_reader.TablePhase.{TablePhase}
 use Rattle.dl_field.specs.declared.table_reader.TablePhase.TheVariants as table
-use Rattle.dl_field.specs.declared.value_phase.Cursor.{Cursor}
-use Rattle.dl_field.specs.declared.value_phase.ValuePhase.{ValuePhase}
-use Rattle.dl_field.specs.declared.value_phase.ValuePhase.TheVariants as value
 use Rattle.dl_table.specs.TableData.{TableData}
-use Rattle.dl_table.specs.Value.{Value, good}
-use Rattle.dl_field.specs.Layout.{Layout, number_then, content_code, Item, following, following_all, field_spelt}
+use Rattle.dl_table.specs.Value.{good}
+use Rattle.dl_field.specs.Layout.{Layout, Item, following, following_all, field_spelt}
 use Rattle.dl_field.specs.Layout.{table_layout}
 use Rattle.dl_head.specs.HeaderLayout.{header_layout, initial_size}
-use Rattle.dl_field.specs.TablePlace.{IsFresh, NoValues, form_left, after_pairs, values_left, Holds, Summed, InValue}
-use Rattle.dl_field.specs.TablePlace.{InBlock, IsWhole, reader_cells, ValueAt, TableAt}
+use Rattle.dl_field.specs.TablePlace.{IsFresh}
+use Rattle.dl_field.specs.TablePlace.{IsWhole, reader_cells, TableAt}
 use Rattle.dl_field.specs.TableMoves.{Adds, SameTable, BytesFollow}
-use Rattle.dl_field.specs.TableMoves.{PushFollows}
 use Rattle.dl_table.specs.TableCells.{table_cells}
-use Rattle.dl_field.specs.TableStep.{value_filled}
 use Rattle.dl_head.specs.HeadStep.{tables_fit}
-use Rattle.dl_head.specs.Place.{Past, InTable, At, end_of_unit, held_cells, BytesMade}
+use Rattle.dl_head.specs.Place.{Past, InTable, At, SameUnit, Keeps, end_of_unit, held_cells, BytesMade}
 use Rattle.dl_head.proofs.OneFieldMore.{after_on}
 use Rattle.dl_field.proofs.PairLemmas.{table_at}
+use Rattle.dl_field.proofs.SameTables.{table_same}
 
--- ---- a table that is as it was
-
-no_values_same : (old new : TableReader) → SameTable old new → NoValues old → NoValues new
-no_values_same old new s none = record { values = s.values ∙ none.values; pool = s.pool ∙ none.pool }
-
-holds_same : (old new : TableReader) (entries : List (List Value)) (before : List Value) → SameTable old new
-    → Holds old.pairs.items old.pool.items old.values.items entries before
-    → Holds new.pairs.items new.pool.items new.values.items entries before
-holds_same old new entries before s holds =
-    subst (λ (ps : List Pair). Holds ps new.pool.items new.values.items entries before) (sym s.pairs)
-    (subst (λ (w : List ℕ). Holds old.pairs.items w new.values.items entries before) (sym s.pool)
-    (subst (λ (hs : List StoredValue). Holds old.pairs.items old.pool.items hs entries before) (sym s.values) holds))
-
-summed_same : (old new : TableReader) (filled : ℕ → ℕ) → SameTable old new
-    → Summed old.values.items (filled (length old.pool.items))
-    → Summed new.values.items (filled (length new.pool.items))
-summed_same old new filled s summed =
-    subst (λ (hs : List StoredValue). Summed hs (filled (length new.pool.items))) (sym s.values)
-    (subst (λ (w : List ℕ). Summed old.values.items (filled (length w))) (sym s.pool) summed)
-
-value_same : (old new : TableReader) (at : Cursor) (v : ValuePhase) (format : Format) (next : TableData → Layout)
-    (layout : Layout) (rest : List ℕ) → SameTable old new → InValue old at v format next layout rest
-    → InValue new at v format next layout rest
-value_same old new at v format next layout rest s is = record {
-  entries = is.entries;
-  before = is.before;
-  column = is.column;
-  pair = is.pair;
-  later = is.later;
-  at_pair = ap (λ (ps : List Pair). drop (length is.before) ps) s.pairs ∙ is.at_pair;
-  holds = holds_same old new is.entries is.before s is.holds;
-  summed = summed_same old new (value_filled v) s is.summed;
-  layout_is = is.layout_is ∙ ap (λ (ps : List Pair). values_left format next ps is.entries is.before at.left)
-      (sym s.pairs);
-  value = subst (λ (w : List ℕ). ValueAt format is.pair.form v w rest) (sym s.pool) is.value;
-}
-
-block_same : (order : Order) (old new : TableReader) (at : Cursor) (left : ℕ) (format : Format)
-    (next : TableData → Layout) (layout : Layout) (rest : List ℕ) → SameTable old new
-    → InBlock order old at left format next layout rest → InBlock order new at left format next layout rest
-block_same order old new at left format next layout rest s is = record {
-  entries = is.entries;
-  before = is.before;
-  column = is.column;
-  pair = is.pair;
-  later = is.later;
-  at_pair = ap (λ (ps : List Pair). drop (length is.before) ps) s.pairs ∙ is.at_pair;
-  earlier = is.earlier;
-  pool = is.pool;
-  size = is.size;
-  bytes = is.bytes;
-  values_are = s.values ∙ is.values_are;
-  pool_is = s.pool ∙ is.pool_is;
-  holds = subst (λ (ps : List Pair). Holds ps is.pool is.earlier is.entries is.before) (sym s.pairs) is.holds;
-  summed = is.summed;
-  layout_is = is.layout_is ∙ ap (λ (ps : List Pair). values_left format next ps is.entries is.before at.left)
-      (sym s.pairs);
-  rest_is = is.rest_is;
-  length_is = is.length_is;
-  some = is.some;
-}
-
-whole_same : (old new : TableReader) (format : Format) (next : TableData → Layout) (layout : Layout) → SameTable old new
-    → IsWhole old format next layout → IsWhole new format next layout
-whole_same old new format next layout s is = record {
-  entries = is.entries;
-  holds = holds_same old new is.entries [] s is.holds;
-  summed = summed_same old new (λ n. n) s is.summed;
-  some_pairs = λ none. is.some_pairs (ap length (sym s.pairs) ∙ none);
-  layout_is = is.layout_is ∙ ap (λ (ps : List Pair). next
-      (record { format = format; pairs = ps; entries = is.entries })) (sym s.pairs);
-}
-
-same_at : (order : Order) (old new : TableReader) (p : TablePhase) (format : Format) (next : TableData → Layout)
-    (layout : Layout) (rest : List ℕ) → SameTable old new → new.phase ≡ p
-    → TableAt order old p format next layout rest → TableAt order new p format next layout rest
-same_at order old new table.PairCount format next layout rest s e at = (
-  record { phase = e; pairs = s.pairs ∙ at.0.pairs; values = s.values ∙ at.0.values; pool = s.pool ∙ at.0.pool },
-  at.1,
-  at.2,
-)
-same_at order old new (table.ContentCode left code) format next layout rest s e at = (
-  no_values_same old new s at.0,
-  at.1 ∙ ap
-      (λ (ps : List Pair). number_then content_code (form_left format next left ps)) (sym s.pairs),
-  at.2,
-  at.3,
-)
-same_at order old new (table.FormCode left content code) format next layout rest s e at = (
-  no_values_same old new s at.0,
-  at.1 ∙ ap (λ (ps : List Pair). form_left format next left ps content) (sym s.pairs),
-  at.2,
-  at.3,
-)
-same_at order old new (table.EntryCount count) format next layout rest s e at = (
-  no_values_same old new s at.0,
-  at.1 ∙ ap (λ (ps : List Pair). after_pairs format next (not (length ps == 0)) ps)
-      (sym s.pairs),
-  at.2,
-)
-same_at order old new (table.Value at (value.Block left)) format next layout rest s e is =
-    block_same order old new at left format next layout rest s is
-same_at order old new (table.Value at (value.Number f n)) format next layout rest s e is =
-    value_same old new at (value.Number f n) format next layout rest s is
-same_at order old new (table.Value at (value.Leb u)) format next layout rest s e is =
-    value_same old new at (value.Leb u) format next layout rest s is
-same_at order old new (table.Value at (value.Text start)) format next layout rest s e is =
-    value_same old new at (value.Text start) format next layout rest s is
-same_at order old new (table.Value at (value.Data16 x)) format next layout rest s e is =
-    value_same old new at (value.Data16 x) format next layout rest s is
-same_at order old new (table.Value at (value.BlockLength n)) format next layout rest s e is =
-    value_same old new at (value.BlockLength n) format next layout rest s is
-same_at order old new (table.Value at (value.LebBlockLength u)) format next layout rest s e is =
-    value_same old new at (value.LebBlockLength u) format next layout rest s is
-same_at order old new table.Whole format next layout rest s e at = (whole_same old new format next layout s at.0, at.1)
-
-pub table_same : (order : Order) (old new : TableReader) (format : Format) (next : TableData → Layout) (layout : Layout)
-    (rest : List ℕ) → SameTable old new → TableAt order old old.phase format next layout rest
-    → TableAt order new new.phase format next layout rest
-table_same order old new format next layout rest s at =
-    same_at order old new new.phase format next layout rest s refl
-    (table_at order old new.phase format next layout rest (sym s.phase) at)
-
--- ---- a byte of the header's table at hand
+-- ---- bytes of the header's current table
 
 -- the fields before the table are as they were
 pub record SameFields (old new : HeadReader) : Type 0 where
@@ -166,11 +37,19 @@ pub record SameFields (old new : HeadReader) : Type 0 where
   pub end : new.end ≡ old.end
   pub overrun : new.overrun ≡ old.overrun
 
+-- what is known of the unit's length is kept, whatever the bytes make of the field
+pub keeps_same : (old new : HeadReader) (result : FieldStep) → SameUnit old new → Keeps old result new
+keeps_same old new byte_makes.Within s = tt
+keeps_same old new byte_makes.Ends s = tt
+keeps_same old new (byte_makes.Refuses kind) s = s
+keeps_same old new byte_makes.NoMemory s = tt
+
 same_end : (old new : HeadReader) → SameFields old new → end_of_unit new ≡ end_of_unit old
 same_end old new s = ap (λ (f : Format). initial_size f + new.unit_length) s.format
     ∙ ap (λ (n : ℕ). initial_size old.params.format + n) s.unit_length
 
-after_same : (old new : HeadReader) (items : List Item) (layout : Layout) → SameFields old new
+-- so are those of the header
+pub after_same : (old new : HeadReader) (items : List Item) (layout : Layout) → SameFields old new
     → Past old items layout → Past new items layout
 after_same old new items layout s b = record {
   follows = b.follows;
@@ -182,11 +61,11 @@ after_same old new items layout s b = record {
 }
 
 -- the current table, by another reader
-in_table : (old new : HeadReader) (mid : TableReader) (items : List Item) (layout : Layout) (rest : List ℕ)
+pub table_in : (old new : HeadReader) (mid : TableReader) (items : List Item) (layout : Layout) (rest : List ℕ)
     (next : TableData → Layout) → SameFields old new → new.table ≡ mid → (mid.phase ≡ table.Whole → ⊥)
     → Past new items layout → TableAt old.order mid mid.phase old.params.format next layout rest
     → InTable new items rest next
-in_table old new mid items layout rest next s e going tail at = record {
+table_in old new mid items layout rest next s e going tail at = record {
   layout = layout;
   tail = tail;
   at =
@@ -206,7 +85,7 @@ table_goes_on old new mid items rest bytes byte_makes.Within next in_old push go
     let made = push.made in_old.going next in_old.layout rest in_old.at in
     let w = rest ++ bytes in (
       ap (λ (l : Layout). field_spelt old.order l w) in_old.tail.follows ∙ made.0,
-      to items w (in_table old new mid items in_old.layout w next s e going
+      to items w (table_in old new mid items in_old.layout w next s e going
           (after_same old new items in_old.layout s in_old.tail) made.1),
     )
 table_goes_on old new mid items rest bytes byte_makes.Ends next in_old push going e s to =
@@ -214,7 +93,7 @@ table_goes_on old new mid items rest bytes byte_makes.Ends next in_old push goin
       made.0,
       ap (λ (l : Layout). field_spelt old.order l (rest ++ bytes)) in_old.tail.follows ∙ made.1,
       to (items ++ made.0 ∷ []) []
-          (in_table old new mid (items ++ made.0 ∷ []) (following in_old.layout made.0) [] next s e going
+          (table_in old new mid (items ++ made.0 ∷ []) (following in_old.layout made.0) [] next s e going
           (after_on old new items in_old.layout (following in_old.layout made.0) made.0 in_old.tail refl s.end
           s.overrun (same_end old new s)) made.2),
     )
@@ -224,7 +103,7 @@ table_goes_on old new mid items rest bytes (byte_makes.Refuses kind) next in_old
 table_goes_on old new mid items rest bytes byte_makes.NoMemory next in_old push going e s to =
     let made = push.made in_old.going next in_old.layout rest in_old.at in
     to items rest
-    (in_table old new mid items in_old.layout rest next s e going
+    (table_in old new mid items in_old.layout rest next s e going
     (after_same old new items in_old.layout s in_old.tail)
     (table_same old.order old.table mid old.params.format next in_old.layout rest made.0 in_old.at))
 
@@ -234,25 +113,24 @@ pub table_stays : (old new : HeadReader) (mid : TableReader) (items : List Item)
     → SameFields old new
     → InTable new items rest next
 table_stays old new mid items rest next in_old same e s =
-    in_table old new mid items in_old.layout rest next s e (λ whole. in_old.going (sym same.phase ∙ whole))
+    table_in old new mid items in_old.layout rest next s e (λ whole. in_old.going (sym same.phase ∙ whole))
     (after_same old new items in_old.layout s in_old.tail)
     (table_same old.order old.table mid old.params.format next in_old.layout rest same in_old.at)
 
-some_byte : (rest : List ℕ) (byte : ℕ) → rest ++ byte ∷ [] ≡ [] → ⊥
-some_byte [] byte e = absurd cc
-some_byte (x ∷ rest) byte e = absurd cc
+no_rest : (rest bytes : List ℕ) → 1 ≤ length bytes → rest ++ bytes ≡ [] → ⊥
+no_rest rest bytes some e = omega (arith, some, ap length e, length-append rest bytes)
 
--- where the table is whole, the byte ends its last field
-table_whole : (old : HeadReader) (mid : TableReader) (items : List Item) (rest : List ℕ) (byte : ℕ) (result : FieldStep)
+-- where the table is whole, the bytes end its last field
+table_whole : (old : HeadReader) (mid : TableReader) (items : List Item) (rest bytes : List ℕ) (result : FieldStep)
     (next : TableData → Layout) (is : InTable old items rest next)
-    → PushFollows old.order old.params.format old.table byte result mid → mid.phase ≡ table.Whole
-    → (i : Item) × (result ≡ byte_makes.Ends) × (field_spelt old.order is.layout (rest ++ byte ∷ []) ≡ good i)
+    → BytesFollow old.order old.params.format old.table bytes result mid → 1 ≤ length bytes → mid.phase ≡ table.Whole
+    → (i : Item) × (result ≡ byte_makes.Ends) × (field_spelt old.order is.layout (rest ++ bytes) ≡ good i)
     × IsWhole mid old.params.format next (following is.layout i)
-table_whole old mid items rest byte byte_makes.Within next is push whole =
+table_whole old mid items rest bytes byte_makes.Within next is push some whole =
     let made = push.made is.going next is.layout rest is.at in
-    absurd (some_byte rest byte (table_at old.order mid table.Whole old.params.format next is.layout (rest ++ byte ∷ [])
+    absurd (no_rest rest bytes some (table_at old.order mid table.Whole old.params.format next is.layout (rest ++ bytes)
     whole made.1).1)
-table_whole old mid items rest byte byte_makes.Ends next is push whole =
+table_whole old mid items rest bytes byte_makes.Ends next is push some whole =
     let made = push.made is.going next is.layout rest is.at in (
       made.0,
       refl,
@@ -260,9 +138,9 @@ table_whole old mid items rest byte byte_makes.Ends next is push whole =
       (table_at old.order mid table.Whole old.params.format next (following is.layout made.0) []
           whole made.2).0,
     )
-table_whole old mid items rest byte (byte_makes.Refuses kind) next is push whole =
+table_whole old mid items rest bytes (byte_makes.Refuses kind) next is push some whole =
     absurd (is.going (sym (push.made is.going next is.layout rest is.at).1.phase ∙ whole))
-table_whole old mid items rest byte byte_makes.NoMemory next is push whole =
+table_whole old mid items rest bytes byte_makes.NoMemory next is push some whole =
     absurd (is.going (sym (push.made is.going next is.layout rest is.at).0.phase ∙ whole))
 
 -- what is known of the table that is taken
@@ -271,16 +149,16 @@ Gives old mid next d = (layout : Layout) → IsWhole mid old.params.format next 
     → (layout ≡ next d) × (table_cells d ≡ reader_cells mid)
 
 -- the table is whole, and taken
-pub table_ends : (old new : HeadReader) (mid : TableReader) (d : TableData) (items : List Item) (rest : List ℕ)
-    (byte : ℕ) (result : FieldStep) (next : TableData → Layout) → InTable old items rest next
-    → PushFollows old.order old.params.format old.table byte result mid → mid.phase ≡ table.Whole → Gives old mid next d
-    → SameFields old new
-    → ((is : List Item) → Past new is (next d) → At new is []) → BytesMade old items rest (byte ∷ []) result new
-table_ends old new mid d items rest byte result next is push whole taken s to =
-    let e = table_whole old mid items rest byte result next is push whole in
-    subst (λ (n : FieldStep). BytesMade old items rest (byte ∷ []) n new) (sym e.1) (
+pub table_ends : (old new : HeadReader) (mid : TableReader) (d : TableData) (items : List Item) (rest bytes : List ℕ)
+    (result : FieldStep) (next : TableData → Layout) → InTable old items rest next
+    → BytesFollow old.order old.params.format old.table bytes result mid → 1 ≤ length bytes → mid.phase ≡ table.Whole
+    → Gives old mid next d → SameFields old new
+    → ((is : List Item) → Past new is (next d) → At new is []) → BytesMade old items rest bytes result new
+table_ends old new mid d items rest bytes result next is push some whole taken s to =
+    let e = table_whole old mid items rest bytes result next is push some whole in
+    subst (λ (n : FieldStep). BytesMade old items rest bytes n new) (sym e.1) (
       e.0,
-      ap (λ (l : Layout). field_spelt old.order l (rest ++ byte ∷ [])) is.tail.follows ∙ e.2,
+      ap (λ (l : Layout). field_spelt old.order l (rest ++ bytes)) is.tail.follows ∙ e.2,
       to (items ++ e.0 ∷ []) (after_on old new items is.layout (next d) e.0 is.tail
           (taken (following is.layout e.0) e.3).0 s.end s.overrun (same_end old new s)),
     )
@@ -310,12 +188,13 @@ table_adds old mid items rest bytes result next n held in_old push before after 
     subst (λ (l : Layout). Adds old.order l rest w result (held_cells old) held) (sym in_old.tail.follows) adds
 
 -- the table that is taken holds what its reader held
-pub table_kept : (old : HeadReader) (mid : TableReader) (d : TableData) (items : List Item) (rest : List ℕ) (byte : ℕ)
+pub table_kept : (old : HeadReader) (mid : TableReader) (d : TableData) (items : List Item) (rest bytes : List ℕ)
     (result : FieldStep) (next : TableData → Layout) → InTable old items rest next
-    → PushFollows old.order old.params.format old.table byte result mid → mid.phase ≡ table.Whole → Gives old mid next d
-    → table_cells d ≡ reader_cells mid
-table_kept old mid d items rest byte result next is push whole taken =
-    let e = table_whole old mid items rest byte result next is push whole in (taken (following is.layout e.0) e.3).1
+    → BytesFollow old.order old.params.format old.table bytes result mid → 1 ≤ length bytes → mid.phase ≡ table.Whole
+    → Gives old mid next d → table_cells d ≡ reader_cells mid
+table_kept old mid d items rest bytes result next is push some whole taken =
+    let e = table_whole old mid items rest bytes result next is push some whole in
+    (taken (following is.layout e.0) e.3).1
 
 pub fresh_cells : (t : TableReader) → IsFresh t → reader_cells t ≡ 0
 fresh_cells t fresh = omega (arith, ap length fresh.pairs, ap length fresh.values, ap length fresh.pool)

@@ -68,7 +68,8 @@ early_end r items is e none unit =
       unit = ap (λ (o : Option ℕ). unit_known (end_of_unit r) o) e.end ∙ sym unit_is;
     }
 
-after_end : (r : HeadReader) (items : List Item) (layout : Layout) → Past r items layout → EndIs r items
+-- the fields after header_length
+pub after_end : (r : HeadReader) (items : List Item) (layout : Layout) → Past r items layout → EndIs r items
 after_end r items layout e = record {
   end = e.end ∙ ap (λ (o : Option ℕ). first_end o (unit_end items)) (sym e.header_ends);
   overrun = e.overrun ∙ ap overrun_of (sym e.header_ends);

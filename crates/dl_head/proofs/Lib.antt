@@ -1,3 +1,4 @@
+pub mod AdvanceLemmas
 pub mod ByteCounted
 pub mod BytesBeforeTables
 pub mod CellLemmas
@@ -27,6 +28,7 @@ pub mod StepCells
 pub mod TableSpellings
 pub mod TakenBytes
 pub mod TurnLemmas
+pub mod ValueRuns
 pub mod WholeSteps
 pub mod WorkedHeaders
 pub mod WriteLemmas

@@ -14,9 +14,8 @@ use Rattle.dl_head.specs.Cells.{cells}
 use Rattle.dl_field.specs.TablePlace.{field_cells}
 use Rattle.dl_head.specs.Place.{At, SameCounts, PushFollows, held_cells}
 use Rattle.dl_head.specs.Standing.{Below, Live, Unmade}
-use Rattle.dl_field.proofs.FieldLemmas.{field_empty}
-use Rattle.dl_head.proofs.CutLemmas.{cut_of, cut_within, cut_good}
-use Rattle.dl_head.proofs.HeaderEnds.{end_is, UpTo, below_next, room_on, EndsWithin, ends_on}
+use Rattle.dl_head.proofs.CutLemmas.{cut_of, cut_within}
+use Rattle.dl_head.proofs.HeaderEnds.{end_is, UpTo, below_next, EndsWithin}
 use Rattle.dl_head.proofs.TakenBytes.{live_quiet}
 use Rattle.dl_head.proofs.StepCells.{cells_on}
 use Rattle.dl_head.proofs.SamePlace.{Guards, counted, at_counted}
@@ -77,34 +76,6 @@ moved_within r new g b x t l u f count =
       nothing_before = subst (λ (o : Order). NothingBefore (header_decided o) (b ++ x ∷ [])) (sym f.counts.order)
           (nothing_on r.order b x l.nothing_before (live_quiet r b l));
       ends_within = l.ends_within;
-      unmade = record {
-        header = f.counts.header ∙ u.header;
-        cells_are = cells_taken r new b x l u f.counts
-            (f.cells l.items l.rest l.at);
-      };
-      taken_is = omega (arith, count, length-append b (x ∷ []));
-    }
-
-pub moved_ends : (r new : HeadReader) (g : Guards new) (b : List ℕ) (x t : ℕ) (l : Live r b) → Unmade r b
-    → PushFollows r x byte_makes.Ends new → t ≡ length b + 1
-    → Moved (counted new g t t) (b ++ x ∷ [])
-moved_ends r new g b x t l u f count =
-    let made = f.made l.items l.rest l.at in
-    let items = l.items ++ made.0 ∷ [] in
-    let below = subst (λ (o : Option ℕ). Below (length b) o) (end_is r r.phase l.items l.rest l.at).end l.below in
-    record {
-      items = items;
-      rest = [];
-      cut_is = subst (λ (o : Order). cut o (b ++ x ∷ []) ≡ cut_of items []) (sym f.counts.order)
-          (cut_good r.order b x l.items l.rest made.0 l.cut_is made.1);
-      at = at_counted new g t t new.phase items [] made.2;
-      unjudged = field_empty new.order (following_all header_layout items);
-      start_is = omega (arith, count, length-append b (x ∷ []));
-      up_to = subst (λ (o : Option ℕ). UpTo (length (b ++ x ∷ [])) o) (sym (end_is new new.phase items [] made.2).end)
-          (room_on r.order b x l.items l.rest made.0 l.cut_is made.1 below);
-      nothing_before = subst (λ (o : Order). NothingBefore (header_decided o) (b ++ x ∷ [])) (sym f.counts.order)
-          (nothing_on r.order b x l.nothing_before (live_quiet r b l));
-      ends_within = ends_on r.order b x l.items l.rest made.0 l.cut_is made.1 below l.ends_within;
       unmade = record {
         header = f.counts.header ∙ u.header;
         cells_are = cells_taken r new b x l u f.counts

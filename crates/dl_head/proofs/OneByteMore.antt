@@ -1,5 +1,5 @@
 -- One byte more of a header: what the reader answers, and the bytes that it stands for then.
-use Rattle.std.proofs.Common.{◌≡◌, ◌≢◌, ℕ, ◌+◌, ◌-◌, ◌^◌, min, List, [], ◌∷◌, ◌++◌, length, Option, Some, None, refl}
+use Rattle.std.proofs.Common.{◌≡◌, ◌≢◌, ℕ, ◌+◌, List, [], ◌∷◌, ◌++◌, length, Option, Some, None, refl}
 use Rattle.std.proofs.Common.{sym, ap, subst, ◌∙◌, arith, length-append}
 use Rattle.dl_num.specs.declared.fixed.Order.{Order}
 use Rattle.dl_num.specs.declared.partial_number.PartialNumber.{PartialNumber}
@@ -27,64 +27,53 @@ use Rattle.dl_head.specs.Reading.{Answers, AddsCell, Steps}
 use Rattle.dl_field.proofs.FieldLemmas.{none_some}
 use Rattle.dl_head.proofs.CutLemmas.{cut_of, cut_bad}
 use Rattle.dl_head.proofs.HeaderEnds.{UpTo, below_next, end_from, end_is}
-use Rattle.dl_head.proofs.TakenBytes.{Place, in_field, in_padding, in_foreign, place_of, live_quiet, live_more}
-use Rattle.dl_head.proofs.TakenBytes.{countable, not_foreign}
+use Rattle.dl_head.proofs.TakenBytes.{Place, in_field, in_padding, in_foreign, place_of, live_quiet}
+use Rattle.dl_head.proofs.TakenBytes.{not_foreign}
 use Rattle.dl_head.proofs.OneAnswer.{one_answer}
 use Rattle.dl_head.proofs.StepCells.{cells_on}
 use Rattle.dl_head.proofs.SamePlace.{Guards, counted}
-use Rattle.dl_head.proofs.MovedReader.{nothing_on, moved_within, moved_ends, cells_taken}
+use Rattle.dl_head.proofs.MovedReader.{nothing_on, moved_within, cells_taken}
 use Rattle.dl_head.proofs.ByteCounted.{settled, failed, unit_of, unit_kept, fits_kept, fits_of}
 
--- the byte is taken
-taken_step : (r mid fin : HeadReader) (b : List ℕ) (x : ℕ) (result : HeadStep) → ending r.phase ≡ None → Live r b
-    → mid.order ≡ r.order
-    → Answers mid.order (b ++ x ∷ []) result × StandsFor fin (b ++ x ∷ []) → Steps r.order b x result fin
-taken_step r mid fin b x result goes l order p = record {
-  ended = λ q a other. absurd (other (one_answer r.order b q answer.More a (live_more r b goes l)));
-  unfed = λ none. absurd (subst (λ (a : HeadStep). Answers mid.order (b ++ x ∷ []) a) none p.0);
-  taken = λ more fed. (subst (λ (o : Order). Answers o (b ++ x ∷ []) result) order p.0, p.1);
-}
+-- what the bytes c come to, by the order
+pub by_order : (r mid fin : HeadReader) (c : List ℕ) (result : HeadStep) → mid.order ≡ r.order
+    → Answers mid.order c result × StandsFor fin c → Answers r.order c result × StandsFor fin c
+by_order r mid fin c result order p = (subst (λ (o : Order). Answers o c result) order p.0, p.1)
+
+answers_of : (r : HeadReader) (b : List ℕ) (a : HeadStep) → Stands r (Some a) b → Answers r.order b a
+answers_of r b answer.Done t = (t.0, t.2)
+answers_of r b (answer.Foreign v) t = t.0
+answers_of r b (answer.Fault f) t = t.0
+answers_of r b answer.More t = absurd t
+answers_of r b answer.NoMemory t = absurd t
 
 -- the header came to something before
 pub ended_step : (r : HeadReader) (b : List ℕ) (x : ℕ) (a : HeadStep) → ending r.phase ≡ Some a → a ≢ answer.More
     → StandsFor r b → Steps r.order b x a r
 ended_step r b x a is other s =
-    let answers = answers_of a (subst (λ (o : Option HeadStep). Stands r o b) is s.stands) in
+    let answers = answers_of r b a (subst (λ (o : Option HeadStep). Stands r o b) is s.stands) in
     record {
       ended = λ q c m. (one_answer r.order b a q answers c, s);
       unfed = λ e. absurd (subst (λ (q : HeadStep). Answers r.order b q) e answers);
       taken = λ more fed. absurd (other (one_answer r.order b a answer.More answers more));
     }
-  where
-    answers_of : (a : HeadStep) → Stands r (Some a) b → Answers r.order b a
-    answers_of answer.Done t = (t.0, t.2)
-    answers_of (answer.Foreign v) t = t.0
-    answers_of (answer.Fault f) t = t.0
-    answers_of answer.More t = absurd t
-    answers_of answer.NoMemory t = absurd t
 
--- the counter doesn't reach its end
-pub counts_on : (r new : HeadReader) (b : List ℕ) (t : ℕ) → Live r b → r.taken ≡ length b → new.taken ≡ r.taken
-    → t ≡ min (new.taken + 1) (2 ^ 64 - 1) → t ≡ length b + 1
-counts_on r new b t l taken same e = omega (arith, countable r b l, taken, same, e)
+-- a header that came to nothing goes on
+pub goes_more : (r : HeadReader) (b : List ℕ) → StandsFor r b → Answers r.order b answer.More → ending r.phase ≡ None
+goes_more r b s more = on (ending r.phase) refl s.stands where
+  on : (o : Option HeadStep) → ending r.phase ≡ o → Stands r o b → ending r.phase ≡ None
+  on None e t = e
+  on (Some a) e t = absurd (subst (λ (q : HeadStep). Stands r (Some q) b)
+      (one_answer r.order b a answer.More (answers_of r b a t) more) t)
 
 pub within_step : (r new fin : HeadReader) (g : Guards new) (b : List ℕ) (x t : ℕ) (result : HeadStep)
-    → ending r.phase ≡ None → Live r b × Unmade r b
+    → Live r b × Unmade r b
     → PushFollows r x byte_makes.Within new → t ≡ length b + 1 → Settles (counted new g new.start t) result fin
-    → Steps r.order b x result fin
-within_step r new fin g b x t result goes l f count s =
+    → Answers r.order (b ++ x ∷ []) result × StandsFor fin (b ++ x ∷ [])
+within_step r new fin g b x t result l f count s =
     let mid = counted new g new.start t in
-    taken_step r mid fin b x result goes l.0 f.counts.order
+    by_order r mid fin (b ++ x ∷ []) result f.counts.order
     (settled mid fin (b ++ x ∷ []) (moved_within r new g b x t l.0 l.1 f count) result s)
-
-pub ends_step : (r new fin : HeadReader) (g : Guards new) (b : List ℕ) (x t : ℕ) (result : HeadStep)
-    → ending r.phase ≡ None → Live r b × Unmade r b
-    → PushFollows r x byte_makes.Ends new → t ≡ length b + 1 → Settles (counted new g t t) result fin
-    → Steps r.order b x result fin
-ends_step r new fin g b x t result goes l f count s =
-    let mid = counted new g t t in
-    taken_step r mid fin b x result goes l.0 f.counts.order
-    (settled mid fin (b ++ x ∷ []) (moved_ends r new g b x t l.0 l.1 f count) result s)
 
 bad_decided : (order : Order) (b : List ℕ) (x : ℕ) (items : List Item) (rest : List ℕ) (kind : FaultKind)
     → cut order b ≡ cut_of items rest
@@ -97,10 +86,11 @@ bad_decided order b x items rest kind e spelt =
 
 -- the byte ends a bad field
 pub refused_step : (r new fin : HeadReader) (g : Guards new) (b : List ℕ) (x t : ℕ) (kind : FaultKind)
-    (result : HeadStep) → ending r.phase ≡ None → StandsFor r b → Live r b × Unmade r b
+    (result : HeadStep) → StandsFor r b → Live r b × Unmade r b
     → PushFollows r x (byte_makes.Refuses kind) new → SameUnit r new → t ≡ length b + 1
-    → Fails (counted new g new.start t) kind result fin → Steps r.order b x result fin
-refused_step r new fin g b x t kind result goes stands l f unit count fails =
+    → Fails (counted new g new.start t) kind result fin
+    → Answers r.order (b ++ x ∷ []) result × StandsFor fin (b ++ x ∷ [])
+refused_step r new fin g b x t kind result stands l f unit count fails =
     let spelt = f.made l.0.items l.0.rest l.0.at in
     let cut_is = cut_bad r.order b x l.0.items l.0.rest kind l.0.cut_is spelt in
     let refused : HeaderRefused r.order (b ++ x ∷ []) new.start kind = record {
@@ -118,7 +108,7 @@ refused_step r new fin g b x t kind result goes stands l f unit count fails =
     (below_next (length b) (end_from l.0.items) below) in
     let length_known : unit_known (end_of_unit r) r.end ≡ unit_len r.order (b ++ x ∷ []) =
     stands.unit ∙ ap (λ (c : Cut). unit_end c.items) l.0.cut_is ∙ sym (ap (λ (c : Cut). unit_end c.items) cut_is) in
-    taken_step r mid fin b x result goes l.0 f.counts.order
+    by_order r mid fin (b ++ x ∷ []) result f.counts.order
     (failed mid fin (b ++ x ∷ []) kind result
     (subst (λ (o : Order). HeaderRefused o (b ++ x ∷ []) new.start kind) (sym f.counts.order) refused)
     (record {
@@ -184,19 +174,12 @@ kept_stands r new b goes stands l at counts same_cells = record {
 -- memory was refused
 pub unfed_step : (r new : HeadReader) (b : List ℕ) (x : ℕ) → ending r.phase ≡ None → StandsFor r b
     → Live r b × Unmade r b → PushFollows r x byte_makes.NoMemory new
-    → Steps r.order b x answer.NoMemory new
-unfed_step r new b x goes stands l f = record {
-  ended = λ q a other. absurd (other (one_answer r.order b q answer.More a (live_more r b goes l.0)));
-  unfed = λ none. (
-    adds_cell,
-    kept_stands r new b goes stands l (f.made l.0.items l.0.rest l.0.at) f.counts
-        (f.cells l.0.items l.0.rest l.0.at).0,
-  );
-  taken = λ more fed. absurd (fed refl);
-} where
-  adds_cell : AddsCell r.order b x
-  adds_cell = let adds = f.cells l.0.items l.0.rest l.0.at in
-      omega (arith, adds.1, cells_on r.order b x l.0.items l.0.rest l.0.cut_is)
+    → AddsCell r.order b x × StandsFor new b
+unfed_step r new b x goes stands l f = (
+  omega (arith, (f.cells l.0.items l.0.rest l.0.at).1, cells_on r.order b x l.0.items l.0.rest l.0.cut_is),
+  kept_stands r new b goes stands l (f.made l.0.items l.0.rest l.0.at) f.counts
+      (f.cells l.0.items l.0.rest l.0.at).0,
+)
 
 -- a reader whose phase is none of an end goes on
 pub goes_of : (p : Phase) → (p ≡ phase.Done → ⊥) → ((v : ℕ) → p ≡ phase.Foreign v → ⊥)

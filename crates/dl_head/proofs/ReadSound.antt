@@ -49,7 +49,7 @@ pub front_bytes : (v w : List ℕ) → AllBytes (v ++ w) → AllBytes v
 front_bytes [] w all = tt
 front_bytes (b ∷ v) w all = (all.0, front_bytes v w all.1)
 
-back_bytes : (v w : List ℕ) → AllBytes (v ++ w) → AllBytes w
+pub back_bytes : (v w : List ℕ) → AllBytes (v ++ w) → AllBytes w
 back_bytes [] w all = all
 back_bytes (b ∷ v) w all = back_bytes v w all.1
 

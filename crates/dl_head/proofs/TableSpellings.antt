@@ -1,6 +1,7 @@
 -- The fields that the reader of a table has taken, and the table that they are.
-use Rattle.std.proofs.Common.{◌≡◌, ℕ, ◌<◌, Bool, true, false, if◌then◌else◌, List, [], ◌∷◌, ◌++◌, refl, sym, ap, subst}
-use Rattle.std.proofs.Common.{◌∙◌, append_assoc, append-nil}
+use Rattle.std.proofs.Common.{◌≡◌, ℕ, suc, ◌<◌, Bool, true, false, if◌then◌else◌, List, [], ◌∷◌, ◌++◌, refl, sym, ap}
+use Rattle.std.proofs.Common.{subst, ◌∙◌, arith, length, take, drop, get_or, append_assoc, append-nil}
+use Rattle.std.proofs.lemmas.List.{take-append-drop}
 use Rattle.std.proofs.Props.{props}
 use Rattle.std.proofs.Math.Logic.{∥∥₁_elim, ∥∥₁_prop}
 use Rattle.dl_num.specs.declared.fixed.Order.{Order}
@@ -18,10 +19,10 @@ use Rattle.dl_table.specs.Value.{Value, good}
 use Rattle.dl_field.specs.Layout.{Layout, Item, following_all, field_spelt, table_layout}
 use Rattle.dl_head.specs.Header.{SpellsFields}
 use Rattle.dl_field.specs.TablePlace.{IsFresh, TableAt}
-use Rattle.dl_field.specs.TableMoves.{SameTable, MakesTable, BytesFollow, PushFollows}
+use Rattle.dl_field.specs.TableMoves.{SameTable, MakesTable, BytesFollow}
 use Rattle.dl_head.specs.TableSpelt.{alone, TableSpelt, TableReads, TableStands}
 use Rattle.dl_head.proofs.CutLemmas.{following_all-append}
-use Rattle.dl_head.proofs.HeadTables.{table_same}
+use Rattle.dl_field.proofs.SameTables.{table_same}
 use Rattle.dl_table.specs.Held.{table_of}
 use Rattle.dl_table.specs.Sound.{IsSoundTable}
 use Rattle.dl_field.proofs.PairLemmas.{table_at}
@@ -104,6 +105,13 @@ module _ (order : Order) (format : Format) (old : TableReader) (bytes : List ℕ
   spelt_push byte_makes.NoMemory going f = same
       (f.made going (alone format) (following_all first s.items) s.rest s.at).0
 
+-- the first bytes of a piece are bytes
+pub front_is_read : (n : ℕ) (w : List ℕ) → ((i : ℕ) → i < length w → get_or w i 0 < 256) → AllBytes (take n w)
+front_is_read n w h = front_bytes (take n w) (drop n w) (subst AllBytes (sym (take-append-drop n w)) (all w h)) where
+  all : (w : List ℕ) → ((i : ℕ) → i < length w → get_or w i 0 < 256) → AllBytes w
+  all [] h = tt
+  all (b ∷ w) h = (h 0 (omega arith), all w (λ i lt. h (suc i) (omega arith)))
+
 -- the values and the count of a table's entries
 module _ (order : Order) (format : Format) (t : TableReader) (s : TableSpelt order format t) where
   pub makes_table : t.phase ≡ table.Whole → MakesTable t format
@@ -121,13 +129,13 @@ module _ (order : Order) (format : Format) (t : TableReader) (s : TableSpelt ord
             (record { format = format; pairs = t.pairs.items; entries = entries })) (sym held.rows_are) sound;
       }
 
--- the table is complete, whatever byte was the last one
-pub makes_table_pushed : (order : Order) (format : Format) (old new : TableReader) (byte : ℕ) (result : FieldStep)
-    → byte < 256 → ∥ TableReads order format old ∥₁ → PushFollows order format old byte result new
+-- the table is complete, whatever bytes were the last ones
+pub makes_table_pushed : (order : Order) (format : Format) (old new : TableReader) (bytes : List ℕ) (result : FieldStep)
+    → AllBytes bytes → ∥ TableReads order format old ∥₁ → BytesFollow order format old bytes result new
     → new.phase ≡ table.Whole → MakesTable new format
-makes_table_pushed order format old new byte result small read follows e =
+makes_table_pushed order format old new bytes result small read follows e =
     ∥∥₁_elim read makes_prop (λ s. makes_table order format new
-    (spelt_push order format old (byte ∷ []) new (small, tt) s.0 result s.1 follows) e)
+    (spelt_push order format old bytes new small s.0 result s.1 follows) e)
   where
     makes_prop : IsProp (MakesTable new format)
     makes_prop = let sound = sound_prop (table_of format new.pairs.items new.values.items new.pool.items) in

@@ -72,7 +72,8 @@ value_next : (format : Format) (next : TableData → Layout) (pairs : List Pair)
 value_next format next pairs entries before left later pair rest e after =
     subst (λ (l : List Pair). IsNext (entry_layout format l before after)) (sym e) tt
 
-table_next : (order : Order) (t : TableReader) (p : TablePhase) (format : Format) (next : TableData → Layout)
+-- in a table a field follows
+pub table_next : (order : Order) (t : TableReader) (p : TablePhase) (format : Format) (next : TableData → Layout)
     (layout : Layout) (rest : List ℕ)
     → TableAt order t p format next layout rest → (p ≡ table.Whole → ⊥) → IsNext layout
 table_next order t table.PairCount format next layout rest at going = subst IsNext (sym at.1) tt

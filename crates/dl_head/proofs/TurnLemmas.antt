@@ -2,7 +2,7 @@
 use Rattle.std.proofs.Common.{◌≡◌, ◌+◌, ◌<◌, ◌≤◌, ◌⊎◌, inl, inr, ℕ, zero, suc, Bool, true, false, List, [], ◌∷◌, ◌++◌}
 use Rattle.std.proofs.Common.{length, min, take, drop, slice_index_or, refl, sym, ap, subst, ◌∙◌, arith, append_assoc}
 use Rattle.std.proofs.Common.{append-nil, length-take, length-drop}
-use Rattle.std.proofs.lemmas.List.{take_more, drop_more, take-append-drop, drop-drop}
+use Rattle.std.proofs.lemmas.List.{take_more, drop_more, take-append-drop, take-take, drop-drop}
 use Rattle.std.proofs.lemmas.List.Sums.{sum_by-cons}
 use Rattle.std.proofs.Math.Seq.{take-add}
 use Rattle.dl_head.specs.Turns.{Answer, used_in, last_given, IsTrace, some_turns}
@@ -11,6 +11,12 @@ use Rattle.dl_head.specs.Turns.{Answer, used_in, last_given, IsTrace, some_turns
 pub joined : (b bytes : List ℕ) (k i : ℕ) → (b ++ take k bytes) ++ take i (drop k bytes) ≡ b ++ take (k + i) bytes
 joined b bytes k i = append_assoc b (take k bytes) (take i (drop k bytes))
     ∙ ap (λ (l : List ℕ). b ++ l) (sym (take-add k i bytes))
+
+-- the first bytes of a piece's front are its own
+pub front_taken : (piece bytes : List ℕ) (len n : ℕ) → bytes ≡ take len piece → n ≤ length bytes
+    → take n bytes ≡ take n piece
+front_taken piece bytes len n e le = ap (λ (l : List ℕ). take n l) e
+    ∙ take-take n len piece (omega (arith, le, ap length e, length-take len piece))
 
 pub used_cons : {A : Type 0} (a : Answer A) (answers : List (Answer A))
     → used_in (a ∷ answers) ≡ a.used + used_in answers

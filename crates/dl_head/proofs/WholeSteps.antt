@@ -1,14 +1,11 @@
 -- The header reader takes a value of a table at once: what it answers on the way, and the bytes that it stands for
 -- then.
-use Rattle.std.proofs.Common.{◌≡◌, ◌≢◌, ℕ, zero, suc, ◌+◌, ◌-◌, ◌^◌, ◌<◌, ◌≤◌, min, inl, inr, true, List, [], ◌∷◌, ◌++◌}
-use Rattle.std.proofs.Common.{length, take, drop, get_or, Option, Some, None, Ok, refl, sym, ap, subst, ◌∙◌, arith}
+use Rattle.std.proofs.Common.{◌≡◌, ℕ, zero, suc, ◌+◌, ◌-◌, ◌<◌, ◌≤◌, inl, inr, true, List, [], ◌∷◌, ◌++◌}
+use Rattle.std.proofs.Common.{length, take, drop, Option, Some, None, Ok, refl, sym, ap, subst, ◌∙◌, arith}
 use Rattle.std.proofs.Common.{append_assoc, append-nil, length-append}
-use Rattle.std.proofs.lemmas.Bool.{cases_lt, leb-true}
-use Rattle.std.proofs.lemmas.List.{length-take-le, take-take, take_all, take-append-drop}
-use Rattle.std.proofs.Math.Seq.{take-append_seam}
+use Rattle.std.proofs.lemmas.Bool.{cases_lt}
+use Rattle.std.proofs.lemmas.List.{length-take-le, take-take}
 use Rattle.dl_num.specs.declared.fixed.Order.{Order}
-use Rattle.dl_num.specs.Laws.{AllBytes}
-use Rattle.dl_num.proofs.LebFrontLemmas.{true_false}
 use Rattle.dl_table.specs.declared.form.Format.{Format}
 use Rattle.dl_field.specs.declared.params.Params.{Params}
 use Rattle.dl_head.specs.declared.reader.Phase.{Phase}
@@ -26,25 +23,22 @@ use Rattle.dl_head.specs.Header.{cut}
 use Rattle.dl_head.specs.Refusal.{header_decided, NothingBefore}
 use Rattle.dl_head.specs.Cells.{cells}
 use Rattle.dl_field.specs.TablePlace.{reader_cells}
-use Rattle.dl_field.specs.TableMoves.{Adds, SameTable, TakesValue}
+use Rattle.dl_field.specs.TableMoves.{Adds, SameTable}
 use Rattle.dl_head.specs.TableSpelt.{TableReads, TableStands}
 use Rattle.dl_head.specs.Place.{InTable, AtPhase, At, SameCounts, Made, held_cells}
 use Rattle.dl_head.specs.Standing.{Below, Live, Unmade, ending, StandsFor}
 use Rattle.dl_head.specs.Reading.{Answers}
-use Rattle.dl_head.specs.HeadStep.{end_near}
-use Rattle.dl_head.specs.Whole.{in_table, IsInside, TakesAll}
+use Rattle.dl_head.specs.Whole.{in_table, TakesAll}
 use Rattle.dl_field.proofs.FieldLemmas.{none_some, field_empty}
 use Rattle.dl_head.proofs.CutLemmas.{cut_of, cut_within, cut_good, before_none}
 use Rattle.dl_head.proofs.HeaderEnds.{end_from, UpTo, EndIs, EndsWithin, end_is, room_on, ends_on}
 use Rattle.dl_head.proofs.TakenBytes.{IsNext, Place, in_field, in_padding, in_foreign, place_of, quiet_at, field_more}
 use Rattle.dl_head.proofs.StepCells.{cells_good_on}
 use Rattle.dl_head.proofs.MovedReader.{Moved, nothing_on}
-use Rattle.dl_head.proofs.ByteCounted.{goes_on}
 use Rattle.dl_head.proofs.OneByteMore.{live_of, kept_stands}
-use Rattle.dl_head.proofs.ReadSound.{front_bytes}
 use Rattle.dl_head.proofs.TurnLemmas.{joined}
 use Rattle.dl_head.proofs.OfferLemmas.{Offering}
-use Rattle.dl_head.proofs.HeadTables.{SameFields, table_stays, table_goes_on, table_adds}
+use Rattle.dl_head.proofs.HeadTables.{SameFields, table_stays}
 
 -- ---- nothing is taken
 
@@ -89,7 +83,7 @@ module _ (r : HeadReader) (items : List Item) (end : EndIs r items) (next : IsNe
     quiet_here b rest p = quiet_at r b items rest p.cut_is end p.unjudged p.below
 
     pub passes : (w b rest : List ℕ) (i : Item) → Passing b rest → EndsWithin items
-        → field_spelt r.order layout (rest ++ w) ≡ good i → Below (length b + length w) r.end → Passed b rest w i
+        → field_spelt r.order layout (rest ++ w) ≡ good i → Below (length b + (length w - 1)) r.end → Passed b rest w i
     passes [] b rest i p ends spelt below = absurd
         (none_some p.unjudged (ap (λ (l : List ℕ). field_spelt r.order layout l) (sym (append-nil rest)) ∙ spelt))
     passes (x ∷ []) b rest i p ends spelt below =
@@ -111,13 +105,13 @@ module _ (r : HeadReader) (items : List Item) (end : EndIs r items) (next : IsNe
           cut_is = cut_within r.order b x items rest p.cut_is unjudged;
           unjudged = unjudged;
           nothing_before = nothing_on r.order b x p.nothing_before (quiet_here b rest p);
-          below = below_less (length b + length (x ∷ y ∷ w)) (length (b ++ x ∷ [])) r.end
+          below = below_less (length b + (length (x ∷ y ∷ w) - 1)) (length (b ++ x ∷ [])) r.end
               (omega (arith, length-append b (x ∷ []))) below;
         } in
         let q = passes (y ∷ w) (b ++ x ∷ []) (rest ++ x ∷ []) i on ends later
         (subst (λ (n : ℕ). Below n r.end)
-        (let e : length b + length (x ∷ y ∷ w) ≡ length (b ++ x ∷ [])
-        + length (y ∷ w) = omega (arith, length-append b (x ∷ [])) in e) below) in
+        (let e : length b + (length (x ∷ y ∷ w) - 1) ≡ length (b ++ x ∷ [])
+        + (length (y ∷ w) - 1) = omega (arith, length-append b (x ∷ [])) in e) below) in
         let same = append_assoc b (x ∷ []) (y ∷ w) in
         record {
           cut_is = ap (λ (l : List ℕ). cut r.order l) (sym same) ∙ q.cut_is;
@@ -138,29 +132,67 @@ module _ (r : HeadReader) (items : List Item) (end : EndIs r items) (next : IsNe
         fronts first more (suc j) lt = subst (λ (l : List ℕ). Answers r.order l answer.More)
             (append_assoc b (x ∷ []) (take j (y ∷ w))) (more j (omega (arith, lt)))
 
--- ---- a value is taken
+-- ---- a field is whole
 
--- the field that ends with w
-pub whole_taken : (r new : HeadReader) (b w : List ℕ) → ending new.phase ≡ None → (l : Live r b × Unmade r b)
-    → IsNext (following_all header_layout l.0.items)
-    → Made r.order l.0.items (l.0.rest ++ w) byte_makes.Ends new
+-- what ends well is a field
+next_of_good : (order : Order) (r : HeadReader) (items : List Item) (rest w : List ℕ) (i : Item)
+    → At r items rest → field_spelt order (following_all header_layout items) w ≡ good i
+    → IsNext (following_all header_layout items)
+next_of_good order r items rest w i at spelt = on (place_of r r.phase items rest refl at) where
+  on : Place r r.phase items → IsNext (following_all header_layout items)
+  on (in_field goes out next) = next
+  on (in_padding is tail) = absurd
+      (none_some (ap (λ (l : Layout). field_spelt order l w) tail.follows) spelt)
+  on (in_foreign v is follows) = absurd (none_some (ap (λ (l : Layout). field_spelt order l w) follows) spelt)
+
+-- the reader has the bytes w more, which end the field
+pub record Whole (r fin : HeadReader) (b w : List ℕ) : Type 0 where
+  pub moved : Moved fin (b ++ w)
+  pub more : (j : ℕ) → j < length w → Answers r.order (b ++ take j w) answer.More
+
+pub whole_moved : (r fin : HeadReader) (b w : List ℕ) → (l : Live r b × Unmade r b)
+    → Made r.order l.0.items (l.0.rest ++ w) byte_makes.Ends fin
     → Adds r.order (following_all header_layout l.0.items) l.0.rest (l.0.rest ++ w) byte_makes.Ends (held_cells r)
-    (held_cells new)
-    → SameFields r new → new.header ≡ r.header → new.start ≡ length b + length w → new.taken ≡ length b + length w
-    → Below (length b + length w) r.end → TakesAll r.order b w new
-whole_taken r new b w on l next made adds same header start taken below = record {
-  stands = last.1;
-  more = λ i le. elim (cases_lt i (length w)) [
-    | inl lt ↦ passed.more i lt
-    | inr ge ↦ subst (λ (k : List ℕ). Answers r.order (b ++ k) answer.More) (sym (take_all i w ge))
-        (subst (λ (o : Order). Answers o (b ++ w) answer.More) same.order last.0)
-  ];
+    (held_cells fin)
+    → fin.order ≡ r.order → fin.header ≡ r.header → fin.start ≡ length b + length w → fin.taken ≡ length b + length w
+    → Below (length b + (length w - 1)) r.end → Whole r fin b w
+whole_moved r fin b w l made adds order header start taken below = record {
+  moved = record {
+    items = items ++ made.0 ∷ [];
+    rest = [];
+    cut_is = subst (λ (o : Order). cut o (b ++ w) ≡ cut_of (items ++ made.0 ∷ []) []) (sym order) passed.cut_is;
+    at = made.2;
+    unjudged = field_empty fin.order (following_all header_layout (items ++ made.0 ∷ []));
+    start_is = omega (arith, size, start);
+    up_to = subst (λ (o : Option ℕ). UpTo (length (b ++ w)) o)
+        (sym (end_is fin fin.phase (items ++ made.0 ∷ []) [] made.2).end) passed.up_to;
+    nothing_before = subst (λ (o : Order). NothingBefore (header_decided o) (b ++ w)) (sym order)
+        passed.nothing_before;
+    ends_within = passed.ends_within;
+    unmade = record {
+      header = header ∙ l.1.header;
+      cells_are =
+          (let e : held_cells fin ≡ cells r.order (b ++ w) = omega (
+            arith,
+            adds,
+            l.1.cells_are,
+            cells_good_on r.order b (b ++ w) items l.0.rest (l.0.rest ++ w) made.0 l.0.cut_is
+                passed.cut_is made.1,
+          ) in e)
+          ∙ ap (λ (o : Order). cells o (b ++ w)) (sym order);
+    };
+    taken_is = taken ∙ sym size;
+  };
+  more = passed.more;
 } where
   items : List Item
   items = l.0.items
 
   here : EndIs r items
   here = end_is r r.phase items l.0.rest l.0.at
+
+  next : IsNext (following_all header_layout items)
+  next = next_of_good r.order r items l.0.rest (l.0.rest ++ w) made.0 l.0.at made.1
 
   passed : Passed r items here next b l.0.rest w made.0
   passed = passes r items here next w b l.0.rest made.0
@@ -169,43 +201,6 @@ whole_taken r new b w on l next made adds same header start taken below = record
 
   size : length (b ++ w) ≡ length b + length w
   size = length-append b w
-
-  moved : Moved new (b ++ w)
-  moved = record {
-    items = items ++ made.0 ∷ [];
-    rest = [];
-    cut_is = subst (λ (o : Order). cut o (b ++ w) ≡ cut_of (items ++ made.0 ∷ []) []) (sym same.order) passed.cut_is;
-    at = made.2;
-    unjudged = field_empty new.order (following_all header_layout (items ++ made.0 ∷ []));
-    start_is = omega (arith, size, start);
-    up_to = subst (λ (o : Option ℕ). UpTo (length (b ++ w)) o)
-        (sym (end_is new new.phase (items ++ made.0 ∷ []) [] made.2).end) passed.up_to;
-    nothing_before = subst (λ (o : Order). NothingBefore (header_decided o) (b ++ w)) (sym same.order)
-        passed.nothing_before;
-    ends_within = passed.ends_within;
-    unmade = record {
-      header = header ∙ l.1.header;
-      cells_are =
-          (let e : held_cells new ≡ cells r.order (b ++ w) = omega (
-            arith,
-            adds,
-            l.1.cells_are,
-            cells_good_on r.order b (b ++ w) items l.0.rest (l.0.rest ++ w) made.0 l.0.cut_is
-                passed.cut_is made.1,
-          ) in e)
-          ∙ ap (λ (o : Order). cells o (b ++ w)) (sym same.order);
-    };
-    taken_is = taken ∙ sym size;
-  }
-
-  not_end : new.end ≢ Some new.taken
-  not_end e =
-      let at : Below (length b + length w) (Some new.taken) =
-      subst (λ (o : Option ℕ). Below (length b + length w) o) (sym same.end ∙ e) below in
-      omega (arith, at, taken)
-
-  last : Answers new.order (b ++ w) answer.More × StandsFor new (b ++ w)
-  last = goes_on new (b ++ w) on moved not_end
 
 -- ---- in a table
 
@@ -230,7 +225,8 @@ by_table P directories files phase.Done is = absurd cc
 by_table P directories files (phase.Foreign v) is = absurd cc
 by_table P directories files (phase.Failed f) is = absurd cc
 
-table_of_phase : (r : HeadReader) (p : Phase) (items : List Item) (rest : List ℕ) → in_table p ≡ true
+-- where the reader is in the table, by the phase, and back
+pub table_of_phase : (r : HeadReader) (p : Phase) (items : List Item) (rest : List ℕ) → in_table p ≡ true
     → AtPhase r p items rest → InTable r items rest (after_the_table p r.params r.directories)
 table_of_phase r p items rest is = by_table
     (λ q. AtPhase r q items rest → InTable r items rest (after_the_table q r.params r.directories)) (λ at. at)
@@ -247,12 +243,6 @@ phase_of_table r p items rest is = by_table
 pub table_goes : (p : Phase) → in_table p ≡ true → ending p ≡ None
 table_goes p is = by_table (λ q. ending q ≡ None) refl refl p is
 
-next_field : (r : HeadReader) (p : Phase) (items : List Item) → in_table p ≡ true → Place r p items
-    → IsNext (following_all header_layout items)
-next_field r p items is (in_field goes out next) = next
-next_field r p items is (in_padding e tail) = absurd (true_false is (ap in_table e))
-next_field r p items is (in_foreign v e follows) = absurd (true_false is (ap in_table e))
-
 -- nothing of a value is taken
 pub value_refused : (r new : HeadReader) (b : List ℕ) → in_table r.phase ≡ true → SameTable r.table new.table
     → SameFields r new → SameCounts r new
@@ -268,63 +258,6 @@ value_refused r new b table same fields counts to held s more =
     (table_stays r new new.table l.0.items l.0.rest _ at same refl fields)) counts
     (omega (arith, held, ap length same.pairs, ap length same.values, ap length same.pool))) more
 
--- the bytes that a value takes of a piece
-front_of : (piece bytes front tail : List ℕ) (len : ℕ) → bytes ≡ take len piece → bytes ≡ front ++ tail
-    → take (length bytes - length tail) piece ≡ front
-front_of piece bytes front tail len e f =
-    let size : length bytes - length tail ≡ length front = omega (arith, ap length f, length-append front tail) in
-    let whole : piece ≡ front ++ (tail ++ drop len piece) = sym (take-append-drop len piece)
-    ∙ ap (λ (l : List ℕ). l ++ drop len piece) (sym e ∙ f) ∙ append_assoc front tail (drop len piece) in
-    ap (λ (n : ℕ). take n piece) size ∙ ap (λ (l : List ℕ). take (length front) l) whole
-    ∙ take-append_seam front (tail ++ drop len piece)
-
--- a value is taken
-pub value_whole : (r new : HeadReader) (b piece bytes tail : List ℕ) → in_table r.phase ≡ true
-    → ending new.phase ≡ None → IsInside r piece bytes
-    → (v : TakesValue r.order r.params.format r.table bytes tail new.table)
-    → SameFields r new → ((is : List Item) (w : List ℕ) → InTable new is w
-    (after_the_table r.phase r.params r.directories)
-    → At new is w)
-    → held_cells new ≡ table_cells r.directories + table_cells r.files + reader_cells new.table → new.header ≡ r.header
-    → new.start ≡ new.taken
-    → new.taken ≡ min (r.taken + (length bytes - length tail)) (2 ^ 64 - 1) → StandsFor r b
-    → TakesAll r.order b (take (length bytes - length tail) piece) new
-value_whole r new b piece bytes tail table on inside v fields to held header start taken s =
-    subst (λ (l : List ℕ). TakesAll r.order b l new)
-    (sym (front_of piece bytes v.front tail inside.len inside.bytes_are v.bytes_are))
-    (whole_taken r new b v.front on l
-    (next_field r r.phase l.0.items table (place_of r r.phase l.0.items l.0.rest refl l.0.at))
-    (table_goes_on r new new.table l.0.items l.0.rest v.front byte_makes.Ends _ at v.follows v.going refl fields to)
-    (table_adds r new.table l.0.items l.0.rest v.front byte_makes.Ends _
-    (table_cells r.directories + table_cells r.files) (held_cells new) at v.follows refl held)
-    fields header (omega (arith, start, counted)) counted
-    (subst (λ (o : Option ℕ). Below (length b + length v.front) o) (sym at.tail.end)
-    (omega (arith, lt, size, s.taken))))
-  where
-    goes : ending r.phase ≡ None
-    goes = table_goes r.phase table
-
-    l : Live r b × Unmade r b
-    l = live_of r b goes s
-
-    at : InTable r l.0.items l.0.rest (after_the_table r.phase r.params r.directories)
-    at = table_of_phase r r.phase l.0.items l.0.rest table l.0.at
-
-    below : length b < at.tail.header
-    below = subst (λ (o : Option ℕ). Below (length b) o) at.tail.end l.0.below
-
-    lt : r.taken + length bytes < at.tail.header
-    lt = inside.below at.tail.header at.tail.end (omega (arith, below, s.taken))
-
-    near : at.tail.header ≤ 2 ^ 41
-    near = leb-true at.tail.header (2 ^ 41) (subst (λ (o : Option ℕ). end_near o ≡ true) at.tail.end r.near)
-
-    size : length bytes ≡ length v.front + length tail
-    size = ap length v.bytes_are ∙ length-append v.front tail
-
-    counted : new.taken ≡ length b + length v.front
-    counted = omega (arith, taken, lt, near, size, s.taken)
-
 -- ---- the fields that the table's reader has taken
 
 pub stands_on : (p : Phase) (order : Order) (format : Format) (old new : TableReader) → in_table p ≡ true
@@ -332,18 +265,6 @@ pub stands_on : (p : Phase) (order : Order) (format : Format) (old new : TableRe
     → ∥ TableStands p order format old ∥₁ → ∥ TableStands p order format new ∥₁
 stands_on p order format old new is on = by_table
     (λ q. ∥ TableStands q order format old ∥₁ → ∥ TableStands q order format new ∥₁) on on p is
-
-piece_bytes : (w : List ℕ) → ((i : ℕ) → i < length w → get_or w i 0 < 256) → AllBytes w
-piece_bytes [] h = tt
-piece_bytes (b ∷ w) h = (h 0 (omega arith), piece_bytes w (λ i lt. h (suc i) (omega arith)))
-
--- the bytes of a value that is taken of a piece
-pub front_is_bytes : (piece bytes front tail : List ℕ) (len : ℕ) → bytes ≡ take len piece → bytes ≡ front ++ tail
-    → ((i : ℕ) → i < length piece → get_or piece i 0 < 256) → AllBytes front
-front_is_bytes piece bytes front tail len e f h =
-    let first : AllBytes (take len piece) = front_bytes (take len piece) (drop len piece)
-    (subst AllBytes (sym (take-append-drop len piece)) (piece_bytes piece h)) in
-    front_bytes front tail (subst AllBytes (sym e ∙ f) first)
 
 -- ---- a piece
 

@@ -1,6 +1,6 @@
 //! The header of a unit, byte by byte. Section 6.2.4.
 
-ghost use Rattle.std.specs.Prelude.{◌≡◌, ◌-◌, ◌≤◌, ◌^◌, ℕ, List, [], true, length, min, IfSome};
+ghost use Rattle.std.specs.Prelude.{◌≡◌, ◌≢◌, ◌-◌, ◌≤◌, ◌^◌, ℕ, List, [], true, false, length, min, IfSome};
 ghost use Rattle.dl_head.specs.Header.{unit_len};
 ghost use Rattle.dl_head.specs.Cells.{cells};
 ghost use Rattle.std.specs.Option.{option_copied};
@@ -109,9 +109,11 @@ pub struct HeadReader {
 
 impl HeadReader {
     ghost use Rattle.dl_head.specs.declared.reader.Phase.TheVariants as phase;
+    ghost use Rattle.dl_head.specs.declared.reader.HeadStep.TheVariants as answer;
     ghost use Rattle.dl_head.specs.Place.{Keeps, PushFollows};
     ghost use Rattle.dl_head.specs.Standing.{StandsFor, Settles, Fails, Completes};
-    ghost use Rattle.dl_head.specs.Reading.{Steps, Gives};
+    ghost use Rattle.dl_head.specs.Reading.{Answers, Steps, Gives};
+    ghost use Rattle.dl_head.specs.Whole.{in_table, IsFront, Pushed, Advances};
 
     /// No byte yet of a header whose numbers stand in this order. It takes no memory.
     pub fn new(alloc: Global, order: Order) -> HeadReader
@@ -147,22 +149,7 @@ impl HeadReader {
             Phase::Failed(fault) => return HeadStep::Fault(fault),
             _ => {}
         }
-        match self.push(byte) {
-            FieldStep::NoMemory => HeadStep::NoMemory,
-            FieldStep::Within => {
-                self.taken = self.taken.saturating_add(1);
-                self.settle()
-            }
-            FieldStep::Ends => {
-                self.taken = self.taken.saturating_add(1);
-                self.start = self.taken;
-                self.settle()
-            }
-            FieldStep::Refuses(kind) => {
-                self.taken = self.taken.saturating_add(1);
-                self.fail(kind)
-            }
-        }
+        self.advance(&[byte]).1
     }
 
     /// How many bytes were taken.
@@ -254,8 +241,66 @@ impl HeadReader {
         self.phase = Phase::Done;
     }
 
-    /// What the byte makes of the field that it falls in.
-    fn push(&mut self, byte: u8) -> FieldStep
+    /// Takes a value of the current table that the piece begins with, or else the next byte, save where memory is
+    /// refused for that: how many bytes it took, and what they come to.
+    #[inline(never)]
+    fn advance(&mut self, piece: &[u8]) -> (usize, HeadStep)
+        requires { 1 ≤ length piece.now }
+        ensures advances { (b : List ℕ) → StandsFor self.old b → Answers self.old.order b answer.More
+            → Advances self.old.order b piece.now result.0 result.1 self.new }
+        ensures within { result.0 ≤ length piece.now }
+        ensures some { result.1 ≢ answer.NoMemory → 1 ≤ result.0 }
+        ensures order { self.new.order ≡ self.old.order }
+    {
+        let (used, field) = self.push(self.up_to_end(piece));
+        match field {
+            FieldStep::NoMemory => (0, HeadStep::NoMemory),
+            FieldStep::Within => {
+                self.taken = self.taken.saturating_add(used as u64);
+                (used, self.settle())
+            }
+            FieldStep::Ends => {
+                self.taken = self.taken.saturating_add(used as u64);
+                self.start = self.taken;
+                (used, self.settle())
+            }
+            FieldStep::Refuses(kind) => {
+                self.taken = self.taken.saturating_add(used as u64);
+                (used, self.fail(kind))
+            }
+        }
+    }
+
+    /// The first bytes of the piece, up to the end that is known, and at least one.
+    fn up_to_end<'a>(&self, piece: &'a [u8]) -> &'a [u8]
+        requires { 1 ≤ length piece.now }
+        ensures { IsFront self.now piece.entry.now result.now }
+    {
+        let end = self.end.unwrap_or(0);
+        let left = end.saturating_sub(self.taken).max(1);
+        if left < piece.len() as u64 {
+            &piece[..left as usize]
+        } else {
+            piece
+        }
+    }
+
+    /// Takes a value of the current table that the bytes begin with, or else the first byte: how many bytes it
+    /// took, and what they make of the field.
+    fn push(&mut self, bytes: &[u8]) -> (usize, FieldStep)
+        requires { 1 ≤ length bytes.now }
+        ensures { Pushed self.old bytes.now result.0 result.1 self.new }
+    {
+        match self.phase {
+            Phase::Directories => self.directories(bytes),
+            Phase::Files => self.files(bytes),
+            _ => (1, self.push_byte(bytes[0])),
+        }
+    }
+
+    /// What a byte outside the tables makes of the field that it falls in.
+    fn push_byte(&mut self, byte: u8) -> FieldStep
+        requires { in_table self.old.phase ≡ false }
         ensures follows { PushFollows self.old byte result self.new }
         ensures kept { Keeps self.old result self.new }
     {
@@ -267,20 +312,22 @@ impl HeadReader {
             Phase::HeaderLength(number) => self.header_length(number, byte),
             Phase::Byte(field) => self.byte_field(field, byte),
             Phase::OpcodeLength => self.opcode_length(byte),
-            Phase::Directories => self.directories(byte),
-            Phase::Files => self.files(byte),
-            Phase::Padding | Phase::Done | Phase::Foreign(_) | Phase::Failed(_) =>
-                FieldStep::Within,
+            Phase::Directories
+            | Phase::Files
+            | Phase::Padding
+            | Phase::Done
+            | Phase::Foreign(_)
+            | Phase::Failed(_) => FieldStep::Within,
         }
     }
 
-    fn directories(&mut self, byte: u8) -> FieldStep
-        requires { self.old.phase ≡ phase.Directories }
-        ensures follows { PushFollows self.old byte result self.new }
-        ensures kept { Keeps self.old result self.new }
+    fn directories(&mut self, bytes: &[u8]) -> (usize, FieldStep)
+        requires phase { self.old.phase ≡ phase.Directories }
+        requires some { 1 ≤ length bytes.now }
+        ensures { Pushed self.old bytes.now result.0 result.1 self.new }
     {
         let format = self.params.format;
-        let next = self.table.push(self.order, format, byte);
+        let next = self.table.push_front(self.order, format, bytes);
         if let Some(table) = self.table.take(self.alloc, format) {
             self.directories = table;
             self.phase = Phase::Files;
@@ -288,13 +335,13 @@ impl HeadReader {
         next
     }
 
-    fn files(&mut self, byte: u8) -> FieldStep
-        requires { self.old.phase ≡ phase.Files }
-        ensures follows { PushFollows self.old byte result self.new }
-        ensures kept { Keeps self.old result self.new }
+    fn files(&mut self, bytes: &[u8]) -> (usize, FieldStep)
+        requires phase { self.old.phase ≡ phase.Files }
+        requires some { 1 ≤ length bytes.now }
+        ensures { Pushed self.old bytes.now result.0 result.1 self.new }
     {
         let format = self.params.format;
-        let next = self.table.push(self.order, format, byte);
+        let next = self.table.push_front(self.order, format, bytes);
         if let Some(table) = self.table.take(self.alloc, format) {
             self.files = table;
             self.phase = Phase::Padding;

@@ -25,8 +25,8 @@ fn assert_same(rt: &impl Abort, alloc: Global, order: Order, bytes: &[u8], turns
 }
 
 /// Asserts that the bytes come to the same in one piece, byte by byte, and cut anywhere.
-fn assert_cuts(rt: &impl Abort, alloc: Global, order: Order, bytes: &[u8]) {
-    assert_same(rt, alloc, order, bytes, &[1; 80]);
+pub fn assert_cuts(rt: &impl Abort, alloc: Global, order: Order, bytes: &[u8]) {
+    assert_same(rt, alloc, order, bytes, &[1; 200]);
     for cut in 0..bytes.len() {
         assert_same(rt, alloc, order, bytes, &[cut, bytes.len()]);
     }
@@ -107,7 +107,7 @@ fn step_twice(
 }
 
 /// The last answer to the bytes, whose growths are each refused once, and how many were.
-fn step_all(
+pub fn step_all(
     rt: &impl Abort,
     alloc: Global,
     reader: &mut HeadReader,

@@ -60,25 +60,26 @@ impl HeadReader {
     {
         let mut used = 0;
         while used < piece.len() {
-            let whole = self.whole_value(&piece[used..]);
+            let whole = self.whole_values(&piece[used..]);
             if whole > 0 {
                 used += whole;
                 continue;
             }
-            match self.step(piece[used]) {
-                HeadStep::More => used += 1,
-                HeadStep::NoMemory => return (used, HeadStep::NoMemory),
-                last => return (used + 1, last),
+            let (taken, answer) = self.advance(&piece[used..]);
+            used += taken;
+            match answer {
+                HeadStep::More => {}
+                last => return (used, last),
             }
         }
         (used, HeadStep::More)
     }
 
-    /// Takes a value of the current table with which the piece begins, where the header goes on after
-    /// it: how many bytes it has. 0, and nothing is taken, where it begins with no such value, memory is
-    /// refused, or the piece is of one byte, which `step` takes sooner.
+    /// Takes values of the current table that the piece begins with, as long as they are of common kinds, and the
+    /// header and the table go on after them: how many bytes they have. 0 where the piece is of one byte, which
+    /// `advance` takes sooner.
     #[inline(always)]
-    fn whole_value(&mut self, piece: &[u8]) -> usize
+    fn whole_values(&mut self, piece: &[u8]) -> usize
         ensures within { result ≤ length piece.now }
         ensures order { self.new.order ≡ self.old.order }
         ensures takes { (b : List ℕ) → StandsFor self.old b → Answers self.old.order b answer.More
@@ -88,11 +89,12 @@ impl HeadReader {
             return 0;
         }
         let bytes = self.inside(piece);
-        let format = self.params.format;
-        let Some(tail) = self.table.whole_value(self.order, format, bytes) else {
+        let used = self
+            .table
+            .whole_values(self.order, self.params.format, bytes);
+        if used == 0 {
             return 0;
-        };
-        let used = bytes.len() - tail.len();
+        }
         self.taken += used as u64;
         self.start = self.taken;
         used

@@ -1,6 +1,6 @@
 use Rattle.std.proofs.Common.{refl, ◌∙◌, arith, length-drop, ap, length}
 use Rattle.std.proofs.lemmas.List.{take_rest}
-use Rattle.dl_head.proofs.OfferLemmas.{offering_none, offering_on, offered_unfed, offered_last, offered_all, steps_as}
+use Rattle.dl_head.proofs.OfferLemmas.{advanced, offering_none, offering_on, offered_last, offered_all}
 use Rattle.dl_head.proofs.WholeSteps.{offering_tried, offering_still}
 use Rattle.dl_head.proofs.reader.HeadReader.offer.Goals as goal
 
@@ -15,7 +15,7 @@ loop-used-init c = record {
 pub loop-used-preserved-then-whole-gt0 : goal.loop-used-preserved-then-whole-gt0
 loop-used-preserved-then-whole-gt0 c =
     let i = c.loop-used.invariant in
-    let w = c.whole_value-whole in
+    let w = c.whole_values-whole in
     let rest = take_rest c.args.piece.now c.loop-used.used in
     record {
       within = omega (arith, w.ensures.within, ap length rest, length-drop c.loop-used.used c.args.piece.now, i.within);
@@ -28,52 +28,44 @@ loop-used-preserved-then-whole-gt0 c =
 pub loop-used-preserved : goal.loop-used-preserved
 loop-used-preserved c =
     let i = c.loop-used.invariant in
-    let w = c.whole_value-whole in
+    let w = c.whole_values-whole in
+    let a = c.advance-taken in
     let order = w.ensures.order ∙ i.order in
+    let rest = take_rest c.args.piece.now c.loop-used.used in
     record {
-      within = omega (arith, c.loop-used-test.true);
-      order = c.step.ensures.order ∙ order;
+      within = omega (arith, a.ensures.within, ap length rest, length-drop c.loop-used.used c.args.piece.now, i.within);
+      order = a.ensures.order ∙ order;
       goes = λ b s more.
           let tried = offering_tried c.args.self.now.order b c.args.piece.now _ c.loop-used.used w.result
-          c.loop-used.self w.new.self (i.goes b s more) i.order (take_rest c.args.piece.now c.loop-used.used)
-          w.ensures.within w.ensures.takes in
+          c.loop-used.self w.new.self (i.goes b s more) i.order rest w.ensures.within w.ensures.takes in
           let o = offering_still c.args.self.now.order b c.args.piece.now c.loop-used.used w.result w.new.self
           (omega (arith, c.if-whole-gt0.false)) tried in
-          offering_on c.args.self.now.order b c.args.piece.now c.loop-used.used w.new.self c.step.new.self c.step.result
-          o c.loop-used-test.true c.in-More.is (steps_as order (c.step.ensures.steps _ o.stands));
+          offering_on c.args.self.now.order b c.args.piece.now c.loop-used.used a.result.0 w.new.self a.new.self
+          a.result.1 o c.in-More.is
+          (advanced c.args.self.now.order b c.args.piece.now _ c.loop-used.used a.result.0 w.new.self a.new.self
+          a.result.1 o order rest a.ensures.advances);
     }
-
-pub returns-in-NoMemory-clause-offered : goal.returns-in-NoMemory-clause-offered
-returns-in-NoMemory-clause-offered c b s more =
-    let i = c.loop-used.invariant in
-    let w = c.whole_value-whole in
-    let tried = offering_tried c.args.self.now.order b c.args.piece.now _ c.loop-used.used w.result c.loop-used.self
-    w.new.self (i.goes b s more) i.order (take_rest c.args.piece.now c.loop-used.used)
-    w.ensures.within w.ensures.takes in
-    let o = offering_still c.args.self.now.order b c.args.piece.now c.loop-used.used w.result w.new.self
-    (omega (arith, c.if-whole-gt0.false)) tried in
-    offered_unfed c.args.self.now.order b c.args.piece.now c.loop-used.used c.loop-used.used w.new.self c.step.new.self
-    c.step.result o c.loop-used-test.true refl c.in-NoMemory.is
-    (steps_as (w.ensures.order ∙ i.order) (c.step.ensures.steps _ o.stands))
 
 pub returns-in_default : goal.returns-in_default
 returns-in_default c =
     let i = c.loop-used.invariant in
-    let w = c.whole_value-whole in
+    let w = c.whole_values-whole in
+    let a = c.advance-taken in
     let order = w.ensures.order ∙ i.order in
+    let rest = take_rest c.args.piece.now c.loop-used.used in
     record {
       offered = λ b s more.
           let tried = offering_tried c.args.self.now.order b c.args.piece.now _ c.loop-used.used w.result
-          c.loop-used.self w.new.self (i.goes b s more) i.order (take_rest c.args.piece.now c.loop-used.used)
-          w.ensures.within w.ensures.takes in
+          c.loop-used.self w.new.self (i.goes b s more) i.order rest w.ensures.within w.ensures.takes in
           let o = offering_still c.args.self.now.order b c.args.piece.now c.loop-used.used w.result w.new.self
           (omega (arith, c.if-whole-gt0.false)) tried in
-          offered_last c.args.self.now.order b c.args.piece.now c.loop-used.used c.loop-used.used w.new.self
-          c.step.new.self c.step.result o c.loop-used-test.true refl
-          c.in_default.not-More c.in_default.not-NoMemory (steps_as order (c.step.ensures.steps _ o.stands));
-      within = omega (arith, c.loop-used-test.true);
-      progress = λ goes fed. omega arith;
-      order = c.step.ensures.order ∙ order;
+          offered_last c.args.self.now.order b c.args.piece.now c.loop-used.used a.result.0 w.new.self a.new.self
+          a.result.1 o i.within c.in_default.not-More
+          (advanced c.args.self.now.order b c.args.piece.now _ c.loop-used.used a.result.0 w.new.self a.new.self
+          a.result.1 o order rest a.ensures.advances);
+      within = omega (arith, a.ensures.within, ap length rest, length-drop c.loop-used.used c.args.piece.now, i.within);
+      progress = λ goes fed. omega (arith, a.ensures.some fed);
+      order = a.ensures.order ∙ order;
     }
 
 pub returns-clause-offered : goal.returns-clause-offered

@@ -2,7 +2,7 @@ use Rattle.std.proofs.Common.{◌∷◌, [], refl}
 use Rattle.dl_head.specs.Place.{length_item, before_header_length}
 use Rattle.dl_head.proofs.OneFieldMore.{at_phase}
 use Rattle.dl_head.proofs.BytesBeforeTables.{none_later, field_no_cell, length_no_cell, field_pushed}
-use Rattle.dl_head.proofs.reader.HeadReader.push.Goals as goal
+use Rattle.dl_head.proofs.reader.HeadReader.push_byte.Goals as goal
 
 pub returns-in-UnitLength-clause-follows : goal.returns-in-UnitLength-clause-follows
 returns-in-UnitLength-clause-follows c =

@@ -1,8 +1,0 @@
-use Rattle.dl_field.proofs.WholeValues.{leb_in_front}
-use Rattle.dl_field.proofs.whole_value.leb_at_front.Goals as goal
-
-pub returns : goal.returns
-returns c = λ order.
-    let found = c.in_ok-number.ensures in
-    leb_in_front order c.args.number c.args.bytes.now found.number.0 c.in_ok-number.tail.now c.in_ok-number.number
-    (λ w took. (c.is_new.ensures w took).0 c.if-not-is_new.false) found.number.1 found.number.2 found.fits
