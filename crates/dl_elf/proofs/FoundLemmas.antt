@@ -8,10 +8,9 @@ use Rattle.dl_elf.specs.declared.section.SectionHeader.{SectionHeader}
 use Rattle.dl_elf.specs.declared.name.SectionName.{SectionName}
 use Rattle.dl_elf.specs.declared.named.NamedSection.{NamedSection}
 use Rattle.dl_elf.specs.Sections.{section_in}
-use Rattle.dl_elf.specs.Found.{IsNamed, IsWantedAt, NoneBefore, IsFirst, FoundBefore, Found, index_of}
+use Rattle.dl_elf.specs.Found.{AreFound, IsNamed, IsWantedAt, NoneBefore, IsFirst, FoundBefore, Found, index_of}
 use Rattle.dl_elf.specs.Slots.{begins_with_name, name_front, noted, slot_at, slot_of, name_at}
 use Rattle.dl_elf.specs.SlotsFound.{AreFoundBefore}
-use Rattle.dl_elf.specs.LineTable.{AreFound}
 use Rattle.dl_elf.proofs.NameLemmas.{begins-named, named-begins, name_at-index_of, index_of-small}
 use Rattle.dl_num.proofs.LebFrontLemmas.{true_false}
 

@@ -1,9 +1,9 @@
 -- Section headers in known bytes.
-use Rattle.std.proofs.Common.{nat_eq, eq-eqb, inl, inr, ◌≡◌, ℕ, ◌+◌, ◌<◌, ◌≤◌, ◌^◌, List, length, take, drop, Option}
-use Rattle.std.proofs.Common.{Some, None, refl, sym, ap, ◌∙◌, arith, Bool, true, false, length-take, length-drop}
+use Rattle.std.proofs.Common.{◌≡◌, ℕ, ◌+◌, ◌<◌, ◌≤◌, ◌^◌, List, length, take, drop, Option}
+use Rattle.std.proofs.Common.{Some, None, refl, sym, ap, ◌∙◌, arith, true, length-take, length-drop}
 use Rattle.std.proofs.lemmas.Grind.{common_steps}
-use Rattle.std.proofs.lemmas.List.{length-take-le, take_all}
-use Rattle.std.proofs.lemmas.Bool.{leb-false, ne_eqb, leb-true, le-leb, lt-leb, cases_lt, false≢true}
+use Rattle.std.proofs.lemmas.List.{length-take-le}
+use Rattle.std.proofs.lemmas.Bool.{leb-true}
 use Rattle.dl_elf.specs.Source.{FilledFrom, ForBytes}
 use Rattle.dl_elf.specs.declared.header.FileHeader.{FileHeader}
 use Rattle.dl_elf.specs.declared.section.SectionHeader.{SectionHeader}

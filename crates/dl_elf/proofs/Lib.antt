@@ -4,7 +4,4 @@ pub mod Windows
 pub mod NameLemmas
 pub mod FoundLemmas
 pub mod NoteLemmas
-pub mod RelocationLemmas
-pub mod LineTableLemmas
 pub mod WorkedFile
-pub mod CodeLemmas

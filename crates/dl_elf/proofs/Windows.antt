@@ -1,6 +1,5 @@
 -- What is copied out of a window, and what a fill of a buffer leaves in it.
 use Rattle.std.proofs.Common.{◌≡◌, ℕ, ◌+◌, ◌-◌, ◌≤◌, List, ◌++◌, length, take, drop, min, Option, sym, ap, ◌∙◌, arith}
-use Rattle.std.proofs.Common.{length-drop}
 use Rattle.std.proofs.lemmas.List.{length-take-le, take-take, take_min, take_all, drop-take, drop-drop, take-append-le}
 use Rattle.dl_elf.specs.Source.{ForBytes}
 

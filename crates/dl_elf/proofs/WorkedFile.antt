@@ -35,6 +35,7 @@ worked_header =
       class = Bits32;
       order = Big;
       file_type = 1;
+      machine = 20;
       table_offset = 82;
       entry_size = 40;
       entry_count =

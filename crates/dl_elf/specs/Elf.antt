@@ -1,5 +1,5 @@
 -- The file header and section headers of ELF files, of either class and order. System V ABI, chapter 4. f: the file.
-use Rattle.std.specs.Prelude.{◌≡◌, ◌⊎◌, ℕ, Bool, ◌&&◌, ◌||◌, not, ◌==◌, nat_le, bit_and, if◌then◌else◌, List, length}
+use Rattle.std.specs.Prelude.{ℕ, Bool, ◌&&◌, ◌||◌, not, ◌==◌, nat_le, bit_and, if◌then◌else◌, List, length}
 use Rattle.std.specs.Prelude.{take, drop, slice_index, Option, Some, None, option_and_then}
 use Rattle.dl_num.specs.declared.fixed.Order.{Order}
 use Rattle.dl_num.specs.declared.fixed.Order.TheVariants.{Little, Big}
@@ -38,12 +38,13 @@ abbrev pub header_size : Class → ℕ
 header_size Bits32 = 52
 header_size Bits64 = 64
 
--- e_type, e_shoff, e_shentsize, e_shnum and e_shstrndx
+-- e_type, e_machine, e_shoff, e_shentsize, e_shnum and e_shstrndx
 abbrev pub header_fields : Class → Order → List ℕ → FileHeader
 header_fields Bits32 order f = record {
   class = Bits32;
   order = order;
   file_type = number_at order 16 2 f;
+  machine = number_at order 18 2 f;
   table_offset = number_at order 32 4 f;
   entry_size = number_at order 46 2 f;
   entry_count = number_at order 48 2 f;
@@ -53,6 +54,7 @@ header_fields Bits64 order f = record {
   class = Bits64;
   order = order;
   file_type = number_at order 16 2 f;
+  machine = number_at order 18 2 f;
   table_offset = number_at order 40 8 f;
   entry_size = number_at order 58 2 f;
   entry_count = number_at order 60 2 f;
@@ -105,14 +107,18 @@ section_fields Bits64 order b = record {
 }
 
 -- s is of relocations (RELA or REL) that change section `number`
-abbrev pub IsRelocationOf : ℕ → SectionHeader → Type 0
-IsRelocationOf number s = (s.info ≡ number) × ((s.section_type ≡ 4) ⊎ (s.section_type ≡ 9))
+abbrev pub relocates : (number : ℕ) → SectionHeader → Bool
+relocates number s = (s.info == number) && ((s.section_type == 4) || (s.section_type == 9))
 
 -- its flags have SHF_ALLOC and SHF_EXECINSTR
 abbrev pub is_executable : SectionHeader → Bool
 is_executable s = not (bit_and s.flags 2 == 0) && not (bit_and s.flags 4 == 0)
 
 -- ---- kinds of files
+
+-- ET_REL
+abbrev pub is_object : FileHeader → Bool
+is_object h = h.file_type == 1
 
 -- ET_EXEC or ET_DYN
 abbrev pub is_linked : FileHeader → Bool

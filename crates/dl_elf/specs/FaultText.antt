@@ -5,10 +5,10 @@ use Rattle.std.specs.Char.{digit_char}
 use Rattle.std.specs.Fmt.{decimal}
 use Rattle.dl_elf.specs.declared.fault.ElfFault.{ElfFault}
 use Rattle.dl_elf.specs.declared.fault.ElfFault.TheVariants.{Read, NotElf, Damaged, NoLineSection, Compressed}
-use Rattle.dl_elf.specs.declared.fault.ElfFault.TheVariants.{Relocations}
+use Rattle.dl_elf.specs.declared.fault.ElfFault.TheVariants.{UnknownRelocation, RelocationOutside, NoMemory}
 use Rattle.dl_elf.specs.declared.fault.Part.{Part}
 use Rattle.dl_elf.specs.declared.fault.Part.TheVariants.{SectionHeaderSize, SectionHeaders, NameTable, Section}
-use Rattle.dl_elf.specs.declared.fault.Part.TheVariants.{CompressionHeader}
+use Rattle.dl_elf.specs.declared.fault.Part.TheVariants.{CompressionHeader, Relocations, Symbols}
 use Rattle.dl_elf.specs.declared.compression.Compression.{Compression}
 use Rattle.dl_elf.specs.declared.compression.Compression.TheVariants.{Zlib, Zstd, Other}
 use Rattle.dl_elf.specs.declared.build_id.BuildId.{BuildId}
@@ -21,6 +21,8 @@ part_text SectionHeaders = codes "section headers"
 part_text NameTable = codes "section name table"
 part_text (Section name) = codes "section " ++ name_bytes name
 part_text (CompressionHeader name) = codes "compression header of section " ++ name_bytes name
+part_text (Relocations name) = codes "relocations of section " ++ name_bytes name
+part_text (Symbols name) = codes "symbols of the relocations of section " ++ name_bytes name
 
 abbrev pub compression_text : Compression → List ℕ
 compression_text Zlib = codes "with zlib"
@@ -47,4 +49,9 @@ fault_text (NoLineSection (Some id)) =
 fault_text (Compressed name method) =
     Some (codes "section " ++ name_bytes name ++ codes " is compressed " ++ compression_text method
     ++ codes "; run objcopy --decompress-debug-sections")
-fault_text Relocations = Some (codes "an object file with relocations isn't read yet")
+fault_text (UnknownRelocation name number machine) =
+    Some (codes "section " ++ (name_bytes name ++ (codes ": unknown relocation " ++ (decimal number
+    ++ (codes " of machine " ++ decimal machine)))))
+fault_text (RelocationOutside name) =
+    Some (codes "section " ++ name_bytes name ++ codes ": relocation outside the section")
+fault_text NoMemory = Some (codes "out of memory")

@@ -46,6 +46,14 @@ FoundBefore e f name n (Some s) = IsFirst e f name n s
 abbrev pub Found : Elf → List ℕ → SectionName → Option NamedSection → Type 0
 Found e f name found = FoundBefore e f name e.count found
 
+-- the sections of all names
+abbrev pub Sections : Type 0
+Sections = SectionName → Option NamedSection
+
+-- each is the section of its name, as Found says it
+abbrev pub AreFound : Elf → List ℕ → Sections → Type 0
+AreFound e f at = (name : SectionName) → Found e f name (at name)
+
 -- ---- the sections that a pass found
 
 -- the names in the order in which they are kept

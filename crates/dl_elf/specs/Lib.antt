@@ -7,13 +7,12 @@ pub mod Found
 pub mod Compressed
 pub mod Notes
 pub mod Reader
-pub mod LineTable
 pub mod FaultText
-pub mod Code
 pub mod Answers
--- Of contracts inside the crate, and of proofs; no public contract reaches these.
+-- For what a value stands; public contracts name this, and don't rest on how it is said.
 pub mod Window
 pub mod Slots
 pub mod SectionsHeld
+-- Of contracts inside the crate, and of proofs; no public contract reaches these.
 pub mod SlotsFound
 pub mod NoteParts

@@ -1,4 +1,4 @@
--- What a `Sections` holds. No promise rests on this file.
+-- What a `Sections` holds. No promise rests on how this is said.
 use Rattle.std.specs.Prelude.{List, Option}
 use Rattle.dl_elf.specs.declared.named.NamedSection.{NamedSection}
 use Rattle.dl_elf.specs.declared.named.Sections.{Sections}

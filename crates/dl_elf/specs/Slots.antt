@@ -1,4 +1,4 @@
--- The sections of the names as a pass keeps them: a slot for each name. No promise rests on this file.
+-- The sections of the names as a pass keeps them: a slot for each name. No promise rests on how this is said.
 use Rattle.std.specs.Prelude.{ℕ, ◌+◌, ◌-◌, min, Bool, ◌&&◌, ◌==◌, nat_lt, if◌then◌else◌, List, length, take, bytes_eq}
 use Rattle.std.specs.Prelude.{is_none, slice_index_or, Option, Some, None}
 use Rattle.dl_elf.specs.declared.section.SectionHeader.{SectionHeader}

@@ -1,4 +1,4 @@
--- What a window shows of a file. No promise rests on this file.
+-- What a window shows of a file. No promise rests on how this is said.
 use Rattle.std.specs.Prelude.{◌≡◌, ℕ, List, take, drop, Option}
 use Rattle.dl_elf.specs.declared.window.Window.{Window}
 use Rattle.dl_elf.specs.Source.{ForBytes}

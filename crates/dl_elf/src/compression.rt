@@ -67,7 +67,11 @@ fn has_header(section: &NamedSection) -> bool
 }
 
 /// What of a section lies outside the file, or outside the section.
-pub fn damage<S: ReadAt>(source: &S, elf: &Elf, section: &NamedSection) -> io::Result<Option<Part>>
+pub fn section_damage<S: ReadAt>(
+    source: &S,
+    elf: &Elf,
+    section: &NamedSection,
+) -> io::Result<Option<Part>>
     ensures part { ForBytes (S.all_bytes source.now) (λ f.
         IfOk result (λ part. part ≡ section_damage elf.now f section.now)) }
     ensures fails { IfErr result (S.fails_with source.now) }
@@ -83,7 +87,7 @@ pub fn damage<S: ReadAt>(source: &S, elf: &Elf, section: &NamedSection) -> io::R
 }
 
 /// How a section is compressed, if it is.
-pub fn method<S: ReadAt>(
+pub fn section_compression<S: ReadAt>(
     source: &S,
     elf: &Elf,
     section: &NamedSection,

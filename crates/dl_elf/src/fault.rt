@@ -18,9 +18,14 @@ pub enum Part {
     Section(SectionName),
     /// The compression header that a section begins with.
     CompressionHeader(SectionName),
+    /// The bytes of a section of relocations, which change this section.
+    Relocations(SectionName),
+    /// The symbol table of relocations that change this section, or a symbol that one of them names.
+    Symbols(SectionName),
 }
 
-/// The first fault of a file, in the order of the variants.
+/// The first fault of a file. Of several the first in the order of the variants is told, but that those of
+/// relocations come with the first relocation that has one, and their parts of the file with them.
 #[derive(Debug, Drop)]
 pub enum ElfFault {
     /// A read failed, with this error.
@@ -34,8 +39,17 @@ pub enum ElfFault {
     NoLineSection(Option<BuildId>),
     /// A section that is wanted is compressed.
     Compressed(SectionName, Compression),
-    /// It is an object file, and its line table has relocations.
-    Relocations,
+    /// It is an object file, and a relocation of this section has a type that isn't known of the machine
+    /// (e_machine), or the machine isn't known.
+    UnknownRelocation {
+        section: SectionName,
+        number: u64,
+        machine: u64,
+    },
+    /// It is an object file, and the bytes that a relocation of this section changes don't lie in it.
+    RelocationOutside(SectionName),
+    /// A growth was refused.
+    NoMemory,
 }
 
 impl fmt::Display for ElfFault {
@@ -57,7 +71,18 @@ impl fmt::Display for ElfFault {
                 f,
                 "section {name} is compressed {method}; run objcopy --decompress-debug-sections"
             ),
-            ElfFault::Relocations => { write!(f, "an object file with relocations isn't read yet") }
+            ElfFault::UnknownRelocation {
+                section,
+                number,
+                machine,
+            } => write!(
+                f,
+                "section {section}: unknown relocation {number} of machine {machine}"
+            ),
+            ElfFault::RelocationOutside(name) => {
+                write!(f, "section {name}: relocation outside the section")
+            }
+            ElfFault::NoMemory => write!(f, "out of memory"),
         }
     }
 }
@@ -75,6 +100,8 @@ impl fmt::Display for Part {
             Part::NameTable => write!(f, "section name table"),
             Part::Section(name) => write!(f, "section {name}"),
             Part::CompressionHeader(name) => write!(f, "compression header of section {name}"),
+            Part::Relocations(name) => write!(f, "relocations of section {name}"),
+            Part::Symbols(name) => write!(f, "symbols of the relocations of section {name}"),
         }
     }
 }

@@ -190,7 +190,7 @@ fn opened_with<S: ReadAt>(source: &S, header: FileHeader) -> Result<Elf, ElfFaul
 }
 
 /// Reads the headers of a file, or answers its first fault.
-pub fn open<S: ReadAt>(source: &S) -> Result<Elf, ElfFault>
+pub fn open_elf<S: ReadAt>(source: &S) -> Result<Elf, ElfFault>
     ensures answer { AnswersOf (S.all_bytes source.now) opened result }
     ensures read { IfRead (S.fails_with source.now) result }
 {

@@ -2,6 +2,7 @@
 ghost use Rattle.std.specs.Prelude.{◌≡◌, ◌+◌, ◌≤◌, ◌<◌, length, IsTrue};
 ghost use Rattle.dl_num.specs.Fixed.{is_number_size};
 ghost use Rattle.dl_elf.specs.Elf.{number_at, class_of, order_of, header_size, header_fields, header_in, is_linked};
+ghost use Rattle.dl_elf.specs.Elf.{is_object};
 ghost use Rattle.dl_elf.specs.Elf.{is_magic};
 
 use dl_num::{Order, number_of};
@@ -16,7 +17,7 @@ pub enum Class {
 }
 
 /// The type of an object file that a linker reads (ET_REL).
-pub const ET_REL: u64 = 1;
+const ET_REL: u64 = 1;
 
 /// The type of a program (ET_EXEC).
 const ET_EXEC: u64 = 2;
@@ -31,8 +32,10 @@ pub struct FileHeader {
     pub class: Class,
     /// The order in which the bytes of numbers stand (EI_DATA).
     pub order: Order,
-    /// What kind of object file it is (e_type), as `ET_REL`.
+    /// What kind of object file it is (e_type).
     pub file_type: u64,
+    /// The machine that it is for, by its number: 62 is x86-64 (e_machine).
+    pub machine: u64,
     /// Where the section headers begin, in bytes from the file's first; 0 where there are none
     /// (e_shoff).
     pub table_offset: u64,
@@ -92,6 +95,7 @@ fn header_fields(class: Class, order: Order, bytes: &[u8]) -> FileHeader
             class,
             order,
             file_type: number_at(order, 16, 2, bytes),
+            machine: number_at(order, 18, 2, bytes),
             table_offset: number_at(order, 32, 4, bytes),
             entry_size: number_at(order, 46, 2, bytes),
             entry_count: number_at(order, 48, 2, bytes),
@@ -101,6 +105,7 @@ fn header_fields(class: Class, order: Order, bytes: &[u8]) -> FileHeader
             class,
             order,
             file_type: number_at(order, 16, 2, bytes),
+            machine: number_at(order, 18, 2, bytes),
             table_offset: number_at(order, 40, 8, bytes),
             entry_size: number_at(order, 58, 2, bytes),
             entry_count: number_at(order, 60, 2, bytes),
@@ -132,6 +137,14 @@ impl FileHeader {
         }
         Some(header_fields(class, order, bytes))
     }
+
+    /// Whether it is an object file that a linker reads.
+    pub fn is_object(&self) -> bool
+        ensures { result ≡ is_object self.now }
+    {
+        self.file_type == ET_REL
+    }
+
     /// Whether the file is linked: a program or a shared object.
     pub fn is_linked(&self) -> bool
         ensures { result ≡ is_linked self.now }

@@ -1,18 +1,15 @@
-//! ELF files: the sections of a line table by their names, and a section's bytes as a reader.
+//! ELF files: their headers, the sections of a line table by their names, and a section's bytes as a reader.
 //!
-//! [`open_line_file`] reads the headers of a file and finds the section with the line table and,
-//! where they are wanted, its string sections. What it answers has a [`SectionReader`] for each.
-//! [`find_code`] tells at which addresses a file has code.
+//! [`open_elf`] reads the headers of a file, [`find_sections`] finds the sections with the names of a line
+//! table, and a [`SectionReader`] reads the bytes of one.
 //! System V ABI, chapter 4.
 #![tactic(auto)]
 
 mod build_id;
-mod code;
 mod compression;
 mod fault;
 mod file;
 mod header;
-mod line_file;
 mod name;
 mod named;
 mod reader;
@@ -20,11 +17,14 @@ mod section;
 mod source;
 mod window;
 
-pub use build_id::BuildId;
-pub use code::{Code, CodeFault, ExecutableRange, find_code};
-pub use compression::Compression;
+pub use build_id::{BuildId, read_build_id};
+pub use compression::{Compression, section_compression, section_damage};
 pub use fault::{ElfFault, Part};
-pub use line_file::{LineFile, Wanted, open_line_file};
+pub use file::{Elf, Range, open_elf, section_at, section_range};
+pub use header::{Class, FileHeader};
 pub use name::SectionName;
+pub use named::{NamedSection, Sections, find_sections};
 pub use reader::SectionReader;
-pub use source::ReadAt;
+pub use section::SectionHeader;
+pub use source::{ReadAt, fill_whole, lies_within};
+pub use window::Window;

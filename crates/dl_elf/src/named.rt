@@ -5,7 +5,7 @@ ghost use Rattle.dl_elf.specs.Source.{ForBytes};
 ghost use Rattle.dl_elf.specs.Window.{Shows};
 ghost use Rattle.dl_elf.specs.Slots.{begins_with_name, name_front, noted, slot_of};
 ghost use Rattle.dl_elf.specs.SectionsHeld.{slots};
-ghost use Rattle.dl_elf.specs.LineTable.{AreFound};
+ghost use Rattle.dl_elf.specs.Found.{AreFound};
 ghost use Rattle.dl_elf.specs.SlotsFound.{AreFoundBefore};
 
 use crate::file::{Elf, section_at};

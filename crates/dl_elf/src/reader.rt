@@ -27,7 +27,7 @@ pub struct SectionReader<'a, S> {
 
 impl<'a, S: ReadAt> SectionReader<'a, S> {
     /// The `size` bytes from the offset on.
-    pub(crate) fn new(source: &'a S, offset: u64, size: u64) -> SectionReader<'a, S>
+    pub fn new(source: &'a S, offset: u64, size: u64) -> SectionReader<'a, S>
         ensures bytes { reader_remaining S.all_bytes result ≡ known_range (S.all_bytes source.entry.now) offset size }
         ensures error { reader_error result ≡ None }
     {

@@ -46,12 +46,11 @@ pub struct SectionHeader {
 }
 
 impl SectionHeader {
-    ghost use Rattle.std.specs.Prelude.{MatchBool};
-    ghost use Rattle.dl_elf.specs.Elf.{IsRelocationOf, is_executable};
+    ghost use Rattle.dl_elf.specs.Elf.{relocates, is_executable};
 
     /// Whether the section has relocations of section `number`.
     pub fn relocates(&self, number: u64) -> bool
-        ensures { MatchBool result (IsRelocationOf number self.now) (¬ IsRelocationOf number self.now) }
+        ensures { result ≡ relocates number self.now }
     {
         self.info == number && (self.section_type == RELA || self.section_type == REL)
     }

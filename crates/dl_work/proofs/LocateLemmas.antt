@@ -6,8 +6,8 @@ use Rattle.std.specs.Option.{option_copied}
 use Rattle.std.specs.declared.io.Error.{Error}
 use Rattle.std.proofs.KnownBytes.{Keeps-refl}
 use Rattle.dl_elf.specs.Source.{ForBytes}
-use Rattle.dl_elf.specs.Code.{IsCode}
-use Rattle.dl_elf.specs.declared.code.Code.{Code}
+use Rattle.dl_file.specs.Code.{IsCode}
+use Rattle.dl_file.specs.declared.code.Code.{Code}
 use Rattle.dl_look.specs.declared.code_ranges.CodeRanges.{CodeRanges}
 use Rattle.dl_cmd.specs.Job.{AddrTexts, Text}
 use Rattle.dl_print.specs.declared.summary.Summary.{Summary}

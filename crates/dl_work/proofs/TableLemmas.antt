@@ -3,7 +3,7 @@ use Rattle.std.proofs.Common.{◌≡◌, ◌∙◌, ◌&&◌, ℕ, Bool, false, 
 use Rattle.std.specs.Io.KnownBytes.{Consumes}
 use Rattle.dl_cmd.specs.Job.{Text}
 use Rattle.dl_num.specs.declared.fixed.Order.{Order}
-use Rattle.dl_elf.specs.LineTable.{LineTable}
+use Rattle.dl_file.specs.LineTable.{LineTable}
 use Rattle.dl_run.specs.declared.options.TheConstants.{SECTION_LIMIT}
 use Rattle.dl_run.specs.declared.fault.RunFault.{RunFault}
 use Rattle.dl_print.specs.declared.summary.Summary.{Summary}

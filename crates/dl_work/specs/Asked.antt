@@ -4,8 +4,8 @@ use Rattle.std.specs.Prelude.{Err, ◌≡◌}
 use Rattle.dl_num.specs.declared.fixed.Order.{Order}
 use Rattle.dl_num.specs.declared.fixed.Order.TheVariants.{Little, Big}
 use Rattle.dl_look.specs.declared.place.Place.{Place}
-use Rattle.dl_elf.specs.declared.line_file.Wanted.{Wanted}
-use Rattle.dl_elf.specs.declared.line_file.Wanted.TheVariants.{LineSection, LineAndStringSections}
+use Rattle.dl_file.specs.declared.line_file.Wanted.{Wanted}
+use Rattle.dl_file.specs.declared.line_file.Wanted.TheVariants.{LineSection, LineAndStringSections}
 use Rattle.dl_run.specs.declared.fault.RunFault.{RunFault}
 use Rattle.dl_print.specs.declared.summary.Summary.{Summary}
 use Rattle.dl_cmd.specs.Address.{address_in}

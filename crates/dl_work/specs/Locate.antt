@@ -9,10 +9,10 @@ use Rattle.std.specs.Str.{bytes_eq}
 use Rattle.std.specs.Io.KnownBytes.{IsAtEnd, Keeps}
 use Rattle.std.specs.declared.io.Error.{Error}
 use Rattle.dl_elf.specs.Source.{ForBytes}
-use Rattle.dl_elf.specs.Code.{IsCode}
-use Rattle.dl_elf.specs.declared.code.Code.{Code}
-use Rattle.dl_elf.specs.declared.code.CodeFault.TheVariants as code_fault
-use Rattle.dl_elf.specs.declared.code.ExecutableRange.{ExecutableRange}
+use Rattle.dl_file.specs.Code.{IsCode}
+use Rattle.dl_file.specs.declared.code.Code.{Code}
+use Rattle.dl_file.specs.declared.code.CodeFault.TheVariants as code_fault
+use Rattle.dl_file.specs.declared.code.ExecutableRange.{ExecutableRange}
 use Rattle.dl_elf.specs.declared.fault.ElfFault.TheVariants.{Read}
 use Rattle.dl_look.specs.declared.code_ranges.AddressRange.{AddressRange}
 use Rattle.dl_look.specs.Ranges.{is_in}

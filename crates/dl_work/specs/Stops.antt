@@ -3,7 +3,7 @@ use Rattle.std.specs.Prelude.{◌≡◌, ℕ, List, ◌++◌, codes, decimal, Op
 use Rattle.std.specs.declared.io.Error.{Error}
 use Rattle.dl_cmd.specs.Job.{Text}
 use Rattle.dl_elf.specs.FaultText.{fault_text}
-use Rattle.dl_elf.specs.declared.fault.ElfFault.TheVariants.{Read}
+use Rattle.dl_elf.specs.declared.fault.ElfFault.TheVariants.{Read, NoMemory as Refused}
 use Rattle.dl_run.specs.RunText.{run_fault_text, status}
 use Rattle.dl_run.specs.declared.fault.RunFault.{RunFault}
 use Rattle.dl_run.specs.declared.fault.RunFault.TheVariants as fault
@@ -33,6 +33,7 @@ stop_line text = codes "dwline: " ++ text ++ codes "\n"
 abbrev pub file_fault_status : FileFault → ℕ
 file_fault_status (Open error) = 3
 file_fault_status (Elf (Read error)) = 3
+file_fault_status (Elf Refused) = 3
 file_fault_status (Elf f) = 1
 file_fault_status ObjectCopy = 1
 file_fault_status NoMemory = 3

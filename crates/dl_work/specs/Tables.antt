@@ -1,13 +1,13 @@
--- What the program does with the ELF file of a path. f: its bytes; t: its line table, as dl_elf defines it. start, now:
+-- What the program does with the ELF file of a path. f: its bytes; t: its line table as dl_file defines it. start, now:
 -- what the output held at first, and holds now.
 use Rattle.std.specs.Prelude.{◌≡◌, ◌⊎◌, ◌≤◌, ℕ, Bool, true, false, ◌&&◌, List, length, Option, Some, IfSome, Result, Ok}
 use Rattle.std.specs.Prelude.{Err, MatchResult}
 use Rattle.std.specs.Io.KnownBytes.{Consumes, Keeps}
 use Rattle.std.specs.declared.io.Error.{Error}
 use Rattle.dl_cmd.specs.Job.{Text}
-use Rattle.dl_elf.specs.declared.line_file.Wanted.{Wanted}
-use Rattle.dl_elf.specs.declared.fault.ElfFault.TheVariants.{Read}
-use Rattle.dl_elf.specs.LineTable.{HasLineTable, LineTable}
+use Rattle.dl_file.specs.declared.line_file.Wanted.{Wanted}
+use Rattle.dl_elf.specs.declared.fault.ElfFault.TheVariants.{Read, NoMemory}
+use Rattle.dl_file.specs.LineTable.{HasLineTable, HoldsLineSection, LineTable}
 use Rattle.dl_run.specs.declared.options.TheConstants.{SECTION_LIMIT}
 use Rattle.dl_run.specs.declared.fault.RunFault.{RunFault}
 use Rattle.dl_print.specs.declared.summary.Summary.{Summary}
@@ -82,10 +82,11 @@ OnTable path command t = OnTableWhere (is_copy command && t.is_object_file) path
 
 -- ---- the file. fails: the errors that opening and reading it may give
 
--- why its line table can't be had
+-- why its line table can't be had; memory is refused only for a line section with relocations
 abbrev pub Refuses : (fails : Error → Type 0) (f : List ℕ) → Wanted → FileFault → Type 0
 Refuses fails f wanted (Open error) = fails error
 Refuses fails f wanted (Elf (Read error)) = fails error
+Refuses fails f wanted (Elf NoMemory) = HoldsLineSection f wanted
 Refuses fails f wanted (Elf fault) = HasLineTable f wanted (Err fault)
 Refuses fails f wanted other = ⊥
 

@@ -2,9 +2,9 @@
 ghost use Rattle.std.specs.Prelude.{◌≡◌, ◌≢◌, ◌||◌, [], ℕ, false, IfErr, IfOk, MatchResult, Ok, map};
 ghost use Rattle.std.specs.List.{list_any};
 ghost use Rattle.std.specs.Option.{option_copied};
-ghost use Rattle.dl_elf.specs.Code.{IsCode};
+ghost use Rattle.dl_file.specs.Code.{IsCode};
 ghost use Rattle.dl_elf.specs.Source.{ForBytes};
-ghost use Rattle.dl_elf.specs.declared.code.Code as file_code;
+ghost use Rattle.dl_file.specs.declared.code.Code as file_code;
 ghost use Rattle.dl_look.specs.CodeRanges.{has_code};
 ghost use Rattle.dl_look.specs.Ranges.{is_in};
 ghost use Rattle.dl_addr.specs.Code.{is_code};
@@ -13,7 +13,7 @@ ghost use Rattle.dl_work.specs.Locate.{RefusesCode, address_range, live_by};
 
 use crate::files::FileSource;
 use crate::stop::FileFault;
-use dl_elf::{Code, CodeFault, ExecutableRange, find_code};
+use dl_file::{Code, CodeFault, ExecutableRange, find_code};
 use dl_look::{AddressRange, CodeRanges};
 use std::alloc::Global;
 

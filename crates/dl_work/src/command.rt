@@ -8,7 +8,7 @@ ghost use Rattle.dl_work.specs.Asked.{Does, answered, command_of, is_copy, place
 
 use dl_addr::{Found, Question, addr};
 use dl_cmd::{Job, read_address};
-use dl_elf::Wanted;
+use dl_file::Wanted;
 use dl_look::Place;
 use dl_run::{Options, RunFault, SECTION_LIMIT, Summary, check, copy, dump, find};
 use std::alloc::Global;

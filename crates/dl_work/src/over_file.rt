@@ -1,14 +1,15 @@
 //! Commands over an ELF file.
 ghost use Rattle.std.specs.Prelude.{◌≡◌};
 ghost use Rattle.dl_elf.specs.Source.{ForBytes};
-ghost use Rattle.dl_elf.specs.LineTable.{GivesTable, LineTable};
+ghost use Rattle.dl_file.specs.LineTable.{GivesTable, LineTable};
 ghost use Rattle.dl_work.specs.Tables.{OnFile, OnTable};
 
 use crate::command::Command;
 use crate::files::FileSource;
 use crate::stop::{FileFault, Stop};
 use crate::strings::StringSections;
-use dl_elf::{LineFile, ReadAt, open_line_file};
+use dl_elf::ReadAt;
+use dl_file::{LineFile, open_line_file};
 use dl_run::Summary;
 use std::alloc::Global;
 use std::io::Write;
@@ -64,7 +65,7 @@ pub fn on_file<'p, F: FileSource, W: Write>(
             });
         }
     };
-    match open_line_file(&file, command.wanted()) {
+    match open_line_file(alloc, &file, command.wanted()) {
         Ok(table) => on_table(alloc, path, command, table, output),
         Err(fault) => Err(Stop::File {
             path,

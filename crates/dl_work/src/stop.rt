@@ -40,7 +40,8 @@ impl FileFault {
         ensures { result ≡ file_fault_status self.now }
     {
         match self {
-            FileFault::Open(_) | FileFault::Elf(ElfFault::Read(_)) | FileFault::NoMemory => 3,
+            FileFault::Open(_) | FileFault::NoMemory => 3,
+            FileFault::Elf(ElfFault::Read(_) | ElfFault::NoMemory) => 3,
             FileFault::Elf(_) | FileFault::ObjectCopy => 1,
         }
     }

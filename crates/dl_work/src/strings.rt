@@ -2,7 +2,7 @@
 ghost use Rattle.std.specs.Prelude.{◌≡◌, ◌≤◌, ℕ, List, Option, IfErr, IfOk, IfSome, MatchResult, length, option_map};
 ghost use Rattle.std.specs.Option.{option_copied};
 ghost use Rattle.dl_run.specs.Commands.{strings_in};
-ghost use Rattle.dl_elf.specs.LineTable.{GivesOption};
+ghost use Rattle.dl_file.specs.LineTable.{GivesOption};
 ghost use Rattle.dl_work.specs.Files.{FilesStop, IsSectionOf, StringsAre};
 ghost use Rattle.dl_work.specs.Held.{strings_held};
 ghost use Rattle.dl_work.specs.Tables.{IsWhole, SectionStops, StringsStop};

@@ -1,6 +1,6 @@
 //! At which addresses a file has code.
 use crate::image::{BIG_32, Form, LITTLE_64, NewSection, image, section};
-use dl_elf::{CodeFault, ExecutableRange, find_code};
+use dl_file::{CodeFault, ExecutableRange, find_code};
 use std::alloc::Global;
 use std::io::Cursor;
 use std::test::Fail;

@@ -1,6 +1,6 @@
 //! The faults of a file, with their texts.
 use crate::image::{BIG_32, Form, LITTLE_64, NewSection, image, section, told};
-use dl_elf::Wanted;
+use dl_file::Wanted;
 use std::test::Fail;
 
 /// A section whose flags say that it is compressed, by this method. The file is 64-bit.

@@ -1,5 +1,6 @@
 //! Makes ELF files of a few sections, in any class and order.
-use dl_elf::{LineFile, SectionReader, Wanted, open_line_file};
+use dl_elf::SectionReader;
+use dl_file::{LineFile, Wanted, open_line_file};
 use dl_num::Order;
 use std::alloc::Global;
 use std::io::{Cursor, Read};
@@ -42,6 +43,8 @@ pub struct NewSection<'a> {
     pub flags: u64,
     /// sh_addr
     pub address: u64,
+    /// sh_link
+    pub link: u64,
     pub info: u64,
     pub bytes: &'a [u8],
 }
@@ -53,6 +56,7 @@ pub fn section<'a>(name: &'a str, text: &'a str) -> NewSection<'a> {
         section_type: 1,
         flags: 0,
         address: 0,
+        link: 0,
         info: 0,
         bytes: text.as_bytes(),
     }
@@ -171,7 +175,7 @@ pub fn image(alloc: Global, form: Form, sections: &[NewSection<'_>]) -> Result<V
                 section.address,
                 at,
                 size,
-                0,
+                section.link,
                 section.info,
             ],
         )?;
@@ -191,39 +195,43 @@ pub fn image(alloc: Global, form: Form, sections: &[NewSection<'_>]) -> Result<V
     Ok(bytes)
 }
 
-/// The bytes of a section as text; `-` where there is no section.
-fn text_of<'a>(
-    alloc: Global,
-    reader: Option<SectionReader<'a, Cursor<&'a Vec<u8>>>>,
-) -> Result<String, Fail> {
-    let Some(reader) = reader else {
-        return Ok(format!(in alloc; "-")?);
-    };
-    let mut reader = reader;
+/// All bytes that a reader gives, as text.
+fn text_of<R: Read>(alloc: Global, reader: &mut R) -> Result<String, Fail> {
     let mut bytes = Vec::new(alloc);
     reader.read_to_end(&mut bytes)?;
     Ok(String::from_utf8(bytes)?)
+}
+
+/// The bytes of a section as text; `-` where there is no section.
+fn text_of_section<'a>(
+    alloc: Global,
+    reader: Option<SectionReader<'a, Cursor<&'a Vec<u8>>>>,
+) -> Result<String, Fail> {
+    let Some(mut reader) = reader else {
+        return Ok(format!(in alloc; "-")?);
+    };
+    text_of(alloc, &mut reader)
 }
 
 /// What is found in a file, as one line: the order, the line section and its string sections; or the
 /// fault's text.
 pub fn told(alloc: Global, bytes: &Vec<u8>, wanted: Wanted) -> Result<String, Fail> {
     let source = Cursor::new(bytes);
-    match open_line_file(&source, wanted) {
+    match open_line_file(alloc, &source, wanted) {
         Ok(
             LineFile {
                 order,
                 is_object,
-                line,
+                mut line,
                 debug_line_str,
                 debug_str,
             },
         ) => {
             let order = if order == Order::Big { "big" } else { "little" };
             let object = if is_object { " object" } else { "" };
-            let line = text_of(alloc, Some(line))?;
-            let line_str = text_of(alloc, debug_line_str)?;
-            let strings = text_of(alloc, debug_str)?;
+            let line = text_of(alloc, &mut line)?;
+            let line_str = text_of_section(alloc, debug_line_str)?;
+            let strings = text_of_section(alloc, debug_str)?;
             Ok(format!(in alloc; "{order}{object} {line} {line_str} {strings}")?)
         }
         Err(fault) => Ok(format!(in alloc; "{fault}")?),

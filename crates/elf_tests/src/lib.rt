@@ -10,4 +10,6 @@ mod image;
 #[cfg(test)]
 mod reads;
 #[cfg(test)]
+mod relocations;
+#[cfg(test)]
 mod sections;

@@ -1,6 +1,7 @@
 //! Sources that are short, are interrupted, fail, or end while they are read.
-use crate::image::{LITTLE_64, image, section};
-use dl_elf::{ElfFault, ReadAt, Wanted, open_line_file};
+use crate::image::{Form, LITTLE_64, NewSection, image, section};
+use dl_elf::{ElfFault, ReadAt};
+use dl_file::{Wanted, open_line_file};
 use std::alloc::Global;
 use std::cell::Cell;
 use std::io;
@@ -69,7 +70,7 @@ fn read_through(alloc: Global, bytes: &[u8], habit: Habit) -> Result<String, Fai
         habit,
         count: Cell::new(0),
     };
-    let file = match open_line_file(&source, Wanted::LineSection) {
+    let file = match open_line_file(alloc, &source, Wanted::LineSection) {
         Ok(file) => file,
         Err(fault) => return Ok(format!(in alloc; "{fault}")?),
     };
@@ -157,10 +158,35 @@ fn the_fault_of_a_read(rt: HostRuntime) -> Result<(), Fail> {
         habit: Habit::Fails(0),
         count: Cell::new(0),
     };
-    let told = match open_line_file(&source, Wanted::LineSection) {
+    let told = match open_line_file(alloc, &source, Wanted::LineSection) {
         Err(ElfFault::Read(error)) => error.kind() == ErrorKind::BrokenPipe,
         _ => false,
     };
     assert!(rt; told);
+    Ok(())
+}
+
+/// Each read of an object file fails in turn, whose line section has relocations.
+#[test]
+fn each_read_of_relocations_fails(rt: HostRuntime) -> Result<(), Fail> {
+    let alloc = rt.alloc();
+    let form = Form {
+        file_type: 1,
+        ..LITTLE_64
+    };
+    let relocations = NewSection {
+        section_type: 4,
+        info: 1,
+        bytes: b"\0\0\0\0\0\0\0\0\x0a\0\0\0\0\0\0\0abcd\0\0\0\0",
+        ..section(".rela.debug_line", "")
+    };
+    let bytes = image(alloc, form, &[section(".debug_line", "line"), relocations])?;
+    for count in 0..60 {
+        let failed = read_through(alloc, bytes.as_slice(), Habit::Fails(count))?;
+        let told = matches!(failed.as_str(), "abcd" | "cannot read: broken pipe");
+        assert!(rt; told, "{count} {failed}");
+    }
+    let whole = read_through(alloc, bytes.as_slice(), Habit::Fails(59))?;
+    assert_eq!(rt; whole.as_str(), "abcd");
     Ok(())
 }

@@ -1,6 +1,6 @@
 //! Which sections are found.
 use crate::image::{BIG_32, Form, LITTLE_64, NewSection, image, section, told};
-use dl_elf::Wanted;
+use dl_file::Wanted;
 use std::test::Fail;
 
 /// A file in either class and order, with other sections between those that are wanted.
@@ -128,7 +128,7 @@ fn many_sections(rt: HostRuntime) -> Result<(), Fail> {
     Ok(())
 }
 
-/// An object file without relocations of its line section, and with them.
+/// An object file without relocations of its line section, and with a section of them that has no entry.
 #[test]
 fn object_files(rt: HostRuntime) -> Result<(), Fail> {
     let alloc = rt.alloc();
@@ -139,8 +139,8 @@ fn object_files(rt: HostRuntime) -> Result<(), Fail> {
     for (file_type, section_type, info, want) in [
         (1, 1, 2, "big object line - -"),
         (1, 4, 1, "big object line - -"),
-        (1, 4, 2, "an object file with relocations isn't read yet"),
-        (1, 9, 2, "an object file with relocations isn't read yet"),
+        (1, 4, 2, "big object line - -"),
+        (1, 9, 2, "big object line - -"),
         (3, 4, 2, "big line - -"),
     ] {
         let relocations = NewSection {

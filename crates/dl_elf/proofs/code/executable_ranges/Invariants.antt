@@ -1,9 +1,0 @@
-use Rattle.std.specs.Prelude.{◌≡◌, ◌≤◌, ◌-◌}
-use Rattle.dl_elf.specs.Source.{ForBytes}
-use Rattle.dl_elf.specs.Window.{Shows}
-use Rattle.dl_elf.specs.Code.{ranges_upto}
-use Rattle.dl_elf.proofs.code.executable_ranges.Given as goal
-
-abbrev pub invariant-loop-at : goal.invariant-loop-at
-invariant-loop-at g l = (1 ≤ l.at) × (l.at - 1 ≤ l.elf.count - 1) × Shows (g.S.ReadAt.all_bytes l.source) l.window
-    × ForBytes (g.S.ReadAt.all_bytes l.source) (λ f. l.ranges.items ≡ ranges_upto l.elf f (l.at - 1))

@@ -1,0 +1,30 @@
+-- The addresses of code, one section further on.
+use Rattle.std.proofs.Common.{◌≡◌, ℕ, suc, ◌+◌, ◌-◌, ◌≤◌, List, [], ◌∷◌, ◌++◌, Option, Some, None, arith, ap, ◌∙◌}
+use Rattle.dl_elf.specs.declared.file.Elf.{Elf}
+use Rattle.dl_file.specs.declared.code.ExecutableRange.{ExecutableRange}
+use Rattle.dl_file.specs.Code.{and_range, executable_range_at, executable_ranges, ranges_upto}
+
+ranges_more : (e : Elf) (f : List ℕ) (n : ℕ) (ranges : List ExecutableRange) (range : Option ExecutableRange) → 1 ≤ n
+    → ranges ≡ ranges_upto e f (n - 1)
+    → range ≡ executable_range_at e f n → and_range ranges range ≡ ranges_upto e f (n + 1 - 1)
+ranges_more e f n ranges range from is told =
+    let back : n ≡ suc (n - 1) = omega (arith, from) in
+    let on : suc (n - 1) ≡ n + 1 - 1 = omega (arith, from) in
+    ap (λ r. and_range r range) is ∙ (ap (λ r. and_range (ranges_upto e f (n - 1)) r) told
+    ∙ (ap (λ i. and_range (ranges_upto e f (n - 1)) (executable_range_at e f i)) back ∙ ap (λ i. ranges_upto e f i) on))
+
+pub ranges_pushed : (e : Elf) (f : List ℕ) (n : ℕ) (ranges : List ExecutableRange) (range : ExecutableRange) → 1 ≤ n
+    → ranges ≡ ranges_upto e f (n - 1)
+    → Some range ≡ executable_range_at e f n → ranges ++ range ∷ [] ≡ ranges_upto e f (n + 1 - 1)
+ranges_pushed e f n ranges range = ranges_more e f n ranges (Some range)
+
+pub ranges_same : (e : Elf) (f : List ℕ) (n : ℕ) (ranges : List ExecutableRange) → 1 ≤ n
+    → ranges ≡ ranges_upto e f (n - 1)
+    → None ≡ executable_range_at e f n → ranges ≡ ranges_upto e f (n + 1 - 1)
+ranges_same e f n ranges = ranges_more e f n ranges None
+
+pub ranges_whole : (e : Elf) (f : List ℕ) (n : ℕ) (ranges : List ExecutableRange) → n - 1 ≤ e.count - 1 → e.count ≤ n
+    → ranges ≡ ranges_upto e f (n - 1)
+    → ranges ≡ executable_ranges e f
+ranges_whole e f n ranges within past is =
+    let end : n - 1 ≡ e.count - 1 = omega (arith, within, past) in is ∙ ap (λ i. ranges_upto e f i) end

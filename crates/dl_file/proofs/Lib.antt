@@ -1,0 +1,5 @@
+pub mod LineTableLemmas
+pub mod RelocationLemmas
+pub mod AnswerLemmas
+pub mod CodeLemmas
+pub mod SectionBytesLemmas

@@ -1,0 +1,127 @@
+-- The answer of a file whose headers were read.
+use Rattle.std.proofs.Common.{◌≡◌, ℕ, ◌*◌, ◌==◌, not, nat_le, nat_lt, List, Option, None, Some, Result, Ok, Err}
+use Rattle.std.proofs.Common.{MatchResult, MatchOption, inl, inr, option_map, refl, ap, sym, ◌∙◌, subst}
+use Rattle.std.proofs.lemmas.Bool.{cases_Bool}
+use Rattle.dl_elf.specs.declared.header.FileHeader.{FileHeader}
+use Rattle.dl_elf.specs.declared.section.SectionHeader.{SectionHeader}
+use Rattle.dl_elf.specs.declared.file.Elf.{Elf}
+use Rattle.dl_elf.specs.declared.fault.ElfFault.{ElfFault}
+use Rattle.dl_elf.specs.declared.fault.ElfFault.TheVariants as fault
+use Rattle.dl_elf.specs.Answers.{Answers}
+use Rattle.dl_elf.specs.Elf.{file_header, section_header_size}
+use Rattle.dl_elf.specs.Sections.{counted, from_first, lies_within, opened, opened_with, range_within, section_count}
+use Rattle.dl_elf.specs.Sections.{name_table_number, section_in, section_range, with_names}
+use Rattle.dl_elf.specs.declared.build_id.BuildId.{BuildId}
+use Rattle.dl_elf.specs.declared.name.SectionName.TheVariants.{BuildIdNote}
+use Rattle.dl_elf.specs.Notes.{build_id_bytes, build_id_of}
+use Rattle.dl_elf.specs.Found.{AreFound, Sections}
+use Rattle.dl_file.specs.declared.line_file.Chosen.{Chosen}
+use Rattle.dl_file.specs.declared.line_file.Wanted.{Wanted}
+use Rattle.dl_file.specs.declared.line_file.LineFile.{LineFile}
+use Rattle.dl_file.specs.Relocations.{HasRelocations, line_bytes}
+use Rattle.dl_file.specs.Answering.{OpensTable}
+use Rattle.dl_file.specs.LineTable.{HasLineTable, IsLineTable, LineTable, Opens, chosen, first_compressed, first_damage}
+use Rattle.dl_file.specs.LineTable.{IsWithoutLineSection, line_table, table_of, unless_compressed, unless_damaged, with_line_bytes}
+
+-- nothing is wrong with the wanted sections, and the line section has these bytes
+pub table_whole : (e : Elf) (f : List ℕ) (c : Chosen) (bytes : List ℕ) → first_damage e f c ≡ None
+    → first_compressed e f c ≡ None → line_bytes e f c.line ≡ Ok bytes → table_of e f c ≡ Ok (line_table e f c bytes)
+table_whole e f c bytes undamaged uncompressed line =
+    ap (λ d. unless_damaged d (unless_compressed (first_compressed e f c) (with_line_bytes e f c (line_bytes e f c.line))))
+    undamaged
+    ∙ (ap (λ d. unless_compressed d (with_line_bytes e f c (line_bytes e f c.line))) uncompressed
+    ∙ ap (with_line_bytes e f c) line)
+
+-- what the sections of the names come to is what the file comes to
+pub has_table : (f : List ℕ) (e : Elf) (at : Sections) (wanted : Wanted) (result : Result LineTable ElfFault)
+    → Ok e ≡ opened f → AreFound e f at
+    → IsLineTable e f at wanted result → HasLineTable f wanted result
+has_table f e at wanted result is found table =
+    let P : Result Elf ElfFault → Type 0 =
+    λ r. MatchResult r (λ e. (at : Sections) × AreFound e f at × IsLineTable e f at wanted result) (λ first. result
+    ≡ Err first) in
+    subst P is (at, found, table)
+
+-- ---- no fault of the headers is that memory was refused
+
+abbrev MemoryIsFree : Result Elf ElfFault → Type 0
+MemoryIsFree (Err fault.NoMemory) = ⊥
+MemoryIsFree other = Unit {0}
+
+names_free : (h : FileHeader) (count : ℕ) (f : List ℕ) (slot : Option SectionHeader)
+    → MemoryIsFree (with_names h count f slot)
+names_free h count f None = tt
+names_free h count f (Some s) = elim (cases_Bool (range_within (section_range s) f)) [
+  | inl within ↦ rw within tt
+  | inr out ↦ rw out tt
+]
+
+counted_free : (h : FileHeader) (f : List ℕ) (count names : ℕ) → MemoryIsFree (counted h f count names)
+counted_free h f count names = elim (cases_Bool (not (lies_within h.table_offset (count * h.entry_size) f))) [
+  | inl out ↦ rw out tt
+  | inr within ↦ rw within (elim (cases_Bool (names == 0)) [
+      | inl zero ↦ rw zero tt
+      | inr some ↦ rw some (elim (cases_Bool (nat_le count names)) [
+          | inl past ↦ rw past tt
+          | inr less ↦ rw less (names_free h count f (section_in h f names))
+        ])
+    ])
+]
+
+first_free : (h : FileHeader) (f : List ℕ) (slot : Option SectionHeader) → MemoryIsFree (from_first h f slot)
+first_free h f None = tt
+first_free h f (Some s) = counted_free h f (section_count h s) (name_table_number h s)
+
+header_free : (f : List ℕ) (header : Option FileHeader) → MemoryIsFree (opened_with f header)
+header_free f None = tt
+header_free f (Some h) = elim (cases_Bool (h.table_offset == 0)) [
+  | inl none ↦ rw none tt
+  | inr some ↦ rw some (elim (cases_Bool (nat_lt h.entry_size (section_header_size h.class))) [
+      | inl short ↦ rw short tt
+      | inr whole ↦ rw whole (first_free h f (section_in h f 0))
+    ])
+]
+
+-- ---- what open_line_file answers
+
+-- the fault of a file whose headers can't be read
+pub opens_fault : {S : Type 0} (all_bytes : S → Option (List ℕ)) (f : List ℕ) (wanted : Wanted) (why : ElfFault)
+    → Answers (opened f) (Err why) → Opens all_bytes f wanted (Err why)
+opens_fault all_bytes f wanted (fault.Read error) is = tt
+opens_fault all_bytes f wanted fault.NoMemory is = absurd (subst MemoryIsFree (sym is) (header_free f (file_header f)))
+opens_fault all_bytes f wanted other is =
+    let P : Result Elf ElfFault → Type 0 =
+    λ r. MatchResult r (λ e. (at : Sections) × AreFound e f at × IsLineTable e f at wanted (Err other))
+    (λ first. ◌≡◌ {A = Result LineTable ElfFault} (Err other) (Err first)) in
+    subst P is refl
+
+-- what the wanted sections come to is what the sections of the names come to
+is_table : (e : Elf) (f : List ℕ) (at : Sections) (wanted : Wanted) (c : Chosen) (result : Result LineTable ElfFault)
+    → Some c ≡ chosen at wanted → result ≡ table_of e f c → IsLineTable e f at wanted result
+is_table e f at wanted c result is table =
+    let P : Option Chosen → Type 0 =
+    λ slot. MatchOption slot (IsWithoutLineSection e f at result) (λ c. result ≡ table_of e f c) in subst P is table
+
+-- what the wanted sections come to is what the file comes to
+pub opens_table : {S : Type 0} (all_bytes : S → Option (List ℕ)) (f : List ℕ) (wanted : Wanted) (e : Elf)
+    (at : Sections) (c : Chosen) (result : Result (LineFile S) ElfFault) → Ok e ≡ opened f → AreFound e f at
+    → Some c ≡ chosen at wanted → OpensTable all_bytes (table_of e f c) (HasRelocations e f c.line.number) result
+    → Opens all_bytes f wanted result
+opens_table all_bytes f wanted e at c (Ok file) is found these (t, table, gives) =
+    (t, has_table f e at wanted (Ok t) is found (is_table e f at wanted c (Ok t) these (sym table)), gives)
+opens_table all_bytes f wanted e at c (Err (fault.Read error)) is found these table = tt
+opens_table all_bytes f wanted e at c (Err fault.NoMemory) is found these has =
+    (e, sym is, at, found, c, sym these, has)
+opens_table all_bytes f wanted e at c (Err other) is found these table =
+    has_table f e at wanted (Err other) is found (is_table e f at wanted c (Err other) these (sym table))
+
+-- there is no line section
+pub opens_none : (f : List ℕ) (wanted : Wanted) (e : Elf) (at : Sections) (told : Option BuildId) → Ok e ≡ opened f
+    → AreFound e f at → ◌≡◌ {A = Option Chosen} None (chosen at wanted)
+    → option_map build_id_bytes told ≡ build_id_of e f (at BuildIdNote)
+    → HasLineTable f wanted (Err (fault.NoLineSection told))
+opens_none f wanted e at told is found none note =
+    let result : Result LineTable ElfFault = Err (fault.NoLineSection told) in
+    let P : Option Chosen → Type 0 =
+    λ slot. MatchOption slot (IsWithoutLineSection e f at result) (λ c. result ≡ table_of e f c) in
+    has_table f e at wanted result is found (subst P none note)

@@ -1,0 +1,25 @@
+use Rattle.std.proofs.Common.{rules, arith, sym, ap, ◌∙◌}
+use Rattle.dl_file.proofs.CodeLemmas.{ranges_pushed, ranges_same, ranges_whole}
+use Rattle.dl_file.proofs.code.executable_ranges.Goals as goal
+use Rattle.dl_file.proofs.code.executable_ranges.Goals.{in-Some+else-is_err, in_default}
+
+pub loop-at-preserved : goal.loop-at-preserved
+loop-at-preserved g c =
+    let from = c.loop-at.invariant.0 in (
+      omega (arith, from),
+      (let within = c.loop-at-test.true in omega (arith, from, within)),
+      c.executable_range_at.ensures.shows,
+      λ f is short. elim c.match-branch-2.branch [
+        | in-Some+else-is_err w ↦ ap (λ r. r.items) w.ranges-is
+            ∙ (search rules ∙ ranges_pushed c.args.elf.now f c.loop-at.at c.loop-at.ranges.items w.in-Some.range from
+            (c.loop-at.invariant.3 f is short) (sym w.in-Some.is ∙ c.in_ok-range.ensures.range f is short))
+        | in_default w ↦ ap (λ r. r.items) w.ranges-is
+            ∙ ranges_same c.args.elf.now f c.loop-at.at c.loop-at.ranges.items from
+            (c.loop-at.invariant.3 f is short) (sym w.in_default.is ∙ c.in_ok-range.ensures.range f is short)
+      ],
+    )
+
+pub returns-clause-ranges : goal.returns-clause-ranges
+returns-clause-ranges g c = λ f is short.
+    ranges_whole c.args.elf.now f c.loop-at.at c.loop-at.ranges.items c.loop-at.invariant.1 c.loop-at-test.false
+    (c.loop-at.invariant.3 f is short)

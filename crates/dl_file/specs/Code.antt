@@ -1,0 +1,61 @@
+-- Where a file has code. f: the bytes of a file; e: the file as it is opened.
+use Rattle.std.specs.Prelude.{◌≡◌, ℕ, zero, suc, ◌-◌, ◌<◌, ◌≤◌, if◌then◌else◌, List, [], ◌∷◌, ◌++◌, Option, Some, None}
+use Rattle.std.specs.Prelude.{option_and_then, Result, Ok, Err}
+use Rattle.std.specs.declared.io.Error.{Error}
+use Rattle.dl_elf.specs.declared.section.SectionHeader.{SectionHeader}
+use Rattle.dl_elf.specs.declared.file.Elf.{Elf}
+use Rattle.dl_elf.specs.declared.fault.ElfFault.TheVariants as fault
+use Rattle.dl_file.specs.declared.code.ExecutableRange.{ExecutableRange}
+use Rattle.dl_file.specs.declared.code.Code.{Code}
+use Rattle.dl_file.specs.declared.code.CodeFault.{CodeFault}
+use Rattle.dl_file.specs.declared.code.CodeFault.TheVariants.{Elf as Refused, NoMemory}
+use Rattle.dl_elf.specs.Elf.{is_executable, is_linked}
+use Rattle.dl_elf.specs.Sections.{section_in, opened}
+
+-- sh_addr and sh_size of a section with code
+abbrev pub executable_range : SectionHeader → Option ExecutableRange
+executable_range s = if is_executable s then Some (record { start = s.address; size = s.size }) else None
+
+-- those of section i
+abbrev pub executable_range_at : Elf → List ℕ → ℕ → Option ExecutableRange
+executable_range_at e f i = option_and_then executable_range (section_in e.header f i)
+
+abbrev pub and_range : List ExecutableRange → Option ExecutableRange → List ExecutableRange
+and_range ranges None = ranges
+and_range ranges (Some range) = ranges ++ range ∷ []
+
+-- those of sections 1 to n, in this order
+abbrev pub ranges_upto : Elf → List ℕ → ℕ → List ExecutableRange
+ranges_upto e f zero = []
+ranges_upto e f (suc n) = and_range (ranges_upto e f n) (executable_range_at e f (suc n))
+
+-- those of all sections
+abbrev pub executable_ranges : Elf → List ℕ → List ExecutableRange
+executable_ranges e f = ranges_upto e f (e.count - 1)
+
+-- a section has code
+pub record HasCode (e : Elf) (f : List ℕ) : Type 0 where
+  pub at : ℕ
+  pub from : 1 ≤ at
+  pub within : at < e.count
+  pub range : ExecutableRange
+  pub has : executable_range_at e f at ≡ Some range
+
+-- why the ranges can't be had: a read failed, or a growth was refused, for which a section has to have code
+abbrev pub StopsRanges : Elf → List ℕ → CodeFault → Type 0
+StopsRanges e f (Refused (fault.Read error)) = Unit {0}
+StopsRanges e f NoMemory = HasCode e f
+StopsRanges e f other = ⊥
+
+-- what find_code answers for a file with these bytes
+abbrev pub IsCode : List ℕ → Result Code CodeFault → Type 0
+IsCode f (Ok code) =
+    (e : Elf) × (opened f ≡ Ok e) × (code.is_linked ≡ is_linked e.header) × (code.ranges.items ≡ executable_ranges e f)
+IsCode f (Err NoMemory) = (e : Elf) × (opened f ≡ Ok e) × HasCode e f
+IsCode f (Err (Refused (fault.Read error))) = Unit {0}
+IsCode f (Err (Refused other)) = opened f ≡ Err other
+
+-- where a read failed, its error is such a one
+abbrev pub IfCodeRead : {A : Type 0} → (Error → Type 0) → Result A CodeFault → Type 0
+IfCodeRead Fails (Err (Refused (fault.Read error))) = Fails error
+IfCodeRead Fails result = Unit {0}

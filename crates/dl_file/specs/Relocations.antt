@@ -1,0 +1,110 @@
+-- The bytes of the line section of an object file, with its relocations applied. System V ABI, chapter 4, "Relocation".
+-- f: the bytes of a file; e: the file as it is opened; line: its line section; b: bytes of the line section.
+use Rattle.std.specs.Prelude.{◌≡◌, ℕ, zero, suc, ◌-◌, ◌<◌, ◌≤◌, ◌==◌, nat_le, true, if◌then◌else◌, List, [], Option}
+use Rattle.std.specs.Prelude.{Some, None, option_and_then, Result, Ok, Err}
+use Rattle.dl_elf.specs.declared.header.Class.{Class}
+use Rattle.dl_elf.specs.declared.header.Class.TheVariants as elf_class
+use Rattle.dl_elf.specs.declared.section.SectionHeader.{SectionHeader}
+use Rattle.dl_elf.specs.declared.file.Elf.{Elf}
+use Rattle.dl_elf.specs.declared.name.SectionName.{SectionName}
+use Rattle.dl_elf.specs.declared.named.NamedSection.{NamedSection}
+use Rattle.dl_elf.specs.declared.fault.ElfFault.{ElfFault}
+use Rattle.dl_elf.specs.declared.fault.ElfFault.TheVariants as fault
+use Rattle.dl_elf.specs.declared.fault.Part.TheVariants as part
+use Rattle.dl_elf.specs.Elf.{is_object, relocates}
+use Rattle.dl_elf.specs.Sections.{section_in, section_range, section_bytes, range_within}
+use Rattle.dl_reloc.specs.declared.target.Class.{Class as TargetClass}
+use Rattle.dl_reloc.specs.declared.target.Class.TheVariants as class
+use Rattle.dl_reloc.specs.declared.target.Form.{Form}
+use Rattle.dl_reloc.specs.declared.target.Form.TheVariants.{Rela, Rel}
+use Rattle.dl_reloc.specs.declared.target.Target.{Target}
+use Rattle.dl_reloc.specs.declared.apply.RelocationFault.{RelocationFault}
+use Rattle.dl_reloc.specs.declared.apply.RelocationFault.TheVariants.{UnknownType, PlaceOutside, SymbolOutside}
+use Rattle.dl_reloc.specs.Relocated.{relocated}
+
+-- ---- what the headers say
+
+abbrev pub class_of : Class → TargetClass
+class_of elf_class.Bits32 = class.Bits32
+class_of elf_class.Bits64 = class.Bits64
+
+abbrev pub target_of : Elf → Target
+target_of e = record { machine = e.header.machine; class = class_of e.header.class; order = e.header.order }
+
+-- SHT_RELA is 4; the other type is SHT_REL
+abbrev pub form_of : SectionHeader → Form
+form_of s = if s.section_type == 4 then Rela else Rel
+
+-- the fault of a relocation of the section of this name
+abbrev pub fault_of : Elf → SectionName → RelocationFault → ElfFault
+fault_of e name (UnknownType n) = fault.UnknownRelocation name n e.header.machine
+fault_of e name PlaceOutside = fault.RelocationOutside name
+fault_of e name SymbolOutside = fault.Damaged (part.Symbols name)
+
+abbrev pub with_fault_of : Elf → SectionName → Result (List ℕ) RelocationFault → Result (List ℕ) ElfFault
+with_fault_of e name (Ok b) = Ok b
+with_fault_of e name (Err why) = Err (fault_of e name why)
+
+-- ---- one section of relocations
+
+-- the bytes of a section; None where they don't lie in the file
+abbrev pub bytes_in : List ℕ → SectionHeader → Option (List ℕ)
+bytes_in f s = if range_within (section_range s) f then Some (section_bytes s f) else None
+
+-- the symbol table of this number (sh_link), none of number 0; None where it doesn't lie in the file
+abbrev pub symbols_in : Elf → List ℕ → (number : ℕ) → Option (List ℕ)
+symbols_in e f number =
+    if number == 0 then Some []
+    else if nat_le e.count number then None else option_and_then (bytes_in f) (section_in e.header f number)
+
+-- what entries of this form make of b, with these symbols
+abbrev pub by_entries : Elf → SectionName → Form → (entries symbols : Option (List ℕ)) → List ℕ
+    → Result (List ℕ) ElfFault
+by_entries e name form None symbols b = Err (fault.Damaged (part.Relocations name))
+by_entries e name form (Some entries) None b = Err (fault.Damaged (part.Symbols name))
+by_entries e name form (Some entries) (Some symbols) b =
+    with_fault_of e name (relocated (target_of e) form entries symbols b)
+
+-- what the relocations of section s make of b
+abbrev pub relocated_by : Elf → List ℕ → SectionName → SectionHeader → List ℕ → Result (List ℕ) ElfFault
+relocated_by e f name s b = by_entries e name (form_of s) (bytes_in f s) (symbols_in e f s.link) b
+
+-- ---- all of them, in the order of their sections
+
+-- of a section that has none for the line section, b itself
+abbrev pub relocated_if : Elf → List ℕ → NamedSection → Option SectionHeader → List ℕ → Result (List ℕ) ElfFault
+relocated_if e f line None b = Ok b
+relocated_if e f line (Some s) b = if relocates line.number s then relocated_by e f line.name s b else Ok b
+
+abbrev pub relocated_at : Elf → List ℕ → NamedSection → ℕ → List ℕ → Result (List ℕ) ElfFault
+relocated_at e f line i b = relocated_if e f line (section_in e.header f i) b
+
+-- the next section after those before it; after a fault nothing follows
+abbrev pub and_then : (List ℕ → Result (List ℕ) ElfFault) → Result (List ℕ) ElfFault → Result (List ℕ) ElfFault
+and_then next (Ok b) = next b
+and_then next (Err first) = Err first
+
+-- what sections 1 to n make of the line section's bytes, one after the other, or the first fault
+abbrev pub relocated_upto : Elf → List ℕ → NamedSection → ℕ → Result (List ℕ) ElfFault
+relocated_upto e f line zero = Ok (section_bytes line.header f)
+relocated_upto e f line (suc n) = and_then (relocated_at e f line (suc n)) (relocated_upto e f line n)
+
+-- the line section's bytes, in an object file with the relocations of all sections applied
+abbrev pub line_bytes : Elf → List ℕ → NamedSection → Result (List ℕ) ElfFault
+line_bytes e f line =
+    if is_object e.header then relocated_upto e f line (e.count - 1) else Ok (section_bytes line.header f)
+
+-- ---- whether there are any
+
+-- section i is of relocations that change section `number`
+abbrev pub RelocatesAt : Elf → List ℕ → (number i : ℕ) → Type 0
+RelocatesAt e f number i =
+    (s : SectionHeader) × (section_in e.header f i ≡ Some s) × (relocates number s ≡ true)
+
+-- it is an object file (ET_REL), and one of its sections is of relocations that change section `number`
+pub record HasRelocations (e : Elf) (f : List ℕ) (number : ℕ) : Type 0 where
+  pub object : e.header.file_type ≡ 1
+  pub at : ℕ
+  pub from : 1 ≤ at
+  pub within : at < e.count
+  pub relocates_at : RelocatesAt e f number at
