@@ -34,8 +34,8 @@ pub record HoldsRows (p : ProgramData) (rows : List Row) : Type 0 where
   pub count : p.rows ≡ length rows
   pub each : AllByRecursion IsRow rows
 
--- It grew by these rows, under these params, whose opcode_base is 13: the first row that is out of range is known, or all
--- are held.
+-- It grew by these rows, under these params, whose opcode_base is 13: the first row that is out of range is known, or
+-- all are held.
 pub record IsGrown (p : ProgramData) (order : Order) (h : Params) (rows : List Row) : Type 0 where
   pub order_is : p.order ≡ order
   pub params_are : p.params ≡ h

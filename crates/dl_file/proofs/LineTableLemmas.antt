@@ -21,14 +21,15 @@ use Rattle.dl_file.specs.declared.line_file.LineFile.{LineFile}
 use Rattle.dl_file.specs.Relocations.{HasRelocations, line_bytes}
 use Rattle.dl_file.specs.Answering.{OpensTable}
 use Rattle.dl_file.specs.LineTable.{HasLineTable, IsLineTable, LineTable, Opens, chosen, first_compressed, first_damage}
-use Rattle.dl_file.specs.LineTable.{IsWithoutLineSection, line_table, table_of, unless_compressed, unless_damaged, with_line_bytes}
+use Rattle.dl_file.specs.LineTable.{IsWithoutLineSection, line_table, table_of, unless_compressed, unless_damaged}
+use Rattle.dl_file.specs.LineTable.{with_line_bytes}
 
 -- nothing is wrong with the wanted sections, and the line section has these bytes
 pub table_whole : (e : Elf) (f : List ℕ) (c : Chosen) (bytes : List ℕ) → first_damage e f c ≡ None
     → first_compressed e f c ≡ None → line_bytes e f c.line ≡ Ok bytes → table_of e f c ≡ Ok (line_table e f c bytes)
 table_whole e f c bytes undamaged uncompressed line =
-    ap (λ d. unless_damaged d (unless_compressed (first_compressed e f c) (with_line_bytes e f c (line_bytes e f c.line))))
-    undamaged
+    ap (λ d. unless_damaged d (unless_compressed (first_compressed e f c)
+    (with_line_bytes e f c (line_bytes e f c.line)))) undamaged
     ∙ (ap (λ d. unless_compressed d (with_line_bytes e f c (line_bytes e f c.line))) uncompressed
     ∙ ap (with_line_bytes e f c) line)
 
@@ -60,12 +61,12 @@ counted_free : (h : FileHeader) (f : List ℕ) (count names : ℕ) → MemoryIsF
 counted_free h f count names = elim (cases_Bool (not (lies_within h.table_offset (count * h.entry_size) f))) [
   | inl out ↦ rw out tt
   | inr within ↦ rw within (elim (cases_Bool (names == 0)) [
-      | inl zero ↦ rw zero tt
-      | inr some ↦ rw some (elim (cases_Bool (nat_le count names)) [
-          | inl past ↦ rw past tt
-          | inr less ↦ rw less (names_free h count f (section_in h f names))
-        ])
+    | inl zero ↦ rw zero tt
+    | inr some ↦ rw some (elim (cases_Bool (nat_le count names)) [
+      | inl past ↦ rw past tt
+      | inr less ↦ rw less (names_free h count f (section_in h f names))
     ])
+  ])
 ]
 
 first_free : (h : FileHeader) (f : List ℕ) (slot : Option SectionHeader) → MemoryIsFree (from_first h f slot)
@@ -77,9 +78,9 @@ header_free f None = tt
 header_free f (Some h) = elim (cases_Bool (h.table_offset == 0)) [
   | inl none ↦ rw none tt
   | inr some ↦ rw some (elim (cases_Bool (nat_lt h.entry_size (section_header_size h.class))) [
-      | inl short ↦ rw short tt
-      | inr whole ↦ rw whole (first_free h f (section_in h f 0))
-    ])
+    | inl short ↦ rw short tt
+    | inr whole ↦ rw whole (first_free h f (section_in h f 0))
+  ])
 ]
 
 -- ---- what open_line_file answers

@@ -108,7 +108,8 @@ fault_stays e f line zero n first le is =
     let none : zero ≡ n = omega (arith, le) in
     ap (λ k. relocated_upto e f line k) none ∙ is
 fault_stays e f line (suc end) n first le is = elim (cases_lt n (suc end)) [
-  | inl less ↦ ap (and_then (relocated_at e f line (suc end))) (fault_stays e f line end n first (omega (arith, less)) is)
+  | inl less ↦ ap (and_then (relocated_at e f line (suc end)))
+      (fault_stays e f line end n first (omega (arith, less)) is)
   | inr more ↦ (let same : suc end ≡ n = omega (arith, le, more) in ap (λ k. relocated_upto e f line k) same ∙ is)
 ]
 

@@ -15,8 +15,10 @@ ghost use Rattle.dl_file.specs.LineTable.{debug_str_section};
 use crate::line_reader::LineReader;
 use crate::relocating::{has_relocations, relocate_line};
 use crate::section_bytes::read_bytes;
-use dl_elf::{Compression, Elf, ElfFault, NamedSection, Part, ReadAt, SectionName, SectionReader, Sections};
-use dl_elf::{find_sections, open_elf, read_build_id, section_compression, section_damage, section_range};
+use dl_elf::{
+    Compression, Elf, ElfFault, NamedSection, Part, ReadAt, SectionName, SectionReader, Sections,
+    find_sections, open_elf, read_build_id, section_compression, section_damage, section_range,
+};
 use dl_num::Order;
 use std::alloc::Global;
 use std::io;

@@ -9,7 +9,9 @@ ghost use Rattle.dl_file.specs.Relocations.{HasRelocations, RelocatesAt, class_o
 ghost use Rattle.dl_file.specs.Relocations.{relocated_by, relocated_upto, target_of};
 
 use crate::section_bytes::{read_bytes, read_symbols};
-use dl_elf::{Elf, ElfFault, NamedSection, Part, ReadAt, SectionHeader, SectionName, Window, section_at};
+use dl_elf::{
+    Elf, ElfFault, NamedSection, Part, ReadAt, SectionHeader, SectionName, Window, section_at,
+};
 use dl_reloc::{Class, Form, RelocationFault, Target, relocate};
 use std::alloc::Global;
 use std::io;

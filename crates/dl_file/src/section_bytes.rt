@@ -4,7 +4,10 @@ ghost use Rattle.dl_elf.specs.Source.{ForBytes};
 ghost use Rattle.dl_file.specs.Answering.{StopsReading};
 ghost use Rattle.dl_file.specs.Relocations.{bytes_in, symbols_in};
 
-use dl_elf::{Elf, ElfFault, Range, ReadAt, SectionHeader, Window, fill_whole, lies_within, section_at, section_range};
+use dl_elf::{
+    Elf, ElfFault, Range, ReadAt, SectionHeader, Window, fill_whole, lies_within, section_at,
+    section_range,
+};
 use std::alloc::Global;
 
 /// How many bytes are read at a time.

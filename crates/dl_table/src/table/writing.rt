@@ -188,9 +188,13 @@ fn put_value<W: Write>(
 {
     match *value {
         ValueRef::Text(bytes) if form == Form::String => put_text(output, out, bytes),
-        ValueRef::LineStr(offset) if form == Form::LineStrp => put_offset(output, out, encoding, offset),
+        ValueRef::LineStr(offset) if form == Form::LineStrp => put_offset(
+            output, out, encoding, offset,
+        ),
         ValueRef::Str(offset) if form == Form::Strp => put_offset(output, out, encoding, offset),
-        ValueRef::StrSup(offset) if form == Form::StrpSup => put_offset(output, out, encoding, offset),
+        ValueRef::StrSup(offset) if form == Form::StrpSup => put_offset(
+            output, out, encoding, offset,
+        ),
         ValueRef::Number(number) => put_number_of(output, out, encoding.order, form, number),
         ValueRef::Block(bytes) => put_block(output, out, encoding.order, form, bytes),
         ValueRef::Data16(bytes) if form == Form::Data16 => put_sixteen(output, out, bytes),

@@ -31,7 +31,8 @@ returns-in_err-out-clause-written g c rows grown =
     let none = ap (λ (p : ProgramData). p.refused) (sym same) ∙ c.in_default.is in
     let bytes = c.as_slice-bytes in
     let whole = bytes.ensures.value ∙ ap (λ (p : ProgramData). p.bytes) same in
-    let len = counts_all p h.params rows grown none (length bytes.result.now) (ap length whole) (omega (arith, bytes.ensures.len)) in
+    let len = counts_all p h.params rows grown none (length bytes.result.now) (ap length whole)
+    (omega (arith, bytes.ensures.len)) in
     let e = err_from_is_err_and c.from_residual.result c.from_residual.ensures.1 in
     let header =
     subst (λ (o : Order). WritesHeader o h (length bytes.result.now) (g.W.Write.contents c.args.output.now)
@@ -48,7 +49,8 @@ returns-in_err-put-clause-written g c rows grown =
     let none = ap (λ (p : ProgramData). p.refused) (sym same) ∙ c.in_default.is in
     let bytes = c.as_slice-bytes in
     let whole = bytes.ensures.value ∙ ap (λ (p : ProgramData). p.bytes) same in
-    let len = counts_all p h.params rows grown none (length bytes.result.now) (ap length whole) (omega (arith, bytes.ensures.len)) in
+    let len = counts_all p h.params rows grown none (length bytes.result.now) (ap length whole)
+    (omega (arith, bytes.ensures.len)) in
     let e = err_from_is_err_and c.from_residual-in_err-put.result c.from_residual-in_err-put.ensures.1 in
     let header = rw (ap (λ (p : ProgramData). p.order) same) at c.in_ok-out.ensures in
     let program = rw (whole ∙ bytes_are p h.params rows grown none) at c.in_err-put.ensures.written in
@@ -63,7 +65,8 @@ returns-clause-written g c rows grown =
     let none = ap (λ (p : ProgramData). p.refused) (sym same) ∙ c.in_default.is in
     let bytes = c.as_slice-bytes in
     let whole = bytes.ensures.value ∙ ap (λ (p : ProgramData). p.bytes) same in
-    let len = counts_all p h.params rows grown none (length bytes.result.now) (ap length whole) (omega (arith, bytes.ensures.len)) in
+    let len = counts_all p h.params rows grown none (length bytes.result.now) (ap length whole)
+    (omega (arith, bytes.ensures.len)) in
     let header = rw (ap (λ (p : ProgramData). p.order) same) at c.in_ok-out.ensures in
     let program = rw (whole ∙ bytes_are p h.params rows grown none) at c.in_ok-put.ensures.written in
     program_written h rows p.order _ _ (length bytes.result.now) c.in_ok-out.out _ (Ok c.in_ok-put.field-0)
@@ -73,4 +76,5 @@ pub returns-clause-readable : goal.returns-clause-readable
 returns-clause-readable g c rows grown =
     let h = c.args.header.now in
     let none = ap (λ (p : ProgramData). p.refused) (sym c.self.view_is) ∙ c.in_default.is in
-    unit_is_read_again c.args.self.now.order h rows c.params.ensures.sound (grown.holds none).each (returns-clause-written g c rows grown).0
+    unit_is_read_again c.args.self.now.order h rows c.params.ensures.sound (grown.holds none).each
+    (returns-clause-written g c rows grown).0
