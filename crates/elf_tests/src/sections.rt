@@ -1,6 +1,8 @@
 //! Which sections are found.
 use crate::image::{BIG_32, Form, LITTLE_64, NewSection, image, section, told};
 use dl_file::Wanted;
+use std::alloc::Global;
+use std::process::Abort;
 use std::test::Fail;
 
 /// A file in either class and order, with other sections between those that are wanted.
@@ -31,6 +33,21 @@ fn either_class_and_order(rt: HostRuntime) -> Result<(), Fail> {
     Ok(())
 }
 
+/// Asserts what is found in a file of these sections.
+fn assert_found(
+    rt: &impl Abort,
+    alloc: Global,
+    wanted: Wanted,
+    sections: &[NewSection<'_>],
+    want: &str,
+    what: &str,
+) -> Result<(), Fail> {
+    let bytes = image(alloc, LITTLE_64, sections)?;
+    let found = told(alloc, &bytes, wanted)?;
+    assert_eq!(rt; found.as_str(), want, "{what}");
+    Ok(())
+}
+
 #[test]
 fn names(rt: HostRuntime) -> Result<(), Fail> {
     let alloc = rt.alloc();
@@ -38,25 +55,21 @@ fn names(rt: HostRuntime) -> Result<(), Fail> {
         section_type: 8,
         ..section(".debug_line", "none")
     };
-    let both = Wanted::LineAndStringSections;
     let line = section(".debug_line", "line");
     let dwo = section(".debug_line.dwo", "dwo");
-    for (what, wanted, sections, want) in [
+    for (what, sections, want) in [
         (
             "the first of a name",
-            both,
             [line, section(".debug_line", "other"), dwo],
             "little line - -",
         ),
         (
             "one without bytes doesn't count",
-            both,
             [nobits, line, dwo],
             "little line - -",
         ),
         (
             "a longer name, a shorter one",
-            both,
             [
                 section(".debug_lines", "other"),
                 section(".debug_lin", "other"),
@@ -66,10 +79,28 @@ fn names(rt: HostRuntime) -> Result<(), Fail> {
         ),
         (
             "the fallback comes last",
-            both,
             [dwo, section(".debug_str", "str"), line],
             "little line - str",
         ),
+    ] {
+        assert_found(
+            &rt,
+            alloc,
+            Wanted::LineAndStringSections,
+            &sections,
+            want,
+            what,
+        )?;
+    }
+    Ok(())
+}
+
+#[test]
+fn string_sections(rt: HostRuntime) -> Result<(), Fail> {
+    let alloc = rt.alloc();
+    let both = Wanted::LineAndStringSections;
+    let dwo = section(".debug_line.dwo", "dwo");
+    for (what, wanted, sections, want) in [
         (
             "strings of a split file",
             both,
@@ -95,15 +126,13 @@ fn names(rt: HostRuntime) -> Result<(), Fail> {
             Wanted::LineSection,
             [
                 section(".debug_line_str", "line_str"),
-                line,
+                section(".debug_line", "line"),
                 section(".debug_str", "str"),
             ],
             "little line - -",
         ),
     ] {
-        let bytes = image(alloc, LITTLE_64, &sections)?;
-        let found = told(alloc, &bytes, wanted)?;
-        assert_eq!(rt; found.as_str(), want, "{what}");
+        assert_found(&rt, alloc, wanted, &sections, want, what)?;
     }
     Ok(())
 }
