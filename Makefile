@@ -35,16 +35,21 @@ uninstall:
 
 # Every proof from nothing, every edit that must be refused, every test; then the sections of examples/.
 test:
+	rm -f crates/dwline/out/dwline
 	rt ci
-	$(MAKE) compare
+	test -x crates/dwline/out/dwline || $(MAKE) dwline
+	$(MAKE) compare-built
 
 # Every section of examples/, printed and compared with its expected dump; every option of every command; the
 # man page, the completions and what `make install` puts where.
-compare: dwline
+compare: dwline compare-built
+
+# The same of the program that is built.
+compare-built:
 	examples/compare-with-dwline
 	examples/try-dwline
 	examples/try-truncated
 	examples/try-documents
 	examples/try-install
 
-.PHONY: dwline example try install uninstall test compare
+.PHONY: dwline example try install uninstall test compare compare-built

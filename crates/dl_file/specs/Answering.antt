@@ -1,8 +1,9 @@
 -- The forms of contracts inside the crate, over an answer that the definitions give. No promise rests on this file.
-use Rattle.std.specs.Prelude.{◌≡◌, ℕ, List, Option, Result, Ok, Err}
+use Rattle.std.specs.Prelude.{◌≡◌, ℕ, List, Option, Some, None, Result, Ok, Err}
 use Rattle.std.specs.declared.io.Error.{Error}
 use Rattle.dl_elf.specs.declared.fault.ElfFault.{ElfFault}
 use Rattle.dl_elf.specs.declared.fault.ElfFault.TheVariants as fault
+use Rattle.dl_elf.specs.declared.fault.Part.TheVariants as part
 use Rattle.dl_file.specs.declared.line_file.LineFile.{LineFile}
 use Rattle.dl_file.specs.declared.line_reader.LineReader.{LineReader}
 use Rattle.dl_file.specs.LineTable.{GivesLine, GivesTable, LineTable}
@@ -19,6 +20,13 @@ IsMade answer made (Ok done) = answer ≡ Ok made
 IsMade answer made (Err (fault.Read error)) = Unit {0}
 IsMade answer made (Err fault.NoMemory) = Unit {0}
 IsMade answer made (Err other) = answer ≡ Err other
+
+-- this number was counted, or a section header isn't there; or a read failed
+abbrev pub IsCounted : Option ℕ → Result ℕ ElfFault → Type 0
+IsCounted number (Ok n) = number ≡ Some n
+IsCounted number (Err (fault.Read error)) = Unit {0}
+IsCounted number (Err (fault.Damaged part.SectionHeaders)) = ◌≡◌ {A = Option ℕ} number None
+IsCounted number (Err other) = ⊥
 
 -- a reader of the bytes, or the fault; a growth is refused only where `Memory` says so
 abbrev pub OpensLine : {S : Type 0} → (S → Option (List ℕ)) → (answer : Result (List ℕ) ElfFault) (Memory : Type 0)

@@ -1,6 +1,6 @@
 -- The bytes of the line section of an object file, with its relocations applied. System V ABI, chapter 4, "Relocation".
 -- f: the bytes of a file; e: the file as it is opened; line: its line section; b: bytes of the line section.
-use Rattle.std.specs.Prelude.{◌≡◌, ℕ, zero, suc, ◌-◌, ◌<◌, ◌≤◌, ◌==◌, nat_le, true, if◌then◌else◌, List, [], Option}
+use Rattle.std.specs.Prelude.{◌≡◌, ℕ, zero, suc, ◌+◌, ◌-◌, ◌==◌, nat_le, if◌then◌else◌, List, [], Option}
 use Rattle.std.specs.Prelude.{Some, None, option_and_then, Result, Ok, Err}
 use Rattle.dl_elf.specs.declared.header.Class.{Class}
 use Rattle.dl_elf.specs.declared.header.Class.TheVariants as elf_class
@@ -71,9 +71,9 @@ relocated_by e f name s b = by_entries e name (form_of s) (bytes_in f s) (symbol
 
 -- ---- all of them, in the order of their sections
 
--- of a section that has none for the line section, b itself
+-- of a section that has none for the line section, b itself; a section header that isn't there is damage
 abbrev pub relocated_if : Elf → List ℕ → NamedSection → Option SectionHeader → List ℕ → Result (List ℕ) ElfFault
-relocated_if e f line None b = Ok b
+relocated_if e f line None b = Err (fault.Damaged part.SectionHeaders)
 relocated_if e f line (Some s) b = if relocates line.number s then relocated_by e f line.name s b else Ok b
 
 abbrev pub relocated_at : Elf → List ℕ → NamedSection → ℕ → List ℕ → Result (List ℕ) ElfFault
@@ -89,22 +89,43 @@ abbrev pub relocated_upto : Elf → List ℕ → NamedSection → ℕ → Result
 relocated_upto e f line zero = Ok (section_bytes line.header f)
 relocated_upto e f line (suc n) = and_then (relocated_at e f line (suc n)) (relocated_upto e f line n)
 
+-- ---- how many sections have some
+
+-- 1 where a section is of relocations that change section `number`, else 0; None where its header isn't there
+abbrev pub relocations_in : (number : ℕ) → Option SectionHeader → Option ℕ
+relocations_in number None = None
+relocations_in number (Some s) = Some (if relocates number s then 1 else 0)
+
+abbrev pub relocations_at : Elf → List ℕ → (number i : ℕ) → Option ℕ
+relocations_at e f number i = relocations_in number (section_in e.header f i)
+
+abbrev pub sum_of : Option ℕ → Option ℕ → Option ℕ
+sum_of (Some m) (Some n) = Some (m + n)
+sum_of (Some m) None = None
+sum_of None other = None
+
+-- how many of sections 1 to n are of relocations that change section `number`
+abbrev pub relocations_upto : Elf → List ℕ → (number n : ℕ) → Option ℕ
+relocations_upto e f number zero = Some 0
+relocations_upto e f number (suc n) = sum_of (relocations_upto e f number n) (relocations_at e f number (suc n))
+
+-- how many of all sections; none in a file that isn't an object file (ET_REL)
+abbrev pub relocations_of : Elf → List ℕ → (number : ℕ) → Option ℕ
+relocations_of e f number = if is_object e.header then relocations_upto e f number (e.count - 1) else Some 0
+
+-- there are some
+abbrev pub HasRelocations : Elf → List ℕ → (number : ℕ) → Type 0
+HasRelocations e f number = (n : ℕ) × (relocations_of e f number ≡ Some (suc n))
+
+-- ---- the line section's bytes
+
+-- with so many sections of relocations; more than 16 are refused
+abbrev pub bytes_with : Elf → List ℕ → NamedSection → Option ℕ → Result (List ℕ) ElfFault
+bytes_with e f line None = Err (fault.Damaged part.SectionHeaders)
+bytes_with e f line (Some zero) = Ok (section_bytes line.header f)
+bytes_with e f line (Some (suc n)) =
+    if nat_le 16 n then Err (fault.Damaged (part.Relocations line.name)) else relocated_upto e f line (e.count - 1)
+
 -- the line section's bytes, in an object file with the relocations of all sections applied
 abbrev pub line_bytes : Elf → List ℕ → NamedSection → Result (List ℕ) ElfFault
-line_bytes e f line =
-    if is_object e.header then relocated_upto e f line (e.count - 1) else Ok (section_bytes line.header f)
-
--- ---- whether there are any
-
--- section i is of relocations that change section `number`
-abbrev pub RelocatesAt : Elf → List ℕ → (number i : ℕ) → Type 0
-RelocatesAt e f number i =
-    (s : SectionHeader) × (section_in e.header f i ≡ Some s) × (relocates number s ≡ true)
-
--- it is an object file (ET_REL), and one of its sections is of relocations that change section `number`
-pub record HasRelocations (e : Elf) (f : List ℕ) (number : ℕ) : Type 0 where
-  pub object : e.header.file_type ≡ 1
-  pub at : ℕ
-  pub from : 1 ≤ at
-  pub within : at < e.count
-  pub relocates_at : RelocatesAt e f number at
+line_bytes e f line = bytes_with e f line (relocations_of e f line.number)

@@ -13,7 +13,7 @@ ghost use Rattle.dl_file.specs.LineTable.{first_damage, first_compressed, line_s
 ghost use Rattle.dl_file.specs.LineTable.{debug_str_section};
 
 use crate::line_reader::LineReader;
-use crate::relocating::{has_relocations, relocate_line};
+use crate::relocating::{count_relocations, relocate_line};
 use crate::section_bytes::read_bytes;
 use dl_elf::{
     Compression, Elf, ElfFault, NamedSection, Part, ReadAt, SectionName, SectionReader, Sections,
@@ -23,6 +23,10 @@ use dl_num::Order;
 use std::alloc::Global;
 use std::io;
 use std::io::Cursor;
+
+/// How many sections of relocations a line section may have. Assemblers write one; the work grows with their number,
+/// since each may name the same bytes.
+const MOST_RELOCATIONS: u64 = 16;
 
 /// What is asked for of a file.
 #[derive(Clone, Copy, Debug, PartialEq, Eq)]
@@ -222,8 +226,12 @@ fn line_reader<'a, S: ReadAt>(
         (line_bytes elf.now f line.now) (HasRelocations elf.now f line.now.number) result) }
     ensures read { IfRead (S.fails_with source.entry.now) result }
 {
-    if !has_relocations(source, elf, line.number)? {
+    let sections = count_relocations(source, elf, line.number)?;
+    if sections == 0 {
         return Ok(LineReader::File(reader_of(source, line)));
+    }
+    if MOST_RELOCATIONS < sections {
+        return Err(ElfFault::Damaged(Part::Relocations(line.name)));
     }
     let Some(mut bytes) = read_bytes(alloc, source, &line.header)? else {
         return Err(ElfFault::Damaged(Part::Section(line.name)));
@@ -269,9 +277,11 @@ fn open_chosen<'a, S: ReadAt>(
 ///
 /// The faults, of which the first is told: `Read` where a read failed; `NotElf`; `Damaged` with
 /// what lies outside the file; `NoLineSection`; `Compressed` where a wanted section is; and of the
-/// first relocation that can't be applied `UnknownRelocation`, `RelocationOutside` or `Damaged`. Memory
-/// is taken only where there are relocations of the line section: for its bytes, and for those of one section of
-/// relocations and its symbol table at a time, as they come. Where a growth is refused the fault is `NoMemory`.
+/// first relocation that can't be applied `UnknownRelocation`, `RelocationOutside` or `Damaged`;
+/// `Damaged` too where more than 16 sections are of relocations of the line section. Memory is
+/// taken only where there are relocations of the line section: for its bytes, and for those of one
+/// section of relocations and its symbol table at a time, as they come. Where a growth is refused
+/// the fault is `NoMemory`.
 pub fn open_line_file<'a, S: ReadAt>(
     alloc: Global,
     source: &'a S,

@@ -1,12 +1,12 @@
 //! The relocations of a line section, applied. System V ABI, chapter 4, "Relocation".
-ghost use Rattle.std.specs.Prelude.{◌≡◌, ◌-◌, Ok, true, MatchBool, IfOk, IfErr};
+ghost use Rattle.std.specs.Prelude.{◌≡◌, ◌-◌, ◌≤◌, Ok, true, IfOk};
 ghost use Rattle.dl_elf.specs.Source.{ForBytes};
 ghost use Rattle.dl_elf.specs.Answers.{IfRead};
 ghost use Rattle.dl_elf.specs.Sections.{range_within, section_bytes, section_range};
 ghost use Rattle.dl_elf.specs.Window.{Shows};
-ghost use Rattle.dl_file.specs.Answering.{IsMade};
-ghost use Rattle.dl_file.specs.Relocations.{HasRelocations, RelocatesAt, class_of, fault_of, form_of, relocated_at};
-ghost use Rattle.dl_file.specs.Relocations.{relocated_by, relocated_upto, target_of};
+ghost use Rattle.dl_file.specs.Answering.{IsCounted, IsMade};
+ghost use Rattle.dl_file.specs.Relocations.{class_of, fault_of, form_of, relocated_at, relocated_by, relocated_upto};
+ghost use Rattle.dl_file.specs.Relocations.{relocations_at, relocations_of, target_of};
 
 use crate::section_bytes::{read_bytes, read_symbols};
 use dl_elf::{
@@ -14,7 +14,6 @@ use dl_elf::{
 };
 use dl_reloc::{Class, Form, RelocationFault, Target, relocate};
 use std::alloc::Global;
-use std::io;
 
 /// The type of a section of relocations with addends (SHT_RELA).
 const RELA: u64 = 4;
@@ -113,11 +112,13 @@ fn relocate_at<S: ReadAt>(
         IsMade (relocated_at elf.now f line.now at bytes.old) bytes.new result) }
     ensures read { IfRead (S.fails_with source.now) result }
 {
-    match section_at(source, window, &elf.header, at)? {
-        Some(section) if section.relocates(line.number) => {
-            relocate_by(alloc, source, elf, line.name, &section, bytes)
-        }
-        _ => Ok(()),
+    let Some(section) = section_at(source, window, &elf.header, at)? else {
+        return Err(ElfFault::Damaged(Part::SectionHeaders));
+    };
+    if section.relocates(line.number) {
+        relocate_by(alloc, source, elf, line.name, &section, bytes)
+    } else {
+        Ok(())
     }
 }
 
@@ -140,40 +141,42 @@ pub fn relocate_line<S: ReadAt>(
     Ok(())
 }
 
-/// Whether it is an object file with relocations of section `number`.
-pub fn has_relocations<S: ReadAt>(source: &S, elf: &Elf, number: u64) -> io::Result<bool>
-    ensures answer { ForBytes (S.all_bytes source.now) (λ f.
-        IfOk result (λ b. MatchBool b (HasRelocations elf.now f number) (¬ HasRelocations elf.now f number))) }
-    ensures fails { IfErr result (S.fails_with source.now) }
+/// How many sections are of relocations of section `number`; none in a file that isn't an object file.
+pub fn count_relocations<S: ReadAt>(source: &S, elf: &Elf, number: u64) -> Result<u64, ElfFault>
+    ensures count { ForBytes (S.all_bytes source.now) (λ f. IsCounted (relocations_of elf.now f number) result) }
+    ensures read { IfRead (S.fails_with source.now) result }
 {
     if !elf.header.is_object() {
-        return Ok(false);
+        return Ok(0);
     }
     let mut window = Window::new();
+    let mut sections = 0;
     for at in 1..elf.count {
-        if relocates_at(source, &mut window, elf, number, at)? {
-            return Ok(true);
-        }
+        sections += count_at(source, &mut window, elf, number, at)?;
     }
-    Ok(false)
+    Ok(sections)
 }
 
-/// Whether section `at` is of relocations of section `number`.
-fn relocates_at<S: ReadAt>(
+/// 1 where section `at` is of relocations of section `number`, 0 where it isn't.
+fn count_at<S: ReadAt>(
     source: &S,
     window: &mut Window,
     elf: &Elf,
     number: u64,
     at: u64,
-) -> io::Result<bool>
+) -> Result<u64, ElfFault>
     requires shows { Shows (S.all_bytes source.now) window.old }
     ensures shows { Shows (S.all_bytes source.now) window.new }
-    ensures answer { ForBytes (S.all_bytes source.now) (λ f.
-        IfOk result (λ b. MatchBool b (RelocatesAt elf.now f number at) (¬ RelocatesAt elf.now f number at))) }
-    ensures fails { IfErr result (S.fails_with source.now) }
+    ensures count { ForBytes (S.all_bytes source.now) (λ f. IsCounted (relocations_at elf.now f number at) result) }
+    ensures most { IfOk result (λ n. n ≤ 1) }
+    ensures read { IfRead (S.fails_with source.now) result }
 {
-    match section_at(source, window, &elf.header, at)? {
-        Some(header) => Ok(header.relocates(number)),
-        None => Ok(false),
+    let Some(section) = section_at(source, window, &elf.header, at)? else {
+        return Err(ElfFault::Damaged(Part::SectionHeaders));
+    };
+    if section.relocates(number) {
+        Ok(1)
+    } else {
+        Ok(0)
     }
 }

@@ -7,6 +7,7 @@ use std::cell::Cell;
 use std::io;
 use std::io::{ErrorKind, Read};
 use std::test::Fail;
+use test_support::hoard;
 
 /// What a source does besides giving its bytes.
 #[derive(Clone, Copy, Debug)]
@@ -166,21 +167,35 @@ fn the_fault_of_a_read(rt: HostRuntime) -> Result<(), Fail> {
     Ok(())
 }
 
-/// Each read of an object file fails in turn, whose line section has relocations.
-#[test]
-fn each_read_of_relocations_fails(rt: HostRuntime) -> Result<(), Fail> {
-    let alloc = rt.alloc();
+/// An object file whose line section has one relocation, with a symbol table of one symbol.
+fn object(alloc: Global) -> Result<Vec<u8>, Fail> {
     let form = Form {
         file_type: 1,
         ..LITTLE_64
     };
     let relocations = NewSection {
         section_type: 4,
+        link: 3,
         info: 1,
         bytes: b"\0\0\0\0\0\0\0\0\x0a\0\0\0\0\0\0\0abcd\0\0\0\0",
         ..section(".rela.debug_line", "")
     };
-    let bytes = image(alloc, form, &[section(".debug_line", "line"), relocations])?;
+    let symbols = NewSection {
+        section_type: 2,
+        ..section(".symtab", "the first symbol, 24 zero")
+    };
+    image(
+        alloc,
+        form,
+        &[section(".debug_line", "line"), relocations, symbols],
+    )
+}
+
+/// Each read of an object file fails in turn, whose line section has relocations.
+#[test]
+fn each_read_of_relocations_fails(rt: HostRuntime) -> Result<(), Fail> {
+    let alloc = rt.alloc();
+    let bytes = object(alloc)?;
     for count in 0..60 {
         let failed = read_through(alloc, bytes.as_slice(), Habit::Fails(count))?;
         let told = matches!(failed.as_str(), "abcd" | "cannot read: broken pipe");
@@ -188,5 +203,65 @@ fn each_read_of_relocations_fails(rt: HostRuntime) -> Result<(), Fail> {
     }
     let whole = read_through(alloc, bytes.as_slice(), Habit::Fails(59))?;
     assert_eq!(rt; whole.as_str(), "abcd");
+    Ok(())
+}
+
+/// A file that has all memory from one of its reads to the next.
+#[derive(Drop)]
+struct Hoarding<'a> {
+    alloc: Global,
+    bytes: &'a [u8],
+    /// How many reads come before that one.
+    before: u32,
+    count: Cell<u32>,
+    blocks: Cell<Vec<Vec<u8>>>,
+}
+
+impl ReadAt for Hoarding<'_> {
+    fn read_at(&self, offset: u64, buffer: &mut [u8]) -> io::Result<usize> {
+        let count = self.count.get();
+        self.count.set(count.wrapping_add(1));
+        self.blocks.set(Vec::new(self.alloc));
+        if count == self.before {
+            self.blocks.set(hoard(self.alloc)?);
+        }
+        let from = offset.min(self.bytes.len() as u64) as usize;
+        let rest = &self.bytes[from..];
+        let n = rest.len().min(buffer.len());
+        buffer[..n].copy_from_slice(&rest[..n]);
+        Ok(n)
+    }
+}
+
+/// No memory is to be had after each read in turn: the line section, its relocations and their symbols are each
+/// refused once, and nothing but that is told.
+#[test]
+fn each_growth_of_relocations(rt: HostRuntime) -> Result<(), Fail> {
+    let alloc = rt.alloc();
+    let bytes = object(alloc)?;
+    let mut refused = 0usize;
+    for before in 0..40 {
+        let source = Hoarding {
+            alloc,
+            bytes: bytes.as_slice(),
+            before,
+            count: Cell::new(0),
+            blocks: Cell::new(Vec::new(alloc)),
+        };
+        let opened = open_line_file(alloc, &source, Wanted::LineSection);
+        source.blocks.set(Vec::new(alloc));
+        match opened {
+            Ok(mut file) => {
+                let mut piece = [0; 5];
+                assert_eq!(rt; file.line.read(&mut piece)?, 4);
+                assert_eq!(rt; &piece[..4], b"abcd".as_slice());
+            }
+            Err(fault) => {
+                assert!(rt; matches!(fault, ElfFault::NoMemory), "{before}");
+                refused = refused.saturating_add(1);
+            }
+        }
+    }
+    assert_eq!(rt; refused, 3);
     Ok(())
 }

@@ -199,3 +199,21 @@ fn claimed_sizes(rt: HostRuntime) -> Result<(), Fail> {
     }
     Ok(())
 }
+
+/// Each of 16 sections of relocations adds 1 to the first byte; one more is refused.
+#[test]
+fn many_sections(rt: HostRuntime) -> Result<(), Fail> {
+    let alloc = rt.alloc();
+    let mut sections = [without_addends(ADD_SYMBOL); 19];
+    sections[0] = section(".debug_line", "line");
+    sections[1] = symbols();
+    for (count, want) in [
+        (18, "little object |ine - -"),
+        (19, "damaged ELF file: relocations of section .debug_line"),
+    ] {
+        let bytes = image(alloc, OBJECT, &sections[..count])?;
+        let found = told(alloc, &bytes, Wanted::LineSection)?;
+        assert_eq!(rt; found.as_str(), want, "{count}");
+    }
+    Ok(())
+}
