@@ -1,9 +1,8 @@
 -- A program that grows by a row: its operations and bytes, and what is refused of it.
-use Rattle.std.proofs.Common.{◌≡◌, ℕ, zero, suc, ◌+◌, ◌<◌, ◌≤◌, Bool, true, false, if◌then◌else◌, List, [], ◌∷◌, ◌++◌}
-use Rattle.std.proofs.Common.{length, Option, Some, None, refl, sym, ap, subst, ◌∙◌, arith, append_assoc, append-nil}
-use Rattle.std.proofs.Common.{length-append, min, ◌^◌, ◌-◌}
+use Rattle.std.proofs.Common.{◌≡◌, ℕ, ◌+◌, ◌<◌, Bool, true, false, if◌then◌else◌, List, [], ◌∷◌, ◌++◌, length, min}
+use Rattle.std.proofs.Common.{Option, Some, None, refl, sym, ap, ap₂, ◌∙◌, arith, append_assoc, append-nil}
+use Rattle.std.proofs.Common.{length-append, ◌^◌, ◌-◌}
 use Rattle.std.specs.Option.{option_map, option_or, is_some}
-use Rattle.std.specs.List.{AllByRecursion}
 use Rattle.std.proofs.lemmas.Grind.{flat_map-append}
 use Rattle.dl_num.specs.declared.fixed.Order.{Order}
 use Rattle.dl_field.specs.declared.params.Params.{Params}
@@ -13,7 +12,7 @@ use Rattle.dl_rows.specs.declared.operation.Operation.{Operation}
 use Rattle.dl_rows.specs.declared.operation.Operation.TheVariants as op
 use Rattle.dl_emit.specs.declared.fault.EmitFault.{EmitFault}
 use Rattle.dl_emit.specs.declared.fault.EmitFault.TheVariants as fault
-use Rattle.dl_emit.specs.Grown.{ProgramData, IsGrown, HoldsRows, before_next}
+use Rattle.dl_emit.specs.Grown.{ProgramData, IsGrown, before_next}
 use Rattle.dl_emit.specs.Laws.{IsRow}
 use Rattle.dl_emit.specs.OperationBytes.{operation_bytes}
 use Rattle.dl_emit.specs.Program.{row_operations, operations_from, kept, settings, marks, placed, appended, advances}
@@ -144,10 +143,11 @@ module _ (p : ProgramData) (order : Order) (h : Params) (rows : List Row) (r : R
   }
 
   -- it is held
-  pub grows : (more : List ℕ) → p.refused ≡ None → is_in_range p.params r ≡ true → IsRow r
-      → more ≡ operations_bytes p.order p.params (row_operations p.params p.before r)
-      → IsGrown (record p { before = kept r; rows = p.rows + 1; bytes = p.bytes ++ more }) order h (rows ++ r ∷ [])
-  grows more none fits row is = record {
+  pub grows : (first last more : List ℕ) → p.refused ≡ None → is_in_range p.params r ≡ true → IsRow r
+      → first ++ last ≡ p.first ++ p.last
+      → more ≡ last ++ operations_bytes p.order p.params (row_operations p.params p.before r)
+      → IsGrown (record p { before = kept r; rows = p.rows + 1; first = first; last = more }) order h (rows ++ r ∷ [])
+  grows first last more none fits row same is = record {
     order_is = g.order_is;
     params_are = g.params_are;
     standard = g.standard;
@@ -162,15 +162,17 @@ module _ (p : ProgramData) (order : Order) (h : Params) (rows : List Row) (r : R
         let held = g.holds none in
         record {
           bytes =
-              ap (λ (l : List ℕ). l ++ more) held.bytes
-              ∙ ap (λ (l : List ℕ). program_bytes p.order p.params rows ++ l) (is
-              ∙ ap (λ (b : Option Row). operations_bytes p.order p.params (row_operations p.params b r)) held.before)
+              ap (λ (l : List ℕ). first ++ l) is
+              ∙ sym (append_assoc first last (its_bytes p.before))
+              ∙ ap₂ (λ (l : List ℕ) (b : Option Row). l ++ its_bytes b) (same ∙ held.bytes) held.before
               ∙ sym (program-push p.order p.params None rows r);
           before = sym (before_next-push None rows r);
           count = omega (arith, held.count, length-append rows (r ∷ []));
           each = all_push IsRow rows r held.each row;
         };
-  }
+  } where
+    its_bytes : Option Row → List ℕ
+    its_bytes b = operations_bytes p.order p.params (row_operations p.params b r)
 
 -- ---- a program that is written
 
@@ -183,9 +185,18 @@ module _ (p : ProgramData) (h : Params) (rows : List Row) (g : IsGrown p p.order
     pub refuses_none : rows_refusal h rows ≡ None
     refuses_none = refused_rows h rows _ g.standard (sym (ap (option_map fault.RowRange) (sym none) ∙ g.refused))
 
-    pub bytes_are : p.bytes ≡ program_bytes p.order h rows
+    pub bytes_are : p.first ++ p.last ≡ program_bytes p.order h rows
     bytes_are =
         (g.holds none).bytes ∙ ap (λ (q : Params). program_bytes p.order q rows) g.params_are
 
-    pub counts_all : (m : ℕ) → m ≡ length p.bytes → m < 2 ^ 64 → m ≡ min (program_len h rows) (2 ^ 64 - 1)
-    counts_all m is fits = omega (arith, is, fits, ap length bytes_are, length-program p.order h rows)
+    pub counts_all : (m : ℕ) → m ≡ length p.first + length p.last → m < 2 ^ 64
+        → m ≡ min (program_len h rows) (2 ^ 64 - 1)
+    counts_all m is fits =
+        omega (arith, is, fits, ap length bytes_are, length-append p.first p.last, length-program p.order h rows)
+
+  -- without a reason against the rows none is refused, and all are held
+  pub bytes_of_rows : rows_refusal h rows ≡ None → p.first ++ p.last ≡ program_bytes p.order h rows
+  bytes_of_rows accepted = by p.refused refl where
+    by : (o : Option ℕ) → p.refused ≡ o → p.first ++ p.last ≡ program_bytes p.order h rows
+    by None e = bytes_are e
+    by (Some i) e = absurd (let no : None ≡ Some (fault.RowRange i) = sym accepted ∙ refuses_row i e in cc)

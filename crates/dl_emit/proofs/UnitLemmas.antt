@@ -21,7 +21,7 @@ use Rattle.dl_emit.specs.declared.fault.EmitFault.TheVariants as fault
 use Rattle.dl_emit.specs.HeadFault.{emit_fault}
 use Rattle.dl_emit.specs.WrittenUnit.{program_bytes, program_len, unit_of, is_in_range, out_of_range, unless}
 use Rattle.dl_emit.specs.WrittenUnit.{rows_refusal, refusal}
-use Rattle.dl_emit.specs.Writing.{WritesUnit}
+use Rattle.dl_emit.specs.Writing.{WritesUnit, WritesUnitHeader}
 use Rattle.dl_emit.proofs.LengthLemmas.{length-program}
 
 -- ---- what stands against rows is no failed write
@@ -92,6 +92,32 @@ module _ (h : HeaderData) (rows : List Row) where
     refused_first (fault.RowRange i) e keeps = (rw e refl, keeps)
     refused_first fault.TooLong e keeps = (rw e refl, keeps)
     refused_first (fault.Write out) e keeps = absurd (no_write h.params out rows e)
+
+    pub refuses_header : (f : EmitFault) → rows_refusal h.params rows ≡ Some f → Keeps old new
+        → WritesUnitHeader order h rows old new (Err f)
+    refuses_header fault.OpcodeBase e keeps = (rw e refl, keeps)
+    refuses_header (fault.RowRange i) e keeps = (rw e refl, keeps)
+    refuses_header fault.TooLong e keeps = (rw e refl, keeps)
+    refuses_header (fault.Write out) e keeps = absurd (no_write h.params out rows e)
+
+    -- what is said of a header before so many bytes holds of one before the program
+    pub header_written : (m : ℕ) (result : Result ℕ HeadWrite) → rows_refusal h.params rows ≡ None
+        → m ≡ min count (2 ^ 64 - 1) → WritesHeader order h m old new result
+        → MatchResult result (λ n. WritesUnitHeader order h rows old new (Ok n))
+        (λ f. WritesUnitHeader order h rows old new (Err (emit_fault f)))
+    header_written m (Ok n) none e (t, len, out) =
+        let same = counted m e t in (
+          within m none e t,
+          len ∙ ap (λ (k : ℕ). length (header_bytes order h k)) same,
+          subst (λ (k : ℕ). Appends old new (header_bytes order h k)) same out,
+        )
+    header_written m (Err head.TooLong) none e (f, keeps) = (beyond m none e f, keeps)
+    header_written m (Err (head.Write out)) none e (t, lt, part) =
+        let same = counted m e t in (
+          within m none e t,
+          subst (λ (k : ℕ). out < length (header_bytes order h k)) same lt,
+          subst (λ (k : ℕ). Appends old new (take out (header_bytes order h k))) same part,
+        )
 
     pub header_failed : (m : ℕ) (f : HeadWrite) → rows_refusal h.params rows ≡ None → m ≡ min count (2 ^ 64 - 1)
         → WritesHeader order h m old new (Err f) → WritesUnit order h rows old new (Err (emit_fault f))

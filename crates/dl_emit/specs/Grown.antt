@@ -1,5 +1,5 @@
 -- A program that grows by rows. DWARF 5, section 6.2.5.
-use Rattle.std.specs.Prelude.{◌≡◌, ℕ, List, [], ◌∷◌, length, Option, Some, None}
+use Rattle.std.specs.Prelude.{◌≡◌, ℕ, List, [], ◌∷◌, ◌++◌, length, Option, Some, None}
 use Rattle.std.specs.Option.{option_map}
 use Rattle.std.specs.List.{AllByRecursion}
 use Rattle.dl_num.specs.declared.fixed.Order.{Order}
@@ -20,7 +20,9 @@ pub record ProgramData : Type 0 where
   pub rows : ℕ
   -- the place of the first row that is out of range
   pub refused : Option ℕ
-  pub bytes : List ℕ
+  -- what is written for the rows, in two parts
+  pub first : List ℕ
+  pub last : List ℕ
 
 -- the row before the one after these, b being that before them
 abbrev pub before_next : Option Row → List Row → Option Row
@@ -29,7 +31,7 @@ before_next b (r ∷ rows) = before_next (kept r) rows
 
 -- the bytes of the rows are held
 pub record HoldsRows (p : ProgramData) (rows : List Row) : Type 0 where
-  pub bytes : p.bytes ≡ program_bytes p.order p.params rows
+  pub bytes : p.first ++ p.last ≡ program_bytes p.order p.params rows
   pub before : p.before ≡ before_next None rows
   pub count : p.rows ≡ length rows
   pub each : AllByRecursion IsRow rows

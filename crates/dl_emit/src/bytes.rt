@@ -63,7 +63,11 @@ fn put_unsigned(bytes: &mut Bytes, opcode: u8, operand: u64)
     ensures len { length bytes.new.items ≤ length bytes.old.items + 11 }
 {
     bytes.push(opcode);
-    put_slice(bytes, uleb_bytes(operand).as_slice());
+    if operand < 128 {
+        bytes.push(operand as u8);
+    } else {
+        put_slice(bytes, uleb_bytes(operand).as_slice());
+    }
 }
 
 /// Appends a standard opcode with a signed operand. Section 6.2.5.2.

@@ -1,19 +1,18 @@
 //! The program of a unit, which grows by rows. Section 6.2.5.
 
-ghost use Rattle.std.specs.Prelude.{◌≡◌, ◌≤◌, ◌++◌, ◌∷◌, [], ℕ, List, length, IfErr, OnOk};
+ghost use Rattle.std.specs.Prelude.{◌≡◌, ◌≤◌, ◌+◌, ◌++◌, ◌∷◌, [], ℕ, List, length, IfErr, OnOk};
 ghost use Rattle.dl_field.specs.declared.params.Params.{Params};
 ghost use Rattle.dl_field.specs.Layout.{standard_params};
 ghost use Rattle.dl_field.specs.Usable.{IsUsable};
 ghost use Rattle.dl_rows.specs.declared.row.Row.{Row};
 ghost use Rattle.dl_emit.specs.Grown.{IsGrown};
 ghost use Rattle.dl_emit.specs.Laws.{IsUnitAgain};
-ghost use Rattle.dl_emit.specs.Writing.{WritesUnit};
+ghost use Rattle.dl_emit.specs.Writing.{WritesUnitHeader};
 
-use crate::bytes::Bytes;
+use crate::bytes::{BUFFER_LEN, Bytes};
 use crate::fault::EmitFault;
-use crate::program::{kept, put_row};
+use crate::program::{ROW, kept, put_row};
 use crate::unit::is_in_range;
-use dl_head::counted::put;
 use dl_head::{Format, Header, Params, write_header};
 use dl_num::Order;
 use dl_rows::Row;
@@ -34,13 +33,17 @@ pub struct Program {
     rows: usize,
     /// The place of the first row that can't be one of the unit. From it on nothing grows.
     refused: Option<usize>,
-    bytes: Vec<u8>,
+    /// The bytes of the rows but for the last of them.
+    first: Vec<u8>,
+    /// The last bytes, to which each row is added.
+    last: Bytes,
 }
 
 impl Model for Program {
-    ghost use Rattle.std.specs.Prelude.{◌≤◌, length};
+    ghost use Rattle.std.specs.Prelude.{◌+◌, ◌≤◌, length};
     ghost use Rattle.dl_field.specs.Usable.{IsUsable};
     ghost use Rattle.dl_emit.specs.Grown.{ProgramData};
+    ghost use Rattle.dl_emit.specs.declared.bytes.TheConstants.{BUFFER_LEN};
 
     ghost Value = { ProgramData };
 
@@ -50,11 +53,13 @@ impl Model for Program {
       before = p.before;
       rows = p.rows;
       refused = p.refused;
-      bytes = p.bytes.items;
+      first = p.first.items;
+      last = p.last.items;
     } };
 
     // Each row has a byte at least.
-    ghost invariant = { λ p. IsUsable p.params × (p.rows ≤ length p.bytes.items) };
+    ghost invariant = { λ p. IsUsable p.params × (p.rows ≤ length p.first.items + length p.last.items)
+        × (length p.last.items ≤ BUFFER_LEN) };
 }
 
 impl Program {
@@ -68,7 +73,8 @@ impl Program {
             before: None,
             rows: 0,
             refused: None,
-            bytes: Vec::new(alloc),
+            first: Vec::new(alloc),
+            last: Bytes::new(),
         }
     }
 
@@ -81,7 +87,8 @@ impl Program {
         self.before = None;
         self.rows = 0;
         self.refused = None;
-        self.bytes.clear();
+        self.first.clear();
+        self.last.clear();
     }
 
     /// A row more, or want of memory, and then it is as before.
@@ -89,6 +96,7 @@ impl Program {
         ensures grown { (h : Params) (rows : List Row) → IsGrown self.old self.old.order h rows
             → OnOk result (IsGrown self.new self.old.order h (rows ++ row.now ∷ [])) }
         ensures kept { IfErr result (λ _. self.new ≡ self.old) }
+        ensures order { self.new.order ≡ self.old.order }
     {
         if self.refused.is_some() {
             return Ok(());
@@ -97,19 +105,21 @@ impl Program {
             self.refused = Some(self.rows);
             return Ok(());
         }
-        let mut bytes = Bytes::new();
-        put_row(&mut bytes, self.order, &self.params, self.before, row);
-        self.bytes.extend_from_slice(bytes.as_slice())?;
+        gather(&mut self.first, &mut self.last)?;
+        put_row(&mut self.last, self.order, &self.params, self.before, row);
         self.before = kept(row);
         self.rows += 1;
         Ok(())
     }
 
-    /// Writes a unit of this header and the rows, and answers how many bytes they are: what `write_unit` does, where
-    /// the header is that of `begin`, with standard opcodes.
-    pub fn write<W: Write>(&self, output: &mut W, header: &Header) -> Result<u64, EmitFault>
+    /// Writes what a unit of this header and the rows has before its program, and answers how many bytes that is. The
+    /// header is that of `begin`, with standard opcodes.
+    ///
+    /// The faults are those of `write_unit`, in their order. With the program after it, it is read again as a unit of
+    /// this header and exactly these rows.
+    pub fn write_header<W: Write>(&self, output: &mut W, header: &Header) -> Result<u64, EmitFault>
         ensures written { (rows : List Row) → IsGrown self.now self.now.order header.now.params rows
-            → WritesUnit self.now.order header.now rows (W.contents output.old) (W.contents output.new) result }
+            → WritesUnitHeader self.now.order header.now rows (W.contents output.old) (W.contents output.new) result }
         ensures readable { (rows : List Row) → IsGrown self.now self.now.order header.now.params rows
             → OnOk result (IsUnitAgain self.now.order header.now rows) }
     {
@@ -119,8 +129,38 @@ impl Program {
         if let Some(row) = self.refused {
             return Err(EmitFault::RowRange(row));
         }
-        let bytes = self.bytes.as_slice();
-        let out = write_header(output, self.order, header, bytes.len() as u64)?;
-        Ok(put(output, out, bytes)?)
+        let first = self.first.as_slice();
+        let last = self.last.as_slice();
+        let len = first.len() as u64 + last.len() as u64;
+        Ok(write_header(output, self.order, header, len)?)
     }
+
+    /// The first part of what is written for the rows.
+    pub fn first_bytes(&self) -> &[u8]
+        ensures { result.now ≡ self.now.first }
+    {
+        self.first.as_slice()
+    }
+
+    /// What is written for the rows after `first_bytes`.
+    pub fn last_bytes(&self) -> &[u8]
+        ensures { result.now ≡ self.now.last }
+    {
+        self.last.as_slice()
+    }
+}
+
+/// Adds the last bytes to those before them where there is no room beside them for a row.
+fn gather(first: &mut Vec<u8>, last: &mut Bytes) -> Result<(), AllocError>
+    ensures items { OnOk result (first.new.items ++ last.new.items ≡ first.old.items ++ last.old.items) }
+    ensures room { OnOk result (length last.new.items + ROW ≤ BUFFER_LEN) }
+    ensures first { IfErr result (λ _. first.new.items ≡ first.old.items) }
+    ensures last { IfErr result (λ _. last.new.items ≡ last.old.items) }
+{
+    if BUFFER_LEN - last.len() >= ROW {
+        return Ok(());
+    }
+    first.extend_from_slice(last.as_slice())?;
+    last.clear();
+    Ok(())
 }

@@ -1,95 +1,161 @@
 -- How a copier goes on, and what stops it.
 use Rattle.std.proofs.Common.{[], ◌≡◌, ℕ, List, ◌∷◌, ◌++◌}
-use Rattle.std.proofs.Common.{Option, Some, None, Ok, Err, refl, sym, ap, ap₂, ◌∙◌, subst}
+use Rattle.std.proofs.Common.{Option, Some, None, Result, Ok, Err, refl, sym, ap, ap₂, ◌∙◌, subst}
 use Rattle.std.proofs.Common.{append-nil}
 use Rattle.std.specs.Prelude.{⊤, option_map}
 use Rattle.std.proofs.KnownBytes.{Appends-nil}
 use Rattle.std.specs.Option.{option_or}
 use Rattle.dl_num.specs.declared.fixed.Order.{Order}
 use Rattle.dl_head.specs.Built.{with_standard_opcodes}
+use Rattle.dl_head.specs.Written.{header_bytes}
+use Rattle.dl_field.specs.declared.params.Params.{Params}
 use Rattle.dl_field.specs.HeaderData.{HeaderData}
+use Rattle.dl_field.specs.Layout.{standard_params}
 use Rattle.dl_rows.specs.declared.row.Row.{Row}
 use Rattle.dl_emit.specs.declared.fault.EmitFault.{EmitFault}
-use Rattle.dl_emit.specs.WrittenUnit.{unit_of, refusal}
+use Rattle.dl_emit.specs.Grown.{ProgramData, IsGrown}
+use Rattle.dl_emit.specs.WrittenUnit.{program_len, rows_refusal, unit_of, refusal}
+use Rattle.dl_emit.proofs.GrownLemmas.{bytes_of_rows}
 use Rattle.dl_run.specs.declared.copying.Copier.{Copier}
 use Rattle.dl_run.specs.declared.fault.RunFault.{RunFault}
 use Rattle.dl_run.specs.declared.fault.RunFault.TheVariants as fault
 use Rattle.dl_run.specs.UnitPrinted.{PrintsUnit}
-use Rattle.dl_run.specs.Copying.{Copying, IsGrowth, offset_after, end_stop, stop_after, end_text, text_after}
-use Rattle.dl_run.specs.Copying.{copy_story}
+use Rattle.dl_run.specs.Copying.{Copying, IsGrowth, offset_after, rows_since, end_stop, stop_after, end_text}
+use Rattle.dl_run.specs.Copying.{text_after, copy_story}
 use Rattle.dl_print.specs.Output.{HasPrinted}
 use Rattle.dl_run.specs.RunOutput.{TellsOut}
 use Rattle.dl_print.specs.Printed.{Printed}
-use Rattle.dl_run.specs.RowsTold.{rows_after}
-use Rattle.dl_run.specs.Section.{Visit, of_version, of_end}
-use Rattle.dl_run.specs.Section.{visits}
-use Rattle.dl_run.specs.Visiting.{StopsIn}
+use Rattle.dl_run.specs.Section.{Visit, of_header, of_version, of_row, of_open, of_end}
+use Rattle.dl_run.specs.Visiting.{StopsIn, header_told}
 use Rattle.dl_print.proofs.Outs.{HasPrinted-nothing}
-use Rattle.dl_run.proofs.VisitLemmas.{rows_after-append}
-use Rattle.dl_run.proofs.CopyingVisits.{offset_after-append, stop_after-append, written, text_after-append}
+use Rattle.dl_run.proofs.Fronts.{neither, none_is_some, value_same}
+use Rattle.dl_run.proofs.HeadersTold.{header_told-append}
+use Rattle.dl_run.proofs.CopyingVisits.{offset_after-append, rows_since-append, stop_after-append, written}
+use Rattle.dl_run.proofs.CopyingVisits.{text_after-append}
+
+-- ---- the program of the current unit
+
+module _ (p : ProgramData) (visits : List Visit) where
+  -- it grew by the rows since the header of the current unit
+  abbrev pub Grows : Type 0
+  Grows = (h : HeaderData) → header_told None visits ≡ Some h
+      → IsGrown p p.order (standard_params h.params) (rows_since [] visits)
+
+own_order : (p : ProgramData) (order : Order) (h : Params) (rows : List Row) → IsGrown p order h rows
+    → IsGrown p p.order h rows
+own_order p order h rows g = record {
+  order_is = refl;
+  params_are = g.params_are;
+  standard = g.standard;
+  refused = g.refused;
+  holds = g.holds;
+}
+
+-- a header was told
+pub grows_from : (visits : List Visit) (offset : ℕ) (g : HeaderData) (p : ProgramData) (order : Order)
+    → IsGrown p order (standard_params g.params) [] → Grows p (visits ++ of_header offset g ∷ [])
+grows_from visits offset g p order grown h told =
+    let same : g ≡ h = value_same g h (sym (header_told-append None visits (of_header offset g ∷ [])) ∙ told) in
+    subst (λ (l : List Row). IsGrown p p.order (standard_params h.params) l)
+    (sym (rows_since-append [] visits (of_header offset g ∷ [])))
+    (subst (λ (d : HeaderData). IsGrown p p.order (standard_params d.params) []) same
+    (own_order p order (standard_params g.params) [] grown))
+
+-- a row was told
+pub grows_by : (visits : List Visit) (r : Row) (old new : ProgramData) → Grows old visits
+    → ((h : Params) (rows : List Row) → IsGrown old old.order h rows → IsGrown new old.order h (rows ++ r ∷ []))
+    → Grows new (visits ++ of_row r ∷ [])
+grows_by visits r old new before grows h told =
+    subst (λ (l : List Row). IsGrown new new.order (standard_params h.params) l)
+    (sym (rows_since-append [] visits (of_row r ∷ [])))
+    (own_order new old.order (standard_params h.params) (rows_since [] visits ++ r ∷ [])
+    (grows (standard_params h.params) (rows_since [] visits)
+    (before h (sym (header_told-append None visits (of_row r ∷ [])) ∙ told))))
+
+-- an open sequence was told
+pub grows_past_open : (visits : List Visit) (p : ProgramData) → Grows p visits → Grows p (visits ++ of_open ∷ [])
+grows_past_open visits p before h told =
+    subst (λ (l : List Row). IsGrown p p.order (standard_params h.params) l)
+    (sym (rows_since-append [] visits (of_open ∷ [])))
+    (before h (sym (header_told-append None visits (of_open ∷ [])) ∙ told))
+
+-- after an end there is no current unit
+pub grows_no_more : (visits : List Visit) (g : Option HeaderData) (p : ProgramData)
+    → Grows p (visits ++ of_end g ∷ [])
+grows_no_more visits g p h told =
+    absurd (none_is_some (sym (header_told-append None visits (of_end g ∷ [])) ∙ told))
+
+-- what is printed of a unit is the unit
+pub unit_text : (p : ProgramData) (h : HeaderData) (rows : List Row) (before first last : List ℕ)
+    → IsGrown p p.order h.params rows → refusal h rows ≡ None
+    → before ≡ header_bytes p.order h (program_len h.params rows) → first ≡ p.first → last ≡ p.last
+    → before ++ (first ++ last) ≡ unit_of p.order h rows
+unit_text p h rows before first last grown accepted b f l =
+    let held = bytes_of_rows p h.params rows grown (neither (rows_refusal h.params rows) _ accepted).0 in
+    ap₂ (λ (x y : List ℕ). x ++ y) b (ap₂ (λ (x y : List ℕ). x ++ y) f l ∙ held)
+
+-- ---- the copier
 
 -- it was told more visits, at which it doesn't stop
 pub copies_on : (first old new : Copier) (start held after : Option (List ℕ)) (visits more : List Visit)
-    → Copying first old start held visits → new.order ≡ old.order → new.unit ≡ offset_after old.unit more
-    → new.rows.items ≡ rows_after old.rows.items more → stop_after old.unit old.rows.items more ≡ None
-    → HasPrinted start after (text_after first.order [] visits ++ text_after old.order old.rows.items more)
-    new.printer
+    → Copying first old start held visits → new.program.order ≡ old.program.order
+    → new.unit ≡ offset_after old.unit more → Grows new.program (visits ++ more)
+    → stop_after old.unit (rows_since [] visits) more ≡ None
+    → HasPrinted start after (text_after first.program.order [] visits
+    ++ text_after first.program.order (rows_since [] visits) more) new.printer
     → Copying first new start after (visits ++ more)
-copies_on first old new start held after visits more s order unit rows none printed = record {
+copies_on first old new start held after visits more s order unit grown none printed = record {
   order = order ∙ s.order;
   offset = unit ∙ ap (λ (n : ℕ). offset_after n more) s.offset ∙ sym (offset_after-append first.unit visits more);
-  rows = rows ∙ ap (λ (l : List Row). rows_after l more) s.rows ∙ sym (rows_after-append [] visits more);
+  grown = grown;
   goes_on =
       stop_after-append first.unit [] visits more
       ∙ ap (λ (o : Option RunFault). option_or o
-      (stop_after (offset_after first.unit visits) (rows_after [] visits) more)) s.goes_on
-      ∙ ap₂ (λ (n : ℕ) (l : List Row). stop_after n l more) (sym s.offset) (sym s.rows)
+      (stop_after (offset_after first.unit visits) (rows_since [] visits) more)) s.goes_on
+      ∙ ap (λ (n : ℕ). stop_after n (rows_since [] visits) more) (sym s.offset)
       ∙ none;
-  printed =
-      let text : text_after first.order [] visits ++ text_after old.order old.rows.items more
-      ≡ text_after first.order [] (visits ++ more) =
-      ap₂ (λ (o : Order) (l : List Row). text_after first.order [] visits ++ text_after o l more) s.order s.rows
-      ∙ sym (text_after-append first.order first.unit [] visits more s.goes_on) in
-      subst (λ (l : List ℕ). HasPrinted start after l new.printer) text printed;
+  printed = subst (λ (l : List ℕ). HasPrinted start after l new.printer)
+      (sym (text_after-append first.program.order first.unit [] visits more s.goes_on)) printed;
 }
 
 -- it was told a visit of which it prints nothing
 pub copies_past : (first old new : Copier) (start held : Option (List ℕ)) (visits : List Visit) (visit : Visit)
-    → Copying first old start held visits → new.order ≡ old.order → new.printer ≡ old.printer
-    → new.unit ≡ offset_after old.unit (visit ∷ []) → new.rows.items ≡ rows_after old.rows.items (visit ∷ [])
-    → stop_after old.unit old.rows.items (visit ∷ []) ≡ None → text_after old.order old.rows.items (visit ∷ []) ≡ []
+    → Copying first old start held visits → new.program.order ≡ old.program.order → new.printer ≡ old.printer
+    → new.unit ≡ offset_after old.unit (visit ∷ []) → Grows new.program (visits ++ visit ∷ [])
+    → stop_after old.unit (rows_since [] visits) (visit ∷ []) ≡ None
+    → text_after first.program.order (rows_since [] visits) (visit ∷ []) ≡ []
     → Copying first new start held (visits ++ visit ∷ [])
-copies_past first old new start held visits visit s order printer unit rows none nothing =
-    let text = text_after first.order [] visits in
-    let same : text ≡ text ++ text_after old.order old.rows.items (visit ∷ []) =
+copies_past first old new start held visits visit s order printer unit grown none nothing =
+    let text = text_after first.program.order [] visits in
+    let same : text ≡ text ++ text_after first.program.order (rows_since [] visits) (visit ∷ []) =
     sym (append-nil text) ∙ ap (λ (l : List ℕ). text ++ l) (sym nothing) in
-    copies_on first old new start held held visits (visit ∷ []) s order unit rows none
+    copies_on first old new start held held visits (visit ∷ []) s order unit grown none
     (subst (λ (l : List ℕ). HasPrinted start held l new.printer) same
     (subst (λ (p : Printed). HasPrinted start held text p) (sym printer) s.printed))
 
 -- the copier stands as before
 pub still : (first old new : Copier) (start held : Option (List ℕ)) (visits : List Visit)
-    → Copying first old start held visits → new.order ≡ old.order → new.unit ≡ old.unit
-    → new.rows.items ≡ old.rows.items → new.printer ≡ old.printer
-    → Copying first new start held visits
-still first old new start held visits s order unit rows printer = record {
-  order = order ∙ s.order;
+    → Copying first old start held visits → new.program ≡ old.program → new.unit ≡ old.unit
+    → new.printer ≡ old.printer → Copying first new start held visits
+still first old new start held visits s program unit printer = record {
+  order = ap (λ (p : ProgramData). p.order) program ∙ s.order;
   offset = unit ∙ s.offset;
-  rows = rows ∙ s.rows;
+  grown = subst (λ (p : ProgramData). Grows p visits) (sym program) s.grown;
   goes_on = s.goes_on;
-  printed = subst (λ (p : Printed). HasPrinted start held (text_after first.order [] visits) p) (sym printer) s.printed;
+  printed = subst (λ (p : Printed). HasPrinted start held (text_after first.program.order [] visits) p)
+      (sym printer) s.printed;
 }
 
 -- it stops at a visit
 module _ (first old new : Copier) (start held after : Option (List ℕ)) (visits : List Visit)
     (s : Copying first old start held visits) where
   stop_here : (visit : Visit)
-      → stop_after first.unit [] (visits ++ visit ∷ []) ≡ stop_after old.unit old.rows.items (visit ∷ [])
+      → stop_after first.unit [] (visits ++ visit ∷ []) ≡ stop_after old.unit (rows_since [] visits) (visit ∷ [])
   stop_here visit =
       stop_after-append first.unit [] visits (visit ∷ [])
-      ∙ ap (λ (o : Option RunFault). option_or o (stop_after (offset_after first.unit visits) (rows_after [] visits)
+      ∙ ap (λ (o : Option RunFault). option_or o (stop_after (offset_after first.unit visits) (rows_since [] visits)
       (visit ∷ []))) s.goes_on
-      ∙ ap₂ (λ (n : ℕ) (l : List Row). stop_after n l (visit ∷ [])) (sym s.offset) (sym s.rows)
+      ∙ ap (λ (n : ℕ). stop_after n (rows_since [] visits) (visit ∷ [])) (sym s.offset)
 
   pub stops_at_version : (offset version : ℕ) → Copying first new start after visits
       → StopsIn copy_story first new start after visits (of_version offset version ∷ []) (fault.ForeignUnit offset)
@@ -116,58 +182,79 @@ no_header_text order rows header none = ap (λ (h : Option HeaderData). text_aft
 -- a unit ended that has a header
 module _ (first old : Copier) (start held : Option (List ℕ)) (visits : List Visit)
     (s : Copying first old start held visits) (header : Option HeaderData) (h : HeaderData) (is : header ≡ Some h) where
-  abbrev unit : List ℕ
-  unit = unit_of old.order (with_standard_opcodes h) old.rows.items
+  -- the rows of the unit
+  abbrev pub rows : List Row
+  rows = rows_since [] visits
 
-  refusal_is : (o : Option EmitFault) → refusal (with_standard_opcodes h) old.rows.items ≡ o
-      → stop_after old.unit old.rows.items (of_end header ∷ []) ≡ option_or (option_map (fault.Emit old.unit) o) None
+  -- its program grew by them, under the params of its header with standard opcodes
+  pub its_program : header_told None visits ≡ header → (std : HeaderData) → std ≡ with_standard_opcodes h
+      → IsGrown old.program old.program.order std.params rows
+  its_program told std same =
+      subst (λ (d : HeaderData). IsGrown old.program old.program.order d.params rows) (sym same)
+      (s.grown h (told ∙ is))
+
+  abbrev unit : List ℕ
+  unit = unit_of first.program.order (with_standard_opcodes h) rows
+
+  abbrev Printing : {A : Type 0} → Order → HeaderData → (new : Copier) (after : Option (List ℕ)) → Result A RunFault
+      → Type 0
+  Printing order std new after result =
+      PrintsUnit held after old.printer new.printer order std rows old.unit result
+
+  in_its_order : {A : Type 0} (std : HeaderData) (new : Copier) (after : Option (List ℕ)) (result : Result A RunFault)
+      → std ≡ with_standard_opcodes h → Printing old.program.order std new after result
+      → Printing first.program.order (with_standard_opcodes h) new after result
+  in_its_order std new after result same prints =
+      subst (λ (o : Order). Printing o (with_standard_opcodes h) new after result) s.order
+      (subst (λ (d : HeaderData). Printing old.program.order d new after result) same prints)
+
+  refusal_is : (o : Option EmitFault) → refusal (with_standard_opcodes h) rows ≡ o
+      → stop_after old.unit rows (of_end header ∷ []) ≡ option_or (option_map (fault.Emit old.unit) o) None
   refusal_is o r =
-      ap (λ (g : Option HeaderData). option_or (end_stop old.unit old.rows.items g) None) is
+      ap (λ (g : Option HeaderData). option_or (end_stop old.unit rows g) None) is
       ∙ ap (λ (q : Option EmitFault). option_or (option_map (fault.Emit old.unit) q) None) r
 
-  text_is_unit : refusal (with_standard_opcodes h) old.rows.items ≡ None
-      → text_after old.order old.rows.items (of_end header ∷ []) ≡ unit
+  text_is_unit : refusal (with_standard_opcodes h) rows ≡ None
+      → text_after first.program.order rows (of_end header ∷ []) ≡ unit
   text_is_unit r =
-      ap (λ (g : Option HeaderData). end_text old.order old.rows.items g []) is
+      ap (λ (g : Option HeaderData). end_text first.program.order rows g []) is
       ∙ ap (λ (q : Option EmitFault). written q (unit ++ [])) r
       ∙ append-nil unit
 
   pub copies_unit : (std : HeaderData) → std ≡ with_standard_opcodes h → (new : Copier) (after : Option (List ℕ))
-      → PrintsUnit {A = ⊤} held after old.printer new.printer old.order std old.rows.items old.unit (Ok tt)
-      → new.order ≡ old.order → new.unit ≡ old.unit → new.rows.items ≡ []
+      → Printing {A = ⊤} old.program.order std new after (Ok tt)
+      → new.program ≡ old.program → new.unit ≡ old.unit
       → Copying first new start after (visits ++ of_end header ∷ [])
-  copies_unit std same new after prints order unit_is rows =
-      let printed = subst (λ (d : HeaderData). PrintsUnit {A = ⊤} held after old.printer new.printer old.order d
-      old.rows.items old.unit (Ok tt)) same prints in
-      copies_on first old new start held after visits (of_end header ∷ []) s order unit_is rows
-      (refusal_is None printed.0)
-      (subst (λ (l : List ℕ). HasPrinted start after (text_after first.order [] visits ++ l) new.printer)
-      (sym (text_is_unit printed.0)) (printed.1 start (text_after first.order [] visits) s.printed))
+  copies_unit std same new after prints program unit_is =
+      let printed = in_its_order {A = ⊤} std new after (Ok tt) same prints in
+      copies_on first old new start held after visits (of_end header ∷ []) s
+      (ap (λ (p : ProgramData). p.order) program) unit_is
+      (grows_no_more visits header new.program) (refusal_is None printed.0)
+      (subst (λ (l : List ℕ). HasPrinted start after (text_after first.program.order [] visits ++ l) new.printer)
+      (sym (text_is_unit printed.0)) (printed.1 start (text_after first.program.order [] visits) s.printed))
 
   stops_by : (new : Copier) (after : Option (List ℕ)) (f : RunFault)
-      → PrintsUnit {A = ⊤} held after old.printer new.printer old.order (with_standard_opcodes h) old.rows.items
-      old.unit (Err f)
-      → new.order ≡ old.order → new.unit ≡ old.unit → new.rows.items ≡ old.rows.items
+      → Printing {A = ⊤} first.program.order (with_standard_opcodes h) new after (Err f)
+      → new.program ≡ old.program → new.unit ≡ old.unit
       → StopsIn copy_story first new start after visits (of_end header ∷ []) f
-  stops_by new after (fault.Write out) printed order unit_is rows = (
+  stops_by new after (fault.Write out) printed program unit_is = (
     of_end header ∷ [],
     [],
     refl,
     subst (λ (l : List ℕ). TellsOut start after l (fault.Write out)) all
-        (printed.1 start (text_after first.order [] visits) s.printed),
+        (printed.1 start (text_after first.program.order [] visits) s.printed),
   ) where
-    all : text_after first.order [] visits ++ unit ≡ text_after first.order [] (visits ++ of_end header ∷ [])
+    all : text_after first.program.order [] visits ++ unit
+        ≡ text_after first.program.order [] (visits ++ of_end header ∷ [])
     all =
-        ap (λ (l : List ℕ). text_after first.order [] visits ++ l) (sym (text_is_unit printed.0))
-        ∙ ap₂ (λ (o : Order) (l : List Row). text_after first.order [] visits ++ text_after o l (of_end header ∷ []))
-        s.order s.rows
-        ∙ sym (text_after-append first.order first.unit [] visits (of_end header ∷ []) s.goes_on)
-  stops_by new after fault.NoMemory printed order unit_is rows =
+        ap (λ (l : List ℕ). text_after first.program.order [] visits ++ l) (sym (text_is_unit printed.0))
+        ∙ sym (text_after-append first.program.order first.unit [] visits (of_end header ∷ []) s.goes_on)
+  stops_by new after fault.NoMemory printed program unit_is =
       stops_for_memory first old new start held after visits s (of_end header)
       (subst (λ (g : Option HeaderData). IsGrowth (of_end g)) (sym is) tt)
       (subst (λ (w : Option (List ℕ)). Copying first new start w visits) (sym printed.1.0)
-      (still first old new start held visits s order unit_is rows printed.1.1))
-  stops_by new after (fault.Emit offset f) printed order unit_is rows = (
+      (still first old new start held visits s program unit_is printed.1.1))
+  stops_by new after (fault.Emit offset f) printed program unit_is = (
     of_end header ∷ [],
     [],
     refl,
@@ -176,35 +263,32 @@ module _ (first old : Copier) (start held : Option (List ℕ)) (visits : List Vi
       of_end header,
       refl,
       subst (λ (w : Option (List ℕ)). Copying first new start w visits) (sym printed.2.0)
-          (still first old new start held visits s order unit_is rows printed.2.1),
+          (still first old new start held visits s program unit_is printed.2.1),
       stop_here first old new start held after visits s (of_end header) ∙ refusal_is (Some f) printed.1
           ∙ ap (λ (n : ℕ). Some (fault.Emit n f)) (sym printed.0),
     ),
   )
-  stops_by new after (fault.Damage at kind) printed order unit_is rows = absurd printed
-  stops_by new after fault.Read printed order unit_is rows = absurd printed
-  stops_by new after fault.SectionTooLong printed order unit_is rows = absurd printed
-  stops_by new after fault.NotFound printed order unit_is rows = absurd printed
-  stops_by new after (fault.ForeignUnit offset) printed order unit_is rows = absurd printed
+  stops_by new after (fault.Damage at kind) printed program unit_is = absurd printed
+  stops_by new after fault.Read printed program unit_is = absurd printed
+  stops_by new after fault.SectionTooLong printed program unit_is = absurd printed
+  stops_by new after fault.NotFound printed program unit_is = absurd printed
+  stops_by new after (fault.ForeignUnit offset) printed program unit_is = absurd printed
 
   pub stops_at_unit : (std : HeaderData) → std ≡ with_standard_opcodes h
       → (new : Copier) (after : Option (List ℕ)) (f : RunFault)
-      → PrintsUnit {A = ⊤} held after old.printer new.printer old.order std old.rows.items old.unit (Err f)
-      → new.order ≡ old.order → new.unit ≡ old.unit → new.rows.items ≡ old.rows.items
+      → Printing {A = ⊤} old.program.order std new after (Err f)
+      → new.program ≡ old.program → new.unit ≡ old.unit
       → StopsIn copy_story first new start after visits (of_end header ∷ []) f
-  stops_at_unit std same new after f prints order unit_is rows =
-      stops_by new after f
-      (subst (λ (d : HeaderData). PrintsUnit {A = ⊤} held after old.printer new.printer old.order d old.rows.items
-      old.unit (Err f)) same prints) order unit_is
-      rows
+  stops_at_unit std same new after f prints program unit_is =
+      stops_by new after f (in_its_order {A = ⊤} std new after (Err f) same prints) program unit_is
 
 -- no visit was told yet
 pub begins : (first : Copier) (start : Option (List ℕ)) → first.printer.pending ≡ [] → first.printer.out ≡ 0
-    → first.rows.items ≡ [] → Copying first first start start []
-begins first start pending out rows = record {
+    → Copying first first start start []
+begins first start pending out = record {
   order = refl;
   offset = refl;
-  rows = rows;
+  grown = λ h told. absurd (none_is_some told);
   goes_on = refl;
   printed = HasPrinted-nothing start start first.printer (Appends-nil start) pending out;
 }

@@ -19,10 +19,9 @@ use Rattle.dl_run.specs.declared.fault.RunFault.{RunFault}
 use Rattle.dl_run.specs.declared.fault.RunFault.TheVariants as fault
 use Rattle.dl_print.specs.declared.summary.Summary.{Summary}
 use Rattle.dl_run.specs.Commands.{Copies, HasCopied, copied_units}
-use Rattle.dl_run.specs.Copying.{Copying, IsGrowth, StopsAt, offset_after, stop_after, text_after}
+use Rattle.dl_run.specs.Copying.{Copying, IsGrowth, StopsAt, offset_after, rows_since, stop_after, text_after}
 use Rattle.dl_run.specs.Copying.{copy_story}
 use Rattle.dl_run.specs.RunOutput.{TellsOut}
-use Rattle.dl_run.specs.RowsTold.{rows_after}
 use Rattle.dl_run.specs.Section.{Visit, of_header, of_version, of_row, of_open, of_end, HasUnits, HasBegun}
 use Rattle.dl_run.specs.Section.{section_visits}
 use Rattle.dl_run.specs.Visiting.{Ran, Settled, VisitorStops}
@@ -47,7 +46,7 @@ stop_is_last order n rows (of_end (Some h)) f e =
       by (Some g) unit e = refl
 
 module _ (order : Order) (limit : ℕ) (bytes : List ℕ) (left : Option (List ℕ)) (first new : Copier)
-    (start now : Option (List ℕ)) (own : first.order ≡ order) where
+    (start now : Option (List ℕ)) (own : first.program.order ≡ order) where
   abbrev pub s : List ℕ
   s = take limit bytes
 
@@ -82,7 +81,7 @@ module _ (order : Order) (limit : ℕ) (bytes : List ℕ) (left : Option (List �
 
   failed_write : (units : List (List ℕ)) (b back : List ℕ) (heard more : List Visit) (out : ℕ)
       → HasUnits order s units (b ++ back) → section_visits order units b ≡ heard ++ more
-      → TellsOut start now (text_after first.order [] heard) (fault.Write out)
+      → TellsOut start now (text_after first.program.order [] heard) (fault.Write out)
       → Copies order limit bytes left start now (Err (fault.Write out))
   failed_write units b back heard more out has whole tells =
       let f = heard_in units b heard more has.each whole in
@@ -135,11 +134,11 @@ module _ (order : Order) (limit : ℕ) (bytes : List ℕ) (left : Option (List �
         ∙ sym (append_assoc stops.before (stops.visit ∷ []) stops.more))
 
     module _ (reason : stop_after first.unit [] heard ≡ Some f) where
-      at_last : stop_after (offset_after first.unit stops.before) (rows_after [] stops.before) (stops.visit ∷ [])
+      at_last : stop_after (offset_after first.unit stops.before) (rows_since [] stops.before) (stops.visit ∷ [])
           ≡ Some f
       at_last =
           ap (λ (o : Option RunFault). option_or o
-          (stop_after (offset_after first.unit stops.before) (rows_after [] stops.before) (stops.visit ∷ [])))
+          (stop_after (offset_after first.unit stops.before) (rows_since [] stops.before) (stops.visit ∷ [])))
           (sym stops.tells.goes_on)
           ∙ sym (stop_after-append first.unit [] stops.before (stops.visit ∷ []))
           ∙ reason
@@ -148,7 +147,7 @@ module _ (order : Order) (limit : ℕ) (bytes : List ℕ) (left : Option (List �
       text_before =
           sym (append-nil (text_after order [] stops.before))
           ∙ ap (λ (l : List ℕ). text_after order [] stops.before ++ l)
-          (sym (stop_is_last order (offset_after first.unit stops.before) (rows_after [] stops.before) stops.visit f
+          (sym (stop_is_last order (offset_after first.unit stops.before) (rows_since [] stops.before) stops.visit f
           at_last))
           ∙ sym (text_after-append order first.unit [] stops.before (stops.visit ∷ []) stops.tells.goes_on)
           ∙ told.text

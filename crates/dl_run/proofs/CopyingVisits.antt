@@ -16,8 +16,7 @@ use Rattle.dl_emit.specs.declared.fault.EmitFault.{EmitFault}
 use Rattle.dl_emit.specs.WrittenUnit.{unit_of, refusal}
 use Rattle.dl_run.specs.declared.fault.RunFault.{RunFault}
 use Rattle.dl_run.specs.declared.fault.RunFault.TheVariants as fault
-use Rattle.dl_run.specs.Copying.{offset_after, end_stop, stop_after, end_text, text_after}
-use Rattle.dl_run.specs.RowsTold.{rows_after}
+use Rattle.dl_run.specs.Copying.{rows_since, offset_after, end_stop, stop_after, end_text, text_after}
 use Rattle.dl_run.specs.Section.{Visit, of_header, of_version, of_row, of_open, of_end, header_of}
 use Rattle.dl_run.specs.Section.{event_visits, visits, open_visit}
 use Rattle.dl_run.proofs.Fronts.{or_assoc, none_is_some, value_same, neither, map_none, empty_both}
@@ -33,24 +32,34 @@ offset_after-append n (of_row r ∷ a) b = offset_after-append n a b
 offset_after-append n (of_open ∷ a) b = offset_after-append n a b
 offset_after-append n (of_end h ∷ a) b = offset_after-append n a b
 
+-- the rows since the header after visits of two lists
+pub rows_since-append : (rows : List Row) (a b : List Visit)
+    → rows_since rows (a ++ b) ≡ rows_since (rows_since rows a) b
+rows_since-append rows [] b = refl
+rows_since-append rows (of_header n h ∷ a) b = rows_since-append [] a b
+rows_since-append rows (of_version n v ∷ a) b = rows_since-append rows a b
+rows_since-append rows (of_row r ∷ a) b = rows_since-append (rows ++ r ∷ []) a b
+rows_since-append rows (of_open ∷ a) b = rows_since-append rows a b
+rows_since-append rows (of_end h ∷ a) b = rows_since-append [] a b
+
 -- the first fault of visits of two lists
 pub stop_after-append : (n : ℕ) (rows : List Row) (a b : List Visit)
-    → stop_after n rows (a ++ b) ≡ option_or (stop_after n rows a) (stop_after (offset_after n a) (rows_after rows a) b)
+    → stop_after n rows (a ++ b) ≡ option_or (stop_after n rows a) (stop_after (offset_after n a) (rows_since rows a) b)
 stop_after-append n rows [] b = refl
-stop_after-append n rows (of_header m h ∷ a) b = stop_after-append m rows a b
+stop_after-append n rows (of_header m h ∷ a) b = stop_after-append m [] a b
 stop_after-append n rows (of_version m v ∷ a) b = refl
 stop_after-append n rows (of_row r ∷ a) b = stop_after-append n (rows ++ r ∷ []) a b
 stop_after-append n rows (of_open ∷ a) b = stop_after-append n rows a b
 stop_after-append n rows (of_end h ∷ a) b =
     ap (option_or (end_stop n rows h)) (stop_after-append n [] a b)
-    ∙ sym (or_assoc (end_stop n rows h) (stop_after n [] a) (stop_after (offset_after n a) (rows_after [] a) b))
+    ∙ sym (or_assoc (end_stop n rows h) (stop_after n [] a) (stop_after (offset_after n a) (rows_since [] a) b))
 
 -- the first fault of the front is that of the whole
 stop_front : (n : ℕ) (rows : List Row) (a b : List Visit) (f : RunFault) → stop_after n rows a ≡ Some f
     → stop_after n rows (a ++ b) ≡ Some f
 stop_front n rows a b f is =
     stop_after-append n rows a b
-    ∙ ap (λ (o : Option RunFault). option_or o (stop_after (offset_after n a) (rows_after rows a) b)) is
+    ∙ ap (λ (o : Option RunFault). option_or o (stop_after (offset_after n a) (rows_since rows a) b)) is
 
 -- what is written where the refusal is known
 abbrev pub written : Option EmitFault → List ℕ → List ℕ
@@ -75,22 +84,22 @@ end_text-append order n rows (Some h) a b e =
 
 -- what is written of visits of two lists
 pub text_after-append : (order : Order) (n : ℕ) (rows : List Row) (a b : List Visit) → stop_after n rows a ≡ None
-    → text_after order rows (a ++ b) ≡ text_after order rows a ++ text_after order (rows_after rows a) b
+    → text_after order rows (a ++ b) ≡ text_after order rows a ++ text_after order (rows_since rows a) b
 text_after-append order n rows [] b e = refl
-text_after-append order n rows (of_header m h ∷ a) b e = text_after-append order m rows a b e
+text_after-append order n rows (of_header m h ∷ a) b e = text_after-append order m [] a b e
 text_after-append order n rows (of_version m v ∷ a) b e = absurd (none_is_some (sym e))
 text_after-append order n rows (of_row r ∷ a) b e = text_after-append order n (rows ++ r ∷ []) a b e
 text_after-append order n rows (of_open ∷ a) b e = text_after-append order n rows a b e
 text_after-append order n rows (of_end h ∷ a) b e =
     let none = neither (end_stop n rows h) (stop_after n [] a) e in
     ap (end_text order rows h) (text_after-append order n [] a b none.1)
-    ∙ end_text-append order n rows h (text_after order [] a) (text_after order (rows_after [] a) b) none.0
+    ∙ end_text-append order n rows h (text_after order [] a) (text_after order (rows_since [] a) b) none.0
 
 -- where nothing is written, nothing is of the front
 text_front : (order : Order) (rows : List Row) (a b : List Visit) → text_after order rows (a ++ b) ≡ []
     → text_after order rows a ≡ []
 text_front order rows [] b e = refl
-text_front order rows (of_header m h ∷ a) b e = text_front order rows a b e
+text_front order rows (of_header m h ∷ a) b e = text_front order [] a b e
 text_front order rows (of_version m v ∷ a) b e = refl
 text_front order rows (of_row r ∷ a) b e = text_front order (rows ++ r ∷ []) a b e
 text_front order rows (of_open ∷ a) b e = text_front order rows a b e

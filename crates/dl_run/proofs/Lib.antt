@@ -10,6 +10,7 @@ pub mod OneCopying
 pub mod DumpFronts
 pub mod UnitsLemmas
 pub mod VisitLemmas
+pub mod HeadersTold
 pub mod ToldLemmas
 pub mod CountLemmas
 pub mod FeedLemmas

@@ -1,6 +1,6 @@
 -- What comes of a piece where a unit ends in it.
 use Rattle.std.proofs.Common.{◌≡◌, ◌<◌, inr, ℕ, ◌+◌, ◌-◌, ◌^◌, List, [], ◌∷◌, ◌++◌, length, take, drop, map}
-use Rattle.std.proofs.Common.{Option, Ok, Err, arith, sym, ap, ap₂, ◌∙◌, subst}
+use Rattle.std.proofs.Common.{Option, None, Ok, Err, arith, sym, ap, ap₂, ◌∙◌, subst}
 use Rattle.std.proofs.Common.{append_assoc, append-nil, length-drop, take-append-drop}
 use Rattle.std.proofs.Common.{drop-drop}
 use Rattle.std.specs.List.{concat}
@@ -16,11 +16,12 @@ use Rattle.dl_rows.specs.declared.sink.Flow.{Flow}
 use Rattle.dl_rows.specs.declared.sink.Flow.TheVariants as flow
 use Rattle.dl_run.specs.declared.section.SectionUnits.{SectionUnits}
 use Rattle.dl_run.specs.Section.{Visit, HasUnits}
-use Rattle.dl_run.specs.Section.{end_visits, section_visits}
+use Rattle.dl_run.specs.Section.{end_visits, header_of, section_visits}
 use Rattle.dl_run.specs.Told.{RowsOf}
-use Rattle.dl_run.specs.Visiting.{Story, StopsIn, GoesOn}
+use Rattle.dl_run.specs.Visiting.{Story, StopsIn, GoesOn, header_told}
 use Rattle.dl_run.specs.UnitsRead.{UnitsAre, UnitsFed}
 use Rattle.dl_run.proofs.SectionLemmas.{none_refused, has_push, section_visits-push}
+use Rattle.dl_run.proofs.HeadersTold.{header_of_section}
 use Rattle.dl_run.proofs.FeedLemmas.{FedUpTo, all_read, are_after, feeds, joined, left, quiet, read_so_far}
 use Rattle.dl_run.proofs.FeedLemmas.{visits_so_far, with_bytes}
 
@@ -61,6 +62,13 @@ module _ {S : Type 0} (story : Story S) (order : Order) (t piece : List ℕ) (fi
       ∙ ap₂ (λ (l : List Visit) (o : Order). l ++ end_visits o bytes)
       (quiet story order t piece first start u new now rest so short v own w after fed r (ap told is))
       (sym (own ∙ so.are.reader_order))
+
+  -- its header was told
+  pub header_was_told : fed.event ≡ event.End → header_told None visits_of_rows ≡ header_of v.reader.order bytes
+  header_was_told is =
+      ap (header_told None) (sym (quiet story order t piece first start u new now rest so short v own w after fed r
+      (ap told is))) ∙ header_of_section order so.units bytes
+      ∙ ap (λ (o : Order). header_of o bytes) (sym (own ∙ so.are.reader_order))
 
   all_units : fed.event ≡ event.End → HasUnits order (t ++ piece) units_after (drop fed.used rest)
   all_units is =

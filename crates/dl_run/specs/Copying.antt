@@ -4,17 +4,26 @@ use Rattle.std.specs.Option.{option_or, option_map_or}
 use Rattle.dl_num.specs.declared.fixed.Order.{Order}
 use Rattle.dl_head.specs.Built.{with_standard_opcodes}
 use Rattle.dl_field.specs.HeaderData.{HeaderData}
+use Rattle.dl_field.specs.Layout.{standard_params}
 use Rattle.dl_rows.specs.declared.row.Row.{Row}
+use Rattle.dl_emit.specs.Grown.{IsGrown}
 use Rattle.dl_emit.specs.WrittenUnit.{unit_of, refusal}
 use Rattle.dl_run.specs.declared.copying.Copier.{Copier}
 use Rattle.dl_run.specs.declared.fault.RunFault.{RunFault}
 use Rattle.dl_run.specs.declared.fault.RunFault.TheVariants as fault
 use Rattle.dl_print.specs.Output.{HasPrinted}
-use Rattle.dl_run.specs.RowsTold.{rows_after}
 use Rattle.dl_run.specs.Section.{Visit, of_header, of_version, of_row, of_end}
-use Rattle.dl_run.specs.Visiting.{Story}
+use Rattle.dl_run.specs.Visiting.{Story, header_told}
 
 -- ---- what visits give; rows: those of the current unit before the visits
+
+-- the rows since the current unit's header
+abbrev pub rows_since : List Row → List Visit → List Row
+rows_since rows [] = rows
+rows_since rows (of_header offset h ∷ visits) = rows_since [] visits
+rows_since rows (of_row r ∷ visits) = rows_since (rows ++ r ∷ []) visits
+rows_since rows (of_end h ∷ visits) = rows_since [] visits
+rows_since rows (visit ∷ visits) = rows_since rows visits
 
 -- the offset of the last unit with a header; offset: that before the visits
 abbrev pub offset_after : ℕ → List Visit → ℕ
@@ -30,7 +39,7 @@ end_stop offset rows (Some h) = option_map (fault.Emit offset) (refusal (with_st
 -- the first unit that can't be written
 abbrev pub stop_after : (offset : ℕ) → List Row → List Visit → Option RunFault
 stop_after offset rows [] = None
-stop_after offset rows (of_header n h ∷ visits) = stop_after n rows visits
+stop_after offset rows (of_header n h ∷ visits) = stop_after n [] visits
 stop_after offset rows (of_version n version ∷ visits) = Some (fault.ForeignUnit n)
 stop_after offset rows (of_row r ∷ visits) = stop_after offset (rows ++ r ∷ []) visits
 stop_after offset rows (of_end h ∷ visits) = option_or (end_stop offset rows h) (stop_after offset [] visits)
@@ -46,6 +55,7 @@ end_text order rows (Some h) tail =
 -- the units before the first that can't be written
 abbrev pub text_after : Order → List Row → List Visit → List ℕ
 text_after order rows [] = []
+text_after order rows (of_header n h ∷ visits) = text_after order [] visits
 text_after order rows (of_version n version ∷ visits) = []
 text_after order rows (of_row r ∷ visits) = text_after order (rows ++ r ∷ []) visits
 text_after order rows (of_end h ∷ visits) = end_text order rows h (text_after order [] visits)
@@ -53,15 +63,16 @@ text_after order rows (visit ∷ visits) = text_after order rows visits
 
 -- ---- the copier
 
--- each unit so far is printed, and the rows since then are held
+-- each unit so far is printed, and the program of the current one grew by the rows since its header
 pub record Copying (first now : Copier) (start held : Option (List ℕ)) (visits : List Visit) : Type 0 where
-  pub order : now.order ≡ first.order
+  pub order : now.program.order ≡ first.program.order
   pub offset : now.unit ≡ offset_after first.unit visits
-  pub rows : now.rows.items ≡ rows_after [] visits
+  pub grown : (h : HeaderData) → header_told None visits ≡ Some h
+      → IsGrown now.program now.program.order (standard_params h.params) (rows_since [] visits)
   pub goes_on : stop_after first.unit [] visits ≡ None
-  pub printed : HasPrinted start held (text_after first.order [] visits) now.printer
+  pub printed : HasPrinted start held (text_after first.program.order [] visits) now.printer
 
--- memory grows for a row, and for the bytes of a unit that has a header
+-- memory grows for a row, and for the header of a unit that is written
 abbrev pub IsGrowth : Visit → Type 0
 IsGrowth (of_row r) = ⊤
 IsGrowth (of_end (Some h)) = ⊤
@@ -76,7 +87,7 @@ StopsAt first visits f = stop_after first.unit [] visits ≡ Some f
 -- unit after unit
 abbrev pub copy_story : Story Copier
 copy_story = record {
-  text = λ first visits. text_after first.order [] visits;
+  text = λ first visits. text_after first.program.order [] visits;
   tells = Copying;
   is_done = λ first new start now visits. ⊥;
   refuses = StopsAt;

@@ -1,7 +1,9 @@
 -- What is said of a visitor where it is told of a section, and of one that was told of all that was read.
-use Rattle.std.specs.Prelude.{⊤, ◌≡◌, ◌⊎◌, ℕ, take, List, [], ◌∷◌, ◌++◌, Option, Result, Ok, Err, MatchResult}
+use Rattle.std.specs.Prelude.{⊤, ◌≡◌, ◌⊎◌, ℕ, take, List, [], ◌∷◌, ◌++◌, Option, Some, None, Result, Ok, Err}
+use Rattle.std.specs.Prelude.{MatchResult}
 use Rattle.std.specs.Io.KnownBytes.{Appends}
 use Rattle.dl_num.specs.declared.fixed.Order.{Order}
+use Rattle.dl_field.specs.HeaderData.{HeaderData}
 use Rattle.dl_rows.specs.Runs.{Sound}
 use Rattle.dl_run.specs.declared.fault.RunFault.{RunFault}
 use Rattle.dl_run.specs.declared.fault.RunFault.TheVariants as fault
@@ -9,7 +11,7 @@ use Rattle.dl_rows.specs.declared.sink.Flow.{Flow}
 use Rattle.dl_rows.specs.declared.sink.Flow.TheVariants as flow
 use Rattle.dl_print.specs.declared.summary.Summary.{Summary}
 use Rattle.dl_run.specs.RunOutput.{TellsOut}
-use Rattle.dl_run.specs.Section.{Visit, HasUnits, HasBegun, EndsAs, section_visits, summary_of}
+use Rattle.dl_run.specs.Section.{Visit, of_header, of_end, HasUnits, HasBegun, EndsAs, section_visits, summary_of}
 
 -- What is said of a visitor. The first of two visitors is the one at the beginning, the first of two lists what the
 -- writer held then.
@@ -58,11 +60,19 @@ abbrev pub GoesOn : {S : Type 0} → Story S → (first new : S) (start now : Op
 GoesOn story first new start now visits flow.On = story.tells first new start now visits
 GoesOn story first new start now visits flow.Stop = story.is_done first new start now visits
 
--- it is told the last visits of a unit
-abbrev pub HearsEnd : {S : Type 0} → Story S → (old new : S) (before after : Option (List ℕ)) (more : List Visit)
-    → Result Flow RunFault → Type 0
-HearsEnd {S} story old new before after more result =
+-- the header of the current unit, so far as visits tell it; header: that before the visits
+abbrev pub header_told : Option HeaderData → List Visit → Option HeaderData
+header_told header [] = header
+header_told header (of_header offset h ∷ visits) = header_told (Some h) visits
+header_told header (of_end h ∷ visits) = header_told None visits
+header_told header (visit ∷ visits) = header_told header visits
+
+-- it is told the last visits of a unit, of which it was told the header, where it has one
+abbrev pub HearsEnd : {S : Type 0} → Story S → (old new : S) (before after : Option (List ℕ))
+    → (header : Option HeaderData) (more : List Visit) → Result Flow RunFault → Type 0
+HearsEnd {S} story old new before after header more result =
     (first : S) (start : Option (List ℕ)) (visits : List Visit) → story.tells first old start before visits
+    → header_told None visits ≡ header
     → MatchResult result (GoesOn story first new start after (visits ++ more))
     (StopsIn story first new start after visits more)
 

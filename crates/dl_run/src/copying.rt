@@ -1,17 +1,19 @@
 //! The command that writes all units anew.
 
-ghost use Rattle.std.specs.Prelude.{◌≡◌, ◌≤◌, ℕ, List};
+ghost use Rattle.std.specs.Prelude.{◌≡◌, ◌≤◌, ◌++◌, ℕ, List};
 ghost use Rattle.std.specs.Io.KnownBytes.{Consumes};
+ghost use Rattle.dl_rows.specs.declared.row.Row.{Row};
+ghost use Rattle.dl_emit.specs.Grown.{IsGrown};
+ghost use Rattle.dl_print.specs.Output.{Prints};
 ghost use Rattle.dl_run.specs.Commands.{Copies};
 ghost use Rattle.dl_run.specs.UnitPrinted.{PrintsUnit};
 
 use crate::fault::RunFault;
 use crate::options::{Options, SECTION_LIMIT};
 use crate::section::{Visitor, read_units};
-use dl_emit::{EmitFault, write_unit};
+use dl_emit::{EmitFault, Program};
 use dl_head::Header;
-use dl_num::Order;
-use dl_print::{Printer, Summary};
+use dl_print::{Printer, Summary, WriteFault};
 use dl_rows::{Flow, Row};
 use std::alloc::Global;
 use std::io::{Read, Write};
@@ -20,13 +22,12 @@ use std::io::{Read, Write};
 #[derive(Drop)]
 struct Copier {
     printer: Printer,
-    order: Order,
     /// The offset of the current unit.
     unit: u64,
-    /// The rows of the current unit.
-    rows: Vec<Row>,
-    /// A unit's bytes, before they are printed; their room is kept.
-    bytes: Vec<u8>,
+    /// What is written for the rows of the current unit.
+    program: Program,
+    /// What a unit has before its program; its room is kept.
+    header: Vec<u8>,
 }
 
 impl<W: Write> Visitor<W> for Copier {
@@ -34,8 +35,9 @@ impl<W: Write> Visitor<W> for Copier {
 
     ghost story = { copy_story };
 
-    fn header(&mut self, _output: &mut W, offset: u64, _header: &Header) -> Result<(), RunFault> {
+    fn header(&mut self, _output: &mut W, offset: u64, header: &Header) -> Result<(), RunFault> {
         self.unit = offset;
+        self.program.begin(header);
         Ok(())
     }
 
@@ -45,7 +47,7 @@ impl<W: Write> Visitor<W> for Copier {
 
     #[inline]
     fn row(&mut self, _output: &mut W, row: &Row) -> Result<(), RunFault> {
-        match self.rows.push(*row) {
+        match self.program.push(row) {
             Ok(()) => Ok(()),
             Err(_) => Err(RunFault::NoMemory),
         }
@@ -56,10 +58,10 @@ impl<W: Write> Visitor<W> for Copier {
     }
 
     fn end(&mut self, output: &mut W, header: Option<Header>) -> Result<Flow, RunFault> {
-        if let Some(header) = header {
-            self.write(output, &header.with_standard_opcodes())?;
-        }
-        self.rows.clear();
+        let Some(header) = header else {
+            return Ok(Flow::On);
+        };
+        self.write(output, &header.with_standard_opcodes())?;
         Ok(Flow::On)
     }
 
@@ -69,18 +71,23 @@ impl<W: Write> Visitor<W> for Copier {
 }
 
 impl Copier {
-    /// Writes the current unit. It is printed once it is whole in memory.
+    /// Writes the current unit under this header. It is printed once what stands before its program is in memory too.
     fn write<W: Write>(&mut self, output: &mut W, header: &Header) -> Result<(), RunFault>
-        ensures printed { PrintsUnit (W.contents output.old) (W.contents output.new)
-            self.old.printer self.new.printer self.old.order header.now self.old.rows.items
-            self.old.unit result }
-        ensures rows { self.new.rows ≡ self.old.rows }
-        ensures order { self.new.order ≡ self.old.order }
+        ensures printed { (rows : List Row)
+            → IsGrown self.old.program self.old.program.order header.now.params rows
+            → PrintsUnit (W.contents output.old) (W.contents output.new) self.old.printer self.new.printer
+            self.old.program.order header.now rows self.old.unit result }
+        ensures program { self.new.program ≡ self.old.program }
         ensures unit { self.new.unit ≡ self.old.unit }
     {
-        self.bytes.clear();
-        match write_unit(&mut self.bytes, self.order, header, self.rows.as_slice()) {
-            Ok(_) => Ok(self.printer.put(output, self.bytes.as_slice())?),
+        self.header.clear();
+        match self.program.write_header(&mut self.header, header) {
+            Ok(_) => {
+                let before = self.header.as_slice();
+                let first = self.program.first_bytes();
+                let last = self.program.last_bytes();
+                Ok(print_parts(&mut self.printer, output, before, first, last)?)
+            }
             Err(EmitFault::Write { .. }) => Err(RunFault::NoMemory),
             Err(fault) => Err(RunFault::Emit {
                 unit: self.unit,
@@ -90,12 +97,27 @@ impl Copier {
     }
 }
 
+/// Prints what a unit has before its program, and the two parts of this.
+fn print_parts<W: Write>(
+    printer: &mut Printer,
+    output: &mut W,
+    before: &[u8],
+    first: &[u8],
+    last: &[u8],
+) -> Result<(), WriteFault>
+    ensures { Prints (W.contents output.old) (W.contents output.new) printer.old printer.new
+        (before.now ++ (first.now ++ last.now)) result }
+{
+    printer.put(output, before)?;
+    printer.put(output, first)?;
+    printer.put(output, last)
+}
+
 /// Writes all units of the input anew: each under its header with opcode_base 13, with the same
 /// rows, its numbers shortest.
 ///
-/// What comes before a fault is written. The faults are those of `RunFault`. The rows of a unit and
-/// then its bytes are held in memory; each growth of these, and those of `Reader::feed`, come before the
-/// unit is written.
+/// What comes before a fault is written. The faults are those of `RunFault`. The bytes of a unit are held in memory
+/// until it ends; each growth of these, and those of `Reader::feed`, come before the unit is written.
 pub fn copy<R: Read, W: Write>(
     alloc: Global,
     input: &mut R,
@@ -109,10 +131,9 @@ pub fn copy<R: Read, W: Write>(
 {
     let mut copier = Copier {
         printer: Printer::new(),
-        order: options.order,
         unit: 0,
-        rows: Vec::new(alloc),
-        bytes: Vec::new(alloc),
+        program: Program::new(alloc, options.order),
+        header: Vec::new(alloc),
     };
     read_units(alloc, input, output, options, &mut copier)
 }

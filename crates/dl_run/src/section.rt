@@ -60,11 +60,11 @@ pub trait Visitor<W: Write> {
         ensures { Hears story self.old self.new (W.contents output.old) (W.contents output.new)
             (of_open ∷ []) result };
 
-    /// The current unit is whole. Of another version than 5 it has no header. It answers whether the next
-    /// unit is read.
+    /// The current unit is whole; its header is that of `header`. Of another version than 5 it has no header. It
+    /// answers whether the next unit is read.
     fn end(&mut self, output: &mut W, header: Option<Header>) -> Result<Flow, RunFault>
         ensures { HearsEnd story self.old self.new (W.contents output.old) (W.contents output.new)
-            (of_end header ∷ []) result };
+            header (of_end header ∷ []) result };
 
     /// All that was read is worked through: what was printed of it goes out.
     fn flush(&mut self, output: &mut W) -> Result<(), RunFault>
@@ -250,7 +250,7 @@ impl SectionUnits {
             → IsUnit order b → length t < 2 ^ 64 → OnOk result (UnitsAre order self.new t (units ++ b ∷ []) []) }
         ensures heard { (b : List ℕ) → StandsFor self.old.reader b
             → HearsEnd V.story visitor.old visitor.new (W.contents output.old) (W.contents output.new)
-            (end_visits self.old.reader.order b) result }
+            (header_of self.old.reader.order b) (end_visits self.old.reader.order b) result }
     {
         self.close(output, visitor)?;
         visitor.end(output, self.next_unit())

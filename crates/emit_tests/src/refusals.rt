@@ -1,6 +1,6 @@
 //! Units that aren't written.
 
-use crate::vectors::{OPCODE_BASE_10, header};
+use crate::vectors::{OPCODE_BASE_10, append_unit, header};
 use dl_emit::{EmitFault, Program, measure, write_unit};
 use dl_head::Header;
 use dl_num::Order;
@@ -27,7 +27,7 @@ fn assert_refused(
     for row in rows {
         program.push(row)?;
     }
-    assert_eq!(rt; program.write(&mut output, head), Err(fault));
+    assert_eq!(rt; program.write_header(&mut output, head), Err(fault));
     assert_eq!(rt; output.held.len(), 0);
     Ok(())
 }
@@ -74,10 +74,9 @@ fn a_program_begins_anew(rt: HostRuntime) -> Result<(), Fail> {
     program.begin(&head);
     program.push(&row(4, 0, 2))?;
     let mut output = Sink::new(alloc, 1000, 1000);
-    let rows = [row(4, 0, 2)];
-    assert_eq!(&rt; program.write(&mut output, &head), measure(&head, &rows));
+    append_unit(&program, &head, &mut output)?;
     let mut whole = Sink::new(alloc, 1000, 1000);
-    assert!(&rt; write_unit(&mut whole, Order::Little, &head, &rows).is_ok());
+    assert!(&rt; write_unit(&mut whole, Order::Little, &head, &[row(4, 0, 2)]).is_ok());
     assert_eq!(&rt; output.held.as_slice(), whole.held.as_slice());
     Ok(())
 }

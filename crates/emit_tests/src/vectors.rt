@@ -1,11 +1,12 @@
 //! Headers and rows of worked units.
 
+use dl_emit::Program;
 use dl_head::{HeadReader, Header};
 use dl_num::Order;
 use dl_rows::{Event, Reader, Row};
 use std::alloc::Global;
 use std::test::Fail;
-use test_support::{end, row, unit};
+use test_support::{Sink, end, row, unit};
 
 /// A header of opcode_base 10.
 pub const OPCODE_BASE_10: &str = "1e 00 00 00 05 00 08 00 13 00 00 00 01 01 01 fb 0e 0a \
@@ -33,6 +34,16 @@ pub fn header(alloc: Global, order: Order, bytes: &[u8]) -> Result<Header, Fail>
 pub fn plain(alloc: Global) -> Result<Header, Fail> {
     let unit = unit(alloc, "")?;
     header(alloc, Order::Little, unit.as_slice())
+}
+
+/// Appends the unit of this header and the rows of this program, part after part.
+pub fn append_unit(program: &Program, head: &Header, output: &mut Sink) -> Result<(), Fail> {
+    if program.write_header(output, head).is_err() {
+        return Err("a header".into());
+    }
+    output.held.extend_from_slice(program.first_bytes())?;
+    output.held.extend_from_slice(program.last_bytes())?;
+    Ok(())
 }
 
 /// The rows of a whole unit.

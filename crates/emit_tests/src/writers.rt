@@ -1,7 +1,7 @@
 //! Writers that fail, are interrupted or take little, and want of memory.
 
-use crate::vectors::{plain, three_rows};
-use dl_emit::{EmitFault, measure, write_unit};
+use crate::vectors::{append_unit, plain, three_rows};
+use dl_emit::{EmitFault, Program, measure, write_unit};
 use dl_num::Order;
 use std::test::Fail;
 use test_support::{Sink, THREE_ROWS, hoard, row, unit};
@@ -33,6 +33,27 @@ fn interruptions(rt: HostRuntime) -> Result<(), Fail> {
         let written = write_unit(&mut output, Order::Little, &head, &three_rows());
         assert_eq!(rt; written, want);
     }
+    Ok(())
+}
+
+/// Many rows, which a program takes one by one: more than its last part holds.
+#[test]
+fn rows_one_by_one(rt: HostRuntime) -> Result<(), Fail> {
+    let alloc = rt.alloc();
+    let head = plain(alloc)?;
+    let rows = vec![in alloc; row(0, 0, 1); 10_000]?;
+    let mut program = Program::new(alloc, Order::Little);
+    program.begin(&head);
+    for row in &rows {
+        program.push(row)?;
+    }
+    assert!(rt; !program.first_bytes().is_empty());
+    let mut output = Sink::new(alloc, 20_000, 20_000);
+    append_unit(&program, &head, &mut output)?;
+    let mut whole = Sink::new(alloc, 20_000, 20_000);
+    let written = write_unit(&mut whole, Order::Little, &head, rows.as_slice());
+    assert_eq!(rt; written, Ok(10_045));
+    assert_eq!(rt; output.held.as_slice(), whole.held.as_slice());
     Ok(())
 }
 

@@ -1,6 +1,6 @@
 //! Worked units.
 
-use crate::vectors::{header, plain, rows, three_rows};
+use crate::vectors::{append_unit, header, plain, rows, three_rows};
 use dl_emit::{Program, measure, write_unit};
 use dl_head::{Form, Format, Header, Pair, Table, ValueRef};
 use dl_num::Order;
@@ -34,7 +34,7 @@ fn assert_unit(
         program.push(row)?;
     }
     let mut output = Sink::new(alloc, 1000, 7);
-    assert_eq!(rt; program.write(&mut output, head), Ok(len));
+    append_unit(&program, head, &mut output)?;
     assert_eq!(rt; output.held.as_slice(), unit);
     let again = header(alloc, order, unit)?;
     assert!(rt; again == *head);

@@ -249,7 +249,7 @@ fn each_growth_of_find(rt: HostRuntime) -> Result<(), Fail> {
     assert_growths(&rt, rt.alloc(), Command::Find, 78, 2)
 }
 
-/// The first row grows the list of rows too.
+/// The first row grows the program too.
 #[test]
 fn each_growth_of_copy(rt: HostRuntime) -> Result<(), Fail> {
     assert_growths(&rt, rt.alloc(), Command::Copy, 130, 3)

@@ -1,4 +1,3 @@
-use Rattle.std.proofs.Common.{refl}
 use Rattle.std.proofs.KnownBytes.{Appends-nil}
 use Rattle.dl_run.specs.declared.copying.Copier.{Copier}
 use Rattle.dl_run.proofs.CopierLemmas.{begins}
@@ -11,18 +10,17 @@ returns g c =
     let first : Copier =
     record {
       printer = c.new.result;
-      order = options.order;
       unit = 0;
-      rows = c.new-2.result;
-      bytes =
-          c.new-3.result;
+      program = c.new-2.result;
+      header = c.new-3.result;
     } in
     let start = g.W.Write.contents c.args.output.now in
     let read = c.read_units.ensures in
-    let ran = read.2 (begins first start c.new.ensures.nothing_pending c.new.ensures.nothing_out c.new-2.ensures.items)
+    let ran = read.2 (begins first start c.new.ensures.nothing_pending c.new.ensures.nothing_out)
     (Appends-nil start) in (
       read.0,
       read.1,
       copies options.order options.limit read.0 (g.R.Read.remaining c.read_units.new.input) first
-          c.read_units.new.visitor start (g.W.Write.contents c.read_units.new.output) refl c.read_units.result ran,
+          c.read_units.new.visitor start (g.W.Write.contents c.read_units.new.output) c.new-2.ensures.order
+          c.read_units.result ran,
     )

@@ -1,8 +1,7 @@
-use Rattle.std.proofs.Common.{◌∙◌, sym, ap, subst, arith, length, length-append, Option, ◌≡◌, true, Bool, ℕ, List, ◌++◌}
+use Rattle.std.proofs.Common.{◌∙◌, sym, ap, subst, arith, length-append, length}
 use Rattle.std.specs.Option.{is_some}
-use Rattle.dl_field.specs.declared.params.Params.{Params}
-use Rattle.dl_rows.specs.declared.row.Row.{Row}
 use Rattle.dl_emit.specs.Grown.{ProgramData, IsGrown}
+use Rattle.dl_emit.specs.Program.{row_operations}
 use Rattle.dl_emit.specs.WrittenUnit.{operations_bytes}
 use Rattle.dl_emit.proofs.GrownLemmas.{stays_refused, becomes_refused, grows, row_has_bytes, refused_none}
 use Rattle.dl_emit.proofs.growing.Program.push.Goals as goal
@@ -23,22 +22,27 @@ returns-then-not-is_in_range-clause-grown c h rows g =
 pub invariant_of-self-2 : goal.invariant_of-self-2
 invariant_of-self-2 c =
     let inside = c.self.inside in
+    let first = c.gather.new.first.items in
+    let last = c.gather.new.last.items in
+    let operations = row_operations inside.params inside.before c.args.row.now in
     let some = row_has_bytes inside.order inside.params inside.before c.args.row.now in
-    let row : c.put_row.new.bytes.items ≡ _ = rw c.new-bytes.ensures at c.put_row.ensures.items in
-    let more = ap length (c.in_ok-extend_from_slice.ensures.items) in
-    let sum = length-append inside.bytes.items c.as_slice.result.now in
-    let held = ap length c.as_slice.ensures.value in
-    let bytes = ap length row in
-    (c.self.invariant.0, omega (arith, c.self.invariant.1, some, more, sum, held, bytes))
+    let same = ap length c.in_ok-gather.ensures.items in
+    let more = ap length c.put_row.ensures.items in
+    let before = length-append inside.first.items inside.last.items in
+    let between = length-append first last in
+    let after = length-append last (operations_bytes inside.order inside.params operations) in (
+      c.self.invariant.0,
+      omega (arith, c.self.invariant.1, some, same, more, before, between, after),
+      omega (arith, c.put_row.ensures.len, c.in_ok-gather.ensures.room),
+    )
 
 pub returns-clause-grown : goal.returns-clause-grown
 returns-clause-grown c h rows g =
-    let inside = c.self.inside in
     let order = c.args.self.now.order in
-    let row = rw c.new-bytes.ensures at c.put_row.ensures.items in
     let grown =
     grows _ order h rows c.args.row.now
-    (subst (λ (p : ProgramData). IsGrown p order h rows) (sym c.self.view_is) g) c.put_row.new.bytes.items
-    (refused_none _ (sym c.is_some.ensures ∙ c.if-is_some.false))
-    (sym c.is_in_range.ensures.value ∙ c.if-not-is_in_range.false) c.is_in_range.ensures.row row in
-    rw (c.kept-self-inside.ensures, c.in_ok-extend_from_slice.ensures.items, c.as_slice.ensures.value) grown
+    (subst (λ (p : ProgramData). IsGrown p order h rows) (sym c.self.view_is) g) c.gather.new.first.items
+    c.gather.new.last.items c.put_row.new.bytes.items (refused_none _ (sym c.is_some.ensures ∙ c.if-is_some.false))
+    (sym c.is_in_range.ensures.value ∙ c.if-not-is_in_range.false) c.is_in_range.ensures.row
+    c.in_ok-gather.ensures.items c.put_row.ensures.items in
+    rw c.kept-self-inside.ensures grown

@@ -12,7 +12,7 @@ use Rattle.dl_run.proofs.finding.SeekerVisitor.end.Goals.{in_default-via-in-Some
 use Rattle.dl_run.proofs.finding.SeekerVisitor.end.Goals as goal
 
 pub returns-in_default : goal.returns-in_default
-returns-in_default g c first start visits s =
+returns-in_default g c first start visits s told =
     let rows = rows_after [] visits in
     let new = record c.args.self.now { finder = c.new-self.result } in
     let answers = c.answer-answer.ensures first.place rows s.stands in
@@ -24,7 +24,7 @@ returns-in_default g c first start visits s =
     (record { place = refl; strings = refl }) s.not_found refl none c.new-self.ensures
 
 pub returns-in_err-file : goal.returns-in_err-file
-returns-in_err-file g c first start visits s =
+returns-in_err-file g c first start visits s told =
     let p = err_from_is_err_and c.from_residual.result c.from_residual.ensures.1 in
     let own = c.in-Some-Some in
     let answers = c.answer-answer.ensures first.place (rows_after [] visits) s.stands in
@@ -41,7 +41,7 @@ returns-in_err-file g c first start visits s =
     rw (p.1, p.2) (of_end c.args.header ∷ [], [], refl, stops)
 
 pub returns-in_err-row : goal.returns-in_err-row
-returns-in_err-row g c first start visits s =
+returns-in_err-row g c first start visits s told =
     let p = err_from_is_err_and c.from_residual-in_err-row.result c.from_residual-in_err-row.ensures.1 in
     let own = c.in-Some-Some in
     let answers = c.answer-answer.ensures first.place (rows_after [] visits) s.stands in
@@ -58,7 +58,7 @@ returns-in_err-row g c first start visits s =
     rw (p.1, p.2) (of_end c.args.header ∷ [], [], refl, stops)
 
 pub returns : goal.returns
-returns g c first start visits s =
+returns g c first start visits s told =
     let own = c.in-Some-Some in
     let answers = c.answer-answer.ensures first.place (rows_after [] visits) s.stands in
     let text = file_text (strings_of c.args.self.now.strings) own.header.files own.row.file in

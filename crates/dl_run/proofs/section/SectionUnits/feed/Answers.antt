@@ -6,7 +6,7 @@ use Rattle.dl_run.specs.Told.{RowsOf}
 use Rattle.dl_run.specs.UnitsRead.{UnitsAre}
 use Rattle.dl_run.proofs.FeedLemmas.{stops_at_row, damaged, idle, unmet, goes_on, stops_told}
 use Rattle.dl_run.proofs.FeedLemmas.{goes_on_quietly, feeds, are_ended, still_small}
-use Rattle.dl_run.proofs.UnitEnds.{is_unit, next_unit, no_more, stops_at_end}
+use Rattle.dl_run.proofs.UnitEnds.{header_was_told, is_unit, next_unit, no_more, stops_at_end}
 use Rattle.dl_run.proofs.FeedLemmas.{visits_so_far, rows_told}
 use Rattle.dl_run.proofs.section.SectionUnits.feed.Goals as goal
 
@@ -112,7 +112,9 @@ returns-in_err-end-in-End g c order t units b first start are short tells =
     let heard = c.in_err-end-in-End.ensures.heard _ f.stands first start
     (visits_so_far story order t c.args.piece.now first start l.self l.visitor before l.rest.now so short v r.order
     w after c.in-Ok.fed r) (rows_told story order t c.args.piece.now first start l.self l.visitor before l.rest.now
-    so short v r.order w after c.in-Ok.fed r) in
+    so short v r.order w after c.in-Ok.fed r)
+    (header_was_told story order t c.args.piece.now first start l.self l.visitor before l.rest.now so short v r.order w
+    after c.in-Ok.fed r c.in-End.is) in
     rw (p.1, p.2) (stops_at_end story order t c.args.piece.now first start l.self l.visitor before l.rest.now so short v
     r.order w after c.in-Ok.fed r c.in-End.is c.end.new.visitor (g.W.Write.contents c.end.new.output) c.end.new.self
     _ heard)
@@ -135,7 +137,9 @@ events-preserved-in-On g c = record {
       (visits_so_far story order t c.args.piece.now first start l.self l.visitor before l.rest.now so short v
       r.order w after c.in-Ok.fed r)
       (rows_told story order t c.args.piece.now first start l.self l.visitor before l.rest.now so short v r.order w
-      after c.in-Ok.fed r) in
+      after c.in-Ok.fed r)
+      (header_was_told story order t c.args.piece.now first start l.self l.visitor before l.rest.now so short v
+      r.order w after c.in-Ok.fed r c.in-End.is) in
       let tail = c.in_ok-end-in-End.ensures.units order _ so.units _
       (are_ended story order t c.args.piece.now first start l.self l.visitor before l.rest.now so short v r.order w
       after c.in-Ok.fed r c.in-End.is)
@@ -164,7 +168,9 @@ returns-in-Stop g c order t units b first start are short tells =
     let heard = c.in_ok-end-in-End.ensures.heard _ f.stands first start
     (visits_so_far story order t c.args.piece.now first start l.self l.visitor before l.rest.now so short v r.order
     w after c.in-Ok.fed r) (rows_told story order t c.args.piece.now first start l.self l.visitor before l.rest.now
-    so short v r.order w after c.in-Ok.fed r) in
+    so short v r.order w after c.in-Ok.fed r)
+    (header_was_told story order t c.args.piece.now first start l.self l.visitor before l.rest.now so short v r.order w
+    after c.in-Ok.fed r c.in-End.is) in
     let tail = c.in_ok-end-in-End.ensures.units order _ so.units _
     (are_ended story order t c.args.piece.now first start l.self l.visitor before l.rest.now so short v r.order w
     after c.in-Ok.fed r c.in-End.is)
