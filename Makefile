@@ -8,6 +8,14 @@ bash = $(DESTDIR)$(PREFIX)/share/bash-completion/completions/dwline
 zsh = $(DESTDIR)$(PREFIX)/share/zsh/site-functions/_dwline
 fish = $(DESTDIR)$(PREFIX)/share/fish/vendor_completions.d/dwline.fish
 
+# Where the library and its header go.
+archive = $(DESTDIR)$(PREFIX)/lib/libboxantrel.a
+shared = $(DESTDIR)$(PREFIX)/lib/libboxantrel.so
+header = $(DESTDIR)$(PREFIX)/include/boxantrel.h
+package = $(DESTDIR)$(PREFIX)/lib/pkgconfig/boxantrel.pc
+
+version = $(shell sed -n 's/^.* VERSION: &str = "\(.*\)";$$/\1/p' crates/dl_cmd/src/command_line.rt)
+
 # The program, at crates/dwline/out/dwline.
 dwline:
 	cd crates/dwline && rt run -- check < /dev/null > /dev/null
@@ -22,34 +30,55 @@ try:
 	cd crates/dwline && rt try --data debug_line_str=../../examples/gcc-O2/debug_line_str \
 		-- dump --line-str debug_line_str < ../../examples/gcc-O2/debug_line
 
-# The program, its man page and its completions below PREFIX. It builds nothing: `make` comes first.
+# The library for C, proved: out/libboxantrel.a, out/libboxantrel.so and what pkg-config reads of it.
+lib:
+	cd crates/dl_c && rt lib
+	mkdir -p out
+	$(CC) $(CFLAGS) -O2 -fPIC -c -o out/memory.o bindings/c/memory.c
+	cp crates/dl_c/out/libdl_c.a out/libboxantrel.a
+	$(AR) rs out/libboxantrel.a out/memory.o
+	$(CC) $(LDFLAGS) -shared -o out/libboxantrel.so -Wl,-soname,libboxantrel.so \
+		-Wl,--version-script=bindings/c/exports.map -Wl,--whole-archive out/libboxantrel.a -Wl,--no-whole-archive
+	sed 's|@PREFIX@|$(PREFIX)|; s|@VERSION@|$(version)|' bindings/c/boxantrel.pc.in > out/boxantrel.pc
+
+# The program, its man page and its completions below PREFIX, and where the library is built that too. It builds nothing:
+# `make` and `make lib` come first.
 install:
 	install -D -m 755 crates/dwline/out/dwline $(bin)
 	install -D -m 644 docs/dwline.1 $(man)
 	install -D -m 644 completions/dwline.bash $(bash)
 	install -D -m 644 completions/_dwline $(zsh)
 	install -D -m 644 completions/dwline.fish $(fish)
+	test ! -e out/libboxantrel.a || $(MAKE) install-lib
+
+# The library, its header and what pkg-config reads.
+install-lib:
+	install -D -m 644 out/libboxantrel.a $(archive)
+	install -D -m 755 out/libboxantrel.so $(shared)
+	install -D -m 644 include/boxantrel.h $(header)
+	install -D -m 644 out/boxantrel.pc $(package)
 
 uninstall:
-	rm -f $(bin) $(man) $(bash) $(zsh) $(fish)
+	rm -f $(bin) $(man) $(bash) $(zsh) $(fish) $(archive) $(shared) $(header) $(package)
 
 # Every proof from nothing, every edit that must be refused, every test; then the sections of examples/.
 test:
-	rm -f crates/dwline/out/dwline
+	rm -f crates/dwline/out/dwline out/libboxantrel.a
 	rt ci
 	test -x crates/dwline/out/dwline || $(MAKE) dwline
 	$(MAKE) compare-built
 
 # Every section of examples/, printed and compared with its expected dump; every option of every command; the
-# man page, the completions and what `make install` puts where.
-compare: dwline compare-built
+# man page, the completions and what `make install` puts where; the library, from C, Rust and Python.
+compare: dwline lib compare-built
 
-# The same of the program that is built.
+# The same of what is built: `make test` builds no library, which would prove the crates below it once more.
 compare-built:
 	examples/compare-with-dwline
 	examples/try-dwline
 	examples/try-truncated
 	examples/try-documents
 	examples/try-install
+	examples/try-library
 
-.PHONY: dwline example try install uninstall test compare compare-built
+.PHONY: dwline example lib try install install-lib uninstall test compare compare-built

@@ -1,0 +1,152 @@
+/*
+ * fuzz ROUNDS FILE..: the calls over sections of the files with changed bytes and random ends, and random addresses. Each
+ * section, and each struct that is written, ends at a page that can't be touched; what a call may not write is compared
+ * afterwards.
+ */
+#include <boxantrel.h>
+#include <stdio.h>
+#include <stdlib.h>
+#include <string.h>
+#include <sys/mman.h>
+#include <unistd.h>
+
+enum { MOST = 1 << 16, FILL = 0xa5 };
+
+static uint64_t state;
+
+/* The next random number (splitmix64). */
+static uint64_t next(void)
+{
+    uint64_t z = state += 0x9e3779b97f4a7c15;
+    z = (z ^ z >> 30) * 0xbf58476d1ce4e5b9;
+    z = (z ^ z >> 27) * 0x94d049bb133111eb;
+    return z ^ z >> 31;
+}
+
+static uint64_t below(uint64_t n)
+{
+    return next() % n;
+}
+
+static void wanted(bool holds, const char *what)
+{
+    if (!holds) {
+        fprintf(stderr, "fuzz: %s\n", what);
+        abort();
+    }
+}
+
+/* The end of `most` bytes, after which a page can't be touched. */
+static uint8_t *guarded(size_t most)
+{
+    size_t page = (size_t)sysconf(_SC_PAGESIZE);
+    size_t size = (most + page - 1) / page * page;
+    uint8_t *at = mmap(NULL, size + page, PROT_READ | PROT_WRITE, MAP_PRIVATE | MAP_ANONYMOUS, -1, 0);
+    wanted(at != MAP_FAILED, "no memory");
+    wanted(mprotect(at + size, page, PROT_NONE) == 0, "no guard page");
+    return at + size;
+}
+
+/* Whether all bytes are as they were filled. */
+static bool is_filled(const void *at, size_t len)
+{
+    const uint8_t *bytes = at;
+    for (size_t i = 0; i < len; i++)
+        if (bytes[i] != FILL)
+            return false;
+    return true;
+}
+
+static uint8_t *section_end, *section;
+static dl_counts *counts;
+static dl_fault *fault;
+static dl_row *row;
+static uint64_t *unit;
+static size_t len;
+static bool big;
+
+/* Fills what the calls write. */
+static void fill(void)
+{
+    memset(counts, FILL, sizeof *counts);
+    memset(fault, FILL, sizeof *fault);
+    memset(row, FILL, sizeof *row);
+    memset(unit, FILL, sizeof *unit);
+}
+
+/* The fault of a call with this status: told in its case alone. */
+static void check_fault(uint32_t status)
+{
+    if (status != DL_FAULT) {
+        wanted(is_filled(fault, sizeof *fault), "a fault that isn't told");
+        return;
+    }
+    wanted(fault->offset <= len, "a fault beyond the section");
+    wanted(fault->kind >= DL_RESERVED_LENGTH && fault->kind <= DL_TRUNCATED, "a fault of no kind");
+    wanted(fault->kind == DL_STANDARD_LENGTH || fault->kind == DL_UNKNOWN_FORM || fault->detail == 0, "a detail of none");
+}
+
+/* Counts the section. The answer is the status. */
+static uint32_t check_counts(void)
+{
+    fill();
+    uint32_t status = dl_check(section, len, big, counts, fault);
+    check_fault(status);
+    wanted(status == DL_DONE || status == DL_FAULT || status == DL_NO_MEMORY, "a status of no count");
+    if (status == DL_DONE)
+        wanted(counts->sequences <= counts->rows && counts->rows <= len, "counts beyond the section");
+    else
+        wanted(is_filled(counts, sizeof *counts), "counts that aren't told");
+    return status;
+}
+
+/* Looks an address up, where counting ended with this status. */
+static void check_find(uint32_t counted, uint64_t address)
+{
+    fill();
+    uint32_t status = dl_find(section, len, big, address, 0, row, unit, fault);
+    check_fault(status);
+    wanted(status <= DL_NO_MEMORY, "a status of no look-up");
+    if (status == DL_DONE)
+        wanted(row->address <= address && !(row->flags & DL_END) && *unit < len, "a row above its address");
+    else
+        wanted(is_filled(row, sizeof *row) && is_filled(unit, sizeof *unit), "a row that isn't told");
+    if (status != DL_DONE)
+        wanted(status == (counted == DL_DONE ? (uint32_t)DL_NO_ANSWER : counted), "another end than that of the count");
+}
+
+/* Reads a file, of which some bytes are changed and some left out at its end. */
+static void take(const char *path)
+{
+    static uint8_t bytes[MOST];
+    FILE *file = fopen(path, "rb");
+    wanted(file != NULL, path);
+    size_t held = fread(bytes, 1, MOST, file);
+    fclose(file);
+    len = below(4) == 0 ? below(held + 1) : held;
+    for (uint64_t changes = below(6); len > 0 && changes > 0; changes--)
+        bytes[below(len)] = (uint8_t)(below(2) ? next() : below(20));
+    section = section_end - len;
+    memcpy(section, bytes, len);
+    big = below(8) == 0;
+}
+
+int main(int count, char **words)
+{
+    if (count < 3)
+        return 2;
+    section_end = guarded(MOST);
+    counts = (dl_counts *)guarded(sizeof *counts) - 1;
+    fault = (dl_fault *)guarded(sizeof *fault) - 1;
+    row = (dl_row *)guarded(sizeof *row) - 1;
+    unit = (uint64_t *)guarded(sizeof *unit) - 1;
+    uint64_t rounds = strtoull(words[1], NULL, 10);
+    for (state = 1; state <= rounds; state++) {
+        uint64_t round = state;
+        take(words[2 + below((uint64_t)count - 2)]);
+        check_find(check_counts(), below(2) ? 0x401000 + below(256) : next());
+        state = round;
+    }
+    printf("fuzz: %llu rounds\n", (unsigned long long)rounds);
+    return 0;
+}

@@ -1,0 +1,145 @@
+"""Line tables of DWARF 5 (the section .debug_line), read by the library Boxantrel, whose answers are proved.
+
+    >>> section = Section(open("examples/gcc-O2/debug_line", "rb").read())
+    >>> section.check()
+    Counts(units=2, skipped=0, sequences=3, rows=91)
+    >>> section.find(0x401008).row.line
+    8
+
+The library is the file that the environment variable BOXANTREL_LIBRARY names, else `out/libboxantrel.so` of the repository
+that this file stands in, else the one that the system finds.
+"""
+
+from __future__ import annotations
+
+import ctypes
+import ctypes.util
+import os
+import pathlib
+from typing import NamedTuple, Optional
+
+__all__ = ["Counts", "Damage", "Found", "Row", "Section"]
+
+_DONE, _FAULT, _NO_ANSWER, _NO_MEMORY = range(4)
+
+
+class _Counts(ctypes.Structure):
+    _fields_ = [(name, ctypes.c_uint64) for name in ("units", "skipped", "sequences", "rows")]
+
+
+class _Fault(ctypes.Structure):
+    _fields_ = [("offset", ctypes.c_uint64), ("detail", ctypes.c_uint64), ("kind", ctypes.c_uint32)]
+
+
+class _Row(ctypes.Structure):
+    _fields_ = [
+        (name, ctypes.c_uint64) for name in ("address", "file", "line", "column", "isa", "discriminator")
+    ] + [("op_index", ctypes.c_uint8), ("flags", ctypes.c_uint8)]
+
+
+class Counts(NamedTuple):
+    """What the units of a section come to: units of version 5, those of another one, end rows, and rows."""
+
+    units: int
+    skipped: int
+    sequences: int
+    rows: int
+
+
+class Row(NamedTuple):
+    """A row of the matrix."""
+
+    address: int
+    file: int
+    line: int
+    column: int
+    isa: int
+    discriminator: int
+    op_index: int
+    is_stmt: bool
+    basic_block: bool
+    prologue_end: bool
+    epilogue_begin: bool
+    end_sequence: bool
+
+
+class Found(NamedTuple):
+    """The row that answers for a place, and the offset of its unit."""
+
+    row: Row
+    unit: int
+
+
+class Damage(Exception):
+    """A unit is damaged. `offset` counts from the section's first byte; `kind` and `detail` are the numbers that stand for
+    the fault in include/boxantrel.h."""
+
+    def __init__(self, offset: int, kind: int, detail: int) -> None:
+        super().__init__(f"damage at {offset:#x}: kind {kind}, {detail}")
+        self.offset = offset
+        self.kind = kind
+        self.detail = detail
+
+
+def _library() -> ctypes.CDLL:
+    named = os.environ.get("BOXANTREL_LIBRARY")
+    built = pathlib.Path(__file__).resolve().parents[2] / "out" / "libboxantrel.so"
+    path = named or (str(built) if built.exists() else ctypes.util.find_library("boxantrel"))
+    if path is None:
+        raise OSError("libboxantrel.so isn't found")
+    library = ctypes.CDLL(path)
+    section = [ctypes.c_char_p, ctypes.c_size_t, ctypes.c_bool]
+    fault = ctypes.POINTER(_Fault)
+    row = ctypes.POINTER(_Row)
+    place = [ctypes.c_uint64, ctypes.c_uint8]
+    arguments = {
+        "dl_check": section + [ctypes.POINTER(_Counts), fault],
+        "dl_find": section + place + [row, ctypes.POINTER(ctypes.c_uint64), fault],
+    }
+    for name, types in arguments.items():
+        call = getattr(library, name)
+        call.argtypes = types
+        call.restype = ctypes.c_uint32
+    return library
+
+
+_calls = _library()
+
+
+def _row(row: _Row) -> Row:
+    flags = [bool(row.flags & bit) for bit in (1, 2, 4, 8, 16)]
+    return Row(row.address, row.file, row.line, row.column, row.isa, row.discriminator, row.op_index, *flags)
+
+
+def _refuse(status: int, fault: _Fault) -> None:
+    """Raises what a status says that is none of an answer."""
+    if status == _FAULT:
+        raise Damage(fault.offset, fault.kind, fault.detail)
+    raise MemoryError("out of memory")
+
+
+class Section:
+    """The bytes of a section .debug_line, whose numbers stand with the lowest byte first, or with `big` the highest."""
+
+    def __init__(self, data: bytes, big: bool = False) -> None:
+        self._bytes = (bytes(data), len(data), big)
+
+    def check(self) -> Counts:
+        """Reads all units, and counts them, their sequences and their rows."""
+        counts, fault = _Counts(), _Fault()
+        status = _calls.dl_check(*self._bytes, ctypes.byref(counts), ctypes.byref(fault))
+        if status != _DONE:
+            _refuse(status, fault)
+        return Counts(counts.units, counts.skipped, counts.sequences, counts.rows)
+
+    def find(self, address: int, op_index: int = 0) -> Optional[Found]:
+        """The row that answers for an address and an operation of its instruction, in the first unit that has one."""
+        row, unit, fault = _Row(), ctypes.c_uint64(), _Fault()
+        status = _calls.dl_find(
+            *self._bytes, address, op_index, ctypes.byref(row), ctypes.byref(unit), ctypes.byref(fault)
+        )
+        if status == _NO_ANSWER:
+            return None
+        if status != _DONE:
+            _refuse(status, fault)
+        return Found(_row(row), unit.value)

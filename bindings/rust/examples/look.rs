@@ -1,0 +1,82 @@
+//! look [--big] [ADDRESS..]: of the section on standard input, what `dwline check` prints of it, or with addresses the row
+//! that answers for each as `dwline find` prints it.
+
+use boxantrel::{Error, Order, Row, Section};
+use std::io::{self, BufWriter, Read, Write};
+use std::process::ExitCode;
+
+fn print_row(output: &mut impl Write, row: &Row) -> io::Result<()> {
+    write!(
+        output,
+        "row 0x{:016x} {} {} {} {}",
+        row.address, row.op_index, row.file, row.line, row.column
+    )?;
+    let flags = [
+        (row.is_stmt, " stmt"),
+        (row.basic_block, " block"),
+        (row.prologue_end, " prologue"),
+        (row.epilogue_begin, " epilogue"),
+        (row.end_sequence, " end"),
+    ];
+    for (is_set, word) in flags {
+        if is_set {
+            write!(output, "{word}")?;
+        }
+    }
+    for (number, word) in [(row.isa, " isa"), (row.discriminator, " disc")] {
+        if number != 0 {
+            write!(output, "{word} {number}")?;
+        }
+    }
+    writeln!(output)
+}
+
+fn print_counts(output: &mut impl Write, section: &Section) -> io::Result<Result<(), Error>> {
+    match section.check() {
+        Ok(counts) => writeln!(
+            output,
+            "units {} skipped {} sequences {} rows {}",
+            counts.units, counts.skipped, counts.sequences, counts.rows
+        )?,
+        Err(error) => return Ok(Err(error)),
+    }
+    Ok(Ok(()))
+}
+
+fn find_each(output: &mut impl Write, section: &Section, words: &[String]) -> io::Result<Result<(), Error>> {
+    for word in words {
+        let Ok(address) = u64::from_str_radix(word.trim_start_matches("0x"), 16) else {
+            return Err(io::Error::other("no address"));
+        };
+        match section.find(address, 0) {
+            Ok(Some(found)) => print_row(output, &found.row)?,
+            Ok(None) => writeln!(output, "no line for this address")?,
+            Err(error) => return Ok(Err(error)),
+        }
+    }
+    Ok(Ok(()))
+}
+
+fn main() -> io::Result<ExitCode> {
+    let mut words: Vec<String> = std::env::args().skip(1).collect();
+    let mut order = Order::Little;
+    if words.first().is_some_and(|word| word == "--big") {
+        words.remove(0);
+        order = Order::Big;
+    }
+    let mut bytes = Vec::new();
+    io::stdin().read_to_end(&mut bytes)?;
+    let section = Section::new(&bytes, order);
+    let mut output = BufWriter::new(io::stdout());
+    let end = if words.is_empty() {
+        print_counts(&mut output, &section)?
+    } else {
+        find_each(&mut output, &section, &words)?
+    };
+    output.flush()?;
+    if let Err(error) = end {
+        eprintln!("look: {error}");
+        return Ok(ExitCode::FAILURE);
+    }
+    Ok(ExitCode::SUCCESS)
+}

@@ -1,0 +1,49 @@
+//! The calls as include/boxantrel.h declares them.
+
+pub const DONE: u32 = 0;
+pub const FAULT: u32 = 1;
+pub const NO_ANSWER: u32 = 2;
+
+#[repr(C)]
+#[derive(Clone, Copy, Debug, Default)]
+pub struct Counts {
+    pub units: u64,
+    pub skipped: u64,
+    pub sequences: u64,
+    pub rows: u64,
+}
+
+#[repr(C)]
+#[derive(Clone, Copy, Debug, Default)]
+pub struct Fault {
+    pub offset: u64,
+    pub detail: u64,
+    pub kind: u32,
+}
+
+#[repr(C)]
+#[derive(Clone, Copy, Debug, Default)]
+pub struct Row {
+    pub address: u64,
+    pub file: u64,
+    pub line: u64,
+    pub column: u64,
+    pub isa: u64,
+    pub discriminator: u64,
+    pub op_index: u8,
+    pub flags: u8,
+}
+
+extern "C" {
+    pub fn dl_check(section: *const u8, len: usize, big: bool, counts: *mut Counts, fault: *mut Fault) -> u32;
+    pub fn dl_find(
+        section: *const u8,
+        len: usize,
+        big: bool,
+        address: u64,
+        op_index: u8,
+        row: *mut Row,
+        unit: *mut u64,
+        fault: *mut Fault,
+    ) -> u32;
+}

@@ -1,0 +1,9 @@
+-- What the public contracts say rests on these, in reading order.
+pub mod Records
+pub mod Sections
+pub mod Calls
+pub mod FindCalls
+-- Of contracts inside the crate, and of proofs; no public contract reaches these.
+pub mod UnitReading
+pub mod Tallies
+pub mod Seekers

@@ -1,0 +1,148 @@
+//! What crosses to C: structs of numbers.
+
+ghost use Rattle.std.specs.Prelude.{◌≡◌};
+ghost use Rattle.dl_calls.specs.Records.{counts_of, record_of, kind_code, kind_detail, row_record, flags_of};
+
+use dl_head::FaultKind;
+use dl_print::Summary;
+use dl_rows::Row;
+
+/// What the units of a section come to.
+#[repr(C)]
+#[derive(Clone, Copy, Debug, PartialEq, Eq)]
+pub struct Counts {
+    /// Units of version 5.
+    pub units: u64,
+    /// Units of another version, which were passed over.
+    pub skipped: u64,
+    /// End rows.
+    pub sequences: u64,
+    /// Rows, end rows among them.
+    pub rows: u64,
+}
+
+impl Counts {
+    pub(crate) fn of(summary: &Summary) -> Counts
+        ensures { result ≡ counts_of summary.now }
+    {
+        Counts {
+            units: summary.units,
+            skipped: summary.skipped,
+            sequences: summary.sequences,
+            rows: summary.rows,
+        }
+    }
+}
+
+/// The first fault of a section.
+#[repr(C)]
+#[derive(Clone, Copy, Debug, PartialEq, Eq)]
+pub struct FaultRecord {
+    /// Where it stands, from the section's first byte.
+    pub offset: u64,
+    /// The standard opcode of kind 10, the code of the form of kind 11; else 0.
+    pub detail: u64,
+    /// 1 to 17, in the order of `FaultKind`.
+    pub kind: u32,
+}
+
+impl FaultRecord {
+    pub(crate) fn of(offset: u64, kind: FaultKind) -> FaultRecord
+        ensures { result ≡ record_of offset kind }
+    {
+        FaultRecord {
+            offset,
+            detail: detail_of(kind),
+            kind: code_of(kind),
+        }
+    }
+}
+
+/// A row of the matrix. Section 6.2.2.
+#[repr(C)]
+#[derive(Clone, Copy, Debug, PartialEq, Eq)]
+pub struct RowRecord {
+    /// The address of the instruction.
+    pub address: u64,
+    /// The number of the source file in the table of files.
+    pub file: u64,
+    /// The number of the source line, modulo 2^64.
+    pub line: u64,
+    /// The column in the source line from 1 on; 0 is the line's left edge.
+    pub column: u64,
+    /// The instruction set architecture.
+    pub isa: u64,
+    /// The block that the instruction belongs to; 0 where there is but one.
+    pub discriminator: u64,
+    /// The operation in its instruction.
+    pub op_index: u8,
+    /// 1 for is_stmt, 2 for basic_block, 4 for prologue_end, 8 for epilogue_begin, 16 for end_sequence,
+    /// in sum.
+    pub flags: u8,
+}
+
+impl RowRecord {
+    #[inline(always)]
+    pub(crate) fn of(row: &Row) -> RowRecord
+        ensures { result ≡ row_record row.now }
+    {
+        RowRecord {
+            address: row.address,
+            file: row.file,
+            line: row.line,
+            column: row.column,
+            isa: row.isa,
+            discriminator: row.discriminator,
+            op_index: row.op_index,
+            flags: flags_of(row),
+        }
+    }
+}
+
+/// The flags of a row in one number.
+#[inline(always)]
+fn flags_of(row: &Row) -> u8
+    ensures { result ≡ flags_of row.now }
+{
+    u8::from(row.is_stmt)
+        + 2 * u8::from(row.basic_block)
+        + 4 * u8::from(row.prologue_end)
+        + 8 * u8::from(row.epilogue_begin)
+        + 16 * u8::from(row.end_sequence)
+}
+
+/// The number of the kind, from 1 on.
+fn code_of(kind: FaultKind) -> u32
+    ensures { result ≡ kind_code kind }
+{
+    match kind {
+        FaultKind::ReservedLength => 1,
+        FaultKind::UnitTooLong => 2,
+        FaultKind::UnitOverrun => 3,
+        FaultKind::AddressSize => 4,
+        FaultKind::HeaderBeyondUnit => 5,
+        FaultKind::HeaderOverrun => 6,
+        FaultKind::MaxOps => 7,
+        FaultKind::LineRange => 8,
+        FaultKind::OpcodeBase => 9,
+        FaultKind::StandardLength(_) => 10,
+        FaultKind::UnknownForm(_) => 11,
+        FaultKind::EmptyFormat => 12,
+        FaultKind::LebRange => 13,
+        FaultKind::ExtendedEmpty => 14,
+        FaultKind::ExtendedLength => 15,
+        FaultKind::OpcodeOverrun => 16,
+        FaultKind::Truncated => 17,
+    }
+}
+
+/// What the kind says besides.
+fn detail_of(kind: FaultKind) -> u64
+    ensures { result ≡ kind_detail kind }
+{
+    match kind {
+        FaultKind::StandardLength(opcode) => u64::from(opcode),
+        FaultKind::UnknownForm(code) => code,
+        _ => 0,
+    }
+}

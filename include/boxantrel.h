@@ -1,0 +1,111 @@
+/*
+ * Boxantrel: line tables of DWARF 5 (the section .debug_line), read out of memory.
+ *
+ * Each call is a function of the bytes that it is given: it keeps nothing between calls, and may be called from several
+ * threads at once. What it answers is proved of the code of the library, for whatever bytes come.
+ *
+ * The caller owes that
+ * - the pointer to the bytes is valid for their number, and isn't null, also where that is 0;
+ * - each pointer to a struct or a number is valid and aligned for its type, and `big` is false or true;
+ * - what a call writes overlaps nothing else that the same call is given;
+ * - malloc, realloc and free are those of one allocator, and no call comes from a signal handler, nor from the child of a
+ *   process with several threads before it runs another program.
+ *
+ * `section`, `len`: the bytes of a section .debug_line. `big`: whether its numbers stand with the highest byte first. An
+ * offset counts from the section's first byte. At each status, what isn't said to be written stays as it was.
+ */
+#ifndef BOXANTREL_H
+#define BOXANTREL_H
+
+#include <stdbool.h>
+#include <stddef.h>
+#include <stdint.h>
+
+#ifdef __cplusplus
+extern "C" {
+#endif
+
+/* How a call ends. */
+enum {
+    DL_DONE = 0,      /* what was asked for is written */
+    DL_FAULT = 1,     /* the bytes are at fault, and the fault is written */
+    DL_NO_ANSWER = 2, /* no row answers */
+    DL_NO_MEMORY = 3  /* malloc or realloc refused memory; the same call may succeed later */
+};
+
+/* What the units of a section come to. */
+typedef struct {
+    uint64_t units;     /* units of version 5 */
+    uint64_t skipped;   /* units of another version, which are passed over */
+    uint64_t sequences; /* rows that end a sequence (section 6.2.5.3) */
+    uint64_t rows;      /* rows, those among them */
+} dl_counts;
+
+/* What is wrong with a section. */
+typedef struct {
+    uint64_t offset; /* of the field or the operation at fault; of the section's end for DL_TRUNCATED */
+    uint64_t detail; /* the opcode of DL_STANDARD_LENGTH, the code of the form of DL_UNKNOWN_FORM; else 0 */
+    uint32_t kind;   /* one of the following */
+} dl_fault;
+
+enum {
+    DL_RESERVED_LENGTH = 1,   /* the initial length is 0xfffffff0 to 0xfffffffe (section 7.4) */
+    DL_UNIT_TOO_LONG = 2,     /* unit_length is above 2^40 */
+    DL_UNIT_OVERRUN = 3,      /* the unit ends before header_length is complete */
+    DL_ADDRESS_SIZE = 4,      /* address_size isn't 1, 2, 4 or 8 */
+    DL_HEADER_BEYOND_UNIT = 5,/* header_length is above the bytes left in the unit */
+    DL_HEADER_OVERRUN = 6,    /* the header ends, by header_length, before its last field does */
+    DL_MAX_OPS = 7,           /* maximum_operations_per_instruction is 0 */
+    DL_LINE_RANGE = 8,        /* line_range is 0 */
+    DL_OPCODE_BASE = 9,       /* opcode_base is 0 */
+    DL_STANDARD_LENGTH = 10,  /* a standard opcode has another number of operands than in section 6.2.5.2 */
+    DL_UNKNOWN_FORM = 11,     /* no form of this code may stand in a line table (section 7.5.6) */
+    DL_EMPTY_FORMAT = 12,     /* there are directories or files, and their format has no pairs */
+    DL_LEB_RANGE = 13,        /* a number in LEB128 doesn't fit 64 bits */
+    DL_EXTENDED_EMPTY = 14,   /* an extended opcode has the length 0 */
+    DL_EXTENDED_LENGTH = 15,  /* the operand of an extended opcode doesn't fill its length */
+    DL_OPCODE_OVERRUN = 16,   /* the unit ends inside an opcode */
+    DL_TRUNCATED = 17         /* the section ends inside a unit */
+};
+
+/*
+ * Reads all units, and counts them, their sequences and their rows.
+ * DL_DONE: the section is units to its end, and *counts is written. DL_FAULT: *fault is the first fault.
+ */
+uint32_t dl_check(const uint8_t *section, size_t len, bool big, dl_counts *counts, dl_fault *fault);
+
+/* A row of the matrix (section 6.2.2). */
+typedef struct {
+    uint64_t address;
+    uint64_t file;          /* a number of the unit's table of files */
+    uint64_t line;          /* modulo 2^64 */
+    uint64_t column;        /* from 1 on; 0 is the line's left edge */
+    uint64_t isa;
+    uint64_t discriminator; /* 0 where there is but one block */
+    uint8_t op_index;       /* the operation in its instruction */
+    uint8_t flags;          /* a sum of the following */
+} dl_row;
+
+enum {
+    DL_STMT = 1,     /* is_stmt: a recommended place for a breakpoint */
+    DL_BLOCK = 2,    /* basic_block: a basic block begins here */
+    DL_PROLOGUE = 4, /* prologue_end: a breakpoint at the entry of a function belongs here */
+    DL_EPILOGUE = 8, /* epilogue_begin: one at its exit does */
+    DL_END = 16      /* end_sequence: the first address after a sequence of instructions */
+};
+
+/*
+ * Looks up the row that answers for an address and an operation of its instruction (0 but on VLIW machines): the last one
+ * that isn't above this place, of the first sequence whose rows rise and which covers it, in the first unit that has one.
+ * What follows this unit isn't looked at.
+ * DL_DONE: *row is the row, and *unit the offset of its unit. DL_NO_ANSWER: no unit has one. DL_FAULT: a unit is at fault
+ * before any has one, and *fault tells it.
+ */
+uint32_t dl_find(const uint8_t *section, size_t len, bool big, uint64_t address, uint8_t op_index, dl_row *row,
+                 uint64_t *unit, dl_fault *fault);
+
+#ifdef __cplusplus
+}
+#endif
+
+#endif
