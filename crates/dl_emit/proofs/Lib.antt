@@ -5,6 +5,7 @@ pub mod ProgramLemmas
 pub mod ReadAgain
 pub mod RowRuns
 pub mod RunLemmas
+pub mod SignedLemmas
 pub mod StepLemmas
 pub mod UnitLemmas
 pub mod WorkedRows

@@ -11,7 +11,7 @@ ghost use Rattle.dl_emit.specs.Writing.{WritesUnitHeader};
 
 use crate::bytes::{BUFFER_LEN, Bytes};
 use crate::fault::EmitFault;
-use crate::program::{ROW, kept, put_row};
+use crate::program::{ROW, keep, put_row};
 use crate::unit::is_in_range;
 use dl_head::{Format, Header, Params, write_header};
 use dl_num::Order;
@@ -101,13 +101,13 @@ impl Program {
         if self.refused.is_some() {
             return Ok(());
         }
-        if !is_in_range(&self.params, *row) {
+        if !is_in_range(&self.params, row) {
             self.refused = Some(self.rows);
             return Ok(());
         }
         gather(&mut self.first, &mut self.last)?;
-        put_row(&mut self.last, self.order, &self.params, self.before, row);
-        self.before = kept(row);
+        put_row(&mut self.last, self.order, &self.params, &self.before, row);
+        keep(&mut self.before, row);
         self.rows += 1;
         Ok(())
     }

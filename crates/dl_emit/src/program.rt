@@ -1,6 +1,6 @@
 //! The program of a row, from the row before it. Section 6.2.5.
 
-ghost use Rattle.std.specs.Prelude.{◌≡◌, ◌+◌, ◌≤◌, ◌<◌, ◌^◌, ◌++◌, length, Option, unwrap_or, if◌then◌else◌};
+ghost use Rattle.std.specs.Prelude.{◌≡◌, ◌+◌, ◌≤◌, ◌<◌, ◌^◌, ◌++◌, length, None, Option, unwrap_or, if◌then◌else◌};
 ghost use Rattle.dl_field.specs.Usable.{IsUsable};
 ghost use Rattle.dl_emit.specs.Program.{when, settings, marks, instructions as instructions_of};
 ghost use Rattle.dl_emit.specs.Program.{advance_by as advance_by_of, advance as advance_of};
@@ -18,21 +18,18 @@ use dl_rows::{Operation, Row};
 pub const ROW: usize = 86;
 
 /// Appends the program of a row, the row before it in its sequence being given.
-pub fn put_row(bytes: &mut Bytes, order: Order, params: &Params, before: Option<Row>, row: &Row)
+#[inline(always)]
+pub fn put_row(bytes: &mut Bytes, order: Order, params: &Params, before: &Option<Row>, row: &Row)
     requires usable { IsUsable params.now }
     requires room { length bytes.old.items + ROW ≤ BUFFER_LEN }
     ensures items { bytes.new.items ≡ bytes.old.items
-        ++ operations_bytes order params.now (row_operations params.now before row.now) }
+        ++ operations_bytes order params.now (row_operations params.now before.now row.now) }
     ensures len { length bytes.new.items ≤ length bytes.old.items + ROW }
 {
     match before {
-        None => {
-            put_settings(bytes, order, params, &start(params), row);
-            put_marks(bytes, order, params, row);
-            put_placed(bytes, order, params, row, line_advance(1, row.line), None);
-        }
+        None => put_first(bytes, order, params, row),
         Some(before) => {
-            put_settings(bytes, order, params, &before, row);
+            put_settings(bytes, order, params, before, row);
             put_marks(bytes, order, params, row);
             let line = line_advance(before.line, row.line);
             put_placed(
@@ -41,17 +38,36 @@ pub fn put_row(bytes: &mut Bytes, order: Order, params: &Params, before: Option<
                 params,
                 row,
                 line,
-                advance(params, &before, row),
+                advance(params, before, row),
             );
         }
     }
 }
 
-/// The row before, for the row after this one.
-pub fn kept(row: &Row) -> Option<Row>
-    ensures { result ≡ kept_of row.now }
+/// Appends the program of the first row of a sequence.
+#[inline(never)]
+fn put_first(bytes: &mut Bytes, order: Order, params: &Params, row: &Row)
+    requires usable { IsUsable params.now }
+    requires room { length bytes.old.items + ROW ≤ BUFFER_LEN }
+    ensures items { bytes.new.items ≡ bytes.old.items
+        ++ operations_bytes order params.now (row_operations params.now None row.now) }
+    ensures len { length bytes.new.items ≤ length bytes.old.items + ROW }
 {
-    if row.end_sequence { None } else { Some(*row) }
+    put_settings(bytes, order, params, &start(params), row);
+    put_marks(bytes, order, params, row);
+    put_placed(bytes, order, params, row, line_advance(1, row.line), None);
+}
+
+/// Makes this row the row before, for the row after it.
+#[inline(always)]
+pub fn keep(before: &mut Option<Row>, row: &Row)
+    ensures { before.new ≡ kept_of row.now }
+{
+    if row.end_sequence {
+        *before = None;
+    } else {
+        *before = Some(*row);
+    }
 }
 
 /// What the first row of a sequence starts from. Section 6.2.2.
@@ -89,6 +105,7 @@ fn put_if(bytes: &mut Bytes, order: Order, params: &Params, is_wanted: bool, ope
 }
 
 /// Appends what holds to the end of the sequence, where it isn't as before.
+#[inline(always)]
 fn put_settings(bytes: &mut Bytes, order: Order, params: &Params, before: &Row, row: &Row)
     requires usable { IsUsable params.now }
     requires room { length bytes.old.items + 34 ≤ BUFFER_LEN }
@@ -107,6 +124,7 @@ fn put_settings(bytes: &mut Bytes, order: Order, params: &Params, before: &Row, 
 }
 
 /// Appends what holds for the row alone.
+#[inline(always)]
 fn put_marks(bytes: &mut Bytes, order: Order, params: &Params, row: &Row)
     requires usable { IsUsable params.now }
     requires room { length bytes.old.items + 16 ≤ BUFFER_LEN }
@@ -140,6 +158,7 @@ fn put_marks(bytes: &mut Bytes, order: Order, params: &Params, row: &Row)
 }
 
 /// Appends the step to a row by an operation advance, where there is one, and else by its address.
+#[inline(always)]
 fn put_placed(
     bytes: &mut Bytes,
     order: Order,
@@ -166,6 +185,7 @@ fn put_placed(
 }
 
 /// Appends a line advance, an operation advance, and what appends the row.
+#[inline(always)]
 fn put_appended(
     bytes: &mut Bytes,
     order: Order,
@@ -195,6 +215,7 @@ fn put_appended(
 }
 
 /// Appends a line advance and an operation advance that aren't 0.
+#[inline(always)]
 fn put_advances(bytes: &mut Bytes, order: Order, params: &Params, line: i64, advance: u64)
     requires usable { IsUsable params.now }
     requires room { length bytes.old.items + 22 ≤ BUFFER_LEN }
@@ -209,11 +230,15 @@ fn put_advances(bytes: &mut Bytes, order: Order, params: &Params, line: i64, adv
 }
 
 /// The least number of instructions that are `size` bytes long together, each of `minimum` bytes.
+#[inline(always)]
 fn instructions(minimum: u8, size: u64) -> Option<u64>
     ensures { result ≡ instructions_of minimum size }
 {
     if minimum == 0 {
         return if size == 0 { Some(0) } else { None };
+    }
+    if minimum == 1 {
+        return Some(size);
     }
     let minimum = u64::from(minimum);
     if size % minimum == 0 {
@@ -225,9 +250,13 @@ fn instructions(minimum: u8, size: u64) -> Option<u64>
 
 /// The operation advance by this many instructions, and from one op_index to another. Section
 /// 6.2.5.1.
+#[inline(always)]
 fn advance_by(params: &Params, from: u8, to: u8, instructions: u64) -> Option<u64>
     ensures { result ≡ advance_by_of params.now from to instructions }
 {
+    if params.maximum_operations_per_instruction == 1 && from == to {
+        return Some(instructions);
+    }
     let maximum = u128::from(params.maximum_operations_per_instruction);
     let end = u128::from(instructions) * maximum + u128::from(to);
     let by = end.checked_sub(u128::from(from))?;
@@ -235,6 +264,7 @@ fn advance_by(params: &Params, from: u8, to: u8, instructions: u64) -> Option<u6
 }
 
 /// The operation advance from a row to the next one of its sequence.
+#[inline(always)]
 fn advance(params: &Params, before: &Row, row: &Row) -> Option<u64>
     ensures { result ≡ advance_of params.now before.now row.now }
 {
@@ -244,6 +274,7 @@ fn advance(params: &Params, before: &Row, row: &Row) -> Option<u64>
 }
 
 /// From one line to another, modulo 2^64.
+#[inline(always)]
 fn line_advance(from: u64, to: u64) -> i64
     ensures { result ≡ line_advance_of from to }
 {
@@ -252,6 +283,7 @@ fn line_advance(from: u64, to: u64) -> i64
 
 /// The special opcode for a line advance and an operation advance, if there is one. Section
 /// 6.2.5.1.
+#[inline(always)]
 fn special(params: &Params, line: i64, advance: u64) -> Option<u8>
     ensures { result ≡ special_of params.now line advance }
 {

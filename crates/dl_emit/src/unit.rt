@@ -12,7 +12,7 @@ ghost use Rattle.std.specs.List.{AllByRecursion};
 
 use crate::bytes::{BUFFER_LEN, Bytes};
 use crate::fault::EmitFault;
-use crate::program::{ROW, kept, put_row};
+use crate::program::{ROW, keep, put_row};
 use dl_head::counted::put;
 use dl_head::{HeadWrite, Header, Params, header_len, write_header};
 use dl_num::Order;
@@ -54,10 +54,11 @@ pub fn write_unit<W: Write>(
 }
 
 /// Whether the row can be one of a unit with these params.
-pub fn is_in_range(params: &Params, row: Row) -> bool
+#[inline(always)]
+pub fn is_in_range(params: &Params, row: &Row) -> bool
     requires { IsUsable params.now }
-    ensures value { result ≡ is_in_range_of params.now row }
-    ensures row { IsRow row }
+    ensures value { result ≡ is_in_range_of params.now row.now }
+    ensures row { IsRow row.now }
 {
     let fits = params.address_size >= 8 || row.address < 1 << (8 * params.address_size);
     row.op_index < params.maximum_operations_per_instruction && fits
@@ -78,13 +79,13 @@ fn program_len(params: &Params, rows: &[Row]) -> Result<u64, EmitFault>
     let mut before = None;
     let mut len = 0u64;
     for (i, row) in rows.iter().enumerate() {
-        if !is_in_range(params, *row) {
+        if !is_in_range(params, row) {
             return Err(EmitFault::RowRange(i));
         }
         program.clear();
-        put_row(&mut program, Order::Little, params, before, row);
+        put_row(&mut program, Order::Little, params, &before, row);
         len = len.saturating_add(program.len() as u64);
-        before = kept(row);
+        keep(&mut before, row);
     }
     Ok(len)
 }
@@ -105,8 +106,8 @@ fn write_program<W: Write>(
     let mut before = None;
     for row in rows {
         out = make_room(output, out, &mut held)?;
-        put_row(&mut held, order, params, before, row);
-        before = kept(row);
+        put_row(&mut held, order, params, &before, row);
+        keep(&mut before, row);
     }
     put(output, out, held.as_slice())
 }

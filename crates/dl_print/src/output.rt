@@ -88,6 +88,21 @@ impl Printer {
         Ok(())
     }
 
+    /// How many bytes are out.
+    pub fn out(&self) -> u128
+        ensures { result ≡ self.now.out }
+    {
+        self.out
+    }
+
+    /// Counts bytes that the caller wrote on the output itself, where nothing was held; at most up to 2^128 - 1.
+    pub fn count(&mut self, len: u64)
+        ensures pending { self.new.pending ≡ self.old.pending }
+        ensures out { self.old.out + 2 ^ 64 ≤ 2 ^ 128 → self.new.out ≡ self.old.out + len }
+    {
+        self.out = self.out.saturating_add(len as u128);
+    }
+
     /// Writes the bytes themselves, where nothing is held.
     fn pass<W: Write>(&mut self, output: &mut W, bytes: &[u8]) -> Result<(), WriteFault>
         requires empty { self.old.pending ≡ [] }

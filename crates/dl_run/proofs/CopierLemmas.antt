@@ -19,7 +19,7 @@ use Rattle.dl_emit.proofs.GrownLemmas.{bytes_of_rows}
 use Rattle.dl_run.specs.declared.copying.Copier.{Copier}
 use Rattle.dl_run.specs.declared.fault.RunFault.{RunFault}
 use Rattle.dl_run.specs.declared.fault.RunFault.TheVariants as fault
-use Rattle.dl_run.specs.UnitPrinted.{PrintsUnit}
+use Rattle.dl_run.specs.UnitPrinted.{PrintsPart}
 use Rattle.dl_run.specs.Copying.{Copying, IsGrowth, offset_after, rows_since, end_stop, stop_after, end_text}
 use Rattle.dl_run.specs.Copying.{text_after, copy_story}
 use Rattle.dl_print.specs.Output.{HasPrinted}
@@ -27,7 +27,7 @@ use Rattle.dl_run.specs.RunOutput.{TellsOut}
 use Rattle.dl_print.specs.Printed.{Printed}
 use Rattle.dl_run.specs.Section.{Visit, of_header, of_version, of_row, of_open, of_end}
 use Rattle.dl_run.specs.Visiting.{StopsIn, header_told}
-use Rattle.dl_print.proofs.Outs.{HasPrinted-nothing}
+use Rattle.dl_print.proofs.Outs.{HasPrinted-nothing, TellsOut-front}
 use Rattle.dl_run.proofs.Fronts.{neither, none_is_some, value_same}
 use Rattle.dl_run.proofs.HeadersTold.{header_told-append}
 use Rattle.dl_run.proofs.CopyingVisits.{offset_after-append, rows_since-append, stop_after-append, written}
@@ -85,14 +85,34 @@ pub grows_no_more : (visits : List Visit) (g : Option HeaderData) (p : ProgramDa
 grows_no_more visits g p h told =
     absurd (none_is_some (sym (header_told-append None visits (of_end g ∷ [])) ∙ told))
 
--- what is printed of a unit is the unit
-pub unit_text : (p : ProgramData) (h : HeaderData) (rows : List Row) (before first last : List ℕ)
-    → IsGrown p p.order h.params rows → refusal h rows ≡ None
-    → before ≡ header_bytes p.order h (program_len h.params rows) → first ≡ p.first → last ≡ p.last
-    → before ++ (first ++ last) ≡ unit_of p.order h rows
-unit_text p h rows before first last grown accepted b f l =
+-- the program stands after the header
+pub unit_text : (p : ProgramData) (h : HeaderData) (rows : List Row) (first last : List ℕ)
+    → IsGrown p p.order h.params rows → refusal h rows ≡ None → first ≡ p.first → last ≡ p.last
+    → header_bytes p.order h (program_len h.params rows) ++ (first ++ last) ≡ unit_of p.order h rows
+unit_text p h rows first last grown accepted f l =
     let held = bytes_of_rows p h.params rows grown (neither (rows_refusal h.params rows) _ accepted).0 in
-    ap₂ (λ (x y : List ℕ). x ++ y) b (ap₂ (λ (x y : List ℕ). x ++ y) f l ∙ held)
+    ap (λ (x : List ℕ). header_bytes p.order h (program_len h.params rows) ++ x)
+    (ap₂ (λ (x y : List ℕ). x ++ y) f l ∙ held)
+
+-- ---- a part of a unit
+
+module _ (old new : Option (List ℕ)) (before after : Printed) (refused : Option EmitFault) (offset : ℕ) where
+  -- what stops at a part stops at the unit
+  pub front_stops : (part rest unit : List ℕ) (f : RunFault) → (refused ≡ None → part ++ rest ≡ unit)
+      → PrintsPart {A = ⊤} old new before after part refused offset (Err f)
+      → PrintsPart {A = ⊤} old new before after unit refused offset (Err f)
+  front_stops part rest unit (fault.Write out) whole p = (
+    p.0,
+    λ start text has. subst (λ (l : List ℕ). TellsOut start new (text ++ l) (fault.Write out)) (whole p.0)
+        (TellsOut-front start new text part rest (record { out = out }) (p.1 start text has)),
+  )
+  front_stops part rest unit fault.NoMemory whole p = p
+  front_stops part rest unit (fault.Emit n f) whole p = p
+  front_stops part rest unit (fault.Damage at kind) whole p = absurd p
+  front_stops part rest unit fault.Read whole p = absurd p
+  front_stops part rest unit fault.SectionTooLong whole p = absurd p
+  front_stops part rest unit fault.NotFound whole p = absurd p
+  front_stops part rest unit (fault.ForeignUnit n) whole p = absurd p
 
 -- ---- the copier
 
@@ -199,7 +219,7 @@ module _ (first old : Copier) (start held : Option (List ℕ)) (visits : List Vi
   abbrev Printing : {A : Type 0} → Order → HeaderData → (new : Copier) (after : Option (List ℕ)) → Result A RunFault
       → Type 0
   Printing order std new after result =
-      PrintsUnit held after old.printer new.printer order std rows old.unit result
+      PrintsPart held after old.printer new.printer (unit_of order std rows) (refusal std rows) old.unit result
 
   in_its_order : {A : Type 0} (std : HeaderData) (new : Copier) (after : Option (List ℕ)) (result : Result A RunFault)
       → std ≡ with_standard_opcodes h → Printing old.program.order std new after result

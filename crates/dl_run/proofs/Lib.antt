@@ -10,6 +10,7 @@ pub mod OneCopying
 pub mod DumpFronts
 pub mod UnitsLemmas
 pub mod VisitLemmas
+pub mod HeaderPassed
 pub mod HeadersTold
 pub mod ToldLemmas
 pub mod CountLemmas

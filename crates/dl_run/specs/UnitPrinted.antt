@@ -1,9 +1,6 @@
 -- What `copy` prints of a unit. DWARF 5, section 6.2. No promise rests on this file.
 use Rattle.std.specs.Prelude.{◌≡◌, ℕ, List, ◌++◌, Option, Some, None, Result, Ok, Err}
-use Rattle.dl_num.specs.declared.fixed.Order.{Order}
-use Rattle.dl_field.specs.HeaderData.{HeaderData}
-use Rattle.dl_rows.specs.declared.row.Row.{Row}
-use Rattle.dl_emit.specs.WrittenUnit.{unit_of, refusal}
+use Rattle.dl_emit.specs.declared.fault.EmitFault.{EmitFault}
 use Rattle.dl_print.specs.Printed.{Printed}
 use Rattle.dl_print.specs.Output.{HasPrinted, PrintsMore}
 use Rattle.dl_run.specs.RunOutput.{TellsOut}
@@ -20,16 +17,15 @@ StopsPrinting old new before more fault =
     (start : Option (List ℕ)) (text : List ℕ) → HasPrinted start old text before
     → TellsOut start new (text ++ more) fault
 
--- The unit of this header and these rows is printed; or a write failed; or a growth of memory was refused; or the unit
--- is refused, and the fault has its offset. In the last two cases nothing of it is printed.
-abbrev pub PrintsUnit : {A : Type 0} (old new : Option (List ℕ)) (before after : Printed) → Order → HeaderData
-    → List Row → (offset : ℕ) → Result A RunFault → Type 0
-PrintsUnit old new before after order h rows offset (Ok _) =
-    (refusal h rows ≡ None) × PrintsMore old new before after (unit_of order h rows)
-PrintsUnit old new before after order h rows offset (Err (Write out)) =
-    (refusal h rows ≡ None) × StopsPrinting old new before (unit_of order h rows) (Write out)
-PrintsUnit old new before after order h rows offset (Err NoMemory) =
-    (refusal h rows ≡ None) × PrintsNothing old new before after
-PrintsUnit old new before after order h rows offset (Err (Emit unit fault)) =
-    (unit ≡ offset) × (refusal h rows ≡ Some fault) × PrintsNothing old new before after
-PrintsUnit old new before after order h rows offset (Err _) = ⊥
+-- A part of a unit is printed; or a write failed; or a growth of memory was refused, and nothing of it is printed; or
+-- the unit is refused, and the fault has its offset.
+abbrev pub PrintsPart : {A : Type 0} (old new : Option (List ℕ)) (before after : Printed) (part : List ℕ)
+    (refused : Option EmitFault) (offset : ℕ) → Result A RunFault → Type 0
+PrintsPart old new before after part refused offset (Ok _) = (refused ≡ None) × PrintsMore old new before after part
+PrintsPart old new before after part refused offset (Err (Write out)) =
+    (refused ≡ None) × StopsPrinting old new before part (Write out)
+PrintsPart old new before after part refused offset (Err NoMemory) =
+    (refused ≡ None) × PrintsNothing old new before after
+PrintsPart old new before after part refused offset (Err (Emit unit fault)) =
+    (unit ≡ offset) × (refused ≡ Some fault) × PrintsNothing old new before after
+PrintsPart old new before after part refused offset (Err _) = ⊥

@@ -1,12 +1,14 @@
 //! The command that writes all units anew.
 
-ghost use Rattle.std.specs.Prelude.{◌≡◌, ◌≤◌, ◌++◌, ℕ, List};
+ghost use Rattle.std.specs.Prelude.{◌≡◌, ◌≤◌, ◌++◌, ℕ, List, None};
 ghost use Rattle.std.specs.Io.KnownBytes.{Consumes};
 ghost use Rattle.dl_rows.specs.declared.row.Row.{Row};
 ghost use Rattle.dl_emit.specs.Grown.{IsGrown};
+ghost use Rattle.dl_emit.specs.WrittenUnit.{program_len, refusal, unit_of};
+ghost use Rattle.dl_head.specs.Written.{header_bytes};
 ghost use Rattle.dl_print.specs.Output.{Prints};
 ghost use Rattle.dl_run.specs.Commands.{Copies};
-ghost use Rattle.dl_run.specs.UnitPrinted.{PrintsUnit};
+ghost use Rattle.dl_run.specs.UnitPrinted.{PrintsPart};
 
 use crate::fault::RunFault;
 use crate::options::{Options, SECTION_LIMIT};
@@ -16,7 +18,37 @@ use dl_head::Header;
 use dl_print::{Printer, Summary, WriteFault};
 use dl_rows::{Flow, Row};
 use std::alloc::Global;
+use std::io;
 use std::io::{Read, Write};
+
+/// How many bytes of what a unit has before its program are held at most: 1 MiB.
+const MOST_HELD: usize = 1 << 20;
+
+/// What a unit has before its program, held up to `MOST_HELD` bytes. Where there are more, a write takes nothing.
+#[derive(Drop)]
+struct HeldHeader {
+    bytes: Vec<u8>,
+    /// Whether a write took nothing since there were more.
+    is_full: bool,
+}
+
+impl Write for HeldHeader {
+    ghost use Rattle.std.specs.Prelude.{Some};
+
+    ghost contents = { λ h. Some h.bytes.items };
+
+    fn write(&mut self, bytes: &[u8]) -> io::Result<usize> {
+        if MOST_HELD.saturating_sub(self.bytes.len()) < bytes.len() {
+            self.is_full = true;
+            return Ok(0);
+        }
+        self.bytes.write(bytes)
+    }
+
+    fn flush(&mut self) -> io::Result<()> {
+        Ok(())
+    }
+}
 
 /// Writes each unit where it ends.
 #[derive(Drop)]
@@ -26,8 +58,8 @@ struct Copier {
     unit: u64,
     /// What is written for the rows of the current unit.
     program: Program,
-    /// What a unit has before its program; its room is kept.
-    header: Vec<u8>,
+    /// What the current unit has before its program; its room is kept.
+    header: HeldHeader,
 }
 
 impl<W: Write> Visitor<W> for Copier {
@@ -71,24 +103,69 @@ impl<W: Write> Visitor<W> for Copier {
 }
 
 impl Copier {
-    /// Writes the current unit under this header. It is printed once what stands before its program is in memory too.
+    /// Writes the current unit under this header.
     fn write<W: Write>(&mut self, output: &mut W, header: &Header) -> Result<(), RunFault>
         ensures printed { (rows : List Row)
             → IsGrown self.old.program self.old.program.order header.now.params rows
-            → PrintsUnit (W.contents output.old) (W.contents output.new) self.old.printer self.new.printer
-            self.old.program.order header.now rows self.old.unit result }
+            → PrintsPart (W.contents output.old) (W.contents output.new) self.old.printer self.new.printer
+            (unit_of self.old.program.order header.now rows) (refusal header.now rows) self.old.unit result }
         ensures program { self.new.program ≡ self.old.program }
         ensures unit { self.new.unit ≡ self.old.unit }
     {
-        self.header.clear();
+        self.write_header(output, header)?;
+        let first = self.program.first_bytes();
+        let last = self.program.last_bytes();
+        Ok(print_parts(&mut self.printer, output, first, last)?)
+    }
+
+    /// Prints what the current unit has before its program, once all of it is in memory; where it is long, it is
+    /// written on the output itself.
+    fn write_header<W: Write>(&mut self, output: &mut W, header: &Header) -> Result<(), RunFault>
+        ensures printed { (rows : List Row)
+            → IsGrown self.old.program self.old.program.order header.now.params rows
+            → PrintsPart (W.contents output.old) (W.contents output.new) self.old.printer self.new.printer
+            (header_bytes self.old.program.order header.now (program_len header.now.params rows))
+            (refusal header.now rows) self.old.unit result }
+        ensures program { self.new.program ≡ self.old.program }
+        ensures unit { self.new.unit ≡ self.old.unit }
+    {
+        self.header.bytes.clear();
+        self.header.is_full = false;
         match self.program.write_header(&mut self.header, header) {
-            Ok(_) => {
-                let before = self.header.as_slice();
-                let first = self.program.first_bytes();
-                let last = self.program.last_bytes();
-                Ok(print_parts(&mut self.printer, output, before, first, last)?)
-            }
+            Ok(_) => Ok(self.printer.put(output, self.header.bytes.as_slice())?),
+            Err(EmitFault::Write { .. }) if self.header.is_full => self.pass_header(output, header),
             Err(EmitFault::Write { .. }) => Err(RunFault::NoMemory),
+            Err(fault) => Err(RunFault::Emit {
+                unit: self.unit,
+                fault,
+            }),
+        }
+    }
+
+    /// Writes what the current unit has before its program on the output itself, after all that is held. Where the
+    /// bytes that are out could not be counted, none of it is written.
+    fn pass_header<W: Write>(&mut self, output: &mut W, header: &Header) -> Result<(), RunFault>
+        ensures printed { (rows : List Row)
+            → IsGrown self.old.program self.old.program.order header.now.params rows → refusal header.now rows ≡ None
+            → PrintsPart (W.contents output.old) (W.contents output.new) self.old.printer self.new.printer
+            (header_bytes self.old.program.order header.now (program_len header.now.params rows))
+            (refusal header.now rows) self.old.unit result }
+        ensures program { self.new.program ≡ self.old.program }
+        ensures unit { self.new.unit ≡ self.old.unit }
+    {
+        self.printer.flush(output)?;
+        let out = self.printer.out();
+        if out > u128::MAX - u64::MAX as u128 {
+            return Err(RunFault::Write { out });
+        }
+        match self.program.write_header(output, header) {
+            Ok(len) => {
+                self.printer.count(len);
+                Ok(())
+            }
+            Err(EmitFault::Write { out: part }) => Err(RunFault::Write {
+                out: out + part as u128,
+            }),
             Err(fault) => Err(RunFault::Emit {
                 unit: self.unit,
                 fault,
@@ -97,18 +174,16 @@ impl Copier {
     }
 }
 
-/// Prints what a unit has before its program, and the two parts of this.
+/// Prints the two parts of a program.
 fn print_parts<W: Write>(
     printer: &mut Printer,
     output: &mut W,
-    before: &[u8],
     first: &[u8],
     last: &[u8],
 ) -> Result<(), WriteFault>
     ensures { Prints (W.contents output.old) (W.contents output.new) printer.old printer.new
-        (before.now ++ (first.now ++ last.now)) result }
+        (first.now ++ last.now) result }
 {
-    printer.put(output, before)?;
     printer.put(output, first)?;
     printer.put(output, last)
 }
@@ -116,8 +191,9 @@ fn print_parts<W: Write>(
 /// Writes all units of the input anew: each under its header with opcode_base 13, with the same
 /// rows, its numbers shortest.
 ///
-/// What comes before a fault is written. The faults are those of `RunFault`. The bytes of a unit are held in memory
-/// until it ends; each growth of these, and those of `Reader::feed`, come before the unit is written.
+/// What comes before a fault is written. The faults are those of `RunFault`. What is written for the rows of a unit is
+/// held in memory until the unit ends, and up to 1 MiB of what stands before it; each growth of these, and those of
+/// `Reader::feed`, come before the unit is written.
 pub fn copy<R: Read, W: Write>(
     alloc: Global,
     input: &mut R,
@@ -133,7 +209,10 @@ pub fn copy<R: Read, W: Write>(
         printer: Printer::new(),
         unit: 0,
         program: Program::new(alloc, options.order),
-        header: Vec::new(alloc),
+        header: HeldHeader {
+            bytes: Vec::new(alloc),
+            is_full: false,
+        },
     };
     read_units(alloc, input, output, options, &mut copier)
 }

@@ -31,7 +31,7 @@ loop-i-preserved c =
           subst (AllByRecursion IsRow) (sym (take_more rows i _ c.loop-i-test.true))
           (all_push IsRow (take i rows) _ c.loop-i.invariant.ranged c.is_in_range.ensures.row);
       counted =
-          rw c.kept-before.ensures
+          rw c.keep.ensures
           (counts_more h rows c.loop-i.len c.saturating_add-len.result c.len.result i _ c.loop-i.before
           c.loop-i-test.true bytes c.saturating_add-len.ensures c.loop-i.invariant.counted);
     }

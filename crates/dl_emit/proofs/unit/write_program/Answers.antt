@@ -24,7 +24,7 @@ returns-in_err-out g c = record {
 pub loop-row-preserved : goal.loop-row-preserved
 loop-row-preserved g c = λ start text h.
     let gone = c.loop-row.invariant start text h in
-    rw c.kept-before.ensures
+    rw c.keep.ensures
     (gone_more c.args.order c.args.params.now c.args.rows.now start _ text c.make_room.new.held.items _
     c.put_row.new.bytes.items gone.done c.in_ok-out.out c.loop-row.row-index _ c.loop-row.before
     c.loop-row-test.true refl c.put_row.ensures.items gone.whole

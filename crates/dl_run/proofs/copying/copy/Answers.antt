@@ -1,3 +1,4 @@
+use Rattle.std.proofs.Common.{false}
 use Rattle.std.proofs.KnownBytes.{Appends-nil}
 use Rattle.dl_run.specs.declared.copying.Copier.{Copier}
 use Rattle.dl_run.proofs.CopierLemmas.{begins}
@@ -12,7 +13,7 @@ returns g c =
       printer = c.new.result;
       unit = 0;
       program = c.new-2.result;
-      header = c.new-3.result;
+      header = record { bytes = c.new-3.result; is_full = false };
     } in
     let start = g.W.Write.contents c.args.output.now in
     let read = c.read_units.ensures in

@@ -1,4 +1,4 @@
-use Rattle.std.proofs.Common.{◌++◌, ℕ, List, append_assoc, subst, ◌∙◌}
+use Rattle.std.proofs.Common.{◌++◌, ℕ, List, append_assoc, subst}
 use Rattle.std.specs.Prelude.{MatchResult}
 use Rattle.std.proofs.lemmas.Result.{err_from_is_err_and}
 use Rattle.dl_print.specs.Output.{HasPrinted, TellsOut}
@@ -8,28 +8,14 @@ use Rattle.dl_run.proofs.copying.print_parts.Goals as goal
 pub returns-in_err-put : goal.returns-in_err-put
 returns-in_err-put g c start text h =
     let p = err_from_is_err_and c.from_residual.result c.from_residual.ensures.1 in
-    rw (p.1, p.2) (TellsOut-front start _ text c.args.before.now (c.args.first.now ++ c.args.last.now) _
+    rw (p.1, p.2) (TellsOut-front start _ text c.args.first.now c.args.last.now _
     (c.in_err-put.ensures.printed start text h))
-
-pub returns-in_err-put-2 : goal.returns-in_err-put-2
-returns-in_err-put-2 g c start text h =
-    let p = err_from_is_err_and c.from_residual-in_err-put-2.result c.from_residual-in_err-put-2.ensures.1 in
-    let before = c.args.before.now in
-    let lost = c.in_err-put-2.field-0.0 in
-    let tells = c.in_err-put-2.ensures.printed start (text ++ before) (c.in_ok-put.ensures.printed start text h) in
-    let all = subst (λ (l : List ℕ). TellsOut start (g.W.Write.contents c.put-2.new.output) l lost)
-    (append_assoc text before (c.args.first.now ++ c.args.last.now))
-    (TellsOut-front start _ (text ++ before) c.args.first.now c.args.last.now lost tells) in
-    rw (p.1, p.2) all
 
 pub returns : goal.returns
 returns g c start text h =
-    let before = c.args.before.now in
     let first = c.args.first.now in
     let last = c.args.last.now in
-    let printed = c.put-3.ensures.printed start ((text ++ before) ++ first)
-    (c.in_ok-put-2.ensures.printed start (text ++ before) (c.in_ok-put.ensures.printed start text h)) in
-    subst (λ (l : List ℕ). MatchResult c.put-3.result
-    (λ _. HasPrinted start (g.W.Write.contents c.put-3.new.output) l c.put-3.new.self)
-    (λ f. TellsOut start (g.W.Write.contents c.put-3.new.output) l f))
-    (append_assoc (text ++ before) first last ∙ append_assoc text before (first ++ last)) printed
+    let printed = c.put-2.ensures.printed start (text ++ first) (c.in_ok-put.ensures.printed start text h) in
+    subst (λ (l : List ℕ). MatchResult c.put-2.result
+    (λ _. HasPrinted start (g.W.Write.contents c.put-2.new.output) l c.put-2.new.self)
+    (λ f. TellsOut start (g.W.Write.contents c.put-2.new.output) l f)) (append_assoc text first last) printed

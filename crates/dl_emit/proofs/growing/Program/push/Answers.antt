@@ -45,4 +45,4 @@ returns-clause-grown c h rows g =
     c.gather.new.last.items c.put_row.new.bytes.items (refused_none _ (sym c.is_some.ensures ∙ c.if-is_some.false))
     (sym c.is_in_range.ensures.value ∙ c.if-not-is_in_range.false) c.is_in_range.ensures.row
     c.in_ok-gather.ensures.items c.put_row.ensures.items in
-    rw c.kept-self-inside.ensures grown
+    rw c.keep.ensures grown
