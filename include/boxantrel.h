@@ -5,14 +5,15 @@
  * threads at once. What it answers is proved of the code of the library, for whatever bytes come.
  *
  * The caller owes that
- * - the pointer to the bytes is valid for their number, and isn't null, also where that is 0;
+ * - the pointer to the bytes is valid for their number, and isn't null, also where that is 0; a pointer to a room is so
+ *   for as many elements as the room is said to have;
  * - each pointer to a struct or a number is valid and aligned for its type, and `big` is false or true;
  * - what a call writes overlaps nothing else that the same call is given;
- * - malloc, realloc and free are those of one allocator, and no call comes from a signal handler, nor from the child of a
- *   process with several threads before it runs another program.
+ * - malloc, realloc and free are those of one allocator, and no call comes from a signal handler, nor from the child
+ *   of a process with several threads before it runs another program.
  *
- * `section`, `len`: the bytes of a section .debug_line. `big`: whether its numbers stand with the highest byte first. An
- * offset counts from the section's first byte. At each status, what isn't said to be written stays as it was.
+ * `section`, `len`: the bytes of a section .debug_line. `big`: whether its numbers stand with the highest byte first.
+ * An offset counts from the section's first byte. At each status, what isn't said to be written stays as it was.
  */
 #ifndef BOXANTREL_H
 #define BOXANTREL_H
@@ -27,10 +28,12 @@ extern "C" {
 
 /* How a call ends. */
 enum {
-    DL_DONE = 0,      /* what was asked for is written */
-    DL_FAULT = 1,     /* the bytes are at fault, and the fault is written */
-    DL_NO_ANSWER = 2, /* no row answers */
-    DL_NO_MEMORY = 3  /* malloc or realloc refused memory; the same call may succeed later */
+    DL_DONE = 0,          /* what was asked for is written */
+    DL_FAULT = 1,         /* the bytes are at fault, and the fault is written */
+    DL_NO_ANSWER = 2,     /* no row answers, or the section has no byte at the offset */
+    DL_NO_MEMORY = 3,     /* malloc or realloc refused memory; the same call may succeed later */
+    DL_OTHER_VERSION = 4, /* a unit isn't of version 5 where it has to be */
+    DL_NO_ROOM = 5        /* there isn't room for the answer */
 };
 
 /* What the units of a section come to. */
@@ -94,15 +97,55 @@ enum {
     DL_END = 16      /* end_sequence: the first address after a sequence of instructions */
 };
 
+/* A unit that was read whole (section 6.2.4). */
+typedef struct {
+    uint64_t offset;      /* of its first byte; the next unit, where there is one, begins at offset + length */
+    uint64_t length;      /* how many bytes it has, its initial length included */
+    uint64_t rows;        /* how many rows it has; of a version other than 5 none, nor directories and files */
+    uint64_t directories; /* how many entries its table of directories has */
+    uint64_t files;       /* how many entries its table of files has */
+    uint16_t version;
+    uint8_t address_size; /* of an address, in bytes; 0 of a version other than 5 */
+    uint8_t is_dwarf64;   /* 1 where it is of the 64-bit DWARF format (section 7.4), else 0 */
+} dl_unit;
+
 /*
- * Looks up the row that answers for an address and an operation of its instruction (0 but on VLIW machines): the last one
- * that isn't above this place, of the first sequence whose rows rise and which covers it, in the first unit that has one.
- * What follows this unit isn't looked at.
- * DL_DONE: *row is the row, and *unit the offset of its unit. DL_NO_ANSWER: no unit has one. DL_FAULT: a unit is at fault
- * before any has one, and *fault tells it.
+ * Reads the unit that begins at an offset, to its end, and describes it. What comes before the offset isn't looked at:
+ * a unit begins at 0, and at offset + length of each unit that another one follows. Nor is what follows the unit.
+ * DL_DONE: *unit is the unit. DL_NO_ANSWER: the offset is the section's end, or beyond it. DL_FAULT: *fault is the
+ * first fault from the offset on.
+ */
+uint32_t dl_unit_at(const uint8_t *section, size_t len, bool big, uint64_t offset, dl_unit *unit, dl_fault *fault);
+
+/*
+ * Lists the rows of the unit that begins at an offset, read as by dl_unit_at, as many as there is room for.
+ * DL_DONE: *count is how many rows the unit has, be there room for them or not, and the first of them are written; a
+ * unit of a version other than 5 has none. DL_NO_ANSWER: as of dl_unit_at. DL_FAULT: *fault is the first fault, and
+ * *count and the rows are those before it.
+ */
+uint32_t dl_rows_at(const uint8_t *section, size_t len, bool big, uint64_t offset, dl_row *rows, size_t room,
+                    size_t *count, dl_fault *fault);
+
+/*
+ * Looks up the row that answers for an address and an operation of its instruction (0 but on VLIW machines): the last
+ * one that isn't above this place, of the first sequence whose rows rise and which covers it, in the first unit that
+ * has one. What follows this unit isn't looked at.
+ * DL_DONE: *row is the row, and *unit the offset of its unit. DL_NO_ANSWER: no unit has one. DL_FAULT: a unit is at
+ * fault before any has one, and *fault tells it.
  */
 uint32_t dl_find(const uint8_t *section, size_t len, bool big, uint64_t address, uint8_t op_index, dl_row *row,
                  uint64_t *unit, dl_fault *fault);
+
+/*
+ * Writes all units anew, each under its header with opcode_base 13 and with the same rows, its numbers shortest. The
+ * copy is held in memory of the library until it is whole.
+ * DL_DONE: *copied is how many bytes the copy has, and out begins with it. DL_NO_ROOM: *copied is the same, more than
+ * the room is; nothing else is written. DL_FAULT: *fault is the first fault; DL_UNIT_TOO_LONG is also that of a unit
+ * whose copy would be too long, at the unit's offset. DL_OTHER_VERSION: a unit is of another version, and no fault
+ * comes before it. DL_NO_MEMORY: also where the section has more than 2^44 bytes.
+ */
+uint32_t dl_copy(const uint8_t *section, size_t len, bool big, uint8_t *out, size_t room, size_t *copied,
+                 dl_fault *fault);
 
 #ifdef __cplusplus
 }

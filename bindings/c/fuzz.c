@@ -1,7 +1,7 @@
 /*
- * fuzz ROUNDS FILE..: the calls over sections of the files with changed bytes and random ends, and random addresses. Each
- * section, and each struct that is written, ends at a page that can't be touched; what a call may not write is compared
- * afterwards.
+ * fuzz ROUNDS FILE..: the calls over sections of the files with changed bytes and random ends, and random addresses,
+ * offsets and rooms. Each section, and each struct and room that is written, ends at a page that can't be touched; what
+ * a call may not write is compared afterwards.
  */
 #include <boxantrel.h>
 #include <stdio.h>
@@ -10,7 +10,7 @@
 #include <sys/mman.h>
 #include <unistd.h>
 
-enum { MOST = 1 << 16, FILL = 0xa5 };
+enum { MOST = 1 << 16, MOST_ROWS = 256, MOST_COPY = 4096, FILL = 0xa5 };
 
 static uint64_t state;
 
@@ -60,8 +60,11 @@ static bool is_filled(const void *at, size_t len)
 static uint8_t *section_end, *section;
 static dl_counts *counts;
 static dl_fault *fault;
-static dl_row *row;
+static dl_row *row, *rows_end;
 static uint64_t *unit;
+static dl_unit *described;
+static size_t *count;
+static uint8_t *copy_end;
 static size_t len;
 static bool big;
 
@@ -72,6 +75,9 @@ static void fill(void)
     memset(fault, FILL, sizeof *fault);
     memset(row, FILL, sizeof *row);
     memset(unit, FILL, sizeof *unit);
+    memset(described, FILL, sizeof *described);
+    memset(count, FILL, sizeof *count);
+    memset(rows_end - MOST_ROWS, FILL, MOST_ROWS * sizeof *rows_end);
 }
 
 /* The fault of a call with this status: told in its case alone. */
@@ -115,6 +121,66 @@ static void check_find(uint32_t counted, uint64_t address)
         wanted(status == (counted == DL_DONE ? (uint32_t)DL_NO_ANSWER : counted), "another end than that of the count");
 }
 
+/* Describes the unit at an offset. The answer is the status. */
+static uint32_t check_unit(uint64_t offset)
+{
+    fill();
+    uint32_t status = dl_unit_at(section, len, big, offset, described, fault);
+    check_fault(status);
+    wanted(status <= DL_NO_MEMORY, "a status of no unit");
+    wanted((status == DL_NO_ANSWER) == (offset >= len), "a unit where there is no byte, or none where there is one");
+    if (status == DL_DONE)
+        wanted(described->offset == offset && described->length <= len - offset && described->rows <= described->length,
+               "a unit beyond the section");
+    else
+        wanted(is_filled(described, sizeof *described), "a unit that isn't told");
+    if (status == DL_FAULT)
+        wanted(fault->offset >= offset, "a fault before the unit");
+    return status;
+}
+
+/* Lists the rows of the unit at an offset, whose status is this one, into a room. */
+static void check_rows(uint32_t described_as, uint64_t offset, size_t room)
+{
+    uint64_t wanted_rows = described->rows;
+    fill();
+    dl_row *rows = rows_end - room;
+    uint32_t status = dl_rows_at(section, len, big, offset, rows, room, count, fault);
+    check_fault(status);
+    wanted(status == described_as, "rows with another end than that of the unit");
+    size_t kept = 0;
+    if (status == DL_DONE || status == DL_FAULT) {
+        wanted(status == DL_FAULT || *count == wanted_rows, "another number of rows than that of the unit");
+        kept = *count < room ? *count : room;
+    } else {
+        wanted(is_filled(count, sizeof *count), "a count that isn't told");
+    }
+    wanted(is_filled(rows_end - MOST_ROWS, (MOST_ROWS - room) * sizeof *rows), "a row before the room");
+    wanted(is_filled(rows + kept, (room - kept) * sizeof *rows), "a row that isn't told");
+}
+
+/* Writes the section anew into a room, where counting ended with this status. */
+static void check_copy(uint32_t counted, size_t room)
+{
+    fill();
+    memset(copy_end - MOST_COPY, FILL, MOST_COPY);
+    uint8_t *out = copy_end - room;
+    uint32_t status = dl_copy(section, len, big, out, room, count, fault);
+    check_fault(status);
+    wanted(status <= DL_NO_ROOM && status != DL_NO_ANSWER, "a status of no copy");
+    size_t written = 0;
+    if (status == DL_DONE)
+        written = *count;
+    wanted(written <= room, "a copy beyond the room");
+    wanted(status != DL_NO_ROOM || *count > room, "no room where there is some");
+    if (status == DL_DONE || status == DL_NO_ROOM)
+        wanted(counted == DL_DONE || counted == DL_NO_MEMORY, "a copy of a section at fault");
+    else
+        wanted(is_filled(count, sizeof *count), "a length that isn't told");
+    wanted(is_filled(copy_end - MOST_COPY, MOST_COPY - room), "a byte before the room");
+    wanted(is_filled(out + written, room - written), "a byte after the copy");
+}
+
 /* Reads a file, of which some bytes are changed and some left out at its end. */
 static void take(const char *path)
 {
@@ -131,20 +197,28 @@ static void take(const char *path)
     big = below(8) == 0;
 }
 
-int main(int count, char **words)
+int main(int words_count, char **words)
 {
-    if (count < 3)
+    if (words_count < 3)
         return 2;
     section_end = guarded(MOST);
     counts = (dl_counts *)guarded(sizeof *counts) - 1;
     fault = (dl_fault *)guarded(sizeof *fault) - 1;
     row = (dl_row *)guarded(sizeof *row) - 1;
     unit = (uint64_t *)guarded(sizeof *unit) - 1;
+    described = (dl_unit *)guarded(sizeof *described) - 1;
+    count = (size_t *)guarded(sizeof *count) - 1;
+    copy_end = guarded(MOST_COPY);
+    rows_end = (dl_row *)guarded(MOST_ROWS * sizeof *rows_end);
     uint64_t rounds = strtoull(words[1], NULL, 10);
     for (state = 1; state <= rounds; state++) {
         uint64_t round = state;
-        take(words[2 + below((uint64_t)count - 2)]);
-        check_find(check_counts(), below(2) ? 0x401000 + below(256) : next());
+        take(words[2 + below((uint64_t)words_count - 2)]);
+        uint32_t counted = check_counts();
+        check_find(counted, below(2) ? 0x401000 + below(256) : next());
+        check_copy(counted, below(below(2) ? 64 : MOST_COPY + 1));
+        uint64_t offset = below(2) ? 0 : below(len + 2);
+        check_rows(check_unit(offset), offset, below(2) ? below(MOST_ROWS) : below(4));
         state = round;
     }
     printf("fuzz: %llu rounds\n", (unsigned long long)rounds);

@@ -5,6 +5,8 @@
     Counts(units=2, skipped=0, sequences=3, rows=91)
     >>> section.find(0x401008).row.line
     8
+    >>> [(unit.offset, unit.rows, len(list(section.rows_at(unit.offset)))) for unit in section.units()]
+    [(0, 59, 59), (297, 32, 32)]
 
 The library is the file that the environment variable BOXANTREL_LIBRARY names, else `out/libboxantrel.so` of the repository
 that this file stands in, else the one that the system finds.
@@ -16,11 +18,11 @@ import ctypes
 import ctypes.util
 import os
 import pathlib
-from typing import NamedTuple, Optional
+from typing import Iterator, NamedTuple, Optional
 
-__all__ = ["Counts", "Damage", "Found", "Row", "Section"]
+__all__ = ["Counts", "Damage", "Found", "OtherVersion", "Row", "Section", "Unit"]
 
-_DONE, _FAULT, _NO_ANSWER, _NO_MEMORY = range(4)
+_DONE, _FAULT, _NO_ANSWER, _NO_MEMORY, _OTHER_VERSION, _NO_ROOM = range(6)
 
 
 class _Counts(ctypes.Structure):
@@ -35,6 +37,14 @@ class _Row(ctypes.Structure):
     _fields_ = [
         (name, ctypes.c_uint64) for name in ("address", "file", "line", "column", "isa", "discriminator")
     ] + [("op_index", ctypes.c_uint8), ("flags", ctypes.c_uint8)]
+
+
+class _Unit(ctypes.Structure):
+    _fields_ = [(name, ctypes.c_uint64) for name in ("offset", "length", "rows", "directories", "files")] + [
+        ("version", ctypes.c_uint16),
+        ("address_size", ctypes.c_uint8),
+        ("is_dwarf64", ctypes.c_uint8),
+    ]
 
 
 class Counts(NamedTuple):
@@ -63,6 +73,21 @@ class Row(NamedTuple):
     end_sequence: bool
 
 
+class Unit(NamedTuple):
+    """A unit that was read whole: its offset and length in bytes, how many rows, directories and files it has (of a
+    version other than 5 none), its version, the size of an address in bytes (0 of a version other than 5), and whether
+    it is of the 64-bit DWARF format."""
+
+    offset: int
+    length: int
+    rows: int
+    directories: int
+    files: int
+    version: int
+    address_size: int
+    is_dwarf64: bool
+
+
 class Found(NamedTuple):
     """The row that answers for a place, and the offset of its unit."""
 
@@ -81,6 +106,10 @@ class Damage(Exception):
         self.detail = detail
 
 
+class OtherVersion(Exception):
+    """A unit isn't of version 5 where it has to be."""
+
+
 def _library() -> ctypes.CDLL:
     named = os.environ.get("BOXANTREL_LIBRARY")
     built = pathlib.Path(__file__).resolve().parents[2] / "out" / "libboxantrel.so"
@@ -92,8 +121,12 @@ def _library() -> ctypes.CDLL:
     fault = ctypes.POINTER(_Fault)
     row = ctypes.POINTER(_Row)
     place = [ctypes.c_uint64, ctypes.c_uint8]
+    rows = [row, ctypes.c_size_t, ctypes.POINTER(ctypes.c_size_t)]
     arguments = {
         "dl_check": section + [ctypes.POINTER(_Counts), fault],
+        "dl_unit_at": section + [ctypes.c_uint64, ctypes.POINTER(_Unit), fault],
+        "dl_rows_at": section + [ctypes.c_uint64] + rows + [fault],
+        "dl_copy": section + [ctypes.c_void_p, ctypes.c_size_t, ctypes.POINTER(ctypes.c_size_t), fault],
         "dl_find": section + place + [row, ctypes.POINTER(ctypes.c_uint64), fault],
     }
     for name, types in arguments.items():
@@ -115,6 +148,8 @@ def _refuse(status: int, fault: _Fault) -> None:
     """Raises what a status says that is none of an answer."""
     if status == _FAULT:
         raise Damage(fault.offset, fault.kind, fault.detail)
+    if status == _OTHER_VERSION:
+        raise OtherVersion("a unit that is not of version 5")
     raise MemoryError("out of memory")
 
 
@@ -131,6 +166,52 @@ class Section:
         if status != _DONE:
             _refuse(status, fault)
         return Counts(counts.units, counts.skipped, counts.sequences, counts.rows)
+
+    def unit_at(self, offset: int) -> Optional[Unit]:
+        """The unit that begins at an offset; None where the section has no byte there. What comes before the offset
+        isn't looked at."""
+        unit, fault = _Unit(), _Fault()
+        status = _calls.dl_unit_at(*self._bytes, offset, ctypes.byref(unit), ctypes.byref(fault))
+        if status == _NO_ANSWER:
+            return None
+        if status != _DONE:
+            _refuse(status, fault)
+        numbers = [getattr(unit, name) for name, _ in _Unit._fields_]
+        return Unit(*numbers[:-1], bool(unit.is_dwarf64))
+
+    def units(self) -> Iterator[Unit]:
+        """The units, one after the other."""
+        unit = self.unit_at(0)
+        while unit is not None:
+            yield unit
+            unit = self.unit_at(unit.offset + unit.length)
+
+    def rows_at(self, offset: int) -> Iterator[Row]:
+        """The rows of the unit that begins at an offset, none where the section has no byte there; of a damaged unit
+        those before the fault, which is raised after them. The unit is read twice: how many rows it has is known after
+        the first time."""
+        count, fault = ctypes.c_size_t(0), _Fault()
+        answer = (ctypes.byref(count), ctypes.byref(fault))
+        _calls.dl_rows_at(*self._bytes, offset, (_Row * 1)(), 0, *answer)
+        room = count.value
+        rows = (_Row * max(room, 1))()
+        status = _calls.dl_rows_at(*self._bytes, offset, rows, room, *answer)
+        if status in (_DONE, _FAULT):
+            yield from map(_row, rows[:room])
+        if status not in (_DONE, _NO_ANSWER):
+            _refuse(status, fault)
+
+    def copy(self) -> bytes:
+        """All units, written anew: each under its header with opcode_base 13 and with the same rows, its numbers
+        shortest. Where the copy is longer than the section it is made twice."""
+        room, status = self._bytes[1], _NO_ROOM
+        while status == _NO_ROOM:
+            out, copied, fault = ctypes.create_string_buffer(room + 1), ctypes.c_size_t(), _Fault()
+            status = _calls.dl_copy(*self._bytes, out, room, ctypes.byref(copied), ctypes.byref(fault))
+            room = copied.value
+        if status != _DONE:
+            _refuse(status, fault)
+        return out.raw[:room]
 
     def find(self, address: int, op_index: int = 0) -> Optional[Found]:
         """The row that answers for an address and an operation of its instruction, in the first unit that has one."""

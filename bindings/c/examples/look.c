@@ -1,6 +1,7 @@
 /*
- * look [--big] [ADDRESS..]: of the section on standard input, what `dwline check` prints of it, or with addresses the row
- * that answers for each as `dwline find` prints it.
+ * look [--big] [--rows | --copy | ADDRESS..]: of the section on standard input, what `dwline check` prints of it; with
+ * --rows the rows that `dwline dump` prints, with --copy what `dwline copy` writes; or with addresses the row that
+ * answers for each as `dwline find` prints it.
  */
 #include <boxantrel.h>
 #include <inttypes.h>
@@ -46,6 +47,11 @@ static void print_row(const dl_row *row)
 /* Says why there is no answer, and gives the program's status. */
 static int refused(uint32_t status, const dl_fault *fault)
 {
+    fflush(stdout);
+    if (status == DL_OTHER_VERSION) {
+        fputs("look: a unit that is not of version 5\n", stderr);
+        return 1;
+    }
     if (status == DL_FAULT) {
         fprintf(stderr, "look: damage at 0x%" PRIx64 ": kind %" PRIu32 ", %" PRIu64 "\n", fault->offset, fault->kind,
                 fault->detail);
@@ -82,6 +88,57 @@ static int find(const char *word)
     return 0;
 }
 
+/* Prints the rows of the unit at the offset, those before a fault too, and gives the status of the call. */
+static uint32_t print_rows(uint64_t offset, dl_fault *fault)
+{
+    dl_row none;
+    size_t count = 0;
+    uint32_t status = dl_rows_at(bytes, len, big, offset, &none, 0, &count, fault);
+    if (count == 0)
+        return status;
+    dl_row *rows = malloc(count * sizeof *rows);
+    if (rows == NULL)
+        return DL_NO_MEMORY;
+    status = dl_rows_at(bytes, len, big, offset, rows, count, &count, fault);
+    if (status == DL_DONE || status == DL_FAULT)
+        for (size_t i = 0; i < count; i++)
+            print_row(&rows[i]);
+    free(rows);
+    return status;
+}
+
+static int list(void)
+{
+    dl_unit unit = {0};
+    dl_fault fault;
+    for (;;) {
+        uint32_t status = print_rows(unit.offset + unit.length, &fault);
+        if (status == DL_DONE)
+            status = dl_unit_at(bytes, len, big, unit.offset + unit.length, &unit, &fault);
+        if (status == DL_NO_ANSWER)
+            return 0;
+        if (status != DL_DONE)
+            return refused(status, &fault);
+    }
+}
+
+static int copy(void)
+{
+    size_t room = len;
+    dl_fault fault;
+    for (;;) {
+        uint8_t *out = malloc(room + 1);
+        if (out == NULL)
+            return refused(DL_NO_MEMORY, &fault);
+        uint32_t status = dl_copy(bytes, len, big, out, room, &room, &fault);
+        if (status == DL_DONE)
+            fwrite(out, 1, room, stdout);
+        free(out);
+        if (status != DL_NO_ROOM)
+            return status == DL_DONE ? 0 : refused(status, &fault);
+    }
+}
+
 int main(int count, char **words)
 {
     int at = 1;
@@ -93,9 +150,16 @@ int main(int count, char **words)
         fputs("look: out of memory\n", stderr);
         return 3;
     }
-    int status = at == count ? check() : 0;
-    for (; at < count && status == 0; at++)
-        status = find(words[at]);
+    int status = 0;
+    if (at == count)
+        status = check();
+    else if (strcmp(words[at], "--rows") == 0)
+        status = list();
+    else if (strcmp(words[at], "--copy") == 0)
+        status = copy();
+    else
+        for (; at < count && status == 0; at++)
+            status = find(words[at]);
     free(bytes);
     return status;
 }

@@ -1,5 +1,6 @@
-//! look [--big] [ADDRESS..]: of the section on standard input, what `dwline check` prints of it, or with addresses the row
-//! that answers for each as `dwline find` prints it.
+//! look [--big] [--rows | --copy | ADDRESS..]: of the section on standard input, what `dwline check` prints of it; with
+//! --rows the rows that `dwline dump` prints, with --copy what `dwline copy` writes; or with addresses the row that
+//! answers for each as `dwline find` prints it.
 
 use boxantrel::{Error, Order, Row, Section};
 use std::io::{self, BufWriter, Read, Write};
@@ -43,6 +44,31 @@ fn print_counts(output: &mut impl Write, section: &Section) -> io::Result<Result
     Ok(Ok(()))
 }
 
+fn list_rows(output: &mut impl Write, section: &Section) -> io::Result<Result<(), Error>> {
+    let mut offset = 0;
+    loop {
+        for row in section.rows_at(offset) {
+            match row {
+                Ok(row) => print_row(output, &row)?,
+                Err(error) => return Ok(Err(error)),
+            }
+        }
+        match section.unit_at(offset) {
+            Ok(Some(unit)) => offset += unit.length,
+            Ok(None) => return Ok(Ok(())),
+            Err(error) => return Ok(Err(error)),
+        }
+    }
+}
+
+fn copy(output: &mut impl Write, section: &Section) -> io::Result<Result<(), Error>> {
+    match section.copy() {
+        Ok(copy) => output.write_all(&copy)?,
+        Err(error) => return Ok(Err(error)),
+    }
+    Ok(Ok(()))
+}
+
 fn find_each(output: &mut impl Write, section: &Section, words: &[String]) -> io::Result<Result<(), Error>> {
     for word in words {
         let Ok(address) = u64::from_str_radix(word.trim_start_matches("0x"), 16) else {
@@ -70,6 +96,10 @@ fn main() -> io::Result<ExitCode> {
     let mut output = BufWriter::new(io::stdout());
     let end = if words.is_empty() {
         print_counts(&mut output, &section)?
+    } else if words[0] == "--rows" {
+        list_rows(&mut output, &section)?
+    } else if words[0] == "--copy" {
+        copy(&mut output, &section)?
     } else {
         find_each(&mut output, &section, &words)?
     };

@@ -9,6 +9,11 @@
 //! assert_eq!(section.check()?.rows, 91);
 //! let found = section.find(0x401008, 0)?.unwrap();
 //! assert_eq!((found.row.line, found.unit), (8, 0));
+//! for unit in section.units() {
+//!     let unit = unit?;
+//!     let rows: Result<Vec<_>, _> = section.rows_at(unit.offset).collect();
+//!     assert_eq!(rows?.len() as u64, unit.rows);
+//! }
 //! # Ok::<(), Box<dyn std::error::Error>>(())
 //! ```
 
@@ -72,6 +77,41 @@ pub struct Found {
     pub unit: u64,
 }
 
+/// A unit that was read whole.
+#[derive(Clone, Copy, Debug, PartialEq, Eq)]
+pub struct Unit {
+    /// Of its first byte. The next unit, where there is one, begins at `offset + length`.
+    pub offset: u64,
+    /// How many bytes it has.
+    pub length: u64,
+    /// How many rows it has; of a version other than 5 none, nor directories and files.
+    pub rows: u64,
+    /// How many entries its table of directories has.
+    pub directories: u64,
+    /// How many entries its table of files has.
+    pub files: u64,
+    pub version: u16,
+    /// Of an address, in bytes; 0 of a version other than 5.
+    pub address_size: u8,
+    /// Whether it is of the 64-bit DWARF format.
+    pub is_dwarf64: bool,
+}
+
+/// The units of a section, one after the other, up to its end or to an error, which comes last.
+#[derive(Clone, Debug)]
+pub struct Units<'a> {
+    section: Section<'a>,
+    /// Where the next unit begins. None after an error.
+    offset: Option<u64>,
+}
+
+/// The rows of a unit, and after them the fault of one that is damaged.
+#[derive(Debug)]
+pub struct Rows {
+    rows: std::vec::IntoIter<raw::Row>,
+    error: Option<Error>,
+}
+
 /// Why there is no answer.
 #[derive(Clone, Copy, Debug, PartialEq, Eq)]
 pub enum Error {
@@ -80,6 +120,8 @@ pub enum Error {
     Damage { offset: u64, kind: u32, detail: u64 },
     /// Memory was refused.
     NoMemory,
+    /// A unit isn't of version 5 where it has to be.
+    OtherVersion,
 }
 
 impl fmt::Display for Error {
@@ -87,6 +129,7 @@ impl fmt::Display for Error {
         match self {
             Error::Damage { offset, kind, detail } => write!(f, "damage at {offset:#x}: kind {kind}, {detail}"),
             Error::NoMemory => f.write_str("out of memory"),
+            Error::OtherVersion => f.write_str("a unit that is not of version 5"),
         }
     }
 }
@@ -121,6 +164,95 @@ impl<'a> Section<'a> {
         }
     }
 
+    /// The unit that begins at an offset; None where the section has no byte there. What comes before the offset isn't
+    /// looked at.
+    pub fn unit_at(&self, offset: u64) -> Result<Option<Unit>, Error> {
+        let mut unit = raw::Unit::default();
+        let mut fault = raw::Fault::default();
+        // SAFETY: as in `check`.
+        let status = unsafe {
+            raw::dl_unit_at(self.bytes.as_ptr(), self.bytes.len(), self.is_big(), offset, &mut unit, &mut fault)
+        };
+        match status {
+            raw::DONE => Ok(Some(unit.into())),
+            raw::NO_ANSWER => Ok(None),
+            status => Err(error(status, &fault)),
+        }
+    }
+
+    /// The units, one after the other.
+    pub fn units(&self) -> Units<'a> {
+        Units {
+            section: *self,
+            offset: Some(0),
+        }
+    }
+
+    /// The rows of the unit that begins at an offset; none where the section has no byte there. The unit is read twice:
+    /// how many rows it has is known after the first time.
+    pub fn rows_at(&self, offset: u64) -> Rows {
+        let mut rows = Vec::new();
+        let (_, count, _) = self.fill_rows(offset, &mut rows);
+        rows.resize(count, raw::Row::default());
+        let (status, count, fault) = self.fill_rows(offset, &mut rows);
+        rows.truncate(count);
+        Rows {
+            rows: rows.into_iter(),
+            error: match status {
+                raw::DONE | raw::NO_ANSWER => None,
+                status => Some(error(status, &fault)),
+            },
+        }
+    }
+
+    /// Writes the rows for which there is room. The answer is the status, how many rows there are, and the fault.
+    fn fill_rows(&self, offset: u64, rows: &mut [raw::Row]) -> (u32, usize, raw::Fault) {
+        let mut count = 0;
+        let mut fault = raw::Fault::default();
+        // SAFETY: as in `check`; the room is a slice's.
+        let status = unsafe {
+            raw::dl_rows_at(
+                self.bytes.as_ptr(),
+                self.bytes.len(),
+                self.is_big(),
+                offset,
+                rows.as_mut_ptr(),
+                rows.len(),
+                &mut count,
+                &mut fault,
+            )
+        };
+        (status, count, fault)
+    }
+
+    /// All units, written anew: each under its header with opcode_base 13 and with the same rows, its numbers shortest.
+    /// Where the copy is longer than the section it is made twice.
+    pub fn copy(&self) -> Result<Vec<u8>, Error> {
+        let mut copy = vec![0; self.bytes.len()];
+        loop {
+            let mut len = 0;
+            let mut fault = raw::Fault::default();
+            // SAFETY: as in `check`; the room is a slice's.
+            let status = unsafe {
+                raw::dl_copy(
+                    self.bytes.as_ptr(),
+                    self.bytes.len(),
+                    self.is_big(),
+                    copy.as_mut_ptr(),
+                    copy.len(),
+                    &mut len,
+                    &mut fault,
+                )
+            };
+            copy.resize(len, 0);
+            match status {
+                raw::DONE => return Ok(copy),
+                raw::NO_ROOM => {}
+                status => return Err(error(status, &fault)),
+            }
+        }
+    }
+
     /// The row that answers for an address and an operation of its instruction, in the first unit that has one.
     pub fn find(&self, address: u64, op_index: u8) -> Result<Option<Found>, Error> {
         let mut row = raw::Row::default();
@@ -146,6 +278,45 @@ impl<'a> Section<'a> {
             })),
             raw::NO_ANSWER => Ok(None),
             status => Err(error(status, &fault)),
+        }
+    }
+}
+
+impl Iterator for Units<'_> {
+    type Item = Result<Unit, Error>;
+
+    fn next(&mut self) -> Option<Result<Unit, Error>> {
+        let answer = self.section.unit_at(self.offset?).transpose();
+        self.offset = match &answer {
+            Some(Ok(unit)) => Some(unit.offset + unit.length),
+            _ => None,
+        };
+        answer
+    }
+}
+
+impl Iterator for Rows {
+    type Item = Result<Row, Error>;
+
+    fn next(&mut self) -> Option<Result<Row, Error>> {
+        match self.rows.next() {
+            Some(row) => Some(Ok(row.into())),
+            None => self.error.take().map(Err),
+        }
+    }
+}
+
+impl From<raw::Unit> for Unit {
+    fn from(unit: raw::Unit) -> Unit {
+        Unit {
+            offset: unit.offset,
+            length: unit.length,
+            rows: unit.rows,
+            directories: unit.directories,
+            files: unit.files,
+            version: unit.version,
+            address_size: unit.address_size,
+            is_dwarf64: unit.is_dwarf64 != 0,
         }
     }
 }
@@ -177,6 +348,7 @@ fn error(status: u32, fault: &raw::Fault) -> Error {
             kind: fault.kind,
             detail: fault.detail,
         },
+        raw::OTHER_VERSION => Error::OtherVersion,
         _ => Error::NoMemory,
     }
 }

@@ -3,6 +3,8 @@
 pub const DONE: u32 = 0;
 pub const FAULT: u32 = 1;
 pub const NO_ANSWER: u32 = 2;
+pub const OTHER_VERSION: u32 = 4;
+pub const NO_ROOM: u32 = 5;
 
 #[repr(C)]
 #[derive(Clone, Copy, Debug, Default)]
@@ -34,8 +36,39 @@ pub struct Row {
     pub flags: u8,
 }
 
+#[repr(C)]
+#[derive(Clone, Copy, Debug, Default)]
+pub struct Unit {
+    pub offset: u64,
+    pub length: u64,
+    pub rows: u64,
+    pub directories: u64,
+    pub files: u64,
+    pub version: u16,
+    pub address_size: u8,
+    pub is_dwarf64: u8,
+}
+
 extern "C" {
     pub fn dl_check(section: *const u8, len: usize, big: bool, counts: *mut Counts, fault: *mut Fault) -> u32;
+    pub fn dl_unit_at(
+        section: *const u8,
+        len: usize,
+        big: bool,
+        offset: u64,
+        unit: *mut Unit,
+        fault: *mut Fault,
+    ) -> u32;
+    pub fn dl_rows_at(
+        section: *const u8,
+        len: usize,
+        big: bool,
+        offset: u64,
+        rows: *mut Row,
+        room: usize,
+        count: *mut usize,
+        fault: *mut Fault,
+    ) -> u32;
     pub fn dl_find(
         section: *const u8,
         len: usize,
@@ -44,6 +77,15 @@ extern "C" {
         op_index: u8,
         row: *mut Row,
         unit: *mut u64,
+        fault: *mut Fault,
+    ) -> u32;
+    pub fn dl_copy(
+        section: *const u8,
+        len: usize,
+        big: bool,
+        out: *mut u8,
+        room: usize,
+        copied: *mut usize,
         fault: *mut Fault,
     ) -> u32;
 }

@@ -2,13 +2,15 @@
 //! owes stands in include/boxantrel.h.
 #![tactic(auto)]
 
-ghost use Rattle.std.specs.Prelude.{◌≡◌};
+ghost use Rattle.std.specs.Prelude.{◌≡◌, drop};
 ghost use Rattle.dl_calls.specs.declared.status.Status.{Status};
 ghost use Rattle.dl_calls.specs.Calls.{Checks, order_of};
+ghost use Rattle.dl_calls.specs.CopyCalls.{Copies};
 ghost use Rattle.dl_calls.specs.FindCalls.{Finds, place_at};
 ghost use Rattle.dl_calls.specs.Records.{status_code};
+ghost use Rattle.dl_calls.specs.UnitCalls.{Describes, Lists};
 
-use dl_calls::{Counts, FaultRecord, Place, RowRecord};
+use dl_calls::{Counts, FaultRecord, Place, RowRecord, UnitRecord};
 use std::alloc::Global;
 
 /// As `dl_calls::check`.
@@ -24,6 +26,40 @@ pub extern "C" fn dl_check(
         × Checks (order_of big) section.now counts.old counts.new fault.old fault.new status }
 {
     dl_calls::check(alloc, section, big, counts, fault).code()
+}
+
+/// As `dl_calls::unit_at`.
+#[unsafe(no_mangle)]
+pub extern "C" fn dl_unit_at(
+    alloc: Global,
+    section: &[u8],
+    big: bool,
+    offset: u64,
+    unit: &mut UnitRecord,
+    fault: &mut FaultRecord,
+) -> u32
+    ensures { (status : Status) × (result ≡ status_code status)
+        × Describes (order_of big) (drop offset section.now) offset unit.old unit.new fault.old fault.new status }
+{
+    dl_calls::unit_at(alloc, section, big, offset, unit, fault).code()
+}
+
+/// As `dl_calls::rows_at`.
+#[unsafe(no_mangle)]
+pub extern "C" fn dl_rows_at(
+    alloc: Global,
+    section: &[u8],
+    big: bool,
+    offset: u64,
+    rows: &mut [RowRecord],
+    count: &mut usize,
+    fault: &mut FaultRecord,
+) -> u32
+    ensures { (status : Status) × (result ≡ status_code status)
+        × Lists (order_of big) (drop offset section.now) offset rows.old rows.new count.old count.new fault.old
+        fault.new status }
+{
+    dl_calls::rows_at(alloc, section, big, offset, rows, count, fault).code()
 }
 
 /// As `dl_calls::find`.
@@ -44,4 +80,20 @@ pub extern "C" fn dl_find(
 {
     let place = Place { address, op_index };
     dl_calls::find(alloc, section, big, place, row, unit, fault).code()
+}
+
+/// As `dl_calls::copy`.
+#[unsafe(no_mangle)]
+pub extern "C" fn dl_copy(
+    alloc: Global,
+    section: &[u8],
+    big: bool,
+    room: &mut [u8],
+    len: &mut usize,
+    fault: &mut FaultRecord,
+) -> u32
+    ensures { (status : Status) × (result ≡ status_code status)
+        × Copies (order_of big) section.now room.old room.new len.old len.new fault.old fault.new status }
+{
+    dl_calls::copy(alloc, section, big, room, len, fault).code()
 }

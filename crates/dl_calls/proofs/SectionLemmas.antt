@@ -30,6 +30,10 @@ same_summary : {s t : Summary} → s.units ≡ t.units → s.skipped ≡ t.skipp
     → s ≡ t
 same_summary {s} {t} a b c d = rw (a, b, c, d) refl
 
+-- no row is counted yet
+pub none_counted : Counted 0 0 0 0 []
+none_counted = record { of_rows = λ small. omega arith; of_ends = λ small. omega arith }
+
 -- a unit has a byte
 pub some_byte : (order : Order) (u : List ℕ) → IsUnit order u → 1 ≤ length u
 some_byte order [] is = absurd (no_length (length_of_unit order [] is)) where

@@ -24,4 +24,4 @@ Checks order s c d f g status.Fault =
     (offset : ℕ) × (kind : FaultKind) × EndsFor order s (Err (stop.Damaged offset kind)) × (d ≡ c)
     × (g ≡ record_of offset kind)
 Checks order s c d f g status.NoMemory = EndsFor order s (Err stop.NoMemory) × (d ≡ c) × (g ≡ f)
-Checks order s c d f g status.NoAnswer = ⊥
+Checks order s c d f g other = ⊥

@@ -57,3 +57,4 @@ Finds order s x p q m n f g status.Fault =
     × (q ≡ p) × (n ≡ m) × (g ≡ record_of offset kind)
 Finds order s x p q m n f g status.NoMemory =
     StopsSeeking order s x stop.NoMemory × (q ≡ p) × (n ≡ m) × (g ≡ f)
+Finds order s x p q m n f g other = ⊥

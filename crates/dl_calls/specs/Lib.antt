@@ -3,7 +3,10 @@ pub mod Records
 pub mod Sections
 pub mod Calls
 pub mod FindCalls
+pub mod UnitCalls
+pub mod CopyCalls
 -- Of contracts inside the crate, and of proofs; no public contract reaches these.
 pub mod UnitReading
 pub mod Tallies
 pub mod Seekers
+pub mod RowRooms

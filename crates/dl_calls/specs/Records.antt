@@ -47,6 +47,8 @@ status_code status.Done = 0
 status_code status.Fault = 1
 status_code status.NoAnswer = 2
 status_code status.NoMemory = 3
+status_code status.OtherVersion = 4
+status_code status.NoRoom = 5
 
 -- 1, 2, 4, 8 and 16, where they hold, in sum
 abbrev pub flags_of : Row → ℕ

@@ -2,14 +2,21 @@
 #![tactic(auto)]
 
 mod checking;
+mod copying;
+mod describing;
 mod finding;
+mod listing;
 mod record;
+mod room;
 mod status;
 mod stop;
 mod unit;
 
 pub use checking::check;
+pub use copying::copy;
+pub use describing::unit_at;
 pub use dl_look::Place;
 pub use finding::find;
-pub use record::{Counts, FaultRecord, RowRecord};
+pub use listing::rows_at;
+pub use record::{Counts, FaultRecord, RowRecord, UnitRecord};
 pub use status::Status;

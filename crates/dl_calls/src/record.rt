@@ -58,6 +58,27 @@ impl FaultRecord {
     }
 }
 
+/// A unit that was read whole. Section 6.2.4.
+#[repr(C)]
+#[derive(Clone, Copy, Debug, PartialEq, Eq)]
+pub struct UnitRecord {
+    /// Where it begins, from the section's first byte.
+    pub offset: u64,
+    /// How many bytes it has, its initial length included.
+    pub length: u64,
+    /// How many rows it has, end rows among them; 0 of a version other than 5.
+    pub rows: u64,
+    /// How many entries its table of directories has; 0 of a version other than 5.
+    pub directories: u64,
+    /// How many entries its table of files has; 0 of a version other than 5.
+    pub files: u64,
+    pub version: u16,
+    /// The size of an address in bytes; 0 of a version other than 5.
+    pub address_size: u8,
+    /// 1 where it is of the 64-bit DWARF format, else 0. Section 7.4.
+    pub is_dwarf64: u8,
+}
+
 /// A row of the matrix. Section 6.2.2.
 #[repr(C)]
 #[derive(Clone, Copy, Debug, PartialEq, Eq)]

@@ -11,6 +11,10 @@ pub enum Status {
     NoAnswer,
     /// Memory was refused.
     NoMemory,
+    /// A unit isn't of version 5 where it has to be.
+    OtherVersion,
+    /// There isn't room for the answer.
+    NoRoom,
 }
 
 impl Status {
@@ -26,6 +30,8 @@ impl Status {
             Status::Fault => 1,
             Status::NoAnswer => 2,
             Status::NoMemory => 3,
+            Status::OtherVersion => 4,
+            Status::NoRoom => 5,
         }
     }
 }

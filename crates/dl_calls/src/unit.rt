@@ -1,6 +1,6 @@
 //! One unit at the front of bytes. Section 6.2.4.
 
-ghost use Rattle.std.specs.Prelude.{◌≡◌, ◌<◌, ◌≤◌, ◌-◌, ◌^◌, ℕ, List, length};
+ghost use Rattle.std.specs.Prelude.{◌≡◌, ◌<◌, ◌≤◌, ◌-◌, ◌^◌, ℕ, List, length, drop};
 ghost use Rattle.dl_rows.specs.ReaderStands.{StandsFor};
 ghost use Rattle.dl_rows.specs.declared.row.Row.{Row};
 ghost use Rattle.dl_calls.specs.UnitReading.{UnitReads, EndsAt, whole_len};
@@ -89,4 +89,13 @@ pub fn offset_of(section: &[u8], rest: &[u8]) -> u64
     ensures small { length section.now < 2 ^ 64 }
 {
     section.len().saturating_sub(rest.len()) as u64
+}
+
+/// The bytes of a section from an offset on; none where it has fewer.
+pub fn rest_from(section: &[u8], offset: u64) -> &[u8]
+    ensures bytes { result.now ≡ drop offset section.now }
+    ensures small { length section.now < 2 ^ 64 }
+{
+    let at = section.len().min(offset as usize);
+    &section[at..]
 }

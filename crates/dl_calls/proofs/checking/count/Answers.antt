@@ -1,18 +1,14 @@
-use Rattle.std.proofs.Common.{ℕ, [], ◌∷◌, ◌++◌, Err, arith, refl, sym, ap, ◌∙◌, subst}
+use Rattle.std.proofs.Common.{ℕ, [], ◌∷◌, ◌++◌, Err, refl, sym, ap, ◌∙◌, subst}
 use Rattle.std.specs.Prelude.{Some, is_some, length}
 use Rattle.dl_print.specs.Counts.{add, with_unit}
 use Rattle.dl_print.specs.declared.summary.Summary.{Summary}
 use Rattle.dl_run.specs.declared.fault.RunFault.TheVariants as run
 use Rattle.dl_run.specs.Section.{EndsAs}
-use Rattle.dl_run.specs.Told.{Counted}
 use Rattle.dl_calls.specs.declared.unit.UnitRead.{UnitRead}
 use Rattle.dl_calls.specs.Tallies.{tally_story}
 use Rattle.dl_calls.specs.UnitReading.{UnitReads}
-use Rattle.dl_calls.proofs.SectionLemmas.{at_end, damaged, fewer, one_more, summary_more, unmet}
+use Rattle.dl_calls.proofs.SectionLemmas.{at_end, damaged, fewer, none_counted, one_more, summary_more, unmet}
 use Rattle.dl_calls.proofs.checking.count.Goals as goal
-
-none_counted : Counted 0 0 0 0 []
-none_counted = record { of_rows = λ small. omega arith; of_ends = λ small. omega arith }
 
 pub units-init : goal.units-init
 units-init c = record { units = []; has = record { whole = refl; each = tt }; summary_is = refl }

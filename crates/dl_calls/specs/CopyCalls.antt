@@ -1,0 +1,54 @@
+-- What the call that writes all units anew answers. s: the bytes of a section. DWARF 5, section 6.2.4.
+use Rattle.std.specs.Prelude.{◌≡◌, ◌<◌, ◌≤◌, ◌^◌, ⊤, ℕ, List, [], length, Option, Some, Result, Ok, Err}
+use Rattle.std.specs.Io.KnownBytes.{Consumes}
+use Rattle.dl_num.specs.declared.fixed.Order.{Order}
+use Rattle.dl_table.specs.declared.fault.FaultKind.TheVariants.{UnitTooLong}
+use Rattle.dl_print.specs.declared.summary.Summary.{Summary}
+use Rattle.dl_run.specs.declared.fault.RunFault.{RunFault}
+use Rattle.dl_run.specs.declared.fault.RunFault.TheVariants as run
+use Rattle.dl_run.specs.Commands as commands
+use Rattle.dl_calls.specs.declared.record.FaultRecord.{FaultRecord}
+use Rattle.dl_calls.specs.declared.status.Status.{Status}
+use Rattle.dl_calls.specs.declared.status.Status.TheVariants as status
+use Rattle.dl_calls.specs.Records.{record_of}
+use Rattle.dl_calls.specs.UnitCalls.{written_over}
+
+-- the command `copy` over a reader that gives s, and a writer that holds v at the end
+abbrev pub Runs : Order → (s v : List ℕ) → Result Summary RunFault → Type 0
+Runs order s v result =
+    (bytes : List ℕ) × (left : Option (List ℕ)) × Consumes (Some s) left bytes
+    × commands.Copies order (2 ^ 44) bytes left (Some []) (Some v) result
+
+-- `put`: of a room and a length, p before it, and q and n after it; v is the copy
+abbrev pub Puts : (v p q : List ℕ) (n : ℕ) → Status → Type 0
+Puts v p q n status.Done = (length v ≤ length p) × (q ≡ written_over p v) × (n ≡ length v)
+Puts v p q n status.NoRoom = (length p < length v) × (q ≡ p) × (n ≡ length v)
+Puts v p q n other = ⊥
+
+-- what is told of a fault of the command, of which some are of the section; a unit whose copy is too long is one
+abbrev pub TellsFault : RunFault → FaultRecord → Type 0
+TellsFault (run.Damage offset kind) g = g ≡ record_of offset kind
+TellsFault (run.Emit offset f) g = g ≡ record_of offset UnitTooLong
+TellsFault other g = ⊥
+
+-- a fault of the command by which memory, or the section's length, is to blame
+abbrev pub IsWant : RunFault → Type 0
+IsWant (run.Damage offset kind) = ⊥
+IsWant (run.Emit offset f) = ⊥
+IsWant (run.ForeignUnit offset) = ⊥
+IsWant other = ⊤
+
+-- `copy`: of a room, a length and a fault, p, m and f before it, and q, n and g after it, only what the status says is
+-- written
+abbrev pub Copies : Order → (s p q : List ℕ) (m n : ℕ) (f g : FaultRecord) → Status → Type 0
+Copies order s p q m n f g status.Done =
+    (v : List ℕ) × (summary : Summary) × Runs order s v (Ok summary) × Puts v p q n status.Done × (g ≡ f)
+Copies order s p q m n f g status.NoRoom =
+    (v : List ℕ) × (summary : Summary) × Runs order s v (Ok summary) × Puts v p q n status.NoRoom × (g ≡ f)
+Copies order s p q m n f g status.Fault =
+    (v : List ℕ) × (r : RunFault) × Runs order s v (Err r) × TellsFault r g × (q ≡ p) × (n ≡ m)
+Copies order s p q m n f g status.OtherVersion =
+    (v : List ℕ) × (offset : ℕ) × Runs order s v (Err (run.ForeignUnit offset)) × (q ≡ p) × (n ≡ m) × (g ≡ f)
+Copies order s p q m n f g status.NoMemory =
+    (v : List ℕ) × (r : RunFault) × Runs order s v (Err r) × IsWant r × (q ≡ p) × (n ≡ m) × (g ≡ f)
+Copies order s p q m n f g status.NoAnswer = ⊥
