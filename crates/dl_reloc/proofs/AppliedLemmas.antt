@@ -17,7 +17,7 @@ use Rattle.dl_reloc.specs.Relocated.{relocated}
 -- an entry that is applied
 pub entry_applied : (t : Target) (symbols : List ℕ) (e : Entry) (b : List ℕ) (change : Change) (value at k : ℕ)
     (new : List ℕ) → change_of t e.number ≡ Some change → (change_size change ≡ 0 → ⊥)
-    → e.offset + change_size change ≤ length b → symbol_value t.class t.order symbols e.symbol ≡ Some value
+    → e.offset + change_size change ≤ length b → symbol_value symbols e.symbol ≡ Some value
     → at ≡ e.offset → k ≡ change_size change
     → new ≡ place_changed t.order change value e.addend (take k (drop at b))
     → applied t symbols e b ≡ Ok (put_mid at k b new)
@@ -45,8 +45,8 @@ next_applied t form entries symbols n b before after e so_far is next =
     ∙ (ap (λ z. applied t symbols z before) (sym is) ∙ next))
 
 -- a fault decides, whatever follows
-fault_stays : (t : Target) (form : Form) (entries symbols : List ℕ) (end n : ℕ) (b : List ℕ) (fault : RelocationFault)
-    → n ≤ end → applied_upto t form entries symbols n b ≡ Err fault
+pub fault_stays : (t : Target) (form : Form) (entries symbols : List ℕ) (end n : ℕ) (b : List ℕ)
+    (fault : RelocationFault) → n ≤ end → applied_upto t form entries symbols n b ≡ Err fault
     → applied_upto t form entries symbols end b ≡ Err fault
 fault_stays t form entries symbols zero n b fault le is =
     let none : zero ≡ n = omega (arith, le) in

@@ -1,2 +1,5 @@
 pub mod TableLemmas
+pub mod NumberLemmas
 pub mod AppliedLemmas
+pub mod PartLemmas
+pub mod SymbolLemmas

@@ -1,6 +1,6 @@
 -- Entries of relocations, and the values of symbols. System V ABI, chapter 4, "Relocation" and "Symbol Table".
-use Rattle.std.specs.Prelude.{ℕ, ◌+◌, ◌*◌, ◌/◌, ◌%◌, ◌^◌, ◌==◌, nat_lt, if◌then◌else◌, List, length, take, drop, Option}
-use Rattle.std.specs.Prelude.{Some, None}
+use Rattle.std.specs.Prelude.{◌≡◌, ℕ, zero, suc, ◌+◌, ◌*◌, ◌/◌, ◌%◌, ◌^◌, ◌==◌, nat_lt, if◌then◌else◌, List, [], ◌∷◌}
+use Rattle.std.specs.Prelude.{◌++◌, length, take, drop, slice_get, Option, Some, None}
 use Rattle.dl_num.specs.declared.fixed.Order.{Order}
 use Rattle.dl_num.specs.Fixed.{fixed}
 use Rattle.dl_reloc.specs.declared.target.Class.{Class}
@@ -67,9 +67,20 @@ abbrev pub value_in : Class → Order → List ℕ → ℕ
 value_in Bits32 order b = number_at order 4 4 b
 value_in Bits64 order b = number_at order 8 8 b
 
--- the value of symbol i; that of number 0 (STN_UNDEF) is 0; None where the table has no symbol i
-abbrev pub symbol_value : Class → Order → (symbols : List ℕ) → ℕ → Option ℕ
-symbol_value class order symbols i =
-    if i == 0 then Some 0
-    else if nat_lt i (count (symbol_size class) symbols)
-    then Some (value_in class order (item (symbol_size class) i symbols)) else None
+-- the values of the first n symbols of a table
+abbrev pub values_upto : Class → Order → (table : List ℕ) → ℕ → List ℕ
+values_upto class order table zero = []
+values_upto class order table (suc n) =
+    values_upto class order table n ++ value_in class order (item (symbol_size class) n table) ∷ []
+
+-- the values of all its symbols; what follows the last whole one belongs to none
+abbrev pub symbol_values : Class → Order → (table : List ℕ) → List ℕ
+symbol_values class order table = values_upto class order table (count (symbol_size class) table)
+
+-- the value of symbol i where the symbols have these; that of number 0 (STN_UNDEF) is 0; None where there is no symbol i
+abbrev pub symbol_value : (values : List ℕ) → ℕ → Option ℕ
+symbol_value values i = if i == 0 then Some 0 else slice_get values i
+
+-- whole symbols, with nothing after them
+abbrev pub AreWholeSymbols : Class → (table : List ℕ) → Type 0
+AreWholeSymbols class table = (n : ℕ) × (length table ≡ n * symbol_size class)

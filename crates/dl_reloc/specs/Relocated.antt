@@ -1,7 +1,7 @@
 -- What relocations make of the bytes of a section. System V ABI, chapter 4, "Relocation". b: the bytes; symbols: the
--- symbol table.
-use Rattle.std.specs.Prelude.{ℕ, zero, suc, ◌+◌, ◌%◌, ◌^◌, ◌==◌, not, nat_le, if◌then◌else◌, List, ◌++◌, length, take}
-use Rattle.std.specs.Prelude.{drop, Option, Some, None, unwrap_or, Result, Ok, Err}
+-- values of the symbols.
+use Rattle.std.specs.Prelude.{◌≡◌, ℕ, zero, suc, ◌+◌, ◌*◌, ◌%◌, ◌^◌, ◌==◌, not, nat_le, if◌then◌else◌, List, ◌++◌}
+use Rattle.std.specs.Prelude.{length, take, drop, Option, Some, None, unwrap_or, Result, Ok, Err}
 use Rattle.dl_num.specs.declared.fixed.Order.{Order}
 use Rattle.dl_num.specs.Fixed.{fixed, fixed_bytes}
 use Rattle.dl_reloc.specs.declared.target.Form.{Form}
@@ -34,7 +34,7 @@ by_change t symbols e b None = Err (UnknownType e.number)
 by_change t symbols e b (Some change) =
     if change_size change == 0 then Ok b
     else if not (nat_le (e.offset + change_size change) (length b)) then Err PlaceOutside
-    else by_symbol t.order change e b (symbol_value t.class t.order symbols e.symbol)
+    else by_symbol t.order change e b (symbol_value symbols e.symbol)
 
 -- what one entry makes of b, or its fault
 abbrev pub applied : Target → (symbols : List ℕ) → Entry → List ℕ → Result (List ℕ) RelocationFault
@@ -60,3 +60,7 @@ applied_upto t form entries symbols (suc n) b =
 abbrev pub relocated : Target → Form → (entries symbols : List ℕ) → List ℕ → Result (List ℕ) RelocationFault
 relocated t form entries symbols b =
     applied_upto t form entries symbols (count (entry_size t.class form) entries) b
+
+-- whole entries, with nothing after them
+abbrev pub AreWhole : Target → Form → (entries : List ℕ) → Type 0
+AreWhole t form entries = (n : ℕ) × (length entries ≡ n * entry_size t.class form)

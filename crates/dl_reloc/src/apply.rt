@@ -1,15 +1,16 @@
 //! Relocations applied in order.
-ghost use Rattle.std.specs.Prelude.{◌≡◌, ◌≢◌, ◌+◌, ◌≤◌, ◌<◌, length, MatchOption, MatchResult, Ok, Err};
+ghost use Rattle.std.specs.Prelude.{◌≡◌, ◌≢◌, ◌+◌, ◌≤◌, ◌<◌, ◌++◌, ℕ, List, length, MatchOption, MatchResult, Ok, Err};
 ghost use Rattle.dl_reloc.specs.Changes.{change_size};
-ghost use Rattle.dl_reloc.specs.Relocated.{applied, place_changed, relocated};
+ghost use Rattle.dl_reloc.specs.Relocated.{applied, place_changed, relocated, AreWhole};
 
-use crate::change::{Change, number_of};
+use crate::change::Change;
 use crate::entry::{Entry, entry_size};
 use crate::machine::change_of;
+use crate::number::{number_of, put_number};
 use crate::symbol::symbol_value;
 use crate::table::{count, item};
 use crate::target::{Form, Target};
-use dl_num::{Order, fixed_bytes};
+use dl_num::Order;
 
 /// Why relocations can't be applied.
 #[derive(Clone, Copy, Debug, PartialEq, Eq)]
@@ -30,8 +31,7 @@ fn change_place(order: Order, change: Change, value: u64, addend: Option<u64>, p
 {
     let old = number_of(order, place);
     let sum = value.wrapping_add(addend.unwrap_or(old));
-    let bytes = fixed_bytes(order, change.size(), change.result(old, sum));
-    place.copy_from_slice(bytes.as_slice());
+    put_number(order, change.result(old, sum), place);
 }
 
 /// Where the place begins that has this many bytes; None where it doesn't lie in the section.
@@ -49,7 +49,7 @@ fn place_within(offset: u64, size: usize, len: usize) -> Option<usize>
 /// Applies one entry.
 fn apply(
     target: &Target,
-    symbols: &[u8],
+    symbols: &[u64],
     entry: &Entry,
     bytes: &mut [u8],
 ) -> Result<(), RelocationFault>
@@ -67,7 +67,7 @@ fn apply(
     let Some(at) = place_within(entry.offset, size, bytes.len()) else {
         return Err(RelocationFault::PlaceOutside);
     };
-    let Some(value) = symbol_value(target.class, target.order, symbols, entry.symbol) else {
+    let Some(value) = symbol_value(symbols, entry.symbol) else {
         return Err(RelocationFault::SymbolOutside);
     };
     change_place(
@@ -82,20 +82,28 @@ fn apply(
 
 /// Applies the entries of a relocation section to the bytes of the section that they are for, in order.
 ///
-/// `symbols` are the bytes of the symbol table that belongs to the entries. What is left of them, or of
-/// `entries`, after the last whole one belongs to none. Sums are taken modulo the width of the place. The
+/// `symbols` are the values of the symbol table that belongs to the entries ([`push_symbol_values`]). What is left of
+/// `entries` after the last whole one belongs to none. Sums are taken modulo the width of the place. The
 /// first entry that has a fault decides; of one entry the type comes first, then the place, then the symbol.
 /// After a fault what stands in `bytes` isn't said. The work for an entry doesn't depend on the sizes.
+///
+/// Entries may be applied in parts, one call for each in order, where the parts before the last are whole
+/// entries: then the bytes, or the first fault, are those of all entries in one call.
 pub fn relocate(
     target: &Target,
     form: Form,
     entries: &[u8],
-    symbols: &[u8],
+    symbols: &[u64],
     bytes: &mut [u8],
 ) -> Result<(), RelocationFault>
-    ensures { MatchResult result
+    ensures made { MatchResult result
         (λ _. relocated target.now form entries.now symbols.now bytes.old ≡ Ok bytes.new)
         (λ fault. relocated target.now form entries.now symbols.now bytes.old ≡ Err fault) }
+    ensures follows { (before first : List ℕ) → AreWhole target.now form before
+        → relocated target.now form before symbols.now first ≡ Ok bytes.old → MatchResult result
+        (λ _. relocated target.now form (before ++ entries.now) symbols.now first ≡ Ok bytes.new)
+        (λ fault. (rest : List ℕ)
+        → relocated target.now form ((before ++ entries.now) ++ rest) symbols.now first ≡ Err fault) }
 {
     let size = entry_size(target.class, form);
     for index in 0..count(entries, size) {

@@ -1,10 +1,6 @@
 //! What a relocation does to the number at its place.
-ghost use Rattle.std.specs.Prelude.{◌≡◌, ◌≤◌, ◌<◌, ◌^◌, length};
-ghost use Rattle.dl_num.specs.Fixed.{fixed};
+ghost use Rattle.std.specs.Prelude.{◌≡◌, ◌≤◌, ◌<◌, ◌^◌};
 ghost use Rattle.dl_reloc.specs.Changes.{change_size, changed, width_bytes};
-
-use byteorder::{BigEndian, ByteOrder, LittleEndian};
-use dl_num::Order;
 
 /// How many bits a relocation writes.
 #[derive(Clone, Copy, Debug, PartialEq, Eq)]
@@ -73,17 +69,5 @@ impl Change {
             Change::SetSix => old / 64 * 64 + sum % 64,
             Change::SubtractSix => old / 64 * 64 + old.wrapping_sub(sum) % 64,
         }
-    }
-}
-
-/// The number that one to eight bytes spell.
-pub fn number_of(order: Order, bytes: &[u8]) -> u64
-    requires some { 1 ≤ length bytes.now }
-    requires most { length bytes.now ≤ 8 }
-    ensures { result ≡ fixed order bytes.now }
-{
-    match order {
-        Order::Little => LittleEndian::read_uint(bytes, bytes.len()),
-        Order::Big => BigEndian::read_uint(bytes, bytes.len()),
     }
 }

@@ -1,6 +1,7 @@
 //! Relocations of object files, applied to the bytes of a section.
 //!
-//! [`relocate`] applies the entries of one relocation section, in order. What the types of relocations do is
+//! [`relocate`] applies the entries of one relocation section, in order, with the values of symbols that
+//! [`push_symbol_values`] takes from their table. What the types of relocations do is
 //! told for x86-64, i386, AArch64, ARM, RISC-V, PowerPC, s390, LoongArch and 32-bit MIPS, of those types that
 //! assemblers put into debug information.
 //! System V ABI, chapter 4, and its supplements for these machines.
@@ -10,9 +11,11 @@ mod apply;
 mod change;
 mod entry;
 mod machine;
+mod number;
 mod symbol;
 mod table;
 mod target;
 
 pub use apply::{RelocationFault, relocate};
+pub use symbol::push_symbol_values;
 pub use target::{Class, Form, Target};

@@ -1,10 +1,11 @@
 //! The values of symbols. System V ABI, chapter 4, "Symbol Table".
-ghost use Rattle.std.specs.Prelude.{◌≡◌, ◌≤◌, length};
-ghost use Rattle.dl_reloc.specs.Entries.{symbol_size, symbol_value, value_in};
+ghost use Rattle.std.specs.Prelude.{◌≡◌, ◌≤◌, ◌++◌, ℕ, List, length, OnOk};
+ghost use Rattle.dl_reloc.specs.Entries.{AreWholeSymbols, symbol_size, symbol_value, symbol_values, value_in};
 
 use crate::table::{count, item, number_at};
-use crate::target::Class;
+use crate::target::{Class, Target};
 use dl_num::Order;
+use std::alloc::AllocError;
 
 /// How many bytes a symbol has.
 fn symbol_size(class: Class) -> usize
@@ -28,16 +29,43 @@ fn value_in(class: Class, order: Order, bytes: &[u8]) -> u64
     }
 }
 
-/// The value of a symbol; 0 of number 0, which is no symbol, and None where the table doesn't have it.
-pub fn symbol_value(class: Class, order: Order, symbols: &[u8], number: u64) -> Option<u64>
-    ensures { result ≡ symbol_value class order symbols.now number }
+/// Puts the values of the whole symbols in these bytes of a symbol table after the others.
+///
+/// A table may come in parts, one call for each in order, where the parts before the last are whole symbols: then the
+/// values are those of all bytes in one call. Where a growth is refused, which values are there isn't said.
+pub fn push_symbol_values(
+    target: &Target,
+    table: &[u8],
+    values: &mut Vec<u64>,
+) -> Result<(), AllocError>
+    ensures pushed { OnOk result
+        (values.new.items ≡ values.old.items ++ symbol_values target.now.class target.now.order table.now) }
+    ensures follows { (before : List ℕ) → AreWholeSymbols target.now.class before
+        → values.old.items ≡ symbol_values target.now.class target.now.order before → OnOk result
+        (values.new.items ≡ symbol_values target.now.class target.now.order (before ++ table.now)) }
+{
+    let size = symbol_size(target.class);
+    for index in 0..count(table, size) {
+        let symbol = item(table, size, index);
+        if values
+            .push(value_in(target.class, target.order, symbol))
+            .is_err()
+        {
+            return Err(AllocError);
+        }
+    }
+    Ok(())
+}
+
+/// The value of a symbol; 0 of number 0, which is no symbol, and None where there is none of this number.
+pub fn symbol_value(values: &[u64], number: u64) -> Option<u64>
+    ensures { result ≡ symbol_value values.now number }
 {
     if number == 0 {
         return Some(0);
     }
-    let size = symbol_size(class);
-    if count(symbols, size) as u64 <= number {
+    if values.len() as u64 <= number {
         return None;
     }
-    Some(value_in(class, order, item(symbols, size, number as usize)))
+    Some(values[number as usize])
 }

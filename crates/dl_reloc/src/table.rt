@@ -4,6 +4,7 @@ ghost use Rattle.dl_num.specs.Fixed.{is_number_size};
 ghost use Rattle.std.specs.Prelude.{◌+◌, IsTrue};
 ghost use Rattle.dl_reloc.specs.Entries.{count, item, number_at};
 
+use crate::number::number_of;
 use dl_num::Order;
 
 /// How many whole items a table has.
@@ -26,10 +27,11 @@ pub fn item(table: &[u8], size: usize, index: usize) -> &[u8]
 }
 
 /// The number that `size` bytes spell from `at` on.
+#[inline(always)]
 pub fn number_at(order: Order, at: usize, size: usize, bytes: &[u8]) -> u64
     requires within { at + size ≤ length bytes.now }
     requires size { IsTrue (is_number_size size) }
     ensures { result ≡ number_at order at size bytes.now }
 {
-    dl_num::number_of(&bytes[at..at + size], order)
+    number_of(order, &bytes[at..at + size])
 }

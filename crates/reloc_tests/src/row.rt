@@ -1,6 +1,6 @@
 //! A row: relocations, and what they make of bytes.
 use dl_num::Order;
-use dl_reloc::{Class, Form, RelocationFault, Target, relocate};
+use dl_reloc::{Class, Form, RelocationFault, Target, push_symbol_values, relocate};
 use std::alloc::Global;
 use std::test::Fail;
 
@@ -19,23 +19,31 @@ pub struct Row<'a> {
 }
 
 /// Relocates the row's bytes, which are then in `bytes`.
-fn answer(row: &Row<'_>, bytes: &mut [u8]) -> Result<(), RelocationFault> {
+fn answer(
+    alloc: Global,
+    row: &Row<'_>,
+    bytes: &mut [u8],
+) -> Result<Result<(), RelocationFault>, Fail> {
     let target = Target {
         machine: row.machine,
         class: row.class,
         order: row.order,
     };
-    relocate(&target, row.form, row.entries, row.symbols, bytes)
+    let mut symbols = Vec::new(alloc);
+    push_symbol_values(&target, row.symbols, &mut symbols)?;
+    let symbols = symbols.as_slice();
+    Ok(relocate(&target, row.form, row.entries, symbols, bytes))
 }
 
 /// Whether the relocations make of the row's bytes what it says.
 pub fn is_relocated(alloc: Global, row: &Row<'_>) -> Result<bool, Fail> {
     let mut bytes = Vec::from_slice(alloc, row.bytes)?;
-    Ok(answer(row, &mut bytes).is_ok() && bytes.as_slice() == row.relocated)
+    let answer = answer(alloc, row, &mut bytes)?;
+    Ok(answer.is_ok() && bytes.as_slice() == row.relocated)
 }
 
 /// The fault of the row's relocations; None where they have none.
 pub fn fault(alloc: Global, row: &Row<'_>) -> Result<Option<RelocationFault>, Fail> {
     let mut bytes = Vec::from_slice(alloc, row.bytes)?;
-    Ok(answer(row, &mut bytes).err())
+    Ok(answer(alloc, row, &mut bytes)?.err())
 }
