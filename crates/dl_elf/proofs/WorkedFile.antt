@@ -11,7 +11,7 @@ use Rattle.dl_elf.specs.declared.name.SectionName.TheVariants.{DebugLine}
 use Rattle.dl_elf.specs.declared.named.NamedSection.{NamedSection}
 use Rattle.dl_elf.specs.Sections.{section_in, section_bytes, opened}
 use Rattle.dl_elf.specs.Found.{IsNamed}
-use Rattle.dl_elf.specs.Compressed.{section_damage, section_compression}
+use Rattle.dl_elf.specs.Compressed.{section_damage, compression_header}
 use Rattle.dl_elf.specs.Notes.{build_id_in}
 
 abbrev pub worked_file : List ℕ
@@ -71,7 +71,7 @@ worked_file-bytes = refl
 pub worked_file-damage : section_damage worked_elf worked_file worked_found ≡ None
 worked_file-damage = refl
 
-pub worked_file-compression : section_compression worked_elf worked_file worked_found ≡ None
+pub worked_file-compression : compression_header worked_elf worked_file worked_found ≡ None
 worked_file-compression = refl
 
 -- a note of another name, with its padding, and then one of a build ID

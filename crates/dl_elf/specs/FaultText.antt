@@ -1,10 +1,11 @@
 -- The texts of the faults.
-use Rattle.std.specs.Prelude.{ℕ, ◌/◌, ◌%◌, List, [], ◌∷◌, ◌++◌, take, drop, codes, Option, Some, None}
+use Rattle.std.specs.Prelude.{ℕ, ◌/◌, ◌%◌, List, [], ◌∷◌, ◌++◌, take, drop, codes, false, Option, Some, None}
 use Rattle.std.specs.List.{flat_map}
 use Rattle.std.specs.Char.{digit_char}
-use Rattle.std.specs.Fmt.{decimal}
+use Rattle.std.specs.Fmt.{decimal, digits}
 use Rattle.dl_elf.specs.declared.fault.ElfFault.{ElfFault}
 use Rattle.dl_elf.specs.declared.fault.ElfFault.TheVariants.{Read, NotElf, Damaged, NoLineSection, Compressed}
+use Rattle.dl_elf.specs.declared.fault.ElfFault.TheVariants.{DamagedStream}
 use Rattle.dl_elf.specs.declared.fault.ElfFault.TheVariants.{UnknownRelocation, RelocationOutside, NoMemory}
 use Rattle.dl_elf.specs.declared.fault.Part.{Part}
 use Rattle.dl_elf.specs.declared.fault.Part.TheVariants.{SectionHeaderSize, SectionHeaders, NameTable, Section}
@@ -49,6 +50,8 @@ fault_text (NoLineSection (Some id)) =
 fault_text (Compressed name method) =
     Some (codes "section " ++ name_bytes name ++ codes " is compressed " ++ compression_text method
     ++ codes "; run objcopy --decompress-debug-sections")
+fault_text (DamagedStream name at) =
+    Some (codes "section " ++ name_bytes name ++ codes ": damaged zlib stream at 0x" ++ digits 16 false at)
 fault_text (UnknownRelocation name number machine) =
     Some (codes "section " ++ (name_bytes name ++ (codes ": unknown relocation " ++ (decimal number
     ++ (codes " of machine " ++ decimal machine)))))

@@ -1,8 +1,9 @@
 //! How a section is compressed. System V ABI, chapter 4, "Section Compression".
-ghost use Rattle.std.specs.Prelude.{◌≡◌, option_map, option_and_then, IfOk, IfErr};
+ghost use Rattle.std.specs.Prelude.{◌≡◌, ◌≤◌, length, option_map, IfOk, IfErr};
 ghost use Rattle.dl_elf.specs.Source.{ForBytes};
-ghost use Rattle.dl_elf.specs.Compressed.{method_of, has_compression_header, compression_header_size, section_damage};
-ghost use Rattle.dl_elf.specs.Compressed.{section_compression};
+ghost use Rattle.dl_elf.specs.Compressed.{method_of, compression_header_size, header_length, section_damage};
+ghost use Rattle.dl_elf.specs.Compressed.{begins_as_named, compression_fields, zdebug_fields, front_of};
+ghost use Rattle.dl_elf.specs.Compressed.{flagged_header, compression_header};
 
 use crate::fault::Part;
 use crate::file::{Elf, section_range};
@@ -10,6 +11,7 @@ use crate::header::{Class, number_at};
 use crate::named::NamedSection;
 use crate::section::COMPRESSED;
 use crate::source::{ReadAt, fill_whole, lies_within};
+use dl_num::Order;
 use std::{fmt, io};
 
 /// The method by which a section is compressed (ch_type).
@@ -49,6 +51,29 @@ fn method_of(number: u64) -> Compression
     }
 }
 
+/// What a section begins with whose name begins `.zdebug_`.
+const ZDEBUG_MAGIC: &[u8] = b"ZLIB";
+
+/// How many bytes of such a section come before the stream: these, and the size.
+const ZDEBUG_LENGTH: u64 = 12;
+
+/// No compression header has more bytes.
+const LONGEST: usize = 24;
+
+/// What the bytes before the stream of a compressed section say. Places are counted from the first byte of
+/// the section.
+#[derive(Clone, Copy, Debug, PartialEq, Eq)]
+pub struct CompressionHeader {
+    /// How it is compressed (ch_type).
+    pub method: Compression,
+    /// How many bytes the stream inflates to (ch_size).
+    pub size: u64,
+    /// Where the size stands.
+    pub size_offset: u64,
+    /// Where the stream begins.
+    pub stream_offset: u64,
+}
+
 /// How many bytes a compression header has.
 fn header_size(class: Class) -> u64
     ensures { result ≡ compression_header_size class }
@@ -59,11 +84,33 @@ fn header_size(class: Class) -> u64
     }
 }
 
-/// Whether the section's bytes begin with a compression header.
-fn has_header(section: &NamedSection) -> bool
-    ensures { result ≡ has_compression_header section.now }
+/// How many bytes of a section come before the stream; 0 where it isn't compressed.
+fn header_length(elf: &Elf, section: &NamedSection) -> u64
+    ensures { result ≡ header_length elf.now section.now }
 {
-    !section.name.is_zdebug() && section.header.flags & COMPRESSED != 0
+    if section.name.is_zdebug() {
+        ZDEBUG_LENGTH
+    } else if section.header.flags & COMPRESSED != 0 {
+        header_size(elf.header.class)
+    } else {
+        0
+    }
+}
+
+/// Whether the section begins as its name says.
+fn begins_as_named<S: ReadAt>(source: &S, section: &NamedSection) -> io::Result<bool>
+    ensures begins { ForBytes (S.all_bytes source.now) (λ f.
+        IfOk result (λ begins. begins ≡ begins_as_named f section.now)) }
+    ensures fails { IfErr result (S.fails_with source.now) }
+{
+    if !section.name.is_zdebug() {
+        return Ok(true);
+    }
+    let mut bytes = [0; 4];
+    if !fill_whole(source, section.header.offset, &mut bytes)? {
+        return Ok(false);
+    }
+    Ok(bytes.as_slice() == ZDEBUG_MAGIC)
 }
 
 /// What of a section lies outside the file, or outside the section.
@@ -80,32 +127,100 @@ pub fn section_damage<S: ReadAt>(
     if !lies_within(source, range.offset, range.size)? {
         return Ok(Some(Part::Section(section.name)));
     }
-    if has_header(section) && range.size < header_size(elf.header.class) {
+    if range.size < header_length(elf, section) {
+        return Ok(Some(Part::CompressionHeader(section.name)));
+    }
+    if !begins_as_named(source, section)? {
         return Ok(Some(Part::CompressionHeader(section.name)));
     }
     Ok(None)
 }
 
-/// How a section is compressed, if it is.
-pub fn section_compression<S: ReadAt>(
+/// What a compression header says.
+fn compression_fields(class: Class, order: Order, bytes: &[u8]) -> CompressionHeader
+    requires { compression_header_size class ≤ length bytes.now }
+    ensures { result ≡ compression_fields class order bytes.now }
+{
+    let method = method_of(number_at(order, 0, 4, bytes));
+    match class {
+        Class::Bits32 => CompressionHeader {
+            method,
+            size: number_at(order, 4, 4, bytes),
+            size_offset: 4,
+            stream_offset: 12,
+        },
+        Class::Bits64 => CompressionHeader {
+            method,
+            size: number_at(order, 8, 8, bytes),
+            size_offset: 8,
+            stream_offset: 24,
+        },
+    }
+}
+
+/// What the bytes before the stream of a section say whose name begins `.zdebug_`. The size is big-endian in
+/// files of either order.
+fn zdebug_fields(bytes: &[u8]) -> CompressionHeader
+    requires { 12 ≤ length bytes.now }
+    ensures { result ≡ zdebug_fields bytes.now }
+{
+    CompressionHeader {
+        method: Compression::Zlib,
+        size: number_at(Order::Big, 4, 8, bytes),
+        size_offset: 4,
+        stream_offset: 12,
+    }
+}
+
+/// What comes before the stream of a section whose name begins `.zdebug_`; None where the file ends before.
+fn read_zdebug_header<S: ReadAt>(
     source: &S,
-    elf: &Elf,
     section: &NamedSection,
-) -> io::Result<Option<Compression>>
-    ensures method { ForBytes (S.all_bytes source.now) (λ f.
-        IfOk result (λ method. method ≡ section_compression elf.now f section.now)) }
+) -> io::Result<Option<CompressionHeader>>
+    ensures header { ForBytes (S.all_bytes source.now) (λ f.
+        IfOk result (λ header. header ≡ option_map zdebug_fields (front_of f section.now 12))) }
     ensures fails { IfErr result (S.fails_with source.now) }
 {
-    if section.name.is_zdebug() {
-        return Ok(Some(Compression::Zlib));
-    }
-    if !has_header(section) {
-        return Ok(None);
-    }
-    let mut bytes = [0; 4];
+    let mut bytes = [0; 12];
     if !fill_whole(source, section.header.offset, &mut bytes)? {
         return Ok(None);
     }
-    let number = number_at(elf.header.order, 0, 4, &bytes);
-    Ok(Some(method_of(number)))
+    Ok(Some(zdebug_fields(&bytes)))
+}
+
+/// The compression header of a section that has one; None where the file ends before.
+fn read_flagged_header<S: ReadAt>(
+    source: &S,
+    elf: &Elf,
+    section: &NamedSection,
+) -> io::Result<Option<CompressionHeader>>
+    ensures header { ForBytes (S.all_bytes source.now) (λ f.
+        IfOk result (λ header. header ≡ flagged_header elf.now f section.now)) }
+    ensures fails { IfErr result (S.fails_with source.now) }
+{
+    let mut buffer = [0; LONGEST];
+    let bytes = &mut buffer[..header_size(elf.header.class) as usize];
+    if !fill_whole(source, section.header.offset, bytes)? {
+        return Ok(None);
+    }
+    Ok(Some(compression_fields(elf.header.class, elf.header.order, bytes)))
+}
+
+/// What the bytes before the stream of a section say; None where it isn't compressed.
+pub fn compression_header<S: ReadAt>(
+    source: &S,
+    elf: &Elf,
+    section: &NamedSection,
+) -> io::Result<Option<CompressionHeader>>
+    ensures header { ForBytes (S.all_bytes source.now) (λ f.
+        IfOk result (λ header. header ≡ compression_header elf.now f section.now)) }
+    ensures fails { IfErr result (S.fails_with source.now) }
+{
+    if section.name.is_zdebug() {
+        return read_zdebug_header(source, section);
+    }
+    if section.header.flags & COMPRESSED == 0 {
+        return Ok(None);
+    }
+    read_flagged_header(source, elf, section)
 }

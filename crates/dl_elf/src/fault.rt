@@ -37,8 +37,12 @@ pub enum ElfFault {
     /// There is no section with a line table. Where the file names the build that it came from, its
     /// debug information may be in a file of its own.
     NoLineSection(Option<BuildId>),
-    /// A section that is wanted is compressed.
+    /// A section that is wanted is compressed otherwise than with zlib.
     Compressed(SectionName, Compression),
+    /// What the zlib stream of this section inflates to isn't the section, and the byte that shows it, counted from the
+    /// first byte of the section as it stands in the file: the byte at which the stream is damaged, where the size
+    /// stands that the stream hasn't, or the section's end where the stream is cut short.
+    DamagedStream(SectionName, u64),
     /// It is an object file, and a relocation of this section has a type that isn't known of the machine
     /// (e_machine), or the machine isn't known.
     UnknownRelocation {
@@ -71,6 +75,9 @@ impl fmt::Display for ElfFault {
                 f,
                 "section {name} is compressed {method}; run objcopy --decompress-debug-sections"
             ),
+            ElfFault::DamagedStream(name, at) => {
+                write!(f, "section {name}: damaged zlib stream at 0x{at:x}")
+            }
             ElfFault::UnknownRelocation {
                 section,
                 number,

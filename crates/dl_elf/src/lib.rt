@@ -18,7 +18,7 @@ mod source;
 mod window;
 
 pub use build_id::{BuildId, read_build_id};
-pub use compression::{Compression, section_compression, section_damage};
+pub use compression::{Compression, CompressionHeader, compression_header, section_damage};
 pub use fault::{ElfFault, Part};
 pub use file::{Elf, Range, open_elf, section_at, section_range};
 pub use header::{Class, FileHeader};

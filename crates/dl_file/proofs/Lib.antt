@@ -3,3 +3,4 @@ pub mod RelocationLemmas
 pub mod AnswerLemmas
 pub mod CodeLemmas
 pub mod SectionBytesLemmas
+pub mod PieceLemmas

@@ -1,6 +1,6 @@
 -- The answer of a file whose headers were read.
 use Rattle.std.proofs.Common.{◌≡◌, ℕ, ◌*◌, ◌==◌, not, nat_le, nat_lt, List, Option, None, Some, Result, Ok, Err}
-use Rattle.std.proofs.Common.{MatchResult, MatchOption, inl, inr, option_map, refl, ap, sym, ◌∙◌, subst}
+use Rattle.std.proofs.Common.{MatchResult, MatchOption, inl, inr, option_map, refl, sym, subst}
 use Rattle.std.proofs.lemmas.Bool.{cases_Bool}
 use Rattle.dl_elf.specs.declared.header.FileHeader.{FileHeader}
 use Rattle.dl_elf.specs.declared.section.SectionHeader.{SectionHeader}
@@ -18,20 +18,17 @@ use Rattle.dl_elf.specs.Found.{AreFound, Sections}
 use Rattle.dl_file.specs.declared.line_file.Chosen.{Chosen}
 use Rattle.dl_file.specs.declared.line_file.Wanted.{Wanted}
 use Rattle.dl_file.specs.declared.line_file.LineFile.{LineFile}
-use Rattle.dl_file.specs.Relocations.{HasRelocations, line_bytes}
 use Rattle.dl_file.specs.Answering.{OpensTable}
-use Rattle.dl_file.specs.LineTable.{HasLineTable, IsLineTable, LineTable, Opens, chosen, first_compressed, first_damage}
-use Rattle.dl_file.specs.LineTable.{IsWithoutLineSection, line_table, table_of, unless_compressed, unless_damaged}
-use Rattle.dl_file.specs.LineTable.{with_line_bytes}
+use Rattle.dl_file.specs.LineTable.{Content, HasLineTable, IsLine, IsLineTable, IsTableOf, LineTable, Opens, chosen}
+use Rattle.dl_file.specs.LineTable.{IsWithoutLineSection, TakesMemoryFor, first_damage, first_refused}
+use Rattle.dl_file.specs.LineTable.{with_line}
 
--- nothing is wrong with the wanted sections, and the line section has these bytes
-pub table_whole : (e : Elf) (f : List ℕ) (c : Chosen) (bytes : List ℕ) → first_damage e f c ≡ None
-    → first_compressed e f c ≡ None → line_bytes e f c.line ≡ Ok bytes → table_of e f c ≡ Ok (line_table e f c bytes)
-table_whole e f c bytes undamaged uncompressed line =
-    ap (λ d. unless_damaged d (unless_compressed (first_compressed e f c)
-    (with_line_bytes e f c (line_bytes e f c.line)))) undamaged
-    ∙ (ap (λ d. unless_compressed d (with_line_bytes e f c (line_bytes e f c.line))) uncompressed
-    ∙ ap (with_line_bytes e f c) line)
+-- none of the wanted sections has damage, and none is compressed otherwise than with zlib
+pub table_whole : (e : Elf) (f : List ℕ) (c : Chosen) (line : Result Content ElfFault)
+    (result : Result LineTable ElfFault)
+    → first_damage e f c ≡ None → first_refused e f c ≡ None → IsLine e f c.line line → result ≡ with_line e f c line
+    → IsTableOf e f c result
+table_whole e f c line result undamaged unrefused is table = rw (undamaged, unrefused) (line, is, table)
 
 -- what the sections of the names come to is what the file comes to
 pub has_table : (f : List ℕ) (e : Elf) (at : Sections) (wanted : Wanted) (result : Result LineTable ElfFault)
@@ -98,23 +95,23 @@ opens_fault all_bytes f wanted other is =
 
 -- what the wanted sections come to is what the sections of the names come to
 is_table : (e : Elf) (f : List ℕ) (at : Sections) (wanted : Wanted) (c : Chosen) (result : Result LineTable ElfFault)
-    → Some c ≡ chosen at wanted → result ≡ table_of e f c → IsLineTable e f at wanted result
+    → Some c ≡ chosen at wanted → IsTableOf e f c result → IsLineTable e f at wanted result
 is_table e f at wanted c result is table =
     let P : Option Chosen → Type 0 =
-    λ slot. MatchOption slot (IsWithoutLineSection e f at result) (λ c. result ≡ table_of e f c) in subst P is table
+    λ slot. MatchOption slot (IsWithoutLineSection e f at result) (λ c. IsTableOf e f c result) in subst P is table
 
 -- what the wanted sections come to is what the file comes to
 pub opens_table : {S : Type 0} (all_bytes : S → Option (List ℕ)) (f : List ℕ) (wanted : Wanted) (e : Elf)
     (at : Sections) (c : Chosen) (result : Result (LineFile S) ElfFault) → Ok e ≡ opened f → AreFound e f at
-    → Some c ≡ chosen at wanted → OpensTable all_bytes (table_of e f c) (HasRelocations e f c.line.number) result
+    → Some c ≡ chosen at wanted → OpensTable all_bytes (IsTableOf e f c) (TakesMemoryFor e f c) result
     → Opens all_bytes f wanted result
 opens_table all_bytes f wanted e at c (Ok file) is found these (t, table, gives) =
-    (t, has_table f e at wanted (Ok t) is found (is_table e f at wanted c (Ok t) these (sym table)), gives)
+    (t, has_table f e at wanted (Ok t) is found (is_table e f at wanted c (Ok t) these table), gives)
 opens_table all_bytes f wanted e at c (Err (fault.Read error)) is found these table = tt
 opens_table all_bytes f wanted e at c (Err fault.NoMemory) is found these has =
     (e, sym is, at, found, c, sym these, has)
 opens_table all_bytes f wanted e at c (Err other) is found these table =
-    has_table f e at wanted (Err other) is found (is_table e f at wanted c (Err other) these (sym table))
+    has_table f e at wanted (Err other) is found (is_table e f at wanted c (Err other) these table)
 
 -- there is no line section
 pub opens_none : (f : List ℕ) (wanted : Wanted) (e : Elf) (at : Sections) (told : Option BuildId) → Ok e ≡ opened f
@@ -124,5 +121,5 @@ pub opens_none : (f : List ℕ) (wanted : Wanted) (e : Elf) (at : Sections) (tol
 opens_none f wanted e at told is found none note =
     let result : Result LineTable ElfFault = Err (fault.NoLineSection told) in
     let P : Option Chosen → Type 0 =
-    λ slot. MatchOption slot (IsWithoutLineSection e f at result) (λ c. result ≡ table_of e f c) in
+    λ slot. MatchOption slot (IsWithoutLineSection e f at result) (λ c. IsTableOf e f c result) in
     has_table f e at wanted result is found (subst P none note)

@@ -1,18 +1,26 @@
 -- The forms of contracts inside the crate, over an answer that the definitions give. No promise rests on this file.
 use Rattle.std.specs.Prelude.{◌≡◌, ℕ, List, Option, Some, None, Result, Ok, Err}
 use Rattle.std.specs.declared.io.Error.{Error}
+use Rattle.dl_elf.specs.declared.name.SectionName.{SectionName}
 use Rattle.dl_elf.specs.declared.fault.ElfFault.{ElfFault}
 use Rattle.dl_elf.specs.declared.fault.ElfFault.TheVariants as fault
 use Rattle.dl_elf.specs.declared.fault.Part.TheVariants as part
 use Rattle.dl_file.specs.declared.line_file.LineFile.{LineFile}
+use Rattle.dl_file.specs.declared.content_reader.ContentReader.{ContentReader}
 use Rattle.dl_file.specs.declared.line_reader.LineReader.{LineReader}
-use Rattle.dl_file.specs.LineTable.{GivesLine, GivesTable, LineTable}
+use Rattle.dl_file.specs.LineTable.{Content, Gives, GivesLine, GivesOption, GivesTable, LineTable}
 
 -- a read failed, or a growth was refused
 abbrev pub StopsReading : (Error → Type 0) → ElfFault → Type 0
 StopsReading Fails (fault.Read error) = Fails error
 StopsReading Fails fault.NoMemory = Unit {0}
 StopsReading Fails other = ⊥
+
+-- the stream of the section of this name is damaged, or a growth was refused
+abbrev pub StopsInflating : SectionName → ElfFault → Type 0
+StopsInflating name (fault.DamagedStream n at) = n ≡ name
+StopsInflating name fault.NoMemory = Unit {0}
+StopsInflating name other = ⊥
 
 -- these bytes were made, or the fault is told; or a read failed, or a growth was refused
 abbrev pub IsMade : {A : Type 0} → (answer : Result (List ℕ) ElfFault) (made : List ℕ) → Result A ElfFault → Type 0
@@ -28,19 +36,35 @@ IsCounted number (Err (fault.Read error)) = Unit {0}
 IsCounted number (Err (fault.Damaged part.SectionHeaders)) = ◌≡◌ {A = Option ℕ} number None
 IsCounted number (Err other) = ⊥
 
--- a reader of the bytes, or the fault; a growth is refused only where `Memory` says so
-abbrev pub OpensLine : {S : Type 0} → (S → Option (List ℕ)) → (answer : Result (List ℕ) ElfFault) (Memory : Type 0)
-    → Result (LineReader S) ElfFault → Type 0
-OpensLine all_bytes answer Memory (Ok reader) =
-    (bytes : List ℕ) × (answer ≡ Ok bytes) × GivesLine all_bytes reader bytes
-OpensLine all_bytes answer Memory (Err (fault.Read error)) = Unit {0}
-OpensLine all_bytes answer Memory (Err fault.NoMemory) = Memory
-OpensLine all_bytes answer Memory (Err other) = answer ≡ Err other
+-- a reader of these bytes; memory is refused only where `Memory` says so
+abbrev pub OpensContent : {S : Type 0} → (S → Option (List ℕ)) → Content → (Memory : Type 0)
+    → Result (ContentReader S) ElfFault → Type 0
+OpensContent all_bytes content Memory (Ok reader) = Gives all_bytes reader content
+OpensContent all_bytes content Memory (Err (fault.Read error)) = Unit {0}
+OpensContent all_bytes content Memory (Err fault.NoMemory) = Memory
+OpensContent all_bytes content Memory (Err other) = ⊥
+
+-- the same where there is a section
+abbrev pub OpensOption : {S : Type 0} → (S → Option (List ℕ)) → Option Content → (Memory : Type 0)
+    → Result (Option (ContentReader S)) ElfFault → Type 0
+OpensOption all_bytes content Memory (Ok reader) = GivesOption all_bytes reader content
+OpensOption all_bytes content Memory (Err (fault.Read error)) = Unit {0}
+OpensOption all_bytes content Memory (Err fault.NoMemory) = Memory
+OpensOption all_bytes content Memory (Err other) = ⊥
+
+-- a reader of the line section, or the fault
+abbrev pub OpensLine : {S : Type 0} → (S → Option (List ℕ)) → (IsAnswer : Result Content ElfFault → Type 0)
+    (Memory : Type 0) → Result (LineReader S) ElfFault → Type 0
+OpensLine all_bytes IsAnswer Memory (Ok reader) =
+    (content : Content) × IsAnswer (Ok content) × GivesLine all_bytes reader content
+OpensLine all_bytes IsAnswer Memory (Err (fault.Read error)) = Unit {0}
+OpensLine all_bytes IsAnswer Memory (Err fault.NoMemory) = Memory
+OpensLine all_bytes IsAnswer Memory (Err other) = IsAnswer (Err other)
 
 -- the same of the readers of a line table
-abbrev pub OpensTable : {S : Type 0} → (S → Option (List ℕ)) → (answer : Result LineTable ElfFault) (Memory : Type 0)
-    → Result (LineFile S) ElfFault → Type 0
-OpensTable all_bytes answer Memory (Ok file) = (t : LineTable) × (answer ≡ Ok t) × GivesTable all_bytes file t
-OpensTable all_bytes answer Memory (Err (fault.Read error)) = Unit {0}
-OpensTable all_bytes answer Memory (Err fault.NoMemory) = Memory
-OpensTable all_bytes answer Memory (Err other) = answer ≡ Err other
+abbrev pub OpensTable : {S : Type 0} → (S → Option (List ℕ)) → (IsAnswer : Result LineTable ElfFault → Type 0)
+    (Memory : Type 0) → Result (LineFile S) ElfFault → Type 0
+OpensTable all_bytes IsAnswer Memory (Ok file) = (t : LineTable) × IsAnswer (Ok t) × GivesTable all_bytes file t
+OpensTable all_bytes IsAnswer Memory (Err (fault.Read error)) = Unit {0}
+OpensTable all_bytes IsAnswer Memory (Err fault.NoMemory) = Memory
+OpensTable all_bytes IsAnswer Memory (Err other) = IsAnswer (Err other)

@@ -1,5 +1,6 @@
 -- What the public contracts say rests on these, in reading order.
 pub mod Relocations
+pub mod ContentReader
 pub mod LineReader
 pub mod LineTable
 pub mod Code

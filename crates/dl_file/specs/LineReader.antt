@@ -2,21 +2,28 @@
 use Rattle.std.specs.Prelude.{ℕ, List, Option, None, Some}
 use Rattle.std.specs.Io.Cursor.{cursor_remaining}
 use Rattle.std.specs.declared.io.Error.{Error}
-use Rattle.dl_elf.specs.Reader.{reader_remaining, reader_error, ReaderFails}
+use Rattle.dl_elf.specs.declared.name.SectionName.{SectionName}
+use Rattle.dl_file.specs.declared.inflated_reader.ReadFault.{ReadFault}
 use Rattle.dl_file.specs.declared.line_reader.LineReader.{LineReader}
 use Rattle.dl_file.specs.declared.line_reader.LineReader.TheVariants.{File, Held}
+use Rattle.dl_file.specs.ContentReader.{content_remaining, content_fault, stream_name, ContentFails}
 
 -- the bytes that are left, where they are known; those that are held are
 abbrev pub line_remaining : {S : Type 0} → (S → Option (List ℕ)) → LineReader S → Option (List ℕ)
-line_remaining all_bytes (File reader) = reader_remaining all_bytes reader
+line_remaining all_bytes (File reader) = content_remaining all_bytes reader
 line_remaining all_bytes (Held bytes) = cursor_remaining (λ v. Some v.items) bytes
 
--- the error of the last read, where it failed
-abbrev pub line_error : {S : Type 0} → LineReader S → Option Error
-line_error (File reader) = reader_error reader
-line_error (Held bytes) = None
+-- the section's name where it is compressed and inflated as it is read
+abbrev pub line_stream : {S : Type 0} → LineReader S → Option SectionName
+line_stream (File reader) = stream_name reader
+line_stream (Held bytes) = None
+
+-- why the last read failed, if it did
+abbrev pub line_fault : {S : Type 0} → LineReader S → Option ReadFault
+line_fault (File reader) = content_fault reader
+line_fault (Held bytes) = None
 
 -- a read fails with this error: it is one of the file; reads of bytes that are held don't fail
 abbrev pub LineReaderFails : {S : Type 0} → (S → Option (List ℕ)) → (S → Error → Type 0) → LineReader S → Error → Type 0
-LineReaderFails all_bytes fails_with (File reader) error = ReaderFails all_bytes fails_with reader error
+LineReaderFails all_bytes fails_with (File reader) error = ContentFails all_bytes fails_with reader error
 LineReaderFails all_bytes fails_with (Held bytes) error = ⊥

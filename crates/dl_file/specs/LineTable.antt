@@ -1,5 +1,5 @@
 -- What open_line_file answers. f: the bytes of a file; e: the file as it is opened.
-use Rattle.std.specs.Prelude.{◌≡◌, ℕ, Bool, List, Option, Some, None, option_map, option_and_then}
+use Rattle.std.specs.Prelude.{◌≡◌, ◌⊎◌, ℕ, zero, Bool, List, Option, Some, None, option_map, option_and_then}
 use Rattle.std.specs.Prelude.{Result, Ok, Err, MatchResult, MatchOption}
 use Rattle.dl_num.specs.declared.fixed.Order.{Order}
 use Rattle.dl_elf.specs.declared.file.Elf.{Elf}
@@ -12,20 +12,22 @@ use Rattle.dl_file.specs.declared.line_file.Wanted.{Wanted}
 use Rattle.dl_file.specs.declared.line_file.Wanted.TheVariants.{LineSection, LineAndStringSections}
 use Rattle.dl_file.specs.declared.line_file.Chosen.{Chosen}
 use Rattle.dl_file.specs.declared.line_file.LineFile.{LineFile}
-use Rattle.dl_elf.specs.declared.reader.SectionReader.{SectionReader}
+use Rattle.dl_file.specs.declared.content_reader.ContentReader.{ContentReader}
 use Rattle.dl_file.specs.declared.line_reader.LineReader.{LineReader}
 use Rattle.dl_elf.specs.declared.compression.Compression.{Compression}
+use Rattle.dl_elf.specs.declared.compression.Compression.TheVariants.{Zlib}
+use Rattle.dl_elf.specs.declared.compression.CompressionHeader.{CompressionHeader}
 use Rattle.dl_elf.specs.declared.fault.Part.{Part}
 use Rattle.dl_elf.specs.declared.fault.ElfFault.{ElfFault}
 use Rattle.dl_elf.specs.declared.fault.ElfFault.TheVariants as fault
 use Rattle.dl_elf.specs.Elf.{is_object}
 use Rattle.dl_elf.specs.Sections.{section_bytes, opened}
 use Rattle.dl_elf.specs.Found.{AreFound, Sections}
-use Rattle.dl_elf.specs.Compressed.{section_damage, section_compression}
+use Rattle.dl_elf.specs.Compressed.{section_damage, compression_header}
 use Rattle.dl_elf.specs.Notes.{build_id_of, build_id_bytes}
-use Rattle.dl_elf.specs.Reader.{reader_remaining, reader_error}
-use Rattle.dl_file.specs.LineReader.{line_remaining, line_error}
-use Rattle.dl_file.specs.Relocations.{HasRelocations, line_bytes}
+use Rattle.dl_file.specs.ContentReader.{content_remaining, content_fault, stream_name}
+use Rattle.dl_file.specs.LineReader.{line_remaining, line_fault, line_stream}
+use Rattle.dl_file.specs.Relocations.{HasRelocations, line_bytes, relocations_of}
 
 -- ---- which sections
 
@@ -70,49 +72,84 @@ first_of g c = option_or (g c.line) (option_or (option_and_then g c.debug_line_s
 abbrev pub first_damage : Elf → List ℕ → Chosen → Option Part
 first_damage e f c = first_of (section_damage e f) c
 
-abbrev pub compressed : Elf → List ℕ → NamedSection → Option (SectionName × Compression)
-compressed e f s = option_map (λ method. (s.name, method)) (section_compression e f s)
+abbrev pub refused_method : SectionName → Compression → Option (SectionName × Compression)
+refused_method name Zlib = None
+refused_method name method = Some (name, method)
 
--- the first of the wanted sections that is compressed, and how
-abbrev pub first_compressed : Elf → List ℕ → Chosen → Option (SectionName × Compression)
-first_compressed e f c = first_of (compressed e f) c
+abbrev pub refused : Elf → List ℕ → NamedSection → Option (SectionName × Compression)
+refused e f s = option_and_then (λ header. refused_method s.name header.method) (compression_header e f s)
+
+-- the first of the wanted sections that is compressed otherwise than with zlib, and how
+abbrev pub first_refused : Elf → List ℕ → Chosen → Option (SectionName × Compression)
+first_refused e f c = first_of (refused e f) c
+
+-- ---- their bytes
+
+-- the bytes of a section; of one that is compressed with zlib its name, and what its stream inflates to is left open
+pub data Content : Type 0 where
+  Plain : List ℕ → Content
+  Inflated : SectionName → Content
+
+abbrev pub content_by : List ℕ → NamedSection → Option CompressionHeader → Content
+content_by f s None = Plain (section_bytes s.header f)
+content_by f s (Some header) = Inflated s.name
+
+abbrev pub content : Elf → List ℕ → NamedSection → Content
+content e f s = content_by f s (compression_header e f s)
+
+abbrev pub plain_content : Result (List ℕ) ElfFault → Result Content ElfFault
+plain_content (Ok bytes) = Ok (Plain bytes)
+plain_content (Err first) = Err first
+
+-- a compressed line section with so many sections of relocations. Where it has some it is inflated when the file is
+-- opened: then what they make of it, and the faults of the stream and of the relocations, are left open
+abbrev pub IsInflatedWith : SectionName → Option ℕ → Result Content ElfFault → Type 0
+IsInflatedWith name (Some zero) result = result ≡ Ok (Inflated name)
+IsInflatedWith name other (Ok c) = (bytes : List ℕ) × (c ≡ Plain bytes)
+IsInflatedWith name other (Err first) = Unit {0}
+
+-- the bytes of the line section, which begins with this compression header or is none, or its first fault
+abbrev pub IsLineBy : Option CompressionHeader → Elf → List ℕ → NamedSection → Result Content ElfFault → Type 0
+IsLineBy None e f line result = result ≡ plain_content (line_bytes e f line)
+IsLineBy (Some header) e f line result = IsInflatedWith line.name (relocations_of e f line.number) result
+
+abbrev pub IsLine : Elf → List ℕ → NamedSection → Result Content ElfFault → Type 0
+IsLine e f line result = IsLineBy (compression_header e f line) e f line result
 
 -- ---- the answer
 
--- what a file has of its line table; its three lists of bytes are those of whole sections
+-- what a file has of its line table
 pub record LineTable : Type 0 where
   pub order : Order
   pub is_object_file : Bool
-  pub line_bytes : List ℕ
-  pub line_str_bytes : Option (List ℕ)
-  pub str_bytes : Option (List ℕ)
+  pub line : Content
+  pub line_str : Option Content
+  pub str : Option Content
 
-abbrev pub line_table : Elf → List ℕ → Chosen → (line_bytes : List ℕ) → LineTable
-line_table e f c bytes = record {
+abbrev pub line_table : Elf → List ℕ → Chosen → (line : Content) → LineTable
+line_table e f c line = record {
   order = e.header.order;
   is_object_file = is_object e.header;
-  line_bytes = bytes;
-  line_str_bytes = option_map (λ s. section_bytes s.header f) c.debug_line_str;
-  str_bytes = option_map (λ s. section_bytes s.header f) c.debug_str;
+  line = line;
+  line_str = option_map (content e f) c.debug_line_str;
+  str = option_map (content e f) c.debug_str;
 }
 
-abbrev pub unless_damaged : {A : Type 0} → Option Part → Result A ElfFault → Result A ElfFault
-unless_damaged None rest = rest
-unless_damaged (Some part) rest = Err (fault.Damaged part)
+abbrev pub with_line : Elf → List ℕ → Chosen → Result Content ElfFault → Result LineTable ElfFault
+with_line e f c (Ok line) = Ok (line_table e f c line)
+with_line e f c (Err first) = Err first
 
-abbrev pub unless_compressed : {A : Type 0} → Option (SectionName × Compression) → Result A ElfFault
-    → Result A ElfFault
-unless_compressed None rest = rest
-unless_compressed (Some (name, method)) rest = Err (fault.Compressed name method)
+-- sections that lie in the file, and of which none is compressed otherwise than with zlib
+abbrev pub IsTableWith : Elf → List ℕ → Chosen → Result LineTable ElfFault → Type 0
+IsTableWith e f c result = (line : Result Content ElfFault) × IsLine e f c.line line × (result ≡ with_line e f c line)
 
-abbrev pub with_line_bytes : Elf → List ℕ → Chosen → Result (List ℕ) ElfFault → Result LineTable ElfFault
-with_line_bytes e f c (Ok bytes) = Ok (line_table e f c bytes)
-with_line_bytes e f c (Err first) = Err first
-
--- what the wanted sections come to, or their first fault: damage, one that is compressed, that of a relocation
-abbrev pub table_of : Elf → List ℕ → Chosen → Result LineTable ElfFault
-table_of e f c = unless_damaged (first_damage e f c)
-    (unless_compressed (first_compressed e f c) (with_line_bytes e f c (line_bytes e f c.line)))
+-- what the wanted sections come to, or their first fault: damage, one that is compressed otherwise, that of the line
+-- section's stream or relocations
+abbrev pub IsTableOf : Elf → List ℕ → Chosen → Result LineTable ElfFault → Type 0
+IsTableOf e f c result = MatchOption (first_damage e f c)
+    (MatchOption (first_refused e f c) (IsTableWith e f c result)
+    (λ found. result ≡ Err (fault.Compressed found.0 found.1)))
+    (λ part. result ≡ Err (fault.Damaged part))
 
 -- the fault of a file without a line section, which tells its build-id
 abbrev pub IsWithoutLineSection : Elf → List ℕ → Sections → Result LineTable ElfFault → Type 0
@@ -123,7 +160,7 @@ IsWithoutLineSection e f at other = ⊥
 -- what the sections of the names come to; the first fault is that there is no line section
 abbrev pub IsLineTable : Elf → List ℕ → Sections → Wanted → Result LineTable ElfFault → Type 0
 IsLineTable e f at wanted result =
-    MatchOption (chosen at wanted) (IsWithoutLineSection e f at result) (λ c. result ≡ table_of e f c)
+    MatchOption (chosen at wanted) (IsWithoutLineSection e f at result) (λ c. IsTableOf e f c result)
 
 -- a file with these bytes has this line table, or it is the first fault that keeps it from that
 abbrev pub HasLineTable : List ℕ → Wanted → Result LineTable ElfFault → Type 0
@@ -131,38 +168,51 @@ HasLineTable f wanted result = MatchResult (opened f)
     (λ e. (at : Sections) × AreFound e f at × IsLineTable e f at wanted result)
     (λ first. result ≡ Err first)
 
--- a file with these bytes has a line section with relocations, which is held in memory
-abbrev pub HoldsLineSection : List ℕ → Wanted → Type 0
-HoldsLineSection f wanted = (e : Elf) × (opened f ≡ Ok e) × (at : Sections) × AreFound e f at
-    × (c : Chosen) × (chosen at wanted ≡ Some c) × HasRelocations e f c.line.number
+-- there is such a section, and it is compressed
+abbrev pub HasStream : Elf → List ℕ → Option NamedSection → Type 0
+HasStream e f section = (header : CompressionHeader) × (option_and_then (compression_header e f) section ≡ Some header)
+
+-- memory is taken for these sections: one is compressed, or the line section has relocations and is held
+abbrev pub TakesMemoryFor : Elf → List ℕ → Chosen → Type 0
+TakesMemoryFor e f c = HasRelocations e f c.line.number ⊎ (HasStream e f (Some c.line)
+    ⊎ (HasStream e f c.debug_line_str ⊎ HasStream e f c.debug_str))
+
+-- and for those of a file with these bytes
+abbrev pub TakesMemory : List ℕ → Wanted → Type 0
+TakesMemory f wanted = (e : Elf) × (opened f ≡ Ok e) × (at : Sections) × AreFound e f at
+    × (c : Chosen) × (chosen at wanted ≡ Some c) × TakesMemoryFor e f c
 
 -- ---- readers
 
--- a reader that gives these bytes, where they are known, and no read of it failed yet
-abbrev pub Gives : {S : Type 0} → (S → Option (List ℕ)) → SectionReader S → List ℕ → Type 0
-Gives all_bytes reader bytes = (reader_remaining all_bytes reader ≡ Some bytes) × (reader_error reader ≡ None)
+-- a reader that gives these bytes, where they are known; no read of it failed yet
+abbrev pub Gives : {S : Type 0} → (S → Option (List ℕ)) → ContentReader S → Content → Type 0
+Gives all_bytes reader (Plain bytes) = (content_remaining all_bytes reader ≡ Some bytes)
+    × (content_fault reader ≡ None) × (stream_name reader ≡ None)
+Gives all_bytes reader (Inflated name) = (content_fault reader ≡ None) × (stream_name reader ≡ Some name)
 
-abbrev pub GivesOption : {S : Type 0} → (S → Option (List ℕ)) → Option (SectionReader S) → Option (List ℕ) → Type 0
-GivesOption all_bytes None bytes = bytes ≡ None
+abbrev pub GivesOption : {S : Type 0} → (S → Option (List ℕ)) → Option (ContentReader S) → Option Content → Type 0
+GivesOption all_bytes None content = content ≡ None
 GivesOption all_bytes (Some reader) None = ⊥
-GivesOption all_bytes (Some reader) (Some bytes) = Gives all_bytes reader bytes
+GivesOption all_bytes (Some reader) (Some content) = Gives all_bytes reader content
 
 -- the same of a reader of a line section
-abbrev pub GivesLine : {S : Type 0} → (S → Option (List ℕ)) → LineReader S → List ℕ → Type 0
-GivesLine all_bytes reader bytes = (line_remaining all_bytes reader ≡ Some bytes) × (line_error reader ≡ None)
+abbrev pub GivesLine : {S : Type 0} → (S → Option (List ℕ)) → LineReader S → Content → Type 0
+GivesLine all_bytes reader (Plain bytes) = (line_remaining all_bytes reader ≡ Some bytes)
+    × (line_fault reader ≡ None) × (line_stream reader ≡ None)
+GivesLine all_bytes reader (Inflated name) = (line_fault reader ≡ None) × (line_stream reader ≡ Some name)
 
 -- the readers of a file give the bytes of a line table
 pub record GivesTable {S : Type 0} (all_bytes : S → Option (List ℕ)) (file : LineFile S) (t : LineTable) : Type 0 where
   pub order : file.order ≡ t.order
   pub object : file.is_object ≡ t.is_object_file
-  pub line : GivesLine all_bytes file.line t.line_bytes
-  pub line_str : GivesOption all_bytes file.debug_line_str t.line_str_bytes
-  pub str : GivesOption all_bytes file.debug_str t.str_bytes
+  pub line : GivesLine all_bytes file.line t.line
+  pub line_str : GivesOption all_bytes file.debug_line_str t.line_str
+  pub str : GivesOption all_bytes file.debug_str t.str
 
 -- what open_line_file answers for a file with these bytes: its readers, a fault, that a read failed, or that memory was
--- refused for a line section with relocations
+-- refused
 abbrev pub Opens : {S : Type 0} → (S → Option (List ℕ)) → List ℕ → Wanted → Result (LineFile S) ElfFault → Type 0
 Opens all_bytes f wanted (Ok file) = (t : LineTable) × HasLineTable f wanted (Ok t) × GivesTable all_bytes file t
 Opens all_bytes f wanted (Err (fault.Read error)) = Unit {0}
-Opens all_bytes f wanted (Err fault.NoMemory) = HoldsLineSection f wanted
+Opens all_bytes f wanted (Err fault.NoMemory) = TakesMemory f wanted
 Opens all_bytes f wanted (Err other) = HasLineTable f wanted (Err other)

@@ -1,7 +1,7 @@
 -- The bytes of the line section of an object file, with its relocations applied. System V ABI, chapter 4, "Relocation".
 -- f: the bytes of a file; e: the file as it is opened; line: its line section; b: bytes of the line section.
 use Rattle.std.specs.Prelude.{◌≡◌, ℕ, zero, suc, ◌+◌, ◌-◌, ◌==◌, nat_le, if◌then◌else◌, List, [], Option}
-use Rattle.std.specs.Prelude.{Some, None, option_and_then, Result, Ok, Err}
+use Rattle.std.specs.Prelude.{Some, None, option_and_then, option_map, Result, Ok, Err}
 use Rattle.dl_elf.specs.declared.header.Class.{Class}
 use Rattle.dl_elf.specs.declared.header.Class.TheVariants as elf_class
 use Rattle.dl_elf.specs.declared.section.SectionHeader.{SectionHeader}
@@ -20,6 +20,7 @@ use Rattle.dl_reloc.specs.declared.target.Form.TheVariants.{Rela, Rel}
 use Rattle.dl_reloc.specs.declared.target.Target.{Target}
 use Rattle.dl_reloc.specs.declared.apply.RelocationFault.{RelocationFault}
 use Rattle.dl_reloc.specs.declared.apply.RelocationFault.TheVariants.{UnknownType, PlaceOutside, SymbolOutside}
+use Rattle.dl_reloc.specs.Entries.{symbol_values}
 use Rattle.dl_reloc.specs.Relocated.{relocated}
 
 -- ---- what the headers say
@@ -51,11 +52,16 @@ with_fault_of e name (Err why) = Err (fault_of e name why)
 abbrev pub bytes_in : List ℕ → SectionHeader → Option (List ℕ)
 bytes_in f s = if range_within (section_range s) f then Some (section_bytes s f) else None
 
--- the symbol table of this number (sh_link), none of number 0; None where it doesn't lie in the file
+-- the values of the symbols that a section has; None where it doesn't lie in the file
+abbrev pub values_in : Target → List ℕ → SectionHeader → Option (List ℕ)
+values_in t f s = option_map (symbol_values t.class t.order) (bytes_in f s)
+
+-- those of the symbol table of this number (sh_link), none of number 0; None where it doesn't lie in the file
 abbrev pub symbols_in : Elf → List ℕ → (number : ℕ) → Option (List ℕ)
 symbols_in e f number =
     if number == 0 then Some []
-    else if nat_le e.count number then None else option_and_then (bytes_in f) (section_in e.header f number)
+    else if nat_le e.count number then None
+    else option_and_then (values_in (target_of e) f) (section_in e.header f number)
 
 -- what entries of this form make of b, with these symbols
 abbrev pub by_entries : Elf → SectionName → Form → (entries symbols : Option (List ℕ)) → List ℕ

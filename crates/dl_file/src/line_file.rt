@@ -1,32 +1,37 @@
 //! The sections of a file's line table.
-ghost use Rattle.std.specs.Prelude.{◌≡◌, Some, None, true, option_map, option_and_then, IfOk, IfErr};
+ghost use Rattle.std.specs.Prelude.{◌≡◌, ◌⊎◌, Some, None, true, option_map, option_and_then, IfOk, IfErr};
 ghost use Rattle.dl_elf.specs.Source.{ForBytes};
 ghost use Rattle.dl_elf.specs.Answers.{IfRead};
 ghost use Rattle.dl_elf.specs.Sections.{range_within, section_bytes, section_range};
-ghost use Rattle.dl_elf.specs.Compressed.{section_damage};
+ghost use Rattle.dl_elf.specs.Compressed.{compression_header, section_damage};
 ghost use Rattle.dl_elf.specs.Slots.{slot_of};
 ghost use Rattle.dl_elf.specs.SectionsHeld.{slots};
-ghost use Rattle.dl_file.specs.Answering.{OpensLine, OpensTable};
-ghost use Rattle.dl_file.specs.Relocations.{HasRelocations, line_bytes};
-ghost use Rattle.dl_file.specs.LineTable.{Gives, GivesOption, Opens, compressed, table_of};
-ghost use Rattle.dl_file.specs.LineTable.{first_damage, first_compressed, line_section, debug_line_str_section};
+ghost use Rattle.dl_file.specs.Answering.{OpensLine, OpensOption, OpensTable, StopsInflating, StopsReading};
+ghost use Rattle.dl_file.specs.Relocations.{HasRelocations};
+ghost use Rattle.dl_file.specs.LineTable.{HasStream, IsLine, IsTableOf, Opens, TakesMemoryFor, content, refused};
+ghost use Rattle.dl_file.specs.LineTable.{first_damage, first_refused, line_section, debug_line_str_section};
 ghost use Rattle.dl_file.specs.LineTable.{debug_str_section};
 
+use crate::content_reader::ContentReader;
+use crate::inflated_reader::{InflatedReader, ReadFault};
 use crate::line_reader::LineReader;
 use crate::relocating::{count_relocations, relocate_line};
 use crate::section_bytes::read_bytes;
 use dl_elf::{
-    Compression, Elf, ElfFault, NamedSection, Part, ReadAt, SectionName, SectionReader, Sections,
-    find_sections, open_elf, read_build_id, section_compression, section_damage, section_range,
+    Compression, CompressionHeader, Elf, ElfFault, NamedSection, Part, Range, ReadAt, SectionName,
+    Sections, compression_header, find_sections, open_elf, read_build_id, section_damage,
 };
 use dl_num::Order;
 use std::alloc::Global;
 use std::io;
-use std::io::Cursor;
+use std::io::{Cursor, Read};
 
 /// How many sections of relocations a line section may have. Assemblers write one; the work grows with their number,
 /// since each may name the same bytes.
 const MOST_RELOCATIONS: u64 = 16;
+
+/// How many bytes a compressed line section with relocations may have, which is held: 2^32.
+const HELD_LIMIT: u64 = 1 << 32;
 
 /// What is asked for of a file.
 #[derive(Clone, Copy, Debug, PartialEq, Eq)]
@@ -47,9 +52,9 @@ pub struct LineFile<'a, S> {
     /// The line table. DWARF 5, section 6.2.
     pub line: LineReader<'a, S>,
     /// The strings of DW_FORM_line_strp; None where the file has none or they aren't wanted.
-    pub debug_line_str: Option<SectionReader<'a, S>>,
+    pub debug_line_str: Option<ContentReader<'a, S>>,
     /// The strings of DW_FORM_strp; None where the file has none or they aren't wanted.
-    pub debug_str: Option<SectionReader<'a, S>>,
+    pub debug_str: Option<ContentReader<'a, S>>,
 }
 
 /// The sections that are wanted.
@@ -151,65 +156,114 @@ fn first_damage<S: ReadAt>(source: &S, elf: &Elf, chosen: &Chosen) -> io::Result
     damage_of(source, elf, chosen.debug_str)
 }
 
-/// The section's name and how it is compressed, where there is one that is.
-fn compression_of<S: ReadAt>(
+/// The section's name and how it is compressed, where there is one that is, and otherwise than with zlib.
+fn refused_compression<S: ReadAt>(
     source: &S,
     elf: &Elf,
     section: Option<NamedSection>,
 ) -> io::Result<Option<(SectionName, Compression)>>
-    ensures compressed { ForBytes (S.all_bytes source.now) (λ f.
-        IfOk result (λ found. found ≡ option_and_then (compressed elf.now f) section)) }
+    ensures refused { ForBytes (S.all_bytes source.now) (λ f.
+        IfOk result (λ found. found ≡ option_and_then (refused elf.now f) section)) }
     ensures fails { IfErr result (S.fails_with source.now) }
 {
     let Some(section) = section else {
         return Ok(None);
     };
-    match section_compression(source, elf, &section)? {
-        Some(method) => Ok(Some((section.name, method))),
-        None => Ok(None),
+    let Some(header) = compression_header(source, elf, &section)? else {
+        return Ok(None);
+    };
+    match header.method {
+        Compression::Zlib => Ok(None),
+        method => Ok(Some((section.name, method))),
     }
 }
 
-/// The first of the wanted sections that is compressed, and how.
-fn first_compressed<S: ReadAt>(
+/// The first of the wanted sections that is compressed otherwise than with zlib, and how.
+fn first_refused<S: ReadAt>(
     source: &S,
     elf: &Elf,
     chosen: &Chosen,
 ) -> io::Result<Option<(SectionName, Compression)>>
-    ensures compressed { ForBytes (S.all_bytes source.now) (λ f.
-        IfOk result (λ found. found ≡ first_compressed elf.now f chosen.now)) }
+    ensures refused { ForBytes (S.all_bytes source.now) (λ f.
+        IfOk result (λ found. found ≡ first_refused elf.now f chosen.now)) }
     ensures fails { IfErr result (S.fails_with source.now) }
 {
-    if let Some(found) = compression_of(source, elf, Some(chosen.line))? {
+    if let Some(found) = refused_compression(source, elf, Some(chosen.line))? {
         return Ok(Some(found));
     }
-    if let Some(found) = compression_of(source, elf, chosen.debug_line_str)? {
+    if let Some(found) = refused_compression(source, elf, chosen.debug_line_str)? {
         return Ok(Some(found));
     }
-    compression_of(source, elf, chosen.debug_str)
+    refused_compression(source, elf, chosen.debug_str)
 }
 
-/// A reader of a section's bytes.
-fn reader_of<'a, S: ReadAt>(source: &'a S, section: &NamedSection) -> SectionReader<'a, S>
-    ensures { ForBytes (S.all_bytes source.entry.now)
-        (λ f. Gives S.all_bytes result (section_bytes section.now.header f)) }
-{
-    let range = section_range(&section.header);
-    SectionReader::new(source, range.offset, range.size)
-}
-
-/// The same where there is a section.
+/// A reader of a section's bytes where there is a section.
 fn optional_reader<'a, S: ReadAt>(
+    alloc: Global,
     source: &'a S,
+    elf: &Elf,
     section: Option<NamedSection>,
-) -> Option<SectionReader<'a, S>>
-    ensures { ForBytes (S.all_bytes source.entry.now) (λ f.
-        GivesOption S.all_bytes result (option_map (λ s. section_bytes s.header f) section)) }
+) -> Result<Option<ContentReader<'a, S>>, ElfFault>
+    ensures opens { ForBytes (S.all_bytes source.entry.now) (λ f. OpensOption S.all_bytes
+        (option_map (content elf.now f) section) (HasStream elf.now f section) result) }
+    ensures read { IfRead (S.fails_with source.entry.now) result }
 {
     match section {
-        Some(section) => Some(reader_of(source, &section)),
-        None => None,
+        Some(section) => Ok(Some(ContentReader::open(alloc, source, elf, &section)?)),
+        None => Ok(None),
     }
+}
+
+/// What the stream in the bytes of a compressed section of this name inflates to.
+fn inflate_whole(
+    alloc: Global,
+    section: &[u8],
+    name: SectionName,
+    header: &CompressionHeader,
+) -> Result<Vec<u8>, ElfFault>
+    ensures { IfErr result (StopsInflating name) }
+{
+    if HELD_LIMIT < header.size {
+        return Err(ElfFault::NoMemory);
+    }
+    let source = Cursor::new(section);
+    let range = Range {
+        offset: 0,
+        size: section.len() as u64,
+    };
+    let mut reader = InflatedReader::new(&source, name, range, header);
+    let mut bytes = Vec::new(alloc);
+    if reader.read_to_end(&mut bytes).is_ok() {
+        return Ok(bytes);
+    }
+    match reader.last_fault() {
+        Some(ReadFault::DamagedStream(at)) => Err(ElfFault::DamagedStream(name, at)),
+        _ => Err(ElfFault::NoMemory),
+    }
+}
+
+/// All bytes of the line section; of one that is compressed, those that its stream inflates to.
+fn whole_bytes<S: ReadAt>(
+    alloc: Global,
+    source: &S,
+    elf: &Elf,
+    line: &NamedSection,
+) -> Result<Vec<u8>, ElfFault>
+    requires within { ForBytes (S.all_bytes source.now)
+        (λ f. range_within (section_range line.now.header) f ≡ true) }
+    ensures bytes { ForBytes (S.all_bytes source.now) (λ f. compression_header elf.now f line.now ≡ None
+        → IfOk result (λ v. v.items ≡ section_bytes line.now.header f)) }
+    ensures stops { ForBytes (S.all_bytes source.now) (λ f. compression_header elf.now f line.now ≡ None
+        → IfErr result (StopsReading (S.fails_with source.now))) }
+    ensures read { IfRead (S.fails_with source.now) result }
+{
+    let Some(bytes) = read_bytes(alloc, source, &line.header)? else {
+        return Err(ElfFault::Damaged(Part::Section(line.name)));
+    };
+    let Some(header) = compression_header(source, elf, line)? else {
+        return Ok(bytes);
+    };
+    inflate_whole(alloc, bytes.as_slice(), line.name, &header)
 }
 
 /// A reader of the line section's bytes. Those of an object file are held in memory where it has
@@ -222,20 +276,19 @@ fn line_reader<'a, S: ReadAt>(
 ) -> Result<LineReader<'a, S>, ElfFault>
     requires within { ForBytes (S.all_bytes source.now)
         (λ f. range_within (section_range line.now.header) f ≡ true) }
-    ensures opens { ForBytes (S.all_bytes source.entry.now) (λ f. OpensLine S.all_bytes
-        (line_bytes elf.now f line.now) (HasRelocations elf.now f line.now.number) result) }
+    ensures opens { ForBytes (S.all_bytes source.entry.now) (λ f. OpensLine S.all_bytes (IsLine elf.now f line.now)
+        (HasRelocations elf.now f line.now.number ⊎ HasStream elf.now f (Some line.now)) result) }
     ensures read { IfRead (S.fails_with source.entry.now) result }
 {
     let sections = count_relocations(source, elf, line.number)?;
     if sections == 0 {
-        return Ok(LineReader::File(reader_of(source, line)));
+        let reader = ContentReader::open(alloc, source, elf, line)?;
+        return Ok(LineReader::File(reader));
     }
     if MOST_RELOCATIONS < sections {
         return Err(ElfFault::Damaged(Part::Relocations(line.name)));
     }
-    let Some(mut bytes) = read_bytes(alloc, source, &line.header)? else {
-        return Err(ElfFault::Damaged(Part::Section(line.name)));
-    };
+    let mut bytes = whole_bytes(alloc, source, elf, line)?;
     relocate_line(alloc, source, elf, line, bytes.as_mut_slice())?;
     Ok(LineReader::Held(Cursor::new(bytes)))
 }
@@ -248,21 +301,21 @@ fn open_chosen<'a, S: ReadAt>(
     chosen: &Chosen,
 ) -> Result<LineFile<'a, S>, ElfFault>
     ensures opens { ForBytes (S.all_bytes source.entry.now) (λ f. OpensTable S.all_bytes
-        (table_of elf.now f chosen.now) (HasRelocations elf.now f chosen.now.line.number) result) }
+        (IsTableOf elf.now f chosen.now) (TakesMemoryFor elf.now f chosen.now) result) }
     ensures read { IfRead (S.fails_with source.entry.now) result }
 {
     if let Some(part) = first_damage(source, elf, chosen)? {
         return Err(ElfFault::Damaged(part));
     }
-    if let Some((name, method)) = first_compressed(source, elf, chosen)? {
+    if let Some((name, method)) = first_refused(source, elf, chosen)? {
         return Err(ElfFault::Compressed(name, method));
     }
     Ok(LineFile {
         order: elf.header.order,
         is_object: elf.header.is_object(),
         line: line_reader(alloc, source, elf, &chosen.line)?,
-        debug_line_str: optional_reader(source, chosen.debug_line_str),
-        debug_str: optional_reader(source, chosen.debug_str),
+        debug_line_str: optional_reader(alloc, source, elf, chosen.debug_line_str)?,
+        debug_str: optional_reader(alloc, source, elf, chosen.debug_str)?,
     })
 }
 
@@ -271,17 +324,20 @@ fn open_chosen<'a, S: ReadAt>(
 /// The line section is `.debug_line`; where there is none, `.zdebug_line`; where there is none
 /// either, `.debug_line.dwo`. The string sections are those that go with it. Of several sections
 /// of one name the first counts whose type isn't SHT_NOBITS. Sections that aren't wanted are not
-/// looked at. In an object file the relocations of the line section are applied to its bytes, in
+/// looked at. A section that is compressed with zlib is inflated as it is read. In an object file the
+/// relocations of the line section are applied to its bytes, in
 /// the order of their sections (of type SHT_RELA or SHT_REL, with its number in sh_info), with the
-/// symbols of the section that sh_link names.
+/// symbols of the section that sh_link names; where it is compressed it is inflated before.
 ///
 /// The faults, of which the first is told: `Read` where a read failed; `NotElf`; `Damaged` with
-/// what lies outside the file; `NoLineSection`; `Compressed` where a wanted section is; and of the
-/// first relocation that can't be applied `UnknownRelocation`, `RelocationOutside` or `Damaged`;
+/// what lies outside the file, or isn't where it has to stand; `NoLineSection`; `Compressed` where a wanted
+/// section is compressed otherwise than with zlib; `DamagedStream` where the line section is inflated here;
+/// and of the first relocation that can't be applied `UnknownRelocation`, `RelocationOutside` or `Damaged`;
 /// `Damaged` too where more than 16 sections are of relocations of the line section. Memory is
-/// taken only where there are relocations of the line section: for its bytes, and for those of one
-/// section of relocations and its symbol table at a time, as they come. Where a growth is refused
-/// the fault is `NoMemory`.
+/// taken only where a wanted section is compressed, some 128 KiB for each, and where there are relocations
+/// of the line section: for its bytes, and for the values of the symbols of one section of relocations at a
+/// time, 8 bytes each. Where a growth is refused, or a compressed line section with relocations says that it
+/// has more than 2^32 bytes, the fault is `NoMemory`.
 pub fn open_line_file<'a, S: ReadAt>(
     alloc: Global,
     source: &'a S,

@@ -1,11 +1,13 @@
 //! The bytes of a line section as a reader.
 ghost use Rattle.std.specs.Prelude.{◌≡◌, IfErr};
 ghost use Rattle.std.specs.Io.{ReadsAtMost};
-ghost use Rattle.std.specs.Result.{result_err};
 ghost use Rattle.std.specs.Io.KnownBytes.{ReadConsumes};
-ghost use Rattle.dl_file.specs.LineReader.{LineReaderFails, line_error, line_remaining};
+ghost use Rattle.dl_file.specs.ContentReader.{Tells};
+ghost use Rattle.dl_file.specs.LineReader.{LineReaderFails, line_fault, line_remaining, line_stream};
 
-use dl_elf::{ReadAt, SectionReader};
+use crate::content_reader::ContentReader;
+use crate::inflated_reader::ReadFault;
+use dl_elf::{ReadAt, SectionName};
 use std::io;
 use std::io::{Cursor, Read};
 
@@ -13,18 +15,28 @@ use std::io::{Cursor, Read};
 #[derive(Drop)]
 pub enum LineReader<'a, S> {
     /// They are read from the file as they are asked for.
-    File(SectionReader<'a, S>),
+    File(ContentReader<'a, S>),
     /// They are held in memory, those of an object file with their relocations applied.
     Held(Cursor<Vec<u8>>),
 }
 
 impl<'a, S: ReadAt> LineReader<'a, S> {
-    /// The error of the last read; None where it didn't fail, or there was none.
-    pub fn last_error(&self) -> Option<io::Error>
-        ensures { result ≡ line_error self.now }
+    /// The section's name where it is compressed and inflated as it is read; None else.
+    pub fn stream_name(&self) -> Option<SectionName>
+        ensures { result ≡ line_stream self.now }
     {
         match self {
-            LineReader::File(reader) => reader.last_error(),
+            LineReader::File(reader) => reader.stream_name(),
+            LineReader::Held(_) => None,
+        }
+    }
+
+    /// Why the last read failed; None where it didn't, or there was none.
+    pub fn last_fault(&self) -> Option<ReadFault>
+        ensures { result ≡ line_fault self.now }
+    {
+        match self {
+            LineReader::File(reader) => reader.last_fault(),
             LineReader::Held(_) => None,
         }
     }
@@ -38,7 +50,7 @@ impl<'a, S: ReadAt> Read for LineReader<'a, S> {
         ensures bytes { ReadConsumes (line_remaining S.all_bytes self.old) (line_remaining S.all_bytes self.new)
             result buffer.new }
         ensures fails { IfErr result (LineReaderFails S.all_bytes S.fails_with self.old) }
-        ensures error { line_error self.new ≡ result_err result }
+        ensures fault { Tells (line_fault self.new) result }
     {
         match self {
             LineReader::File(reader) => reader.read(buffer),

@@ -1,16 +1,17 @@
 //! The relocations of a line section, applied. System V ABI, chapter 4, "Relocation".
-ghost use Rattle.std.specs.Prelude.{◌≡◌, ◌-◌, ◌≤◌, Ok, true, IfOk};
+ghost use Rattle.std.specs.Prelude.{◌≡◌, ◌-◌, ◌≤◌, Ok, Some, true, IfOk};
 ghost use Rattle.dl_elf.specs.Source.{ForBytes};
 ghost use Rattle.dl_elf.specs.Answers.{IfRead};
 ghost use Rattle.dl_elf.specs.Sections.{range_within, section_bytes, section_range};
 ghost use Rattle.dl_elf.specs.Window.{Shows};
 ghost use Rattle.dl_file.specs.Answering.{IsCounted, IsMade};
-ghost use Rattle.dl_file.specs.Relocations.{class_of, fault_of, form_of, relocated_at, relocated_by, relocated_upto};
-ghost use Rattle.dl_file.specs.Relocations.{relocations_at, relocations_of, target_of};
+ghost use Rattle.dl_file.specs.Relocations.{by_entries, class_of, fault_of, form_of, relocated_at, relocated_by};
+ghost use Rattle.dl_file.specs.Relocations.{relocated_upto, relocations_at, relocations_of, target_of};
 
-use crate::section_bytes::{read_bytes, read_symbols};
+use crate::section_bytes::{PIECE, read_piece, read_symbols};
 use dl_elf::{
-    Elf, ElfFault, NamedSection, Part, ReadAt, SectionHeader, SectionName, Window, section_at,
+    Elf, ElfFault, NamedSection, Part, ReadAt, SectionHeader, SectionName, Window, lies_within,
+    section_at, section_range,
 };
 use dl_reloc::{Class, Form, RelocationFault, Target, relocate};
 use std::alloc::Global;
@@ -28,7 +29,7 @@ fn class_of(class: dl_elf::Class) -> Class
 }
 
 /// What the header of the file says of its relocations.
-fn target_of(elf: &Elf) -> Target
+pub fn target_of(elf: &Elf) -> Target
     ensures { result ≡ target_of elf.now }
 {
     Target {
@@ -64,6 +65,36 @@ fn fault_of(elf: &Elf, section: SectionName, fault: RelocationFault) -> ElfFault
     }
 }
 
+/// Applies the entries of a section of relocations with these symbols, as they are read.
+fn relocate_pieces<S: ReadAt>(
+    source: &S,
+    elf: &Elf,
+    name: SectionName,
+    section: &SectionHeader,
+    symbols: &[u64],
+    bytes: &mut [u8],
+) -> Result<(), ElfFault>
+    requires within { ForBytes (S.all_bytes source.now)
+        (λ f. range_within (section_range section.now) f ≡ true) }
+    ensures made { ForBytes (S.all_bytes source.now) (λ f. IsMade (by_entries elf.now name (form_of section.now)
+        (Some (section_bytes section.now f)) (Some symbols.now) bytes.old) bytes.new result) }
+    ensures read { IfRead (S.fails_with source.now) result }
+{
+    let range = section_range(section);
+    let target = target_of(elf);
+    let form = form_of(section);
+    let mut buffer = [0; PIECE];
+    for index in 0..range.size.div_ceil(PIECE as u64) {
+        let Some(len) = read_piece(source, &range, index, &mut buffer)? else {
+            return Err(ElfFault::Damaged(Part::Relocations(name)));
+        };
+        if let Err(fault) = relocate(&target, form, &buffer[..len], symbols, bytes) {
+            return Err(fault_of(elf, name, fault));
+        }
+    }
+    Ok(())
+}
+
 /// Applies the entries of a section of relocations to the bytes of the section of this name.
 fn relocate_by<S: ReadAt>(
     alloc: Global,
@@ -77,23 +108,14 @@ fn relocate_by<S: ReadAt>(
         IsMade (relocated_by elf.now f name section.now bytes.old) bytes.new result) }
     ensures read { IfRead (S.fails_with source.now) result }
 {
-    let Some(entries) = read_bytes(alloc, source, section)? else {
+    let range = section_range(section);
+    if !lies_within(source, range.offset, range.size)? {
         return Err(ElfFault::Damaged(Part::Relocations(name)));
-    };
+    }
     let Some(symbols) = read_symbols(alloc, source, elf, section.link)? else {
         return Err(ElfFault::Damaged(Part::Symbols(name)));
     };
-    let target = target_of(elf);
-    match relocate(
-        &target,
-        form_of(section),
-        entries.as_slice(),
-        symbols.as_slice(),
-        bytes,
-    ) {
-        Ok(()) => Ok(()),
-        Err(fault) => Err(fault_of(elf, name, fault)),
-    }
+    relocate_pieces(source, elf, name, section, symbols.as_slice(), bytes)
 }
 
 /// Applies the entries of section `at`, where it is of relocations of the line section.

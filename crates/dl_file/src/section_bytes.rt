@@ -1,19 +1,26 @@
 //! The bytes of a section, read into memory.
-ghost use Rattle.std.specs.Prelude.{◌≡◌, ◌≤◌, length, IfOk, IfErr, option_map};
+ghost use Rattle.std.specs.Prelude.{◌≡◌, ◌≤◌, ◌<◌, ◌*◌, take, drop, true, IfOk, IfErr, IfSome, MatchOption};
+ghost use Rattle.std.specs.Prelude.{option_map};
+ghost use Rattle.dl_elf.specs.Elf.{bytes_at};
 ghost use Rattle.dl_elf.specs.Source.{ForBytes};
+ghost use Rattle.dl_elf.specs.Sections.{range_within};
 ghost use Rattle.dl_file.specs.Answering.{StopsReading};
-ghost use Rattle.dl_file.specs.Relocations.{bytes_in, symbols_in};
+ghost use Rattle.dl_file.specs.Relocations.{bytes_in, symbols_in, values_in};
 
+use crate::relocating::target_of;
 use dl_elf::{
     Elf, ElfFault, Range, ReadAt, SectionHeader, Window, fill_whole, lies_within, section_at,
     section_range,
 };
+use dl_reloc::{Target, push_symbol_values};
 use std::alloc::Global;
+use std::io;
 
-/// How many bytes are read at a time.
-const PIECE: usize = 4096;
+/// How many bytes of a section are read at a time: whole entries of relocations, in each of their sizes.
+pub const PIECE: usize = 24_576;
 
-/// The bytes of a section; None where they don't lie in the file. Memory is taken as bytes come.
+/// The bytes of a section; None where they don't lie in the file. Memory is taken for all of them at once, where the
+/// last one stands in the file.
 pub fn read_bytes<S: ReadAt>(
     alloc: Global,
     source: &S,
@@ -28,31 +35,82 @@ pub fn read_bytes<S: ReadAt>(
         return Ok(None);
     }
     let mut bytes = Vec::new(alloc);
-    let mut piece = [0; PIECE];
-    while (bytes.len() as u64) < range.size {
-        let room = (range.size - bytes.len() as u64).min(PIECE as u64) as usize;
-        let part = &mut piece[..room];
-        let Some(at) = range.offset.checked_add(bytes.len() as u64) else {
-            return Ok(None);
-        };
-        if !fill_whole(source, at, part)? {
-            return Ok(None);
-        }
-        if bytes.extend_from_slice(part).is_err() {
-            return Err(ElfFault::NoMemory);
-        }
+    if range.size == 0 {
+        return Ok(Some(bytes));
     }
-    Ok(Some(bytes))
+    if bytes.resize(range.size as usize, 0).is_err() {
+        return Err(ElfFault::NoMemory);
+    }
+    if fill_whole(source, range.offset, bytes.as_mut_slice())? {
+        Ok(Some(bytes))
+    } else {
+        Ok(None)
+    }
 }
 
-/// The symbol table of this number, none of number 0; None where it doesn't lie in the file.
+/// Reads the bytes of a range from piece `index` of them on into the front of the buffer, as many as there are and fit,
+/// and answers how many; None where they don't lie in the file.
+pub fn read_piece<S: ReadAt>(
+    source: &S,
+    range: &Range,
+    index: u64,
+    buffer: &mut [u8; PIECE],
+) -> io::Result<Option<usize>>
+    requires { index * 24576 < range.now.size }
+    ensures fits { IfOk result (λ read. IfSome read (λ n. n ≤ 24576)) }
+    ensures bytes { ForBytes (S.all_bytes source.now) (λ f. range_within range.now f ≡ true → IfOk result (λ read.
+        MatchOption read ⊥ (λ n. take n buffer.new
+        ≡ take 24576 (drop (index * 24576) (bytes_at range.now.offset range.now.size f))))) }
+    ensures fails { IfErr result (S.fails_with source.now) }
+{
+    let start = index * PIECE as u64;
+    let len = (range.size - start).min(PIECE as u64) as usize;
+    let Some(at) = range.offset.checked_add(start) else {
+        return Ok(None);
+    };
+    if fill_whole(source, at, &mut buffer[..len])? {
+        Ok(Some(len))
+    } else {
+        Ok(None)
+    }
+}
+
+/// The values of the symbols that a section has; None where its bytes don't lie in the file. Memory is taken as they come.
+fn read_values<S: ReadAt>(
+    alloc: Global,
+    source: &S,
+    target: &Target,
+    section: &SectionHeader,
+) -> Result<Option<Vec<u64>>, ElfFault>
+    ensures values { ForBytes (S.all_bytes source.now) (λ f.
+        IfOk result (λ read. option_map (λ v. v.items) read ≡ values_in target.now f section.now)) }
+    ensures stops { IfErr result (StopsReading (S.fails_with source.now)) }
+{
+    let range = section_range(section);
+    if !lies_within(source, range.offset, range.size)? {
+        return Ok(None);
+    }
+    let mut values = Vec::new(alloc);
+    let mut buffer = [0; PIECE];
+    for index in 0..range.size.div_ceil(PIECE as u64) {
+        let Some(len) = read_piece(source, &range, index, &mut buffer)? else {
+            return Ok(None);
+        };
+        let Ok(()) = push_symbol_values(target, &buffer[..len], &mut values) else {
+            return Err(ElfFault::NoMemory);
+        };
+    }
+    Ok(Some(values))
+}
+
+/// The values of the symbols in the table of this number, none of number 0; None where it doesn't lie in the file.
 pub fn read_symbols<S: ReadAt>(
     alloc: Global,
     source: &S,
     elf: &Elf,
     number: u64,
-) -> Result<Option<Vec<u8>>, ElfFault>
-    ensures bytes { ForBytes (S.all_bytes source.now) (λ f.
+) -> Result<Option<Vec<u64>>, ElfFault>
+    ensures values { ForBytes (S.all_bytes source.now) (λ f.
         IfOk result (λ read. option_map (λ v. v.items) read ≡ symbols_in elf.now f number)) }
     ensures stops { IfErr result (StopsReading (S.fails_with source.now)) }
 {
@@ -63,7 +121,7 @@ pub fn read_symbols<S: ReadAt>(
         return Ok(None);
     }
     match section_at(source, &mut Window::new(), &elf.header, number)? {
-        Some(section) => read_bytes(alloc, source, &section),
+        Some(section) => read_values(alloc, source, &target_of(elf), &section),
         None => Ok(None),
     }
 }

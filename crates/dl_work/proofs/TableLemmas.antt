@@ -1,9 +1,20 @@
 -- The command over the line table of a file.
-use Rattle.std.proofs.Common.{◌≡◌, ◌∙◌, ◌&&◌, ℕ, Bool, false, List, Option, Some, Result, ap, ap₂, sym, subst}
+use Rattle.std.proofs.Common.{◌≡◌, ◌∙◌, ◌&&◌, ℕ, ◌+◌, Bool, false, List, length, Option, None, Some, Result, arith}
+use Rattle.std.proofs.Common.{refl, ap, sym, subst, length-append}
 use Rattle.std.specs.Io.KnownBytes.{Consumes}
 use Rattle.dl_cmd.specs.Job.{Text}
 use Rattle.dl_num.specs.declared.fixed.Order.{Order}
-use Rattle.dl_file.specs.LineTable.{LineTable}
+use Rattle.dl_elf.specs.declared.name.SectionName.{SectionName}
+use Rattle.dl_file.specs.declared.content_reader.ContentReader.{ContentReader}
+use Rattle.dl_file.specs.declared.line_reader.LineReader.{LineReader}
+use Rattle.dl_file.specs.ContentReader.{content_remaining, stream_name}
+use Rattle.dl_run.specs.Strings.{StopsReading}
+use Rattle.dl_run.specs.declared.fault.RunFault.TheVariants as fault
+use Rattle.dl_work.specs.declared.strings.TheConstants.{STRINGS_LIMIT}
+use Rattle.dl_work.specs.Files.{FileStops}
+use Rattle.dl_work.specs.Stops.{StopsAt}
+use Rattle.dl_file.specs.LineReader.{line_remaining, line_stream}
+use Rattle.dl_file.specs.LineTable.{Content, GivesLine, GivesOption, Inflated, LineTable, Plain}
 use Rattle.dl_run.specs.declared.options.TheConstants.{SECTION_LIMIT}
 use Rattle.dl_run.specs.declared.fault.RunFault.{RunFault}
 use Rattle.dl_print.specs.declared.summary.Summary.{Summary}
@@ -11,7 +22,7 @@ use Rattle.dl_print.specs.ValueText.{Strings}
 use Rattle.dl_work.specs.declared.command.Command.{Command}
 use Rattle.dl_work.specs.declared.stop.Stop.{Stop}
 use Rattle.dl_work.specs.Asked.{Does, is_copy}
-use Rattle.dl_work.specs.Tables.{EndsAt, IsWhole, OnTable, OnTableWhere, RunsOn, strings_of}
+use Rattle.dl_work.specs.Tables.{EndsAt, IsWhole, OnTable, OnTableWhere, RunsOn, SectionStops, known_bytes, stream_of}
 
 -- it isn't the copy of an object file
 pub not_refused : (path : Text) (command : Command) (t : LineTable) (start now : Option (List ℕ))
@@ -23,30 +34,87 @@ not_refused path command t start now result is_object not_copy object does =
     ap (λ (b : Bool). is_copy command && b) (sym object) ∙ not_copy in
     rw e does
 
+-- a reader of a line section has the bytes that are known
+pub reader_known : {S : Type 0} (all_bytes : S → Option (List ℕ)) (reader : LineReader S) (content : Content)
+    (left : Option (List ℕ)) (read : List ℕ) → GivesLine all_bytes reader content
+    → Consumes (line_remaining all_bytes reader) left read → Consumes (known_bytes content) left read
+reader_known all_bytes reader (Plain bytes) left read gives consumes =
+    subst (λ (r : Option (List ℕ)). Consumes r left read) gives.0 consumes
+reader_known all_bytes reader (Inflated name) left read gives consumes = tt
+
+-- and its name where it is inflated
+pub reader_stream : {S : Type 0} (all_bytes : S → Option (List ℕ)) (reader : LineReader S) (content : Content)
+    → GivesLine all_bytes reader content → line_stream reader ≡ stream_of content
+reader_stream all_bytes reader (Plain bytes) gives = gives.2
+reader_stream all_bytes reader (Inflated name) gives = gives.1
+
 -- the command ran with these options, over a reader of the line section
 pub ran : (path : Text) (command : Command) (t : LineTable) (start now left remaining : Option (List ℕ))
     (s strings : Strings) (order : Order) (limit : ℕ) (answer : Result Summary RunFault) (result : Result Summary Stop)
-    → remaining ≡ Some t.line_bytes → IsWhole t.line_str_bytes t.str_bytes s → order ≡ t.order → strings ≡ s
-    → limit ≡ SECTION_LIMIT
+    → ((read : List ℕ) → Consumes remaining left read → Consumes (known_bytes t.line) left read)
+    → IsWhole t.line_str t.str s → order ≡ t.order → strings ≡ s → limit ≡ SECTION_LIMIT
     → (read : List ℕ) × Consumes remaining left read × Does command order strings limit read left start now answer
-    → EndsAt path answer result → RunsOn path command t start now result
+    → EndsAt path (stream_of t.line) answer result → RunsOn path command t start now result
 ran path command t start now left remaining s strings order limit answer result known whole ordered in_options limited
     (read, consumes, does) ends =
-    let e : strings ≡ strings_of t =
-    in_options ∙ ap₂ (λ (a b : Option (List ℕ)). record {
-      line_strings = a;
-      strings =
-          b;
-    }) whole.line_strings whole.strings in
     record {
-      line_fits = whole.line_fits;
-      fits = whole.fits;
+      strings = s;
+      whole = whole;
       read = read;
       left = left;
-      bytes = subst (λ (r : Option (List ℕ)). Consumes r left read) known consumes;
+      bytes = known read consumes;
       answer = answer;
-      done = subst (λ (o : Order). Does command o (strings_of t) SECTION_LIMIT read left start now answer) ordered
-          (subst (λ (z : Strings). Does command order z SECTION_LIMIT read left start now answer) e
+      done = subst (λ (o : Order). Does command o s SECTION_LIMIT read left start now answer) ordered
+          (subst (λ (z : Strings). Does command order z SECTION_LIMIT read left start now answer) in_options
           (subst (λ (l : ℕ). Does command order strings l read left start now answer) limited does));
       ends = ends;
     }
+
+-- ---- a string section
+
+-- what stops the reading of bytes stops that of a section of which they are the first
+stops_known : (known left : Option (List ℕ)) (bs : List ℕ) (f : RunFault) → Consumes known left bs
+    → StopsReading STRINGS_LIMIT bs f → FileStops known STRINGS_LIMIT f
+stops_known known left bs fault.Read consumes stops = tt
+stops_known known left bs fault.NoMemory consumes stops = tt
+stops_known None left bs fault.SectionTooLong consumes stops = tt
+stops_known (Some xs) None bs fault.SectionTooLong consumes stops = absurd consumes
+stops_known (Some xs) (Some ys) bs fault.SectionTooLong consumes stops =
+    let size : length xs ≡ length bs + length ys = ap (λ l. length l) consumes ∙ length-append bs ys in
+    omega (arith, size, stops)
+stops_known known left bs other consumes stops = absurd stops
+
+-- the reading of a section stops
+pub section_stops : {S : Type 0} (all_bytes : S → Option (List ℕ)) (path : Text) (section : Option (ContentReader S))
+    (reader : ContentReader S) (content : Option Content) (stream : Option SectionName) (left : Option (List ℕ))
+    (f : RunFault) (stop : Stop) → section ≡ Some reader → GivesOption all_bytes section content
+    → stream ≡ stream_name reader
+    → (bs : List ℕ) × Consumes (content_remaining all_bytes reader) left bs × StopsReading STRINGS_LIMIT bs f
+    → StopsAt path stream f stop → (c : Content) × (content ≡ Some c) × SectionStops path c stop
+section_stops all_bytes path None reader content stream left f stop none gives named read at = absurd (cc none)
+section_stops all_bytes path (Some other) reader None stream left f stop is gives named read at = absurd gives
+section_stops all_bytes path (Some other) reader (Some (Plain bytes)) stream left f stop is gives named
+    (bs, read, stops) at =
+    let same : other ≡ reader = cc is in
+    let known = ap (content_remaining all_bytes) (sym same) ∙ gives.0 in
+    let its_name = named ∙ (ap stream_name (sym same) ∙ gives.2) in (
+      Plain bytes,
+      refl,
+      (
+        f,
+        stops_known (Some bytes) left bs f
+            (subst (λ (r : Option (List ℕ)). Consumes r left bs) known read) stops,
+        subst (λ (n : Option SectionName). StopsAt path n f stop) its_name at,
+      ),
+    )
+section_stops all_bytes path (Some other) reader (Some (Inflated name)) stream left f stop is gives named
+    (bs, read, stops) at =
+    let same : other ≡ reader = cc is in (
+      Inflated name,
+      refl,
+      (
+        f,
+        stops_known None left bs f tt stops,
+        subst (λ (n : Option SectionName). StopsAt path n f stop) (named ∙ (ap stream_name (sym same) ∙ gives.1)) at,
+      ),
+    )

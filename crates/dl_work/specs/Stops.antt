@@ -1,9 +1,10 @@
 -- How the program stops: its text, its status, and the stops at an ELF file.
-use Rattle.std.specs.Prelude.{◌≡◌, ℕ, List, ◌++◌, codes, decimal, Option, Some, None, option_map}
-use Rattle.std.specs.declared.io.Error.{Error}
+use Rattle.std.specs.Prelude.{⊤, ◌≡◌, ℕ, List, ◌++◌, codes, decimal, Option, Some, None, option_map}
 use Rattle.dl_cmd.specs.Job.{Text}
 use Rattle.dl_elf.specs.FaultText.{fault_text}
-use Rattle.dl_elf.specs.declared.fault.ElfFault.TheVariants.{Read, NoMemory as Refused}
+use Rattle.dl_elf.specs.declared.name.SectionName.{SectionName}
+use Rattle.dl_elf.specs.declared.fault.ElfFault.{ElfFault}
+use Rattle.dl_elf.specs.declared.fault.ElfFault.TheVariants.{Read, DamagedStream, NoMemory as Refused}
 use Rattle.dl_run.specs.RunText.{run_fault_text, status}
 use Rattle.dl_run.specs.declared.fault.RunFault.{RunFault}
 use Rattle.dl_run.specs.declared.fault.RunFault.TheVariants as fault
@@ -51,8 +52,15 @@ abbrev pub IsAt : (path : Text) → FileFault → Stop → Type 0
 IsAt path f (File p g) = (p.now ≡ path) × (g ≡ f)
 IsAt path f stop = ⊥
 
--- the fault of a run over the file. Reads and memory are told with its path, and what is wrong with a section without
-abbrev pub StopsAt : (path : Text) → RunFault → Stop → Type 0
-StopsAt path fault.Read stop = (error : Error) × IsAt path (Elf (Read error)) stop
-StopsAt path fault.NoMemory stop = IsAt path NoMemory stop
-StopsAt path f stop = stop ≡ Run f
+-- what is told of a file where a read failed of a section, which is inflated where `stream` names it
+abbrev pub IsReadFault : (stream : Option SectionName) → ElfFault → Type 0
+IsReadFault stream (Read error) = ⊤
+IsReadFault stream (DamagedStream name at) = stream ≡ Some name
+IsReadFault stream f = ⊥
+
+-- the fault of a run over a section of the file. Reads and memory are told with its path, and what is wrong with a
+-- section without
+abbrev pub StopsAt : (path : Text) (stream : Option SectionName) → RunFault → Stop → Type 0
+StopsAt path stream fault.Read stop = (f : ElfFault) × IsReadFault stream f × IsAt path (Elf f) stop
+StopsAt path stream fault.NoMemory stop = IsAt path NoMemory stop
+StopsAt path stream f stop = stop ≡ Run f

@@ -1,13 +1,14 @@
 -- What the program does with the ELF file of a path. f: its bytes; t: its line table as dl_file defines it. start, now:
 -- what the output held at first, and holds now.
 use Rattle.std.specs.Prelude.{◌≡◌, ◌⊎◌, ◌≤◌, ℕ, Bool, true, false, ◌&&◌, List, length, Option, Some, IfSome, Result, Ok}
-use Rattle.std.specs.Prelude.{Err, MatchResult}
+use Rattle.std.specs.Prelude.{None, Err, MatchResult}
 use Rattle.std.specs.Io.KnownBytes.{Consumes, Keeps}
 use Rattle.std.specs.declared.io.Error.{Error}
 use Rattle.dl_cmd.specs.Job.{Text}
 use Rattle.dl_file.specs.declared.line_file.Wanted.{Wanted}
 use Rattle.dl_elf.specs.declared.fault.ElfFault.TheVariants.{Read, NoMemory}
-use Rattle.dl_file.specs.LineTable.{HasLineTable, HoldsLineSection, LineTable}
+use Rattle.dl_elf.specs.declared.name.SectionName.{SectionName}
+use Rattle.dl_file.specs.LineTable.{Content, HasLineTable, Inflated, LineTable, Plain, TakesMemory}
 use Rattle.dl_run.specs.declared.options.TheConstants.{SECTION_LIMIT}
 use Rattle.dl_run.specs.declared.fault.RunFault.{RunFault}
 use Rattle.dl_print.specs.declared.summary.Summary.{Summary}
@@ -27,44 +28,59 @@ use Rattle.dl_work.specs.Stops.{IsAt, StopsAt}
 abbrev pub Fits : Option (List ℕ) → Type 0
 Fits section = IfSome section (λ bytes. length bytes ≤ STRINGS_LIMIT)
 
--- s is both sections, whole
-pub record IsWhole (line_str str : Option (List ℕ)) (s : Strings) : Type 0 where
-  pub line_strings : s.line_strings ≡ line_str
-  pub strings : s.strings ≡ str
-  pub line_fits : Fits line_str
-  pub fits : Fits str
+-- these are the bytes of a section, where it is there; of one that is inflated there are some
+abbrev pub IsHeldAs : Option Content → Option (List ℕ) → Type 0
+IsHeldAs None held = held ≡ None
+IsHeldAs (Some (Plain bytes)) held = held ≡ Some bytes
+IsHeldAs (Some (Inflated name)) held = (bytes : List ℕ) × (held ≡ Some bytes)
 
--- a section with these bytes stops the program: a read or a growth failed, or it is too long
-abbrev pub SectionStops : (path : Text) (bytes : List ℕ) → Stop → Type 0
-SectionStops path bytes stop = (f : RunFault) × FileStops (Some bytes) STRINGS_LIMIT f × StopsAt path f stop
+abbrev pub IsHeld : Option Content → Option (List ℕ) → Type 0
+IsHeld content held = IsHeldAs content held × Fits held
+
+-- s is both sections, whole
+pub record IsWhole (line_str str : Option Content) (s : Strings) : Type 0 where
+  pub line_strings : IsHeld line_str s.line_strings
+  pub strings : IsHeld str s.strings
+
+-- the bytes of a section, where they are known
+abbrev pub known_bytes : Content → Option (List ℕ)
+known_bytes (Plain bytes) = Some bytes
+known_bytes (Inflated name) = None
+
+-- the section's name where it is inflated
+abbrev pub stream_of : Content → Option SectionName
+stream_of (Plain bytes) = None
+stream_of (Inflated name) = Some name
+
+-- a section stops the program: a read or a growth failed, or it is too long
+abbrev pub SectionStops : (path : Text) → Content → Stop → Type 0
+SectionStops path content stop =
+    (f : RunFault) × FileStops (known_bytes content) STRINGS_LIMIT f × StopsAt path (stream_of content) f stop
 
 -- one of both does
-abbrev pub StringsStop : (path : Text) (line_str str : Option (List ℕ)) → Stop → Type 0
+abbrev pub StringsStop : (path : Text) (line_str str : Option Content) → Stop → Type 0
 StringsStop path line_str str stop =
-    (bytes : List ℕ) × ((line_str ≡ Some bytes) ⊎ (str ≡ Some bytes)) × SectionStops path bytes stop
+    (content : Content) × ((line_str ≡ Some content) ⊎ (str ≡ Some content)) × SectionStops path content stop
 
 -- ---- the command over the line section
 
 -- the program answers what its command answered
-abbrev pub EndsAt : (path : Text) → Result Summary RunFault → Result Summary Stop → Type 0
-EndsAt path answer result =
-    MatchResult answer (λ summary. result ≡ Ok summary) (λ f. (stop : Stop) × (result ≡ Err stop) × StopsAt path f stop)
-
-abbrev pub strings_of : LineTable → Strings
-strings_of t = record { line_strings = t.line_str_bytes; strings = t.str_bytes }
+abbrev pub EndsAt : (path : Text) (stream : Option SectionName) → Result Summary RunFault → Result Summary Stop → Type 0
+EndsAt path stream answer result = MatchResult answer (λ summary. result ≡ Ok summary)
+    (λ f. (stop : Stop) × (result ≡ Err stop) × StopsAt path stream f stop)
 
 -- the command is done, over the bytes of the line section in the file's order, with the file's string sections. read:
 -- the bytes that it read, of which `left` are left
 pub record RunsOn (path : Text) (command : Command) (t : LineTable) (start now : Option (List ℕ))
     (result : Result Summary Stop) : Type 0 where
-  pub line_fits : Fits t.line_str_bytes
-  pub fits : Fits t.str_bytes
+  pub strings : Strings
+  pub whole : IsWhole t.line_str t.str strings
   pub read : List ℕ
   pub left : Option (List ℕ)
-  pub bytes : Consumes (Some t.line_bytes) left read
+  pub bytes : Consumes (known_bytes t.line) left read
   pub answer : Result Summary RunFault
-  pub done : Does command t.order (strings_of t) SECTION_LIMIT read left start now answer
-  pub ends : EndsAt path answer result
+  pub done : Does command t.order strings SECTION_LIMIT read left start now answer
+  pub ends : EndsAt path (stream_of t.line) answer result
 
 -- the program stops before its command, and nothing is written
 abbrev pub StopsEarly : (Stop → Type 0) → (start now : Option (List ℕ)) → Result Summary Stop → Type 0
@@ -75,18 +91,18 @@ abbrev pub OnTableWhere : (is_object_copy : Bool) → (path : Text) → Command 
     → Result Summary Stop → Type 0
 OnTableWhere true path command t start now result = StopsEarly (IsAt path ObjectCopy) start now result
 OnTableWhere false path command t start now result =
-    StopsEarly (StringsStop path t.line_str_bytes t.str_bytes) start now result ⊎ RunsOn path command t start now result
+    StopsEarly (StringsStop path t.line_str t.str) start now result ⊎ RunsOn path command t start now result
 
 abbrev pub OnTable : (path : Text) → Command → LineTable → (start now : Option (List ℕ)) → Result Summary Stop → Type 0
 OnTable path command t = OnTableWhere (is_copy command && t.is_object_file) path command t
 
 -- ---- the file. fails: the errors that opening and reading it may give
 
--- why its line table can't be had; memory is refused only for a line section with relocations
+-- why its line table can't be had; memory is refused only for a line section with relocations, and for streams
 abbrev pub Refuses : (fails : Error → Type 0) (f : List ℕ) → Wanted → FileFault → Type 0
 Refuses fails f wanted (Open error) = fails error
 Refuses fails f wanted (Elf (Read error)) = fails error
-Refuses fails f wanted (Elf NoMemory) = HoldsLineSection f wanted
+Refuses fails f wanted (Elf NoMemory) = TakesMemory f wanted
 Refuses fails f wanted (Elf fault) = HasLineTable f wanted (Err fault)
 Refuses fails f wanted other = ⊥
 

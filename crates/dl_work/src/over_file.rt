@@ -39,9 +39,10 @@ fn on_table<'p, S: ReadAt, W: Write>(
         });
     }
     let strings = StringSections::of_table(alloc, path, debug_line_str, debug_str)?;
+    let stream = line.stream_name();
     match command.run(alloc, &mut line, output, &strings.options(order)) {
         Ok(summary) => Ok(summary),
-        Err(fault) => Err(Stop::at(path, fault, line.last_error())),
+        Err(fault) => Err(Stop::at(path, stream, fault, line.last_fault())),
     }
 }
 

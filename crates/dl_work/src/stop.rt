@@ -1,9 +1,11 @@
 //! Why the program stops before its work is done.
 ghost use Rattle.std.specs.Prelude.{◌≡◌, IfSome, OnOk};
 ghost use Rattle.std.specs.Io.KnownBytes.{Appends};
-ghost use Rattle.dl_work.specs.Stops.{StopsAt, file_fault_status, file_fault_text, stop_line, stop_status, stop_text};
+ghost use Rattle.dl_work.specs.Stops.{IsReadFault, StopsAt, file_fault_status, file_fault_text};
+ghost use Rattle.dl_work.specs.Stops.{stop_line, stop_status, stop_text};
 
-use dl_elf::ElfFault;
+use dl_elf::{ElfFault, SectionName};
+use dl_file::ReadFault;
 use dl_run::RunFault;
 use std::io::Write;
 use std::{fmt, io};
@@ -62,22 +64,35 @@ impl fmt::Display for FileFault {
     }
 }
 
+/// What is told of a file where a read of a section failed so.
+fn read_fault(stream: Option<SectionName>, read: Option<ReadFault>) -> ElfFault
+    ensures { IsReadFault stream result }
+{
+    match (stream, read) {
+        (Some(name), Some(ReadFault::DamagedStream(at))) => ElfFault::DamagedStream(name, at),
+        (_, Some(ReadFault::Read(error))) => ElfFault::Read(error),
+        _ => ElfFault::Read(io::Error::from(io::ErrorKind::Other)),
+    }
+}
+
 impl<'a> Stop<'a> {
-    /// The stop of a run over the file at this path. `read` is the error of its last read, where
-    /// that failed.
+    /// The stop of a run over a section of the file at this path. `stream` is the section's name where
+    /// it is inflated as it is read, and `read` tells why its last read failed, where it did.
     ///
     /// What is wrong with a section is told without the path, as of a section that isn't in a file.
-    pub(crate) fn at(path: &'a str, fault: RunFault, read: Option<io::Error>) -> Stop<'a>
-        ensures { StopsAt path.entry.now fault result }
+    pub(crate) fn at(
+        path: &'a str,
+        stream: Option<SectionName>,
+        fault: RunFault,
+        read: Option<ReadFault>,
+    ) -> Stop<'a>
+        ensures { StopsAt path.entry.now stream fault result }
     {
         match fault {
-            RunFault::Read => {
-                let error = read.unwrap_or(io::Error::from(io::ErrorKind::Other));
-                Stop::File {
-                    path,
-                    fault: FileFault::Elf(ElfFault::Read(error)),
-                }
-            }
+            RunFault::Read => Stop::File {
+                path,
+                fault: FileFault::Elf(read_fault(stream, read)),
+            },
             RunFault::NoMemory => Stop::File {
                 path,
                 fault: FileFault::NoMemory,

@@ -2,14 +2,15 @@
 ghost use Rattle.std.specs.Prelude.{◌≡◌, ◌≤◌, ℕ, List, Option, IfErr, IfOk, IfSome, MatchResult, length, option_map};
 ghost use Rattle.std.specs.Option.{option_copied};
 ghost use Rattle.dl_run.specs.Commands.{strings_in};
-ghost use Rattle.dl_file.specs.LineTable.{GivesOption};
+ghost use Rattle.dl_file.specs.LineTable.{Content, GivesOption};
 ghost use Rattle.dl_work.specs.Files.{FilesStop, IsSectionOf, StringsAre};
 ghost use Rattle.dl_work.specs.Held.{strings_held};
-ghost use Rattle.dl_work.specs.Tables.{IsWhole, SectionStops, StringsStop};
+ghost use Rattle.dl_work.specs.Tables.{IsHeld, IsWhole, SectionStops, StringsStop};
 
 use crate::files::FileSource;
 use crate::stop::Stop;
-use dl_elf::{ReadAt, SectionReader};
+use dl_elf::ReadAt;
+use dl_file::ContentReader;
 use dl_num::Order;
 use dl_run::{Options, RunFault, SECTION_LIMIT, read_strings};
 use std::alloc::Global;
@@ -49,13 +50,13 @@ impl StringSections {
     pub fn of_table<'p, S: ReadAt>(
         alloc: Global,
         path: &'p str,
-        line_str: Option<SectionReader<'_, S>>,
-        strings: Option<SectionReader<'_, S>>,
+        line_str: Option<ContentReader<'_, S>>,
+        strings: Option<ContentReader<'_, S>>,
     ) -> Result<StringSections, Stop<'p>>
-        ensures { (line_bytes : Option (List ℕ)) → (bytes : Option (List ℕ))
-            → GivesOption S.all_bytes line_str.entry line_bytes → GivesOption S.all_bytes strings.entry bytes
-            → MatchResult result (λ s. IsWhole line_bytes bytes (strings_held s))
-            (StringsStop path.entry.now line_bytes bytes) }
+        ensures { (line_content : Option Content) → (content : Option Content)
+            → GivesOption S.all_bytes line_str.entry line_content → GivesOption S.all_bytes strings.entry content
+            → MatchResult result (λ s. IsWhole line_content content (strings_held s))
+            (StringsStop path.entry.now line_content content) }
     {
         let debug_line_str = read_section(alloc, path, line_str)?;
         let debug_str = read_section(alloc, path, strings)?;
@@ -100,17 +101,18 @@ fn read_named<F: FileSource>(
 fn read_section<'p, S: ReadAt>(
     alloc: Global,
     path: &'p str,
-    section: Option<SectionReader<'_, S>>,
+    section: Option<ContentReader<'_, S>>,
 ) -> Result<Option<Vec<u8>>, Stop<'p>>
-    ensures { (bytes : Option (List ℕ)) → GivesOption S.all_bytes section.entry bytes → MatchResult result
-        (λ found. (option_map (λ v. v.items) found ≡ bytes) × IfSome bytes (λ bs. length bs ≤ STRINGS_LIMIT))
-        (λ stop. (bs : List ℕ) × (bytes ≡ Some bs) × SectionStops path.entry.now bs stop) }
+    ensures { (content : Option Content) → GivesOption S.all_bytes section.entry content → MatchResult result
+        (λ found. IsHeld content (option_map (λ v. v.items) found))
+        (λ stop. (c : Content) × (content ≡ Some c) × SectionStops path.entry.now c stop) }
 {
     let Some(mut section) = section else {
         return Ok(None);
     };
+    let stream = section.stream_name();
     match read_strings(alloc, &mut section, STRINGS_LIMIT) {
         Ok(bytes) => Ok(Some(bytes)),
-        Err(fault) => Err(Stop::at(path, fault, section.last_error())),
+        Err(fault) => Err(Stop::at(path, stream, fault, section.last_fault())),
     }
 }

@@ -29,11 +29,8 @@ const OTHER: &[u8] = &[
 fn compressed_sections(rt: HostRuntime) -> Result<(), Fail> {
     let alloc = rt.alloc();
     let line = section(".debug_line", "line");
+    let line_str = section(".debug_line_str", "line_str");
     for (sections, want) in [
-        (
-            [compressed(".debug_line", ZLIB), section(".debug_str", "")],
-            "section .debug_line is compressed with zlib; run objcopy --decompress-debug-sections",
-        ),
         (
             [line, compressed(".debug_str", ZSTD)],
             "section .debug_str is compressed with zstd; run objcopy --decompress-debug-sections",
@@ -43,12 +40,12 @@ fn compressed_sections(rt: HostRuntime) -> Result<(), Fail> {
             "section .debug_line_str is compressed by method 65536; run objcopy --decompress-debug-sections",
         ),
         (
-            [section(".zdebug_line", "ZLIB"), section(".debug_str", "")],
-            "section .zdebug_line is compressed with zlib; run objcopy --decompress-debug-sections",
+            [section(".zdebug_line", "ZLIB\0\0\0\0\0\0\0"), line_str],
+            "damaged ELF file: compression header of section .zdebug_line",
         ),
         (
-            [line, section(".zdebug_str", "ZLIB")],
-            "section .zdebug_str is compressed with zlib; run objcopy --decompress-debug-sections",
+            [line, section(".zdebug_str", "zlib\0\0\0\0\0\0\0\0")],
+            "damaged ELF file: compression header of section .zdebug_str",
         ),
         (
             [compressed(".debug_line", b"short"), line],

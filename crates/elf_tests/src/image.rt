@@ -1,6 +1,5 @@
 //! Makes ELF files of a few sections, in any class and order.
-use dl_elf::SectionReader;
-use dl_file::{LineFile, Wanted, open_line_file};
+use dl_file::{ContentReader, LineFile, Wanted, open_line_file};
 use dl_num::Order;
 use std::alloc::Global;
 use std::io::{Cursor, Read};
@@ -63,7 +62,7 @@ pub fn section<'a>(name: &'a str, text: &'a str) -> NewSection<'a> {
 }
 
 /// Appends the `size` bytes of a number, which are 2, 4 or 8.
-fn put(bytes: &mut Vec<u8>, form: Form, size: usize, number: u64) -> Result<(), Fail> {
+pub fn put(bytes: &mut Vec<u8>, form: Form, size: usize, number: u64) -> Result<(), Fail> {
     let low = number.to_le_bytes();
     let high = number.to_be_bytes();
     if form.big {
@@ -205,7 +204,7 @@ fn text_of<R: Read>(alloc: Global, reader: &mut R) -> Result<String, Fail> {
 /// The bytes of a section as text; `-` where there is no section.
 fn text_of_section<'a>(
     alloc: Global,
-    reader: Option<SectionReader<'a, Cursor<&'a Vec<u8>>>>,
+    reader: Option<ContentReader<'a, Cursor<&'a Vec<u8>>>>,
 ) -> Result<String, Fail> {
     let Some(mut reader) = reader else {
         return Ok(format!(in alloc; "-")?);

@@ -4,6 +4,8 @@
 #[cfg(test)]
 mod code;
 #[cfg(test)]
+mod compressed;
+#[cfg(test)]
 mod faults;
 #[cfg(test)]
 mod image;

@@ -13,15 +13,15 @@ use std::test::Fail;
 use test_support::hoard;
 
 /// What stands on the input, which nothing is read of where a file is named.
-const UNREAD: &[u8] = b"unread";
+pub const UNREAD: &[u8] = b"unread";
 
 /// What `dump` writes of `THREE_ROWS`.
-const THREE_TEXT: &str = "unit 0x0 dwarf32 version 5 address_size 8\n\
+pub const THREE_TEXT: &str = "unit 0x0 dwarf32 version 5 address_size 8\n\
                           row 0x0000000000401000 0 1 2 0 stmt\n\
                           row 0x0000000000401004 0 1 3 0 stmt\n\
                           row 0x0000000000401006 0 1 3 0 stmt end\n";
 
-fn dump_of(path: &str) -> Job<'_> {
+pub fn dump_of(path: &str) -> Job<'_> {
     Job::Dump {
         file: Some(path),
         big: false,
@@ -41,14 +41,14 @@ fn find_of(path: &str) -> Job<'_> {
     }
 }
 
-fn check_of(path: &str) -> Job<'_> {
+pub fn check_of(path: &str) -> Job<'_> {
     Job::Check {
         file: Some(path),
         big: false,
     }
 }
 
-fn copy_of(path: &str) -> Job<'_> {
+pub fn copy_of(path: &str) -> Job<'_> {
     Job::Copy {
         file: Some(path),
         big: false,
@@ -200,7 +200,7 @@ fn failures(rt: HostRuntime) -> Result<(), Fail> {
 }
 
 /// Asserts what a job over the file comes to, of which nothing stands on the input.
-fn assert_told(
+pub fn assert_told(
     rt: &impl Abort,
     alloc: Global,
     shelf: &Shelf<'_>,
@@ -286,6 +286,18 @@ fn assert_wants_memory(
 fn wants_memory(rt: HostRuntime) -> Result<(), Fail> {
     let file = with_strings(rt.alloc(), EXECUTABLE)?;
     let shelf = Shelf::new(file.as_slice());
+    // The stack has grown before: of the heap alone nothing is left.
+    let mut output = Vec::new(rt.alloc());
+    assert!(rt;
+        work(
+            rt.alloc(),
+            Some(dump_of("elf")),
+            &shelf,
+            &mut { UNREAD },
+            &mut output
+        )
+        .is_ok()
+    );
     assert_wants_memory(&rt, rt.alloc(), &shelf, dump_of("elf"))?;
     assert_wants_memory(&rt, rt.alloc(), &shelf, check_of("elf"))?;
     assert_wants_memory(&rt, rt.alloc(), &shelf, find_of("elf"))?;

@@ -2,6 +2,8 @@
 #![tactic(auto)]
 
 #[cfg(test)]
+mod compressed;
+#[cfg(test)]
 mod elf;
 #[cfg(test)]
 mod file;

@@ -1,4 +1,4 @@
-use Rattle.std.proofs.Common.{sym, ◌∙◌, refl}
+use Rattle.std.proofs.Common.{Ok, sym, ◌∙◌, refl}
 use Rattle.dl_file.specs.LineTable.{line_table}
 use Rattle.dl_file.proofs.LineTableLemmas.{table_whole}
 use Rattle.dl_file.proofs.line_file.open_chosen.Goals as goal
@@ -7,15 +7,16 @@ pub returns-clause-opens : goal.returns-clause-opens
 returns-clause-opens g c = λ f is short.
     let e = c.args.elf.now in
     let chosen = c.args.chosen.now in
-    let line = c.in_ok-line_reader.ensures.opens f is short in (
-      line_table e f chosen line.0,
-      table_whole e f chosen line.0 (sym (c.in_ok-part.ensures.part f is short) ∙ c.in_default.is)
-          (sym (c.in_ok-name.ensures.compressed f is short) ∙ c.in_default-2.is) line.1,
+    let line = c.in_ok-line_reader.ensures.opens f is short in
+    let t = line_table e f chosen line.0 in (
+      t,
+      table_whole e f chosen (Ok line.0) (Ok t) (sym (c.in_ok-part.ensures.part f is short) ∙ c.in_default.is)
+          (sym (c.in_ok-name.ensures.refused f is short) ∙ c.in_default-2.is) line.1 refl,
       record {
         order = refl;
         object = c.is_object.ensures;
         line = line.2;
-        line_str = c.optional_reader.ensures f is short;
-        str = c.optional_reader-2.ensures f is short;
+        line_str = c.in_ok-optional_reader.ensures.opens f is short;
+        str = c.in_ok-optional_reader-2.ensures.opens f is short;
       },
     )

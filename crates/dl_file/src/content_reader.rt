@@ -1,0 +1,94 @@
+//! The bytes of a section as a reader, be they compressed or not.
+ghost use Rattle.std.specs.Prelude.{◌≡◌, IfErr, Some};
+ghost use Rattle.std.specs.Io.{ReadsAtMost};
+ghost use Rattle.std.specs.Io.KnownBytes.{ReadConsumes};
+ghost use Rattle.dl_elf.specs.Source.{ForBytes};
+ghost use Rattle.dl_elf.specs.Answers.{IfRead};
+ghost use Rattle.dl_elf.specs.Compressed.{compression_header};
+ghost use Rattle.dl_file.specs.Answering.{OpensContent};
+ghost use Rattle.dl_file.specs.ContentReader.{ContentFails, Tells, content_fault, content_remaining, stream_name};
+ghost use Rattle.dl_file.specs.LineTable.{HasStream, content};
+
+use crate::inflated_reader::{InflatedReader, ReadFault};
+use dl_elf::{
+    Elf, ElfFault, NamedSection, ReadAt, SectionName, SectionReader, compression_header,
+    section_range,
+};
+use std::alloc::Global;
+use std::io;
+use std::io::Read;
+
+/// The bytes of a section, from the first on.
+#[derive(Drop)]
+pub enum ContentReader<'a, S> {
+    /// They stand in the file as they are.
+    Plain(SectionReader<'a, S>),
+    /// The section is compressed.
+    Inflated(Box<InflatedReader<'a, S>>),
+}
+
+impl<'a, S: ReadAt> ContentReader<'a, S> {
+    /// Those of a section that lies in the file, and isn't compressed otherwise than with zlib.
+    ///
+    /// `NoMemory` where the section is compressed and memory for its stream is refused, `Read` where a read failed.
+    pub(crate) fn open(
+        alloc: Global,
+        source: &'a S,
+        elf: &Elf,
+        section: &NamedSection,
+    ) -> Result<ContentReader<'a, S>, ElfFault>
+        ensures opens { ForBytes (S.all_bytes source.entry.now) (λ f. OpensContent S.all_bytes
+            (content elf.now f section.now) (HasStream elf.now f (Some section.now)) result) }
+        ensures read { IfRead (S.fails_with source.entry.now) result }
+    {
+        let range = section_range(&section.header);
+        let Some(header) = compression_header(source, elf, section)? else {
+            let reader = SectionReader::new(source, range.offset, range.size);
+            return Ok(ContentReader::Plain(reader));
+        };
+        match Box::new(
+            alloc,
+            InflatedReader::new(source, section.name, range, &header),
+        ) {
+            Ok(reader) => Ok(ContentReader::Inflated(reader)),
+            Err(_) => Err(ElfFault::NoMemory),
+        }
+    }
+
+    /// The name of the section where it is compressed; None where it isn't.
+    pub fn stream_name(&self) -> Option<SectionName>
+        ensures { result ≡ stream_name self.now }
+    {
+        match self {
+            ContentReader::Plain(_) => None,
+            ContentReader::Inflated(reader) => Some(reader.name()),
+        }
+    }
+
+    /// Why the last read failed; None where it didn't, or there was none.
+    pub fn last_fault(&self) -> Option<ReadFault>
+        ensures { result ≡ content_fault self.now }
+    {
+        match self {
+            ContentReader::Plain(reader) => Some(ReadFault::Read(reader.last_error()?)),
+            ContentReader::Inflated(reader) => reader.last_fault(),
+        }
+    }
+}
+
+impl<'a, S: ReadAt> Read for ContentReader<'a, S> {
+    ghost remaining = { content_remaining S.all_bytes };
+
+    fn read(&mut self, buffer: &mut [u8]) -> io::Result<usize>
+        ensures bound { ReadsAtMost result buffer.new }
+        ensures bytes { ReadConsumes (content_remaining S.all_bytes self.old)
+            (content_remaining S.all_bytes self.new) result buffer.new }
+        ensures fails { IfErr result (ContentFails S.all_bytes S.fails_with self.old) }
+        ensures fault { Tells (content_fault self.new) result }
+    {
+        match self {
+            ContentReader::Plain(reader) => reader.read(buffer),
+            ContentReader::Inflated(reader) => reader.as_mut().read(buffer),
+        }
+    }
+}
