@@ -5,7 +5,7 @@ use dl_run::RunFault;
 use std::alloc::Global;
 use std::process::Abort;
 use std::test::Fail;
-use test_support::{Fault, Hoarding, Sink, Source};
+use test_support::{Fault, Hoarding, Sink, Source, hoard_most};
 
 /// How many bytes a read gives: 32 reads and one that gives none.
 const READ: usize = 11;
@@ -97,6 +97,7 @@ fn each_growth(rt: HostRuntime) -> Result<(), Fail> {
     let asked = asked(alloc, &[Some(0x45), Some(0x1020)])?;
     let question = plain(asked.as_slice());
     let mut refused = 0usize;
+    let _most = hoard_most(alloc)?;
     for at in [45, 50, 60, 80, 100, 243, 290, 300, 310, 351] {
         let mut output = Sink::new(alloc, 1 << 12, 1 << 12);
         let mut input = Hoarding::new(alloc, section.as_slice(), at);

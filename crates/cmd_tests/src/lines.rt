@@ -5,7 +5,7 @@ use dl_run::RunFault;
 use std::alloc::Global;
 use std::process::Abort;
 use std::test::Fail;
-use test_support::{Fault, Hoarding, Source};
+use test_support::{Fault, Hoarding, Source, hoard_most};
 
 /// An address, one with a 0x0d after it, blanks alone, one between blanks, what is none, a 0x0d that ends no
 /// line, an empty line, and a last line without its 0x0a.
@@ -63,6 +63,7 @@ fn each_read(rt: HostRuntime) -> Result<(), Fail> {
 fn each_growth(rt: HostRuntime) -> Result<(), Fail> {
     let alloc = rt.alloc();
     let mut refused = 0usize;
+    let _most = hoard_most(alloc)?;
     for (at, byte) in LINES.iter().enumerate() {
         let mut input = Hoarding::new(alloc, LINES, at);
         match read_asked(alloc, &mut input, false) {

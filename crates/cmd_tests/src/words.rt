@@ -2,7 +2,7 @@
 use clap::error::ErrorKind;
 use dl_cmd::{Job, read_job, word_status};
 use std::test::Fail;
-use test_support::hoard_but;
+use test_support::{hoard_but, hoard_most};
 
 #[test]
 fn dump_and_find(rt: HostRuntime) -> Result<(), Fail> {
@@ -138,6 +138,7 @@ fn statuses(rt: HostRuntime) -> Result<(), Fail> {
 fn wants_memory(rt: HostRuntime) -> Result<(), Fail> {
     let words = ["dwline", "find", "0x10", "--op", "2"];
     let mut refusals = 0u32;
+    let _most = hoard_most(rt.alloc())?;
     for step in 0..200usize {
         let blocks = hoard_but(rt.alloc(), 2048 + step * 1024)?;
         let read = read_job(rt.alloc(), words.as_slice());

@@ -18,6 +18,3 @@ pub use leb::{LebRange, Skip, Sleb, Uleb};
 pub use partial_bytes::PartialBytes;
 pub use partial_number::PartialNumber;
 pub use spell::{sleb_bytes, uleb_bytes};
-
-#[cfg(test)]
-mod tests;

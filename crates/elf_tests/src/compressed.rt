@@ -7,6 +7,7 @@ use std::alloc::Global;
 use std::cell::Cell;
 use std::io::Read;
 use std::test::Fail;
+use test_support::hoard_most;
 
 /// A stream that inflates to `the line section`.
 const LINE: &[u8] =
@@ -305,6 +306,7 @@ fn no_memory(rt: HostRuntime) -> Result<(), Fail> {
     let alloc = rt.alloc();
     let bytes = with_line(alloc, LITTLE_64, Header::Flagged, 16, LINE)?;
     let mut refused = 0usize;
+    let _most = hoard_most(alloc)?;
     for before in 0..20 {
         let source = Hoarding::new(alloc, bytes.as_slice(), before);
         let opened = open_line_file(alloc, &source, Wanted::LineSection);

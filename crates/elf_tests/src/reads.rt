@@ -7,7 +7,7 @@ use std::cell::Cell;
 use std::io;
 use std::io::{ErrorKind, Read};
 use std::test::Fail;
-use test_support::hoard;
+use test_support::{hoard, hoard_most};
 
 /// What a source does besides giving its bytes.
 #[derive(Clone, Copy, Debug)]
@@ -265,6 +265,7 @@ fn each_growth_of_relocations(rt: HostRuntime) -> Result<(), Fail> {
     let alloc = rt.alloc();
     let bytes = object(alloc)?;
     let mut refused = 0usize;
+    let _most = hoard_most(alloc)?;
     for before in 0..40 {
         let source = Hoarding::new(alloc, bytes.as_slice(), before);
         let opened = open_line_file(alloc, &source, Wanted::LineSection);

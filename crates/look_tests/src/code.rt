@@ -1,7 +1,7 @@
 //! Ranges of addresses of code.
 use dl_look::{AddressRange, CodeRanges, NoMemory};
 use std::test::Fail;
-use test_support::hoard_but;
+use test_support::{hoard_but, hoard_most};
 
 /// The ranges overlap, stand in no order, and go past 2^64; one has no address.
 const RANGES: [AddressRange; 5] = [
@@ -61,6 +61,7 @@ fn no_ranges(rt: HostRuntime) -> Result<(), Fail> {
 #[test]
 fn refused_growths_of_ranges(rt: HostRuntime) -> Result<(), Fail> {
     let mut refusals = 0u32;
+    let _most = hoard_most(rt.alloc())?;
     for step in 0..20usize {
         let blocks = hoard_but(rt.alloc(), 16 + step * 64)?;
         let built = CodeRanges::build(rt.alloc(), RANGES.as_slice());

@@ -3,7 +3,7 @@ use crate::rows::place;
 use dl_look::{Finders, Index, NoMemory};
 use std::alloc::{AllocError, Global};
 use std::test::Fail;
-use test_support::{end, hoard_but, row};
+use test_support::{end, hoard_but, hoard_most, row};
 
 /// Each growth of `build` is refused in turn, and in the end none is.
 #[test]
@@ -14,6 +14,7 @@ fn refused_growths(rt: HostRuntime) -> Result<(), Fail> {
         rows.push(end(16 * i + 8, 0, i))?;
     }
     let mut refusals = 0u32;
+    let _most = hoard_most(rt.alloc())?;
     for step in 0..100usize {
         let blocks = hoard_but(rt.alloc(), 16 + step * 128)?;
         let built = Index::build(rt.alloc(), rows.as_slice());
@@ -41,6 +42,7 @@ fn refused_growths_of_finders(rt: HostRuntime) -> Result<(), Fail> {
         places.push(place(0x130 - 8 * i, 0))?;
     }
     let mut refusals = 0u32;
+    let _most = hoard_most(rt.alloc())?;
     for step in 0..100usize {
         let blocks = hoard_but(rt.alloc(), 16 + step * 128)?;
         let built = Finders::build(rt.alloc(), places.as_slice());

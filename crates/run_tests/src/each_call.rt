@@ -7,7 +7,7 @@ use std::alloc::Global;
 use std::io::Read;
 use std::process::Abort;
 use std::test::Fail;
-use test_support::{DWARF64_WITH_MD5, Fault, Hoarding, Sink, Source};
+use test_support::{DWARF64_WITH_MD5, Fault, Hoarding, Sink, Source, hoard_most};
 
 /// Units of 78, 52 and 52 bytes.
 const UNITS: [&str; 3] = [DWARF64_WITH_MD5, THREE_ROWS, THREE_ROWS];
@@ -213,6 +213,7 @@ fn assert_growths(
     // The stack grows here, while there is memory.
     assert_eq!(rt; run(command, alloc, &mut input, &mut output), answer);
     let mut refusals = 0u32;
+    let _most = hoard_most(alloc)?;
     for at in 0..first {
         let before = written(command, alloc, section, at)?;
         let mut output = Sink::new(alloc, 1 << 20, 1 << 20);

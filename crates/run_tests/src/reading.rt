@@ -1,7 +1,7 @@
 //! Reading a string section.
 use dl_run::{RunFault, read_strings};
 use std::test::Fail;
-use test_support::{Endless, Fault, Hoarding, Source};
+use test_support::{Endless, Fault, Hoarding, Source, hoard_most};
 
 #[test]
 fn limits(rt: HostRuntime) -> Result<(), Fail> {
@@ -44,8 +44,9 @@ fn each_read(rt: HostRuntime) -> Result<(), Fail> {
 
 /// Each growth refused in turn, which isn't tried again.
 #[test]
-fn wants_memory(rt: HostRuntime) {
+fn wants_memory(rt: HostRuntime) -> Result<(), Fail> {
     let mut refusals = 0u32;
+    let _most = hoard_most(rt.alloc())?;
     for at in 0..64 {
         let mut input = Hoarding::new(rt.alloc(), &[7; 64], at);
         let read = read_strings(rt.alloc(), &mut input, 100);
@@ -61,4 +62,5 @@ fn wants_memory(rt: HostRuntime) {
         }
     }
     assert!(rt; 1 < refusals);
+    Ok(())
 }

@@ -12,7 +12,7 @@ mod writers;
 
 pub use fault::Fault;
 pub use headers::{opcode_lengths, params};
-pub use memory::{hoard, hoard_but};
+pub use memory::{hoard, hoard_but, hoard_most};
 pub use readers::{Endless, Hoarding, Repeated, Source};
 pub use rows::{end, row};
 pub use units::{

@@ -1,4 +1,5 @@
-use crate::{
+//! Numbers of a line table: worked values of DWARF 5, of RFC 1321 and of Python's integers.
+use dl_num::{
     Fixed, LebRange, Order, PartialBytes, PartialNumber, Skip, Sleb, Uleb, fixed_bytes,
     short_sleb_at_front, short_uleb_at_front, sleb_at_front, sleb_bytes, sleb_read_back,
     uleb_at_front, uleb_bytes, uleb_read_back,

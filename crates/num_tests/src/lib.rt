@@ -1,0 +1,5 @@
+//! Spellings of numbers, read and written.
+#![tactic(auto)]
+
+#[cfg(test)]
+mod numbers;
