@@ -72,6 +72,14 @@ enum {
 };
 
 /*
+ * Writes the text of a fault, as far as there is room: `damage at 0x`, the offset in hexadecimal, a colon, a space, and
+ * what is wrong in words, as `dwline` prints them. No zero byte comes after it. The answer is how many bytes the text
+ * has, be there room for them or not; room for 128 is always enough. It is 0 where *fault is none that a call writes:
+ * its kind isn't 1 to 17, or that of DL_STANDARD_LENGTH with a detail above 255.
+ */
+size_t dl_fault_text(const dl_fault *fault, uint8_t *text, size_t room);
+
+/*
  * Reads all units, and counts them, their sequences and their rows.
  * DL_DONE: the section is units to its end, and *counts is written. DL_FAULT: *fault is the first fault.
  */

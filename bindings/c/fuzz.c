@@ -10,7 +10,7 @@
 #include <sys/mman.h>
 #include <unistd.h>
 
-enum { MOST = 1 << 16, MOST_ROWS = 256, MOST_COPY = 4096, FILL = 0xa5 };
+enum { MOST = 1 << 16, MOST_ROWS = 256, MOST_COPY = 4096, MOST_TEXT = 128, FILL = 0xa5 };
 
 static uint64_t state;
 
@@ -65,6 +65,7 @@ static uint64_t *unit;
 static dl_unit *described;
 static size_t *count;
 static uint8_t *copy_end;
+static uint8_t *text_end;
 static size_t len;
 static bool big;
 
@@ -90,6 +91,23 @@ static void check_fault(uint32_t status)
     wanted(fault->offset <= len, "a fault beyond the section");
     wanted(fault->kind >= DL_RESERVED_LENGTH && fault->kind <= DL_TRUNCATED, "a fault of no kind");
     wanted(fault->kind == DL_STANDARD_LENGTH || fault->kind == DL_UNKNOWN_FORM || fault->detail == 0, "a detail of none");
+}
+
+/* Writes the text of a fault into a room: its kind, or where it is none of a fault nothing. */
+static void check_text(dl_fault told, size_t room)
+{
+    *fault = told;
+    memset(text_end - MOST_TEXT, FILL, MOST_TEXT);
+    uint8_t *text = text_end - room;
+    size_t length = dl_fault_text(fault, text, room);
+    bool is_kind = told.kind >= DL_RESERVED_LENGTH && told.kind <= DL_TRUNCATED
+        && (told.kind != DL_STANDARD_LENGTH || told.detail < 256);
+    wanted(memcmp(fault, &told, sizeof told) == 0, "a fault that the text of it changes");
+    wanted(length <= MOST_TEXT && (length > 0) == is_kind, "a text of no fault, or none of one");
+    size_t written = length < room ? length : room;
+    wanted(memcmp(text, "damage at 0x", written < 12 ? written : 12) == 0, "a text that begins otherwise");
+    wanted(is_filled(text_end - MOST_TEXT, MOST_TEXT - room), "a text before its room");
+    wanted(is_filled(text + written, room - written), "more than the text");
 }
 
 /* Counts the section. The answer is the status. */
@@ -209,6 +227,7 @@ int main(int words_count, char **words)
     described = (dl_unit *)guarded(sizeof *described) - 1;
     count = (size_t *)guarded(sizeof *count) - 1;
     copy_end = guarded(MOST_COPY);
+    text_end = guarded(MOST_TEXT);
     rows_end = (dl_row *)guarded(MOST_ROWS * sizeof *rows_end);
     uint64_t rounds = strtoull(words[1], NULL, 10);
     for (state = 1; state <= rounds; state++) {
@@ -217,6 +236,12 @@ int main(int words_count, char **words)
         uint32_t counted = check_counts();
         check_find(counted, below(2) ? 0x401000 + below(256) : next());
         check_copy(counted, below(below(2) ? 64 : MOST_COPY + 1));
+        dl_fault told;
+        memset(&told, 0, sizeof told);
+        told.offset = next() >> below(64);
+        told.detail = next() >> below(64);
+        told.kind = (uint32_t)below(20);
+        check_text(told, below(MOST_TEXT + 1));
         uint64_t offset = below(2) ? 0 : below(len + 2);
         check_rows(check_unit(offset), offset, below(2) ? below(MOST_ROWS) : below(4));
         state = round;

@@ -97,10 +97,14 @@ class Found(NamedTuple):
 
 class Damage(Exception):
     """A unit is damaged. `offset` counts from the section's first byte; `kind` and `detail` are the numbers that stand for
-    the fault in include/boxantrel.h."""
+    the fault in include/boxantrel.h. Its text says the same in words.
+
+    >>> str(Damage(0x34, 16, 0))
+    'damage at 0x34: unit ends inside an opcode'
+    """
 
     def __init__(self, offset: int, kind: int, detail: int) -> None:
-        super().__init__(f"damage at {offset:#x}: kind {kind}, {detail}")
+        super().__init__(_fault_text(offset, kind, detail))
         self.offset = offset
         self.kind = kind
         self.detail = detail
@@ -124,6 +128,7 @@ def _library() -> ctypes.CDLL:
     rows = [row, ctypes.c_size_t, ctypes.POINTER(ctypes.c_size_t)]
     arguments = {
         "dl_check": section + [ctypes.POINTER(_Counts), fault],
+        "dl_fault_text": [fault, ctypes.c_char_p, ctypes.c_size_t],
         "dl_unit_at": section + [ctypes.c_uint64, ctypes.POINTER(_Unit), fault],
         "dl_rows_at": section + [ctypes.c_uint64] + rows + [fault],
         "dl_copy": section + [ctypes.c_void_p, ctypes.c_size_t, ctypes.POINTER(ctypes.c_size_t), fault],
@@ -133,10 +138,17 @@ def _library() -> ctypes.CDLL:
         call = getattr(library, name)
         call.argtypes = types
         call.restype = ctypes.c_uint32
+    library.dl_fault_text.restype = ctypes.c_size_t
     return library
 
 
 _calls = _library()
+
+
+def _fault_text(offset: int, kind: int, detail: int) -> str:
+    fault, text = _Fault(offset, detail, kind), ctypes.create_string_buffer(128)
+    length = _calls.dl_fault_text(ctypes.byref(fault), text, len(text))
+    return text.raw[:length].decode()
 
 
 def _row(row: _Row) -> Row:

@@ -53,8 +53,8 @@ static int refused(uint32_t status, const dl_fault *fault)
         return 1;
     }
     if (status == DL_FAULT) {
-        fprintf(stderr, "look: damage at 0x%" PRIx64 ": kind %" PRIu32 ", %" PRIu64 "\n", fault->offset, fault->kind,
-                fault->detail);
+        uint8_t text[128];
+        fprintf(stderr, "look: %.*s\n", (int)dl_fault_text(fault, text, sizeof text), (const char *)text);
         return 1;
     }
     fputs("look: out of memory\n", stderr);

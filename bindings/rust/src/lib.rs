@@ -116,7 +116,7 @@ pub struct Rows {
 #[derive(Clone, Copy, Debug, PartialEq, Eq)]
 pub enum Error {
     /// The section is damaged at this offset. The kind and its detail are the numbers that stand for the fault in
-    /// include/boxantrel.h.
+    /// include/boxantrel.h; Display has it in words.
     Damage { offset: u64, kind: u32, detail: u64 },
     /// Memory was refused.
     NoMemory,
@@ -126,8 +126,8 @@ pub enum Error {
 
 impl fmt::Display for Error {
     fn fmt(&self, f: &mut fmt::Formatter<'_>) -> fmt::Result {
-        match self {
-            Error::Damage { offset, kind, detail } => write!(f, "damage at {offset:#x}: kind {kind}, {detail}"),
+        match *self {
+            Error::Damage { offset, kind, detail } => f.write_str(&fault_text(offset, kind, detail)),
             Error::NoMemory => f.write_str("out of memory"),
             Error::OtherVersion => f.write_str("a unit that is not of version 5"),
         }
@@ -338,6 +338,15 @@ impl From<raw::Row> for Row {
             end_sequence: row.flags & 16 != 0,
         }
     }
+}
+
+/// The text of a fault; none where no call tells it.
+fn fault_text(offset: u64, kind: u32, detail: u64) -> String {
+    let fault = raw::Fault { offset, detail, kind };
+    let mut text = [0; 128];
+    // SAFETY: the fault is a local, and the room is that of a local.
+    let len = unsafe { raw::dl_fault_text(&fault, text.as_mut_ptr(), text.len()) };
+    String::from_utf8_lossy(&text[..len]).into_owned()
 }
 
 /// What a status other than that of an answer says.

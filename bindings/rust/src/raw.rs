@@ -50,6 +50,7 @@ pub struct Unit {
 }
 
 extern "C" {
+    pub fn dl_fault_text(fault: *const Fault, text: *mut u8, room: usize) -> usize;
     pub fn dl_check(section: *const u8, len: usize, big: bool, counts: *mut Counts, fault: *mut Fault) -> u32;
     pub fn dl_unit_at(
         section: *const u8,

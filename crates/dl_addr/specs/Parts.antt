@@ -1,4 +1,4 @@
--- The parts of a path, seen as the path. No promise rests on this file.
+-- The parts of a path, seen as the path.
 use Rattle.std.specs.Prelude.{ℕ, List}
 use Rattle.dl_addr.specs.declared.path.Path.{Path}
 use Rattle.dl_addr.specs.declared.path.Path.TheVariants.{Whole, Under, Deep}

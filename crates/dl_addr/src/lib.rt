@@ -16,5 +16,6 @@ mod texts;
 
 pub use answering::addr;
 pub use asked::Asked;
+pub use path::{Path, path_of};
 pub use question::{Found, Question};
 pub use style::{Form, Style};

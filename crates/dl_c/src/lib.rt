@@ -2,13 +2,14 @@
 //! owes stands in include/boxantrel.h.
 #![tactic(auto)]
 
-ghost use Rattle.std.specs.Prelude.{◌≡◌, drop};
+ghost use Rattle.std.specs.Prelude.{◌≡◌, ◌≤◌, drop, length};
 ghost use Rattle.dl_calls.specs.declared.status.Status.{Status};
 ghost use Rattle.dl_calls.specs.Calls.{Checks, order_of};
 ghost use Rattle.dl_calls.specs.CopyCalls.{Copies};
+ghost use Rattle.dl_calls.specs.FaultCalls.{told_text};
 ghost use Rattle.dl_calls.specs.FindCalls.{Finds, place_at};
 ghost use Rattle.dl_calls.specs.Records.{status_code};
-ghost use Rattle.dl_calls.specs.UnitCalls.{Describes, Lists};
+ghost use Rattle.dl_calls.specs.UnitCalls.{Describes, Lists, written_over};
 
 use dl_calls::{Counts, FaultRecord, Place, RowRecord, UnitRecord};
 use std::alloc::Global;
@@ -96,4 +97,14 @@ pub extern "C" fn dl_copy(
         × Copies (order_of big) section.now room.old room.new len.old len.new fault.old fault.new status }
 {
     dl_calls::copy(alloc, section, big, room, len, fault).code()
+}
+
+/// As `dl_calls::fault_text`.
+#[unsafe(no_mangle)]
+pub extern "C" fn dl_fault_text(fault: &FaultRecord, text: &mut [u8]) -> usize
+    ensures written { text.new ≡ written_over text.old (told_text fault.now) }
+    ensures len { result ≡ length (told_text fault.now) }
+    ensures few { result ≤ 128 }
+{
+    dl_calls::fault_text(fault, text)
 }

@@ -1,4 +1,5 @@
 pub mod CopyLemmas
+pub mod FaultLemmas
 pub mod FindLemmas
 pub mod SectionLemmas
 pub mod UnitCallLemmas

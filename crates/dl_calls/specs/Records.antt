@@ -1,5 +1,5 @@
 -- The numbers that stand for faults, counts and statuses.
-use Rattle.std.specs.Prelude.{ℕ, ◌+◌, ◌*◌, cond}
+use Rattle.std.specs.Prelude.{ℕ, ◌+◌, ◌*◌, ◌==◌, cond, nat_lt, if◌then◌else◌, Option, Some, None}
 use Rattle.dl_table.specs.declared.fault.FaultKind.{FaultKind}
 use Rattle.dl_table.specs.declared.fault.FaultKind.TheVariants as fault
 use Rattle.dl_rows.specs.declared.row.Row.{Row}
@@ -38,6 +38,29 @@ kind_detail other = 0
 -- a fault at an offset of the section
 abbrev pub record_of : (offset : ℕ) → FaultKind → FaultRecord
 record_of offset kind = record { offset = offset; detail = kind_detail kind; kind = kind_code kind }
+
+-- ---- the way back from a record
+
+-- the kind of this number, which says nothing besides
+unfoldable pub plain_kind : ℕ → Option FaultKind
+plain_kind kind =
+    if kind == 1 then Some fault.ReservedLength else if kind == 2 then Some fault.UnitTooLong else
+    if kind == 3 then Some fault.UnitOverrun else if kind == 4 then Some fault.AddressSize else
+    if kind == 5 then Some fault.HeaderBeyondUnit else if kind == 6 then Some fault.HeaderOverrun else
+    if kind == 7 then Some fault.MaxOps else if kind == 8 then Some fault.LineRange else
+    if kind == 9 then Some fault.OpcodeBase else if kind == 12 then Some fault.EmptyFormat else
+    if kind == 13 then Some fault.LebRange else if kind == 14 then Some fault.ExtendedEmpty else
+    if kind == 15 then Some fault.ExtendedLength else if kind == 16 then Some fault.OpcodeOverrun else
+    if kind == 17 then Some fault.Truncated else None
+
+-- an opcode is a byte
+abbrev pub opcode_told : (detail : ℕ) → Option FaultKind
+opcode_told detail = if nat_lt detail 256 then Some (fault.StandardLength detail) else None
+
+-- the kind that these numbers stand for; none where they stand for none
+abbrev pub told_kind : (kind detail : ℕ) → Option FaultKind
+told_kind kind detail =
+    if kind == 10 then opcode_told detail else if kind == 11 then Some (fault.UnknownForm detail) else plain_kind kind
 
 abbrev pub counts_of : Summary → Counts
 counts_of s = record { units = s.units; skipped = s.skipped; sequences = s.sequences; rows = s.rows }

@@ -5,11 +5,13 @@ mod checking;
 mod copying;
 mod describing;
 mod finding;
+pub mod laws;
 mod listing;
 mod record;
 mod room;
 mod status;
 mod stop;
+mod telling;
 mod unit;
 
 pub use checking::check;
@@ -20,3 +22,4 @@ pub use finding::find;
 pub use listing::rows_at;
 pub use record::{Counts, FaultRecord, RowRecord, UnitRecord};
 pub use status::Status;
+pub use telling::fault_text;

@@ -1,7 +1,8 @@
 //! What crosses to C: structs of numbers.
 
 ghost use Rattle.std.specs.Prelude.{◌≡◌};
-ghost use Rattle.dl_calls.specs.Records.{counts_of, record_of, kind_code, kind_detail, row_record, flags_of};
+ghost use Rattle.dl_calls.specs.Records.{counts_of, record_of, kind_code, kind_detail, told_kind, plain_kind, opcode_told};
+ghost use Rattle.dl_calls.specs.Records.{row_record, flags_of};
 
 use dl_head::FaultKind;
 use dl_print::Summary;
@@ -54,6 +55,17 @@ impl FaultRecord {
             offset,
             detail: detail_of(kind),
             kind: code_of(kind),
+        }
+    }
+
+    /// The kind that its numbers stand for; None where they stand for none.
+    pub(crate) fn told(&self) -> Option<FaultKind>
+        ensures { result ≡ told_kind self.now.kind self.now.detail }
+    {
+        match self.kind {
+            10 => opcode_told(self.detail),
+            11 => Some(FaultKind::UnknownForm(self.detail)),
+            kind => plain_kind(kind),
         }
     }
 }
@@ -165,5 +177,41 @@ fn detail_of(kind: FaultKind) -> u64
         FaultKind::StandardLength(opcode) => u64::from(opcode),
         FaultKind::UnknownForm(code) => code,
         _ => 0,
+    }
+}
+
+/// The kind of this number, which says nothing besides; None where there is none.
+#[tactic(auto, unfolding(crate::specs::Records::plain_kind))]
+fn plain_kind(kind: u32) -> Option<FaultKind>
+    ensures { result ≡ plain_kind kind }
+{
+    match kind {
+        1 => Some(FaultKind::ReservedLength),
+        2 => Some(FaultKind::UnitTooLong),
+        3 => Some(FaultKind::UnitOverrun),
+        4 => Some(FaultKind::AddressSize),
+        5 => Some(FaultKind::HeaderBeyondUnit),
+        6 => Some(FaultKind::HeaderOverrun),
+        7 => Some(FaultKind::MaxOps),
+        8 => Some(FaultKind::LineRange),
+        9 => Some(FaultKind::OpcodeBase),
+        12 => Some(FaultKind::EmptyFormat),
+        13 => Some(FaultKind::LebRange),
+        14 => Some(FaultKind::ExtendedEmpty),
+        15 => Some(FaultKind::ExtendedLength),
+        16 => Some(FaultKind::OpcodeOverrun),
+        17 => Some(FaultKind::Truncated),
+        _ => None,
+    }
+}
+
+/// The kind that says besides which standard opcode it is; None where that doesn't fit a byte.
+fn opcode_told(detail: u64) -> Option<FaultKind>
+    ensures { result ≡ opcode_told detail }
+{
+    if detail < 256 {
+        Some(FaultKind::StandardLength(detail as u8))
+    } else {
+        None
     }
 }

@@ -1,6 +1,8 @@
 -- The lines of text that a section is printed as.
 use Rattle.std.specs.Prelude.{ℕ, Bool, List, [], ◌∷◌, ◌++◌, codes, decimal, ◌==◌, if◌then◌else◌}
 use Rattle.dl_print.specs.Digits.{hexadecimal, hexadecimal_of}
+use Rattle.dl_table.specs.FaultText.{fault_text}
+use Rattle.dl_table.specs.declared.fault.FaultKind.{FaultKind}
 use Rattle.dl_table.specs.declared.form.Format.{Format}
 use Rattle.dl_table.specs.declared.form.Format.TheVariants.{Dwarf32, Dwarf64}
 use Rattle.dl_rows.specs.declared.row.Row.{Row}
@@ -67,3 +69,9 @@ summary_line s =
     line (codes "units " ++ decimal s.units ++ codes " skipped " ++ decimal s.skipped ++ codes " sequences "
     ++ decimal s.sequences
     ++ codes " rows " ++ decimal s.rows)
+
+-- ---- what is said of a section at fault
+
+-- where a unit is damaged, from the section's first byte, and how
+abbrev pub damage_text : (offset : ℕ) → FaultKind → List ℕ
+damage_text offset kind = codes "damage at 0x" ++ hexadecimal offset ++ codes ": " ++ fault_text kind

@@ -1,9 +1,11 @@
 //! Texts, written into a buffer from a place on.
+mod damage;
 mod digits;
 mod lines;
 mod row;
 mod values;
 
+pub use damage::write_damage;
 pub use digits::{
     write_address, write_bytes, write_decimal, write_hexadecimal_bytes, write_hexadecimal_number,
     write_number,

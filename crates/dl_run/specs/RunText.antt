@@ -1,13 +1,13 @@
 -- The texts and the statuses of the faults of a command.
 use Rattle.std.specs.Prelude.{ℕ, List, ◌++◌, codes}
 use Rattle.dl_print.specs.Digits.{hexadecimal}
-use Rattle.dl_table.specs.FaultText.{fault_text}
+use Rattle.dl_print.specs.Text.{damage_text}
 use Rattle.dl_run.specs.declared.fault.RunFault.{RunFault}
 use Rattle.dl_run.specs.declared.fault.RunFault.TheVariants.{Damage, NoMemory, Read, Write, SectionTooLong, NotFound}
 use Rattle.dl_run.specs.declared.fault.RunFault.TheVariants.{ForeignUnit, Emit}
 
 abbrev pub run_fault_text : RunFault → List ℕ
-run_fault_text (Damage offset kind) = codes "damage at 0x" ++ hexadecimal offset ++ codes ": " ++ fault_text kind
+run_fault_text (Damage offset kind) = damage_text offset kind
 run_fault_text NoMemory = codes "out of memory"
 run_fault_text Read = codes "cannot read the input"
 run_fault_text (Write out) = codes "cannot write the output"
