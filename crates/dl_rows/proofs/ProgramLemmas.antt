@@ -8,6 +8,7 @@ use Rattle.dl_rows.specs.declared.registers.Registers.{Registers}
 use Rattle.dl_rows.specs.declared.program.Program.{Program}
 use Rattle.dl_rows.specs.declared.operation.Operation.{Operation}
 use Rattle.dl_rows.specs.declared.operation.Operation.TheVariants as op
+use Rattle.dl_rows.specs.declared.operation_state.OperationState.{OperationState}
 use Rattle.dl_rows.specs.Matrix.{is_end, appends_row, row, matrix}
 use Rattle.dl_rows.specs.Machine.{initial, applied, cleared, row_of}
 use Rattle.dl_rows.specs.LineUnit.{ends_open}
@@ -103,3 +104,10 @@ settled_special o (inr s) = (ap appends_row s, sym (ap is_end s), λ h r. ap (λ
 pub settled_end : (h : Params) (o : Operation) (r : Registers) → o ≡ op.EndSequence
     → settled h o r ≡ initial (not (h.default_is_stmt == 0))
 settled_end h o r e = ap (λ (z : Operation). settled h z r) e
+
+-- a program in an operation of which as much has come as in that of another
+pub same_begun : (p q : Program) → p.phase ≡ q.phase → p.begun ≡ q.begun
+    → p ≡ record q { registers = p.registers; in_sequence = p.in_sequence }
+same_begun p q phase begun =
+    ap (λ (z : OperationState). record p { phase = z }) phase
+    ∙ ap (λ (z : ℕ). record p { phase = q.phase; begun = z }) begun

@@ -95,6 +95,7 @@ pub enum OperationStep<'a> {
 
 impl OperationState {
     /// Takes bytes up to the end of the operation.
+    #[inline(always)]
     pub fn push<'a>(self, order: Order, params: &Params, bytes: &'a [u8]) -> OperationStep<'a>
         requires { IsUsable params.now }
         ensures within { Leaves (length bytes.entry.now) result }
@@ -214,6 +215,7 @@ fn short_extended<'a>(
     }
 }
 
+#[inline(always)]
 fn start<'a>(order: Order, params: &Params, bytes: &'a [u8]) -> OperationStep<'a>
     requires { IsUsable params.now }
     ensures within { Leaves (length bytes.entry.now) result }
@@ -230,6 +232,7 @@ fn start<'a>(order: Order, params: &Params, bytes: &'a [u8]) -> OperationStep<'a
 }
 
 /// Takes bytes after an opcode that may have an operand.
+#[inline(always)]
 fn operand<'a>(order: Order, params: &Params, opcode: u8, bytes: &'a [u8]) -> OperationStep<'a>
     requires usable { IsUsable params.now }
     requires operand { HasOperand params.now opcode }
@@ -248,6 +251,7 @@ fn operand<'a>(order: Order, params: &Params, opcode: u8, bytes: &'a [u8]) -> Op
 }
 
 /// Takes bytes after a standard opcode that isn't known.
+#[inline(always)]
 fn operands<'a>(params: &Params, opcode: u8, bytes: &'a [u8]) -> OperationStep<'a>
     requires usable { IsUsable params.now }
     requires unknown { 12 < opcode }
@@ -262,6 +266,7 @@ fn operands<'a>(params: &Params, opcode: u8, bytes: &'a [u8]) -> OperationStep<'
     skipped(count, bytes)
 }
 
+#[inline(always)]
 fn unsigned<'a>(opcode: UnsignedOpcode, mut number: Uleb, bytes: &'a [u8]) -> OperationStep<'a>
     ensures within { Leaves (length bytes.entry.now) result }
     ensures step { (order : Order) (h : Params) (v : List ℕ) → PhaseStands h (phase.Unsigned opcode number) v
@@ -276,6 +281,7 @@ fn unsigned<'a>(opcode: UnsignedOpcode, mut number: Uleb, bytes: &'a [u8]) -> Op
     }
 }
 
+#[inline(always)]
 fn line<'a>(mut number: Sleb, bytes: &'a [u8]) -> OperationStep<'a>
     ensures within { Leaves (length bytes.entry.now) result }
     ensures step { (order : Order) (h : Params) (v : List ℕ) → PhaseStands h (phase.Line number) v
@@ -290,6 +296,7 @@ fn line<'a>(mut number: Sleb, bytes: &'a [u8]) -> OperationStep<'a>
     }
 }
 
+#[inline(always)]
 fn fixed_add<'a>(order: Order, number: PartialNumber, bytes: &'a [u8]) -> OperationStep<'a>
     ensures within { Leaves (length bytes.entry.now) result }
     ensures step { (h : Params) (v : List ℕ) → PhaseStands h (phase.FixedAdd number) v
@@ -301,6 +308,7 @@ fn fixed_add<'a>(order: Order, number: PartialNumber, bytes: &'a [u8]) -> Operat
     }
 }
 
+#[inline(always)]
 fn skipped<'a>(mut left: u8, bytes: &'a [u8]) -> OperationStep<'a>
     ensures within { Leaves (length bytes.entry.now) result }
     ensures step { (order : Order) (h : Params) (v : List ℕ) → PhaseStands h (phase.Skipped left) v
@@ -318,6 +326,7 @@ fn skipped<'a>(mut left: u8, bytes: &'a [u8]) -> OperationStep<'a>
     OperationStep::Within(OperationState::Skipped(left))
 }
 
+#[inline(always)]
 fn length<'a>(order: Order, params: &Params, mut number: Uleb, bytes: &'a [u8]) -> OperationStep<'a>
     requires { IsUsable params.now }
     ensures within { Leaves (length bytes.entry.now) result }
@@ -334,6 +343,7 @@ fn length<'a>(order: Order, params: &Params, mut number: Uleb, bytes: &'a [u8]) 
 }
 
 /// Takes bytes after the length of an extended opcode.
+#[inline(always)]
 fn body<'a>(order: Order, params: &Params, len: u64, bytes: &'a [u8]) -> OperationStep<'a>
     requires { IsUsable params.now }
     ensures within { Leaves (length bytes.entry.now) result }
@@ -345,6 +355,7 @@ fn body<'a>(order: Order, params: &Params, len: u64, bytes: &'a [u8]) -> Operati
     extended(order, params, len, bytes)
 }
 
+#[inline(always)]
 fn extended<'a>(order: Order, params: &Params, len: u64, bytes: &'a [u8]) -> OperationStep<'a>
     requires { IsUsable params.now }
     ensures within { Leaves (length bytes.entry.now) result }
@@ -370,6 +381,7 @@ fn extended<'a>(order: Order, params: &Params, len: u64, bytes: &'a [u8]) -> Ope
     }
 }
 
+#[inline(always)]
 fn address<'a>(order: Order, number: PartialNumber, bytes: &'a [u8]) -> OperationStep<'a>
     ensures within { Leaves (length bytes.entry.now) result }
     ensures step { (h : Params) (v : List ℕ) → PhaseStands h (phase.Address number) v
@@ -381,6 +393,7 @@ fn address<'a>(order: Order, number: PartialNumber, bytes: &'a [u8]) -> Operatio
     }
 }
 
+#[inline(always)]
 fn discriminator<'a>(mut left: u64, mut number: Uleb, bytes: &'a [u8]) -> OperationStep<'a>
     ensures within { Leaves (length bytes.entry.now) result }
     ensures step { (order : Order) (h : Params) (v : List ℕ) → PhaseStands h (phase.Discriminator left number) v
@@ -404,6 +417,7 @@ fn discriminator<'a>(mut left: u64, mut number: Uleb, bytes: &'a [u8]) -> Operat
     OperationStep::Within(OperationState::Discriminator(left, number))
 }
 
+#[inline(always)]
 fn rest<'a>(left: u64, bytes: &'a [u8]) -> OperationStep<'a>
     ensures within { Leaves (length bytes.entry.now) result }
     ensures step { (order : Order) (h : Params) (v : List ℕ) → PhaseStands h (phase.Rest left) v

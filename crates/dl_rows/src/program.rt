@@ -32,6 +32,9 @@ pub enum Taken<'a> {
     Row(Row, &'a [u8]),
 }
 
+/// Of fewer bytes each operation is taken by itself, since a program in a local of its own costs more than it spares.
+const SHORT_PIECE: usize = 16;
+
 /// Where a reader is in a program.
 #[derive(Clone, Copy)]
 pub struct Program {
@@ -98,28 +101,6 @@ impl Program {
         &mut self,
         order: Order,
         params: &Params,
-        bytes: &'a [u8],
-        sink: &mut S,
-    ) -> ProgramStep<'a>
-        requires { IsUsable params.now }
-        ensures left { GivenLeaves (length bytes.entry.now) result }
-        ensures given { (b : List ℕ) (before : List Row) (first : S) → FitsProgram params.now → AllBytes bytes.entry.now
-            → ProgramStands order params.now self.old b
-            → (S.story first).hears sink.old before
-            → Tells (S.story first) order params.now b bytes.entry.now before result self.new sink.new }
-    {
-        let mut program = *self;
-        let given = program.walk(order, params, bytes, sink);
-        *self = program;
-        given
-    }
-
-    /// `push`, where the program stands in a local of its own, so that its registers need no memory.
-    #[inline(always)]
-    fn walk<'a, S: RowSink>(
-        &mut self,
-        order: Order,
-        params: &Params,
         mut bytes: &'a [u8],
         sink: &mut S,
     ) -> ProgramStep<'a>
@@ -142,10 +123,8 @@ impl Program {
                     return ProgramStep::Nothing;
                 }
                 OperationStep::Ends(operation, tail) => {
-                    self.phase = OperationState::Start;
-                    self.begun = 0;
                     bytes = tail;
-                    if let Some(row) = self.finish(params, operation) {
+                    if let Some(row) = self.complete(params, operation) {
                         match sink.row(&row) {
                             Flow::On => {}
                             Flow::Stop => return ProgramStep::Row(row, tail),
@@ -163,13 +142,13 @@ impl Program {
     }
 
     /// Takes operations whose bytes all stand at the front of these, one after the other, where none has begun
-    /// before, and lets the sink hear each row.
+    /// before and the bytes are not few, and lets the sink hear each row.
     #[inline(always)]
     fn short_operations<'a, S: RowSink>(
         &mut self,
         order: Order,
         params: &Params,
-        mut bytes: &'a [u8],
+        bytes: &'a [u8],
         sink: &mut S,
     ) -> Taken<'a>
         requires { IsUsable params.now }
@@ -180,9 +159,36 @@ impl Program {
             → (S.story first).hears sink.old before
             → TakenTells (S.story first) order params.now b bytes.entry.now before result self.new sink.new }
     {
-        if !self.is_between() {
+        if bytes.len() < SHORT_PIECE || !self.is_between() {
             return Taken::UpTo(bytes);
         }
+        let mut program = *self;
+        let taken = program.run(order, params, bytes, sink);
+        self.registers = program.registers;
+        self.in_sequence = program.in_sequence;
+        taken
+    }
+
+    /// `short_operations` between operations, where the program stands in a local of its own, so that its registers
+    /// need no memory.
+    #[inline(always)]
+    fn run<'a, S: RowSink>(
+        &mut self,
+        order: Order,
+        params: &Params,
+        mut bytes: &'a [u8],
+        sink: &mut S,
+    ) -> Taken<'a>
+        requires usable { IsUsable params.now }
+        requires between { self.old.phase ≡ phase.Start }
+        ensures left { TakenLeaves (length bytes.entry.now) result }
+        ensures phase { self.new.phase ≡ self.old.phase }
+        ensures begun { self.new.begun ≡ self.old.begun }
+        ensures told { (b : List ℕ) (before : List Row) (first : S) → FitsProgram params.now → AllBytes bytes.entry.now
+            → ProgramStands order params.now self.old b
+            → (S.story first).hears sink.old before
+            → TakenTells (S.story first) order params.now b bytes.entry.now before result self.new sink.new }
+    {
         while let Some((operation, tail)) = short_operation(order, params, bytes) {
             bytes = tail;
             if let Some(row) = self.finish(params, operation) {
@@ -193,6 +199,23 @@ impl Program {
             }
         }
         Taken::UpTo(bytes)
+    }
+
+    /// Applies the current operation, which is complete, and gives the row that it appends, if any.
+    #[inline(always)]
+    fn complete(&mut self, params: &Params, operation: Operation) -> Option<Row>
+        requires { IsUsable params.now }
+        ensures phase { self.new.phase ≡ phase.Start }
+        ensures begun { self.new.begun ≡ 0 }
+        ensures row { IfSome result (λ row. 1 ≤ rows_of operation) }
+        ensures finishes { (before : List Operation) → FitsProgram params.now → HasRange operation
+            → self.old.registers ≡ registers_after params.now before
+            → self.old.in_sequence ≡ ends_open (matrix params.now before)
+            → Finishes params.now before operation result self.new }
+    {
+        self.phase = OperationState::Start;
+        self.begun = 0;
+        self.finish(params, operation)
     }
 
     /// Applies an operation, and gives the row that it appends, if any.

@@ -218,6 +218,7 @@ impl Reader {
     }
 
     /// Takes bytes of the header.
+    #[inline(never)]
     fn feed_head(&mut self, piece: &[u8]) -> Result<Fed, Fault>
         requires { is_in_header self.old.state ≡ true }
         ensures used { IfOk result (λ fed. fed.used ≤ length piece.now) }

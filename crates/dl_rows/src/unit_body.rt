@@ -197,12 +197,20 @@ impl BodyState {
             BodyState::InProgram(body) => {
                 let fed = body.feed(order, params, piece, sink);
                 if let Err(fault) = fed {
-                    *self = BodyState::Stopped(body.stop(fault));
+                    let stop = body.stop(fault);
+                    self.stop_by(stop);
                 }
                 fed
             }
             BodyState::Stopped(stop) => Err(stop.fault),
         }
+    }
+
+    /// From here on the fault of this stop is answered.
+    fn stop_by(&mut self, stop: BodyStop)
+        ensures { self.new ≡ BodyState.Stopped stop }
+    {
+        *self = BodyState::Stopped(stop);
     }
 
     /// How many bytes of the unit were taken.

@@ -1,4 +1,4 @@
-use Rattle.std.proofs.Common.{Result, sym, subst}
+use Rattle.std.proofs.Common.{Result, Err, sym, subst}
 use Rattle.dl_head.specs.declared.fault.Fault.{Fault}
 use Rattle.dl_rows.specs.declared.reader.Fed.{Fed}
 use Rattle.dl_rows.specs.UnitBodies.{InProgram, BodyStopped, BodyStands, BodyTells}
@@ -11,9 +11,11 @@ pub returns-in-Err-clause-fed : goal.returns-in-Err-clause-fed
 returns-in-Err-clause-fed g c h b before first params s hears =
     let is : InProgram c.args.order h c.in-InProgram.body b =
     subst (λ (x : BodyState). BodyStands c.args.order h x b) c.in-InProgram.is s in
-    tells_fault (g.S.RowSink.story first) c.args.order h c.in-InProgram.body c.feed-fed.new.self b c.args.piece.now
-    before c.in-Err.fault c.stop.result c.feed-fed.new.sink is c.stop.ensures
-    (c.in-Err.ensures.fed h b before first params is hears)
+    subst (λ (x : BodyState). BodyTells (g.S.RowSink.story first) c.args.order h b c.args.piece.now before
+    (Err c.in-Err.fault) x c.feed-fed.new.sink) (sym c.stop_by.ensures)
+    (tells_fault (g.S.RowSink.story first) c.args.order h c.in-InProgram.body c.feed-fed.new.self b c.args.piece.now
+    before c.in-Err.fault c.stop-stop.result c.feed-fed.new.sink is c.stop-stop.ensures
+    (c.in-Err.ensures.fed h b before first params is hears))
 
 pub returns-in_default-clause-fed : goal.returns-in_default-clause-fed
 returns-in_default-clause-fed g c h b before first params s hears =

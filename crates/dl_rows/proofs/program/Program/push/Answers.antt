@@ -5,7 +5,7 @@ use Rattle.dl_rows.proofs.JudgedNumbers.{empty_is}
 use Rattle.dl_rows.proofs.ProgramWalks.{walk_on, walk_row}
 use Rattle.dl_rows.proofs.ProgramEnds.{walk_over, walk_within, walk_refuses, walk_turns}
 use Rattle.dl_rows.proofs.ProgramTold.{tell_start, tell_on, tell_row, tell_after, tells_after, since_bytes}
-use Rattle.dl_rows.proofs.program.Program.walk.Goals as goal
+use Rattle.dl_rows.proofs.program.Program.push.Goals as goal
 
 pub loop-bytes-init : goal.loop-bytes-init
 loop-bytes-init g c = record {
@@ -52,13 +52,13 @@ loop-bytes-preserved-in-On g c = record {
       let o = c.in-Ends.ensures.step t.walked.stands.begun t.walked.stands.phase in
       tell_row (g.S.RowSink.story first) c.args.order c.args.params.now b c.args.bytes.now before
       c.short_operations.new.self c.in-UpTo.tail.now c.in-Ends.tail.now c.short_operations.new.sink
-      c.row.new.self c.finish.new.self c.in-Some.row t
+      c.row.new.self c.complete.new.self c.in-Some.row t
       (walk_row c.args.order c.args.params.now (b ++ t.told.done) t.since c.in-UpTo.tail.now o.0 c.in-Ends.tail.now
-      c.short_operations.new.self c.finish.new.self c.in-Some.row t.walked o.1
+      c.short_operations.new.self c.complete.new.self c.in-Some.row t.walked o.1
       (walk_turns c.args.order c.args.params.now (b ++ t.told.done) t.since c.in-UpTo.tail.now o.0
-      c.in-Ends.tail.now c.short_operations.new.self c.finish.new.self c.in-Ends.operation _ t.walked fits bytes
+      c.in-Ends.tail.now c.short_operations.new.self c.complete.new.self c.in-Ends.operation _ t.walked fits bytes
       o.1 o.2
-      c.in-Some.ensures.finishes c.finish.ensures.phase c.finish.ensures.begun))
+      c.in-Some.ensures.finishes c.complete.ensures.phase c.complete.ensures.begun))
       (c.in-On.ensures first (before ++ t.rows) t.hears));
 }
 
@@ -76,11 +76,11 @@ returns-in-Stop-clause-given g c b before first fits all s hears =
       since = t.since;
       told = t.told;
       gives = walk_row c.args.order c.args.params.now (b ++ t.told.done) t.since c.in-UpTo.tail.now o.0
-          c.in-Ends.tail.now c.short_operations.new.self c.finish.new.self c.in-Some.row t.walked o.1
+          c.in-Ends.tail.now c.short_operations.new.self c.complete.new.self c.in-Some.row t.walked o.1
           (walk_turns c.args.order c.args.params.now (b ++ t.told.done) t.since c.in-UpTo.tail.now o.0
-          c.in-Ends.tail.now c.short_operations.new.self c.finish.new.self c.in-Ends.operation _ t.walked fits
+          c.in-Ends.tail.now c.short_operations.new.self c.complete.new.self c.in-Ends.operation _ t.walked fits
           bytes o.1 o.2
-          c.in-Some.ensures.finishes c.finish.ensures.phase c.finish.ensures.begun);
+          c.in-Some.ensures.finishes c.complete.ensures.phase c.complete.ensures.begun);
       sink = c.in-Stop.ensures first (before ++ t.rows) t.hears;
     }
 
@@ -96,14 +96,14 @@ loop-bytes-preserved g c = record {
       let bytes = since_bytes c.args.order c.args.params.now b c.args.bytes.now t.rows t.since t.told all in
       let o = c.in-Ends.ensures.step t.walked.stands.begun t.walked.stands.phase in
       tell_on (g.S.RowSink.story first) c.args.order c.args.params.now b c.args.bytes.now before
-      c.short_operations.new.self c.finish.new.self c.in-UpTo.tail.now c.in-Ends.tail.now
+      c.short_operations.new.self c.complete.new.self c.in-UpTo.tail.now c.in-Ends.tail.now
       c.short_operations.new.sink t
       (walk_on c.args.order c.args.params.now (b ++ t.told.done) t.since c.in-UpTo.tail.now o.0 c.in-Ends.tail.now
-      c.short_operations.new.self c.finish.new.self t.walked o.1
+      c.short_operations.new.self c.complete.new.self t.walked o.1
       (walk_turns c.args.order c.args.params.now (b ++ t.told.done) t.since c.in-UpTo.tail.now o.0
-      c.in-Ends.tail.now c.short_operations.new.self c.finish.new.self c.in-Ends.operation None t.walked fits
+      c.in-Ends.tail.now c.short_operations.new.self c.complete.new.self c.in-Ends.operation None t.walked fits
       bytes o.1 o.2
-      (rw c.in_default.is at c.finish.ensures.finishes) c.finish.ensures.phase c.finish.ensures.begun)));
+      (rw c.in_default.is at c.complete.ensures.finishes) c.complete.ensures.phase c.complete.ensures.begun)));
 }
 
 pub returns-in-Refuses-clause-given : goal.returns-in-Refuses-clause-given

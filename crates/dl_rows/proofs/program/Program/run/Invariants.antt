@@ -3,11 +3,12 @@ use Rattle.dl_num.specs.Laws.{AllBytes}
 use Rattle.dl_rows.specs.declared.row.Row.{Row}
 use Rattle.dl_rows.specs.Programs.{ProgramStands, Telling}
 use Rattle.dl_rows.specs.Sums.{FitsProgram}
-use Rattle.dl_rows.proofs.program.Program.short_operations.Given as goal
+use Rattle.dl_rows.proofs.program.Program.run.Given as goal
 
 abbrev pub invariant-loop-operation : goal.invariant-loop-operation
 invariant-loop-operation g l = record {
   between : l.self.phase ≡ l.fn.self.phase;
+  begun : l.self.begun ≡ l.fn.self.begun;
   fewer : length l.bytes ≤ length l.fn.bytes;
   tells : (b : List ℕ) (before : List Row) (first : g.row.S.Denot) → FitsProgram l.fn.params → AllBytes l.fn.bytes
       → ProgramStands l.fn.order l.fn.params l.fn.self b → (g.S.RowSink.story first).hears l.fn.sink before

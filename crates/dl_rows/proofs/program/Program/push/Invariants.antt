@@ -4,7 +4,7 @@ use Rattle.dl_rows.specs.declared.row.Row.{Row}
 use Rattle.dl_rows.specs.Left.{inside}
 use Rattle.dl_rows.specs.Programs.{ProgramStands, Telling}
 use Rattle.dl_rows.specs.Sums.{FitsProgram}
-use Rattle.dl_rows.proofs.program.Program.walk.Given as goal
+use Rattle.dl_rows.proofs.program.Program.push.Given as goal
 
 abbrev pub invariant-loop-bytes : goal.invariant-loop-bytes
 invariant-loop-bytes g l = record {
