@@ -1,5 +1,5 @@
 //! The sections of the names that are looked for, found in one pass over the section headers.
-ghost use Rattle.std.specs.Prelude.{◌≡◌, ◌+◌, ◌<◌, ◌≤◌, ℕ, None, length, take, replicate, IfOk, IfErr, OnOk};
+ghost use Rattle.std.specs.Prelude.{◌≡◌, ◌+◌, ◌<◌, ◌≤◌, ℕ, None, length, take, replicate, false, IsFalse, IfOk, IfErr, OnOk};
 ghost use Rattle.std.specs.Io.{ReadsAtMost};
 ghost use Rattle.dl_elf.specs.Source.{ForBytes};
 ghost use Rattle.dl_elf.specs.Window.{Shows};
@@ -62,10 +62,20 @@ impl Sections {
         ensures { (k : ℕ) → k < 10 → slot_at (slots self.new) k
             ≡ noted bytes.now number header.now (name_at k) (slot_at (slots self.old) k) }
     {
+        if !may_be_looked_for(bytes) {
+            return;
+        }
         for (index, name) in SectionName::ALL.iter().enumerate() {
             self.found[index] = noted(bytes, number, header, *name, self.found[index]);
         }
     }
+}
+
+/// Whether one of the names may begin so: each has a dot first, and d, z or n after it.
+fn may_be_looked_for(bytes: &[u8]) -> bool
+    ensures { IsFalse result → (name : SectionName) → begins_with_name bytes.now name ≡ false }
+{
+    1 < bytes.len() && bytes[0] == b'.' && matches!(bytes[1], b'd' | b'z' | b'n')
 }
 
 /// What is kept under a name after this section, whose name begins as `bytes` do.

@@ -1,16 +1,18 @@
 -- Sections of relocations, one section header further on.
-use Rattle.std.proofs.Common.{◌≡◌, ℕ, zero, suc, ◌+◌, ◌-◌, ◌<◌, ◌≤◌, true, false, nat_le, List, Option}
-use Rattle.std.proofs.Common.{Some, None, Ok, Err, arith, inl, inr, refl, ap, ◌∙◌}
+use Rattle.std.proofs.Common.{◌≡◌, ℕ, zero, suc, ◌+◌, ◌-◌, ◌<◌, ◌≤◌, true, false, Bool, if◌then◌else◌, nat_le, List, Option}
+use Rattle.std.proofs.Common.{Some, None, Ok, Err, arith, inl, inr, refl, sym, ap, ◌∙◌}
 use Rattle.std.proofs.lemmas.Bool.{cases_lt, le-leb, lt-leb}
+use Rattle.std.proofs.lemmas.Option.{none-some, same_Some}
 use Rattle.dl_elf.specs.declared.file.Elf.{Elf}
 use Rattle.dl_elf.specs.declared.named.NamedSection.{NamedSection}
+use Rattle.dl_elf.specs.declared.section.SectionHeader.{SectionHeader}
 use Rattle.dl_elf.specs.declared.fault.ElfFault.{ElfFault}
 use Rattle.dl_elf.specs.declared.fault.ElfFault.TheVariants as fault
 use Rattle.dl_elf.specs.declared.fault.Part.TheVariants as part
-use Rattle.dl_elf.specs.Elf.{is_object}
-use Rattle.dl_elf.specs.Sections.{section_bytes}
+use Rattle.dl_elf.specs.Elf.{is_object, relocates}
+use Rattle.dl_elf.specs.Sections.{section_bytes, section_in}
 use Rattle.dl_file.specs.Relocations.{HasRelocations, and_then, line_bytes, bytes_with, relocated_at, relocated_upto}
-use Rattle.dl_file.specs.Relocations.{relocations_at, relocations_of, relocations_upto, sum_of}
+use Rattle.dl_file.specs.Relocations.{relocated_if, relocations_at, relocations_in, relocations_of, relocations_upto, sum_of}
 
 -- ---- how many there are
 
@@ -87,6 +89,32 @@ bytes_relocated e f line zero told some few = absurd (some refl)
 bytes_relocated e f line (suc n) told some few =
     let past : nat_le 16 n ≡ false = lt-leb 16 n (omega (arith, few)) in
     ap (bytes_with e f line) told ∙ rw past refl
+
+no_sum : (m n : Option ℕ) → sum_of m n ≡ Some 0 → (m ≡ Some 0) × (n ≡ Some 0)
+no_sum None n is = absurd (none-some 0 is)
+no_sum (Some m) None is = absurd (none-some 0 is)
+no_sum (Some m) (Some n) is =
+    let sum : m + n ≡ 0 = same_Some (m + n) 0 is in
+    let first : m ≡ 0 = omega (arith, sum) in
+    let second : n ≡ 0 = omega (arith, sum) in (ap Some first, ap Some second)
+
+not_one : (b : Bool) → ◌≡◌ {A = Option ℕ} (Some (if b then 1 else 0)) (Some 0) → b ≡ false
+not_one false is = refl
+not_one true is = absurd (omega (arith, same_Some {A = ℕ} 1 0 is))
+
+not_relocated : (e : Elf) (f : List ℕ) (line : NamedSection) (s : Option SectionHeader) (b : List ℕ)
+    → relocations_in line.number s ≡ Some 0 → relocated_if e f line s b ≡ Ok b
+not_relocated e f line None b is = absurd (none-some 0 is)
+not_relocated e f line (Some s) b is = rw (not_one (relocates line.number s) is) refl
+
+-- sections of which none is of relocations
+pub none_relocated : (e : Elf) (f : List ℕ) (line : NamedSection) (n : ℕ)
+    → relocations_upto e f line.number n ≡ Some 0 → relocated_upto e f line n ≡ Ok (section_bytes line.header f)
+none_relocated e f line zero is = refl
+none_relocated e f line (suc n) is =
+    let p = no_sum (relocations_upto e f line.number n) (relocations_at e f line.number (suc n)) is in
+    ap (and_then (relocated_at e f line (suc n))) (none_relocated e f line n p.0)
+    ∙ not_relocated e f line (section_in e.header f (suc n)) (section_bytes line.header f) p.1
 
 -- those of section n, after those before it
 pub next_relocated : (e : Elf) (f : List ℕ) (line : NamedSection) (n : ℕ) (before after : List ℕ) → 1 ≤ n

@@ -1,10 +1,13 @@
 -- The forms of contracts inside the crate, over an answer that the definitions give. No promise rests on this file.
-use Rattle.std.specs.Prelude.{◌≡◌, ℕ, List, Option, Some, None, Result, Ok, Err}
+use Rattle.std.specs.Prelude.{◌≡◌, ◌-◌, ℕ, List, Option, Some, None, Result, Ok, Err}
 use Rattle.std.specs.declared.io.Error.{Error}
 use Rattle.dl_elf.specs.declared.name.SectionName.{SectionName}
 use Rattle.dl_elf.specs.declared.fault.ElfFault.{ElfFault}
 use Rattle.dl_elf.specs.declared.fault.ElfFault.TheVariants as fault
 use Rattle.dl_elf.specs.declared.fault.Part.TheVariants as part
+use Rattle.dl_elf.specs.declared.file.Elf.{Elf}
+use Rattle.dl_file.specs.declared.relocating.RelocationSections.{RelocationSections}
+use Rattle.dl_file.specs.Relocations.{relocations_of, relocations_upto}
 use Rattle.dl_file.specs.declared.line_file.LineFile.{LineFile}
 use Rattle.dl_file.specs.declared.content_reader.ContentReader.{ContentReader}
 use Rattle.dl_file.specs.declared.line_reader.LineReader.{LineReader}
@@ -35,6 +38,12 @@ IsCounted number (Ok n) = number ≡ Some n
 IsCounted number (Err (fault.Read error)) = Unit {0}
 IsCounted number (Err (fault.Damaged part.SectionHeaders)) = ◌≡◌ {A = Option ℕ} number None
 IsCounted number (Err other) = ⊥
+
+-- the sections of relocations of section `number`, how many and from where on; or as of a count
+abbrev pub AreFound : Elf → List ℕ → (number : ℕ) → Result RelocationSections ElfFault → Type 0
+AreFound e f number (Ok found) =
+    (relocations_of e f number ≡ Some found.count) × (relocations_upto e f number (found.first - 1) ≡ Some 0)
+AreFound e f number (Err why) = IsCounted (relocations_of e f number) (Err why)
 
 -- a reader of these bytes; memory is refused only where `Memory` says so
 abbrev pub OpensContent : {S : Type 0} → (S → Option (List ℕ)) → Content → (Memory : Type 0)

@@ -15,7 +15,7 @@ ghost use Rattle.dl_file.specs.LineTable.{debug_str_section};
 use crate::content_reader::ContentReader;
 use crate::inflated_reader::{InflatedReader, ReadFault};
 use crate::line_reader::LineReader;
-use crate::relocating::{count_relocations, relocate_line};
+use crate::relocating::{find_relocations, relocate_line};
 use crate::section_bytes::read_bytes;
 use dl_elf::{
     Compression, CompressionHeader, Elf, ElfFault, NamedSection, Part, Range, ReadAt, SectionName,
@@ -280,16 +280,23 @@ fn line_reader<'a, S: ReadAt>(
         (HasRelocations elf.now f line.now.number ⊎ HasStream elf.now f (Some line.now)) result) }
     ensures read { IfRead (S.fails_with source.entry.now) result }
 {
-    let sections = count_relocations(source, elf, line.number)?;
-    if sections == 0 {
+    let sections = find_relocations(source, elf, line.number)?;
+    if sections.count == 0 {
         let reader = ContentReader::open(alloc, source, elf, line)?;
         return Ok(LineReader::File(reader));
     }
-    if MOST_RELOCATIONS < sections {
+    if MOST_RELOCATIONS < sections.count {
         return Err(ElfFault::Damaged(Part::Relocations(line.name)));
     }
     let mut bytes = whole_bytes(alloc, source, elf, line)?;
-    relocate_line(alloc, source, elf, line, bytes.as_mut_slice())?;
+    relocate_line(
+        alloc,
+        source,
+        elf,
+        line,
+        sections.first,
+        bytes.as_mut_slice(),
+    )?;
     Ok(LineReader::Held(Cursor::new(bytes)))
 }
 

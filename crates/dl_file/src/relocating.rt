@@ -4,9 +4,9 @@ ghost use Rattle.dl_elf.specs.Source.{ForBytes};
 ghost use Rattle.dl_elf.specs.Answers.{IfRead};
 ghost use Rattle.dl_elf.specs.Sections.{range_within, section_bytes, section_range};
 ghost use Rattle.dl_elf.specs.Window.{Shows};
-ghost use Rattle.dl_file.specs.Answering.{IsCounted, IsMade};
+ghost use Rattle.dl_file.specs.Answering.{AreFound, IsCounted, IsMade};
 ghost use Rattle.dl_file.specs.Relocations.{by_entries, class_of, fault_of, form_of, relocated_at, relocated_by};
-ghost use Rattle.dl_file.specs.Relocations.{relocated_upto, relocations_at, relocations_of, target_of};
+ghost use Rattle.dl_file.specs.Relocations.{relocated_upto, relocations_at, relocations_upto, target_of};
 
 use crate::section_bytes::{PIECE, read_piece, read_symbols};
 use dl_elf::{
@@ -144,39 +144,63 @@ fn relocate_at<S: ReadAt>(
     }
 }
 
-/// Applies the relocations of the line section to its bytes, in the order of their sections.
+/// Applies the relocations of the line section to its bytes, in the order of their sections, of which none stands before
+/// section `first`.
 pub fn relocate_line<S: ReadAt>(
     alloc: Global,
     source: &S,
     elf: &Elf,
     line: &NamedSection,
+    first: u64,
     bytes: &mut [u8],
 ) -> Result<(), ElfFault>
+    requires from { 1 ≤ first }
+    requires within { first - 1 ≤ elf.now.count - 1 }
+    requires none { ForBytes (S.all_bytes source.now) (λ f.
+        relocations_upto elf.now f line.now.number (first - 1) ≡ Some 0) }
     ensures made { ForBytes (S.all_bytes source.now) (λ f. bytes.old ≡ section_bytes line.now.header f
         → IsMade (relocated_upto elf.now f line.now (elf.now.count - 1)) bytes.new result) }
     ensures read { IfRead (S.fails_with source.now) result }
 {
     let mut window = Window::new();
-    for at in 1..elf.count {
+    for at in first..elf.count {
         relocate_at(alloc, source, &mut window, elf, line, at, bytes)?;
     }
     Ok(())
 }
 
-/// How many sections are of relocations of section `number`; none in a file that isn't an object file.
-pub fn count_relocations<S: ReadAt>(source: &S, elf: &Elf, number: u64) -> Result<u64, ElfFault>
-    ensures count { ForBytes (S.all_bytes source.now) (λ f. IsCounted (relocations_of elf.now f number) result) }
+/// The sections of relocations of a section.
+#[derive(Clone, Copy)]
+pub struct RelocationSections {
+    /// How many there are.
+    pub count: u64,
+    /// The number of the first of them; where there are none, one before which they would not stand either.
+    pub first: u64,
+}
+
+/// The sections of relocations of section `number`; a file that isn't an object file has none.
+pub fn find_relocations<S: ReadAt>(
+    source: &S,
+    elf: &Elf,
+    number: u64,
+) -> Result<RelocationSections, ElfFault>
+    ensures found { ForBytes (S.all_bytes source.now) (λ f. AreFound elf.now f number result) }
+    ensures place { IfOk result (λ found. (1 ≤ found.first) × (found.first - 1 ≤ elf.now.count - 1)) }
     ensures read { IfRead (S.fails_with source.now) result }
 {
+    let mut count = 0;
+    let mut first = 1;
     if !elf.header.is_object() {
-        return Ok(0);
+        return Ok(RelocationSections { count, first });
     }
     let mut window = Window::new();
-    let mut sections = 0;
     for at in 1..elf.count {
-        sections += count_at(source, &mut window, elf, number, at)?;
+        if count == 0 {
+            first = at;
+        }
+        count += count_at(source, &mut window, elf, number, at)?;
     }
-    Ok(sections)
+    Ok(RelocationSections { count, first })
 }
 
 /// 1 where section `at` is of relocations of section `number`, 0 where it isn't.

@@ -89,6 +89,8 @@ fn apply(
 ///
 /// Entries may be applied in parts, one call for each in order, where the parts before the last are whole
 /// entries: then the bytes, or the first fault, are those of all entries in one call.
+// Apart from its callers, so that the loop has the registers to itself.
+#[inline(never)]
 pub fn relocate(
     target: &Target,
     form: Form,

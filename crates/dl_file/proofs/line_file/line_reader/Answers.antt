@@ -15,7 +15,7 @@ returns-then-sections-eq0-clause-opens g c = λ f is short.
     let e = c.args.elf.now in
     let line = c.args.line.now in
     opened_line g.S.ReadAt.all_bytes (compression_header e f line) e f line (Unit {0}) c.in_ok-reader.reader
-    (c.in_ok-sections.ensures.count f is short ∙ ap Some c.if-sections-eq0.true)
+    ((c.in_ok-sections.ensures.found f is short).0 ∙ ap Some c.if-sections-eq0.true)
     (c.in_ok-reader.ensures.opens f is short)
 
 pub returns-then-sections-gt-MOST_RELOCATIONS-clause-opens :
@@ -23,8 +23,8 @@ pub returns-then-sections-gt-MOST_RELOCATIONS-clause-opens :
 returns-then-sections-gt-MOST_RELOCATIONS-clause-opens g c = λ f is short.
     let e = c.args.elf.now in
     let line = c.args.line.now in
-    let told = c.in_ok-sections.ensures.count f is short in
-    let sections = c.in_ok-sections.sections in
+    let told = (c.in_ok-sections.ensures.found f is short).0 in
+    let sections = c.in_ok-sections.sections.count in
     let many : 16 < sections = omega (arith, c.if-sections-gt-MOST_RELOCATIONS.true) in
     line_answers (compression_header e f line) e f line sections (fault.Damaged (part.Relocations line.name)) told
     c.if-sections-eq0.false (λ none. bytes_refused e f line sections told many)
@@ -34,8 +34,8 @@ returns-in_err-bytes-clause-opens g c = λ f is short.
     let p = err_from_is_err_and c.from_residual-in_err-bytes.result c.from_residual-in_err-bytes.ensures.1 in
     let e = c.args.elf.now in
     let line = c.args.line.now in
-    let told = c.in_ok-sections.ensures.count f is short in
-    let sections = c.in_ok-sections.sections in
+    let told = (c.in_ok-sections.ensures.found f is short).0 in
+    let sections = c.in_ok-sections.sections.count in
     let some = some_relocations e f line.number sections told c.if-sections-eq0.false in
     rw (p.1, p.2) (unread_opens g.S.ReadAt.all_bytes (compression_header e f line) e f line _
     (g.S.ReadAt.fails_with c.args.source.now) sections c.in_err-bytes.field-0.0 told c.if-sections-eq0.false (inl some)
@@ -47,8 +47,8 @@ returns-in_err-relocate_line-clause-opens g c = λ f is short.
     let p = err_from_is_err_and result c.from_residual-in_err-relocate_line.ensures.1 in
     let e = c.args.elf.now in
     let line = c.args.line.now in
-    let told = c.in_ok-sections.ensures.count f is short in
-    let sections = c.in_ok-sections.sections in
+    let told = (c.in_ok-sections.ensures.found f is short).0 in
+    let sections = c.in_ok-sections.sections.count in
     let some = some_relocations e f line.number sections told c.if-sections-eq0.false in
     let few : sections ≤ 16 = omega (arith, c.if-sections-gt-MOST_RELOCATIONS.false) in
     rw (p.1, p.2) (unmade_opens g.S.ReadAt.all_bytes (compression_header e f line) e f line _
@@ -61,8 +61,8 @@ pub returns-clause-opens : goal.returns-clause-opens
 returns-clause-opens g c = λ f is short.
     let e = c.args.elf.now in
     let line = c.args.line.now in
-    let told = c.in_ok-sections.ensures.count f is short in
-    let sections = c.in_ok-sections.sections in
+    let told = (c.in_ok-sections.ensures.found f is short).0 in
+    let sections = c.in_ok-sections.sections.count in
     let few : sections ≤ 16 = omega (arith, c.if-sections-gt-MOST_RELOCATIONS.false) in
     let made = c.relocate_line.new.bytes in
     let same_len : length made ≡ c.in_ok-bytes.bytes.len =

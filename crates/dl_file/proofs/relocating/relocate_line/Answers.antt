@@ -1,16 +1,17 @@
-use Rattle.std.proofs.Common.{arith, ◌-◌, ap, sym, Ok}
+use Rattle.std.proofs.Common.{arith, ◌-◌, ◌∙◌, ap, sym, Ok}
 use Rattle.std.proofs.lemmas.Result.{err_from_is_err_and}
 use Rattle.dl_file.specs.Relocations.{relocated_at, relocated_upto}
 use Rattle.dl_file.proofs.AnswerLemmas.{fault_made}
-use Rattle.dl_file.proofs.RelocationLemmas.{next_relocated, relocated_to_fault, relocated_whole}
+use Rattle.dl_file.proofs.RelocationLemmas.{next_relocated, none_relocated, relocated_to_fault, relocated_whole}
 use Rattle.dl_file.proofs.relocating.relocate_line.Goals as goal
 
 pub loop-at-init : goal.loop-at-init
 loop-at-init g c = record {
-  from = omega arith;
-  upto = omega arith;
+  from = c.requires.from;
+  upto = c.requires.within;
   shows = c.new-window.ensures (g.S.ReadAt.all_bytes c.args.source.now);
-  made = λ f is short same. ap Ok (sym same);
+  made = λ f is short same. none_relocated c.args.elf.now f c.args.line.now (c.args.first - 1)
+      (c.requires.none f is short) ∙ ap Ok (sym same);
 }
 
 pub returns-in_err-relocate_at-clause-made : goal.returns-in_err-relocate_at-clause-made
