@@ -1,5 +1,6 @@
 -- Sections of relocations, one section header further on.
-use Rattle.std.proofs.Common.{◌≡◌, ℕ, zero, suc, ◌+◌, ◌-◌, ◌<◌, ◌≤◌, true, false, Bool, if◌then◌else◌, nat_le, List, Option}
+use Rattle.std.proofs.Common.{◌≡◌, ℕ, zero, suc, ◌+◌, ◌-◌, ◌<◌, ◌≤◌, true, false}
+use Rattle.std.proofs.Common.{Bool, if◌then◌else◌, nat_le, List, Option}
 use Rattle.std.proofs.Common.{Some, None, Ok, Err, arith, inl, inr, refl, sym, ap, ◌∙◌}
 use Rattle.std.proofs.lemmas.Bool.{cases_lt, le-leb, lt-leb}
 use Rattle.std.proofs.lemmas.Option.{none-some, same_Some}
@@ -12,7 +13,8 @@ use Rattle.dl_elf.specs.declared.fault.Part.TheVariants as part
 use Rattle.dl_elf.specs.Elf.{is_object, relocates}
 use Rattle.dl_elf.specs.Sections.{section_bytes, section_in}
 use Rattle.dl_file.specs.Relocations.{HasRelocations, and_then, line_bytes, bytes_with, relocated_at, relocated_upto}
-use Rattle.dl_file.specs.Relocations.{relocated_if, relocations_at, relocations_in, relocations_of, relocations_upto, sum_of}
+use Rattle.dl_file.specs.Relocations.{relocated_if, relocations_at, relocations_in, relocations_of}
+use Rattle.dl_file.specs.Relocations.{relocations_upto, sum_of}
 
 -- ---- how many there are
 
