@@ -177,6 +177,27 @@ static void check_rows(uint32_t described_as, uint64_t offset, size_t room)
     wanted(is_filled(rows + kept, (room - kept) * sizeof *rows), "a row that isn't told");
 }
 
+/* Tells the path of a file of the unit at an offset, whose status is this one, into a room. */
+static void check_path(uint32_t described_as, uint64_t offset, size_t room)
+{
+    bool is_foreign = described_as == DL_DONE && described->version != 5;
+    fill();
+    memset(copy_end - MOST_COPY, FILL, MOST_COPY);
+    uint8_t *path = copy_end - room;
+    size_t line_str_len = below(len + 1);
+    uint32_t status = dl_path_at(section, len, big, offset, below(2) ? below(4) : next(), section + len - line_str_len,
+                                 line_str_len, section, below(len + 1), path, room, count, fault);
+    check_fault(status);
+    wanted(status == (is_foreign ? (uint32_t)DL_OTHER_VERSION : described_as), "a path with another end than that of the unit");
+    size_t written = 0;
+    if (status == DL_DONE)
+        written = *count < room ? *count : room;
+    else
+        wanted(is_filled(count, sizeof *count), "a length that isn't told");
+    wanted(is_filled(copy_end - MOST_COPY, MOST_COPY - room), "a path before its room");
+    wanted(is_filled(path + written, room - written), "more than the path");
+}
+
 /* Writes the section anew into a room, where counting ended with this status. */
 static void check_copy(uint32_t counted, size_t room)
 {
@@ -243,6 +264,8 @@ int main(int words_count, char **words)
         told.kind = (uint32_t)below(20);
         check_text(told, below(MOST_TEXT + 1));
         uint64_t offset = below(2) ? 0 : below(len + 2);
+        uint32_t described_as = check_unit(offset);
+        check_path(described_as, offset, below(64));
         check_rows(check_unit(offset), offset, below(2) ? below(MOST_ROWS) : below(4));
         state = round;
     }

@@ -5,6 +5,8 @@
     Counts(units=2, skipped=0, sequences=3, rows=91)
     >>> section.find(0x401008).row.line
     8
+    >>> section.path_at(0, 1, open("examples/gcc-O2/debug_line_str", "rb").read())
+    b'/boxantrel/series.c'
     >>> [(unit.offset, unit.rows, len(list(section.rows_at(unit.offset)))) for unit in section.units()]
     [(0, 59, 59), (297, 32, 32)]
 
@@ -132,6 +134,10 @@ def _library() -> ctypes.CDLL:
         "dl_unit_at": section + [ctypes.c_uint64, ctypes.POINTER(_Unit), fault],
         "dl_rows_at": section + [ctypes.c_uint64] + rows + [fault],
         "dl_copy": section + [ctypes.c_void_p, ctypes.c_size_t, ctypes.POINTER(ctypes.c_size_t), fault],
+        "dl_path_at": section
+        + [ctypes.c_uint64, ctypes.c_uint64]
+        + [ctypes.c_char_p, ctypes.c_size_t] * 2
+        + [ctypes.c_void_p, ctypes.c_size_t, ctypes.POINTER(ctypes.c_size_t), fault],
         "dl_find": section + place + [row, ctypes.POINTER(ctypes.c_uint64), fault],
     }
     for name, types in arguments.items():
@@ -212,6 +218,25 @@ class Section:
             yield from map(_row, rows[:room])
         if status not in (_DONE, _NO_ANSWER):
             _refuse(status, fault)
+
+    def path_at(self, offset: int, file: int, line_str: bytes = b"", text: bytes = b"") -> Optional[bytes]:
+        """The path of the file of this number in the unit that begins at an offset, joined as `dwline addr` joins it:
+        `??` where the unit has no such file, or a text of the path isn't there; None where the section has no byte
+        there. `line_str` and `text` are the bytes of .debug_line_str and .debug_str. A path of more than 256 bytes is
+        told twice."""
+        length, fault, room = ctypes.c_size_t(256), _Fault(), 0
+        strings = (line_str, len(line_str), text, len(text))
+        while room < length.value:
+            room = length.value
+            path = ctypes.create_string_buffer(room)
+            status = _calls.dl_path_at(
+                *self._bytes, offset, file, *strings, path, room, ctypes.byref(length), ctypes.byref(fault)
+            )
+            if status == _NO_ANSWER:
+                return None
+            if status != _DONE:
+                _refuse(status, fault)
+        return path.raw[: length.value]
 
     def copy(self) -> bytes:
         """All units, written anew: each under its header with opcode_base 13 and with the same rows, its numbers

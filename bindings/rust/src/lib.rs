@@ -9,6 +9,9 @@
 //! assert_eq!(section.check()?.rows, 91);
 //! let found = section.find(0x401008, 0)?.unwrap();
 //! assert_eq!((found.row.line, found.unit), (8, 0));
+//! let texts = std::fs::read(concat!(env!("CARGO_MANIFEST_DIR"), "/../../examples/gcc-O2/debug_line_str"))?;
+//! let path = section.path_at(found.unit, found.row.file, &texts, &[])?.unwrap();
+//! assert_eq!(path, b"/boxantrel/series.c");
 //! for unit in section.units() {
 //!     let unit = unit?;
 //!     let rows: Result<Vec<_>, _> = section.rows_at(unit.offset).collect();
@@ -249,6 +252,46 @@ impl<'a> Section<'a> {
                 raw::DONE => return Ok(copy),
                 raw::NO_ROOM => {}
                 status => return Err(error(status, &fault)),
+            }
+        }
+    }
+
+    /// The path of the file of this number in the unit that begins at an offset, joined as `dwline addr` joins it: `??`
+    /// where the unit has no such file, or a text of the path isn't there; None where the section has no byte there.
+    /// The string sections are `.debug_line_str` and `.debug_str`, empty where there is none. A path of more than 256
+    /// bytes is told twice.
+    pub fn path_at(&self, offset: u64, file: u64, line_str: &[u8], str: &[u8]) -> Result<Option<Vec<u8>>, Error> {
+        let mut path = vec![0; 256];
+        loop {
+            let mut length = 0;
+            let mut fault = raw::Fault::default();
+            // SAFETY: as in `check`; the string sections and the room are slices'.
+            let status = unsafe {
+                raw::dl_path_at(
+                    self.bytes.as_ptr(),
+                    self.bytes.len(),
+                    self.is_big(),
+                    offset,
+                    file,
+                    line_str.as_ptr(),
+                    line_str.len(),
+                    str.as_ptr(),
+                    str.len(),
+                    path.as_mut_ptr(),
+                    path.len(),
+                    &mut length,
+                    &mut fault,
+                )
+            };
+            match status {
+                raw::DONE => {}
+                raw::NO_ANSWER => return Ok(None),
+                status => return Err(error(status, &fault)),
+            }
+            let is_whole = length <= path.len();
+            path.resize(length, 0);
+            if is_whole {
+                return Ok(Some(path));
             }
         }
     }

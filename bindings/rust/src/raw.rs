@@ -70,6 +70,21 @@ extern "C" {
         count: *mut usize,
         fault: *mut Fault,
     ) -> u32;
+    pub fn dl_path_at(
+        section: *const u8,
+        len: usize,
+        big: bool,
+        offset: u64,
+        file: u64,
+        line_str: *const u8,
+        line_str_len: usize,
+        str: *const u8,
+        str_len: usize,
+        path: *mut u8,
+        room: usize,
+        length: *mut usize,
+        fault: *mut Fault,
+    ) -> u32;
     pub fn dl_find(
         section: *const u8,
         len: usize,

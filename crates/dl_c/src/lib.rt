@@ -8,6 +8,7 @@ ghost use Rattle.dl_calls.specs.Calls.{Checks, order_of};
 ghost use Rattle.dl_calls.specs.CopyCalls.{Copies};
 ghost use Rattle.dl_calls.specs.FaultCalls.{told_text};
 ghost use Rattle.dl_calls.specs.FindCalls.{Finds, place_at};
+ghost use Rattle.dl_calls.specs.PathCalls.{TellsPath, both_strings};
 ghost use Rattle.dl_calls.specs.Records.{status_code};
 ghost use Rattle.dl_calls.specs.UnitCalls.{Describes, Lists, written_over};
 
@@ -97,6 +98,30 @@ pub extern "C" fn dl_copy(
         × Copies (order_of big) section.now room.old room.new len.old len.new fault.old fault.new status }
 {
     dl_calls::copy(alloc, section, big, room, len, fault).code()
+}
+
+/// As `dl_calls::path_at`.
+#[unsafe(no_mangle)]
+pub extern "C" fn dl_path_at(
+    alloc: Global,
+    section: &[u8],
+    big: bool,
+    offset: u64,
+    file: u64,
+    line_str: &[u8],
+    str: &[u8],
+    path: &mut [u8],
+    len: &mut usize,
+    fault: &mut FaultRecord,
+) -> u32
+    ensures { (status : Status) × (result ≡ status_code status)
+        × TellsPath (order_of big) (drop offset section.now) offset (both_strings line_str.now str.now) file path.old
+        path.new len.old len.new fault.old fault.new status }
+{
+    dl_calls::path_at(
+        alloc, section, big, offset, file, line_str, str, path, len, fault,
+    )
+    .code()
 }
 
 /// As `dl_calls::fault_text`.

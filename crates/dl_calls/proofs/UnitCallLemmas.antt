@@ -28,6 +28,7 @@ use Rattle.dl_calls.specs.Records.{record_of, row_record}
 use Rattle.dl_calls.specs.RowRooms.{RoomHeard, room_story}
 use Rattle.dl_calls.specs.UnitCalls.{BeginsWith, Lists, StopsIn, written_over}
 use Rattle.dl_calls.specs.UnitReading.{FrontAt, IsFault, UnitReads, WholeAt}
+use Rattle.dl_calls.proofs.RoomLemmas.{length-over, over_full, over_more, over_none}
 use Rattle.dl_calls.proofs.SectionLemmas.{damaged, one_more, unmet}
 
 -- a fault stands among the bytes that decide it
@@ -72,27 +73,6 @@ few_rows_of order t b back whole short =
 
 -- ---- rows in a room
 
-module _ {A : Type 0} where
-  -- one more element, for which there is room
-  pub over_more : (old new : List A) (x : A) → length new < length old
-      → set (written_over old new) (length new) x ≡ written_over old (new ++ x ∷ [])
-  over_more old new x room =
-      let n = length new in
-      ap (λ (l : List A). set l n x) (ap₂ (λ (a b : List A). a ++ b)
-      (take_all (length old) new (omega (arith, room))) (drop_more old n x room))
-      ∙ set-append_seam new (get_or old n x) (drop (n + 1) old) x
-      ∙ sym (ap₂ (λ (a b : List A). a ++ b)
-      (take_all (length old) (new ++ x ∷ []) (omega (arith, room, length-append new (x ∷ []))))
-      (ap (λ (i : ℕ). drop i old) (length-append new (x ∷ []))) ∙ append_assoc new (x ∷ []) (drop (n + 1) old))
-
-  -- one more element, for which there is no room
-  pub over_full : (old new : List A) (x : A) → length old ≤ length new
-      → written_over old new ≡ written_over old (new ++ x ∷ [])
-  over_full old new x full =
-      ap₂ (λ (a b : List A). a ++ b) (sym (take-append-le (length old) new (x ∷ []) full))
-      (drop_all (length new) old full
-      ∙ sym (drop_all (length (new ++ x ∷ [])) old (omega (arith, full, length-append new (x ∷ [])))))
-
 module _ (p q : List RowRecord) (n : ℕ) (rows : List Row) (r : Row)
     (kept : length rows < 2 ^ 64 → q ≡ written_over p (map row_record rows))
     (count : length rows < 2 ^ 64 → n ≡ length rows) (small : length (rows ++ r ∷ []) < 2 ^ 64) where
@@ -106,14 +86,7 @@ module _ (p q : List RowRecord) (n : ℕ) (rows : List Row) (r : Row)
   more_rows = map-append row_record rows (r ∷ [])
 
   room_is : length q ≡ length p
-  room_is =
-      ap length (kept fewer)
-      ∙ omega (
-        arith,
-        length-append (take (length p) (map row_record rows)) (drop (length (map row_record rows)) p),
-        length-take (length p) (map row_record rows),
-        length-drop (length (map row_record rows)) p,
-      )
+  room_is = ap length (kept fewer) ∙ length-over p (map row_record rows)
 
   pub row_kept : n < length q → slice_set q n (row_record r) ≡ written_over p (map row_record (rows ++ r ∷ []))
   row_kept room =
@@ -123,17 +96,11 @@ module _ (p q : List RowRecord) (n : ℕ) (rows : List Row) (r : Row)
 
   pub row_passed : length q ≤ n → q ≡ written_over p (map row_record (rows ++ r ∷ []))
   row_passed full =
-      kept fewer ∙ over_full p (map row_record rows) (row_record r) (omega (arith, full, room_is, count_is))
+      kept fewer ∙ over_full p (map row_record rows) (row_record r ∷ []) (omega (arith, full, room_is, count_is))
       ∙ ap (written_over p) (sym more_rows)
 
   pub row_counted : (new : ℕ) → new ≡ min (n + 1) (2 ^ 64 - 1) → new ≡ length (rows ++ r ∷ [])
   row_counted new is = omega (arith, is, count fewer, small, length-append rows (r ∷ []))
-
--- no element
-pub over_none : {A : Type 0} (old : List A) → old ≡ written_over old []
-over_none {A} old =
-    sym (ap (λ (l : List A). l ++ old) (nil_from_length {X = A} (take (length old) [])
-    (omega (arith, length-take {A = A} (length old) []))))
 
 -- a room that is told no row yet
 pub none_heard : (first : RowRoom) → first.count ≡ 0 → RoomHeard first first []

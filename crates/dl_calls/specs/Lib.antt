@@ -5,6 +5,7 @@ pub mod Calls
 pub mod FindCalls
 pub mod UnitCalls
 pub mod CopyCalls
+pub mod PathCalls
 pub mod FaultCalls
 -- Of contracts inside the crate, and of proofs; no public contract reaches these.
 pub mod UnitReading

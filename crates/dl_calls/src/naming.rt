@@ -1,0 +1,103 @@
+//! The call that tells the path of a file.
+
+ghost use Rattle.std.specs.Prelude.{◌≡◌, ◌-◌, ◌^◌, ℕ, List, drop, length, min};
+ghost use Rattle.dl_addr.specs.Parts.{path_seen};
+ghost use Rattle.dl_addr.specs.Paths.{path_of};
+ghost use Rattle.dl_num.specs.declared.fixed.Order.{Order};
+ghost use Rattle.dl_print.specs.ValueText.{strings_of};
+ghost use Rattle.dl_head.specs.Header.{foreign_in};
+ghost use Rattle.dl_run.specs.Section.{header_of};
+ghost use Rattle.dl_calls.specs.Calls.{order_of};
+ghost use Rattle.dl_calls.specs.PathCalls.{Names, TellsPath, both_strings};
+ghost use Rattle.dl_calls.specs.UnitCalls.{written_over};
+ghost use Rattle.dl_calls.specs.UnitReading.{WholeAt};
+
+use crate::checking::{Tally, order_of};
+use crate::record::FaultRecord;
+use crate::room::add;
+use crate::status::Status;
+use crate::unit::{UnitRead, WholeUnit, read_unit, rest_from};
+use dl_addr::{Path, path_of};
+use dl_print::StringSections;
+use std::alloc::Global;
+
+/// Tells the path of the file of this number in the unit that begins at an offset of a section, as `dl_addr::addr`
+/// joins it, as far as there is room. The string sections are `.debug_line_str` and `.debug_str`.
+///
+/// Done: the path is told, and how many bytes it has; `??` where the unit has no file of this number, or a text of
+/// the path isn't there. NoAnswer: the section has no byte there. OtherVersion: the unit isn't of version 5. Fault:
+/// the fault is told. What isn't told stays as it was. What comes before the offset, and after the unit, isn't
+/// looked at.
+pub fn path_at(
+    alloc: Global,
+    section: &[u8],
+    big: bool,
+    offset: u64,
+    file: u64,
+    line_str: &[u8],
+    str: &[u8],
+    path: &mut [u8],
+    len: &mut usize,
+    fault: &mut FaultRecord,
+) -> Status
+    ensures { TellsPath (order_of big) (drop offset section.now) offset (both_strings line_str.now str.now) file
+        path.old path.new len.old len.new fault.old fault.new result }
+{
+    let strings = StringSections::new(Some(line_str), Some(str));
+    let mut tally = Tally {
+        sequences: 0,
+        rows: 0,
+    };
+    match read_unit(alloc, order_of(big), rest_from(section, offset), &mut tally) {
+        UnitRead::Whole(whole) => name(&strings, &whole, file, path, len),
+        UnitRead::Empty => Status::NoAnswer,
+        UnitRead::Stopped => Status::NoAnswer,
+        UnitRead::Damaged(found) => {
+            let at = offset.saturating_add(found.offset);
+            *fault = FaultRecord::of(at, found.kind);
+            Status::Fault
+        }
+        UnitRead::NoMemory => Status::NoMemory,
+    }
+}
+
+/// Tells the path of a file of a unit that was read whole.
+fn name(
+    strings: &StringSections<'_>,
+    whole: &WholeUnit,
+    file: u64,
+    path: &mut [u8],
+    len: &mut usize,
+) -> Status
+    ensures { (order : Order) (t u : List ℕ) → WholeAt order t whole.now u
+        → Names (foreign_in order u) (path_of (strings_of strings.now) (header_of order u) file) path.old path.new
+        len.old len.new result }
+{
+    if whole.version.is_some() {
+        return Status::OtherVersion;
+    }
+    *len = join(path_of(strings, whole.reader.header(), file), path);
+    Status::Done
+}
+
+/// Writes a path into a room, as far as it fits, and answers how many bytes it has.
+fn join(path: Path<'_>, room: &mut [u8]) -> usize
+    ensures written { room.new ≡ written_over room.old (path_seen path.entry) }
+    ensures len { result ≡ min (length (path_seen path.entry)) (2 ^ 64 - 1) }
+{
+    match path {
+        Path::Whole(name) => add(room, 0, name),
+        Path::Under(directory, name) => {
+            let at = add(room, 0, directory);
+            let at = add(room, at, b"/");
+            add(room, at, name)
+        }
+        Path::Deep(base, directory, name) => {
+            let at = add(room, 0, base);
+            let at = add(room, at, b"/");
+            let at = add(room, at, directory);
+            let at = add(room, at, b"/");
+            add(room, at, name)
+        }
+    }
+}
