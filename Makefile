@@ -35,8 +35,9 @@ lib:
 	cd crates/dl_c && rt lib
 	mkdir -p out
 	$(CC) $(CFLAGS) -O2 -fPIC -c -o out/memory.o bindings/c/memory.c
+	$(CC) $(CFLAGS) -O2 -fPIC -Iinclude -c -o out/find_all.o bindings/c/find_all.c
 	cp crates/dl_c/out/libdl_c.a out/libboxantrel.a
-	$(AR) rs out/libboxantrel.a out/memory.o
+	$(AR) rs out/libboxantrel.a out/memory.o out/find_all.o
 	$(CC) $(LDFLAGS) -shared -o out/libboxantrel.so -Wl,-soname,libboxantrel.so \
 		-Wl,--version-script=bindings/c/exports.map -Wl,--whole-archive out/libboxantrel.a -Wl,--no-whole-archive
 	sed 's|@PREFIX@|$(PREFIX)|; s|@VERSION@|$(version)|' bindings/c/boxantrel.pc.in > out/boxantrel.pc

@@ -160,6 +160,18 @@ uint32_t dl_find(const uint8_t *section, size_t len, bool big, uint64_t address,
                  uint64_t *unit, dl_fault *fault);
 
 /*
+ * Looks up the rows that answer for addresses, in any order and as often as they come, each at the first operation of
+ * its instruction: for each address the row that dl_find answers, but all in one pass over the section. It holds about
+ * 200 bytes for each address, and of the units one header at a time.
+ * DL_DONE: for each address rows[i] is its row, and units[i] the offset of that row's unit; where no unit answers for
+ * it, units[i] is 2^64 - 1, and rows[i] stays as it was. DL_FAULT: *fault is the first fault of the section, and the
+ * units before it answer, as if the section ended there. DL_NO_MEMORY: the same of the units before one whose header
+ * wants memory; or, where memory is refused for the addresses, nothing is written.
+ */
+uint32_t dl_find_all(const uint8_t *section, size_t len, bool big, const uint64_t *addresses, size_t count,
+                     dl_row *rows, uint64_t *units, dl_fault *fault);
+
+/*
  * Writes all units anew, each under its header with opcode_base 13 and with the same rows, its numbers shortest. The
  * copy is held in memory of the library until it is whole.
  * DL_DONE: *copied is how many bytes the copy has, and out begins with it. DL_NO_ROOM: *copied is the same, more than

@@ -10,7 +10,7 @@
 #include <sys/mman.h>
 #include <unistd.h>
 
-enum { MOST = 1 << 16, MOST_ROWS = 256, MOST_COPY = 4096, MOST_TEXT = 128, FILL = 0xa5 };
+enum { MOST = 1 << 16, MOST_ROWS = 256, MOST_COPY = 4096, MOST_TEXT = 128, MOST_ASKED = 8, FILL = 0xa5 };
 
 static uint64_t state;
 
@@ -66,6 +66,7 @@ static dl_unit *described;
 static size_t *count;
 static uint8_t *copy_end;
 static uint8_t *text_end;
+static uint64_t *addresses_end, *units_end;
 static size_t len;
 static bool big;
 
@@ -137,6 +138,35 @@ static void check_find(uint32_t counted, uint64_t address)
         wanted(is_filled(row, sizeof *row) && is_filled(unit, sizeof *unit), "a row that isn't told");
     if (status != DL_DONE)
         wanted(status == (counted == DL_DONE ? (uint32_t)DL_NO_ANSWER : counted), "another end than that of the count");
+}
+
+/* Looks addresses up, where counting ended with this status: each as dl_find does, but where a fault comes first. */
+static void check_find_all(uint32_t counted, size_t asked)
+{
+    for (size_t i = 0; i < asked; i++)
+        (addresses_end - asked)[i] = below(2) ? 0x401000 + below(256) : next();
+    fill();
+    memset(units_end - MOST_ASKED, FILL, MOST_ASKED * sizeof *units_end);
+    dl_row *rows = rows_end - asked;
+    uint64_t *units = units_end - asked;
+    const uint64_t *addresses = addresses_end - asked;
+    uint32_t status = dl_find_all(section, len, big, addresses, asked, rows, units, fault);
+    check_fault(status);
+    wanted(status == counted, "another end than that of the count");
+    wanted(is_filled(rows_end - MOST_ROWS, (MOST_ROWS - asked) * sizeof *rows), "a row before its room");
+    wanted(is_filled(units_end - MOST_ASKED, (MOST_ASKED - asked) * sizeof *units), "an offset before its room");
+    for (size_t i = 0; i < asked && status != DL_NO_MEMORY; i++) {
+        dl_row found;
+        uint64_t at;
+        dl_fault other;
+        uint32_t alone = dl_find(section, len, big, addresses[i], 0, &found, &at, &other);
+        wanted((units[i] != UINT64_MAX) == (alone == DL_DONE), "an answer that isn't that of one look-up");
+        if (alone == DL_DONE)
+            wanted(units[i] == at && rows[i].address == found.address && rows[i].line == found.line
+                   && rows[i].file == found.file && rows[i].flags == found.flags, "another answer");
+        else
+            wanted(is_filled(rows + i, sizeof *rows), "a row of no answer");
+    }
 }
 
 /* Describes the unit at an offset. The answer is the status. */
@@ -249,6 +279,8 @@ int main(int words_count, char **words)
     count = (size_t *)guarded(sizeof *count) - 1;
     copy_end = guarded(MOST_COPY);
     text_end = guarded(MOST_TEXT);
+    addresses_end = (uint64_t *)guarded(MOST_ASKED * sizeof *addresses_end);
+    units_end = (uint64_t *)guarded(MOST_ASKED * sizeof *units_end);
     rows_end = (dl_row *)guarded(MOST_ROWS * sizeof *rows_end);
     uint64_t rounds = strtoull(words[1], NULL, 10);
     for (state = 1; state <= rounds; state++) {
@@ -256,6 +288,7 @@ int main(int words_count, char **words)
         take(words[2 + below((uint64_t)words_count - 2)]);
         uint32_t counted = check_counts();
         check_find(counted, below(2) ? 0x401000 + below(256) : next());
+        check_find_all(counted, below(MOST_ASKED + 1));
         check_copy(counted, below(below(2) ? 64 : MOST_COPY + 1));
         dl_fault told;
         memset(&told, 0, sizeof told);

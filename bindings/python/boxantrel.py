@@ -5,6 +5,8 @@
     Counts(units=2, skipped=0, sequences=3, rows=91)
     >>> section.find(0x401008).row.line
     8
+    >>> [found and found.row.line for found in section.find_all([0x401008, 0])]
+    [8, None]
     >>> section.path_at(0, 1, open("examples/gcc-O2/debug_line_str", "rb").read())
     b'/boxantrel/series.c'
     >>> [(unit.offset, unit.rows, len(list(section.rows_at(unit.offset)))) for unit in section.units()]
@@ -20,11 +22,12 @@ import ctypes
 import ctypes.util
 import os
 import pathlib
-from typing import Iterator, NamedTuple, Optional
+from typing import Iterator, List, NamedTuple, Optional, Sequence
 
 __all__ = ["Counts", "Damage", "Found", "OtherVersion", "Row", "Section", "Unit"]
 
 _DONE, _FAULT, _NO_ANSWER, _NO_MEMORY, _OTHER_VERSION, _NO_ROOM = range(6)
+_NO_UNIT = 2**64 - 1
 
 
 class _Counts(ctypes.Structure):
@@ -138,6 +141,8 @@ def _library() -> ctypes.CDLL:
         + [ctypes.c_uint64, ctypes.c_uint64]
         + [ctypes.c_char_p, ctypes.c_size_t] * 2
         + [ctypes.c_void_p, ctypes.c_size_t, ctypes.POINTER(ctypes.c_size_t), fault],
+        "dl_find_all": section
+        + [ctypes.POINTER(ctypes.c_uint64), ctypes.c_size_t, row, ctypes.POINTER(ctypes.c_uint64), fault],
         "dl_find": section + place + [row, ctypes.POINTER(ctypes.c_uint64), fault],
     }
     for name, types in arguments.items():
@@ -261,3 +266,26 @@ class Section:
         if status != _DONE:
             _refuse(status, fault)
         return Found(_row(row), unit.value)
+
+    def find_all(self, addresses: Sequence[int]) -> List[Optional[Found]]:
+        """For each address the row that answers for it, in the first unit that has one, in one pass over the section. A
+        damaged section is raised; the units before the fault answer by `find_before`."""
+        found, status, fault = self._find_all(addresses)
+        if status != _DONE:
+            _refuse(status, fault)
+        return found
+
+    def find_before(self, addresses: Sequence[int]) -> List[Optional[Found]]:
+        """The same by the units before the first fault, if there is one."""
+        found, status, fault = self._find_all(addresses)
+        if status not in (_DONE, _FAULT):
+            _refuse(status, fault)
+        return found
+
+    def _find_all(self, addresses: Sequence[int]) -> tuple[List[Optional[Found]], int, _Fault]:
+        count, fault = len(addresses), _Fault()
+        rows, units = (_Row * max(count, 1))(), (ctypes.c_uint64 * max(count, 1))()
+        asked = (ctypes.c_uint64 * max(count, 1))(*addresses)
+        status = _calls.dl_find_all(*self._bytes, asked, count, rows, units, ctypes.byref(fault))
+        answers = zip(rows[:count], units[:count])
+        return [None if unit == _NO_UNIT else Found(_row(row), unit) for row, unit in answers], status, fault

@@ -1,7 +1,9 @@
-"""look.py [--big] [--rows | --copy | ADDRESS..]: of the section on standard input, what `dwline check` prints of it;
-with --rows the rows that `dwline dump` prints, with --copy what `dwline copy` writes; or with addresses the row that
-answers for each as `dwline find` prints it."""
+"""look.py [--big] [--rows | --copy | --addr LINE_STR STR ADDRESS.. | ADDRESS..]: of the section on standard input, what
+`dwline check` prints of it; with --rows the rows that `dwline dump` prints, with --copy what `dwline copy` writes, with --addr
+and the files of both string sections what `dwline addr` prints; or with addresses the row that answers for each as `dwline
+find` prints it."""
 
+import pathlib
 import sys
 from typing import List
 
@@ -39,6 +41,18 @@ def find_each(section: Section, words: List[str]) -> None:
         print("no line for this address" if found is None else line_of(found.row))
 
 
+def locate_each(section: Section, line_str: bytes, text: bytes, words: List[str]) -> None:
+    addresses = [int(word, 16) for word in words]
+    for found in section.find_before(addresses):
+        if found is None:
+            print("??:0")
+            continue
+        path = section.path_at(found.unit, found.row.file, line_str, text) or b""
+        column = f":{found.row.column}" if found.row.column else ""
+        print(f"{path.decode(errors='surrogateescape')}:{found.row.line}{column}")
+    section.check()
+
+
 def main(words: List[str]) -> int:
     big = words[:1] == ["--big"]
     section = Section(sys.stdin.buffer.read(), big)
@@ -50,6 +64,9 @@ def main(words: List[str]) -> int:
             list_rows(section)
         elif words[big] == "--copy":
             sys.stdout.buffer.write(section.copy())
+        elif words[big] == "--addr":
+            files = [pathlib.Path(name).read_bytes() for name in words[big + 1 : big + 3]]
+            locate_each(section, *files, words[big + 3 :])
         else:
             find_each(section, words[big:])
     except (Damage, OtherVersion) as refusal:

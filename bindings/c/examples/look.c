@@ -1,7 +1,8 @@
 /*
- * look [--big] [--rows | --copy | ADDRESS..]: of the section on standard input, what `dwline check` prints of it; with
- * --rows the rows that `dwline dump` prints, with --copy what `dwline copy` writes; or with addresses the row that
- * answers for each as `dwline find` prints it.
+ * look [--big] [--rows | --copy | --addr LINE_STR STR ADDRESS.. | ADDRESS..]: of the section on standard input, what
+ * `dwline check` prints of it; with --rows the rows that `dwline dump` prints, with --copy what `dwline copy` writes, with
+ * --addr and the files of both string sections what `dwline addr` prints; or with addresses the row that answers for each
+ * as `dwline find` prints it.
  */
 #include <boxantrel.h>
 #include <inttypes.h>
@@ -14,19 +15,23 @@ static uint8_t *bytes;
 static size_t len;
 static bool big;
 
-/* Reads all of standard input. The answer is whether there was memory. */
-static bool read_all(void)
+/* The string sections .debug_line_str and .debug_str. */
+static uint8_t *texts[2];
+static size_t texts_len[2];
+
+/* Reads all of a file. The answer is NULL where there is no such file or no memory. */
+static uint8_t *read_all(FILE *file, size_t *held)
 {
     size_t room = 4096;
-    bytes = malloc(room);
-    while (bytes != NULL) {
-        len += fread(bytes + len, 1, room - len, stdin);
-        if (len < room)
-            return true;
+    uint8_t *read = file == NULL ? NULL : malloc(room);
+    while (read != NULL) {
+        *held += fread(read + *held, 1, room - *held, file);
+        if (*held < room)
+            return read;
         room *= 2;
-        bytes = realloc(bytes, room);
+        read = realloc(read, room);
     }
-    return false;
+    return NULL;
 }
 
 static void print_row(const dl_row *row)
@@ -88,6 +93,71 @@ static int find(const char *word)
     return 0;
 }
 
+/* Prints the path of a file of the unit at the offset, and gives the status of the call. */
+static uint32_t print_path(uint64_t unit, uint64_t file, dl_fault *fault)
+{
+    size_t room = 256;
+    for (;;) {
+        size_t length;
+        uint8_t *path = malloc(room);
+        if (path == NULL)
+            return DL_NO_MEMORY;
+        uint32_t status = dl_path_at(bytes, len, big, unit, file, texts[0], texts_len[0], texts[1], texts_len[1], path,
+                                     room, &length, fault);
+        bool is_whole = status == DL_DONE && length <= room;
+        if (is_whole)
+            fwrite(path, 1, length, stdout);
+        free(path);
+        if (status != DL_DONE || is_whole)
+            return status;
+        room = length;
+    }
+}
+
+/* Prints the location of each address. */
+static uint32_t print_locations(const uint64_t *units, const dl_row *rows, size_t count, dl_fault *fault)
+{
+    for (size_t i = 0; i < count; i++) {
+        if (units[i] == UINT64_MAX) {
+            puts("??:0");
+            continue;
+        }
+        uint32_t status = print_path(units[i], rows[i].file, fault);
+        if (status != DL_DONE)
+            return status;
+        printf(":%" PRIu64, rows[i].line);
+        if (rows[i].column != 0)
+            printf(":%" PRIu64, rows[i].column);
+        putchar('\n');
+    }
+    return DL_DONE;
+}
+
+/* Looks all addresses up in one pass. */
+static int locate(char **words, size_t count)
+{
+    uint64_t *addresses = malloc((count + 1) * sizeof *addresses), *units = malloc((count + 1) * sizeof *units);
+    dl_row *rows = malloc((count + 1) * sizeof *rows);
+    dl_fault fault, other;
+    uint32_t status = DL_NO_MEMORY;
+    if (addresses != NULL && units != NULL && rows != NULL) {
+        for (size_t i = 0; i < count; i++) {
+            addresses[i] = strtoull(words[i], NULL, 16);
+            units[i] = UINT64_MAX;
+        }
+        status = dl_find_all(bytes, len, big, addresses, count, rows, units, &fault);
+        uint32_t printed = print_locations(units, rows, count, &other);
+        if (status == DL_DONE && printed != DL_DONE) {
+            status = printed;
+            fault = other;
+        }
+    }
+    free(addresses);
+    free(units);
+    free(rows);
+    return status == DL_DONE ? 0 : refused(status, &fault);
+}
+
 /* Prints the rows of the unit at the offset, those before a fault too, and gives the status of the call. */
 static uint32_t print_rows(uint64_t offset, dl_fault *fault)
 {
@@ -146,8 +216,18 @@ int main(int count, char **words)
         big = true;
         at = 2;
     }
-    if (!read_all()) {
-        fputs("look: out of memory\n", stderr);
+    bytes = read_all(stdin, &len);
+    bool has_all = bytes != NULL;
+    bool is_addr = at + 2 < count && strcmp(words[at], "--addr") == 0;
+    for (int i = 0; i < 2 && is_addr; i++) {
+        FILE *file = fopen(words[at + 1 + i], "rb");
+        texts[i] = read_all(file, &texts_len[i]);
+        has_all = has_all && texts[i] != NULL;
+        if (file != NULL)
+            fclose(file);
+    }
+    if (!has_all) {
+        fputs("look: no memory, or a file can't be read\n", stderr);
         return 3;
     }
     int status = 0;
@@ -157,9 +237,13 @@ int main(int count, char **words)
         status = list();
     else if (strcmp(words[at], "--copy") == 0)
         status = copy();
+    else if (is_addr)
+        status = locate(words + at + 3, (size_t)(count - at - 3));
     else
         for (; at < count && status == 0; at++)
             status = find(words[at]);
     free(bytes);
+    free(texts[0]);
+    free(texts[1]);
     return status;
 }

@@ -1,6 +1,7 @@
-//! look [--big] [--rows | --copy | ADDRESS..]: of the section on standard input, what `dwline check` prints of it; with
-//! --rows the rows that `dwline dump` prints, with --copy what `dwline copy` writes; or with addresses the row that
-//! answers for each as `dwline find` prints it.
+//! look [--big] [--rows | --copy | --addr LINE_STR STR ADDRESS.. | ADDRESS..]: of the section on standard input, what
+//! `dwline check` prints of it; with --rows the rows that `dwline dump` prints, with --copy what `dwline copy` writes, with
+//! --addr and the files of both string sections what `dwline addr` prints; or with addresses the row that answers for each
+//! as `dwline find` prints it.
 
 use boxantrel::{Error, Order, Row, Section};
 use std::io::{self, BufWriter, Read, Write};
@@ -71,16 +72,42 @@ fn copy(output: &mut impl Write, section: &Section) -> io::Result<Result<(), Err
 
 fn find_each(output: &mut impl Write, section: &Section, words: &[String]) -> io::Result<Result<(), Error>> {
     for word in words {
-        let Ok(address) = u64::from_str_radix(word.trim_start_matches("0x"), 16) else {
-            return Err(io::Error::other("no address"));
-        };
-        match section.find(address, 0) {
+        match section.find(address_in(word)?, 0) {
             Ok(Some(found)) => print_row(output, &found.row)?,
             Ok(None) => writeln!(output, "no line for this address")?,
             Err(error) => return Ok(Err(error)),
         }
     }
     Ok(Ok(()))
+}
+
+fn address_in(word: &String) -> io::Result<u64> {
+    u64::from_str_radix(word.trim_start_matches("0x"), 16).map_err(|_| io::Error::other("no address"))
+}
+
+fn locate_each(output: &mut impl Write, section: &Section, words: &[String]) -> io::Result<Result<(), Error>> {
+    let [line_str, str, words @ ..] = words else {
+        return Err(io::Error::other("no files"));
+    };
+    let (line_str, str) = (std::fs::read(line_str)?, std::fs::read(str)?);
+    let addresses = words.iter().map(address_in).collect::<io::Result<Vec<_>>>()?;
+    let all = section.find_all(&addresses);
+    for found in all.found {
+        let Some(found) = found else {
+            writeln!(output, "??:0")?;
+            continue;
+        };
+        match section.path_at(found.unit, found.row.file, &line_str, &str) {
+            Ok(path) => output.write_all(&path.unwrap_or_default())?,
+            Err(error) => return Ok(Err(error)),
+        }
+        write!(output, ":{}", found.row.line)?;
+        if found.row.column != 0 {
+            write!(output, ":{}", found.row.column)?;
+        }
+        writeln!(output)?;
+    }
+    Ok(all.error.map_or(Ok(()), Err))
 }
 
 fn main() -> io::Result<ExitCode> {
@@ -100,6 +127,8 @@ fn main() -> io::Result<ExitCode> {
         list_rows(&mut output, &section)?
     } else if words[0] == "--copy" {
         copy(&mut output, &section)?
+    } else if words[0] == "--addr" {
+        locate_each(&mut output, &section, &words[1..])?
     } else {
         find_each(&mut output, &section, &words)?
     };

@@ -9,6 +9,8 @@
 //! assert_eq!(section.check()?.rows, 91);
 //! let found = section.find(0x401008, 0)?.unwrap();
 //! assert_eq!((found.row.line, found.unit), (8, 0));
+//! let all = section.find_all(&[0x401008, 0]);
+//! assert_eq!((all.found, all.error), (vec![Some(found), None], None));
 //! let texts = std::fs::read(concat!(env!("CARGO_MANIFEST_DIR"), "/../../examples/gcc-O2/debug_line_str"))?;
 //! let path = section.path_at(found.unit, found.row.file, &texts, &[])?.unwrap();
 //! assert_eq!(path, b"/boxantrel/series.c");
@@ -296,6 +298,34 @@ impl<'a> Section<'a> {
         }
     }
 
+    /// The rows that answer for addresses, each in the first unit that has one, in one pass over the section. Where it
+    /// is damaged the units before the fault answer.
+    pub fn find_all(&self, addresses: &[u64]) -> FoundAll {
+        let mut rows = vec![raw::Row::default(); addresses.len()];
+        let mut units = vec![raw::NO_UNIT; addresses.len()];
+        let mut fault = raw::Fault::default();
+        // SAFETY: as in `check`; there are as many rows and offsets as addresses.
+        let status = unsafe {
+            raw::dl_find_all(
+                self.bytes.as_ptr(),
+                self.bytes.len(),
+                self.is_big(),
+                addresses.as_ptr(),
+                addresses.len(),
+                rows.as_mut_ptr(),
+                units.as_mut_ptr(),
+                &mut fault,
+            )
+        };
+        let answers = rows.into_iter().zip(units);
+        FoundAll {
+            found: answers
+                .map(|(row, unit)| (unit != raw::NO_UNIT).then(|| Found { row: row.into(), unit }))
+                .collect(),
+            error: (status != raw::DONE).then(|| error(status, &fault)),
+        }
+    }
+
     /// The row that answers for an address and an operation of its instruction, in the first unit that has one.
     pub fn find(&self, address: u64, op_index: u8) -> Result<Option<Found>, Error> {
         let mut row = raw::Row::default();
@@ -323,6 +353,14 @@ impl<'a> Section<'a> {
             status => Err(error(status, &fault)),
         }
     }
+}
+
+/// The answers for addresses, and why the section isn't read to its end, if it isn't.
+#[derive(Clone, Debug, PartialEq, Eq)]
+pub struct FoundAll {
+    /// For each address the row that answers for it and the offset of its unit, if a unit before the error has one.
+    pub found: Vec<Option<Found>>,
+    pub error: Option<Error>,
 }
 
 impl Iterator for Units<'_> {

@@ -6,6 +6,9 @@ pub const NO_ANSWER: u32 = 2;
 pub const OTHER_VERSION: u32 = 4;
 pub const NO_ROOM: u32 = 5;
 
+/// The offset of no unit.
+pub const NO_UNIT: u64 = u64::MAX;
+
 #[repr(C)]
 #[derive(Clone, Copy, Debug, Default)]
 pub struct Counts {
@@ -93,6 +96,16 @@ extern "C" {
         op_index: u8,
         row: *mut Row,
         unit: *mut u64,
+        fault: *mut Fault,
+    ) -> u32;
+    pub fn dl_find_all(
+        section: *const u8,
+        len: usize,
+        big: bool,
+        addresses: *const u64,
+        count: usize,
+        rows: *mut Row,
+        units: *mut u64,
         fault: *mut Fault,
     ) -> u32;
     pub fn dl_copy(

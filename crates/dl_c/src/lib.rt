@@ -4,6 +4,7 @@
 
 ghost use Rattle.std.specs.Prelude.{◌≡◌, ◌≤◌, drop, length};
 ghost use Rattle.dl_calls.specs.declared.status.Status.{Status};
+ghost use Rattle.dl_calls.specs.AllCalls.{FindsAll};
 ghost use Rattle.dl_calls.specs.Calls.{Checks, order_of};
 ghost use Rattle.dl_calls.specs.CopyCalls.{Copies};
 ghost use Rattle.dl_calls.specs.FaultCalls.{told_text};
@@ -82,6 +83,24 @@ pub extern "C" fn dl_find(
 {
     let place = Place { address, op_index };
     dl_calls::find(alloc, section, big, place, row, unit, fault).code()
+}
+
+/// As `dl_calls::find_all`. The call `dl_find_all` of the library hands in one number of addresses, rows and offsets.
+#[unsafe(no_mangle)]
+pub extern "C" fn boxantrel_find_all(
+    alloc: Global,
+    section: &[u8],
+    big: bool,
+    addresses: &[u64],
+    rows: &mut [RowRecord],
+    units: &mut [u64],
+    fault: &mut FaultRecord,
+) -> u32
+    ensures { (status : Status) × (result ≡ status_code status)
+        × FindsAll (order_of big) section.now addresses.now rows.old rows.new units.old units.new fault.old fault.new
+        status }
+{
+    dl_calls::find_all(alloc, section, big, addresses, rows, units, fault).code()
 }
 
 /// As `dl_calls::copy`.

@@ -1,5 +1,5 @@
 -- The way back from the numbers that stand for a fault.
-use Rattle.std.proofs.Common.{◌≡◌, ℕ, ◌<◌, refl, ap, ◌∙◌, Some, arith, Option, List, []}
+use Rattle.std.proofs.Common.{◌≡◌, refl, ap, Some, Option, []}
 use Rattle.std.specs.Option.{option_map_or}
 use Rattle.std.proofs.lemmas.Bool.{lt-ltb}
 use Rattle.dl_table.specs.declared.fault.FaultKind.{FaultKind}

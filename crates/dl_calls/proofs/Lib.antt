@@ -1,3 +1,4 @@
+pub mod AllLemmas
 pub mod CopyLemmas
 pub mod FaultLemmas
 pub mod FindLemmas

@@ -1,5 +1,5 @@
 -- The path of a file of the unit that bytes begin with.
-use Rattle.std.proofs.Common.{◌≡◌, ℕ, List, refl}
+use Rattle.std.proofs.Common.{ℕ, List, refl}
 use Rattle.dl_num.specs.declared.fixed.Order.{Order}
 use Rattle.dl_head.specs.Header.{foreign_in}
 use Rattle.dl_print.specs.ValueText.{Strings}

@@ -4,6 +4,7 @@ pub mod Sections
 pub mod Calls
 pub mod FindCalls
 pub mod UnitCalls
+pub mod AllCalls
 pub mod CopyCalls
 pub mod PathCalls
 pub mod FaultCalls
@@ -11,4 +12,5 @@ pub mod FaultCalls
 pub mod UnitReading
 pub mod Tallies
 pub mod Seekers
+pub mod Gatherers
 pub mod RowRooms

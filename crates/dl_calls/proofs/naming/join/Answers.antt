@@ -1,6 +1,4 @@
-use Rattle.std.proofs.Common.{◌≡◌, ℕ, List, [], ◌∷◌, ◌++◌, sym, ap, ◌∙◌, length, append_assoc, refl, min, ◌^◌, ◌-◌}
-use Rattle.dl_addr.specs.declared.path.Path.{Path}
-use Rattle.dl_addr.specs.Parts.{path_seen}
+use Rattle.std.proofs.Common.{◌≡◌, ℕ, List, [], ◌∷◌, ◌++◌, ap, ◌∙◌, length, append_assoc, refl, min, ◌^◌, ◌-◌}
 use Rattle.dl_calls.specs.UnitCalls.{written_over}
 use Rattle.dl_calls.proofs.RoomLemmas.{over_none}
 use Rattle.dl_calls.proofs.naming.join.Goals as goal
