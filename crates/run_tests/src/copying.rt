@@ -27,6 +27,11 @@ const PADDED_COPIED: &str = "2c 00 00 00 05 00 08 00 16 00 00 00 01 01 01 fb 0e 
                              00 01 01 01 01 00 00 00 01 00 00 01 00 00 00 00 \
                              05 03 00 09 02 00 00 00 00 00 00 00 00 12";
 
+/// What follows header_length in a unit with one directory, up to its name, and what follows the name.
+const BEFORE_A_NAME: &str = "01 01 01 fb 0e 0d 00 01 01 01 01 00 00 00 01 00 00 01 01 01 08 01";
+
+const AFTER_A_NAME: &str = "00 00 00 00 09 02 00 10 40 00 00 00 00 00 13 4b 02 02 00 01 01";
+
 /// Asserts what `copy` writes and answers, the section coming whole and byte by byte.
 fn assert_copy(
     rt: &impl Abort,
@@ -155,6 +160,53 @@ fn faults(rt: HostRuntime) -> Result<(), Fail> {
             copied,
             Err(fault),
         );
+    }
+    Ok(())
+}
+
+/// A unit of three rows, and one of the same rows with a directory whose name has so many bytes.
+fn with_a_long_name(alloc: Global, name: u32) -> Result<Vec<u8>, Fail> {
+    let mut section = bytes(alloc, &[THREE_ROWS])?;
+    section.extend_from_slice(&name.saturating_add(51).to_le_bytes())?;
+    section.extend_from_slice(&[5, 0, 8, 0])?;
+    section.extend_from_slice(&name.saturating_add(25).to_le_bytes())?;
+    section.extend_from_slice(bytes(alloc, &[BEFORE_A_NAME])?.as_slice())?;
+    for _ in 0..name {
+        section.push(b'n')?;
+    }
+    section.extend_from_slice(bytes(alloc, &[AFTER_A_NAME])?.as_slice())?;
+    Ok(section)
+}
+
+/// Asserts what `copy` writes of a section that is copied as it is, and answers, where the output takes so many bytes.
+fn assert_room(
+    rt: &impl Abort,
+    alloc: Global,
+    section: &[u8],
+    room: usize,
+    answer: Result<Summary, RunFault>,
+) -> Result<(), Fail> {
+    let mut output = Sink::new(alloc, room, 4096);
+    let mut input = Source::new(section, 4096);
+    let answered = copy(alloc, &mut input, &mut output, &options(SECTION_LIMIT));
+    assert_eq!(rt; answered, answer);
+    let front = section.get(..room).ok_or("a front of the section")?;
+    assert_eq!(rt; output.held.as_slice(), front);
+    Ok(())
+}
+
+/// Headers of 1 MiB and of one byte more.
+#[test]
+fn long_headers(rt: HostRuntime) -> Result<(), Fail> {
+    let alloc = rt.alloc();
+    for name in [(1 << 20) - 37, (1 << 20) - 36] {
+        let section = with_a_long_name(alloc, name)?;
+        let len = section.len();
+        for room in [0, 51, 52, 63, 120, 1 << 20, len.saturating_sub(1)] {
+            let fault = RunFault::Write { out: room as u128 };
+            assert_room(&rt, alloc, section.as_slice(), room, Err(fault))?;
+        }
+        assert_room(&rt, alloc, section.as_slice(), len, counts(2, 0, 2, 6))?;
     }
     Ok(())
 }
