@@ -11,14 +11,16 @@ use Rattle.dl_reloc.specs.declared.apply.RelocationFault.{RelocationFault}
 use Rattle.dl_reloc.specs.declared.apply.RelocationFault.TheVariants.{UnknownType, PlaceOutside, SymbolOutside}
 use Rattle.dl_elf.specs.declared.compression.CompressionHeader.{CompressionHeader}
 use Rattle.dl_elf.specs.declared.named.NamedSection.{NamedSection}
-use Rattle.dl_elf.specs.Sections.{section_bytes}
+use Rattle.dl_elf.specs.Sections.{section_bytes, section_range}
 use Rattle.dl_file.specs.declared.content_reader.ContentReader.{ContentReader}
 use Rattle.dl_file.specs.declared.line_reader.LineReader.TheVariants.{File}
-use Rattle.dl_file.specs.LineTable.{Gives, Inflated, IsInflatedWith, IsLineBy, Plain, content_by, plain_content}
+use Rattle.dl_file.specs.LineTable.{Content, Gives, IsInflatedWith, IsLineBy, Plain, content_by, inflated_content}
+use Rattle.dl_file.specs.LineTable.{plain_content}
 use Rattle.std.specs.Option.{option_map}
 use Rattle.std.specs.Result.{result_err}
-use Rattle.dl_file.specs.declared.inflated_reader.ReadFault.TheVariants.{Read}
-use Rattle.dl_file.specs.ContentReader.{Tells}
+use Rattle.dl_file.specs.declared.read_fault.ReadFault.TheVariants.{Read}
+use Rattle.dl_file.specs.Faults.{Tells}
+use Rattle.dl_file.specs.ContentReader.{EndsBy}
 use Rattle.dl_file.specs.Relocations.{bytes_with, fault_of, line_bytes, relocations_of}
 use Rattle.dl_file.specs.Answering.{IsCounted, IsMade, OpensLine, StopsReading}
 
@@ -55,28 +57,29 @@ fault_counted number whole other told is = absurd is
 -- ---- the line section. header: its compression header, where it is compressed
 
 -- it has no relocations
-pub opened_line : {S : Type 0} (all_bytes : S → Option (List ℕ)) (header : Option CompressionHeader) (e : Elf)
-    (f : List ℕ) (line : NamedSection) (Memory : Type 0) (reader : ContentReader S)
+pub opened_line : {S : Type 0} {g : _} (all_bytes : S → Option (List ℕ)) (header : Option CompressionHeader) (e : Elf)
+    (f : List ℕ) (line : NamedSection) (Memory : Type 0) (reader : ContentReader S g)
     → relocations_of e f line.number ≡ Some 0 → Gives all_bytes reader (content_by f line header)
     → OpensLine all_bytes (IsLineBy header e f line) Memory (Ok (File reader))
 opened_line all_bytes None e f line Memory reader none gives =
     (Plain (section_bytes line.header f), sym (ap plain_content (ap (bytes_with e f line) none)), gives)
-opened_line all_bytes (Some header) e f line Memory reader none gives = (
-  Inflated line.name,
-  subst (λ (n : Option ℕ). IsInflatedWith line.name n (Ok (Inflated line.name))) (sym none) refl,
-  gives,
-)
+opened_line all_bytes (Some header) e f line Memory reader none gives =
+    let whole : Content = inflated_content line.name header (section_range line.header) f in (
+      whole,
+      subst (λ (n : Option ℕ). IsInflatedWith whole n (Ok whole)) (sym none) refl,
+      gives,
+    )
 
 -- of a compressed section with relocations every fault is one of its faults
-any_fault : (name : SectionName) (count : ℕ) (why : ElfFault) → ¬ (count ≡ 0)
-    → IsInflatedWith name (Some count) (Err why)
-any_fault name zero why some = absurd (some refl)
-any_fault name (suc n) why some = tt
+any_fault : (whole : Content) (count : ℕ) (why : ElfFault) → ¬ (count ≡ 0)
+    → IsInflatedWith whole (Some count) (Err why)
+any_fault whole zero why some = absurd (some refl)
+any_fault whole (suc n) why some = tt
 
-any_bytes : (name : SectionName) (count : ℕ) (bytes : List ℕ) → ¬ (count ≡ 0)
-    → IsInflatedWith name (Some count) (Ok (Plain bytes))
-any_bytes name zero bytes some = absurd (some refl)
-any_bytes name (suc n) bytes some = (bytes, refl)
+any_bytes : (whole : Content) (count : ℕ) (bytes : List ℕ) → ¬ (count ≡ 0)
+    → IsInflatedWith whole (Some count) (Ok (Plain bytes))
+any_bytes whole zero bytes some = absurd (some refl)
+any_bytes whole (suc n) bytes some = (bytes, refl)
 
 -- the answer of a section with so many sections of relocations
 pub line_answers : (header : Option CompressionHeader) (e : Elf) (f : List ℕ) (line : NamedSection) (count : ℕ)
@@ -85,7 +88,8 @@ pub line_answers : (header : Option CompressionHeader) (e : Elf) (f : List ℕ) 
     → IsLineBy header e f line (Err why)
 line_answers None e f line count why told some plain = sym (ap plain_content (plain refl))
 line_answers (Some header) e f line count why told some plain =
-    subst (λ (n : Option ℕ). IsInflatedWith line.name n (Err why)) (sym told) (any_fault line.name count why some)
+    let whole : Content = inflated_content line.name header (section_range line.header) f in
+    subst (λ (n : Option ℕ). IsInflatedWith whole n (Err why)) (sym told) (any_fault whole count why some)
 
 pub line_has : (header : Option CompressionHeader) (e : Elf) (f : List ℕ) (line : NamedSection) (count : ℕ)
     (bytes : List ℕ) → relocations_of e f line.number ≡ Some count → ¬ (count ≡ 0)
@@ -93,30 +97,30 @@ pub line_has : (header : Option CompressionHeader) (e : Elf) (f : List ℕ) (lin
     → IsLineBy header e f line (Ok (Plain bytes))
 line_has None e f line count bytes told some plain = sym (ap plain_content (plain refl))
 line_has (Some header) e f line count bytes told some plain =
-    subst (λ (n : Option ℕ). IsInflatedWith line.name n (Ok (Plain bytes))) (sym told)
-    (any_bytes line.name count bytes some)
+    let whole : Content = inflated_content line.name header (section_range line.header) f in
+    subst (λ (n : Option ℕ). IsInflatedWith whole n (Ok (Plain bytes))) (sym told) (any_bytes whole count bytes some)
 
 -- it has some, and its bytes can't be had
-pub unread_opens : {S : Type 0} (all_bytes : S → Option (List ℕ)) (header : Option CompressionHeader) (e : Elf)
+pub unread_opens : {S : Type 0} (g : _) (all_bytes : S → Option (List ℕ)) (header : Option CompressionHeader) (e : Elf)
     (f : List ℕ) (line : NamedSection) (Memory : Type 0) (Fails : Error → Type 0) (count : ℕ) (why : ElfFault)
     → relocations_of e f line.number ≡ Some count → ¬ (count ≡ 0) → Memory
     → (◌≡◌ {A = Option CompressionHeader} header None → StopsReading Fails why)
-    → OpensLine all_bytes (IsLineBy header e f line) Memory (Err why)
-unread_opens all_bytes header e f line Memory Fails count (fault.Read error) told some memory stops = tt
-unread_opens all_bytes header e f line Memory Fails count fault.NoMemory told some memory stops = memory
-unread_opens all_bytes header e f line Memory Fails count other told some memory stops =
+    → OpensLine {g = g} all_bytes (IsLineBy header e f line) Memory (Err why)
+unread_opens g all_bytes header e f line Memory Fails count (fault.Read error) told some memory stops = tt
+unread_opens g all_bytes header e f line Memory Fails count fault.NoMemory told some memory stops = memory
+unread_opens g all_bytes header e f line Memory Fails count other told some memory stops =
     line_answers header e f line count other told some (λ none. absurd (stops none))
 
 -- or its relocations can't be applied
-pub unmade_opens : {S : Type 0} (all_bytes : S → Option (List ℕ)) (header : Option CompressionHeader) (e : Elf)
+pub unmade_opens : {S : Type 0} (g : _) (all_bytes : S → Option (List ℕ)) (header : Option CompressionHeader) (e : Elf)
     (f : List ℕ) (line : NamedSection) (Memory : Type 0) (answer : Result (List ℕ) ElfFault) (made : List ℕ) (count : ℕ)
     (why : ElfFault) → relocations_of e f line.number ≡ Some count → ¬ (count ≡ 0) → Memory
     → line_bytes e f line ≡ answer
     → (◌≡◌ {A = Option CompressionHeader} header None → IsMade {A = Unit {0}} answer made (Err why))
-    → OpensLine all_bytes (IsLineBy header e f line) Memory (Err why)
-unmade_opens all_bytes header e f line Memory answer made count (fault.Read error) told some memory same is = tt
-unmade_opens all_bytes header e f line Memory answer made count fault.NoMemory told some memory same is = memory
-unmade_opens all_bytes header e f line Memory answer made count other told some memory same is =
+    → OpensLine {g = g} all_bytes (IsLineBy header e f line) Memory (Err why)
+unmade_opens g all_bytes header e f line Memory answer made count (fault.Read error) told some memory same is = tt
+unmade_opens g all_bytes header e f line Memory answer made count fault.NoMemory told some memory same is = memory
+unmade_opens g all_bytes header e f line Memory answer made count other told some memory same is =
     line_answers header e f line count other told some (λ none. same ∙ is none)
 
 -- ---- why a read failed
@@ -125,3 +129,14 @@ pub plain_tells : {A : Type 0} (error : Option Error) (result : Result A Error) 
     → Tells (option_map Read (error)) result
 plain_tells error (Ok n) same = ap (option_map Read) same
 plain_tells error (Err why) same = (Read why, ap (option_map Read) same, refl)
+
+-- what isn't compressed has no damage
+pub plain_ends : (error : Option Error) (result : Result ℕ Error) (buffer : List ℕ)
+    → EndsBy (Some None) (option_map Read error) result buffer
+plain_ends error (Ok n) buffer = λ none room. refl
+plain_ends None (Err why) buffer = tt
+plain_ends (Some error) (Err why) buffer = tt
+
+pub no_damage : (result : Result ℕ Error) (buffer : List ℕ) → EndsBy (Some None) None result buffer
+no_damage (Ok n) buffer = λ none room. refl
+no_damage (Err why) buffer = tt

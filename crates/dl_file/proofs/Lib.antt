@@ -4,3 +4,5 @@ pub mod AnswerLemmas
 pub mod CodeLemmas
 pub mod SectionBytesLemmas
 pub mod PieceLemmas
+pub mod StreamLemmas
+pub mod InflatedLemmas

@@ -83,11 +83,12 @@ header_free f (Some h) = elim (cases_Bool (h.table_offset == 0)) [
 -- ---- what open_line_file answers
 
 -- the fault of a file whose headers can't be read
-pub opens_fault : {S : Type 0} (all_bytes : S → Option (List ℕ)) (f : List ℕ) (wanted : Wanted) (why : ElfFault)
-    → Answers (opened f) (Err why) → Opens all_bytes f wanted (Err why)
-opens_fault all_bytes f wanted (fault.Read error) is = tt
-opens_fault all_bytes f wanted fault.NoMemory is = absurd (subst MemoryIsFree (sym is) (header_free f (file_header f)))
-opens_fault all_bytes f wanted other is =
+pub opens_fault : {S : Type 0} (g : _) (all_bytes : S → Option (List ℕ)) (f : List ℕ) (wanted : Wanted) (why : ElfFault)
+    → Answers (opened f) (Err why) → Opens {g = g} all_bytes f wanted (Err why)
+opens_fault g all_bytes f wanted (fault.Read error) is = tt
+opens_fault g all_bytes f wanted fault.NoMemory is =
+    absurd (subst MemoryIsFree (sym is) (header_free f (file_header f)))
+opens_fault g all_bytes f wanted other is =
     let P : Result Elf ElfFault → Type 0 =
     λ r. MatchResult r (λ e. (at : Sections) × AreFound e f at × IsLineTable e f at wanted (Err other))
     (λ first. ◌≡◌ {A = Result LineTable ElfFault} (Err other) (Err first)) in
@@ -101,8 +102,8 @@ is_table e f at wanted c result is table =
     λ slot. MatchOption slot (IsWithoutLineSection e f at result) (λ c. IsTableOf e f c result) in subst P is table
 
 -- what the wanted sections come to is what the file comes to
-pub opens_table : {S : Type 0} (all_bytes : S → Option (List ℕ)) (f : List ℕ) (wanted : Wanted) (e : Elf)
-    (at : Sections) (c : Chosen) (result : Result (LineFile S) ElfFault) → Ok e ≡ opened f → AreFound e f at
+pub opens_table : {S : Type 0} {g : _} (all_bytes : S → Option (List ℕ)) (f : List ℕ) (wanted : Wanted) (e : Elf)
+    (at : Sections) (c : Chosen) (result : Result (LineFile S g) ElfFault) → Ok e ≡ opened f → AreFound e f at
     → Some c ≡ chosen at wanted → OpensTable all_bytes (IsTableOf e f c) (TakesMemoryFor e f c) result
     → Opens all_bytes f wanted result
 opens_table all_bytes f wanted e at c (Ok file) is found these (t, table, gives) =

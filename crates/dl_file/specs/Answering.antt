@@ -46,24 +46,24 @@ AreFound e f number (Ok found) =
 AreFound e f number (Err why) = IsCounted (relocations_of e f number) (Err why)
 
 -- a reader of these bytes; memory is refused only where `Memory` says so
-abbrev pub OpensContent : {S : Type 0} → (S → Option (List ℕ)) → Content → (Memory : Type 0)
-    → Result (ContentReader S) ElfFault → Type 0
+abbrev pub OpensContent : {S : Type 0} {g : _} → (S → Option (List ℕ)) → Content → (Memory : Type 0)
+    → Result (ContentReader S g) ElfFault → Type 0
 OpensContent all_bytes content Memory (Ok reader) = Gives all_bytes reader content
 OpensContent all_bytes content Memory (Err (fault.Read error)) = Unit {0}
 OpensContent all_bytes content Memory (Err fault.NoMemory) = Memory
 OpensContent all_bytes content Memory (Err other) = ⊥
 
 -- the same where there is a section
-abbrev pub OpensOption : {S : Type 0} → (S → Option (List ℕ)) → Option Content → (Memory : Type 0)
-    → Result (Option (ContentReader S)) ElfFault → Type 0
+abbrev pub OpensOption : {S : Type 0} {g : _} → (S → Option (List ℕ)) → Option Content → (Memory : Type 0)
+    → Result (Option (ContentReader S g)) ElfFault → Type 0
 OpensOption all_bytes content Memory (Ok reader) = GivesOption all_bytes reader content
 OpensOption all_bytes content Memory (Err (fault.Read error)) = Unit {0}
 OpensOption all_bytes content Memory (Err fault.NoMemory) = Memory
 OpensOption all_bytes content Memory (Err other) = ⊥
 
 -- a reader of the line section, or the fault
-abbrev pub OpensLine : {S : Type 0} → (S → Option (List ℕ)) → (IsAnswer : Result Content ElfFault → Type 0)
-    (Memory : Type 0) → Result (LineReader S) ElfFault → Type 0
+abbrev pub OpensLine : {S : Type 0} {g : _} → (S → Option (List ℕ)) → (IsAnswer : Result Content ElfFault → Type 0)
+    (Memory : Type 0) → Result (LineReader S g) ElfFault → Type 0
 OpensLine all_bytes IsAnswer Memory (Ok reader) =
     (content : Content) × IsAnswer (Ok content) × GivesLine all_bytes reader content
 OpensLine all_bytes IsAnswer Memory (Err (fault.Read error)) = Unit {0}
@@ -71,8 +71,8 @@ OpensLine all_bytes IsAnswer Memory (Err fault.NoMemory) = Memory
 OpensLine all_bytes IsAnswer Memory (Err other) = IsAnswer (Err other)
 
 -- the same of the readers of a line table
-abbrev pub OpensTable : {S : Type 0} → (S → Option (List ℕ)) → (IsAnswer : Result LineTable ElfFault → Type 0)
-    (Memory : Type 0) → Result (LineFile S) ElfFault → Type 0
+abbrev pub OpensTable : {S : Type 0} {g : _} → (S → Option (List ℕ)) → (IsAnswer : Result LineTable ElfFault → Type 0)
+    (Memory : Type 0) → Result (LineFile S g) ElfFault → Type 0
 OpensTable all_bytes IsAnswer Memory (Ok file) = (t : LineTable) × IsAnswer (Ok t) × GivesTable all_bytes file t
 OpensTable all_bytes IsAnswer Memory (Err (fault.Read error)) = Unit {0}
 OpensTable all_bytes IsAnswer Memory (Err fault.NoMemory) = Memory

@@ -1,54 +1,74 @@
 -- What contracts see of a reader of a section's bytes, be they compressed or not.
-use Rattle.std.specs.Prelude.{◌≡◌, ℕ, List, Option, Some, None, option_map, Result, Ok, Err}
+use Rattle.std.specs.Prelude.{◌≡◌, ℕ, ◌-◌, ◌<◌, List, length, drop, Option, Some, None, option_map, option_and_then}
+use Rattle.std.specs.Prelude.{IfSome, Result, Ok, Err}
 use Rattle.std.specs.declared.io.Error.{Error}
-use Rattle.std.specs.IoError.{error_kind}
-use Rattle.std.specs.declared.io.ErrorKind.TheVariants.{InvalidData}
 use Rattle.dl_elf.specs.declared.name.SectionName.{SectionName}
-use Rattle.dl_elf.specs.Reader.{reader_remaining, reader_error, ReaderFails}
+use Rattle.dl_elf.specs.declared.compression.CompressionHeader.{CompressionHeader}
+use Rattle.dl_elf.specs.Reader.{known_range, reader_remaining, reader_error, ReaderFails}
+use Rattle.dl_file.specs.Faults.{IsDamage}
+use Rattle.dl_file.specs.Inflating.{inflated, damage}
 use Rattle.dl_file.specs.declared.inflated_reader.InflatedReader.{InflatedReader}
-use Rattle.dl_file.specs.declared.inflated_reader.ReadFault.{ReadFault}
-use Rattle.dl_file.specs.declared.inflated_reader.ReadFault.TheVariants.{Read, DamagedStream}
+use Rattle.dl_file.specs.declared.read_fault.ReadFault.{ReadFault}
+use Rattle.dl_file.specs.declared.read_fault.ReadFault.TheVariants.{Read}
 use Rattle.dl_file.specs.declared.content_reader.ContentReader.{ContentReader}
 use Rattle.dl_file.specs.declared.content_reader.ContentReader.TheVariants.{Plain, Inflated}
 
--- the name of the section that is inflated
-abbrev pub inflated_name : {S : Type 0} → InflatedReader S → SectionName
+-- ---- a section that is inflated
+
+-- its name
+abbrev pub inflated_name : {S : Type 0} {g : _} → InflatedReader S g → SectionName
 inflated_name r = r.name
 
 -- why the last read of it failed, if it did
-abbrev pub stream_fault : {S : Type 0} → InflatedReader S → Option ReadFault
+abbrev pub stream_fault : {S : Type 0} {g : _} → InflatedReader S g → Option ReadFault
 stream_fault r = r.fault
 
--- what a stream still inflates to is left open
-abbrev pub inflated_remaining : {S : Type 0} → (S → Option (List ℕ)) → InflatedReader S → Option (List ℕ)
-inflated_remaining all_bytes r = None
+-- the stream and what follows it in the section, where the file's bytes are known
+abbrev pub stream_bytes : {S : Type 0} {g : _} → (S → Option (List ℕ)) → InflatedReader S g → Option (List ℕ)
+stream_bytes all_bytes r = known_range (all_bytes r.source.now) r.place.offset r.place.size
 
--- the bytes that are left, where the file's are known and the section isn't compressed
-abbrev pub content_remaining : {S : Type 0} → (S → Option (List ℕ)) → ContentReader S → Option (List ℕ)
+-- the bytes of a section where its stream is one, but for those that were given; so many are to come
+abbrev pub left_of : CompressionHeader → (stream : Option (List ℕ)) → (left : ℕ) → Option (List ℕ)
+left_of header stream left = option_map (drop (header.size - left)) (option_and_then (inflated header) stream)
+
+abbrev pub inflated_remaining : {S : Type 0} {g : _} → (S → Option (List ℕ)) → InflatedReader S g → Option (List ℕ)
+inflated_remaining all_bytes r = left_of r.told.header (stream_bytes all_bytes r) r.at.left
+
+-- the byte of the section that shows its damage, if it has some, where the file's bytes are known
+abbrev pub inflated_damage : {S : Type 0} {g : _} → (S → Option (List ℕ)) → InflatedReader S g → Option (Option ℕ)
+inflated_damage all_bytes r = option_map (damage r.told.header r.told.section_size) (stream_bytes all_bytes r)
+
+-- a read says that the bytes end only where there is no damage, and tells damage only where it is
+abbrev pub EndsBy : (damage : Option (Option ℕ)) → (fault : Option ReadFault) → Result ℕ Error
+    → (buffer : List ℕ) → Type 0
+EndsBy known fault (Ok n) buffer = n ≡ 0 → 0 < length buffer → IfSome known (λ at. at ≡ None)
+EndsBy known fault (Err error) buffer = IfSome known (λ at. IfSome fault (IsDamage at))
+
+-- ---- a section
+
+-- the bytes that are left, where the file's are known; of one that is compressed, where its stream is one
+abbrev pub content_remaining : {S : Type 0} {g : _} → (S → Option (List ℕ)) → ContentReader S g → Option (List ℕ)
 content_remaining all_bytes (Plain reader) = reader_remaining all_bytes reader
 content_remaining all_bytes (Inflated reader) = inflated_remaining all_bytes reader.value
 
+-- the byte that shows the damage of a section, if it has some, where that is known; one that isn't compressed has none
+abbrev pub content_damage : {S : Type 0} {g : _} → (S → Option (List ℕ)) → ContentReader S g → Option (Option ℕ)
+content_damage all_bytes (Plain reader) = Some None
+content_damage all_bytes (Inflated reader) = inflated_damage all_bytes reader.value
+
 -- the name of the section where it is compressed
-abbrev pub stream_name : {S : Type 0} → ContentReader S → Option SectionName
+abbrev pub stream_name : {S : Type 0} {g : _} → ContentReader S g → Option SectionName
 stream_name (Plain reader) = None
 stream_name (Inflated reader) = Some (inflated_name reader.value)
 
 -- why the last read failed, if it did
-abbrev pub content_fault : {S : Type 0} → ContentReader S → Option ReadFault
+abbrev pub content_fault : {S : Type 0} {g : _} → ContentReader S g → Option ReadFault
 content_fault (Plain reader) = option_map Read (reader_error reader)
 content_fault (Inflated reader) = stream_fault reader.value
 
 -- a read fails with this error: of a section that isn't compressed, as its reader does
-abbrev pub ContentFails : {S : Type 0} → (S → Option (List ℕ)) → (S → Error → Type 0) → ContentReader S → Error → Type 0
+abbrev pub ContentFails : {S : Type 0} {g : _} → (S → Option (List ℕ)) → (S → Error → Type 0) → ContentReader S g
+    → Error
+    → Type 0
 ContentFails all_bytes fails_with (Plain reader) error = ReaderFails all_bytes fails_with reader error
 ContentFails all_bytes fails_with (Inflated reader) error = Unit {0}
-
--- the error of a read that failed so
-abbrev pub IsErrorOf : ReadFault → Error → Type 0
-IsErrorOf (Read kept) error = kept ≡ error
-IsErrorOf (DamagedStream at) error = error_kind error ≡ InvalidData
-
--- a fault is told exactly where a read failed, with its error
-abbrev pub Tells : {A : Type 0} → Option ReadFault → Result A Error → Type 0
-Tells fault (Ok n) = fault ≡ None
-Tells fault (Err error) = (why : ReadFault) × (fault ≡ Some why) × IsErrorOf why error

@@ -1,8 +1,12 @@
 -- What the public contracts say rests on these, in reading order.
 pub mod Relocations
+pub mod Inflating
+pub mod Faults
 pub mod ContentReader
 pub mod LineReader
 pub mod LineTable
 pub mod Code
+-- For how far a stream was read; public contracts name this, and don't rest on how it is said.
+pub mod InStep
 -- Of contracts inside the crate, and of proofs; no public contract reaches these.
 pub mod Answering

@@ -3,27 +3,33 @@ use Rattle.std.specs.Prelude.{ℕ, List, Option, None, Some}
 use Rattle.std.specs.Io.Cursor.{cursor_remaining}
 use Rattle.std.specs.declared.io.Error.{Error}
 use Rattle.dl_elf.specs.declared.name.SectionName.{SectionName}
-use Rattle.dl_file.specs.declared.inflated_reader.ReadFault.{ReadFault}
+use Rattle.dl_file.specs.declared.read_fault.ReadFault.{ReadFault}
 use Rattle.dl_file.specs.declared.line_reader.LineReader.{LineReader}
 use Rattle.dl_file.specs.declared.line_reader.LineReader.TheVariants.{File, Held}
-use Rattle.dl_file.specs.ContentReader.{content_remaining, content_fault, stream_name, ContentFails}
+use Rattle.dl_file.specs.ContentReader.{content_damage, content_remaining, content_fault, stream_name, ContentFails}
 
 -- the bytes that are left, where they are known; those that are held are
-abbrev pub line_remaining : {S : Type 0} → (S → Option (List ℕ)) → LineReader S → Option (List ℕ)
+abbrev pub line_remaining : {S : Type 0} {g : _} → (S → Option (List ℕ)) → LineReader S g → Option (List ℕ)
 line_remaining all_bytes (File reader) = content_remaining all_bytes reader
 line_remaining all_bytes (Held bytes) = cursor_remaining (λ v. Some v.items) bytes
 
+-- the byte that shows the damage of its section, if it has some, where that is known; bytes that are held have none
+abbrev pub line_damage : {S : Type 0} {g : _} → (S → Option (List ℕ)) → LineReader S g → Option (Option ℕ)
+line_damage all_bytes (File reader) = content_damage all_bytes reader
+line_damage all_bytes (Held bytes) = Some None
+
 -- the section's name where it is compressed and inflated as it is read
-abbrev pub line_stream : {S : Type 0} → LineReader S → Option SectionName
+abbrev pub line_stream : {S : Type 0} {g : _} → LineReader S g → Option SectionName
 line_stream (File reader) = stream_name reader
 line_stream (Held bytes) = None
 
 -- why the last read failed, if it did
-abbrev pub line_fault : {S : Type 0} → LineReader S → Option ReadFault
+abbrev pub line_fault : {S : Type 0} {g : _} → LineReader S g → Option ReadFault
 line_fault (File reader) = content_fault reader
 line_fault (Held bytes) = None
 
 -- a read fails with this error: it is one of the file; reads of bytes that are held don't fail
-abbrev pub LineReaderFails : {S : Type 0} → (S → Option (List ℕ)) → (S → Error → Type 0) → LineReader S → Error → Type 0
+abbrev pub LineReaderFails : {S : Type 0} {g : _} → (S → Option (List ℕ)) → (S → Error → Type 0) → LineReader S g
+    → Error → Type 0
 LineReaderFails all_bytes fails_with (File reader) error = ContentFails all_bytes fails_with reader error
 LineReaderFails all_bytes fails_with (Held bytes) error = ⊥

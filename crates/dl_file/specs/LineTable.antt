@@ -21,12 +21,14 @@ use Rattle.dl_elf.specs.declared.fault.Part.{Part}
 use Rattle.dl_elf.specs.declared.fault.ElfFault.{ElfFault}
 use Rattle.dl_elf.specs.declared.fault.ElfFault.TheVariants as fault
 use Rattle.dl_elf.specs.Elf.{is_object}
-use Rattle.dl_elf.specs.Sections.{section_bytes, opened}
+use Rattle.dl_elf.specs.declared.file.Range.{Range}
+use Rattle.dl_elf.specs.Sections.{section_bytes, section_range, opened}
 use Rattle.dl_elf.specs.Found.{AreFound, Sections}
 use Rattle.dl_elf.specs.Compressed.{section_damage, compression_header}
 use Rattle.dl_elf.specs.Notes.{build_id_of, build_id_bytes}
-use Rattle.dl_file.specs.ContentReader.{content_remaining, content_fault, stream_name}
-use Rattle.dl_file.specs.LineReader.{line_remaining, line_fault, line_stream}
+use Rattle.dl_file.specs.Inflating.{damage, inflated, stream_in}
+use Rattle.dl_file.specs.ContentReader.{content_damage, content_remaining, content_fault, stream_name}
+use Rattle.dl_file.specs.LineReader.{line_damage, line_remaining, line_fault, line_stream}
 use Rattle.dl_file.specs.Relocations.{HasRelocations, line_bytes, relocations_of}
 
 -- ---- which sections
@@ -85,14 +87,19 @@ first_refused e f c = first_of (refused e f) c
 
 -- ---- their bytes
 
--- the bytes of a section; of one that is compressed with zlib its name, and what its stream inflates to is left open
+-- the bytes of a section; of one that is compressed with zlib its name, what its stream inflates to, where it is one, and
+-- the byte that shows the damage, if it has some
 pub data Content : Type 0 where
   Plain : List ℕ → Content
-  Inflated : SectionName → Content
+  Inflated : SectionName → Option (List ℕ) → (damage : Option ℕ) → Content
+
+abbrev pub inflated_content : SectionName → CompressionHeader → Range → List ℕ → Content
+inflated_content name header range f =
+    Inflated name (inflated header (stream_in header range f)) (damage header range.size (stream_in header range f))
 
 abbrev pub content_by : List ℕ → NamedSection → Option CompressionHeader → Content
 content_by f s None = Plain (section_bytes s.header f)
-content_by f s (Some header) = Inflated s.name
+content_by f s (Some header) = inflated_content s.name header (section_range s.header) f
 
 abbrev pub content : Elf → List ℕ → NamedSection → Content
 content e f s = content_by f s (compression_header e f s)
@@ -103,15 +110,17 @@ plain_content (Err first) = Err first
 
 -- a compressed line section with so many sections of relocations. Where it has some it is inflated when the file is
 -- opened: then what they make of it, and the faults of the stream and of the relocations, are left open
-abbrev pub IsInflatedWith : SectionName → Option ℕ → Result Content ElfFault → Type 0
-IsInflatedWith name (Some zero) result = result ≡ Ok (Inflated name)
-IsInflatedWith name other (Ok c) = (bytes : List ℕ) × (c ≡ Plain bytes)
-IsInflatedWith name other (Err first) = Unit {0}
+abbrev pub IsInflatedWith : Content → Option ℕ → Result Content ElfFault → Type 0
+IsInflatedWith whole (Some zero) result = result ≡ Ok whole
+IsInflatedWith whole other (Ok c) = (bytes : List ℕ) × (c ≡ Plain bytes)
+IsInflatedWith whole other (Err first) = Unit {0}
 
 -- the bytes of the line section, which begins with this compression header or is none, or its first fault
 abbrev pub IsLineBy : Option CompressionHeader → Elf → List ℕ → NamedSection → Result Content ElfFault → Type 0
 IsLineBy None e f line result = result ≡ plain_content (line_bytes e f line)
-IsLineBy (Some header) e f line result = IsInflatedWith line.name (relocations_of e f line.number) result
+IsLineBy (Some header) e f line result =
+    IsInflatedWith (inflated_content line.name header (section_range line.header) f)
+    (relocations_of e f line.number) result
 
 abbrev pub IsLine : Elf → List ℕ → NamedSection → Result Content ElfFault → Type 0
 IsLine e f line result = IsLineBy (compression_header e f line) e f line result
@@ -185,24 +194,28 @@ TakesMemory f wanted = (e : Elf) × (opened f ≡ Ok e) × (at : Sections) × Ar
 -- ---- readers
 
 -- a reader that gives these bytes, where they are known; no read of it failed yet
-abbrev pub Gives : {S : Type 0} → (S → Option (List ℕ)) → ContentReader S → Content → Type 0
+abbrev pub Gives : {S : Type 0} {g : _} → (S → Option (List ℕ)) → ContentReader S g → Content → Type 0
 Gives all_bytes reader (Plain bytes) = (content_remaining all_bytes reader ≡ Some bytes)
     × (content_fault reader ≡ None) × (stream_name reader ≡ None)
-Gives all_bytes reader (Inflated name) = (content_fault reader ≡ None) × (stream_name reader ≡ Some name)
+Gives all_bytes reader (Inflated name bytes damage) = (content_remaining all_bytes reader ≡ bytes)
+    × (content_damage all_bytes reader ≡ Some damage) × (content_fault reader ≡ None) × (stream_name reader ≡ Some name)
 
-abbrev pub GivesOption : {S : Type 0} → (S → Option (List ℕ)) → Option (ContentReader S) → Option Content → Type 0
+abbrev pub GivesOption : {S : Type 0} {g : _} → (S → Option (List ℕ)) → Option (ContentReader S g)
+    → Option Content → Type 0
 GivesOption all_bytes None content = content ≡ None
 GivesOption all_bytes (Some reader) None = ⊥
 GivesOption all_bytes (Some reader) (Some content) = Gives all_bytes reader content
 
 -- the same of a reader of a line section
-abbrev pub GivesLine : {S : Type 0} → (S → Option (List ℕ)) → LineReader S → Content → Type 0
+abbrev pub GivesLine : {S : Type 0} {g : _} → (S → Option (List ℕ)) → LineReader S g → Content → Type 0
 GivesLine all_bytes reader (Plain bytes) = (line_remaining all_bytes reader ≡ Some bytes)
     × (line_fault reader ≡ None) × (line_stream reader ≡ None)
-GivesLine all_bytes reader (Inflated name) = (line_fault reader ≡ None) × (line_stream reader ≡ Some name)
+GivesLine all_bytes reader (Inflated name bytes damage) = (line_remaining all_bytes reader ≡ bytes)
+    × (line_damage all_bytes reader ≡ Some damage) × (line_fault reader ≡ None) × (line_stream reader ≡ Some name)
 
 -- the readers of a file give the bytes of a line table
-pub record GivesTable {S : Type 0} (all_bytes : S → Option (List ℕ)) (file : LineFile S) (t : LineTable) : Type 0 where
+pub record GivesTable {S : Type 0} {g : _} (all_bytes : S
+    → Option (List ℕ)) (file : LineFile S g) (t : LineTable) : Type 0 where
   pub order : file.order ≡ t.order
   pub object : file.is_object ≡ t.is_object_file
   pub line : GivesLine all_bytes file.line t.line
@@ -211,7 +224,8 @@ pub record GivesTable {S : Type 0} (all_bytes : S → Option (List ℕ)) (file :
 
 -- what open_line_file answers for a file with these bytes: its readers, a fault, that a read failed, or that memory was
 -- refused
-abbrev pub Opens : {S : Type 0} → (S → Option (List ℕ)) → List ℕ → Wanted → Result (LineFile S) ElfFault → Type 0
+abbrev pub Opens : {S : Type 0} {g : _} → (S → Option (List ℕ)) → List ℕ → Wanted
+    → Result (LineFile S g) ElfFault → Type 0
 Opens all_bytes f wanted (Ok file) = (t : LineTable) × HasLineTable f wanted (Ok t) × GivesTable all_bytes file t
 Opens all_bytes f wanted (Err (fault.Read error)) = Unit {0}
 Opens all_bytes f wanted (Err fault.NoMemory) = TakesMemory f wanted

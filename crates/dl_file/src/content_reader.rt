@@ -6,10 +6,13 @@ ghost use Rattle.dl_elf.specs.Source.{ForBytes};
 ghost use Rattle.dl_elf.specs.Answers.{IfRead};
 ghost use Rattle.dl_elf.specs.Compressed.{compression_header};
 ghost use Rattle.dl_file.specs.Answering.{OpensContent};
-ghost use Rattle.dl_file.specs.ContentReader.{ContentFails, Tells, content_fault, content_remaining, stream_name};
+ghost use Rattle.dl_file.specs.Faults.{Tells};
+ghost use Rattle.dl_file.specs.ContentReader.{ContentFails, EndsBy, content_damage, content_fault, content_remaining};
+ghost use Rattle.dl_file.specs.ContentReader.{stream_name};
 ghost use Rattle.dl_file.specs.LineTable.{HasStream, content};
 
-use crate::inflated_reader::{InflatedReader, ReadFault};
+use crate::inflated_reader::InflatedReader;
+use crate::read_fault::ReadFault;
 use dl_elf::{
     Elf, ElfFault, NamedSection, ReadAt, SectionName, SectionReader, compression_header,
     section_range,
@@ -20,7 +23,7 @@ use std::io::Read;
 
 /// The bytes of a section, from the first on.
 #[derive(Drop)]
-pub enum ContentReader<'a, S> {
+pub enum ContentReader<'a, S: ReadAt> {
     /// They stand in the file as they are.
     Plain(SectionReader<'a, S>),
     /// The section is compressed.
@@ -83,6 +86,8 @@ impl<'a, S: ReadAt> Read for ContentReader<'a, S> {
         ensures bound { ReadsAtMost result buffer.new }
         ensures bytes { ReadConsumes (content_remaining S.all_bytes self.old)
             (content_remaining S.all_bytes self.new) result buffer.new }
+        ensures ends { EndsBy (content_damage S.all_bytes self.old) (content_fault self.new) result buffer.new }
+        ensures damage { content_damage S.all_bytes self.new ≡ content_damage S.all_bytes self.old }
         ensures fails { IfErr result (ContentFails S.all_bytes S.fails_with self.old) }
         ensures fault { Tells (content_fault self.new) result }
     {

@@ -13,11 +13,14 @@ mod content_reader;
 mod inflated_reader;
 mod line_file;
 mod line_reader;
+mod read_fault;
 mod relocating;
 mod section_bytes;
+mod stream_reader;
 
 pub use code::{Code, CodeFault, ExecutableRange, find_code};
 pub use content_reader::ContentReader;
-pub use inflated_reader::{InflatedReader, ReadFault};
+pub use inflated_reader::InflatedReader;
 pub use line_file::{LineFile, Wanted, open_line_file};
 pub use line_reader::LineReader;
+pub use read_fault::ReadFault;

@@ -13,8 +13,9 @@ ghost use Rattle.dl_file.specs.LineTable.{first_damage, first_refused, line_sect
 ghost use Rattle.dl_file.specs.LineTable.{debug_str_section};
 
 use crate::content_reader::ContentReader;
-use crate::inflated_reader::{InflatedReader, ReadFault};
+use crate::inflated_reader::InflatedReader;
 use crate::line_reader::LineReader;
+use crate::read_fault::ReadFault;
 use crate::relocating::{find_relocations, relocate_line};
 use crate::section_bytes::read_bytes;
 use dl_elf::{
@@ -44,7 +45,7 @@ pub enum Wanted {
 
 /// What a file has of its line table.
 #[derive(Drop)]
-pub struct LineFile<'a, S> {
+pub struct LineFile<'a, S: ReadAt> {
     /// The order in which the bytes of numbers stand, in the sections as well.
     pub order: Order,
     /// Whether it is an object file, which a linker reads (e_type is ET_REL).

@@ -2,18 +2,19 @@
 ghost use Rattle.std.specs.Prelude.{◌≡◌, IfErr};
 ghost use Rattle.std.specs.Io.{ReadsAtMost};
 ghost use Rattle.std.specs.Io.KnownBytes.{ReadConsumes};
-ghost use Rattle.dl_file.specs.ContentReader.{Tells};
-ghost use Rattle.dl_file.specs.LineReader.{LineReaderFails, line_fault, line_remaining, line_stream};
+ghost use Rattle.dl_file.specs.Faults.{Tells};
+ghost use Rattle.dl_file.specs.ContentReader.{EndsBy};
+ghost use Rattle.dl_file.specs.LineReader.{LineReaderFails, line_damage, line_fault, line_remaining, line_stream};
 
 use crate::content_reader::ContentReader;
-use crate::inflated_reader::ReadFault;
+use crate::read_fault::ReadFault;
 use dl_elf::{ReadAt, SectionName};
 use std::io;
 use std::io::{Cursor, Read};
 
 /// The bytes of a line section, from the first on.
 #[derive(Drop)]
-pub enum LineReader<'a, S> {
+pub enum LineReader<'a, S: ReadAt> {
     /// They are read from the file as they are asked for.
     File(ContentReader<'a, S>),
     /// They are held in memory, those of an object file with their relocations applied.
@@ -49,6 +50,8 @@ impl<'a, S: ReadAt> Read for LineReader<'a, S> {
         ensures bound { ReadsAtMost result buffer.new }
         ensures bytes { ReadConsumes (line_remaining S.all_bytes self.old) (line_remaining S.all_bytes self.new)
             result buffer.new }
+        ensures ends { EndsBy (line_damage S.all_bytes self.old) (line_fault self.new) result buffer.new }
+        ensures damage { line_damage S.all_bytes self.new ≡ line_damage S.all_bytes self.old }
         ensures fails { IfErr result (LineReaderFails S.all_bytes S.fails_with self.old) }
         ensures fault { Tells (line_fault self.new) result }
     {

@@ -35,18 +35,19 @@ not_refused path command t start now result is_object not_copy object does =
     rw e does
 
 -- a reader of a line section has the bytes that are known
-pub reader_known : {S : Type 0} (all_bytes : S → Option (List ℕ)) (reader : LineReader S) (content : Content)
+pub reader_known : {S : Type 0} {g : _} (all_bytes : S → Option (List ℕ)) (reader : LineReader S g) (content : Content)
     (left : Option (List ℕ)) (read : List ℕ) → GivesLine all_bytes reader content
     → Consumes (line_remaining all_bytes reader) left read → Consumes (known_bytes content) left read
 reader_known all_bytes reader (Plain bytes) left read gives consumes =
     subst (λ (r : Option (List ℕ)). Consumes r left read) gives.0 consumes
-reader_known all_bytes reader (Inflated name) left read gives consumes = tt
+reader_known all_bytes reader (Inflated name bytes damage) left read gives consumes =
+    subst (λ (r : Option (List ℕ)). Consumes r left read) gives.0 consumes
 
 -- and its name where it is inflated
-pub reader_stream : {S : Type 0} (all_bytes : S → Option (List ℕ)) (reader : LineReader S) (content : Content)
+pub reader_stream : {S : Type 0} {g : _} (all_bytes : S → Option (List ℕ)) (reader : LineReader S g) (content : Content)
     → GivesLine all_bytes reader content → line_stream reader ≡ stream_of content
 reader_stream all_bytes reader (Plain bytes) gives = gives.2
-reader_stream all_bytes reader (Inflated name) gives = gives.1
+reader_stream all_bytes reader (Inflated name bytes damage) gives = gives.3
 
 -- the command ran with these options, over a reader of the line section
 pub ran : (path : Text) (command : Command) (t : LineTable) (start now left remaining : Option (List ℕ))
@@ -85,8 +86,9 @@ stops_known (Some xs) (Some ys) bs fault.SectionTooLong consumes stops =
 stops_known known left bs other consumes stops = absurd stops
 
 -- the reading of a section stops
-pub section_stops : {S : Type 0} (all_bytes : S → Option (List ℕ)) (path : Text) (section : Option (ContentReader S))
-    (reader : ContentReader S) (content : Option Content) (stream : Option SectionName) (left : Option (List ℕ))
+pub section_stops : {S : Type 0} {g : _} (all_bytes : S
+    → Option (List ℕ)) (path : Text) (section : Option (ContentReader S g))
+    (reader : ContentReader S g) (content : Option Content) (stream : Option SectionName) (left : Option (List ℕ))
     (f : RunFault) (stop : Stop) → section ≡ Some reader → GivesOption all_bytes section content
     → stream ≡ stream_name reader
     → (bs : List ℕ) × Consumes (content_remaining all_bytes reader) left bs × StopsReading STRINGS_LIMIT bs f
@@ -107,14 +109,15 @@ section_stops all_bytes path (Some other) reader (Some (Plain bytes)) stream lef
         subst (λ (n : Option SectionName). StopsAt path n f stop) its_name at,
       ),
     )
-section_stops all_bytes path (Some other) reader (Some (Inflated name)) stream left f stop is gives named
+section_stops all_bytes path (Some other) reader (Some (Inflated name bytes damage)) stream left f stop is gives named
     (bs, read, stops) at =
-    let same : other ≡ reader = cc is in (
-      Inflated name,
+    let same : other ≡ reader = cc is in
+    let known = ap (content_remaining all_bytes) (sym same) ∙ gives.0 in (
+      Inflated name bytes damage,
       refl,
       (
         f,
-        stops_known None left bs f tt stops,
-        subst (λ (n : Option SectionName). StopsAt path n f stop) (named ∙ (ap stream_name (sym same) ∙ gives.1)) at,
+        stops_known bytes left bs f (subst (λ (r : Option (List ℕ)). Consumes r left bs) known read) stops,
+        subst (λ (n : Option SectionName). StopsAt path n f stop) (named ∙ (ap stream_name (sym same) ∙ gives.3)) at,
       ),
     )

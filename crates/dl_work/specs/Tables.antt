@@ -28,11 +28,13 @@ use Rattle.dl_work.specs.Stops.{IsAt, StopsAt}
 abbrev pub Fits : Option (List ℕ) → Type 0
 Fits section = IfSome section (λ bytes. length bytes ≤ STRINGS_LIMIT)
 
--- these are the bytes of a section, where it is there; of one that is inflated there are some
+-- these are the bytes of a section, where it is there; of one that is inflated what its stream inflates to, where it
+-- is one
 abbrev pub IsHeldAs : Option Content → Option (List ℕ) → Type 0
 IsHeldAs None held = held ≡ None
 IsHeldAs (Some (Plain bytes)) held = held ≡ Some bytes
-IsHeldAs (Some (Inflated name)) held = (bytes : List ℕ) × (held ≡ Some bytes)
+IsHeldAs (Some (Inflated name known damage)) held =
+    (bytes : List ℕ) × (held ≡ Some bytes) × IfSome known (λ whole. bytes ≡ whole)
 
 abbrev pub IsHeld : Option Content → Option (List ℕ) → Type 0
 IsHeld content held = IsHeldAs content held × Fits held
@@ -42,15 +44,15 @@ pub record IsWhole (line_str str : Option Content) (s : Strings) : Type 0 where
   pub line_strings : IsHeld line_str s.line_strings
   pub strings : IsHeld str s.strings
 
--- the bytes of a section, where they are known
+-- the bytes of a section; of one that is inflated, where its stream is one
 abbrev pub known_bytes : Content → Option (List ℕ)
 known_bytes (Plain bytes) = Some bytes
-known_bytes (Inflated name) = None
+known_bytes (Inflated name bytes damage) = bytes
 
 -- the section's name where it is inflated
 abbrev pub stream_of : Content → Option SectionName
 stream_of (Plain bytes) = None
-stream_of (Inflated name) = Some name
+stream_of (Inflated name bytes damage) = Some name
 
 -- a section stops the program: a read or a growth failed, or it is too long
 abbrev pub SectionStops : (path : Text) → Content → Stop → Type 0

@@ -37,7 +37,7 @@ returns-in_err-bytes-clause-opens g c = λ f is short.
     let told = (c.in_ok-sections.ensures.found f is short).0 in
     let sections = c.in_ok-sections.sections.count in
     let some = some_relocations e f line.number sections told c.if-sections-eq0.false in
-    rw (p.1, p.2) (unread_opens g.S.ReadAt.all_bytes (compression_header e f line) e f line _
+    rw (p.1, p.2) (unread_opens g.S.ReadAt g.S.ReadAt.all_bytes (compression_header e f line) e f line _
     (g.S.ReadAt.fails_with c.args.source.now) sections c.in_err-bytes.field-0.0 told c.if-sections-eq0.false (inl some)
     (c.in_err-bytes.ensures.stops f is short))
 
@@ -51,7 +51,7 @@ returns-in_err-relocate_line-clause-opens g c = λ f is short.
     let sections = c.in_ok-sections.sections.count in
     let some = some_relocations e f line.number sections told c.if-sections-eq0.false in
     let few : sections ≤ 16 = omega (arith, c.if-sections-gt-MOST_RELOCATIONS.false) in
-    rw (p.1, p.2) (unmade_opens g.S.ReadAt.all_bytes (compression_header e f line) e f line _
+    rw (p.1, p.2) (unmade_opens g.S.ReadAt g.S.ReadAt.all_bytes (compression_header e f line) e f line _
     (relocated_upto e f line (e.count - 1)) c.relocate_line.new.bytes sections c.in_err-relocate_line.field-0.0 told
     c.if-sections-eq0.false (inl some) (bytes_relocated e f line sections told c.if-sections-eq0.false few)
     (λ none. c.in_err-relocate_line.ensures.made f is short

@@ -1,0 +1,167 @@
+-- What a reader of a compressed section gives.
+use Rattle.std.proofs.Common.{◌≡◌, inl, inr, ℕ, ◌+◌, ◌-◌, ◌<◌, ◌≤◌, ◌^◌, min, List, length, take, drop, Option}
+use Rattle.std.proofs.Common.{Some, None, option_map, Result, Ok, Err, refl, sym, ap, ◌∙◌, arith}
+use Rattle.std.proofs.Common.{length-take}
+use Rattle.std.proofs.Common.{nat_lt}
+use Rattle.std.proofs.lemmas.Bool.{cases_Bool, ltb-false, ltb-true}
+use Rattle.std.proofs.lemmas.List.{drop-drop, drop-take}
+use Rattle.std.proofs.Math.ListN.{drop_of_length-le}
+use Rattle.std.proofs.Math.Logic.{∥∥₁_elim, ∥∥₁_prop}
+use Rattle.std.proofs.Props.{props}
+use Rattle.std.specs.Io.KnownBytes.{Keeps, ReadConsumes}
+use Rattle.std.specs.declared.io.Error.{Error}
+use Rattle.dl_elf.specs.declared.compression.CompressionHeader.{CompressionHeader}
+use Rattle.dl_elf.specs.declared.file.Range.{Range}
+use Rattle.dl_elf.specs.Reader.{known_range}
+use Rattle.dl_zlib.specs.Bits.{bits_of}
+use Rattle.dl_zlib.specs.Zlib.{unzlib}
+use Rattle.dl_file.specs.Inflating.{damage, inflated, stream_in}
+use Rattle.dl_file.specs.ContentReader.{EndsBy, left_of}
+use Rattle.dl_file.specs.InStep.{Follows, NextIs, StandsIn}
+use Rattle.dl_file.specs.declared.read_fault.ReadFault.{ReadFault}
+use Rattle.dl_file.specs.declared.read_fault.ReadFault.TheVariants.{Read, DamagedStream}
+use Rattle.dl_file.specs.declared.stream_reader.StreamReader.{StreamReader}
+use Rattle.dl_file.specs.declared.stream_reader.Told.{Told}
+use Rattle.dl_file.proofs.StreamLemmas.{inflated_by}
+
+-- ---- where the stream stands
+
+same_rest : (f : List ℕ) (sum at : ℕ) → length f < 2 ^ 64 → at ≡ min sum (2 ^ 64 - 1) → drop at f ≡ drop sum f
+same_rest f sum at short is = elim (cases_Bool (nat_lt sum (2 ^ 64))) [
+  | inl less ↦ (let small = ltb-true sum (2 ^ 64) less in
+      let e : at ≡ sum = omega (arith, is, small) in ap (λ k. drop k f) e)
+  | inr more ↦ (let large = ltb-false sum (2 ^ 64) more in
+      let past : length f ≤ at = omega (arith, is, large, short) in
+      let past_sum : length f ≤ sum = omega (arith, large, short) in
+      drop_of_length-le f past ∙ sym (drop_of_length-le f past_sum))
+]
+
+-- past the front of a range
+pub range_rest : (f : List ℕ) (offset size front at : ℕ) → length f < 2 ^ 64 → at ≡ min (offset + front) (2 ^ 64 - 1)
+    → take (size - front) (drop at f) ≡ drop front (take size (drop offset f))
+range_rest f offset size front at short is = elim (cases_Bool (nat_lt size front)) [
+  | inl less ↦ (let few = ltb-true size front less in
+      let none : size - front ≡ 0 = omega (arith, few) in
+      let x : List ℕ = drop offset f in
+      let past : length (take size x) ≤ front = omega (arith, few, length-take size x) in
+      ap (λ k. take k (drop at f)) none ∙ sym (drop_of_length-le (take size x) past))
+  | inr more ↦ (let many = ltb-false size front more in
+      let e : front + (size - front) ≡ size = omega (arith, many) in
+      ap (take (size - front)) (same_rest f (offset + front) at short is ∙ sym (drop-drop front offset f))
+      ∙ (sym (drop-take front (size - front) (drop offset f)) ∙ ap (λ k. drop front (take k (drop offset f))) e))
+]
+
+-- the stream of a section
+stream_known : (header : CompressionHeader) (known : Option (List ℕ)) (f : List ℕ) (range : Range) (at size : ℕ)
+    → known ≡ Some f → length f < 2 ^ 64 → at ≡ min (range.offset + header.stream_offset) (2 ^ 64 - 1)
+    → size ≡ range.size - header.stream_offset → known_range known at size ≡ Some (stream_in header range f)
+stream_known header known f range at size is short place left =
+    ap (λ k. known_range k at size) is ∙ ap Some (ap (λ k. take k (drop at f)) left
+    ∙ range_rest f range.offset range.size header.stream_offset at short place)
+
+all_left : (k : ℕ) (bytes : Option (List ℕ)) → k ≡ 0 → option_map (drop k) bytes ≡ bytes
+all_left k None none = refl
+all_left k (Some all) none = ap (λ n. Some (drop n all)) none
+
+pub begun_bytes : (header : CompressionHeader) (known : Option (List ℕ)) (f : List ℕ) (range : Range)
+    (at size left : ℕ) → known ≡ Some f → length f < 2 ^ 64
+    → at ≡ min (range.offset + header.stream_offset) (2 ^ 64 - 1) → size ≡ range.size - header.stream_offset
+    → left ≡ header.size → left_of header (known_range known at size) left ≡ inflated header (stream_in header range f)
+begun_bytes header known f range at size left is short place few all =
+    let none : header.size - left ≡ 0 = omega (arith, all) in
+    ap (λ k. left_of header k left) (stream_known header known f range at size is short place few)
+    ∙ all_left (header.size - left) (inflated header (stream_in header range f)) none
+
+pub begun_damage : (header : CompressionHeader) (known : Option (List ℕ)) (f : List ℕ) (range : Range) (at size : ℕ)
+    → known ≡ Some f → length f < 2 ^ 64 → at ≡ min (range.offset + header.stream_offset) (2 ^ 64 - 1)
+    → size ≡ range.size - header.stream_offset
+    → option_map (damage header range.size) (known_range known at size)
+    ≡ Some (damage header range.size (stream_in header range f))
+begun_damage header known f range at size is short place few =
+    ap (option_map (damage header range.size)) (stream_known header known f range at size is short place few)
+
+-- no more bytes are known of a range than it has
+pub range_few : (known : Option (List ℕ)) (at size : ℕ) (b : List ℕ) → known_range known at size ≡ Some b
+    → length b ≤ size
+range_few None at size b is = absurd (cc is)
+range_few (Some f) at size b is =
+    let same : take size (drop at f) ≡ b = cc is in
+    omega (arith, ap length same, length-take size (drop at f))
+
+-- ---- what a read gives
+
+pub next_known : {S : Type 0} (all_bytes : S → Option (List ℕ)) (source : S) (place : Range) (told : Told)
+    (old new : StreamReader S) (result : Result ℕ ReadFault) (buffer : List ℕ)
+    → ∥ Follows all_bytes source place told old ∥₁
+    → ((b : List ℕ) → StandsIn all_bytes told old b
+    → StandsIn all_bytes told new b × NextIs told b old.left new.left result buffer)
+    → ∥ ((b : List ℕ) → known_range (all_bytes source) place.offset place.size ≡ Some b
+    → NextIs told b old.left new.left result buffer) ∥₁
+next_known all_bytes source place told old new result buffer follows next =
+    ∥∥₁_elim follows ∥∥₁_prop (λ s. ∣ (λ b is. (next b (s b is)).1) ∣₁)
+
+pub follows_on : {S : Type 0} (all_bytes : S → Option (List ℕ)) (source : S) (place : Range) (told : Told)
+    (old new : StreamReader S) (result : Result ℕ ReadFault) (buffer : List ℕ)
+    → ∥ Follows all_bytes source place told old ∥₁
+    → ((b : List ℕ) → StandsIn all_bytes told old b
+    → StandsIn all_bytes told new b × NextIs told b old.left new.left result buffer)
+    → ∥ Follows all_bytes source place told new ∥₁
+follows_on all_bytes source place told old new result buffer follows next =
+    ∥∥₁_elim follows ∥∥₁_prop (λ s. ∣ (λ b is. (next b (s b is)).0) ∣₁)
+
+-- no more than told
+inflated_few : (header : CompressionHeader) (b all : List ℕ) → inflated header b ≡ Some all → length all ≤ header.size
+inflated_few header b all is =
+    let found = inflated_by header.size b all (unzlib (bits_of b)) refl is in
+    omega (arith, ap length found.2, length-take header.size found.0)
+
+gives_some : (told : Told) (b : List ℕ) (bytes : Option (List ℕ)) (old new n : ℕ) (buffer : List ℕ)
+    → inflated told.header b ≡ bytes
+    → ∥ NextIs told b old new (Ok n) buffer ∥₁
+    → ReadConsumes {E = Error} (option_map (drop (told.header.size - old)) bytes)
+    (option_map (drop (told.header.size - new)) bytes) (Ok n) buffer
+gives_some told b None old new n buffer is next = (tt, λ none room. tt)
+gives_some told b (Some all) old new n buffer is next = (
+  ∥∥₁_elim next (hlevel props) (λ x. x.0 all is),
+  λ none room. ∥∥₁_elim next (hlevel props) (λ x. (let size = inflated_few told.header b all is in
+      let end : new ≡ 0 = (x.1 none room).1 in
+      let past : length all ≤ told.header.size - new = omega (arith, size, end) in
+      drop_of_length-le all past)),
+)
+
+pub gives_known : (told : Told) (known : Option (List ℕ)) (old new n : ℕ) (buffer : List ℕ)
+    → ∥ ((b : List ℕ) → known ≡ Some b → NextIs told b old new (Ok n) buffer) ∥₁
+    → ReadConsumes {E = Error} (left_of told.header known old) (left_of told.header known new) (Ok n) buffer
+gives_known told None old new n buffer next = (tt, λ none room. tt)
+gives_known told (Some b) old new n buffer next =
+    gives_some told b (inflated told.header b) old new n buffer refl (∥∥₁_elim next ∥∥₁_prop (λ x. ∣ x b refl ∣₁))
+
+keeps_some : (told : Told) (bytes : Option (List ℕ)) (old new : ℕ) → ∥ new ≡ old ∥₁
+    → Keeps (option_map (drop (told.header.size - old)) bytes) (option_map (drop (told.header.size - new)) bytes)
+keeps_some told None old new same = tt
+keeps_some told (Some all) old new same =
+    ∥∥₁_elim same (hlevel props) (λ e. ap (λ k. drop (told.header.size - k) all) e)
+
+pub keeps_known : (told : Told) (known : Option (List ℕ)) (old new : ℕ) (why : ReadFault) (buffer : List ℕ)
+    → ∥ ((b : List ℕ) → known ≡ Some b → NextIs told b old new (Err why) buffer) ∥₁
+    → Keeps (left_of told.header known old) (left_of told.header known new)
+keeps_known told None old new why buffer next = tt
+keeps_known told (Some b) old new why buffer next =
+    keeps_some told (inflated told.header b) old new (∥∥₁_elim next ∥∥₁_prop (λ x. ∣ (x b refl).0 ∣₁))
+
+-- a read ends or fails as the damage says
+pub ends_known : (told : Told) (known : Option (List ℕ)) (old new n : ℕ) (buffer : List ℕ)
+    → ∥ ((b : List ℕ) → known ≡ Some b → NextIs told b old new (Ok n) buffer) ∥₁
+    → EndsBy (option_map (damage told.header told.section_size) known) None (Ok n) buffer
+ends_known told None old new n buffer next = λ none room. tt
+ends_known told (Some b) old new n buffer next = λ none room.
+    ∥∥₁_elim next (hlevel props) (λ x. ((x b refl).1 none room).0)
+
+pub fails_known : (told : Told) (known : Option (List ℕ)) (old new : ℕ) (why : ReadFault) (error : Error)
+    (buffer : List ℕ)
+    → ∥ ((b : List ℕ) → known ≡ Some b → NextIs told b old new (Err why) buffer) ∥₁
+    → EndsBy (option_map (damage told.header told.section_size) known) (Some why) (Err error) buffer
+fails_known told None old new why error buffer next = tt
+fails_known told (Some b) old new (Read error') error buffer next = tt
+fails_known told (Some b) old new (DamagedStream at) error buffer next =
+    ∥∥₁_elim next (hlevel props) (λ x. (x b refl).1)

@@ -1,0 +1,22 @@
+use Rattle.std.proofs.Common.{◌<◌, ◌^◌, arith, ◌∙◌}
+use Rattle.dl_file.proofs.InflatedLemmas.{begun_bytes, begun_damage, range_few}
+use Rattle.dl_file.proofs.inflated_reader.InflatedReader.new.Goals as goal
+
+pub invariant_of-result : goal.invariant_of-result
+invariant_of-result g c = record {
+  follows = ∣ (λ b is. (let few = range_few (g.S.ReadAt.all_bytes c.args.source.now) c.saturating_add.result
+      c.saturating_sub.result b is in
+      let size : c.args.range.size < 2 ^ 64 = omega arith in
+      c.new.ensures.stands b (c.new-stream.ensures.bytes ∙ is) (omega (arith, few, c.saturating_sub.ensures)) size)) ∣₁;
+}
+
+pub returns-clause-bytes : goal.returns-clause-bytes
+returns-clause-bytes g c = λ f is short.
+    begun_bytes c.args.header.now (g.S.ReadAt.all_bytes c.args.source.now) f c.args.range c.saturating_add.result
+    c.saturating_sub.result c.new.result.left is short c.saturating_add.ensures c.saturating_sub.ensures
+    c.new.ensures.left
+
+pub returns-clause-damage : goal.returns-clause-damage
+returns-clause-damage g c = λ f is short.
+    begun_damage c.args.header.now (g.S.ReadAt.all_bytes c.args.source.now) f c.args.range c.saturating_add.result
+    c.saturating_sub.result is short c.saturating_add.ensures c.saturating_sub.ensures
