@@ -1,6 +1,6 @@
 /*
- * library check SECTION | find SECTION ADDRESSES | read SECTION [ADDRESSES]: dl_check of a section, dl_find_all of it for
- * the addresses of a file, one a line in hexadecimal; or the reading of the files alone.
+ * library check SECTION | find SECTION ADDRESSES | read SECTION [ADDRESSES]: dl_check of a section, dl_find_all of it
+ * for the addresses of a file, one a line in hexadecimal; or the reading of the files alone.
  */
 #include <boxantrel.h>
 #include <stdio.h>

@@ -218,7 +218,8 @@ static void check_path(uint32_t described_as, uint64_t offset, size_t room)
     uint32_t status = dl_path_at(section, len, big, offset, below(2) ? below(4) : next(), section + len - line_str_len,
                                  line_str_len, section, below(len + 1), path, room, count, fault);
     check_fault(status);
-    wanted(status == (is_foreign ? (uint32_t)DL_OTHER_VERSION : described_as), "a path with another end than that of the unit");
+    wanted(status == (is_foreign ? (uint32_t)DL_OTHER_VERSION : described_as),
+           "a path with another end than that of the unit");
     size_t written = 0;
     if (status == DL_DONE)
         written = *count < room ? *count : room;

@@ -101,8 +101,8 @@ class Found(NamedTuple):
 
 
 class Damage(Exception):
-    """A unit is damaged. `offset` counts from the section's first byte; `kind` and `detail` are the numbers that stand for
-    the fault in include/boxantrel.h. Its text says the same in words.
+    """A unit is damaged. `offset` counts from the section's first byte; `kind` and `detail` are the numbers that stand
+    for the fault in include/boxantrel.h. Its text says the same in words.
 
     >>> str(Damage(0x34, 16, 0))
     'damage at 0x34: unit ends inside an opcode'

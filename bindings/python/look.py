@@ -1,7 +1,7 @@
 """look.py [--big] [--rows | --copy | --addr LINE_STR STR ADDRESS.. | ADDRESS..]: of the section on standard input, what
-`dwline check` prints of it; with --rows the rows that `dwline dump` prints, with --copy what `dwline copy` writes, with --addr
-and the files of both string sections what `dwline addr` prints; or with addresses the row that answers for each as `dwline
-find` prints it."""
+`dwline check` prints of it; with --rows the rows that `dwline dump` prints, with --copy what `dwline copy` writes, with
+--addr and the files of both string sections what `dwline addr` prints; or with addresses the row that answers for each
+as `dwline find` prints it."""
 
 import pathlib
 import sys

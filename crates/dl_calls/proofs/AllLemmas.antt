@@ -125,7 +125,8 @@ none_told answered (suc k) i none j lt is =
 -- ---- what is told after one more unit
 
 module _ (order : Order) (addresses : List ℕ) (units : List (List ℕ)) (u : List ℕ) (answered : List Answered)
-    (first : AreFirstAnswers (map place_of_address addresses) (map (unit_rows order) units) (unit_rows order u) answered)
+    (first : AreFirstAnswers (map place_of_address addresses) (map (unit_rows order) units) (unit_rows order u)
+    answered)
     (i a : ℕ) (asked : slice_get addresses i ≡ Some a) where
   abbrev rows_before : List (List Row)
   rows_before = map (unit_rows order) units
@@ -246,17 +247,20 @@ module _ {A : Type 0} (v : Row → A) (answered : List Answered) (k : ℕ) (old 
   pub told_more : ((i : ℕ) → slice_get q2 i
       ≡ placed (if (nth answered k).number == i then Some (v (nth answered k).row) else None) (slice_get q i))
       → (i : ℕ) → slice_get q2 i ≡ placed (option_map v (told_upto answered (suc k) i)) (slice_get old i)
-  told_more puts i = puts i ∙ ap (placed (if (nth answered k).number == i then Some (v (nth answered k).row) else None)) (so i)
+  told_more puts i =
+      puts i ∙ ap (placed (if (nth answered k).number == i then Some (v (nth answered k).row) else None)) (so i)
       ∙ by ((nth answered k).number == i) where
         by : (same : Bool) → placed (if same then Some (v (nth answered k).row) else None)
             (placed (option_map v (told_upto answered k i)) (slice_get old i))
-            ≡ placed (option_map v (if same then Some (nth answered k).row else told_upto answered k i)) (slice_get old i)
+            ≡ placed (option_map v (if same then Some (nth answered k).row else told_upto answered k i))
+            (slice_get old i)
         by true = placed_twice (v (nth answered k).row) (option_map v (told_upto answered k i)) (slice_get old i)
         by false = placed_none (placed (option_map v (told_upto answered k i)) (slice_get old i))
 
 -- ---- how the reading ends
 
-pub ends_with : (order : Order) (s : List ℕ) (P Q : List (List ℕ) → Type 0) → ((units : List (List ℕ)) → P units → Q units)
+pub ends_with : (order : Order) (s : List ℕ) (P Q : List (List ℕ) → Type 0)
+    → ((units : List (List ℕ)) → P units → Q units)
     → (ends : Result ⊤ Stop) → EndsWith order s P ends → EndsWith order s Q ends
 ends_with order s P Q to (Ok done) e = (e.0, e.1, to e.0 e.2)
 ends_with order s P Q to (Err (stop.Damaged offset kind)) e = (e.0, e.1, e.2, e.3, to e.0 e.4)

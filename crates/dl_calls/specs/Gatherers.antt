@@ -1,6 +1,6 @@
 -- The sink that looks many places up, and what is told of what it finds. No promise rests on this file.
-use Rattle.std.specs.Prelude.{◌≡◌, ℕ, zero, suc, ◌==◌, if◌then◌else◌, List, [], slice_get, slice_index_or, Option, Some, None}
-use Rattle.std.specs.Prelude.{option_map}
+use Rattle.std.specs.Prelude.{◌≡◌, ℕ, zero, suc, ◌==◌, if◌then◌else◌, List, [], slice_get, slice_index_or, Option}
+use Rattle.std.specs.Prelude.{Some, None, option_map}
 use Rattle.dl_rows.specs.Sinks.{Story}
 use Rattle.dl_rows.specs.declared.row.Row.{Row}
 use Rattle.dl_look.specs.declared.place.Place.{Place}
@@ -34,7 +34,8 @@ row_after answered k old i = placed (option_map row_record (told_upto answered k
 abbrev pub unit_after : List Answered → (unit k : ℕ) → List ℕ → (i : ℕ) → Option ℕ
 unit_after answered unit k old i = placed (option_map (λ r. unit) (told_upto answered k i)) (slice_get old i)
 
--- of rows and offsets of units, p and m before, and q and n after: those of the addresses that the units answer are told
+-- of rows and offsets of units, p and m before, and q and n after: those of the addresses that the units answer are
+-- told
 pub record Placed (order : Order) (units : List (List ℕ)) (addresses : List ℕ) (p q : List RowRecord) (m n : List ℕ)
     : Type 0 where
   pub rows : (i a : ℕ) → slice_get addresses i ≡ Some a

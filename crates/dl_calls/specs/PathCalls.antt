@@ -24,8 +24,8 @@ Names foreign path p q m n status.Done =
 Names foreign path p q m n status.OtherVersion = (version : ℕ) × (foreign ≡ Some version) × (q ≡ p) × (n ≡ m)
 Names foreign path p q m n other = ⊥
 
--- `path_at`: of a room, a length and a fault, p, m and f before it, and q, n and g after it, only what the status says is
--- written
+-- `path_at`: of a room, a length and a fault, p, m and f before it, and q, n and g after it, only what the status says
+-- is written
 abbrev pub TellsPath : Order → (t : List ℕ) (offset : ℕ) → Strings → (file : ℕ) (p q : List ℕ) (m n : ℕ)
     (f g : FaultRecord) → Status → Type 0
 TellsPath order t offset s file p q m n f g status.Done =

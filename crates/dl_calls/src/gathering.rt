@@ -54,8 +54,8 @@ pub fn find_all(
     units: &mut [u64],
     fault: &mut FaultRecord,
 ) -> Status
-    ensures { FindsAll (order_of big) section.now addresses.now rows.old rows.new units.old units.new fault.old fault.new
-        result }
+    ensures { FindsAll (order_of big) section.now addresses.now rows.old rows.new units.old units.new fault.old
+        fault.new result }
 {
     if rows.len() != addresses.len() || units.len() != addresses.len() {
         return Status::NoRoom;

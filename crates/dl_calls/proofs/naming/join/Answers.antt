@@ -29,7 +29,9 @@ returns-in-Under-clause-written c =
     let l1 = c.add-at.ensures.len [] refl in
     let w2 = c.add-at-in-Under.ensures.written c.args.room.now directory w1 l1 in
     let l2 = c.add-at-in-Under.ensures.len directory l1 in
-    rw (c.in-Under.is) (c.add-in-Under.ensures.written c.args.room.now (directory ++ slash) w2 l2 ∙ ap (written_over c.args.room.now) (append_assoc directory slash name))
+    rw (c.in-Under.is)
+    (c.add-in-Under.ensures.written c.args.room.now (directory ++ slash) w2 l2
+    ∙ ap (written_over c.args.room.now) (append_assoc directory slash name))
 
 pub returns-in-Under-clause-len : goal.returns-in-Under-clause-len
 returns-in-Under-clause-len c =
@@ -37,7 +39,9 @@ returns-in-Under-clause-len c =
     let name = c.in-Under.name.now in
     let l1 = c.add-at.ensures.len [] refl in
     let l2 = c.add-at-in-Under.ensures.len directory l1 in
-    rw (c.in-Under.is) (c.add-in-Under.ensures.len (directory ++ slash) l2 ∙ ap (λ (t : List ℕ). min (length t) (2 ^ 64 - 1)) (append_assoc directory slash name))
+    rw (c.in-Under.is)
+    (c.add-in-Under.ensures.len (directory ++ slash) l2
+    ∙ ap (λ (t : List ℕ). min (length t) (2 ^ 64 - 1)) (append_assoc directory slash name))
 
 pub returns-in-Deep-clause-written : goal.returns-in-Deep-clause-written
 returns-in-Deep-clause-written c =
@@ -52,7 +56,9 @@ returns-in-Deep-clause-written c =
     let l3 = c.add-at-in-Deep-3.ensures.len (base ++ slash) l2 in
     let w4 = c.add-at-in-Deep-4.ensures.written c.args.room.now ((base ++ slash) ++ directory) w3 l3 in
     let l4 = c.add-at-in-Deep-4.ensures.len ((base ++ slash) ++ directory) l3 in
-    rw (c.in-Deep.is) (c.add-in-Deep.ensures.written c.args.room.now (((base ++ slash) ++ directory) ++ slash) w4 l4 ∙ ap (written_over c.args.room.now) (three base directory name))
+    rw (c.in-Deep.is)
+    (c.add-in-Deep.ensures.written c.args.room.now (((base ++ slash) ++ directory) ++ slash) w4 l4
+    ∙ ap (written_over c.args.room.now) (three base directory name))
 
 pub returns-in-Deep-clause-len : goal.returns-in-Deep-clause-len
 returns-in-Deep-clause-len c =
@@ -63,4 +69,6 @@ returns-in-Deep-clause-len c =
     let l2 = c.add-at-in-Deep-2.ensures.len base l1 in
     let l3 = c.add-at-in-Deep-3.ensures.len (base ++ slash) l2 in
     let l4 = c.add-at-in-Deep-4.ensures.len ((base ++ slash) ++ directory) l3 in
-    rw (c.in-Deep.is) (c.add-in-Deep.ensures.len (((base ++ slash) ++ directory) ++ slash) l4 ∙ ap (λ (t : List ℕ). min (length t) (2 ^ 64 - 1)) (three base directory name))
+    rw (c.in-Deep.is)
+    (c.add-in-Deep.ensures.len (((base ++ slash) ++ directory) ++ slash) l4
+    ∙ ap (λ (t : List ℕ). min (length t) (2 ^ 64 - 1)) (three base directory name))
