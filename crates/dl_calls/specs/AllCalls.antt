@@ -38,8 +38,8 @@ found_in order units address = found_from order 0 units (place_of_address addres
 abbrev pub placed : {A : Type 0} → (told old : Option A) → Option A
 placed told old = option_map (unwrap_or told) old
 
--- of rows, p before and q after, and n, offsets of units: for each address the row and the offset that the units answer,
--- or the row as it was and 2^64 - 1
+-- of rows, p before and q after, and n, offsets of units: for each address the row and the offset that the units
+-- answer, or the row as it was and 2^64 - 1
 pub record Answers (order : Order) (units : List (List ℕ)) (addresses : List ℕ) (p q : List RowRecord) (n : List ℕ)
     : Type 0 where
   pub rows : (i a : ℕ) → slice_get addresses i ≡ Some a

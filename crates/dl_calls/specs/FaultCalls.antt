@@ -18,4 +18,5 @@ IsKind other = ⊤
 
 -- it undoes what the other calls tell
 abbrev pub FaultsAreTold : Type 0
-FaultsAreTold = (offset : ℕ) (kind : FaultKind) → IsKind kind → told_text (record_of offset kind) ≡ damage_text offset kind
+FaultsAreTold = (offset : ℕ) (kind : FaultKind) → IsKind kind
+    → told_text (record_of offset kind) ≡ damage_text offset kind

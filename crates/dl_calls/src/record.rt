@@ -1,8 +1,8 @@
 //! What crosses to C: structs of numbers.
 
 ghost use Rattle.std.specs.Prelude.{◌≡◌};
-ghost use Rattle.dl_calls.specs.Records.{counts_of, record_of, kind_code, kind_detail, told_kind, plain_kind, opcode_told};
-ghost use Rattle.dl_calls.specs.Records.{row_record, flags_of};
+ghost use Rattle.dl_calls.specs.Records.{counts_of, record_of, kind_code, kind_detail, told_kind, plain_kind};
+ghost use Rattle.dl_calls.specs.Records.{opcode_told, row_record, flags_of};
 
 use dl_head::FaultKind;
 use dl_print::Summary;

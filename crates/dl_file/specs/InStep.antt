@@ -1,4 +1,4 @@
--- How far a stream was read. b: its bytes. No promise rests on this file.
+-- How far a stream was read. b: its bytes. No promise rests on how this is said.
 use Rattle.std.specs.Prelude.{◌≡◌, ◌⊎◌, ℕ, ◌+◌, ◌-◌, ◌<◌, ◌≤◌, ◌^◌, nat_lt, List, ◌++◌, length, take, drop, Option}
 use Rattle.std.specs.Prelude.{Some}
 use Rattle.std.specs.Prelude.{Result, Ok, Err, None}

@@ -6,7 +6,7 @@ pub mod ContentReader
 pub mod LineReader
 pub mod LineTable
 pub mod Code
--- For how far a stream was read; public contracts name this, and don't rest on how it is said.
+-- For what a value stands; public contracts name this, and don't rest on how it is said.
 pub mod InStep
 -- Of contracts inside the crate, and of proofs; no public contract reaches these.
 pub mod Answering

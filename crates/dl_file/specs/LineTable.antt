@@ -87,8 +87,8 @@ first_refused e f c = first_of (refused e f) c
 
 -- ---- their bytes
 
--- the bytes of a section; of one that is compressed with zlib its name, what its stream inflates to, where it is one, and
--- the byte that shows the damage, if it has some
+-- the bytes of a section; of one that is compressed with zlib its name, what its stream inflates to, where it is one,
+-- and the byte that shows the damage, if it has some
 pub data Content : Type 0 where
   Plain : List ℕ → Content
   Inflated : SectionName → Option (List ℕ) → (damage : Option ℕ) → Content

@@ -144,8 +144,8 @@ fn relocate_at<S: ReadAt>(
     }
 }
 
-/// Applies the relocations of the line section to its bytes, in the order of their sections, of which none stands before
-/// section `first`.
+/// Applies the relocations of the line section to its bytes, in the order of their sections, of which none stands
+/// before section `first`.
 pub fn relocate_line<S: ReadAt>(
     alloc: Global,
     source: &S,

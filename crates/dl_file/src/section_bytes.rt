@@ -75,7 +75,8 @@ pub fn read_piece<S: ReadAt>(
     }
 }
 
-/// The values of the symbols that a section has; None where its bytes don't lie in the file. Memory is taken as they come.
+/// The values of the symbols that a section has; None where its bytes don't lie in the file. Memory is taken as
+/// they come.
 fn read_values<S: ReadAt>(
     alloc: Global,
     source: &S,

@@ -77,7 +77,8 @@ values_upto class order table (suc n) =
 abbrev pub symbol_values : Class → Order → (table : List ℕ) → List ℕ
 symbol_values class order table = values_upto class order table (count (symbol_size class) table)
 
--- the value of symbol i where the symbols have these; that of number 0 (STN_UNDEF) is 0; None where there is no symbol i
+-- the value of symbol i where the symbols have these; that of number 0 (STN_UNDEF) is 0; None where there is no
+-- symbol i
 abbrev pub symbol_value : (values : List ℕ) → ℕ → Option ℕ
 symbol_value values i = if i == 0 then Some 0 else slice_get values i
 

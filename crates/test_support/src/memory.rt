@@ -6,8 +6,8 @@ pub fn hoard(alloc: Global) -> Result<Vec<Vec<u8>>, AllocError> {
     hoard_but(alloc, 0)
 }
 
-/// Takes all the memory that the process can get, but for 1 GiB. A test that hoards many times takes this first: to take
-/// the rest is quick.
+/// Takes all the memory that the process can get, but for 1 GiB. A test that hoards many times takes this first: to
+/// take the rest is quick.
 pub fn hoard_most(alloc: Global) -> Result<Vec<Vec<u8>>, AllocError> {
     hoard_but(alloc, 1 << 30)
 }
