@@ -30,9 +30,13 @@ try:
 	cd crates/dwline && rt try --data debug_line_str=../../examples/gcc-O2/debug_line_str \
 		-- dump --line-str debug_line_str < ../../examples/gcc-O2/debug_line
 
-# The library for C, proved: out/libboxantrel.a, out/libboxantrel.so and what pkg-config reads of it.
+# The library for C, proved.
 lib:
 	cd crates/dl_c && rt lib
+	$(MAKE) library
+
+# Out of what rt built of dl_c: out/libboxantrel.a, out/libboxantrel.so and what pkg-config reads of it.
+library:
 	mkdir -p out
 	$(CC) $(CFLAGS) -O2 -fPIC -c -o out/memory.o bindings/c/memory.c
 	$(CC) $(CFLAGS) -O2 -fPIC -Iinclude -c -o out/find_all.o bindings/c/find_all.c
@@ -64,16 +68,17 @@ uninstall:
 
 # Every proof from nothing, every edit that must be refused, every test; then the sections of examples/.
 test:
-	rm -f crates/dwline/out/dwline out/libboxantrel.a
+	rm -f crates/dwline/out/dwline crates/dl_c/out/libdl_c.a out/libboxantrel.a
 	rt ci
 	test -x crates/dwline/out/dwline || $(MAKE) dwline
+	test ! -e crates/dl_c/out/libdl_c.a || $(MAKE) library
 	$(MAKE) compare-built
 
 # Every section of examples/, printed and compared with its expected dump; every option of every command; the
 # man page, the completions and what `make install` puts where; the library, from C, Rust and Python.
 compare: dwline lib compare-built
 
-# The same of what is built: `make test` builds no library, which would prove the crates below it once more.
+# The same of what is built: `make test` takes the library as `rt ci` built it, where it did.
 compare-built:
 	examples/compare-with-dwline
 	examples/try-dwline
@@ -82,4 +87,4 @@ compare-built:
 	examples/try-install
 	examples/try-library
 
-.PHONY: dwline example lib try install install-lib uninstall test compare compare-built
+.PHONY: dwline example lib library try install install-lib uninstall test compare compare-built
