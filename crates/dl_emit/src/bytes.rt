@@ -1,93 +1,114 @@
-//! Operations, written as bytes. Sections 6.2.5.1 to 6.2.5.3.
+//! Operations, written as bytes into a buffer from a place on. Sections 6.2.5.1 to 6.2.5.3.
 
-ghost use Rattle.std.specs.Prelude.{◌≡◌, ◌+◌, ◌≤◌, ◌<◌, [], ◌∷◌, ◌++◌, length, IfSome};
+ghost use Rattle.std.specs.Prelude.{◌≡◌, ◌+◌, ◌≤◌, ◌<◌, [], ◌∷◌, ◌++◌, length, take, IfSome};
 ghost use Rattle.dl_num.specs.Shortest.{shortest_uleb, shortest_sleb};
 ghost use Rattle.dl_num.specs.Magnitude.{byte_of, signed_value};
 ghost use Rattle.dl_emit.specs.OperationBytes.{extended, operation_bytes};
 ghost use Rattle.dl_emit.specs.Room.{room};
 
-use arrayvec::ArrayVec;
 use dl_num::{Order, fixed_bytes, sleb_bytes, uleb_bytes};
 use dl_rows::Operation;
 
 /// How many bytes of a program are gathered at most.
 pub const BUFFER_LEN: usize = 4096;
 
-/// Bytes of a program, gathered.
-pub type Bytes = ArrayVec<u8, BUFFER_LEN>;
-
-/// Appends an operation, whose address has `address_size` bytes.
+/// Puts an operation, whose address has `address_size` bytes, and answers where it ends.
 #[inline(always)]
-pub fn put_operation(bytes: &mut Bytes, order: Order, address_size: u8, operation: Operation)
+pub fn put_operation(
+    buffer: &mut [u8],
+    at: usize,
+    order: Order,
+    address_size: u8,
+    operation: Operation,
+) -> usize
     requires size { address_size ≤ 8 }
-    requires room { length bytes.old.items + room operation ≤ BUFFER_LEN }
-    ensures items { bytes.new.items
-        ≡ bytes.old.items ++ operation_bytes order address_size operation }
-    ensures len { length bytes.new.items ≤ length bytes.old.items + room operation }
+    requires room { at + room operation ≤ length buffer.old }
+    ensures put { take result buffer.new ≡ take at buffer.old ++ operation_bytes order address_size operation }
+    ensures end { result ≤ at + room operation }
 {
     match operation {
-        Operation::Special(opcode) => bytes.push(opcode),
-        Operation::Copy => bytes.push(1),
-        Operation::AdvancePc(by) => put_unsigned(bytes, 2, by),
-        Operation::AdvanceLine(by) => put_signed(bytes, 3, by),
-        Operation::SetFile(file) => put_unsigned(bytes, 4, file),
-        Operation::SetColumn(column) => put_unsigned(bytes, 5, column),
-        Operation::NegateStatement => bytes.push(6),
-        Operation::SetBasicBlock => bytes.push(7),
-        Operation::SetPrologueEnd => bytes.push(10),
-        Operation::SetEpilogueBegin => bytes.push(11),
-        Operation::SetIsa(isa) => put_unsigned(bytes, 12, isa),
-        Operation::EndSequence => put_extended(bytes, 1, &[]),
-        Operation::SetAddress(address) => put_address(bytes, order, address_size, address),
-        Operation::SetDiscriminator(discriminator) => put_discriminator(bytes, discriminator),
-        Operation::ConstAddPc | Operation::FixedAdvancePc(_) | Operation::Skipped => {}
+        Operation::Special(opcode) => put_byte(buffer, at, opcode),
+        Operation::Copy => put_byte(buffer, at, 1),
+        Operation::AdvancePc(by) => put_unsigned(buffer, at, 2, by),
+        Operation::AdvanceLine(by) => put_signed(buffer, at, 3, by),
+        Operation::SetFile(file) => put_unsigned(buffer, at, 4, file),
+        Operation::SetColumn(column) => put_unsigned(buffer, at, 5, column),
+        Operation::NegateStatement => put_byte(buffer, at, 6),
+        Operation::SetBasicBlock => put_byte(buffer, at, 7),
+        Operation::SetPrologueEnd => put_byte(buffer, at, 10),
+        Operation::SetEpilogueBegin => put_byte(buffer, at, 11),
+        Operation::SetIsa(isa) => put_unsigned(buffer, at, 12, isa),
+        Operation::EndSequence => put_extended(buffer, at, 1, &[]),
+        Operation::SetAddress(address) => put_address(buffer, at, order, address_size, address),
+        Operation::SetDiscriminator(discriminator) => put_discriminator(buffer, at, discriminator),
+        Operation::ConstAddPc | Operation::FixedAdvancePc(_) | Operation::Skipped => at,
     }
 }
 
-/// Appends a slice.
-fn put_slice(bytes: &mut Bytes, slice: &[u8])
-    requires { length bytes.old.items + length slice.now ≤ BUFFER_LEN }
-    ensures { bytes.new.items ≡ bytes.old.items ++ slice.now }
+/// Puts a byte, and answers where it ends.
+#[inline(always)]
+fn put_byte(buffer: &mut [u8], at: usize, byte: u8) -> usize
+    requires { at < length buffer.old }
+    ensures put { take result buffer.new ≡ take at buffer.old ++ byte ∷ [] }
+    ensures end { result ≡ at + 1 }
 {
-    bytes.try_extend_from_slice(slice).unwrap();
+    buffer[at] = byte;
+    at + 1
 }
 
-/// Appends a standard opcode with an unsigned operand. Section 6.2.5.2.
-#[inline(always)]
-fn put_unsigned(bytes: &mut Bytes, opcode: u8, operand: u64)
-    requires { length bytes.old.items + 11 ≤ BUFFER_LEN }
-    ensures items { bytes.new.items ≡ bytes.old.items ++ opcode ∷ shortest_uleb operand }
-    ensures len { length bytes.new.items ≤ length bytes.old.items + 11 }
+/// Puts a slice, and answers where it ends.
+fn put_slice(buffer: &mut [u8], at: usize, slice: &[u8]) -> usize
+    requires { at + length slice.now ≤ length buffer.old }
+    ensures put { take result buffer.new ≡ take at buffer.old ++ slice.now }
+    ensures end { result ≡ at + length slice.now }
 {
-    bytes.push(opcode);
+    let end = at + slice.len();
+    buffer[at..end].copy_from_slice(slice);
+    end
+}
+
+/// Puts a standard opcode with an unsigned operand. Section 6.2.5.2.
+#[inline(always)]
+fn put_unsigned(buffer: &mut [u8], at: usize, opcode: u8, operand: u64) -> usize
+    requires { at + 11 ≤ length buffer.old }
+    ensures put { take result buffer.new ≡ take at buffer.old ++ opcode ∷ shortest_uleb operand }
+    ensures end { result ≤ at + 11 }
+{
+    let at = put_byte(buffer, at, opcode);
     if operand < 128 {
-        bytes.push(operand as u8);
+        put_byte(buffer, at, operand as u8)
     } else {
-        put_uleb(bytes, operand);
+        put_uleb(buffer, at, operand)
     }
 }
 
-/// Appends an unsigned number. Section 7.6.
+/// Puts an unsigned number. Section 7.6.
 #[inline(never)]
-fn put_uleb(bytes: &mut Bytes, number: u64)
-    requires { length bytes.old.items + 10 ≤ BUFFER_LEN }
-    ensures items { bytes.new.items ≡ bytes.old.items ++ shortest_uleb number }
-    ensures len { length bytes.new.items ≤ length bytes.old.items + 10 }
+fn put_uleb(buffer: &mut [u8], at: usize, number: u64) -> usize
+    requires { at + 10 ≤ length buffer.old }
+    ensures put { take result buffer.new ≡ take at buffer.old ++ shortest_uleb number }
+    ensures end { result ≤ at + 10 }
 {
-    put_slice(bytes, uleb_bytes(number).as_slice());
+    put_slice(buffer, at, uleb_bytes(number).as_slice())
 }
 
-/// Appends a standard opcode with a signed operand. Section 6.2.5.2.
+/// Puts a standard opcode with a signed operand. Section 6.2.5.2.
 #[inline(always)]
-fn put_signed(bytes: &mut Bytes, opcode: u8, operand: i64)
-    requires { length bytes.old.items + 11 ≤ BUFFER_LEN }
-    ensures items { bytes.new.items ≡ bytes.old.items ++ opcode ∷ shortest_sleb operand }
-    ensures len { length bytes.new.items ≤ length bytes.old.items + 11 }
+fn put_signed(buffer: &mut [u8], at: usize, opcode: u8, operand: i64) -> usize
+    requires { at + 11 ≤ length buffer.old }
+    ensures put { take result buffer.new ≡ take at buffer.old ++ opcode ∷ shortest_sleb operand }
+    ensures end { result ≤ at + 11 }
 {
-    bytes.push(opcode);
-    match signed_byte(operand) {
-        Some(byte) => bytes.push(byte),
-        None => put_sleb(bytes, operand),
+    let at = put_byte(buffer, at, opcode);
+    if let Some(byte) = signed_byte(operand) {
+        return put_byte(buffer, at, byte);
+    }
+    match signed_pair(operand) {
+        Some((first, last)) => {
+            let at = put_byte(buffer, at, first);
+            put_byte(buffer, at, last)
+        }
+        None => put_sleb(buffer, at, operand),
     }
 }
 
@@ -105,8 +126,8 @@ fn signed_byte(number: i64) -> Option<u8>
 
 /// The two bytes that spell a signed number, where two do.
 #[inline(always)]
-fn signed_pair(number: i64) -> Option<[u8; 2]>
-    ensures { IfSome result (λ pair. shortest_sleb number ≡ pair) }
+fn signed_pair(number: i64) -> Option<(u8, u8)>
+    ensures { IfSome result (λ pair. shortest_sleb number ≡ pair.0 ∷ pair.1 ∷ []) }
 {
     if number < 0 {
         group_pair((-1 - number) as u64, true)
@@ -128,15 +149,15 @@ fn group_byte(magnitude: u64, negative: bool) -> Option<u8>
 
 /// The bytes of a number's two groups, where it has two.
 #[inline(always)]
-fn group_pair(magnitude: u64, negative: bool) -> Option<[u8; 2]>
-    ensures { IfSome result (λ pair. shortest_sleb (signed_value negative magnitude) ≡ pair) }
+fn group_pair(magnitude: u64, negative: bool) -> Option<(u8, u8)>
+    ensures { IfSome result (λ pair. shortest_sleb (signed_value negative magnitude) ≡ pair.0 ∷ pair.1 ∷ []) }
 {
     if magnitude < 64 || magnitude >= 64 * 128 {
         return None;
     }
     let first = 128 + turned((magnitude % 128) as u8, negative);
     let last = turned((magnitude / 128) as u8, negative);
-    Some([first, last])
+    Some((first, last))
 }
 
 /// A group, or its complement.
@@ -149,51 +170,49 @@ fn turned(group: u8, negative: bool) -> u8
     if negative { 127 - group } else { group }
 }
 
-/// Appends a signed number. Section 7.6.
+/// Puts a signed number. Section 7.6.
 #[inline(never)]
-fn put_sleb(bytes: &mut Bytes, number: i64)
-    requires { length bytes.old.items + 10 ≤ BUFFER_LEN }
-    ensures items { bytes.new.items ≡ bytes.old.items ++ shortest_sleb number }
-    ensures len { length bytes.new.items ≤ length bytes.old.items + 10 }
+fn put_sleb(buffer: &mut [u8], at: usize, number: i64) -> usize
+    requires { at + 10 ≤ length buffer.old }
+    ensures put { take result buffer.new ≡ take at buffer.old ++ shortest_sleb number }
+    ensures end { result ≤ at + 10 }
 {
-    match signed_pair(number) {
-        Some(pair) => put_slice(bytes, &pair),
-        None => put_slice(bytes, sleb_bytes(number).as_slice()),
-    }
+    put_slice(buffer, at, sleb_bytes(number).as_slice())
 }
 
-/// Appends DW_LNE_set_address. Section 6.2.5.3.
+/// Puts DW_LNE_set_address. Section 6.2.5.3.
 #[inline(never)]
-fn put_address(bytes: &mut Bytes, order: Order, address_size: u8, address: u64)
+fn put_address(buffer: &mut [u8], at: usize, order: Order, address_size: u8, address: u64) -> usize
     requires size { address_size ≤ 8 }
-    requires room { length bytes.old.items + 11 ≤ BUFFER_LEN }
-    ensures items { bytes.new.items
-        ≡ bytes.old.items ++ operation_bytes order address_size (Operation.SetAddress address) }
-    ensures len { length bytes.new.items ≤ length bytes.old.items + 11 }
+    requires room { at + 11 ≤ length buffer.old }
+    ensures put { take result buffer.new
+        ≡ take at buffer.old ++ operation_bytes order address_size (Operation.SetAddress address) }
+    ensures end { result ≤ at + 11 }
 {
     let operand = fixed_bytes(order, usize::from(address_size), address);
-    put_extended(bytes, 2, operand.as_slice());
+    put_extended(buffer, at, 2, operand.as_slice())
 }
 
-/// Appends DW_LNE_set_discriminator. Section 6.2.5.3.
+/// Puts DW_LNE_set_discriminator. Section 6.2.5.3.
 #[inline(never)]
-fn put_discriminator(bytes: &mut Bytes, discriminator: u64)
-    requires room { length bytes.old.items + 13 ≤ BUFFER_LEN }
-    ensures items { bytes.new.items ≡ bytes.old.items ++ extended (4 ∷ shortest_uleb discriminator) }
-    ensures len { length bytes.new.items ≤ length bytes.old.items + 13 }
+fn put_discriminator(buffer: &mut [u8], at: usize, discriminator: u64) -> usize
+    requires room { at + 13 ≤ length buffer.old }
+    ensures put { take result buffer.new
+        ≡ take at buffer.old ++ extended (4 ∷ shortest_uleb discriminator) }
+    ensures end { result ≤ at + 13 }
 {
-    put_extended(bytes, 4, uleb_bytes(discriminator).as_slice());
+    put_extended(buffer, at, 4, uleb_bytes(discriminator).as_slice())
 }
 
-/// Appends an extended opcode with its operand. Section 6.2.5.3.
-fn put_extended(bytes: &mut Bytes, opcode: u8, operand: &[u8])
+/// Puts an extended opcode with its operand. Section 6.2.5.3.
+fn put_extended(buffer: &mut [u8], at: usize, opcode: u8, operand: &[u8]) -> usize
     requires short { length operand.now < 127 }
-    requires room { length bytes.old.items + length operand.now + 3 ≤ BUFFER_LEN }
-    ensures items { bytes.new.items ≡ bytes.old.items ++ extended (opcode ∷ operand.now) }
-    ensures len { length bytes.new.items ≡ length bytes.old.items + length operand.now + 3 }
+    requires room { at + length operand.now + 3 ≤ length buffer.old }
+    ensures put { take result buffer.new ≡ take at buffer.old ++ extended (opcode ∷ operand.now) }
+    ensures end { result ≡ at + length operand.now + 3 }
 {
-    bytes.push(0);
-    bytes.push(1 + operand.len() as u8);
-    bytes.push(opcode);
-    put_slice(bytes, operand);
+    let at = put_byte(buffer, at, 0);
+    let at = put_byte(buffer, at, 1 + operand.len() as u8);
+    let at = put_byte(buffer, at, opcode);
+    put_slice(buffer, at, operand)
 }

@@ -1,6 +1,6 @@
 //! The program of a unit, which grows by rows. Section 6.2.5.
 
-ghost use Rattle.std.specs.Prelude.{◌≡◌, ◌≤◌, ◌+◌, ◌++◌, ◌∷◌, [], ℕ, List, length, IfErr, OnOk};
+ghost use Rattle.std.specs.Prelude.{◌≡◌, ◌≤◌, ◌+◌, ◌++◌, ◌∷◌, [], ℕ, List, length, take, IfOk, IfErr, OnOk};
 ghost use Rattle.dl_field.specs.declared.params.Params.{Params};
 ghost use Rattle.dl_field.specs.Layout.{standard_params};
 ghost use Rattle.dl_field.specs.Usable.{IsUsable};
@@ -9,7 +9,7 @@ ghost use Rattle.dl_emit.specs.Grown.{IsGrown};
 ghost use Rattle.dl_emit.specs.Laws.{IsUnitAgain};
 ghost use Rattle.dl_emit.specs.Writing.{WritesUnitHeader};
 
-use crate::bytes::{BUFFER_LEN, Bytes};
+use crate::bytes::BUFFER_LEN;
 use crate::fault::EmitFault;
 use crate::program::{ROW, keep, put_row};
 use crate::unit::is_in_range;
@@ -35,12 +35,14 @@ pub struct Program {
     refused: Option<usize>,
     /// The bytes of the rows but for the last of them.
     first: Vec<u8>,
-    /// The last bytes, to which each row is added.
-    last: Bytes,
+    /// A buffer with the last bytes, to which each row is added.
+    last: [u8; BUFFER_LEN],
+    /// How many bytes of the buffer are held.
+    held: usize,
 }
 
 impl Model for Program {
-    ghost use Rattle.std.specs.Prelude.{◌+◌, ◌≤◌, length};
+    ghost use Rattle.std.specs.Prelude.{◌+◌, ◌≤◌, length, take};
     ghost use Rattle.dl_field.specs.Usable.{IsUsable};
     ghost use Rattle.dl_emit.specs.Grown.{ProgramData};
     ghost use Rattle.dl_emit.specs.declared.bytes.TheConstants.{BUFFER_LEN};
@@ -54,12 +56,12 @@ impl Model for Program {
       rows = p.rows;
       refused = p.refused;
       first = p.first.items;
-      last = p.last.items;
+      last = take p.held p.last;
     } };
 
     // Each row has a byte at least.
-    ghost invariant = { λ p. IsUsable p.params × (p.rows ≤ length p.first.items + length p.last.items)
-        × (length p.last.items ≤ BUFFER_LEN) };
+    ghost invariant = { λ p. IsUsable p.params × (p.rows ≤ length p.first.items + length (take p.held p.last))
+        × (p.held ≤ BUFFER_LEN) };
 }
 
 impl Program {
@@ -74,7 +76,8 @@ impl Program {
             rows: 0,
             refused: None,
             first: Vec::new(alloc),
-            last: Bytes::new(),
+            last: [0; BUFFER_LEN],
+            held: 0,
         }
     }
 
@@ -88,10 +91,11 @@ impl Program {
         self.rows = 0;
         self.refused = None;
         self.first.clear();
-        self.last.clear();
+        self.held = 0;
     }
 
     /// A row more, or want of memory, and then it is as before.
+    #[inline(never)]
     pub fn push(&mut self, row: &Row) -> Result<(), AllocError>
         ensures grown { (h : Params) (rows : List Row) → IsGrown self.old self.old.order h rows
             → OnOk result (IsGrown self.new self.old.order h (rows ++ row.now ∷ [])) }
@@ -105,8 +109,15 @@ impl Program {
             self.refused = Some(self.rows);
             return Ok(());
         }
-        gather(&mut self.first, &mut self.last)?;
-        put_row(&mut self.last, self.order, &self.params, &self.before, row);
+        let at = gather(&mut self.first, &self.last, self.held)?;
+        self.held = put_row(
+            &mut self.last,
+            at,
+            self.order,
+            &self.params,
+            &self.before,
+            row,
+        );
         keep(&mut self.before, row);
         self.rows += 1;
         Ok(())
@@ -130,7 +141,7 @@ impl Program {
             return Err(EmitFault::RowRange(row));
         }
         let first = self.first.as_slice();
-        let last = self.last.as_slice();
+        let last = self.last_bytes();
         let len = first.len() as u64 + last.len() as u64;
         Ok(write_header(output, self.order, header, len)?)
     }
@@ -146,21 +157,26 @@ impl Program {
     pub fn last_bytes(&self) -> &[u8]
         ensures { result.now ≡ self.now.last }
     {
-        self.last.as_slice()
+        &self.last[..self.held]
     }
 }
 
-/// Adds the last bytes to those before them where there is no room beside them for a row.
-fn gather(first: &mut Vec<u8>, last: &mut Bytes) -> Result<(), AllocError>
-    ensures items { OnOk result (first.new.items ++ last.new.items ≡ first.old.items ++ last.old.items) }
-    ensures room { OnOk result (length last.new.items + ROW ≤ BUFFER_LEN) }
+/// Adds the last bytes to those before them where there is no room beside them for a row, and answers how many last bytes
+/// there are then.
+#[inline(always)]
+fn gather(
+    first: &mut Vec<u8>,
+    last: &[u8; BUFFER_LEN],
+    held: usize,
+) -> Result<usize, AllocError>
+    requires { held ≤ BUFFER_LEN }
+    ensures items { IfOk result (λ n. first.new.items ++ take n last.now ≡ first.old.items ++ take held last.now) }
+    ensures room { IfOk result (λ n. n + ROW ≤ BUFFER_LEN) }
     ensures first { IfErr result (λ _. first.new.items ≡ first.old.items) }
-    ensures last { IfErr result (λ _. last.new.items ≡ last.old.items) }
 {
-    if BUFFER_LEN - last.len() >= ROW {
-        return Ok(());
+    if BUFFER_LEN - held >= ROW {
+        return Ok(held);
     }
-    first.extend_from_slice(last.as_slice())?;
-    last.clear();
-    Ok(())
+    first.extend_from_slice(&last[..held])?;
+    Ok(0)
 }

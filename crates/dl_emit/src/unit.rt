@@ -1,6 +1,6 @@
 //! Units, measured and written. Section 6.2.4.
 
-ghost use Rattle.std.specs.Prelude.{◌≡◌, ◌<◌, ◌≤◌, ◌+◌, ◌^◌, ◌-◌, length, min, None, Some, IsTrue, IfOk, IfErr, OnOk};
+ghost use Rattle.std.specs.Prelude.{◌≡◌, ◌<◌, ◌≤◌, ◌+◌, ◌^◌, ◌-◌, length, take, min, None, Some, IsTrue, IfOk, IfErr, OnOk};
 ghost use Rattle.dl_field.specs.Usable.{IsUsable};
 ghost use Rattle.dl_table.specs.Writing.{Writes};
 ghost use Rattle.dl_emit.specs.WrittenUnit.{is_in_range as is_in_range_of, rows_refusal, program_bytes};
@@ -10,7 +10,7 @@ ghost use Rattle.dl_emit.specs.Writing.{Measures, WritesUnit};
 ghost use Rattle.dl_emit.specs.Laws.{IsRow, IsUnitAgain};
 ghost use Rattle.std.specs.List.{AllByRecursion};
 
-use crate::bytes::{BUFFER_LEN, Bytes};
+use crate::bytes::BUFFER_LEN;
 use crate::fault::EmitFault;
 use crate::program::{ROW, keep, put_row};
 use dl_head::counted::put;
@@ -75,16 +75,15 @@ fn program_len(params: &Params, rows: &[Row]) -> Result<u64, EmitFault>
     if params.opcode_base != 13 {
         return Err(EmitFault::OpcodeBase);
     }
-    let mut program = Bytes::new();
+    let mut program = [0; ROW];
     let mut before = None;
     let mut len = 0u64;
     for (i, row) in rows.iter().enumerate() {
         if !is_in_range(params, row) {
             return Err(EmitFault::RowRange(i));
         }
-        program.clear();
-        put_row(&mut program, Order::Little, params, &before, row);
-        len = len.saturating_add(program.len() as u64);
+        let end = put_row(&mut program, 0, Order::Little, params, &before, row);
+        len = len.saturating_add(end as u64);
         keep(&mut before, row);
     }
     Ok(len)
@@ -102,26 +101,33 @@ fn write_program<W: Write>(
     ensures written { Writes (W.contents output.old) (W.contents output.new) out
         (program_bytes order params.now rows.now) result }
 {
-    let mut held = Bytes::new();
+    let mut buffer = [0; BUFFER_LEN];
+    let mut held = 0;
     let mut before = None;
     for row in rows {
-        out = make_room(output, out, &mut held)?;
-        put_row(&mut held, order, params, &before, row);
+        out = make_room(output, out, &buffer, &mut held)?;
+        held = put_row(&mut buffer, held, order, params, &before, row);
         keep(&mut before, row);
     }
-    put(output, out, held.as_slice())
+    put(output, out, &buffer[..held])
 }
 
-/// Writes what is held where there is no room beside it for a row.
-fn make_room<W: Write>(output: &mut W, out: u64, held: &mut Bytes) -> Result<u64, HeadWrite>
+/// Writes the bytes that are held at the front of the buffer, where there is no room beside them for a row.
+fn make_room<W: Write>(
+    output: &mut W,
+    out: u64,
+    buffer: &[u8; BUFFER_LEN],
+    held: &mut usize,
+) -> Result<u64, HeadWrite>
+    requires { held.old ≤ BUFFER_LEN }
     ensures written { Gathers (W.contents output.old) (W.contents output.new) out
-        held.old.items held.new.items result }
-    ensures room { OnOk result (length held.new.items + ROW ≤ BUFFER_LEN) }
+        (take held.old buffer.now) (take held.new buffer.now) result }
+    ensures room { OnOk result (held.new + ROW ≤ BUFFER_LEN) }
 {
-    if BUFFER_LEN - held.len() >= ROW {
+    if BUFFER_LEN - *held >= ROW {
         return Ok(out);
     }
-    let out = put(output, out, held.as_slice())?;
-    held.clear();
+    let out = put(output, out, &buffer[..*held])?;
+    *held = 0;
     Ok(out)
 }

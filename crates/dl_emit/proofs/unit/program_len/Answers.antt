@@ -1,6 +1,6 @@
 use Rattle.std.proofs.Common.{subst, take, length, refl, arith, sym, ◌∙◌, ap, None}
 use Rattle.std.specs.List.{AllByRecursion}
-use Rattle.std.proofs.lemmas.List.{take_more, take_all}
+use Rattle.std.proofs.lemmas.List.{take_more, take_all, length-take-le}
 use Rattle.dl_table.proofs.SoundLemmas.{all_push}
 use Rattle.dl_emit.specs.Laws.{IsRow}
 use Rattle.dl_emit.proofs.ProgramLemmas.{row_in_range, row_out_of_range, refused_rows, no_row_left, counts_more}
@@ -22,7 +22,9 @@ loop-i-preserved c =
     let h = c.args.params.now in
     let rows = c.args.rows.now in
     let i = c.loop-i.i in
-    let bytes = c.len.ensures.value ∙ ap length (rw c.clear.ensures at c.put_row.ensures.items) in
+    let bytes =
+    sym (length-take-le c.put_row-end.result c.put_row-end.new.buffer c.put_row-end.ensures.fits)
+    ∙ ap length c.put_row-end.ensures.put in
     record {
       in_range =
           row_in_range h rows i _ c.loop-i-test.true (sym c.is_in_range.ensures.value ∙ c.if-not-is_in_range.false)
@@ -32,7 +34,7 @@ loop-i-preserved c =
           (all_push IsRow (take i rows) _ c.loop-i.invariant.ranged c.is_in_range.ensures.row);
       counted =
           rw c.keep.ensures
-          (counts_more h rows c.loop-i.len c.saturating_add-len.result c.len.result i _ c.loop-i.before
+          (counts_more h rows c.loop-i.len c.saturating_add-len.result c.put_row-end.result i _ c.loop-i.before
           c.loop-i-test.true bytes c.saturating_add-len.ensures c.loop-i.invariant.counted);
     }
 

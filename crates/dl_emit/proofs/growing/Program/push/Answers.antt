@@ -1,4 +1,4 @@
-use Rattle.std.proofs.Common.{◌∙◌, sym, ap, subst, arith, length-append, length}
+use Rattle.std.proofs.Common.{◌∙◌, sym, ap, subst, arith, length-append, length, take}
 use Rattle.std.specs.Option.{is_some}
 use Rattle.dl_emit.specs.Grown.{ProgramData, IsGrown}
 use Rattle.dl_emit.specs.Program.{row_operations}
@@ -23,17 +23,17 @@ pub invariant_of-self-2 : goal.invariant_of-self-2
 invariant_of-self-2 c =
     let inside = c.self.inside in
     let first = c.gather.new.first.items in
-    let last = c.gather.new.last.items in
+    let last = take c.in_ok-at.at inside.last in
     let operations = row_operations inside.params inside.before c.args.row.now in
     let some = row_has_bytes inside.order inside.params inside.before c.args.row.now in
-    let same = ap length c.in_ok-gather.ensures.items in
-    let more = ap length c.put_row.ensures.items in
-    let before = length-append inside.first.items inside.last.items in
+    let same = ap length c.in_ok-at.ensures.items in
+    let more = ap length c.put_row-self-inside.ensures.put in
+    let before = length-append inside.first.items (take inside.held inside.last) in
     let between = length-append first last in
     let after = length-append last (operations_bytes inside.order inside.params operations) in (
       c.self.invariant.0,
       omega (arith, c.self.invariant.1, some, same, more, before, between, after),
-      omega (arith, c.put_row.ensures.len, c.in_ok-gather.ensures.room),
+      omega (arith, c.put_row-self-inside.ensures.end, c.in_ok-at.ensures.room),
     )
 
 pub returns-clause-grown : goal.returns-clause-grown
@@ -42,7 +42,8 @@ returns-clause-grown c h rows g =
     let grown =
     grows _ order h rows c.args.row.now
     (subst (λ (p : ProgramData). IsGrown p order h rows) (sym c.self.view_is) g) c.gather.new.first.items
-    c.gather.new.last.items c.put_row.new.bytes.items (refused_none _ (sym c.is_some.ensures ∙ c.if-is_some.false))
+    (take c.in_ok-at.at c.self.inside.last) (take c.put_row-self-inside.result c.put_row-self-inside.new.buffer)
+    (refused_none _ (sym c.is_some.ensures ∙ c.if-is_some.false))
     (sym c.is_in_range.ensures.value ∙ c.if-not-is_in_range.false) c.is_in_range.ensures.row
-    c.in_ok-gather.ensures.items c.put_row.ensures.items in
+    c.in_ok-at.ensures.items c.put_row-self-inside.ensures.put in
     rw c.keep.ensures grown

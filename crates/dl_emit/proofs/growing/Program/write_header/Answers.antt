@@ -1,4 +1,5 @@
 use Rattle.std.proofs.Common.{◌∙◌, sym, ap, subst, arith, Ok, Err, ◌+◌, length}
+use Rattle.std.proofs.lemmas.List.{length-take}
 use Rattle.std.proofs.lemmas.Result.{err_from_is_err_and}
 use Rattle.std.proofs.KnownBytes.{Keeps-refl}
 use Rattle.dl_num.specs.declared.fixed.Order.{Order}
@@ -28,12 +29,13 @@ returns-in_err-write_header-clause-written g c rows grown =
     let same = c.self.view_is in
     let none = ap (λ (p : ProgramData). p.refused) (sym same) ∙ c.in_default.is in
     let first = c.as_slice-first in
-    let last = c.as_slice-last in
+    let last = c.last_bytes-last in
     let m = length first.result.now + length last.result.now in
     let of_first = ap length (first.ensures.value ∙ ap (λ (p : ProgramData). p.first) same) in
-    let of_last = ap length (last.ensures.value ∙ ap (λ (p : ProgramData). p.last) same) in
+    let of_last = ap length last.ensures in
     let len = counts_all p h.params rows grown none m (omega (arith, of_first, of_last))
-    (omega (arith, first.ensures.len, last.ensures.fits)) in
+    (omega (arith, first.ensures.len, of_last, length-take c.self.inside.held c.self.inside.last,
+    ap (λ (p : ProgramData). length p.last) same, c.self.invariant.2)) in
     let e = err_from_is_err_and c.from_residual.result c.from_residual.ensures.1 in
     let header =
     subst (λ (o : Order). WritesHeader o h m (g.W.Write.contents c.args.output.now)
@@ -49,12 +51,13 @@ returns-clause-written g c rows grown =
     let same = c.self.view_is in
     let none = ap (λ (p : ProgramData). p.refused) (sym same) ∙ c.in_default.is in
     let first = c.as_slice-first in
-    let last = c.as_slice-last in
+    let last = c.last_bytes-last in
     let m = length first.result.now + length last.result.now in
     let of_first = ap length (first.ensures.value ∙ ap (λ (p : ProgramData). p.first) same) in
-    let of_last = ap length (last.ensures.value ∙ ap (λ (p : ProgramData). p.last) same) in
+    let of_last = ap length last.ensures in
     let len = counts_all p h.params rows grown none m (omega (arith, of_first, of_last))
-    (omega (arith, first.ensures.len, last.ensures.fits)) in
+    (omega (arith, first.ensures.len, of_last, length-take c.self.inside.held c.self.inside.last,
+    ap (λ (p : ProgramData). length p.last) same, c.self.invariant.2)) in
     let header =
     subst (λ (o : Order). WritesHeader o h m (g.W.Write.contents c.args.output.now)
     (g.W.Write.contents c.write_header.new.output) (Ok c.in_ok-write_header.field-0))
