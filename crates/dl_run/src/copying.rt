@@ -77,7 +77,7 @@ impl<W: Write> Visitor<W> for Copier {
         Err(RunFault::ForeignUnit { unit: offset })
     }
 
-    #[inline]
+    #[inline(always)]
     fn row(&mut self, _output: &mut W, row: &Row) -> Result<(), RunFault> {
         match self.program.push(row) {
             Ok(()) => Ok(()),
