@@ -36,7 +36,8 @@ two_groups negative n ge lt = spelled negative n ∙ by n (omega arith) where
   by zero some = absurd (omega arith)
   by (suc count) some =
       ap (bytes_on 64 negative count n) (le-ltb n 64 ge)
-      ∙ ap (λ (l : List ℕ). (128 + byte_of negative (n % 128)) ∷ l) (last_group 64 negative count (n / 128) (omega arith))
+      ∙ ap (λ (l : List ℕ). (128 + byte_of negative (n % 128)) ∷ l)
+      (last_group 64 negative count (n / 128) (omega arith))
 
 -- an unsigned number of one group
 pub one_byte : (n : ℕ) → n < 128 → shortest_uleb n ≡ n ∷ []

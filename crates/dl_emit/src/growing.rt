@@ -161,14 +161,10 @@ impl Program {
     }
 }
 
-/// Adds the last bytes to those before them where there is no room beside them for a row, and answers how many last bytes
-/// there are then.
+/// Adds the last bytes to those before them where there is no room beside them for a row, and answers how many last
+/// bytes there are then.
 #[inline(always)]
-fn gather(
-    first: &mut Vec<u8>,
-    last: &[u8; BUFFER_LEN],
-    held: usize,
-) -> Result<usize, AllocError>
+fn gather(first: &mut Vec<u8>, last: &[u8; BUFFER_LEN], held: usize) -> Result<usize, AllocError>
     requires { held ≤ BUFFER_LEN }
     ensures items { IfOk result (λ n. first.new.items ++ take n last.now ≡ first.old.items ++ take held last.now) }
     ensures room { IfOk result (λ n. n + ROW ≤ BUFFER_LEN) }

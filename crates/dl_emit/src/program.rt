@@ -1,6 +1,7 @@
 //! The program of a row, from the row before it. Section 6.2.5.
 
-ghost use Rattle.std.specs.Prelude.{◌≡◌, ◌+◌, ◌≤◌, ◌<◌, ◌^◌, ◌++◌, false, length, take, None, Some, Option, IfSome, unwrap_or, if◌then◌else◌};
+ghost use Rattle.std.specs.Prelude.{◌≡◌, ◌+◌, ◌≤◌, ◌<◌, ◌^◌, ◌++◌, false, length, take};
+ghost use Rattle.std.specs.Prelude.{None, Some, Option, IfSome, unwrap_or, if◌then◌else◌};
 ghost use Rattle.dl_field.specs.Usable.{IsUsable};
 ghost use Rattle.dl_emit.specs.Program.{when, settings, marks, instructions as instructions_of};
 ghost use Rattle.dl_emit.specs.Program.{advance_by as advance_by_of, advance as advance_of};

@@ -7,11 +7,11 @@ pub loop-row-init : goal.loop-row-init
 loop-row-init g c = record {
   fits = omega arith;
   gone = λ start text h. record {
-      done = [];
-      gathered =
-          record { front = text; whole = refl; out = h };
-      whole = refl;
-    };
+    done = [];
+    gathered =
+        record { front = text; whole = refl; out = h };
+    whole = refl;
+  };
 }
 
 pub returns-in_err-out : goal.returns-in_err-out

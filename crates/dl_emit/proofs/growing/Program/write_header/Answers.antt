@@ -34,8 +34,14 @@ returns-in_err-write_header-clause-written g c rows grown =
     let of_first = ap length (first.ensures.value ∙ ap (λ (p : ProgramData). p.first) same) in
     let of_last = ap length last.ensures in
     let len = counts_all p h.params rows grown none m (omega (arith, of_first, of_last))
-    (omega (arith, first.ensures.len, of_last, length-take c.self.inside.held c.self.inside.last,
-    ap (λ (p : ProgramData). length p.last) same, c.self.invariant.2)) in
+    (omega (
+      arith,
+      first.ensures.len,
+      of_last,
+      length-take c.self.inside.held c.self.inside.last,
+      ap (λ (p : ProgramData). length p.last) same,
+      c.self.invariant.2,
+    )) in
     let e = err_from_is_err_and c.from_residual.result c.from_residual.ensures.1 in
     let header =
     subst (λ (o : Order). WritesHeader o h m (g.W.Write.contents c.args.output.now)
@@ -56,8 +62,14 @@ returns-clause-written g c rows grown =
     let of_first = ap length (first.ensures.value ∙ ap (λ (p : ProgramData). p.first) same) in
     let of_last = ap length last.ensures in
     let len = counts_all p h.params rows grown none m (omega (arith, of_first, of_last))
-    (omega (arith, first.ensures.len, of_last, length-take c.self.inside.held c.self.inside.last,
-    ap (λ (p : ProgramData). length p.last) same, c.self.invariant.2)) in
+    (omega (
+      arith,
+      first.ensures.len,
+      of_last,
+      length-take c.self.inside.held c.self.inside.last,
+      ap (λ (p : ProgramData). length p.last) same,
+      c.self.invariant.2,
+    )) in
     let header =
     subst (λ (o : Order). WritesHeader o h m (g.W.Write.contents c.args.output.now)
     (g.W.Write.contents c.write_header.new.output) (Ok c.in_ok-write_header.field-0))
