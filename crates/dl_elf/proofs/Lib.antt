@@ -3,5 +3,6 @@ pub mod Headers
 pub mod Windows
 pub mod NameLemmas
 pub mod FoundLemmas
+mod ForwardLemmas
 pub mod NoteLemmas
 pub mod WorkedFile

@@ -1,6 +1,7 @@
 -- What is copied out of a window, and what a fill of a buffer leaves in it.
-use Rattle.std.proofs.Common.{◌≡◌, ℕ, ◌+◌, ◌-◌, ◌≤◌, List, ◌++◌, length, take, drop, min, Option, sym, ap, ◌∙◌, arith}
-use Rattle.std.proofs.lemmas.List.{length-take-le, take-take, take_min, take_all, drop-take, drop-drop, take-append-le}
+use Rattle.std.proofs.Common.{◌≡◌, ℕ, ◌+◌, ◌-◌, ◌≤◌, List, length, take, drop, min, Option, sym, ap, ◌∙◌, arith}
+use Rattle.std.proofs.Common.{length-take, length-drop}
+use Rattle.std.proofs.lemmas.List.{length-take-le, take-take, take_min, drop-take, drop-drop}
 use Rattle.dl_elf.specs.Source.{ForBytes}
 
 -- len items from d on, of the first n
@@ -11,19 +12,21 @@ middle d len n xs h =
     ap (λ k. drop d (take k xs)) (sym split) ∙ drop-take d (n - d) xs in
     rw cut (sym (take-take len (n - d) (drop d xs) (omega (arith, h))))
 
--- a buffer holds n bytes of a file from start on; as many of them as bytes has are copied, from offset on
-pub copied : (known : Option (List ℕ)) (start offset n : ℕ) (buffer bytes : List ℕ) → start ≤ offset
-    → offset - start + length bytes ≤ n
-    → bytes ≡ take (length bytes) (drop (offset - start) buffer)
-    → ForBytes known (λ f. take n buffer ≡ take n (drop start f))
-    → ForBytes known (λ f. take (length bytes) bytes ≡ take (length bytes) (drop offset f))
-copied known start offset n buffer bytes s l b e = λ f is short.
+-- so many are shown as lie in the buffer
+pub shown_len : (d n : ℕ) (buffer : List ℕ) → d + n ≤ length buffer → length (take n (drop d buffer)) ≡ n
+shown_len d n buffer within =
+    omega (arith, within, length-take n (drop d buffer), length-drop d buffer)
+
+-- a buffer holds n bytes of a file from start on, and among them len from offset on
+pub kept : (known : Option (List ℕ)) (start offset n len : ℕ) (buffer : List ℕ) → start ≤ offset
+    → offset - start + len ≤ n → ForBytes known (λ f. take n buffer ≡ take n (drop start f))
+    → ForBytes known (λ f. take len (drop (offset - start) buffer) ≡ take len (drop offset f))
+kept known start offset n len buffer s l e = λ f is short.
     let d : ℕ = offset - start in
-    let len : ℕ = length bytes in
     let at : start + d ≡ offset = omega (arith, s) in
-    take_all len bytes (omega arith) ∙ (b ∙ (middle d len n buffer l ∙ (ap (λ xs. take len (drop d xs)) (e f is short)
+    middle d len n buffer l ∙ (ap (λ xs. take len (drop d xs)) (e f is short)
     ∙ (sym (middle d len n (drop start f) l)
-    ∙ (ap (λ xs. take len xs) (drop-drop d start f) ∙ ap (λ k. take len (drop k f)) at)))))
+    ∙ (ap (λ xs. take len xs) (drop-drop d start f) ∙ ap (λ k. take len (drop k f)) at)))
 
 -- the front of a buffer into which as many bytes as fit were read
 pub front_of_full : (n filled len most : ℕ) (buffer xs : List ℕ) → n ≡ min filled len → filled ≤ length buffer
@@ -36,15 +39,16 @@ front_of_full n filled len most buffer xs is fits h e =
     ∙ (ap (λ ys. take n ys) e ∙ (ap (λ k. take k (take most xs)) same
     ∙ (take_min len (take most xs) ∙ take-take len most xs h)))
 
--- the bytes of a full window are copied into the front of a buffer
-pub copied_front : (known : Option (List ℕ)) (offset n filled most : ℕ) (buffer part rest : List ℕ)
-    → n ≡ min filled (length (part ++ rest)) → filled ≤ length buffer
-    → length (part ++ rest) ≤ most → length part ≡ n → part ≡ take n buffer
-    → ForBytes known (λ f. take filled buffer ≡ take most (drop offset f))
-    → ForBytes known (λ f. take n (part ++ rest) ≡ take (length (part ++ rest)) (drop offset f))
-copied_front known offset n filled most buffer part rest is fits h l p e = λ f i short.
-    take-append-le n part rest (omega (arith, l)) ∙ (take_all n part (omega (arith, l))
-    ∙ (p ∙ front_of_full n filled (length (part ++ rest)) most buffer (drop offset f) is fits h (e f i short)))
+-- a full window that begins at the offset
+pub moved : (known : Option (List ℕ)) (start offset n filled len most : ℕ) (buffer : List ℕ) → start ≡ offset
+    → n ≡ min filled len → filled ≤ length buffer → len ≤ most
+    → ForBytes known (λ f. take filled buffer ≡ take most (drop start f))
+    → ForBytes known (λ f. take n (drop (offset - start) buffer) ≡ take len (drop offset f))
+moved known start offset n filled len most buffer same is fits l e = λ f i short.
+    let none : offset - start ≡ 0 = omega (arith, same) in
+    ap (λ k. take n (drop k buffer)) none
+    ∙ (front_of_full n filled len most buffer (drop start f) is fits l (e f i short)
+    ∙ ap (λ k. take len (drop k f)) same)
 
 -- a fill of a whole buffer
 pub full_of : (known : Option (List ℕ)) (offset n most : ℕ) (buffer : List ℕ) → length buffer ≡ most

@@ -59,13 +59,12 @@ pub fn section_at<S: ReadAt>(
     let Some(at) = header_place(header, number) else {
         return Ok(None);
     };
-    let mut buffer = [0; 64];
-    let bytes = &mut buffer[..section_header_size(header.class)];
-    if window.fill_whole(source, at, bytes)? {
-        Ok(Some(section_fields(header.class, header.order, bytes)))
-    } else {
-        Ok(None)
+    let size = section_header_size(header.class);
+    if window.show(source, at, size)? < size {
+        return Ok(None);
     }
+    let bytes = window.shown(at, size);
+    Ok(Some(section_fields(header.class, header.order, bytes)))
 }
 
 /// Where a section's bytes stand; a section of type NOBITS has none.

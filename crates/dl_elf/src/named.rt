@@ -1,12 +1,12 @@
 //! The sections of the names that are looked for, found in one pass over the section headers.
-ghost use Rattle.std.specs.Prelude.{◌≡◌, ◌+◌, ◌<◌, ◌≤◌, ℕ, None, length, take, replicate, false};
+ghost use Rattle.std.specs.Prelude.{◌≡◌, ◌+◌, ◌-◌, ◌<◌, ◌≤◌, ℕ, None, replicate, false};
 ghost use Rattle.std.specs.Prelude.{IsFalse, IfOk, IfErr, OnOk};
-ghost use Rattle.std.specs.Io.{ReadsAtMost};
 ghost use Rattle.dl_elf.specs.Source.{ForBytes};
-ghost use Rattle.dl_elf.specs.Window.{Shows};
+ghost use Rattle.dl_elf.specs.Window.{Shows, Has, shown};
 ghost use Rattle.dl_elf.specs.Slots.{begins_with_name, name_front, noted, slot_of};
-ghost use Rattle.dl_elf.specs.SectionsHeld.{slots};
+ghost use Rattle.dl_elf.specs.SectionsHeld.{slots, forward_of};
 ghost use Rattle.dl_elf.specs.Found.{AreFound};
+ghost use Rattle.dl_elf.specs.Forward.{NoneForward, passed};
 ghost use Rattle.dl_elf.specs.SlotsFound.{AreFoundBefore};
 
 use crate::file::{Elf, section_at};
@@ -36,18 +36,22 @@ const LONGEST: usize = 20;
 pub struct Sections {
     /// In the order of `SectionName::ALL`.
     found: [Option<NamedSection>; NAMES],
+    /// The number of the first section that may have relocations of a later one.
+    forward: u64,
 }
 
 impl Sections {
     ghost use Rattle.dl_elf.specs.Slots.{noted, slot_at, name_at, slot_of};
-    ghost use Rattle.dl_elf.specs.SectionsHeld.{slots};
+    ghost use Rattle.dl_elf.specs.SectionsHeld.{slots, forward_of};
 
     /// None found yet.
     fn new() -> Sections
-        ensures { slots result ≡ replicate 10 None }
+        ensures slots { slots result ≡ replicate 10 None }
+        ensures forward { forward_of result ≡ 1 }
     {
         Sections {
             found: [None; NAMES],
+            forward: 1,
         }
     }
 
@@ -58,10 +62,31 @@ impl Sections {
         self.found[name.index()]
     }
 
+    /// The number of a section before which none has relocations of section `number`.
+    pub fn relocations_from(&self, number: u64) -> u64
+        ensures from { 1 ≤ result }
+        ensures most { result - 1 ≤ forward_of self.now - 1 }
+        ensures before { (k : ℕ) → 1 ≤ k → k < result → k < number }
+    {
+        self.forward.min(number).max(1)
+    }
+
+    /// Goes past section `number`, where it is the next one and has no relocations of a later one.
+    fn pass(&mut self, number: u64, header: &SectionHeader)
+        requires { number < 18446744073709551615 }
+        ensures slots { slots self.new ≡ slots self.old }
+        ensures forward { forward_of self.new ≡ passed number header.now (forward_of self.old) }
+    {
+        if self.forward == number && !header.relocates_later(number) {
+            self.forward = number + 1;
+        }
+    }
+
     /// Keeps the section under each name that `bytes` begin with and that has no section yet.
     fn note(&mut self, number: u64, header: &SectionHeader, bytes: &[u8])
-        ensures { (k : ℕ) → k < 10 → slot_at (slots self.new) k
+        ensures slots { (k : ℕ) → k < 10 → slot_at (slots self.new) k
             ≡ noted bytes.now number header.now (name_at k) (slot_at (slots self.old) k) }
+        ensures forward { forward_of self.new ≡ forward_of self.old }
     {
         if !may_be_looked_for(bytes) {
             return;
@@ -107,29 +132,25 @@ fn begins_with_name(bytes: &[u8], name: SectionName) -> bool
     text.len() < bytes.len() && &bytes[..text.len()] == text && bytes[text.len()] == 0
 }
 
-/// Puts the bytes of the name table from a section's name on into the front of the buffer, as many
-/// as there are and fit, and answers how many.
-fn read_name<S: ReadAt>(
+/// The bytes of the name table from a section's name on, as many as there are of `LONGEST`: where they stand in the
+/// file, and how many the window shows.
+fn show_name<S: ReadAt>(
     source: &S,
     window: &mut Window,
     elf: &Elf,
     section: &SectionHeader,
-    buffer: &mut [u8],
-) -> io::Result<usize>
+) -> io::Result<(u64, usize)>
     requires shows { Shows (S.all_bytes source.now) window.old }
-    requires short { length buffer.old ≤ 4096 }
     ensures shows { Shows (S.all_bytes source.now) window.new }
-    ensures bound { ReadsAtMost result buffer.new }
-    ensures name { ForBytes (S.all_bytes source.now) (λ f. IfOk result (λ n.
-        take n buffer.new ≡ name_front elf.now f section.now (length buffer.new))) }
+    ensures has { IfOk result (λ name. Has window.new name.0 name.1) }
+    ensures name { ForBytes (S.all_bytes source.now) (λ f. IfOk result (λ name.
+        shown window.new name.0 name.1 ≡ name_front elf.now f section.now 20)) }
     ensures fails { IfErr result (S.fails_with source.now) }
 {
     let left = elf.names.size.saturating_sub(section.name_offset);
-    let Some(at) = elf.names.offset.checked_add(section.name_offset) else {
-        return Ok(0);
-    };
-    let room = shorter(buffer.len(), left);
-    window.fill(source, at, &mut buffer[..room])
+    let at = elf.names.offset.saturating_add(section.name_offset);
+    let len = window.show(source, at, shorter(LONGEST, left))?;
+    Ok((at, len))
 }
 
 /// Looks at section `number`, and keeps it where it is the first of one of the names.
@@ -144,30 +165,38 @@ fn look_at<S: ReadAt>(
     requires headers { Shows (S.all_bytes source.now) headers.old }
     requires names { Shows (S.all_bytes source.now) names.old }
     requires from { 1 ≤ number }
+    requires within { number < 18446744073709551615 }
     ensures headers { Shows (S.all_bytes source.now) headers.new }
     ensures names { Shows (S.all_bytes source.now) names.new }
     ensures found { ForBytes (S.all_bytes source.now) (λ f. OnOk result
         (AreFoundBefore elf.now f number (slots sections.old)
         → AreFoundBefore elf.now f (number + 1) (slots sections.new))) }
+    ensures forward { ForBytes (S.all_bytes source.now) (λ f. OnOk result
+        (NoneForward elf.now f (forward_of sections.old) → NoneForward elf.now f (forward_of sections.new))) }
+    ensures most { OnOk result (forward_of sections.old ≤ number → forward_of sections.new ≤ number + 1) }
     ensures fails { IfErr result (S.fails_with source.now) }
 {
     let header = section_at(source, headers, &elf.header, number)?;
     let Some(header) = header else {
         return Ok(());
     };
+    sections.pass(number, &header);
     if header.section_type == NOBITS {
         return Ok(());
     }
-    let mut buffer = [0; LONGEST];
-    let n = read_name(source, names, elf, &header, &mut buffer)?;
-    sections.note(number, &header, &buffer[..n]);
+    let (at, len) = show_name(source, names, elf, &header)?;
+    sections.note(number, &header, names.shown(at, len));
     Ok(())
 }
 
-/// Finds the sections of the names, in one pass over the section headers.
+/// Finds the sections of the names, and from where on sections may have relocations of later ones, in one pass over
+/// the section headers.
 pub fn find_sections<S: ReadAt>(source: &S, elf: &Elf) -> io::Result<Sections>
     ensures found { ForBytes (S.all_bytes source.now) (λ f.
         IfOk result (λ s. AreFound elf.now f (slot_of (slots s)))) }
+    ensures forward { ForBytes (S.all_bytes source.now) (λ f.
+        IfOk result (λ s. NoneForward elf.now f (forward_of s))) }
+    ensures within { IfOk result (λ s. forward_of s - 1 ≤ elf.now.count - 1) }
     ensures fails { IfErr result (S.fails_with source.now) }
 {
     let mut headers = Window::new();

@@ -47,12 +47,20 @@ pub struct SectionHeader {
 
 impl SectionHeader {
     ghost use Rattle.dl_elf.specs.Elf.{relocates, is_executable};
+    ghost use Rattle.dl_elf.specs.Forward.{relocates_later};
 
     /// Whether the section has relocations of section `number`.
     pub fn relocates(&self, number: u64) -> bool
         ensures { result ≡ relocates number self.now }
     {
         self.info == number && (self.section_type == RELA || self.section_type == REL)
+    }
+
+    /// Whether it is section `number` and has relocations of a later one.
+    pub(crate) fn relocates_later(&self, number: u64) -> bool
+        ensures { result ≡ relocates_later number self.now }
+    {
+        number < self.info && (self.section_type == RELA || self.section_type == REL)
     }
 
     /// Whether the section has instructions that stand in memory while the program runs.

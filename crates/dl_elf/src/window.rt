@@ -1,13 +1,12 @@
 //! A buffer for small reads that lie near one another.
-ghost use Rattle.std.specs.Prelude.{◌≡◌, ◌≤◌, ◌+◌, ◌-◌, ℕ, List, Option, length, take, drop, IsTrue, OnOk, IfOk, IfErr};
-ghost use Rattle.std.specs.Io.{ReadsAtMost};
-ghost use Rattle.dl_elf.specs.Source.{FillsFrom, FilledFrom};
+ghost use Rattle.std.specs.Prelude.{◌≡◌, ◌≤◌, ℕ, List, Option, length, take, drop, IsTrue, OnOk, IfOk, IfErr};
+ghost use Rattle.dl_elf.specs.Source.{ForBytes};
 
 use crate::source::{ReadAt, fill};
 use std::io;
 
 /// How many bytes it holds.
-const SIZE: usize = 4096;
+const SIZE: usize = 16_384;
 
 /// A window onto a file: some of its bytes that stand in a row.
 #[derive(Drop)]
@@ -16,12 +15,12 @@ pub struct Window {
     start: u64,
     filled: usize,
     buffer: [u8; SIZE],
-    ghost room: { length buffer ≡ 4096 },
-    ghost within: { filled ≤ 4096 },
+    ghost room: { length buffer ≡ 16384 },
+    ghost within: { filled ≤ 16384 },
 }
 
 impl Window {
-    ghost use Rattle.dl_elf.specs.Window.{Shows, IsFull};
+    ghost use Rattle.dl_elf.specs.Window.{Shows, IsFull, Has, shown};
 
     /// A window that shows nothing yet.
     pub fn new() -> Window
@@ -50,7 +49,7 @@ impl Window {
 
     /// Whether it shows this many bytes from the offset on.
     fn has(&self, offset: u64, len: usize) -> bool
-        ensures { IsTrue result → (self.now.start ≤ offset) × (offset - self.now.start + len ≤ self.now.filled) }
+        ensures { IsTrue result → Has self.now offset len }
     {
         if offset < self.start || self.filled < len {
             return false;
@@ -58,57 +57,37 @@ impl Window {
         offset - self.start <= (self.filled - len) as u64
     }
 
-    /// Copies bytes that it shows.
-    fn copy_to(&self, offset: u64, buffer: &mut [u8])
-        requires start { self.now.start ≤ offset }
-        requires end { offset - self.now.start + length buffer.old ≤ self.now.filled }
-        ensures { buffer.new ≡ take (length buffer.new) (drop (offset - self.now.start) self.now.buffer) }
-    {
-        let from = (offset - self.start) as usize;
-        let len = buffer.len();
-        buffer.copy_from_slice(&self.buffer[from..from + len]);
-    }
-
-    /// Fills the front of the buffer with the bytes from the offset on, as many as there are and fit, and
-    /// answers how many.
-    pub fn fill<S: ReadAt>(
+    /// Shows the bytes from the offset on, and answers how many of `len` there are.
+    pub(crate) fn show<S: ReadAt>(
         &mut self,
         source: &S,
         offset: u64,
-        buffer: &mut [u8],
+        len: usize,
     ) -> io::Result<usize>
         requires shows { Shows (S.all_bytes source.now) self.old }
-        requires short { length buffer.old ≤ 4096 }
+        requires short { len ≤ 4096 }
         ensures shows { Shows (S.all_bytes source.now) self.new }
-        ensures bound { ReadsAtMost result buffer.new }
-        ensures bytes { FillsFrom (S.all_bytes source.now) offset result buffer.new }
+        ensures has { IfOk result (λ n. Has self.new offset n) }
+        ensures most { IfOk result (λ n. n ≤ len) }
+        ensures len { IfOk result (λ n. length (shown self.new offset n) ≡ n) }
+        ensures bytes { ForBytes (S.all_bytes source.now) (λ f.
+            IfOk result (λ n. shown self.new offset n ≡ take len (drop offset f))) }
         ensures fails { IfErr result (S.fails_with source.now) }
     {
-        if self.has(offset, buffer.len()) {
-            self.copy_to(offset, buffer);
-            return Ok(buffer.len());
+        if self.has(offset, len) {
+            return Ok(len);
         }
         self.move_to(source, offset)?;
-        let n = self.filled.min(buffer.len());
-        self.copy_to(offset, &mut buffer[..n]);
-        Ok(n)
+        Ok(self.filled.min(len))
     }
 
-    /// Fills the buffer with the bytes from the offset on; false where they end before it is full.
-    pub fn fill_whole<S: ReadAt>(
-        &mut self,
-        source: &S,
-        offset: u64,
-        buffer: &mut [u8],
-    ) -> io::Result<bool>
-        requires shows { Shows (S.all_bytes source.now) self.old }
-        requires some { 1 ≤ length buffer.old }
-        requires short { length buffer.old ≤ 4096 }
-        ensures shows { Shows (S.all_bytes source.now) self.new }
-        ensures bytes { IfOk result (λ whole. FilledFrom (S.all_bytes source.now) offset whole buffer.new) }
-        ensures fails { IfErr result (S.fails_with source.now) }
+    /// Bytes that it shows.
+    pub(crate) fn shown(&self, offset: u64, len: usize) -> &[u8]
+        requires { Has self.now offset len }
+        ensures bytes { result.now ≡ shown self.entry.now offset len }
+        ensures len { length result.now ≡ len }
     {
-        let n = self.fill(source, offset, buffer)?;
-        Ok(n == buffer.len())
+        let from = (offset - self.start) as usize;
+        &self.buffer[from..from + len]
     }
 }

@@ -1,7 +1,7 @@
 -- Sections of relocations, one section header further on.
 use Rattle.std.proofs.Common.{◌≡◌, ℕ, zero, suc, ◌+◌, ◌-◌, ◌<◌, ◌≤◌, true, false}
 use Rattle.std.proofs.Common.{Bool, if◌then◌else◌, nat_le, List, Option}
-use Rattle.std.proofs.Common.{Some, None, Ok, Err, arith, inl, inr, refl, sym, ap, ◌∙◌}
+use Rattle.std.proofs.Common.{Some, None, Ok, Err, arith, inl, inr, refl, ap, ◌∙◌}
 use Rattle.std.proofs.lemmas.Bool.{cases_lt, le-leb, lt-leb}
 use Rattle.std.proofs.lemmas.Option.{none-some, same_Some}
 use Rattle.dl_elf.specs.declared.file.Elf.{Elf}
@@ -11,6 +11,7 @@ use Rattle.dl_elf.specs.declared.fault.ElfFault.{ElfFault}
 use Rattle.dl_elf.specs.declared.fault.ElfFault.TheVariants as fault
 use Rattle.dl_elf.specs.declared.fault.Part.TheVariants as part
 use Rattle.dl_elf.specs.Elf.{is_object, relocates}
+use Rattle.dl_elf.specs.Forward.{IsBackward}
 use Rattle.dl_elf.specs.Sections.{section_bytes, section_in}
 use Rattle.dl_file.specs.Relocations.{HasRelocations, and_then, line_bytes, bytes_with, relocated_at, relocated_upto}
 use Rattle.dl_file.specs.Relocations.{relocated_if, relocations_at, relocations_in, relocations_of}
@@ -28,6 +29,18 @@ next_counted e f number n sections more from so_far next =
     ap (λ k. relocations_upto e f number k) on
     ∙ (ap (λ r. sum_of r (relocations_at e f number (suc (n - 1)))) so_far
     ∙ (ap (λ k. sum_of (Some sections) (relocations_at e f number k)) back ∙ ap (sum_of (Some sections)) next))
+
+-- none, where sections 1 to n have none of a later section, and stand before section `number`
+pub none_before : (e : Elf) (f : List ℕ) (number n : ℕ)
+    → ((k : ℕ) → 1 ≤ k → k < n + 1 → IsBackward e f k × (k < number)) → relocations_upto e f number n ≡ Some 0
+none_before e f number zero backward = refl
+none_before e f number (suc n) backward =
+    let p = backward (suc n) (omega arith) (omega arith) in
+    let none : relocations_at e f number (suc n) ≡ Some 0 =
+    ap (relocations_in number) p.0.1 ∙ ap (λ b. Some (if b then 1 else 0)) (p.0.2 number p.1) in
+    ap (λ r. sum_of r (relocations_at e f number (suc n)))
+    (none_before e f number n (λ k from less. backward k from (omega (arith, less))))
+    ∙ ap (sum_of (Some 0)) none
 
 -- a section header that isn't there decides, whatever follows
 none_stays : (e : Elf) (f : List ℕ) (number end n : ℕ) → n ≤ end

@@ -1,11 +1,12 @@
 //! The sections of a file's line table.
-ghost use Rattle.std.specs.Prelude.{◌≡◌, ◌⊎◌, Some, None, true, option_map, option_and_then, IfOk, IfErr};
+ghost use Rattle.std.specs.Prelude.{◌≡◌, ◌≤◌, ◌-◌, ◌⊎◌, Some, None, true, option_map, option_and_then, IfOk, IfErr};
 ghost use Rattle.dl_elf.specs.Source.{ForBytes};
 ghost use Rattle.dl_elf.specs.Answers.{IfRead};
 ghost use Rattle.dl_elf.specs.Sections.{range_within, section_bytes, section_range};
 ghost use Rattle.dl_elf.specs.Compressed.{compression_header, section_damage};
 ghost use Rattle.dl_elf.specs.Slots.{slot_of};
-ghost use Rattle.dl_elf.specs.SectionsHeld.{slots};
+ghost use Rattle.dl_elf.specs.SectionsHeld.{slots, forward_of};
+ghost use Rattle.dl_elf.specs.Forward.{NoneForward};
 ghost use Rattle.dl_file.specs.Answering.{OpensLine, OpensOption, OpensTable, StopsInflating, StopsReading};
 ghost use Rattle.dl_file.specs.Relocations.{HasRelocations};
 ghost use Rattle.dl_file.specs.LineTable.{HasStream, IsLine, IsTableOf, Opens, TakesMemoryFor, content, refused};
@@ -273,20 +274,24 @@ fn line_reader<'a, S: ReadAt>(
     alloc: Global,
     source: &'a S,
     elf: &Elf,
+    sections: &Sections,
     line: &NamedSection,
 ) -> Result<LineReader<'a, S>, ElfFault>
     requires within { ForBytes (S.all_bytes source.now)
         (λ f. range_within (section_range line.now.header) f ≡ true) }
+    requires forward { ForBytes (S.all_bytes source.now)
+        (λ f. NoneForward elf.now f (forward_of sections.now)) }
+    requires passed { forward_of sections.now - 1 ≤ elf.now.count - 1 }
     ensures opens { ForBytes (S.all_bytes source.entry.now) (λ f. OpensLine S.all_bytes (IsLine elf.now f line.now)
         (HasRelocations elf.now f line.now.number ⊎ HasStream elf.now f (Some line.now)) result) }
     ensures read { IfRead (S.fails_with source.entry.now) result }
 {
-    let sections = find_relocations(source, elf, line.number)?;
-    if sections.count == 0 {
+    let relocations = find_relocations(source, elf, sections, line.number)?;
+    if relocations.count == 0 {
         let reader = ContentReader::open(alloc, source, elf, line)?;
         return Ok(LineReader::File(reader));
     }
-    if MOST_RELOCATIONS < sections.count {
+    if MOST_RELOCATIONS < relocations.count {
         return Err(ElfFault::Damaged(Part::Relocations(line.name)));
     }
     let mut bytes = whole_bytes(alloc, source, elf, line)?;
@@ -295,7 +300,7 @@ fn line_reader<'a, S: ReadAt>(
         source,
         elf,
         line,
-        sections.first,
+        relocations.first,
         bytes.as_mut_slice(),
     )?;
     Ok(LineReader::Held(Cursor::new(bytes)))
@@ -306,8 +311,12 @@ fn open_chosen<'a, S: ReadAt>(
     alloc: Global,
     source: &'a S,
     elf: &Elf,
+    sections: &Sections,
     chosen: &Chosen,
 ) -> Result<LineFile<'a, S>, ElfFault>
+    requires forward { ForBytes (S.all_bytes source.now)
+        (λ f. NoneForward elf.now f (forward_of sections.now)) }
+    requires passed { forward_of sections.now - 1 ≤ elf.now.count - 1 }
     ensures opens { ForBytes (S.all_bytes source.entry.now) (λ f. OpensTable S.all_bytes
         (IsTableOf elf.now f chosen.now) (TakesMemoryFor elf.now f chosen.now) result) }
     ensures read { IfRead (S.fails_with source.entry.now) result }
@@ -321,7 +330,7 @@ fn open_chosen<'a, S: ReadAt>(
     Ok(LineFile {
         order: elf.header.order,
         is_object: elf.header.is_object(),
-        line: line_reader(alloc, source, elf, &chosen.line)?,
+        line: line_reader(alloc, source, elf, sections, &chosen.line)?,
         debug_line_str: optional_reader(alloc, source, elf, chosen.debug_line_str)?,
         debug_str: optional_reader(alloc, source, elf, chosen.debug_str)?,
     })
@@ -360,5 +369,5 @@ pub fn open_line_file<'a, S: ReadAt>(
         let note = sections.get(SectionName::BuildIdNote);
         return Err(ElfFault::NoLineSection(read_build_id(source, &elf, note)?));
     };
-    open_chosen(alloc, source, &elf, &chosen)
+    open_chosen(alloc, source, &elf, &sections, &chosen)
 }

@@ -4,14 +4,16 @@ ghost use Rattle.dl_elf.specs.Source.{ForBytes};
 ghost use Rattle.dl_elf.specs.Answers.{IfRead};
 ghost use Rattle.dl_elf.specs.Sections.{range_within, section_bytes, section_range};
 ghost use Rattle.dl_elf.specs.Window.{Shows};
+ghost use Rattle.dl_elf.specs.SectionsHeld.{forward_of};
+ghost use Rattle.dl_elf.specs.Forward.{NoneForward};
 ghost use Rattle.dl_file.specs.Answering.{AreFound, IsCounted, IsMade};
 ghost use Rattle.dl_file.specs.Relocations.{by_entries, class_of, fault_of, form_of, relocated_at, relocated_by};
 ghost use Rattle.dl_file.specs.Relocations.{relocated_upto, relocations_at, relocations_upto, target_of};
 
 use crate::section_bytes::{PIECE, read_piece, read_symbols};
 use dl_elf::{
-    Elf, ElfFault, NamedSection, Part, ReadAt, SectionHeader, SectionName, Window, lies_within,
-    section_at, section_range,
+    Elf, ElfFault, NamedSection, Part, ReadAt, SectionHeader, SectionName, Sections, Window,
+    lies_within, section_at, section_range,
 };
 use dl_reloc::{Class, Form, RelocationFault, Target, relocate};
 use std::alloc::Global;
@@ -178,23 +180,27 @@ pub struct RelocationSections {
     pub first: u64,
 }
 
-/// The sections of relocations of section `number`; a file that isn't an object file has none.
+/// The sections of relocations of section `number`; a file that isn't an object file has none. The headers of those
+/// sections that come before it were looked at by the pass that found `sections`.
 pub fn find_relocations<S: ReadAt>(
     source: &S,
     elf: &Elf,
+    sections: &Sections,
     number: u64,
 ) -> Result<RelocationSections, ElfFault>
+    requires forward { ForBytes (S.all_bytes source.now) (λ f. NoneForward elf.now f (forward_of sections.now)) }
+    requires within { forward_of sections.now - 1 ≤ elf.now.count - 1 }
     ensures found { ForBytes (S.all_bytes source.now) (λ f. AreFound elf.now f number result) }
     ensures place { IfOk result (λ found. (1 ≤ found.first) × (found.first - 1 ≤ elf.now.count - 1)) }
     ensures read { IfRead (S.fails_with source.now) result }
 {
-    let mut count = 0;
-    let mut first = 1;
     if !elf.header.is_object() {
-        return Ok(RelocationSections { count, first });
+        return Ok(RelocationSections { count: 0, first: 1 });
     }
+    let mut count = 0;
+    let mut first = sections.relocations_from(number);
     let mut window = Window::new();
-    for at in 1..elf.count {
+    for at in first..elf.count {
         if count == 0 {
             first = at;
         }

@@ -12,7 +12,7 @@ use dl_elf::{
     Elf, ElfFault, Range, ReadAt, SectionHeader, Window, fill_whole, lies_within, section_at,
     section_range,
 };
-use dl_reloc::{Target, push_symbol_values};
+use dl_reloc::{Target, push_symbol_values, symbol_size};
 use std::alloc::Global;
 use std::io;
 
@@ -75,8 +75,8 @@ pub fn read_piece<S: ReadAt>(
     }
 }
 
-/// The values of the symbols that a section has; None where its bytes don't lie in the file. Memory is taken as
-/// they come.
+/// The values of the symbols that a section has; None where its bytes don't lie in the file. Memory is taken for all
+/// of them at once, where the last byte stands in the file.
 fn read_values<S: ReadAt>(
     alloc: Global,
     source: &S,
@@ -91,7 +91,10 @@ fn read_values<S: ReadAt>(
     if !lies_within(source, range.offset, range.size)? {
         return Ok(None);
     }
-    let mut values = Vec::new(alloc);
+    let count = range.size / symbol_size(target.class) as u64;
+    let Ok(mut values) = Vec::with_capacity(alloc, count as usize) else {
+        return Err(ElfFault::NoMemory);
+    };
     let mut buffer = [0; PIECE];
     for index in 0..range.size.div_ceil(PIECE as u64) {
         let Some(len) = read_piece(source, &range, index, &mut buffer)? else {

@@ -1,13 +1,14 @@
 -- What one entry makes of the bytes of a section, and one more of several.
 use Rattle.std.proofs.Common.{◌≡◌, ℕ, zero, suc, ◌+◌, ◌<◌, ◌≤◌, List, take, drop, length, Some, Ok, Err}
-use Rattle.std.proofs.Common.{arith, ap, ◌∙◌, refl, sym, inl, inr}
-use Rattle.std.proofs.lemmas.Bool.{cases_lt, le-leb, ne_eqb}
+use Rattle.std.proofs.Common.{arith, ap, ◌∙◌, refl, sym, inl, inr, Option, None}
+use Rattle.std.proofs.lemmas.Bool.{cases_lt, le-leb, lt-leb, ne_eqb}
 use borrow.Rule.Slice.PartMut.{put_mid}
 use Rattle.dl_reloc.specs.declared.target.Form.{Form}
 use Rattle.dl_reloc.specs.declared.target.Target.{Target}
 use Rattle.dl_reloc.specs.declared.entry.Entry.{Entry}
 use Rattle.dl_reloc.specs.declared.change.Change.{Change}
 use Rattle.dl_reloc.specs.declared.apply.RelocationFault.{RelocationFault}
+use Rattle.dl_reloc.specs.declared.apply.RelocationFault.TheVariants.{PlaceOutside, SymbolOutside}
 use Rattle.dl_reloc.specs.Changes.{change_size}
 use Rattle.dl_reloc.specs.Types.{change_of}
 use Rattle.dl_reloc.specs.Entries.{count, item, entry_size, entry_in, symbol_value}
@@ -26,6 +27,24 @@ entry_applied t symbols e b change value at k new is some within symbol place si
     ∙ rw (ne_eqb (change_size change) 0 some, le-leb (e.offset + change_size change) (length b) within)
     (ap (by_symbol t.order change e b) symbol
     ∙ rw (told, place, size) refl)
+
+-- one whose place doesn't lie in the section
+pub entry_outside : (t : Target) (symbols : List ℕ) (e : Entry) (b : List ℕ) (change : Change)
+    → change_of t e.number ≡ Some change → (change_size change ≡ 0 → ⊥)
+    → length b < e.offset + change_size change → applied t symbols e b ≡ Err PlaceOutside
+entry_outside t symbols e b change is some outside =
+    ap (by_change t symbols e b) is
+    ∙ rw (ne_eqb (change_size change) 0 some, lt-leb (e.offset + change_size change) (length b) outside) refl
+
+-- one whose symbol isn't there
+pub entry_without_symbol : (t : Target) (symbols : List ℕ) (e : Entry) (b : List ℕ) (change : Change)
+    → change_of t e.number ≡ Some change → (change_size change ≡ 0 → ⊥)
+    → e.offset + change_size change ≤ length b → ◌≡◌ {A = Option ℕ} (symbol_value symbols e.symbol) None
+    → applied t symbols e b ≡ Err SymbolOutside
+entry_without_symbol t symbols e b change is some within none =
+    ap (by_change t symbols e b) is
+    ∙ rw (ne_eqb (change_size change) 0 some, le-leb (e.offset + change_size change) (length b) within)
+    (ap (by_symbol t.order change e b) none)
 
 -- the entry that was read
 pub entry_is : (t : Target) (form : Form) (entries : List ℕ) (n size : ℕ) (bytes : List ℕ) (e : Entry)

@@ -1,17 +1,15 @@
 -- Entries that follow others: each stands in all of them as it does in its part.
-use Rattle.std.proofs.Common.{◌≡◌, ℕ, zero, suc, ◌+◌, ◌*◌, ◌/◌, ◌≤◌, List, ◌++◌, take, drop, length, Ok, Err}
-use Rattle.std.proofs.Common.{arith, ap, ◌∙◌, refl, sym, length-append, length-drop}
-use Rattle.std.proofs.lemmas.List.{drop-append-le, take-append-le}
-use Rattle.std.proofs.Math.Seq.{drop-append-add}
+use Rattle.std.proofs.Common.{◌≡◌, ℕ, zero, suc, ◌+◌, ◌*◌, ◌≤◌, List, ◌++◌, length, Ok, Err}
+use Rattle.std.proofs.Common.{arith, ap, ◌∙◌, refl, sym, length-append}
 use Rattle.std.proofs.lemmas.Nat.{le-div}
-use Rattle.std.proofs.Math.Nat.{add-mul, div-mul-le_self, mul-add-div_right, mul-div_cancel}
+use Rattle.std.proofs.Math.Nat.{add-mul, div-mul-le_self}
 use Rattle.dl_reloc.specs.declared.target.Class.{Class}
 use Rattle.dl_reloc.specs.declared.target.Class.TheVariants.{Bits32, Bits64}
 use Rattle.dl_reloc.specs.declared.target.Form.{Form}
 use Rattle.dl_reloc.specs.declared.target.Form.TheVariants.{Rela, Rel}
 use Rattle.dl_reloc.specs.declared.target.Target.{Target}
 use Rattle.dl_reloc.specs.declared.apply.RelocationFault.{RelocationFault}
-use Rattle.dl_reloc.specs.Entries.{count, item, entry_size, entry_in}
+use Rattle.dl_reloc.specs.Entries.{count, entry_size, entry_in}
 use Rattle.dl_reloc.specs.Relocated.{applied, and_then, entry_at, applied_upto, relocated, AreWhole}
 use Rattle.dl_reloc.proofs.AppliedLemmas.{fault_stays}
 use Rattle.dl_reloc.proofs.TableLemmas.{back_item, count_parts, count_whole, front_item}

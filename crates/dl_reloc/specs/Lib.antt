@@ -3,3 +3,5 @@ pub mod Entries
 pub mod Changes
 pub mod Types
 pub mod Relocated
+-- Of contracts inside the crate; no public contract reaches this.
+pub mod LowTypes

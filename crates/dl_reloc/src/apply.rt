@@ -1,15 +1,16 @@
 //! Relocations applied in order.
 ghost use Rattle.std.specs.Prelude.{◌≡◌, ◌≢◌, ◌+◌, ◌≤◌, ◌<◌, ◌++◌, ℕ, List, length, MatchOption, MatchResult, Ok, Err};
 ghost use Rattle.dl_reloc.specs.Changes.{change_size};
+ghost use Rattle.dl_reloc.specs.LowTypes.{AreLow};
 ghost use Rattle.dl_reloc.specs.Relocated.{applied, place_changed, relocated, AreWhole};
 
 use crate::change::Change;
 use crate::entry::{Entry, entry_size};
-use crate::machine::change_of;
+use crate::machine::{LOW, change_in, low_types};
 use crate::number::{number_of, put_number};
 use crate::symbol::symbol_value;
 use crate::table::{count, item};
-use crate::target::{Form, Target};
+use crate::target::{Class, Form, Target};
 use dl_num::Order;
 
 /// Why relocations can't be applied.
@@ -24,6 +25,7 @@ pub enum RelocationFault {
 }
 
 /// Changes the bytes at a place by a symbol of this value. Where there is no addend, it is what stands there.
+#[inline(always)]
 fn change_place(order: Order, change: Change, value: u64, addend: Option<u64>, place: &mut [u8])
     requires some { 1 ≤ change_size change }
     requires size { length place.old ≡ change_size change }
@@ -47,17 +49,20 @@ fn place_within(offset: u64, size: usize, len: usize) -> Option<usize>
 }
 
 /// Applies one entry.
+#[inline(always)]
 fn apply(
     target: &Target,
+    low: &[Option<Change>; LOW],
     symbols: &[u64],
     entry: &Entry,
     bytes: &mut [u8],
 ) -> Result<(), RelocationFault>
+    requires { AreLow target.now low.now }
     ensures { MatchResult result
         (λ _. applied target.now symbols.now entry.now bytes.old ≡ Ok bytes.new)
         (λ fault. applied target.now symbols.now entry.now bytes.old ≡ Err fault) }
 {
-    let Some(change) = change_of(target, entry.number) else {
+    let Some(change) = change_in(low, target, entry.number) else {
         return Err(RelocationFault::UnknownType(entry.number));
     };
     let size = change.size();
@@ -77,6 +82,35 @@ fn apply(
         entry.addend,
         &mut bytes[at..at + size],
     );
+    Ok(())
+}
+
+/// The same as [`relocate`]. It is compiled into its caller for each call, so where a call has a constant class, order
+/// and form, they aren't looked at for each entry.
+#[inline(always)]
+fn relocate_entries(
+    target: &Target,
+    form: Form,
+    entries: &[u8],
+    symbols: &[u64],
+    bytes: &mut [u8],
+) -> Result<(), RelocationFault>
+    ensures made { MatchResult result
+        (λ _. relocated target.now form entries.now symbols.now bytes.old ≡ Ok bytes.new)
+        (λ fault. relocated target.now form entries.now symbols.now bytes.old ≡ Err fault) }
+    ensures follows { (before first : List ℕ) → AreWhole target.now form before
+        → relocated target.now form before symbols.now first ≡ Ok bytes.old → MatchResult result
+        (λ _. relocated target.now form (before ++ entries.now) symbols.now first ≡ Ok bytes.new)
+        (λ fault. (rest : List ℕ)
+        → relocated target.now form ((before ++ entries.now) ++ rest) symbols.now first ≡ Err fault) }
+{
+    let low = low_types(target);
+    let size = entry_size(target.class, form);
+    for index in 0..count(entries, size) {
+        let entry = item(entries, size, index);
+        let entry = Entry::read(target.class, form, target.order, entry);
+        apply(target, &low, symbols, &entry, bytes)?;
+    }
     Ok(())
 }
 
@@ -107,11 +141,15 @@ pub fn relocate(
         (λ fault. (rest : List ℕ)
         → relocated target.now form ((before ++ entries.now) ++ rest) symbols.now first ≡ Err fault) }
 {
-    let size = entry_size(target.class, form);
-    for index in 0..count(entries, size) {
-        let entry = item(entries, size, index);
-        let entry = Entry::read(target.class, form, target.order, entry);
-        apply(target, symbols, &entry, bytes)?;
+    match (target.class, target.order, form) {
+        (Class::Bits64, Order::Little, Form::Rela) => {
+            let target = Target {
+                machine: target.machine,
+                class: Class::Bits64,
+                order: Order::Little,
+            };
+            relocate_entries(&target, Form::Rela, entries, symbols, bytes)
+        }
+        _ => relocate_entries(target, form, entries, symbols, bytes),
     }
-    Ok(())
 }

@@ -17,5 +17,5 @@ mod table;
 mod target;
 
 pub use apply::{RelocationFault, relocate};
-pub use symbol::push_symbol_values;
+pub use symbol::{push_symbol_values, symbol_size};
 pub use target::{Class, Form, Target};

@@ -1,6 +1,7 @@
 //! What the types of relocations do, by machine. ABI supplements, "Relocation Types".
 ghost use Rattle.std.specs.Prelude.{◌≡◌};
 ghost use Rattle.dl_reloc.specs.Types.{aarch64, change_of, loongarch, loongarch_difference, mips, riscv};
+ghost use Rattle.dl_reloc.specs.LowTypes.{AreLow};
 ghost use Rattle.dl_reloc.specs.Types.{riscv_difference, riscv_field, word_type, word_types, x86_64};
 
 use crate::change::{Change, Width};
@@ -156,5 +157,32 @@ pub fn change_of(target: &Target, number: u64) -> Option<Change>
         EM_RISCV => riscv(number),
         EM_LOONGARCH => loongarch(number),
         _ => None,
+    }
+}
+
+/// How many types [`low_types`] has.
+pub const LOW: usize = 64;
+
+/// What the types with the lowest numbers do.
+pub fn low_types(target: &Target) -> [Option<Change>; LOW]
+    ensures { AreLow target.now result }
+{
+    let mut low = [None; LOW];
+    for number in 0..LOW {
+        low[number] = change_of(target, number as u64);
+    }
+    low
+}
+
+/// What a type of relocation does; None where it isn't known. `low` are those with the lowest numbers.
+#[inline(always)]
+pub fn change_in(low: &[Option<Change>; LOW], target: &Target, number: u64) -> Option<Change>
+    requires { AreLow target.now low.now }
+    ensures { result ≡ change_of target.now number }
+{
+    if number < LOW as u64 {
+        low[number as usize]
+    } else {
+        change_of(target, number)
     }
 }

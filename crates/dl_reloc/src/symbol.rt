@@ -8,7 +8,7 @@ use dl_num::Order;
 use std::alloc::AllocError;
 
 /// How many bytes a symbol has.
-fn symbol_size(class: Class) -> usize
+pub fn symbol_size(class: Class) -> usize
     ensures size { result ≡ symbol_size class }
     ensures some { 1 ≤ result }
 {

@@ -1,6 +1,7 @@
-use Rattle.std.proofs.Common.{◌≡◌, ◌∙◌, sym, ap, length, take}
+use Rattle.std.proofs.Common.{◌≡◌, ◌∙◌, sym, ap}
 use Rattle.dl_elf.specs.Slots.{name_front}
 use Rattle.dl_elf.specs.Slots.{slot_at, name_at}
+use Rattle.dl_elf.proofs.ForwardLemmas.{passed_forward, passed_upto}
 use Rattle.dl_elf.proofs.FoundLemmas.{found_more, found_noted, outside_not_wanted, nobits_not_wanted}
 use Rattle.dl_elf.proofs.named.look_at.Goals as goal
 
@@ -13,17 +14,37 @@ returns-in_default-clause-found g c = λ f is short found k less.
 pub returns-then-header-eq-NOBITS-clause-found : goal.returns-then-header-eq-NOBITS-clause-found
 returns-then-header-eq-NOBITS-clause-found g c = λ f is short found k less.
     let e = c.args.elf.now in
-    found_more e f (name_at k) c.args.number (slot_at c.args.sections.now.found k) (found k less)
+    rw c.pass.ensures.slots (found_more e f (name_at k) c.args.number (slot_at c.args.sections.now.found k)
+    (found k less)
     (nobits_not_wanted e f (name_at k) c.args.number c.in-Some.header (sym c.in-Some.is
-    ∙ c.in_ok-header.ensures.section f is short) c.if-header-eq-NOBITS.true)
+    ∙ c.in_ok-header.ensures.section f is short) c.if-header-eq-NOBITS.true))
+
+pub returns-then-header-eq-NOBITS-clause-forward : goal.returns-then-header-eq-NOBITS-clause-forward
+returns-then-header-eq-NOBITS-clause-forward g c = λ f is short none.
+    rw c.pass.ensures.forward (passed_forward c.args.elf.now f c.args.number c.args.sections.now.forward
+    c.in-Some.header (sym c.in-Some.is ∙ c.in_ok-header.ensures.section f is short) none)
+
+pub returns-then-header-eq-NOBITS-clause-most : goal.returns-then-header-eq-NOBITS-clause-most
+returns-then-header-eq-NOBITS-clause-most g c = λ upto.
+    rw c.pass.ensures.forward (passed_upto c.args.number c.args.sections.now.forward c.in-Some.header upto)
 
 pub returns-clause-found : goal.returns-clause-found
 returns-clause-found g c = λ f is short found k less.
     let e = c.args.elf.now in
-    let b = take c.in_ok-n.n c.read_name.new.buffer in
-    let full : length c.read_name.new.buffer ≡ 20 = c.read_name.auto.buffer in
+    let b = c.shown.result.now in
     let name : b ≡ name_front e f c.in-Some.header 20 =
-    c.in_ok-n.ensures.name f is short ∙ ap (λ n. name_front e f c.in-Some.header n) full in
-    rw (c.note.ensures k less) (found_noted e f (name_at k) c.args.number c.in-Some.header b
+    c.shown.ensures.bytes ∙ c.in_ok-at.ensures.name f is short in
+    let kept = ap (λ s. slot_at s k) c.pass.ensures.slots in
+    rw (c.note.ensures.slots k less, kept) (found_noted e f (name_at k) c.args.number c.in-Some.header b
     (slot_at c.args.sections.now.found k) c.requires.from
     (sym c.in-Some.is ∙ c.in_ok-header.ensures.section f is short) c.if-header-eq-NOBITS.false name (found k less))
+
+pub returns-clause-forward : goal.returns-clause-forward
+returns-clause-forward g c = λ f is short none.
+    rw (c.note.ensures.forward, c.pass.ensures.forward) (passed_forward c.args.elf.now f c.args.number
+    c.args.sections.now.forward c.in-Some.header (sym c.in-Some.is ∙ c.in_ok-header.ensures.section f is short) none)
+
+pub returns-clause-most : goal.returns-clause-most
+returns-clause-most g c = λ upto.
+    rw (c.note.ensures.forward, c.pass.ensures.forward)
+    (passed_upto c.args.number c.args.sections.now.forward c.in-Some.header upto)

@@ -1,11 +1,33 @@
-use Rattle.std.proofs.Common.{◌≡◌, true, Some, arith, ap, sym, refl, ◌∙◌}
+use Rattle.std.proofs.Common.{◌≡◌, ◌-◌, true, Some, arith, ap, sym, ◌∙◌}
 use Rattle.std.proofs.lemmas.Result.{err_from_is_err_and}
 use Rattle.dl_elf.specs.Elf.{is_object}
-use Rattle.dl_file.specs.Relocations.{relocations_at, relocations_of}
+use Rattle.dl_elf.specs.Source.{ForBytes}
+use Rattle.dl_file.specs.Relocations.{relocations_at, relocations_of, relocations_upto}
 use Rattle.dl_file.proofs.AnswerLemmas.{fault_counted}
-use Rattle.dl_file.proofs.RelocationLemmas.{counted_in_object, counted_to_end, counted_whole, next_counted}
+use Rattle.dl_file.proofs.RelocationLemmas.{counted_in_object, counted_to_end, counted_whole, next_counted, none_before}
 use Rattle.dl_file.proofs.relocating.find_relocations.Goals as goal
 use Rattle.dl_file.proofs.relocating.find_relocations.Goals.{then-count-eq0, else-count-eq0}
+
+pub loop-at-init : goal.loop-at-init
+loop-at-init g c =
+    let told = c.relocations_from-first.ensures in
+    let first = c.relocations_from-first.result in
+    let none : ForBytes (g.S.ReadAt.all_bytes c.args.source.now)
+    (λ f. relocations_upto c.args.elf.now f c.args.number (first - 1) ≡ Some 0) = λ f is short.
+    none_before c.args.elf.now f c.args.number (first - 1) (λ k from less. (
+      c.requires.forward f is short k from (omega (arith, less, told.from, told.most)),
+      told.before k from (omega (arith, less, told.from)),
+    )) in
+    record {
+      from = told.from;
+      upto = omega (arith, told.from, told.most, c.requires.within);
+      few = omega arith;
+      past = told.from;
+      before = omega (arith, told.from, told.most, c.requires.within);
+      shows = c.new-window.ensures (g.S.ReadAt.all_bytes c.args.source.now);
+      counted = none;
+      none = none;
+    }
 
 pub loop-at-preserved : goal.loop-at-preserved
 loop-at-preserved g c =

@@ -20,7 +20,7 @@ loop-index-preserved g c = λ f is short.
     let next : take (i * 24576) all ++ piece ≡ take ((i + 1) * 24576) all = section_piece r s f i piece of told in
     let less : i < div_ceil r.size 24576 = rw c.div_ceil-index-end.ensures at c.loop-index-test.true in
     let whole = whole_symbols t.class i all (pieces_within r s f i of within less) in
-    c.in-Ok.ensures.follows (take (i * 24576) all) whole (c.loop-index.invariant f is short)
+    c.in-Ok-push_symbol_values.ensures.follows (take (i * 24576) all) whole (c.loop-index.invariant f is short)
     ∙ ap (symbol_values t.class t.order) next
 
 pub returns-clause-values : goal.returns-clause-values

@@ -1,50 +1,39 @@
-use Rattle.std.proofs.Common.{◌≡◌, ◌∙◌, ◌++◌, sym, ap, arith, Err}
-use Rattle.std.proofs.lemmas.Result.{err_from_is_err_and}
-use Rattle.dl_reloc.specs.Entries.{count}
-use Rattle.dl_reloc.specs.Relocated.{applied_upto, relocated}
-use Rattle.dl_reloc.proofs.AppliedLemmas.{entry_is, next_applied, relocated_to_fault}
-use Rattle.dl_reloc.proofs.PartLemmas.{part_fault, parts_relocated}
+use Rattle.std.proofs.Common.{◌≡◌, ◌++◌, ℕ, List, MatchResult, Ok, Err, refl, subst, sym}
+use Rattle.dl_num.specs.declared.fixed.Order.TheVariants.{Little}
+use Rattle.dl_reloc.specs.declared.target.Class.TheVariants.{Bits64}
+use Rattle.dl_reloc.specs.declared.target.Form.{Form}
+use Rattle.dl_reloc.specs.declared.target.Form.TheVariants.{Rela}
+use Rattle.dl_reloc.specs.declared.target.Target.{Target}
+use Rattle.dl_reloc.specs.Relocated.{relocated, AreWhole}
 use Rattle.dl_reloc.proofs.apply.relocate.Goals as goal
 
-pub returns-in_err-apply : goal.returns-in_err-apply
-returns-in_err-apply c =
-    let p = err_from_is_err_and c.from_residual.result c.from_residual.ensures.1 in
-    let t = c.args.target.now in
-    let form = c.args.form in
+same_target : (t : Target) → t.class ≡ Bits64 → t.order ≡ Little
+    → record { machine = t.machine; class = Bits64; order = Little } ≡ t
+same_target t class order = rw (← class, ← order) refl
+
+-- what holds of a target and form that are told again
+told_again : (P : Target → Form → Type 0) (t : Target) (form : Form) → t.class ≡ Bits64 → t.order ≡ Little
+    → form ≡ Rela → P (record { machine = t.machine; class = Bits64; order = Little }) Rela → P t form
+told_again P t form class order rela told =
+    let Q : Target → Type 0 = λ s. P s Rela in
+    let R : Form → Type 0 = λ k. P t k in
+    subst R (sym rela) (subst Q (same_target t class order) told)
+
+pub returns-in-Bits64-Little-Rela-clause-made : goal.returns-in-Bits64-Little-Rela-clause-made
+returns-in-Bits64-Little-Rela-clause-made c =
+    let is = c.in-Bits64-Little-Rela in
+    told_again (λ t form. MatchResult c.relocate_entries.result
+    (λ _. relocated t form c.args.entries.now c.args.symbols.now c.args.bytes.now ≡ Ok c.relocate_entries.new.bytes)
+    (λ fault. relocated t form c.args.entries.now c.args.symbols.now c.args.bytes.now ≡ Err fault))
+    c.args.target.now c.args.form is.is-0 is.is-1 is.is-2 c.relocate_entries.ensures.made
+
+pub returns-in-Bits64-Little-Rela-clause-follows : goal.returns-in-Bits64-Little-Rela-clause-follows
+returns-in-Bits64-Little-Rela-clause-follows c =
+    let is = c.in-Bits64-Little-Rela in
     let entries = c.args.entries.now in
     let symbols = c.args.symbols.now in
-    let fault = c.in_err-apply.field-0.0 in
-    let made : relocated t form entries symbols c.args.bytes.now ≡ Err fault =
-    relocated_to_fault t form entries symbols c.loop-index.index c.count-index-end.result c.args.bytes.now
-    c.loop-index.bytes c.read-entry.result fault c.loop-index-test.true
-    (c.count-index-end.ensures ∙ ap (λ size. count size entries) c.entry_size-size.ensures.size)
-    c.loop-index.invariant
-    (entry_is t form entries c.loop-index.index c.entry_size-size.result c.item-entry.result.now
-    c.read-entry.result c.entry_size-size.ensures.size c.item-entry.ensures.item c.read-entry.ensures)
-    c.in_err-apply.ensures in
-    record {
-      made = rw (p.1, p.2) made;
-      follows = λ before first whole is. rw (p.1, p.2) (λ rest.
-          part_fault t form (before ++ entries) rest symbols first fault
-          (parts_relocated t form before entries symbols first c.args.bytes.now whole is ∙ made));
-    }
-
-pub returns-clause-follows : goal.returns-clause-follows
-returns-clause-follows c = λ before first whole is.
-    let t = c.args.target.now in
-    let form = c.args.form in
-    let entries = c.args.entries.now in
-    let symbols = c.args.symbols.now in
-    let past : c.loop-index.index ≡ c.count-index-end.result =
-    omega (arith, c.loop-index-test.false, c.loop-index.auto.index-end) in
-    let all = past ∙ (c.count-index-end.ensures ∙ ap (λ size. count size entries) c.entry_size-size.ensures.size) in
-    parts_relocated t form before entries symbols first c.args.bytes.now whole is
-    ∙ (ap (λ k. applied_upto t form entries symbols k c.args.bytes.now) (sym all) ∙ c.loop-index.invariant)
-
-pub loop-index-preserved : goal.loop-index-preserved
-loop-index-preserved c =
-    next_applied c.args.target.now c.args.form c.args.entries.now c.args.symbols.now c.loop-index.index
-    c.args.bytes.now c.loop-index.bytes c.apply.new.bytes c.read-entry.result c.loop-index.invariant
-    (entry_is c.args.target.now c.args.form c.args.entries.now c.loop-index.index c.entry_size-size.result
-    c.item-entry.result.now c.read-entry.result c.entry_size-size.ensures.size c.item-entry.ensures.item
-    c.read-entry.ensures) c.in_ok-apply.ensures
+    told_again (λ t form. (before first : List ℕ) → AreWhole t form before
+    → relocated t form before symbols first ≡ Ok c.args.bytes.now → MatchResult c.relocate_entries.result
+    (λ _. relocated t form (before ++ entries) symbols first ≡ Ok c.relocate_entries.new.bytes)
+    (λ fault. (rest : List ℕ) → relocated t form ((before ++ entries) ++ rest) symbols first ≡ Err fault))
+    c.args.target.now c.args.form is.is-0 is.is-1 is.is-2 c.relocate_entries.ensures.follows

@@ -7,4 +7,5 @@ invariant-loop-index l = record {
   done : (k : ℕ) → k < l.index
       → slot_at l.self.found k ≡ noted l.bytes l.number l.header (name_at k) (slot_at l.initial.self.found k);
   rest : (k : ℕ) → l.index ≤ k → slot_at l.self.found k ≡ slot_at l.initial.self.found k;
+  forward : l.self.forward ≡ l.initial.self.forward;
 }
