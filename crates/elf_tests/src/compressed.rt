@@ -1,5 +1,5 @@
 //! Compressed sections. The streams are what zlib 1.2.13 makes at level 9.
-use crate::image::{BIG_32, Form, LITTLE_64, NewSection, image, put, section, told};
+use crate::image::{BIG_32, Form, LITTLE_64, NewSection, image, object_file, put, section, told};
 use crate::reads::{Habit, Hoarding, read_through};
 use dl_elf::ElfFault;
 use dl_file::{Wanted, open_line_file};
@@ -223,29 +223,14 @@ fn string_sections(rt: HostRuntime) -> Result<(), Fail> {
     Ok(())
 }
 
-/// An object file of x86-64, whose line section is this one and is relocated by an entry: at 2, a 32-bit number, of
+/// An object file whose compressed line section is this one and is relocated by an entry: at 2, a 32-bit number, of
 /// symbol 1, whose value is `rela`.
 fn object(alloc: Global, line: &[u8]) -> Result<Vec<u8>, Fail> {
-    let form = Form {
-        file_type: 1,
-        ..LITTLE_64
-    };
-    let relocations = NewSection {
-        section_type: 4,
-        link: 3,
-        info: 1,
-        bytes: b"\x02\0\0\0\0\0\0\0\x0a\0\0\0\x01\0\0\0\0\0\0\0\0\0\0\0",
-        ..section(".rela.debug_line", "")
-    };
-    let symbols = NewSection {
-        section_type: 2,
-        bytes: b"no symbol: 24 bytes long\0\0\0\0\0\0\0\0rela\0\0\0\0\0\0\0\0\0\0\0\0",
-        ..section(".symtab", "")
-    };
-    image(
+    object_file(
         alloc,
-        form,
-        &[flagged(".debug_line", line), relocations, symbols],
+        flagged(".debug_line", line),
+        b"\x02\0\0\0\0\0\0\0\x0a\0\0\0\x01\0\0\0\0\0\0\0\0\0\0\0",
+        b"no symbol: 24 bytes long\0\0\0\0\0\0\0\0rela\0\0\0\0\0\0\0\0\0\0\0\0",
     )
 }
 

@@ -33,6 +33,12 @@ pub const BIG_32: Form = Form {
     ..LITTLE_64
 };
 
+/// An object file.
+pub const OBJECT: Form = Form {
+    file_type: 1,
+    ..LITTLE_64
+};
+
 /// A section of a file that is to be made.
 #[derive(Clone, Copy, Debug)]
 pub struct NewSection<'a> {
@@ -59,6 +65,28 @@ pub fn section<'a>(name: &'a str, text: &'a str) -> NewSection<'a> {
         info: 0,
         bytes: text.as_bytes(),
     }
+}
+
+/// An object file of x86-64 with this line section, the entry with an addend that relocates it, and its symbol table.
+pub fn object_file(
+    alloc: Global,
+    line: NewSection<'_>,
+    entry: &[u8; 24],
+    symbols: &[u8],
+) -> Result<Vec<u8>, Fail> {
+    let relocations = NewSection {
+        section_type: 4,
+        link: 3,
+        info: 1,
+        bytes: entry,
+        ..section(".rela.debug_line", "")
+    };
+    let symbols = NewSection {
+        section_type: 2,
+        bytes: symbols,
+        ..section(".symtab", "")
+    };
+    image(alloc, OBJECT, &[line, relocations, symbols])
 }
 
 /// Appends the `size` bytes of a number, which are 2, 4 or 8.

@@ -1,5 +1,5 @@
 //! Sources that are short, are interrupted, fail, or end while they are read.
-use crate::image::{Form, LITTLE_64, NewSection, image, section};
+use crate::image::{LITTLE_64, image, object_file, section};
 use dl_elf::{ElfFault, ReadAt};
 use dl_file::{ReadFault, Wanted, open_line_file};
 use std::alloc::Global;
@@ -177,25 +177,11 @@ fn the_fault_of_a_read(rt: HostRuntime) -> Result<(), Fail> {
 
 /// An object file whose line section has one relocation, with a symbol table of one symbol.
 fn object(alloc: Global) -> Result<Vec<u8>, Fail> {
-    let form = Form {
-        file_type: 1,
-        ..LITTLE_64
-    };
-    let relocations = NewSection {
-        section_type: 4,
-        link: 3,
-        info: 1,
-        bytes: b"\0\0\0\0\0\0\0\0\x0a\0\0\0\0\0\0\0abcd\0\0\0\0",
-        ..section(".rela.debug_line", "")
-    };
-    let symbols = NewSection {
-        section_type: 2,
-        ..section(".symtab", "the first symbol, 24 zero")
-    };
-    image(
+    object_file(
         alloc,
-        form,
-        &[section(".debug_line", "line"), relocations, symbols],
+        section(".debug_line", "line"),
+        b"\0\0\0\0\0\0\0\0\x0a\0\0\0\0\0\0\0abcd\0\0\0\0",
+        b"the first symbol, 24 zero",
     )
 }
 

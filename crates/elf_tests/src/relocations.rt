@@ -1,12 +1,7 @@
 //! Object files for x86-64 whose line sections have relocations. System V ABI, chapter 4, "Relocation".
-use crate::image::{Form, LITTLE_64, NewSection, image, section, told};
+use crate::image::{Form, NewSection, OBJECT, image, section, told};
 use dl_file::Wanted;
 use std::test::Fail;
-
-const OBJECT: Form = Form {
-    file_type: 1,
-    ..LITTLE_64
-};
 
 /// An entry with an addend: r_offset 0, symbol 0, type 10 (R_X86_64_32), the addend `abcd`.
 const SET_FRONT: &[u8] = b"\0\0\0\0\0\0\0\0\x0a\0\0\0\0\0\0\0abcd\0\0\0\0";

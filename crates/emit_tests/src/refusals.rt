@@ -1,6 +1,6 @@
 //! Units that aren't written.
 
-use crate::vectors::{OPCODE_BASE_10, append_unit, header};
+use crate::vectors::{OPCODE_BASE_10, append_unit, changed, header, program};
 use dl_emit::{EmitFault, Program, measure, write_unit};
 use dl_head::Header;
 use dl_num::Order;
@@ -8,7 +8,7 @@ use dl_rows::Row;
 use std::alloc::Global;
 use std::process::Abort;
 use std::test::Fail;
-use test_support::{Sink, bytes, row, unit_with};
+use test_support::{Sink, bytes, row};
 
 /// Asserts that nothing is written, for this reason, neither of the rows at once nor of a program of them.
 fn assert_refused(
@@ -20,16 +20,26 @@ fn assert_refused(
 ) -> Result<(), Fail> {
     assert_eq!(rt; measure(head, rows), Err(fault));
     let mut output = Sink::new(alloc, 1000, 7);
-    let written = write_unit(&mut output, Order::Little, head, rows);
-    assert_eq!(rt; written, Err(fault));
-    let mut program = Program::new(alloc, Order::Little);
-    program.begin(head);
-    for row in rows {
-        program.push(row)?;
-    }
+    assert_eq!(rt;
+        write_unit(&mut output, Order::Little, head, rows),
+        Err(fault)
+    );
+    let program = program(alloc, Order::Little, head, rows)?;
     assert_eq!(rt; program.write_header(&mut output, head), Err(fault));
     assert_eq!(rt; output.held.len(), 0);
     Ok(())
+}
+
+/// Asserts the same of the header of an empty program with these changes.
+fn assert_refused_with(
+    rt: &impl Abort,
+    alloc: Global,
+    changes: &[(usize, u8)],
+    rows: &[Row],
+    fault: EmitFault,
+) -> Result<(), Fail> {
+    let head = changed(alloc, changes)?;
+    assert_refused(rt, alloc, &head, rows, fault)
 }
 
 #[test]
@@ -43,19 +53,22 @@ fn opcode_base_10(rt: HostRuntime) -> Result<(), Fail> {
 }
 
 #[test]
-fn rows_out_of_range(rt: HostRuntime) -> Result<(), Fail> {
+fn op_indexes_out_of_range(rt: HostRuntime) -> Result<(), Fail> {
     let alloc = rt.alloc();
-    let unit = unit_with(alloc, &[(12, 0x10), (13, 3)], "")?;
-    let head = header(alloc, Order::Little, unit.as_slice())?;
-    let first = EmitFault::RowRange(0);
-    assert_refused(&rt, alloc, &head, &[row(0x1000, 3, 1)], first)?;
+    let three = [(12, 0x10), (13, 3)];
+    let rows = [row(0x1000, 3, 1)];
+    assert_refused_with(&rt, alloc, &three, &rows, EmitFault::RowRange(0))?;
     let rows = [row(0, 2, 1), row(0, 3, 1), row(0, 4, 1)];
-    assert_refused(&rt, alloc, &head, &rows, EmitFault::RowRange(1))?;
+    assert_refused_with(&rt, alloc, &three, &rows, EmitFault::RowRange(1))
+}
+
+#[test]
+fn addresses_out_of_range(rt: HostRuntime) -> Result<(), Fail> {
+    let alloc = rt.alloc();
     for (size, beyond) in [(1, 1 << 8), (2, 1 << 16), (4, 1 << 32)] {
-        let unit = unit_with(alloc, &[(6, size)], "")?;
-        let head = header(alloc, Order::Little, unit.as_slice())?;
         let rows = [row(beyond - 1, 0, 1), row(beyond, 0, 1)];
-        assert_refused(&rt, alloc, &head, &rows, EmitFault::RowRange(1))?;
+        assert_refused_with(&rt, alloc, &[(6, size)], &rows, EmitFault::RowRange(1))?;
+        let head = changed(alloc, &[(6, size)])?;
         assert!(rt; measure(&head, &[row(beyond - 1, 0, 1)]).is_ok());
     }
     Ok(())
@@ -65,8 +78,7 @@ fn rows_out_of_range(rt: HostRuntime) -> Result<(), Fail> {
 #[test]
 fn a_program_begins_anew(rt: HostRuntime) -> Result<(), Fail> {
     let alloc = rt.alloc();
-    let unit = unit_with(alloc, &[(6, 4)], "")?;
-    let head = header(alloc, Order::Little, unit.as_slice())?;
+    let head = changed(alloc, &[(6, 4)])?;
     let mut program = Program::new(alloc, Order::Little);
     program.begin(&head);
     program.push(&row(1 << 32, 0, 1))?;

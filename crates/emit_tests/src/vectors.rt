@@ -1,12 +1,12 @@
 //! Headers and rows of worked units.
 
 use dl_emit::Program;
-use dl_head::{HeadReader, Header};
+use dl_head::Header;
 use dl_num::Order;
-use dl_rows::{Event, Reader, Row};
-use std::alloc::Global;
+use dl_rows::Row;
+use std::alloc::{AllocError, Global};
 use std::test::Fail;
-use test_support::{Sink, end, row, unit};
+use test_support::{Sink, end, header_of, row, unit_with};
 
 /// A header of opcode_base 10.
 pub const OPCODE_BASE_10: &str = "1e 00 00 00 05 00 08 00 13 00 00 00 01 01 01 fb 0e 0a \
@@ -23,17 +23,36 @@ pub fn three_rows() -> [Row; 3] {
 
 /// The header that the bytes begin with.
 pub fn header(alloc: Global, order: Order, bytes: &[u8]) -> Result<Header, Fail> {
-    let mut reader = HeadReader::new(alloc, order);
-    for byte in bytes {
-        reader.step(*byte);
+    match header_of(alloc, order, bytes) {
+        Some(header) => Ok(header),
+        None => Err("a header".into()),
     }
-    Ok(reader.into_header().ok_or("a header")?)
 }
 
 /// The header of an empty program.
 pub fn plain(alloc: Global) -> Result<Header, Fail> {
-    let unit = unit(alloc, "")?;
+    changed(alloc, &[])
+}
+
+/// The same with other bytes at some places.
+pub fn changed(alloc: Global, changes: &[(usize, u8)]) -> Result<Header, Fail> {
+    let unit = unit_with(alloc, changes, "")?;
     header(alloc, Order::Little, unit.as_slice())
+}
+
+/// A program of a unit with this header that takes these rows one by one.
+pub fn program(
+    alloc: Global,
+    order: Order,
+    head: &Header,
+    rows: &[Row],
+) -> Result<Program, AllocError> {
+    let mut program = Program::new(alloc, order);
+    program.begin(head);
+    for row in rows {
+        program.push(row)?;
+    }
+    Ok(program)
 }
 
 /// Appends the unit of this header and the rows of this program, part after part.
@@ -44,24 +63,4 @@ pub fn append_unit(program: &Program, head: &Header, output: &mut Sink) -> Resul
     output.held.extend_from_slice(program.first_bytes())?;
     output.held.extend_from_slice(program.last_bytes())?;
     Ok(())
-}
-
-/// The rows of a whole unit.
-pub fn rows(alloc: Global, order: Order, unit: &[u8]) -> Result<Vec<Row>, Fail> {
-    let mut reader = Reader::new(alloc, order);
-    let mut rows = Vec::new(alloc);
-    let mut rest = unit;
-    for _ in 0..unit.len().saturating_add(2) {
-        let Ok(fed) = reader.feed(rest) else {
-            return Err("a unit without a fault".into());
-        };
-        rest = rest.get(fed.used..).ok_or("bytes that were used")?;
-        match fed.event {
-            Event::Row(row) => rows.push(row)?,
-            Event::End if rest.is_empty() => return Ok(rows),
-            Event::Header => {}
-            _ => return Err("a header and rows".into()),
-        }
-    }
-    Err("an end".into())
 }

@@ -1,7 +1,7 @@
 //! Worked units.
 
-use crate::vectors::{append_unit, header, plain, rows, three_rows};
-use dl_emit::{Program, measure, write_unit};
+use crate::vectors::{append_unit, changed, header, plain, program, three_rows};
+use dl_emit::{measure, write_unit};
 use dl_head::{Form, Format, Header, Pair, Table, ValueRef};
 use dl_num::Order;
 use dl_rows::Row;
@@ -9,11 +9,45 @@ use std::alloc::Global;
 use std::process::Abort;
 use std::test::Fail;
 use test_support::{
-    BIG_THREE_ROWS, DWARF64_WITH_MD5, Sink, THREE_ROWS, bytes, params, row, unit, unit_with,
+    BIG_THREE_ROWS, DWARF64_WITH_MD5, Sink, THREE_ROWS, bytes, params, row, rows_of, unit_with,
 };
 
-/// Asserts that the unit of this header and these rows is these bytes, and is read again.
-fn assert_unit(
+/// Asserts that the unit of this header and these rows is written as these bytes, by writers that take little and much.
+fn assert_written(
+    rt: &impl Abort,
+    alloc: Global,
+    order: Order,
+    head: &Header,
+    rows: &[Row],
+    unit: &[u8],
+) {
+    let len = unit.len() as u64;
+    assert_eq!(rt; measure(head, rows), Ok(len));
+    for most in [1, 7, 1000] {
+        let mut output = Sink::new(alloc, 1000, most);
+        assert_eq!(rt; write_unit(&mut output, order, head, rows), Ok(len));
+        assert_eq!(rt; output.held.as_slice(), unit);
+    }
+}
+
+/// Asserts that a program that takes these rows one by one makes this unit.
+fn assert_grown(
+    rt: &impl Abort,
+    alloc: Global,
+    order: Order,
+    head: &Header,
+    rows: &[Row],
+    unit: &[u8],
+) -> Result<(), Fail> {
+    let program = program(alloc, order, head, rows)?;
+    let mut output = Sink::new(alloc, 1000, 7);
+    append_unit(&program, head, &mut output)?;
+    assert_eq!(rt; output.held.as_slice(), unit);
+    Ok(())
+}
+
+/// Asserts that the unit is read as this header and these rows.
+fn assert_read(
     rt: &impl Abort,
     alloc: Global,
     order: Order,
@@ -21,86 +55,97 @@ fn assert_unit(
     written: &[Row],
     unit: &[u8],
 ) -> Result<(), Fail> {
-    let len = unit.len() as u64;
-    assert_eq!(rt; measure(head, written), Ok(len));
-    for most in [1, 7, 1000] {
-        let mut output = Sink::new(alloc, 1000, most);
-        assert_eq!(rt; write_unit(&mut output, order, head, written), Ok(len));
-        assert_eq!(rt; output.held.as_slice(), unit);
-    }
-    let mut program = Program::new(alloc, order);
-    program.begin(head);
-    for row in written {
-        program.push(row)?;
-    }
-    let mut output = Sink::new(alloc, 1000, 7);
-    append_unit(&program, head, &mut output)?;
-    assert_eq!(rt; output.held.as_slice(), unit);
     let again = header(alloc, order, unit)?;
     assert!(rt; again == *head);
-    let read = rows(alloc, order, unit)?;
+    let read = rows_of(alloc, order, unit)?;
     assert_eq!(rt; read.as_slice(), written);
     Ok(())
 }
 
+/// Asserts that the unit of this header and these rows is these bytes, and is read again.
+fn assert_unit(
+    rt: &impl Abort,
+    alloc: Global,
+    order: Order,
+    head: &Header,
+    rows: &[Row],
+    unit: &[u8],
+) -> Result<(), Fail> {
+    assert_written(rt, alloc, order, head, rows, unit);
+    assert_grown(rt, alloc, order, head, rows, unit)?;
+    assert_read(rt, alloc, order, head, rows, unit)
+}
+
+/// Asserts the same of the unit of the header of an empty program with these changes, and this program.
+fn assert_program(
+    rt: &impl Abort,
+    alloc: Global,
+    changes: &[(usize, u8)],
+    program: &str,
+    rows: &[Row],
+) -> Result<(), Fail> {
+    let unit = unit_with(alloc, changes, program)?;
+    let head = changed(alloc, changes)?;
+    assert_unit(rt, alloc, Order::Little, &head, rows, unit.as_slice())
+}
+
 #[test]
-fn three_rows_in_both_orders(rt: HostRuntime) -> Result<(), Fail> {
+fn three_rows_in_little(rt: HostRuntime) -> Result<(), Fail> {
+    assert_program(&rt, rt.alloc(), &[], THREE_ROWS, &three_rows())
+}
+
+#[test]
+fn three_rows_in_big(rt: HostRuntime) -> Result<(), Fail> {
     let alloc = rt.alloc();
     let head = plain(alloc)?;
-    let little = unit(alloc, THREE_ROWS)?;
-    assert_eq!(rt; little.len(), 52);
-    let big = bytes(alloc, BIG_THREE_ROWS)?;
-    for (order, unit) in [(Order::Little, &little), (Order::Big, &big)] {
-        assert_unit(&rt, alloc, order, &head, &three_rows(), unit.as_slice())?;
-    }
-    Ok(())
+    let unit = bytes(alloc, BIG_THREE_ROWS)?;
+    assert_eq!(rt; unit.len(), 52);
+    assert_unit(
+        &rt,
+        alloc,
+        Order::Big,
+        &head,
+        &three_rows(),
+        unit.as_slice(),
+    )
 }
 
 /// Three operations fill an instruction of 16 bytes.
 #[test]
 fn op_indexes(rt: HostRuntime) -> Result<(), Fail> {
-    let alloc = rt.alloc();
     let program = "00 09 02 00 10 00 00 00 00 00 00 20 20 20";
-    let unit = unit_with(alloc, &[(12, 0x10), (13, 3)], program)?;
-    let head = header(alloc, Order::Little, unit.as_slice())?;
-    let written = [row(0x1000, 1, 1), row(0x1000, 2, 1), row(0x1010, 0, 1)];
-    assert_unit(&rt, alloc, Order::Little, &head, &written, unit.as_slice())
+    let rows = [row(0x1000, 1, 1), row(0x1000, 2, 1), row(0x1010, 0, 1)];
+    assert_program(&rt, rt.alloc(), &[(12, 0x10), (13, 3)], program, &rows)
 }
 
 /// A line below 1 is one near 2^64.
 #[test]
 fn four_byte_addresses(rt: HostRuntime) -> Result<(), Fail> {
-    let alloc = rt.alloc();
-    let unit = unit_with(alloc, &[(6, 4)], "00 05 02 00 00 00 00 12 10")?;
-    let head = header(alloc, Order::Little, unit.as_slice())?;
-    let written = [row(0, 0, 1), row(0, 0, u64::MAX)];
-    assert_unit(&rt, alloc, Order::Little, &head, &written, unit.as_slice())
+    let program = "00 05 02 00 00 00 00 12 10";
+    let rows = [row(0, 0, 1), row(0, 0, u64::MAX)];
+    assert_program(&rt, rt.alloc(), &[(6, 4)], program, &rows)
 }
 
 #[test]
 fn steps(rt: HostRuntime) -> Result<(), Fail> {
-    let alloc = rt.alloc();
-    let head = plain(alloc)?;
-    let written = [
+    let program =
+        "00 09 02 08 00 00 00 00 00 00 00 12 00 09 02 04 00 00 00 00 00 00 00 03 09 01 1a ff 02 11 01";
+    let rows = [
         row(8, 0, 1),
         row(4, 0, 10),
         row(4, 0, 18),
         row(0x15, 0, 17),
         row(0x26, 0, 17),
     ];
-    let unit = unit(
-        alloc,
-        "00 09 02 08 00 00 00 00 00 00 00 12 00 09 02 04 00 00 00 00 00 00 00 03 09 01 1a ff 02 11 01",
-    )?;
-    assert_eq!(rt; unit.len(), 65);
-    assert_unit(&rt, alloc, Order::Little, &head, &written, unit.as_slice())
+    assert_program(&rt, rt.alloc(), &[], program, &rows)
 }
 
 /// What holds for one row alone, and what holds to the end of a sequence.
 #[test]
 fn settings_and_marks(rt: HostRuntime) -> Result<(), Fail> {
-    let alloc = rt.alloc();
-    let head = plain(alloc)?;
+    let program =
+        "04 02 05 c8 01 06 0c 03 00 03 04 ac 02 07 0a 0b 00 09 02 00 00 00 00 00 00 00 00 12 \
+                   20 00 01 01 00 09 02 00 00 00 00 00 00 00 00 12";
     let set = Row {
         file: 2,
         column: 200,
@@ -123,19 +168,8 @@ fn settings_and_marks(rt: HostRuntime) -> Result<(), Fail> {
         end_sequence: true,
         ..kept
     };
-    let unit = unit(
-        alloc,
-        "04 02 05 c8 01 06 0c 03 00 03 04 ac 02 07 0a 0b 00 09 02 00 00 00 00 00 00 00 00 12 \
-         20 00 01 01 00 09 02 00 00 00 00 00 00 00 00 12",
-    )?;
-    assert_unit(
-        &rt,
-        alloc,
-        Order::Little,
-        &head,
-        &[set, kept, end, row(0, 0, 1)],
-        unit.as_slice(),
-    )
+    let rows = [set, kept, end, row(0, 0, 1)];
+    assert_program(&rt, rt.alloc(), &[], program, &rows)
 }
 
 /// The directory and the file of `DWARF64_WITH_MD5`.

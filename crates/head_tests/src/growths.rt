@@ -1,6 +1,7 @@
 //! Growths of a table that are refused, each once.
 
 use crate::building::assert_entry;
+use crate::reading::feed;
 use crate::vectors::{HUGE_DIRECTORY_COUNT, TWO_THOUSAND_DIRECTORIES};
 use dl_head::{
     BuildFault, Fault, FaultKind, Form, Format, HeadReader, HeadStep, Pair, Table, ValueRef,
@@ -81,17 +82,6 @@ fn an_entry_without_bytes(rt: HostRuntime) -> Result<(), Fail> {
     let pushed = push_with(rt.alloc(), VALUES_SIZE, &mut table, &entry)?;
     assert_eq!(rt; pushed, Ok(()));
     Ok(())
-}
-
-/// The first answer that isn't More, or More.
-fn feed(reader: &mut HeadReader, bytes: &[u8]) -> HeadStep {
-    for byte in bytes {
-        match reader.step(*byte) {
-            HeadStep::More => {}
-            answer => return answer,
-        }
-    }
-    HeadStep::More
 }
 
 /// Whether a block of this size can be had.

@@ -11,7 +11,7 @@ use std::process::Abort;
 use test_support::{opcode_lengths, params};
 
 /// The first answer that isn't More, or More.
-fn feed(reader: &mut HeadReader, bytes: &[u8]) -> HeadStep {
+pub fn feed(reader: &mut HeadReader, bytes: &[u8]) -> HeadStep {
     for byte in bytes {
         match reader.step(*byte) {
             HeadStep::More => {}

@@ -14,14 +14,28 @@ use test_support::hoard;
 /// Asserts that the bytes in these turns come to what they do in one piece.
 fn assert_same(rt: &impl Abort, alloc: Global, order: Order, bytes: &[u8], turns: &[usize]) {
     let mut whole = HeadReader::new(alloc, order);
-    let expected = whole.run(bytes, &[bytes.len()]);
+    let (used, answer) = whole.offer(bytes);
     let mut reader = HeadReader::new(alloc, order);
-    let run = reader.run(bytes, turns);
-    assert_eq!(rt; run, expected);
+    assert_run(rt, &mut reader, bytes, turns, used, answer);
     assert_eq!(rt; reader.taken(), whole.taken());
     assert_eq!(rt; reader.cells(), whole.cells());
     assert_eq!(rt; reader.unit_len(), whole.unit_len());
     assert!(rt; reader.header() == whole.header());
+}
+
+/// Asserts that a run over these turns takes so many bytes, of which none is refused, and ends with this answer.
+fn assert_run(
+    rt: &impl Abort,
+    reader: &mut HeadReader,
+    bytes: &[u8],
+    turns: &[usize],
+    taken: usize,
+    last: HeadStep,
+) {
+    let run = reader.run(bytes, turns);
+    assert_eq!(rt; run.taken, taken);
+    assert_eq!(rt; run.refused, 0);
+    assert_eq!(rt; run.last, last);
 }
 
 /// Asserts that the bytes come to the same in one piece, byte by byte, and cut anywhere.
@@ -49,25 +63,19 @@ fn headers_may_be_cut_anywhere(rt: HostRuntime) {
 #[test]
 fn a_run_takes_what_its_turns_offer(rt: HostRuntime) {
     let mut reader = HeadReader::new(rt.alloc(), Order::Little);
-    let run = reader.run(&EMPTY_PROGRAM, &[4, 0, 2]);
-    assert_eq!(rt; run.taken, 6);
-    assert_eq!(rt; run.refused, 0);
-    assert_eq!(rt; run.last, HeadStep::More);
-    let run = reader.run(&EMPTY_PROGRAM[6..], &[100, 1]);
-    assert_eq!(rt; run.taken, 28);
-    assert_eq!(rt; run.last, HeadStep::Done);
-    let run = reader.run(&EMPTY_PROGRAM, &[]);
-    assert_eq!(rt; run.taken, 0);
-    assert_eq!(rt; run.last, HeadStep::More);
+    let more = HeadStep::More;
+    assert_run(&rt, &mut reader, &EMPTY_PROGRAM, &[4, 0, 2], 6, more);
+    let rest = &EMPTY_PROGRAM[6..];
+    assert_run(&rt, &mut reader, rest, &[100, 1], 28, HeadStep::Done);
+    assert_run(&rt, &mut reader, &EMPTY_PROGRAM, &[], 0, more);
 }
 
 #[test]
 fn a_little_endian_unit_is_foreign_in_big(rt: HostRuntime) {
     let mut reader = HeadReader::new(rt.alloc(), Order::Big);
     let start = [0x21, 0x00, 0x00, 0x00, 0x05, 0x00];
-    let run = reader.run(&start, &[6]);
-    assert_eq!(rt; run.taken, 6);
-    assert_eq!(rt; run.last, HeadStep::Foreign(1280));
+    let foreign = HeadStep::Foreign(1280);
+    assert_run(&rt, &mut reader, &start, &[6], 6, foreign);
     assert_eq!(rt; reader.unit_len(), Some(0x2100_0004));
 }
 
@@ -124,7 +132,7 @@ pub fn step_all(
 #[test]
 fn each_growth_of_a_header_is_refused_once(rt: HostRuntime) -> Result<(), Fail> {
     let mut whole = HeadReader::new(rt.alloc(), Order::Little);
-    assert_eq!(rt; whole.run(&DWARF64_WITH_MD5, &[78]).last, HeadStep::Done);
+    assert_eq!(rt; whole.offer(&DWARF64_WITH_MD5), (78, HeadStep::Done));
     let mut reader = HeadReader::new(rt.alloc(), Order::Little);
     let (last, refused) = step_all(&rt, rt.alloc(), &mut reader, &DWARF64_WITH_MD5)?;
     assert_eq!(rt; last, HeadStep::Done);
@@ -137,10 +145,8 @@ fn each_growth_of_a_header_is_refused_once(rt: HostRuntime) -> Result<(), Fail> 
 #[test]
 fn a_value_that_is_refused_is_entered_later(rt: HostRuntime) -> Result<(), Fail> {
     let mut reader = HeadReader::new(rt.alloc(), Order::Little);
-    assert_eq!(rt;
-        reader.run(&HUGE_DIRECTORY_COUNT[..44], &[44]).last,
-        HeadStep::More
-    );
+    let before = &HUGE_DIRECTORY_COUNT[..44];
+    assert_eq!(rt; reader.offer(before), (44, HeadStep::More));
     let last = HUGE_DIRECTORY_COUNT[44];
     let refused = step_without_memory(rt.alloc(), &mut reader, last)?;
     assert_eq!(rt; refused, HeadStep::NoMemory);

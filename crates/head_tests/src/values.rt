@@ -3,7 +3,7 @@
 use crate::building::assert_entry;
 use crate::runs::{assert_cuts, step_all};
 use crate::vectors::{EACH_FORM, MD5};
-use dl_head::{HeadReader, HeadRun, HeadStep, Header, ValueRef};
+use dl_head::{HeadReader, HeadStep, Header, ValueRef};
 use dl_num::Order;
 use std::alloc::{AllocError, Global};
 use std::process::Abort;
@@ -46,9 +46,7 @@ fn assert_files(rt: &impl Abort, header: &Header) {
 #[test]
 fn values_have_each_form(rt: HostRuntime) {
     let mut reader = HeadReader::new(rt.alloc(), Order::Little);
-    let run = reader.run(&EACH_FORM, &[EACH_FORM.len()]);
-    assert_eq!(rt; run.taken, EACH_FORM.len());
-    assert_eq!(rt; run.last, HeadStep::Done);
+    assert_eq!(rt; reader.offer(&EACH_FORM), (EACH_FORM.len(), HeadStep::Done));
     assert_eq!(rt; reader.cells(), 47);
     let header = reader.header().expect(&rt, "a header");
     assert_directory(&rt, header);
@@ -60,21 +58,21 @@ fn values_may_be_cut_anywhere(rt: HostRuntime) {
     assert_cuts(&rt, rt.alloc(), Order::Little, &EACH_FORM);
 }
 
-/// What the bytes that are left come to in one piece while all memory is taken.
-fn run_without_memory(
+/// What the bytes that are left come to while all memory is taken: how many are taken, and the answer.
+fn offer_without_memory(
     alloc: Global,
     reader: &mut HeadReader,
     bytes: &[u8],
-) -> Result<HeadRun, AllocError> {
+) -> Result<(usize, HeadStep), AllocError> {
     let blocks = hoard(alloc)?;
-    let run = reader.run(bytes, &[bytes.len()]);
+    let offered = reader.offer(bytes);
     drop(blocks);
-    Ok(run)
+    Ok(offered)
 }
 
 /// The last answer to the bytes in pieces, each up to a growth that is refused; the byte of that is given again.
 /// And how many were.
-fn run_all(
+fn offer_all(
     alloc: Global,
     reader: &mut HeadReader,
     bytes: &[u8],
@@ -82,11 +80,13 @@ fn run_all(
     let mut rest = bytes;
     let mut refused = 0u64;
     for _ in 0..bytes.len() {
-        let run = run_without_memory(alloc, reader, rest)?;
-        let Some((byte, tail)) = rest.get(run.taken..).unwrap_or(&[]).split_first() else {
-            return Ok((run.last, refused));
+        let (used, answer) = offer_without_memory(alloc, reader, rest)?;
+        let Some((byte, tail)) = rest.get(used..).unwrap_or(&[]).split_first() else {
+            return Ok((answer, refused));
         };
-        refused = refused.saturating_add(run.refused as u64);
+        if answer == HeadStep::NoMemory {
+            refused = refused.saturating_add(1);
+        }
         rest = tail;
         let step = reader.step(*byte);
         if step != HeadStep::More {
@@ -103,7 +103,7 @@ fn growths_of_values_are_refused_as_by_bytes(rt: HostRuntime) -> Result<(), Fail
     let (last, refused) = step_all(&rt, rt.alloc(), &mut bytewise, &EACH_FORM)?;
     assert_eq!(rt; last, HeadStep::Done);
     let mut reader = HeadReader::new(rt.alloc(), Order::Little);
-    let answer = run_all(rt.alloc(), &mut reader, &EACH_FORM)?;
+    let answer = offer_all(rt.alloc(), &mut reader, &EACH_FORM)?;
     assert_eq!(rt; answer, (last, refused));
     assert_eq!(rt; reader.cells(), bytewise.cells());
     assert!(rt; reader.header() == bytewise.header());
@@ -112,12 +112,9 @@ fn growths_of_values_are_refused_as_by_bytes(rt: HostRuntime) -> Result<(), Fail
 
 /// A value that ends the header is taken whole, and then the header is done.
 #[test]
-fn the_last_value_ends_the_header(rt: HostRuntime) -> Result<(), Fail> {
+fn the_last_value_ends_the_header(rt: HostRuntime) {
     let (before, last) = EACH_FORM.split_at(EACH_FORM.len() - 4);
     let mut reader = HeadReader::new(rt.alloc(), Order::Little);
-    assert_eq!(rt; reader.run(before, &[before.len()]).last, HeadStep::More);
-    let run = reader.run(last, &[last.len()]);
-    assert_eq!(rt; run.taken, 4);
-    assert_eq!(rt; run.last, HeadStep::Done);
-    Ok(())
+    assert_eq!(rt; reader.offer(before), (before.len(), HeadStep::More));
+    assert_eq!(rt; reader.offer(last), (4, HeadStep::Done));
 }

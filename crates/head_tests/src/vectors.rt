@@ -2,9 +2,10 @@
 
 ghost use Rattle.std.specs.Prelude.{◌<◌};
 
-use dl_head::{HeadReader, Header};
+use dl_head::Header;
 use dl_num::Order;
 use std::alloc::Global;
+use test_support::header_of;
 
 /// The header of an empty program: the 32-bit format, addresses of 8 bytes, opcode_base 13, empty
 /// tables. Little.
@@ -95,9 +96,5 @@ pub const EACH_FORM: [u8; 160] = [
 
 /// The header of these bytes, which are Little.
 pub fn read(alloc: Global, bytes: &[u8]) -> Option<Header> {
-    let mut reader = HeadReader::new(alloc, Order::Little);
-    for byte in bytes {
-        reader.step(*byte);
-    }
-    reader.into_header()
+    header_of(alloc, Order::Little, bytes)
 }

@@ -13,16 +13,33 @@ use std::process::Abort;
 use std::test::Fail;
 use test_support::{Sink, params};
 
+/// Asserts how long the header that these bytes spell is before a program of this length.
+fn assert_len(
+    rt: &impl Abort,
+    alloc: Global,
+    spelled: &[u8],
+    program: u64,
+    len: Result<u64, TooLong>,
+) {
+    match read(alloc, spelled) {
+        Some(header) => assert_eq!(rt; header_len(&header, program), len),
+        None => assert!(rt; false),
+    }
+}
+
 #[test]
 fn unit_lengths_that_are_written_have_limits(rt: HostRuntime) {
-    let header = read(rt.alloc(), &EMPTY_PROGRAM).expect(&rt, "a header");
-    assert_eq!(rt; header_len(&header, 0), Ok(34));
-    assert_eq!(rt; header_len(&header, 4_294_967_249), Ok(34));
-    assert_eq!(rt; header_len(&header, 4_294_967_250), Err(TooLong));
-    let header = read(rt.alloc(), &DWARF64_WITH_MD5).expect(&rt, "a header");
-    assert_eq!(rt; header_len(&header, 1_099_511_627_710), Ok(78));
-    assert_eq!(rt; header_len(&header, 1_099_511_627_711), Err(TooLong));
-    assert_eq!(rt; header_len(&header, u64::MAX), Err(TooLong));
+    let rows = [
+        (EMPTY_PROGRAM.as_slice(), 0, Ok(34)),
+        (EMPTY_PROGRAM.as_slice(), 4_294_967_249, Ok(34)),
+        (EMPTY_PROGRAM.as_slice(), 4_294_967_250, Err(TooLong)),
+        (DWARF64_WITH_MD5.as_slice(), 1_099_511_627_710, Ok(78)),
+        (DWARF64_WITH_MD5.as_slice(), 1_099_511_627_711, Err(TooLong)),
+        (DWARF64_WITH_MD5.as_slice(), u64::MAX, Err(TooLong)),
+    ];
+    for (spelled, program, len) in rows {
+        assert_len(&rt, rt.alloc(), spelled, program, len);
+    }
 }
 
 /// Asserts that the header that these bytes spell is written as them.
@@ -95,34 +112,48 @@ fn all_forms(alloc: Global) -> Result<Table, BuildFault> {
     Ok(table)
 }
 
+/// Asserts that what is written for the header is as long as is told, and is read as the same header.
+fn assert_read_again(rt: &impl Abort, alloc: Global, header: &Header) {
+    let mut output = Sink::new(alloc, 1000, 5);
+    let written = write_header(&mut output, Order::Little, header, 0);
+    assert_eq!(rt; written, Ok(output.held.len() as u64));
+    assert_eq!(rt; header_len(header, 0), Ok(output.held.len() as u64));
+    assert!(rt; read(alloc, output.held.as_slice()).as_ref() == Some(header));
+}
+
+/// Two tables with a value of each form.
+fn header_of_all_forms(alloc: Global) -> Result<Header, Fail> {
+    let tables = (all_forms(alloc)?, all_forms(alloc)?);
+    match Header::new(params(Format::Dwarf32), tables.0, tables.1) {
+        Ok(header) => Ok(header),
+        Err(_) => Err("a header".into()),
+    }
+}
+
 #[test]
 fn written_headers_are_read_again(rt: HostRuntime) -> Result<(), Fail> {
-    let tables = (all_forms(rt.alloc())?, all_forms(rt.alloc())?);
-    match Header::new(params(Format::Dwarf32), tables.0, tables.1) {
-        Ok(header) => {
-            let mut output = Sink::new(rt.alloc(), 1000, 5);
-            let written = write_header(&mut output, Order::Little, &header, 0);
-            assert_eq!(rt; written, Ok(output.held.len() as u64));
-            assert_eq!(rt; header_len(&header, 0), Ok(output.held.len() as u64));
-            let again = read(rt.alloc(), output.held.as_slice()).expect(&rt, "a header");
-            assert!(rt; again == header);
-        }
-        Err(_) => assert!(rt; false),
-    }
+    let header = header_of_all_forms(rt.alloc())?;
+    assert_read_again(&rt, rt.alloc(), &header);
     Ok(())
+}
+
+/// Asserts that a writer with room for `front`, the first bytes of `DWARF64_WITH_MD5`, holds these.
+fn assert_front(rt: &impl Abort, alloc: Global, header: &Header, front: &[u8], fails: bool) {
+    let mut output = Sink::new(alloc, front.len(), 3);
+    output.fails = fails;
+    let written = write_header(&mut output, Order::Little, header, 0);
+    let out = front.len() as u64;
+    assert_eq!(rt; written, Err(HeadWrite::Write { out }));
+    assert_eq!(rt; output.held.as_slice(), front);
 }
 
 #[test]
 fn failed_writes_are_told(rt: HostRuntime) {
     let header = read(rt.alloc(), &DWARF64_WITH_MD5).expect(&rt, "a header");
-    for fails in [true, false] {
-        for room in 0..78usize {
-            let mut output = Sink::new(rt.alloc(), room, 3);
-            output.fails = fails;
-            let written = write_header(&mut output, Order::Little, &header, 0);
-            assert_eq!(rt; written, Err(HeadWrite::Write { out: room as u64 }));
-            assert_eq!(rt; output.held.as_slice(), &DWARF64_WITH_MD5[..room]);
-        }
+    for room in 0..78usize {
+        let front = &DWARF64_WITH_MD5[..room];
+        assert_front(&rt, rt.alloc(), &header, front, true);
+        assert_front(&rt, rt.alloc(), &header, front, false);
     }
     let mut output = Sink::new(rt.alloc(), 100, 100);
     let written = write_header(&mut output, Order::Little, &header, 1 << 40);

@@ -68,33 +68,39 @@ fn run<R: Read>(
     }
 }
 
+/// The units that the first `read` bytes have whole.
+fn whole_units(section: &[u8], read: usize) -> &[u8] {
+    let len = match read {
+        0..=77 => 0,
+        78..=129 => 78,
+        130..=181 => 130,
+        _ => 182,
+    };
+    section.get(..len).unwrap_or(&[])
+}
+
+/// Appends the lines of the first `read` bytes.
+fn append_lines(text: &mut Vec<u8>, read: usize) -> Result<(), Fail> {
+    for (from, line) in LINES {
+        if from <= read {
+            text.extend_from_slice(line.as_bytes())?;
+        }
+    }
+    Ok(())
+}
+
 /// What a command has written when it was told of the first `read` bytes, and of no end.
 fn written(command: Command, alloc: Global, section: &[u8], read: usize) -> Result<Vec<u8>, Fail> {
     let mut text = Vec::new(alloc);
-    match command {
-        Command::Dump => {
-            for (from, line) in LINES {
-                if from <= read {
-                    text.extend_from_slice(line.as_bytes())?;
-                }
-            }
-        }
-        Command::Check => {}
-        Command::Find => {
-            if 130 <= read {
-                text.extend_from_slice(FOUND.as_bytes())?;
-            }
-        }
-        Command::Copy => {
-            let units = match read {
-                0..=77 => 0,
-                78..=129 => 78,
-                130..=181 => 130,
-                _ => 182,
-            };
-            text.extend_from_slice(section.get(..units).ok_or("units")?)?;
-        }
+    if command == Command::Dump {
+        append_lines(&mut text, read)?;
     }
+    let answer = match command {
+        Command::Find if 130 <= read => FOUND.as_bytes(),
+        Command::Copy => whole_units(section, read),
+        Command::Dump | Command::Check | Command::Find => &[],
+    };
+    text.extend_from_slice(answer)?;
     Ok(text)
 }
 
@@ -125,14 +131,50 @@ fn ended(
     }
 }
 
+/// What a command answers and has written where this fault comes at the read that has `before` others before it.
+fn answered(
+    command: Command,
+    alloc: Global,
+    section: &[u8],
+    before: usize,
+    fault: Fault,
+) -> Result<(Result<Summary, RunFault>, Vec<u8>), Fail> {
+    let read = READ.saturating_mul(before);
+    let found = command == Command::Find && 130 <= read;
+    match fault {
+        Fault::Fails | Fault::Interrupted(1001) if !found => Ok((
+            Err(RunFault::Read),
+            written(command, alloc, section, read)?,
+        )),
+        Fault::Nothing => ended(command, alloc, section, read),
+        _ => ended(command, alloc, section, 182),
+    }
+}
+
+/// Asserts what the command answers and writes where this fault comes at the read that has `before` others before it.
+fn assert_read(
+    rt: &impl Abort,
+    alloc: Global,
+    command: Command,
+    section: &[u8],
+    before: usize,
+    fault: Fault,
+) -> Result<(), Fail> {
+    let (answer, text) = answered(command, alloc, section, before, fault)?;
+    let mut input = Source::new(section, READ).with_fault(before, fault);
+    let mut output = Sink::new(alloc, 1 << 20, 1 << 20);
+    let answered = run(command, alloc, &mut input, &mut output);
+    assert_eq!(rt; answered, answer, "{command:?} {before} {fault:?}");
+    assert_eq!(rt; output.held.as_slice(), text.as_slice());
+    Ok(())
+}
+
 #[test]
 fn each_read(rt: HostRuntime) -> Result<(), Fail> {
     let alloc = rt.alloc();
     let section = bytes(alloc, &UNITS)?;
-    let section = section.as_slice();
     for command in COMMANDS {
         for before in 0..15usize {
-            let read = READ.saturating_mul(before);
             for fault in [
                 Fault::Fails,
                 Fault::Interrupted(1001),
@@ -140,24 +182,36 @@ fn each_read(rt: HostRuntime) -> Result<(), Fail> {
                 Fault::Short,
                 Fault::Nothing,
             ] {
-                let found = command == Command::Find && 130 <= read;
-                let (answer, text) = match fault {
-                    Fault::Fails | Fault::Interrupted(1001) if !found => (
-                        Err(RunFault::Read),
-                        written(command, alloc, section, read)?,
-                    ),
-                    Fault::Nothing => ended(command, alloc, section, read)?,
-                    _ => ended(command, alloc, section, 182)?,
-                };
-                let mut input = Source::new(section, READ).with_fault(before, fault);
-                let mut output = Sink::new(alloc, 1 << 20, 1 << 20);
-                let answered = run(command, alloc, &mut input, &mut output);
-                assert_eq!(rt; answered, answer, "{command:?} {before} {fault:?}");
-                assert_eq!(rt; output.held.as_slice(), text.as_slice());
+                assert_read(&rt, alloc, command, section.as_slice(), before, fault)?;
             }
         }
     }
     Ok(())
+}
+
+/// Asserts what the command answers and writes where this fault comes at the write that has `before` others before it:
+/// where that fails, exactly the bytes that it tells are out, and else what it does without one.
+fn assert_write(
+    rt: &impl Abort,
+    alloc: Global,
+    command: Command,
+    section: &[u8],
+    without: &(Result<Summary, RunFault>, Vec<u8>),
+    before: usize,
+    fault: Fault,
+) {
+    let (answer, text) = without;
+    let mut input = Source::new(section, 4096);
+    let mut output = Sink::with_fault(alloc, WRITTEN, before, fault);
+    let answered = run(command, alloc, &mut input, &mut output);
+    if matches!(fault, Fault::Short | Fault::Interrupted(1000)) {
+        assert!(rt; answered == *answer);
+        assert_eq!(rt; output.held.as_slice(), text.as_slice());
+    } else {
+        let out = WRITTEN.saturating_mul(before);
+        assert_eq!(rt; answered, Err(RunFault::Write { out: out as u128 }));
+        assert_eq!(rt; Some(output.held.as_slice()), text.get(..out));
+    }
 }
 
 /// Exactly the bytes that a failed write tells are out.
@@ -165,30 +219,27 @@ fn each_read(rt: HostRuntime) -> Result<(), Fail> {
 fn each_write(rt: HostRuntime) -> Result<(), Fail> {
     let alloc = rt.alloc();
     let section = bytes(alloc, &UNITS)?;
-    let section = section.as_slice();
     for command in COMMANDS {
-        let (answer, text) = ended(command, alloc, section, 182)?;
-        let writes = text.len().div_ceil(WRITTEN);
+        let without = ended(command, alloc, section.as_slice(), 182)?;
+        let writes = without.1.len().div_ceil(WRITTEN);
         assert!(rt; 3 < writes);
         for before in 0..writes {
-            let out = WRITTEN.saturating_mul(before);
-            for (fault, is_failed) in [
-                (Fault::Fails, true),
-                (Fault::Interrupted(1001), true),
-                (Fault::Nothing, true),
-                (Fault::Interrupted(1000), false),
-                (Fault::Short, false),
+            for fault in [
+                Fault::Fails,
+                Fault::Interrupted(1001),
+                Fault::Nothing,
+                Fault::Interrupted(1000),
+                Fault::Short,
             ] {
-                let mut input = Source::new(section, 4096);
-                let mut output = Sink::with_fault(alloc, WRITTEN, before, fault);
-                let answered = run(command, alloc, &mut input, &mut output);
-                if is_failed {
-                    assert_eq!(rt; answered, Err(RunFault::Write { out: out as u128 }));
-                    assert_eq!(rt; Some(output.held.as_slice()), text.get(..out));
-                } else {
-                    assert_eq!(rt; answered, answer);
-                    assert_eq!(rt; output.held.as_slice(), text.as_slice());
-                }
+                assert_write(
+                    &rt,
+                    alloc,
+                    command,
+                    section.as_slice(),
+                    &without,
+                    before,
+                    fault,
+                );
             }
         }
     }

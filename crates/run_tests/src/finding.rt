@@ -5,12 +5,11 @@ use crate::sections::{FOREIGN, SMALLEST, THREE_ROWS, bytes, damage, options};
 use dl_head::FaultKind;
 use dl_look::{Index, Place};
 use dl_num::Order;
-use dl_rows::{Event, Reader, Row};
 use dl_run::{Options, RunFault, SECTION_LIMIT, Summary, find};
-use std::alloc::{AllocError, Global};
+use std::alloc::Global;
 use std::process::Abort;
 use std::test::Fail;
-use test_support::{DWARF64_WITH_MD5, Repeated, Sink, Source};
+use test_support::{DWARF64_WITH_MD5, Repeated, Sink, Source, rows_of};
 
 /// The unit of `DWARF64_WITH_MD5` with a program of two rows for file 0.
 const WITH_FILE: &str = "ff ff ff ff 4a 00 00 00 00 00 00 00 05 00 08 00 36 00 00 00 00 00 00 00 \
@@ -196,28 +195,12 @@ fn rest_of_the_input(rt: HostRuntime) -> Result<(), Fail> {
     Ok(())
 }
 
-/// The rows of a unit, fed whole.
-fn rows_of(alloc: Global, unit: &[u8]) -> Result<Vec<Row>, AllocError> {
-    let mut rows = Vec::new(alloc);
-    let mut reader = Reader::new(alloc, Order::Little);
-    let mut rest = unit;
-    for _ in 0..unit.len() {
-        if let Ok(fed) = reader.feed(rest) {
-            rest = &rest[fed.used..];
-            if let Event::Row(row) = fed.event {
-                rows.push(row)?;
-            }
-        }
-    }
-    Ok(rows)
-}
-
 /// An index of the rows and the command agree.
 #[test]
 fn index_and_command(rt: HostRuntime) -> Result<(), Fail> {
     let alloc = rt.alloc();
     let section = bytes(alloc, &[THREE_ROWS])?;
-    let rows = rows_of(alloc, section.as_slice())?;
+    let rows = rows_of(alloc, Order::Little, section.as_slice())?;
     let index = Index::build(alloc, rows.as_slice()).ok().ok_or("memory")?;
     for (address, line, text) in [
         (0x400fff, None, ""),

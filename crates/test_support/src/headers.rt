@@ -1,6 +1,8 @@
 //! Headers.
 use arrayvec::ArrayVec;
-use dl_head::{Format, Params};
+use dl_head::{Format, HeadReader, Header, Params};
+use dl_num::Order;
+use std::alloc::Global;
 
 /// The params of most compilers: addresses of 8 bytes, and the standard opcodes.
 pub fn params(format: Format) -> Params {
@@ -23,4 +25,11 @@ pub fn opcode_lengths(of: &[u8]) -> ArrayVec<u8, 254> {
     let mut lengths = ArrayVec::new();
     let _room = lengths.try_extend_from_slice(of);
     lengths
+}
+
+/// The header that the bytes begin with, if it is whole, sound and of version 5.
+pub fn header_of(alloc: Global, order: Order, bytes: &[u8]) -> Option<Header> {
+    let mut reader = HeadReader::new(alloc, order);
+    reader.offer(bytes);
+    reader.into_header()
 }

@@ -1,5 +1,5 @@
 //! What the tests of several crates share: readers and writers that aren't perfect, want of memory,
-//! worked units, params of headers, and rows.
+//! worked units, params of headers, rows, and what bytes are read as.
 #![tactic(auto)]
 
 mod fault;
@@ -11,10 +11,10 @@ mod units;
 mod writers;
 
 pub use fault::Fault;
-pub use headers::{opcode_lengths, params};
+pub use headers::{header_of, opcode_lengths, params};
 pub use memory::{hoard, hoard_but, hoard_most};
 pub use readers::{Endless, Hoarding, Repeated, Source};
-pub use rows::{end, row};
+pub use rows::{end, row, rows_of};
 pub use units::{
     BIG_SMALLEST, BIG_THREE_ROWS, DWARF64_WITH_MD5, SMALLEST, THREE_ROWS, bytes, unit, unit_of,
     unit_with,
