@@ -1,4 +1,4 @@
--- The types of relocations with the lowest numbers, as a list. No promise rests on how this is said.
+-- The types of relocations with the lowest numbers, as a list. No promise rests on this file.
 use Rattle.std.specs.Prelude.{◌≡◌, ℕ, ◌<◌, List, Option, None, slice_index_or}
 use Rattle.dl_reloc.specs.declared.target.Target.{Target}
 use Rattle.dl_reloc.specs.declared.change.Change.{Change}
