@@ -1,17 +1,21 @@
 //! Worked units.
 
-use crate::pieces::{Told, assert_fed, assert_rows, assert_told, assert_truncated, fault};
+use crate::pieces::{
+    Standing, Told, assert_rows, assert_told, assert_truncated, fault, stand_after, standing_with,
+};
 use crate::vectors::{
     BIG_FIXED_ADVANCE, BLOCK_PAST_THE_HEADER, HUGE_DIRECTORY_COUNT, LINE_STRP_DIRECTORY,
-    OPCODE_BASE_10, OPCODE_BASE_14,
+    OPCODE_BASE_10, OPCODE_BASE_14, SKIPPED_OPERANDS,
 };
 use dl_head::{Fault, FaultKind};
 use dl_num::Order;
 use dl_rows::{Event, Finish, Reader, Row};
+use std::alloc::Global;
+use std::process::Abort;
 use std::test::Fail;
 use test_support::{
     BIG_SMALLEST, BIG_THREE_ROWS, DWARF64_WITH_MD5, SMALLEST, THREE_ROWS, bytes, end, row, unit,
-    unit_with,
+    unit_of, unit_with,
 };
 
 /// One unit: the bytes that differ from the usual header's, the program, the rows, and whether the
@@ -22,6 +26,29 @@ type Case<'a> = (
     &'a [Row],
     Option<(u64, FaultKind)>,
 );
+
+/// Asserts what a reader tells of one unit.
+fn assert_case(rt: &impl Abort, alloc: Global, case: &Case<'_>) -> Result<(), Fail> {
+    let (changes, program, rows, refused) = *case;
+    let unit = unit_with(alloc, changes, program)?;
+    assert_rows(rt, alloc, Order::Little, unit.as_slice(), rows, refused)
+}
+
+/// Asserts what a reader tells of units.
+fn assert_cases(rt: &impl Abort, alloc: Global, cases: &[Case<'_>]) -> Result<(), Fail> {
+    for case in cases {
+        assert_case(rt, alloc, case)?;
+    }
+    Ok(())
+}
+
+/// A row of this column.
+fn column(column: u64) -> Row {
+    Row {
+        column,
+        ..row(0, 0, 1)
+    }
+}
 
 #[test]
 fn units(rt: HostRuntime) -> Result<(), Fail> {
@@ -35,21 +62,13 @@ fn units(rt: HostRuntime) -> Result<(), Fail> {
         row(0x401004, 0, 3),
         end(0x401004, 0, 3),
     ];
-    let op_index = [row(0x1000, 1, 1), row(0x1000, 2, 1), row(0x1010, 0, 1)];
     let four_bytes = [row(0, 0, 1), row(0, 0, u64::MAX)];
-    let mut column = row(0, 0, 1);
-    column.column = 3;
-    let padded = [column];
-    let huge_advance = [row(0, 1, 1), row(6148914691236517205, 1, 1)];
-    let mut flags = row(0, 0, 1);
-    flags.prologue_end = true;
-    flags.discriminator = 7;
-    let flags_of_one_row = [flags, row(0, 0, 1)];
-    let fixed_advance = [row(0, 1, 1), row(0x1234, 0, 1)];
-    let out_of_range = Some((34, FaultKind::LebRange));
-    let empty = Some((34, FaultKind::ExtendedEmpty));
-    let wrong = Some((34, FaultKind::ExtendedLength));
-    let cases: [Case<'_>; 20] = [
+    let flags = Row {
+        prologue_end: true,
+        discriminator: 7,
+        ..row(0, 0, 1)
+    };
+    let cases: [Case<'_>; 6] = [
         (&[], SMALLEST, &[end(0, 0, 1)], None),
         (&[], THREE_ROWS, &three_rows, None),
         (
@@ -60,21 +79,56 @@ fn units(rt: HostRuntime) -> Result<(), Fail> {
         ),
         (&[], "", &[], None),
         (
+            &[(6, 4)],
+            "00 05 02 ff ff ff ff 02 01 01 03 7e 01",
+            &four_bytes,
+            None,
+        ),
+        (&[], "00 02 04 07 0a 01 01", &[flags, row(0, 0, 1)], None),
+    ];
+    assert_cases(&rt, rt.alloc(), &cases)
+}
+
+/// Advances of the address, also of several operations an instruction.
+#[test]
+fn advances(rt: HostRuntime) -> Result<(), Fail> {
+    let op_index = [row(0x1000, 1, 1), row(0x1000, 2, 1), row(0x1010, 0, 1)];
+    let huge_advance = [row(0, 1, 1), row(6148914691236517205, 1, 1)];
+    let fixed_advance = [row(0, 1, 1), row(0x1234, 0, 1)];
+    let cases: [Case<'_>; 4] = [
+        (
             &[(12, 0x10), (13, 3)],
             "00 09 02 00 10 00 00 00 00 00 00 20 20 20",
             &op_index,
             None,
         ),
         (
-            &[(6, 4)],
-            "00 05 02 ff ff ff ff 02 01 01 03 7e 01",
-            &four_bytes,
+            &[(13, 3)],
+            "20 02 ff ff ff ff ff ff ff ff ff 01 01",
+            &huge_advance,
             None,
         ),
         (
+            &[(12, 0x10), (13, 3)],
+            "20 09 34 12 01",
+            &fixed_advance,
+            None,
+        ),
+        (&[], "08 01", &[row(0x11, 0, 1)], None),
+    ];
+    assert_cases(&rt, rt.alloc(), &cases)
+}
+
+/// Numbers of LEB128 with padding, at their limits and out of their range.
+#[test]
+fn leb_operands(rt: HostRuntime) -> Result<(), Fail> {
+    let out_of_range = Some((34, FaultKind::LebRange));
+    let least_line = [row(0, 0, 9223372036854775809)];
+    let cases: [Case<'_>; 5] = [
+        (
             &[],
             "05 83 80 80 80 80 80 80 80 80 80 80 00 01",
-            &padded,
+            &[column(3)],
             None,
         ),
         (
@@ -84,20 +138,6 @@ fn units(rt: HostRuntime) -> Result<(), Fail> {
             out_of_range,
         ),
         (
-            &[(13, 3)],
-            "20 02 ff ff ff ff ff ff ff ff ff 01 01",
-            &huge_advance,
-            None,
-        ),
-        (&[], "00 02 04 07 0a 01 01", &flags_of_one_row, None),
-        (
-            &[(12, 0x10), (13, 3)],
-            "20 09 34 12 01",
-            &fixed_advance,
-            None,
-        ),
-        (&[], "08 01", &[row(0x11, 0, 1)], None),
-        (
             &[],
             "03 80 80 80 80 80 80 80 80 80 01 01",
             &[],
@@ -106,9 +146,20 @@ fn units(rt: HostRuntime) -> Result<(), Fail> {
         (
             &[],
             "03 80 80 80 80 80 80 80 80 80 7f 01",
-            &[row(0, 0, 9223372036854775809)],
+            &least_line,
             None,
         ),
+        (&[], "00 80 80 80 80 80 80 80 80 80 02", &[], out_of_range),
+    ];
+    assert_cases(&rt, rt.alloc(), &cases)
+}
+
+/// Lengths of extended opcodes that are wrong.
+#[test]
+fn extended_lengths(rt: HostRuntime) -> Result<(), Fail> {
+    let empty = Some((34, FaultKind::ExtendedEmpty));
+    let wrong = Some((34, FaultKind::ExtendedLength));
+    let cases: [Case<'_>; 5] = [
         (&[], "00 00", &[], empty),
         (&[], "00 02 01 00", &[], wrong),
         (&[], "00 05 02 ff ff ff ff", &[], wrong),
@@ -119,20 +170,20 @@ fn units(rt: HostRuntime) -> Result<(), Fail> {
             &[],
             Some((34, FaultKind::OpcodeOverrun)),
         ),
-        (&[], "00 80 80 80 80 80 80 80 80 80 02", &[], out_of_range),
     ];
-    for (changes, program, rows, refused) in cases {
-        let unit = unit_with(rt.alloc(), changes, program)?;
-        assert_rows(
-            &rt,
-            rt.alloc(),
-            Order::Little,
-            unit.as_slice(),
-            rows,
-            refused,
-        )?;
-    }
-    Ok(())
+    assert_cases(&rt, rt.alloc(), &cases)
+}
+
+/// Asserts what a reader tells of a whole unit that is written out.
+fn assert_whole(
+    rt: &impl Abort,
+    alloc: Global,
+    order: Order,
+    words: &str,
+    rows: &[Row],
+) -> Result<(), Fail> {
+    let unit = bytes(alloc, words)?;
+    assert_rows(rt, alloc, order, unit.as_slice(), rows, None)
 }
 
 /// What a reader tells of whole units that are written out.
@@ -154,110 +205,182 @@ fn other_units(rt: HostRuntime) -> Result<(), Fail> {
         (Order::Big, BIG_FIXED_ADVANCE, &fixed_advance),
     ];
     for (order, words, rows) in cases {
-        let unit = bytes(rt.alloc(), words)?;
-        assert_rows(&rt, rt.alloc(), order, unit.as_slice(), rows, None)?;
+        assert_whole(&rt, rt.alloc(), order, words, rows)?;
     }
     Ok(())
+}
+
+/// Asserts what a reader tells of bytes that are written out.
+fn assert_words(rt: &impl Abort, alloc: Global, words: &str, wanted: &[Told]) -> Result<(), Fail> {
+    let unit = bytes(alloc, words)?;
+    assert_told(rt, alloc, Order::Little, unit.as_slice(), wanted)
 }
 
 /// Operands that are passed over have no range.
 #[test]
 fn skipped_operands(rt: HostRuntime) -> Result<(), Fail> {
-    let mut unit = bytes(rt.alloc(), OPCODE_BASE_14)?;
-    unit.truncate(35);
-    let program = bytes(rt.alloc(), "0d ff ff ff ff ff ff ff ff ff ff ff 01 05 01")?;
-    unit.extend_from_slice(program.as_slice())?;
-    *unit.get_mut(0).ok_or("a byte")? = 0x2e;
     let wanted = [Told::Header, Told::Row(row(0, 0, 1)), Told::End];
-    assert_told(&rt, rt.alloc(), Order::Little, unit.as_slice(), &wanted)
+    assert_words(&rt, rt.alloc(), SKIPPED_OPERANDS, &wanted)
+}
+
+/// A unit that sets the column by an operand of a thousand bytes, and appends a row.
+fn with_a_long_operand(alloc: Global) -> Result<Vec<u8>, Fail> {
+    let mut program = bytes(alloc, "05 83")?;
+    program.extend_from_slice(&[0x80; 998])?;
+    program.extend_from_slice(&[0x00, 0x01])?;
+    unit_of(alloc, program.as_slice())
 }
 
 /// An operand of a thousand bytes.
 #[test]
 fn thousand_byte_number(rt: HostRuntime) -> Result<(), Fail> {
-    let mut unit = unit(rt.alloc(), "05 83")?;
-    for _ in 0..998 {
-        unit.push(0x80)?;
-    }
-    unit.extend_from_slice(&[0x00, 0x01])?;
-    *unit.get_mut(0).ok_or("a byte")? = 0x08;
-    *unit.get_mut(1).ok_or("a byte")? = 0x04;
-    let mut column = row(0, 0, 1);
-    column.column = 3;
-    let wanted = [Told::Header, Told::Row(column), Told::End];
+    let unit = with_a_long_operand(rt.alloc())?;
+    let wanted = [Told::Header, Told::Row(column(3)), Told::End];
     assert_told(&rt, rt.alloc(), Order::Little, unit.as_slice(), &wanted)
 }
+
+/// How a reader stands before any byte.
+const NEW: Standing = Standing {
+    answer: Ok((0, Event::More)),
+    has_header: false,
+    in_sequence: false,
+    taken: 0,
+    cells: 0,
+    finish: Ok(Finish::Empty),
+};
+
+/// How a reader stands that has the header of a unit without directories and files.
+const AFTER_HEADER: Standing = Standing {
+    answer: Ok((34, Event::Header)),
+    has_header: true,
+    taken: 34,
+    finish: Err(Fault {
+        offset: 34,
+        kind: FaultKind::Truncated,
+    }),
+    ..NEW
+};
 
 /// A whole unit is used as far as its next event, and no byte after it is.
 #[test]
 fn one_piece(rt: HostRuntime) -> Result<(), Fail> {
     let unit = unit(rt.alloc(), SMALLEST)?;
     let (_, program) = unit.as_slice().split_at(unit.len().min(34));
-    let mut reader = Reader::new(rt.alloc(), Order::Little);
-    let row = Event::Row(end(0, 0, 1));
-    assert_fed(&rt, &mut reader, unit.as_slice(), Ok((34, Event::Header)));
-    assert!(rt; reader.header().is_some());
-    assert_fed(&rt, &mut reader, program, Ok((3, row)));
-    assert!(rt; !reader.in_sequence());
-    assert_fed(&rt, &mut reader, &[0x05], Ok((0, Event::End)));
-    assert_fed(&rt, &mut reader, &[0x05], Ok((0, Event::End)));
-    assert_eq!(rt; reader.taken(), 37);
-    assert_eq!(rt; reader.cells(), 0);
-    assert_eq!(rt; reader.finish(), Ok(Finish::Whole));
-    assert!(rt; reader.into_header().is_some());
+    let pieces = [unit.as_slice(), program, &[0x05], &[0x05]];
+    let told = stand_after(rt.alloc(), Order::Little, pieces);
+    let row = Standing {
+        answer: Ok((3, Event::Row(end(0, 0, 1)))),
+        taken: 37,
+        finish: Ok(Finish::Whole),
+        ..AFTER_HEADER
+    };
+    let ended = Standing {
+        answer: Ok((0, Event::End)),
+        ..row
+    };
+    assert_eq!(rt; told, ([AFTER_HEADER, row, ended, ended], true));
     Ok(())
+}
+
+/// How a reader stands that is given nothing.
+fn stand_at_first(alloc: Global) -> Standing {
+    let reader = Reader::new(alloc, Order::Little);
+    standing_with(&reader, Ok((0, Event::More)))
 }
 
 #[test]
 fn empty_program(rt: HostRuntime) -> Result<(), Fail> {
+    assert_eq!(rt; stand_at_first(rt.alloc()), NEW);
     let unit = unit(rt.alloc(), "")?;
-    let mut reader = Reader::new(rt.alloc(), Order::Little);
-    assert_eq!(rt; reader.finish(), Ok(Finish::Empty));
-    assert_fed(&rt, &mut reader, unit.as_slice(), Ok((34, Event::Header)));
-    assert_fed(&rt, &mut reader, &[], Ok((0, Event::End)));
-    assert_fed(&rt, &mut reader, &[], Ok((0, Event::End)));
-    assert_eq!(rt; reader.finish(), Ok(Finish::Whole));
+    let pieces = [unit.as_slice(), &[], &[], &[]];
+    let told = stand_after(rt.alloc(), Order::Little, pieces);
+    let whole = Standing {
+        finish: Ok(Finish::Whole),
+        ..AFTER_HEADER
+    };
+    let ended = Standing {
+        answer: Ok((0, Event::End)),
+        ..whole
+    };
+    assert_eq!(rt; told, ([whole, ended, ended, ended], true));
     Ok(())
 }
+
+/// A unit of another version, of 10 bytes, and a byte after it.
+const FOREIGN: &str = "06 00 00 00 04 00 aa bb cc dd 05";
 
 /// A unit of another version is passed over by its length.
 #[test]
 fn foreign_unit(rt: HostRuntime) -> Result<(), Fail> {
-    let section = bytes(rt.alloc(), "06 00 00 00 04 00 aa bb cc dd 05")?;
+    let section = bytes(rt.alloc(), FOREIGN)?;
     let (_, rest) = section.as_slice().split_at(section.len().min(6));
+    let pieces = [section.as_slice(), rest, &[], &[]];
+    let told = stand_after(rt.alloc(), Order::Little, pieces);
+    let truncated = Fault {
+        offset: 6,
+        kind: FaultKind::Truncated,
+    };
+    let foreign = Standing {
+        answer: Ok((6, Event::Foreign(4))),
+        taken: 6,
+        finish: Err(truncated),
+        ..NEW
+    };
+    let passed = Standing {
+        answer: Ok((4, Event::End)),
+        taken: 10,
+        finish: Ok(Finish::Whole),
+        ..NEW
+    };
+    let ended = Standing {
+        answer: Ok((0, Event::End)),
+        ..passed
+    };
+    assert_eq!(rt; told, ([foreign, passed, ended, ended], false));
+    Ok(())
+}
+
+/// A unit of another version in pieces of each kind.
+#[test]
+fn foreign_unit_in_pieces(rt: HostRuntime) -> Result<(), Fail> {
+    let section = bytes(rt.alloc(), FOREIGN)?;
     let (unit, _) = section.as_slice().split_at(section.len().min(10));
-    let mut reader = Reader::new(rt.alloc(), Order::Little);
-    let foreign = Event::Foreign(4);
-    assert_fed(&rt, &mut reader, section.as_slice(), Ok((6, foreign)));
-    assert_fed(&rt, &mut reader, rest, Ok((4, Event::End)));
-    assert!(rt; reader.into_header().is_none());
     let wanted = [Told::Foreign(4), Told::End];
     assert_told(&rt, rt.alloc(), Order::Little, unit, &wanted)?;
     assert_truncated(&rt, rt.alloc(), Order::Little, unit)
 }
 
-/// A unit that is cut off, and one that ends inside an opcode.
+/// Asserts what a reader tells of a unit with this program.
+fn assert_program(
+    rt: &impl Abort,
+    alloc: Global,
+    program: &str,
+    wanted: &[Told],
+) -> Result<(), Fail> {
+    let unit = unit(alloc, program)?;
+    assert_told(rt, alloc, Order::Little, unit.as_slice(), wanted)
+}
+
+/// The program of three rows that is cut off, and one that ends inside another opcode.
 #[test]
 fn cut_units(rt: HostRuntime) -> Result<(), Fail> {
-    let three_rows = [
+    let cut_off = [
         Told::Header,
         Told::Row(row(0x401000, 0, 2)),
         Told::Row(row(0x401004, 0, 3)),
         fault(49, FaultKind::OpcodeOverrun),
     ];
-    let mut unit = unit_with(rt.alloc(), &[(0, 0x2f)], THREE_ROWS)?;
-    unit.truncate(51);
-    assert_told(&rt, rt.alloc(), Order::Little, unit.as_slice(), &three_rows)?;
-    let mut longer = unit_with(rt.alloc(), &[(0, 0x31)], THREE_ROWS)?;
-    longer.push(0x00)?;
-    let wanted = [
+    let longer = [
         Told::Header,
         Told::Row(row(0x401000, 0, 2)),
         Told::Row(row(0x401004, 0, 3)),
         Told::Row(end(0x401006, 0, 3)),
         fault(52, FaultKind::OpcodeOverrun),
     ];
-    assert_told(&rt, rt.alloc(), Order::Little, longer.as_slice(), &wanted)
+    let program = "00 09 02 00 10 40 00 00 00 00 00 13 4b 02 02 00 01";
+    assert_program(&rt, rt.alloc(), program, &cut_off)?;
+    let program = "00 09 02 00 10 40 00 00 00 00 00 13 4b 02 02 00 01 01 00";
+    assert_program(&rt, rt.alloc(), program, &longer)
 }
 
 /// The fault of a unit is answered at each later call.
@@ -265,18 +388,27 @@ fn cut_units(rt: HostRuntime) -> Result<(), Fail> {
 fn a_fault_is_kept(rt: HostRuntime) -> Result<(), Fail> {
     let unit = unit(rt.alloc(), "00 00")?;
     let (_, program) = unit.as_slice().split_at(unit.len().min(34));
-    let mut reader = Reader::new(rt.alloc(), Order::Little);
+    let pieces = [unit.as_slice(), program, &[0x01], &[]];
+    let told = stand_after(rt.alloc(), Order::Little, pieces);
     let fault = Fault {
         offset: 34,
         kind: FaultKind::ExtendedEmpty,
     };
-    assert_fed(&rt, &mut reader, unit.as_slice(), Ok((34, Event::Header)));
-    assert_fed(&rt, &mut reader, program, Err(fault));
-    assert_fed(&rt, &mut reader, &[0x01], Err(fault));
-    assert_fed(&rt, &mut reader, &[], Err(fault));
-    assert_eq!(rt; reader.finish(), Err(fault));
-    assert!(rt; reader.header().is_some());
+    let refused = Standing {
+        answer: Err(fault),
+        taken: 36,
+        finish: Err(fault),
+        ..AFTER_HEADER
+    };
+    assert_eq!(rt; told, ([AFTER_HEADER, refused, refused, refused], true));
     Ok(())
+}
+
+/// Asserts that a header is refused for this fault.
+fn assert_refused(rt: &impl Abort, alloc: Global, words: &str, fault: Told) -> Result<(), Fail> {
+    let unit = bytes(alloc, words)?;
+    assert_told(rt, alloc, Order::Little, unit.as_slice(), &[fault])?;
+    assert_truncated(rt, alloc, Order::Little, unit.as_slice())
 }
 
 /// Faults of headers, each with the bytes that a header begins with.
@@ -294,16 +426,19 @@ fn header_faults(rt: HostRuntime) -> Result<(), Fail> {
         ("01 00 00 00 05", fault(4, FaultKind::UnitOverrun)),
     ];
     for (words, wanted) in cases {
-        let unit = bytes(rt.alloc(), words)?;
-        assert_told(&rt, rt.alloc(), Order::Little, unit.as_slice(), &[wanted])?;
-        assert_truncated(&rt, rt.alloc(), Order::Little, unit.as_slice())?;
+        assert_refused(&rt, rt.alloc(), words, wanted)?;
     }
+    Ok(())
+}
+
+/// Long lengths that aren't refused.
+#[test]
+fn lengths_of_64_bits(rt: HostRuntime) -> Result<(), Fail> {
     for words in [
         "ff ff ff ff 01 00 00 00 00 00 00 00",
         "ff ff ff ff 01 00 00 00 01 00 00 00",
     ] {
-        let unit = bytes(rt.alloc(), words)?;
-        assert_told(&rt, rt.alloc(), Order::Little, unit.as_slice(), &[])?;
+        assert_words(&rt, rt.alloc(), words, &[])?;
     }
     Ok(())
 }

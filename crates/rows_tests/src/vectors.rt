@@ -22,3 +22,7 @@ pub const BLOCK_PAST_THE_HEADER: &str = "28 00 00 00 05 00 08 00 20 00 00 00 01 
 pub const BIG_FIXED_ADVANCE: &str = "00 00 00 23 00 05 08 00 00 00 00 16 10 03 01 fb 0e 0d \
                                      00 01 01 01 01 00 00 00 01 00 00 01 00 00 00 00 \
                                      20 09 12 34 01";
+
+pub const SKIPPED_OPERANDS: &str = "2e 00 00 00 05 00 08 00 17 00 00 00 01 01 01 fb 0e 0e \
+                                    00 01 01 01 01 00 00 00 01 00 00 01 02 00 00 00 00 \
+                                    0d ff ff ff ff ff ff ff ff ff ff ff 01 05 01";
