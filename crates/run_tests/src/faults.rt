@@ -1,10 +1,20 @@
 //! The texts and the statuses of faults.
+
 use arrayvec::ArrayString;
 use dl_emit::EmitFault;
 use dl_head::FaultKind;
 use dl_run::RunFault;
 use std::fmt::Write;
+use std::process::Abort;
 use std::test::Fail;
+
+/// Asserts the text of a fault, and its status.
+fn assert_fault(rt: &impl Abort, fault: RunFault, want: &str, status: u8) -> Result<(), Fail> {
+    let mut text = ArrayString::<64>::new();
+    write!(text, "{fault}")?;
+    assert_eq!(rt; (text.as_str(), fault.status()), (want, status));
+    Ok(())
+}
 
 #[test]
 fn run_faults(rt: HostRuntime) -> Result<(), Fail> {
@@ -27,10 +37,7 @@ fn run_faults(rt: HostRuntime) -> Result<(), Fail> {
         (foreign, "unit 0xa is not version 5", 1),
         (emit, "cannot write unit 0xb: unit too long", 1),
     ] {
-        let mut text = ArrayString::<64>::new();
-        write!(text, "{fault}")?;
-        assert_eq!(rt; text.as_str(), want);
-        assert_eq!(rt; fault.status(), status);
+        assert_fault(&rt, fault, want, status)?;
     }
     Ok(())
 }

@@ -1,15 +1,17 @@
 //! Worked sections for `find`.
-ghost use Rattle.std.specs.Prelude.{◌≤◌};
 
-use crate::sections::{FOREIGN, SMALLEST, THREE_ROWS, bytes, damage, options};
-use dl_head::FaultKind;
+use crate::commands::{Answer, Command, Job, Outcome, assert_input, assert_section};
+use crate::sections::{
+    FOREIGN, OVERRUN, SMALLEST, THREE_ROWS, THREE_ROWS_AND_A_BYTE, TRUNCATED, assert_endless,
+    assert_units, bytes,
+};
 use dl_look::{Index, Place};
 use dl_num::Order;
-use dl_run::{Options, RunFault, SECTION_LIMIT, Summary, find};
+use dl_run::{RunFault, SECTION_LIMIT};
 use std::alloc::Global;
 use std::process::Abort;
 use std::test::Fail;
-use test_support::{DWARF64_WITH_MD5, Repeated, Sink, Source, rows_of};
+use test_support::{DWARF64_WITH_MD5, Source, rows_of};
 
 /// The unit of `DWARF64_WITH_MD5` with a program of two rows for file 0.
 const WITH_FILE: &str = "ff ff ff ff 4a 00 00 00 00 00 00 00 05 00 08 00 36 00 00 00 00 00 00 00 \
@@ -29,179 +31,213 @@ fn at(address: u64) -> Place {
     }
 }
 
-fn counts(units: u64, skipped: u64, sequences: u64, rows: u64) -> Option<Summary> {
-    Some(Summary {
-        units,
-        skipped,
-        sequences,
-        rows,
-    })
+/// Of no line for the address.
+const NOT_FOUND: Answer = Err(RunFault::NotFound);
+
+/// Of a line in the first unit, which has three rows.
+const FOUND: Answer = Ok([1, 0, 1, 3]);
+
+/// Finds an address in a section of at most so many bytes.
+fn find(address: u64, limit: u64) -> Job<'static> {
+    Job::limited(Command::Find(at(address)), limit)
 }
 
 /// Asserts what `find` prints and answers, the section coming whole and byte by byte.
 fn assert_find(
     rt: &impl Abort,
     alloc: Global,
-    section: &[u8],
-    place: Place,
+    units: &[&str],
+    address: u64,
     text: &str,
-    answer: Result<Summary, RunFault>,
-) {
-    for most in [1, 7, 4096] {
-        let mut output = Sink::new(alloc, 1 << 20, 1 << 20);
-        let mut input = Source::new(section, most);
-        let options = options(SECTION_LIMIT);
-        let answered = find(alloc, &mut input, &mut output, place, &options);
-        assert_eq!(rt; answered, answer);
-        assert_eq!(rt; output.held.as_slice(), text.as_bytes());
-    }
+    answer: Answer,
+) -> Result<(), Fail> {
+    let find = find(address, SECTION_LIMIT);
+    assert_units(rt, alloc, &find, units, text, answer)
 }
 
-#[test]
-fn sections(rt: HostRuntime) -> Result<(), Fail> {
-    let alloc = rt.alloc();
-    let file_lines = "file 0 path=\"a.c\" dir=0 md5=000102030405060708090a0b0c0d0e0f\n\
-                      row 0x0000000000000000 0 0 1 0 stmt\n";
-    let cases: [(&[&str], u64, &str, Option<Summary>); 12] = [
-        (&[], 0, "", None),
-        (&[SMALLEST], 0, "", None),
-        (
-            &[FOREIGN, THREE_ROWS],
-            0x401005,
-            SECOND_LINES,
-            counts(1, 1, 1, 3),
-        ),
-        (&[FOREIGN, THREE_ROWS], 0x401006, "", None),
-        (
-            &[THREE_ROWS, THREE_ROWS],
-            0x401000,
-            FIRST_LINES,
-            counts(1, 0, 1, 3),
-        ),
-        (
-            &[DWARF64_WITH_MD5, THREE_ROWS],
-            0x401003,
-            FIRST_LINES,
-            counts(2, 0, 1, 3),
-        ),
-        (
-            &[THREE_ROWS, FOREIGN],
-            0x401004,
-            SECOND_LINES,
-            counts(1, 0, 1, 3),
-        ),
-        (&[THREE_ROWS, FOREIGN], 0x400fff, "", None),
-        (
-            &[THREE_ROWS, "05"],
-            0x401000,
-            FIRST_LINES,
-            counts(1, 0, 1, 3),
-        ),
-        (&[WITH_FILE], 2, file_lines, counts(1, 0, 1, 2)),
-        (&[WITH_FILE], 4, "", None),
-        (&[THREE_ROWS, WITH_FILE], 2, file_lines, counts(2, 0, 2, 5)),
-    ];
-    for (words, address, text, summary) in cases {
-        let section = bytes(alloc, words)?;
-        let answer = summary.ok_or(RunFault::NotFound);
-        assert_find(&rt, alloc, section.as_slice(), at(address), text, answer);
+/// Units, an address, and the lines that `find` prints and what it answers.
+type Case<'a> = (&'a [&'a str], u64, &'a str, Answer);
+
+/// Asserts what `find` prints and answers in each case.
+fn assert_cases(rt: &impl Abort, alloc: Global, cases: &[Case<'_>]) -> Result<(), Fail> {
+    for (units, address, text, answer) in cases {
+        assert_find(rt, alloc, units, *address, text, *answer)?;
     }
     Ok(())
 }
 
+const SECTIONS: [Case<'static>; 9] = [
+    (&[], 0, "", NOT_FOUND),
+    (&[SMALLEST], 0, "", NOT_FOUND),
+    (
+        &[FOREIGN, THREE_ROWS],
+        0x401005,
+        SECOND_LINES,
+        Ok([1, 1, 1, 3]),
+    ),
+    (&[FOREIGN, THREE_ROWS], 0x401006, "", NOT_FOUND),
+    (&[THREE_ROWS, THREE_ROWS], 0x401000, FIRST_LINES, FOUND),
+    (
+        &[DWARF64_WITH_MD5, THREE_ROWS],
+        0x401003,
+        FIRST_LINES,
+        Ok([2, 0, 1, 3]),
+    ),
+    (&[THREE_ROWS, FOREIGN], 0x401004, SECOND_LINES, FOUND),
+    (&[THREE_ROWS, FOREIGN], 0x400fff, "", NOT_FOUND),
+    (&[THREE_ROWS, "05"], 0x401000, FIRST_LINES, FOUND),
+];
+
+#[test]
+fn sections(rt: HostRuntime) -> Result<(), Fail> {
+    assert_cases(&rt, rt.alloc(), &SECTIONS)
+}
+
+const FILE_LINES: &str = "file 0 path=\"a.c\" dir=0 md5=000102030405060708090a0b0c0d0e0f\n\
+                          row 0x0000000000000000 0 0 1 0 stmt\n";
+
+/// Rows whose file is in the unit's table of files.
+const SECTIONS_WITH_A_FILE: [Case<'static>; 3] = [
+    (&[WITH_FILE], 2, FILE_LINES, Ok([1, 0, 1, 2])),
+    (&[WITH_FILE], 4, "", NOT_FOUND),
+    (&[THREE_ROWS, WITH_FILE], 2, FILE_LINES, Ok([2, 0, 2, 5])),
+];
+
+#[test]
+fn sections_with_a_file(rt: HostRuntime) -> Result<(), Fail> {
+    assert_cases(&rt, rt.alloc(), &SECTIONS_WITH_A_FILE)
+}
+
+const DAMAGED_SECTIONS: [Case<'static>; 2] = [
+    (&[THREE_ROWS, "05"], 1, "", Err(TRUNCATED)),
+    (&[THREE_ROWS_AND_A_BYTE], 0x401000, "", Err(OVERRUN)),
+];
+
 /// A fault before an answer is answered, and nothing is printed.
 #[test]
 fn damaged_sections(rt: HostRuntime) -> Result<(), Fail> {
-    let alloc = rt.alloc();
-    let section = bytes(alloc, &[THREE_ROWS, "05"])?;
-    let answer = Err(damage(53, FaultKind::Truncated));
-    assert_find(&rt, alloc, section.as_slice(), at(1), "", answer);
-    let mut section = bytes(alloc, &[THREE_ROWS, "00"])?;
-    *section.get_mut(0).ok_or("a byte")? = 0x31;
-    let answer = Err(damage(52, FaultKind::OpcodeOverrun));
-    assert_find(&rt, alloc, section.as_slice(), at(0x401000), "", answer);
+    assert_cases(&rt, rt.alloc(), &DAMAGED_SECTIONS)
+}
+
+/// A unit in Big, whose rows are at operations 1 and 2 of an instruction.
+const BIG_OPERATIONS: &str = "00 00 00 30 00 05 08 00 00 00 00 16 0a 03 01 fb 0e 0d \
+                              00 01 01 01 01 00 00 00 01 00 00 01 00 00 00 00 \
+                              00 09 02 00 00 00 00 00 00 10 00 20 20 02 01 00 01 01";
+
+/// Asserts what `find` prints and answers for an operation of that unit.
+fn assert_operation(
+    rt: &impl Abort,
+    alloc: Global,
+    op_index: u8,
+    text: &str,
+    answer: Answer,
+) -> Result<(), Fail> {
+    let place = Place {
+        address: 0x1000,
+        op_index,
+    };
+    let find = Job::in_big(Command::Find(place));
+    let section = bytes(alloc, &[BIG_OPERATIONS])?;
+    let text = text.as_bytes();
+    let outcome = Outcome { answer, text };
+    assert_section(rt, alloc, &find, section.as_slice(), 4096, &outcome);
     Ok(())
 }
 
 /// The operation counts, and the order of the section's numbers.
 #[test]
 fn operations(rt: HostRuntime) -> Result<(), Fail> {
-    let alloc = rt.alloc();
-    let section = bytes(
-        alloc,
-        &[
-            "00 00 00 30 00 05 08 00 00 00 00 16 0a 03 01 fb 0e 0d \
-             00 01 01 01 01 00 00 00 01 00 00 01 00 00 00 00 \
-             00 09 02 00 00 00 00 00 00 10 00 20 20 02 01 00 01 01",
-        ],
-    )?;
-    let big = Options {
-        order: Order::Big,
-        ..options(SECTION_LIMIT)
-    };
-    for (op_index, text) in [
-        (0, ""),
-        (1, "file 1 missing\nrow 0x0000000000001000 1 1 1 0 stmt\n"),
-        (2, "file 1 missing\nrow 0x0000000000001000 2 1 1 0 stmt\n"),
-        (255, "file 1 missing\nrow 0x0000000000001000 2 1 1 0 stmt\n"),
+    let first = "file 1 missing\nrow 0x0000000000001000 1 1 1 0 stmt\n";
+    let second = "file 1 missing\nrow 0x0000000000001000 2 1 1 0 stmt\n";
+    for (op_index, text, answer) in [
+        (0, "", NOT_FOUND),
+        (1, first, FOUND),
+        (2, second, FOUND),
+        (255, second, FOUND),
     ] {
-        let place = Place {
-            address: 0x1000,
-            op_index,
-        };
-        let mut output = Sink::new(alloc, 1 << 20, 1 << 20);
-        let mut input = Source::new(section.as_slice(), 4096);
-        let answered = find(alloc, &mut input, &mut output, place, &big);
-        assert_eq!(rt; answered.is_ok(), !text.is_empty());
-        assert_eq!(rt; output.held.as_slice(), text.as_bytes());
+        assert_operation(&rt, rt.alloc(), op_index, text, answer)?;
     }
     Ok(())
 }
 
-/// The rest of the input isn't looked at, also where it never ends, fails or goes past the limit.
+/// The rest of the input isn't looked at, also where it never ends or goes past the limit.
 #[test]
 fn rest_of_the_input(rt: HostRuntime) -> Result<(), Fail> {
-    let alloc = rt.alloc();
-    let unit = bytes(alloc, &[THREE_ROWS])?;
-    for (limit, address, fault) in [
-        (SECTION_LIMIT, 0x401000, None),
-        (52, 0x401000, None),
-        (51, 0x401000, Some(RunFault::SectionTooLong)),
-        (120, 0x1, Some(RunFault::SectionTooLong)),
+    let too_long = Err(RunFault::SectionTooLong);
+    for (limit, address, text, answer) in [
+        (SECTION_LIMIT, 0x401000, FIRST_LINES, FOUND),
+        (52, 0x401000, FIRST_LINES, FOUND),
+        (51, 0x401000, "", too_long),
+        (120, 0x1, "", too_long),
     ] {
-        let mut input = Repeated::new(unit.as_slice());
-        let mut output = Sink::new(alloc, 1 << 20, 1 << 20);
-        let options = options(limit);
-        let answered = find(alloc, &mut input, &mut output, at(address), &options);
-        assert_eq!(rt; answered.err(), fault);
-        let text = if fault.is_none() { FIRST_LINES } else { "" };
-        assert_eq!(rt; output.held.as_slice(), text.as_bytes());
-    }
-    for (len, address, fault) in [
-        (52, 0x401000, None),
-        (52, 0x1, Some(RunFault::Read)),
-        (51, 0x401000, Some(RunFault::Read)),
-    ] {
-        let (front, _) = unit.as_slice().split_at(unit.len().min(len));
-        let mut input = Source::new(front, 7);
-        input.fails = true;
-        let mut output = Sink::new(alloc, 1 << 20, 1 << 20);
-        let options = options(SECTION_LIMIT);
-        let answered = find(alloc, &mut input, &mut output, at(address), &options);
-        assert_eq!(rt; answered.err(), fault);
-        let text = if fault.is_none() { FIRST_LINES } else { "" };
-        assert_eq!(rt; output.held.as_slice(), text.as_bytes());
+        let find = find(address, limit);
+        assert_endless(&rt, rt.alloc(), &find, THREE_ROWS, text, answer)?;
     }
     Ok(())
+}
+
+/// Asserts what `find` prints and answers where an input fails after `len` bytes.
+fn assert_failing(
+    rt: &impl Abort,
+    alloc: Global,
+    len: usize,
+    address: u64,
+    outcome: &Outcome<'_>,
+) -> Result<(), Fail> {
+    let unit = bytes(alloc, &[THREE_ROWS])?;
+    let front = unit.get(..len).ok_or("a front of the unit")?;
+    let mut input = Source::new(front, 7);
+    input.fails = true;
+    let find = find(address, SECTION_LIMIT);
+    assert_input(rt, alloc, &find, &mut input, outcome);
+    Ok(())
+}
+
+/// The rest of the input isn't looked at, also where it fails.
+#[test]
+fn input_that_fails(rt: HostRuntime) -> Result<(), Fail> {
+    let found = Outcome {
+        answer: FOUND,
+        text: FIRST_LINES.as_bytes(),
+    };
+    let failed = Outcome {
+        answer: Err(RunFault::Read),
+        text: &[],
+    };
+    for (len, address, outcome) in [
+        (52, 0x401000, found),
+        (52, 0x1, failed),
+        (51, 0x401000, failed),
+    ] {
+        assert_failing(&rt, rt.alloc(), len, address, &outcome)?;
+    }
+    Ok(())
+}
+
+/// The line that an index of the rows of a unit finds at an address.
+fn found_line(alloc: Global, unit: &str, address: u64) -> Result<Option<u64>, Fail> {
+    let unit = bytes(alloc, &[unit])?;
+    let rows = rows_of(alloc, Order::Little, unit.as_slice())?;
+    let index = Index::build(alloc, rows.as_slice()).ok().ok_or("memory")?;
+    Ok(index.find(at(address)).map(|row| row.line))
+}
+
+/// Asserts that an index of the rows and the command agree on an address: on this line, or on none.
+fn assert_line(
+    rt: &impl Abort,
+    alloc: Global,
+    address: u64,
+    line: Option<u64>,
+    text: &str,
+) -> Result<(), Fail> {
+    assert_eq!(rt; found_line(alloc, THREE_ROWS, address)?, line);
+    let answer = if line.is_some() { FOUND } else { NOT_FOUND };
+    assert_find(rt, alloc, &[THREE_ROWS], address, text, answer)
 }
 
 /// An index of the rows and the command agree.
 #[test]
 fn index_and_command(rt: HostRuntime) -> Result<(), Fail> {
-    let alloc = rt.alloc();
-    let section = bytes(alloc, &[THREE_ROWS])?;
-    let rows = rows_of(alloc, Order::Little, section.as_slice())?;
-    let index = Index::build(alloc, rows.as_slice()).ok().ok_or("memory")?;
     for (address, line, text) in [
         (0x400fff, None, ""),
         (0x401000, Some(2), FIRST_LINES),
@@ -210,14 +246,7 @@ fn index_and_command(rt: HostRuntime) -> Result<(), Fail> {
         (0x401005, Some(3), SECOND_LINES),
         (0x401006, None, ""),
     ] {
-        assert_eq!(rt; index.find(at(address)).map(|row| row.line), line);
-        let answer = if line.is_some() {
-            counts(1, 0, 1, 3)
-        } else {
-            None
-        };
-        let answer = answer.ok_or(RunFault::NotFound);
-        assert_find(&rt, alloc, section.as_slice(), at(address), text, answer);
+        assert_line(&rt, rt.alloc(), address, line, text)?;
     }
     Ok(())
 }

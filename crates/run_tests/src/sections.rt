@@ -1,13 +1,12 @@
 //! Worked sections for `dump` and `check`.
-ghost use Rattle.std.specs.Prelude.{◌≤◌};
 
+use crate::commands::{Answer, Command, Job, Outcome, assert_input, assert_pieces};
 use dl_head::FaultKind;
-use dl_num::Order;
-use dl_run::{Options, RunFault, SECTION_LIMIT, Summary, check, dump};
+use dl_run::{Options, RunFault, SECTION_LIMIT};
 use std::alloc::Global;
 use std::process::Abort;
 use std::test::Fail;
-use test_support::{BIG_SMALLEST, DWARF64_WITH_MD5, Repeated, Sink, Source};
+use test_support::{BIG_SMALLEST, DWARF64_WITH_MD5, Repeated};
 
 pub const SMALLEST: &str = "21 00 00 00 05 00 08 00 16 00 00 00 01 01 01 fb 0e 0d \
                         00 01 01 01 01 00 00 00 01 00 00 01 00 00 00 00 00 01 01";
@@ -15,6 +14,11 @@ pub const SMALLEST: &str = "21 00 00 00 05 00 08 00 16 00 00 00 01 01 01 fb 0e 0
 pub const THREE_ROWS: &str = "30 00 00 00 05 00 08 00 16 00 00 00 01 01 01 fb 0e 0d \
                           00 01 01 01 01 00 00 00 01 00 00 01 00 00 00 00 \
                           00 09 02 00 10 40 00 00 00 00 00 13 4b 02 02 00 01 01";
+
+/// The same with the first byte of another opcode.
+pub const THREE_ROWS_AND_A_BYTE: &str = "31 00 00 00 05 00 08 00 16 00 00 00 01 01 01 fb 0e 0d \
+                          00 01 01 01 01 00 00 00 01 00 00 01 00 00 00 00 \
+                          00 09 02 00 10 40 00 00 00 00 00 13 4b 02 02 00 01 01 00";
 
 pub const FOREIGN: &str = "06 00 00 00 04 00 aa bb cc dd";
 
@@ -32,242 +36,217 @@ const THREE_TEXT: &str = "unit 0x0 dwarf32 version 5 address_size 8\n\
                           row 0x0000000000401004 0 1 3 0 stmt\n\
                           row 0x0000000000401006 0 1 3 0 stmt end\n";
 
-pub fn options(limit: u64) -> Options<'static>
-    ensures { result.limit ≤ SECTION_LIMIT }
-{
-    Options {
-        order: Order::Little,
-        debug_line_str: None,
-        debug_str: None,
-        limit: limit.min(SECTION_LIMIT),
-    }
+const TWO_TEXT: &str = "unit 0x0 dwarf32 version 5 address_size 8\n\
+                        row 0x0000000000401000 0 1 2 0 stmt\n\
+                        row 0x0000000000401004 0 1 3 0 stmt\n\
+                        row 0x0000000000401006 0 1 3 0 stmt end\n\
+                        unit 0x34 dwarf32 version 5 address_size 8\n\
+                        row 0x0000000000401000 0 1 2 0 stmt\n\
+                        row 0x0000000000401004 0 1 3 0 stmt\n\
+                        row 0x0000000000401006 0 1 3 0 stmt end\n";
+
+const FOREIGN_TEXT: &str = "unit 0x0 version 4 skipped\n\
+                            unit 0xa dwarf32 version 5 address_size 8\n\
+                            row 0x0000000000401000 0 1 2 0 stmt\n\
+                            row 0x0000000000401004 0 1 3 0 stmt\n\
+                            row 0x0000000000401006 0 1 3 0 stmt end\n";
+
+const MD5_TEXT: &str = "unit 0x0 dwarf64 version 5 address_size 8\n\
+                        dir 0 path=\"/s\"\n\
+                        file 0 path=\"a.c\" dir=0 md5=000102030405060708090a0b0c0d0e0f\n";
+
+const FLAGS_TEXT: &str = "unit 0x0 dwarf32 version 5 address_size 8\n\
+                          row 0x0000000000000000 0 1 1 0 stmt prologue disc 7\n\
+                          row 0x0000000000000000 0 1 1 0 stmt\n\
+                          open\n";
+
+/// Appends the bytes of a unit, which are hexadecimal words.
+pub fn append(alloc: Global, section: &mut Vec<u8>, unit: &str) -> Result<(), Fail> {
+    section.extend_from_slice(test_support::bytes(alloc, unit)?.as_slice())?;
+    Ok(())
 }
 
 /// The bytes of units, which are hexadecimal words.
 pub fn bytes(alloc: Global, units: &[&str]) -> Result<Vec<u8>, Fail> {
     let mut section = Vec::new(alloc);
     for unit in units {
-        section.extend_from_slice(test_support::bytes(alloc, unit)?.as_slice())?;
+        append(alloc, &mut section, unit)?;
     }
     Ok(section)
 }
 
-/// Asserts what `dump` prints and answers, the section coming whole and byte by byte.
-fn assert_dump(
+/// Asserts what a command answers and writes over units, the section coming whole and byte by byte.
+pub fn assert_units(
     rt: &impl Abort,
     alloc: Global,
-    section: &[u8],
-    options: &Options<'_>,
+    job: &Job<'_>,
+    units: &[&str],
     text: &str,
-    answer: Result<Summary, RunFault>,
-)
-    requires { options.now.limit ≤ SECTION_LIMIT }
-{
-    for most in [1, 7, 4096] {
-        let mut output = Sink::new(alloc, 1 << 20, 1 << 20);
-        let answered = dump(alloc, &mut Source::new(section, most), &mut output, options);
-        assert_eq!(rt; answered, answer);
-        assert_eq!(rt; output.held.as_slice(), text.as_bytes());
-    }
+    answer: Answer,
+) -> Result<(), Fail> {
+    let section = bytes(alloc, units)?;
+    let text = text.as_bytes();
+    assert_pieces(
+        rt,
+        alloc,
+        job,
+        section.as_slice(),
+        &Outcome { answer, text },
+    );
+    Ok(())
 }
 
-/// Asserts what `check` prints and answers.
-fn assert_check(
+/// The same of a unit that is repeated without end.
+pub fn assert_endless(
     rt: &impl Abort,
     alloc: Global,
-    section: &[u8],
+    job: &Job<'_>,
+    unit: &str,
     text: &str,
-    fault: Option<RunFault>,
-) {
-    for most in [1, 7, 4096] {
-        let mut output = Sink::new(alloc, 1 << 20, 1 << 20);
-        let mut input = Source::new(section, most);
-        let answered = check(alloc, &mut input, &mut output, &options(SECTION_LIMIT));
-        assert_eq!(rt; answered.err(), fault);
-        assert_eq!(rt; output.held.as_slice(), text.as_bytes());
-    }
-}
-
-pub fn counts(units: u64, skipped: u64, sequences: u64, rows: u64) -> Result<Summary, RunFault> {
-    Ok(Summary {
-        units,
-        skipped,
-        sequences,
-        rows,
-    })
+    answer: Answer,
+) -> Result<(), Fail> {
+    let unit = test_support::bytes(alloc, unit)?;
+    let mut input = Repeated::new(unit.as_slice());
+    let text = text.as_bytes();
+    assert_input(rt, alloc, job, &mut input, &Outcome { answer, text });
+    Ok(())
 }
 
 pub fn damage(offset: u64, kind: FaultKind) -> RunFault {
     RunFault::Damage { offset, kind }
 }
 
-#[test]
-fn whole_sections(rt: HostRuntime) -> Result<(), Fail> {
-    let alloc = rt.alloc();
-    let two = [THREE_ROWS, THREE_ROWS];
-    let two_text = "unit 0x0 dwarf32 version 5 address_size 8\n\
-                    row 0x0000000000401000 0 1 2 0 stmt\n\
-                    row 0x0000000000401004 0 1 3 0 stmt\n\
-                    row 0x0000000000401006 0 1 3 0 stmt end\n\
-                    unit 0x34 dwarf32 version 5 address_size 8\n\
-                    row 0x0000000000401000 0 1 2 0 stmt\n\
-                    row 0x0000000000401004 0 1 3 0 stmt\n\
-                    row 0x0000000000401006 0 1 3 0 stmt end\n";
-    let foreign_text = "unit 0x0 version 4 skipped\n\
-                        unit 0xa dwarf32 version 5 address_size 8\n\
-                        row 0x0000000000401000 0 1 2 0 stmt\n\
-                        row 0x0000000000401004 0 1 3 0 stmt\n\
-                        row 0x0000000000401006 0 1 3 0 stmt end\n";
-    let md5_text = "unit 0x0 dwarf64 version 5 address_size 8\n\
-                    dir 0 path=\"/s\"\n\
-                    file 0 path=\"a.c\" dir=0 md5=000102030405060708090a0b0c0d0e0f\n";
-    let flags_text = "unit 0x0 dwarf32 version 5 address_size 8\n\
-                      row 0x0000000000000000 0 1 1 0 stmt prologue disc 7\n\
-                      row 0x0000000000000000 0 1 1 0 stmt\n\
-                      open\n";
-    let cases: [(&[&str], &str, Result<Summary, RunFault>); 7] = [
-        (&[], "", counts(0, 0, 0, 0)),
-        (&[SMALLEST], SMALLEST_TEXT, counts(1, 0, 1, 1)),
-        (&[THREE_ROWS], THREE_TEXT, counts(1, 0, 1, 3)),
-        (&two, two_text, counts(2, 0, 2, 6)),
-        (&[FOREIGN, THREE_ROWS], foreign_text, counts(1, 1, 1, 3)),
-        (&[DWARF64_WITH_MD5], md5_text, counts(1, 0, 0, 0)),
-        (&[FLAGS], flags_text, counts(1, 0, 0, 2)),
-    ];
-    for (words, text, answer) in cases {
-        let section = bytes(alloc, words)?;
-        assert_dump(
-            &rt,
-            alloc,
-            section.as_slice(),
-            &options(SECTION_LIMIT),
-            text,
-            answer,
-        );
+/// A unit that begins with the 53rd byte of a section is cut off after it.
+pub const TRUNCATED: RunFault = RunFault::Damage {
+    offset: 53,
+    kind: FaultKind::Truncated,
+};
+
+/// An opcode that begins with the 53rd byte of a section goes past its unit's end.
+pub const OVERRUN: RunFault = RunFault::Damage {
+    offset: 52,
+    kind: FaultKind::OpcodeOverrun,
+};
+
+/// Units, and what is written of them and answered.
+pub type Case<'a> = (&'a [&'a str], &'a str, Answer);
+
+/// Asserts what a command answers and writes in each case.
+fn assert_cases(
+    rt: &impl Abort,
+    alloc: Global,
+    command: Command,
+    cases: &[Case<'_>],
+) -> Result<(), Fail> {
+    for (units, text, answer) in cases {
+        assert_units(rt, alloc, &Job::new(command), units, text, *answer)?;
     }
     Ok(())
 }
+
+const WHOLE_SECTIONS: [Case<'static>; 7] = [
+    (&[], "", Ok([0, 0, 0, 0])),
+    (&[SMALLEST], SMALLEST_TEXT, Ok([1, 0, 1, 1])),
+    (&[THREE_ROWS], THREE_TEXT, Ok([1, 0, 1, 3])),
+    (&[THREE_ROWS, THREE_ROWS], TWO_TEXT, Ok([2, 0, 2, 6])),
+    (&[FOREIGN, THREE_ROWS], FOREIGN_TEXT, Ok([1, 1, 1, 3])),
+    (&[DWARF64_WITH_MD5], MD5_TEXT, Ok([1, 0, 0, 0])),
+    (&[FLAGS], FLAGS_TEXT, Ok([1, 0, 0, 2])),
+];
+
+#[test]
+fn whole_sections(rt: HostRuntime) -> Result<(), Fail> {
+    assert_cases(&rt, rt.alloc(), Command::Dump, &WHOLE_SECTIONS)
+}
+
+const CHECKED_SECTIONS: [Case<'static>; 4] = [
+    (
+        &[],
+        "units 0 skipped 0 sequences 0 rows 0\n",
+        Ok([0, 0, 0, 0]),
+    ),
+    (
+        &[FOREIGN, THREE_ROWS],
+        "units 1 skipped 1 sequences 1 rows 3\n",
+        Ok([1, 1, 1, 3]),
+    ),
+    (
+        &[THREE_ROWS, THREE_ROWS],
+        "units 2 skipped 0 sequences 2 rows 6\n",
+        Ok([2, 0, 2, 6]),
+    ),
+    (&[THREE_ROWS, "05"], "", Err(TRUNCATED)),
+];
 
 #[test]
 fn counts_of_sections(rt: HostRuntime) -> Result<(), Fail> {
-    let alloc = rt.alloc();
-    let truncated = Some(damage(53, FaultKind::Truncated));
-    let cases: [(&[&str], &str, Option<RunFault>); 4] = [
-        (&[], "units 0 skipped 0 sequences 0 rows 0\n", None),
-        (
-            &[FOREIGN, THREE_ROWS],
-            "units 1 skipped 1 sequences 1 rows 3\n",
-            None,
-        ),
-        (
-            &[THREE_ROWS, THREE_ROWS],
-            "units 2 skipped 0 sequences 2 rows 6\n",
-            None,
-        ),
-        (&[THREE_ROWS, "05"], "", truncated),
-    ];
-    for (words, text, fault) in cases {
-        let section = bytes(alloc, words)?;
-        assert_check(&rt, alloc, section.as_slice(), text, fault);
-    }
-    Ok(())
+    assert_cases(&rt, rt.alloc(), Command::Check, &CHECKED_SECTIONS)
 }
+
+const DAMAGED_SECTIONS: [Case<'static>; 2] = [
+    (&[THREE_ROWS, "05"], THREE_TEXT, Err(TRUNCATED)),
+    (&[THREE_ROWS_AND_A_BYTE], THREE_TEXT, Err(OVERRUN)),
+];
 
 #[test]
 fn damaged_sections(rt: HostRuntime) -> Result<(), Fail> {
-    let alloc = rt.alloc();
-    let all = options(SECTION_LIMIT);
-    let section = bytes(alloc, &[THREE_ROWS, "05"])?;
-    let answer = Err(damage(53, FaultKind::Truncated));
-    assert_dump(&rt, alloc, section.as_slice(), &all, THREE_TEXT, answer);
-    let mut section = bytes(alloc, &[THREE_ROWS, "00"])?;
-    *section.get_mut(0).ok_or("a byte")? = 0x31;
-    let answer = Err(damage(52, FaultKind::OpcodeOverrun));
-    assert_dump(&rt, alloc, section.as_slice(), &all, THREE_TEXT, answer);
-    let section = bytes(alloc, &[BIG_SMALLEST])?;
-    let big = Options {
-        order: Order::Big,
-        ..all
-    };
-    assert_dump(
-        &rt,
-        alloc,
-        section.as_slice(),
-        &big,
-        SMALLEST_TEXT,
-        counts(1, 0, 1, 1),
-    );
-    let section = bytes(alloc, &[SMALLEST])?;
+    assert_cases(&rt, rt.alloc(), Command::Dump, &DAMAGED_SECTIONS)
+}
+
+/// A section in Big, and one in Little that is read as in Big.
+#[test]
+fn big_sections(rt: HostRuntime) -> Result<(), Fail> {
+    let dump = Job::in_big(Command::Dump);
+    let whole = Ok([1, 0, 1, 1]);
+    let truncated = Err(damage(37, FaultKind::Truncated));
+    let units = [BIG_SMALLEST];
+    assert_units(&rt, rt.alloc(), &dump, &units, SMALLEST_TEXT, whole)?;
     let text = "unit 0x0 version 1280 skipped\n";
-    let answer = Err(damage(37, FaultKind::Truncated));
-    assert_dump(&rt, alloc, section.as_slice(), &big, text, answer);
-    Ok(())
+    assert_units(&rt, rt.alloc(), &dump, &[SMALLEST], text, truncated)
 }
 
 #[test]
 fn string_sections(rt: HostRuntime) -> Result<(), Fail> {
-    let alloc = rt.alloc();
-    let section = bytes(alloc, &[LINE_STRP])?;
-    let strings = [0x61, 0x00, 0x2f, 0x73, 0x00];
-    let found = Options {
-        debug_line_str: Some(&strings),
-        ..options(SECTION_LIMIT)
+    let without = Job::new(Command::Dump);
+    let options = Options {
+        debug_line_str: Some(b"a\0/s\0"),
+        ..without.options
     };
+    let with = Job { options, ..without };
+    let units = [LINE_STRP];
+    let whole = Ok([1, 0, 0, 0]);
     let text = "unit 0x0 dwarf32 version 5 address_size 8\ndir 0 path=\"/s\"\n";
-    assert_dump(
-        &rt,
-        alloc,
-        section.as_slice(),
-        &found,
-        text,
-        counts(1, 0, 0, 0),
-    );
+    assert_units(&rt, rt.alloc(), &with, &units, text, whole)?;
     let text = "unit 0x0 dwarf32 version 5 address_size 8\ndir 0 path=line_strp+0x2\n";
-    let all = options(SECTION_LIMIT);
-    assert_dump(
-        &rt,
-        alloc,
-        section.as_slice(),
-        &all,
-        text,
-        counts(1, 0, 0, 0),
-    );
-    Ok(())
+    assert_units(&rt, rt.alloc(), &without, &units, text, whole)
 }
 
 /// The limit is met exactly, and a whole unit before it is told.
 #[test]
 fn section_limits(rt: HostRuntime) -> Result<(), Fail> {
-    let alloc = rt.alloc();
     assert_eq!(rt; SECTION_LIMIT, 17592186044416);
-    let section = bytes(alloc, &[THREE_ROWS])?;
-    assert_dump(
-        &rt,
-        alloc,
-        section.as_slice(),
-        &options(52),
-        THREE_TEXT,
-        counts(1, 0, 1, 3),
-    );
+    let met = Job::limited(Command::Dump, 52);
+    let units = [THREE_ROWS];
+    let whole = Ok([1, 0, 1, 3]);
+    assert_units(&rt, rt.alloc(), &met, &units, THREE_TEXT, whole)?;
     let text = "unit 0x0 dwarf32 version 5 address_size 8\n\
                 row 0x0000000000401000 0 1 2 0 stmt\n\
                 row 0x0000000000401004 0 1 3 0 stmt\n";
-    let answer = Err(RunFault::SectionTooLong);
-    assert_dump(&rt, alloc, section.as_slice(), &options(51), text, answer);
-    let unit = bytes(alloc, &[SMALLEST])?;
-    let mut output = Sink::new(alloc, 1 << 20, 1 << 20);
-    let mut endless = Repeated::new(unit.as_slice());
-    let answered = dump(alloc, &mut endless, &mut output, &options(74));
-    assert_eq!(rt; answered, Err(RunFault::SectionTooLong));
+    let passed = Job::limited(Command::Dump, 51);
+    let too_long = Err(RunFault::SectionTooLong);
+    assert_units(&rt, rt.alloc(), &passed, &units, text, too_long)
+}
+
+/// The limit in a section without end.
+#[test]
+fn endless_sections(rt: HostRuntime) -> Result<(), Fail> {
     let text = "unit 0x0 dwarf32 version 5 address_size 8\n\
                 row 0x0000000000000000 0 1 1 0 stmt end\n\
                 unit 0x25 dwarf32 version 5 address_size 8\n\
                 row 0x0000000000000000 0 1 1 0 stmt end\n";
-    assert_eq!(rt; output.held.as_slice(), text.as_bytes());
-    let mut output = Sink::new(alloc, 1 << 20, 1 << 20);
-    let mut endless = Repeated::new(unit.as_slice());
-    let answered = check(alloc, &mut endless, &mut output, &options(74));
-    assert_eq!(rt; answered, Err(RunFault::SectionTooLong));
-    assert!(rt; output.held.is_empty());
-    Ok(())
+    let too_long = Err(RunFault::SectionTooLong);
+    let dump = Job::limited(Command::Dump, 74);
+    assert_endless(&rt, rt.alloc(), &dump, SMALLEST, text, too_long)?;
+    let check = Job::limited(Command::Check, 74);
+    assert_endless(&rt, rt.alloc(), &check, SMALLEST, "", too_long)
 }

@@ -1,26 +1,35 @@
 //! Writers that are short, are interrupted, fail or take nothing.
-use crate::sections::{SMALLEST, bytes, options};
-use dl_run::{RunFault, SECTION_LIMIT, Summary, dump};
+
+use crate::commands::{Answer, Command, Job, run};
+use crate::sections::{SMALLEST, bytes};
+use dl_run::RunFault;
 use std::alloc::Global;
+use std::process::Abort;
 use std::test::Fail;
 use test_support::{Fault, Sink, Source};
 
-fn dump_smallest(alloc: Global, output: &mut Sink) -> Result<Result<Summary, RunFault>, Fail> {
+/// What `dump` answers over the smallest unit.
+fn dump_smallest(alloc: Global, output: &mut Sink) -> Result<Answer, Fail> {
     let section = bytes(alloc, &[SMALLEST])?;
     let mut input = Source::new(section.as_slice(), 4096);
-    Ok(dump(alloc, &mut input, output, &options(SECTION_LIMIT)))
+    Ok(run(alloc, &Job::new(Command::Dump), &mut input, output))
+}
+
+/// Asserts what `dump` writes and answers where the output takes 10 bytes, `most` at a time.
+fn assert_ten_bytes(rt: &impl Abort, alloc: Global, most: usize, fails: bool) -> Result<(), Fail> {
+    let mut output = Sink::new(alloc, 10, most);
+    output.fails = fails;
+    let dumped = dump_smallest(alloc, &mut output)?;
+    let wanted = (Err(RunFault::Write { out: 10 }), b"unit 0x0 d".as_slice());
+    assert_eq!(rt; (dumped, output.held.as_slice()), wanted);
+    Ok(())
 }
 
 #[test]
 fn output_that_fails(rt: HostRuntime) -> Result<(), Fail> {
     for most in [1, 3, 4096] {
-        for fails in [true, false] {
-            let mut output = Sink::new(rt.alloc(), 10, most);
-            output.fails = fails;
-            let dumped = dump_smallest(rt.alloc(), &mut output)?;
-            assert_eq!(rt; dumped, Err(RunFault::Write { out: 10 }));
-            assert_eq!(rt; output.held.as_slice(), b"unit 0x0 d".as_slice());
-        }
+        assert_ten_bytes(&rt, rt.alloc(), most, true)?;
+        assert_ten_bytes(&rt, rt.alloc(), most, false)?;
     }
     Ok(())
 }
@@ -34,16 +43,24 @@ fn writer_that_takes_nothing(rt: HostRuntime) -> Result<(), Fail> {
     Ok(())
 }
 
+/// What `dump` answers over the smallest unit where each write is interrupted that many times.
+fn dump_interrupted(alloc: Global, times: u32) -> Result<Answer, Fail> {
+    dump_smallest(alloc, &mut Sink::interrupted(alloc, 7, times))
+}
+
+/// What `dump` answers over the smallest unit where the second write is interrupted that many times.
+fn dump_interrupted_once(alloc: Global, times: u32) -> Result<Answer, Fail> {
+    let mut output = Sink::with_fault(alloc, 7, 1, Fault::Interrupted(times));
+    dump_smallest(alloc, &mut output)
+}
+
 /// Each write is interrupted as often as may be, and once more.
 #[test]
 fn interruptions(rt: HostRuntime) -> Result<(), Fail> {
-    let mut output = Sink::interrupted(rt.alloc(), 7, 1000);
-    assert!(rt; dump_smallest(rt.alloc(), &mut output)?.is_ok());
-    let mut output = Sink::interrupted(rt.alloc(), 7, 1001);
-    let dumped = dump_smallest(rt.alloc(), &mut output)?;
+    assert!(rt; dump_interrupted(rt.alloc(), 1000)?.is_ok());
+    let dumped = dump_interrupted(rt.alloc(), 1001)?;
     assert_eq!(rt; dumped, Err(RunFault::Write { out: 0 }));
-    let mut output = Sink::with_fault(rt.alloc(), 7, 1, Fault::Interrupted(1001));
-    let dumped = dump_smallest(rt.alloc(), &mut output)?;
+    let dumped = dump_interrupted_once(rt.alloc(), 1001)?;
     assert_eq!(rt; dumped, Err(RunFault::Write { out: 7 }));
     Ok(())
 }
