@@ -1,8 +1,9 @@
 //! At which addresses a file has code.
 use crate::image::{BIG_32, Form, LITTLE_64, NewSection, image, section};
 use dl_file::{CodeFault, ExecutableRange, find_code};
-use std::alloc::Global;
+use std::alloc::{AllocError, Global};
 use std::io::Cursor;
+use std::process::Abort;
 use std::test::Fail;
 
 /// A section with these flags, at this address.
@@ -22,15 +23,39 @@ fn finds(alloc: Global, bytes: &Vec<u8>, linked: bool, want: &[ExecutableRange])
     }
 }
 
+/// The same in a file of these sections.
+fn finds_in(
+    alloc: Global,
+    form: Form,
+    sections: &[NewSection<'_>],
+    linked: bool,
+    want: &[ExecutableRange],
+) -> Result<bool, AllocError> {
+    let bytes = image(alloc, form, sections)?;
+    Ok(finds(alloc, &bytes, linked, want))
+}
+
 /// The fault's text.
-fn fault(alloc: Global, bytes: &Vec<u8>) -> Result<String, Fail> {
+fn fault(alloc: Global, bytes: &Vec<u8>) -> Result<String, AllocError> {
     match find_code(alloc, &Cursor::new(bytes)) {
-        Err(fault) => match fault {
-            CodeFault::Elf(fault) => Ok(format!(in alloc; "{fault}")?),
-            CodeFault::NoMemory => Ok(format!(in alloc; "out of memory")?),
-        },
-        Ok(_code) => Ok(format!(in alloc; "none")?),
+        Err(CodeFault::Elf(fault)) => format!(in alloc; "{fault}"),
+        Err(CodeFault::NoMemory) => String::from_str(alloc, "out of memory"),
+        Ok(_code) => String::from_str(alloc, "none"),
     }
+}
+
+/// The same of a file without its last byte, of which `most` bytes are left at most.
+fn fault_of_cut(alloc: Global, most: usize) -> Result<String, AllocError> {
+    let mut bytes = image(alloc, BIG_32, &[placed(6, 0, "code")])?;
+    bytes.truncate(bytes.len().saturating_sub(1).min(most));
+    fault(alloc, &bytes)
+}
+
+/// Asserts it.
+fn assert_cut(rt: &impl Abort, alloc: Global, most: usize, want: &str) -> Result<(), Fail> {
+    let text = fault_of_cut(alloc, most)?;
+    assert_eq!(rt; text.as_str(), want);
+    Ok(())
 }
 
 const RANGES: &[ExecutableRange] = &[
@@ -65,29 +90,23 @@ fn sections_with_code(rt: HostRuntime) -> Result<(), Fail> {
         (BIG_32, 1, false),
         (LITTLE_64, 4, false),
     ] {
-        let bytes = image(alloc, Form { file_type, ..form }, &sections)?;
-        assert!(rt; finds(alloc, &bytes, linked, RANGES));
+        let form = Form { file_type, ..form };
+        assert!(rt; finds_in(alloc, form, &sections, linked, RANGES)?);
     }
     Ok(())
 }
 
 #[test]
 fn files_without_code(rt: HostRuntime) -> Result<(), Fail> {
-    let alloc = rt.alloc();
-    let bytes = image(alloc, LITTLE_64, &[section(".text", "code")])?;
-    assert!(rt; finds(alloc, &bytes, true, &[]));
+    let sections = [section(".text", "code")];
+    assert!(rt; finds_in(rt.alloc(), LITTLE_64, &sections, true, &[])?);
     Ok(())
 }
 
 #[test]
 fn damaged_files_with_code(rt: HostRuntime) -> Result<(), Fail> {
     let alloc = rt.alloc();
-    let mut bytes = image(alloc, BIG_32, &[placed(6, 0, "code")])?;
-    bytes.truncate(bytes.len().saturating_sub(1));
-    let found = fault(alloc, &bytes)?;
-    assert_eq!(rt; found.as_str(), "damaged ELF file: section headers");
-    bytes.truncate(51);
-    let found = fault(alloc, &bytes)?;
-    assert_eq!(rt; found.as_str(), "not an ELF file");
-    Ok(())
+    let headers = "damaged ELF file: section headers";
+    assert_cut(&rt, alloc, usize::MAX, headers)?;
+    assert_cut(&rt, alloc, 51, "not an ELF file")
 }

@@ -1,6 +1,8 @@
 //! The faults of a file, with their texts.
-use crate::image::{BIG_32, Form, LITTLE_64, NewSection, image, section, told};
+use crate::image::{BIG_32, Form, LITTLE_64, NewSection, assert_found, image, section, told};
 use dl_file::Wanted;
+use std::alloc::{AllocError, Global};
+use std::process::Abort;
 use std::test::Fail;
 
 /// A section whose flags say that it is compressed, by this method. The file is 64-bit.
@@ -59,9 +61,8 @@ fn compressed_sections(rt: HostRuntime) -> Result<(), Fail> {
             "little dwo - -",
         ),
     ] {
-        let bytes = image(alloc, LITTLE_64, &sections)?;
-        let found = told(alloc, &bytes, Wanted::LineAndStringSections)?;
-        assert_eq!(rt; found.as_str(), want);
+        let wanted = Wanted::LineAndStringSections;
+        assert_found(&rt, alloc, LITTLE_64, &sections, wanted, want, "compressed")?;
     }
     Ok(())
 }
@@ -97,9 +98,9 @@ fn no_line_section(rt: HostRuntime) -> Result<(), Fail> {
             bytes: notes,
             ..section(".note.gnu.build-id", "")
         };
-        let bytes = image(alloc, LITTLE_64, &[section(".text", "code"), note])?;
-        let found = told(alloc, &bytes, Wanted::LineSection)?;
-        assert_eq!(rt; found.as_str(), want);
+        let sections = [section(".text", "code"), note];
+        let wanted = Wanted::LineSection;
+        assert_found(&rt, alloc, LITTLE_64, &sections, wanted, want, "a note")?;
     }
     Ok(())
 }
@@ -111,13 +112,51 @@ fn with_byte(bytes: &mut Vec<u8>, at: usize, byte: u8) {
     }
 }
 
-/// One byte of a 64-bit file of little-endian order changed.
+/// Where the section headers of a 64-bit file begin, of which there are `count`.
+fn table_of(
+    alloc: Global,
+    form: Form,
+    sections: &[NewSection<'_>],
+    count: usize,
+) -> Result<usize, AllocError> {
+    let bytes = image(alloc, form, sections)?;
+    Ok(bytes.len().saturating_sub(count.saturating_mul(64)))
+}
+
+/// What is found in a file of these sections with another byte at one place.
+fn found_with(
+    alloc: Global,
+    form: Form,
+    sections: &[NewSection<'_>],
+    at: usize,
+    byte: u8,
+) -> Result<String, Fail> {
+    let mut bytes = image(alloc, form, sections)?;
+    with_byte(&mut bytes, at, byte);
+    told(alloc, &bytes, Wanted::LineAndStringSections)
+}
+
+/// Asserts it.
+fn assert_found_with(
+    rt: &impl Abort,
+    alloc: Global,
+    form: Form,
+    sections: &[NewSection<'_>],
+    at: usize,
+    byte: u8,
+    want: &str,
+    what: &str,
+) -> Result<(), Fail> {
+    let text = found_with(alloc, form, sections, at, byte)?;
+    assert_eq!(rt; text.as_str(), want, "{what}");
+    Ok(())
+}
+
+/// One byte of a 64-bit file of little-endian order changed, in the file header.
 #[test]
 fn damaged_headers(rt: HostRuntime) -> Result<(), Fail> {
     let alloc = rt.alloc();
     let sections = [section(".debug_line", "line"), section(".debug_str", "str")];
-    let whole = image(alloc, LITTLE_64, &sections)?;
-    let table = whole.len().saturating_sub(4 * 64);
     for (what, at, byte, want) in [
         ("magic", 3, b'f', "not an ELF file"),
         ("class", 4, 3, "not an ELF file"),
@@ -139,43 +178,92 @@ fn damaged_headers(rt: HostRuntime) -> Result<(), Fail> {
         ),
         ("e_shstrndx", 62, 4, "damaged ELF file: section name table"),
         ("no names", 62, 0, "no section .debug_line"),
+    ] {
+        assert_found_with(&rt, alloc, LITTLE_64, &sections, at, byte, want, what)?;
+    }
+    Ok(())
+}
+
+/// The same in the section headers.
+#[test]
+fn damaged_section_headers(rt: HostRuntime) -> Result<(), Fail> {
+    let alloc = rt.alloc();
+    let sections = [section(".debug_line", "line"), section(".debug_str", "str")];
+    let table = table_of(alloc, LITTLE_64, &sections, 4)?;
+    for (what, at, byte, want) in [
         (
             "name table",
-            table + 3 * 64 + 34,
+            3 * 64 + 34,
             1,
             "damaged ELF file: section name table",
         ),
         (
             "name table, far off",
-            table + 3 * 64 + 31,
+            3 * 64 + 31,
             255,
             "damaged ELF file: section name table",
         ),
-        (
-            "name past the table",
-            table + 65,
-            1,
-            "no section .debug_line",
-        ),
+        ("name past the table", 65, 1, "no section .debug_line"),
         (
             "size of the line section",
-            table + 64 + 34,
+            64 + 34,
             1,
             "damaged ELF file: section .debug_line",
         ),
         (
             "place of the strings",
-            table + 128 + 31,
+            128 + 31,
             255,
             "damaged ELF file: section .debug_str",
         ),
-        ("type of the strings", table + 128 + 4, 8, "little line - -"),
-        ("the size of section 0", table + 34, 1, "little line - str"),
+        ("type of the strings", 128 + 4, 8, "little line - -"),
+        ("the size of section 0", 34, 1, "little line - str"),
     ] {
-        let mut bytes = Vec::from_slice(alloc, whole.as_slice())?;
-        with_byte(&mut bytes, at, byte);
-        let found = told(alloc, &bytes, Wanted::LineAndStringSections)?;
-        assert_eq!(rt; found.as_str(), want, "{what}");
+        let at = table.saturating_add(at);
+        assert_found_with(&rt, alloc, LITTLE_64, &sections, at, byte, want, what)?;
+    }
+    Ok(())
+}
+
+/// A file with a line section alone.
+fn line_alone(alloc: Global, form: Form) -> Result<Vec<u8>, AllocError> {
+    image(alloc, form, &[section(".debug_line", "line")])
+}
+
+/// How many bytes it has.
+fn size_of_line_alone(alloc: Global, form: Form) -> Result<usize, AllocError> {
+    Ok(line_alone(alloc, form)?.len())
+}
+
+/// What is found in its first `len` bytes.
+fn found_in_front(alloc: Global, form: Form, len: usize) -> Result<String, Fail> {
+    let mut bytes = line_alone(alloc, form)?;
+    bytes.truncate(len);
+    told(alloc, &bytes, Wanted::LineSection)
+}
+
+/// Asserts it.
+fn assert_cut(
+    rt: &impl Abort,
+    alloc: Global,
+    form: Form,
+    len: usize,
+    want: &str,
+) -> Result<(), Fail> {
+    let text = found_in_front(alloc, form, len)?;
+    assert_eq!(rt; text.as_str(), want, "{len}");
+    Ok(())
+}
+
+/// Asserts the fault of each front of it that isn't all of it. The file header has `header` bytes.
+fn assert_each_cut(rt: &impl Abort, alloc: Global, form: Form, header: usize) -> Result<(), Fail> {
+    for len in 0..size_of_line_alone(alloc, form)? {
+        let want = if len < header {
+            "not an ELF file"
+        } else {
+            "damaged ELF file: section headers"
+        };
+        assert_cut(rt, alloc, form, len, want)?;
     }
     Ok(())
 }
@@ -183,37 +271,30 @@ fn damaged_headers(rt: HostRuntime) -> Result<(), Fail> {
 /// A file cut off at each of its bytes: it is a fault, since the section headers come last.
 #[test]
 fn cut_files(rt: HostRuntime) -> Result<(), Fail> {
-    let alloc = rt.alloc();
-    let sections = [section(".debug_line", "line")];
-    for form in [LITTLE_64, BIG_32] {
-        let whole = image(alloc, form, &sections)?;
-        for len in 0..whole.len() {
-            let bytes = Vec::from_slice(alloc, &whole.as_slice()[..len])?;
-            let found = told(alloc, &bytes, Wanted::LineSection)?;
-            let header = if form.wide { 64 } else { 52 };
-            let want = if len < header {
-                "not an ELF file"
-            } else {
-                "damaged ELF file: section headers"
-            };
-            assert_eq!(rt; found.as_str(), want, "{len}");
-        }
+    assert_each_cut(&rt, rt.alloc(), LITTLE_64, 64)?;
+    assert_each_cut(&rt, rt.alloc(), BIG_32, 52)
+}
+
+/// Makes the bytes of a file 0, from one place on up to another.
+fn clear(bytes: &mut Vec<u8>, first: usize, end: usize) {
+    for at in first..end {
+        with_byte(bytes, at, 0);
     }
-    Ok(())
+}
+
+/// What is found in a file with a line section alone, whose bytes from one place on up to another are 0.
+fn found_without(alloc: Global, form: Form, first: usize, end: usize) -> Result<String, Fail> {
+    let mut bytes = line_alone(alloc, form)?;
+    clear(&mut bytes, first, end);
+    told(alloc, &bytes, Wanted::LineSection)
 }
 
 /// Without section headers there are no sections, whatever else the header says of them.
 #[test]
 fn no_section_headers(rt: HostRuntime) -> Result<(), Fail> {
-    let alloc = rt.alloc();
-    for form in [LITTLE_64, BIG_32] {
-        let mut bytes = image(alloc, form, &[section(".debug_line", "line")])?;
-        let (first, end) = if form.wide { (40, 48) } else { (32, 36) };
-        for at in first..end {
-            with_byte(&mut bytes, at, 0);
-        }
-        let found = told(alloc, &bytes, Wanted::LineSection)?;
-        assert_eq!(rt; found.as_str(), "no section .debug_line");
+    for (form, first, end) in [(LITTLE_64, 40, 48), (BIG_32, 32, 36)] {
+        let text = found_without(rt.alloc(), form, first, end)?;
+        assert_eq!(rt; text.as_str(), "no section .debug_line");
     }
     Ok(())
 }
@@ -236,8 +317,7 @@ fn first_faults(rt: HostRuntime) -> Result<(), Fail> {
         compressed(".debug_str", ZLIB),
         relocations,
     ];
-    let whole = image(alloc, form, &sections)?;
-    let table = whole.len().saturating_sub(5 * 64);
+    let table = table_of(alloc, form, &sections, 5)?;
     for (what, at, byte, want) in [
         (
             "compressed before relocations, the line section first",
@@ -247,7 +327,7 @@ fn first_faults(rt: HostRuntime) -> Result<(), Fail> {
         ),
         (
             "damage of the strings before what is compressed",
-            table + 128 + 34,
+            table.saturating_add(128 + 34),
             1,
             "damaged ELF file: section .debug_str",
         ),
@@ -258,10 +338,7 @@ fn first_faults(rt: HostRuntime) -> Result<(), Fail> {
             "damaged ELF file: section headers",
         ),
     ] {
-        let mut bytes = Vec::from_slice(alloc, whole.as_slice())?;
-        with_byte(&mut bytes, at, byte);
-        let found = told(alloc, &bytes, Wanted::LineAndStringSections)?;
-        assert_eq!(rt; found.as_str(), want, "{what}");
+        assert_found_with(&rt, alloc, form, &sections, at, byte, want, what)?;
     }
     Ok(())
 }

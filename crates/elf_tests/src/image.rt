@@ -1,8 +1,10 @@
 //! Makes ELF files of a few sections, in any class and order.
+use dl_elf::ReadAt;
 use dl_file::{ContentReader, LineFile, Wanted, open_line_file};
 use dl_num::Order;
-use std::alloc::Global;
+use std::alloc::{AllocError, Global};
 use std::io::{Cursor, Read};
+use std::process::Abort;
 use std::test::Fail;
 
 /// How a file is laid out.
@@ -73,7 +75,7 @@ pub fn object_file(
     line: NewSection<'_>,
     entry: &[u8; 24],
     symbols: &[u8],
-) -> Result<Vec<u8>, Fail> {
+) -> Result<Vec<u8>, AllocError> {
     let relocations = NewSection {
         section_type: 4,
         link: 3,
@@ -90,13 +92,23 @@ pub fn object_file(
 }
 
 /// Appends the `size` bytes of a number, which are 2, 4 or 8.
-pub fn put(bytes: &mut Vec<u8>, form: Form, size: usize, number: u64) -> Result<(), Fail> {
-    let low = number.to_le_bytes();
-    let high = number.to_be_bytes();
+pub fn put(bytes: &mut Vec<u8>, form: Form, size: usize, number: u64) -> Result<(), AllocError> {
+    let size = size.min(8);
     if form.big {
-        bytes.extend_from_slice(&high[8 - size.min(8)..])?;
+        bytes.extend_from_slice(&number.to_be_bytes()[8 - size..])
     } else {
-        bytes.extend_from_slice(&low[..size.min(8)])?;
+        bytes.extend_from_slice(&number.to_le_bytes()[..size])
+    }
+}
+
+/// Appends numbers, each of which stands after its size.
+pub fn put_all(
+    bytes: &mut Vec<u8>,
+    form: Form,
+    numbers: &[(usize, u64)],
+) -> Result<(), AllocError> {
+    for (size, number) in numbers {
+        put(bytes, form, *size, *number)?;
     }
     Ok(())
 }
@@ -111,12 +123,32 @@ fn header_sizes(form: Form) -> (u64, u64) {
     if form.wide { (64, 64) } else { (52, 40) }
 }
 
+/// How many bytes the sections have, and how many their name table has.
+fn section_sizes(sections: &[NewSection<'_>]) -> (u64, u64) {
+    let mut contents = 0u64;
+    let mut names = 1u64;
+    for section in sections {
+        contents = contents.wrapping_add(section.bytes.len() as u64);
+        names = names
+            .wrapping_add(section.name.len() as u64)
+            .wrapping_add(1);
+    }
+    (contents, names)
+}
+
+/// How many sections a file has, with section 0, those without a name, and the name table.
+fn count_of(form: Form, sections: &[NewSection<'_>]) -> u64 {
+    (sections.len() as u64)
+        .wrapping_add(form.empty as u64)
+        .wrapping_add(2)
+}
+
 /// Appends a section header. `numbers` are sh_name, sh_type, sh_flags, sh_addr, sh_offset, sh_size,
 /// sh_link and sh_info.
-fn put_section(bytes: &mut Vec<u8>, form: Form, numbers: [u64; 8]) -> Result<(), Fail> {
+fn put_section(bytes: &mut Vec<u8>, form: Form, numbers: [u64; 8]) -> Result<(), AllocError> {
     let [name, section_type, flags, address, offset, size, link, info] = numbers;
     let word = word(form);
-    for (size, number) in [
+    let fields = [
         (4, name),
         (4, section_type),
         (word, flags),
@@ -127,14 +159,12 @@ fn put_section(bytes: &mut Vec<u8>, form: Form, numbers: [u64; 8]) -> Result<(),
         (4, info),
         (word, 1),
         (word, 0),
-    ] {
-        put(bytes, form, size, number)?;
-    }
-    Ok(())
+    ];
+    put_all(bytes, form, &fields)
 }
 
 /// Appends the file header of a file with `count` sections, whose headers begin at `table`.
-fn put_header(bytes: &mut Vec<u8>, form: Form, table: u64, count: u64) -> Result<(), Fail> {
+fn put_header(bytes: &mut Vec<u8>, form: Form, table: u64, count: u64) -> Result<(), AllocError> {
     let class = if form.wide { 2 } else { 1 };
     let order = if form.big { 2 } else { 1 };
     bytes.extend_from_slice(&[0x7f, b'E', b'L', b'F', class, order, 1, 0])?;
@@ -146,7 +176,7 @@ fn put_header(bytes: &mut Vec<u8>, form: Form, table: u64, count: u64) -> Result
     } else {
         (count, count.wrapping_sub(1))
     };
-    for (size, number) in [
+    let fields = [
         (2, form.file_type),
         (2, 62),
         (4, 1),
@@ -160,107 +190,171 @@ fn put_header(bytes: &mut Vec<u8>, form: Form, table: u64, count: u64) -> Result
         (2, entry),
         (2, count),
         (2, names),
-    ] {
-        put(bytes, form, size, number)?;
+    ];
+    put_all(bytes, form, &fields)
+}
+
+/// Appends the bytes of the sections.
+fn put_contents(bytes: &mut Vec<u8>, sections: &[NewSection<'_>]) -> Result<(), AllocError> {
+    for section in sections {
+        bytes.extend_from_slice(section.bytes)?;
     }
     Ok(())
 }
 
-/// A file: the header, the sections' bytes, the name table, the section headers.
-pub fn image(alloc: Global, form: Form, sections: &[NewSection<'_>]) -> Result<Vec<u8>, Fail> {
-    let (start, _) = header_sizes(form);
-    let mut names = Vec::new(alloc);
-    names.push(0)?;
-    let mut contents = Vec::new(alloc);
-    let mut headers = Vec::new(alloc);
-    let count = (sections.len() as u64)
-        .wrapping_add(form.empty as u64)
-        .wrapping_add(2);
+/// Appends the name table.
+fn put_names(bytes: &mut Vec<u8>, sections: &[NewSection<'_>]) -> Result<(), AllocError> {
+    bytes.push(0)?;
+    for section in sections {
+        bytes.extend_from_slice(section.name.as_bytes())?;
+        bytes.push(0)?;
+    }
+    Ok(())
+}
+
+/// Appends the headers of section 0, in a file with `count` sections, and of those without a name.
+fn put_first_sections(bytes: &mut Vec<u8>, form: Form, count: u64) -> Result<(), AllocError> {
     let (size, link) = if form.escapes {
         (count, count.wrapping_sub(1))
     } else {
         (0, 0)
     };
-    put_section(&mut headers, form, [0, 0, 0, 0, 0, size, link, 0])?;
+    put_section(bytes, form, [0, 0, 0, 0, 0, size, link, 0])?;
     for _ in 0..form.empty {
-        put_section(&mut headers, form, [0, 1, 0, 0, 0, 0, 0, 0])?;
+        put_section(bytes, form, [0, 1, 0, 0, 0, 0, 0, 0])?;
     }
+    Ok(())
+}
+
+/// Appends the headers of the sections, whose bytes begin at `start`.
+fn put_sections(
+    bytes: &mut Vec<u8>,
+    form: Form,
+    start: u64,
+    sections: &[NewSection<'_>],
+) -> Result<(), AllocError> {
+    let mut name = 1u64;
+    let mut at = start;
     for section in sections {
-        let at = start.wrapping_add(contents.len() as u64);
-        let name = names.len() as u64;
         let size = section.bytes.len() as u64;
-        names.extend_from_slice(section.name.as_bytes())?;
-        names.push(0)?;
-        contents.extend_from_slice(section.bytes)?;
-        put_section(
-            &mut headers,
-            form,
-            [
-                name,
-                section.section_type,
-                section.flags,
-                section.address,
-                at,
-                size,
-                section.link,
-                section.info,
-            ],
-        )?;
+        let numbers = [
+            name,
+            section.section_type,
+            section.flags,
+            section.address,
+            at,
+            size,
+            section.link,
+            section.info,
+        ];
+        put_section(bytes, form, numbers)?;
+        name = name.wrapping_add(section.name.len() as u64).wrapping_add(1);
+        at = at.wrapping_add(size);
     }
-    let at = start.wrapping_add(contents.len() as u64);
-    put_section(
-        &mut headers,
-        form,
-        [0, 3, 0, 0, at, names.len() as u64, 0, 0],
-    )?;
-    contents.extend_from_slice(names.as_slice())?;
-    let table = start.wrapping_add(contents.len() as u64);
+    Ok(())
+}
+
+/// Appends a file: the header, the sections' bytes, the name table, the section headers.
+fn put_file(
+    bytes: &mut Vec<u8>,
+    form: Form,
+    sections: &[NewSection<'_>],
+) -> Result<(), AllocError> {
+    let (start, _) = header_sizes(form);
+    let (contents, names) = section_sizes(sections);
+    let name_table = start.wrapping_add(contents);
+    let count = count_of(form, sections);
+    put_header(bytes, form, name_table.wrapping_add(names), count)?;
+    put_contents(bytes, sections)?;
+    put_names(bytes, sections)?;
+    put_first_sections(bytes, form, count)?;
+    put_sections(bytes, form, start, sections)?;
+    put_section(bytes, form, [0, 3, 0, 0, name_table, names, 0, 0])
+}
+
+/// A file with these sections between those without a name and the name table.
+pub fn image(
+    alloc: Global,
+    form: Form,
+    sections: &[NewSection<'_>],
+) -> Result<Vec<u8>, AllocError> {
     let mut bytes = Vec::new(alloc);
-    put_header(&mut bytes, form, table, count)?;
-    bytes.extend_from_slice(contents.as_slice())?;
-    bytes.extend_from_slice(headers.as_slice())?;
+    put_file(&mut bytes, form, sections)?;
     Ok(bytes)
 }
 
-/// All bytes that a reader gives, as text.
-fn text_of<R: Read>(alloc: Global, reader: &mut R) -> Result<String, Fail> {
-    let mut bytes = Vec::new(alloc);
-    reader.read_to_end(&mut bytes)?;
-    Ok(String::from_utf8(bytes)?)
+/// Appends a space and the bytes of a section; `-` where there is no section.
+fn push_section<S: ReadAt>(
+    text: &mut String,
+    section: &mut Option<ContentReader<'_, S>>,
+) -> Result<(), Fail> {
+    text.push(' ')?;
+    match section {
+        Some(reader) => {
+            reader.read_to_string(text)?;
+        }
+        None => text.push('-')?,
+    }
+    Ok(())
 }
 
-/// The bytes of a section as text; `-` where there is no section.
-fn text_of_section<'a>(
+/// Appends the order, the line section and its string sections.
+fn push_file<S: ReadAt>(text: &mut String, file: &mut LineFile<'_, S>) -> Result<(), Fail> {
+    text.push_str(if file.order == Order::Big {
+        "big"
+    } else {
+        "little"
+    })?;
+    text.push_str(if file.is_object { " object " } else { " " })?;
+    file.line.read_to_string(text)?;
+    push_section(text, &mut file.debug_line_str)?;
+    push_section(text, &mut file.debug_str)
+}
+
+/// Appends what is found in a file, or the fault's text.
+fn push_found(
+    text: &mut String,
     alloc: Global,
-    reader: Option<ContentReader<'a, Cursor<&'a Vec<u8>>>>,
-) -> Result<String, Fail> {
-    let Some(mut reader) = reader else {
-        return Ok(format!(in alloc; "-")?);
-    };
-    text_of(alloc, &mut reader)
+    bytes: &Vec<u8>,
+    wanted: Wanted,
+) -> Result<(), Fail> {
+    let source = Cursor::new(bytes);
+    match open_line_file(alloc, &source, wanted) {
+        Ok(mut file) => push_file(text, &mut file),
+        Err(fault) => Ok(write!(text, "{fault}")?),
+    }
 }
 
 /// What is found in a file, as one line: the order, the line section and its string sections; or the
 /// fault's text.
 pub fn told(alloc: Global, bytes: &Vec<u8>, wanted: Wanted) -> Result<String, Fail> {
-    let source = Cursor::new(bytes);
-    match open_line_file(alloc, &source, wanted) {
-        Ok(
-            LineFile {
-                order,
-                is_object,
-                mut line,
-                debug_line_str,
-                debug_str,
-            },
-        ) => {
-            let order = if order == Order::Big { "big" } else { "little" };
-            let object = if is_object { " object" } else { "" };
-            let line = text_of(alloc, &mut line)?;
-            let line_str = text_of_section(alloc, debug_line_str)?;
-            let strings = text_of_section(alloc, debug_str)?;
-            Ok(format!(in alloc; "{order}{object} {line} {line_str} {strings}")?)
-        }
-        Err(fault) => Ok(format!(in alloc; "{fault}")?),
-    }
+    let mut text = String::new(alloc);
+    push_found(&mut text, alloc, bytes, wanted)?;
+    Ok(text)
+}
+
+/// What is found in a file of these sections.
+fn found(
+    alloc: Global,
+    form: Form,
+    sections: &[NewSection<'_>],
+    wanted: Wanted,
+) -> Result<String, Fail> {
+    let bytes = image(alloc, form, sections)?;
+    told(alloc, &bytes, wanted)
+}
+
+/// Asserts what is found in a file of these sections.
+pub fn assert_found(
+    rt: &impl Abort,
+    alloc: Global,
+    form: Form,
+    sections: &[NewSection<'_>],
+    wanted: Wanted,
+    want: &str,
+    what: &str,
+) -> Result<(), Fail> {
+    let text = found(alloc, form, sections, wanted)?;
+    assert_eq!(rt; text.as_str(), want, "{what}");
+    Ok(())
 }

@@ -1,6 +1,8 @@
 //! Object files for x86-64 whose line sections have relocations. System V ABI, chapter 4, "Relocation".
-use crate::image::{Form, NewSection, OBJECT, image, section, told};
+use crate::image::{Form, NewSection, OBJECT, assert_found, image, section, told};
 use dl_file::Wanted;
+use std::alloc::Global;
+use std::process::Abort;
 use std::test::Fail;
 
 /// An entry with an addend: r_offset 0, symbol 0, type 10 (R_X86_64_32), the addend `abcd`.
@@ -110,16 +112,11 @@ fn applied(rt: HostRuntime) -> Result<(), Fail> {
     ] {
         let [first, second] = relocations;
         let sections = [section(".debug_line", "line"), symbols(), first, second];
-        let bytes = image(
-            alloc,
-            Form {
-                file_type,
-                ..OBJECT
-            },
-            &sections,
-        )?;
-        let found = told(alloc, &bytes, Wanted::LineSection)?;
-        assert_eq!(rt; found.as_str(), want, "{what}");
+        let form = Form {
+            file_type,
+            ..OBJECT
+        };
+        assert_found(&rt, alloc, form, &sections, Wanted::LineSection, want, what)?;
     }
     Ok(())
 }
@@ -158,24 +155,43 @@ fn faults(rt: HostRuntime) -> Result<(), Fail> {
     ] {
         let [first, second] = relocations;
         let sections = [section(".debug_line", "line"), symbols(), first, second];
-        let bytes = image(alloc, OBJECT, &sections)?;
-        let found = told(alloc, &bytes, Wanted::LineSection)?;
-        assert_eq!(rt; found.as_str(), want, "{what}");
+        let wanted = Wanted::LineSection;
+        assert_found(&rt, alloc, OBJECT, &sections, wanted, want, what)?;
     }
+    Ok(())
+}
+
+/// What is found in an object file whose section with this number has the last byte 0x10 in its size.
+fn found_with_size(alloc: Global, number: usize) -> Result<String, Fail> {
+    let sections = [
+        section(".debug_line", "line"),
+        symbols(),
+        with_addends(SET_FRONT),
+    ];
+    let mut bytes = image(alloc, OBJECT, &sections)?;
+    let back = 5usize.saturating_sub(number).saturating_mul(64);
+    let at = bytes.len().saturating_sub(back).saturating_add(32 + 7);
+    if at < bytes.len() {
+        bytes[at] = 0x10;
+    }
+    told(alloc, &bytes, Wanted::LineSection)
+}
+
+/// Asserts it.
+fn assert_found_with_size(
+    rt: &impl Abort,
+    alloc: Global,
+    number: usize,
+    want: &str,
+) -> Result<(), Fail> {
+    let text = found_with_size(alloc, number)?;
+    assert_eq!(rt; text.as_str(), want, "{number}");
     Ok(())
 }
 
 /// Sizes that go past the end of the file, by more than there is memory.
 #[test]
 fn claimed_sizes(rt: HostRuntime) -> Result<(), Fail> {
-    let alloc = rt.alloc();
-    let sections = [
-        section(".debug_line", "line"),
-        symbols(),
-        with_addends(SET_FRONT),
-    ];
-    let whole = image(alloc, OBJECT, &sections)?;
-    let table = whole.len().saturating_sub(5 * 64);
     for (number, want) in [
         (1, "damaged ELF file: section .debug_line"),
         (
@@ -184,13 +200,7 @@ fn claimed_sizes(rt: HostRuntime) -> Result<(), Fail> {
         ),
         (3, "damaged ELF file: relocations of section .debug_line"),
     ] {
-        let mut bytes = Vec::from_slice(alloc, whole.as_slice())?;
-        let at = table.saturating_add(number * 64 + 32 + 7);
-        if at < bytes.len() {
-            bytes[at] = 0x10;
-        }
-        let found = told(alloc, &bytes, Wanted::LineSection)?;
-        assert_eq!(rt; found.as_str(), want, "{number}");
+        assert_found_with_size(&rt, rt.alloc(), number, want)?;
     }
     Ok(())
 }
@@ -202,13 +212,17 @@ fn many_sections(rt: HostRuntime) -> Result<(), Fail> {
     let mut sections = [without_addends(ADD_SYMBOL); 19];
     sections[0] = section(".debug_line", "line");
     sections[1] = symbols();
-    for (count, want) in [
-        (18, "little object |ine - -"),
-        (19, "damaged ELF file: relocations of section .debug_line"),
+    for (what, count, want) in [
+        ("16", 18, "little object |ine - -"),
+        (
+            "17",
+            19,
+            "damaged ELF file: relocations of section .debug_line",
+        ),
     ] {
-        let bytes = image(alloc, OBJECT, &sections[..count])?;
-        let found = told(alloc, &bytes, Wanted::LineSection)?;
-        assert_eq!(rt; found.as_str(), want, "{count}");
+        let sections = &sections[..count];
+        let wanted = Wanted::LineSection;
+        assert_found(&rt, alloc, OBJECT, sections, wanted, want, what)?;
     }
     Ok(())
 }

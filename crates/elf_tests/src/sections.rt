@@ -1,9 +1,9 @@
 //! Which sections are found.
-use crate::image::{BIG_32, Form, LITTLE_64, NewSection, image, section, told};
+use crate::image::{BIG_32, Form, LITTLE_64, NewSection, assert_found, section};
 use dl_file::Wanted;
-use std::alloc::Global;
-use std::process::Abort;
 use std::test::Fail;
+
+const BOTH: Wanted = Wanted::LineAndStringSections;
 
 /// A file in either class and order, with other sections between those that are wanted.
 #[test]
@@ -26,25 +26,9 @@ fn either_class_and_order(rt: HostRuntime) -> Result<(), Fail> {
             big,
             ..LITTLE_64
         };
-        let bytes = image(alloc, form, &sections)?;
-        let found = told(alloc, &bytes, Wanted::LineAndStringSections)?;
-        assert_eq!(rt; found.as_str(), want, "wide {wide}");
+        let what = if wide { "64 bits" } else { "32 bits" };
+        assert_found(&rt, alloc, form, &sections, BOTH, want, what)?;
     }
-    Ok(())
-}
-
-/// Asserts what is found in a file of these sections.
-fn assert_found(
-    rt: &impl Abort,
-    alloc: Global,
-    wanted: Wanted,
-    sections: &[NewSection<'_>],
-    want: &str,
-    what: &str,
-) -> Result<(), Fail> {
-    let bytes = image(alloc, LITTLE_64, sections)?;
-    let found = told(alloc, &bytes, wanted)?;
-    assert_eq!(rt; found.as_str(), want, "{what}");
     Ok(())
 }
 
@@ -83,14 +67,7 @@ fn names(rt: HostRuntime) -> Result<(), Fail> {
             "little line - str",
         ),
     ] {
-        assert_found(
-            &rt,
-            alloc,
-            Wanted::LineAndStringSections,
-            &sections,
-            want,
-            what,
-        )?;
+        assert_found(&rt, alloc, LITTLE_64, &sections, BOTH, want, what)?;
     }
     Ok(())
 }
@@ -98,12 +75,11 @@ fn names(rt: HostRuntime) -> Result<(), Fail> {
 #[test]
 fn string_sections(rt: HostRuntime) -> Result<(), Fail> {
     let alloc = rt.alloc();
-    let both = Wanted::LineAndStringSections;
     let dwo = section(".debug_line.dwo", "dwo");
     for (what, wanted, sections, want) in [
         (
             "strings of a split file",
-            both,
+            BOTH,
             [
                 section(".debug_str", "str"),
                 dwo,
@@ -113,7 +89,7 @@ fn string_sections(rt: HostRuntime) -> Result<(), Fail> {
         ),
         (
             "line strings of a split file",
-            both,
+            BOTH,
             [
                 section(".debug_line_str.dwo", "line_str"),
                 dwo,
@@ -132,7 +108,7 @@ fn string_sections(rt: HostRuntime) -> Result<(), Fail> {
             "little line - -",
         ),
     ] {
-        assert_found(&rt, alloc, wanted, &sections, want, what)?;
+        assert_found(&rt, alloc, LITTLE_64, &sections, wanted, want, what)?;
     }
     Ok(())
 }
@@ -143,16 +119,19 @@ fn string_sections(rt: HostRuntime) -> Result<(), Fail> {
 fn many_sections(rt: HostRuntime) -> Result<(), Fail> {
     let alloc = rt.alloc();
     let sections = [section(".debug_line", "line"), section(".debug_str", "str")];
-    for (wide, empty) in [(true, 0), (false, 0), (true, 65_300)] {
+    for (what, wide, empty) in [
+        ("64 bits", true, 0),
+        ("32 bits", false, 0),
+        ("65,300 more sections", true, 65_300),
+    ] {
         let form = Form {
             wide,
             empty,
             escapes: true,
             ..LITTLE_64
         };
-        let bytes = image(alloc, form, &sections)?;
-        let found = told(alloc, &bytes, Wanted::LineAndStringSections)?;
-        assert_eq!(rt; found.as_str(), "little line - str", "{empty}");
+        let want = "little line - str";
+        assert_found(&rt, alloc, form, &sections, BOTH, want, what)?;
     }
     Ok(())
 }
@@ -165,12 +144,12 @@ fn object_files(rt: HostRuntime) -> Result<(), Fail> {
         file_type: 1,
         ..BIG_32
     };
-    for (file_type, section_type, info, want) in [
-        (1, 1, 2, "big object line - -"),
-        (1, 4, 1, "big object line - -"),
-        (1, 4, 2, "big object line - -"),
-        (1, 9, 2, "big object line - -"),
-        (3, 4, 2, "big line - -"),
+    for (what, file_type, section_type, info, want) in [
+        ("no relocations", 1, 1, 2, "big object line - -"),
+        ("of another section", 1, 4, 1, "big object line - -"),
+        ("with addends", 1, 4, 2, "big object line - -"),
+        ("without addends", 1, 9, 2, "big object line - -"),
+        ("of a shared object", 3, 4, 2, "big line - -"),
     ] {
         let relocations = NewSection {
             section_type,
@@ -182,9 +161,8 @@ fn object_files(rt: HostRuntime) -> Result<(), Fail> {
             section(".debug_line", "line"),
             relocations,
         ];
-        let bytes = image(alloc, Form { file_type, ..form }, &sections)?;
-        let found = told(alloc, &bytes, Wanted::LineSection)?;
-        assert_eq!(rt; found.as_str(), want, "{file_type} {section_type} {info}");
+        let form = Form { file_type, ..form };
+        assert_found(&rt, alloc, form, &sections, Wanted::LineSection, want, what)?;
     }
     Ok(())
 }
