@@ -25,6 +25,19 @@ fn reads_signed(rt: &impl Abort, number: &mut Sleb, bytes: &[u8], value: Result<
     }
 }
 
+/// Asserts that these bytes are the shortest spelling of the number, and read as it.
+fn assert_unsigned(rt: &impl Abort, number: u64, bytes: &[u8]) {
+    assert!(rt; uleb_bytes(number).as_slice() == bytes);
+    reads_unsigned(rt, &mut Uleb::new(), bytes, Ok(number));
+    assert_eq!(rt; uleb_read_back(number), Some(Ok(number)));
+}
+
+fn assert_signed(rt: &impl Abort, number: i64, bytes: &[u8]) {
+    assert!(rt; sleb_bytes(number).as_slice() == bytes);
+    reads_signed(rt, &mut Sleb::new(), bytes, Ok(number));
+    assert_eq!(rt; sleb_read_back(number), Some(Ok(number)));
+}
+
 #[test]
 fn unsigned_spellings(rt: HostRuntime) {
     let power = [0x80, 0x80, 0x80, 0x80, 0x80, 0x80, 0x80, 0x80, 0x10];
@@ -37,9 +50,7 @@ fn unsigned_spellings(rt: HostRuntime) {
         (u64::MAX, &most),
     ];
     for (number, bytes) in rows {
-        assert_eq!(rt; uleb_bytes(number).as_slice(), bytes);
-        reads_unsigned(&rt, &mut Uleb::new(), bytes, Ok(number));
-        assert_eq!(rt; uleb_read_back(number), Some(Ok(number)));
+        assert_unsigned(&rt, number, bytes);
     }
 }
 
@@ -58,27 +69,38 @@ fn signed_spellings(rt: HostRuntime) {
         (i64::MIN, &least),
     ];
     for (number, bytes) in rows {
-        assert_eq!(rt; sleb_bytes(number).as_slice(), bytes);
-        reads_signed(&rt, &mut Sleb::new(), bytes, Ok(number));
-        assert_eq!(rt; sleb_read_back(number), Some(Ok(number)));
+        assert_signed(&rt, number, bytes);
     }
 }
 
 /// Out of range is answered at the last byte, and the next byte begins a new number.
 #[test]
-fn out_of_range(rt: HostRuntime) {
+fn unsigned_out_of_range(rt: HostRuntime) {
     let mut number = Uleb::new();
-    let mut signed = Sleb::new();
-    let mut skip = Skip::new();
     for byte in MIDDLE {
         assert_eq!(rt; number.push(byte), None);
-        assert_eq!(rt; signed.push(byte), None);
-        assert!(rt; !skip.push(byte));
     }
     assert_eq!(rt; number.push(0x02), Some(Err(LebRange)));
     assert_eq!(rt; number.push(0x05), Some(Ok(5)));
-    assert_eq!(rt; signed.push(0x01), Some(Err(LebRange)));
-    assert_eq!(rt; signed.push(0x7b), Some(Ok(-5)));
+}
+
+#[test]
+fn signed_out_of_range(rt: HostRuntime) {
+    let mut number = Sleb::new();
+    for byte in MIDDLE {
+        assert_eq!(rt; number.push(byte), None);
+    }
+    assert_eq!(rt; number.push(0x01), Some(Err(LebRange)));
+    assert_eq!(rt; number.push(0x7b), Some(Ok(-5)));
+}
+
+/// What is passed over may be out of range.
+#[test]
+fn passed_over_out_of_range(rt: HostRuntime) {
+    let mut skip = Skip::new();
+    for byte in MIDDLE {
+        assert!(rt; !skip.push(byte));
+    }
     assert!(rt; skip.push(0x02));
 }
 
@@ -102,26 +124,36 @@ fn padded(rt: HostRuntime) {
     reads_signed(&rt, &mut Sleb::new(), &thousand, Ok(-1));
 }
 
+/// Asserts that this number stands in front of the bytes, and one byte 0xff after it.
+fn assert_unsigned_in_front(rt: &impl Abort, bytes: &[u8], number: u64) {
+    let found = uleb_at_front(bytes);
+    assert!(rt; matches!(found, Some((Ok(value), [0xff])) if value == number));
+}
+
+fn assert_signed_in_front(rt: &impl Abort, bytes: &[u8], number: i64) {
+    let found = sleb_at_front(bytes);
+    assert!(rt; matches!(found, Some((Ok(value), [0xff])) if value == number));
+}
+
 #[test]
 fn at_the_front(rt: HostRuntime) {
-    let number = uleb_at_front(&[0x80, 0x01, 0xff]).expect(&rt, "a number");
-    assert_eq!(rt; number.0, Ok(128));
-    assert_eq!(rt; number.1, [0xff].as_slice());
+    assert_unsigned_in_front(&rt, &[0x80, 0x01, 0xff], 128);
+    assert_signed_in_front(&rt, &[0xbf, 0x7f, 0xff], -65);
+}
+
+#[test]
+fn nothing_whole_at_the_front(rt: HostRuntime) {
     assert!(rt; uleb_at_front(&[0x80]).is_none());
-    let number = sleb_at_front(&[0xbf, 0x7f, 0xff]).expect(&rt, "a number");
-    assert_eq!(rt; number.0, Ok(-65));
-    assert_eq!(rt; number.1, [0xff].as_slice());
     assert!(rt; sleb_at_front(&[]).is_none());
 }
 
 #[test]
 fn fixed_sizes(rt: HostRuntime) {
     let mut number = Fixed::new(4);
-    assert!(rt; !number.push(0x01));
-    assert!(rt; !number.push(0x02));
-    assert!(rt; !number.is_full());
-    assert!(rt; !number.push(0x03));
-    assert!(rt; number.push(0x04));
+    let pushed = [number.push(0x01), number.push(0x02)];
+    let is_full = number.is_full();
+    let last = [number.push(0x03), number.push(0x04)];
+    assert_eq!(rt; (pushed, is_full, last), ([false; 2], false, [false, true]));
     assert!(rt; number.is_full());
     assert_eq!(rt; number.number(Order::Little), 0x0403_0201);
     assert_eq!(rt; number.number(Order::Big), 0x0102_0304);
@@ -137,9 +169,7 @@ fn bytes_of_fixed_size(rt: HostRuntime) {
         (Order::Little, 8, u64::MAX, &[0xff; 8]),
     ];
     for (order, size, number, bytes) in rows {
-        if size <= 8 {
-            assert_eq!(rt; fixed_bytes(order, size, number).as_slice(), bytes);
-        }
+        assert!(rt; size <= 8 && fixed_bytes(order, size, number).as_slice() == bytes);
     }
 }
 
@@ -176,7 +206,41 @@ fn sixteen_bytes_stand_as_they_came(rt: HostRuntime) {
     assert_eq!(rt; whole, Some(sum));
 }
 
-/// Numbers in both orders, byte by byte and in one piece, with bytes after them.
+/// The number of these bytes, given one by one; None where it isn't whole with the last of them, and not before.
+fn pushed(mut number: PartialNumber, order: Order, bytes: &[u8]) -> Option<u64> {
+    let mut last = None;
+    for byte in bytes {
+        if last.is_some() {
+            return None;
+        }
+        match number.push(order, *byte) {
+            Ok(whole) => last = Some(whole),
+            Err(more) => number = more,
+        }
+    }
+    last
+}
+
+/// Asserts that a number takes the bytes that it lacks from these, and comes to this value; which bytes are left.
+fn assert_taken(
+    rt: &impl Abort,
+    number: PartialNumber,
+    order: Order,
+    bytes: &[u8],
+    (value, left): (u64, &[u8]),
+) {
+    let taken = number.take_from(order, bytes);
+    assert!(rt; matches!(taken, Ok((found, tail)) if found == value && tail == left));
+}
+
+/// Asserts that these bytes are this number, given one by one and in one piece.
+fn assert_fixed(rt: &impl Abort, order: Order, size: usize, bytes: &[u8], value: u64) {
+    assert!(rt; matches!(size, 1 | 2 | 4 | 8));
+    assert_eq!(rt; pushed(PartialNumber::new(size), order, bytes), Some(value));
+    assert_taken(rt, PartialNumber::new(size), order, bytes, (value, &[]));
+}
+
+/// Numbers in both orders.
 #[test]
 fn numbers_of_fixed_size(rt: HostRuntime) {
     let rows: [(Order, usize, &[u8], u64); 6] = [
@@ -188,39 +252,36 @@ fn numbers_of_fixed_size(rt: HostRuntime) {
         (Order::Big, 8, &[0, 0, 0, 1, 0, 0, 0, 0], 4_294_967_296),
     ];
     for (order, size, bytes, value) in rows {
-        if !matches!(size, 1 | 2 | 4 | 8) {
-            continue;
-        }
-        let mut number = PartialNumber::new(size);
-        let mut last = None;
-        for byte in bytes {
-            assert_eq!(rt; last, None);
-            match number.push(order, *byte) {
-                Ok(whole) => last = Some(whole),
-                Err(more) => number = more,
-            }
-        }
-        assert_eq!(rt; last, Some(value));
-        let whole = PartialNumber::new(size).take_from(order, bytes);
-        let (found, tail) = whole.ok().expect(&rt, "a number");
-        assert_eq!(rt; found, value);
-        assert!(rt; tail.is_empty());
+        assert_fixed(&rt, order, size, bytes, value);
     }
+}
+
+/// A number in two pieces, of which the second has a byte more.
+#[test]
+fn a_number_in_two_pieces(rt: HostRuntime) {
     let lacking = PartialNumber::new(4)
         .take_from(Order::Big, &[0x12, 0x34])
         .err();
     let lacking = lacking.expect(&rt, "a number that lacks bytes");
-    let whole = lacking.take_from(Order::Big, &[0x56, 0x78, 0xaa]).ok();
-    let (found, tail) = whole.expect(&rt, "a number");
-    assert_eq!(rt; found, 0x1234_5678);
-    assert_eq!(rt; tail, [0xaa].as_slice());
+    let rest = [0x56, 0x78, 0xaa];
+    assert_taken(&rt, lacking, Order::Big, &rest, (0x1234_5678, &[0xaa]));
 }
 
-/// The examples of figures 7.7 and 7.8 of section 7.6, and spellings of three bytes by Python's
-/// integers, with a byte after each.
+/// Asserts that this number stands in front of the bytes in three bytes at most, and one byte 0xff after it.
+fn assert_short_unsigned(rt: &impl Abort, bytes: &[u8], number: u64) {
+    let found = short_uleb_at_front(bytes);
+    assert!(rt; matches!(found, Some((value, [0xff])) if value == number));
+}
+
+fn assert_short_signed(rt: &impl Abort, bytes: &[u8], number: i64) {
+    let found = short_sleb_at_front(bytes);
+    assert!(rt; matches!(found, Some((value, [0xff])) if value == number));
+}
+
+/// The examples of figure 7.7 of section 7.6, and a spelling of two bytes by Python's integers, with a byte after each.
 #[test]
-fn short_spellings(rt: HostRuntime) {
-    let unsigned: [(u64, &[u8]); 6] = [
+fn short_unsigned_spellings(rt: HostRuntime) {
+    let rows: [(u64, &[u8]); 6] = [
         (2, &[0x02, 0xff]),
         (127, &[0x7f, 0xff]),
         (128, &[0x80, 0x01, 0xff]),
@@ -228,12 +289,15 @@ fn short_spellings(rt: HostRuntime) {
         (130, &[0x82, 0x01, 0xff]),
         (12857, &[0xb9, 0x64, 0xff]),
     ];
-    for (number, bytes) in unsigned {
-        let (found, tail) = short_uleb_at_front(bytes).expect(&rt, "a number");
-        assert_eq!(rt; found, number);
-        assert_eq!(rt; tail, [0xff].as_slice());
+    for (number, bytes) in rows {
+        assert_short_unsigned(&rt, bytes, number);
     }
-    let signed: [(i64, &[u8]); 12] = [
+}
+
+/// The examples of figure 7.8 of section 7.6, and spellings of three bytes by Python's integers, with a byte after each.
+#[test]
+fn short_signed_spellings(rt: HostRuntime) {
+    let rows: [(i64, &[u8]); 12] = [
         (2, &[0x02, 0xff]),
         (-2, &[0x7e, 0xff]),
         (127, &[0xff, 0x00, 0xff]),
@@ -247,11 +311,13 @@ fn short_spellings(rt: HostRuntime) {
         (1_048_575, &[0xff, 0xff, 0x3f, 0xff]),
         (-1_048_576, &[0x80, 0x80, 0x40, 0xff]),
     ];
-    for (number, bytes) in signed {
-        let (found, tail) = short_sleb_at_front(bytes).expect(&rt, "a number");
-        assert_eq!(rt; found, number);
-        assert_eq!(rt; tail, [0xff].as_slice());
+    for (number, bytes) in rows {
+        assert_short_signed(&rt, bytes, number);
     }
+}
+
+#[test]
+fn no_short_spelling_in_front(rt: HostRuntime) {
     for bytes in [[].as_slice(), &[0x80], &[0x80, 0x80, 0x01]] {
         assert!(rt; short_uleb_at_front(bytes).is_none());
     }
