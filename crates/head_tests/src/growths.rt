@@ -1,11 +1,9 @@
 //! Growths of a table that are refused, each once.
 
-use crate::building::assert_entry;
-use crate::reading::feed;
+use crate::building::assert_answer;
+use crate::told::{Told, assert_told, assert_value, fails, feed_told, goes_on};
 use crate::vectors::{HUGE_DIRECTORY_COUNT, TWO_THOUSAND_DIRECTORIES};
-use dl_head::{
-    BuildFault, Fault, FaultKind, Form, Format, HeadReader, HeadStep, Pair, Table, ValueRef,
-};
+use dl_head::{BuildFault, FaultKind, Form, Format, HeadReader, HeadStep, Pair, Table, ValueRef};
 use dl_num::Order;
 use std::alloc::{AllocError, Global};
 use std::process::Abort;
@@ -29,58 +27,97 @@ const PAIRS: [Pair; 2] = [
     },
 ];
 
-/// Adds an entry while all memory is taken but for one block of `spare` bytes.
-fn push_with(
-    alloc: Global,
-    spare: usize,
-    table: &mut Table,
-    values: &[ValueRef<'_>],
-) -> Result<Result<(), BuildFault>, AllocError> {
-    let blocks = hoard_but(alloc, spare)?;
-    let pushed = table.push_entry(values);
-    drop(blocks);
-    Ok(pushed)
-}
-
 fn empty(alloc: Global) -> Result<Table, BuildFault> {
     Table::new(alloc, Format::Dwarf32, &PAIRS)
 }
 
+/// Whether a new table of these pairs is empty.
+fn is_empty(alloc: Global, pairs: &[Pair]) -> Result<bool, BuildFault> {
+    Ok(Table::new(alloc, Format::Dwarf32, pairs)?.is_empty())
+}
+
+/// Whether new tables are empty that are made while all memory is taken: one of two pairs, and one of none.
+fn are_empty_without_memory(rt: &impl Abort, alloc: Global) -> [Result<bool, BuildFault>; 2] {
+    let blocks = hoard_but(alloc, 0).expect(rt, "memory");
+    let made = [is_empty(alloc, &PAIRS), is_empty(alloc, &[])];
+    drop(blocks);
+    made
+}
+
+/// Whether a new table has its pairs.
+fn has_pairs(alloc: Global) -> Result<bool, BuildFault> {
+    Ok(empty(alloc)?.pairs() == PAIRS.as_slice())
+}
+
 #[test]
 fn a_format_needs_memory(rt: HostRuntime) -> Result<(), Fail> {
-    let blocks = hoard_but(rt.alloc(), 0)?;
-    let refused = Table::new(rt.alloc(), Format::Dwarf32, &PAIRS);
-    let none = Table::new(rt.alloc(), Format::Dwarf32, &[]);
+    let [refused, none] = are_empty_without_memory(&rt, rt.alloc());
+    assert!(rt; matches!(refused, Err(BuildFault::NoMemory)));
+    assert!(rt; none?);
+    assert!(rt; has_pairs(rt.alloc())?);
+    Ok(())
+}
+
+/// What the table answers to an entry while all memory is taken but for one block of `spare` bytes.
+fn push_with(
+    rt: &impl Abort,
+    alloc: Global,
+    spare: usize,
+    table: &mut Table,
+    values: &[ValueRef<'_>],
+) -> Result<(), BuildFault> {
+    let blocks = hoard_but(alloc, spare).expect(rt, "memory");
+    let pushed = table.push_entry(values);
     drop(blocks);
-    assert!(rt; matches!(&refused, Err(BuildFault::NoMemory)));
-    assert!(rt; none?.is_empty());
-    assert_eq!(rt; empty(rt.alloc())?.pairs(), PAIRS.as_slice());
+    pushed
+}
+
+/// The entry of `PAIRS` that is refused.
+const ENTRY: [ValueRef<'static>; 2] = [ValueRef::Text(b"ab"), ValueRef::Number(7)];
+
+/// Whether the table is as a new one.
+fn is_new(alloc: Global, table: &Table) -> Result<bool, BuildFault> {
+    Ok(*table == empty(alloc)?)
+}
+
+/// Asserts that the entry is refused with so many bytes of memory, and that the table is as it was.
+fn assert_refused(
+    rt: &impl Abort,
+    alloc: Global,
+    spare: usize,
+    table: &mut Table,
+) -> Result<(), BuildFault> {
+    let refused = push_with(rt, alloc, spare, table, &ENTRY);
+    assert_answer(rt, refused, Err(BuildFault::NoMemory));
+    assert!(rt; is_new(alloc, table)?);
+    Ok(())
+}
+
+/// Asserts that the entry is refused at its first growth, and at its second, and is taken where there is memory.
+fn assert_entered(rt: &impl Abort, alloc: Global, table: &mut Table) -> Result<(), BuildFault> {
+    assert_refused(rt, alloc, 0, table)?;
+    assert_refused(rt, alloc, VALUES_SIZE, table)?;
+    assert_answer(rt, table.push_entry(&ENTRY), Ok(()));
+    assert_value(rt, table, 0, 1, Some(ValueRef::Text(b"ab")));
+    assert_value(rt, table, 0, 2, Some(ValueRef::Number(7)));
     Ok(())
 }
 
 /// A refused entry leaves the table as it was: where the first growth is refused, and the second.
 #[test]
 fn an_entry_needs_memory(rt: HostRuntime) -> Result<(), Fail> {
-    let entry = [ValueRef::Text(b"ab"), ValueRef::Number(7)];
     let mut table = empty(rt.alloc())?;
-    for spare in [0, VALUES_SIZE] {
-        let refused = push_with(rt.alloc(), spare, &mut table, &entry)?;
-        assert_eq!(rt; refused, Err(BuildFault::NoMemory));
-        assert!(rt; table == empty(rt.alloc())?);
-    }
-    assert_eq!(rt; table.push_entry(&entry), Ok(()));
-    let values = [(1, Some(entry[0])), (2, Some(entry[1]))];
-    assert_entry(&rt, &table, 0, &values);
+    assert_entered(&rt, rt.alloc(), &mut table)?;
     Ok(())
 }
 
 /// An entry without bytes takes no second growth.
 #[test]
 fn an_entry_without_bytes(rt: HostRuntime) -> Result<(), Fail> {
-    let mut table = empty(rt.alloc())?;
     let entry = [ValueRef::Text(b""), ValueRef::Number(7)];
-    let pushed = push_with(rt.alloc(), VALUES_SIZE, &mut table, &entry)?;
-    assert_eq!(rt; pushed, Ok(()));
+    let mut table = empty(rt.alloc())?;
+    let pushed = push_with(&rt, rt.alloc(), VALUES_SIZE, &mut table, &entry);
+    assert_answer(&rt, pushed, Ok(()));
     Ok(())
 }
 
@@ -90,65 +127,97 @@ fn has_room(alloc: Global, size: usize) -> bool {
     block.is_ok()
 }
 
-/// A count that is claimed takes no memory, also where there is enough: the one free block stays
-/// free until the bytes of an entry come, and these take no more than a small part of it.
-#[test]
-fn a_claimed_count_takes_no_room(rt: HostRuntime) -> Result<(), Fail> {
-    let (before, claim) = TWO_THOUSAND_DIRECTORIES.split_at(33);
-    let (count, entry) = claim.split_at(2);
-    let mut reader = HeadReader::new(rt.alloc(), Order::Little);
-    assert_eq!(rt; feed(&mut reader, before), HeadStep::More);
-    let blocks = hoard_but(rt.alloc(), CLAIMED_ROOM)?;
-    let counted = feed(&mut reader, count);
-    let is_free = has_room(rt.alloc(), CLAIMED_ROOM);
-    let ended = feed(&mut reader, entry);
-    let is_mostly_free = has_room(rt.alloc(), CLAIMED_ROOM - 1000);
-    drop(blocks);
-    assert_eq!(rt; counted, HeadStep::More);
-    assert!(rt; is_free);
-    let fault = Fault {
-        offset: 38,
-        kind: FaultKind::HeaderOverrun,
-    };
-    assert_eq!(rt; ended, HeadStep::Fault(fault));
-    assert!(rt; is_mostly_free);
-    assert_eq!(rt; reader.cells(), 4);
-    Ok(())
+/// What the reader tells after these bytes, and whether a block of this size can be had then.
+fn feed_and_ask(alloc: Global, reader: &mut HeadReader, bytes: &[u8], size: usize) -> (Told, bool) {
+    let told = feed_told(reader, bytes);
+    (told, has_room(alloc, size))
 }
 
-/// Asserts that after `before` the bytes of a count need no memory, and the first byte of an entry does.
-fn assert_first_growth(
+/// What the reader tells after a count and after an entry where one block is free, and whether that is free after each.
+fn feed_claim(
     rt: &impl Abort,
     alloc: Global,
     reader: &mut HeadReader,
-    before: &[u8],
     count: &[u8],
     entry: &[u8],
-) -> Result<(), AllocError> {
-    assert_eq!(rt; feed(reader, before), HeadStep::More);
-    let blocks = hoard(alloc)?;
-    let counted = feed(reader, count);
-    let refused = feed(reader, entry);
+) -> [(Told, bool); 2] {
+    let blocks = hoard_but(alloc, CLAIMED_ROOM).expect(rt, "memory");
+    let counted = feed_and_ask(alloc, reader, count, CLAIMED_ROOM);
+    let ended = feed_and_ask(alloc, reader, entry, CLAIMED_ROOM - 1000);
     drop(blocks);
-    assert_eq!(rt; counted, HeadStep::More);
-    assert_eq!(rt; refused, HeadStep::NoMemory);
-    Ok(())
+    [counted, ended]
+}
+
+/// A count that is claimed takes no memory, also where there is enough: the one free block stays
+/// free until the bytes of an entry come, and these take no more than a small part of it.
+#[test]
+fn a_claimed_count_takes_no_room(rt: HostRuntime) {
+    let mut reader = HeadReader::new(rt.alloc(), Order::Little);
+    assert_claim_takes_no_room(&rt, rt.alloc(), &mut reader);
+}
+
+/// What a reader of `TWO_THOUSAND_DIRECTORIES` or `HUGE_DIRECTORY_COUNT` tells that holds the pair of its directories.
+fn holds_a_pair(taken: u64, unit_len: u64) -> Told {
+    Told {
+        cells: 1,
+        ..goes_on(taken, Some(unit_len))
+    }
+}
+
+fn assert_claim_takes_no_room(rt: &impl Abort, alloc: Global, reader: &mut HeadReader) {
+    let (before, claim) = TWO_THOUSAND_DIRECTORIES.split_at(33);
+    let (count, entry) = claim.split_at(2);
+    assert_told(rt, feed_told(reader, before), holds_a_pair(33, 38));
+    let [(counted, is_free), (ended, is_mostly_free)] = feed_claim(rt, alloc, reader, count, entry);
+    assert!(rt; is_free && is_mostly_free);
+    assert_told(rt, counted, holds_a_pair(35, 38));
+    let overrun = Told {
+        cells: 4,
+        ..fails(38, Some(38), 38, FaultKind::HeaderOverrun)
+    };
+    assert_told(rt, ended, overrun);
+}
+
+/// What the reader tells after a count and after an entry, while all memory is taken.
+fn feed_without_memory(
+    rt: &impl Abort,
+    alloc: Global,
+    reader: &mut HeadReader,
+    count: &[u8],
+    entry: &[u8],
+) -> [Told; 2] {
+    let blocks = hoard(alloc).expect(rt, "memory");
+    let told = [feed_told(reader, count), feed_told(reader, entry)];
+    drop(blocks);
+    told
+}
+
+/// Asserts that after the first 33 bytes of a header those of the count need no memory, and the first of the three
+/// bytes of an entry does.
+fn assert_first_growth(rt: &impl Abort, alloc: Global, reader: &mut HeadReader, header: &[u8]) {
+    assert!(rt; header.len() > 36);
+    let len = header.len() as u64;
+    let (before, claim) = header.split_at(33);
+    let (count, entry) = claim.split_at(claim.len() - 3);
+    assert_told(rt, feed_told(reader, before), holds_a_pair(33, len));
+    let [counted, refused] = feed_without_memory(rt, alloc, reader, count, entry);
+    let wanted = holds_a_pair(len - 3, len);
+    assert_told(rt, counted, wanted);
+    let no_memory = Told {
+        last: HeadStep::NoMemory,
+        ..wanted
+    };
+    assert_told(rt, refused, no_memory);
 }
 
 /// The first growth that is refused is that of the first cell after the count.
 #[test]
-fn the_first_cell_needs_memory(rt: HostRuntime) -> Result<(), Fail> {
+fn the_first_cell_needs_memory(rt: HostRuntime) {
     for header in [
         TWO_THOUSAND_DIRECTORIES.as_slice(),
         HUGE_DIRECTORY_COUNT.as_slice(),
     ] {
-        assert!(rt; header.len() > 36);
-        let (before, claim) = header.split_at(33);
-        let (count, entry) = claim.split_at(claim.len() - 3);
-        let mut reader = HeadReader::new(rt.alloc(), Order::Little);
-        assert_first_growth(&rt, rt.alloc(), &mut reader, before, count, entry)?;
-        assert_eq!(rt; reader.taken(), header.len() as u64 - 3);
-        assert_eq!(rt; reader.cells(), 1);
+        let reader = &mut HeadReader::new(rt.alloc(), Order::Little);
+        assert_first_growth(&rt, rt.alloc(), reader, header);
     }
-    Ok(())
 }

@@ -12,6 +12,8 @@ mod runs;
 #[cfg(test)]
 mod texts;
 #[cfg(test)]
+mod told;
+#[cfg(test)]
 mod values;
 #[cfg(test)]
 mod vectors;

@@ -1,190 +1,198 @@
 //! Headers that are read byte by byte.
 
-use crate::building::assert_entry;
+use crate::told::{Told, assert_ends, assert_entry, assert_read, fails, feed, goes_on, is_done};
 use crate::vectors::{
     BIG_DWARF64_WITH_MD5, BLOCK_PAST_THE_HEADER, DWARF64_WITH_MD5, EMPTY_PROGRAM,
-    HUGE_DIRECTORY_COUNT, LINE_STRP_DIRECTORY, MD5, OPCODE_BASE_10, changed,
+    HUGE_DIRECTORY_COUNT, LINE_STRP_DIRECTORY, MD5, OPCODE_BASE_10, PADDING_OF_THREE_BYTES,
+    UNKNOWN_FORM, changed,
 };
-use dl_head::{Fault, FaultKind, Format, HeadReader, HeadStep, Header, Params, ValueRef};
+use dl_head::{FaultKind, Format, HeadReader, HeadStep, Header, Params, ValueRef};
 use dl_num::Order;
+use std::alloc::Global;
 use std::process::Abort;
 use test_support::{opcode_lengths, params};
 
-/// The first answer that isn't More, or More.
-pub fn feed(reader: &mut HeadReader, bytes: &[u8]) -> HeadStep {
-    for byte in bytes {
-        match reader.step(*byte) {
-            HeadStep::More => {}
-            answer => return answer,
-        }
-    }
-    HeadStep::More
-}
-
-/// Asserts that all the bytes are taken, that only the last one is answered by something else than
-/// More, and that each further byte is answered the same and not taken.
-fn assert_ends(rt: &impl Abort, reader: &mut HeadReader, bytes: &[u8], answer: HeadStep) {
-    let len = bytes.len() as u64;
-    assert_eq!(rt; feed(reader, bytes), answer);
-    assert_eq!(rt; reader.taken(), len);
-    if answer != HeadStep::More {
-        assert_eq!(rt; reader.step(0), answer);
-        assert_eq!(rt; reader.step(0xff), answer);
-        assert_eq!(rt; reader.taken(), len);
-    }
-}
-
-fn fault(offset: u64, kind: FaultKind) -> HeadStep {
-    HeadStep::Fault(Fault { offset, kind })
-}
-
 #[test]
 fn an_empty_program_has_a_header(rt: HostRuntime) {
-    let mut reader = HeadReader::new(rt.alloc(), Order::Little);
-    assert_eq!(rt; reader.unit_len(), None);
-    assert_eq!(rt; feed(&mut reader, &EMPTY_PROGRAM[..4]), HeadStep::More);
-    assert_eq!(rt; reader.unit_len(), Some(34));
-    assert!(rt; reader.header().is_none());
-    assert_eq!(rt; feed(&mut reader, &EMPTY_PROGRAM[4..]), HeadStep::Done);
-    assert_eq!(rt; reader.taken(), 34);
-    assert_eq!(rt; reader.unit_len(), Some(34));
-    assert_eq!(rt; reader.cells(), 0);
-    assert_empty_program(&rt, reader.header());
+    let alloc = rt.alloc();
+    let little = Order::Little;
+    assert_read(&rt, alloc, little, &[], goes_on(0, None));
+    let unit_length = &EMPTY_PROGRAM[..4];
+    assert_read(&rt, alloc, little, unit_length, goes_on(4, Some(34)));
+    assert_read(&rt, alloc, little, &EMPTY_PROGRAM, is_done(34, 34, 0));
+    let wanted = params(Format::Dwarf32);
+    assert!(rt; is_without_tables(alloc, &EMPTY_PROGRAM, &wanted));
 }
 
-fn assert_empty_program(rt: &impl Abort, header: Option<&Header>) {
-    let header = header.expect(rt, "a header");
-    assert!(rt; *header.params() == params(Format::Dwarf32));
-    assert!(rt; header.directories().is_empty() && header.files().is_empty());
+/// Whether the bytes are read as a header of these params and empty tables.
+fn is_without_tables(alloc: Global, bytes: &[u8], wanted: &Params) -> bool {
+    let mut reader = HeadReader::new(alloc, Order::Little);
+    feed(&mut reader, bytes);
+    has_params_alone(reader.header(), wanted)
+}
+
+/// Whether the header has these params and empty tables.
+fn has_params_alone(header: Option<&Header>, wanted: &Params) -> bool {
+    match header {
+        Some(header) => *header.params() == *wanted && has_empty_tables(header),
+        None => false,
+    }
+}
+
+fn has_empty_tables(header: &Header) -> bool {
+    header.directories().is_empty() && header.files().is_empty()
 }
 
 #[test]
 fn opcode_base_10_has_nine_lengths(rt: HostRuntime) {
-    let mut reader = HeadReader::new(rt.alloc(), Order::Little);
-    assert_ends(&rt, &mut reader, &OPCODE_BASE_10, HeadStep::Done);
-    let header = reader.header().expect(&rt, "a header");
+    let end = is_done(31, 34, 0);
+    assert_ends(&rt, rt.alloc(), Order::Little, &OPCODE_BASE_10, end);
     let wanted = Params {
         opcode_base: 10,
         lengths: opcode_lengths(&[0, 1, 1, 1, 1, 0, 0, 0, 1]),
         ..params(Format::Dwarf32)
     };
-    assert!(rt; *header.params() == wanted);
+    assert!(rt; is_without_tables(rt.alloc(), &OPCODE_BASE_10, &wanted));
+}
+
+/// What a header has: how many cells, its format, how many directories and files, and the values of the first ones.
+#[derive(Clone, Copy)]
+struct Parts<'a> {
+    cells: u64,
+    format: Format,
+    entries: (usize, usize),
+    directory: &'a [(u64, Option<ValueRef<'a>>)],
+    file: &'a [(u64, Option<ValueRef<'a>>)],
+}
+
+/// Asserts that the bytes are read as a header of these parts.
+fn assert_header(rt: &impl Abort, alloc: Global, order: Order, bytes: &[u8], parts: &Parts<'_>) {
+    let mut reader = HeadReader::new(alloc, order);
+    feed(&mut reader, bytes);
+    assert_parts(rt, reader.header(), parts);
+}
+
+fn assert_parts(rt: &impl Abort, header: Option<&Header>, parts: &Parts<'_>) {
+    let header = header.expect(rt, "a header");
+    assert!(rt; header.cells() == parts.cells && header.params().format == parts.format);
+    assert_eq!(rt;
+        (header.directories().len(), header.files().len()),
+        parts.entries
+    );
+    assert_entry(rt, header.directories(), 0, parts.directory);
+    assert_entry(rt, header.files(), 0, parts.file);
 }
 
 #[test]
 fn dwarf64_with_md5_is_read_in_both_orders(rt: HostRuntime) {
+    let parts = Parts {
+        cells: 13,
+        format: Format::Dwarf64,
+        entries: (1, 1),
+        directory: &[(1, Some(ValueRef::Text(b"/s")))],
+        file: &[
+            (1, Some(ValueRef::Text(b"a.c"))),
+            (2, Some(ValueRef::Number(0))),
+            (5, Some(ValueRef::Data16(MD5))),
+            (3, None),
+        ],
+    };
     for (order, bytes) in [
         (Order::Little, DWARF64_WITH_MD5),
         (Order::Big, BIG_DWARF64_WITH_MD5),
     ] {
-        let mut reader = HeadReader::new(rt.alloc(), order);
-        assert_ends(&rt, &mut reader, &bytes, HeadStep::Done);
-        assert_eq!(rt; reader.unit_len(), Some(78));
-        assert_eq!(rt; reader.cells(), 13);
-        assert_dwarf64_with_md5(&rt, reader.header());
+        assert_ends(&rt, rt.alloc(), order, &bytes, is_done(78, 78, 13));
+        assert_header(&rt, rt.alloc(), order, &bytes, &parts);
     }
-}
-
-fn assert_dwarf64_with_md5(rt: &impl Abort, header: Option<&Header>) {
-    let header = header.expect(rt, "a header");
-    assert_eq!(rt; header.cells(), 13);
-    assert_eq!(rt; header.params().format, Format::Dwarf64);
-    assert_eq!(rt; header.directories().len(), 1);
-    let path = Some(ValueRef::Text(b"/s"));
-    assert_entry(rt, header.directories(), 0, &[(1, path)]);
-    assert_eq!(rt; header.files().len(), 1);
-    let values = [
-        (1, Some(ValueRef::Text(b"a.c"))),
-        (2, Some(ValueRef::Number(0))),
-        (5, Some(ValueRef::Data16(MD5))),
-        (3, None),
-    ];
-    assert_entry(rt, header.files(), 0, &values);
 }
 
 #[test]
 fn line_strp_is_an_offset(rt: HostRuntime) {
-    let mut reader = HeadReader::new(rt.alloc(), Order::Little);
-    assert_ends(&rt, &mut reader, &LINE_STRP_DIRECTORY, HeadStep::Done);
-    let header = reader.header().expect(&rt, "a header");
-    assert_entry(
-        &rt,
-        header.directories(),
-        0,
-        &[(1, Some(ValueRef::LineStr(2)))],
-    );
+    let end = is_done(40, 40, 2);
+    let parts = Parts {
+        cells: 2,
+        format: Format::Dwarf32,
+        entries: (1, 0),
+        directory: &[(1, Some(ValueRef::LineStr(2)))],
+        file: &[],
+    };
+    assert_ends(&rt, rt.alloc(), Order::Little, &LINE_STRP_DIRECTORY, end);
+    assert_header(&rt, rt.alloc(), Order::Little, &LINE_STRP_DIRECTORY, &parts);
 }
 
 #[test]
 fn bytes_after_the_last_entry_are_passed_over(rt: HostRuntime) {
-    let mut reader = HeadReader::new(rt.alloc(), Order::Little);
-    let mut bytes = EMPTY_PROGRAM;
-    bytes[0] = 0x21;
-    bytes[8] = 0x19;
-    assert_eq!(rt; feed(&mut reader, &bytes), HeadStep::More);
-    assert_eq!(rt; feed(&mut reader, &[0xff, 0x00]), HeadStep::More);
-    assert_eq!(rt; reader.step(0x80), HeadStep::Done);
-    assert_eq!(rt; reader.taken(), 37);
+    let bytes = &PADDING_OF_THREE_BYTES;
+    let end = is_done(37, 37, 0);
+    assert_ends(&rt, rt.alloc(), Order::Little, bytes, end);
 }
 
 #[test]
 fn unit_lengths_have_limits(rt: HostRuntime) {
+    let bytes = [0xff, 0xff, 0xff, 0xff, 1, 0, 0, 0, 0, 1, 0, 0];
+    let too_long = fails(12, None, 0, FaultKind::UnitTooLong);
+    assert_ends(&rt, rt.alloc(), Order::Little, &bytes, too_long);
     let rows = [
-        ([0xff, 0xff, 0xff, 0xff, 1, 0, 0, 0, 0, 1, 0, 0], true),
-        ([0xff, 0xff, 0xff, 0xff, 0, 0, 0, 0, 0, 1, 0, 0], false),
-        ([0xff, 0xff, 0xff, 0xff, 1, 0, 0, 0, 1, 0, 0, 0], false),
+        (
+            [0xff, 0xff, 0xff, 0xff, 0, 0, 0, 0, 0, 1, 0, 0],
+            1_099_511_627_788,
+        ),
+        (
+            [0xff, 0xff, 0xff, 0xff, 1, 0, 0, 0, 1, 0, 0, 0],
+            4_294_967_309,
+        ),
     ];
-    for (bytes, too_long) in rows {
-        let mut reader = HeadReader::new(rt.alloc(), Order::Little);
-        let answer = if too_long {
-            fault(0, FaultKind::UnitTooLong)
-        } else {
-            HeadStep::More
-        };
-        assert_ends(&rt, &mut reader, &bytes, answer);
-        assert_eq!(rt; reader.unit_len().is_none(), too_long);
+    for (bytes, unit_len) in rows {
+        let told = goes_on(12, Some(unit_len));
+        assert_read(&rt, rt.alloc(), Order::Little, &bytes, told);
     }
 }
 
 #[test]
 fn reserved_lengths_and_short_units_are_refused(rt: HostRuntime) {
-    let mut reader = HeadReader::new(rt.alloc(), Order::Little);
-    let bytes = [0xf0, 0xff, 0xff, 0xff];
-    assert_ends(
-        &rt,
-        &mut reader,
-        &bytes,
-        fault(0, FaultKind::ReservedLength),
-    );
-    let mut reader = HeadReader::new(rt.alloc(), Order::Little);
-    assert_ends(
-        &rt,
-        &mut reader,
-        &[0, 0, 0, 0],
-        fault(4, FaultKind::UnitOverrun),
-    );
-    let mut reader = HeadReader::new(rt.alloc(), Order::Little);
-    assert_ends(
-        &rt,
-        &mut reader,
-        &[1, 0, 0, 0, 5],
-        fault(4, FaultKind::UnitOverrun),
-    );
+    let rows = [
+        (
+            [0xf0, 0xff, 0xff, 0xff].as_slice(),
+            fails(4, None, 0, FaultKind::ReservedLength),
+        ),
+        (
+            [0, 0, 0, 0].as_slice(),
+            fails(4, Some(4), 4, FaultKind::UnitOverrun),
+        ),
+        (
+            [1, 0, 0, 0, 5].as_slice(),
+            fails(5, Some(5), 4, FaultKind::UnitOverrun),
+        ),
+    ];
+    for (bytes, end) in rows {
+        assert_ends(&rt, rt.alloc(), Order::Little, bytes, end);
+    }
+}
+
+/// What a reader tells that took six bytes, up to a version that is foreign.
+fn is_foreign(unit_len: u64, version: u16) -> Told {
+    Told {
+        last: HeadStep::Foreign(version),
+        ..goes_on(6, Some(unit_len))
+    }
 }
 
 #[test]
 fn a_foreign_version_is_told(rt: HostRuntime) {
-    let mut reader = HeadReader::new(rt.alloc(), Order::Little);
-    assert_ends(&rt, &mut reader, &[6, 0, 0, 0, 4, 0], HeadStep::Foreign(4));
-    assert_eq!(rt; reader.unit_len(), Some(10));
-    let mut reader = HeadReader::new(rt.alloc(), Order::Big);
-    assert_ends(
-        &rt,
-        &mut reader,
-        &[0, 0, 0, 2, 5, 0],
-        HeadStep::Foreign(1280),
-    );
-    assert!(rt; reader.into_header().is_none());
+    let little = [6, 0, 0, 0, 4, 0];
+    let end = is_foreign(10, 4);
+    assert_ends(&rt, rt.alloc(), Order::Little, &little, end);
+    let big = [0, 0, 0, 2, 5, 0];
+    let end = is_foreign(6, 1280);
+    assert_ends(&rt, rt.alloc(), Order::Big, &big, end);
+    assert!(rt; !becomes_header(rt.alloc(), Order::Big, &big));
+}
+
+/// Whether a reader of these bytes becomes a header.
+fn becomes_header(alloc: Global, order: Order, bytes: &[u8]) -> bool {
+    let mut reader = HeadReader::new(alloc, order);
+    feed(&mut reader, bytes);
+    reader.into_header().is_some()
 }
 
 #[test]
@@ -201,55 +209,53 @@ fn bad_fields_are_refused_at_their_place(rt: HostRuntime) {
         (33, 0x01, 34, 33, FaultKind::EmptyFormat),
     ];
     for (place, byte, taken, offset, kind) in rows {
-        let mut reader = HeadReader::new(rt.alloc(), Order::Little);
         assert!(rt; place < 34 && taken <= 34);
         let bytes = changed(place, byte);
-        assert_ends(&rt, &mut reader, &bytes[..taken], fault(offset, kind));
-        assert!(rt; reader.header().is_none());
+        let end = fails(taken as u64, Some(34), offset, kind);
+        assert_ends(&rt, rt.alloc(), Order::Little, &bytes[..taken], end);
     }
 }
 
 #[test]
 fn unknown_forms_are_refused(rt: HostRuntime) {
-    let mut reader = HeadReader::new(rt.alloc(), Order::Little);
-    let mut bytes = EMPTY_PROGRAM;
-    bytes[30] = 1;
-    bytes[31] = 1;
-    bytes[32] = 13;
-    assert_ends(
-        &rt,
-        &mut reader,
-        &bytes[..33],
-        fault(32, FaultKind::UnknownForm(13)),
-    );
+    let end = fails(33, Some(34), 32, FaultKind::UnknownForm(13));
+    assert_ends(&rt, rt.alloc(), Order::Little, &UNKNOWN_FORM, end);
 }
 
 #[test]
 fn entries_past_the_header_are_refused(rt: HostRuntime) {
-    let mut reader = HeadReader::new(rt.alloc(), Order::Little);
-    let answer = fault(45, FaultKind::HeaderOverrun);
-    assert_ends(&rt, &mut reader, &HUGE_DIRECTORY_COUNT, answer);
-    assert_eq!(rt; reader.cells(), 4);
-    let mut reader = HeadReader::new(rt.alloc(), Order::Little);
-    let answer = fault(34, FaultKind::HeaderOverrun);
-    assert_ends(&rt, &mut reader, &BLOCK_PAST_THE_HEADER, answer);
-    assert_eq!(rt; reader.cells(), 2);
+    let end = Told {
+        cells: 4,
+        ..fails(45, Some(45), 45, FaultKind::HeaderOverrun)
+    };
+    assert_ends(&rt, rt.alloc(), Order::Little, &HUGE_DIRECTORY_COUNT, end);
+    let end = Told {
+        cells: 2,
+        ..fails(44, Some(44), 34, FaultKind::HeaderOverrun)
+    };
+    assert_ends(&rt, rt.alloc(), Order::Little, &BLOCK_PAST_THE_HEADER, end);
+}
+
+/// What a reader tells after so many bytes of `HUGE_DIRECTORY_COUNT`.
+fn cut_off(len: usize) -> Told {
+    let cells = match len {
+        0..33 => 0,
+        33..43 => 1,
+        43 => 2,
+        _ => 3,
+    };
+    let unit_len = if len < 4 { None } else { Some(45) };
+    Told {
+        cells,
+        ..goes_on(len as u64, unit_len)
+    }
 }
 
 /// The cells of a header that is cut off anywhere are those of the bytes before.
 #[test]
 fn a_huge_count_is_cut_off_anywhere(rt: HostRuntime) {
     for len in 0..HUGE_DIRECTORY_COUNT.len() {
-        let mut reader = HeadReader::new(rt.alloc(), Order::Little);
-        let (piece, _) = HUGE_DIRECTORY_COUNT.split_at(len);
-        assert_ends(&rt, &mut reader, piece, HeadStep::More);
-        assert!(rt; reader.header().is_none());
-        let cells = match len {
-            0..33 => 0,
-            33..43 => 1,
-            43 => 2,
-            _ => 3,
-        };
-        assert_eq!(rt; reader.cells(), cells, "cut off at {len}");
+        let piece = &HUGE_DIRECTORY_COUNT[..len];
+        assert_read(&rt, rt.alloc(), Order::Little, piece, cut_off(len));
     }
 }

@@ -1,16 +1,37 @@
 //! Texts of faults, and texts in a string section.
 
 use dl_head::{FaultKind, text_at};
+use std::alloc::{AllocError, Global};
+use std::process::Abort;
 use std::test::Fail;
+
+/// A section of a text, and the first byte of another.
+const SECTION: [u8; 3] = [0x61, 0x00, 0x62];
+
+/// Asserts the text at this offset of the section.
+fn assert_text_at(rt: &impl Abort, offset: u64, text: Option<&[u8]>) {
+    assert_eq!(rt; text_at(&SECTION, offset), text);
+}
 
 #[test]
 fn texts_end_at_a_zero_byte(rt: HostRuntime) {
-    let section = [0x61, 0x00, 0x62];
-    assert_eq!(rt; text_at(&section, 0), section.get(0..1));
-    assert_eq!(rt; text_at(&section, 1), section.get(1..1));
-    assert_eq!(rt; text_at(&section, 2), None);
-    assert_eq!(rt; text_at(&section, 3), None);
-    assert_eq!(rt; text_at(&section, u64::MAX), None);
+    assert_text_at(&rt, 0, SECTION.get(0..1));
+    assert_text_at(&rt, 1, SECTION.get(1..1));
+    assert_text_at(&rt, 2, None);
+    assert_text_at(&rt, 3, None);
+    assert_text_at(&rt, u64::MAX, None);
+}
+
+/// Asserts the text of a fault of this kind.
+fn assert_fault(
+    rt: &impl Abort,
+    alloc: Global,
+    kind: FaultKind,
+    text: &str,
+) -> Result<(), AllocError> {
+    let told = format!(in alloc; "{kind}")?;
+    assert_eq!(rt; told.as_str(), text);
+    Ok(())
 }
 
 #[test]
@@ -38,7 +59,7 @@ fn faults_have_texts(rt: HostRuntime) -> Result<(), Fail> {
         (FaultKind::Truncated, "input ends inside a unit"),
     ];
     for (kind, text) in rows {
-        assert_eq!(rt; format!(in rt.alloc(); "{kind}")?.as_str(), text);
+        assert_fault(&rt, rt.alloc(), kind, text)?;
     }
     Ok(())
 }
