@@ -1,6 +1,7 @@
 //! Which row answers for an address, and what stands in the lines.
 use crate::sections::{
-    ALL, DEAD, NOT_ALL, OVER, PATHS, PLAIN, TOP, asked, assert_addr, plain, section,
+    ALL, DEAD, NO_ADDRESS, NOT_ALL, OVER, PATHS, PLAIN, TOP, assert_addr, assert_pieces, at, plain,
+    section,
 };
 use dl_addr::{Form, Question, Style};
 use dl_head::FaultKind;
@@ -15,50 +16,45 @@ const FOREIGN: &str = "06 00 00 00 04 00 aa bb cc dd";
 #[test]
 fn each_address_has_its_line(rt: HostRuntime) -> Result<(), Fail> {
     let alloc = rt.alloc();
-    let section = section(alloc, &[OVER, FOREIGN, PATHS, TOP])?;
-    let asked = asked(
-        alloc,
-        &[
-            Some(0x1040),
-            Some(0x1c0),
-            None,
-            Some(0x100f),
-            Some(0x1040),
-            Some(0x10b0),
-            Some(0x10af),
-            Some(u64::MAX),
-            Some(u64::MAX - 1),
-            Some(0),
-        ],
-    )?;
+    let asked = [
+        at(0x1040),
+        at(0x1c0),
+        NO_ADDRESS,
+        at(0x100f),
+        at(0x1040),
+        at(0x10b0),
+        at(0x10af),
+        at(u64::MAX),
+        at(u64::MAX - 1),
+        at(0),
+    ];
     let question = plain(asked.as_slice());
     let text = "/whole.c:14:4\n??:0\n??:0\n/src/main.c:10\n/whole.c:14:4\n??:0\n??:30:2\n??:0\n\
                 /t/top.c:1:1\n??:0\n";
-    assert_addr(&rt, alloc, section.as_slice(), &question, text, NOT_ALL);
-    Ok(())
+    assert_addr(
+        &rt,
+        alloc,
+        &[OVER, FOREIGN, PATHS, TOP],
+        &question,
+        (text, NOT_ALL),
+    )
 }
 
 /// The first of two sequences that cover an address answers, also of two units.
 #[test]
 fn the_first_sequence_answers(rt: HostRuntime) -> Result<(), Fail> {
     let alloc = rt.alloc();
-    let section = section(alloc, &[OVER, DEAD, PATHS])?;
-    let asked = asked(alloc, &[Some(0x140), Some(0x17f), Some(0x180), Some(0x45)])?;
+    let asked = [at(0x140), at(0x17f), at(0x180), at(0x45)];
     let question = plain(asked.as_slice());
     let text = "/o/one.c:1:1\n/o/one.c:1:1\n/o/two.c:2:2\n/d/dead.c:2:2\n";
-    assert_addr(&rt, alloc, section.as_slice(), &question, text, ALL);
-    Ok(())
+    assert_addr(&rt, alloc, &[OVER, DEAD, PATHS], &question, (text, ALL))
 }
 
 /// The base is subtracted first, and the address stands before its location as it was given.
 #[test]
 fn bases_and_addresses(rt: HostRuntime) -> Result<(), Fail> {
     let alloc = rt.alloc();
-    let section = section(alloc, &[PATHS])?;
-    let asked = asked(
-        alloc,
-        &[Some(0x5555_0000_1010), Some(0x1010), None, Some(u64::MAX)],
-    )?;
+    let asked = [at(0x5555_0000_1010), at(0x1010), NO_ADDRESS, at(u64::MAX)];
     let question = Question {
         base: 0x5555_0000_0000,
         style: Style {
@@ -69,8 +65,7 @@ fn bases_and_addresses(rt: HostRuntime) -> Result<(), Fail> {
     };
     let text = "0x0000555500001010 /src/main.c:11:1\n0x0000000000001010 ??:0\n??:0\n\
                 0xffffffffffffffff ??:0\n";
-    assert_addr(&rt, alloc, section.as_slice(), &question, text, NOT_ALL);
-    Ok(())
+    assert_addr(&rt, alloc, &[PATHS], &question, (text, NOT_ALL))
 }
 
 /// The whole units before a fault answer, and then the fault is told.
@@ -79,29 +74,34 @@ fn damaged_units(rt: HostRuntime) -> Result<(), Fail> {
     let alloc = rt.alloc();
     let mut section = section(alloc, &[PATHS, TOP])?;
     section.pop();
-    let asked = asked(alloc, &[Some(u64::MAX - 1), Some(0x1010)])?;
+    let asked = [at(u64::MAX - 1), at(0x1010)];
     let question = plain(asked.as_slice());
     let fault = RunFault::Damage {
         offset: 314,
         kind: FaultKind::Truncated,
     };
-    let text = "??:0\n/src/main.c:11:1\n";
-    assert_addr(&rt, alloc, section.as_slice(), &question, text, Err(fault));
+    let wanted = ("??:0\n/src/main.c:11:1\n", Err(fault));
+    assert_pieces(&rt, alloc, section.as_slice(), &question, wanted);
     Ok(())
 }
 
 /// Nothing is printed where nothing is asked for; the fault stands all the same.
 #[test]
 fn no_address(rt: HostRuntime) -> Result<(), Fail> {
-    let alloc = rt.alloc();
-    let question = plain(&[]);
-    let whole = section(alloc, &[PATHS, TOP])?;
-    assert_addr(&rt, alloc, whole.as_slice(), &question, "", ALL);
-    let damaged = section(alloc, &[PATHS, "05"])?;
+    assert_addr(&rt, rt.alloc(), &[PATHS, TOP], &plain(&[]), ("", ALL))
+}
+
+#[test]
+fn no_address_in_a_damaged_section(rt: HostRuntime) -> Result<(), Fail> {
     let fault = RunFault::Damage {
         offset: 245,
         kind: FaultKind::Truncated,
     };
-    assert_addr(&rt, alloc, damaged.as_slice(), &question, "", Err(fault));
-    Ok(())
+    assert_addr(
+        &rt,
+        rt.alloc(),
+        &[PATHS, "05"],
+        &plain(&[]),
+        ("", Err(fault)),
+    )
 }

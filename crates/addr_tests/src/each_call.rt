@@ -1,6 +1,6 @@
 //! A fault at each read, each write and each growth in turn.
-use crate::sections::{DEAD, PATHS, asked, options, plain, section};
-use dl_addr::{Found, addr};
+use crate::sections::{DEAD, PATHS, assert_answer, at, options, plain, section};
+use dl_addr::{Asked, Found, addr};
 use dl_run::RunFault;
 use std::alloc::Global;
 use std::process::Abort;
@@ -30,88 +30,104 @@ fn text(read: usize) -> &'static str {
     }
 }
 
-fn run(
+fn asked() -> [Asked; 2] {
+    [at(0x45), at(0x1020)]
+}
+
+/// Asserts what is printed and answered where a read meets with this fault, after so many others.
+fn assert_read(
     rt: &impl Abort,
     alloc: Global,
-    input: &mut Source<'_>,
-    text: &str,
-    answer: Result<Found, RunFault>,
-) -> Result<(), Fail> {
-    let asked = asked(alloc, &[Some(0x45), Some(0x1020)])?;
-    let question = plain(asked.as_slice());
-    let mut output = Sink::new(alloc, 1 << 20, 1 << 20);
-    let answered = addr(alloc, input, &mut output, &question, &options());
-    assert_eq!(rt; answered, answer);
-    assert_eq!(rt; output.held.as_slice(), text.as_bytes());
-    Ok(())
+    section: &[u8],
+    (before, fault): (usize, Fault),
+    wanted: (&str, Result<Found, RunFault>),
+) {
+    let mut input = Source::new(section, READ).with_fault(before, fault);
+    assert_answer(rt, alloc, &mut input, &plain(&asked()), &options(), wanted);
+}
+
+/// Asserts what each fault of a read comes to, after so many reads.
+fn assert_faults(rt: &impl Abort, alloc: Global, section: &[u8], before: usize) {
+    let front = text(READ.saturating_mul(before));
+    for fault in [Fault::Fails, Fault::Interrupted(1001)] {
+        let wanted = (front, Err(RunFault::Read));
+        assert_read(rt, alloc, section, (before, fault), wanted);
+    }
+    for fault in [Fault::Interrupted(1000), Fault::Short] {
+        assert_read(
+            rt,
+            alloc,
+            section,
+            (before, fault),
+            (text(352), Ok(Found::All)),
+        );
+    }
 }
 
 /// A read that fails, or is interrupted too often, ends the reading: what the whole units before it answer is
 /// printed. Other reads may be short or interrupted.
 #[test]
 fn each_read(rt: HostRuntime) -> Result<(), Fail> {
-    let alloc = rt.alloc();
-    let section = section(alloc, &[PATHS, DEAD])?;
+    let section = section(rt.alloc(), &[PATHS, DEAD])?;
     for before in 0..33usize {
-        let read = READ.saturating_mul(before);
-        for fault in [Fault::Fails, Fault::Interrupted(1001)] {
-            let mut input = Source::new(section.as_slice(), READ).with_fault(before, fault);
-            run(&rt, alloc, &mut input, text(read), Err(RunFault::Read))?;
-        }
-        for fault in [Fault::Interrupted(1000), Fault::Short] {
-            let mut input = Source::new(section.as_slice(), READ).with_fault(before, fault);
-            run(&rt, alloc, &mut input, text(352), Ok(Found::All))?;
-        }
+        assert_faults(&rt, rt.alloc(), section.as_slice(), before);
     }
     Ok(())
 }
 
-/// A write that fails tells how much is out.
+/// Asserts what is out and told where a write fails, after so many others.
+fn assert_write(rt: &impl Abort, alloc: Global, section: &[u8], before: usize) {
+    let mut input = Source::new(section, 4096);
+    let mut output = Sink::with_fault(alloc, WRITTEN, before, Fault::Fails);
+    let answered = addr(alloc, &mut input, &mut output, &plain(&asked()), &options());
+    let out = WRITTEN.saturating_mul(before);
+    assert_eq!(rt; answered, Err(RunFault::Write { out: out as u128 }));
+    assert!(rt;
+        BOTH.as_bytes().get(..out) == Some(output.held.as_slice()),
+        "{before}"
+    );
+}
+
+/// A write that fails tells how much is out. Eleven writes take the 32 bytes of the text.
 #[test]
 fn each_write(rt: HostRuntime) -> Result<(), Fail> {
-    let alloc = rt.alloc();
-    let section = section(alloc, &[PATHS, DEAD])?;
-    let asked = asked(alloc, &[Some(0x45), Some(0x1020)])?;
-    let question = plain(asked.as_slice());
-    let text = text(352).as_bytes();
-    for before in 0..12usize {
-        let out = WRITTEN.saturating_mul(before);
-        if text.len() <= out {
-            break;
-        }
-        let mut input = Source::new(section.as_slice(), 4096);
-        let mut output = Sink::with_fault(alloc, WRITTEN, before, Fault::Fails);
-        let answered = addr(alloc, &mut input, &mut output, &question, &options());
-        let fault = RunFault::Write { out: out as u128 };
-        assert_eq!(&rt; answered, Err(fault));
-        assert_eq!(&rt; Some(output.held.as_slice()), text.get(..out));
+    let section = section(rt.alloc(), &[PATHS, DEAD])?;
+    assert_eq!(rt; BOTH.len(), 32);
+    for before in 0..11usize {
+        assert_write(&rt, rt.alloc(), section.as_slice(), before);
     }
     Ok(())
+}
+
+/// Whether memory is refused from byte `place` on; asserts that then what the whole units before answer is printed, and
+/// else all.
+fn is_refused(rt: &impl Abort, alloc: Global, section: &[u8], place: usize) -> bool {
+    let mut output = Sink::new(alloc, 1 << 12, 1 << 12);
+    let mut input = Hoarding::new(alloc, section, place);
+    let answered = addr(alloc, &mut input, &mut output, &plain(&asked()), &options());
+    let is_refused = answered == Err(RunFault::NoMemory);
+    let wanted = match place {
+        _ if !is_refused => BOTH,
+        0..244 => NONE,
+        _ => FIRST,
+    };
+    assert!(rt;
+        (is_refused || answered.is_ok()) && output.held.as_slice() == wanted.as_bytes(),
+        "{place}"
+    );
+    is_refused
 }
 
 /// Wherever memory is refused, what the whole units before answer is printed, or nothing was asked for yet.
 #[test]
 fn each_growth(rt: HostRuntime) -> Result<(), Fail> {
-    let alloc = rt.alloc();
-    let section = section(alloc, &[PATHS, DEAD])?;
-    let asked = asked(alloc, &[Some(0x45), Some(0x1020)])?;
-    let question = plain(asked.as_slice());
-    let mut refused = 0usize;
-    let _most = hoard_most(alloc)?;
-    for at in [45, 50, 60, 80, 100, 243, 290, 300, 310, 351] {
-        let mut output = Sink::new(alloc, 1 << 12, 1 << 12);
-        let mut input = Hoarding::new(alloc, section.as_slice(), at);
-        let answered = addr(alloc, &mut input, &mut output, &question, &options());
-        let wanted = match answered {
-            Ok(_) => text(352),
-            Err(fault) => {
-                assert_eq!(&rt; fault, RunFault::NoMemory);
-                refused = refused.saturating_add(1);
-                text(if at < 244 { 0 } else { 244 })
-            }
-        };
-        assert_eq!(&rt; output.held.as_slice(), wanted.as_bytes());
+    let section = section(rt.alloc(), &[PATHS, DEAD])?;
+    let mut refused = 0u32;
+    let _most = hoard_most(rt.alloc())?;
+    for place in [45, 50, 60, 80, 100, 243, 290, 300, 310, 351] {
+        let is_refused = is_refused(&rt, rt.alloc(), section.as_slice(), place);
+        refused = refused.saturating_add(u32::from(is_refused));
     }
-    assert!(&rt; refused > 1);
+    assert!(rt; refused > 1);
     Ok(())
 }

@@ -1,5 +1,5 @@
 //! Lines that are JSON objects.
-use crate::sections::{NOT_ALL, OVER, PATHS, PLAIN, asked, assert_addr, plain, section};
+use crate::sections::{NO_ADDRESS, NOT_ALL, OVER, PATHS, PLAIN, assert_addr, at, plain};
 use dl_addr::{Form, Question, Style};
 use std::test::Fail;
 
@@ -16,11 +16,7 @@ const QUOTES: &str =
 #[test]
 fn objects(rt: HostRuntime) -> Result<(), Fail> {
     let alloc = rt.alloc();
-    let section = section(alloc, &[OVER, QUOTES, PATHS])?;
-    let asked = asked(
-        alloc,
-        &[Some(0x13), None, Some(0x14), Some(0x1071), Some(0x18)],
-    )?;
+    let asked = [at(0x13), NO_ADDRESS, at(0x14), at(0x1071), at(0x18)];
     let style = Style {
         form: Form::Json,
         ..PLAIN
@@ -36,6 +32,11 @@ fn objects(rt: HostRuntime) -> Result<(), Fail> {
                 \"discriminator\":0,\"is_stmt\":true,\"unit\":\"0x65\"}\n\
                 {\"address\":\"0x0000000000001071\",\"path\":\"/src/x\\u0001y\u{7f}.c\",\"line\":17,\"column\":7,\
                 \"discriminator\":0,\"is_stmt\":true,\"unit\":\"0xbb\"}\n{\"address\":\"0x0000000000000018\"}\n";
-    assert_addr(&rt, alloc, section.as_slice(), &question, text, NOT_ALL);
-    Ok(())
+    assert_addr(
+        &rt,
+        alloc,
+        &[OVER, QUOTES, PATHS],
+        &question,
+        (text, NOT_ALL),
+    )
 }

@@ -84,14 +84,15 @@ pub fn section(alloc: Global, units: &[&str]) -> Result<Vec<u8>, Fail> {
     Ok(section)
 }
 
-/// What is asked for: addresses, and None for a line that is none.
-pub fn asked(alloc: Global, addresses: &[Option<u64>]) -> Result<Vec<Asked>, Fail> {
-    let mut asked = Vec::new(alloc);
-    for address in addresses {
-        asked.push(Asked { address: *address })?;
+/// Asks for this address.
+pub fn at(address: u64) -> Asked {
+    Asked {
+        address: Some(address),
     }
-    Ok(asked)
 }
+
+/// A line that is no address.
+pub const NO_ADDRESS: Asked = Asked { address: None };
 
 /// A question about all sequences, without a base.
 pub fn plain<'a>(asked: &'a [Asked]) -> Question<'a> {
@@ -109,20 +110,47 @@ pub const ALL: Result<Found, RunFault> = Ok(Found::All);
 /// One of the asked addresses at least has no answer.
 pub const NOT_ALL: Result<Found, RunFault> = Ok(Found::NotAll);
 
+/// Asserts what `addr` over this input prints and answers.
+pub fn assert_answer(
+    rt: &impl Abort,
+    alloc: Global,
+    input: &mut Source<'_>,
+    question: &Question<'_>,
+    options: &Options<'_>,
+    wanted: (&str, Result<Found, RunFault>),
+)
+    requires { options.now.limit ≤ SECTION_LIMIT }
+{
+    let (text, answer) = wanted;
+    let mut output = Sink::new(alloc, 1 << 20, 1 << 20);
+    let answered = addr(alloc, input, &mut output, question, options);
+    assert_eq!(rt; answered, answer);
+    assert!(rt; output.held.as_slice() == text.as_bytes(), "{text}");
+}
+
 /// Asserts what `addr` prints and answers, the section coming whole and byte by byte.
-pub fn assert_addr(
+pub fn assert_pieces(
     rt: &impl Abort,
     alloc: Global,
     section: &[u8],
     question: &Question<'_>,
-    text: &str,
-    answer: Result<Found, RunFault>,
+    wanted: (&str, Result<Found, RunFault>),
 ) {
     for most in [1, 7, 4096] {
-        let mut output = Sink::new(alloc, 1 << 20, 1 << 20);
         let mut input = Source::new(section, most);
-        let answered = addr(alloc, &mut input, &mut output, question, &options());
-        assert_eq!(rt; answered, answer);
-        assert_eq!(rt; output.held.as_slice(), text.as_bytes());
+        assert_answer(rt, alloc, &mut input, question, &options(), wanted);
     }
+}
+
+/// The same of a section of these units.
+pub fn assert_addr(
+    rt: &impl Abort,
+    alloc: Global,
+    units: &[&str],
+    question: &Question<'_>,
+    wanted: (&str, Result<Found, RunFault>),
+) -> Result<(), Fail> {
+    let section = section(alloc, units)?;
+    assert_pieces(rt, alloc, section.as_slice(), question, wanted);
+    Ok(())
 }
