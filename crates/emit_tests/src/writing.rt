@@ -1,15 +1,18 @@
 //! Worked units.
 
-use crate::vectors::{append_unit, changed, header, plain, program, three_rows};
-use dl_emit::{measure, write_unit};
-use dl_head::{Form, Format, Header, Pair, Table, ValueRef};
+use crate::vectors::{
+    append_unit, assert_answer, assert_bytes, assert_write, begin, changed, plain, three_rows,
+};
+use dl_emit::{Program, measure};
+use dl_head::{BuildFault, Form, Format, Header, Pair, Table, ValueRef};
 use dl_num::Order;
 use dl_rows::Row;
 use std::alloc::Global;
 use std::process::Abort;
 use std::test::Fail;
 use test_support::{
-    BIG_THREE_ROWS, DWARF64_WITH_MD5, Sink, THREE_ROWS, bytes, params, row, rows_of, unit_with,
+    BIG_THREE_ROWS, DWARF64_WITH_MD5, Sink, THREE_ROWS, bytes, header_of, params, row, rows_of,
+    unit_with,
 };
 
 /// Asserts that the unit of this header and these rows is written as these bytes, by writers that take little and much.
@@ -22,12 +25,25 @@ fn assert_written(
     unit: &[u8],
 ) {
     let len = unit.len() as u64;
-    assert_eq!(rt; measure(head, rows), Ok(len));
+    assert_answer(rt, measure(head, rows), Ok(len));
     for most in [1, 7, 1000] {
-        let mut output = Sink::new(alloc, 1000, most);
-        assert_eq!(rt; write_unit(&mut output, order, head, rows), Ok(len));
-        assert_eq!(rt; output.held.as_slice(), unit);
+        let output = &mut Sink::new(alloc, 1000, most);
+        assert_write(rt, output, order, head, rows, (Ok(len), unit));
     }
+}
+
+/// Appends the unit of a program that takes these rows one by one.
+fn append_grown(
+    rt: &impl Abort,
+    alloc: Global,
+    order: Order,
+    head: &Header,
+    rows: &[Row],
+    output: &mut Sink,
+) {
+    let mut program = Program::new(alloc, order);
+    begin(rt, &mut program, head, rows);
+    append_unit(rt, &program, head, output);
 }
 
 /// Asserts that a program that takes these rows one by one makes this unit.
@@ -38,12 +54,19 @@ fn assert_grown(
     head: &Header,
     rows: &[Row],
     unit: &[u8],
-) -> Result<(), Fail> {
-    let program = program(alloc, order, head, rows)?;
+) {
     let mut output = Sink::new(alloc, 1000, 7);
-    append_unit(&program, head, &mut output)?;
-    assert_eq!(rt; output.held.as_slice(), unit);
-    Ok(())
+    append_grown(rt, alloc, order, head, rows, &mut output);
+    assert_bytes(rt, output.held.as_slice(), unit);
+}
+
+/// Whether the bytes begin with this header.
+fn has_header(alloc: Global, order: Order, head: &Header, unit: &[u8]) -> bool {
+    header_of(alloc, order, unit).as_ref() == Some(head)
+}
+
+fn assert_rows(rt: &impl Abort, rows: &[Row], wanted: &[Row]) {
+    assert_eq!(rt; rows, wanted);
 }
 
 /// Asserts that the unit is read as this header and these rows.
@@ -55,10 +78,9 @@ fn assert_read(
     written: &[Row],
     unit: &[u8],
 ) -> Result<(), Fail> {
-    let again = header(alloc, order, unit)?;
-    assert!(rt; again == *head);
+    assert!(rt; has_header(alloc, order, head, unit));
     let read = rows_of(alloc, order, unit)?;
-    assert_eq!(rt; read.as_slice(), written);
+    assert_rows(rt, read.as_slice(), written);
     Ok(())
 }
 
@@ -72,7 +94,7 @@ fn assert_unit(
     unit: &[u8],
 ) -> Result<(), Fail> {
     assert_written(rt, alloc, order, head, rows, unit);
-    assert_grown(rt, alloc, order, head, rows, unit)?;
+    assert_grown(rt, alloc, order, head, rows, unit);
     assert_read(rt, alloc, order, head, rows, unit)
 }
 
@@ -85,7 +107,7 @@ fn assert_program(
     rows: &[Row],
 ) -> Result<(), Fail> {
     let unit = unit_with(alloc, changes, program)?;
-    let head = changed(alloc, changes)?;
+    let head = changed(rt, alloc, changes)?;
     assert_unit(rt, alloc, Order::Little, &head, rows, unit.as_slice())
 }
 
@@ -94,20 +116,27 @@ fn three_rows_in_little(rt: HostRuntime) -> Result<(), Fail> {
     assert_program(&rt, rt.alloc(), &[], THREE_ROWS, &three_rows())
 }
 
+/// Asserts the same of a unit of so many bytes that these words spell.
+fn assert_spelled(
+    rt: &impl Abort,
+    alloc: Global,
+    order: Order,
+    head: &Header,
+    rows: &[Row],
+    spelled: (&str, usize),
+) -> Result<(), Fail> {
+    let (words, len) = spelled;
+    let unit = bytes(alloc, words)?;
+    assert!(rt; unit.len() == len);
+    assert_unit(rt, alloc, order, head, rows, unit.as_slice())
+}
+
 #[test]
 fn three_rows_in_big(rt: HostRuntime) -> Result<(), Fail> {
     let alloc = rt.alloc();
-    let head = plain(alloc)?;
-    let unit = bytes(alloc, BIG_THREE_ROWS)?;
-    assert_eq!(rt; unit.len(), 52);
-    assert_unit(
-        &rt,
-        alloc,
-        Order::Big,
-        &head,
-        &three_rows(),
-        unit.as_slice(),
-    )
+    let head = plain(&rt, alloc)?;
+    let unit = (BIG_THREE_ROWS, 52);
+    assert_spelled(&rt, alloc, Order::Big, &head, &three_rows(), unit)
 }
 
 /// Three operations fill an instruction of 16 bytes.
@@ -187,14 +216,26 @@ fn built(alloc: Global) -> Result<Header, Fail> {
         form: Form::Data16,
     };
     let md5 = [0, 1, 2, 3, 4, 5, 6, 7, 8, 9, 10, 11, 12, 13, 14, 15];
-    let mut directories = Table::new(alloc, Format::Dwarf64, &[path])?;
-    directories.push_entry(&[ValueRef::Text(b"/s")])?;
-    let mut files = Table::new(alloc, Format::Dwarf64, &[path, index, sum])?;
-    files.push_entry(&[
+    let directory = [ValueRef::Text(b"/s")];
+    let file = [
         ValueRef::Text(b"a.c"),
         ValueRef::Number(0),
         ValueRef::Data16(md5),
-    ])?;
+    ];
+    let directories = table(alloc, &[path], &directory)?;
+    let files = table(alloc, &[path, index, sum], &file)?;
+    head_of(directories, files)
+}
+
+/// A table of these pairs with one entry.
+fn table(alloc: Global, pairs: &[Pair], values: &[ValueRef<'_>]) -> Result<Table, BuildFault> {
+    let mut table = Table::new(alloc, Format::Dwarf64, pairs)?;
+    table.push_entry(values)?;
+    Ok(table)
+}
+
+/// The header of the 64-bit format with these tables.
+fn head_of(directories: Table, files: Table) -> Result<Header, Fail> {
     match Header::new(params(Format::Dwarf64), directories, files) {
         Ok(header) => Ok(header),
         Err(_) => Err("a header".into()),
@@ -204,8 +245,7 @@ fn built(alloc: Global) -> Result<Header, Fail> {
 #[test]
 fn built_header(rt: HostRuntime) -> Result<(), Fail> {
     let alloc = rt.alloc();
-    let unit = bytes(alloc, DWARF64_WITH_MD5)?;
-    assert_eq!(rt; unit.len(), 78);
     let head = built(alloc)?;
-    assert_unit(&rt, alloc, Order::Little, &head, &[], unit.as_slice())
+    let unit = (DWARF64_WITH_MD5, 78);
+    assert_spelled(&rt, alloc, Order::Little, &head, &[], unit)
 }
