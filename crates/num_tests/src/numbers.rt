@@ -294,7 +294,7 @@ fn short_unsigned_spellings(rt: HostRuntime) {
     }
 }
 
-/// The examples of figure 7.8 of section 7.6, and spellings of three bytes by Python's integers, with a byte after each.
+/// The examples of figure 7.8 of section 7.6, and spellings of three bytes by Python's integers, a byte after each.
 #[test]
 fn short_signed_spellings(rt: HostRuntime) {
     let rows: [(i64, &[u8]); 12] = [
