@@ -1,6 +1,7 @@
 //! Compressed sections. The streams are what zlib 1.2.13 makes at level 9.
 use crate::image::{
-    BIG_32, Form, LITTLE_64, NewSection, assert_found, image, object_file, put_all, section,
+    BIG_32, Case, Form, LINE, LITTLE_64, NewSection, PROGBITS, assert_each_found, image,
+    object_file, put_all,
 };
 use crate::reads::{Habit, assert_each_read_fails, read_through, refusals};
 use dl_file::Wanted;
@@ -9,7 +10,7 @@ use std::process::Abort;
 use std::test::Fail;
 
 /// A stream that inflates to `the line section`.
-const LINE: &[u8] =
+const LINE_STREAM: &[u8] =
     b"\x78\xda\x2b\xc9\x48\x55\xc8\xc9\xcc\x4b\x55\x28\x4e\x4d\x2e\xc9\xcc\xcf\x03\x00\x32\xc3\x06\x1f";
 
 /// The same without its last two bytes.
@@ -39,6 +40,15 @@ enum Header {
     Zdebug,
 }
 
+/// Appends the compression header of a file in this form.
+fn put_flagged(bytes: &mut Vec<u8>, form: Form, size: u64) -> Result<(), AllocError> {
+    if form.wide {
+        put_all(bytes, form, &[(4, 1), (4, 0), (8, size), (8, 1)])
+    } else {
+        put_all(bytes, form, &[(4, 1), (4, size), (4, 1)])
+    }
+}
+
 /// Appends the header of a section that says that it has `size` bytes, in a file in this form.
 fn put_header(
     bytes: &mut Vec<u8>,
@@ -47,10 +57,7 @@ fn put_header(
     size: u64,
 ) -> Result<(), AllocError> {
     match header {
-        Header::Flagged if form.wide => {
-            put_all(bytes, form, &[(4, 1), (4, 0), (8, size), (8, 1)])
-        }
-        Header::Flagged => put_all(bytes, form, &[(4, 1), (4, size), (4, 1)]),
+        Header::Flagged => put_flagged(bytes, form, size),
         Header::Zdebug => {
             bytes.extend_from_slice(b"ZLIB")?;
             bytes.extend_from_slice(&size.to_be_bytes())
@@ -72,23 +79,23 @@ fn contents(
     Ok(bytes)
 }
 
-/// A section with these bytes, and the flag of sections with a compression header.
-fn flagged<'a>(name: &'a str, bytes: &'a [u8]) -> NewSection<'a> {
-    NewSection {
-        flags: 0x800,
-        bytes,
-        ..section(name, "")
-    }
-}
+/// A line section with the flag of sections with a compression header.
+const FLAGGED: NewSection<'_> = NewSection {
+    name: ".debug_line",
+    flags: 0x800,
+    ..PROGBITS
+};
+
+const ZDEBUG: NewSection<'_> = NewSection {
+    name: ".zdebug_line",
+    ..PROGBITS
+};
 
 /// A line section with these bytes.
 fn line_section<'a>(header: Header, bytes: &'a [u8]) -> NewSection<'a> {
     match header {
-        Header::Flagged => flagged(".debug_line", bytes),
-        Header::Zdebug => NewSection {
-            bytes,
-            ..section(".zdebug_line", "")
-        },
+        Header::Flagged => NewSection { bytes, ..FLAGGED },
+        Header::Zdebug => NewSection { bytes, ..ZDEBUG },
     }
 }
 
@@ -117,27 +124,34 @@ fn read_line(
     read_through(alloc, bytes.as_slice(), habit)
 }
 
-/// A line section of one stream, and what is read of it.
-#[derive(Clone, Copy)]
-struct Case {
-    form: Form,
-    header: Header,
-    size: u64,
-    stream: &'static [u8],
-    want: &'static str,
+/// The form of a file, the header, size and stream of its line section, and what is read of it.
+type Stream<'a> = (Form, Header, u64, &'a [u8], &'a str);
+
+/// Asserts what is read of a file with this habit.
+fn assert_line(
+    rt: &impl Abort,
+    alloc: Global,
+    stream: &Stream<'_>,
+    habit: Habit,
+) -> Result<(), Fail> {
+    let (form, header, size, stream, want) = *stream;
+    let text = read_line(alloc, form, header, size, stream, habit)?;
+    assert_eq!(rt;
+        text.as_str(),
+        want,
+        "{} {} {header:?} {size}",
+        form.wide,
+        form.big
+    );
+    Ok(())
 }
 
-/// Asserts what is read of it.
-fn assert_line(rt: &impl Abort, alloc: Global, case: Case, habit: Habit) -> Result<(), Fail> {
-    let Case {
-        form,
-        header,
-        size,
-        stream,
-        want,
-    } = case;
-    let text = read_line(alloc, form, header, size, stream, habit)?;
-    assert_eq!(rt; text.as_str(), want, "{form:?} {header:?} {size}");
+/// Asserts what is read of files one byte a read, and in reads that aren't short.
+fn assert_each_line(rt: &impl Abort, alloc: Global, streams: &[Stream<'_>]) -> Result<(), Fail> {
+    for stream in streams {
+        assert_line(rt, alloc, stream, Habit::Short)?;
+        assert_line(rt, alloc, stream, Habit::Interrupted(0))?;
+    }
     Ok(())
 }
 
@@ -151,103 +165,131 @@ const BIG_64: Form = Form {
     ..LITTLE_64
 };
 
+const MORE_AFTER: &[u8] = b"\x78\xda\xcb\xc9\xcc\x4b\x05\x00\x04\x30\x01\xa9more";
+
+const STREAMS: &[Stream<'_>] = &[
+    (
+        LITTLE_64,
+        Header::Flagged,
+        16,
+        LINE_STREAM,
+        "the line section",
+    ),
+    (BIG_64, Header::Flagged, 16, LINE_STREAM, "the line section"),
+    (
+        LITTLE_32,
+        Header::Flagged,
+        16,
+        LINE_STREAM,
+        "the line section",
+    ),
+    (BIG_32, Header::Flagged, 16, LINE_STREAM, "the line section"),
+    (
+        LITTLE_64,
+        Header::Zdebug,
+        16,
+        LINE_STREAM,
+        "the line section",
+    ),
+    (BIG_32, Header::Zdebug, 16, LINE_STREAM, "the line section"),
+    (LITTLE_64, Header::Flagged, 0, EMPTY, ""),
+    (LITTLE_64, Header::Zdebug, 4, SHORT, "line"),
+    (LITTLE_64, Header::Flagged, 4, MORE_AFTER, "line"),
+];
+
 /// Each class and order, with either header: the section.
 #[test]
 fn streams(rt: HostRuntime) -> Result<(), Fail> {
-    let more_after = b"\x78\xda\xcb\xc9\xcc\x4b\x05\x00\x04\x30\x01\xa9more".as_slice();
-    for (form, header, size, stream, want) in [
-        (LITTLE_64, Header::Flagged, 16, LINE, "the line section"),
-        (BIG_64, Header::Flagged, 16, LINE, "the line section"),
-        (LITTLE_32, Header::Flagged, 16, LINE, "the line section"),
-        (BIG_32, Header::Flagged, 16, LINE, "the line section"),
-        (LITTLE_64, Header::Zdebug, 16, LINE, "the line section"),
-        (BIG_32, Header::Zdebug, 16, LINE, "the line section"),
-        (LITTLE_64, Header::Flagged, 0, EMPTY, ""),
-        (LITTLE_64, Header::Zdebug, 4, SHORT, "line"),
-        (LITTLE_64, Header::Flagged, 4, more_after, "line"),
-    ] {
-        let case = Case {
-            form,
-            header,
-            size,
-            stream,
-            want,
-        };
-        assert_line(&rt, rt.alloc(), case, Habit::Short)?;
-        assert_line(&rt, rt.alloc(), case, Habit::Interrupted(0))?;
-    }
-    Ok(())
+    assert_each_line(&rt, rt.alloc(), STREAMS)
 }
+
+const WRONG_HEADER: &[u8] = b"\x78\xdb\x03\x00\x00\x00\x00\x01";
+
+const WRONG_CHECK: &[u8] = b"\x78\xda\x03\x00\x00\x00\x00\x02";
+
+const WRONG_KIND: &[u8] = b"\x78\xda\x07\x00\x00\x00\x00\x01";
+
+const DAMAGED_STREAMS: &[Stream<'_>] = &[
+    (
+        LITTLE_64,
+        Header::Flagged,
+        15,
+        LINE_STREAM,
+        "InvalidData at 0x8",
+    ),
+    (
+        LITTLE_64,
+        Header::Flagged,
+        17,
+        LINE_STREAM,
+        "InvalidData at 0x8",
+    ),
+    (
+        BIG_32,
+        Header::Flagged,
+        15,
+        LINE_STREAM,
+        "InvalidData at 0x4",
+    ),
+    (
+        BIG_32,
+        Header::Flagged,
+        17,
+        LINE_STREAM,
+        "InvalidData at 0x4",
+    ),
+    (
+        BIG_32,
+        Header::Zdebug,
+        15,
+        LINE_STREAM,
+        "InvalidData at 0x4",
+    ),
+    (LITTLE_64, Header::Flagged, 1, EMPTY, "InvalidData at 0x8"),
+    (LITTLE_64, Header::Flagged, 16, CUT, "InvalidData at 0x2e"),
+    (BIG_32, Header::Flagged, 16, CUT, "InvalidData at 0x22"),
+    (LITTLE_64, Header::Flagged, 9, b"", "InvalidData at 0x18"),
+    (
+        LITTLE_64,
+        Header::Flagged,
+        0,
+        WRONG_HEADER,
+        "InvalidData at 0x19",
+    ),
+    (
+        BIG_32,
+        Header::Flagged,
+        0,
+        WRONG_HEADER,
+        "InvalidData at 0xd",
+    ),
+    (
+        LITTLE_64,
+        Header::Flagged,
+        0,
+        WRONG_CHECK,
+        "InvalidData at 0x1f",
+    ),
+    (
+        LITTLE_64,
+        Header::Zdebug,
+        0,
+        WRONG_CHECK,
+        "InvalidData at 0x13",
+    ),
+    (
+        LITTLE_64,
+        Header::Zdebug,
+        0,
+        WRONG_KIND,
+        "InvalidData at 0xe",
+    ),
+];
 
 /// Where a stream is no stream of its section.
 #[test]
 fn damaged_streams(rt: HostRuntime) -> Result<(), Fail> {
-    let wrong_header = b"\x78\xdb\x03\x00\x00\x00\x00\x01".as_slice();
-    let wrong_check = b"\x78\xda\x03\x00\x00\x00\x00\x02".as_slice();
-    let wrong_kind = b"\x78\xda\x07\x00\x00\x00\x00\x01".as_slice();
-    for (form, header, size, stream, want) in [
-        (LITTLE_64, Header::Flagged, 15, LINE, "InvalidData at 0x8"),
-        (LITTLE_64, Header::Flagged, 17, LINE, "InvalidData at 0x8"),
-        (BIG_32, Header::Flagged, 15, LINE, "InvalidData at 0x4"),
-        (BIG_32, Header::Flagged, 17, LINE, "InvalidData at 0x4"),
-        (BIG_32, Header::Zdebug, 15, LINE, "InvalidData at 0x4"),
-        (LITTLE_64, Header::Flagged, 1, EMPTY, "InvalidData at 0x8"),
-        (LITTLE_64, Header::Flagged, 16, CUT, "InvalidData at 0x2e"),
-        (BIG_32, Header::Flagged, 16, CUT, "InvalidData at 0x22"),
-        (
-            LITTLE_64,
-            Header::Flagged,
-            9,
-            b"".as_slice(),
-            "InvalidData at 0x18",
-        ),
-        (
-            LITTLE_64,
-            Header::Flagged,
-            0,
-            wrong_header,
-            "InvalidData at 0x19",
-        ),
-        (
-            BIG_32,
-            Header::Flagged,
-            0,
-            wrong_header,
-            "InvalidData at 0xd",
-        ),
-        (
-            LITTLE_64,
-            Header::Flagged,
-            0,
-            wrong_check,
-            "InvalidData at 0x1f",
-        ),
-        (
-            LITTLE_64,
-            Header::Zdebug,
-            0,
-            wrong_check,
-            "InvalidData at 0x13",
-        ),
-        (
-            LITTLE_64,
-            Header::Zdebug,
-            0,
-            wrong_kind,
-            "InvalidData at 0xe",
-        ),
-    ] {
-        let case = Case {
-            form,
-            header,
-            size,
-            stream,
-            want,
-        };
-        assert_line(&rt, rt.alloc(), case, Habit::Short)?;
-        assert_line(&rt, rt.alloc(), case, Habit::Interrupted(0))?;
-    }
-    Ok(())
+    assert_each_line(&rt, rt.alloc(), DAMAGED_STREAMS)
 }
 
 /// Appends zero bytes.
@@ -269,16 +311,9 @@ fn long_stream(alloc: Global) -> Result<Vec<u8>, AllocError> {
 /// The line section that it is the stream of.
 fn long_section(alloc: Global) -> Result<String, Fail> {
     let stream = long_stream(alloc)?;
-    let form = LITTLE_64;
     let stream = stream.as_slice();
-    read_line(
-        alloc,
-        form,
-        Header::Flagged,
-        100_000,
-        stream,
-        Habit::Interrupted(0),
-    )
+    let habit = Habit::Interrupted(0);
+    read_line(alloc, LITTLE_64, Header::Flagged, 100_000, stream, habit)
 }
 
 /// How many bytes a text has, and whether each of them is the letter a.
@@ -294,7 +329,7 @@ fn a_long_section(rt: HostRuntime) -> Result<(), Fail> {
     Ok(())
 }
 
-/// The header of a 64-bit file of little-endian order for 16 bytes, and `LINE`.
+/// The header of a 64-bit file of little-endian order for 16 bytes, and `LINE_STREAM`.
 const FLAGGED_LINE: &[u8] = b"\x01\0\0\0\0\0\0\0\x10\0\0\0\0\0\0\0\x01\0\0\0\0\0\0\0\
     \x78\xda\x2b\xc9\x48\x55\xc8\xc9\xcc\x4b\x55\x28\x4e\x4d\x2e\xc9\xcc\xcf\x03\x00\x32\xc3\x06\x1f";
 
@@ -305,23 +340,44 @@ const FLAGGED_DAMAGE: &[u8] = b"\x01\0\0\0\0\0\0\0\x04\0\0\0\0\0\0\0\x01\0\0\0\0
 const ZDEBUG_SHORT: &[u8] =
     b"ZLIB\0\0\0\0\0\0\0\x04\x78\xda\xcb\xc9\xcc\x4b\x05\x00\x04\x30\x01\xa9";
 
+const LINE_STR: NewSection<'_> = NewSection {
+    name: ".debug_line_str",
+    bytes: FLAGGED_LINE,
+    ..FLAGGED
+};
+
+const DAMAGED_STR: NewSection<'_> = NewSection {
+    name: ".debug_str",
+    bytes: FLAGGED_DAMAGE,
+    ..FLAGGED
+};
+
+const ZDEBUG_STR: NewSection<'_> = NewSection {
+    name: ".zdebug_str",
+    bytes: ZDEBUG_SHORT,
+    ..PROGBITS
+};
+
+const STRINGS: &[Case<'_>] = &[(
+    "strings",
+    &[LINE, LINE_STR, ZDEBUG_STR],
+    "little line the line section line",
+)];
+
+const UNWANTED_STRINGS: &[Case<'_>] = &[(
+    "strings that aren't wanted",
+    &[LINE, DAMAGED_STR],
+    "little line - -",
+)];
+
 /// The string sections are inflated too, and sections that no one asked for are not looked at.
 #[test]
 fn string_sections(rt: HostRuntime) -> Result<(), Fail> {
     let alloc = rt.alloc();
-    let line = section(".debug_line", "line");
-    let short = NewSection {
-        bytes: ZDEBUG_SHORT,
-        ..section(".zdebug_str", "")
-    };
-    let sections = [line, flagged(".debug_line_str", FLAGGED_LINE), short];
-    let want = "little line the line section line";
-    let wanted = Wanted::LineAndStringSections;
-    assert_found(&rt, alloc, LITTLE_64, &sections, wanted, want, "strings")?;
-    let sections = [line, flagged(".debug_str", FLAGGED_DAMAGE)];
-    let want = "little line - -";
-    let wanted = Wanted::LineSection;
-    assert_found(&rt, alloc, LITTLE_64, &sections, wanted, want, "not wanted")
+    let both = Wanted::LineAndStringSections;
+    let line = Wanted::LineSection;
+    assert_each_found(&rt, alloc, LITTLE_64, both, STRINGS)?;
+    assert_each_found(&rt, alloc, LITTLE_64, line, UNWANTED_STRINGS)
 }
 
 /// An object file whose compressed line section is this one and is relocated by an entry: at 2, a 32-bit number, of
@@ -329,7 +385,7 @@ fn string_sections(rt: HostRuntime) -> Result<(), Fail> {
 fn object(alloc: Global, line: &[u8]) -> Result<Vec<u8>, AllocError> {
     object_file(
         alloc,
-        flagged(".debug_line", line),
+        line_section(Header::Flagged, line),
         b"\x02\0\0\0\0\0\0\0\x0a\0\0\0\x01\0\0\0\0\0\0\0\0\0\0\0",
         b"no symbol: 24 bytes long\0\0\0\0\0\0\0\0rela\0\0\0\0\0\0\0\0\0\0\0\0",
     )
@@ -360,28 +416,34 @@ fn assert_relocated(
     Ok(())
 }
 
+const RELOCATED: &[(u64, &[u8], &str)] = &[
+    (16, LINE_STREAM, "threlane section"),
+    (
+        17,
+        LINE_STREAM,
+        "section .debug_line: damaged zlib stream at 0x8",
+    ),
+    (16, CUT, "section .debug_line: damaged zlib stream at 0x2e"),
+    (
+        0,
+        EMPTY,
+        "section .debug_line: relocation outside the section",
+    ),
+    (0x1_0000_0001, EMPTY, "out of memory"),
+];
+
 /// Relocations are applied to what the line section inflates to, and its faults are told before theirs.
 #[test]
 fn relocated_sections(rt: HostRuntime) -> Result<(), Fail> {
-    for (size, stream, want) in [
-        (16, LINE, "threlane section"),
-        (17, LINE, "section .debug_line: damaged zlib stream at 0x8"),
-        (16, CUT, "section .debug_line: damaged zlib stream at 0x2e"),
-        (
-            0,
-            EMPTY,
-            "section .debug_line: relocation outside the section",
-        ),
-        (0x1_0000_0001, EMPTY, "out of memory"),
-    ] {
-        assert_relocated(&rt, rt.alloc(), size, stream, want)?;
+    for (size, stream, want) in RELOCATED {
+        assert_relocated(&rt, rt.alloc(), *size, stream, want)?;
     }
     Ok(())
 }
 
 /// A file whose compressed line section is `the line section`.
 fn line_file(alloc: Global) -> Result<Vec<u8>, AllocError> {
-    with_line(alloc, LITTLE_64, Header::Flagged, 16, LINE)
+    with_line(alloc, LITTLE_64, Header::Flagged, 16, LINE_STREAM)
 }
 
 /// Each read fails in turn, or the file ends before it: a read later on gives no part of a section for all of it.

@@ -1,18 +1,12 @@
 //! The faults of a file, with their texts.
-use crate::image::{BIG_32, Form, LITTLE_64, NewSection, assert_found, image, section, told};
+use crate::image::{
+    BIG_32, Case, DWO, Form, LINE, LINE_STR, LITTLE_64, NewSection, OBJECT, PROGBITS, STR, TEXT,
+    assert_each_found, image, told,
+};
 use dl_file::Wanted;
 use std::alloc::{AllocError, Global};
 use std::process::Abort;
 use std::test::Fail;
-
-/// A section whose flags say that it is compressed, by this method. The file is 64-bit.
-fn compressed<'a>(name: &'a str, bytes: &'a [u8]) -> NewSection<'a> {
-    NewSection {
-        flags: 0x800,
-        bytes,
-        ..section(name, "")
-    }
-}
 
 /// Compression headers: ch_type, four bytes more, ch_size, ch_addralign.
 const ZLIB: &[u8] = &[
@@ -27,44 +21,87 @@ const OTHER: &[u8] = &[
     0, 0, 1, 0, 0, 0, 0, 0, 9, 0, 0, 0, 0, 0, 0, 0, 1, 0, 0, 0, 0, 0, 0, 0,
 ];
 
+/// A section whose flags say that it is compressed. The file is 64-bit.
+const COMPRESSED: NewSection<'_> = NewSection {
+    flags: 0x800,
+    ..PROGBITS
+};
+
+const ZSTD_STR: NewSection<'_> = NewSection {
+    name: ".debug_str",
+    bytes: ZSTD,
+    ..COMPRESSED
+};
+
+const ZLIB_STR: NewSection<'_> = NewSection {
+    name: ".debug_str",
+    bytes: ZLIB,
+    ..COMPRESSED
+};
+
+const OTHER_LINE_STR: NewSection<'_> = NewSection {
+    name: ".debug_line_str",
+    bytes: OTHER,
+    ..COMPRESSED
+};
+
+const ZSTD_LINE: NewSection<'_> = NewSection {
+    name: ".debug_line",
+    bytes: ZSTD,
+    ..COMPRESSED
+};
+
+const SHORT_LINE: NewSection<'_> = NewSection {
+    name: ".debug_line",
+    bytes: b"short",
+    ..COMPRESSED
+};
+
+const SHORT_ZDEBUG_LINE: NewSection<'_> = NewSection {
+    name: ".zdebug_line",
+    bytes: b"ZLIB\0\0\0\0\0\0\0",
+    ..PROGBITS
+};
+
+const OTHER_ZDEBUG_STR: NewSection<'_> = NewSection {
+    name: ".zdebug_str",
+    bytes: b"zlib\0\0\0\0\0\0\0\0",
+    ..PROGBITS
+};
+
+const COMPRESSED_SECTIONS: &[Case<'_>] = &[
+    (
+        "zstd",
+        &[LINE, ZSTD_STR],
+        "section .debug_str is compressed with zstd; run objcopy --decompress-debug-sections",
+    ),
+    (
+        "another method",
+        &[LINE, OTHER_LINE_STR],
+        "section .debug_line_str is compressed by method 65536; run objcopy --decompress-debug-sections",
+    ),
+    (
+        "a short header of .zdebug_line",
+        &[SHORT_ZDEBUG_LINE, LINE_STR],
+        "damaged ELF file: compression header of section .zdebug_line",
+    ),
+    (
+        "not ZLIB",
+        &[LINE, OTHER_ZDEBUG_STR],
+        "damaged ELF file: compression header of section .zdebug_str",
+    ),
+    (
+        "a short header",
+        &[SHORT_LINE, LINE],
+        "damaged ELF file: compression header of section .debug_line",
+    ),
+    ("of no split file", &[DWO, ZLIB_STR], "little dwo - -"),
+];
+
 #[test]
 fn compressed_sections(rt: HostRuntime) -> Result<(), Fail> {
-    let alloc = rt.alloc();
-    let line = section(".debug_line", "line");
-    let line_str = section(".debug_line_str", "line_str");
-    for (sections, want) in [
-        (
-            [line, compressed(".debug_str", ZSTD)],
-            "section .debug_str is compressed with zstd; run objcopy --decompress-debug-sections",
-        ),
-        (
-            [line, compressed(".debug_line_str", OTHER)],
-            "section .debug_line_str is compressed by method 65536; run objcopy --decompress-debug-sections",
-        ),
-        (
-            [section(".zdebug_line", "ZLIB\0\0\0\0\0\0\0"), line_str],
-            "damaged ELF file: compression header of section .zdebug_line",
-        ),
-        (
-            [line, section(".zdebug_str", "zlib\0\0\0\0\0\0\0\0")],
-            "damaged ELF file: compression header of section .zdebug_str",
-        ),
-        (
-            [compressed(".debug_line", b"short"), line],
-            "damaged ELF file: compression header of section .debug_line",
-        ),
-        (
-            [
-                section(".debug_line.dwo", "dwo"),
-                compressed(".debug_str", ZLIB),
-            ],
-            "little dwo - -",
-        ),
-    ] {
-        let wanted = Wanted::LineAndStringSections;
-        assert_found(&rt, alloc, LITTLE_64, &sections, wanted, want, "compressed")?;
-    }
-    Ok(())
+    let both = Wanted::LineAndStringSections;
+    assert_each_found(&rt, rt.alloc(), LITTLE_64, both, COMPRESSED_SECTIONS)
 }
 
 /// Notes: a name of four bytes, a description, the type 3 of a build ID.
@@ -77,32 +114,58 @@ const LONG_NOTE: &[u8] = b"\x04\0\0\0\x05\0\0\0\x03\0\0\0GNU\0\xab\x01\x2c";
 
 const OTHER_TYPE: &[u8] = b"\x04\0\0\0\x04\0\0\0\x01\0\0\0GNU\0\xab\x01\x2c\x00";
 
+const NOTE: NewSection<'_> = NewSection {
+    name: ".note.gnu.build-id",
+    section_type: 7,
+    bytes: BUILD_ID,
+    ..PROGBITS
+};
+
+const SECOND_NOTE: NewSection<'_> = NewSection {
+    bytes: OTHER_NOTE_FIRST,
+    ..NOTE
+};
+
+const CUT_NOTE: NewSection<'_> = NewSection {
+    bytes: LONG_NOTE,
+    ..NOTE
+};
+
+const OTHER_NOTE: NewSection<'_> = NewSection {
+    bytes: OTHER_TYPE,
+    ..NOTE
+};
+
+const NO_NOTE: NewSection<'_> = NewSection { bytes: b"", ..NOTE };
+
+const NO_LINE_SECTION: &[Case<'_>] = &[
+    (
+        "a note",
+        &[TEXT, NOTE],
+        "no section .debug_line (its debug information may be in .build-id/ab/012cff00.debug)",
+    ),
+    (
+        "another note first",
+        &[TEXT, SECOND_NOTE],
+        "no section .debug_line (its debug information may be in .build-id/ab/10.debug)",
+    ),
+    (
+        "a note past its section",
+        &[TEXT, CUT_NOTE],
+        "no section .debug_line",
+    ),
+    (
+        "another type",
+        &[TEXT, OTHER_NOTE],
+        "no section .debug_line",
+    ),
+    ("no note", &[TEXT, NO_NOTE], "no section .debug_line"),
+];
+
 #[test]
 fn no_line_section(rt: HostRuntime) -> Result<(), Fail> {
-    let alloc = rt.alloc();
-    for (notes, want) in [
-        (
-            BUILD_ID,
-            "no section .debug_line (its debug information may be in .build-id/ab/012cff00.debug)",
-        ),
-        (
-            OTHER_NOTE_FIRST,
-            "no section .debug_line (its debug information may be in .build-id/ab/10.debug)",
-        ),
-        (LONG_NOTE, "no section .debug_line"),
-        (OTHER_TYPE, "no section .debug_line"),
-        (b"".as_slice(), "no section .debug_line"),
-    ] {
-        let note = NewSection {
-            section_type: 7,
-            bytes: notes,
-            ..section(".note.gnu.build-id", "")
-        };
-        let sections = [section(".text", "code"), note];
-        let wanted = Wanted::LineSection;
-        assert_found(&rt, alloc, LITTLE_64, &sections, wanted, want, "a note")?;
-    }
-    Ok(())
+    let line = Wanted::LineSection;
+    assert_each_found(&rt, rt.alloc(), LITTLE_64, line, NO_LINE_SECTION)
 }
 
 /// Puts one byte into a file.
@@ -110,17 +173,6 @@ fn with_byte(bytes: &mut Vec<u8>, at: usize, byte: u8) {
     if at < bytes.len() {
         bytes[at] = byte;
     }
-}
-
-/// Where the section headers of a 64-bit file begin, of which there are `count`.
-fn table_of(
-    alloc: Global,
-    form: Form,
-    sections: &[NewSection<'_>],
-    count: usize,
-) -> Result<usize, AllocError> {
-    let bytes = image(alloc, form, sections)?;
-    Ok(bytes.len().saturating_sub(count.saturating_mul(64)))
 }
 
 /// What is found in a file of these sections with another byte at one place.
@@ -152,82 +204,99 @@ fn assert_found_with(
     Ok(())
 }
 
-/// One byte of a 64-bit file of little-endian order changed, in the file header.
-#[test]
-fn damaged_headers(rt: HostRuntime) -> Result<(), Fail> {
-    let alloc = rt.alloc();
-    let sections = [section(".debug_line", "line"), section(".debug_str", "str")];
-    for (what, at, byte, want) in [
-        ("magic", 3, b'f', "not an ELF file"),
-        ("class", 4, 3, "not an ELF file"),
-        ("order", 5, 0, "not an ELF file"),
-        ("version", 6, 2, "not an ELF file"),
-        (
-            "e_shentsize",
-            58,
-            63,
-            "damaged ELF file: section header size",
-        ),
-        ("e_shoff", 41, 1, "damaged ELF file: section headers"),
-        ("e_shnum", 60, 5, "damaged ELF file: section headers"),
-        (
-            "e_shnum, large",
-            61,
-            255,
-            "damaged ELF file: section headers",
-        ),
-        ("e_shstrndx", 62, 4, "damaged ELF file: section name table"),
-        ("no names", 62, 0, "no section .debug_line"),
-    ] {
-        assert_found_with(&rt, alloc, LITTLE_64, &sections, at, byte, want, what)?;
+/// What is changed, where, the byte that stands there, and what is found.
+type Change<'a> = (&'a str, usize, u8, &'a str);
+
+/// Asserts what is found where one byte of a file is changed.
+fn assert_each_change(
+    rt: &impl Abort,
+    alloc: Global,
+    form: Form,
+    sections: &[NewSection<'_>],
+    changes: &[Change<'_>],
+) -> Result<(), Fail> {
+    for (what, at, byte, want) in changes {
+        assert_found_with(rt, alloc, form, sections, *at, *byte, want, what)?;
     }
     Ok(())
 }
+
+const FILE_HEADER: &[Change<'_>] = &[
+    ("magic", 3, b'f', "not an ELF file"),
+    ("class", 4, 3, "not an ELF file"),
+    ("order", 5, 0, "not an ELF file"),
+    ("version", 6, 2, "not an ELF file"),
+    (
+        "e_shentsize",
+        58,
+        63,
+        "damaged ELF file: section header size",
+    ),
+    ("e_shoff", 41, 1, "damaged ELF file: section headers"),
+    ("e_shnum", 60, 5, "damaged ELF file: section headers"),
+    (
+        "e_shnum, large",
+        61,
+        255,
+        "damaged ELF file: section headers",
+    ),
+    ("e_shstrndx", 62, 4, "damaged ELF file: section name table"),
+    ("no names", 62, 0, "no section .debug_line"),
+];
+
+/// One byte of a 64-bit file of little-endian order changed, in the file header.
+#[test]
+fn damaged_headers(rt: HostRuntime) -> Result<(), Fail> {
+    assert_each_change(&rt, rt.alloc(), LITTLE_64, &[LINE, STR], FILE_HEADER)
+}
+
+/// Where the section headers begin, after a header of 64 bytes, sections of 4 and 3, and a name table of 24.
+const TABLE: usize = 95;
+
+const SECTION_HEADERS: &[Change<'_>] = &[
+    (
+        "name table",
+        TABLE + 3 * 64 + 34,
+        1,
+        "damaged ELF file: section name table",
+    ),
+    (
+        "name table, far off",
+        TABLE + 3 * 64 + 31,
+        255,
+        "damaged ELF file: section name table",
+    ),
+    (
+        "name past the table",
+        TABLE + 65,
+        1,
+        "no section .debug_line",
+    ),
+    (
+        "size of the line section",
+        TABLE + 64 + 34,
+        1,
+        "damaged ELF file: section .debug_line",
+    ),
+    (
+        "place of the strings",
+        TABLE + 128 + 31,
+        255,
+        "damaged ELF file: section .debug_str",
+    ),
+    ("type of the strings", TABLE + 128 + 4, 8, "little line - -"),
+    ("the size of section 0", TABLE + 34, 1, "little line - str"),
+];
 
 /// The same in the section headers.
 #[test]
 fn damaged_section_headers(rt: HostRuntime) -> Result<(), Fail> {
-    let alloc = rt.alloc();
-    let sections = [section(".debug_line", "line"), section(".debug_str", "str")];
-    let table = table_of(alloc, LITTLE_64, &sections, 4)?;
-    for (what, at, byte, want) in [
-        (
-            "name table",
-            3 * 64 + 34,
-            1,
-            "damaged ELF file: section name table",
-        ),
-        (
-            "name table, far off",
-            3 * 64 + 31,
-            255,
-            "damaged ELF file: section name table",
-        ),
-        ("name past the table", 65, 1, "no section .debug_line"),
-        (
-            "size of the line section",
-            64 + 34,
-            1,
-            "damaged ELF file: section .debug_line",
-        ),
-        (
-            "place of the strings",
-            128 + 31,
-            255,
-            "damaged ELF file: section .debug_str",
-        ),
-        ("type of the strings", 128 + 4, 8, "little line - -"),
-        ("the size of section 0", 34, 1, "little line - str"),
-    ] {
-        let at = table.saturating_add(at);
-        assert_found_with(&rt, alloc, LITTLE_64, &sections, at, byte, want, what)?;
-    }
-    Ok(())
+    assert_each_change(&rt, rt.alloc(), LITTLE_64, &[LINE, STR], SECTION_HEADERS)
 }
 
 /// A file with a line section alone.
 fn line_alone(alloc: Global, form: Form) -> Result<Vec<u8>, AllocError> {
-    image(alloc, form, &[section(".debug_line", "line")])
+    image(alloc, form, &[LINE])
 }
 
 /// How many bytes it has.
@@ -299,46 +368,38 @@ fn no_section_headers(rt: HostRuntime) -> Result<(), Fail> {
     Ok(())
 }
 
+const RELOCATIONS: NewSection<'_> = NewSection {
+    name: ".rela.debug_line",
+    section_type: 4,
+    info: 1,
+    ..PROGBITS
+};
+
+/// The section headers begin after a header of 64 bytes, sections of 24 and 24, and a name table of 41.
+const FIRST_FAULTS: &[Change<'_>] = &[
+    (
+        "compressed before relocations, the line section first",
+        0,
+        0x7f,
+        "section .debug_line is compressed with zstd; run objcopy --decompress-debug-sections",
+    ),
+    (
+        "damage of the strings before what is compressed",
+        153 + 128 + 34,
+        1,
+        "damaged ELF file: section .debug_str",
+    ),
+    (
+        "the headers before the sections",
+        60,
+        255,
+        "damaged ELF file: section headers",
+    ),
+];
+
 /// What is told where there is more than one fault.
 #[test]
 fn first_faults(rt: HostRuntime) -> Result<(), Fail> {
-    let alloc = rt.alloc();
-    let form = Form {
-        file_type: 1,
-        ..LITTLE_64
-    };
-    let relocations = NewSection {
-        section_type: 4,
-        info: 1,
-        ..section(".rela.debug_line", "")
-    };
-    let sections = [
-        compressed(".debug_line", ZSTD),
-        compressed(".debug_str", ZLIB),
-        relocations,
-    ];
-    let table = table_of(alloc, form, &sections, 5)?;
-    for (what, at, byte, want) in [
-        (
-            "compressed before relocations, the line section first",
-            0,
-            0x7f,
-            "section .debug_line is compressed with zstd; run objcopy --decompress-debug-sections",
-        ),
-        (
-            "damage of the strings before what is compressed",
-            table.saturating_add(128 + 34),
-            1,
-            "damaged ELF file: section .debug_str",
-        ),
-        (
-            "the headers before the sections",
-            60,
-            255,
-            "damaged ELF file: section headers",
-        ),
-    ] {
-        assert_found_with(&rt, alloc, form, &sections, at, byte, want, what)?;
-    }
-    Ok(())
+    let sections = [ZSTD_LINE, ZLIB_STR, RELOCATIONS];
+    assert_each_change(&rt, rt.alloc(), OBJECT, &sections, FIRST_FAULTS)
 }

@@ -8,7 +8,7 @@ use std::process::Abort;
 use std::test::Fail;
 
 /// How a file is laid out.
-#[derive(Clone, Copy, Debug)]
+#[derive(Clone, Copy)]
 pub struct Form {
     /// 64-bit, or 32-bit.
     pub wide: bool,
@@ -42,7 +42,7 @@ pub const OBJECT: Form = Form {
 };
 
 /// A section of a file that is to be made.
-#[derive(Clone, Copy, Debug)]
+#[derive(Clone, Copy)]
 pub struct NewSection<'a> {
     pub name: &'a str,
     /// sh_type; 1 is PROGBITS.
@@ -56,18 +56,47 @@ pub struct NewSection<'a> {
     pub bytes: &'a [u8],
 }
 
-/// A section of the type PROGBITS.
-pub fn section<'a>(name: &'a str, text: &'a str) -> NewSection<'a> {
-    NewSection {
-        name,
-        section_type: 1,
-        flags: 0,
-        address: 0,
-        link: 0,
-        info: 0,
-        bytes: text.as_bytes(),
-    }
-}
+/// A section of the type PROGBITS, without a name or bytes.
+pub const PROGBITS: NewSection<'_> = NewSection {
+    name: "",
+    section_type: 1,
+    flags: 0,
+    address: 0,
+    link: 0,
+    info: 0,
+    bytes: b"",
+};
+
+pub const LINE: NewSection<'_> = NewSection {
+    name: ".debug_line",
+    bytes: b"line",
+    ..PROGBITS
+};
+
+pub const LINE_STR: NewSection<'_> = NewSection {
+    name: ".debug_line_str",
+    bytes: b"line_str",
+    ..PROGBITS
+};
+
+pub const STR: NewSection<'_> = NewSection {
+    name: ".debug_str",
+    bytes: b"str",
+    ..PROGBITS
+};
+
+/// The line section of a split file.
+pub const DWO: NewSection<'_> = NewSection {
+    name: ".debug_line.dwo",
+    bytes: b"dwo",
+    ..PROGBITS
+};
+
+pub const TEXT: NewSection<'_> = NewSection {
+    name: ".text",
+    bytes: b"code",
+    ..PROGBITS
+};
 
 /// An object file of x86-64 with this line section, the entry with an addend that relocates it, and its symbol table.
 pub fn object_file(
@@ -77,16 +106,18 @@ pub fn object_file(
     symbols: &[u8],
 ) -> Result<Vec<u8>, AllocError> {
     let relocations = NewSection {
+        name: ".rela.debug_line",
         section_type: 4,
         link: 3,
         info: 1,
         bytes: entry,
-        ..section(".rela.debug_line", "")
+        ..PROGBITS
     };
     let symbols = NewSection {
+        name: ".symtab",
         section_type: 2,
         bytes: symbols,
-        ..section(".symtab", "")
+        ..PROGBITS
     };
     image(alloc, OBJECT, &[line, relocations, symbols])
 }
@@ -254,22 +285,32 @@ fn put_sections(
     Ok(())
 }
 
-/// Appends a file: the header, the sections' bytes, the name table, the section headers.
-fn put_file(
+/// Appends a file up to the name table: the header, the sections' bytes, the names.
+fn put_front(
     bytes: &mut Vec<u8>,
     form: Form,
     sections: &[NewSection<'_>],
 ) -> Result<(), AllocError> {
     let (start, _) = header_sizes(form);
     let (contents, names) = section_sizes(sections);
-    let name_table = start.wrapping_add(contents);
-    let count = count_of(form, sections);
-    put_header(bytes, form, name_table.wrapping_add(names), count)?;
+    let table = start.wrapping_add(contents).wrapping_add(names);
+    put_header(bytes, form, table, count_of(form, sections))?;
     put_contents(bytes, sections)?;
-    put_names(bytes, sections)?;
-    put_first_sections(bytes, form, count)?;
+    put_names(bytes, sections)
+}
+
+/// Appends the section headers of a file.
+fn put_table(
+    bytes: &mut Vec<u8>,
+    form: Form,
+    sections: &[NewSection<'_>],
+) -> Result<(), AllocError> {
+    let (start, _) = header_sizes(form);
+    let (contents, names) = section_sizes(sections);
+    let at = start.wrapping_add(contents);
+    put_first_sections(bytes, form, count_of(form, sections))?;
     put_sections(bytes, form, start, sections)?;
-    put_section(bytes, form, [0, 3, 0, 0, name_table, names, 0, 0])
+    put_section(bytes, form, [0, 3, 0, 0, at, names, 0, 0])
 }
 
 /// A file with these sections between those without a name and the name table.
@@ -279,8 +320,15 @@ pub fn image(
     sections: &[NewSection<'_>],
 ) -> Result<Vec<u8>, AllocError> {
     let mut bytes = Vec::new(alloc);
-    put_file(&mut bytes, form, sections)?;
+    put_front(&mut bytes, form, sections)?;
+    put_table(&mut bytes, form, sections)?;
     Ok(bytes)
+}
+
+/// Appends what a reader gives.
+fn push_all<R: Read>(text: &mut String, reader: &mut R) -> Result<(), Fail> {
+    reader.read_to_string(text)?;
+    Ok(())
 }
 
 /// Appends a space and the bytes of a section; `-` where there is no section.
@@ -288,25 +336,29 @@ fn push_section<S: ReadAt>(
     text: &mut String,
     section: &mut Option<ContentReader<'_, S>>,
 ) -> Result<(), Fail> {
-    text.push(' ')?;
     match section {
         Some(reader) => {
-            reader.read_to_string(text)?;
+            text.push(' ')?;
+            push_all(text, reader)
         }
-        None => text.push('-')?,
+        None => Ok(text.push_str(" -")?),
     }
-    Ok(())
+}
+
+/// The order of a file, and whether it is an object file.
+fn kind<S: ReadAt>(file: &LineFile<'_, S>) -> &'static str {
+    match (file.order == Order::Big, file.is_object) {
+        (false, false) => "little ",
+        (false, true) => "little object ",
+        (true, false) => "big ",
+        (true, true) => "big object ",
+    }
 }
 
 /// Appends the order, the line section and its string sections.
 fn push_file<S: ReadAt>(text: &mut String, file: &mut LineFile<'_, S>) -> Result<(), Fail> {
-    text.push_str(if file.order == Order::Big {
-        "big"
-    } else {
-        "little"
-    })?;
-    text.push_str(if file.is_object { " object " } else { " " })?;
-    file.line.read_to_string(text)?;
+    text.push_str(kind(file))?;
+    push_all(text, &mut file.line)?;
     push_section(text, &mut file.debug_line_str)?;
     push_section(text, &mut file.debug_str)
 }
@@ -356,5 +408,22 @@ pub fn assert_found(
 ) -> Result<(), Fail> {
     let text = found(alloc, form, sections, wanted)?;
     assert_eq!(rt; text.as_str(), want, "{what}");
+    Ok(())
+}
+
+/// What a case is of, the sections of a file, and what is found in it.
+pub type Case<'a> = (&'a str, &'a [NewSection<'a>], &'a str);
+
+/// Asserts what is found in files of this form.
+pub fn assert_each_found(
+    rt: &impl Abort,
+    alloc: Global,
+    form: Form,
+    wanted: Wanted,
+    cases: &[Case<'_>],
+) -> Result<(), Fail> {
+    for (what, sections, want) in cases {
+        assert_found(rt, alloc, form, sections, wanted, want, what)?;
+    }
     Ok(())
 }

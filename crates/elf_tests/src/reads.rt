@@ -1,5 +1,5 @@
 //! Sources that are short, are interrupted, fail, or end while they are read.
-use crate::image::{LITTLE_64, image, object_file, section};
+use crate::image::{LINE, LITTLE_64, NewSection, image, object_file};
 use dl_elf::{ElfFault, ReadAt};
 use dl_file::{LineReader, ReadFault, Wanted, open_line_file};
 use std::alloc::{AllocError, Global};
@@ -159,38 +159,40 @@ fn assert_read(
 
 /// A file whose line section is `the line section`.
 fn line_file(alloc: Global) -> Result<Vec<u8>, AllocError> {
-    image(
-        alloc,
-        LITTLE_64,
-        &[section(".debug_line", "the line section")],
-    )
+    let line = NewSection {
+        bytes: b"the line section",
+        ..LINE
+    };
+    image(alloc, LITTLE_64, &[line])
 }
 
-/// Asserts what is read of it.
-fn assert_line_read(rt: &impl Abort, alloc: Global, habit: Habit, want: &str) -> Result<(), Fail> {
+/// Asserts what is read of it through sources of these habits.
+fn assert_line_reads(rt: &impl Abort, alloc: Global, cases: &[(Habit, &str)]) -> Result<(), Fail> {
     let bytes = line_file(alloc)?;
-    assert_read(rt, alloc, bytes.as_slice(), habit, want)
+    for (habit, want) in cases {
+        assert_read(rt, alloc, bytes.as_slice(), *habit, want)?;
+    }
+    Ok(())
 }
+
+const HABITS: &[(Habit, &str)] = &[
+    (Habit::Short, "the line section"),
+    (Habit::Interrupted(0), "the line section"),
+    (Habit::Interrupted(1), "Interrupted Interrupted"),
+    (Habit::Interrupted(1000), "Interrupted Interrupted"),
+    (
+        Habit::Interrupted(1001),
+        "cannot read: operation interrupted",
+    ),
+    (Habit::Fails(0), "cannot read: broken pipe"),
+    (Habit::Fails(3), "cannot read: broken pipe"),
+    (Habit::Shrinks(0), "not an ELF file"),
+    (Habit::Shrinks(1), "damaged ELF file: section headers"),
+];
 
 #[test]
 fn habits(rt: HostRuntime) -> Result<(), Fail> {
-    for (habit, want) in [
-        (Habit::Short, "the line section"),
-        (Habit::Interrupted(0), "the line section"),
-        (Habit::Interrupted(1), "Interrupted Interrupted"),
-        (Habit::Interrupted(1000), "Interrupted Interrupted"),
-        (
-            Habit::Interrupted(1001),
-            "cannot read: operation interrupted",
-        ),
-        (Habit::Fails(0), "cannot read: broken pipe"),
-        (Habit::Fails(3), "cannot read: broken pipe"),
-        (Habit::Shrinks(0), "not an ELF file"),
-        (Habit::Shrinks(1), "damaged ELF file: section headers"),
-    ] {
-        assert_line_read(&rt, rt.alloc(), habit, want)?;
-    }
-    Ok(())
+    assert_line_reads(&rt, rt.alloc(), HABITS)
 }
 
 /// Asserts that nothing but the fault is told where the read after `count` others fails; whether it was a read of the
@@ -239,17 +241,16 @@ fn each_read_fails(rt: HostRuntime) -> Result<(), Fail> {
     Ok(())
 }
 
+const LAST_READ: &[(Habit, &str)] = &[
+    (Habit::Fails(14), "BrokenPipe BrokenPipe"),
+    (Habit::Shrinks(14), "UnexpectedEof UnexpectedEof"),
+    (Habit::Fails(39), "the line section"),
+];
+
 /// The last read fails, the file ends before it, and a read after it would fail.
 #[test]
 fn the_last_read_fails(rt: HostRuntime) -> Result<(), Fail> {
-    for (habit, want) in [
-        (Habit::Fails(14), "BrokenPipe BrokenPipe"),
-        (Habit::Shrinks(14), "UnexpectedEof UnexpectedEof"),
-        (Habit::Fails(39), "the line section"),
-    ] {
-        assert_line_read(&rt, rt.alloc(), habit, want)?;
-    }
-    Ok(())
+    assert_line_reads(&rt, rt.alloc(), LAST_READ)
 }
 
 /// The kind of the error of the first read, where it is that of opening the file.
@@ -264,7 +265,7 @@ fn error_of_first_read(alloc: Global, bytes: &[u8]) -> Option<ErrorKind> {
 /// A fault of a read is no other fault.
 #[test]
 fn the_fault_of_a_read(rt: HostRuntime) -> Result<(), Fail> {
-    let bytes = image(rt.alloc(), LITTLE_64, &[section(".debug_line", "line")])?;
+    let bytes = image(rt.alloc(), LITTLE_64, &[LINE])?;
     let error = error_of_first_read(rt.alloc(), bytes.as_slice());
     assert!(rt; error == Some(ErrorKind::BrokenPipe));
     Ok(())
@@ -274,7 +275,7 @@ fn the_fault_of_a_read(rt: HostRuntime) -> Result<(), Fail> {
 fn object(alloc: Global) -> Result<Vec<u8>, AllocError> {
     object_file(
         alloc,
-        section(".debug_line", "line"),
+        LINE,
         b"\0\0\0\0\0\0\0\0\x0a\0\0\0\0\0\0\0abcd\0\0\0\0",
         b"the first symbol, 24 zero",
     )
@@ -365,7 +366,7 @@ impl ReadAt for Hoarding<'_> {
 }
 
 /// What becomes of a file for which there may be no memory.
-#[derive(Clone, Copy, Debug, PartialEq, Eq)]
+#[derive(Clone, Copy)]
 enum Outcome {
     /// Its line section is the one that is wanted.
     Read,
@@ -409,8 +410,8 @@ fn count_refusals(
     let mut refused = 0usize;
     for before in 0..reads {
         let outcome = outcome_of(alloc, bytes, before, want);
-        assert!(rt; outcome != Outcome::Wrong, "{before}");
-        if outcome == Outcome::Refused {
+        assert!(rt; !matches!(outcome, Outcome::Wrong), "{before}");
+        if matches!(outcome, Outcome::Refused) {
             refused = refused.saturating_add(1);
         }
     }

@@ -1,5 +1,7 @@
 //! Object files for x86-64 whose line sections have relocations. System V ABI, chapter 4, "Relocation".
-use crate::image::{Form, NewSection, OBJECT, assert_found, image, section, told};
+use crate::image::{
+    Case, LINE, LITTLE_64, NewSection, OBJECT, PROGBITS, TEXT, assert_each_found, image, told,
+};
 use dl_file::Wanted;
 use std::alloc::Global;
 use std::process::Abort;
@@ -24,151 +26,139 @@ const ADD_SYMBOL: &[u8] = b"\0\0\0\0\0\0\0\0\x0a\0\0\0\x01\0\0\0";
 const SYMBOLS: &[u8] = b"\0\0\0\0\0\0\0\0\0\0\0\0\0\0\0\0\0\0\0\0\0\0\0\0\
                          \0\0\0\0\0\0\0\0\x01\0\0\0\0\0\0\0\0\0\0\0\0\0\0\0";
 
+const SYMBOL_TABLE: NewSection<'_> = NewSection {
+    name: ".symtab",
+    section_type: 2,
+    bytes: SYMBOLS,
+    ..PROGBITS
+};
+
 /// A section of relocations of section 1 with addends (SHT_RELA), whose symbols section 2 has.
-const WITH_ADDENDS: NewSection<'_> = NewSection {
+const FRONT: NewSection<'_> = NewSection {
     name: ".rela.debug_line",
     section_type: 4,
-    flags: 0,
-    address: 0,
     link: 2,
     info: 1,
-    bytes: b"",
+    bytes: SET_FRONT,
+    ..PROGBITS
+};
+
+const OUTSIDE: NewSection<'_> = NewSection {
+    bytes: SET_SECOND,
+    ..FRONT
+};
+
+const SYMBOL: NewSection<'_> = NewSection {
+    bytes: SET_SYMBOL,
+    ..FRONT
+};
+
+const UNKNOWN: NewSection<'_> = NewSection {
+    bytes: SET_UNKNOWN,
+    ..FRONT
 };
 
 /// The same without addends (SHT_REL).
-const WITHOUT_ADDENDS: NewSection<'_> = NewSection {
+const ADDED: NewSection<'_> = NewSection {
     section_type: 9,
-    ..WITH_ADDENDS
+    bytes: ADD_SYMBOL,
+    ..FRONT
 };
 
-fn with_addends<'a>(bytes: &'a [u8]) -> NewSection<'a> {
-    NewSection {
-        bytes,
-        ..WITH_ADDENDS
-    }
-}
+const OF_ANOTHER_SECTION: NewSection<'_> = NewSection { info: 2, ..FRONT };
 
-fn without_addends<'a>(bytes: &'a [u8]) -> NewSection<'a> {
-    NewSection {
-        bytes,
-        ..WITHOUT_ADDENDS
-    }
-}
+const WITHOUT_SYMBOLS: NewSection<'_> = NewSection { link: 0, ..FRONT };
 
-fn symbols<'a>() -> NewSection<'a> {
-    NewSection {
-        section_type: 2,
-        bytes: SYMBOLS,
-        ..section(".symtab", "")
-    }
-}
+/// Its symbols are those of section 1, which has none.
+const NO_SYMBOL: NewSection<'_> = NewSection { link: 1, ..SYMBOL };
+
+const NO_SUCH_TABLE: NewSection<'_> = NewSection { link: 200, ..FRONT };
+
+const EMPTY: NewSection<'_> = NewSection { bytes: b"", ..TEXT };
+
+const APPLIED: &[Case<'_>] = &[
+    (
+        "an addend",
+        &[LINE, SYMBOL_TABLE, FRONT, EMPTY],
+        "little object abcd - -",
+    ),
+    (
+        "no symbol table",
+        &[LINE, SYMBOL_TABLE, WITHOUT_SYMBOLS, EMPTY],
+        "little object abcd - -",
+    ),
+    (
+        "a symbol and an addend",
+        &[LINE, SYMBOL_TABLE, SYMBOL, EMPTY],
+        "little object bbcd - -",
+    ),
+    (
+        "a symbol and what stands there",
+        &[LINE, SYMBOL_TABLE, ADDED, EMPTY],
+        "little object mine - -",
+    ),
+    (
+        "one section after the other",
+        &[LINE, SYMBOL_TABLE, FRONT, ADDED],
+        "little object bbcd - -",
+    ),
+    (
+        "the order of the sections",
+        &[LINE, SYMBOL_TABLE, ADDED, FRONT],
+        "little object abcd - -",
+    ),
+    (
+        "of another section",
+        &[LINE, SYMBOL_TABLE, OF_ANOTHER_SECTION, EMPTY],
+        "little object line - -",
+    ),
+];
+
+const NOT_APPLIED: &[Case<'_>] = &[(
+    "of a program",
+    &[LINE, SYMBOL_TABLE, FRONT, EMPTY],
+    "little line - -",
+)];
 
 #[test]
 fn applied(rt: HostRuntime) -> Result<(), Fail> {
     let alloc = rt.alloc();
-    let none = section(".text", "");
-    let front = with_addends(SET_FRONT);
-    let other = NewSection { info: 2, ..front };
-    let without_symbols = NewSection { link: 0, ..front };
-    for (what, file_type, relocations, want) in [
-        ("an addend", 1, [front, none], "little object abcd - -"),
-        (
-            "no symbol table",
-            1,
-            [without_symbols, none],
-            "little object abcd - -",
-        ),
-        (
-            "a symbol and an addend",
-            1,
-            [with_addends(SET_SYMBOL), none],
-            "little object bbcd - -",
-        ),
-        (
-            "a symbol and what stands there",
-            1,
-            [without_addends(ADD_SYMBOL), none],
-            "little object mine - -",
-        ),
-        (
-            "one section after the other",
-            1,
-            [front, without_addends(ADD_SYMBOL)],
-            "little object bbcd - -",
-        ),
-        (
-            "the order of the sections",
-            1,
-            [without_addends(ADD_SYMBOL), front],
-            "little object abcd - -",
-        ),
-        (
-            "of another section",
-            1,
-            [other, none],
-            "little object line - -",
-        ),
-        ("of a program", 2, [front, none], "little line - -"),
-    ] {
-        let [first, second] = relocations;
-        let sections = [section(".debug_line", "line"), symbols(), first, second];
-        let form = Form {
-            file_type,
-            ..OBJECT
-        };
-        assert_found(&rt, alloc, form, &sections, Wanted::LineSection, want, what)?;
-    }
-    Ok(())
+    let line = Wanted::LineSection;
+    assert_each_found(&rt, alloc, OBJECT, line, APPLIED)?;
+    assert_each_found(&rt, alloc, LITTLE_64, line, NOT_APPLIED)
 }
+
+const FAULTS: &[Case<'_>] = &[
+    (
+        "type",
+        &[LINE, SYMBOL_TABLE, UNKNOWN, OUTSIDE],
+        "section .debug_line: unknown relocation 99 of machine 62",
+    ),
+    (
+        "place",
+        &[LINE, SYMBOL_TABLE, OUTSIDE, UNKNOWN],
+        "section .debug_line: relocation outside the section",
+    ),
+    (
+        "symbol",
+        &[LINE, SYMBOL_TABLE, FRONT, NO_SYMBOL],
+        "damaged ELF file: symbols of the relocations of section .debug_line",
+    ),
+    (
+        "no such symbol table",
+        &[LINE, SYMBOL_TABLE, NO_SUCH_TABLE, UNKNOWN],
+        "damaged ELF file: symbols of the relocations of section .debug_line",
+    ),
+];
 
 #[test]
 fn faults(rt: HostRuntime) -> Result<(), Fail> {
-    let alloc = rt.alloc();
-    let front = with_addends(SET_FRONT);
-    let unknown = with_addends(SET_UNKNOWN);
-    let outside = with_addends(SET_SECOND);
-    let no_symbol = NewSection {
-        link: 1,
-        ..with_addends(SET_SYMBOL)
-    };
-    for (what, relocations, want) in [
-        (
-            "type",
-            [unknown, outside],
-            "section .debug_line: unknown relocation 99 of machine 62",
-        ),
-        (
-            "place",
-            [outside, unknown],
-            "section .debug_line: relocation outside the section",
-        ),
-        (
-            "symbol",
-            [front, no_symbol],
-            "damaged ELF file: symbols of the relocations of section .debug_line",
-        ),
-        (
-            "no such symbol table",
-            [NewSection { link: 200, ..front }, unknown],
-            "damaged ELF file: symbols of the relocations of section .debug_line",
-        ),
-    ] {
-        let [first, second] = relocations;
-        let sections = [section(".debug_line", "line"), symbols(), first, second];
-        let wanted = Wanted::LineSection;
-        assert_found(&rt, alloc, OBJECT, &sections, wanted, want, what)?;
-    }
-    Ok(())
+    assert_each_found(&rt, rt.alloc(), OBJECT, Wanted::LineSection, FAULTS)
 }
 
 /// What is found in an object file whose section with this number has the last byte 0x10 in its size.
 fn found_with_size(alloc: Global, number: usize) -> Result<String, Fail> {
-    let sections = [
-        section(".debug_line", "line"),
-        symbols(),
-        with_addends(SET_FRONT),
-    ];
-    let mut bytes = image(alloc, OBJECT, &sections)?;
+    let mut bytes = image(alloc, OBJECT, &[LINE, SYMBOL_TABLE, FRONT])?;
     let back = 5usize.saturating_sub(number).saturating_mul(64);
     let at = bytes.len().saturating_sub(back).saturating_add(32 + 7);
     if at < bytes.len() {
@@ -189,40 +179,79 @@ fn assert_found_with_size(
     Ok(())
 }
 
+const CLAIMED_SIZES: &[(usize, &str)] = &[
+    (1, "damaged ELF file: section .debug_line"),
+    (
+        2,
+        "damaged ELF file: symbols of the relocations of section .debug_line",
+    ),
+    (3, "damaged ELF file: relocations of section .debug_line"),
+];
+
 /// Sizes that go past the end of the file, by more than there is memory.
 #[test]
 fn claimed_sizes(rt: HostRuntime) -> Result<(), Fail> {
-    for (number, want) in [
-        (1, "damaged ELF file: section .debug_line"),
-        (
-            2,
-            "damaged ELF file: symbols of the relocations of section .debug_line",
-        ),
-        (3, "damaged ELF file: relocations of section .debug_line"),
-    ] {
-        assert_found_with_size(&rt, rt.alloc(), number, want)?;
+    for (number, want) in CLAIMED_SIZES {
+        assert_found_with_size(&rt, rt.alloc(), *number, want)?;
     }
     Ok(())
 }
 
+/// 16 sections of relocations, and one more.
+const MANY: &[Case<'_>] = &[
+    (
+        "16",
+        &[
+            LINE,
+            SYMBOL_TABLE,
+            ADDED,
+            ADDED,
+            ADDED,
+            ADDED,
+            ADDED,
+            ADDED,
+            ADDED,
+            ADDED,
+            ADDED,
+            ADDED,
+            ADDED,
+            ADDED,
+            ADDED,
+            ADDED,
+            ADDED,
+            ADDED,
+        ],
+        "little object |ine - -",
+    ),
+    (
+        "17",
+        &[
+            LINE,
+            SYMBOL_TABLE,
+            ADDED,
+            ADDED,
+            ADDED,
+            ADDED,
+            ADDED,
+            ADDED,
+            ADDED,
+            ADDED,
+            ADDED,
+            ADDED,
+            ADDED,
+            ADDED,
+            ADDED,
+            ADDED,
+            ADDED,
+            ADDED,
+            ADDED,
+        ],
+        "damaged ELF file: relocations of section .debug_line",
+    ),
+];
+
 /// Each of 16 sections of relocations adds 1 to the first byte; one more is refused.
 #[test]
 fn many_sections(rt: HostRuntime) -> Result<(), Fail> {
-    let alloc = rt.alloc();
-    let mut sections = [without_addends(ADD_SYMBOL); 19];
-    sections[0] = section(".debug_line", "line");
-    sections[1] = symbols();
-    for (what, count, want) in [
-        ("16", 18, "little object |ine - -"),
-        (
-            "17",
-            19,
-            "damaged ELF file: relocations of section .debug_line",
-        ),
-    ] {
-        let sections = &sections[..count];
-        let wanted = Wanted::LineSection;
-        assert_found(&rt, alloc, OBJECT, sections, wanted, want, what)?;
-    }
-    Ok(())
+    assert_each_found(&rt, rt.alloc(), OBJECT, Wanted::LineSection, MANY)
 }
