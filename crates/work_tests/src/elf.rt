@@ -1,116 +1,154 @@
 //! ELF files of 32 bits, made by hand. System V ABI, chapter 4.
 use dl_num::Order;
 use std::alloc::{AllocError, Global};
-use std::test::Fail;
 
 /// How many bytes the header has.
 const HEADER: usize = 52;
 
 /// The file type of a relocatable file and of an executable one (ET_REL, ET_EXEC).
-pub const RELOCATABLE: u16 = 1;
+pub const RELOCATABLE: usize = 1;
 
-pub const EXECUTABLE: u16 = 2;
+const EXECUTABLE: usize = 2;
 
 /// The section types of bytes of any meaning and of names (SHT_PROGBITS, SHT_STRTAB).
 const PROGBITS: usize = 1;
 
 const STRTAB: usize = 3;
 
-/// Numbers in an order.
-#[derive(Drop)]
-struct Numbers {
-    order: Order,
-    bytes: Vec<u8>,
+/// A file that is to be made. Its sections stand between section 0 and the name table, which is the last one.
+#[derive(Clone, Copy)]
+pub struct NewFile<'a> {
+    pub order: Order,
+    pub file_type: usize,
+    pub sections: &'a [(&'a str, &'a [u8])],
 }
 
-impl Numbers {
-    fn half(&mut self, number: u16) -> Result<(), AllocError> {
-        match self.order {
-            Order::Little => self.bytes.extend_from_slice(&number.to_le_bytes()),
-            Order::Big => self.bytes.extend_from_slice(&number.to_be_bytes()),
-        }
-    }
+/// An executable file of little-endian order without sections.
+pub const EMPTY: NewFile<'_> = NewFile {
+    order: Order::Little,
+    file_type: EXECUTABLE,
+    sections: &[],
+};
 
-    fn word(&mut self, number: usize) -> Result<(), Fail> {
-        let number = u32::try_from(number)?;
-        match self.order {
-            Order::Little => self.bytes.extend_from_slice(&number.to_le_bytes())?,
-            Order::Big => self.bytes.extend_from_slice(&number.to_be_bytes())?,
-        }
-        Ok(())
-    }
-
-    /// A section header of this name, type and range.
-    fn section(&mut self, name: usize, kind: usize, at: usize, size: usize) -> Result<(), Fail> {
-        for number in [name, kind, 0, 0, at, size, 0, 0, 1, 0] {
-            self.word(number)?;
-        }
-        Ok(())
+/// Appends the `size` bytes of a number.
+fn put(bytes: &mut Vec<u8>, order: Order, size: usize, number: usize) -> Result<(), AllocError> {
+    let size = size.min(8);
+    match order {
+        Order::Little => bytes.extend_from_slice(&number.to_le_bytes()[..size]),
+        Order::Big => bytes.extend_from_slice(&number.to_be_bytes()[8 - size..]),
     }
 }
 
-/// A file with these sections between section 0 and the name table, which is the last one.
-pub fn file(
-    alloc: Global,
+/// Appends numbers of `size` bytes each.
+fn put_all(
+    bytes: &mut Vec<u8>,
     order: Order,
-    file_type: u16,
+    size: usize,
+    numbers: &[usize],
+) -> Result<(), AllocError> {
+    for number in numbers {
+        put(bytes, order, size, *number)?;
+    }
+    Ok(())
+}
+
+/// Appends a section header of this name, type and range.
+fn put_section(
+    bytes: &mut Vec<u8>,
+    order: Order,
+    name: usize,
+    section_type: usize,
+    at: usize,
+    size: usize,
+) -> Result<(), AllocError> {
+    let fields = [name, section_type, 0, 0, at, size, 0, 0, 1, 0];
+    put_all(bytes, order, 4, &fields)
+}
+
+/// Appends the file's header. `table` is where the section headers begin, and `names` is the number of the name
+/// table, the last section.
+fn put_header(
+    bytes: &mut Vec<u8>,
+    order: Order,
+    file_type: usize,
+    table: usize,
+    names: usize,
+) -> Result<(), AllocError> {
+    let little = b"\x7fELF\x01\x01\x01\0\0\0\0\0\0\0\0\0";
+    let big = b"\x7fELF\x01\x02\x01\0\0\0\0\0\0\0\0\0";
+    bytes.extend_from_slice(if order == Order::Big { big } else { little })?;
+    put_all(bytes, order, 2, &[file_type, 20])?;
+    put_all(bytes, order, 4, &[1, 0, 0, table, 0])?;
+    let count = names.saturating_add(1);
+    put_all(bytes, order, 2, &[52, 0, 0, 40, count, names])
+}
+
+/// Appends the bytes of the sections.
+fn put_contents(bytes: &mut Vec<u8>, sections: &[(&str, &[u8])]) -> Result<(), AllocError> {
+    for (_, contents) in sections {
+        bytes.extend_from_slice(contents)?;
+    }
+    Ok(())
+}
+
+/// Appends the name table.
+fn put_names(bytes: &mut Vec<u8>, sections: &[(&str, &[u8])]) -> Result<(), AllocError> {
+    bytes.push(0)?;
+    for (name, _) in sections {
+        bytes.extend_from_slice(name.as_bytes())?;
+        bytes.push(0)?;
+    }
+    Ok(())
+}
+
+/// Appends the headers of the sections.
+fn put_sections(
+    bytes: &mut Vec<u8>,
+    order: Order,
     sections: &[(&str, &[u8])],
-) -> Result<Vec<u8>, Fail> {
-    let mut contents = Vec::new(alloc);
-    let mut names = Vec::new(alloc);
-    let mut headers = Numbers {
-        order,
-        bytes: Vec::new(alloc),
-    };
-    names.push(0)?;
-    headers.section(0, 0, 0, 0)?;
-    for (name, bytes) in sections {
-        let at = HEADER.saturating_add(contents.len());
-        headers.section(names.len(), PROGBITS, at, bytes.len())?;
-        names.extend_from_slice(name.as_bytes())?;
-        names.push(0)?;
-        contents.extend_from_slice(bytes)?;
+) -> Result<(), AllocError> {
+    let mut at = HEADER;
+    let mut name_at = 1usize;
+    for (name, contents) in sections {
+        put_section(bytes, order, name_at, PROGBITS, at, contents.len())?;
+        at = at.saturating_add(contents.len());
+        name_at = name_at.saturating_add(name.len()).saturating_add(1);
     }
-    headers.section(
-        0,
-        STRTAB,
-        HEADER.saturating_add(contents.len()),
-        names.len(),
-    )?;
-    contents.extend_from_slice(names.as_slice())?;
-    let last = u16::try_from(sections.len())?.saturating_add(1);
-    let mut file = header(alloc, order, file_type, contents.len(), last)?;
-    file.extend_from_slice(contents.as_slice())?;
-    file.extend_from_slice(headers.bytes.as_slice())?;
-    Ok(file)
+    Ok(())
 }
 
-/// The file's header. `contents` is how many bytes stand between it and the section headers, and
-/// `names` is the number of the name table, the last section.
-fn header(
-    alloc: Global,
-    order: Order,
-    file_type: u16,
-    contents: usize,
-    names: u16,
-) -> Result<Vec<u8>, Fail> {
-    let mut numbers = Numbers {
+/// How many bytes the sections have, and how many their name table has.
+fn section_sizes(sections: &[(&str, &[u8])]) -> (usize, usize) {
+    let mut size = 0usize;
+    let mut names = 1usize;
+    for (name, contents) in sections {
+        size = size.saturating_add(contents.len());
+        names = names.saturating_add(name.len()).saturating_add(1);
+    }
+    (size, names)
+}
+
+/// Appends a file: the header, the sections' bytes, the name table, the section headers.
+fn put_file(bytes: &mut Vec<u8>, new: NewFile<'_>) -> Result<(), AllocError> {
+    let NewFile {
         order,
-        bytes: Vec::new(alloc),
-    };
-    numbers.bytes.extend_from_slice(b"\x7fELF\x01")?;
-    numbers.bytes.push(match order {
-        Order::Little => 1,
-        Order::Big => 2,
-    })?;
-    numbers.bytes.extend_from_slice(b"\x01\0\0\0\0\0\0\0\0\0")?;
-    numbers.half(file_type)?;
-    numbers.half(20)?;
-    for number in [1, 0, 0, HEADER.saturating_add(contents), 0] {
-        numbers.word(number)?;
-    }
-    for number in [52, 0, 0, 40, names.saturating_add(1), names] {
-        numbers.half(number)?;
-    }
-    Ok(numbers.bytes)
+        file_type,
+        sections,
+    } = new;
+    let (contents, names) = section_sizes(sections);
+    let name_table = HEADER.saturating_add(contents);
+    let table = name_table.saturating_add(names);
+    let last = sections.len().saturating_add(1);
+    put_header(bytes, order, file_type, table, last)?;
+    put_contents(bytes, sections)?;
+    put_names(bytes, sections)?;
+    put_section(bytes, order, 0, 0, 0, 0)?;
+    put_sections(bytes, order, sections)?;
+    put_section(bytes, order, 0, STRTAB, name_table, names)
+}
+
+pub fn file(alloc: Global, new: NewFile<'_>) -> Result<Vec<u8>, AllocError> {
+    let mut bytes = Vec::new(alloc);
+    put_file(&mut bytes, new)?;
+    Ok(bytes)
 }

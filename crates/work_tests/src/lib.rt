@@ -13,3 +13,5 @@ mod input;
 mod locate;
 #[cfg(test)]
 mod shelf;
+#[cfg(test)]
+mod told;

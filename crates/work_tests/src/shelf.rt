@@ -1,58 +1,64 @@
 //! Files by their paths, and worked sections.
-use dl_cmd::Job;
 use dl_elf::ReadAt;
 use dl_run::{RunFault, read_strings};
-use dl_work::{FileSource, work};
+use dl_work::FileSource;
 use std::alloc::Global;
 use std::io;
 use std::io::ErrorKind;
-use std::test::Fail;
 
 /// One row, at address 0.
-pub const SMALLEST: &str = "21 00 00 00 05 00 08 00 16 00 00 00 01 01 01 fb 0e 0d \
-                            00 01 01 01 01 00 00 00 01 00 00 01 00 00 00 00 00 01 01";
+pub const SMALLEST: &[u8] = b"\x21\0\0\0\x05\0\x08\0\x16\0\0\0\x01\x01\x01\xfb\x0e\x0d\
+    \0\x01\x01\x01\x01\0\0\0\x01\0\0\x01\0\0\0\0\0\x01\x01";
 
 /// Three rows, as `copy` writes them too.
-pub const THREE_ROWS: &str = "30 00 00 00 05 00 08 00 16 00 00 00 01 01 01 fb 0e 0d \
-                              00 01 01 01 01 00 00 00 01 00 00 01 00 00 00 00 \
-                              00 09 02 00 10 40 00 00 00 00 00 13 4b 02 02 00 01 01";
+pub const THREE_ROWS: &[u8] = b"\x30\0\0\0\x05\0\x08\0\x16\0\0\0\x01\x01\x01\xfb\x0e\x0d\
+    \0\x01\x01\x01\x01\0\0\0\x01\0\0\x01\0\0\0\0\
+    \0\x09\x02\0\x10\x40\0\0\0\0\0\x13\x4b\x02\x02\0\x01\x01";
+
+/// The same twice.
+pub const TWO_UNITS: &[u8] = b"\x30\0\0\0\x05\0\x08\0\x16\0\0\0\x01\x01\x01\xfb\x0e\x0d\
+    \0\x01\x01\x01\x01\0\0\0\x01\0\0\x01\0\0\0\0\
+    \0\x09\x02\0\x10\x40\0\0\0\0\0\x13\x4b\x02\x02\0\x01\x01\
+    \x30\0\0\0\x05\0\x08\0\x16\0\0\0\x01\x01\x01\xfb\x0e\x0d\
+    \0\x01\x01\x01\x01\0\0\0\x01\0\0\x01\0\0\0\0\
+    \0\x09\x02\0\x10\x40\0\0\0\0\0\x13\x4b\x02\x02\0\x01\x01";
 
 /// A directory in `.debug_line_str`, a file in `.debug_str`, and two rows for that file.
-pub const BOTH_STRINGS: &str = "3d 00 00 00 05 00 08 00 22 00 00 00 01 01 01 fb 0e 0d \
-                                00 01 01 01 01 00 00 00 01 00 00 01 \
-                                01 01 1f 01 03 00 00 00 01 01 0e 01 01 00 00 00 \
-                                04 00 00 09 02 00 10 40 00 00 00 00 00 01 02 04 00 01 01";
+pub const BOTH_STRINGS: &[u8] = b"\x3d\0\0\0\x05\0\x08\0\x22\0\0\0\x01\x01\x01\xfb\x0e\x0d\
+    \0\x01\x01\x01\x01\0\0\0\x01\0\0\x01\
+    \x01\x01\x1f\x01\x03\0\0\0\x01\x01\x0e\x01\x01\0\0\0\
+    \x04\0\0\x09\x02\0\x10\x40\0\0\0\0\0\x01\x02\x04\0\x01\x01";
 
 /// Two rows at one address, of two operations, in big-endian.
-pub const TWO_OPERATIONS: &str = "00 00 00 30 00 05 08 00 00 00 00 16 0a 03 01 fb 0e 0d \
-                                  00 01 01 01 01 00 00 00 01 00 00 01 00 00 00 00 \
-                                  00 09 02 00 00 00 00 00 00 10 00 20 20 02 01 00 01 01";
+pub const TWO_OPERATIONS: &[u8] = b"\0\0\0\x30\0\x05\x08\0\0\0\0\x16\x0a\x03\x01\xfb\x0e\x0d\
+    \0\x01\x01\x01\x01\0\0\0\x01\0\0\x01\0\0\0\0\
+    \0\x09\x02\0\0\0\0\0\0\x10\0\x20\x20\x02\x01\0\x01\x01";
 
 /// What `find` writes of the second operation.
-pub const SECOND_OPERATION: &str = "file 1 missing\nrow 0x0000000000001000 1 1 1 0 stmt\n";
+pub const SECOND_OPERATION: &[u8] = b"file 1 missing\nrow 0x0000000000001000 1 1 1 0 stmt\n";
 
 pub const LINE_STRINGS: &[u8] = b"ab\0cd\0";
 
 pub const STRINGS: &[u8] = b"xyz\0";
 
-pub const UNIT_LINE: &str = "unit 0x0 dwarf32 version 5 address_size 8\n";
+/// What `dump` writes of `THREE_ROWS`.
+pub const THREE_TEXT: &[u8] = b"unit 0x0 dwarf32 version 5 address_size 8\n\
+                                row 0x0000000000401000 0 1 2 0 stmt\n\
+                                row 0x0000000000401004 0 1 3 0 stmt\n\
+                                row 0x0000000000401006 0 1 3 0 stmt end\n";
 
-pub const ROW_LINES: &str = "row 0x0000000000401000 0 0 1 0 stmt\n\
-                             row 0x0000000000401004 0 0 1 0 stmt end\n";
+/// What `dump` writes of `BOTH_STRINGS`, with both of its string sections.
+pub const NAMED_TEXT: &[u8] = b"unit 0x0 dwarf32 version 5 address_size 8\n\
+                              dir 0 path=\"cd\"\n\
+                              file 0 path=\"yz\"\n\
+                              row 0x0000000000401000 0 0 1 0 stmt\n\
+                              row 0x0000000000401004 0 0 1 0 stmt end\n";
 
-pub const COUNTS: &str = "units 1 skipped 0 sequences 1 rows 3\n";
-
-pub fn bytes(alloc: Global, words: &str) -> Result<Vec<u8>, Fail> {
-    let mut bytes = Vec::new(alloc);
-    for word in words.split_whitespace() {
-        bytes.push(u8::from_str_radix(word, 16)?)?;
-    }
-    Ok(bytes)
-}
+pub const COUNTS: &[u8] = b"units 1 skipped 0 sequences 1 rows 3\n";
 
 /// The file `elf`, of which no byte from one offset on up to another can be read, and two files of
 /// string sections.
-#[derive(Drop)]
+#[derive(Clone, Copy)]
 pub struct Shelf<'a> {
     pub elf: &'a [u8],
     pub failing: (u64, u64),
@@ -74,17 +80,23 @@ pub struct Held<'a> {
     failing: (u64, u64),
 }
 
-impl ReadAt for Held<'_> {
-    fn read_at(&self, offset: u64, buffer: &mut [u8]) -> io::Result<usize> {
+impl Held<'_> {
+    /// How many bytes a read of so many from the offset on gives at most.
+    fn most(&self, offset: u64, len: usize) -> io::Result<usize> {
         let (start, end) = self.failing;
         if start <= offset && offset < end {
             return Err(io::Error::from(ErrorKind::BrokenPipe));
         }
-        let most = if offset < start && start < end {
-            usize::try_from(start - offset).unwrap_or(buffer.len())
-        } else {
-            buffer.len()
-        };
+        if offset < start && start < end {
+            return Ok(usize::try_from(start - offset).unwrap_or(len));
+        }
+        Ok(len)
+    }
+}
+
+impl ReadAt for Held<'_> {
+    fn read_at(&self, offset: u64, buffer: &mut [u8]) -> io::Result<usize> {
+        let most = self.most(offset, buffer.len())?;
         let at = usize::try_from(offset)
             .unwrap_or(self.bytes.len())
             .min(self.bytes.len());
@@ -120,68 +132,5 @@ impl<'a> FileSource for Shelf<'a> {
             "other" => read_strings(alloc, &mut { STRINGS }, limit),
             _ => Err(RunFault::Read),
         }
-    }
-}
-
-/// What a job came to: the status, both outputs, and how many bytes of the input are left unread.
-#[derive(Drop)]
-pub struct Told {
-    pub status: u8,
-    pub output: Vec<u8>,
-    pub errors: Vec<u8>,
-    pub left: usize,
-}
-
-impl Told {
-    /// Does a job over these files and this input.
-    pub fn of(
-        alloc: Global,
-        shelf: &Shelf<'_>,
-        job: Option<Job<'_>>,
-        input: &[u8],
-    ) -> Result<Told, Fail> {
-        let mut input = input;
-        let mut output = Vec::new(alloc);
-        let mut errors = Vec::new(alloc);
-        let status = match work(alloc, job, shelf, &mut input, &mut output) {
-            Ok(_) => 0,
-            Err(stop) => {
-                stop.write_line(&mut errors)?;
-                stop.status()
-            }
-        };
-        Ok(Told {
-            status,
-            output,
-            errors,
-            left: input.len(),
-        })
-    }
-
-    /// Whether it has this status and wrote these texts.
-    pub fn is(&self, status: u8, output: &[u8], errors: &str) -> bool {
-        self.status == status
-            && self.output.as_slice() == output
-            && self.errors.as_slice() == errors.as_bytes()
-    }
-}
-
-pub fn dump<'a>(line_str: Option<&'a str>, strings: Option<&'a str>) -> Job<'a> {
-    Job::Dump {
-        file: None,
-        big: false,
-        line_str,
-        strings,
-    }
-}
-
-pub fn find<'a>(address: Option<&'a str>, line_str: Option<&'a str>) -> Job<'a> {
-    Job::Find {
-        file: None,
-        big: false,
-        address,
-        op: 0,
-        line_str,
-        strings: None,
     }
 }
