@@ -41,14 +41,14 @@ fn fault(alloc: Global, bytes: &Vec<u8>) -> Result<String, AllocError> {
     }
 }
 
-/// The same of a file without its last byte, of which `most` bytes are left at most.
+/// The fault of a file with code without its last byte, of which `most` bytes are left at most.
 fn fault_of_cut(alloc: Global, most: usize) -> Result<String, AllocError> {
     let mut bytes = image(alloc, BIG_32, &[CODE])?;
     bytes.truncate(bytes.len().saturating_sub(1).min(most));
     fault(alloc, &bytes)
 }
 
-/// Asserts it.
+/// Asserts the fault of such a file.
 fn assert_cut(rt: &impl Abort, alloc: Global, most: usize, want: &str) -> Result<(), Fail> {
     let text = fault_of_cut(alloc, most)?;
     assert_eq!(rt; text.as_str(), want);

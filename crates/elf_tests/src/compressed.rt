@@ -403,7 +403,7 @@ fn read_relocated(alloc: Global, size: u64, stream: &[u8]) -> Result<String, Fai
     read_through(alloc, bytes.as_slice(), Habit::Short)
 }
 
-/// Asserts it.
+/// Asserts what is read of an object file whose line section has this stream.
 fn assert_relocated(
     rt: &impl Abort,
     alloc: Global,

@@ -188,7 +188,7 @@ fn found_with(
     told(alloc, &bytes, Wanted::LineAndStringSections)
 }
 
-/// Asserts it.
+/// Asserts what is found in a file of these sections with another byte at one place.
 fn assert_found_with(
     rt: &impl Abort,
     alloc: Global,
@@ -299,19 +299,19 @@ fn line_alone(alloc: Global, form: Form) -> Result<Vec<u8>, AllocError> {
     image(alloc, form, &[LINE])
 }
 
-/// How many bytes it has.
+/// How many bytes a file with a line section alone has.
 fn size_of_line_alone(alloc: Global, form: Form) -> Result<usize, AllocError> {
     Ok(line_alone(alloc, form)?.len())
 }
 
-/// What is found in its first `len` bytes.
+/// What is found in the first `len` bytes of a file with a line section alone.
 fn found_in_front(alloc: Global, form: Form, len: usize) -> Result<String, Fail> {
     let mut bytes = line_alone(alloc, form)?;
     bytes.truncate(len);
     told(alloc, &bytes, Wanted::LineSection)
 }
 
-/// Asserts it.
+/// Asserts what is found in the first `len` bytes of a file with a line section alone.
 fn assert_cut(
     rt: &impl Abort,
     alloc: Global,

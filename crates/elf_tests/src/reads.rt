@@ -144,7 +144,7 @@ pub fn read_through(alloc: Global, bytes: &[u8], habit: Habit) -> Result<String,
     }
 }
 
-/// Asserts it.
+/// Asserts what is found and read through a source.
 fn assert_read(
     rt: &impl Abort,
     alloc: Global,
@@ -294,7 +294,7 @@ fn assert_relocated_read_fails(
     Ok(())
 }
 
-/// Asserts it for each of 60 reads.
+/// Asserts that nothing but the fault is told wherever one of the first 60 reads of an object file fails.
 fn assert_each_relocated_read_fails(
     rt: &impl Abort,
     alloc: Global,

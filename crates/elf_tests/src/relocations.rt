@@ -167,7 +167,7 @@ fn found_with_size(alloc: Global, number: usize) -> Result<String, Fail> {
     told(alloc, &bytes, Wanted::LineSection)
 }
 
-/// Asserts it.
+/// Asserts what is found in an object file where the size of the section with this number is too large.
 fn assert_found_with_size(
     rt: &impl Abort,
     alloc: Global,

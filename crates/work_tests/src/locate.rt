@@ -47,7 +47,7 @@ fn told(alloc: Global, asked: &Asked<'_>, input: &[u8]) -> Result<Told, Fail> {
     told_of_asked(alloc, &Shelf::new(elf.as_slice()), *asked, input)
 }
 
-/// Asserts it.
+/// Asserts what the words come to over the file with both string sections.
 fn assert_located(
     rt: &impl Abort,
     alloc: Global,
