@@ -9,7 +9,7 @@ use dl_head::{FaultKind, HeadReader, HeadRun, HeadStep};
 use dl_num::Order;
 use std::alloc::Global;
 use std::process::Abort;
-use test_support::hoard;
+use test_support::{hoard, hoard_most};
 
 /// A run that takes so many bytes, of which none is refused, and ends with this answer.
 pub fn took(taken: usize, last: HeadStep) -> HeadRun {
@@ -187,6 +187,7 @@ fn assert_grows(rt: &impl Abort, alloc: Global, reader: &mut HeadReader) {
 
 #[test]
 fn each_growth_of_a_header_is_refused_once(rt: HostRuntime) {
+    let _most = hoard_most(rt.alloc()).expect(&rt, "memory");
     let mut reader = HeadReader::new(rt.alloc(), Order::Little);
     assert_grows(&rt, rt.alloc(), &mut reader);
 }

@@ -6,7 +6,7 @@ use dl_rows::{Event, Finish, Reader};
 use std::alloc::Global;
 use std::process::Abort;
 use std::test::Fail;
-use test_support::{DWARF64_WITH_MD5, bytes, end, hoard, row, unit_of};
+use test_support::{DWARF64_WITH_MD5, bytes, end, hoard, hoard_most, row, unit_of};
 
 /// How many bytes the reader took, and how many cells.
 fn counts(reader: &Reader) -> (u64, u64) {
@@ -84,6 +84,7 @@ fn grow(
 
 #[test]
 fn each_growth_of_a_unit_is_refused_once(rt: HostRuntime) -> Result<(), Fail> {
+    let _most = hoard_most(rt.alloc())?;
     let unit = bytes(rt.alloc(), DWARF64_WITH_MD5)?;
     let (fed, cells, standing) = grow(&rt, rt.alloc(), unit.as_slice());
     let (last, refusals) = fed?;
