@@ -44,6 +44,8 @@ fn header_place(header: &FileHeader, number: u64) -> Option<u64>
 }
 
 /// Section header `number`; None where it lies outside the file.
+// Compiled into the loops over all headers, whose time is spent here.
+#[inline(always)]
 pub fn section_at<S: ReadAt>(
     source: &S,
     window: &mut Window,

@@ -10,40 +10,36 @@ use Rattle.dl_reloc.specs.declared.change.Change.{Change}
 use Rattle.dl_reloc.specs.declared.apply.RelocationFault.{RelocationFault}
 use Rattle.dl_reloc.specs.declared.apply.RelocationFault.TheVariants.{PlaceOutside, SymbolOutside}
 use Rattle.dl_reloc.specs.Changes.{change_size}
-use Rattle.dl_reloc.specs.Types.{change_of}
 use Rattle.dl_reloc.specs.Entries.{count, item, entry_size, entry_in, symbol_value}
 use Rattle.dl_reloc.specs.Relocated.{place_changed, by_symbol, by_change, applied, and_then, entry_at, applied_upto}
 use Rattle.dl_reloc.specs.Relocated.{relocated}
 
 -- an entry that is applied
 pub entry_applied : (t : Target) (symbols : List ℕ) (e : Entry) (b : List ℕ) (change : Change) (value at k : ℕ)
-    (new : List ℕ) → change_of t e.number ≡ Some change → (change_size change ≡ 0 → ⊥)
+    (new : List ℕ) → (change_size change ≡ 0 → ⊥)
     → e.offset + change_size change ≤ length b → symbol_value symbols e.symbol ≡ Some value
     → at ≡ e.offset → k ≡ change_size change
     → new ≡ place_changed t.order change value e.addend (take k (drop at b))
-    → applied t symbols e b ≡ Ok (put_mid at k b new)
-entry_applied t symbols e b change value at k new is some within symbol place size told =
-    ap (by_change t symbols e b) is
-    ∙ rw (ne_eqb (change_size change) 0 some, le-leb (e.offset + change_size change) (length b) within)
+    → by_change t symbols e b (Some change) ≡ Ok (put_mid at k b new)
+entry_applied t symbols e b change value at k new some within symbol place size told =
+    rw (ne_eqb (change_size change) 0 some, le-leb (e.offset + change_size change) (length b) within)
     (ap (by_symbol t.order change e b) symbol
     ∙ rw (told, place, size) refl)
 
 -- one whose place doesn't lie in the section
 pub entry_outside : (t : Target) (symbols : List ℕ) (e : Entry) (b : List ℕ) (change : Change)
-    → change_of t e.number ≡ Some change → (change_size change ≡ 0 → ⊥)
-    → length b < e.offset + change_size change → applied t symbols e b ≡ Err PlaceOutside
-entry_outside t symbols e b change is some outside =
-    ap (by_change t symbols e b) is
-    ∙ rw (ne_eqb (change_size change) 0 some, lt-leb (e.offset + change_size change) (length b) outside) refl
+    → (change_size change ≡ 0 → ⊥) → length b < e.offset + change_size change
+    → by_change t symbols e b (Some change) ≡ Err PlaceOutside
+entry_outside t symbols e b change some outside =
+    rw (ne_eqb (change_size change) 0 some, lt-leb (e.offset + change_size change) (length b) outside) refl
 
 -- one whose symbol isn't there
 pub entry_without_symbol : (t : Target) (symbols : List ℕ) (e : Entry) (b : List ℕ) (change : Change)
-    → change_of t e.number ≡ Some change → (change_size change ≡ 0 → ⊥)
-    → e.offset + change_size change ≤ length b → ◌≡◌ {A = Option ℕ} (symbol_value symbols e.symbol) None
-    → applied t symbols e b ≡ Err SymbolOutside
-entry_without_symbol t symbols e b change is some within none =
-    ap (by_change t symbols e b) is
-    ∙ rw (ne_eqb (change_size change) 0 some, le-leb (e.offset + change_size change) (length b) within)
+    → (change_size change ≡ 0 → ⊥) → e.offset + change_size change ≤ length b
+    → ◌≡◌ {A = Option ℕ} (symbol_value symbols e.symbol) None
+    → by_change t symbols e b (Some change) ≡ Err SymbolOutside
+entry_without_symbol t symbols e b change some within none =
+    rw (ne_eqb (change_size change) 0 some, le-leb (e.offset + change_size change) (length b) within)
     (ap (by_symbol t.order change e b) none)
 
 -- the entry that was read

@@ -1,10 +1,10 @@
 //! Relocations applied in order.
-ghost use Rattle.std.specs.Prelude.{◌≡◌, ◌≢◌, ◌+◌, ◌≤◌, ◌<◌, ◌++◌, ℕ, List, length, MatchOption, MatchResult, Ok, Err};
+ghost use Rattle.std.specs.Prelude.{◌≡◌, ◌≢◌, ◌+◌, ◌≤◌, ◌<◌, ◌++◌, ℕ, List, length, MatchOption, MatchResult, Ok, Err, Some};
 ghost use Rattle.dl_reloc.specs.Changes.{change_size};
 ghost use Rattle.dl_reloc.specs.LowTypes.{AreLow};
-ghost use Rattle.dl_reloc.specs.Relocated.{applied, place_changed, relocated, AreWhole};
+ghost use Rattle.dl_reloc.specs.Relocated.{applied, by_change, place_changed, relocated, AreWhole};
 
-use crate::change::Change;
+use crate::change::{Change, Width};
 use crate::entry::{Entry, entry_size};
 use crate::machine::{LOW, change_in, low_types};
 use crate::number::{number_of, put_number};
@@ -48,23 +48,19 @@ fn place_within(offset: u64, size: usize, len: usize) -> Option<usize>
     Some(offset as usize)
 }
 
-/// Applies one entry.
+/// Applies an entry whose type does this.
 #[inline(always)]
-fn apply(
+fn apply_change(
     target: &Target,
-    low: &[Option<Change>; LOW],
+    change: Change,
     symbols: &[u64],
     entry: &Entry,
     bytes: &mut [u8],
 ) -> Result<(), RelocationFault>
-    requires { AreLow target.now low.now }
     ensures { MatchResult result
-        (λ _. applied target.now symbols.now entry.now bytes.old ≡ Ok bytes.new)
-        (λ fault. applied target.now symbols.now entry.now bytes.old ≡ Err fault) }
+        (λ _. by_change target.now symbols.now entry.now bytes.old (Some change) ≡ Ok bytes.new)
+        (λ fault. by_change target.now symbols.now entry.now bytes.old (Some change) ≡ Err fault) }
 {
-    let Some(change) = change_in(low, target, entry.number) else {
-        return Err(RelocationFault::UnknownType(entry.number));
-    };
     let size = change.size();
     if size == 0 {
         return Ok(());
@@ -83,6 +79,46 @@ fn apply(
         &mut bytes[at..at + size],
     );
     Ok(())
+}
+
+/// Applies one entry. What most entries do is a constant in its call, so how many bytes it changes is compiled in.
+#[inline(always)]
+fn apply(
+    target: &Target,
+    low: &[Option<Change>; LOW],
+    symbols: &[u64],
+    entry: &Entry,
+    bytes: &mut [u8],
+) -> Result<(), RelocationFault>
+    requires { AreLow target.now low.now }
+    ensures { MatchResult result
+        (λ _. applied target.now symbols.now entry.now bytes.old ≡ Ok bytes.new)
+        (λ fault. applied target.now symbols.now entry.now bytes.old ≡ Err fault) }
+{
+    let Some(change) = change_in(low, target, entry.number) else {
+        return Err(RelocationFault::UnknownType(entry.number));
+    };
+    match change {
+        Change::Set(Width::Bits64) => {
+            apply_change(target, Change::Set(Width::Bits64), symbols, entry, bytes)
+        }
+        Change::Set(Width::Bits32) => {
+            apply_change(target, Change::Set(Width::Bits32), symbols, entry, bytes)
+        }
+        Change::Add(Width::Bits16) => {
+            apply_change(target, Change::Add(Width::Bits16), symbols, entry, bytes)
+        }
+        Change::Subtract(Width::Bits16) => {
+            apply_change(
+                target,
+                Change::Subtract(Width::Bits16),
+                symbols,
+                entry,
+                bytes,
+            )
+        }
+        _ => apply_change(target, change, symbols, entry, bytes),
+    }
 }
 
 /// The same as [`relocate`]. It is compiled into its caller for each call, so where a call has a constant class, order
