@@ -14,6 +14,9 @@ shared = $(DESTDIR)$(PREFIX)/lib/libboxantrel.so
 header = $(DESTDIR)$(PREFIX)/include/boxantrel.h
 package = $(DESTDIR)$(PREFIX)/lib/pkgconfig/boxantrel.pc
 
+# The scripts that try what is built.
+tries = compare-with-dwline try-dwline try-truncated try-documents try-install try-library
+
 version = $(shell sed -n 's/^.* VERSION: &str = "\(.*\)";$$/\1/p' crates/dl_cmd/src/command_line.rt)
 
 # The program, at crates/dwline/out/dwline.
@@ -78,13 +81,11 @@ test:
 # man page, the completions and what `make install` puts where; the library, from C, Rust and Python.
 compare: dwline lib compare-built
 
-# The same of what is built: `make test` takes the library as `rt ci` built it, where it did.
+# The same of what is built, side by side: `make test` takes the library as `rt ci` built it, where it did.
 compare-built:
-	examples/compare-with-dwline
-	examples/try-dwline
-	examples/try-truncated
-	examples/try-documents
-	examples/try-install
-	examples/try-library
+	$(MAKE) --jobs --output-sync $(tries)
 
-.PHONY: dwline example lib library try install install-lib uninstall test compare compare-built
+$(tries):
+	examples/$@
+
+.PHONY: dwline example lib library try install install-lib uninstall test compare compare-built $(tries)
