@@ -34,7 +34,7 @@ fn asked() -> [Asked; 2] {
     [at(0x45), at(0x1020)]
 }
 
-/// Asserts what is printed and answered where a read meets with this fault, after so many others.
+/// Asserts what is printed and answered where a read meets with this fault, after `before` others.
 fn assert_read(
     rt: &impl Abort,
     alloc: Global,
@@ -46,7 +46,7 @@ fn assert_read(
     assert_answer(rt, alloc, &mut input, &plain(&asked()), &options(), wanted);
 }
 
-/// Asserts what each fault of a read comes to, after so many reads.
+/// Asserts what each fault of a read comes to, after `before` reads.
 fn assert_faults(rt: &impl Abort, alloc: Global, section: &[u8], before: usize) {
     let front = text(READ.saturating_mul(before));
     for fault in [Fault::Fails, Fault::Interrupted(1001)] {
@@ -75,7 +75,7 @@ fn each_read(rt: HostRuntime) -> Result<(), Fail> {
     Ok(())
 }
 
-/// Asserts what is out and told where a write fails, after so many others.
+/// Asserts what is out and told where a write fails, after `before` others.
 fn assert_write(rt: &impl Abort, alloc: Global, section: &[u8], before: usize) {
     let mut input = Source::new(section, 4096);
     let mut output = Sink::with_fault(alloc, WRITTEN, before, Fault::Fails);

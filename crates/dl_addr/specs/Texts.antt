@@ -37,6 +37,6 @@ pub record AreNumbers (answered : List Answered) (kept : List ℕ) : Type 0 wher
       → (slice_index_or answered j no_answer).number ≡ (slice_index_or answered m no_answer).number → j ≡ m
   pub within : (j : ℕ) → j < length answered → (slice_index_or answered j no_answer).number < length kept
 
--- the place is none of the first so many
+-- the place is none of the first `count`
 abbrev pub IsOther : List Answered → (count i : ℕ) → Type 0
 IsOther answered count i = (j : ℕ) → j < count → (slice_index_or answered j no_answer).number ≢ i

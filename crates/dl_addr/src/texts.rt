@@ -66,7 +66,7 @@ fn files(unit: &UnitFiles<'_, '_>) -> usize
     }
 }
 
-/// No text for each of so many files.
+/// No text for each of `count` files.
 fn no_texts(alloc: Global, count: usize) -> Result<Vec<Option<usize>>, NoMemory>
     ensures { IfOk result (λ seen. seen.items ≡ replicate count None) }
 {

@@ -12,7 +12,7 @@ middle d len n xs h =
     ap (λ k. drop d (take k xs)) (sym split) ∙ drop-take d (n - d) xs in
     rw cut (sym (take-take len (n - d) (drop d xs) (omega (arith, h))))
 
--- so many are shown as lie in the buffer
+-- n bytes are shown, where they lie in the buffer
 pub shown_len : (d n : ℕ) (buffer : List ℕ) → d + n ≤ length buffer → length (take n (drop d buffer)) ≡ n
 shown_len d n buffer within =
     omega (arith, within, length-take n (drop d buffer), length-drop d buffer)

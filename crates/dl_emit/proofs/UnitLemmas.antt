@@ -100,7 +100,7 @@ module _ (h : HeaderData) (rows : List Row) where
     refuses_header fault.TooLong e keeps = (rw e refl, keeps)
     refuses_header (fault.Write out) e keeps = absurd (no_write h.params out rows e)
 
-    -- what is said of a header before so many bytes holds of one before the program
+    -- what is said of a header before m bytes holds of one before the program
     pub header_written : (m : ℕ) (result : Result ℕ HeadWrite) → rows_refusal h.params rows ≡ None
         → m ≡ min count (2 ^ 64 - 1) → WritesHeader order h m old new result
         → MatchResult result (λ n. WritesUnitHeader order h rows old new (Ok n))

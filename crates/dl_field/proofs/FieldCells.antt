@@ -215,7 +215,7 @@ number_no_bytes format form.StrpSup k e = refl
 number_no_bytes format form.Data16 k e = refl
 number_no_bytes format form.LineStrp k e = refl
 
--- a block of this form is begun with its length, which has so many bytes
+-- a block of this form is begun with its length, which has k bytes
 pub begun_fixed : (f : Form) (k : ℕ) (w : List ℕ) → length_bytes_of f ≡ Some k
     → (has_bytes f ≡ true) × (begun_cells f w ≡ begun_block k w)
 begun_fixed form.Block1 k w e = (refl, ap (λ (n : ℕ). begun_block n w) (some_same 1 k e))

@@ -83,7 +83,7 @@ TableFollows old byte result new =
     → TableAt order old old.phase format next layout rest
     → TableMade order old format next layout (rest ++ byte ∷ []) result new
 
--- `of_pairs`: so many pairs are left, or the count of the entries follows
+-- `of_pairs`: `left` pairs are left, or the count of the entries follows
 abbrev pub BeginsPair : ℕ → TablePhase → Type 0
 BeginsPair left p =
     (order : Order) (t : TableReader) (format : Format) (next : TableData → Layout) (some : Bool) → NoValues t
@@ -110,14 +110,14 @@ TakesForm old left content code byte_makes.NoMemory new = SameTable old new
     × ((f : Form) × (form_of_code code ≡ Some f))
 TakesForm old left content code byte_makes.Within new = ⊥
 
--- `Cursor::next`: the place of the value after this one, where an entry has so many
+-- `Cursor::next`: the place of the value after this one, where an entry has `width`
 abbrev pub Moves : Cursor → ℕ → Option Cursor → Type 0
 Moves old width None = (width ≤ old.column + 1) × (old.left ≤ 1)
 Moves old width (Some new) =
     ((old.column + 1 < width) × (new.column ≡ old.column + 1) × (new.left ≡ old.left))
     ⊎ ((width ≤ old.column + 1) × (2 ≤ old.left) × (new.column ≡ 0) × (new.left ≡ old.left - 1))
 
--- no value follows the one at the place, where an entry has so many
+-- no value follows the one at the place, where an entry has `width`
 abbrev pub IsLast : Cursor → ℕ → Type 0
 IsLast at width = (width ≤ at.column + 1) × (at.left ≤ 1)
 

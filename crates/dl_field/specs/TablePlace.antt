@@ -124,11 +124,11 @@ pub record Holds (pairs : List Pair) (pool : List ℕ) (values : List StoredValu
   pub wide : AreWide (length pairs) entries
   pub within : values_end values ≤ length pool
 
--- so many bytes of the pool are those of texts and blocks among the values
+-- `filled` bytes of the pool are those of texts and blocks among the values
 abbrev pub Summed : List StoredValue → ℕ → Type 0
 Summed values filled = sum_by cells_held values ≡ length values + filled
 
--- what follows the values before of an entry after these, so many entries being left with it
+-- what follows the values before of an entry after these, where `left` entries are left with it
 abbrev pub values_left : Format → (TableData → Layout) → List Pair → List (List Value) → List Value → ℕ → Layout
 values_left format next pairs entries before left =
     entry_layout format (drop (length before) pairs) before λ entry.
@@ -149,7 +149,7 @@ pub record InValue (t : TableReader) (at : Cursor) (v : ValuePhase) (format : Fo
   pub layout_is : layout ≡ values_left format next t.pairs.items entries before at.left
   pub value : ValueAt format pair.form v t.pool.items rest
 
--- the reader is in the bytes of a block, whose value is entered already; so many are to come
+-- the reader is in the bytes of a block, whose value is entered already; `left` are to come
 pub record InBlock (order : Order) (t : TableReader) (at : Cursor) (left : ℕ) (format : Format)
     (next : TableData → Layout) (layout : Layout) (rest : List ℕ) : Type 0 where
   pub entries : List (List Value)

@@ -5,17 +5,17 @@ use Rattle.dl_field.specs.declared.table_reader.TablePhase.TheVariants as phase
 use Rattle.dl_field.specs.declared.value_phase.ValuePhase.{ValuePhase}
 use Rattle.dl_field.specs.declared.value_phase.ValuePhase.TheVariants as value
 
--- where the text at hand begins in the pool
+-- where the current text begins in the pool
 abbrev pub value_start : ValuePhase → ℕ
 value_start (value.Text start) = start
 value_start v = 0
 
--- how many bytes of the pool are those of complete values, where it has so many
+-- how many bytes of the pool are those of complete values, where it has n
 abbrev pub value_filled : ValuePhase → ℕ → ℕ
 value_filled (value.Text start) n = start
 value_filled v n = n
 
--- how many bytes of the block at hand are to come
+-- how many bytes of the current block are to come
 abbrev pub value_due : ValuePhase → ℕ
 value_due (value.Block left) = left
 value_due v = 0

@@ -17,9 +17,9 @@ use std::mem;
 #[derive(Clone, Copy)]
 pub(crate) enum TablePhase {
     PairCount,
-    /// A content code; so many pairs are left with its own.
+    /// How many pairs are left with this one, and its content code.
     ContentCode(u8, Uleb),
-    /// The form code after this content code; so many pairs are left with its own.
+    /// How many pairs are left with this one, its content code, and its form code.
     FormCode(u8, u64, Uleb),
     EntryCount(Uleb),
     Value(Cursor, ValuePhase),
@@ -30,7 +30,7 @@ pub(crate) enum TablePhase {
 impl TablePhase {
     ghost use Rattle.dl_field.specs.TableMoves.{BeginsPair};
 
-    /// The next pair, so many being left, or the count of the entries.
+    /// The next pair where `left` are left, or the count of the entries where none is.
     fn of_pairs(left: u8) -> TablePhase
         ensures due { pairs_due result ≡ left }
         ensures no_row { row_end result ≡ 0 }
@@ -217,7 +217,7 @@ impl TableReader {
         }
     }
 
-    /// Begins so many entries.
+    /// Begins the entries, of which there are `count`.
     fn begin_entries(&mut self, count: u64, format: Format) -> FieldStep
         requires { values_end self.old.values.items ≤ length self.old.pool.items }
         ensures made { TakesCount self.old (Ok count) format result self.new }

@@ -19,7 +19,7 @@ pub(crate) struct Cursor {
 impl Cursor {
     ghost use Rattle.dl_field.specs.TableMoves.{IsLast, Moves};
 
-    /// Whether no value follows, where an entry has so many.
+    /// Whether no value follows, where an entry has `width` values.
     #[inline(always)]
     pub fn is_last(self, width: usize) -> bool
         requires { self.column < width }
@@ -28,7 +28,7 @@ impl Cursor {
         self.left <= 1 && self.column + 1 >= width
     }
 
-    /// The place after this one, where an entry has so many values; None after the last one.
+    /// The place after this one, where an entry has `width` values; None after the last one.
     #[inline(always)]
     pub fn next(self, width: usize) -> Option<Cursor>
         requires { self.column < width }
@@ -63,7 +63,7 @@ pub(crate) enum ValuePhase {
     /// The length of a block.
     BlockLength(PartialNumber),
     LebBlockLength(Uleb),
-    /// The bytes of a block, of which so many are left.
+    /// The bytes of a block, and how many of them are left.
     Block(u64),
 }
 

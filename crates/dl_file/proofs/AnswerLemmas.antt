@@ -81,7 +81,7 @@ any_bytes : (whole : Content) (count : ℕ) (bytes : List ℕ) → ¬ (count ≡
 any_bytes whole zero bytes some = absurd (some refl)
 any_bytes whole (suc n) bytes some = (bytes, refl)
 
--- the answer of a section with so many sections of relocations
+-- the answer of a section with `count` sections of relocations
 pub line_answers : (header : Option CompressionHeader) (e : Elf) (f : List ℕ) (line : NamedSection) (count : ℕ)
     (why : ElfFault) → relocations_of e f line.number ≡ Some count → ¬ (count ≡ 0)
     → (◌≡◌ {A = Option CompressionHeader} header None → line_bytes e f line ≡ Err why)

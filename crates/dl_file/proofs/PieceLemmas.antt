@@ -22,7 +22,7 @@ use Rattle.dl_file.specs.Relocations.{bytes_in, values_in}
 
 -- ---- pieces of bytes
 
--- so many bytes from there on are a piece of a range, at its end a shorter one
+-- `len` bytes from `start` on are a piece of a range, at its end a shorter one
 pub piece_of : (offset size start at len : ℕ) (f part rest : List ℕ) → at ≡ offset + start
     → len ≡ min (size - start) 24576 → start ≤ size → length part ≡ len → part ≡ take (length part) (drop at f)
     → take len (part ++ rest) ≡ take 24576 (drop start (bytes_at offset size f))

@@ -27,7 +27,7 @@ stream_fault r = r.fault
 abbrev pub stream_bytes : {S : Type 0} {g : _} → (S → Option (List ℕ)) → InflatedReader S g → Option (List ℕ)
 stream_bytes all_bytes r = known_range (all_bytes r.source.now) r.place.offset r.place.size
 
--- the bytes of a section where its stream is one, but for those that were given; so many are to come
+-- the bytes of a section where its stream is one, but for those that were given; `left` are to come
 abbrev pub left_of : CompressionHeader → (stream : Option (List ℕ)) → (left : ℕ) → Option (List ℕ)
 left_of header stream left = option_map (drop (header.size - left)) (option_and_then (inflated header) stream)
 

@@ -108,8 +108,8 @@ abbrev pub plain_content : Result (List ℕ) ElfFault → Result Content ElfFaul
 plain_content (Ok bytes) = Ok (Plain bytes)
 plain_content (Err first) = Err first
 
--- a compressed line section with so many sections of relocations. Where it has some it is inflated when the file is
--- opened: then what they make of it, and the faults of the stream and of the relocations, are left open
+-- a compressed line section, by the number of its sections of relocations. Where it has some it is inflated when the
+-- file is opened: then what they make of it, and the faults of the stream and of the relocations, are left open
 abbrev pub IsInflatedWith : Content → Option ℕ → Result Content ElfFault → Type 0
 IsInflatedWith whole (Some zero) result = result ≡ Ok whole
 IsInflatedWith whole other (Ok c) = (bytes : List ℕ) × (c ≡ Plain bytes)

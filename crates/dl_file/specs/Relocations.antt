@@ -125,7 +125,7 @@ HasRelocations e f number = (n : ℕ) × (relocations_of e f number ≡ Some (su
 
 -- ---- the line section's bytes
 
--- with so many sections of relocations; more than 16 are refused
+-- by the number of its sections of relocations; more than 16 are refused
 abbrev pub bytes_with : Elf → List ℕ → NamedSection → Option ℕ → Result (List ℕ) ElfFault
 bytes_with e f line None = Err (fault.Damaged part.SectionHeaders)
 bytes_with e f line (Some zero) = Ok (section_bytes line.header f)

@@ -34,7 +34,7 @@ record Makes (order : Order) (h : HeaderData) (layout : Layout) (items : List It
   spelt : SpellsFields order layout items bytes
   made : header_made (following_all layout items) ≡ Some h
 
--- after fields that hold so many cells, some others make it from this layout on
+-- after fields that hold `held` cells, some others make it from this layout on
 record Then (order : Order) (h : HeaderData) (layout : Layout) (held : ℕ) (items : List Item) : Type 0 where
   later : List Item
   makes : Makes order h layout later

@@ -108,7 +108,7 @@ end_is r (phase.Failed f) items rest at = absurd at
 
 -- ---- a field ends at that end or before it
 
--- so many bytes end at the end or before it
+-- n bytes end at the end or before it
 abbrev pub UpTo : ℕ → Option ℕ → Type 0
 UpTo n None = Unit {0}
 UpTo n (Some end) = n ≤ end

@@ -206,7 +206,7 @@ no_fields order b rest e =
     subst (λ (c : Cut). Sound order header_layout b c) e (cut_sound order header_layout [] b) in
     s.whole ∙ ap (λ (z : List ℕ). z ++ rest) s.spelt
 
--- so many bytes can be counted
+-- the bytes taken can be counted
 pub countable : (r : HeadReader) (b : List ℕ) → Live r b → length b < 2 ^ 41
 countable r b l = on r.end refl l.below r.near where
   on : (end : Option ℕ) → r.end ≡ end → Below (length b) end → end_near end ≡ true → length b < 2 ^ 41

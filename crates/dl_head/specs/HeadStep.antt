@@ -6,7 +6,7 @@ use Rattle.dl_head.specs.declared.reader.Phase.TheVariants as phase
 use Rattle.dl_table.specs.Built.{same_format}
 use Rattle.dl_head.specs.Built.{wrong_length}
 
--- whether so many opcode lengths fit the phase and opcode_base
+-- whether n opcode lengths fit the phase and opcode_base
 abbrev pub lengths_fit : Phase → ℕ → ℕ → Bool
 lengths_fit phase.OpcodeLength n base = nat_lt (n + 1) base
 lengths_fit phase.Directories n base = n + 1 == base
@@ -22,7 +22,7 @@ abbrev pub end_near : Option ℕ → Bool
 end_near None = true
 end_near (Some end) = nat_le end (2 ^ 41)
 
--- whether tables of so many cells fit the phase: one that isn't read yet has none
+-- whether tables of these numbers of cells fit the phase: one that isn't read yet has none
 abbrev pub tables_fit : Phase → (directories files : ℕ) → Bool
 tables_fit phase.Files directories files = files == 0
 tables_fit phase.Padding directories files = true

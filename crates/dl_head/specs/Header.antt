@@ -87,7 +87,7 @@ unit_len order b = unit_end (cut order b).items
 abbrev pub foreign_in : Order → List ℕ → Option ℕ
 foreign_in order b = foreign_made (layout_after order b)
 
--- what is left of b after a header, the fields of which are so many bytes
+-- what is left of b after a header, whose fields have `fields` bytes
 abbrev pub header_up_to : List ℕ → ℕ → Option HeaderData → Option ℕ → Option (HeaderData × List ℕ)
 header_up_to b fields (Some h) (Some end) = if nat_le fields end && nat_le end (length b) then Some (h, drop end b)
     else None

@@ -20,7 +20,7 @@ bad_kind (Some (Err kind)) = Some kind
 bad_kind (Some (Ok a)) = None
 bad_kind None = None
 
--- the kind, where so many bytes are all that there are
+-- the kind, where n bytes are all that there are
 abbrev pub at_end : FaultKind → ℕ → Option ℕ → Option FaultKind
 at_end kind n None = None
 at_end kind n (Some end) = if n == end then Some kind else None

@@ -15,7 +15,7 @@ use Rattle.dl_head.specs.Refusal.{header_decided, HeaderRefused, NothingBefore}
 use Rattle.dl_head.specs.Cells.{cells}
 use Rattle.dl_head.specs.Place.{At, SameCounts, SameUnit, end_of_unit, held_cells}
 
--- so many bytes end before the end, as far as that is known
+-- n bytes end before the end, as far as that is known
 abbrev pub Below : ℕ → Option ℕ → Type 0
 Below n None = Unit {0}
 Below n (Some end) = n < end
@@ -32,7 +32,7 @@ pub record Live (r : HeadReader) (b : List ℕ) : Type 0 where
   pub nothing_before : NothingBefore (header_decided r.order) b
   pub ends_within : (n e : ℕ) → unit_end items ≡ Some n → header_end items ≡ Some e → e ≤ n
 
--- there is no header yet, and so many cells are held
+-- there is no header yet, and the cells of b are held
 pub record Unmade (r : HeadReader) (b : List ℕ) : Type 0 where
   pub header : r.header ≡ None
   pub cells_are : held_cells r ≡ cells r.order b

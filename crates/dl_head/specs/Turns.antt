@@ -1,7 +1,7 @@
 -- Bytes offered in turns, and what came of each turn.
 use Rattle.std.specs.Prelude.{◌≡◌, ℕ, Bool, true, false, List, [], ◌∷◌, ◌++◌, min, take, drop, sum_by}
 
--- what came of a piece: so many of its bytes were used, and this was answered
+-- what came of a piece: how many of its bytes were used, and what was answered
 pub record Answer (A : Type 0) : Type 0 where
   pub used : ℕ
   pub gave : A

@@ -27,7 +27,7 @@ after_header_length order h =
 abbrev pub header_length_of : HeaderData → ℕ
 header_length_of h = length (after_header_length Little h)
 
--- unit_length of a unit with a program of so many bytes
+-- unit_length of a unit with a program of `program_len` bytes
 abbrev pub unit_length_of : HeaderData → ℕ → ℕ
 unit_length_of h program_len = fixed_part h.params.format + header_length_of h + program_len
 
@@ -36,7 +36,7 @@ abbrev pub initial_length_bytes : Order → Format → ℕ → List ℕ
 initial_length_bytes order Dwarf32 n = fixed_bytes order 4 n
 initial_length_bytes order Dwarf64 n = fixed_bytes order 4 0xffffffff ++ fixed_bytes order 8 n
 
--- the bytes of a unit before its program, which has so many bytes
+-- the bytes of a unit before its program, which has `program_len` bytes
 abbrev pub header_bytes : Order → HeaderData → ℕ → List ℕ
 header_bytes order h program_len =
     initial_length_bytes order h.params.format (unit_length_of h program_len)
@@ -48,6 +48,6 @@ abbrev pub written_limit : Format → ℕ
 written_limit Dwarf32 = 0xffffffef
 written_limit Dwarf64 = unit_length_limit
 
--- a unit of this header and a program of so many bytes can be written
+-- a unit of this header and a program of `program_len` bytes can be written
 abbrev pub is_within_limit : HeaderData → ℕ → Bool
 is_within_limit h program_len = nat_le (unit_length_of h program_len) (written_limit h.params.format)

@@ -27,7 +27,7 @@ use thiserror::Error;
 #[error("unit too long")]
 pub struct TooLong;
 
-/// How many bytes a unit has before its program of so many bytes. It is refused where unit_length
+/// How many bytes a unit has before its program of `program_len` bytes. It is refused where unit_length
 /// would be above 0xffffffef in the 32-bit format, or above 2^40 in the 64-bit format.
 pub fn header_len(header: &Header, program_len: u64) -> Result<u64, TooLong>
     ensures refused { IsOk result ↔ IsTrue (is_within_limit header.now program_len) }
@@ -42,8 +42,8 @@ pub fn header_len(header: &Header, program_len: u64) -> Result<u64, TooLong>
     Ok(initial_size(format) + fields_len(header))
 }
 
-/// Writes the bytes of a unit before its program, which has so many bytes, and answers how many they
-/// are. After a write that failed exactly the first `out` bytes are out.
+/// Writes the bytes of a unit before its program, which has `program_len` bytes, and answers how many
+/// they are. After a write that failed exactly the first `out` bytes are out.
 pub fn write_header<W: Write>(
     output: &mut W,
     order: Order,

@@ -28,7 +28,7 @@ upto_entry : (ledger : Ledger) (limit i e : ℕ) → entry_at ledger i ≡ Some 
 upto_entry ledger limit i e h =
     ap (option_and_then (λ e. if nat_lt e limit then Some (answered_at ledger e).row else None)) h
 
--- an answer among the first so many has an entry there
+-- an answer among the first `limit` has an entry there
 record Entry (ledger : Ledger) (limit i : ℕ) (r : Row) : Type 0 where
   entry : ℕ
   is : entry_at ledger i ≡ Some entry

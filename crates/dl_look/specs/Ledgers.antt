@@ -36,7 +36,7 @@ answered_at ledger e = slice_index_or ledger.log.items e no_answer
 abbrev pub entry_at : Ledger → ℕ → Option ℕ
 entry_at ledger i = slice_index_or ledger.entries.items i None
 
--- the answer of the place i, where it is among the first so many
+-- the answer of the place i, where it is among the first `limit`
 abbrev pub answer_upto : ℕ → Ledger → ℕ → Option Row
 answer_upto limit ledger i =
     option_and_then (λ e. if nat_lt e limit then Some (answered_at ledger e).row else None) (entry_at ledger i)

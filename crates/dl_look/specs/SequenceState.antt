@@ -17,7 +17,7 @@ end_of Start = 0
 end_of Passed = 0
 end_of (Open last end) = end
 
--- how many stretches there may be, of so many slots
+-- how many stretches there may be, of `count` slots
 abbrev pub most_stretches : ℕ → State → ℕ
 most_stretches count Start = count
 most_stretches count Passed = count

@@ -57,7 +57,7 @@ impl Ledger {
         self.log.as_slice()
     }
 
-    /// The answer of the place of this number, where it is among the first so many.
+    /// The answer of the place of this number, where it is among the first `limit`.
     pub fn answer(&self, number: usize, limit: usize) -> Option<Row>
         requires { (i e : ℕ) → entry_at self.now i ≡ Some e → e < length self.now.log.items }
         ensures { result ≡ answer_upto limit self.now number }
@@ -119,7 +119,7 @@ impl Ledger {
     }
 }
 
-/// No entry for each of so many places.
+/// No entry for each of `count` places.
 pub(crate) fn no_entries(alloc: Global, count: usize) -> Result<Vec<Option<usize>>, NoMemory>
     ensures { IfOk result (λ entries. entries.items ≡ replicate count None) }
 {

@@ -39,7 +39,7 @@ use Rattle.dl_rows.proofs.UnitLemmas.{refused_in_header}
 use Rattle.dl_rows.proofs.UnitLengths.{foreign_of}
 use Rattle.dl_rows.proofs.UnitWhole.{NoneRefused}
 
--- ---- up to so many bytes of the piece
+-- ---- up to a byte of the piece
 
 one_on : (b piece : List ℕ) (i : ℕ) → i < length piece
     → b ++ take (suc i) piece ≡ (b ++ take i piece) ++ get_or piece i 0 ∷ []
@@ -84,7 +84,7 @@ sound_up_to order b piece (suc n) le none sound not quiet =
 
 -- ---- the reader has offered the piece to that of the header
 
--- so many bytes of the piece are taken
+-- the first `used` bytes of the piece are taken
 pub record HeadTook (order : Order) (new : HeadReader) (b piece : List ℕ) (used : ℕ) (step : HeadStep) : Type 0 where
   pub took : Took order b piece used step
   pub stands : HeadStands new (b ++ take used piece)

@@ -105,7 +105,7 @@ signed_out make w i s out = record {
 
 -- ---- an operand of fixed size
 
--- so many bytes, and what they make
+-- `size` bytes, and what they make
 abbrev pub sized : ℕ → (List ℕ → Operation) → List ℕ → Option Verdict
 sized size make w = if length w == size then Some (Ok (make w)) else None
 

@@ -12,7 +12,7 @@ use Rattle.dl_rows.specs.declared.row.Row.{Row}
 use Rattle.dl_rows.specs.LineUnit.{events}
 use Rattle.dl_rows.specs.Refusal.{left_over, unit_decided}
 
--- a unit of so many bytes after unit_length, with empty tables: 34 bytes, and the program
+-- a unit of this unit_length, with empty tables: 34 bytes, and the program
 abbrev unit_of : ℕ → List ℕ → List ℕ
 unit_of unit_length program =
     unit_length ∷ 0 ∷ 0 ∷ 0 ∷ 5 ∷ 0 ∷ 8 ∷ 0 ∷ 0x16 ∷ 0 ∷ 0 ∷ 0 ∷ 1 ∷ 1 ∷ 1 ∷ 0xfb ∷ 0x0e ∷ 0x0d

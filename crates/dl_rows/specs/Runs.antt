@@ -16,7 +16,7 @@ use Rattle.dl_rows.specs.Refusal.{Refused}
 
 -- ---- the answers
 
--- what a piece may be answered after b, so many of its bytes being used: an event, or a fault
+-- what a piece may be answered after b, where `used` of its bytes are used: an event, or a fault
 abbrev pub MayGive : Order → (b piece : List ℕ) → ℕ → Result Event Fault → Type 0
 MayGive order b piece used (Ok event) = Answered order b piece (record { used = used; event = event })
 MayGive order b piece used (Err fault) = Fails order b piece fault used

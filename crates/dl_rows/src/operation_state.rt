@@ -68,17 +68,17 @@ pub enum OperationState {
     Line(Sleb),
     /// The operand of fixed_advance_pc.
     FixedAdd(PartialNumber),
-    /// LEB128 operands that nobody reads; so many are left.
+    /// How many LEB128 operands are left that nobody reads.
     Skipped(u8),
     /// The length of an extended opcode.
     Length(Uleb),
-    /// The number of an extended opcode, which has so many bytes with its operand.
+    /// How many bytes an extended opcode has with its operand; its number comes next.
     Extended(u64),
     /// The operand of set_address.
     Address(PartialNumber),
-    /// The operand of set_discriminator; so many bytes of the opcode are left.
+    /// How many bytes of the opcode are left, and the operand of set_discriminator.
     Discriminator(u64, Uleb),
-    /// Bytes of an extended opcode that nobody reads; so many are left.
+    /// How many bytes of an extended opcode are left that nobody reads.
     Rest(u64),
 }
 

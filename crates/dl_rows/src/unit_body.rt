@@ -246,7 +246,7 @@ impl BodyState {
     }
 }
 
-/// The first bytes of the piece, so many at the most.
+/// The first `most` bytes of the piece, or all where they are fewer.
 fn front<'a>(piece: &'a [u8], most: u64) -> &'a [u8]
     ensures { result.now ≡ take most piece.entry.now }
 {

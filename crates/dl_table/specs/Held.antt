@@ -50,7 +50,7 @@ abbrev pub rows : {A : Type 0} → ℕ → ℕ → List A → List (List A)
 rows zero width xs = []
 rows (suc count) width xs = take width xs ∷ rows count width (drop width xs)
 
--- so many values are a whole number of rows
+-- the values are a whole number of rows
 abbrev pub IsWhole : (values width : ℕ) → Type 0
 IsWhole values width = values / width * width ≡ values
 

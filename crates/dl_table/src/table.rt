@@ -213,7 +213,7 @@ fn copied(alloc: Global, pairs: &[Pair]) -> Result<Vec<Pair>, AllocError>
     Ok(copy)
 }
 
-/// How many whole rows so many values have; none where a row has no values.
+/// How many whole rows a number of values makes; none where a row has no values.
 fn whole_rows(values: usize, width: usize) -> usize
     ensures rows { result ≡ values / width }
     ensures within { result * width ≤ values }
@@ -221,7 +221,7 @@ fn whole_rows(values: usize, width: usize) -> usize
     values.checked_div(width).unwrap_or(0)
 }
 
-/// The row of this number, from 0 on, in rows of so many values.
+/// The row of this number, from 0 on, in rows of `width` values.
 #[tactic(auto, using(crate::proofs::HeldLemmas::row_within))]
 fn row(values: &[StoredValue], width: usize, i: usize) -> &[StoredValue]
     requires { i < length values.now / width }

@@ -398,8 +398,8 @@ fn outcome_of(alloc: Global, bytes: &[u8], before: u32, want: &[u8]) -> Outcome 
     }
 }
 
-/// How often memory is refused, where there is none after each of so many reads in turn. Asserts that nothing but that
-/// is told, and that the line section is the one that is wanted where it isn't refused.
+/// How often memory is refused, where there is none after each of the first `reads` reads. Asserts that nothing but
+/// that is told, and that the line section is the one that is wanted where it isn't refused.
 fn count_refusals(
     rt: &impl Abort,
     alloc: Global,

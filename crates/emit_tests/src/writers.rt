@@ -44,7 +44,7 @@ fn failed_writes(rt: HostRuntime) -> Result<(), Fail> {
     assert_failed_writes(&rt, rt.alloc(), &head)
 }
 
-/// Asserts what is answered where the unit of `THREE_ROWS` is written to a writer that is interrupted so many times at
+/// Asserts what is answered where the unit of `THREE_ROWS` is written to a writer that is interrupted `times` times at
 /// each call.
 fn assert_interrupted(
     rt: &impl Abort,
@@ -75,7 +75,7 @@ fn append_grown(rt: &impl Abort, alloc: Global, head: &Header, rows: &[Row], out
     append_unit(rt, &program, head, output);
 }
 
-/// Asserts that a program that takes the rows one by one makes the unit of these, which has so many bytes.
+/// Asserts that a program that takes the rows one by one makes the unit of these, which has `len` bytes.
 fn assert_grown(rt: &impl Abort, alloc: Global, head: &Header, rows: &[Row], len: u64) {
     let mut output = Sink::new(alloc, 20_000, 20_000);
     append_grown(rt, alloc, head, rows, &mut output);

@@ -116,7 +116,7 @@ fn three_rows_in_little(rt: HostRuntime) -> Result<(), Fail> {
     assert_program(&rt, rt.alloc(), &[], THREE_ROWS, &three_rows())
 }
 
-/// Asserts the same of a unit of so many bytes that these words spell.
+/// Asserts the same of a unit that these words spell, which has this length.
 fn assert_spelled(
     rt: &impl Abort,
     alloc: Global,

@@ -80,7 +80,7 @@ fn is_new(alloc: Global, table: &Table) -> Result<bool, BuildFault> {
     Ok(*table == empty(alloc)?)
 }
 
-/// Asserts that the entry is refused with so many bytes of memory, and that the table is as it was.
+/// Asserts that the entry is refused with `spare` bytes of memory, and that the table is as it was.
 fn assert_refused(
     rt: &impl Abort,
     alloc: Global,

@@ -236,7 +236,7 @@ fn entries_past_the_header_are_refused(rt: HostRuntime) {
     assert_ends(&rt, rt.alloc(), Order::Little, &BLOCK_PAST_THE_HEADER, end);
 }
 
-/// What a reader tells after so many bytes of `HUGE_DIRECTORY_COUNT`.
+/// What a reader tells after the first `len` bytes of `HUGE_DIRECTORY_COUNT`.
 fn cut_off(len: usize) -> Told {
     let cells = match len {
         0..33 => 0,

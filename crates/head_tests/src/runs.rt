@@ -11,7 +11,7 @@ use std::alloc::Global;
 use std::process::Abort;
 use test_support::{hoard, hoard_most};
 
-/// A run that takes so many bytes, of which none is refused, and ends with this answer.
+/// A run that takes `taken` bytes, of which none is refused, and ends with this answer.
 pub fn took(taken: usize, last: HeadStep) -> HeadRun {
     HeadRun {
         taken,

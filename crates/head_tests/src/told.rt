@@ -16,7 +16,7 @@ pub struct Told {
     pub has_header: bool,
 }
 
-/// What a reader tells that goes on after so many bytes of a unit of this length, and holds no cells.
+/// What a reader tells that goes on after `taken` bytes of a unit of this length, and holds no cells.
 pub fn goes_on(taken: u64, unit_len: Option<u64>) -> Told {
     Told {
         last: HeadStep::More,
@@ -27,7 +27,7 @@ pub fn goes_on(taken: u64, unit_len: Option<u64>) -> Told {
     }
 }
 
-/// What a reader tells that has the header, of so many bytes and cells, of a unit of this length.
+/// What a reader tells that has the header, by its bytes and cells, of a unit of this length.
 pub fn is_done(taken: u64, unit_len: u64, cells: u64) -> Told {
     Told {
         last: HeadStep::Done,
@@ -38,7 +38,7 @@ pub fn is_done(taken: u64, unit_len: u64, cells: u64) -> Told {
     }
 }
 
-/// What a reader tells that finds a fault in the last one of so many bytes, and holds no cells.
+/// What a reader tells that finds a fault in the last of `taken` bytes, and holds no cells.
 pub fn fails(taken: u64, unit_len: Option<u64>, offset: u64, kind: FaultKind) -> Told {
     Told {
         last: HeadStep::Fault(Fault { offset, kind }),

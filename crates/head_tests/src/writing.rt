@@ -164,7 +164,7 @@ fn failed_writes_are_told(rt: HostRuntime) {
     assert_too_long(&rt, rt.alloc(), &header);
 }
 
-/// Asserts what is answered where the header is written to a writer that is interrupted so many times at each call.
+/// Asserts what is answered where the header is written to a writer that is interrupted `times` times at each call.
 fn assert_interrupted(
     rt: &impl Abort,
     alloc: Global,

@@ -16,7 +16,7 @@ pub fn found(rows: &[Row], place: Place) -> Option<Row> {
     finder.answer()
 }
 
-/// Finder, index and search answer a row of this line, or None, by so many probes at most.
+/// Finder, index and search answer a row of this line, or None, by at most `most` probes.
 pub fn answers(
     rt: &impl Abort,
     index: &Index,

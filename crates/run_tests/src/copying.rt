@@ -31,8 +31,7 @@ const BEFORE_A_NAME: &str = "01 01 01 fb 0e 0d 00 01 01 01 01 00 00 00 01 00 00 
 
 const AFTER_A_NAME: &str = "00 00 00 00 09 02 00 10 40 00 00 00 00 00 13 4b 02 02 00 01 01";
 
-/// Asserts what `copy` writes and answers, the section coming `most` bytes at a time, and so many being
-/// written at a time.
+/// Asserts what `copy` writes and answers, where at most `most` bytes come and go at a time.
 fn assert_copied_by(
     rt: &impl Abort,
     alloc: Global,
@@ -202,7 +201,7 @@ fn foreign_units(rt: HostRuntime) -> Result<(), Fail> {
     assert_faults(&rt, rt.alloc(), &FOREIGN_UNITS)
 }
 
-/// Appends a unit of three rows with a directory whose name has so many bytes.
+/// Appends a unit of three rows with a directory whose name has `name` bytes.
 fn append_long_name(alloc: Global, section: &mut Vec<u8>, name: u32) -> Result<(), Fail> {
     section.extend_from_slice(&name.saturating_add(51).to_le_bytes())?;
     section.extend_from_slice(&[5, 0, 8, 0])?;
@@ -212,7 +211,7 @@ fn append_long_name(alloc: Global, section: &mut Vec<u8>, name: u32) -> Result<(
     append(alloc, section, AFTER_A_NAME)
 }
 
-/// Appends so many letters.
+/// Appends `count` letters.
 fn append_letters(section: &mut Vec<u8>, count: u32) -> Result<(), Fail> {
     for _ in 0..count {
         section.push(b'n')?;
@@ -220,14 +219,14 @@ fn append_letters(section: &mut Vec<u8>, count: u32) -> Result<(), Fail> {
     Ok(())
 }
 
-/// A unit of three rows, and one of the same rows with a directory whose name has so many bytes.
+/// A unit of three rows, and one of the same rows with a directory whose name has `name` bytes.
 fn with_a_long_name(alloc: Global, name: u32) -> Result<Vec<u8>, Fail> {
     let mut section = bytes(alloc, &[THREE_ROWS])?;
     append_long_name(alloc, &mut section, name)?;
     Ok(section)
 }
 
-/// Asserts what `copy` writes of a section that is copied as it is, and answers, where the output takes so many bytes.
+/// Asserts what `copy` writes of a section that is copied as it is, and answers, where the output takes `room` bytes.
 fn assert_room(
     rt: &impl Abort,
     alloc: Global,

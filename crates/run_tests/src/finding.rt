@@ -37,7 +37,7 @@ const NOT_FOUND: Answer = Err(RunFault::NotFound);
 /// Of a line in the first unit, which has three rows.
 const FOUND: Answer = Ok([1, 0, 1, 3]);
 
-/// Finds an address in a section of at most so many bytes.
+/// Finds an address in a section of at most `limit` bytes.
 fn find(address: u64, limit: u64) -> Job<'static> {
     Job::limited(Command::Find(at(address)), limit)
 }

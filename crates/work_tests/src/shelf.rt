@@ -81,7 +81,7 @@ pub struct Held<'a> {
 }
 
 impl Held<'_> {
-    /// How many bytes a read of so many from the offset on gives at most.
+    /// How many bytes a read of `len` from the offset on gives at most.
     fn most(&self, offset: u64, len: usize) -> io::Result<usize> {
         let (start, end) = self.failing;
         if start <= offset && offset < end {

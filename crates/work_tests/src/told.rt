@@ -176,7 +176,7 @@ pub struct Told {
 }
 
 impl Told {
-    /// Nothing yet. The output has room for so many bytes.
+    /// Nothing yet. The output has room for `room` bytes.
     fn new(alloc: Global, room: usize) -> Result<Told, AllocError> {
         Ok(Told {
             status: 0,

@@ -14,7 +14,7 @@ pub enum Outcome {
     Other,
 }
 
-/// What comes of a stream in pieces of so many bytes, of which these are expected, or any.
+/// What comes of a stream in pieces of `piece_len` bytes, of which these are expected, or any.
 pub fn read_stream(stream: &[u8], piece_len: usize, expected: Option<&[u8]>) -> Outcome {
     let mut inflate = Inflate::new();
     let mut given: usize = 0;
@@ -41,7 +41,7 @@ pub fn read_stream(stream: &[u8], piece_len: usize, expected: Option<&[u8]>) -> 
     Outcome::Short
 }
 
-/// What a stream came to that ended after so many bytes, which are a front of those expected.
+/// What a stream came to that ended after `given` bytes, which are a front of those expected.
 fn end(expected: Option<&[u8]>, given: usize) -> Outcome {
     match expected {
         Some(bytes) if bytes.len() != given => Outcome::Other,

@@ -94,7 +94,7 @@ impl HeadReader {
     }
 }
 
-/// What follows so many lengths of opcodes below this opcode_base: the next one, or the tables.
+/// What follows the first `lengths` lengths of opcodes below this opcode_base: the next one, or the tables.
 fn length_or_table(lengths: usize, opcode_base: u8) -> Phase
     requires { lengths + 1 ≤ opcode_base }
     ensures fit { lengths_fit result lengths opcode_base ≡ true }

@@ -22,8 +22,8 @@ impl HeadReader {
     ghost use Rattle.dl_head.specs.Runs.{Traced, Runs, Offered};
     ghost use Rattle.dl_head.specs.Whole.{IsInside, TakesAll};
 
-    /// Takes the bytes in turns, up to an end or a fault. A turn offers at most so many of the bytes
-    /// that aren't taken, and ends early where memory is refused; the next turn offers the same byte
+    /// Takes the bytes in turns, up to an end or a fault. A turn offers at most its number of the
+    /// bytes that aren't taken, and ends early where memory is refused; the next turn offers the same byte
     /// again.
     pub fn run(&mut self, bytes: &[u8], turns: &[usize]) -> HeadRun
         ensures traced { (b : List ℕ) → StandsFor self.old b → Answers self.old.order b answer.More

@@ -34,7 +34,7 @@ impl Reader {
     ghost use Rattle.dl_rows.specs.LineUnit.{IsUnit};
     ghost use Rattle.dl_rows.specs.Runs.{Traced, RunIs, UnitRunIs};
 
-    /// Takes the bytes in turns, up to the unit's end or a fault. A turn offers at most so many of
+    /// Takes the bytes in turns, up to the unit's end or a fault. A turn offers at most its number of
     /// the bytes that aren't taken, and ends after an event, or early where memory is refused; the
     /// next turn offers the same byte again. The listener hears all but More, End and NoMemory.
     pub fn run<L: Listener>(

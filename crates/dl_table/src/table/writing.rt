@@ -270,7 +270,7 @@ fn put_block<W: Write>(
     }
 }
 
-/// Writes the length of the bytes, in so many bytes, and the bytes.
+/// Writes the length of the bytes, as a number of `size` bytes, and the bytes.
 fn put_sized<W: Write>(
     output: &mut W,
     out: u64,
