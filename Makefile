@@ -69,19 +69,21 @@ install-lib:
 uninstall:
 	rm -f $(bin) $(man) $(bash) $(zsh) $(fish) $(archive) $(shared) $(header) $(package)
 
-# Every proof from nothing, every edit that must be refused, every test; then the sections of examples/.
+# Every proof from nothing, every edit that must be refused, every test; then the sections of examples/. `rt ci` proves
+# the library for C and leaves it to be compiled.
 test:
 	rm -f crates/dwline/out/dwline crates/dl_c/out/libdl_c.a out/libboxantrel.a
 	rt ci
 	test -x crates/dwline/out/dwline || $(MAKE) dwline
-	test ! -e crates/dl_c/out/libdl_c.a || $(MAKE) library
+	bindings/c/archive
+	$(MAKE) library
 	$(MAKE) compare-built
 
 # Every section of examples/, printed and compared with its expected dump; every option of every command; the
 # man page, the completions and what `make install` puts where; the library, from C, Rust and Python.
 compare: dwline lib compare-built
 
-# The same of what is built, side by side: `make test` takes the library as `rt ci` built it, where it did.
+# The same of what is built, side by side.
 compare-built:
 	$(MAKE) --jobs --output-sync $(tries)
 
