@@ -10,10 +10,12 @@ ghost use Rattle.dl_elf.specs.Forward.{NoneForward, passed};
 ghost use Rattle.dl_elf.specs.SlotsFound.{AreFoundBefore};
 
 use crate::file::{Elf, section_at};
+use crate::header::{Class, FileHeader};
 use crate::name::SectionName;
 use crate::section::{NOBITS, SectionHeader};
 use crate::source::{ReadAt, shorter};
 use crate::window::Window;
+use dl_num::Order;
 use std::io;
 
 /// A section that was found by its name.
@@ -83,16 +85,27 @@ impl Sections {
     }
 
     /// Keeps the section under each name that `bytes` begin with and that has no section yet.
+    #[inline(always)]
     fn note(&mut self, number: u64, header: &SectionHeader, bytes: &[u8])
         ensures slots { (k : ℕ) → k < 10 → slot_at (slots self.new) k
             ≡ noted bytes.now number header.now (name_at k) (slot_at (slots self.old) k) }
         ensures forward { forward_of self.new ≡ forward_of self.old }
     {
-        if !may_be_looked_for(bytes) {
-            return;
+        if may_be_looked_for(bytes) {
+            self.note_each(number, *header, bytes);
         }
+    }
+
+    /// The same, name by name.
+    // Apart from the loop over all sections, few of which come here, so that it needs no header in memory.
+    #[inline(never)]
+    fn note_each(&mut self, number: u64, header: SectionHeader, bytes: &[u8])
+        ensures slots { (k : ℕ) → k < 10 → slot_at (slots self.new) k
+            ≡ noted bytes.now number header (name_at k) (slot_at (slots self.old) k) }
+        ensures forward { forward_of self.new ≡ forward_of self.old }
+    {
         for (index, name) in SectionName::ALL.iter().enumerate() {
-            self.found[index] = noted(bytes, number, header, *name, self.found[index]);
+            self.found[index] = noted(bytes, number, &header, *name, self.found[index]);
         }
     }
 }
@@ -134,6 +147,7 @@ fn begins_with_name(bytes: &[u8], name: SectionName) -> bool
 
 /// The bytes of the name table from a section's name on, as many as there are of `LONGEST`: where they stand in the
 /// file, and how many the window shows.
+#[inline(always)]
 fn show_name<S: ReadAt>(
     source: &S,
     window: &mut Window,
@@ -154,6 +168,7 @@ fn show_name<S: ReadAt>(
 }
 
 /// Looks at section `number`, and keeps it where it is the first of one of the names.
+#[inline(always)]
 fn look_at<S: ReadAt>(
     source: &S,
     headers: &mut Window,
@@ -189,9 +204,10 @@ fn look_at<S: ReadAt>(
     Ok(())
 }
 
-/// Finds the sections of the names, and from where on sections may have relocations of later ones, in one pass over
-/// the section headers.
-pub fn find_sections<S: ReadAt>(source: &S, elf: &Elf) -> io::Result<Sections>
+/// The same as [`find_sections`]. It is compiled into its caller for each call, so where a call has a constant class and
+/// order, they aren't looked at for each header.
+#[inline(always)]
+fn find_among<S: ReadAt>(source: &S, elf: &Elf) -> io::Result<Sections>
     ensures found { ForBytes (S.all_bytes source.now) (λ f.
         IfOk result (λ s. AreFound elf.now f (slot_of (slots s)))) }
     ensures forward { ForBytes (S.all_bytes source.now) (λ f.
@@ -206,4 +222,27 @@ pub fn find_sections<S: ReadAt>(source: &S, elf: &Elf) -> io::Result<Sections>
         look_at(source, &mut headers, &mut names, elf, number, &mut sections)?;
     }
     Ok(sections)
+}
+
+/// Finds the sections of the names, and from where on sections may have relocations of later ones, in one pass over
+/// the section headers.
+pub fn find_sections<S: ReadAt>(source: &S, elf: &Elf) -> io::Result<Sections>
+    ensures found { ForBytes (S.all_bytes source.now) (λ f.
+        IfOk result (λ s. AreFound elf.now f (slot_of (slots s)))) }
+    ensures forward { ForBytes (S.all_bytes source.now) (λ f.
+        IfOk result (λ s. NoneForward elf.now f (forward_of s))) }
+    ensures within { IfOk result (λ s. forward_of s - 1 ≤ elf.now.count - 1) }
+    ensures fails { IfErr result (S.fails_with source.now) }
+{
+    match (elf.header.class, elf.header.order) {
+        (Class::Bits64, Order::Little) => {
+            let header = FileHeader {
+                class: Class::Bits64,
+                order: Order::Little,
+                ..elf.header
+            };
+            find_among(source, &Elf { header, ..*elf })
+        }
+        _ => find_among(source, elf),
+    }
 }

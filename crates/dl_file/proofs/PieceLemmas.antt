@@ -87,6 +87,14 @@ pieces_whole r s f i of within past =
     let same : r.size ≡ range.size = ap (λ (q : Range). q.size) of in
     take_all (i * 24576) (section_bytes s f) (omega (arith, long, same, past))
 
+-- all of them
+pub bytes_of_pieces : (r : Range) (s : SectionHeader) (f : List ℕ) (i : ℕ) (bytes : List ℕ) → r ≡ section_range s
+    → range_within (section_range s) f ≡ true → div_ceil r.size 24576 ≤ i
+    → bytes ≡ take (i * 24576) (section_bytes s f) → Some bytes ≡ bytes_in f s
+bytes_of_pieces r s f i bytes of within past is =
+    let lies : bytes_in f s ≡ Some (section_bytes s f) = rw within refl in
+    ap Some (is ∙ pieces_whole r s f i of within past) ∙ sym lies
+
 -- ---- pieces of entries and symbols
 
 -- a piece has whole entries

@@ -34,18 +34,19 @@ pub fn read_bytes<S: ReadAt>(
     if !lies_within(source, range.offset, range.size)? {
         return Ok(None);
     }
-    let mut bytes = Vec::new(alloc);
-    if range.size == 0 {
-        return Ok(Some(bytes));
-    }
-    if bytes.resize(range.size as usize, 0).is_err() {
+    let Ok(mut bytes) = Vec::with_capacity(alloc, range.size as usize) else {
         return Err(ElfFault::NoMemory);
+    };
+    let mut buffer = [0; PIECE];
+    for index in 0..range.size.div_ceil(PIECE as u64) {
+        let Some(len) = read_piece(source, &range, index, &mut buffer)? else {
+            return Ok(None);
+        };
+        let Ok(()) = bytes.extend_from_slice(&buffer[..len]) else {
+            return Err(ElfFault::NoMemory);
+        };
     }
-    if fill_whole(source, range.offset, bytes.as_mut_slice())? {
-        Ok(Some(bytes))
-    } else {
-        Ok(None)
-    }
+    Ok(Some(bytes))
 }
 
 /// Reads the bytes of a range from piece `index` of them on into the front of the buffer, as many as there are and fit,

@@ -1,7 +1,7 @@
 //! Relocations applied in order.
 ghost use Rattle.std.specs.Prelude.{◌≡◌, ◌≢◌, ◌+◌, ◌≤◌, ◌<◌, ◌++◌, ℕ, List, length, MatchOption, MatchResult, Ok, Err, Some};
 ghost use Rattle.dl_reloc.specs.Changes.{change_size};
-ghost use Rattle.dl_reloc.specs.LowTypes.{AreLow};
+ghost use Rattle.dl_reloc.specs.LowTypes.{AreLow, IsLong};
 ghost use Rattle.dl_reloc.specs.Relocated.{applied, by_change, place_changed, relocated, AreWhole};
 
 use crate::change::{Change, Width};
@@ -82,24 +82,32 @@ fn apply_change(
 }
 
 /// Applies one entry. What most entries do is a constant in its call, so how many bytes it changes is compiled in.
+/// `long` is a type that sets 64 bits, where one came: as most entries have it, it is looked for first.
 #[inline(always)]
 fn apply(
     target: &Target,
     low: &[Option<Change>; LOW],
+    long: &mut Option<u64>,
     symbols: &[u64],
     entry: &Entry,
     bytes: &mut [u8],
 ) -> Result<(), RelocationFault>
-    requires { AreLow target.now low.now }
-    ensures { MatchResult result
+    requires low { AreLow target.now low.now }
+    requires long { IsLong target.now long.old }
+    ensures made { MatchResult result
         (λ _. applied target.now symbols.now entry.now bytes.old ≡ Ok bytes.new)
         (λ fault. applied target.now symbols.now entry.now bytes.old ≡ Err fault) }
+    ensures long { IsLong target.now long.new }
 {
+    if *long == Some(entry.number) {
+        return apply_change(target, Change::Set(Width::Bits64), symbols, entry, bytes);
+    }
     let Some(change) = change_in(low, target, entry.number) else {
         return Err(RelocationFault::UnknownType(entry.number));
     };
     match change {
         Change::Set(Width::Bits64) => {
+            *long = Some(entry.number);
             apply_change(target, Change::Set(Width::Bits64), symbols, entry, bytes)
         }
         Change::Set(Width::Bits32) => {
@@ -141,11 +149,12 @@ fn relocate_entries(
         → relocated target.now form ((before ++ entries.now) ++ rest) symbols.now first ≡ Err fault) }
 {
     let low = low_types(target);
+    let mut long = None;
     let size = entry_size(target.class, form);
     for index in 0..count(entries, size) {
         let entry = item(entries, size, index);
         let entry = Entry::read(target.class, form, target.order, entry);
-        apply(target, &low, symbols, &entry, bytes)?;
+        apply(target, &low, &mut long, symbols, &entry, bytes)?;
     }
     Ok(())
 }

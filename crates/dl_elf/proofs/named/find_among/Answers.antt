@@ -1,7 +1,7 @@
 use Rattle.std.proofs.Common.{arith}
 use Rattle.dl_elf.proofs.ForwardLemmas.{none_at_first}
 use Rattle.dl_elf.proofs.FoundLemmas.{empty_found, found_at_end, all_found}
-use Rattle.dl_elf.proofs.named.find_sections.Goals as goal
+use Rattle.dl_elf.proofs.named.find_among.Goals as goal
 
 pub loop-number-init : goal.loop-number-init
 loop-number-init g c = record {

@@ -4,7 +4,7 @@ use Rattle.dl_elf.specs.Window.{Shows}
 use Rattle.dl_elf.specs.SlotsFound.{AreFoundBefore}
 use Rattle.dl_elf.specs.SectionsHeld.{slots, forward_of}
 use Rattle.dl_elf.specs.Forward.{NoneForward}
-use Rattle.dl_elf.proofs.named.find_sections.Given as goal
+use Rattle.dl_elf.proofs.named.find_among.Given as goal
 
 abbrev pub invariant-loop-number : goal.invariant-loop-number
 invariant-loop-number g l = record {

@@ -18,10 +18,10 @@ returns-in_err-apply c =
     relocated_to_fault t form entries symbols c.loop-index.index c.count-index-end.result c.args.bytes.now
     c.loop-index.bytes c.read-entry.result fault c.loop-index-test.true
     (c.count-index-end.ensures ∙ ap (λ size. count size entries) c.entry_size-size.ensures.size)
-    c.loop-index.invariant
+    c.loop-index.invariant.made
     (entry_is t form entries c.loop-index.index c.entry_size-size.result c.item-entry.result.now
     c.read-entry.result c.entry_size-size.ensures.size c.item-entry.ensures.item c.read-entry.ensures)
-    c.in_err-apply.ensures in
+    c.in_err-apply.ensures.made in
     record {
       made = rw (p.1, p.2) made;
       follows = λ before first whole is. rw (p.1, p.2) (λ rest.
@@ -39,12 +39,14 @@ returns-clause-follows c = λ before first whole is.
     omega (arith, c.loop-index-test.false, c.loop-index.auto.index-end) in
     let all = past ∙ (c.count-index-end.ensures ∙ ap (λ size. count size entries) c.entry_size-size.ensures.size) in
     parts_relocated t form before entries symbols first c.args.bytes.now whole is
-    ∙ (ap (λ k. applied_upto t form entries symbols k c.args.bytes.now) (sym all) ∙ c.loop-index.invariant)
+    ∙ (ap (λ k. applied_upto t form entries symbols k c.args.bytes.now) (sym all) ∙ c.loop-index.invariant.made)
 
 pub loop-index-preserved : goal.loop-index-preserved
-loop-index-preserved c =
-    next_applied c.args.target.now c.args.form c.args.entries.now c.args.symbols.now c.loop-index.index
-    c.args.bytes.now c.loop-index.bytes c.apply.new.bytes c.read-entry.result c.loop-index.invariant
-    (entry_is c.args.target.now c.args.form c.args.entries.now c.loop-index.index c.entry_size-size.result
-    c.item-entry.result.now c.read-entry.result c.entry_size-size.ensures.size c.item-entry.ensures.item
-    c.read-entry.ensures) c.in_ok-apply.ensures
+loop-index-preserved c = record {
+  made = next_applied c.args.target.now c.args.form c.args.entries.now c.args.symbols.now c.loop-index.index
+      c.args.bytes.now c.loop-index.bytes c.apply.new.bytes c.read-entry.result c.loop-index.invariant.made
+      (entry_is c.args.target.now c.args.form c.args.entries.now c.loop-index.index c.entry_size-size.result
+      c.item-entry.result.now c.read-entry.result c.entry_size-size.ensures.size c.item-entry.ensures.item
+      c.read-entry.ensures) c.in_ok-apply.ensures.made;
+  long = c.in_ok-apply.ensures.long;
+}

@@ -1,6 +1,6 @@
 use Rattle.std.proofs.Common.{◌≡◌, ℕ, ◌<◌, ◌≤◌}
 use Rattle.dl_elf.specs.Slots.{noted, slot_at, name_at}
-use Rattle.dl_elf.proofs.named.Sections.note.Given as goal
+use Rattle.dl_elf.proofs.named.Sections.note_each.Given as goal
 
 abbrev pub invariant-loop-index : goal.invariant-loop-index
 invariant-loop-index l = record {
