@@ -1,7 +1,6 @@
-use Rattle.std.proofs.Common.{◌≡◌, ℕ, List, IfOk, refl, subst, ap}
+use Rattle.std.proofs.Common.{◌≡◌, IfOk, refl, subst}
 use Rattle.dl_num.specs.declared.fixed.Order.TheVariants.{Little}
 use Rattle.dl_elf.specs.declared.header.Class.TheVariants.{Bits64}
-use Rattle.dl_elf.specs.declared.header.FileHeader.{FileHeader}
 use Rattle.dl_elf.specs.declared.file.Elf.{Elf}
 use Rattle.dl_elf.specs.Found.{AreFound}
 use Rattle.dl_elf.specs.Forward.{NoneForward}

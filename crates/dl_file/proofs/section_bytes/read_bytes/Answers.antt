@@ -1,4 +1,4 @@
-use Rattle.std.proofs.Common.{◌≡◌, ◌∙◌, ◌+◌, ◌*◌, ◌<◌, ◌≤◌, ◌++◌, true, ap, sym, take}
+use Rattle.std.proofs.Common.{◌≡◌, ◌∙◌, ◌+◌, ◌*◌, ◌≤◌, ◌++◌, true, ap, sym, take}
 use Rattle.std.specs.Int.{div_ceil}
 use Rattle.dl_elf.specs.Sections.{range_within, section_bytes, section_range}
 use Rattle.dl_file.proofs.PieceLemmas.{bytes_of_pieces, section_piece}
