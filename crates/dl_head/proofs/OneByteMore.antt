@@ -10,7 +10,6 @@ use Rattle.dl_field.specs.declared.field_step.FieldStep.TheVariants as byte_make
 use Rattle.dl_head.specs.declared.reader.HeadReader.{HeadReader}
 use Rattle.dl_head.specs.declared.reader.HeadStep.{HeadStep}
 use Rattle.dl_head.specs.declared.reader.HeadStep.TheVariants as answer
-use Rattle.dl_head.specs.declared.fault.Fault.{Fault}
 use Rattle.dl_table.specs.declared.fault.FaultKind.{FaultKind}
 use Rattle.dl_table.specs.Value.{Judgement, bad}
 use Rattle.dl_field.specs.Layout.{Item, following_all, field_spelt}
@@ -28,7 +27,7 @@ use Rattle.dl_field.proofs.FieldLemmas.{none_some}
 use Rattle.dl_head.proofs.CutLemmas.{cut_of, cut_bad}
 use Rattle.dl_head.proofs.HeaderEnds.{UpTo, below_next, end_from, end_is}
 use Rattle.dl_head.proofs.TakenBytes.{Place, in_field, in_padding, in_foreign, place_of, live_quiet}
-use Rattle.dl_head.proofs.TakenBytes.{not_foreign}
+use Rattle.dl_head.proofs.TakenBytes.{live_more, not_foreign}
 use Rattle.dl_head.proofs.OneAnswer.{one_answer}
 use Rattle.dl_head.proofs.StepCells.{cells_on}
 use Rattle.dl_head.proofs.SamePlace.{Guards, counted}
@@ -57,6 +56,21 @@ ended_step r b x a is other s =
       unfed = λ e. absurd (subst (λ (q : HeadStep). Answers r.order b q) e answers);
       taken = λ more fed. absurd (other (one_answer r.order b a answer.More answers more));
     }
+
+-- what has come of the bytes is what they come to
+pub ended_as : (r : HeadReader) (b : List ℕ) (a q : HeadStep) → ending r.phase ≡ Some a → StandsFor r b
+    → Answers r.order b q → a ≡ q
+ended_as r b a q is s answers =
+    one_answer r.order b a q (answers_of r b a (subst (λ (o : Option HeadStep). Stands r o b) is s.stands)) answers
+
+-- a header that has come to something doesn't go on
+pub ended_other : (r : HeadReader) (b : List ℕ) (a : HeadStep) → ending r.phase ≡ Some a → StandsFor r b
+    → a ≢ answer.More
+ended_other r b a is s more = subst (λ (o : Option HeadStep). Stands r o b) (is ∙ ap Some more) s.stands
+
+pub ended_whole : (r : HeadReader) (b : List ℕ) (a : HeadStep) → ending r.phase ≡ Some a → StandsFor r b
+    → Answers r.order b answer.More → ⊥
+ended_whole r b a is s more = ended_other r b a is s (ended_as r b a answer.More is s more)
 
 -- a header that came to nothing goes on
 pub goes_more : (r : HeadReader) (b : List ℕ) → StandsFor r b → Answers r.order b answer.More → ending r.phase ≡ None
@@ -181,23 +195,6 @@ unfed_step r new b x goes stands l f = (
       (f.cells l.0.items l.0.rest l.0.at).0,
 )
 
--- a reader whose phase is none of an end goes on
-pub goes_of : (p : Phase) → (p ≡ phase.Done → ⊥) → ((v : ℕ) → p ≡ phase.Foreign v → ⊥)
-    → ((f : Fault) → p ≡ phase.Failed f → ⊥) → ending p ≡ None
-goes_of phase.Done d v f = absurd (d refl)
-goes_of (phase.Foreign n) d v f = absurd (v n refl)
-goes_of (phase.Failed k) d v f = absurd (f k refl)
-goes_of (phase.UnitLength n) d v f = refl
-goes_of (phase.LongUnitLength n) d v f = refl
-goes_of phase.Version d v f = refl
-goes_of (phase.VersionEnd n) d v f = refl
-goes_of (phase.HeaderLength n) d v f = refl
-goes_of (phase.Byte n) d v f = refl
-goes_of phase.OpcodeLength d v f = refl
-goes_of phase.Directories d v f = refl
-goes_of phase.Files d v f = refl
-goes_of phase.Padding d v f = refl
-
 pub live_of : (r : HeadReader) (b : List ℕ) → ending r.phase ≡ None → StandsFor r b → Live r b × Unmade r b
 live_of r b goes s = subst (λ (o : Option HeadStep). Stands r o b) goes s.stands
 
@@ -235,3 +232,9 @@ new_stands r n is none size at taken start header directories files = record {
   no_front : (front : List ℕ) (x : ℕ) (back : List ℕ) → ◌≡◌ {A = List ℕ} [] (front ++ x ∷ back) → ⊥
   no_front [] x back e = absurd cc
   no_front (y ∷ front) x back e = absurd cc
+
+-- one that goes on has come to nothing
+pub still_goes : (r : HeadReader) (b : List ℕ) (q : HeadStep) → ending r.phase ≡ None → StandsFor r b
+    → Answers r.order b q → q ≢ answer.More → ⊥
+still_goes r b q goes s answers other =
+    other (one_answer r.order b q answer.More answers (live_more r b goes (live_of r b goes s).0))

@@ -111,7 +111,7 @@ impl HeadReader {
     ghost use Rattle.dl_head.specs.declared.reader.Phase.TheVariants as phase;
     ghost use Rattle.dl_head.specs.declared.reader.HeadStep.TheVariants as answer;
     ghost use Rattle.dl_head.specs.Place.{Keeps, PushFollows};
-    ghost use Rattle.dl_head.specs.Standing.{StandsFor, Settles, Fails, Completes};
+    ghost use Rattle.dl_head.specs.Standing.{StandsFor, Settles, Fails, Completes, ending};
     ghost use Rattle.dl_head.specs.Reading.{Answers, Steps, Gives};
     ghost use Rattle.dl_head.specs.Whole.{in_table, IsFront, Pushed, Advances};
 
@@ -143,13 +143,22 @@ impl HeadReader {
         ensures steps { (b : List ℕ) → StandsFor self.old b → Steps self.old.order b byte result self.new }
         ensures order { self.new.order ≡ self.old.order }
     {
-        match self.phase {
-            Phase::Done => return HeadStep::Done,
-            Phase::Foreign(version) => return HeadStep::Foreign(version),
-            Phase::Failed(fault) => return HeadStep::Fault(fault),
-            _ => {}
+        match self.ended() {
+            Some(last) => last,
+            None => self.advance(&[byte]).1,
         }
-        self.advance(&[byte]).1
+    }
+
+    /// What the bytes taken have come to; None while the header goes on.
+    fn ended(&self) -> Option<HeadStep>
+        ensures { result ≡ ending self.now.phase }
+    {
+        match self.phase {
+            Phase::Done => Some(HeadStep::Done),
+            Phase::Foreign(version) => Some(HeadStep::Foreign(version)),
+            Phase::Failed(fault) => Some(HeadStep::Fault(fault)),
+            _ => None,
+        }
     }
 
     /// How many bytes were taken.

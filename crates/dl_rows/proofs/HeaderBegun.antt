@@ -1,5 +1,5 @@
 -- What a reader of a header has taken, where it is known that it has taken something.
-use Rattle.std.proofs.Common.{◌≡◌, ◌++◌, ◌≤◌, ℕ, List, length, take, Option, None, sym, subst, ◌∙◌, arith}
+use Rattle.std.proofs.Common.{◌≡◌, ◌≢◌, ◌++◌, ◌≤◌, ℕ, List, length, take, Option, None, sym, subst, ◌∙◌}
 use Rattle.std.proofs.Props.{props}
 use Rattle.std.proofs.Math.Logic.{∥∥₁_elim, ∥∥₁_prop}
 use Rattle.dl_num.specs.declared.fixed.Order.{Order}
@@ -25,6 +25,13 @@ begun_in s head is begun = subst (λ (x : State). ∥ IsBegun x ∥₁) is begun
 pub taken_is : (head : HeadReader) (n : ℕ) → ∥ GoesOn head ∥₁ → ((b : List ℕ) → HeadStands head b → n ≡ length b)
     → n ≡ head.taken
 taken_is head n begun counts = ∥∥₁_elim begun (hlevel props) (λ g. counts g.0 g.1 ∙ sym g.1.taken)
+
+-- one that comes to something takes a byte
+pub begun_takes : (head : HeadReader) (used : ℕ) (step : HeadStep) → ∥ GoesOn head ∥₁
+    → ((b : List ℕ) → HeadStands head b → Answers head.order b answer.More → step ≢ answer.More
+    → step ≢ answer.NoMemory → 1 ≤ used) → step ≢ answer.More → step ≢ answer.NoMemory → 1 ≤ used
+begun_takes head used step begun takes ends fed =
+    ∥∥₁_elim begun (hlevel props) (λ g. takes g.0 g.1 g.2 ends fed)
 
 -- a reader that knows how long the unit is answers that
 pub length_known : (head : HeadReader) (o : Option ℕ) → ∥ KnowsLength head ∥₁

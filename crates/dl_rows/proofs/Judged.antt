@@ -1,5 +1,5 @@
 -- What is computed of bytes as an operation is so: a good one is spelled, a bad one is faulty.
-use Rattle.std.proofs.Common.{◌≡◌, ◌≢◌, ℕ, zero, suc, ◌+◌, ◌-◌, ◌^◌, ◌<◌, ◌≤◌, ◌⊎◌, ℤ, true, false, not}
+use Rattle.std.proofs.Common.{◌≡◌, ◌≢◌, ℕ, zero, suc, ◌+◌, ◌-◌, ◌^◌, ◌<◌, ◌≤◌, ◌⊎◌, true, false, not}
 use Rattle.std.proofs.Common.{nat_lt, nat_le, ◌==◌, ◌||◌, List, [], ◌∷◌, ◌++◌, length, slice_get, slice_index, Some}
 use Rattle.std.proofs.Common.{None, Ok, Err, if◌then◌else◌, refl, sym, ap, subst, ◌∙◌, arith, inl, inr}
 use Rattle.std.proofs.lemmas.Bool.{lt-leb, eqb-true, eqb-false, ltb-true, ltb-false, leb-true}
@@ -21,7 +21,7 @@ use Rattle.dl_rows.specs.OperationSpelt.{extended_spelt, body_spelt, length_and_
 use Rattle.dl_rows.specs.Spelling.{IsExtended, SpellsOperation}
 use Rattle.dl_rows.specs.BadOperation.{BeginsExtended, BeginsDiscriminator, IsWrongLength, IsFaulty}
 use Rattle.dl_rows.proofs.JudgedNumbers.{below, empty_is, fits, fits_not, leb_split, lebs_are, no_number}
-use Rattle.dl_rows.proofs.JudgedNumbers.{AreNumbers, not_below, number_is, signed_is}
+use Rattle.dl_rows.proofs.JudgedNumbers.{not_below, number_is, signed_is}
 
 -- what holds of w where this is computed of it
 abbrev pub Judged : Order → Params → List ℕ → Judgement Operation → Type 0

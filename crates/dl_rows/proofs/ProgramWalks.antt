@@ -1,5 +1,5 @@
 -- A reader that goes through bytes of a program, operation by operation.
-use Rattle.std.proofs.Common.{◌≡◌, ◌↔◌, ◌==◌, not, false, ℕ, List, [], ◌∷◌, ◌++◌, Option, Some, None, Ok, refl, sym, ap}
+use Rattle.std.proofs.Common.{◌≡◌, ◌↔◌, ℕ, List, [], ◌∷◌, ◌++◌, Option, Some, None, Ok, refl, sym, ap}
 use Rattle.std.proofs.Common.{subst, ◌∙◌, arith, append_assoc}
 use Rattle.std.proofs.lemmas.List.{append-nil}
 use Rattle.dl_num.specs.declared.fixed.Order.{Order}
@@ -11,18 +11,16 @@ use Rattle.dl_rows.specs.declared.operation.Operation.{Operation}
 use Rattle.dl_rows.specs.declared.operation_state.OperationState.{OperationState}
 use Rattle.dl_rows.specs.declared.operation_state.OperationState.TheVariants as phase
 use Rattle.dl_rows.specs.declared.program.Program.{Program}
-use Rattle.dl_rows.specs.Machine.{initial}
 use Rattle.dl_rows.specs.OperationSpelt.{operation_spelt, operations_in}
 use Rattle.dl_rows.specs.Phases.{PhaseStands}
 use Rattle.dl_rows.specs.LineUnit.{rows_in, ends_open}
 use Rattle.dl_rows.specs.Programs.{ProgramStands, Unrefused, Walked}
 use Rattle.dl_rows.specs.Sums.{FitsProgram, HasRange}
-use Rattle.dl_rows.proofs.FirstLemmas.{nil_front, nowhere_nil}
+use Rattle.dl_rows.proofs.FirstLemmas.{nil_front}
 use Rattle.dl_rows.proofs.Judged.{Judged, judged}
 use Rattle.dl_rows.proofs.OperandLemmas.{Verdict}
 use Rattle.dl_rows.proofs.OperandRanges.{range_of}
 use Rattle.dl_rows.proofs.ProgramTurns.{Turned, none_some, rows-found, rest-found, unrefused_join}
-use Rattle.dl_rows.proofs.RegisterLemmas.{starts}
 
 pub walk_start : (order : Order) (h : Params) (b bytes : List ℕ) (p : Program) → ProgramStands order h p b
     → Walked order h b bytes p bytes

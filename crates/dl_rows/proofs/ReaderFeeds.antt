@@ -12,7 +12,6 @@ use Rattle.dl_head.specs.Standing.{StandsFor as HeadStands}
 use Rattle.dl_field.proofs.FieldLemmas.{none_some}
 use Rattle.dl_head.proofs.HeaderLaws.{header_is_found}
 use Rattle.dl_rows.specs.declared.reader.Fed.{Fed}
-use Rattle.dl_rows.specs.declared.reader.Finish.TheVariants as finish
 use Rattle.dl_rows.specs.declared.reader.HeaderStop.{HeaderStop}
 use Rattle.dl_rows.specs.declared.reader.Reader.{Reader}
 use Rattle.dl_rows.specs.declared.reader.State.{State}

@@ -1,5 +1,5 @@
 -- What a reader answers after the header of a unit, or after a foreign version.
-use Rattle.std.proofs.Common.{◌≡◌, ◌≢◌, ℕ, suc, get_or, ◌+◌, ◌-◌, ◌^◌, ◌<◌, ◌≤◌, ◌⊎◌, List, [], ◌∷◌, ◌++◌}
+use Rattle.std.proofs.Common.{◌≡◌, ℕ, suc, get_or, ◌+◌, ◌-◌, ◌^◌, ◌<◌, ◌≤◌, List, [], ◌∷◌, ◌++◌}
 use Rattle.std.proofs.Common.{length, map, take, drop, min, Some, Err, refl, sym, ap, subst, ◌∙◌, arith, length-append}
 use Rattle.std.proofs.Common.{append_assoc, append-nil, length-take}
 use Rattle.std.proofs.lemmas.List.{take-append-drop, map-append}
@@ -21,7 +21,7 @@ use Rattle.dl_rows.specs.declared.unit_body.UnitBody.{UnitBody}
 use Rattle.dl_rows.specs.OperationSpelt.{operation_spelt, operations_in}
 use Rattle.dl_rows.specs.LineUnit.{rows_in, ends_open, events}
 use Rattle.dl_rows.specs.Programs.{ProgramStands, Unrefused, Told, Tells}
-use Rattle.dl_rows.specs.Reading.{WithinUnit, told, FeedsAfter, FailsAfter, IsPause, SinkAt}
+use Rattle.dl_rows.specs.Reading.{WithinUnit, FeedsAfter, FailsAfter, IsPause, SinkAt}
 use Rattle.dl_rows.specs.Refusal.{Refused}
 use Rattle.dl_rows.specs.Sinks.{Story}
 use Rattle.dl_rows.specs.Sums.{FitsProgram}

@@ -5,7 +5,7 @@ use crate::vectors::{
     BIG_DWARF64_WITH_MD5, BLOCK_PAST_THE_HEADER, DWARF64_WITH_MD5, EMPTY_PROGRAM,
     HUGE_DIRECTORY_COUNT, LINE_STRP_DIRECTORY, OPCODE_BASE_10, changed, is_header_of,
 };
-use dl_head::{FaultKind, HeadReader, HeadRun, HeadStep};
+use dl_head::{Fault, FaultKind, HeadReader, HeadRun, HeadStep};
 use dl_num::Order;
 use std::alloc::Global;
 use std::process::Abort;
@@ -99,7 +99,36 @@ fn a_run_takes_what_its_turns_offer(rt: HostRuntime) {
     let [first, rest, none] = three_runs(&mut HeadReader::new(rt.alloc(), Order::Little));
     assert_run(&rt, first, took(6, HeadStep::More));
     assert_run(&rt, rest, took(28, HeadStep::Done));
-    assert_run(&rt, none, took(0, HeadStep::More));
+    assert_run(&rt, none, took(0, HeadStep::Done));
+}
+
+/// Asserts that a reader of these bytes, which come to this, answers it again to whatever else is offered, and takes
+/// nothing of it.
+fn assert_ended(rt: &impl Abort, reader: &mut HeadReader, bytes: &[u8], last: HeadStep) {
+    assert_offer(rt, reader, bytes, took(bytes.len(), last));
+    for more in [[].as_slice(), &EMPTY_PROGRAM[..1], &EMPTY_PROGRAM] {
+        assert_offer(rt, reader, more, took(0, last));
+        assert_run(rt, reader.run(more, &[1, 100]), took(0, last));
+    }
+    assert_eq!(rt; reader.taken(), bytes.len() as u64);
+}
+
+#[test]
+fn nothing_is_taken_after_an_end(rt: HostRuntime) {
+    let foreign = [0x21, 0x00, 0x00, 0x00, 0x04, 0x00];
+    let reserved = [0xf0, 0xff, 0xff, 0xff];
+    let fault = HeadStep::Fault(Fault {
+        offset: 0,
+        kind: FaultKind::ReservedLength,
+    });
+    for (bytes, last) in [
+        (EMPTY_PROGRAM.as_slice(), HeadStep::Done),
+        (foreign.as_slice(), HeadStep::Foreign(4)),
+        (reserved.as_slice(), fault),
+    ] {
+        let mut reader = HeadReader::new(rt.alloc(), Order::Little);
+        assert_ended(&rt, &mut reader, bytes, last);
+    }
 }
 
 #[test]

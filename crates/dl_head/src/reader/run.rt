@@ -11,12 +11,13 @@ pub struct HeadRun {
     pub taken: usize,
     /// How many turns ended where memory was refused.
     pub refused: usize,
-    /// The last answer; More where there was none.
+    /// The last answer; where there was none, what the bytes taken before came to.
     pub last: HeadStep,
 }
 
 impl HeadReader {
     ghost use Rattle.dl_head.specs.Reading.{Answers};
+    ghost use Rattle.dl_head.specs.declared.reader.HeadStep.{HeadStep};
     ghost use Rattle.dl_head.specs.declared.reader.HeadStep.TheVariants as answer;
     ghost use Rattle.dl_head.specs.Standing.{StandsFor};
     ghost use Rattle.dl_head.specs.Runs.{Traced, Runs, Offered};
@@ -24,8 +25,28 @@ impl HeadReader {
 
     /// Takes the bytes in turns, up to an end or a fault. A turn offers at most its number of the
     /// bytes that aren't taken, and ends early where memory is refused; the next turn offers the same byte
-    /// again.
+    /// again. Where the bytes taken before came to something, nothing is offered, and that is the last answer.
     pub fn run(&mut self, bytes: &[u8], turns: &[usize]) -> HeadRun
+        ensures traced { (b : List ℕ) → StandsFor self.old b → Answers self.old.order b answer.More
+            → Traced self.old.order b bytes.now turns.now result self.new }
+        ensures runs { (b : List ℕ) → StandsFor self.old b → Answers self.old.order b answer.More
+            → Runs self.old.order b bytes.now turns.now result }
+        ensures ended { (b : List ℕ) (r : HeadStep) → StandsFor self.old b → Answers self.old.order b r
+            → r ≢ answer.More → (result ≡ record { taken = 0; refused = 0; last = r }) × (self.new ≡ self.old) }
+        ensures order { self.new.order ≡ self.old.order }
+    {
+        match self.ended() {
+            Some(last) => HeadRun {
+                taken: 0,
+                refused: 0,
+                last,
+            },
+            None => self.take_turns(bytes, turns),
+        }
+    }
+
+    /// Takes the bytes in turns, of a header that goes on.
+    fn take_turns(&mut self, bytes: &[u8], turns: &[usize]) -> HeadRun
         ensures traced { (b : List ℕ) → StandsFor self.old b → Answers self.old.order b answer.More
             → Traced self.old.order b bytes.now turns.now result self.new }
         ensures runs { (b : List ℕ) → StandsFor self.old b → Answers self.old.order b answer.More
@@ -38,7 +59,7 @@ impl HeadReader {
             last: HeadStep::More,
         };
         for turn in turns {
-            let (used, last) = self.offer(piece(bytes, run.taken, *turn));
+            let (used, last) = self.take(piece(bytes, run.taken, *turn));
             run.taken += used;
             run.last = last;
             match last {
@@ -50,8 +71,26 @@ impl HeadReader {
         run
     }
 
-    /// Takes bytes up to an answer that isn't More; how many were taken, and that answer.
+    /// Takes bytes up to an answer that isn't More; how many were taken, and that answer. Once they have come to
+    /// something, nothing is taken, and it is answered again.
     pub fn offer(&mut self, piece: &[u8]) -> (usize, HeadStep)
+        ensures offered { (b : List ℕ) → StandsFor self.old b → Answers self.old.order b answer.More
+            → Offered self.old.order b piece.now result.0 result.1 self.new }
+        ensures ended { (b : List ℕ) (r : HeadStep) → StandsFor self.old b → Answers self.old.order b r
+            → r ≢ answer.More → (result ≡ (0, r)) × (self.new ≡ self.old) }
+        ensures within { result.0 ≤ length piece.now }
+        ensures progress { (b : List ℕ) → StandsFor self.old b → Answers self.old.order b answer.More
+            → result.1 ≢ answer.More → result.1 ≢ answer.NoMemory → 1 ≤ result.0 }
+        ensures order { self.new.order ≡ self.old.order }
+    {
+        match self.ended() {
+            Some(last) => (0, last),
+            None => self.take(piece),
+        }
+    }
+
+    /// Takes bytes up to an answer that isn't More, of a header that goes on.
+    fn take(&mut self, piece: &[u8]) -> (usize, HeadStep)
         ensures offered { (b : List ℕ) → StandsFor self.old b → Answers self.old.order b answer.More
             → Offered self.old.order b piece.now result.0 result.1 self.new }
         ensures within { result.0 ≤ length piece.now }

@@ -1,103 +1,24 @@
-use Rattle.std.proofs.Common.{◌≡◌, ◌+◌, ℕ, List, cond, refl, ap, ◌∙◌, arith, drop, length, length-take, length-drop}
+use Rattle.std.proofs.Common.{refl, sym, ap}
 use Rattle.dl_head.specs.declared.reader.HeadStep.{HeadStep}
 use Rattle.dl_head.specs.declared.reader.run.HeadRun.{HeadRun}
-use Rattle.dl_head.specs.declared.reader.HeadStep.TheVariants as answer
-use Rattle.dl_head.specs.Standing.{StandsFor}
-use Rattle.dl_head.specs.Reading.{Answers}
-use Rattle.dl_head.specs.Runs.{goes_on, is_refusal}
-use Rattle.dl_head.proofs.RunLemmas.{going_none, going_on, traced_last, ends_of, traced_all, runs_of}
+use Rattle.dl_head.proofs.OneByteMore.{ended_as, ended_whole, still_goes}
 use Rattle.dl_head.proofs.reader.HeadReader.run.Goals as goal
-use Rattle.dl_head.proofs.reader.HeadReader.run.Goals.{in-More, in-NoMemory}
 
-refused_on : (run : HeadRun) (used : ℕ) (last : HeadStep) (more : ℕ) → more ≡ run.refused + cond (is_refusal last) 1 0
-    → ◌≡◌ {A = HeadRun} (record { taken = run.taken + used; refused = more; last = last })
-    (record { taken = run.taken + used; refused = run.refused + cond (is_refusal last) 1 0; last = last })
-refused_on run used last more e = ap (λ (k : ℕ). record { taken = run.taken + used; refused = k; last = last }) e
+pub returns-in-Some-clause-traced : goal.returns-in-Some-clause-traced
+returns-in-Some-clause-traced c b s more =
+    absurd (ended_whole c.args.self.now b c.in-Some.last (sym c.in-Some.ensures) s more)
 
-pub loop-turn-init : goal.loop-turn-init
-loop-turn-init c = record {
-  within = omega arith;
-  refusals = omega arith;
-  order = refl;
-  going = λ b s more. going_none c.args.self.now.order b c.args.bytes.now c.args.self.now s;
-}
+pub returns-in-Some-clause-runs : goal.returns-in-Some-clause-runs
+returns-in-Some-clause-runs c b s more =
+    absurd (ended_whole c.args.self.now b c.in-Some.last (sym c.in-Some.ensures) s more)
 
-pub returns-in_default : goal.returns-in_default
-returns-in_default c =
-    let i = c.loop-turn.invariant in
-    let ends = ends_of c.offer-used.result.1 c.in_default.not-More c.in_default.not-NoMemory in
-    let refused = ap {B = ℕ} (λ v. cond v 1 0) ends.1 in
-    let traced = λ (b : List ℕ) (s : StandsFor c.args.self.now b)
-    (more : Answers c.args.self.now.order b answer.More). traced_last c.args.self.now.order b c.args.bytes.now
-    c.args.turns.now c.loop-turn.turn-index c.loop-turn.run _ c.loop-turn.self c.offer-used.new.self c.piece.result.now
-    c.offer-used.result.0
-    c.offer-used.result.1 c.loop-turn-test.true (i.going b s more) i.order c.piece.ensures more
-    c.offer-used.ensures.offered
-    (refused_on c.loop-turn.run c.offer-used.result.0 c.offer-used.result.1 c.loop-turn.run.refused
-    (omega (arith, refused))) ends.0 in
-    record {
-      traced = traced;
-      runs = λ b s more. runs_of c.args.self.now.order b c.args.bytes.now c.args.turns.now _ c.offer-used.new.self more
-          (traced b s more);
-      order = c.offer-used.ensures.order ∙ i.order;
-    }
+pub returns-in-Some-clause-ended : goal.returns-in-Some-clause-ended
+returns-in-Some-clause-ended c b r s answers other = (
+  ap {B = HeadRun} (λ (h : HeadStep). record { taken = 0; refused = 0; last = h })
+      (ended_as c.args.self.now b c.in-Some.last r (sym c.in-Some.ensures) s answers),
+  refl,
+)
 
-pub loop-turn-preserved : goal.loop-turn-preserved
-loop-turn-preserved c =
-    let i = c.loop-turn.invariant in
-    let size = i.within in
-    let order = c.offer-used.ensures.order ∙ i.order in
-    let used = c.offer-used.ensures.within in
-    let piece_size : length c.piece.result.now ≡ _ = ap length c.piece.ensures
-    ∙ length-take _ (drop c.loop-turn.run.taken c.args.bytes.now) in
-    elim c.match-last.branch [
-      | in-More w ↦ record {
-        within = omega (
-          arith,
-          ap (λ (r : HeadRun). r.taken) w.run-is,
-          size,
-          used,
-          piece_size,
-          length-drop c.loop-turn.run.taken c.args.bytes.now,
-        );
-        refusals = omega (arith, ap (λ (r : HeadRun). r.refused) w.run-is, i.refusals);
-        order = order;
-        going = λ b s more. going_on c.args.self.now.order b c.args.bytes.now c.args.turns.now c.loop-turn.turn-index
-            c.loop-turn.run _ c.loop-turn.self c.offer-used.new.self c.piece.result.now c.offer-used.result.0
-            c.offer-used.result.1 c.loop-turn-test.true (i.going b s more) i.order c.piece.ensures more
-            c.offer-used.ensures.offered
-            (w.run-is ∙ refused_on c.loop-turn.run c.offer-used.result.0 c.offer-used.result.1 c.loop-turn.run.refused
-            (omega (arith, ap {B = ℕ} (λ s. cond (is_refusal s) 1 0) w.in-More.is)))
-            (ap goes_on w.in-More.is);
-      }
-      | in-NoMemory w ↦ record {
-        within = omega (
-          arith,
-          ap (λ (r : HeadRun). r.taken) w.run-is,
-          size,
-          used,
-          piece_size,
-          length-drop c.loop-turn.run.taken c.args.bytes.now,
-        );
-        refusals = omega (arith, ap (λ (r : HeadRun). r.refused) w.run-is, i.refusals);
-        order = order;
-        going = λ b s more. going_on c.args.self.now.order b c.args.bytes.now c.args.turns.now c.loop-turn.turn-index
-            c.loop-turn.run _ c.loop-turn.self c.offer-used.new.self c.piece.result.now c.offer-used.result.0
-            c.offer-used.result.1 c.loop-turn-test.true (i.going b s more) i.order c.piece.ensures more
-            c.offer-used.ensures.offered
-            (w.run-is ∙ refused_on c.loop-turn.run c.offer-used.result.0 c.offer-used.result.1
-            (c.loop-turn.run.refused + 1) (omega (arith, ap {B = ℕ} (λ s. cond (is_refusal s) 1 0) w.in-NoMemory.is)))
-            (ap goes_on w.in-NoMemory.is);
-      }
-    ]
-
-pub returns-clause-traced : goal.returns-clause-traced
-returns-clause-traced c b s more =
-    traced_all c.args.self.now.order b c.args.bytes.now c.args.turns.now c.loop-turn.turn-index c.loop-turn.run
-    c.loop-turn.self (omega (arith, c.loop-turn-test.false)) (c.loop-turn.invariant.going b s more)
-
-pub returns-clause-runs : goal.returns-clause-runs
-returns-clause-runs c b s more =
-    runs_of c.args.self.now.order b c.args.bytes.now c.args.turns.now c.loop-turn.run c.loop-turn.self more
-    (traced_all c.args.self.now.order b c.args.bytes.now c.args.turns.now c.loop-turn.turn-index c.loop-turn.run
-    c.loop-turn.self (omega (arith, c.loop-turn-test.false)) (c.loop-turn.invariant.going b s more))
+pub returns-in-None-clause-ended : goal.returns-in-None-clause-ended
+returns-in-None-clause-ended c b r s answers other =
+    absurd (still_goes c.args.self.now b r (sym c.in-None.ensures) s answers other)

@@ -1,4 +1,4 @@
-use Rattle.std.proofs.Common.{◌≡◌, ◌++◌, take, refl, sym, ap, subst, ◌∙◌, arith}
+use Rattle.std.proofs.Common.{◌≡◌, ◌++◌, take, inr, refl, sym, ap, subst, ◌∙◌, arith}
 use Rattle.dl_num.specs.declared.fixed.Order.{Order}
 use Rattle.dl_head.specs.declared.reader.HeadReader.{HeadReader}
 use Rattle.dl_head.specs.declared.reader.HeadStep.TheVariants as answer
@@ -8,7 +8,7 @@ use Rattle.dl_rows.specs.ReaderStates.{InHeader, HasHeader, StandsAt}
 use Rattle.dl_rows.specs.UnitBodies.{Counts}
 use Rattle.dl_rows.proofs.HeadFeeds.{head_took, taken_bytes, come_to, goes_stands, feeds_goes, holds_more}
 use Rattle.dl_rows.proofs.HeadFeeds.{holds_refused, fails_head, stopped_head, feeds_version, feeds_header}
-use Rattle.dl_rows.proofs.HeaderBegun.{begun_in, goes_more, goes_refused, knows_foreign, has_header}
+use Rattle.dl_rows.proofs.HeaderBegun.{begun_in, begun_takes, goes_more, goes_refused, knows_foreign, has_header}
 use Rattle.dl_rows.proofs.ReaderLemmas.{cells_at}
 use Rattle.dl_rows.proofs.UnitBodyFeeds.{all_bytes}
 use Rattle.dl_rows.proofs.reader.Reader.feed_head.Goals as goal
@@ -100,8 +100,9 @@ returns-in-Foreign-clause-fed c b s =
     c.offer-used.ensures.offered c.offer-used.ensures.order in
     let foreign = come_to h (answer.Foreign c.in-Foreign.version) c.in-Foreign.is in
     let some =
-    c.offer-used.ensures.progress (λ e. no_more (sym c.in-Foreign.is ∙ e)) (λ e. no_refusal (sym c.in-Foreign.is
-    ∙ e)) in
+    begun_takes c.in-InHeader.head c.offer-used.result.0 c.offer-used.result.1
+    (begun_in c.args.self.now.state c.in-InHeader.head c.in-InHeader.is c.args.self.now.begun)
+    c.offer-used.ensures.progress (λ e. no_more (sym c.in-Foreign.is ∙ e)) (λ e. no_refusal (sym c.in-Foreign.is ∙ e)) in
     feeds_version order c.in-InHeader.head c.offer-used.new.self b c.args.piece.now c.offer-used.result.0
     c.offer-used.result.1 was h _ c.in-Foreign.version foreign some (
       c.in-Foreign.version,
@@ -129,6 +130,8 @@ returns-in-Done-clause-fed c b s =
     c.offer-used.ensures.offered c.offer-used.ensures.order in
     let header = come_to h answer.Done c.in-Done.is in
     let some =
+    begun_takes c.in-InHeader.head c.offer-used.result.0 c.offer-used.result.1
+    (begun_in c.args.self.now.state c.in-InHeader.head c.in-InHeader.is c.args.self.now.begun)
     c.offer-used.ensures.progress (λ e. no_more (sym c.in-Done.is ∙ e)) (λ e. no_refusal (sym c.in-Done.is ∙ e)) in
     let read = c.replace-read.ensures.value in
     feeds_header order c.in-InHeader.head c.offer-used.new.self b c.args.piece.now c.offer-used.result.0
@@ -142,3 +145,15 @@ returns-in-Done-clause-fed c b s =
 
     no_refusal : answer.Done ≡ answer.NoMemory → ⊥
     no_refusal e = absurd cc
+
+pub returns-in-Foreign-clause-progress : goal.returns-in-Foreign-clause-progress
+returns-in-Foreign-clause-progress c =
+    inr (begun_takes c.in-InHeader.head c.offer-used.result.0 c.offer-used.result.1
+    (begun_in c.args.self.now.state c.in-InHeader.head c.in-InHeader.is c.args.self.now.begun)
+    c.offer-used.ensures.progress (λ e. absurd (cc (sym c.in-Foreign.is ∙ e))) (λ e. absurd (cc (sym c.in-Foreign.is ∙ e))))
+
+pub returns-in-Done-clause-progress : goal.returns-in-Done-clause-progress
+returns-in-Done-clause-progress c =
+    inr (begun_takes c.in-InHeader.head c.offer-used.result.0 c.offer-used.result.1
+    (begun_in c.args.self.now.state c.in-InHeader.head c.in-InHeader.is c.args.self.now.begun)
+    c.offer-used.ensures.progress (λ e. absurd (cc (sym c.in-Done.is ∙ e))) (λ e. absurd (cc (sym c.in-Done.is ∙ e))))

@@ -3,7 +3,7 @@ use Rattle.dl_head.specs.declared.reader.HeadStep.TheVariants as answer
 use Rattle.dl_head.specs.Standing.{StandsFor}
 use Rattle.dl_head.specs.Reading.{Answers}
 use Rattle.dl_head.proofs.OfferLemmas.{Offering}
-use Rattle.dl_head.proofs.reader.HeadReader.offer.Given as goal
+use Rattle.dl_head.proofs.reader.HeadReader.take.Given as goal
 
 abbrev pub invariant-loop-used : goal.invariant-loop-used
 invariant-loop-used l = record {

@@ -3,7 +3,7 @@ use Rattle.dl_head.specs.declared.reader.HeadStep.TheVariants as answer
 use Rattle.dl_head.specs.Standing.{StandsFor}
 use Rattle.dl_head.specs.Reading.{Answers}
 use Rattle.dl_head.proofs.RunLemmas.{Going}
-use Rattle.dl_head.proofs.reader.HeadReader.run.Given as goal
+use Rattle.dl_head.proofs.reader.HeadReader.take_turns.Given as goal
 
 abbrev pub invariant-loop-turn : goal.invariant-loop-turn
 invariant-loop-turn l = record {

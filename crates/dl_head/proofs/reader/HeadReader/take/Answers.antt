@@ -1,0 +1,75 @@
+use Rattle.std.proofs.Common.{refl, ◌∙◌, arith, length-drop, ap, length}
+use Rattle.std.proofs.lemmas.List.{take_rest}
+use Rattle.dl_head.proofs.OfferLemmas.{advanced, offering_none, offering_on, offered_last, offered_all}
+use Rattle.dl_head.proofs.WholeSteps.{offering_tried, offering_still}
+use Rattle.dl_head.proofs.reader.HeadReader.take.Goals as goal
+
+pub loop-used-init : goal.loop-used-init
+loop-used-init c = record {
+  within = omega arith;
+  order = refl;
+  goes = λ b s more. offering_none c.args.self.now.order b
+      c.args.piece.now c.args.self.now s more;
+}
+
+pub loop-used-preserved-then-whole-gt0 : goal.loop-used-preserved-then-whole-gt0
+loop-used-preserved-then-whole-gt0 c =
+    let i = c.loop-used.invariant in
+    let w = c.whole_values-whole in
+    let rest = take_rest c.args.piece.now c.loop-used.used in
+    record {
+      within = omega (arith, w.ensures.within, ap length rest, length-drop c.loop-used.used c.args.piece.now, i.within);
+      order = w.ensures.order ∙ i.order;
+      goes = λ b s more.
+          offering_tried c.args.self.now.order b c.args.piece.now _ c.loop-used.used w.result c.loop-used.self
+          w.new.self (i.goes b s more) i.order rest w.ensures.within w.ensures.takes;
+    }
+
+pub loop-used-preserved : goal.loop-used-preserved
+loop-used-preserved c =
+    let i = c.loop-used.invariant in
+    let w = c.whole_values-whole in
+    let a = c.advance-taken in
+    let order = w.ensures.order ∙ i.order in
+    let rest = take_rest c.args.piece.now c.loop-used.used in
+    record {
+      within = omega (arith, a.ensures.within, ap length rest, length-drop c.loop-used.used c.args.piece.now, i.within);
+      order = a.ensures.order ∙ order;
+      goes = λ b s more.
+          let tried = offering_tried c.args.self.now.order b c.args.piece.now _ c.loop-used.used w.result
+          c.loop-used.self w.new.self (i.goes b s more) i.order rest w.ensures.within w.ensures.takes in
+          let o = offering_still c.args.self.now.order b c.args.piece.now c.loop-used.used w.result w.new.self
+          (omega (arith, c.if-whole-gt0.false)) tried in
+          offering_on c.args.self.now.order b c.args.piece.now c.loop-used.used a.result.0 w.new.self a.new.self
+          a.result.1 o c.in-More.is
+          (advanced c.args.self.now.order b c.args.piece.now _ c.loop-used.used a.result.0 w.new.self a.new.self
+          a.result.1 o order rest a.ensures.advances);
+    }
+
+pub returns-in_default : goal.returns-in_default
+returns-in_default c =
+    let i = c.loop-used.invariant in
+    let w = c.whole_values-whole in
+    let a = c.advance-taken in
+    let order = w.ensures.order ∙ i.order in
+    let rest = take_rest c.args.piece.now c.loop-used.used in
+    record {
+      offered = λ b s more.
+          let tried = offering_tried c.args.self.now.order b c.args.piece.now _ c.loop-used.used w.result
+          c.loop-used.self w.new.self (i.goes b s more) i.order rest w.ensures.within w.ensures.takes in
+          let o = offering_still c.args.self.now.order b c.args.piece.now c.loop-used.used w.result w.new.self
+          (omega (arith, c.if-whole-gt0.false)) tried in
+          offered_last c.args.self.now.order b c.args.piece.now c.loop-used.used a.result.0 w.new.self a.new.self
+          a.result.1 o i.within c.in_default.not-More
+          (advanced c.args.self.now.order b c.args.piece.now _ c.loop-used.used a.result.0 w.new.self a.new.self
+          a.result.1 o order rest a.ensures.advances);
+      within = omega (arith, a.ensures.within, ap length rest, length-drop c.loop-used.used c.args.piece.now, i.within);
+      progress = λ goes fed. omega (arith, a.ensures.some fed);
+      order = a.ensures.order ∙ order;
+    }
+
+pub returns-clause-offered : goal.returns-clause-offered
+returns-clause-offered c b s more =
+    let i = c.loop-used.invariant in
+    offered_all c.args.self.now.order b c.args.piece.now c.loop-used.used c.loop-used.used c.loop-used.self
+    (i.goes b s more) i.within (omega (arith, c.loop-used-test.false)) refl
