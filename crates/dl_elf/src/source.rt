@@ -30,9 +30,17 @@ pub trait ReadAt {
         ensures fails { IfErr result (fails_with self.now) };
 }
 
+/// How many bytes a file can have: the system's offsets are signed numbers of 64 bits, and it refuses a read that
+/// reaches past them.
+const LONGEST: u64 = 0x7fff_ffff_ffff_ffff;
+
 impl ReadAt for File {
     fn read_at(&self, offset: u64, buffer: &mut [u8]) -> io::Result<usize> {
-        FileExt::read_at(self, buffer, offset)
+        let room = shorter(buffer.len(), LONGEST.saturating_sub(offset));
+        if room == 0 {
+            return Ok(0);
+        }
+        FileExt::read_at(self, &mut buffer[..room], offset)
     }
 }
 

@@ -233,6 +233,12 @@ const FILE_HEADER: &[Change<'_>] = &[
         "damaged ELF file: section header size",
     ),
     ("e_shoff", 41, 1, "damaged ELF file: section headers"),
+    (
+        "e_shoff, far off",
+        47,
+        128,
+        "damaged ELF file: section headers",
+    ),
     ("e_shnum", 60, 5, "damaged ELF file: section headers"),
     (
         "e_shnum, large",
@@ -284,6 +290,18 @@ const SECTION_HEADERS: &[Change<'_>] = &[
         255,
         "damaged ELF file: section .debug_str",
     ),
+    (
+        "place of the line section, far off",
+        TABLE + 64 + 31,
+        128,
+        "damaged ELF file: section .debug_line",
+    ),
+    (
+        "size of the line section, far too large",
+        TABLE + 64 + 39,
+        127,
+        "damaged ELF file: section .debug_line",
+    ),
     ("type of the strings", TABLE + 128 + 4, 8, "little line - -"),
     ("the size of section 0", TABLE + 34, 1, "little line - str"),
 ];
@@ -292,6 +310,28 @@ const SECTION_HEADERS: &[Change<'_>] = &[
 #[test]
 fn damaged_section_headers(rt: HostRuntime) -> Result<(), Fail> {
     assert_each_change(&rt, rt.alloc(), LITTLE_64, &[LINE, STR], SECTION_HEADERS)
+}
+
+/// The section headers begin after a header of 64 bytes, sections of 4 and 24, and a name table of 26.
+const FAR_NOTE: &[Change<'_>] = &[
+    (
+        "place of the note, far off",
+        118 + 128 + 31,
+        128,
+        "no section .debug_line",
+    ),
+    (
+        "size of the note, far too large",
+        118 + 128 + 39,
+        128,
+        "no section .debug_line",
+    ),
+];
+
+/// A note that doesn't lie in the file is no fault.
+#[test]
+fn far_notes(rt: HostRuntime) -> Result<(), Fail> {
+    assert_each_change(&rt, rt.alloc(), LITTLE_64, &[TEXT, NOTE], FAR_NOTE)
 }
 
 /// A file with a line section alone.
