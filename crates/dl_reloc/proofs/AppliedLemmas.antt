@@ -1,7 +1,9 @@
 -- What one entry makes of the bytes of a section, and one more of several.
 use Rattle.std.proofs.Common.{◌≡◌, ℕ, zero, suc, ◌+◌, ◌<◌, ◌≤◌, List, take, drop, length, Some, Ok, Err}
-use Rattle.std.proofs.Common.{arith, ap, ◌∙◌, refl, sym, inl, inr, Option, None}
-use Rattle.std.proofs.lemmas.Bool.{cases_lt, le-leb, lt-leb, ne_eqb}
+use Rattle.std.proofs.Common.{arith, ap, ◌∙◌, refl, sym, subst, inl, inr, Option, None, Result, MatchResult}
+use Rattle.std.proofs.Common.{true, eqb}
+use Rattle.std.proofs.lemmas.Bool.{cases_lt, eqb-true, le-leb, lt-leb, ne_eqb}
+use Rattle.std.specs.Option.{option_eq}
 use borrow.Rule.Slice.PartMut.{put_mid}
 use Rattle.dl_reloc.specs.declared.target.Form.{Form}
 use Rattle.dl_reloc.specs.declared.target.Target.{Target}
@@ -9,7 +11,11 @@ use Rattle.dl_reloc.specs.declared.entry.Entry.{Entry}
 use Rattle.dl_reloc.specs.declared.change.Change.{Change}
 use Rattle.dl_reloc.specs.declared.apply.RelocationFault.{RelocationFault}
 use Rattle.dl_reloc.specs.declared.apply.RelocationFault.TheVariants.{PlaceOutside, SymbolOutside}
+use Rattle.dl_reloc.specs.declared.change.Change.TheVariants.{Set}
+use Rattle.dl_reloc.specs.declared.change.Width.TheVariants.{Bits64}
 use Rattle.dl_reloc.specs.Changes.{change_size}
+use Rattle.dl_reloc.specs.LowTypes.{IsLong}
+use Rattle.dl_reloc.specs.Types.{change_of}
 use Rattle.dl_reloc.specs.Entries.{count, item, entry_size, entry_in, symbol_value}
 use Rattle.dl_reloc.specs.Relocated.{place_changed, by_symbol, by_change, applied, and_then, entry_at, applied_upto}
 use Rattle.dl_reloc.specs.Relocated.{relocated}
@@ -25,6 +31,25 @@ entry_applied t symbols e b change value at k new some within symbol place size 
     rw (ne_eqb (change_size change) 0 some, le-leb (e.offset + change_size change) (length b) within)
     (ap (by_symbol t.order change e b) symbol
     ∙ rw (told, place, size) refl)
+
+-- the type that sets 64 bits, where it is this one
+pub long_is : (t : Target) (long : Option ℕ) (n : ℕ) → true ≡ option_eq eqb long (Some n) → IsLong t long
+    → change_of t n ≡ Some (Set Bits64)
+long_is t None n same is = absurd (cc (same))
+long_is t (Some m) n same is =
+    let P : ℕ → Type 0 = λ k. change_of t k ≡ Some (Set Bits64) in
+    subst P (eqb-true m n (sym same)) is
+
+-- one whose type does this
+pub applied_by : (t : Target) (symbols : List ℕ) (e : Entry) (b : List ℕ) (change : Change)
+    (result : Result (Unit {0}) RelocationFault) (new : List ℕ) → change_of t e.number ≡ Some change
+    → MatchResult result (λ _. by_change t symbols e b (Some change) ≡ Ok new)
+    (λ fault. by_change t symbols e b (Some change) ≡ Err fault)
+    → MatchResult result (λ _. applied t symbols e b ≡ Ok new) (λ fault. applied t symbols e b ≡ Err fault)
+applied_by t symbols e b change result new is told =
+    let P : Option Change → Type 0 = λ o. MatchResult result (λ _. by_change t symbols e b o ≡ Ok new)
+    (λ fault. by_change t symbols e b o ≡ Err fault) in
+    subst P (sym is) told
 
 -- one whose place doesn't lie in the section
 pub entry_outside : (t : Target) (symbols : List ℕ) (e : Entry) (b : List ℕ) (change : Change)
@@ -44,10 +69,10 @@ entry_without_symbol t symbols e b change some within none =
 
 -- the entry that was read
 pub entry_is : (t : Target) (form : Form) (entries : List ℕ) (n size : ℕ) (bytes : List ℕ) (e : Entry)
-    → size ≡ entry_size t.class form → bytes ≡ item size n entries → e ≡ entry_in t.class form t.order bytes
+    → size ≡ entry_size t.class form → bytes ≡ item size n entries → e ≡ entry_in t form bytes
     → e ≡ entry_at t form entries n
 entry_is t form entries n size bytes e sized told read =
-    read ∙ (ap (entry_in t.class form t.order) told ∙ ap (λ s. entry_in t.class form t.order (item s n entries)) sized)
+    read ∙ (ap (entry_in t form) told ∙ ap (λ s. entry_in t form (item s n entries)) sized)
 
 -- entry n, after those before it
 pub next_applied : (t : Target) (form : Form) (entries symbols : List ℕ) (n : ℕ) (b before after : List ℕ) (e : Entry)

@@ -30,7 +30,7 @@ front_applied t form xs ys symbols zero b within = refl
 front_applied t form xs ys symbols (suc n) b within =
     let size = entry_size t.class form in
     let less : n * size + size ≤ length xs = omega (arith, add-mul n 1 size, within) in
-    ap (λ e. and_then (applied t symbols (entry_in t.class form t.order e))
+    ap (λ e. and_then (applied t symbols (entry_in t form e))
     (applied_upto t form (xs ++ ys) symbols n b)) (front_item size n xs ys less)
     ∙ ap (and_then (applied t symbols (entry_at t form xs n)))
     (front_applied t form xs ys symbols n b (omega (arith, less)))
@@ -47,7 +47,7 @@ back_applied t form xs ys symbols m (suc n) k b made sum whole so_far =
     let size = entry_size t.class form in
     let one : k ≡ suc (n + m) = omega (arith, sum) in
     ap (λ i. applied_upto t form (xs ++ ys) symbols i b) one
-    ∙ (ap (λ e. and_then (applied t symbols (entry_in t.class form t.order e))
+    ∙ (ap (λ e. and_then (applied t symbols (entry_in t form e))
     (applied_upto t form (xs ++ ys) symbols (n + m) b)) (back_item size m n xs ys whole)
     ∙ ap (and_then (applied t symbols (entry_at t form ys n)))
     (back_applied t form xs ys symbols m n (n + m) b made refl whole so_far))

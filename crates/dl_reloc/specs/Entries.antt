@@ -2,11 +2,13 @@
 use Rattle.std.specs.Prelude.{◌≡◌, ℕ, zero, suc, ◌+◌, ◌*◌, ◌/◌, ◌%◌, ◌^◌, ◌==◌, nat_lt, if◌then◌else◌, List, [], ◌∷◌}
 use Rattle.std.specs.Prelude.{◌++◌, length, take, drop, slice_get, Option, Some, None}
 use Rattle.dl_num.specs.declared.fixed.Order.{Order}
+use Rattle.dl_num.specs.declared.fixed.Order.TheVariants.{Big}
 use Rattle.dl_num.specs.Fixed.{fixed}
 use Rattle.dl_reloc.specs.declared.target.Class.{Class}
 use Rattle.dl_reloc.specs.declared.target.Class.TheVariants.{Bits32, Bits64}
 use Rattle.dl_reloc.specs.declared.target.Form.{Form}
 use Rattle.dl_reloc.specs.declared.target.Form.TheVariants.{Rela, Rel}
+use Rattle.dl_reloc.specs.declared.target.Target.{Target}
 use Rattle.dl_reloc.specs.declared.entry.Entry.{Entry}
 
 -- the number that `size` bytes spell from `at` on
@@ -40,19 +42,31 @@ addend_in class Rel order b = None
 addend_in Bits32 Rela order b = Some (extended (number_at order 8 4 b))
 addend_in Bits64 Rela order b = Some (number_at order 16 8 b)
 
--- r_offset, then r_info, whose upper 24 or 32 bits are the symbol's number and whose lower 8 or 32 the type
-abbrev pub entry_in : Class → Form → Order → List ℕ → Entry
-entry_in Bits32 form order b = let info = number_at order 4 4 b in record {
-  offset = number_at order 0 4 b;
-  symbol = info / 2 ^ 8;
-  number = info % 2 ^ 8;
-  addend = addend_in Bits32 form order b;
-}
-entry_in Bits64 form order b = let info = number_at order 8 8 b in record {
-  offset = number_at order 0 8 b;
-  symbol = info / 2 ^ 32;
-  number = info % 2 ^ 32;
-  addend = addend_in Bits64 form order b;
+-- r_offset
+abbrev pub offset_in : Class → Order → List ℕ → ℕ
+offset_in Bits32 order b = number_at order 0 4 b
+offset_in Bits64 order b = number_at order 0 8 b
+
+-- the number of the symbol: the upper 24 or 32 bits of r_info. In a 64-bit file of MIPS (machine 8) r_info is a number of
+-- four bytes, the symbol (r_sym), and four bytes of their own, r_ssym, r_type3, r_type2 and r_type. 64-bit ELF Object
+-- File Specification (MIPS), "Relocation"
+abbrev pub symbol_in : Class → (machine : ℕ) → Order → List ℕ → ℕ
+symbol_in Bits32 machine order b = number_at order 4 4 b / 2 ^ 8
+symbol_in Bits64 machine order b = if machine == 8 then number_at order 8 4 b else number_at order 8 8 b / 2 ^ 32
+
+-- the type: the lower 8 or 32 bits of r_info. The three types of such an entry of MIPS are one number here, of which
+-- r_type is the lowest byte and r_type3 the highest, in either order
+abbrev pub type_in : Class → (machine : ℕ) → Order → List ℕ → ℕ
+type_in Bits32 machine order b = number_at order 4 4 b % 2 ^ 8
+type_in Bits64 machine order b =
+    if machine == 8 then number_at Big 12 4 b % 2 ^ 24 else number_at order 8 8 b % 2 ^ 32
+
+abbrev pub entry_in : Target → Form → List ℕ → Entry
+entry_in t form b = record {
+  offset = offset_in t.class t.order b;
+  symbol = symbol_in t.class t.machine t.order b;
+  number = type_in t.class t.machine t.order b;
+  addend = addend_in t.class form t.order b;
 }
 
 -- ---- symbols

@@ -48,7 +48,7 @@ and_then next (Err fault) = Err fault
 
 -- entry i of a relocation section
 abbrev pub entry_at : Target → Form → (entries : List ℕ) → ℕ → Entry
-entry_at t form entries i = entry_in t.class form t.order (item (entry_size t.class form) i entries)
+entry_at t form entries i = entry_in t form (item (entry_size t.class form) i entries)
 
 -- what the first n entries make of b, one after the other, or the first fault
 abbrev pub applied_upto : Target → Form → (entries symbols : List ℕ) → ℕ → List ℕ → Result (List ℕ) RelocationFault

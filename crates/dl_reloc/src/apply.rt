@@ -153,7 +153,7 @@ fn relocate_entries(
     let size = entry_size(target.class, form);
     for index in 0..count(entries, size) {
         let entry = item(entries, size, index);
-        let entry = Entry::read(target.class, form, target.order, entry);
+        let entry = Entry::read(target, form, entry);
         apply(target, &low, &mut long, symbols, &entry, bytes)?;
     }
     Ok(())

@@ -1,9 +1,10 @@
 //! Entries of relocations. System V ABI, chapter 4, "Relocation".
 ghost use Rattle.std.specs.Prelude.{◌≡◌, ◌≤◌, length};
-ghost use Rattle.dl_reloc.specs.Entries.{addend_in, entry_in, entry_size, extended};
+ghost use Rattle.dl_reloc.specs.Entries.{addend_in, entry_in, entry_size, extended, offset_in, symbol_in, type_in};
 
+use crate::machine::EM_MIPS;
 use crate::table::number_at;
-use crate::target::{Class, Form};
+use crate::target::{Class, Form, Target};
 use dl_num::Order;
 
 /// An entry of a relocation section. The names that the ABI gives the fields stand in parentheses.
@@ -13,7 +14,7 @@ pub struct Entry {
     pub offset: u64,
     /// The number of its symbol (r_info).
     pub symbol: u64,
-    /// The number of its type, which says what it does (r_info).
+    /// The number of its type, which says what it does (r_info); of 64-bit MIPS that of its three types.
     pub number: u64,
     /// What is added to the symbol's value, modulo 2^64 (r_addend); None where that stands at the place.
     pub addend: Option<u64>,
@@ -55,32 +56,54 @@ fn addend_in(class: Class, form: Form, order: Order, bytes: &[u8]) -> Option<u64
     }
 }
 
+/// The place that an entry changes (r_offset).
+#[inline(always)]
+fn offset_in(class: Class, order: Order, bytes: &[u8]) -> u64
+    requires { 8 ≤ length bytes.now }
+    ensures { result ≡ offset_in class order bytes.now }
+{
+    match class {
+        Class::Bits32 => number_at(order, 0, 4, bytes),
+        Class::Bits64 => number_at(order, 0, 8, bytes),
+    }
+}
+
+/// The number of its symbol and that of its type (r_info).
+#[inline(always)]
+fn info_in(target: &Target, bytes: &[u8]) -> (u64, u64)
+    requires { entry_size target.now.class Form.Rel ≤ length bytes.now }
+    ensures symbol { result.0 ≡ symbol_in target.now.class target.now.machine target.now.order bytes.now }
+    ensures type_number { result.1 ≡ type_in target.now.class target.now.machine target.now.order bytes.now }
+{
+    let order = target.order;
+    match target.class {
+        Class::Bits32 => {
+            let info = number_at(order, 4, 4, bytes);
+            (info / (1 << 8), info % (1 << 8))
+        }
+        Class::Bits64 => {
+            if target.machine == EM_MIPS {
+                let types = number_at(Order::Big, 12, 4, bytes) % (1 << 24);
+                return (number_at(order, 8, 4, bytes), types);
+            }
+            let info = number_at(order, 8, 8, bytes);
+            (info / (1 << 32), info % (1 << 32))
+        }
+    }
+}
+
 impl Entry {
     /// The entry in these bytes.
-    pub fn read(class: Class, form: Form, order: Order, bytes: &[u8]) -> Entry
-        requires { entry_size class form ≤ length bytes.now }
-        ensures { result ≡ entry_in class form order bytes.now }
+    pub fn read(target: &Target, form: Form, bytes: &[u8]) -> Entry
+        requires { entry_size target.now.class form ≤ length bytes.now }
+        ensures { result ≡ entry_in target.now form bytes.now }
     {
-        let addend = addend_in(class, form, order, bytes);
-        match class {
-            Class::Bits32 => {
-                let info = number_at(order, 4, 4, bytes);
-                Entry {
-                    offset: number_at(order, 0, 4, bytes),
-                    symbol: info / (1 << 8),
-                    number: info % (1 << 8),
-                    addend,
-                }
-            }
-            Class::Bits64 => {
-                let info = number_at(order, 8, 8, bytes);
-                Entry {
-                    offset: number_at(order, 0, 8, bytes),
-                    symbol: info / (1 << 32),
-                    number: info % (1 << 32),
-                    addend,
-                }
-            }
+        let (symbol, number) = info_in(target, bytes);
+        Entry {
+            offset: offset_in(target.class, target.order, bytes),
+            symbol,
+            number,
+            addend: addend_in(target.class, form, target.order, bytes),
         }
     }
 }

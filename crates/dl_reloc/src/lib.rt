@@ -2,8 +2,7 @@
 //!
 //! [`relocate`] applies the entries of one relocation section, in order, with the values of symbols that
 //! [`push_symbol_values`] takes from their table. What the types of relocations do is
-//! told for x86-64, i386, AArch64, ARM, RISC-V, PowerPC, s390, LoongArch and 32-bit MIPS, of those types that
-//! assemblers put into debug information.
+//! told for the machines of `type_of` (specs/Types.antt), of those types that assemblers put into debug information.
 //! System V ABI, chapter 4, and its supplements for these machines.
 #![tactic(auto)]
 

@@ -53,26 +53,39 @@ fn symbols(rt: HostRuntime) -> Result<(), Fail> {
     Ok(())
 }
 
+/// Types beside those that are applied, and machines beside those that are known.
 #[test]
 fn types(rt: HostRuntime) -> Result<(), Fail> {
     for (machine, number, known) in [
         (3, 1, true),
         (3, 2, false),
-        (2, 1, false),
-        (2, 0, false),
+        (1, 1, false),
+        (1, 0, false),
+        (5, 1, false),
+        (7, 1, false),
         (8, 2, true),
-        (8, 18, false),
+        (8, 1, false),
         (20, 1, true),
         (21, 1, true),
         (22, 4, true),
         (40, 2, true),
         (40, 3, false),
+        (41, 1, false),
         (62, 11, true),
         (62, 2, false),
+        (83, 2, false),
+        (93, 1, false),
+        (105, 4, false),
+        (164, 7, false),
         (183, 1, false),
+        (224, 1, false),
         (243, 41, false),
         (243, 51, false),
         (243, 57, false),
+        (244, 1, false),
+        (247, 1, false),
+        (251, 3, false),
+        (252, 2, false),
         (258, 46, false),
         (258, 57, false),
     ] {
@@ -88,16 +101,33 @@ fn types(rt: HostRuntime) -> Result<(), Fail> {
     Ok(())
 }
 
-/// An entry of a 64-bit file of MIPS has three types.
+/// An entry of a 64-bit file of MIPS has three types, in bytes of their own: the second and the third have to be 0. The
+/// byte before them, r_ssym, is of the second.
 #[test]
 fn mips_64(rt: HostRuntime) -> Result<(), Fail> {
-    let row = Row {
-        machine: 8,
-        class: Class::Bits64,
-        entries: &[0, 0, 0, 0, 0, 0, 0, 0, 2, 0, 0, 0, 1, 0, 0, 0],
-        ..I386
-    };
-    assert!(rt; fault(rt.alloc(), &row)? == Some(RelocationFault::UnknownType(2)));
+    for (types, want) in [
+        ([0, 0, 0, 2], None),
+        ([9, 0, 0, 2], None),
+        ([0, 0, 2, 0], Some(RelocationFault::UnknownType(0x200))),
+        ([0, 0, 5, 2], Some(RelocationFault::UnknownType(0x502))),
+        ([0, 6, 0, 18], Some(RelocationFault::UnknownType(0x6_0012))),
+        ([0, 0, 0, 5], Some(RelocationFault::UnknownType(5))),
+    ] {
+        let [special, third, second, first] = types;
+        let row = Row {
+            machine: 8,
+            class: Class::Bits64,
+            entries: &[
+                0, 0, 0, 0, 0, 0, 0, 0, 1, 0, 0, 0, special, third, second, first,
+            ],
+            symbols: &[0; 48],
+            ..I386
+        };
+        assert!(rt;
+            fault(rt.alloc(), &row)? == want,
+            "{first} {second} {third}"
+        );
+    }
     Ok(())
 }
 
