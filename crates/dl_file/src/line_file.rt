@@ -32,7 +32,7 @@ use std::io::{Cursor, Read};
 /// since each may name the same bytes.
 const MOST_RELOCATIONS: u64 = 16;
 
-/// How many bytes a compressed line section with relocations may have, which is held: 2^32.
+/// How many bytes a compressed line section with relocations may inflate to, which is held: 2^32.
 const HELD_LIMIT: u64 = 1 << 32;
 
 /// What is asked for of a file.
@@ -216,7 +216,19 @@ fn optional_reader<'a, S: ReadAt>(
     }
 }
 
-/// What the stream in the bytes of a compressed section of this name inflates to.
+/// The fault of a section of this name that is inflated here, by why its last read failed; where that isn't damage, want
+/// of memory.
+fn stopped_by(name: SectionName, fault: Option<ReadFault>) -> ElfFault
+    ensures { StopsInflating name result }
+{
+    match fault {
+        Some(ReadFault::DamagedStream(at)) => ElfFault::DamagedStream(name, at),
+        _ => ElfFault::NoMemory,
+    }
+}
+
+/// What the stream in the bytes of a compressed section of this name inflates to. More bytes than are held are
+/// inflated without being kept, so that the damage of their stream is told.
 fn inflate_whole(
     alloc: Global,
     section: &[u8],
@@ -225,23 +237,21 @@ fn inflate_whole(
 ) -> Result<Vec<u8>, ElfFault>
     ensures { IfErr result (StopsInflating name) }
 {
-    if HELD_LIMIT < header.size {
-        return Err(ElfFault::NoMemory);
-    }
     let source = Cursor::new(section);
     let range = Range {
         offset: 0,
         size: section.len() as u64,
     };
     let mut reader = InflatedReader::new(&source, name, range, header);
+    if HELD_LIMIT < header.size {
+        let _ = io::copy(&mut reader, &mut io::sink());
+        return Err(stopped_by(name, reader.last_fault()));
+    }
     let mut bytes = Vec::new(alloc);
     if reader.read_to_end(&mut bytes).is_ok() {
         return Ok(bytes);
     }
-    match reader.last_fault() {
-        Some(ReadFault::DamagedStream(at)) => Err(ElfFault::DamagedStream(name, at)),
-        _ => Err(ElfFault::NoMemory),
-    }
+    Err(stopped_by(name, reader.last_fault()))
 }
 
 /// All bytes of the line section; of one that is compressed, those that its stream inflates to.
@@ -353,8 +363,8 @@ fn open_chosen<'a, S: ReadAt>(
 /// `Damaged` too where more than 16 sections are of relocations of the line section. Memory is
 /// taken only where a wanted section is compressed, some 128 KiB for each, and where there are relocations
 /// of the line section: for its bytes, and for the values of the symbols of one section of relocations at a
-/// time, 8 bytes each. Where a growth is refused, or a compressed line section with relocations says that it
-/// has more than 2^32 bytes, the fault is `NoMemory`.
+/// time, 8 bytes each. Where a growth is refused, or a compressed line section with relocations inflates to
+/// more than 2^32 bytes, as it says, the fault is `NoMemory`.
 pub fn open_line_file<'a, S: ReadAt>(
     alloc: Global,
     source: &'a S,

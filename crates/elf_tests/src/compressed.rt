@@ -429,7 +429,21 @@ const RELOCATED: &[(u64, &[u8], &str)] = &[
         EMPTY,
         "section .debug_line: relocation outside the section",
     ),
-    (0x1_0000_0001, EMPTY, "out of memory"),
+    (
+        0x1_0000_0001,
+        EMPTY,
+        "section .debug_line: damaged zlib stream at 0x8",
+    ),
+    (
+        0x2_0000_0000,
+        LINE_STREAM,
+        "section .debug_line: damaged zlib stream at 0x8",
+    ),
+    (
+        0xffff_ffff_ffff_ffff,
+        CUT,
+        "section .debug_line: damaged zlib stream at 0x2e",
+    ),
 ];
 
 /// Relocations are applied to what the line section inflates to, and its faults are told before theirs.
