@@ -116,6 +116,17 @@ fn nothing_to_repeat(rt: HostRuntime) {
     );
 }
 
+/// The repeat ends with its extra bits, which are in the next byte.
+#[test]
+fn nothing_to_repeat_later(rt: HostRuntime) {
+    assert!(rt;
+        is_damaged(
+            &streams::NOTHING_TO_REPEAT_LATER,
+            streams::NOTHING_TO_REPEAT_LATER_PLACE
+        )
+    );
+}
+
 #[test]
 fn repeat_past_the_end(rt: HostRuntime) {
     assert!(rt;
@@ -174,4 +185,10 @@ fn too_many_distances(rt: HostRuntime) {
 #[test]
 fn no_such_distance(rt: HostRuntime) {
     assert!(rt; is_damaged(&streams::NO_SUCH_DISTANCE, streams::NO_SUCH_DISTANCE_PLACE));
+}
+
+/// Where no distance has a code, the first bit of one is wrong.
+#[test]
+fn no_distances(rt: HostRuntime) {
+    assert!(rt; is_damaged(&streams::NO_DISTANCES, streams::NO_DISTANCES_PLACE));
 }

@@ -525,6 +525,10 @@ pub static NOTHING_TO_REPEAT: [u8; 18] = [
 
 pub const NOTHING_TO_REPEAT_PLACE: u64 = 11;
 
+pub static NOTHING_TO_REPEAT_LATER: [u8; 13] = [120, 156, 5, 0, 4, 37, 0, 0, 0, 0, 0, 0, 0];
+
+pub const NOTHING_TO_REPEAT_LATER_PLACE: u64 = 6;
+
 pub static REPEAT_PAST_THE_END: [u8; 20] = [
     120, 156, 5, 192, 1, 9, 0, 0, 0, 0, 144, 255, 255, 1, 0, 0, 0, 0, 0, 0,
 ];
@@ -566,6 +570,12 @@ pub static NO_SUCH_DISTANCE: [u8; 22] = [
 ];
 
 pub const NO_SUCH_DISTANCE_PLACE: u64 = 15;
+
+pub static NO_DISTANCES: [u8; 22] = [
+    120, 156, 13, 192, 1, 9, 0, 0, 0, 128, 160, 173, 254, 63, 81, 192, 0, 0, 0, 0, 0, 0,
+];
+
+pub const NO_DISTANCES_PLACE: u64 = 16;
 
 pub static FURTHEST_COPY: [u8; 220] = [
     120, 156, 75, 76, 74, 28, 5, 163, 96, 20, 140, 130, 81, 48, 10, 70, 193, 40, 24, 5, 163, 96,
