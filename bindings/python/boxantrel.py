@@ -226,7 +226,7 @@ class Section:
 
     def path_at(self, offset: int, file: int, line_str: bytes = b"", text: bytes = b"") -> Optional[bytes]:
         """The path of the file of this number in the unit that begins at an offset, joined as `dwline addr` joins it:
-        `??` where the unit has no such file, or a text of the path isn't there; None where the section has no byte
+        `??` where the unit has no such file, or its own name isn't there; None where the section has no byte
         there. `line_str` and `text` are the bytes of .debug_line_str and .debug_str. A path of more than 256 bytes is
         told twice."""
         length, fault, room = ctypes.c_size_t(256), _Fault(), 0

@@ -259,7 +259,7 @@ impl<'a> Section<'a> {
     }
 
     /// The path of the file of this number in the unit that begins at an offset, joined as `dwline addr` joins it: `??`
-    /// where the unit has no such file, or a text of the path isn't there; None where the section has no byte there.
+    /// where the unit has no such file, or its own name isn't there; None where the section has no byte there.
     /// The string sections are `.debug_line_str` and `.debug_str`, empty where there is none. A path of more than 256
     /// bytes is told twice.
     pub fn path_at(&self, offset: u64, file: u64, line_str: &[u8], str: &[u8]) -> Result<Option<Vec<u8>>, Error> {

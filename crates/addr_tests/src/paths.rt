@@ -27,18 +27,19 @@ fn files() -> [Asked; 11] {
 }
 
 /// A path that begins with a slash or a drive stands for itself, others stand under their directory, and
-/// a directory other than 0 under directory 0. A file, a directory or a text that isn't there gives `??`.
+/// a directory other than 0 under directory 0. A directory that isn't there puts nothing before
+/// them, and a file that isn't there gives `??`.
 #[test]
 fn paths(rt: HostRuntime) -> Result<(), Fail> {
     let text = "/src/main.c:10\n/src/main.c:11:1\n/src/lib/a.c:12:2\n/abs/b.c:13:3\n/whole.c:14:4\n\
-                C:\\win/c.c:15:5\nE:\\e.c:16:6\n/src/x\\x01y\\x7f.c:17:7\n??:18:8\nD:/w/h.c:19:9\n??:30:2\n";
+                C:\\win/c.c:15:5\nE:\\e.c:16:6\n/src/x\\x01y\\x7f.c:17:7\ng.c:18:8\nD:/w/h.c:19:9\n??:30:2\n";
     assert_addr(&rt, rt.alloc(), &[PATHS], &plain(&files()), (text, ALL))
 }
 
 #[test]
 fn basenames(rt: HostRuntime) -> Result<(), Fail> {
     let names = "main.c:10\nmain.c:11:1\na.c:12:2\nb.c:13:3\nwhole.c:14:4\n\
-                 c.c:15:5\ne.c:16:6\nx\\x01y\\x7f.c:17:7\n??:18:8\nh.c:19:9\n??:30:2\n";
+                 c.c:15:5\ne.c:16:6\nx\\x01y\\x7f.c:17:7\ng.c:18:8\nh.c:19:9\n??:30:2\n";
     let files = files();
     let question = Question {
         style: Style {
@@ -50,11 +51,11 @@ fn basenames(rt: HostRuntime) -> Result<(), Fail> {
     assert_addr(&rt, rt.alloc(), &[PATHS], &question, (names, ALL))
 }
 
-/// Directory 0 may be relative too, and then nothing stands before it; without it there is no path.
+/// Directory 0 may be relative too, and then nothing stands before it; without it paths stand alone.
 #[test]
 fn directory_0(rt: HostRuntime) -> Result<(), Fail> {
     let asked = [at(0x2000), at(0x2010), at(0x3000)];
-    let text = "work/m.c:1:1\nwork/lib/m.c:2:2\n??:1:1\n";
+    let text = "work/m.c:1:1\nwork/lib/m.c:2:2\nn.c:1:1\n";
     assert_addr(
         &rt,
         rt.alloc(),
@@ -95,7 +96,8 @@ fn assert_strings(
     Ok(())
 }
 
-/// A string section that isn't handed in, and an offset outside it, make the path `??`.
+/// Where a string section isn't handed in, and where an offset is outside it, the directory puts nothing before the path,
+/// and without its own text the path is `??`.
 #[test]
 fn string_sections(rt: HostRuntime) -> Result<(), Fail> {
     let directory: Option<&[u8]> = Some(b"./d\0");
@@ -103,7 +105,7 @@ fn string_sections(rt: HostRuntime) -> Result<(), Fail> {
     let short: Option<&[u8]> = Some(b"\0\0f.c");
     for (debug_line_str, debug_str, text) in [
         (directory, file, "/d/f.c:1:1\n"),
-        (None, file, "??:1:1\n"),
+        (None, file, "f.c:1:1\n"),
         (directory, None, "??:1:1\n"),
         (directory, short, "??:1:1\n"),
         (None, None, "??:1:1\n"),

@@ -1,3 +1,4 @@
+pub mod PathLemmas
 pub mod BasenameLemmas
 pub mod TextLemmas
 pub mod LocatedLemmas

@@ -1,7 +1,7 @@
 -- Texts that are kept stay, and a file's text is that of its entry.
 use Rattle.std.proofs.Common.{◌≡◌, ◌⊎◌, inl, inr, ℕ, zero, suc, List, [], ◌∷◌, ◌++◌, length, min, replicate, slice_get}
 use Rattle.std.proofs.Common.{Option, Some, None, refl, sym, ap, ◌∙◌, arith, append_assoc, append-nil, ⊎_elim}
-use Rattle.std.specs.Prelude.{codes, option_map}
+use Rattle.std.specs.Prelude.{option_map}
 use Rattle.std.specs.Option.{option_and_then, option_copied, option_map_or}
 use Rattle.std.proofs.lemmas.Bool.{cases_lt}
 use Rattle.std.proofs.lemmas.Option.{slice_get_past}
@@ -50,10 +50,8 @@ kept_stays old new kept kept' i t grows same k = record {
 }
 
 -- the path under a header of the entry, which may lack
-abbrev under_entry : Strings → HeaderData → Option (List Value) → List ℕ
-under_entry s h entry =
-    option_map_or (λ path. path) (option_and_then (file_path s h) (option_map (with_content h.files.pairs) entry))
-    (codes "??")
+abbrev under_entry : Strings → HeaderData → Option (List Value) → Option (List ℕ)
+under_entry s h entry = option_and_then (file_path s h) (option_map (with_content h.files.pairs) entry)
 
 clamped : (s : Strings) (header : Option HeaderData) (file : ℕ)
     → path_of s header (min file (option_map_or (λ h. length h.files.entries) header 0)) ≡ path_of s header file
@@ -70,7 +68,7 @@ pub text_clamped : (u : UnitFiles) (file files : ℕ)
     → files ≡ option_map_or (λ (h : HeaderData). length h.files.entries) (option_copied u.header) 0
     → text_of_file u (min file files) ≡ text_of_file u file
 text_clamped u file files e =
-    ap (λ (path : List ℕ). (path_text u.style path, u.offset))
+    ap (λ (path : Option (List ℕ)). (path_text u.style path, u.offset))
     (ap (λ (n : ℕ). path_of (strings_of u.strings.now) (option_copied u.header) (min file n)) e
     ∙ clamped (strings_of u.strings.now) (option_copied u.header) file)
 

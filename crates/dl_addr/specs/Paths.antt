@@ -1,7 +1,7 @@
 -- The path of a file under the header of its unit. DWARF 5, sections 6.2.4 and 6.2.4.1.
 use Rattle.std.specs.Prelude.{ℕ, Bool, false, ◌||◌, ◌&&◌, nat_le, ◌==◌, if◌then◌else◌, List, [], ◌∷◌, ◌++◌, Option}
-use Rattle.std.specs.Prelude.{Some, None, codes, slice_get, option_map}
-use Rattle.std.specs.Option.{option_and_then, option_map_or}
+use Rattle.std.specs.Prelude.{Some, None, slice_get, option_map, unwrap_or}
+use Rattle.std.specs.Option.{option_and_then}
 use Rattle.dl_table.specs.EntryData.{value_of, with_content}
 use Rattle.dl_table.specs.TableData.{TableData}
 use Rattle.dl_field.specs.HeaderData.{HeaderData}
@@ -51,25 +51,31 @@ begins_with b (c ∷ path) = c == b
 abbrev pub is_whole : List ℕ → Bool
 is_whole path = begins_with 0x2f path || has_drive path
 
-abbrev pub under : (directory path : List ℕ) → List ℕ
-under directory path = directory ++ 0x2f ∷ path
+-- what stands between a directory and a path in it: nothing where the directory is empty, or ends with a slash
+abbrev pub slash_after : (directory : List ℕ) → List ℕ
+slash_after [] = []
+slash_after (b ∷ []) = if b == 0x2f then [] else 0x2f ∷ []
+slash_after (b ∷ c ∷ directory) = slash_after (c ∷ directory)
 
--- directory n; one that isn't whole is under directory 0
+abbrev pub under : (directory path : List ℕ) → List ℕ
+under directory path = directory ++ slash_after directory ++ path
+
+-- content 1 of entry n
+abbrev pub path_in : Strings → TableData → ℕ → Option (List ℕ)
+path_in s t n = option_and_then (own_path s) (entry_of t n)
+
+-- directory n; one that isn't whole is under directory 0, if that is there
 abbrev pub directory_path : Strings → TableData → ℕ → Option (List ℕ)
 directory_path s directories n =
-    option_and_then (λ path. if is_whole path || (n == 0) then Some path
-    else option_map (λ base. under base path) (option_and_then (own_path s) (entry_of directories 0)))
-    (option_and_then (own_path s) (entry_of directories n))
+    option_map (λ path. if is_whole path || (n == 0) then path
+    else under (unwrap_or (path_in s directories 0) []) path) (path_in s directories n)
 
--- a file that isn't whole is under its directory
+-- a file that isn't whole is under its directory, if that is there
 abbrev pub file_path : Strings → HeaderData → List (ℕ × Value) → Option (List ℕ)
 file_path s h entry =
-    option_and_then (λ path. if is_whole path then Some path
-    else option_map (λ directory. under directory path) (directory_path s h.directories (directory_of entry)))
-    (own_path s entry)
+    option_map (λ path. if is_whole path then path
+    else under (unwrap_or (directory_path s h.directories (directory_of entry)) []) path) (own_path s entry)
 
--- `??` where one of the texts isn't there
-abbrev pub path_of : Strings → Option HeaderData → (file : ℕ) → List ℕ
-path_of s header file =
-    option_map_or (λ path. path) (option_and_then (λ h. option_and_then (file_path s h) (entry_of h.files file)) header)
-    (codes "??")
+-- None where the file isn't there, or the text of its own path
+abbrev pub path_of : Strings → Option HeaderData → (file : ℕ) → Option (List ℕ)
+path_of s header file = option_and_then (λ h. option_and_then (file_path s h) (entry_of h.files file)) header

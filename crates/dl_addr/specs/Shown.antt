@@ -1,6 +1,6 @@
 -- The texts of paths, as they are printed.
 use Rattle.std.specs.Prelude.{ℕ, ◌/◌, Bool, ◌||◌, ◌&&◌, nat_lt, ◌==◌, if◌then◌else◌, List, [], ◌∷◌, ◌++◌, flat_map}
-use Rattle.std.specs.Prelude.{codes}
+use Rattle.std.specs.Prelude.{Option, Some, None, codes}
 use Rattle.std.specs.List.{list_any}
 use Rattle.dl_print.specs.Digits.{last_digit}
 use Rattle.dl_addr.specs.declared.style.Form.{Form}
@@ -39,5 +39,12 @@ text_in Location path = shown path
 text_in AddressAndLocation path = shown path
 text_in Json path = json_string path
 
-abbrev pub path_text : Style → List ℕ → List ℕ
-path_text style path = text_in style.form (if style.basenames then basename path else path)
+-- where no path is known
+abbrev pub no_path_text : Form → List ℕ
+no_path_text Location = codes "??"
+no_path_text AddressAndLocation = codes "??"
+no_path_text Json = codes "null"
+
+abbrev pub path_text : Style → Option (List ℕ) → List ℕ
+path_text style None = no_path_text style.form
+path_text style (Some path) = text_in style.form (if style.basenames then basename path else path)

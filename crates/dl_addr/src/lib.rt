@@ -16,6 +16,6 @@ mod texts;
 
 pub use answering::addr;
 pub use asked::Asked;
-pub use path::{Path, path_of};
+pub use path::{Path, path_of, slash_after};
 pub use question::{Found, Question};
 pub use style::{Form, Style};

@@ -1,13 +1,13 @@
 //! The path of a file under the header of its unit. Section 6.2.4.
 
-ghost use Rattle.std.specs.Prelude.{◌≡◌, Some};
-ghost use Rattle.std.specs.Option.{option_and_then, option_copied, option_map};
+ghost use Rattle.std.specs.Prelude.{◌≡◌, ◌==◌, ◌||◌, [], Some, if◌then◌else◌, unwrap_or};
+ghost use Rattle.std.specs.Option.{option_copied, option_map};
 ghost use Rattle.dl_table.specs.EntryHeld.{entry_items};
 ghost use Rattle.dl_table.specs.Held.{value_lent};
 ghost use Rattle.dl_print.specs.ValueText.{strings_of};
 ghost use Rattle.dl_addr.specs.Parts.{path_seen};
-ghost use Rattle.dl_addr.specs.Paths.{text_of, own_path, directory_of, number_or_zero, entry_of, is_letter, is_slash};
-ghost use Rattle.dl_addr.specs.Paths.{has_drive, is_whole, file_path, path_of};
+ghost use Rattle.dl_addr.specs.Paths.{text_of, own_path, directory_of, directory_path, number_or_zero, is_letter};
+ghost use Rattle.dl_addr.specs.Paths.{has_drive, is_slash, is_whole, path_in, path_of, slash_after, under};
 
 use dl_head::{Entry, Header, Table, ValueRef};
 use dl_print::{StringSections, text_in_section};
@@ -18,66 +18,110 @@ const PATH: u64 = 1;
 /// The content code of the number of a directory. Section 6.2.4.1.
 const DIRECTORY_INDEX: u64 = 2;
 
-/// What a path is where one of its texts isn't there.
-const MISSING: &[u8] = b"??";
-
-/// A path, in the texts that stand one after the other with slashes between.
+/// A path, in the texts that stand one after the other: each directory that isn't empty ends with a slash, or a slash
+/// comes after it.
 #[derive(Clone, Copy)]
-pub enum Path<'a> {
-    /// A file whose path is whole.
-    Whole(&'a [u8]),
-    /// A file in a directory.
-    Under(&'a [u8], &'a [u8]),
-    /// Directory 0, a directory in it, and a file.
-    Deep(&'a [u8], &'a [u8], &'a [u8]),
+pub struct Path<'a> {
+    /// Directory 0, where the directory isn't whole; else empty.
+    pub base: &'a [u8],
+    /// The directory, where the file's own path isn't whole; else empty.
+    pub directory: &'a [u8],
+    /// The file's own path.
+    pub name: &'a [u8],
 }
 
-/// The path of the file of this number, under the header of its unit.
+/// The path of the file of this number, under the header of its unit. None where there is no such file, or its own
+/// path isn't there.
 pub fn path_of<'a>(
     strings: &'a StringSections<'_>,
     header: Option<&'a Header>,
     file: u64,
-) -> Path<'a>
-    ensures { path_seen result ≡ path_of (strings_of strings.now) (option_copied header.entry) file }
+) -> Option<Path<'a>>
+    ensures { option_map path_seen result ≡ path_of (strings_of strings.now) (option_copied header.entry) file }
 {
-    match header {
-        Some(header) => path_under(strings, header, file),
-        None => Path::Whole(MISSING),
-    }
+    path_under(strings, header?, file)
 }
 
-fn path_under<'a>(strings: &'a StringSections<'_>, header: &'a Header, file: u64) -> Path<'a>
-    ensures { path_seen result ≡ path_of (strings_of strings.now) (Some header.now) file }
-{
-    match file_path(strings, header, file) {
-        Some(path) => path,
-        None => Path::Whole(MISSING),
-    }
-}
-
-/// None where one of the texts isn't there.
-fn file_path<'a>(strings: &'a StringSections<'_>, header: &'a Header, file: u64) -> Option<Path<'a>>
-    ensures { option_map path_seen result
-        ≡ option_and_then (file_path (strings_of strings.now) header.now) (entry_of header.now.files file) }
+fn path_under<'a>(
+    strings: &'a StringSections<'_>,
+    header: &'a Header,
+    file: u64,
+) -> Option<Path<'a>>
+    ensures { option_map path_seen result ≡ path_of (strings_of strings.now) (Some header.now) file }
 {
     let entry = header.files().entry(file as usize)?;
     let name = own_path(strings, entry)?;
     if is_whole(name) {
-        return Some(Path::Whole(name));
+        return Some(alone(name));
     }
-    let number = directory_of(entry);
-    let directory = path_in(strings, header.directories(), number)?;
+    Some(path_within(strings, header.directories(), directory_of(entry), name))
+}
+
+/// A file's own path in the directory of this number.
+fn path_within<'a>(
+    strings: &'a StringSections<'_>,
+    directories: &'a Table,
+    number: u64,
+    name: &'a [u8],
+) -> Path<'a>
+    ensures { path_seen result
+        ≡ under (unwrap_or (directory_path (strings_of strings.now) directories.now number) []) name.now }
+{
+    let Some(directory) = path_in(strings, directories, number) else {
+        return alone(name);
+    };
+    Path {
+        base: base_of(strings, directories, number, directory),
+        directory,
+        name,
+    }
+}
+
+/// What comes before a directory of this number and this path.
+fn base_of<'a>(
+    strings: &'a StringSections<'_>,
+    directories: &'a Table,
+    number: u64,
+    directory: &[u8],
+) -> &'a [u8]
+    ensures { result.now ≡ (if is_whole directory.now || (number == 0) then []
+        else unwrap_or (path_in (strings_of strings.now) directories.now 0) []) }
+{
     if is_whole(directory) || number == 0 {
-        return Some(Path::Under(directory, name));
+        return b"";
     }
-    let base = path_in(strings, header.directories(), 0)?;
-    Some(Path::Deep(base, directory, name))
+    match path_in(strings, directories, 0) {
+        Some(base) => base,
+        None => b"",
+    }
+}
+
+/// A path with no directory before it.
+fn alone(name: &[u8]) -> Path<'_>
+    ensures { path_seen result ≡ name.now }
+{
+    Path {
+        base: b"",
+        directory: b"",
+        name,
+    }
+}
+
+/// What stands between a directory and a path in it.
+pub fn slash_after(directory: &[u8]) -> &'static [u8]
+    ensures { result.now ≡ slash_after directory.now }
+{
+    if directory.is_empty() {
+        return b"";
+    }
+    let last = directory[directory.len() - 1];
+    if last == b'/' { b"" } else { b"/" }
 }
 
 /// The path of the entry of this number.
 fn path_in<'a>(strings: &'a StringSections<'_>, table: &'a Table, number: u64) -> Option<&'a [u8]>
     ensures { option_copied result
-        ≡ option_and_then (own_path (strings_of strings.now)) (entry_of table.now number) }
+        ≡ path_in (strings_of strings.now) table.now number }
 {
     own_path(strings, table.entry(number as usize)?)
 }

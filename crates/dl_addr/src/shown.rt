@@ -1,20 +1,31 @@
 //! The texts of paths, as they are printed.
 
-ghost use Rattle.std.specs.Prelude.{◌≡◌, [], ◌∷◌, ◌++◌, IfOk, OnOk};
+ghost use Rattle.std.specs.Prelude.{◌≡◌, ◌++◌, IfOk, OnOk, Some, option_map};
 ghost use Rattle.dl_print.specs.Digits.{last_digit};
-ghost use Rattle.dl_addr.specs.Shown.{is_control, shown_byte, shown, text_in, path_text};
+ghost use Rattle.dl_addr.specs.Shown.{is_control, shown_byte, shown, text_in, no_path_text, path_text};
 ghost use Rattle.dl_addr.specs.Parts.{path_seen};
+ghost use Rattle.dl_addr.specs.Paths.{slash_after};
 
 use crate::basename::basename;
 use crate::json_text::json_string;
-use crate::path::Path;
+use crate::path::{Path, slash_after};
 use crate::style::{Form, Style};
 use dl_look::NoMemory;
 use std::alloc::Global;
 
-/// The text of a path.
-pub fn path_text(alloc: Global, style: Style, path: Path<'_>) -> Result<Vec<u8>, NoMemory>
-    ensures { IfOk result (λ text. text.items ≡ path_text style (path_seen path.entry)) }
+/// The text of a path, or of one that isn't known.
+pub fn path_text(alloc: Global, style: Style, path: Option<Path<'_>>) -> Result<Vec<u8>, NoMemory>
+    ensures { IfOk result (λ text. text.items ≡ path_text style (option_map path_seen path.entry)) }
+{
+    match path {
+        Some(path) => known_text(alloc, style, path),
+        None => no_path_text(alloc, style.form),
+    }
+}
+
+/// The text of a path that is known.
+fn known_text(alloc: Global, style: Style, path: Path<'_>) -> Result<Vec<u8>, NoMemory>
+    ensures { IfOk result (λ text. text.items ≡ path_text style (Some (path_seen path.entry))) }
 {
     let path = joined(alloc, path)?;
     if style.basenames {
@@ -22,6 +33,18 @@ pub fn path_text(alloc: Global, style: Style, path: Path<'_>) -> Result<Vec<u8>,
     } else {
         text_in(alloc, style.form, path.as_slice())
     }
+}
+
+/// What stands for a path that isn't known.
+fn no_path_text(alloc: Global, form: Form) -> Result<Vec<u8>, NoMemory>
+    ensures { IfOk result (λ text. text.items ≡ no_path_text form) }
+{
+    let mut text = Vec::new(alloc);
+    match form {
+        Form::Location | Form::AddressAndLocation => append(&mut text, b"??")?,
+        Form::Json => append(&mut text, b"null")?,
+    }
+    Ok(text)
 }
 
 /// A path as it stands in a line of this form.
@@ -39,26 +62,17 @@ fn joined(alloc: Global, path: Path<'_>) -> Result<Vec<u8>, NoMemory>
     ensures { IfOk result (λ text. text.items ≡ path_seen path.entry) }
 {
     let mut joined = Vec::new(alloc);
-    match path {
-        Path::Whole(name) => append(&mut joined, name)?,
-        Path::Under(directory, name) => {
-            append_directory(&mut joined, directory)?;
-            append(&mut joined, name)?;
-        }
-        Path::Deep(base, directory, name) => {
-            append_directory(&mut joined, base)?;
-            append_directory(&mut joined, directory)?;
-            append(&mut joined, name)?;
-        }
-    }
+    append_directory(&mut joined, path.base)?;
+    append_directory(&mut joined, path.directory)?;
+    append(&mut joined, path.name)?;
     Ok(joined)
 }
 
 fn append_directory(text: &mut Vec<u8>, directory: &[u8]) -> Result<(), NoMemory>
-    ensures { OnOk result (text.new.items ≡ (text.old.items ++ directory.now) ++ 0x2f ∷ []) }
+    ensures { OnOk result (text.new.items ≡ text.old.items ++ directory.now ++ slash_after directory.now) }
 {
     append(text, directory)?;
-    append(text, b"/")
+    append(text, slash_after(directory))
 }
 
 fn append(text: &mut Vec<u8>, bytes: &[u8]) -> Result<(), NoMemory>

@@ -8,13 +8,13 @@ use Rattle.dl_addr.specs.Paths.{path_of}
 use Rattle.dl_calls.specs.declared.record.FaultRecord.{FaultRecord}
 use Rattle.dl_calls.specs.declared.status.Status.{Status}
 use Rattle.dl_calls.specs.declared.status.Status.TheVariants as status
-use Rattle.dl_calls.specs.PathCalls.{Names, TellsPath}
+use Rattle.dl_calls.specs.PathCalls.{Names, TellsPath, path_or_missing}
 use Rattle.dl_calls.specs.UnitCalls.{BeginsWith}
 
 module _ (order : Order) (t : List ℕ) (offset : ℕ) (s : Strings) (file : ℕ) (p q : List ℕ) (m n : ℕ) (f : FaultRecord)
     (u : List ℕ) (begins : BeginsWith order t u) where
   -- the unit is whole
-  pub named : (end : Status) → Names (foreign_in order u) (path_of s (header_of order u) file) p q m n end
+  pub named : (end : Status) → Names (foreign_in order u) (path_or_missing (path_of s (header_of order u) file)) p q m n end
       → TellsPath order t offset s file p q m n f f end
   named status.Done names = (u, begins, names, refl)
   named status.OtherVersion names = (u, begins, names, refl)

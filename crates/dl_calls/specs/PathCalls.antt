@@ -1,6 +1,7 @@
 -- What the call that tells the path of a file answers. t: the bytes of the section from the offset on. DWARF 5,
 -- sections 6.2.4 and 6.2.4.1.
-use Rattle.std.specs.Prelude.{◌≡◌, ◌-◌, ◌^◌, ℕ, ◌+◌, List, [], length, min, Option, Some, None}
+use Rattle.std.specs.Prelude.{◌≡◌, ◌-◌, ◌^◌, ℕ, ◌+◌, List, [], length, min, Option, Some, None, codes}
+use Rattle.std.specs.Option.{unwrap_or}
 use Rattle.dl_num.specs.declared.fixed.Order.{Order}
 use Rattle.dl_table.specs.declared.fault.FaultKind.{FaultKind}
 use Rattle.dl_head.specs.Header.{foreign_in}
@@ -17,6 +18,10 @@ use Rattle.dl_calls.specs.UnitCalls.{BeginsWith, StopsIn, written_over}
 abbrev pub both_strings : (line_str str : List ℕ) → Strings
 both_strings line_str str = record { line_strings = Some line_str; strings = Some str }
 
+-- `??` where the path isn't known
+abbrev pub path_or_missing : Option (List ℕ) → List ℕ
+path_or_missing path = unwrap_or path (codes "??")
+
 -- of a unit of this version, where that isn't 5: of a room and a length, p and m before it, and q and n after it
 abbrev pub Names : (foreign : Option ℕ) (path p q : List ℕ) (m n : ℕ) → Status → Type 0
 Names foreign path p q m n status.Done =
@@ -30,10 +35,10 @@ abbrev pub TellsPath : Order → (t : List ℕ) (offset : ℕ) → Strings → (
     (f g : FaultRecord) → Status → Type 0
 TellsPath order t offset s file p q m n f g status.Done =
     (u : List ℕ) × BeginsWith order t u
-    × Names (foreign_in order u) (path_of s (header_of order u) file) p q m n status.Done × (g ≡ f)
+    × Names (foreign_in order u) (path_or_missing (path_of s (header_of order u) file)) p q m n status.Done × (g ≡ f)
 TellsPath order t offset s file p q m n f g status.OtherVersion =
     (u : List ℕ) × BeginsWith order t u
-    × Names (foreign_in order u) (path_of s (header_of order u) file) p q m n status.OtherVersion × (g ≡ f)
+    × Names (foreign_in order u) (path_or_missing (path_of s (header_of order u) file)) p q m n status.OtherVersion × (g ≡ f)
 TellsPath order t offset s file p q m n f g status.NoAnswer = (t ≡ []) × (q ≡ p) × (n ≡ m) × (g ≡ f)
 TellsPath order t offset s file p q m n f g status.Fault =
     (b : List ℕ) × (at : ℕ) × (kind : FaultKind) × StopsIn order t b (run.Damage at kind)

@@ -1,6 +1,6 @@
 //! The call that tells the path of a file.
 
-ghost use Rattle.std.specs.Prelude.{◌≡◌, ◌-◌, ◌^◌, ℕ, List, drop, length, min};
+ghost use Rattle.std.specs.Prelude.{◌≡◌, ◌-◌, ◌^◌, ℕ, List, drop, length, min, option_map};
 ghost use Rattle.dl_addr.specs.Parts.{path_seen};
 ghost use Rattle.dl_addr.specs.Paths.{path_of};
 ghost use Rattle.dl_num.specs.declared.fixed.Order.{Order};
@@ -8,7 +8,7 @@ ghost use Rattle.dl_print.specs.ValueText.{strings_of};
 ghost use Rattle.dl_head.specs.Header.{foreign_in};
 ghost use Rattle.dl_run.specs.Section.{header_of};
 ghost use Rattle.dl_calls.specs.Calls.{order_of};
-ghost use Rattle.dl_calls.specs.PathCalls.{Names, TellsPath, both_strings};
+ghost use Rattle.dl_calls.specs.PathCalls.{Names, TellsPath, both_strings, path_or_missing};
 ghost use Rattle.dl_calls.specs.UnitCalls.{written_over};
 ghost use Rattle.dl_calls.specs.UnitReading.{WholeAt};
 
@@ -17,15 +17,15 @@ use crate::record::FaultRecord;
 use crate::room::add;
 use crate::status::Status;
 use crate::unit::{UnitRead, WholeUnit, read_unit, rest_from};
-use dl_addr::{Path, path_of};
+use dl_addr::{Path, path_of, slash_after};
 use dl_print::StringSections;
 use std::alloc::Global;
 
 /// Tells the path of the file of this number in the unit that begins at an offset of a section, as `dl_addr::addr`
 /// joins it, as far as there is room. The string sections are `.debug_line_str` and `.debug_str`.
 ///
-/// Done: the path is told, and how many bytes it has; `??` where the unit has no file of this number, or a text of
-/// the path isn't there. NoAnswer: the section has no byte there. OtherVersion: the unit isn't of version 5. Fault:
+/// Done: the path is told, and how many bytes it has; `??` where the unit has no file of this number, or the file's
+/// own path isn't there. NoAnswer: the section has no byte there. OtherVersion: the unit isn't of version 5. Fault:
 /// the fault is told. What isn't told stays as it was. What comes before the offset, and after the unit, isn't
 /// looked at.
 pub fn path_at(
@@ -70,8 +70,8 @@ fn name(
     len: &mut usize,
 ) -> Status
     ensures { (order : Order) (t u : List ℕ) → WholeAt order t whole.now u
-        → Names (foreign_in order u) (path_of (strings_of strings.now) (header_of order u) file) path.old path.new
-        len.old len.new result }
+        → Names (foreign_in order u) (path_or_missing (path_of (strings_of strings.now) (header_of order u) file))
+        path.old path.new len.old len.new result }
 {
     if whole.version.is_some() {
         return Status::OtherVersion;
@@ -80,24 +80,25 @@ fn name(
     Status::Done
 }
 
-/// Writes a path into a room, as far as it fits, and answers how many bytes it has.
-fn join(path: Path<'_>, room: &mut [u8]) -> usize
+/// Writes a path into a room, or `??` where it isn't known, as far as it fits, and answers how many bytes it has.
+fn join(path: Option<Path<'_>>, room: &mut [u8]) -> usize
+    ensures written { room.new ≡ written_over room.old (path_or_missing (option_map path_seen path.entry)) }
+    ensures len { result ≡ min (length (path_or_missing (option_map path_seen path.entry))) (2 ^ 64 - 1) }
+{
+    match path {
+        Some(path) => join_known(path, room),
+        None => add(room, 0, b"??"),
+    }
+}
+
+/// Writes the parts of a path into a room.
+fn join_known(path: Path<'_>, room: &mut [u8]) -> usize
     ensures written { room.new ≡ written_over room.old (path_seen path.entry) }
     ensures len { result ≡ min (length (path_seen path.entry)) (2 ^ 64 - 1) }
 {
-    match path {
-        Path::Whole(name) => add(room, 0, name),
-        Path::Under(directory, name) => {
-            let at = add(room, 0, directory);
-            let at = add(room, at, b"/");
-            add(room, at, name)
-        }
-        Path::Deep(base, directory, name) => {
-            let at = add(room, 0, base);
-            let at = add(room, at, b"/");
-            let at = add(room, at, directory);
-            let at = add(room, at, b"/");
-            add(room, at, name)
-        }
-    }
+    let at = add(room, 0, path.base);
+    let at = add(room, at, slash_after(path.base));
+    let at = add(room, at, path.directory);
+    let at = add(room, at, slash_after(path.directory));
+    add(room, at, path.name)
 }

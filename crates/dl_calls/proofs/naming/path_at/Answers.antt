@@ -6,7 +6,7 @@ use Rattle.dl_run.specs.Section.{header_of}
 use Rattle.dl_addr.specs.Paths.{path_of}
 use Rattle.dl_calls.specs.declared.status.Status.TheVariants as status
 use Rattle.dl_calls.specs.Records.{record_of}
-use Rattle.dl_calls.specs.PathCalls.{Names, TellsPath, both_strings}
+use Rattle.dl_calls.specs.PathCalls.{Names, TellsPath, both_strings, path_or_missing}
 use Rattle.dl_calls.proofs.PathLemmas.{named}
 use Rattle.dl_calls.proofs.SectionLemmas.{none_counted}
 use Rattle.dl_calls.proofs.UnitCallLemmas.{begins, offset_is, short_rest, stops_damaged, stops_unmet}
@@ -25,7 +25,7 @@ returns-in-Whole c =
     c.name.new.len c.args.fault.now c.args.fault.now c.name.result) c.rest_from.ensures.bytes
     (named o t c.args.offset s c.args.file c.args.path.now c.name.new.path c.args.len.now c.name.new.len
     c.args.fault.now r.0 (begins o t c.in-Whole.whole r.0 r.1) c.name.result
-    (subst (λ (x : Strings). Names (foreign_in o r.0) (path_of x (header_of o r.0) c.args.file) c.args.path.now
+    (subst (λ (x : Strings). Names (foreign_in o r.0) (path_or_missing (path_of x (header_of o r.0) c.args.file)) c.args.path.now
     c.name.new.path c.args.len.now c.name.new.len c.name.result) c.new-strings.ensures
     (c.name.ensures o t r.0 r.1))))
 
