@@ -1,18 +1,18 @@
 -- Relocations of later sections, one section header further on.
-use Rattle.std.proofs.Common.{◌≡◌, ℕ, ◌+◌, ◌<◌, ◌≤◌, false, ◌&&◌, ◌||◌, ◌==◌, not, nat_lt, List, Some, sym}
+use Rattle.std.proofs.Common.{◌≡◌, ℕ, ◌+◌, ◌<◌, ◌≤◌, false, ◌&&◌, ◌==◌, not, nat_lt, List, Some, sym}
 use Rattle.std.proofs.Common.{arith, inl, inr}
 use Rattle.std.proofs.lemmas.Bool.{and_cases, and_left, and_parts, and_right, cases_Bool, cases_lt, eqb-true, ltb-false}
 use Rattle.std.proofs.lemmas.Bool.{ne_eqb, not-true}
 use Rattle.dl_elf.specs.declared.file.Elf.{Elf}
 use Rattle.dl_elf.specs.declared.section.SectionHeader.{SectionHeader}
-use Rattle.dl_elf.specs.Elf.{relocates}
+use Rattle.dl_elf.specs.Elf.{has_relocations, relocates}
 use Rattle.dl_elf.specs.Sections.{section_in}
 use Rattle.dl_elf.specs.Forward.{NoneForward, passed, relocates_later}
 
 not_later : (number later : ℕ) (s : SectionHeader) → relocates_later number s ≡ false → number < later
     → relocates later s ≡ false
 not_later number later s none less =
-    let kind = (s.section_type == 4) || (s.section_type == 9) in
+    let kind = has_relocations s in
     elim (and_cases (nat_lt number s.info) kind none) [
       | inl upto ↦ (let before : s.info ≤ number = ltb-false number s.info upto in
           and_left (s.info == later) kind

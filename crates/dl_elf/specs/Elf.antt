@@ -106,9 +106,13 @@ section_fields Bits64 order b = record {
   info = number_at order 44 4 b;
 }
 
--- s is of relocations (RELA or REL) that change section `number`
+-- s is of relocations: its type is RELA, REL or CREL
+abbrev pub has_relocations : SectionHeader → Bool
+has_relocations s = (s.section_type == 4) || (s.section_type == 9) || (s.section_type == 0x40000014)
+
+-- of relocations that change section `number`
 abbrev pub relocates : (number : ℕ) → SectionHeader → Bool
-relocates number s = (s.info == number) && ((s.section_type == 4) || (s.section_type == 9))
+relocates number s = (s.info == number) && has_relocations s
 
 -- its flags have SHF_ALLOC and SHF_EXECINSTR
 abbrev pub is_executable : SectionHeader → Bool

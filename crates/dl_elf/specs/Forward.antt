@@ -1,9 +1,9 @@
 -- Relocations of a later section. f: the bytes of a file; e: the file as it is opened.
-use Rattle.std.specs.Prelude.{◌≡◌, ℕ, ◌+◌, ◌<◌, ◌≤◌, Bool, false, not, ◌&&◌, ◌||◌, ◌==◌, nat_lt, if◌then◌else◌, List}
+use Rattle.std.specs.Prelude.{◌≡◌, ℕ, ◌+◌, ◌<◌, ◌≤◌, Bool, false, not, ◌&&◌, ◌==◌, nat_lt, if◌then◌else◌, List}
 use Rattle.std.specs.Prelude.{Some}
 use Rattle.dl_elf.specs.declared.section.SectionHeader.{SectionHeader}
 use Rattle.dl_elf.specs.declared.file.Elf.{Elf}
-use Rattle.dl_elf.specs.Elf.{relocates}
+use Rattle.dl_elf.specs.Elf.{has_relocations, relocates}
 use Rattle.dl_elf.specs.Sections.{section_in}
 
 -- section k lies in the file, and has no relocations of a later one
@@ -17,7 +17,7 @@ NoneForward e f n = (k : ℕ) → 1 ≤ k → k < n → IsBackward e f k
 
 -- section `number`, which s is, has relocations of a later one
 abbrev pub relocates_later : (number : ℕ) → SectionHeader → Bool
-relocates_later number s = nat_lt number s.info && ((s.section_type == 4) || (s.section_type == 9))
+relocates_later number s = nat_lt number s.info && has_relocations s
 
 -- how far a pass has come without one, after section `number`, which s is
 abbrev pub passed : (number : ℕ) → SectionHeader → ℕ → ℕ

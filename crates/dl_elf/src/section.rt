@@ -14,6 +14,9 @@ pub const RELA: u64 = 4;
 /// The type of a section of relocations without addends (SHT_REL).
 pub const REL: u64 = 9;
 
+/// The type of a section of relocations as differences in LEB128 (SHT_CREL).
+pub const CREL: u64 = 0x4000_0014;
+
 /// The bit in `flags` of a section that takes memory while the program runs (SHF_ALLOC).
 const ALLOC: u64 = 2;
 
@@ -46,21 +49,28 @@ pub struct SectionHeader {
 }
 
 impl SectionHeader {
-    ghost use Rattle.dl_elf.specs.Elf.{relocates, is_executable};
+    ghost use Rattle.dl_elf.specs.Elf.{has_relocations, relocates, is_executable};
     ghost use Rattle.dl_elf.specs.Forward.{relocates_later};
+
+    /// Whether it is a section of relocations.
+    fn has_relocations(&self) -> bool
+        ensures { result ≡ has_relocations self.now }
+    {
+        self.section_type == RELA || self.section_type == REL || self.section_type == CREL
+    }
 
     /// Whether the section has relocations of section `number`.
     pub fn relocates(&self, number: u64) -> bool
         ensures { result ≡ relocates number self.now }
     {
-        self.info == number && (self.section_type == RELA || self.section_type == REL)
+        self.info == number && self.has_relocations()
     }
 
     /// Whether it is section `number` and has relocations of a later one.
     pub(crate) fn relocates_later(&self, number: u64) -> bool
         ensures { result ≡ relocates_later number self.now }
     {
-        number < self.info && (self.section_type == RELA || self.section_type == REL)
+        number < self.info && self.has_relocations()
     }
 
     /// Whether the section has instructions that stand in memory while the program runs.

@@ -71,9 +71,11 @@ by_entries e name form (Some entries) None b = Err (fault.Damaged (part.Symbols 
 by_entries e name form (Some entries) (Some symbols) b =
     with_fault_of e name (relocated (target_of e) form entries symbols b)
 
--- what the relocations of section s make of b
+-- what the relocations of section s make of b; those of a section of type CREL aren't read
 abbrev pub relocated_by : Elf → List ℕ → SectionName → SectionHeader → List ℕ → Result (List ℕ) ElfFault
-relocated_by e f name s b = by_entries e name (form_of s) (bytes_in f s) (symbols_in e f s.link) b
+relocated_by e f name s b =
+    if s.section_type == 0x40000014 then Err (fault.CompactRelocations name)
+    else by_entries e name (form_of s) (bytes_in f s) (symbols_in e f s.link) b
 
 -- ---- all of them, in the order of their sections
 

@@ -359,7 +359,8 @@ fn open_chosen<'a, S: ReadAt>(
 /// The faults, of which the first is told: `Read` where a read failed; `NotElf`; `Damaged` with
 /// what lies outside the file, or isn't where it has to stand; `NoLineSection`; `Compressed` where a wanted
 /// section is compressed otherwise than with zlib; `DamagedStream` where the line section is inflated here;
-/// and of the first relocation that can't be applied `UnknownRelocation`, `RelocationOutside` or `Damaged`;
+/// and of the first relocation that can't be applied `UnknownRelocation`, `RelocationOutside` or `Damaged`, or
+/// `CompactRelocations` where its section has the type SHT_CREL;
 /// `Damaged` too where more than 16 sections are of relocations of the line section. Memory is
 /// taken only where a wanted section is compressed, some 128 KiB for each, and where there are relocations
 /// of the line section: for its bytes, and for the values of the symbols of one section of relocations at a

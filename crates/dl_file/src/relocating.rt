@@ -21,6 +21,9 @@ use std::alloc::Global;
 /// The type of a section of relocations with addends (SHT_RELA).
 const RELA: u64 = 4;
 
+/// The type of a section of relocations as differences in LEB128 (SHT_CREL).
+const CREL: u64 = 0x4000_0014;
+
 fn class_of(class: dl_elf::Class) -> Class
     ensures { result ≡ class_of class }
 {
@@ -97,7 +100,8 @@ fn relocate_pieces<S: ReadAt>(
     Ok(())
 }
 
-/// Applies the entries of a section of relocations to the bytes of the section of this name.
+/// Applies the entries of a section of relocations to the bytes of the section of this name. Those of the type SHT_CREL
+/// are refused.
 fn relocate_by<S: ReadAt>(
     alloc: Global,
     source: &S,
@@ -110,6 +114,9 @@ fn relocate_by<S: ReadAt>(
         IsMade (relocated_by elf.now f name section.now bytes.old) bytes.new result) }
     ensures read { IfRead (S.fails_with source.now) result }
 {
+    if section.section_type == CREL {
+        return Err(ElfFault::CompactRelocations(name));
+    }
     let range = section_range(section);
     if !lies_within(source, range.offset, range.size)? {
         return Err(ElfFault::Damaged(Part::Relocations(name)));

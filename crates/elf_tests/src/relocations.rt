@@ -69,6 +69,16 @@ const OF_ANOTHER_SECTION: NewSection<'_> = NewSection { info: 2, ..FRONT };
 
 const WITHOUT_SYMBOLS: NewSection<'_> = NewSection { link: 0, ..FRONT };
 
+/// Relocations as differences (SHT_CREL): one entry with an addend, as `8*1 + 4`, offset 0 with symbol, type and addend.
+const COMPACT: NewSection<'_> = NewSection {
+    name: ".crel.debug_line",
+    section_type: 0x4000_0014,
+    bytes: b"\x0c\x07\x01\x0a\x00",
+    ..FRONT
+};
+
+const COMPACT_OF_ANOTHER: NewSection<'_> = NewSection { info: 2, ..COMPACT };
+
 /// Its symbols are those of section 1, which has none.
 const NO_SYMBOL: NewSection<'_> = NewSection { link: 1, ..SYMBOL };
 
@@ -112,6 +122,11 @@ const APPLIED: &[Case<'_>] = &[
         &[LINE, SYMBOL_TABLE, OF_ANOTHER_SECTION, EMPTY],
         "little object line - -",
     ),
+    (
+        "differences, of another section",
+        &[LINE, SYMBOL_TABLE, COMPACT_OF_ANOTHER, EMPTY],
+        "little object line - -",
+    ),
 ];
 
 const NOT_APPLIED: &[Case<'_>] = &[(
@@ -148,6 +163,21 @@ const FAULTS: &[Case<'_>] = &[
         "no such symbol table",
         &[LINE, SYMBOL_TABLE, NO_SUCH_TABLE, UNKNOWN],
         "damaged ELF file: symbols of the relocations of section .debug_line",
+    ),
+    (
+        "differences",
+        &[LINE, SYMBOL_TABLE, COMPACT, EMPTY],
+        "section .debug_line: relocations of type CREL are not read",
+    ),
+    (
+        "differences after a fault",
+        &[LINE, SYMBOL_TABLE, UNKNOWN, COMPACT],
+        "section .debug_line: unknown relocation 99 of machine 62",
+    ),
+    (
+        "differences before a fault",
+        &[LINE, SYMBOL_TABLE, COMPACT, UNKNOWN],
+        "section .debug_line: relocations of type CREL are not read",
     ),
 ];
 
