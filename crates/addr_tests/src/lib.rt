@@ -8,6 +8,8 @@ mod directories;
 #[cfg(test)]
 mod each_call;
 #[cfg(test)]
+mod escapes;
+#[cfg(test)]
 mod live;
 #[cfg(test)]
 mod objects;

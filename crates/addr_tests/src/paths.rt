@@ -32,7 +32,7 @@ fn files() -> [Asked; 11] {
 #[test]
 fn paths(rt: HostRuntime) -> Result<(), Fail> {
     let text = "/src/main.c:10\n/src/main.c:11:1\n/src/lib/a.c:12:2\n/abs/b.c:13:3\n/whole.c:14:4\n\
-                C:\\win/c.c:15:5\nE:\\e.c:16:6\n/src/x\\x01y\\x7f.c:17:7\ng.c:18:8\nD:/w/h.c:19:9\n??:30:2\n";
+                C:\\\\win/c.c:15:5\nE:\\\\e.c:16:6\n/src/x\\x01y\\x7f.c:17:7\ng.c:18:8\nD:/w/h.c:19:9\n??:30:2\n";
     assert_addr(&rt, rt.alloc(), &[PATHS], &plain(&files()), (text, ALL))
 }
 

@@ -1,5 +1,6 @@
 pub mod PathLemmas
 pub mod BasenameLemmas
+pub mod ShownLemmas
 pub mod TextLemmas
 pub mod LocatedLemmas
 pub mod LocatorLemmas

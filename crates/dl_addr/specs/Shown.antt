@@ -1,7 +1,8 @@
 -- The texts of paths, as they are printed.
-use Rattle.std.specs.Prelude.{ℕ, ◌/◌, Bool, ◌||◌, ◌&&◌, nat_lt, ◌==◌, if◌then◌else◌, List, [], ◌∷◌, ◌++◌, flat_map}
+use Rattle.std.specs.Prelude.{ℕ, zero, suc, ◌-◌, ◌/◌, Bool, ◌||◌, ◌&&◌, nat_lt, ◌==◌, if◌then◌else◌, List, [], ◌∷◌, ◌++◌, take}
 use Rattle.std.specs.Prelude.{Option, Some, None, codes}
 use Rattle.std.specs.List.{list_any}
+use Rattle.std.specs.Str.{is_utf8}
 use Rattle.dl_print.specs.Digits.{last_digit}
 use Rattle.dl_addr.specs.declared.style.Form.{Form}
 use Rattle.dl_addr.specs.declared.style.Form.TheVariants.{Location, AddressAndLocation, Json}
@@ -9,15 +10,36 @@ use Rattle.dl_addr.specs.declared.style.Style.{Style}
 use Rattle.dl_addr.specs.Json.{json_string}
 use Rattle.dl_addr.specs.Paths.{has_drive, is_slash}
 
--- the bytes that are written by their numbers: those below 0x20, and 0x7f
+-- the bytes that print nothing: those below 0x20, and 0x7f
 abbrev pub is_control : ℕ → Bool
 is_control b = nat_lt b 0x20 || (b == 0x7f)
 
-abbrev pub shown_byte : ℕ → List ℕ
-shown_byte b = if is_control b then codes "\\x" ++ last_digit (b / 16) ∷ last_digit b ∷ [] else b ∷ []
+-- a byte by its number
+abbrev pub numbered : ℕ → List ℕ
+numbered b = codes "\\x" ++ last_digit (b / 16) ∷ last_digit b ∷ []
 
+-- how many bytes the character has that a text begins with in UTF-8; 0 where it begins with none
+abbrev pub character_len : List ℕ → ℕ
+character_len text =
+    if is_utf8 (take 1 text) then 1 else if is_utf8 (take 2 text) then 2 else
+    if is_utf8 (take 3 text) then 3 else if is_utf8 (take 4 text) then 4 else 0
+
+-- the first byte of a character of len bytes, or one that is part of none
+abbrev pub shown_first : (len : ℕ) → ℕ → List ℕ
+shown_first zero b = numbered b
+shown_first (suc zero) b = if b == 0x5c then codes "\\\\" else if is_control b then numbered b else b ∷ []
+shown_first (suc (suc more)) b = b ∷ []
+
+-- left: how many bytes are left of a character that has begun
+abbrev pub shown_after : (left : ℕ) → List ℕ → List ℕ
+shown_after left [] = []
+shown_after zero (b ∷ path) =
+    shown_first (character_len (b ∷ path)) b ++ shown_after (character_len (b ∷ path) - 1) path
+shown_after (suc left) (b ∷ path) = b ∷ shown_after left path
+
+-- a backslash as two, control bytes and what isn't UTF-8 by their numbers
 abbrev pub shown : List ℕ → List ℕ
-shown path = flat_map shown_byte path
+shown path = shown_after 0 path
 
 -- what stands after the last separator; all of it where there is none
 abbrev pub after_the_last : (is_separator : ℕ → Bool) → List ℕ → List ℕ

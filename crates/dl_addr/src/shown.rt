@@ -1,8 +1,9 @@
 //! The texts of paths, as they are printed.
 
-ghost use Rattle.std.specs.Prelude.{◌≡◌, ◌++◌, IfOk, OnOk, Some, option_map};
+ghost use Rattle.std.specs.Prelude.{◌≡◌, ◌<◌, ◌≤◌, ◌++◌, if◌then◌else◌, drop, length, take, IfOk, OnOk, Some, option_map};
+ghost use Rattle.std.specs.Str.{is_utf8};
 ghost use Rattle.dl_print.specs.Digits.{last_digit};
-ghost use Rattle.dl_addr.specs.Shown.{is_control, shown_byte, shown, text_in, no_path_text, path_text};
+ghost use Rattle.dl_addr.specs.Shown.{character_len, is_control, numbered, shown, shown_first, text_in, no_path_text, path_text};
 ghost use Rattle.dl_addr.specs.Parts.{path_seen};
 ghost use Rattle.dl_addr.specs.Paths.{slash_after};
 
@@ -12,6 +13,7 @@ use crate::path::{Path, slash_after};
 use crate::style::{Form, Style};
 use dl_look::NoMemory;
 use std::alloc::Global;
+use std::str;
 
 /// The text of a path, or of one that isn't known.
 pub fn path_text(alloc: Global, style: Style, path: Option<Path<'_>>) -> Result<Vec<u8>, NoMemory>
@@ -84,27 +86,98 @@ fn append(text: &mut Vec<u8>, bytes: &[u8]) -> Result<(), NoMemory>
     }
 }
 
-/// A path as it stands in a location: control bytes by their numbers.
+/// A path as it stands in a location: a backslash as two, control bytes and what isn't UTF-8 by their numbers.
 fn shown(alloc: Global, path: &[u8]) -> Result<Vec<u8>, NoMemory>
     ensures { IfOk result (λ text. text.items ≡ shown path.now) }
 {
     let mut text = Vec::new(alloc);
-    for byte in path {
-        append_shown(&mut text, *byte)?;
+    let mut at = 0;
+    while at < path.len() {
+        at += append_first(&mut text, &path[at..])?;
     }
     Ok(text)
 }
 
-fn append_shown(text: &mut Vec<u8>, byte: u8) -> Result<(), NoMemory>
-    ensures { OnOk result (text.new.items ≡ text.old.items ++ shown_byte byte) }
+/// Appends the character that a path begins with, or the byte that is part of none, and answers how many bytes it has.
+fn append_first(text: &mut Vec<u8>, path: &[u8]) -> Result<usize, NoMemory>
+    requires { 0 < length path.now }
+    ensures some { IfOk result (λ n. 0 < n) }
+    ensures within { IfOk result (λ n. n ≤ length path.now) }
+    ensures shown { IfOk result (λ n. text.new.items ++ shown (drop n path.now) ≡ text.old.items ++ shown path.now) }
 {
-    if is_control(byte) {
-        append(
-            text,
-            &[b'\\', b'x', last_digit(byte / 16), last_digit(byte)],
-        )
+    let len = character_len(path);
+    if len < 2 {
+        append_byte(text, len == 1, path[0])?;
+        return Ok(1);
+    }
+    append(text, &path[..len])?;
+    Ok(len)
+}
+
+/// Appends a byte that is a character, or part of none.
+fn append_byte(text: &mut Vec<u8>, is_character: bool, byte: u8) -> Result<(), NoMemory>
+    ensures { OnOk result (text.new.items ≡ text.old.items ++ shown_first (if is_character then 1 else 0) byte) }
+{
+    if is_character {
+        append_character(text, byte)
+    } else {
+        append_number(text, byte)
+    }
+}
+
+/// Appends a character of one byte.
+fn append_character(text: &mut Vec<u8>, byte: u8) -> Result<(), NoMemory>
+    ensures { OnOk result (text.new.items ≡ text.old.items ++ shown_first 1 byte) }
+{
+    if byte == b'\\' {
+        append(text, b"\\\\")
+    } else if is_control(byte) {
+        append_number(text, byte)
     } else {
         append(text, &[byte])
+    }
+}
+
+/// Appends a byte by its number.
+fn append_number(text: &mut Vec<u8>, byte: u8) -> Result<(), NoMemory>
+    ensures { OnOk result (text.new.items ≡ text.old.items ++ numbered byte) }
+{
+    append(
+        text,
+        &[b'\\', b'x', last_digit(byte / 16), last_digit(byte)],
+    )
+}
+
+/// How many bytes the character has that a text begins with; 0 where it begins with none.
+fn character_len(text: &[u8]) -> usize
+    ensures { result ≡ character_len text.now }
+{
+    if begins_in_utf8(text, 1) {
+        1
+    } else if begins_in_utf8(text, 2) {
+        2
+    } else if begins_in_utf8(text, 3) {
+        3
+    } else if begins_in_utf8(text, 4) {
+        4
+    } else {
+        0
+    }
+}
+
+/// Whether the first `len` bytes of a text, or all where it has fewer, are UTF-8.
+fn begins_in_utf8(text: &[u8], len: usize) -> bool
+    ensures { result ≡ is_utf8 (take len text.now) }
+{
+    is_utf8(&text[..len.min(text.len())])
+}
+
+fn is_utf8(text: &[u8]) -> bool
+    ensures { result ≡ is_utf8 text.now }
+{
+    match str::from_utf8(text) {
+        Ok(_) => true,
+        Err(_) => false,
     }
 }
 
