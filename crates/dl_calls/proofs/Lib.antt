@@ -3,6 +3,7 @@ pub mod CopyLemmas
 pub mod FaultLemmas
 pub mod FindLemmas
 pub mod PathLemmas
+pub mod PathsLemmas
 pub mod RoomLemmas
 pub mod SectionLemmas
 pub mod UnitCallLemmas

@@ -7,6 +7,7 @@ pub mod UnitCalls
 pub mod AllCalls
 pub mod CopyCalls
 pub mod PathCalls
+pub mod PathsCalls
 pub mod FaultCalls
 -- Of contracts inside the crate, and of proofs; no public contract reaches these.
 pub mod UnitReading

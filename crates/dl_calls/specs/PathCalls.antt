@@ -1,6 +1,6 @@
 -- What the call that tells the path of a file answers. t: the bytes of the section from the offset on. DWARF 5,
 -- sections 6.2.4 and 6.2.4.1.
-use Rattle.std.specs.Prelude.{◌≡◌, ◌-◌, ◌^◌, ℕ, ◌+◌, List, [], length, min, Option, Some, None, codes}
+use Rattle.std.specs.Prelude.{◌≡◌, ℕ, ◌+◌, List, [], Option, Some, None, codes}
 use Rattle.std.specs.Option.{unwrap_or}
 use Rattle.dl_num.specs.declared.fixed.Order.{Order}
 use Rattle.dl_table.specs.declared.fault.FaultKind.{FaultKind}
@@ -13,7 +13,7 @@ use Rattle.dl_calls.specs.declared.record.FaultRecord.{FaultRecord}
 use Rattle.dl_calls.specs.declared.status.Status.{Status}
 use Rattle.dl_calls.specs.declared.status.Status.TheVariants as status
 use Rattle.dl_calls.specs.Records.{record_of}
-use Rattle.dl_calls.specs.UnitCalls.{BeginsWith, StopsIn, written_over}
+use Rattle.dl_calls.specs.UnitCalls.{BeginsWith, StopsIn, length_told, written_over}
 
 abbrev pub both_strings : (line_str str : List ℕ) → Strings
 both_strings line_str str = record { line_strings = Some line_str; strings = Some str }
@@ -25,7 +25,7 @@ path_or_missing path = unwrap_or path (codes "??")
 -- of a unit of this version, where that isn't 5: of a room and a length, p and m before it, and q and n after it
 abbrev pub Names : (foreign : Option ℕ) (path p q : List ℕ) (m n : ℕ) → Status → Type 0
 Names foreign path p q m n status.Done =
-    (foreign ≡ None) × (q ≡ written_over p path) × (n ≡ min (length path) (2 ^ 64 - 1))
+    (foreign ≡ None) × (q ≡ written_over p path) × (n ≡ length_told path)
 Names foreign path p q m n status.OtherVersion = (version : ℕ) × (foreign ≡ Some version) × (q ≡ p) × (n ≡ m)
 Names foreign path p q m n other = ⊥
 

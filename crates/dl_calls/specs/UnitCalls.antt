@@ -1,6 +1,7 @@
 -- What the calls answer of the unit that begins at an offset of a section. t: the bytes of the section from the offset
 -- on. DWARF 5, section 6.2.4; initial lengths are of section 7.4.
-use Rattle.std.specs.Prelude.{◌≡◌, ℕ, ◌+◌, Bool, cond, nat_eq, List, [], ◌∷◌, ◌++◌, length, map, take, drop, Some, Err}
+use Rattle.std.specs.Prelude.{◌≡◌, ℕ, ◌+◌, ◌-◌, ◌^◌, Bool, cond, nat_eq, List, [], ◌∷◌, ◌++◌, length, map, min, take}
+use Rattle.std.specs.Prelude.{drop, Some, Err}
 use Rattle.std.specs.List.{starts_with}
 use Rattle.std.specs.Option.{option_map_or, unwrap_or}
 use Rattle.dl_num.specs.declared.fixed.Order.{Order}
@@ -57,6 +58,10 @@ Describes order t offset p q f g other = ⊥
 -- what stands in a room that held `old`, where `new` is written into it as far as it has room
 abbrev pub written_over : {A : Type 0} (old new : List A) → List A
 written_over old new = take (length old) new ++ drop (length new) old
+
+-- how many bytes a text has, as a number of 64 bits tells it
+abbrev pub length_told : (text : List ℕ) → ℕ
+length_told text = min (length text) (2 ^ 64 - 1)
 
 -- `rows_at`: of a room for rows, a count and a fault, p, m and f before it, and q, n and g after it, only what the
 -- status says is written

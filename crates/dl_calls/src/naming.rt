@@ -1,6 +1,6 @@
 //! The call that tells the path of a file.
 
-ghost use Rattle.std.specs.Prelude.{◌≡◌, ◌-◌, ◌^◌, ℕ, List, drop, length, min, option_map};
+ghost use Rattle.std.specs.Prelude.{◌≡◌, ◌++◌, ℕ, List, drop, option_map};
 ghost use Rattle.dl_addr.specs.Parts.{path_seen};
 ghost use Rattle.dl_addr.specs.Paths.{path_of};
 ghost use Rattle.dl_num.specs.declared.fixed.Order.{Order};
@@ -9,7 +9,7 @@ ghost use Rattle.dl_head.specs.Header.{foreign_in};
 ghost use Rattle.dl_run.specs.Section.{header_of};
 ghost use Rattle.dl_calls.specs.Calls.{order_of};
 ghost use Rattle.dl_calls.specs.PathCalls.{Names, TellsPath, both_strings, path_or_missing};
-ghost use Rattle.dl_calls.specs.UnitCalls.{written_over};
+ghost use Rattle.dl_calls.specs.UnitCalls.{length_told, written_over};
 ghost use Rattle.dl_calls.specs.UnitReading.{WholeAt};
 
 use crate::checking::{Tally, order_of};
@@ -83,20 +83,32 @@ fn name(
 /// Writes a path into a room, or `??` where it isn't known, as far as it fits, and answers how many bytes it has.
 fn join(path: Option<Path<'_>>, room: &mut [u8]) -> usize
     ensures written { room.new ≡ written_over room.old (path_or_missing (option_map path_seen path.entry)) }
-    ensures len { result ≡ min (length (path_or_missing (option_map path_seen path.entry))) (2 ^ 64 - 1) }
+    ensures len { result ≡ length_told (path_or_missing (option_map path_seen path.entry)) }
+{
+    join_after(path, room, 0)
+}
+
+/// Writes a path into a room after the bytes that were written, of which there are `at`, or `??` where it isn't known,
+/// as far as it fits. Answers how many bytes there are then.
+pub(crate) fn join_after(path: Option<Path<'_>>, room: &mut [u8], at: usize) -> usize
+    ensures written { (first text : List ℕ) → room.old ≡ written_over first text → at ≡ length_told text
+        → room.new ≡ written_over first (text ++ path_or_missing (option_map path_seen path.entry)) }
+    ensures len { (text : List ℕ) → at ≡ length_told text
+        → result ≡ length_told (text ++ path_or_missing (option_map path_seen path.entry)) }
 {
     match path {
-        Some(path) => join_known(path, room),
-        None => add(room, 0, b"??"),
+        Some(path) => known_after(path, room, at),
+        None => add(room, at, b"??"),
     }
 }
 
-/// Writes the parts of a path into a room.
-fn join_known(path: Path<'_>, room: &mut [u8]) -> usize
-    ensures written { room.new ≡ written_over room.old (path_seen path.entry) }
-    ensures len { result ≡ min (length (path_seen path.entry)) (2 ^ 64 - 1) }
+/// The same of a path that is known.
+fn known_after(path: Path<'_>, room: &mut [u8], at: usize) -> usize
+    ensures written { (first text : List ℕ) → room.old ≡ written_over first text → at ≡ length_told text
+        → room.new ≡ written_over first (text ++ path_seen path.entry) }
+    ensures len { (text : List ℕ) → at ≡ length_told text → result ≡ length_told (text ++ path_seen path.entry) }
 {
-    let at = add(room, 0, path.base);
+    let at = add(room, at, path.base);
     let at = add(room, at, slash_after(path.base));
     let at = add(room, at, path.directory);
     let at = add(room, at, slash_after(path.directory));

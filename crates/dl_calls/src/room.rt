@@ -1,7 +1,7 @@
 //! Rooms that C hands in, which may be too small.
 
-ghost use Rattle.std.specs.Prelude.{◌≡◌, ◌++◌, ◌-◌, ◌^◌, ℕ, List, length, min};
-ghost use Rattle.dl_calls.specs.UnitCalls.{written_over};
+ghost use Rattle.std.specs.Prelude.{◌≡◌, ◌++◌, ℕ, List, [], ◌∷◌, length};
+ghost use Rattle.dl_calls.specs.UnitCalls.{length_told, written_over};
 
 /// Writes bytes into a room, as far as they fit.
 pub fn fill(room: &mut [u8], bytes: &[u8])
@@ -15,9 +15,8 @@ pub fn fill(room: &mut [u8], bytes: &[u8])
 /// many there are then.
 pub fn add(room: &mut [u8], at: usize, bytes: &[u8]) -> usize
     ensures written { (first text : List ℕ) → room.old ≡ written_over first text
-        → at ≡ min (length text) (2 ^ 64 - 1) → room.new ≡ written_over first (text ++ bytes.now) }
-    ensures len { (text : List ℕ) → at ≡ min (length text) (2 ^ 64 - 1)
-        → result ≡ min (length (text ++ bytes.now)) (2 ^ 64 - 1) }
+        → at ≡ length_told text → room.new ≡ written_over first (text ++ bytes.now) }
+    ensures len { (text : List ℕ) → at ≡ length_told text → result ≡ length_told (text ++ bytes.now) }
 {
     let after = at.saturating_add(bytes.len());
     let end = room.len().min(after);
@@ -25,4 +24,14 @@ pub fn add(room: &mut [u8], at: usize, bytes: &[u8]) -> usize
         room[at..end].copy_from_slice(&bytes[..end - at]);
     }
     after
+}
+
+/// Writes a number into a room after those that were written, of which there are `at`, where there is room for it.
+pub fn put(room: &mut [usize], at: usize, number: usize)
+    ensures { (first numbers : List ℕ) → room.old ≡ written_over first numbers → at ≡ length numbers
+        → room.new ≡ written_over first (numbers ++ number ∷ []) }
+{
+    if at < room.len() {
+        room[at] = number;
+    }
 }

@@ -1,5 +1,4 @@
 use Rattle.std.proofs.Common.{◌≡◌, ◌<◌, ℕ, inr, Err, refl, subst, arith, length}
-use Rattle.std.specs.Prelude.{◌-◌}
 use Rattle.dl_num.specs.declared.fixed.Order.{Order}
 use Rattle.dl_calls.specs.declared.stop.Stop.{Stop}
 use Rattle.dl_calls.specs.Calls.{order_of}

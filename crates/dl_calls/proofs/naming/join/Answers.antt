@@ -1,5 +1,9 @@
 use Rattle.std.proofs.Common.{[], refl}
+use Rattle.dl_calls.proofs.RoomLemmas.{over_none}
 use Rattle.dl_calls.proofs.naming.join.Goals as goal
 
-pub returns-in-None-clause-len : goal.returns-in-None-clause-len
-returns-in-None-clause-len c = rw (c.in-None.is) (c.add.ensures.len [] refl)
+pub returns-clause-written : goal.returns-clause-written
+returns-clause-written c = c.join_after.ensures.written c.args.room.now [] (over_none c.args.room.now) refl
+
+pub returns-clause-len : goal.returns-clause-len
+returns-clause-len c = c.join_after.ensures.len [] refl

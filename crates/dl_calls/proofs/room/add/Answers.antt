@@ -1,4 +1,4 @@
-use Rattle.std.proofs.Common.{◌≡◌, ◌<◌, ◌^◌, ◌+◌, ◌-◌, ◌++◌, ℕ, List, arith, ap, ap₂, ◌∙◌, length, take, drop}
+use Rattle.std.proofs.Common.{◌≡◌, ◌<◌, ◌^◌, ◌-◌, ◌++◌, ℕ, List, arith, ap, ap₂, ◌∙◌, length, take, drop}
 use Rattle.dl_calls.specs.UnitCalls.{written_over}
 use Rattle.dl_calls.proofs.RoomLemmas.{length-over, over_added}
 use Rattle.dl_calls.proofs.room.add.Goals as goal
