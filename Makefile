@@ -42,9 +42,9 @@ lib:
 library:
 	mkdir -p out
 	$(CC) $(CFLAGS) -O2 -fPIC -c -o out/memory.o bindings/c/memory.c
-	$(CC) $(CFLAGS) -O2 -fPIC -Iinclude -c -o out/find_all.o bindings/c/find_all.c
+	$(CC) $(CFLAGS) -O2 -fPIC -Iinclude -c -o out/calls.o bindings/c/calls.c
 	cp crates/dl_c/out/libdl_c.a out/libboxantrel.a
-	$(AR) rs out/libboxantrel.a out/memory.o out/find_all.o
+	$(AR) rs out/libboxantrel.a out/memory.o out/calls.o
 	$(CC) $(LDFLAGS) -shared -o out/libboxantrel.so -Wl,-soname,libboxantrel.so \
 		-Wl,--version-script=bindings/c/exports.map -Wl,--whole-archive out/libboxantrel.a -Wl,--no-whole-archive
 	sed 's|@PREFIX@|$(PREFIX)|; s|@VERSION@|$(version)|' bindings/c/boxantrel.pc.in > out/boxantrel.pc

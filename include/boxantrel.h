@@ -5,9 +5,9 @@
  * threads at once. What it answers is proved of the code of the library, for whatever bytes come.
  *
  * The caller owes that
- * - the pointer to the bytes is valid for their number, and isn't null, also where that is 0; a pointer to a room is so
- *   for as many elements as the room is said to have;
- * - each pointer to a struct or a number is valid and aligned for its type, and `big` is false or true;
+ * - the pointer to bytes or elements is valid for their number, a pointer to a room for as many elements as the room is
+ *   said to have, and each is aligned for its type. Where the number is 0 the pointer isn't looked at, and may be null;
+ * - each pointer to one struct or number is valid and aligned for its type, and `big` is false or true;
  * - what a call writes overlaps nothing else that the same call is given;
  * - malloc, realloc and free are those of one allocator, and no call comes from a signal handler, nor from the child
  *   of a process with several threads before it runs another program.
@@ -149,6 +149,20 @@ uint32_t dl_rows_at(const uint8_t *section, size_t len, bool big, uint64_t offse
 uint32_t dl_path_at(const uint8_t *section, size_t len, bool big, uint64_t offset, uint64_t file,
                     const uint8_t *line_str, size_t line_str_len, const uint8_t *str, size_t str_len, uint8_t *path,
                     size_t room, size_t *length, dl_fault *fault);
+
+/*
+ * Tells the paths of files, by their numbers in the unit that begins at an offset, in any order and as often as they
+ * come, in one pass over the unit: each as dl_path_at tells it, one after the other, with nothing between them, as far
+ * as there is room.
+ * DL_DONE: the paths are written, and ends[i] is where that of files[i] ends: how many bytes it and those before it
+ * have (2^64 - 1 where there are more). It begins where the one before it ends, the first at 0. DL_NO_ROOM: the same,
+ * but there isn't room for all bytes of the paths, of which the first are written; the last of the ends is how many
+ * there are.
+ * DL_NO_ANSWER, DL_OTHER_VERSION, DL_FAULT: as of dl_path_at.
+ */
+uint32_t dl_paths_at(const uint8_t *section, size_t len, bool big, uint64_t offset, const uint64_t *files, size_t count,
+                     const uint8_t *line_str, size_t line_str_len, const uint8_t *str, size_t str_len, uint8_t *paths,
+                     size_t room, size_t *ends, dl_fault *fault);
 
 /*
  * Looks up the row that answers for an address and an operation of its instruction (0 but on VLIW machines): the last

@@ -1,5 +1,6 @@
-//! The library for C: each export calls the function of dl_calls that does its work. What C hands in and
-//! owes stands in include/boxantrel.h.
+//! The library for C: each export calls the function of dl_calls that does its work. Before them stand the calls of
+//! bindings/c/calls.c, whose names begin with `dl_`: no slice here is at a null pointer, also where it is empty. What C
+//! hands in and owes stands in include/boxantrel.h.
 #![tactic(auto)]
 
 ghost use Rattle.std.specs.Prelude.{◌≡◌, ◌≤◌, drop, length};
@@ -10,6 +11,7 @@ ghost use Rattle.dl_calls.specs.CopyCalls.{Copies};
 ghost use Rattle.dl_calls.specs.FaultCalls.{told_text};
 ghost use Rattle.dl_calls.specs.FindCalls.{Finds, place_at};
 ghost use Rattle.dl_calls.specs.PathCalls.{TellsPath, both_strings};
+ghost use Rattle.dl_calls.specs.PathsCalls.{TellsPaths};
 ghost use Rattle.dl_calls.specs.Records.{status_code};
 ghost use Rattle.dl_calls.specs.UnitCalls.{Describes, Lists, written_over};
 
@@ -18,7 +20,7 @@ use std::alloc::Global;
 
 /// As `dl_calls::check`.
 #[unsafe(no_mangle)]
-pub extern "C" fn dl_check(
+pub extern "C" fn boxantrel_check(
     alloc: Global,
     section: &[u8],
     big: bool,
@@ -33,7 +35,7 @@ pub extern "C" fn dl_check(
 
 /// As `dl_calls::unit_at`.
 #[unsafe(no_mangle)]
-pub extern "C" fn dl_unit_at(
+pub extern "C" fn boxantrel_unit_at(
     alloc: Global,
     section: &[u8],
     big: bool,
@@ -49,7 +51,7 @@ pub extern "C" fn dl_unit_at(
 
 /// As `dl_calls::rows_at`.
 #[unsafe(no_mangle)]
-pub extern "C" fn dl_rows_at(
+pub extern "C" fn boxantrel_rows_at(
     alloc: Global,
     section: &[u8],
     big: bool,
@@ -67,7 +69,7 @@ pub extern "C" fn dl_rows_at(
 
 /// As `dl_calls::find`.
 #[unsafe(no_mangle)]
-pub extern "C" fn dl_find(
+pub extern "C" fn boxantrel_find(
     alloc: Global,
     section: &[u8],
     big: bool,
@@ -85,7 +87,7 @@ pub extern "C" fn dl_find(
     dl_calls::find(alloc, section, big, place, row, unit, fault).code()
 }
 
-/// As `dl_calls::find_all`. The call `dl_find_all` of the library hands in one number of addresses, rows and offsets.
+/// As `dl_calls::find_all`. `dl_find_all` hands in one number of addresses, rows and offsets.
 #[unsafe(no_mangle)]
 pub extern "C" fn boxantrel_find_all(
     alloc: Global,
@@ -105,7 +107,7 @@ pub extern "C" fn boxantrel_find_all(
 
 /// As `dl_calls::copy`.
 #[unsafe(no_mangle)]
-pub extern "C" fn dl_copy(
+pub extern "C" fn boxantrel_copy(
     alloc: Global,
     section: &[u8],
     big: bool,
@@ -121,7 +123,7 @@ pub extern "C" fn dl_copy(
 
 /// As `dl_calls::path_at`.
 #[unsafe(no_mangle)]
-pub extern "C" fn dl_path_at(
+pub extern "C" fn boxantrel_path_at(
     alloc: Global,
     section: &[u8],
     big: bool,
@@ -143,9 +145,33 @@ pub extern "C" fn dl_path_at(
     .code()
 }
 
+/// As `dl_calls::paths_at`. `dl_paths_at` hands in one number of files and ends.
+#[unsafe(no_mangle)]
+pub extern "C" fn boxantrel_paths_at(
+    alloc: Global,
+    section: &[u8],
+    big: bool,
+    offset: u64,
+    files: &[u64],
+    line_str: &[u8],
+    str: &[u8],
+    paths: &mut [u8],
+    ends: &mut [usize],
+    fault: &mut FaultRecord,
+) -> u32
+    ensures { (status : Status) × (result ≡ status_code status)
+        × TellsPaths (order_of big) (drop offset section.now) offset (both_strings line_str.now str.now) files.now
+        paths.old paths.new ends.old ends.new fault.old fault.new status }
+{
+    dl_calls::paths_at(
+        alloc, section, big, offset, files, line_str, str, paths, ends, fault,
+    )
+    .code()
+}
+
 /// As `dl_calls::fault_text`.
 #[unsafe(no_mangle)]
-pub extern "C" fn dl_fault_text(fault: &FaultRecord, text: &mut [u8]) -> usize
+pub extern "C" fn boxantrel_fault_text(fault: &FaultRecord, text: &mut [u8]) -> usize
     ensures written { text.new ≡ written_over text.old (told_text fault.now) }
     ensures len { result ≡ length (told_text fault.now) }
     ensures few { result ≤ 128 }
