@@ -9,6 +9,8 @@
     [8, None]
     >>> section.path_at(0, 1, open("examples/gcc-O2/debug_line_str", "rb").read())
     b'/boxantrel/series.c'
+    >>> section.paths_at(0, [1, 2], open("examples/gcc-O2/debug_line_str", "rb").read())
+    [b'/boxantrel/series.c', b'/boxantrel/include/range.h']
     >>> [(unit.offset, unit.rows, len(list(section.rows_at(unit.offset)))) for unit in section.units()]
     [(0, 59, 59), (297, 32, 32)]
 
@@ -20,9 +22,10 @@ from __future__ import annotations
 
 import ctypes
 import ctypes.util
+import operator
 import os
 import pathlib
-from typing import Iterator, List, NamedTuple, Optional, Sequence
+from typing import Any, Iterator, List, NamedTuple, NoReturn, Optional, Sequence
 
 __all__ = ["Counts", "Damage", "Found", "OtherVersion", "Row", "Section", "Unit"]
 
@@ -49,6 +52,24 @@ class _Unit(ctypes.Structure):
         ("version", ctypes.c_uint16),
         ("address_size", ctypes.c_uint8),
         ("is_dwarf64", ctypes.c_uint8),
+    ]
+
+
+class _Buffer(ctypes.Structure):
+    """Py_buffer of Python's C API."""
+
+    _fields_ = [
+        ("buf", ctypes.c_void_p),
+        ("obj", ctypes.c_void_p),
+        ("len", ctypes.c_ssize_t),
+        ("itemsize", ctypes.c_ssize_t),
+        ("readonly", ctypes.c_int),
+        ("ndim", ctypes.c_int),
+        ("format", ctypes.c_void_p),
+        ("shape", ctypes.c_void_p),
+        ("strides", ctypes.c_void_p),
+        ("suboffsets", ctypes.c_void_p),
+        ("internal", ctypes.c_void_p),
     ]
 
 
@@ -109,10 +130,13 @@ class Damage(Exception):
     """
 
     def __init__(self, offset: int, kind: int, detail: int) -> None:
-        super().__init__(_fault_text(offset, kind, detail))
-        self.offset = offset
-        self.kind = kind
-        self.detail = detail
+        self.offset = _number(offset, 64)
+        self.kind = _number(kind, 32)
+        self.detail = _number(detail, 64)
+        super().__init__(self.offset, self.kind, self.detail)
+
+    def __str__(self) -> str:
+        return _fault_text(self.offset, self.kind, self.detail)
 
 
 class OtherVersion(Exception):
@@ -126,20 +150,25 @@ def _library() -> ctypes.CDLL:
     if path is None:
         raise OSError("libboxantrel.so isn't found")
     library = ctypes.CDLL(path)
-    section = [ctypes.c_char_p, ctypes.c_size_t, ctypes.c_bool]
+    held = [ctypes.c_void_p, ctypes.c_size_t]
+    section = held + [ctypes.c_bool]
     fault = ctypes.POINTER(_Fault)
     row = ctypes.POINTER(_Row)
     place = [ctypes.c_uint64, ctypes.c_uint8]
     rows = [row, ctypes.c_size_t, ctypes.POINTER(ctypes.c_size_t)]
     arguments = {
         "dl_check": section + [ctypes.POINTER(_Counts), fault],
-        "dl_fault_text": [fault, ctypes.c_char_p, ctypes.c_size_t],
+        "dl_fault_text": [fault, ctypes.c_void_p, ctypes.c_size_t],
         "dl_unit_at": section + [ctypes.c_uint64, ctypes.POINTER(_Unit), fault],
         "dl_rows_at": section + [ctypes.c_uint64] + rows + [fault],
         "dl_copy": section + [ctypes.c_void_p, ctypes.c_size_t, ctypes.POINTER(ctypes.c_size_t), fault],
         "dl_path_at": section
         + [ctypes.c_uint64, ctypes.c_uint64]
-        + [ctypes.c_char_p, ctypes.c_size_t] * 2
+        + held * 2
+        + [ctypes.c_void_p, ctypes.c_size_t, ctypes.POINTER(ctypes.c_size_t), fault],
+        "dl_paths_at": section
+        + [ctypes.c_uint64, ctypes.POINTER(ctypes.c_uint64), ctypes.c_size_t]
+        + held * 2
         + [ctypes.c_void_p, ctypes.c_size_t, ctypes.POINTER(ctypes.c_size_t), fault],
         "dl_find_all": section
         + [ctypes.POINTER(ctypes.c_uint64), ctypes.c_size_t, row, ctypes.POINTER(ctypes.c_uint64), fault],
@@ -156,6 +185,26 @@ def _library() -> ctypes.CDLL:
 _calls = _library()
 
 
+def _number(number: Any, bits: int) -> int:
+    """A number of this many bits."""
+    held = operator.index(number)
+    if not 0 <= held < 1 << bits:
+        raise OverflowError(f"{held} is no number of {bits} bits")
+    return held
+
+
+class _Bytes:
+    """The bytes of an object with the buffer protocol, where they stand. While this is alive, so is the object, and its
+    bytes aren't moved."""
+
+    def __init__(self, data: Any) -> None:
+        self._view = memoryview(data)
+        buffer = _Buffer()
+        ctypes.pythonapi.PyObject_GetBuffer(ctypes.py_object(data), ctypes.byref(buffer), 0)
+        self.pointer = (buffer.buf, buffer.len)
+        ctypes.pythonapi.PyBuffer_Release(ctypes.byref(buffer))
+
+
 def _fault_text(offset: int, kind: int, detail: int) -> str:
     fault, text = _Fault(offset, detail, kind), ctypes.create_string_buffer(128)
     length = _calls.dl_fault_text(ctypes.byref(fault), text, len(text))
@@ -167,20 +216,29 @@ def _row(row: _Row) -> Row:
     return Row(row.address, row.file, row.line, row.column, row.isa, row.discriminator, row.op_index, *flags)
 
 
-def _refuse(status: int, fault: _Fault) -> None:
+def _refuse(status: int, fault: _Fault) -> NoReturn:
     """Raises what a status says that is none of an answer."""
     if status == _FAULT:
         raise Damage(fault.offset, fault.kind, fault.detail)
     if status == _OTHER_VERSION:
         raise OtherVersion("a unit that is not of version 5")
-    raise MemoryError("out of memory")
+    if status == _NO_MEMORY:
+        raise MemoryError("out of memory")
+    raise RuntimeError(f"the status {status}, which the call doesn't answer")
 
 
 class Section:
-    """The bytes of a section .debug_line, whose numbers stand with the lowest byte first, or with `big` the highest."""
+    """The bytes of a section .debug_line, whose numbers stand with the lowest byte first, or with `big` the highest.
 
-    def __init__(self, data: bytes, big: bool = False) -> None:
-        self._bytes = (bytes(data), len(data), big)
+    `data` is any object with the buffer protocol whose bytes stand one after the other, as bytes, bytearray, array or
+    mmap; so are `line_str` and `text` below, the bytes of .debug_line_str and .debug_str. They are read where they
+    stand, so nothing else may change them during a call. A number that doesn't fit its type (an offset, an address and
+    a file have 64 bits, an operation 8) is an OverflowError.
+    """
+
+    def __init__(self, data: Any, big: bool = False) -> None:
+        self._held = _Bytes(data)
+        self._bytes = (*self._held.pointer, bool(big))
 
     def check(self) -> Counts:
         """Reads all units, and counts them, their sequences and their rows."""
@@ -194,7 +252,7 @@ class Section:
         """The unit that begins at an offset; None where the section has no byte there. What comes before the offset
         isn't looked at."""
         unit, fault = _Unit(), _Fault()
-        status = _calls.dl_unit_at(*self._bytes, offset, ctypes.byref(unit), ctypes.byref(fault))
+        status = _calls.dl_unit_at(*self._bytes, _number(offset, 64), ctypes.byref(unit), ctypes.byref(fault))
         if status == _NO_ANSWER:
             return None
         if status != _DONE:
@@ -211,37 +269,66 @@ class Section:
 
     def rows_at(self, offset: int) -> Iterator[Row]:
         """The rows of the unit that begins at an offset, none where the section has no byte there; of a damaged unit
-        those before the fault, which is raised after them. The unit is read twice: how many rows it has is known after
-        the first time."""
+        those before the fault, which is raised after them. A unit that has rows is read twice: how many there are is
+        known after the first time."""
+        return self._rows_at(_number(offset, 64))
+
+    def _rows_at(self, offset: int) -> Iterator[Row]:
         count, fault = ctypes.c_size_t(0), _Fault()
         answer = (ctypes.byref(count), ctypes.byref(fault))
-        _calls.dl_rows_at(*self._bytes, offset, (_Row * 1)(), 0, *answer)
+        status = _calls.dl_rows_at(*self._bytes, offset, None, 0, *answer)
         room = count.value
-        rows = (_Row * max(room, 1))()
-        status = _calls.dl_rows_at(*self._bytes, offset, rows, room, *answer)
-        if status in (_DONE, _FAULT):
-            yield from map(_row, rows[:room])
+        if room > 0:
+            rows = (_Row * room)()
+            status = _calls.dl_rows_at(*self._bytes, offset, rows, room, *answer)
+            if status in (_DONE, _FAULT):
+                yield from map(_row, rows)
         if status not in (_DONE, _NO_ANSWER):
             _refuse(status, fault)
 
-    def path_at(self, offset: int, file: int, line_str: bytes = b"", text: bytes = b"") -> Optional[bytes]:
+    def path_at(self, offset: int, file: int, line_str: Any = b"", text: Any = b"") -> Optional[bytes]:
         """The path of the file of this number in the unit that begins at an offset, joined as `dwline addr` joins it:
         `??` where the unit has no such file, or its own name isn't there; None where the section has no byte
         there. `line_str` and `text` are the bytes of .debug_line_str and .debug_str. A path of more than 256 bytes is
         told twice."""
+        numbers = (_number(offset, 64), _number(file, 64))
+        strings = (_Bytes(line_str), _Bytes(text))
         length, fault, room = ctypes.c_size_t(256), _Fault(), 0
-        strings = (line_str, len(line_str), text, len(text))
         while room < length.value:
             room = length.value
             path = ctypes.create_string_buffer(room)
-            status = _calls.dl_path_at(
-                *self._bytes, offset, file, *strings, path, room, ctypes.byref(length), ctypes.byref(fault)
-            )
+            answer = (path, room, ctypes.byref(length), ctypes.byref(fault))
+            status = _calls.dl_path_at(*self._bytes, *numbers, *strings[0].pointer, *strings[1].pointer, *answer)
             if status == _NO_ANSWER:
                 return None
             if status != _DONE:
                 _refuse(status, fault)
         return path.raw[: length.value]
+
+    def paths_at(
+        self, offset: int, files: Sequence[int], line_str: Any = b"", text: Any = b""
+    ) -> Optional[List[bytes]]:
+        """The paths of the files of these numbers in the unit that begins at an offset, each as `path_at` tells it, in
+        one pass over the unit; None where the section has no byte there. Paths of more than 64 bytes each are told
+        twice."""
+        count, room, fault = len(files), 64 * len(files), _Fault()
+        asked = (ctypes.c_uint64 * count)(*(_number(file, 64) for file in files))
+        unit, ends = _number(offset, 64), (ctypes.c_size_t * count)()
+        strings = (_Bytes(line_str), _Bytes(text))
+        status = _NO_ROOM
+        while status == _NO_ROOM:
+            paths = ctypes.create_string_buffer(room + 1)
+            answer = (paths, room, ends, ctypes.byref(fault))
+            status = _calls.dl_paths_at(
+                *self._bytes, unit, asked, count, *strings[0].pointer, *strings[1].pointer, *answer
+            )
+            room = ends[-1] if count > 0 else 0
+        if status == _NO_ANSWER:
+            return None
+        if status != _DONE:
+            _refuse(status, fault)
+        told = paths.raw
+        return [told[start:end] for start, end in zip([0, *ends], ends)]
 
     def copy(self) -> bytes:
         """All units, written anew: each under its header with opcode_base 13 and with the same rows, its numbers
@@ -258,9 +345,8 @@ class Section:
     def find(self, address: int, op_index: int = 0) -> Optional[Found]:
         """The row that answers for an address and an operation of its instruction, in the first unit that has one."""
         row, unit, fault = _Row(), ctypes.c_uint64(), _Fault()
-        status = _calls.dl_find(
-            *self._bytes, address, op_index, ctypes.byref(row), ctypes.byref(unit), ctypes.byref(fault)
-        )
+        place, answer = (_number(address, 64), _number(op_index, 8)), (ctypes.byref(row), ctypes.byref(unit))
+        status = _calls.dl_find(*self._bytes, *place, *answer, ctypes.byref(fault))
         if status == _NO_ANSWER:
             return None
         if status != _DONE:
@@ -284,8 +370,8 @@ class Section:
 
     def _find_all(self, addresses: Sequence[int]) -> tuple[List[Optional[Found]], int, _Fault]:
         count, fault = len(addresses), _Fault()
-        rows, units = (_Row * max(count, 1))(), (ctypes.c_uint64 * max(count, 1))()
-        asked = (ctypes.c_uint64 * max(count, 1))(*addresses)
+        rows, units = (_Row * count)(), (ctypes.c_uint64 * count)()
+        asked = (ctypes.c_uint64 * count)(*(_number(address, 64) for address in addresses))
         status = _calls.dl_find_all(*self._bytes, asked, count, rows, units, ctypes.byref(fault))
-        answers = zip(rows[:count], units[:count])
+        answers = zip(rows, units)
         return [None if unit == _NO_UNIT else Found(_row(row), unit) for row, unit in answers], status, fault

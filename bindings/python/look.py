@@ -5,9 +5,9 @@ as `dwline find` prints it."""
 
 import pathlib
 import sys
-from typing import List
+from typing import Dict, Iterable, List, Optional, Set, Tuple
 
-from boxantrel import Damage, OtherVersion, Row, Section
+from boxantrel import Damage, Found, OtherVersion, Row, Section
 
 
 def line_of(row: Row) -> str:
@@ -41,13 +41,30 @@ def find_each(section: Section, words: List[str]) -> None:
         print("no line for this address" if found is None else line_of(found.row))
 
 
+def paths_of(
+    section: Section, found: Iterable[Optional[Found]], line_str: bytes, text: bytes
+) -> Dict[Tuple[int, int], bytes]:
+    """The paths of the files of rows, by unit and number, each unit read once."""
+    files: Dict[int, Set[int]] = {}
+    for each in found:
+        if each is not None:
+            files.setdefault(each.unit, set()).add(each.row.file)
+    paths = {}
+    for unit, numbers in files.items():
+        asked = sorted(numbers)
+        for number, path in zip(asked, section.paths_at(unit, asked, line_str, text) or []):
+            paths[unit, number] = path
+    return paths
+
+
 def locate_each(section: Section, line_str: bytes, text: bytes, words: List[str]) -> None:
-    addresses = [int(word, 16) for word in words]
-    for found in section.find_before(addresses):
+    all_found = section.find_before([int(word, 16) for word in words])
+    paths = paths_of(section, all_found, line_str, text)
+    for found in all_found:
         if found is None:
             print("??:0")
             continue
-        path = section.path_at(found.unit, found.row.file, line_str, text) or b""
+        path = paths[found.unit, found.row.file]
         column = f":{found.row.column}" if found.row.column else ""
         print(f"{path.decode(errors='surrogateescape')}:{found.row.line}{column}")
     section.check()
@@ -73,6 +90,10 @@ def main(words: List[str]) -> int:
         sys.stdout.flush()
         print(f"look: {refusal}", file=sys.stderr)
         return 1
+    except MemoryError:
+        sys.stdout.flush()
+        print("look: out of memory", file=sys.stderr)
+        return 3
     return 0
 
 

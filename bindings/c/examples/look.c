@@ -93,77 +93,138 @@ static int find(const char *word)
     return 0;
 }
 
-/* Prints the path of a file of the unit at the offset, and gives the status of the call. */
-static uint32_t print_path(uint64_t unit, uint64_t file, dl_fault *fault)
+/* What is found of addresses: for each its row, the unit of that, and the number of the address. */
+struct located {
+    uint64_t *addresses, *units, *files;
+    dl_row *rows;
+    size_t *by_unit;         /* the numbers, those of each unit side by side */
+    size_t *begins, *ends;   /* where in `paths` the path of each row begins and ends */
+    size_t *unit_ends;       /* what dl_paths_at tells of one unit */
+    uint8_t *paths;
+    size_t used, room;
+};
+
+/* The units that by_unit is sorted by. */
+static const uint64_t *sorted_units;
+
+static int compare_units(const void *a, const void *b)
 {
-    size_t room = 256;
+    uint64_t one = sorted_units[*(const size_t *)a], other = sorted_units[*(const size_t *)b];
+    return one < other ? -1 : one > other;
+}
+
+static void sort_by_unit(struct located *all, size_t count)
+{
+    for (size_t i = 0; i < count; i++)
+        all->by_unit[i] = i;
+    sorted_units = all->units;
+    qsort(all->by_unit, count, sizeof *all->by_unit, compare_units);
+}
+
+/* Adds the paths of the files of a unit to the others, and gives the status of the call. */
+static uint32_t add_paths(struct located *all, uint64_t unit, size_t count, dl_fault *fault)
+{
     for (;;) {
-        size_t length;
-        uint8_t *path = malloc(room);
-        if (path == NULL)
-            return DL_NO_MEMORY;
-        uint32_t status = dl_path_at(bytes, len, big, unit, file, texts[0], texts_len[0], texts[1], texts_len[1], path,
-                                     room, &length, fault);
-        bool is_whole = status == DL_DONE && length <= room;
-        if (is_whole)
-            fwrite(path, 1, length, stdout);
-        free(path);
-        if (status != DL_DONE || is_whole)
+        uint8_t *paths = all->paths + all->used;
+        uint32_t status = dl_paths_at(bytes, len, big, unit, all->files, count, texts[0], texts_len[0], texts[1],
+                                      texts_len[1], paths, all->room - all->used, all->unit_ends, fault);
+        if (status != DL_NO_ROOM)
             return status;
-        room = length;
+        size_t room = 2 * all->room + all->unit_ends[count - 1];
+        paths = realloc(all->paths, room);
+        if (paths == NULL)
+            return DL_NO_MEMORY;
+        all->paths = paths;
+        all->room = room;
     }
 }
 
-/* Prints the location of each address. */
-static uint32_t print_locations(const uint64_t *units, const dl_row *rows, size_t count, dl_fault *fault)
+/* Tells the paths of all rows, each unit read once. */
+static uint32_t find_paths(struct located *all, size_t count, dl_fault *fault)
 {
-    for (size_t i = 0; i < count; i++) {
-        if (units[i] == UINT64_MAX) {
-            puts("??:0");
-            continue;
-        }
-        uint32_t status = print_path(units[i], rows[i].file, fault);
+    sort_by_unit(all, count);
+    for (size_t from = 0, to; from < count; from = to) {
+        const size_t *numbers = all->by_unit + from;
+        uint64_t unit = all->units[numbers[0]];
+        if (unit == UINT64_MAX)
+            break;
+        for (to = from; to < count && all->units[all->by_unit[to]] == unit; to++)
+            all->files[to - from] = all->rows[all->by_unit[to]].file;
+        uint32_t status = add_paths(all, unit, to - from, fault);
         if (status != DL_DONE)
             return status;
-        printf(":%" PRIu64, rows[i].line);
-        if (rows[i].column != 0)
-            printf(":%" PRIu64, rows[i].column);
-        putchar('\n');
+        for (size_t i = 0; i < to - from; i++) {
+            all->begins[numbers[i]] = all->used + (i > 0 ? all->unit_ends[i - 1] : 0);
+            all->ends[numbers[i]] = all->used + all->unit_ends[i];
+        }
+        all->used += all->unit_ends[to - from - 1];
     }
     return DL_DONE;
 }
 
-/* Looks all addresses up in one pass. */
+static void print_locations(const struct located *all, size_t count)
+{
+    for (size_t i = 0; i < count; i++) {
+        if (all->units[i] == UINT64_MAX) {
+            puts("??:0");
+            continue;
+        }
+        fwrite(all->paths + all->begins[i], 1, all->ends[i] - all->begins[i], stdout);
+        printf(":%" PRIu64, all->rows[i].line);
+        if (all->rows[i].column != 0)
+            printf(":%" PRIu64, all->rows[i].column);
+        putchar('\n');
+    }
+}
+
+/* Looks all addresses up in one pass, and prints where they are. */
+static uint32_t locate_all(struct located *all, char **words, size_t count, dl_fault *fault)
+{
+    for (size_t i = 0; i < count; i++) {
+        all->addresses[i] = strtoull(words[i], NULL, 16);
+        all->units[i] = UINT64_MAX;
+    }
+    dl_fault other;
+    uint32_t status = dl_find_all(bytes, len, big, all->addresses, count, all->rows, all->units, fault);
+    uint32_t told = find_paths(all, count, &other);
+    if (told == DL_DONE)
+        print_locations(all, count);
+    else if (status == DL_DONE)
+        *fault = other;
+    return status == DL_DONE ? told : status;
+}
+
 static int locate(char **words, size_t count)
 {
-    uint64_t *addresses = malloc((count + 1) * sizeof *addresses), *units = malloc((count + 1) * sizeof *units);
-    dl_row *rows = malloc((count + 1) * sizeof *rows);
-    dl_fault fault, other;
+    uint64_t *numbers = malloc((3 * count + 1) * sizeof *numbers);
+    size_t *places = malloc((4 * count + 1) * sizeof *places);
+    struct located all = {
+        .addresses = numbers,
+        .units = numbers + count,
+        .files = numbers + 2 * count,
+        .rows = malloc((count + 1) * sizeof *all.rows),
+        .by_unit = places,
+        .begins = places + count,
+        .ends = places + 2 * count,
+        .unit_ends = places + 3 * count,
+        .paths = malloc(1),
+    };
+    dl_fault fault;
     uint32_t status = DL_NO_MEMORY;
-    if (addresses != NULL && units != NULL && rows != NULL) {
-        for (size_t i = 0; i < count; i++) {
-            addresses[i] = strtoull(words[i], NULL, 16);
-            units[i] = UINT64_MAX;
-        }
-        status = dl_find_all(bytes, len, big, addresses, count, rows, units, &fault);
-        uint32_t printed = print_locations(units, rows, count, &other);
-        if (status == DL_DONE && printed != DL_DONE) {
-            status = printed;
-            fault = other;
-        }
-    }
-    free(addresses);
-    free(units);
-    free(rows);
+    if (numbers != NULL && places != NULL && all.rows != NULL && all.paths != NULL)
+        status = locate_all(&all, words, count, &fault);
+    free(numbers);
+    free(places);
+    free(all.rows);
+    free(all.paths);
     return status == DL_DONE ? 0 : refused(status, &fault);
 }
 
 /* Prints the rows of the unit at the offset, those before a fault too, and gives the status of the call. */
 static uint32_t print_rows(uint64_t offset, dl_fault *fault)
 {
-    dl_row none;
     size_t count = 0;
-    uint32_t status = dl_rows_at(bytes, len, big, offset, &none, 0, &count, fault);
+    uint32_t status = dl_rows_at(bytes, len, big, offset, NULL, 0, &count, fault);
     if (count == 0)
         return status;
     dl_row *rows = malloc(count * sizeof *rows);

@@ -3,7 +3,8 @@
 //! with --addr and the files of both string sections what `dwline addr` prints; or with addresses the row that answers
 //! for each as `dwline find` prints it.
 
-use boxantrel::{Error, Order, Row, Section};
+use boxantrel::{Error, Found, Order, Row, Section};
+use std::collections::{HashMap, HashSet};
 use std::io::{self, BufWriter, Read, Write};
 use std::process::ExitCode;
 
@@ -85,6 +86,24 @@ fn address_in(word: &String) -> io::Result<u64> {
     u64::from_str_radix(word.trim_start_matches("0x"), 16).map_err(|_| io::Error::other("no address"))
 }
 
+/// The paths of the files of rows, by unit and number.
+type Paths = HashMap<(u64, u64), Vec<u8>>;
+
+/// The paths of what was found, each unit read once.
+fn paths_of(section: &Section, found: &[Option<Found>], line_str: &[u8], str: &[u8]) -> Result<Paths, Error> {
+    let mut files: HashMap<u64, HashSet<u64>> = HashMap::new();
+    for found in found.iter().flatten() {
+        files.entry(found.unit).or_default().insert(found.row.file);
+    }
+    let mut paths = Paths::new();
+    for (unit, files) in files {
+        let files: Vec<u64> = files.into_iter().collect();
+        let told = section.paths_at(unit, &files, line_str, str)?.unwrap_or_default();
+        paths.extend(files.into_iter().map(|file| (unit, file)).zip(told));
+    }
+    Ok(paths)
+}
+
 fn locate_each(output: &mut impl Write, section: &Section, words: &[String]) -> io::Result<Result<(), Error>> {
     let [line_str, str, words @ ..] = words else {
         return Err(io::Error::other("no files"));
@@ -92,18 +111,19 @@ fn locate_each(output: &mut impl Write, section: &Section, words: &[String]) -> 
     let (line_str, str) = (std::fs::read(line_str)?, std::fs::read(str)?);
     let addresses = words.iter().map(address_in).collect::<io::Result<Vec<_>>>()?;
     let all = section.find_all(&addresses);
+    let paths = match paths_of(section, &all.found, &line_str, &str) {
+        Ok(paths) => paths,
+        Err(error) => return Ok(Err(error)),
+    };
     for found in all.found {
-        let Some(found) = found else {
+        let Some(Found { row, unit }) = found else {
             writeln!(output, "??:0")?;
             continue;
         };
-        match section.path_at(found.unit, found.row.file, &line_str, &str) {
-            Ok(path) => output.write_all(&path.unwrap_or_default())?,
-            Err(error) => return Ok(Err(error)),
-        }
-        write!(output, ":{}", found.row.line)?;
-        if found.row.column != 0 {
-            write!(output, ":{}", found.row.column)?;
+        output.write_all(&paths[&(unit, row.file)])?;
+        write!(output, ":{}", row.line)?;
+        if row.column != 0 {
+            write!(output, ":{}", row.column)?;
         }
         writeln!(output)?;
     }

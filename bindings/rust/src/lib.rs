@@ -14,6 +14,8 @@
 //! let texts = std::fs::read(concat!(env!("CARGO_MANIFEST_DIR"), "/../../examples/gcc-O2/debug_line_str"))?;
 //! let path = section.path_at(found.unit, found.row.file, &texts, &[])?.unwrap();
 //! assert_eq!(path, b"/boxantrel/series.c");
+//! let paths = section.paths_at(found.unit, &[1, found.row.file], &texts, &[])?.unwrap();
+//! assert_eq!(paths, [path.clone(), path]);
 //! for unit in section.units() {
 //!     let unit = unit?;
 //!     let rows: Result<Vec<_>, _> = section.rows_at(unit.offset).collect();
@@ -193,14 +195,16 @@ impl<'a> Section<'a> {
         }
     }
 
-    /// The rows of the unit that begins at an offset; none where the section has no byte there. The unit is read twice:
-    /// how many rows it has is known after the first time.
+    /// The rows of the unit that begins at an offset; none where the section has no byte there. A unit that has rows is
+    /// read twice: how many there are is known after the first time.
     pub fn rows_at(&self, offset: u64) -> Rows {
         let mut rows = Vec::new();
-        let (_, count, _) = self.fill_rows(offset, &mut rows);
-        rows.resize(count, raw::Row::default());
-        let (status, count, fault) = self.fill_rows(offset, &mut rows);
-        rows.truncate(count);
+        let (mut status, mut count, mut fault) = self.fill_rows(offset, &mut rows);
+        if count > 0 {
+            rows.resize(count, raw::Row::default());
+            (status, count, fault) = self.fill_rows(offset, &mut rows);
+            rows.truncate(count);
+        }
         Rows {
             rows: rows.into_iter(),
             error: match status {
@@ -210,7 +214,8 @@ impl<'a> Section<'a> {
         }
     }
 
-    /// Writes the rows for which there is room. The answer is the status, how many rows there are, and the fault.
+    /// Writes the rows for which there is room. The answer is the status, how many rows there are (0 where that isn't
+    /// told), and the fault.
     fn fill_rows(&self, offset: u64, rows: &mut [raw::Row]) -> (u32, usize, raw::Fault) {
         let mut count = 0;
         let mut fault = raw::Fault::default();
@@ -294,6 +299,47 @@ impl<'a> Section<'a> {
             path.resize(length, 0);
             if is_whole {
                 return Ok(Some(path));
+            }
+        }
+    }
+
+    /// The paths of the files of these numbers in the unit that begins at an offset, each as `path_at` tells it, in one
+    /// pass over the unit; None where the section has no byte there. Paths of more than 64 bytes each are told twice.
+    pub fn paths_at(
+        &self,
+        offset: u64,
+        files: &[u64],
+        line_str: &[u8],
+        str: &[u8],
+    ) -> Result<Option<Vec<Vec<u8>>>, Error> {
+        let mut paths = vec![0; files.len().saturating_mul(64)];
+        let mut ends = vec![0; files.len()];
+        loop {
+            let mut fault = raw::Fault::default();
+            // SAFETY: as in `path_at`; there are as many ends as files.
+            let status = unsafe {
+                raw::dl_paths_at(
+                    self.bytes.as_ptr(),
+                    self.bytes.len(),
+                    self.is_big(),
+                    offset,
+                    files.as_ptr(),
+                    files.len(),
+                    line_str.as_ptr(),
+                    line_str.len(),
+                    str.as_ptr(),
+                    str.len(),
+                    paths.as_mut_ptr(),
+                    paths.len(),
+                    ends.as_mut_ptr(),
+                    &mut fault,
+                )
+            };
+            match status {
+                raw::DONE => return Ok(Some(parted(&paths, &ends))),
+                raw::NO_ROOM => paths.resize(ends.last().copied().unwrap_or(0), 0),
+                raw::NO_ANSWER => return Ok(None),
+                status => return Err(error(status, &fault)),
             }
         }
     }
@@ -430,7 +476,13 @@ fn fault_text(offset: u64, kind: u32, detail: u64) -> String {
     String::from_utf8_lossy(&text[..len]).into_owned()
 }
 
-/// What a status other than that of an answer says.
+/// Texts that stand one after the other, and end at these places.
+fn parted(texts: &[u8], ends: &[usize]) -> Vec<Vec<u8>> {
+    let starts = std::iter::once(&0).chain(ends);
+    starts.zip(ends).map(|(&start, &end)| texts[start..end].to_vec()).collect()
+}
+
+/// What a status says that is none of an answer.
 fn error(status: u32, fault: &raw::Fault) -> Error {
     match status {
         raw::FAULT => Error::Damage {
@@ -438,7 +490,8 @@ fn error(status: u32, fault: &raw::Fault) -> Error {
             kind: fault.kind,
             detail: fault.detail,
         },
+        raw::NO_MEMORY => Error::NoMemory,
         raw::OTHER_VERSION => Error::OtherVersion,
-        _ => Error::NoMemory,
+        _ => unreachable!("the status {status}, which the call doesn't answer"),
     }
 }

@@ -3,6 +3,7 @@
 pub const DONE: u32 = 0;
 pub const FAULT: u32 = 1;
 pub const NO_ANSWER: u32 = 2;
+pub const NO_MEMORY: u32 = 3;
 pub const OTHER_VERSION: u32 = 4;
 pub const NO_ROOM: u32 = 5;
 
@@ -86,6 +87,22 @@ extern "C" {
         path: *mut u8,
         room: usize,
         length: *mut usize,
+        fault: *mut Fault,
+    ) -> u32;
+    pub fn dl_paths_at(
+        section: *const u8,
+        len: usize,
+        big: bool,
+        offset: u64,
+        files: *const u64,
+        count: usize,
+        line_str: *const u8,
+        line_str_len: usize,
+        str: *const u8,
+        str_len: usize,
+        paths: *mut u8,
+        room: usize,
+        ends: *mut usize,
         fault: *mut Fault,
     ) -> u32;
     pub fn dl_find(

@@ -1,0 +1,168 @@
+"""Tests of the module, over sections of examples/, whose rows and paths llvm-dwarfdump tells."""
+
+import array
+import copy
+import ctypes
+import gc
+import mmap
+import pathlib
+import pickle
+import unittest
+
+from boxantrel import Damage, OtherVersion, Section
+
+EXAMPLES = pathlib.Path(__file__).resolve().parents[2] / "examples"
+BYTES = (EXAMPLES / "gcc-O2" / "debug_line").read_bytes()
+LINE_STR = (EXAMPLES / "gcc-O2" / "debug_line_str").read_bytes()
+SERIES, RANGE = b"/boxantrel/series.c", b"/boxantrel/include/range.h"
+ROWS = 91
+
+
+class LongBytes(bytes):
+    """Bytes that say that they are more."""
+
+    def __len__(self) -> int:
+        return 1 << 40
+
+
+class Numbers(unittest.TestCase):
+    def setUp(self) -> None:
+        self.section = Section(BYTES)
+
+    def test_a_number_that_fits_no_64_bits(self) -> None:
+        for number in (-1, 1 << 64, (1 << 64) + 0x401008):
+            for call in (
+                lambda: self.section.find(number),
+                lambda: self.section.find_all([0x401008, number]),
+                lambda: self.section.find_before([number]),
+                lambda: self.section.unit_at(number),
+                lambda: self.section.rows_at(number),
+                lambda: self.section.path_at(number, 1),
+                lambda: self.section.path_at(0, number),
+                lambda: self.section.paths_at(number, [1]),
+                lambda: self.section.paths_at(0, [1, number]),
+                lambda: Damage(number, 16, 0),
+                lambda: Damage(0, 16, number),
+            ):
+                self.assertRaises(OverflowError, call)
+
+    def test_an_operation_that_fits_no_8_bits(self) -> None:
+        for number in (-1, 256, 257):
+            self.assertRaises(OverflowError, self.section.find, 0x401008, number)
+
+    def test_a_kind_that_fits_no_32_bits(self) -> None:
+        self.assertRaises(OverflowError, Damage, 0, 1 << 32, 0)
+
+    def test_the_greatest_numbers(self) -> None:
+        most = (1 << 64) - 1
+        self.assertIsNone(self.section.find(most, 255))
+        self.assertIsNone(self.section.unit_at(most))
+        self.assertEqual(list(self.section.rows_at(most)), [])
+        self.assertIsNone(self.section.path_at(most, most))
+        self.assertIsNone(self.section.paths_at(most, [most]))
+
+    def test_what_is_no_number(self) -> None:
+        self.assertRaises(TypeError, self.section.find, 1.5)
+
+
+class Buffers(unittest.TestCase):
+    def rows_of(self, data: object) -> int:
+        return Section(data).check().rows
+
+    def test_elements_of_four_bytes(self) -> None:
+        four = (EXAMPLES / "clang-O2" / "debug_line").read_bytes()
+        wanted = self.rows_of(four)
+        self.assertGreater(wanted, 0)
+        self.assertEqual(self.rows_of(array.array("I", four)), wanted)
+        self.assertEqual(self.rows_of((ctypes.c_uint32 * (len(four) // 4)).from_buffer_copy(four)), wanted)
+        self.assertEqual(self.rows_of(memoryview(four).cast("B", (len(four) // 4, 4))), wanted)
+
+    def test_a_length_that_is_not_that_of_the_bytes(self) -> None:
+        self.assertEqual(self.rows_of(LongBytes(BYTES)), ROWS)
+        section = Section(BYTES)
+        self.assertEqual(section.path_at(0, 1, LongBytes(LINE_STR), LongBytes(b"")), SERIES)
+        self.assertEqual(section.paths_at(0, [1], LongBytes(LINE_STR), LongBytes(b"")), [SERIES])
+
+    def test_a_part_of_an_object(self) -> None:
+        self.assertEqual(self.rows_of(memoryview(b"??" + BYTES + b"??")[2:-2]), ROWS)
+
+    def test_a_file_that_is_mapped(self) -> None:
+        with open(EXAMPLES / "gcc-O2" / "debug_line", "rb") as file:
+            self.assertEqual(self.rows_of(mmap.mmap(file.fileno(), 0, access=mmap.ACCESS_READ)), ROWS)
+
+    def test_an_object_that_can_be_written(self) -> None:
+        data = bytearray(BYTES)
+        section = Section(data)
+        self.assertRaises(BufferError, data.append, 0)
+        self.assertEqual(section.check().rows, ROWS)
+        del section
+        data.append(0)
+
+    def test_an_object_that_nothing_else_holds(self) -> None:
+        section = Section(bytearray(BYTES))
+        gc.collect()
+        others = [bytearray(len(BYTES)) for _ in range(100)]
+        self.assertEqual(section.check().rows, ROWS)
+        self.assertEqual(len(others), 100)
+
+    def test_strings_of_any_kind(self) -> None:
+        section = Section(BYTES)
+        for strings in (bytearray(LINE_STR), memoryview(LINE_STR), array.array("B", LINE_STR)):
+            self.assertEqual(section.path_at(0, 2, strings, bytearray()), RANGE)
+            self.assertEqual(section.paths_at(0, [2], strings, bytearray()), [RANGE])
+
+    def test_what_has_no_bytes_side_by_side(self) -> None:
+        self.assertRaises(BufferError, Section, memoryview(BYTES)[::2])
+        self.assertRaises(TypeError, Section, "text")
+        self.assertRaises(TypeError, Section, 5)
+
+    def test_no_bytes(self) -> None:
+        for nothing in (b"", bytearray(), array.array("I")):
+            section = Section(nothing)
+            self.assertEqual(section.check().rows, 0)
+            self.assertIsNone(section.paths_at(0, []))
+            self.assertEqual(section.copy(), b"")
+
+
+class Paths(unittest.TestCase):
+    def test_files_in_any_order(self) -> None:
+        section = Section(BYTES)
+        self.assertEqual(section.paths_at(0, [2, 1, 2, 0], LINE_STR), [RANGE, SERIES, RANGE, SERIES])
+        self.assertEqual(section.paths_at(0, [], LINE_STR), [])
+        for offset in (unit.offset for unit in section.units()):
+            files = [0, 9, 1, 1 << 63, 2, 3]
+            each = [section.path_at(offset, file, LINE_STR) for file in files]
+            self.assertEqual(section.paths_at(offset, files, LINE_STR), each)
+
+    def test_long_paths(self) -> None:
+        section, strings = Section(BYTES), b"/" + 5000 * b"x" + b"\0"
+        paths = section.paths_at(0, list(range(3)), strings)
+        self.assertEqual(paths, [section.path_at(0, file, strings) for file in range(3)])
+        self.assertGreater(min(map(len, paths)), 4000)
+
+    def test_a_damaged_unit(self) -> None:
+        with self.assertRaises(Damage) as caught:
+            Section(BYTES[:100]).paths_at(0, [1])
+        self.assertEqual((caught.exception.offset, caught.exception.kind), (100, 17))
+
+    def test_another_version(self) -> None:
+        version_4 = bytes([2, 0, 0, 0, 4, 0])
+        self.assertRaises(OtherVersion, Section(version_4).paths_at, 0, [1])
+
+
+class Faults(unittest.TestCase):
+    def test_copies(self) -> None:
+        with self.assertRaises(Damage) as caught:
+            Section(BYTES[:100]).check()
+        fault = caught.exception
+        self.assertEqual(str(fault), "damage at 0x64: input ends inside a unit")
+        again = [copy.copy(fault), copy.deepcopy(fault)]
+        again += [pickle.loads(pickle.dumps(fault, protocol)) for protocol in range(pickle.HIGHEST_PROTOCOL + 1)]
+        for other in again:
+            self.assertIs(type(other), Damage)
+            self.assertEqual(str(other), str(fault))
+            self.assertEqual((other.offset, other.kind, other.detail), (100, 17, 0))
+
+
+if __name__ == "__main__":
+    unittest.main()
