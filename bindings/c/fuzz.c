@@ -1,7 +1,7 @@
 /*
  * fuzz ROUNDS FILE..: the calls over sections of the files with changed bytes and random ends, and random addresses,
- * offsets and rooms. Each section, and each struct and room that is written, ends at a page that can't be touched; what
- * a call may not write is compared afterwards.
+ * offsets, files and rooms, which may be null where they have no elements. Each section, and each struct and room that
+ * is written, ends at a page that can't be touched; what a call may not write is compared afterwards.
  */
 #include <boxantrel.h>
 #include <stdio.h>
@@ -57,6 +57,12 @@ static bool is_filled(const void *at, size_t len)
     return true;
 }
 
+/* Where so many elements are: where there are none, now and then nowhere. */
+static void *or_null(void *elements, size_t count)
+{
+    return count > 0 || below(2) ? elements : NULL;
+}
+
 static uint8_t *section_end, *section;
 static dl_counts *counts;
 static dl_fault *fault;
@@ -67,6 +73,7 @@ static size_t *count;
 static uint8_t *copy_end;
 static uint8_t *text_end;
 static uint64_t *addresses_end, *units_end;
+static size_t *ends_end;
 static size_t len;
 static bool big;
 
@@ -100,7 +107,7 @@ static void check_text(dl_fault told, size_t room)
     *fault = told;
     memset(text_end - MOST_TEXT, FILL, MOST_TEXT);
     uint8_t *text = text_end - room;
-    size_t length = dl_fault_text(fault, text, room);
+    size_t length = dl_fault_text(fault, or_null(text, room), room);
     bool is_kind = told.kind >= DL_RESERVED_LENGTH && told.kind <= DL_TRUNCATED
         && (told.kind != DL_STANDARD_LENGTH || told.detail < 256);
     wanted(memcmp(fault, &told, sizeof told) == 0, "a fault that the text of it changes");
@@ -150,7 +157,8 @@ static void check_find_all(uint32_t counted, size_t asked)
     dl_row *rows = rows_end - asked;
     uint64_t *units = units_end - asked;
     const uint64_t *addresses = addresses_end - asked;
-    uint32_t status = dl_find_all(section, len, big, addresses, asked, rows, units, fault);
+    uint32_t status = dl_find_all(section, len, big, or_null(addresses_end - asked, asked), asked, or_null(rows, asked),
+                                  or_null(units, asked), fault);
     check_fault(status);
     wanted(status == counted, "another end than that of the count");
     wanted(is_filled(rows_end - MOST_ROWS, (MOST_ROWS - asked) * sizeof *rows), "a row before its room");
@@ -193,7 +201,7 @@ static void check_rows(uint32_t described_as, uint64_t offset, size_t room)
     uint64_t wanted_rows = described->rows;
     fill();
     dl_row *rows = rows_end - room;
-    uint32_t status = dl_rows_at(section, len, big, offset, rows, room, count, fault);
+    uint32_t status = dl_rows_at(section, len, big, offset, or_null(rows, room), room, count, fault);
     check_fault(status);
     wanted(status == described_as, "rows with another end than that of the unit");
     size_t kept = 0;
@@ -207,6 +215,34 @@ static void check_rows(uint32_t described_as, uint64_t offset, size_t room)
     wanted(is_filled(rows + kept, (room - kept) * sizeof *rows), "a row that isn't told");
 }
 
+/* Two string sections. */
+struct strings {
+    const uint8_t *line_str, *str;
+    size_t line_str_len, str_len;
+};
+
+/* The end and the front of the section, as string sections. */
+static struct strings random_strings(void)
+{
+    struct strings strings = {.line_str_len = below(len + 1), .str_len = below(4) ? below(len + 1) : 0};
+    strings.line_str = or_null(section_end - strings.line_str_len, strings.line_str_len);
+    strings.str = or_null(section, strings.str_len);
+    return strings;
+}
+
+/* A number of a file, which the unit may have. */
+static uint64_t random_file(void)
+{
+    return below(2) ? below(4) : next();
+}
+
+static uint32_t path_at(const struct strings *strings, uint64_t offset, uint64_t file, uint8_t *path, size_t room,
+                        size_t *length, dl_fault *told)
+{
+    return dl_path_at(section, len, big, offset, file, strings->line_str, strings->line_str_len, strings->str,
+                      strings->str_len, path, room, length, told);
+}
+
 /* Tells the path of a file of the unit at an offset, whose status is this one, into a room. */
 static void check_path(uint32_t described_as, uint64_t offset, size_t room)
 {
@@ -214,9 +250,8 @@ static void check_path(uint32_t described_as, uint64_t offset, size_t room)
     fill();
     memset(copy_end - MOST_COPY, FILL, MOST_COPY);
     uint8_t *path = copy_end - room;
-    size_t line_str_len = below(len + 1);
-    uint32_t status = dl_path_at(section, len, big, offset, below(2) ? below(4) : next(), section + len - line_str_len,
-                                 line_str_len, section, below(len + 1), path, room, count, fault);
+    struct strings strings = random_strings();
+    uint32_t status = path_at(&strings, offset, random_file(), or_null(path, room), room, count, fault);
     check_fault(status);
     wanted(status == (is_foreign ? (uint32_t)DL_OTHER_VERSION : described_as),
            "a path with another end than that of the unit");
@@ -229,13 +264,63 @@ static void check_path(uint32_t described_as, uint64_t offset, size_t room)
     wanted(is_filled(path + written, room - written), "more than the path");
 }
 
+/* The path of a file as dl_path_at tells it is the one that begins and ends here, of which so much is written. */
+static void check_same(const struct strings *strings, uint64_t offset, uint64_t file, const uint8_t *path,
+                       size_t length, size_t written)
+{
+    static uint8_t alone[3 * MOST];
+    size_t alone_length;
+    dl_fault other;
+    uint32_t status = path_at(strings, offset, file, alone, sizeof alone, &alone_length, &other);
+    wanted(status == DL_DONE && alone_length == length, "a path of another length than that of one file");
+    wanted(memcmp(alone, path, written) == 0, "another path than that of one file");
+}
+
+/* Tells the paths of files of the unit at an offset, whose status is this one, into a room. */
+static void check_paths(uint32_t described_as, uint64_t offset, size_t asked, size_t room)
+{
+    bool is_foreign = described_as == DL_DONE && described->version != 5;
+    fill();
+    memset(copy_end - MOST_COPY, FILL, MOST_COPY);
+    memset(ends_end - MOST_ASKED, FILL, MOST_ASKED * sizeof *ends_end);
+    uint8_t *paths = copy_end - room;
+    uint64_t *files = addresses_end - asked;
+    size_t *ends = ends_end - asked, written = 0, from = 0;
+    for (size_t i = 0; i < asked; i++)
+        files[i] = random_file();
+    struct strings strings = random_strings();
+    uint32_t status = dl_paths_at(section, len, big, offset, or_null(files, asked), asked, strings.line_str,
+                                  strings.line_str_len, strings.str, strings.str_len, or_null(paths, room), room,
+                                  or_null(ends, asked), fault);
+    check_fault(status);
+    if (status == DL_DONE || status == DL_NO_ROOM) {
+        wanted(described_as == DL_DONE && !is_foreign, "paths with another end than that of the unit");
+        size_t all = asked > 0 ? ends[asked - 1] : 0;
+        wanted((status == DL_NO_ROOM) == (room < all), "no room where there is some, or some where there is none");
+        written = all < room ? all : room;
+        for (size_t i = 0; i < asked; from = ends[i++]) {
+            size_t here = from < room ? room - from : 0;
+            wanted(from <= ends[i], "ends that fall");
+            check_same(&strings, offset, files[i], paths + (from < room ? from : room), ends[i] - from,
+                       ends[i] - from < here ? ends[i] - from : here);
+        }
+    } else {
+        wanted(status == (is_foreign ? (uint32_t)DL_OTHER_VERSION : described_as),
+               "paths with another end than that of the unit");
+        wanted(is_filled(ends, asked * sizeof *ends), "ends that aren't told");
+    }
+    wanted(is_filled(ends_end - MOST_ASKED, (MOST_ASKED - asked) * sizeof *ends), "an end before the room for them");
+    wanted(is_filled(copy_end - MOST_COPY, MOST_COPY - room), "a path before its room");
+    wanted(is_filled(paths + written, room - written), "more than the paths");
+}
+
 /* Writes the section anew into a room, where counting ended with this status. */
 static void check_copy(uint32_t counted, size_t room)
 {
     fill();
     memset(copy_end - MOST_COPY, FILL, MOST_COPY);
     uint8_t *out = copy_end - room;
-    uint32_t status = dl_copy(section, len, big, out, room, count, fault);
+    uint32_t status = dl_copy(section, len, big, or_null(out, room), room, count, fault);
     check_fault(status);
     wanted(status <= DL_NO_ROOM && status != DL_NO_ANSWER, "a status of no copy");
     size_t written = 0;
@@ -262,8 +347,8 @@ static void take(const char *path)
     len = below(4) == 0 ? below(held + 1) : held;
     for (uint64_t changes = below(6); len > 0 && changes > 0; changes--)
         bytes[below(len)] = (uint8_t)(below(2) ? next() : below(20));
-    section = section_end - len;
-    memcpy(section, bytes, len);
+    memcpy(section_end - len, bytes, len);
+    section = or_null(section_end - len, len);
     big = below(8) == 0;
 }
 
@@ -282,6 +367,7 @@ int main(int words_count, char **words)
     text_end = guarded(MOST_TEXT);
     addresses_end = (uint64_t *)guarded(MOST_ASKED * sizeof *addresses_end);
     units_end = (uint64_t *)guarded(MOST_ASKED * sizeof *units_end);
+    ends_end = (size_t *)guarded(MOST_ASKED * sizeof *ends_end);
     rows_end = (dl_row *)guarded(MOST_ROWS * sizeof *rows_end);
     uint64_t rounds = strtoull(words[1], NULL, 10);
     for (state = 1; state <= rounds; state++) {
@@ -300,6 +386,7 @@ int main(int words_count, char **words)
         uint64_t offset = below(2) ? 0 : below(len + 2);
         uint32_t described_as = check_unit(offset);
         check_path(described_as, offset, below(64));
+        check_paths(check_unit(offset), offset, below(MOST_ASKED + 1), below(2) ? below(32) : below(MOST_COPY + 1));
         check_rows(check_unit(offset), offset, below(2) ? below(MOST_ROWS) : below(4));
         state = round;
     }

@@ -1,0 +1,84 @@
+/*
+ * nothing SECTION LINE_STR: each call with null pointers where there are no bytes, no elements or no room, over no
+ * section, and over the section examples/gcc-O2 has, whose first unit has 59 rows and the file 1
+ * `/boxantrel/series.c`, by a string section that has it or without one.
+ */
+#include <boxantrel.h>
+#include <stdio.h>
+#include <stdlib.h>
+#include <string.h>
+
+static uint8_t section[4096], line_str[4096];
+static size_t len, line_str_len;
+
+static void wanted(bool holds, const char *what)
+{
+    if (!holds) {
+        fprintf(stderr, "nothing: %s\n", what);
+        exit(1);
+    }
+}
+
+static size_t read_file(const char *path, uint8_t *bytes, size_t most)
+{
+    FILE *file = fopen(path, "rb");
+    wanted(file != NULL, path);
+    size_t held = fread(bytes, 1, most, file);
+    fclose(file);
+    return held;
+}
+
+/* No section, and nothing besides. */
+static void without_section(void)
+{
+    dl_counts counts;
+    dl_fault fault;
+    dl_unit unit;
+    dl_row row;
+    size_t length = 7;
+    uint64_t at;
+    wanted(dl_check(NULL, 0, false, &counts, &fault) == DL_DONE, "dl_check of nothing");
+    wanted(counts.units + counts.skipped + counts.sequences + counts.rows == 0, "counts of nothing");
+    wanted(dl_unit_at(NULL, 0, false, 0, &unit, &fault) == DL_NO_ANSWER, "dl_unit_at of nothing");
+    wanted(dl_rows_at(NULL, 0, false, 0, NULL, 0, &length, &fault) == DL_NO_ANSWER, "dl_rows_at of nothing");
+    wanted(dl_path_at(NULL, 0, false, 0, 1, NULL, 0, NULL, 0, NULL, 0, &length, &fault) == DL_NO_ANSWER,
+           "dl_path_at of nothing");
+    wanted(dl_paths_at(NULL, 0, false, 0, NULL, 0, NULL, 0, NULL, 0, NULL, 0, NULL, &fault) == DL_NO_ANSWER,
+           "dl_paths_at of nothing");
+    wanted(dl_find(NULL, 0, false, 0, 0, &row, &at, &fault) == DL_NO_ANSWER, "dl_find in nothing");
+    wanted(dl_find_all(NULL, 0, false, NULL, 0, NULL, NULL, &fault) == DL_DONE, "dl_find_all in nothing");
+    wanted(length == 7, "a length that isn't told");
+    wanted(dl_copy(NULL, 0, false, NULL, 0, &length, &fault) == DL_DONE && length == 0, "dl_copy of nothing");
+}
+
+/* A section, and nothing besides. */
+static void without_room(void)
+{
+    dl_fault fault = {52, 0, DL_OPCODE_OVERRUN};
+    size_t length;
+    wanted(dl_fault_text(&fault, NULL, 0) == strlen("damage at 0x34: unit ends inside an opcode"), "dl_fault_text");
+    wanted(dl_rows_at(section, len, false, 0, NULL, 0, &length, &fault) == DL_DONE && length == 59, "dl_rows_at");
+    wanted(dl_path_at(section, len, false, 0, 1, line_str, line_str_len, NULL, 0, NULL, 0, &length, &fault) == DL_DONE
+           && length == strlen("/boxantrel/series.c"), "dl_path_at");
+    wanted(dl_path_at(section, len, false, 0, 1, NULL, 0, NULL, 0, NULL, 0, &length, &fault) == DL_DONE
+           && length < strlen("/boxantrel/series.c"), "dl_path_at without string sections");
+    wanted(dl_paths_at(section, len, false, 0, NULL, 0, line_str, line_str_len, NULL, 0, NULL, 0, NULL, &fault)
+           == DL_DONE, "dl_paths_at of no file");
+    uint64_t files[] = {1, 1};
+    size_t ends[2];
+    wanted(dl_paths_at(section, len, false, 0, files, 2, line_str, line_str_len, NULL, 0, NULL, 0, ends, &fault)
+           == DL_NO_ROOM && ends[0] == strlen("/boxantrel/series.c") && ends[1] == 2 * ends[0], "dl_paths_at");
+    wanted(dl_find_all(section, len, false, NULL, 0, NULL, NULL, &fault) == DL_DONE, "dl_find_all of no address");
+    wanted(dl_copy(section, len, false, NULL, 0, &length, &fault) == DL_NO_ROOM && length > 0, "dl_copy");
+}
+
+int main(int words_count, char **words)
+{
+    if (words_count != 3)
+        return 2;
+    len = read_file(words[1], section, sizeof section);
+    line_str_len = read_file(words[2], line_str, sizeof line_str);
+    without_section();
+    without_room();
+    return 0;
+}
