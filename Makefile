@@ -19,9 +19,10 @@ tries = compare-with-dwline try-dwline try-truncated try-documents try-install t
 
 version = $(shell sed -n 's/^.* VERSION: &str = "\(.*\)";$$/\1/p' crates/dl_cmd/src/command_line.rt)
 
-# The program, at crates/dwline/out/dwline.
+# The program, at crates/dwline/out/dwline. A line tells of each crate as its proof begins and ends; the last one is
+# proved with the program, whose log is crates/dwline/out/prove.log as those of the others.
 dwline:
-	cd crates/dwline && rt run -- check < /dev/null > /dev/null
+	tools/prove dwline
 
 # What `dwline dump` prints of a section that ships with the repository.
 example: dwline
@@ -35,7 +36,7 @@ try:
 
 # The library for C, proved.
 lib:
-	cd crates/dl_c && rt lib
+	tools/prove dl_c
 	$(MAKE) library
 
 # Out of what rt built of dl_c: out/libboxantrel.a, out/libboxantrel.so and what pkg-config reads of it.
@@ -66,6 +67,12 @@ install-lib:
 	install -D -m 644 include/boxantrel.h $(header)
 	install -D -m 644 out/boxantrel.pc $(package)
 
+# The same, and the library, as an archive that may be unpacked anywhere and as a package for Debian.
+dist: dwline lib dist-built
+
+dist-built:
+	tools/pack $(version)
+
 uninstall:
 	rm -f $(bin) $(man) $(bash) $(zsh) $(fish) $(archive) $(shared) $(header) $(package)
 
@@ -90,4 +97,4 @@ compare-built:
 $(tries):
 	examples/$@
 
-.PHONY: dwline example lib library try install install-lib uninstall test compare compare-built $(tries)
+.PHONY: dwline example lib library try install install-lib dist dist-built uninstall test compare compare-built $(tries)

@@ -9,7 +9,7 @@ _dwline() {
         return
     fi
     case $before in
-        --line-str | --str)
+        --line-str | --str | -e | --exe)
             mapfile -t COMPREPLY < <(compgen -f -- "$current")
             return
             ;;
@@ -19,7 +19,7 @@ _dwline() {
     esac
     local options
     case ${COMP_WORDS[1]} in
-        addr) options="-a --addresses -s --basenames --json --hex --base --all --big --line-str --str -h --help" ;;
+        addr) options="-a --addresses -s --basenames --json --hex --base --all -e --exe --big --line-str --str -h --help" ;;
         dump) options="--big --line-str --str -h --help" ;;
         check | copy) options="--big -h --help" ;;
         find) options="--op --big --line-str --str -h --help" ;;

@@ -84,7 +84,44 @@ fn files(rt: HostRuntime) -> Result<(), Fail> {
     Ok(())
 }
 
-/// An ELF file says its order and has its strings.
+/// The file and the addresses that the words of `addr` name.
+fn named<'a>(job: Option<&'a Job<'_>>) -> (Option<&'a str>, &'a [&'a str]) {
+    match job {
+        Some(Job::Addr(words)) => (words.file, words.addresses.as_slice()),
+        _ => (None, &[]),
+    }
+}
+
+/// Without `-e` the first word is the file, with it all words are addresses.
+#[test]
+fn file_of_addr(rt: HostRuntime) -> Result<(), Fail> {
+    for (words, addresses) in [
+        (["dwline", "addr", "a.out"].as_slice(), [].as_slice()),
+        (
+            ["dwline", "addr", "a.out", "1", "2"].as_slice(),
+            &["1", "2"],
+        ),
+        (["dwline", "addr", "-e", "a.out"].as_slice(), &[]),
+        (["dwline", "addr", "-e", "a.out", "1"].as_slice(), &["1"]),
+        (
+            ["dwline", "addr", "1", "-ea.out", "2", "3"].as_slice(),
+            &["1", "2", "3"],
+        ),
+        (
+            ["dwline", "addr", "1", "2", "--exe=a.out"].as_slice(),
+            &["1", "2"],
+        ),
+    ] {
+        let job = read_job(rt.alloc(), words)?;
+        assert!(rt;
+            named(job.as_ref()) == (Some("a.out"), addresses),
+            "{words:?}"
+        );
+    }
+    Ok(())
+}
+
+/// An ELF file says its order and has its strings, and a JSON object has its address.
 #[test]
 fn file_excludes(rt: HostRuntime) -> Result<(), Fail> {
     for words in [
@@ -96,6 +133,8 @@ fn file_excludes(rt: HostRuntime) -> Result<(), Fail> {
         ["dwline", "find", "1", "--line-str=s", "a.out"].as_slice(),
         ["dwline", "find", "--str", "s", "1", "a.out"].as_slice(),
         ["dwline", "copy", "--big", "a.out"].as_slice(),
+        ["dwline", "addr", "--json", "-a", "a.out"].as_slice(),
+        ["dwline", "addr", "a.out", "--addresses", "1", "--json"].as_slice(),
     ] {
         match read_job(rt.alloc(), words) {
             Ok(_) => assert!(rt; false, "{words:?}"),
@@ -120,6 +159,9 @@ fn statuses(rt: HostRuntime) -> Result<(), Fail> {
         (["dwline", "dump", "a", "b"].as_slice(), 2),
         (["dwline", "find", "1", "a", "b"].as_slice(), 2),
         (["dwline", "dump", "--version"].as_slice(), 2),
+        (["dwline", "addr"].as_slice(), 2),
+        (["dwline", "addr", "-e"].as_slice(), 2),
+        (["dwline", "addr", "-e", "a", "-e", "b"].as_slice(), 2),
         (["dwline", "--help"].as_slice(), 0),
         (["dwline", "find", "--help"].as_slice(), 0),
         (["dwline", "help", "find"].as_slice(), 0),

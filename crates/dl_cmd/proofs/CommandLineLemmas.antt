@@ -17,7 +17,7 @@ use Rattle.clap.specs.Walk.{Text, is_empty, rule_of, texts}
 use Rattle.clap.specs.Words.{App, Rule, AddsArg, AddsSubcommand, with_rule, with_subcommand}
 use Rattle.clap.specs.declared.builder.arg.Arg.{Arg}
 use Rattle.clap.specs.declared.builder.command.Command.{Command}
-use Rattle.dl_cmd.specs.CommandLine.{Excludes, IsApp, IsRule, command_line, file_rule}
+use Rattle.dl_cmd.specs.CommandLine.{Excludes, IsApp, IsRule, command_line}
 
 pub IsApp-arg : (old : Command) (a : Arg) (new : Command) (A : App) (r : Rule) → AddsArg old a new → IsApp A old
     → IsRule r a → IsApp (with_rule A r) new
@@ -34,9 +34,9 @@ not_free : {X : Type 0} (exclusive rest : Bool) (x : X) (old new : List X) → n
 not_free true rest x old new e = refl
 not_free false rest x old new e = rw e (grind (arith, length-append))
 
-pub IsRule-excluding : (old new : Arg) (id : Bor (List ℕ)) → AddsConflicts old new (id ∷ []) → IsRule file_rule old
-    → IsRule file_rule new
-IsRule-excluding old new id added i = (
+pub IsRule-excluding : (r : Rule) (old new : Arg) (id : Bor (List ℕ)) → AddsConflicts old new (id ∷ []) → IsRule r old
+    → IsRule (record r { is_free = false }) new
+IsRule-excluding r old new id added i = (
   ap rule_of added.0 ∙ ap₂ (λ (r : Rule) (b : Bool). record r {
     is_free =
         b;

@@ -37,9 +37,13 @@ op_rule = record (new_rule (codes "op")) {
 abbrev pub file_rule : Rule
 file_rule = record (new_rule (codes "file")) { value_names = 1; is_free = false }
 
--- `FILE` of `addr`, which is wanted
+-- `FILE` of `addr`, which is wanted unless `-e FILE` is there
 abbrev pub addr_file_rule : Rule
-addr_file_rule = record (new_rule (codes "file")) { required = true; value_names = 1 }
+addr_file_rule = record (new_rule (codes "file")) { value_names = 1; is_free = false }
+
+-- `-e FILE`, or `--exe FILE`
+abbrev pub exe_rule : Rule
+exe_rule = record (new_rule (codes "exe")) { long = Some (codes "exe"); short = Some 101; value_names = 1 }
 
 -- `ADDRESS`, any number of them
 abbrev pub addresses_rule : Rule
@@ -57,6 +61,10 @@ switch_rule id = record (new_rule id) { long = Some id; action = Some SetTrue }
 abbrev pub letter_rule : Text → (letter : ℕ) → Rule
 letter_rule id letter = record (switch_rule id) { short = Some letter }
 
+-- `--json`, which excludes `--addresses`
+abbrev pub json_rule : Rule
+json_rule = record (switch_rule (codes "json")) { is_free = false }
+
 -- where the section comes from
 abbrev pub with_input : App → App
 with_input a = with_rule (with_rule a big_rule) file_rule
@@ -69,7 +77,7 @@ with_strings a = with_rule (with_rule (with_rule (with_rule a big_rule) line_str
 abbrev pub with_printing : App → App
 with_printing a =
     with_rule (with_rule (with_rule a (letter_rule (codes "addresses") 97)) (letter_rule (codes "basenames") 115))
-    (switch_rule (codes "json"))
+    json_rule
 
 -- what addresses are asked for, and how they are answered
 abbrev pub with_settings : App → App
@@ -79,10 +87,11 @@ with_settings a =
 
 abbrev pub with_addresses : App → App
 with_addresses a =
-    with_rule (with_rule (with_rule (with_rule (with_rule (with_settings a) big_rule) line_str_rule) str_rule)
-    addr_file_rule) addresses_rule
+    with_rule (with_rule (with_rule (with_rule (with_rule (with_rule (with_settings a) big_rule) line_str_rule) str_rule)
+    exe_rule) addr_file_rule) addresses_rule
 
--- `addr [-a] [-s] [--json] [--hex] [--base ADDRESS] [--all] [--big] [--line-str PATH] [--str PATH] FILE [ADDRESS]..`
+-- `addr [-a] [-s] [--json] [--hex] [--base ADDRESS] [--all] [--big] [--line-str PATH] [--str PATH] FILE [ADDRESS]..`, or
+-- with `-e FILE` in place of `FILE`
 abbrev pub addr_app : App
 addr_app = with_addresses (new_app (codes "addr"))
 
@@ -122,6 +131,10 @@ IsApp a c = (app_of c ≡ a) × ((out-Command c).has_globals ≡ false)
 -- an argument that isn't global, of which a parse reads this
 abbrev pub IsRule : Rule → Arg → Type 0
 IsRule r a = (rule_of a ≡ r) × (a.global ≡ false)
+
+-- it has to be there, unless one of those of these ids is
+abbrev pub IsWantedUnless : List Text → Arg → Type 0
+IsWantedUnless ids a = texts a.r_unless.items ≡ ids
 
 -- it may not be used with those of these ids
 abbrev pub Excludes : List Text → Arg → Type 0

@@ -1,5 +1,5 @@
 -- What the words ask for, as clap reads them.
-use Rattle.std.specs.Prelude.{ℕ, Bool, List, [], Option, Some, None, unwrap_or, codes, if◌then◌else◌, false}
+use Rattle.std.specs.Prelude.{ℕ, Bool, List, [], ◌∷◌, Option, Some, None, unwrap_or, codes, if◌then◌else◌, false}
 use Rattle.std.specs.Option.{option_map_or}
 use Rattle.std.specs.Str.{bytes_eq}
 use Rattle.clap.specs.Words.{Row, all_of, first_of, one_of}
@@ -21,10 +21,18 @@ byte_of id rows = option_map_or byte_or_zero (one_of id rows) 0
 abbrev pub flag_of : Text → List Row → Bool
 flag_of id rows = option_map_or (λ t. bytes_eq t (codes "true")) (first_of id rows) false
 
+-- `addr` without `-e FILE`: the first word is FILE, the others are addresses. With it all words are addresses.
+abbrev pub file_and_addresses : (exe first : Option Text) (others : List Text) → Option Text × List Text
+file_and_addresses None first others = (first, others)
+file_and_addresses (Some exe) None others = (Some exe, others)
+file_and_addresses (Some exe) (Some first) others = (Some exe, first ∷ others)
+
 abbrev pub addr_words_of : List Row → AddrTexts
 addr_words_of rows = record {
-  file = text_of (codes "file") rows;
-  addresses = texts_of (codes "address") rows;
+  file = (file_and_addresses (text_of (codes "exe") rows) (text_of (codes "file") rows)
+      (texts_of (codes "address") rows)).0;
+  addresses = (file_and_addresses (text_of (codes "exe") rows) (text_of (codes "file") rows)
+      (texts_of (codes "address") rows)).1;
   hex = flag_of (codes "hex") rows;
   base = text_of (codes "base") rows;
   with_addresses = flag_of (codes "addresses") rows;

@@ -1,8 +1,9 @@
 //! The command line: its subcommands and arguments, with their help.
 ghost use Rattle.std.specs.Prelude.{IfOk, [], ◌∷◌, codes};
 ghost use Rattle.clap.specs.Words.{App};
-ghost use Rattle.dl_cmd.specs.CommandLine.{Excludes, IsApp, IsRule, file_rule, line_str_rule, str_rule, big_rule};
-ghost use Rattle.dl_cmd.specs.CommandLine.{address_rule, op_rule, addr_file_rule, addresses_rule, base_rule};
+ghost use Rattle.dl_cmd.specs.CommandLine.{Excludes, IsApp, IsRule, IsWantedUnless, big_rule, file_rule, line_str_rule};
+ghost use Rattle.dl_cmd.specs.CommandLine.{address_rule, op_rule, addr_file_rule, addresses_rule, base_rule, exe_rule};
+ghost use Rattle.dl_cmd.specs.CommandLine.{json_rule, str_rule};
 ghost use Rattle.dl_cmd.specs.CommandLine.{switch_rule, letter_rule, addr_app, with_addresses, with_input};
 ghost use Rattle.dl_cmd.specs.CommandLine.{with_printing, with_strings, dump_app, check_app, find_app, copy_app};
 ghost use Rattle.dl_cmd.specs.CommandLine.{command_line};
@@ -12,6 +13,14 @@ use std::alloc::{AllocError, Global};
 
 /// The version of the program and of its crates.
 const VERSION: &str = "0.1.0";
+
+/// What stands at the head of the page of a command whose FILE may be left out.
+const WITHOUT_FILE: &str =
+    "Without FILE the bytes of a section .debug_line are read from standard input, not an ELF file.";
+
+/// What stands at the head of the page of `addr`.
+const WITHOUT_ELF_FILE: &str =
+    "Where FILE is - the bytes of a section .debug_line are read from standard input, not an ELF file.";
 
 /// The ELF file that is read. It says its order, so `--big` may not be used with it.
 fn file<'a>(alloc: Global) -> Result<Arg<'a>, AllocError>
@@ -84,14 +93,38 @@ fn op<'a>(alloc: Global) -> Arg<'a>
         .help("Operation within the instruction at ADDRESS, from 0 to 255")
 }
 
-/// The file of `addr`, which may be `-` beside `--big`, `--line-str` and `--str`.
-fn addr_file<'a>(alloc: Global) -> Arg<'a>
-    ensures { IsRule addr_file_rule result }
+/// The file of `addr`, which may be `-` beside `--big`, `--line-str` and `--str`. It is wanted unless `-e` names it.
+fn addr_file<'a>(alloc: Global) -> Result<Arg<'a>, AllocError>
+    ensures rule { IfOk result (IsRule addr_file_rule) }
+    ensures wanted { IfOk result (IsWantedUnless (codes "exe" ∷ [])) }
 {
     Arg::new(alloc, "file")
-        .required(true)
         .value_name("FILE")
         .help("ELF file to read, or - for the bytes of a section .debug_line on standard input")
+        .required_unless_present("exe")
+}
+
+/// The file of `addr` by a letter, as addr2line and llvm-symbolizer take it. Then each other word is an address.
+fn exe<'a>(alloc: Global) -> Arg<'a>
+    ensures { IsRule exe_rule result }
+{
+    Arg::new(alloc, "exe")
+        .long("exe")
+        .short('e')
+        .value_name("FILE")
+        .help("The file to read, in place of the first word; all words are addresses then")
+}
+
+/// `--json`. An object has its address in any case, so `--addresses` may not be used with it.
+fn json<'a>(alloc: Global) -> Result<Arg<'a>, AllocError>
+    ensures rule { IfOk result (IsRule json_rule) }
+    ensures excludes { IfOk result (Excludes (codes "addresses" ∷ [])) }
+{
+    Arg::new(alloc, "json")
+        .long("json")
+        .action(ArgAction::SetTrue)
+        .help("Print a JSON object for each address, one a line")
+        .conflicts_with("addresses")
 }
 
 fn addresses<'a>(alloc: Global) -> Arg<'a>
@@ -152,6 +185,7 @@ fn dump<'a>(alloc: Global) -> Result<Command<'a>, AllocError>
     ensures { IfOk result (IsApp dump_app) }
 {
     let command = Command::new(alloc, "dump")
+        .before_help(WITHOUT_FILE)
         .about("Print each unit with its directories, files and rows")
         .after_help(
             "Examples:\n  dwline dump program\n  dwline dump --line-str debug_line_str < debug_line",
@@ -163,6 +197,7 @@ fn check<'a>(alloc: Global) -> Result<Command<'a>, AllocError>
     ensures { IfOk result (IsApp check_app) }
 {
     let command = Command::new(alloc, "check")
+        .before_help(WITHOUT_FILE)
         .about("Read all units, and print how many units, sequences and rows there are")
         .after_help("Examples:\n  dwline check program\n  dwline check --big < debug_line");
     add_input(alloc, command)
@@ -172,6 +207,7 @@ fn find<'a>(alloc: Global) -> Result<Command<'a>, AllocError>
     ensures { IfOk result (IsApp find_app) }
 {
     let command = Command::new(alloc, "find")
+        .before_help(WITHOUT_FILE)
         .about("Print the source file and the row of an address")
         .after_help("Examples:\n  dwline find 0x401136 program\n  dwline find 4198710 < debug_line")
         .arg(address(alloc))?
@@ -183,6 +219,7 @@ fn copy<'a>(alloc: Global) -> Result<Command<'a>, AllocError>
     ensures { IfOk result (IsApp copy_app) }
 {
     let command = Command::new(alloc, "copy")
+        .before_help(WITHOUT_FILE)
         .about("Write each unit anew, with the same header and rows, as the bytes of a section")
         .after_help(
             "Examples:\n  dwline copy program > debug_line\n  dwline copy < debug_line > copied",
@@ -207,11 +244,7 @@ fn add_printing<'a>(alloc: Global, command: Command<'a>) -> Result<Command<'a>, 
             's',
             "Print the last component of each path alone",
         ))?
-        .arg(switch(
-            alloc,
-            "json",
-            "Print a JSON object for each address, one a line",
-        ))
+        .arg(json(alloc)?)
 }
 
 fn add_addresses<'a>(alloc: Global, command: Command<'a>) -> Result<Command<'a>, AllocError>
@@ -228,7 +261,8 @@ fn add_addresses<'a>(alloc: Global, command: Command<'a>) -> Result<Command<'a>,
         .arg(big(alloc))?
         .arg(line_str(alloc))?
         .arg(strings(alloc))?
-        .arg(addr_file(alloc))?
+        .arg(exe(alloc))?
+        .arg(addr_file(alloc)?)?
         .arg(addresses(alloc))
 }
 
@@ -236,9 +270,11 @@ fn addr<'a>(alloc: Global) -> Result<Command<'a>, AllocError>
     ensures { IfOk result (IsApp addr_app) }
 {
     let command = Command::new(alloc, "addr")
+        .before_help(WITHOUT_ELF_FILE)
         .about("Print path, line and column of each address")
         .after_help(
-            "Examples:\n  dwline addr program 0x401136 0x40113a\n  dwline addr program < addresses",
+            "Examples:\n  dwline addr program 0x401136 0x40113a\n  dwline addr -e program 0x401136\n  \
+             dwline addr program < addresses",
         );
     add_addresses(alloc, command)
 }
@@ -249,8 +285,9 @@ pub fn make_command_line<'a>(alloc: Global) -> Result<Command<'a>, AllocError>
 {
     Command::new(alloc, "dwline")
         .about(
-            "Read line tables of DWARF 5: those of FILE, an ELF file, or without it of the bytes \
-             of a section .debug_line on standard input. What is asked for goes to standard output.",
+            "Read line tables of DWARF 5: those of FILE, an ELF file. Without FILE the bytes of a \
+             section .debug_line are read from standard input, not an ELF file. What is asked for \
+             goes to standard output.",
         )
         .after_help(
             "Examples:\n  dwline addr program 0x401136\n  dwline dump program\n  \

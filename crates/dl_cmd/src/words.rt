@@ -4,8 +4,8 @@ ghost use Rattle.std.specs.Prelude.{◌≡◌, Option, IfOk, map, option_map};
 ghost use Rattle.clap.specs.Words.{found_of, kind_of, rows_of, subcommand_of};
 ghost use Rattle.dl_cmd.specs.CommandLine.{command_line};
 ghost use Rattle.dl_cmd.specs.Job.{addr_words_made, request_made};
-ghost use Rattle.dl_cmd.specs.Words.{addr_words_of, byte_of, flag_of, request_of, requested, text_of, texts_of};
-ghost use Rattle.dl_cmd.specs.Words.{word_status_of};
+ghost use Rattle.dl_cmd.specs.Words.{addr_words_of, byte_of, file_and_addresses, flag_of, request_of, requested};
+ghost use Rattle.dl_cmd.specs.Words.{text_of, texts_of, word_status_of};
 
 use crate::command_line::make_command_line;
 use crate::job::{AddrWords, Job};
@@ -43,12 +43,36 @@ fn texts<'a>(alloc: Global, matches: &ArgMatches<'a>, id: &str) -> Result<Vec<&'
     }
 }
 
+/// The file and the addresses of `addr`, by the value of `-e`, the first word and the others.
+fn file_and_addresses<'a>(
+    exe: Option<&'a str>,
+    first: Option<&'a str>,
+    others: Vec<&'a str>,
+) -> Result<(Option<&'a str>, Vec<&'a str>), AllocError>
+    ensures { IfOk result (λ r. (option_map (λ s. s.now) r.0, map (λ s. s.now) r.1.items)
+        ≡ file_and_addresses (option_map (λ s. s.now) exe.entry) (option_map (λ s. s.now) first.entry)
+        (map (λ s. s.now) others.entry.items)) }
+{
+    let (Some(exe), Some(first)) = (exe, first) else {
+        return Ok((exe.or(first), others));
+    };
+    let mut addresses = others;
+    addresses.insert(0, first)?;
+    Ok((Some(exe), addresses))
+}
+
 fn addr_words<'a>(alloc: Global, matches: &ArgMatches<'a>) -> Result<AddrWords<'a>, AllocError>
     ensures { IfOk result (λ w. addr_words_made w ≡ addr_words_of (rows_of (found_of matches.now))) }
 {
+    let others = texts(alloc, matches, "address")?;
+    let (file, addresses) = file_and_addresses(
+        text(matches, "exe"),
+        text(matches, "file"),
+        others,
+    )?;
     Ok(AddrWords {
-        file: text(matches, "file"),
-        addresses: texts(alloc, matches, "address")?,
+        file,
+        addresses,
         hex: flag(matches, "hex"),
         base: text(matches, "base"),
         with_addresses: flag(matches, "addresses"),

@@ -1,5 +1,5 @@
 -- What the program does for the words of `addr`.
-use Rattle.std.proofs.Common.{◌≡◌, ◌⊎◌, inl, inr, ℕ, ◌||◌, Bool, true, false, List, [], Option, Some, Result, Ok}
+use Rattle.std.proofs.Common.{◌≡◌, ◌⊎◌, inl, inr, ℕ, ◌||◌, Bool, true, false, List, [], Option, Some, None, Result, Ok}
 use Rattle.std.proofs.Common.{Err, IfOk, IfErr, MatchResult, refl, sym, ap, ◌∙◌, subst}
 use Rattle.std.specs.Prelude.{◌≢◌}
 use Rattle.std.specs.Option.{option_copied}
@@ -22,7 +22,10 @@ use Rattle.dl_work.specs.declared.stop.FileFault.TheVariants.{NoMemory}
 use Rattle.dl_work.specs.declared.stop.Stop.{Stop}
 use Rattle.dl_work.specs.declared.stop.Stop.TheVariants.{NotUnderstood}
 use Rattle.dl_work.specs.Locate.{HasAsked, InputStops, LocatesInFile, LocatesInSection, RefusesCode, WordsStop}
-use Rattle.dl_work.specs.Locate.{are_addresses, asked_in_words, base_in, form_in, live_by, says_section}
+use Rattle.dl_work.specs.Locate.{Asks, Unanswered, are_addresses, asked_in_words, base_in, form_in, live_by}
+use Rattle.dl_work.specs.Locate.{says_section}
+use Rattle.dl_work.specs.Understood.{IsUnderstood}
+use Rattle.dl_work.specs.declared.addr_words.AskedWords.{AskedWords}
 use Rattle.dl_work.specs.Located.{located}
 use Rattle.dl_work.specs.Stops.{IsAt}
 use Rattle.dl_work.specs.Tables.{OnFile}
@@ -53,17 +56,33 @@ section_stops held w left start result stop is why = inl (stop, why, (is, refl, 
 
 -- ---- a file
 
+-- what is asked of each address, wherever there is code
+pub asks_all : (w : AddrTexts) (u : AskedWords) (these slice : List Asked) (q : Question) → IsUnderstood w u
+    → q.asked.now ≡ slice → slice ≡ these → q.base ≡ u.base → q.code ≡ None → q.style.form ≡ form_in w
+    → q.style.basenames ≡ w.basenames → Asks w these (λ a. true) q
+asks_all w u these slice q i asked sliced own code form basenames = record {
+  asked = asked ∙ sliced;
+  understood = i.understood;
+  base = i.base ∙ ap Some (sym own);
+  code = λ a. ap (λ (c : Option _). is_code (option_copied c) a) code;
+  form = form;
+  basenames = basenames;
+}
+
 module _ (held : Text → Option (List ℕ)) (fails : Text → Error → Type 0) (path : Text) (w : AddrTexts) where
   pub file_stops : (left start : Option (List ℕ)) (result : Result Found Stop) (stop : Stop) → result ≡ Err stop
       → WordsStop w stop ⊎ ((says_section w ≡ true) × (stop ≡ NotUnderstood))
       → LocatesInFile held fails path w [] left start start result
   file_stops left start result stop is why = λ f known short. inl (stop, why, (is, refl, Keeps-refl start))
 
-  pub file_refused : (left start : Option (List ℕ)) (result : Result Found Stop) (stop : Stop) (fault : FileFault)
-      → result ≡ Err stop → ForBytes (held path) (λ f. RefusesCode (fails path) f fault) → IsAt path fault stop
-      → LocatesInFile held fails path w [] left start start result
-  file_refused left start result stop fault is refuses at =
-      λ f known short. inr (inl (stop, fault, refuses f known short, at, (is, refl, Keeps-refl start)))
+  pub file_refused : (u : AskedWords) (bytes : List ℕ) (left start now : Option (List ℕ)) (result : Result Found Stop)
+      (stop : Stop) (fault : FileFault)
+      → says_section w ≡ false → IsUnderstood w u → result ≡ Err stop
+      → ForBytes (held path) (λ f. RefusesCode (fails path) f fault) → IsAt path fault stop
+      → (IsUnderstood w u → Unanswered w bytes left start now)
+      → LocatesInFile held fails path w bytes left start now result
+  file_refused u bytes left start now result stop fault says understood is refuses at unanswered =
+      λ f known short. inr (inl (stop, fault, says, refuses f known short, at, is, unanswered understood))
 
   pub input_stops : (given : List Asked) (bytes : List ℕ) (left start : Option (List ℕ)) (result : Result Found Stop)
       (stop : Stop) → result ≡ Err stop → given ≡ asked_in_words w → InputStops w given bytes stop

@@ -1,5 +1,7 @@
 -- The command over the line table of a file.
 use Rattle.std.proofs.Common.{◌≡◌, ◌∙◌, ◌&&◌, ℕ, ◌+◌, Bool, false, List, length, Option, None, Some, Result, arith}
+use Rattle.std.proofs.Common.{inl, inr}
+use Rattle.std.specs.declared.io.Error.{Error}
 use Rattle.std.proofs.Common.{refl, ap, sym, subst, length-append}
 use Rattle.std.specs.Io.KnownBytes.{Consumes}
 use Rattle.dl_cmd.specs.Job.{Text}
@@ -21,8 +23,13 @@ use Rattle.dl_print.specs.declared.summary.Summary.{Summary}
 use Rattle.dl_print.specs.ValueText.{Strings}
 use Rattle.dl_work.specs.declared.command.Command.{Command}
 use Rattle.dl_work.specs.declared.stop.Stop.{Stop}
-use Rattle.dl_work.specs.Asked.{Does, is_copy}
-use Rattle.dl_work.specs.Tables.{EndsAt, IsWhole, OnTable, OnTableWhere, RunsOn, SectionStops, known_bytes, stream_of}
+use Rattle.dl_elf.specs.declared.fault.ElfFault.TheVariants.{Read, NoMemory}
+use Rattle.dl_file.specs.declared.line_file.Wanted.{Wanted}
+use Rattle.dl_work.specs.declared.stop.FileFault.{FileFault}
+use Rattle.dl_work.specs.declared.stop.FileFault.TheVariants.{Open, Elf}
+use Rattle.dl_work.specs.Asked.{Does, is_copy, wanted_of}
+use Rattle.dl_work.specs.Tables.{EndsAt, IsWhole, OnFile, OnTable, OnTableWhere, Refuses, RunsOn, SectionStops}
+use Rattle.dl_work.specs.Tables.{known_bytes, stream_of}
 
 -- it isn't the copy of an object file
 pub not_refused : (path : Text) (command : Command) (t : LineTable) (start now : Option (List ℕ))
@@ -121,3 +128,21 @@ section_stops all_bytes path (Some other) reader (Some (Inflated name bytes dama
         subst (λ (n : Option SectionName). StopsAt path n f stop) (named ∙ (ap stream_name (sym same) ∙ gives.3)) at,
       ),
     )
+
+-- ---- the errors that opening and reading may give
+
+refuses_weaker : (fails wider : Error → Type 0) (f : List ℕ) (wanted : Wanted) (fault : FileFault)
+    → ((e : Error) → fails e → wider e) → Refuses fails f wanted fault → Refuses wider f wanted fault
+refuses_weaker fails wider f wanted (Open error) more refuses = more error refuses
+refuses_weaker fails wider f wanted (Elf (Read error)) more refuses = more error refuses
+refuses_weaker fails wider f wanted (Elf NoMemory) more refuses = refuses
+refuses_weaker fails wider f wanted (Elf fault) more refuses = refuses
+refuses_weaker fails wider f wanted fault more refuses = refuses
+
+-- what is done for an open file, by the errors of its source
+pub on_file_weaker : (fails wider : Error → Type 0) (path : Text) (command : Command) (f : List ℕ)
+    (start now : Option (List ℕ)) (result : Result Summary Stop) → ((e : Error) → fails e → wider e)
+    → OnFile fails path command f start now result → OnFile wider path command f start now result
+on_file_weaker fails wider path command f start now result more (inl (stop, is, (fault, refuses, at), written)) =
+    inl (stop, is, (fault, refuses_weaker fails wider f (wanted_of command) fault more refuses, at), written)
+on_file_weaker fails wider path command f start now result more (inr table) = inr table

@@ -1,15 +1,19 @@
 -- The words of `addr`, which are texts after references.
-use Rattle.std.proofs.Common.{◌≡◌, Bor, ℕ, Bool, false, true, List, [], ◌∷◌, length, map, arith, refl, sym, ap, ◌∙◌}
-use Rattle.std.specs.Prelude.{is_some}
+use Rattle.std.proofs.Common.{◌≡◌, Bor, ℕ, ◌+◌, Bool, false, true, List, [], ◌∷◌, ◌++◌, length, map, take, drop, arith}
+use Rattle.std.proofs.Common.{Option, Some, None, refl, sym, ap, ◌∙◌}
+use Rattle.std.specs.Prelude.{◌<◌, if◌then◌else◌, is_some, not, option_to_list, slice_index_or}
+use Rattle.std.specs.Option.{option_map_or}
+use Rattle.std.proofs.lemmas.List.{drop_more, map-append, take-append-drop, take_more}
+use Rattle.std.proofs.lemmas.Option.{none-some}
 use Rattle.std.specs.List.{list_all}
 use Rattle.std.proofs.lemmas.List.Folds.{list_all-map}
-use Rattle.dl_cmd.specs.Job.{AddrTexts}
+use Rattle.dl_cmd.specs.Job.{AddrTexts, Text}
 use Rattle.dl_run.specs.declared.fault.RunFault.TheVariants as fault
 use Rattle.dl_addr.specs.declared.asked.Asked.{Asked}
 use Rattle.dl_cmd.specs.AskedLines.{address_by}
 use Rattle.dl_work.specs.declared.stop.Stop.{Stop}
-use Rattle.dl_work.specs.declared.stop.Stop.TheVariants.{NotUnderstood, Run}
-use Rattle.dl_work.specs.Locate.{AddressesStop, WordsStop}
+use Rattle.dl_work.specs.declared.stop.Stop.TheVariants.{NotAddress, Run}
+use Rattle.dl_work.specs.Locate.{AddressesStop, IsFirstOther, WordsStop, base_in, first_other}
 
 abbrev now : Bor (List ℕ) → List ℕ
 now s = s.now
@@ -37,14 +41,83 @@ pub map_none : {A B : Type 0} (f : A → B) (xs : List A) (ys : List B) → ys �
 map_none f [] ys e none = refl
 map_none f (x ∷ xs) ys e none = absurd (omega (arith, none, ap length e))
 
-none_mapped : (ys : List (Bor (List ℕ))) → map now ys ≡ [] → ys ≡ []
-none_mapped [] e = refl
-none_mapped (y ∷ ys) e = absurd (omega (arith, ap length e))
+-- ---- the first word that is no address
 
-pub words_stop : (w : AddrTexts) (xs ys : List (Bor (List ℕ))) (stop : Stop) → xs ≡ ys → w.addresses ≡ map now ys
-    → AddressesStop (λ s. is_some (address_by w.hex (now s))) xs stop → WordsStop w stop
-words_stop w xs ys NotUnderstood same texts h =
-    Rattle.std.proofs.Common.inr (ap (list_all (λ t. is_some (address_by w.hex t))) texts
-    ∙ words_understood w.hex xs ys false same h)
-words_stop w xs ys (Run fault.NoMemory) same texts h = λ none. h (same ∙ none_mapped ys (sym texts ∙ none))
-words_stop w xs ys other same texts h = h
+-- it stands before all that comes after
+pub first_front : (hex : Bool) (a b : List Text) (word : Text) → first_other hex a ≡ Some word
+    → first_other hex (a ++ b) ≡ Some word
+first_front hex [] b word is = absurd (none-some word is)
+first_front hex (x ∷ a) b word is = on (is_some (address_by hex x)) (first_front hex a b word) is where
+  on : (fine : Bool) → (first_other hex a ≡ Some word → first_other hex (a ++ b) ≡ Some word)
+      → (if fine then first_other hex a else Some x) ≡ Some word
+      → (if fine then first_other hex (a ++ b) else Some x) ≡ Some word
+  on true rest is = rest is
+  on false rest is = is
+
+-- where these are addresses it is the first of the others
+pub first_after : (hex : Bool) (a b : List Text) → first_other hex a ≡ None
+    → first_other hex (a ++ b) ≡ first_other hex b
+first_after hex [] b none = refl
+first_after hex (x ∷ a) b none = on (is_some (address_by hex x)) (first_after hex a b) none where
+  on : (fine : Bool) → (first_other hex a ≡ None → first_other hex (a ++ b) ≡ first_other hex b)
+      → (if fine then first_other hex a else Some x) ≡ None
+      → (if fine then first_other hex (a ++ b) else Some x) ≡ first_other hex b
+  on true rest none = rest none
+  on false rest none = absurd (none-some x (sym none))
+
+-- words that were read, and one more that is an address, or isn't
+pub read_on : (hex : Bool) (words : List (Bor (List ℕ))) (i : ℕ) (d : Bor (List ℕ)) → i < length words
+    → is_some (address_by hex (slice_index_or words i d).now) ≡ true → first_other hex (map now (take i words)) ≡ None
+    → first_other hex (map now (take (i + 1) words)) ≡ None
+read_on hex words i d within fine none =
+    let word = slice_index_or words i d in
+    ap (λ (l : List (Bor (List ℕ))). first_other hex (map now l)) (take_more words i d within)
+    ∙ (ap (first_other hex) (map-append now (take i words) (word ∷ []))
+    ∙ (first_after hex (map now (take i words)) (word.now ∷ []) none ∙ one word (is_some (address_by hex word.now)) fine))
+  where
+    one : (word : Bor (List ℕ)) (b : Bool) → b ≡ true → (if b then None else Some word.now) ≡ None
+    one word b e = rw e refl
+
+pub stops_at : (hex : Bool) (words : List (Bor (List ℕ))) (i : ℕ) (d : Bor (List ℕ)) → i < length words
+    → is_some (address_by hex (slice_index_or words i d).now) ≡ false
+    → first_other hex (map now (take i words)) ≡ None
+    → first_other hex (map now words) ≡ Some (slice_index_or words i d).now
+stops_at hex words i d within bad none =
+    let word = slice_index_or words i d in
+    ap (λ (l : List (Bor (List ℕ))). first_other hex (map now l)) (sym (take-append-drop i words))
+    ∙ (ap (first_other hex) (map-append now (take i words) (drop i words))
+    ∙ (first_after hex (map now (take i words)) (map now (drop i words)) none
+    ∙ (ap (λ (l : List (Bor (List ℕ))). first_other hex (map now l)) (drop_more words i d within)
+    ∙ one word (map now (drop (i + 1) words)) (is_some (address_by hex word.now)) bad)))
+  where
+    one : (word : Bor (List ℕ)) (rest : List Text) (b : Bool) → b ≡ false
+        → (if b then first_other hex rest else Some word.now) ≡ Some word.now
+    one word rest b e = rw e refl
+
+-- what `is_none` tells
+pub is_told : (found said : Option ℕ) (b e : Bool) → found ≡ said → is_some found ≡ not b → b ≡ e
+    → is_some said ≡ not e
+is_told found said b e is tells sure = ap is_some (sym is) ∙ (tells ∙ ap not sure)
+
+-- ---- why the words stop
+
+base_fine : (w : AddrTexts) (base : Option Text) (n : ℕ) → option_map_or (address_by w.hex) base (Some 0) ≡ Some n
+    → first_other w.hex (option_to_list base) ≡ None
+base_fine w None n is = refl
+base_fine w (Some text) n is = one (is_some (address_by w.hex text)) (ap is_some is) where
+  one : (b : Bool) → b ≡ true → (if b then None else Some text) ≡ None
+  one b e = rw e refl
+
+pub base_stops : (w : AddrTexts) (stop : Stop) → IsFirstOther w.hex (option_to_list w.base) stop → WordsStop w stop
+base_stops w (NotAddress word) h = first_front w.hex (option_to_list w.base) w.addresses word.now h
+base_stops w (Run fault.NoMemory) h = absurd h
+base_stops w other h = h
+
+pub words_stop : (w : AddrTexts) (n : ℕ) (xs ys : List (Bor (List ℕ))) (stop : Stop) → base_in w ≡ Some n → xs ≡ ys
+    → w.addresses ≡ map now ys → AddressesStop w.hex (map now xs) stop → WordsStop w stop
+words_stop w n xs ys (NotAddress word) based same texts h =
+    first_after w.hex (option_to_list w.base) w.addresses (base_fine w w.base n based)
+    ∙ (ap (first_other w.hex) (texts ∙ ap (map now) (sym same)) ∙ h)
+words_stop w n xs ys (Run fault.NoMemory) based same texts h =
+    λ none. h (ap (map now) same ∙ (sym texts ∙ none))
+words_stop w n xs ys other based same texts h = h

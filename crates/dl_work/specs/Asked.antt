@@ -1,11 +1,13 @@
 -- What a request asks: which command, of which file, or of which section on the input.
-use Rattle.std.specs.Prelude.{ℕ, Bool, true, false, List, Option, Some, None, option_map, option_and_then, Result, Ok}
+use Rattle.std.specs.Prelude.{ℕ, Bool, true, false, List, [], Option, Some, None, option_map, option_and_then, Result, Ok}
 use Rattle.std.specs.Prelude.{Err, ◌≡◌}
+use Rattle.std.specs.Io.KnownBytes.{Consumes, Keeps}
 use Rattle.dl_num.specs.declared.fixed.Order.{Order}
 use Rattle.dl_num.specs.declared.fixed.Order.TheVariants.{Little, Big}
 use Rattle.dl_look.specs.declared.place.Place.{Place}
 use Rattle.dl_file.specs.declared.line_file.Wanted.{Wanted}
 use Rattle.dl_file.specs.declared.line_file.Wanted.TheVariants.{LineSection, LineAndStringSections}
+use Rattle.dl_run.specs.declared.options.TheConstants.{SECTION_LIMIT}
 use Rattle.dl_run.specs.declared.fault.RunFault.{RunFault}
 use Rattle.dl_print.specs.declared.summary.Summary.{Summary}
 use Rattle.dl_cmd.specs.Address.{address_in}
@@ -85,3 +87,11 @@ Does Copy order s limit bytes left start now answer = Copies order limit bytes l
 Does (Addr question) order s limit bytes left start now answer =
     (found : Result Found RunFault) × (answer ≡ answered found)
     × Locates order s question limit bytes left start now found
+
+-- what a command writes where there is no line table: `addr` what it writes of a section without bytes, so that each
+-- address has no answer; the others nothing
+abbrev pub WithoutTable : Command → (start now : Option (List ℕ)) → Type 0
+WithoutTable (Addr question) start now =
+    (bytes : List ℕ) × (left : Option (List ℕ)) × (found : Result Found RunFault) × Consumes (Some []) left bytes
+    × Locates Little (record { line_strings = None; strings = None }) question SECTION_LIMIT bytes left start now found
+WithoutTable other start now = Keeps start now

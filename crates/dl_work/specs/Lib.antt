@@ -8,3 +8,4 @@ pub mod Located
 pub mod Locate
 -- Of contracts inside the crate, and of proofs; no public contract reaches these.
 pub mod Held
+pub mod Understood

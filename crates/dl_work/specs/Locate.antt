@@ -1,8 +1,8 @@
 -- What the program does for the words of `addr`. bytes: what was read of the input, which has `left` left. start, now:
 -- what the output held at first, and holds now. held: what the file of a path holds, where that is known; fails: the
 -- errors that opening and reading it may give.
-use Rattle.std.specs.Prelude.{◌≡◌, ◌≢◌, ◌⊎◌, ℕ, Bool, true, false, ◌||◌, not, List, [], ◌∷◌, map, length, ◌==◌}
-use Rattle.std.specs.Prelude.{if◌then◌else◌, Option, Some, None, is_some, MatchOption, Result, Ok, Err, codes}
+use Rattle.std.specs.Prelude.{◌≡◌, ◌≢◌, ◌⊎◌, ℕ, Bool, true, false, ◌||◌, not, List, [], ◌∷◌, ◌++◌, map, length, ◌==◌}
+use Rattle.std.specs.Prelude.{if◌then◌else◌, option_to_list, Option, Some, None, is_some, MatchOption, Result, Ok, Err, codes}
 use Rattle.std.specs.List.{list_all, list_any}
 use Rattle.std.specs.Option.{option_copied, option_map_or}
 use Rattle.std.specs.Str.{bytes_eq}
@@ -32,8 +32,8 @@ use Rattle.dl_work.specs.declared.command.Command.TheVariants.{Addr}
 use Rattle.dl_work.specs.declared.stop.FileFault.{FileFault}
 use Rattle.dl_work.specs.declared.stop.FileFault.TheVariants.{Open, Elf, NoMemory}
 use Rattle.dl_work.specs.declared.stop.Stop.{Stop}
-use Rattle.dl_work.specs.declared.stop.Stop.TheVariants.{NotUnderstood, Run}
-use Rattle.dl_work.specs.Asked.{section_of}
+use Rattle.dl_work.specs.declared.stop.Stop.TheVariants.{NotAddress, NotUnderstood, Run}
+use Rattle.dl_work.specs.Asked.{WithoutTable, section_of}
 use Rattle.dl_work.specs.Located.{located}
 use Rattle.dl_work.specs.Stops.{IsAt}
 use Rattle.dl_work.specs.Tables.{OnFile}
@@ -66,15 +66,27 @@ pub record Asks (w : AddrTexts) (these : List Asked) (live : ℕ → Bool) (q : 
   pub form : q.style.form ≡ form_in w
   pub basenames : q.style.basenames ≡ w.basenames
 
--- one of these isn't an address, or memory is refused for them
-abbrev pub AddressesStop : {A : Type 0} → (is_address : A → Bool) → List A → Stop → Type 0
-AddressesStop is_address words NotUnderstood = list_all is_address words ≡ false
-AddressesStop is_address words (Run fault.NoMemory) = words ≢ []
-AddressesStop is_address words other = ⊥
+-- the first of the words that is no address, that of `--base` before the others
+abbrev pub first_other : (hex : Bool) → List Text → Option Text
+first_other hex [] = None
+first_other hex (word ∷ words) = if is_some (address_by hex word) then first_other hex words else Some word
 
--- the words aren't understood, or memory is refused for their addresses
+abbrev pub address_words : AddrTexts → List Text
+address_words w = option_to_list w.base ++ w.addresses
+
+-- it names the first of these words that is no address
+abbrev pub IsFirstOther : (hex : Bool) → List Text → Stop → Type 0
+IsFirstOther hex words (NotAddress word) = first_other hex words ≡ Some word.now
+IsFirstOther hex words other = ⊥
+
+-- it does, or memory is refused for these words
+abbrev pub AddressesStop : (hex : Bool) → List Text → Stop → Type 0
+AddressesStop hex words (Run fault.NoMemory) = words ≢ []
+AddressesStop hex words stop = IsFirstOther hex words stop
+
+-- a word isn't an address, or memory is refused for the addresses
 abbrev pub WordsStop : AddrTexts → Stop → Type 0
-WordsStop w NotUnderstood = (base_in w ≡ None) ⊎ (are_addresses w ≡ false)
+WordsStop w (NotAddress word) = first_other w.hex (address_words w) ≡ Some word.now
 WordsStop w (Run fault.NoMemory) = w.addresses ≢ []
 WordsStop w other = ⊥
 
@@ -122,13 +134,20 @@ HasAsked w (a ∷ asked) bytes left lines = (bytes ≡ []) × (lines.asked.items
 abbrev pub InputStops : AddrTexts → List Asked → (bytes : List ℕ) → Stop → Type 0
 InputStops w asked bytes stop = (fault : RunFault) × (asked ≡ []) × StopsAsking w.hex bytes fault × (stop ≡ Run fault)
 
+-- the file can't be read for its table: where the addresses can be had each has no answer, wherever there is code
+abbrev pub Unanswered : AddrTexts → (bytes : List ℕ) (left start now : Option (List ℕ)) → Type 0
+Unanswered w bytes left start now =
+    ((stop : Stop) × InputStops w (asked_in_words w) bytes stop × Keeps start now)
+    ⊎ ((lines : AskedLines) × (q : Question) × HasAsked w (asked_in_words w) bytes left lines
+    × Asks w lines.asked.items (λ a. true) q × WithoutTable (Addr q) start now)
+
 abbrev pub LocatesInFile : (held : Text → Option (List ℕ)) (fails : Text → Error → Type 0) → Text → AddrTexts
     → (bytes : List ℕ) (left start now : Option (List ℕ)) → Result Found Stop → Type 0
 LocatesInFile held fails path w bytes left start now result = ForBytes (held path) (λ f.
     ((stop : Stop) × (WordsStop w stop ⊎ ((says_section w ≡ true) × (stop ≡ NotUnderstood)))
     × StopsBefore bytes start now result stop)
-    ⊎ ((stop : Stop) × (fault : FileFault) × RefusesCode (fails path) f fault × IsAt path fault stop
-    × StopsBefore bytes start now result stop)
+    ⊎ ((stop : Stop) × (fault : FileFault) × (says_section w ≡ false) × RefusesCode (fails path) f fault
+    × IsAt path fault stop × (result ≡ Err stop) × Unanswered w bytes left start now)
     ⊎ ((stop : Stop) × InputStops w (asked_in_words w) bytes stop × (result ≡ Err stop) × Keeps start now)
     ⊎ ((code : Code) × (lines : AskedLines) × (q : Question) × (answer : Result Summary Stop)
     × (says_section w ≡ false) × IsCode f (Ok code) × HasAsked w (asked_in_words w) bytes left lines

@@ -11,7 +11,7 @@ use Rattle.dl_run.specs.declared.fault.RunFault.TheVariants as fault
 use Rattle.dl_work.specs.declared.stop.FileFault.{FileFault}
 use Rattle.dl_work.specs.declared.stop.FileFault.TheVariants.{Open, Elf, ObjectCopy, NoMemory}
 use Rattle.dl_work.specs.declared.stop.Stop.{Stop}
-use Rattle.dl_work.specs.declared.stop.Stop.TheVariants.{NoAddress, NotUnderstood, Run, File}
+use Rattle.dl_work.specs.declared.stop.Stop.TheVariants.{NoAddress, NotAddress, NotUnderstood, Run, File}
 
 -- the text of a fault; None where the system words it
 abbrev pub file_fault_text : FileFault → Option (List ℕ)
@@ -22,6 +22,7 @@ file_fault_text NoMemory = Some (codes "out of memory")
 
 abbrev pub stop_text : Stop → Option (List ℕ)
 stop_text NotUnderstood = Some (codes "words not understood")
+stop_text (NotAddress word) = Some (word.now ++ codes " is no address")
 stop_text (Run f) = Some (run_fault_text f)
 stop_text (File path f) = option_map (λ text. path.now ++ codes ": " ++ text) (file_fault_text f)
 stop_text (NoAddress line) = Some (codes "line " ++ decimal line ++ codes ": words not understood")
@@ -41,6 +42,7 @@ file_fault_status NoMemory = 3
 
 abbrev pub stop_status : Stop → ℕ
 stop_status NotUnderstood = 2
+stop_status (NotAddress word) = 2
 stop_status (Run f) = status f
 stop_status (File path f) = file_fault_status f
 stop_status (NoAddress line) = 1

@@ -2,7 +2,7 @@
 -- what the output held at first, and holds now.
 use Rattle.std.specs.Prelude.{◌≡◌, ◌⊎◌, ◌≤◌, ℕ, Bool, true, false, ◌&&◌, List, length, Option, Some, IfSome, Result, Ok}
 use Rattle.std.specs.Prelude.{None, Err, MatchResult}
-use Rattle.std.specs.Io.KnownBytes.{Consumes, Keeps}
+use Rattle.std.specs.Io.KnownBytes.{Consumes}
 use Rattle.std.specs.declared.io.Error.{Error}
 use Rattle.dl_cmd.specs.Job.{Text}
 use Rattle.dl_file.specs.declared.line_file.Wanted.{Wanted}
@@ -18,7 +18,7 @@ use Rattle.dl_work.specs.declared.command.Command.{Command}
 use Rattle.dl_work.specs.declared.stop.FileFault.{FileFault}
 use Rattle.dl_work.specs.declared.stop.FileFault.TheVariants.{Open, Elf, ObjectCopy}
 use Rattle.dl_work.specs.declared.stop.Stop.{Stop}
-use Rattle.dl_work.specs.Asked.{Does, is_copy, wanted_of}
+use Rattle.dl_work.specs.Asked.{Does, WithoutTable, is_copy, wanted_of}
 use Rattle.dl_work.specs.Files.{FileStops}
 use Rattle.dl_work.specs.Stops.{IsAt, StopsAt}
 
@@ -84,16 +84,17 @@ pub record RunsOn (path : Text) (command : Command) (t : LineTable) (start now :
   pub done : Does command t.order strings SECTION_LIMIT read left start now answer
   pub ends : EndsAt path (stream_of t.line) answer result
 
--- the program stops before its command, and nothing is written
-abbrev pub StopsEarly : (Stop → Type 0) → (start now : Option (List ℕ)) → Result Summary Stop → Type 0
-StopsEarly Reason start now result = (stop : Stop) × (result ≡ Err stop) × Reason stop × Keeps start now
+-- the program stops before its command
+abbrev pub StopsEarly : Command → (Stop → Type 0) → (start now : Option (List ℕ)) → Result Summary Stop → Type 0
+StopsEarly command Reason start now result =
+    (stop : Stop) × (result ≡ Err stop) × Reason stop × WithoutTable command start now
 
 -- an object file isn't copied
 abbrev pub OnTableWhere : (is_object_copy : Bool) → (path : Text) → Command → LineTable → (start now : Option (List ℕ))
     → Result Summary Stop → Type 0
-OnTableWhere true path command t start now result = StopsEarly (IsAt path ObjectCopy) start now result
+OnTableWhere true path command t start now result = StopsEarly command (IsAt path ObjectCopy) start now result
 OnTableWhere false path command t start now result =
-    StopsEarly (StringsStop path t.line_str t.str) start now result ⊎ RunsOn path command t start now result
+    StopsEarly command (StringsStop path t.line_str t.str) start now result ⊎ RunsOn path command t start now result
 
 abbrev pub OnTable : (path : Text) → Command → LineTable → (start now : Option (List ℕ)) → Result Summary Stop → Type 0
 OnTable path command t = OnTableWhere (is_copy command && t.is_object_file) path command t
@@ -111,6 +112,6 @@ Refuses fails f wanted other = ⊥
 abbrev pub OnFile : (fails : Error → Type 0) (path : Text) → Command → (f : List ℕ) (start now : Option (List ℕ))
     → Result Summary Stop → Type 0
 OnFile fails path command f start now result =
-    StopsEarly (λ stop. (fault : FileFault) × Refuses fails f (wanted_of command) fault
+    StopsEarly command (λ stop. (fault : FileFault) × Refuses fails f (wanted_of command) fault
     × IsAt path fault stop) start now result
     ⊎ ((t : LineTable) × HasLineTable f (wanted_of command) (Ok t) × OnTable path command t start now result)

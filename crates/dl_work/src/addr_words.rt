@@ -1,10 +1,10 @@
 //! What the words of `addr` ask for.
-ghost use Rattle.std.specs.Prelude.{◌≡◌, IfErr, IfOk, None, Some, is_some, map, true};
+ghost use Rattle.std.specs.Prelude.{◌≡◌, IfErr, IfOk, MatchResult, None, Some, is_some, map, option_to_list, true};
 ghost use Rattle.std.specs.List.{list_all};
 ghost use Rattle.dl_cmd.specs.Job.{addr_words_made};
 ghost use Rattle.dl_cmd.specs.AskedLines.{address_by};
-ghost use Rattle.dl_work.specs.Locate.{AddressesStop, WordsStop, are_addresses, asked_in_words, base_in, form_in};
-ghost use Rattle.dl_work.specs.Locate.{says_section};
+ghost use Rattle.dl_work.specs.Locate.{AddressesStop, IsFirstOther, WordsStop, are_addresses, asked_in_words, base_in};
+ghost use Rattle.dl_work.specs.Locate.{form_in, says_section};
 
 use crate::stop::Stop;
 use dl_addr::{Asked, Form, Question, Style};
@@ -25,28 +25,28 @@ fn address(hex: bool, word: &str) -> Option<u64>
 }
 
 /// What is subtracted from each address.
-pub fn base<'a>(words: &AddrWords<'a>) -> Result<u64, Stop<'a>>
-    ensures base { IfOk result (λ n. base_in (addr_words_made words.now) ≡ Some n) }
-    ensures stops { IfErr result (WordsStop (addr_words_made words.now)) }
+fn base<'a>(words: &AddrWords<'a>) -> Result<u64, Stop<'a>>
+    ensures { MatchResult result (λ n. base_in (addr_words_made words.now) ≡ Some n)
+        (IsFirstOther words.now.hex (option_to_list (addr_words_made words.now).base)) }
 {
     match words.base {
-        Some(word) => address(words.hex, word).ok_or(Stop::NotUnderstood),
+        Some(word) => address(words.hex, word).ok_or(Stop::NotAddress { word }),
         None => Ok(0),
     }
 }
 
 /// The addresses that these words say.
-fn addresses<'a>(alloc: Global, hex: bool, words: &[&str]) -> Result<Vec<Asked>, Stop<'a>>
+fn addresses<'a>(alloc: Global, hex: bool, words: &[&'a str]) -> Result<Vec<Asked>, Stop<'a>>
     ensures asked { IfOk result (λ asked. asked.items
         ≡ map (λ s. record { address = address_by hex s.now }) words.now) }
     ensures understood { IfOk result (λ asked. list_all (λ s. is_some (address_by hex s.now)) words.now ≡ true) }
-    ensures stops { IfErr result (AddressesStop (λ s. is_some (address_by hex s.now)) words.now) }
+    ensures stops { IfErr result (AddressesStop hex (map (λ s. s.now) words.now)) }
 {
     let mut asked = Vec::new(alloc);
     for word in words {
         let address = address(hex, *word);
         if address.is_none() {
-            return Err(Stop::NotUnderstood);
+            return Err(Stop::NotAddress { word: *word });
         }
         if asked.push(Asked { address }).is_err() {
             return Err(Stop::Run(RunFault::NoMemory));
@@ -55,16 +55,28 @@ fn addresses<'a>(alloc: Global, hex: bool, words: &[&str]) -> Result<Vec<Asked>,
     Ok(asked)
 }
 
-/// The addresses among the words.
-pub fn asked_words<'a>(alloc: Global, words: &AddrWords<'a>) -> Result<AskedLines, Stop<'a>>
-    ensures asked { IfOk result (λ lines. lines.asked.items ≡ asked_in_words (addr_words_made words.now)) }
-    ensures understood { IfOk result (λ lines. are_addresses (addr_words_made words.now) ≡ true) }
-    ensures no_lines { IfOk result (λ lines. lines.no_address ≡ None) }
+/// The addresses among the words, and what is subtracted from each.
+pub struct AskedWords {
+    pub base: u64,
+    pub lines: AskedLines,
+}
+
+/// What the words ask for. The word of `--base` is read before the others.
+pub fn asked_words<'a>(alloc: Global, words: &AddrWords<'a>) -> Result<AskedWords, Stop<'a>>
+    ensures base { IfOk result (λ u. base_in (addr_words_made words.now) ≡ Some u.base) }
+    ensures asked { IfOk result (λ u. u.lines.asked.items ≡ asked_in_words (addr_words_made words.now)) }
+    ensures understood { IfOk result (λ u. are_addresses (addr_words_made words.now) ≡ true) }
+    ensures no_lines { IfOk result (λ u. u.lines.no_address ≡ None) }
     ensures stops { IfErr result (WordsStop (addr_words_made words.now)) }
 {
-    Ok(AskedLines {
-        asked: addresses(alloc, words.hex, words.addresses.as_slice())?,
-        no_address: None,
+    let base = base(words)?;
+    let asked = addresses(alloc, words.hex, words.addresses.as_slice())?;
+    Ok(AskedWords {
+        base,
+        lines: AskedLines {
+            asked,
+            no_address: None,
+        },
     })
 }
 

@@ -11,8 +11,8 @@ ghost use Rattle.dl_addr.specs.Code.{is_code};
 ghost use Rattle.dl_work.specs.declared.stop.FileFault.TheVariants.{NoMemory};
 ghost use Rattle.dl_work.specs.Locate.{RefusesCode, address_range, live_by};
 
-use crate::files::FileSource;
 use crate::stop::FileFault;
+use dl_elf::ReadAt;
 use dl_file::{Code, CodeFault, ExecutableRange, find_code};
 use dl_look::{AddressRange, CodeRanges};
 use std::alloc::Global;
@@ -57,21 +57,13 @@ fn live_ranges(alloc: Global, code: &Code) -> Result<Option<CodeRanges>, FileFau
     Ok(Some(ranges_of(alloc, code.ranges.as_slice())?))
 }
 
-/// Where the file at this path has code, if it is linked and has any.
-pub fn code_of<F: FileSource>(
-    alloc: Global,
-    files: &F,
-    path: &str,
-) -> Result<Option<CodeRanges>, FileFault>
-    ensures { ForBytes (F.held files.now path.now) (λ f. MatchResult result
+/// Where an open file has code, if it is linked and has any.
+pub fn code_of<S: ReadAt>(alloc: Global, file: &S) -> Result<Option<CodeRanges>, FileFault>
+    ensures { ForBytes (S.all_bytes file.now) (λ f. MatchResult result
         (λ ranges. (code : file_code.Code) × IsCode f (Ok code) × ((a : ℕ) → is_code ranges a ≡ live_by false code a))
-        (RefusesCode (F.fails_with files.now path.now) f)) }
+        (RefusesCode (S.fails_with file.now) f)) }
 {
-    let file = match files.open(path) {
-        Ok(file) => file,
-        Err(error) => return Err(FileFault::Open(error)),
-    };
-    match find_code(alloc, &file) {
+    match find_code(alloc, file) {
         Ok(code) => live_ranges(alloc, &code),
         Err(CodeFault::Elf(fault)) => Err(FileFault::Elf(fault)),
         Err(CodeFault::NoMemory) => Err(FileFault::NoMemory),

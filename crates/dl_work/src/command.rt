@@ -4,12 +4,13 @@ ghost use Rattle.std.specs.Option.{option_copied};
 ghost use Rattle.std.specs.Io.KnownBytes.{Consumes};
 ghost use Rattle.dl_run.specs.Commands.{strings_in};
 ghost use Rattle.dl_cmd.specs.Job.{request_made};
-ghost use Rattle.dl_work.specs.Asked.{Does, answered, command_of, is_copy, place_of, wanted_of};
+ghost use Rattle.dl_work.specs.Asked.{Does, WithoutTable, answered, command_of, is_copy, place_of, wanted_of};
 
 use dl_addr::{Found, Question, addr};
 use dl_cmd::{Job, read_address};
 use dl_file::Wanted;
 use dl_look::Place;
+use dl_num::Order;
 use dl_run::{Options, RunFault, SECTION_LIMIT, Summary, check, copy, dump, find};
 use std::alloc::Global;
 use std::io::{Read, Write};
@@ -20,6 +21,14 @@ pub const NOTHING: Summary = Summary {
     skipped: 0,
     sequences: 0,
     rows: 0,
+};
+
+/// The options of a section without string sections.
+const NO_STRINGS: Options<'static> = Options {
+    order: Order::Little,
+    debug_line_str: None,
+    debug_str: None,
+    limit: SECTION_LIMIT,
 };
 
 /// What is asked of a line table.
@@ -88,6 +97,17 @@ impl<'a> Command<'a> {
         ensures { result ≡ (is_copy self.entry && is_object) }
     {
         matches!(self, Command::Copy) && is_object
+    }
+
+    /// Says what there is to say where there is no line table: of `addr`, that each address has no answer, as over a
+    /// section without bytes. Whether that could be written isn't told, since the file's fault is.
+    pub fn without_table<W: Write>(self, alloc: Global, output: &mut W)
+        ensures { WithoutTable self.entry (W.contents output.old) (W.contents output.new) }
+    {
+        if let Command::Addr(question) = self {
+            let mut nothing: &[u8] = &[];
+            let _ = addr(alloc, &mut nothing, output, &question, &NO_STRINGS);
+        }
     }
 
     /// Works through the section.

@@ -2,7 +2,9 @@
 ghost use Rattle.std.specs.Prelude.{◌≡◌, ℕ, List, Option, IfErr, IfOk, MatchResult};
 ghost use Rattle.std.specs.declared.io.Error.{Error};
 ghost use Rattle.dl_work.specs.Files.{FileHolds, FileStops};
+ghost use Rattle.dl_work.specs.declared.stop.FileFault.TheVariants.{Open};
 
+use crate::stop::FileFault;
 use dl_elf::ReadAt;
 use dl_run::RunFault;
 use std::alloc::Global;
@@ -33,4 +35,16 @@ pub trait FileSource {
     fn read_file(&self, alloc: Global, path: &str, limit: u64) -> Result<Vec<u8>, RunFault>
         ensures { MatchResult result (λ found. FileHolds (held self.now path.now) limit found.items)
             (FileStops (held self.now path.now) limit) };
+}
+
+/// The file at a path, open to be read, or why it can't be.
+pub fn open_file<F: FileSource>(files: &F, path: &str) -> Result<F::File, FileFault>
+    ensures bytes { IfOk result (λ file. F.File.all_bytes file ≡ F.held files.now path.now) }
+    ensures reads { IfOk result (λ file. (e : Error) → F.File.fails_with file e → F.fails_with files.now path.now e) }
+    ensures fails { IfErr result (λ fault. (e : Error) × (fault ≡ Open e) × F.fails_with files.now path.now e) }
+{
+    match files.open(path) {
+        Ok(file) => Ok(file),
+        Err(error) => Err(FileFault::Open(error)),
+    }
 }

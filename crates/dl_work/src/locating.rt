@@ -1,19 +1,27 @@
 //! What the program does for `addr`: addresses, and where they are in the source.
-ghost use Rattle.std.specs.Prelude.{◌≡◌, ℕ, List, None, MatchResult};
+ghost use Rattle.std.specs.Prelude.{◌≡◌, ℕ, List, None, Ok, IfOk, MatchResult, false};
 ghost use Rattle.std.specs.Io.KnownBytes.{Consumes};
+ghost use Rattle.std.specs.declared.io.Error.{Error};
+ghost use Rattle.dl_elf.specs.Source.{ForBytes};
+ghost use Rattle.dl_file.specs.Code.{IsCode};
+ghost use Rattle.dl_file.specs.declared.code.Code as file_code;
+ghost use Rattle.dl_addr.specs.Code.{is_code};
 ghost use Rattle.dl_cmd.specs.Job.{addr_words_made};
 ghost use Rattle.dl_work.specs.Located.{is_not_found, located, unless_no_address};
 ghost use Rattle.dl_work.specs.Locate.{HasAsked, InputStops, LocatesFor, LocatesInFile, LocatesInSection};
+ghost use Rattle.dl_work.specs.Locate.{RefusesCode, Unanswered, live_by};
+ghost use Rattle.dl_work.specs.Understood.{IsUnderstood};
 
-use crate::addr_words::{asked_words, base, question, says_section};
+use crate::addr_words::{AskedWords, asked_words, question, says_section};
 use crate::code::{code_of, live_in};
 use crate::command::Command;
-use crate::files::FileSource;
+use crate::files::{FileSource, open_file};
 use crate::over_file::on_file;
 use crate::over_input::{Section, on_input};
-use crate::stop::Stop;
+use crate::stop::{FileFault, Stop};
 use dl_addr::Found;
 use dl_cmd::{AddrWords, AskedLines, read_asked};
+use dl_look::CodeRanges;
 use dl_run::{RunFault, Summary};
 use std::alloc::Global;
 use std::io::{Read, Write};
@@ -90,8 +98,7 @@ fn in_section<'a, F: FileSource, R: Read, W: Write>(
         × LocatesInSection (F.held files.now) (addr_words_made words.now) bytes (R.remaining input.new)
         (W.contents output.old) (W.contents output.new) result }
 {
-    let base = base(words)?;
-    let lines = asked_words(alloc, words)?;
+    let AskedWords { base, lines } = asked_words(alloc, words)?;
     if lines.asked.is_empty() {
         return Err(Stop::NotUnderstood);
     }
@@ -103,6 +110,42 @@ fn in_section<'a, F: FileSource, R: Read, W: Write>(
     let command = Command::Addr(question(words, base, lines.asked.as_slice(), None));
     let answer = on_input(alloc, files, section, command, input, output);
     located(answer, None)
+}
+
+/// The file at a path, open, and where it has code.
+fn open_with_code<F: FileSource>(
+    alloc: Global,
+    files: &F,
+    path: &str,
+) -> Result<(F::File, Option<CodeRanges>), FileFault>
+    ensures bytes { IfOk result (λ r. F.File.all_bytes r.0 ≡ F.held files.now path.now) }
+    ensures reads { IfOk result (λ r. (e : Error) → F.File.fails_with r.0 e → F.fails_with files.now path.now e) }
+    ensures code { ForBytes (F.held files.now path.now) (λ f. MatchResult result
+        (λ r. (code : file_code.Code) × IsCode f (Ok code) × ((a : ℕ) → is_code r.1 a ≡ live_by false code a))
+        (RefusesCode (F.fails_with files.now path.now) f)) }
+{
+    let file = open_file(files, path)?;
+    let code = code_of(alloc, &file)?;
+    Ok((file, code))
+}
+
+/// Says of each address that it has no answer, where the addresses can be had.
+fn unanswered<'a, R: Read, W: Write>(
+    alloc: Global,
+    words: &AddrWords<'a>,
+    understood: AskedWords,
+    input: &mut R,
+    output: &mut W,
+)
+    ensures { (bytes : List ℕ) × Consumes (R.remaining input.old) (R.remaining input.new) bytes
+        × (IsUnderstood (addr_words_made words.now) understood → Unanswered (addr_words_made words.now) bytes
+        (R.remaining input.new) (W.contents output.old) (W.contents output.new)) }
+{
+    let AskedWords { base, lines } = understood;
+    if let Ok(lines) = given_or_read(alloc, words, lines, input) {
+        Command::Addr(question(words, base, lines.asked.as_slice(), None))
+            .without_table(alloc, output);
+    }
 }
 
 /// Looks into the ELF file at this path.
@@ -121,16 +164,19 @@ fn in_file<'a, F: FileSource, R: Read, W: Write>(
     if says_section(words) {
         return Err(Stop::NotUnderstood);
     }
-    let base = base(words)?;
-    let given = asked_words(alloc, words)?;
-    let code = match code_of(alloc, files, path) {
-        Ok(code) => code,
-        Err(fault) => return Err(Stop::File { path, fault }),
+    let understood = asked_words(alloc, words)?;
+    let (file, code) = match open_with_code(alloc, files, path) {
+        Ok(opened) => opened,
+        Err(fault) => {
+            unanswered(alloc, words, understood, input, output);
+            return Err(Stop::File { path, fault });
+        }
     };
-    let lines = given_or_read(alloc, words, given, input)?;
+    let AskedWords { base, lines } = understood;
+    let lines = given_or_read(alloc, words, lines, input)?;
     let live = live_in(words.all, code.as_ref());
     let command = Command::Addr(question(words, base, lines.asked.as_slice(), live));
-    let answer = on_file(alloc, files, path, command, output);
+    let answer = on_file(alloc, path, &file, command, output);
     located(answer, lines.no_address)
 }
 
@@ -140,7 +186,8 @@ fn in_file<'a, F: FileSource, R: Read, W: Write>(
 /// The addresses are among the words. Where there are none, they are read from the input, once the file has
 /// shown where it has code; a section on the input wants one among the words. Beside an ELF file the words say
 /// neither an order nor string sections. In a linked file that has code the sequences count that begin in it,
-/// unless all are asked for.
+/// unless all are asked for. Where the file can't be read for its line table, each address has no answer, and its
+/// fault is told.
 ///
 /// `NoAddress` names the first line of the input that is no address, where nothing else is wrong.
 pub fn locate<'a, F: FileSource, R: Read, W: Write>(

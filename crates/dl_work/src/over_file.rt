@@ -5,7 +5,6 @@ ghost use Rattle.dl_file.specs.LineTable.{GivesTable, LineTable};
 ghost use Rattle.dl_work.specs.Tables.{OnFile, OnTable};
 
 use crate::command::Command;
-use crate::files::FileSource;
 use crate::stop::{FileFault, Stop};
 use crate::strings::StringSections;
 use dl_elf::ReadAt;
@@ -33,12 +32,19 @@ fn on_table<'p, S: ReadAt, W: Write>(
         debug_str,
     } = table;
     if command.loses(is_object) {
+        command.without_table(alloc, output);
         return Err(Stop::File {
             path,
             fault: FileFault::ObjectCopy,
         });
     }
-    let strings = StringSections::of_table(alloc, path, debug_line_str, debug_str)?;
+    let strings = match StringSections::of_table(alloc, path, debug_line_str, debug_str) {
+        Ok(strings) => strings,
+        Err(stop) => {
+            command.without_table(alloc, output);
+            return Err(stop);
+        }
+    };
     let stream = line.stream_name();
     match command.run(alloc, &mut line, output, &strings.options(order)) {
         Ok(summary) => Ok(summary),
@@ -46,31 +52,26 @@ fn on_table<'p, S: ReadAt, W: Write>(
     }
 }
 
-/// Does what is asked of the line table of the file at this path.
-pub fn on_file<'p, F: FileSource, W: Write>(
+/// Does what is asked of the line table of the file at this path, which is open. Where the table can't be had, `addr`
+/// says of each address that it has no answer.
+pub fn on_file<'p, S: ReadAt, W: Write>(
     alloc: Global,
-    files: &F,
     path: &'p str,
+    file: &S,
     command: Command<'_>,
     output: &mut W,
 ) -> Result<Summary, Stop<'p>>
-    ensures { ForBytes (F.held files.now path.entry.now) (λ f. OnFile (F.fails_with files.now path.entry.now)
-        path.entry.now command.entry f (W.contents output.old) (W.contents output.new) result) }
+    ensures { ForBytes (S.all_bytes file.now) (λ f. OnFile (S.fails_with file.now) path.entry.now command.entry f
+        (W.contents output.old) (W.contents output.new) result) }
 {
-    let file = match files.open(path) {
-        Ok(file) => file,
-        Err(error) => {
-            return Err(Stop::File {
-                path,
-                fault: FileFault::Open(error),
-            });
-        }
-    };
-    match open_line_file(alloc, &file, command.wanted()) {
+    match open_line_file(alloc, file, command.wanted()) {
         Ok(table) => on_table(alloc, path, command, table, output),
-        Err(fault) => Err(Stop::File {
-            path,
-            fault: FileFault::Elf(fault),
-        }),
+        Err(fault) => {
+            command.without_table(alloc, output);
+            Err(Stop::File {
+                path,
+                fault: FileFault::Elf(fault),
+            })
+        }
     }
 }

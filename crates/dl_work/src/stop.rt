@@ -15,6 +15,8 @@ use std::{fmt, io};
 pub enum Stop<'a> {
     /// The words name no work, or what they name isn't an address.
     NotUnderstood,
+    /// This word of `addr` is no address. Only `locate` answers it.
+    NotAddress { word: &'a str },
     /// A string section couldn't be read, or the command stopped.
     Run(RunFault),
     /// The ELF file at this path stops it.
@@ -106,7 +108,7 @@ impl<'a> Stop<'a> {
         ensures { result ≡ stop_status self.now }
     {
         match self {
-            Stop::NotUnderstood => 2,
+            Stop::NotUnderstood | Stop::NotAddress { .. } => 2,
             Stop::Run(fault) => fault.status(),
             Stop::File { fault, .. } => fault.status(),
             Stop::NoAddress { .. } => 1,
@@ -128,6 +130,7 @@ impl fmt::Display for Stop<'_> {
     fn fmt<W: fmt::Write>(&self, f: &mut fmt::Formatter<W>) -> fmt::Result {
         match self {
             Stop::NotUnderstood => write!(f, "words not understood"),
+            Stop::NotAddress { word } => write!(f, "{word} is no address"),
             Stop::Run(fault) => write!(f, "{fault}"),
             Stop::File { path, fault } => write!(f, "{path}: {fault}"),
             Stop::NoAddress { line } => write!(f, "line {line}: words not understood"),

@@ -3,11 +3,13 @@ ghost use Rattle.std.specs.Prelude.{◌≡◌, ℕ, List, option_map};
 ghost use Rattle.std.specs.Io.KnownBytes.{Consumes};
 ghost use Rattle.dl_cmd.specs.Job.{request_made};
 ghost use Rattle.dl_work.specs.Asked.{file_of, section_of};
+ghost use Rattle.dl_elf.specs.Source.{ForBytes};
 ghost use Rattle.dl_work.specs.Held.{section_seen};
+ghost use Rattle.dl_work.specs.Tables.{OnFile};
 ghost use Rattle.dl_work.specs.Work.{Works};
 
 use crate::command::Command;
-use crate::files::FileSource;
+use crate::files::{FileSource, open_file};
 use crate::over_file::on_file;
 use crate::over_input::{Section, on_input};
 use crate::stop::Stop;
@@ -63,6 +65,26 @@ fn section<'a>(job: &Job<'a>) -> Section<'a>
     }
 }
 
+/// Does what is asked of the line table of the file at this path.
+fn on_named<'p, F: FileSource, W: Write>(
+    alloc: Global,
+    files: &F,
+    path: &'p str,
+    command: Command<'_>,
+    output: &mut W,
+) -> Result<Summary, Stop<'p>>
+    ensures { ForBytes (F.held files.now path.entry.now) (λ f. OnFile (F.fails_with files.now path.entry.now)
+        path.entry.now command.entry f (W.contents output.old) (W.contents output.new) result) }
+{
+    match open_file(files, path) {
+        Ok(file) => on_file(alloc, path, &file, command, output),
+        Err(fault) => {
+            command.without_table(alloc, output);
+            Err(Stop::File { path, fault })
+        }
+    }
+}
+
 /// Does what a job asks for, of the ELF file that it names, or where it names none of the section on
 /// the input.
 ///
@@ -92,7 +114,7 @@ pub fn work<'a, F: FileSource, R: Read, W: Write>(
         return Err(Stop::NotUnderstood);
     };
     match file(&job) {
-        Some(path) => on_file(alloc, files, path, command, output),
+        Some(path) => on_named(alloc, files, path, command, output),
         None => on_input(alloc, files, section(&job), command, input, output),
     }
 }

@@ -3,18 +3,22 @@
 
 use dl_addr::Found;
 use dl_cmd::{Job, read_job, word_status};
+use dl_elf::ReadAt;
 use dl_run::{RunFault, read_strings};
 use dl_work::{FileSource, Stop, locate, work};
 use std::alloc::{AllocError, Global};
 use std::fs::File;
-use std::io::ErrorKind;
+use std::io::{ErrorKind, Write};
+use std::os::unix::fs::PermissionsExt;
 use std::process::ExitCode;
-use std::{env, io};
+use std::{env, fs, io};
 
 /// Why the program ends before its work is done.
 enum Ending<'a> {
     /// Help or the version was asked for, or the words were refused.
     Words(clap::Error),
+    /// A word isn't UTF-8.
+    NotText,
     Stop(Stop<'a>),
 }
 
@@ -39,6 +43,27 @@ impl<'a> From<Stop<'a>> for Ending<'a> {
     }
 }
 
+/// The bits of a file's mode that say what it is (S_IFMT of sys/stat.h), and what they are of a pipe (S_IFIFO).
+const FILE_TYPE: u32 = 0o170_000;
+const PIPE: u32 = 0o010_000;
+
+/// A file of the system.
+#[derive(Drop)]
+enum SystemFile {
+    Open(File),
+    /// A pipe, in which no place can be read. It isn't opened: that would wait for whoever writes into it.
+    Pipe,
+}
+
+impl ReadAt for SystemFile {
+    fn read_at(&self, offset: u64, buffer: &mut [u8]) -> io::Result<usize> {
+        match self {
+            SystemFile::Open(file) => ReadAt::read_at(file, offset, buffer),
+            SystemFile::Pipe => Err(io::Error::from(ErrorKind::NotSeekable)),
+        }
+    }
+}
+
 /// The files of the system.
 #[derive(Drop)]
 struct System<'a> {
@@ -48,14 +73,18 @@ struct System<'a> {
 impl FileSource for System<'_> {
     ghost use Rattle.std.specs.Prelude.{None};
 
-    type File = File;
+    type File = SystemFile;
 
     ghost held = { λ system path. None };
 
     ghost fails_with = { λ system path error. Unit {0} };
 
-    fn open(&self, path: &str) -> io::Result<File> {
-        File::open(self.rt, path)
+    fn open(&self, path: &str) -> io::Result<SystemFile> {
+        let mode = fs::metadata(self.rt, path)?.permissions().mode();
+        if mode & FILE_TYPE == PIPE {
+            return Ok(SystemFile::Pipe);
+        }
+        Ok(SystemFile::Open(File::open(self.rt, path)?))
     }
 
     fn read_file(&self, alloc: Global, path: &str, limit: u64) -> Result<Vec<u8>, RunFault> {
@@ -66,12 +95,12 @@ impl FileSource for System<'_> {
     }
 }
 
-/// The program's words, its name first. One that isn't UTF-8 isn't understood.
+/// The program's words, its name first.
 fn read_words(rt: &HostRuntime) -> Result<Vec<String>, Ending<'static>> {
     match env::args(rt) {
         Ok(args) => Ok(args.collect(rt.alloc())?),
         Err(error) if error.kind() == ErrorKind::OutOfMemory => Err(Ending::from(AllocError)),
-        Err(_) => Err(Ending::Stop(Stop::NotUnderstood)),
+        Err(_) => Err(Ending::NotText),
     }
 }
 
@@ -97,6 +126,10 @@ fn report(rt: &HostRuntime, ending: Ending<'_>) -> u8 {
         Ending::Words(error) => {
             let _ = error.print(rt);
             word_status(&error)
+        }
+        Ending::NotText => {
+            let _ = writeln!(rt.stderr(), "dwline: a word isn't UTF-8");
+            2
         }
         Ending::Stop(stop) => {
             let _ = stop.write_line(&mut rt.stderr());

@@ -209,12 +209,12 @@ const NOT_UNDERSTOOD: &[Case<'_>] = &[
     ),
     (
         Asked {
-            addresses: &[FIRST, "main"],
+            addresses: &[FIRST, "main", "0y"],
             ..ELF
         },
         2,
         b"",
-        UNCLEAR,
+        "dwline: main is no address\n",
     ),
     (
         Asked {
@@ -223,7 +223,7 @@ const NOT_UNDERSTOOD: &[Case<'_>] = &[
         },
         2,
         b"",
-        UNCLEAR,
+        "dwline: 401000h is no address\n",
     ),
     (
         Asked {
@@ -237,11 +237,12 @@ const NOT_UNDERSTOOD: &[Case<'_>] = &[
     (
         Asked {
             base: Some("-1"),
-            ..ELF_FIRST
+            addresses: &["main"],
+            ..ELF
         },
         2,
         b"",
-        UNCLEAR,
+        "dwline: -1 is no address\n",
     ),
     (
         Asked {
@@ -278,20 +279,24 @@ fn words_that_are_not_understood(rt: HostRuntime) -> Result<(), Fail> {
     assert_each_located(&rt, rt.alloc(), UNREAD, 6, NOT_UNDERSTOOD)
 }
 
-const MISSING: &[Case<'_>] = &[(
-    Asked {
-        file: Some("nowhere"),
-        ..ELF
-    },
-    3,
-    b"",
-    "dwline: nowhere: cannot open: entity not found\n",
-)];
+const NOWHERE: &str = "dwline: nowhere: cannot open: entity not found\n";
 
-/// A file that isn't there, and one without a line table: nothing of the input is read.
+const MISSING: Asked<'_> = Asked {
+    file: Some("nowhere"),
+    ..ELF
+};
+
+/// A file that isn't there: no address has an answer, whether it is among the words or on the input.
 #[test]
 fn stops_at_the_file(rt: HostRuntime) -> Result<(), Fail> {
-    assert_each_located(&rt, rt.alloc(), UNREAD, 6, MISSING)
+    let with_word = Asked {
+        addresses: &[FIRST, "1"],
+        ..MISSING
+    };
+    let cases: [Case<'_>; 1] = [(with_word, 3, b"??:0\n??:0\n", NOWHERE)];
+    assert_each_located(&rt, rt.alloc(), UNREAD, 6, &cases)?;
+    let want = all_read(3, b"??:0\n??:0\n", NOWHERE);
+    assert_located(&rt, rt.alloc(), &MISSING, b"0x401000\n\nmain\n", want)
 }
 
 /// What lookups come to in the file with both string sections, for which there is no memory.

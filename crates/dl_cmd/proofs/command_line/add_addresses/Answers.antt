@@ -10,5 +10,6 @@ returns c = λ a none.
     let four = IsApp-arg _ _ _ _ _ c.in_ok-arg-4.ensures three c.big.ensures in
     let five = IsApp-arg _ _ _ _ _ c.in_ok-arg-5.ensures four c.line_str.ensures in
     let six = IsApp-arg _ _ _ _ _ c.in_ok-arg-6.ensures five c.strings.ensures in
-    let seven = IsApp-arg _ _ _ _ _ c.in_ok-arg-7.ensures six c.addr_file.ensures in
-    IfOk-weaker _ _ _ (λ r added. IsApp-arg _ _ r _ _ added seven c.addresses.ensures) c.arg-8.ensures
+    let seven = IsApp-arg _ _ _ _ _ c.in_ok-arg-7.ensures six c.exe.ensures in
+    let eight = IsApp-arg _ _ _ _ _ c.in_ok-arg-8.ensures seven c.in_ok-addr_file.ensures.rule in
+    IfOk-weaker _ _ _ (λ r added. IsApp-arg _ _ r _ _ added eight c.addresses.ensures) c.arg-9.ensures

@@ -1,13 +1,14 @@
 use Rattle.std.proofs.Common.{codes, ◌∷◌, []}
 use Rattle.std.proofs.lemmas.Result.{IfOk-weaker}
+use Rattle.dl_cmd.specs.CommandLine.{file_rule}
 use Rattle.dl_cmd.proofs.CommandLineLemmas.{Excludes-one, excludes_more, IsRule-excluding}
 use Rattle.dl_cmd.proofs.command_line.file_with_strings.Goals as goal
 
 pub returns-clause-rule : goal.returns-clause-rule
 returns-clause-rule c =
-    let one = IsRule-excluding c.in_ok-file.field-0 c.in_ok-conflicts_with.field-0 _ c.in_ok-conflicts_with.ensures
+    let one = IsRule-excluding file_rule c.in_ok-file.field-0 c.in_ok-conflicts_with.field-0 _ c.in_ok-conflicts_with.ensures
     c.in_ok-file.ensures.rule in
-    IfOk-weaker _ _ _ (λ r added. IsRule-excluding c.in_ok-conflicts_with.field-0 r _ added one)
+    IfOk-weaker _ _ _ (λ r added. IsRule-excluding file_rule c.in_ok-conflicts_with.field-0 r _ added one)
     c.conflicts_with-2.ensures
 
 pub returns-clause-excludes : goal.returns-clause-excludes

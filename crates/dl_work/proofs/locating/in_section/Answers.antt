@@ -16,18 +16,9 @@ returns-in_err-base g c =
           ∙ ap Err p.2) (inl c.in_err-base.ensures.stops),
     )
 
-pub returns-in_err-lines : goal.returns-in_err-lines
-returns-in_err-lines g c =
-    let p = err_from_is_err_and c.from_residual-in_err-lines.result c.from_residual-in_err-lines.ensures.1 in (
-      [],
-      Consumes-nil _,
-      section_stops _ _ _ _ _ c.in_err-lines.field-0.0 (p.1
-          ∙ ap Err p.2) (inl c.in_err-lines.ensures.stops),
-    )
-
 pub returns-then-is_empty : goal.returns-then-is_empty
 returns-then-is_empty g c =
-    let asked = c.in_ok-lines.lines.asked in
+    let asked = c.in_ok-base.field-0.lines.asked in
     let none : vec_len asked ≡ 0 = eqb-true (vec_len asked) 0 (sym c.is_empty.ensures ∙ c.if-is_empty.true) in
     let empty : length asked.items ≡ 0 = first_of (omega arith, search rules, grind (arith, common_steps)) in
-    ([], Consumes-nil _, section_stops _ _ _ _ _ _ refl (inr (map_none _ _ _ c.in_ok-lines.ensures.asked empty, refl)))
+    ([], Consumes-nil _, section_stops _ _ _ _ _ _ refl (inr (map_none _ _ _ c.in_ok-base.ensures.asked empty, refl)))
