@@ -143,8 +143,9 @@ fn unanswered<'a, R: Read, W: Write>(
 {
     let AskedWords { base, lines } = understood;
     if let Ok(lines) = given_or_read(alloc, words, lines, input) {
-        Command::Addr(question(words, base, lines.asked.as_slice(), None))
-            .without_table(alloc, output);
+        Command::Addr(question(words, base, lines.asked.as_slice(), None)).without_table(
+            alloc, output,
+        );
     }
 }
 

@@ -45,6 +45,7 @@ impl<'a> From<Stop<'a>> for Ending<'a> {
 
 /// The bits of a file's mode that say what it is (S_IFMT of sys/stat.h), and what they are of a pipe (S_IFIFO).
 const FILE_TYPE: u32 = 0o170_000;
+
 const PIPE: u32 = 0o010_000;
 
 /// A file of the system.
