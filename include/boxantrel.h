@@ -139,8 +139,8 @@ uint32_t dl_rows_at(const uint8_t *section, size_t len, bool big, uint64_t offse
  * is room. It is joined as `dwline addr` does (section 6.2.4.1): a path that begins with a slash, or with a letter, a
  * colon and a slash or a backslash, stands for itself; any other one is under its directory, and a directory other than
  * 0 under directory 0, with a slash between, but no second one; an empty directory, and one that isn't there, puts
- * nothing before it. No byte is escaped, and no zero byte comes after it. `line_str` and `str`
- * are the bytes of .debug_line_str and .debug_str; where there is no such section its length is 0.
+ * nothing before it. No byte is escaped, and no zero byte comes after it. `line_str` and `str` are the bytes of
+ * .debug_line_str and .debug_str; where there is no such section its length is 0.
  * DL_DONE: *length is how many bytes the path has, be there room for them or not (2^64 - 1 where there are more), and
  * the first of them are written; the path is `??` where the unit has no file of this number, or the file's own name
  * isn't there. DL_NO_ANSWER: as of dl_unit_at. DL_OTHER_VERSION: the unit isn't of version 5. DL_FAULT: *fault is the

@@ -3,8 +3,8 @@ use crate::sections::{ALL, NODIR, PATHS, PLAIN, assert_addr, at, plain};
 use dl_addr::{Form, Question, Style};
 use std::test::Fail;
 
-/// An empty directory 0, as `-ffile-prefix-map` leaves it, and `lib`; files `a.c` in directory 0, `b.c` in 1, `??` in 0,
-/// and `c.c` in one that isn't there.
+/// An empty directory 0, as `-ffile-prefix-map` leaves it, and `lib`; files `a.c` in directory 0, `b.c` in 1, `??` in
+/// 0, and `c.c` in one that isn't there.
 const NOWHERE: &str =
     "6c 00 00 00 05 00 08 00 34 00 00 00 01 01 01 fb 0e 0d 00 01 01 01 01 00 00 00 \
         01 00 00 01 01 01 08 02 00 6c 69 62 00 02 01 08 02 0f 04 61 2e 63 00 00 62 2e \

@@ -4,8 +4,8 @@ use dl_addr::{Question, Style};
 use std::test::Fail;
 
 /// Files in the directory `/d`, by names with a backslash, with bytes below 0x20 and 0x7f, and with bytes that are no
-/// UTF-8: 0xff, a byte that continues nothing, a character in too many bytes, a surrogate, characters that break off, one
-/// above U+10FFFF; and with characters of two and four bytes, one of which is the control character U+0085.
+/// UTF-8: 0xff, a byte that continues nothing, a character in too many bytes, a surrogate, characters that break off,
+/// one above U+10FFFF; and with characters of two and four bytes, one of which is the control character U+0085.
 const NAMES: &str = "c1 00 00 00 05 00 08 00 5c 00 00 00 01 01 01 fb 0e 0d 00 01 01 01 01 00 00 00 \
         01 00 00 01 01 01 08 01 2f 64 00 02 01 08 02 0f 09 71 5c 78 30 61 2e 63 00 00 \
         71 0a 2e 63 00 00 c3 a9 2e 63 00 00 ff 80 2e 63 00 00 c0 80 ed a0 80 00 00 e2 \

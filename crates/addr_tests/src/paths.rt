@@ -96,8 +96,8 @@ fn assert_strings(
     Ok(())
 }
 
-/// Where a string section isn't handed in, and where an offset is outside it, the directory puts nothing before the path,
-/// and without its own text the path is `??`.
+/// Where a string section isn't handed in, and where an offset is outside it, the directory puts nothing before the
+/// path, and without its own text the path is `??`.
 #[test]
 fn string_sections(rt: HostRuntime) -> Result<(), Fail> {
     let directory: Option<&[u8]> = Some(b"./d\0");

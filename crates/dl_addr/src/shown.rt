@@ -1,9 +1,11 @@
 //! The texts of paths, as they are printed.
 
-ghost use Rattle.std.specs.Prelude.{◌≡◌, ◌<◌, ◌≤◌, ◌++◌, if◌then◌else◌, drop, length, take, IfOk, OnOk, Some, option_map};
+ghost use Rattle.std.specs.Prelude.{◌≡◌, ◌<◌, ◌≤◌, ◌++◌, if◌then◌else◌, drop, length, take};
+ghost use Rattle.std.specs.Prelude.{IfOk, OnOk, Some, option_map};
 ghost use Rattle.std.specs.Str.{is_utf8};
 ghost use Rattle.dl_print.specs.Digits.{last_digit};
-ghost use Rattle.dl_addr.specs.Shown.{character_len, is_control, numbered, shown, shown_first, text_in, no_path_text, path_text};
+ghost use Rattle.dl_addr.specs.Shown.{character_len, is_control, numbered, shown, shown_first};
+ghost use Rattle.dl_addr.specs.Shown.{text_in, no_path_text, path_text};
 ghost use Rattle.dl_addr.specs.Parts.{path_seen};
 ghost use Rattle.dl_addr.specs.Paths.{slash_after};
 

@@ -14,7 +14,8 @@ use Rattle.dl_calls.specs.UnitCalls.{BeginsWith}
 module _ (order : Order) (t : List ℕ) (offset : ℕ) (s : Strings) (file : ℕ) (p q : List ℕ) (m n : ℕ) (f : FaultRecord)
     (u : List ℕ) (begins : BeginsWith order t u) where
   -- the unit is whole
-  pub named : (end : Status) → Names (foreign_in order u) (path_or_missing (path_of s (header_of order u) file)) p q m n end
+  pub named : (end : Status)
+      → Names (foreign_in order u) (path_or_missing (path_of s (header_of order u) file)) p q m n end
       → TellsPath order t offset s file p q m n f f end
   named status.Done names = (u, begins, names, refl)
   named status.OtherVersion names = (u, begins, names, refl)

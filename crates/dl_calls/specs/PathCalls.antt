@@ -38,7 +38,8 @@ TellsPath order t offset s file p q m n f g status.Done =
     × Names (foreign_in order u) (path_or_missing (path_of s (header_of order u) file)) p q m n status.Done × (g ≡ f)
 TellsPath order t offset s file p q m n f g status.OtherVersion =
     (u : List ℕ) × BeginsWith order t u
-    × Names (foreign_in order u) (path_or_missing (path_of s (header_of order u) file)) p q m n status.OtherVersion × (g ≡ f)
+    × Names (foreign_in order u) (path_or_missing (path_of s (header_of order u) file)) p q m n status.OtherVersion
+    × (g ≡ f)
 TellsPath order t offset s file p q m n f g status.NoAnswer = (t ≡ []) × (q ≡ p) × (n ≡ m) × (g ≡ f)
 TellsPath order t offset s file p q m n f g status.Fault =
     (b : List ℕ) × (at : ℕ) × (kind : FaultKind) × StopsIn order t b (run.Damage at kind)

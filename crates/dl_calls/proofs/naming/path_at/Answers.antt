@@ -25,8 +25,8 @@ returns-in-Whole c =
     c.name.new.len c.args.fault.now c.args.fault.now c.name.result) c.rest_from.ensures.bytes
     (named o t c.args.offset s c.args.file c.args.path.now c.name.new.path c.args.len.now c.name.new.len
     c.args.fault.now r.0 (begins o t c.in-Whole.whole r.0 r.1) c.name.result
-    (subst (λ (x : Strings). Names (foreign_in o r.0) (path_or_missing (path_of x (header_of o r.0) c.args.file)) c.args.path.now
-    c.name.new.path c.args.len.now c.name.new.len c.name.result) c.new-strings.ensures
+    (subst (λ (x : Strings). Names (foreign_in o r.0) (path_or_missing (path_of x (header_of o r.0) c.args.file))
+    c.args.path.now c.name.new.path c.args.len.now c.name.new.len c.name.result) c.new-strings.ensures
     (c.name.ensures o t r.0 r.1))))
 
 pub returns-in-Empty : goal.returns-in-Empty
