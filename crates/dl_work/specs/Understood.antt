@@ -1,4 +1,4 @@
--- What the words of `addr` say, as it is handed on. No promise rests on how this is said.
+-- What the words of `addr` say, as it is handed on. No promise rests on this file.
 use Rattle.std.specs.Prelude.{◌≡◌, true, Some, None}
 use Rattle.dl_cmd.specs.Job.{AddrTexts}
 use Rattle.dl_work.specs.declared.addr_words.AskedWords.{AskedWords}

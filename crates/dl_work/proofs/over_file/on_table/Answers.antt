@@ -1,6 +1,4 @@
-use Rattle.std.proofs.Common.{◌∙◌, ap, sym, Err, inl, inr, refl, subst}
-use Rattle.std.proofs.KnownBytes.{Keeps-refl}
-use Rattle.std.proofs.lemmas.Result.{err_from_is_err_and}
+use Rattle.std.proofs.Common.{◌∙◌, sym, inr, refl, subst}
 use Rattle.dl_work.specs.Stops.{StopsAt}
 use Rattle.dl_work.proofs.TableLemmas.{not_refused, ran, reader_known, reader_stream}
 use Rattle.dl_work.proofs.over_file.on_table.Goals as goal
