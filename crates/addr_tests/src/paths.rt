@@ -114,3 +114,20 @@ fn string_sections(rt: HostRuntime) -> Result<(), Fail> {
     }
     Ok(())
 }
+
+/// Two backslashes before the name of a machine begin a whole path, of a file and of a directory; one does not.
+#[test]
+fn machines(rt: HostRuntime) -> Result<(), Fail> {
+    let directory: Option<&[u8]> = Some(b"?\\\\pc\\d\0");
+    let file: Option<&[u8]> = Some(b"??\\\\pc\\f.c\0");
+    let plain_file: Option<&[u8]> = Some(b"??f.c\0");
+    let one: Option<&[u8]> = Some(b"??\\f.c\0");
+    for (debug_line_str, debug_str, text) in [
+        (directory, file, "\\\\\\\\pc\\\\f.c:1:1\n"),
+        (directory, plain_file, "\\\\\\\\pc\\\\d/f.c:1:1\n"),
+        (Some(b"?/d\0".as_slice()), one, "/d/\\\\f.c:1:1\n"),
+    ] {
+        assert_strings(&rt, rt.alloc(), (debug_line_str, debug_str), text)?;
+    }
+    Ok(())
+}

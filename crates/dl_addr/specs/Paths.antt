@@ -38,10 +38,19 @@ is_letter b = (nat_le 0x41 b && nat_le b 0x5a) || (nat_le 0x61 b && nat_le b 0x7
 abbrev pub is_slash : ℕ → Bool
 is_slash b = (b == 0x2f) || (b == 0x5c)
 
--- a letter, a colon, and a slash or a backslash, as Windows paths begin
+-- a letter, a colon, and a slash or a backslash
 abbrev pub has_drive : List ℕ → Bool
 has_drive (letter ∷ colon ∷ slash ∷ path) = is_letter letter && ((colon == 0x3a) && is_slash slash)
 has_drive path = false
+
+-- two backslashes, before the name of a machine
+abbrev pub has_machine : List ℕ → Bool
+has_machine (first ∷ second ∷ path) = (first == 0x5c) && (second == 0x5c)
+has_machine path = false
+
+-- as whole paths of Windows begin
+abbrev pub is_of_windows : List ℕ → Bool
+is_of_windows path = has_drive path || has_machine path
 
 abbrev pub begins_with : ℕ → List ℕ → Bool
 begins_with b [] = false
@@ -49,7 +58,7 @@ begins_with b (c ∷ path) = c == b
 
 -- it stands for itself, under no directory
 abbrev pub is_whole : List ℕ → Bool
-is_whole path = begins_with 0x2f path || has_drive path
+is_whole path = begins_with 0x2f path || is_of_windows path
 
 -- what stands between a directory and a path in it: nothing where the directory is empty, or ends with a slash
 abbrev pub slash_after : (directory : List ℕ) → List ℕ

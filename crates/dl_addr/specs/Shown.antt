@@ -8,7 +8,7 @@ use Rattle.dl_addr.specs.declared.style.Form.{Form}
 use Rattle.dl_addr.specs.declared.style.Form.TheVariants.{Location, AddressAndLocation, Json}
 use Rattle.dl_addr.specs.declared.style.Style.{Style}
 use Rattle.dl_addr.specs.Json.{json_string}
-use Rattle.dl_addr.specs.Paths.{has_drive, is_slash}
+use Rattle.dl_addr.specs.Paths.{is_of_windows, is_slash}
 
 -- the bytes that print nothing: those below 0x20, and 0x7f
 abbrev pub is_control : ℕ → Bool
@@ -47,13 +47,13 @@ after_the_last is_separator [] = []
 after_the_last is_separator (b ∷ path) =
     if list_any is_separator (b ∷ path) then after_the_last is_separator path else b ∷ path
 
--- a slash; in a path that begins with a drive a backslash too
-abbrev pub separates : (with_drive : Bool) → ℕ → Bool
-separates with_drive b = (b == 0x2f) || (with_drive && is_slash b)
+-- a slash; in a whole path of Windows a backslash too
+abbrev pub separates : (of_windows : Bool) → ℕ → Bool
+separates of_windows b = (b == 0x2f) || (of_windows && is_slash b)
 
 -- the last component
 abbrev pub basename : List ℕ → List ℕ
-basename path = after_the_last (separates (has_drive path)) path
+basename path = after_the_last (separates (is_of_windows path)) path
 
 -- as the form of the line has it
 abbrev pub text_in : Form → List ℕ → List ℕ

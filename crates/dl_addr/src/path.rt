@@ -7,7 +7,8 @@ ghost use Rattle.dl_table.specs.Held.{value_lent};
 ghost use Rattle.dl_print.specs.ValueText.{strings_of};
 ghost use Rattle.dl_addr.specs.Parts.{path_seen};
 ghost use Rattle.dl_addr.specs.Paths.{text_of, own_path, directory_of, directory_path, number_or_zero, is_letter};
-ghost use Rattle.dl_addr.specs.Paths.{has_drive, is_slash, is_whole, path_in, path_of, slash_after, under};
+ghost use Rattle.dl_addr.specs.Paths.{has_drive, has_machine, is_of_windows, is_slash, is_whole, path_in, path_of};
+ghost use Rattle.dl_addr.specs.Paths.{slash_after, under};
 
 use dl_head::{Entry, Header, Table, ValueRef};
 use dl_print::{StringSections, text_in_section};
@@ -165,17 +166,34 @@ fn number_or_zero(value: Option<ValueRef<'_>>) -> u64
 fn is_whole(path: &[u8]) -> bool
     ensures { result ≡ is_whole path.now }
 {
-    path.first() == Some(&b'/') || has_drive(path)
+    path.first() == Some(&b'/') || is_of_windows(path)
 }
 
-/// Whether a path begins as those of Windows do: with a letter, a colon, and a slash or a backslash.
-pub fn has_drive(path: &[u8]) -> bool
+/// Whether a path begins as whole ones of Windows do: with a drive, or with a machine.
+pub fn is_of_windows(path: &[u8]) -> bool
+    ensures { result ≡ is_of_windows path.now }
+{
+    has_drive(path) || has_machine(path)
+}
+
+/// Whether a path begins with a letter, a colon, and a slash or a backslash.
+fn has_drive(path: &[u8]) -> bool
     ensures { result ≡ has_drive path.now }
 {
     if path.len() < 3 {
         return false;
     }
     is_letter(path[0]) && path[1] == b':' && is_slash(path[2])
+}
+
+/// Whether a path begins with two backslashes.
+fn has_machine(path: &[u8]) -> bool
+    ensures { result ≡ has_machine path.now }
+{
+    if path.len() < 2 {
+        return false;
+    }
+    path[0] == b'\\' && path[1] == b'\\'
 }
 
 fn is_letter(byte: u8) -> bool

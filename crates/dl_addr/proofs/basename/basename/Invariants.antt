@@ -7,7 +7,7 @@ use Rattle.dl_addr.proofs.basename.basename.Given as goal
 abbrev pub invariant-loop-start : goal.invariant-loop-start
 invariant-loop-start l = record {
   within : l.start ≤ length l.path;
-  none : list_any (separates l.with_drive) (drop l.start l.path) ≡ false;
+  none : list_any (separates l.of_windows) (drop l.start l.path) ≡ false;
 }
 
 abbrev pub decreases-loop-start : goal.decreases-loop-start
