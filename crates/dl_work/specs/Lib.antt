@@ -1,4 +1,5 @@
 -- What the public contracts say rests on these, in reading order.
+pub mod Shown
 pub mod Stops
 pub mod Asked
 pub mod Files

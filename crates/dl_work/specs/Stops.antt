@@ -11,6 +11,7 @@ use Rattle.dl_run.specs.declared.fault.RunFault.TheVariants as fault
 use Rattle.dl_work.specs.declared.stop.FileFault.{FileFault}
 use Rattle.dl_work.specs.declared.stop.FileFault.TheVariants.{Open, Elf, ObjectCopy, NoMemory}
 use Rattle.dl_work.specs.declared.stop.Stop.{Stop}
+use Rattle.dl_work.specs.Shown.{shown_word}
 use Rattle.dl_work.specs.declared.stop.Stop.TheVariants.{NoAddress, NotAddress, NotUnderstood, Run, File}
 
 -- the text of a fault; None where the system words it
@@ -22,9 +23,9 @@ file_fault_text NoMemory = Some (codes "out of memory")
 
 abbrev pub stop_text : Stop → Option (List ℕ)
 stop_text NotUnderstood = Some (codes "words not understood")
-stop_text (NotAddress word) = Some (word.now ++ codes " is no address")
+stop_text (NotAddress word) = Some (shown_word word.now ++ codes " is no address")
 stop_text (Run f) = Some (run_fault_text f)
-stop_text (File path f) = option_map (λ text. path.now ++ codes ": " ++ text) (file_fault_text f)
+stop_text (File path f) = option_map (λ text. shown_word path.now ++ codes ": " ++ text) (file_fault_text f)
 stop_text (NoAddress line) = Some (codes "line " ++ decimal line ++ codes ": words not understood")
 
 -- the line on standard error, of this text

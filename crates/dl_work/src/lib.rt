@@ -8,6 +8,7 @@ mod files;
 mod locating;
 mod over_file;
 mod over_input;
+mod shown;
 mod stop;
 mod strings;
 mod working;

@@ -4,6 +4,7 @@ ghost use Rattle.std.specs.Io.KnownBytes.{Appends};
 ghost use Rattle.dl_work.specs.Stops.{IsReadFault, StopsAt, file_fault_status, file_fault_text};
 ghost use Rattle.dl_work.specs.Stops.{stop_line, stop_status, stop_text};
 
+use crate::shown::Shown;
 use dl_elf::{ElfFault, SectionName};
 use dl_file::ReadFault;
 use dl_run::RunFault;
@@ -130,9 +131,9 @@ impl fmt::Display for Stop<'_> {
     fn fmt<W: fmt::Write>(&self, f: &mut fmt::Formatter<W>) -> fmt::Result {
         match self {
             Stop::NotUnderstood => write!(f, "words not understood"),
-            Stop::NotAddress { word } => write!(f, "{word} is no address"),
+            Stop::NotAddress { word } => write!(f, "{} is no address", Shown(word)),
             Stop::Run(fault) => write!(f, "{fault}"),
-            Stop::File { path, fault } => write!(f, "{path}: {fault}"),
+            Stop::File { path, fault } => write!(f, "{}: {fault}", Shown(path)),
             Stop::NoAddress { line } => write!(f, "line {line}: words not understood"),
         }
     }
