@@ -84,11 +84,13 @@ fn files(rt: HostRuntime) -> Result<(), Fail> {
     Ok(())
 }
 
-/// The file and the addresses that the words of `addr` name.
-fn named<'a>(job: Option<&'a Job<'_>>) -> (Option<&'a str>, &'a [&'a str]) {
+/// Whether these are the file and the addresses that the words of `addr` name.
+fn names(job: Option<&Job<'_>>, file: &str, addresses: &[&str]) -> bool {
     match job {
-        Some(Job::Addr(words)) => (words.file, words.addresses.as_slice()),
-        _ => (None, &[]),
+        Some(Job::Addr(words)) => {
+            words.file == Some(file) && words.addresses.as_slice() == addresses
+        }
+        _ => false,
     }
 }
 
@@ -113,10 +115,7 @@ fn file_of_addr(rt: HostRuntime) -> Result<(), Fail> {
         ),
     ] {
         let job = read_job(rt.alloc(), words)?;
-        assert!(rt;
-            named(job.as_ref()) == (Some("a.out"), addresses),
-            "{words:?}"
-        );
+        assert!(rt; names(job.as_ref(), "a.out", addresses), "{words:?}");
     }
     Ok(())
 }
