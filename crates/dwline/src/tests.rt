@@ -47,7 +47,7 @@ fn memory_for_the_words(rt: HostRuntime) -> Result<(), Fail> {
             Stop::Run(fault) => assert!(rt; fault == RunFault::NoMemory),
             _ => assert!(rt; false),
         },
-        Ending::Words(_) => assert!(rt; false),
+        Ending::Words(_) | Ending::NotText => assert!(rt; false),
     }
     Ok(())
 }
