@@ -76,15 +76,22 @@ dist-built:
 uninstall:
 	rm -f $(bin) $(man) $(bash) $(zsh) $(fish) $(archive) $(shared) $(header) $(package)
 
-# Every proof from nothing, every edit that must be refused, every test; then the sections of examples/. `rt ci` proves
+# Every proof from nothing, edits that must be refused, every test; then the sections of examples/. `rt ci` proves
 # the library for C and leaves it to be compiled.
 test:
 	rm -f crates/dwline/out/dwline crates/dl_c/out/libdl_c.a out/libboxantrel.a
 	rt ci
+	tools/wrong-bodies --of HEAD
 	test -x crates/dwline/out/dwline || $(MAKE) dwline
 	bindings/c/archive
 	$(MAKE) library
 	$(MAKE) compare-built
+
+# Every wrong body that stands in the repository, and those that `rt plant` makes of each crate's functions, which takes
+# hours: it lists those that the contracts let through.
+wrong-bodies: dwline lib
+	tools/wrong-bodies
+	for crate in crates/dl_*; do (cd $$crate && rt plant) || exit 1; done
 
 # Every section of examples/, printed and compared with its expected dump; every option of every command; the
 # man page, the completions and what `make install` puts where; the library, from C, Rust and Python.
@@ -97,4 +104,5 @@ compare-built:
 $(tries):
 	examples/$@
 
-.PHONY: dwline example lib library try install install-lib dist dist-built uninstall test compare compare-built $(tries)
+.PHONY: dwline example lib library try install install-lib dist dist-built uninstall test wrong-bodies compare compare-built \
+	$(tries)

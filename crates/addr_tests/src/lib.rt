@@ -4,6 +4,8 @@
 #[cfg(test)]
 mod answers;
 #[cfg(test)]
+mod borders;
+#[cfg(test)]
 mod directories;
 #[cfg(test)]
 mod each_call;

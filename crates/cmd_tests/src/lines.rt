@@ -16,7 +16,8 @@ fn assert_asked(
     alloc: Global,
     hex: bool,
     addresses: &[Option<u64>],
-    no_address: Option<u64>,
+    number: u64,
+    word: &[u8],
 ) {
     for most in [1, 5, 4096] {
         let mut input = Source::new(LINES, most);
@@ -26,7 +27,13 @@ fn assert_asked(
                 for (asked, address) in lines.asked.iter().zip(addresses) {
                     assert_eq!(rt; *asked, Asked { address: *address });
                 }
-                assert_eq!(rt; lines.no_address, no_address);
+                match &lines.no_address {
+                    Some(line) => {
+                        assert_eq!(rt; line.number, number);
+                        assert!(rt; line.word.as_bytes() == word);
+                    }
+                    None => assert!(rt; false),
+                }
             }
             Err(_) => assert!(rt; false),
         }
@@ -37,9 +44,9 @@ fn assert_asked(
 fn lines(rt: HostRuntime) -> Result<(), Fail> {
     let alloc = rt.alloc();
     let decimal = [Some(0x10), Some(17), Some(18), None, None, None];
-    assert_asked(&rt, alloc, false, &decimal, Some(5));
+    assert_asked(&rt, alloc, false, &decimal, 5, b"main");
     let hexadecimal = [Some(0x10), Some(0x17), Some(0x18), None, None, Some(0x1f)];
-    assert_asked(&rt, alloc, true, &hexadecimal, Some(5));
+    assert_asked(&rt, alloc, true, &hexadecimal, 5, b"main");
     Ok(())
 }
 

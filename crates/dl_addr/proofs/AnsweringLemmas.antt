@@ -33,8 +33,9 @@ use Rattle.dl_addr.specs.Knowing.{Knows}
 use Rattle.dl_addr.specs.Locating.{IsMadeFor, Locating, StopsAt, code_of, locate_story, located_by}
 use Rattle.dl_addr.specs.Locations.{Located, answer_text, asked_text, located, row_text}
 use Rattle.dl_addr.specs.Paths.{path_of}
-use Rattle.dl_addr.specs.Printing.{PrintsAll, answer_for, found_by, seen_lines, seen_text, told}
+use Rattle.dl_addr.specs.Printing.{PrintsAll, answer_for, found_by, named_text, seen_lines, seen_text, told}
 use Rattle.dl_addr.specs.Shown.{path_text}
+use Rattle.dl_addr.specs.Texts.{named}
 use Rattle.dl_addr.proofs.EndLemmas.{splits_section}
 use Rattle.dl_addr.proofs.LocatedLemmas.{located_of_section}
 
@@ -67,12 +68,19 @@ module _ (order : Order) (q : Question) (s : Strings) (first : Locator) (knows :
   live_is x visits units is =
       is (code_of first) ∙ ap (λ code. located order (is_code (option_copied code)) units x) knows.code
 
+  text_named : (path : Option (List ℕ)) → named_text q.style.form (named q.style path) ≡ path_text q.style path
+  text_named None = refl
+  text_named (Some path) = refl
+
   text_seen : (o : Option Located)
       → seen_text q.style.form (option_map (located_seen first) o) ≡ answer_text q.style s o
   text_seen None = refl
   text_seen (Some l) =
-      ap (λ (st : Style). row_text q.style.form (path_text st (path_of (strings_of first.strings) l.header l.row.file))
-      l.row l.unit) knows.style
+      ap (λ (st : Style). row_text q.style.form
+      (named_text q.style.form (named st (path_of (strings_of first.strings.now) l.header l.row.file))) l.row l.unit)
+      knows.style
+      ∙ ap (λ (w : List ℕ). row_text q.style.form w l.row l.unit)
+      (text_named (path_of (strings_of first.strings.now) l.header l.row.file))
       ∙ ap (λ (ss : Strings). row_text q.style.form (path_text q.style (path_of ss l.header l.row.file)) l.row l.unit)
       knows.strings
 

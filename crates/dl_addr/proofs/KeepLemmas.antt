@@ -1,5 +1,5 @@
 -- What a locator keeps at the end of a unit.
-use Rattle.std.proofs.Common.{◌≡◌, ◌<◌, ℕ, List, length, slice_index_or, Result, Ok, Err, arith, subst}
+use Rattle.std.proofs.Common.{◌≡◌, ◌<◌, ℕ, List, length, slice_index_or, Option, Result, Ok, Err, arith, subst}
 use Rattle.std.specs.Prelude.{⊤, OnOk, OnErr}
 use Rattle.std.proofs.lemmas.Option.{slice_get_within}
 use Rattle.dl_rows.specs.declared.row.Row.{Row}
@@ -8,7 +8,7 @@ use Rattle.dl_look.specs.declared.ledger.Answered.{Answered}
 use Rattle.dl_look.specs.declared.place.Place.{Place}
 use Rattle.dl_look.specs.Ledgers.{no_answer}
 use Rattle.dl_look.specs.Units.{AreFirstAnswers, FirstAnswer}
-use Rattle.dl_addr.specs.declared.texts.FileText.{FileText}
+use Rattle.dl_addr.specs.declared.texts.Paths.{Paths}
 use Rattle.dl_addr.specs.Texts.{AreNumbers, IsKept, IsOther}
 
 pub on_ok : {A B : Type 0} (r : Result ⊤ NoMemory) → OnOk r A → (A → B) → OnOk r B
@@ -37,13 +37,13 @@ module _ (places : List Place) (units : List (List Row)) (rows : List Row) (answ
   }
 
   -- each that has one is kept
-  pub is_kept : (texts : List FileText) (kept : List ℕ) (text : Row → List ℕ × ℕ)
+  pub is_kept : (paths : Paths) (kept : List ℕ) (path : Row → Option (List ℕ) × ℕ)
       → ((j : ℕ) → j < length answered
-      → IsKept texts kept (slice_index_or answered j no_answer).number (text (slice_index_or answered j no_answer).row))
-      → (i : ℕ) (r : Row) → FirstAnswer places units rows i r → IsKept texts kept i (text r)
-  is_kept texts kept text each i r f =
+      → IsKept paths kept (slice_index_or answered j no_answer).number (path (slice_index_or answered j no_answer).row))
+      → (i : ℕ) (r : Row) → FirstAnswer places units rows i r → IsKept paths kept i (path r)
+  is_kept paths kept path each i r f =
       let k = are.all i r f in
-      subst (λ (a : Answered). IsKept texts kept a.number (text a.row)) (k.2 no_answer) (each k.0 k.1)
+      subst (λ (a : Answered). IsKept paths kept a.number (path a.row)) (k.2 no_answer) (each k.0 k.1)
 
   pub none_kept : length answered ≡ 0 → (i : ℕ) (r : Row) → FirstAnswer places units rows i r → ⊥
   none_kept empty i r f = let k = are.all i r f in let lt = k.1 in omega (arith, empty)

@@ -1,6 +1,9 @@
 pub mod PathLemmas
 pub mod BasenameLemmas
+pub mod WindowsLemmas
+pub mod LossyLemmas
 pub mod ShownLemmas
+pub mod FrontLemmas
 pub mod TextLemmas
 pub mod LocatedLemmas
 pub mod LocatorLemmas

@@ -25,18 +25,18 @@ use Rattle.dl_run.specs.Visiting.{GoesOn, StopsIn}
 use Rattle.dl_run.proofs.VisitLemmas.{rows_after-append}
 use Rattle.dl_run.proofs.Fronts.{map_none, or_none}
 use Rattle.dl_addr.specs.declared.locating.Locator.{Locator}
-use Rattle.dl_addr.specs.declared.texts.FileText.{FileText}
+use Rattle.dl_addr.specs.declared.texts.FilePath.{FilePath}
+use Rattle.dl_addr.specs.declared.texts.Paths.{Paths}
 use Rattle.dl_addr.specs.Answers.{SeenRow, located_seen}
-use Rattle.dl_addr.specs.Keeping.{Keeps, text_under}
+use Rattle.dl_addr.specs.Keeping.{Keeps, path_under}
 use Rattle.dl_addr.specs.Locating.{IsMadeFor, Locating, LooksFor, code_of, ended_rows, locate_story, located_after}
-use Rattle.dl_addr.specs.Locating.{located_by, located_under, text_of_located}
+use Rattle.dl_addr.specs.Locating.{located_by, located_under, path_of_located}
 use Rattle.dl_addr.specs.Locations.{Located}
 use Rattle.dl_addr.specs.Paths.{path_of}
-use Rattle.dl_addr.specs.Shown.{path_text}
-use Rattle.dl_addr.specs.Texts.{IsKept}
+use Rattle.dl_addr.specs.Texts.{HasPath, IsKept, named, path_at}
 use Rattle.dl_addr.proofs.LocatedLemmas.{ended_rows-append, located_after-append, no_live_rows, offset_after-append}
 use Rattle.dl_addr.proofs.LocatedLemmas.{rows_located}
-use Rattle.dl_addr.proofs.TextLemmas.{kept_stays, none_is_some, some_same}
+use Rattle.dl_addr.proofs.TextLemmas.{kept_stays, none_is_some, path_found, some_same}
 
 -- the same finders stand for the same lists
 pub stand_same : (f : Finders) (places : List Place) (units units' : List (List Row)) (rows rows' : List Row)
@@ -55,13 +55,13 @@ module _ (first old new : Locator) (start held : Option (List ℕ)) (visits more
 
   -- it goes on with visits that end no unit
   pub goes_on : (none : (x : Place) (n : ℕ) → located_after live x rows n more ≡ None) → ended_rows live rows more ≡ []
-      → new.code ≡ old.code → new.style ≡ old.style → new.strings ≡ old.strings
+      → new.code ≡ old.code → new.style ≡ old.style → new.strings.now ≡ old.strings.now
       → new.unit ≡ offset_after old.unit more → Tells new.live live (rows_after rows more)
-      → new.kept.items ≡ old.kept.items → new.texts.items ≡ old.texts.items
+      → new.kept.items ≡ old.kept.items → new.paths ≡ old.paths
       → ((places : List Place) (units : List (List Row)) → Stand old.finders places units (live_rows live rows)
       → Stand new.finders places units (live_rows live (rows_after rows more)))
       → Locating first new start held (visits ++ more)
-  goes_on none no_end code style strings unit tells kept texts stands = record {
+  goes_on none no_end code style strings unit tells kept paths stands = record {
     code = code ∙ s.code;
     style = style ∙ s.style;
     strings = strings ∙ s.strings;
@@ -88,7 +88,7 @@ module _ (first old new : Locator) (start held : Option (List ℕ)) (visits more
               record {
                 number = k.number;
                 entry = ap (λ (e : List ℕ). slice_get e i) kept ∙ k.entry;
-                is = ap (λ e. Rattle.dl_addr.specs.Texts.text_at e k.number) texts ∙ k.is;
+                is = subst (λ (p : Paths). HasPath p k.number (path_of_located first d)) (sym paths) k.is;
               });
         });
     nothing = s.nothing;
@@ -133,9 +133,9 @@ module _ (first old mid : Locator) (start held : Option (List ℕ)) (visits : Li
   -- what was kept before stays
   stays : (places : List Place) → LooksFor first old places visits → (i : ℕ) (x : Place) (d : Located)
       → slice_get places i ≡ Some x → located_by first x visits ≡ Some d
-      → IsKept mid.texts.items mid.kept.items i (text_of_located first d)
+      → IsKept mid.paths mid.kept.items i (path_of_located first d)
   stays places l i x d at is =
-      kept_stays old.texts.items mid.texts.items old.kept.items mid.kept.items i (text_of_located first d) keeps.grows
+      kept_stays old.paths mid.paths old.kept.items mid.kept.items i (path_of_located first d) keeps.grows
       (keeps.others places units here l.stand i (not_first places i x d at is)) (l.kept i x d at is)
 
   -- it stands for the visits before
@@ -199,12 +199,12 @@ module _ (first old mid : Locator) (start held : Option (List ℕ)) (visits : Li
               some)),
         )
 
-  text_same : (x : Place) (r : Row)
-      → text_under old h r ≡ text_of_located first (record { row = r; header = h; unit = offset })
-  text_same x r =
-      ap (λ st. (path_text st (path_of (strings_of old.strings) h r.file), old.unit)) s.style
-      ∙ ap (λ ss. (path_text first.style (path_of (strings_of ss) h r.file), old.unit)) s.strings
-      ∙ ap (λ (n : ℕ). (path_text first.style (path_of (strings_of first.strings) h r.file), n)) s.unit
+  path_same : (x : Place) (r : Row)
+      → path_under old h r ≡ path_of_located first (record { row = r; header = h; unit = offset })
+  path_same x r =
+      ap (λ st. (named st (path_of (strings_of old.strings.now) h r.file), old.unit)) s.style
+      ∙ ap (λ ss. (named first.style (path_of (strings_of ss) h r.file), old.unit)) s.strings
+      ∙ ap (λ (n : ℕ). (named first.style (path_of (strings_of first.strings.now) h r.file), n)) s.unit
 
   -- it goes on after the unit
   pub tail : (is : result ≡ Ok tt) (finders : Finders) (told : LiveRows)
@@ -224,7 +224,7 @@ module _ (first old mid : Locator) (start held : Option (List ℕ)) (visits : Li
         (λ (r : Result ⊤ NoMemory). OnOk r ((places : List Place) (units : List (List Row)) (rows : List Row)
         → Stand old.finders places units rows
         → length old.kept.items ≡ length places → (i : ℕ) (r : Row) → FirstAnswer places units rows i r
-        → IsKept mid.texts.items mid.kept.items i (text_under old h r))) is keeps.right in
+        → IsKept mid.paths mid.kept.items i (path_under old h r))) is keeps.right in
         record {
           stand = stand_same finders places (units ++ here ∷ []) (ended_rows lives [] all) []
               (live_rows lives (rows_after [] all))
@@ -240,26 +240,26 @@ module _ (first old mid : Locator) (start held : Option (List ℕ)) (visits : Li
   } where
     under_is : (places : List Place) (i : ℕ) (x : Place) (d : Located) → slice_get places i ≡ Some x
         → ((i : ℕ) (r : Row) → FirstAnswer places units here i r
-        → IsKept mid.texts.items mid.kept.items i (text_under old h r))
+        → IsKept mid.paths mid.kept.items i (path_under old h r))
         → answer_of_units units x ≡ None → (a : Option Row) → answer here x ≡ a
         → option_map {U = Located} (λ r. record { row = r; header = h; unit = offset }) a ≡ Some d
-        → IsKept mid.texts.items mid.kept.items i (text_of_located first d)
+        → IsKept mid.paths mid.kept.items i (path_of_located first d)
     under_is places i x d at right none None is e = absurd (none_is_some e)
     under_is places i x d at right none (Some r) is e =
-        subst (λ (t : Located). IsKept mid.texts.items mid.kept.items i (text_of_located first t))
+        subst (λ (t : Located). IsKept mid.paths mid.kept.items i (path_of_located first t))
         (some_same (record { row = r; header = h; unit = offset }) d e)
-        (subst (IsKept mid.texts.items mid.kept.items i) (text_same x r) (right i r (x, at, none, is)))
+        (subst (IsKept mid.paths mid.kept.items i) (path_same x r) (right i r (x, at, none, is)))
 
     none_answers : (x : Place) → located_by first x visits ≡ None → answer_of_units units x ≡ None
     none_answers x none = rows_located lives x [] first.unit visits ∙ ap (option_map (λ (l : Located). l.row)) none
 
     by : (places : List Place) → LooksFor first old places visits
         → ((i : ℕ) (r : Row) → FirstAnswer places units here i r
-        → IsKept mid.texts.items mid.kept.items i (text_under old h r))
+        → IsKept mid.paths mid.kept.items i (path_under old h r))
         → (i : ℕ) (x : Place) (d : Located) → slice_get places i ≡ Some x → (o : Option Located)
         → located_by first x visits ≡ o
         → option_or o (located_under lives x (rows_after [] visits) offset h) ≡ Some d
-        → IsKept mid.texts.items mid.kept.items i (text_of_located first d)
+        → IsKept mid.paths mid.kept.items i (path_of_located first d)
     by places l right i x d at None is e = under_is places i x d at right (none_answers x is) (answer here x) refl e
     by places l right i x d at (Some d') is e = stays places l i x d at (is ∙ e)
 
@@ -288,8 +288,8 @@ pub settles : (first now : Locator) (start held : Option (List ℕ)) (visits : L
 settles first now start held visits flow.On s = (s, s.nothing)
 settles first now start held visits flow.Stop s = absurd s
 
-abbrev row_with : Row → List ℕ × ℕ → Option SeenRow
-row_with r text = Some (r, text)
+abbrev row_with : Row → Option (List ℕ) × ℕ → Option SeenRow
+row_with r path = Some (r, path)
 
 -- what a place is answered
 module _ (first now : Locator) (start held : Option (List ℕ)) (visits : List Visit) (places : List Place)
@@ -323,33 +323,37 @@ module _ (first now : Locator) (start held : Option (List ℕ)) (visits : List V
         sym (seen_is x None at (map_none (λ (l : Located). l.row) (located_by first x visits) (sym (row_is x at)
         ∙ none)))
 
-  text_is : (row : Row) (d : Located) (t : List ℕ × ℕ) (file : Option FileText) → row ≡ d.row
-      → t ≡ text_of_located first d → option_map {U = List ℕ × ℕ} (λ (f : FileText). (f.text.items, f.unit)) file
-      ≡ Some t
-      → option_map {U = SeenRow} (λ (f : FileText). (row, (f.text.items, f.unit))) file ≡ Some (located_seen first d)
-  text_is row d t None e e' is = absurd (none_is_some is)
-  text_is row d t (Some f) e e' is =
-      ap₂ (λ (r : Row) (u : List ℕ × ℕ). row_with r u) e (some_same (f.text.items, f.unit) t is ∙ e')
+  -- what is found of a file
+  abbrev found : Row → Option FilePath → Option SeenRow
+  found row file = option_map (λ (f : FilePath). (row, (path_at now.paths.texts.items f, f.unit))) file
 
-  pub something_seen : (row : Row) (file : Option FileText) → answered ≡ Some row
-      → file ≡ option_and_then (slice_get now.texts.items) (slice_get now.kept.items n)
-      → Seen (option_map (λ (f : FileText). (row, (f.text.items, f.unit))) file)
+  found_is : (row : Row) (d : Located) (file : Option FilePath) (k : ℕ) → row ≡ d.row
+      → file ≡ slice_get now.paths.files.items k → HasPath now.paths k (path_of_located first d)
+      → found row file ≡ Some (located_seen first d)
+  found_is row d file k e is h =
+      ap (found row) (is ∙ h.at)
+      ∙ ap₂ (λ (r : Row) (p : Option (List ℕ) × ℕ). row_with r p) e
+      (ap₂ (λ (p : Option (List ℕ)) (n : ℕ). (p, n))
+      (path_found now.paths.texts.items h.file (path_of_located first d).0 h.is_path) h.unit)
+
+  pub something_seen : (row : Row) (file : Option FilePath) → answered ≡ Some row
+      → file ≡ option_and_then (slice_get now.paths.files.items) (slice_get now.kept.items n)
+      → Seen (found row file)
   something_seen row file some is = by (slice_get places n) refl where
     at_located : (x : Place) → slice_get places n ≡ Some x → (o : Option Located) → located_by first x visits ≡ o
-        → Seen (option_map (λ (f : FileText). (row, (f.text.items, f.unit))) file)
+        → Seen (found row file)
     at_located x at None none =
         absurd (none_is_some (sym (row_is x at ∙ ap (option_map (λ (l : Located). l.row)) none) ∙ some))
-    at_located x at (Some d) found =
-        let k = (s.looks places made).kept n x d at found in
+    at_located x at (Some d) is_located =
+        let k = (s.looks places made).kept n x d at is_located in
         let own : row ≡ d.row =
-        some_same row d.row (sym some ∙ row_is x at ∙ ap (option_map (λ (l : Located). l.row)) found) in
-        let here : file ≡ slice_get now.texts.items k.number =
-        is ∙ ap (option_and_then (slice_get now.texts.items)) k.entry in
-        text_is row d (text_of_located first d) file own refl
-        (ap (option_map (λ (f : FileText). (f.text.items, f.unit))) here ∙ k.is) ∙ sym (seen_is x (Some d) at found)
+        some_same row d.row (sym some ∙ row_is x at ∙ ap (option_map (λ (l : Located). l.row)) is_located) in
+        let here : file ≡ slice_get now.paths.files.items k.number =
+        is ∙ ap (option_and_then (slice_get now.paths.files.items)) k.entry in
+        found_is row d file k.number own here k.is ∙ sym (seen_is x (Some d) at is_located)
 
     by : (o : Option Place) → slice_get places n ≡ o
-        → Seen (option_map (λ (f : FileText). (row, (f.text.items, f.unit))) file)
+        → Seen (found row file)
     by None at =
         absurd (none_is_some
         (sym (given ∙ ap (option_and_then (answer_of_units (ended_rows (code_of first) [] visits))) at) ∙ some))

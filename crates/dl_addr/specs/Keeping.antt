@@ -9,21 +9,20 @@ use Rattle.dl_look.specs.Units.{FirstAnswer}
 use Rattle.dl_print.specs.ValueText.{strings_of}
 use Rattle.dl_addr.specs.declared.locating.Locator.{Locator}
 use Rattle.dl_addr.specs.Paths.{path_of}
-use Rattle.dl_addr.specs.Shown.{path_text}
-use Rattle.dl_addr.specs.Texts.{Grows, IsKept}
+use Rattle.dl_addr.specs.Texts.{Grows, IsKept, named}
 
-abbrev pub text_under : Locator → Option HeaderData → Row → List ℕ × ℕ
-text_under l h r = (path_text l.style (path_of (strings_of l.strings) h r.file), l.unit)
+abbrev pub path_under : Locator → Option HeaderData → Row → Option (List ℕ) × ℕ
+path_under l h r = (named l.style (path_of (strings_of l.strings.now) h r.file), l.unit)
 
--- of the places that the current unit is the first to answer the texts are kept, and of the others what was
+-- of the places that the current unit is the first to answer the paths are kept, and of the others what was
 pub record Keeps (old new : Locator) (h : Option HeaderData) (result : Result ⊤ NoMemory) : Type 0 where
   pub code : new.code ≡ old.code
   pub style : new.style ≡ old.style
-  pub strings : new.strings ≡ old.strings
+  pub strings : new.strings.now ≡ old.strings.now
   pub unit : new.unit ≡ old.unit
   pub live : new.live ≡ old.live
   pub finders : new.finders ≡ old.finders
-  pub grows : Grows old.texts.items new.texts.items
+  pub grows : Grows old.paths new.paths
   pub count : length new.kept.items ≡ length old.kept.items
   pub others : (places : List Place) (units : List (List Row)) (rows : List Row) → Stand old.finders places units rows
       → (i : ℕ) → ((r : Row) → FirstAnswer places units rows i r → ⊥)
@@ -31,7 +30,7 @@ pub record Keeps (old new : Locator) (h : Option HeaderData) (result : Result �
   pub right : OnOk result ((places : List Place) (units : List (List Row)) (rows : List Row)
       → Stand old.finders places units rows
       → length old.kept.items ≡ length places → (i : ℕ) (r : Row) → FirstAnswer places units rows i r
-      → IsKept new.texts.items new.kept.items i (text_under old h r))
+      → IsKept new.paths new.kept.items i (path_under old h r))
   pub some : OnErr result ((places : List Place) (units : List (List Row)) (rows : List Row)
       → Stand old.finders places units rows
       → (i : ℕ) × (r : Row) × FirstAnswer places units rows i r)

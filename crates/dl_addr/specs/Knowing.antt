@@ -7,4 +7,4 @@ use Rattle.dl_addr.specs.declared.question.Question.{Question}
 pub record Knows (l : Locator) (q : Question) (s : Strings) : Type 0 where
   pub code : l.code ≡ q.code
   pub style : l.style ≡ q.style
-  pub strings : strings_of l.strings ≡ s
+  pub strings : strings_of l.strings.now ≡ s

@@ -20,8 +20,7 @@ use Rattle.dl_addr.specs.declared.locating.Locator.{Locator}
 use Rattle.dl_addr.specs.Code.{is_code}
 use Rattle.dl_addr.specs.Locations.{Located}
 use Rattle.dl_addr.specs.Paths.{path_of}
-use Rattle.dl_addr.specs.Shown.{path_text}
-use Rattle.dl_addr.specs.Texts.{IsKept}
+use Rattle.dl_addr.specs.Texts.{IsKept, named}
 
 -- ---- what visits give; rows, offset: of the current unit before the visits
 
@@ -54,9 +53,9 @@ code_of l = is_code (option_copied l.code)
 abbrev pub located_by : Locator → Place → List Visit → Option Located
 located_by first x visits = located_after (code_of first) x [] first.unit visits
 
--- the text of the path, with the offset of its unit
-abbrev pub text_of_located : Locator → Located → List ℕ × ℕ
-text_of_located first l = (path_text first.style (path_of (strings_of first.strings) l.header l.row.file), l.unit)
+-- the path as far as it is printed, with the offset of its unit
+abbrev pub path_of_located : Locator → Located → Option (List ℕ) × ℕ
+path_of_located first l = (named first.style (path_of (strings_of first.strings.now) l.header l.row.file), l.unit)
 
 -- it looks for these places
 pub record LooksFor (first now : Locator) (places : List Place) (visits : List Visit) : Type 0 where
@@ -64,7 +63,7 @@ pub record LooksFor (first now : Locator) (places : List Place) (visits : List V
       (live_rows (code_of first) (rows_after [] visits))
   pub count : length now.kept.items ≡ length places
   pub kept : (i : ℕ) (x : Place) (l : Located) → slice_get places i ≡ Some x → located_by first x visits ≡ Some l
-      → IsKept now.texts.items now.kept.items i (text_of_located first l)
+      → IsKept now.paths now.kept.items i (path_of_located first l)
 
 -- it was made for these places
 pub record IsMadeFor (first : Locator) (places : List Place) : Type 0 where
@@ -74,7 +73,7 @@ pub record IsMadeFor (first : Locator) (places : List Place) : Type 0 where
 pub record Locating (first now : Locator) (start held : Option (List ℕ)) (visits : List Visit) : Type 0 where
   pub code : now.code ≡ first.code
   pub style : now.style ≡ first.style
-  pub strings : now.strings ≡ first.strings
+  pub strings : now.strings.now ≡ first.strings.now
   pub unit : now.unit ≡ offset_after first.unit visits
   pub live : Tells now.live (code_of first) (rows_after [] visits)
   pub looks : (places : List Place) → IsMadeFor first places → LooksFor first now places visits

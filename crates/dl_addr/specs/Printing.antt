@@ -4,6 +4,8 @@ use Rattle.std.specs.Prelude.{Result, Ok, Err}
 use Rattle.std.specs.Io.KnownBytes.{Appends}
 use Rattle.std.specs.List.{list_all}
 use Rattle.std.specs.Option.{option_and_then}
+use Rattle.std.specs.Str.Lossy.{utf8_lossy}
+use Rattle.json.specs.Print.{escape}
 use Rattle.dl_print.specs.declared.fault.WriteFault.{WriteFault}
 use Rattle.dl_print.specs.Output.{TellsOut}
 use Rattle.dl_print.specs.Text.{line}
@@ -17,15 +19,28 @@ use Rattle.dl_addr.specs.declared.question.Found.{Found}
 use Rattle.dl_addr.specs.declared.question.Found.TheVariants as found
 use Rattle.dl_addr.specs.declared.question.Question.{Question}
 use Rattle.dl_addr.specs.declared.style.Form.{Form}
+use Rattle.dl_addr.specs.declared.style.Form.TheVariants.{Location, AddressAndLocation, Json}
 use Rattle.dl_addr.specs.declared.style.Style.{Style}
 use Rattle.dl_addr.specs.Answers.{SeenRow, located_seen}
 use Rattle.dl_addr.specs.Asked.{place_of}
 use Rattle.dl_addr.specs.Locating.{located_by}
 use Rattle.dl_addr.specs.Locations.{asked_text, no_row_text, row_text}
+use Rattle.dl_addr.specs.Shown.{no_path_text, shown, text_in}
+
+-- a text as it stands in a path of this form
+abbrev pub inner_text : Form → List ℕ → List ℕ
+inner_text Location text = shown text
+inner_text AddressAndLocation text = shown text
+inner_text Json text = escape (utf8_lossy text)
+
+-- a path of which the last component alone was taken, where it was asked for
+abbrev pub named_text : Form → Option (List ℕ) → List ℕ
+named_text form None = no_path_text form
+named_text form (Some path) = text_in form path
 
 abbrev pub seen_text : Form → Option SeenRow → List ℕ
 seen_text form None = no_row_text form
-seen_text form (Some (r, (path, unit))) = row_text form path r unit
+seen_text form (Some (r, (path, unit))) = row_text form (named_text form path) r unit
 
 abbrev pub seen_line : Style → Asked → Option SeenRow → List ℕ
 seen_line style a seen = line (asked_text style.form a ++ seen_text style.form seen)

@@ -1,35 +1,102 @@
--- The texts of paths that are kept. No promise rests on this file.
-use Rattle.std.specs.Prelude.{◌≡◌, ◌≢◌, ℕ, ◌<◌, List, ◌++◌, length, slice_get, slice_index_or, Option, Some, option_map}
-use Rattle.std.specs.Option.{option_copied}
+-- The paths that are kept. No promise rests on this file.
+use Rattle.std.specs.Prelude.{◌≡◌, ◌≢◌, ℕ, ◌<◌, List, [], ◌++◌, length, slice_get, slice_index_or, if◌then◌else◌}
+use Rattle.std.specs.Prelude.{Option, Some, None, option_map, unwrap_or}
+use Rattle.std.specs.BTreeMap.{BTreeMap, get}
+use Rattle.std.specs.Option.{option_and_then, option_copied}
+use Rattle.std.specs.Ordering.{nat_cmp}
 use Rattle.dl_look.specs.declared.ledger.Answered.{Answered}
 use Rattle.dl_look.specs.Ledgers.{no_answer}
 use Rattle.dl_print.specs.ValueText.{strings_of}
-use Rattle.dl_addr.specs.declared.texts.FileText.{FileText}
+use Rattle.dl_addr.specs.declared.style.Style.{Style}
+use Rattle.dl_addr.specs.declared.texts.FilePath.{FilePath}
+use Rattle.dl_addr.specs.declared.texts.KeptText.{KeptText}
+use Rattle.dl_addr.specs.declared.texts.KeptText.TheVariants.{Lent, Copied}
+use Rattle.dl_addr.specs.declared.texts.Paths.{Paths}
 use Rattle.dl_addr.specs.declared.texts.UnitFiles.{UnitFiles}
-use Rattle.dl_addr.specs.Paths.{path_of}
-use Rattle.dl_addr.specs.Shown.{path_text}
+use Rattle.dl_addr.specs.declared.texts.UnitNumbers.{UnitNumbers}
+use Rattle.dl_addr.specs.PathParts.{text_of_directory}
+use Rattle.dl_addr.specs.Paths.{path_of, under}
+use Rattle.dl_addr.specs.Shown.{basename}
 
--- a text that is kept, with the offset of its unit
-abbrev pub text_at : List FileText → ℕ → Option (List ℕ × ℕ)
-text_at texts k = option_map (λ (t : FileText). (t.text.items, t.unit)) (slice_get texts k)
+-- ---- texts
 
--- the text of a file of the unit, with the unit's offset
-abbrev pub text_of_file : UnitFiles → ℕ → List ℕ × ℕ
-text_of_file u file = (path_text u.style (path_of (strings_of u.strings.now) (option_copied u.header) file), u.offset)
+abbrev pub kept_seen : KeptText → List ℕ
+kept_seen (Lent w) = w.now
+kept_seen (Copied v) = v.items
+
+abbrev pub text_at : List KeptText → ℕ → Option (List ℕ)
+text_at texts k = option_map kept_seen (slice_get texts k)
+
+-- a part of a path, which may lack; None where its text isn't there
+abbrev pub part_at : List KeptText → Option ℕ → Option (List ℕ)
+part_at texts None = Some []
+part_at texts (Some k) = text_at texts k
 
 -- texts are added after those before
-abbrev pub Grows : List FileText → List FileText → Type 0
-Grows old new = (more : List FileText) × (new ≡ old ++ more)
+abbrev pub TextsGrow : List KeptText → List KeptText → Type 0
+TextsGrow old new = (more : List KeptText) × (new ≡ old ++ more)
 
--- each file that was seen has its text
-abbrev pub AreSeen : UnitFiles → List (Option ℕ) → List FileText → Type 0
-AreSeen u seen texts = (file k : ℕ) → slice_get seen file ≡ Some (Some k) → text_at texts k ≡ Some (text_of_file u file)
+-- each number that was seen has a text, which is kept
+abbrev pub AreTexts : (f : ℕ → Option (List ℕ)) → BTreeMap ℕ ℕ → List KeptText → Type 0
+AreTexts f numbers texts = (n k : ℕ) → get nat_cmp numbers n ≡ Some k
+    → (w : List ℕ) × (f n ≡ Some w) × (text_at texts k ≡ Some w)
 
--- the text of the place of number i is kept
-pub record IsKept (texts : List FileText) (kept : List ℕ) (i : ℕ) (text : List ℕ × ℕ) : Type 0 where
+-- ---- paths
+
+-- the last component alone, where it is asked for
+abbrev pub named : Style → Option (List ℕ) → Option (List ℕ)
+named style path = option_map (λ p. if style.basenames then basename p else p) path
+
+abbrev pub text_or_none : List KeptText → Option ℕ → List ℕ
+text_or_none texts number = unwrap_or (option_and_then (text_at texts) number) []
+
+abbrev pub path_at : List KeptText → FilePath → Option (List ℕ)
+path_at texts f =
+    option_map (under (under (text_or_none texts f.base) (text_or_none texts f.directory)))
+    (option_and_then (text_at texts) f.name)
+
+-- the texts make up the path
+pub record IsPath (texts : List KeptText) (f : FilePath) (path : Option (List ℕ)) : Type 0 where
+  pub base : List ℕ
+  pub directory : List ℕ
+  pub name : Option (List ℕ)
+  pub has_base : part_at texts f.base ≡ Some base
+  pub has_directory : part_at texts f.directory ≡ Some directory
+  pub has_name : option_map (text_at texts) f.name ≡ option_map Some name
+  pub is : path ≡ option_map (under (under base directory)) name
+
+-- the path of this number, with the offset of its unit
+pub record HasPath (paths : Paths) (number : ℕ) (path : Option (List ℕ) × ℕ) : Type 0 where
+  pub file : FilePath
+  pub at : slice_get paths.files.items number ≡ Some file
+  pub is_path : IsPath paths.texts.items file path.0
+  pub unit : file.unit ≡ path.1
+
+-- paths are added after those before
+pub record Grows (old new : Paths) : Type 0 where
+  pub files : (more : List FilePath) × (new.files.items ≡ old.files.items ++ more)
+  pub texts : TextsGrow old.texts.items new.texts.items
+
+-- ---- a unit
+
+-- the path of a file of the unit as far as it is printed, with the unit's offset
+abbrev pub path_of_file : UnitFiles → ℕ → Option (List ℕ) × ℕ
+path_of_file u file = (named u.style (path_of (strings_of u.strings.now) (option_copied u.header) file), u.offset)
+
+abbrev pub directory_text : UnitFiles → ℕ → Option (List ℕ)
+directory_text u n = text_of_directory (strings_of u.strings.now) (option_copied u.header) n
+
+-- each file and each directory that was seen has its number
+pub record AreSeen (u : UnitFiles) (numbers : UnitNumbers) (paths : Paths) : Type 0 where
+  pub files : (file k : ℕ) → get nat_cmp numbers.files file ≡ Some k → HasPath paths k (path_of_file u file)
+  pub directories : AreTexts (directory_text u) numbers.directories paths.texts.items
+  pub last : (file k : ℕ) → numbers.last ≡ Some (file, k) → HasPath paths k (path_of_file u file)
+
+-- the path of the place of number i is kept
+pub record IsKept (paths : Paths) (kept : List ℕ) (i : ℕ) (path : Option (List ℕ) × ℕ) : Type 0 where
   pub number : ℕ
   pub entry : slice_get kept i ≡ Some number
-  pub is : text_at texts number ≡ Some text
+  pub is : HasPath paths number path
 
 -- the places are other ones, and each has its number among the kept ones
 pub record AreNumbers (answered : List Answered) (kept : List ℕ) : Type 0 where

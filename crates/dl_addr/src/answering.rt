@@ -4,6 +4,7 @@ ghost use Rattle.std.specs.Prelude.{◌≡◌, ◌≤◌, ℕ, List, [], Option,
 ghost use Rattle.std.specs.Prelude.{slice_get};
 ghost use Rattle.std.specs.Io.KnownBytes.{Consumes};
 ghost use Rattle.dl_look.specs.declared.place.Place as place;
+ghost use Rattle.dl_print.specs.ValueText.{strings_of};
 ghost use Rattle.dl_run.specs.Commands.{strings_in};
 ghost use Rattle.dl_run.specs.Section.{Visit};
 ghost use Rattle.dl_addr.specs.declared.locating.Locator as locators;
@@ -30,7 +31,8 @@ use std::io::{Read, Write};
 ///
 /// The lines are printed once all units are read, or up to a fault: then the units before it answer, and
 /// the fault is answered. Where memory is refused before anything is read, nothing is printed. The places
-/// are held in memory, the tables of one header, and the texts of the paths that answer.
+/// are held in memory, the tables of one header, and of the paths that answer what their headers have of their texts,
+/// a directory and a name once for each unit.
 pub fn addr<R: Read, W: Write>(
     alloc: Global,
     input: &mut R,
@@ -43,7 +45,8 @@ pub fn addr<R: Read, W: Write>(
         × Locates options.now.order (strings_in options.now) question.now options.now.limit bs
         (R.remaining input.new) (W.contents output.old) (W.contents output.new) result }
 {
-    let Ok(mut locator) = locator_of(alloc, question, options) else {
+    let strings = StringSections::new(options.debug_line_str, options.debug_str);
+    let Ok(mut locator) = locator_of(alloc, &strings, question) else {
         return Err(RunFault::NoMemory);
     };
     let ended = read_units(alloc, input, output, options, &mut locator);
@@ -68,17 +71,16 @@ fn told(
 }
 
 /// A locator for the places of what is asked.
-fn locator_of<'a>(
+fn locator_of<'s, 'o, 'q>(
     alloc: Global,
-    question: &Question<'a>,
-    options: &Options<'a>,
-) -> Result<Locator<'a>, NoMemory>
+    strings: &'s StringSections<'o>,
+    question: &Question<'q>,
+) -> Result<Locator<'s, 'o, 'q>, NoMemory>
     ensures made { IfOk result (λ l. IsMadeFor l (map (looked_up question.now.base) question.now.asked.now)) }
     ensures begins { IfOk result (λ l. (start : Option (List ℕ)) → Locating l l start start []) }
-    ensures knows { IfOk result (λ l. Knows l question.now (strings_in options.now)) }
+    ensures knows { IfOk result (λ l. Knows l question.now (strings_of strings.now)) }
 {
     let places = places_of(alloc, question.asked, question.base)?;
-    let strings = StringSections::new(options.debug_line_str, options.debug_str);
     Locator::build(
         alloc,
         strings,
@@ -103,7 +105,7 @@ fn places_of(alloc: Global, asked: &[Asked], base: u64) -> Result<Vec<Place>, No
 
 /// Prints the line of each address that is asked for.
 fn print_all<W: Write>(
-    locator: &Locator<'_>,
+    locator: &Locator<'_, '_, '_>,
     output: &mut W,
     question: &Question<'_>,
 ) -> Result<Found, WriteFault>
@@ -129,7 +131,7 @@ fn print_all<W: Write>(
 
 /// The answer to the address of this number among those that are asked for.
 fn answer_to<'a>(
-    locator: &'a Locator<'_>,
+    locator: &'a Locator<'_, '_, '_>,
     asked: Asked,
     base: u64,
     number: usize,

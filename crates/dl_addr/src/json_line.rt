@@ -3,8 +3,15 @@
 ghost use Rattle.std.specs.Prelude.{◌≡◌, ◌++◌, [], codes, decimal};
 ghost use Rattle.dl_print.specs.Digits.{hexadecimal, hexadecimal_of};
 ghost use Rattle.dl_print.specs.Output.{Prints};
+ghost use Rattle.std.specs.Option.{option_map};
 ghost use Rattle.dl_addr.specs.Json.{json_address, json_is_stmt, json_position, json_row};
+ghost use Rattle.dl_addr.specs.declared.style.Form.TheVariants as all_forms;
+ghost use Rattle.dl_addr.specs.Parts.{path_seen};
+ghost use Rattle.dl_addr.specs.Printing.{named_text};
 
+use crate::path::Path;
+use crate::path_text::print_path;
+use crate::style::Form;
 use dl_print::{Printer, WriteFault};
 use dl_rows::Row;
 use std::io::Write;
@@ -49,32 +56,32 @@ fn print_address_open<W: Write>(
     printer.address(output, address)
 }
 
-/// Prints the members of a row under the JSON string of its path, with the offset of its unit.
+/// Prints the members of a row under its path, with the offset of its unit.
 pub fn print_json_row<W: Write>(
     printer: &mut Printer,
     output: &mut W,
-    path: &[u8],
+    path: Option<Path<'_>>,
     row: &Row,
     unit: u64,
 ) -> Result<(), WriteFault>
     ensures { Prints (W.contents output.old) (W.contents output.new) printer.old printer.new
-        (json_row path.now row.now unit) result }
+        (json_row (named_text all_forms.Json (option_map path_seen path.entry)) row.now unit) result }
 {
-    print_path(printer, output, path)?;
+    print_path_member(printer, output, path)?;
     print_position(printer, output, row)?;
     print_end(printer, output, row.is_stmt, unit)
 }
 
-fn print_path<W: Write>(
+fn print_path_member<W: Write>(
     printer: &mut Printer,
     output: &mut W,
-    path: &[u8],
+    path: Option<Path<'_>>,
 ) -> Result<(), WriteFault>
     ensures { Prints (W.contents output.old) (W.contents output.new) printer.old printer.new
-        (codes ",\"path\":" ++ path.now) result }
+        (codes ",\"path\":" ++ named_text all_forms.Json (option_map path_seen path.entry)) result }
 {
     printer.put(output, b",\"path\":")?;
-    printer.put(output, path)
+    print_path(printer, output, Form::Json, path)
 }
 
 /// Prints the line, the column and the discriminator.

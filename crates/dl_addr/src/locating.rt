@@ -1,11 +1,12 @@
-//! The look-up of many places in the units of a section, with the texts of their paths.
+//! The look-up of many places in the units of a section, with their paths.
 
 ghost use Rattle.std.specs.Prelude.{◌≡◌, IfOk, length};
 ghost use Rattle.std.specs.Option.{option_copied};
 ghost use Rattle.dl_addr.specs.Code.{is_code};
 
+use crate::path::Path;
 use crate::style::Style;
-use crate::texts::{FileText, UnitFiles, keep_all};
+use crate::texts::{FilePath, Paths, UnitFiles, keep_all};
 use dl_head::Header;
 use dl_look::{CodeRanges, Finders, LiveRows, NoMemory, Place};
 use dl_print::StringSections;
@@ -14,13 +15,12 @@ use dl_run::{RunFault, Visitor};
 use std::alloc::Global;
 use std::io::Write;
 
-/// Looks places up in the rows of live sequences, unit by unit, and keeps the texts of the paths of
-/// those that it finds.
+/// Looks places up in the rows of live sequences, unit by unit, and keeps the paths of those that it finds.
 #[derive(Drop)]
-pub struct Locator<'a> {
+pub struct Locator<'s, 'o, 'q> {
     alloc: Global,
-    strings: StringSections<'a>,
-    code: Option<&'a CodeRanges>,
+    strings: &'s StringSections<'o>,
+    code: Option<&'q CodeRanges>,
     style: Style,
     /// Was given the live rows of the units.
     finders: Finders,
@@ -28,12 +28,12 @@ pub struct Locator<'a> {
     live: LiveRows,
     /// The offset of the current unit.
     unit: u64,
-    texts: Vec<FileText>,
-    /// For each place that was answered the number of its text.
+    paths: Paths<'s>,
+    /// For each place that was answered the number of its path.
     kept: Vec<usize>,
 }
 
-impl<W: Write> Visitor<W> for Locator<'_> {
+impl<W: Write> Visitor<W> for Locator<'_, '_, '_> {
     ghost use Rattle.dl_addr.specs.Locating.{locate_story};
 
     ghost story = { locate_story };
@@ -80,8 +80,10 @@ impl<W: Write> Visitor<W> for Locator<'_> {
 #[derive(Clone, Copy)]
 pub struct Answer<'a> {
     pub row: Row,
-    /// The text of the row's file.
-    pub file: &'a FileText,
+    /// The path of the row's file, as far as it is printed; None where it isn't known.
+    pub path: Option<Path<'a>>,
+    /// The offset of the row's unit.
+    pub unit: u64,
 }
 
 /// Whether there is code at an address, as far as it is known.
@@ -95,7 +97,7 @@ fn is_code(code: Option<&CodeRanges>, address: u64) -> bool
     }
 }
 
-impl<'a> Locator<'a> {
+impl<'s, 'o, 'q> Locator<'s, 'o, 'q> {
     ghost use Rattle.std.specs.Prelude.{◌≡◌, ℕ, List, IfOk, slice_get};
     ghost use Rattle.std.specs.Prelude.{Bool, Option, option_map, []};
     ghost use Rattle.std.specs.Option.{option_and_then, option_copied};
@@ -112,19 +114,20 @@ impl<'a> Locator<'a> {
     ghost use Rattle.dl_look.specs.LiveRows.{Tells};
     ghost use Rattle.dl_addr.specs.Keeping.{Keeps};
     ghost use Rattle.dl_addr.specs.Locating.{IsMadeFor};
+    ghost use Rattle.dl_addr.specs.Texts.{path_at};
 
     /// A locator of these places.
     pub fn build(
         alloc: Global,
-        strings: StringSections<'a>,
-        code: Option<&'a CodeRanges>,
+        strings: &'s StringSections<'o>,
+        code: Option<&'q CodeRanges>,
         style: Style,
         places: &[Place],
-    ) -> Result<Locator<'a>, NoMemory>
+    ) -> Result<Locator<'s, 'o, 'q>, NoMemory>
         ensures made { IfOk result (λ l. IsMadeFor l places.now) }
         ensures live { IfOk result (λ l. (is_live : ℕ → Bool) → Tells l.live is_live []) }
         ensures unit { IfOk result (λ l. l.unit ≡ 0) }
-        ensures strings { IfOk result (λ l. l.strings ≡ strings.entry) }
+        ensures strings { IfOk result (λ l. l.strings.now ≡ strings.now) }
         ensures code { IfOk result (λ l. l.code ≡ code.entry) }
         ensures style { IfOk result (λ l. l.style ≡ style) }
     {
@@ -137,7 +140,10 @@ impl<'a> Locator<'a> {
             finders,
             live: LiveRows::new(),
             unit: 0,
-            texts: Vec::new(alloc),
+            paths: Paths {
+                files: Vec::new(alloc),
+                texts: Vec::new(alloc),
+            },
             kept: no_numbers(alloc, places.len())?,
         })
     }
@@ -168,30 +174,35 @@ impl<'a> Locator<'a> {
         }
     }
 
-    /// The row, with the text that is kept for the place of this number.
+    /// The row, with the path that is kept for the place of this number.
     fn answer_of(&self, row: Row, number: usize) -> Option<Answer<'_>>
-        ensures { option_map answer_seen result ≡ option_map (λ f. (row, (f.text.items, f.unit)))
-            (option_and_then (slice_get self.now.texts.items) (slice_get self.now.kept.items number)) }
+        ensures { option_map answer_seen result ≡ option_map
+            (λ f. (row, (path_at self.now.paths.texts.items f, f.unit)))
+            (option_and_then (slice_get self.now.paths.files.items) (slice_get self.now.kept.items number)) }
     {
         let file = self.file(number)?;
-        Some(Answer { row, file })
+        Some(Answer {
+            row,
+            path: self.paths.path(file),
+            unit: file.unit,
+        })
     }
 
-    /// The text that is kept for the place of this number.
-    fn file(&self, number: usize) -> Option<&FileText>
-        ensures { option_copied result ≡ option_and_then (slice_get self.now.texts.items)
+    /// The path that is kept for the place of this number.
+    fn file(&self, number: usize) -> Option<&FilePath>
+        ensures { option_copied result ≡ option_and_then (slice_get self.now.paths.files.items)
             (slice_get self.now.kept.items number) }
     {
-        let text = self.kept.as_slice().get(number)?;
-        self.texts.as_slice().get(*text)
+        let path = self.kept.as_slice().get(number)?;
+        self.paths.files.as_slice().get(*path)
     }
 
-    /// Keeps the texts of the places that the current unit is the first to answer.
+    /// Keeps the paths of the places that the current unit is the first to answer.
     fn keep(&mut self, header: Option<&Header>) -> Result<(), NoMemory>
         ensures { Keeps self.old self.new (option_copied header.entry) result }
     {
         let unit = UnitFiles {
-            strings: &self.strings,
+            strings: self.strings,
             header,
             style: self.style,
             offset: self.unit,
@@ -200,7 +211,7 @@ impl<'a> Locator<'a> {
         if answered.is_empty() {
             return Ok(());
         }
-        keep_all(self.alloc, &mut self.texts, &mut self.kept, &unit, answered)
+        keep_all(self.alloc, &mut self.paths, &mut self.kept, &unit, answered)
     }
 }
 

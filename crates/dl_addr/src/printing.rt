@@ -5,11 +5,14 @@ ghost use Rattle.std.specs.Option.{option_map};
 ghost use Rattle.dl_print.specs.Output.{Prints};
 ghost use Rattle.dl_addr.specs.Answers.{answer_seen};
 ghost use Rattle.dl_addr.specs.Locations.{address_text, asked_text, column_text, no_row_text, place_text, row_text};
-ghost use Rattle.dl_addr.specs.Printing.{seen_line, seen_text};
+ghost use Rattle.dl_addr.specs.Parts.{path_seen};
+ghost use Rattle.dl_addr.specs.Printing.{named_text, seen_line, seen_text};
 
 use crate::asked::Asked;
 use crate::json_line::{print_json_address, print_json_row};
 use crate::locating::Answer;
+use crate::path::Path;
+use crate::path_text::print_path;
 use crate::style::{Form, Style};
 use dl_print::{Printer, WriteFault};
 use dl_rows::Row;
@@ -76,32 +79,25 @@ fn print_answer<W: Write>(
         (seen_text form (option_map answer_seen answer.entry)) result }
 {
     match answer {
-        Some(answer) => print_row(
-            printer,
-            output,
-            form,
-            answer.file.text.as_slice(),
-            &answer.row,
-            answer.file.unit,
-        ),
+        Some(answer) => print_row(printer, output, form, answer.path, &answer.row, answer.unit),
         None => print_no_row(printer, output, form),
     }
 }
 
-/// Prints a row under the text of its path, with the offset of its unit.
+/// Prints a row under its path, with the offset of its unit.
 fn print_row<W: Write>(
     printer: &mut Printer,
     output: &mut W,
     form: Form,
-    path: &[u8],
+    path: Option<Path<'_>>,
     row: &Row,
     unit: u64,
 ) -> Result<(), WriteFault>
     ensures { Prints (W.contents output.old) (W.contents output.new) printer.old printer.new
-        (row_text form path.now row.now unit) result }
+        (row_text form (named_text form (option_map path_seen path.entry)) row.now unit) result }
 {
     match form {
-        Form::Location | Form::AddressAndLocation => print_place(printer, output, path, row),
+        Form::Location | Form::AddressAndLocation => print_place(printer, output, form, path, row),
         Form::Json => {
             print_json_row(printer, output, path, row, unit)?;
             printer.put(output, b"}")
@@ -127,13 +123,14 @@ fn print_no_row<W: Write>(
 fn print_place<W: Write>(
     printer: &mut Printer,
     output: &mut W,
-    path: &[u8],
+    form: Form,
+    path: Option<Path<'_>>,
     row: &Row,
 ) -> Result<(), WriteFault>
     ensures { Prints (W.contents output.old) (W.contents output.new) printer.old printer.new
-        (place_text path.now row.now) result }
+        (place_text (named_text form (option_map path_seen path.entry)) row.now) result }
 {
-    printer.put(output, path)?;
+    print_path(printer, output, form, path)?;
     printer.number(output, b":", row.line)?;
     print_column(printer, output, row.column)
 }

@@ -1,151 +1,122 @@
-//! The texts of paths, as they are printed.
+//! Texts as they are printed in a location.
 
-ghost use Rattle.std.specs.Prelude.{◌≡◌, ◌<◌, ◌≤◌, ◌++◌, if◌then◌else◌, drop, length, take};
-ghost use Rattle.std.specs.Prelude.{IfOk, OnOk, Some, option_map};
+ghost use Rattle.std.specs.Prelude.{◌≡◌, ◌≢◌, ◌<◌, ◌≤◌, ◌++◌, true, drop, length, take};
+ghost use Rattle.std.specs.List.{list_all};
 ghost use Rattle.std.specs.Str.{is_utf8};
 ghost use Rattle.dl_print.specs.Digits.{last_digit};
-ghost use Rattle.dl_addr.specs.Shown.{character_len, is_control, numbered, shown, shown_first};
-ghost use Rattle.dl_addr.specs.Shown.{text_in, no_path_text, path_text};
-ghost use Rattle.dl_addr.specs.Parts.{path_seen};
-ghost use Rattle.dl_addr.specs.Paths.{slash_after};
+ghost use Rattle.dl_print.specs.Output.{Prints};
+ghost use Rattle.dl_addr.specs.Fronts.{front_text, is_plain, shown_byte};
+ghost use Rattle.dl_addr.specs.Shown.{character_len, is_control, numbered, shown};
 
-use crate::basename::basename;
-use crate::json_text::json_string;
-use crate::path::{Path, slash_after};
-use crate::style::{Form, Style};
-use dl_look::NoMemory;
-use std::alloc::Global;
+use dl_print::{Printer, WriteFault};
+use std::io::Write;
 use std::str;
 
-/// The text of a path, or of one that isn't known.
-pub fn path_text(alloc: Global, style: Style, path: Option<Path<'_>>) -> Result<Vec<u8>, NoMemory>
-    ensures { IfOk result (λ text. text.items ≡ path_text style (option_map path_seen path.entry)) }
+/// Prints a text as it stands in a location: a backslash as two, control bytes and what isn't UTF-8 by their numbers.
+pub fn print_shown<W: Write>(
+    printer: &mut Printer,
+    output: &mut W,
+    text: &[u8],
+) -> Result<(), WriteFault>
+    ensures { Prints (W.contents output.old) (W.contents output.new) printer.old printer.new
+        (shown text.now) result }
 {
-    match path {
-        Some(path) => known_text(alloc, style, path),
-        None => no_path_text(alloc, style.form),
+    if is_all_plain(text) {
+        return printer.put(output, text);
     }
-}
-
-/// The text of a path that is known.
-fn known_text(alloc: Global, style: Style, path: Path<'_>) -> Result<Vec<u8>, NoMemory>
-    ensures { IfOk result (λ text. text.items ≡ path_text style (Some (path_seen path.entry))) }
-{
-    let path = joined(alloc, path)?;
-    if style.basenames {
-        text_in(alloc, style.form, basename(path.as_slice()))
-    } else {
-        text_in(alloc, style.form, path.as_slice())
-    }
-}
-
-/// What stands for a path that isn't known.
-fn no_path_text(alloc: Global, form: Form) -> Result<Vec<u8>, NoMemory>
-    ensures { IfOk result (λ text. text.items ≡ no_path_text form) }
-{
-    let mut text = Vec::new(alloc);
-    match form {
-        Form::Location | Form::AddressAndLocation => append(&mut text, b"??")?,
-        Form::Json => append(&mut text, b"null")?,
-    }
-    Ok(text)
-}
-
-/// A path as it stands in a line of this form.
-fn text_in(alloc: Global, form: Form, path: &[u8]) -> Result<Vec<u8>, NoMemory>
-    ensures { IfOk result (λ text. text.items ≡ text_in form path.now) }
-{
-    match form {
-        Form::Location | Form::AddressAndLocation => shown(alloc, path),
-        Form::Json => json_string(alloc, path),
-    }
-}
-
-/// The parts of a path, one after the other.
-fn joined(alloc: Global, path: Path<'_>) -> Result<Vec<u8>, NoMemory>
-    ensures { IfOk result (λ text. text.items ≡ path_seen path.entry) }
-{
-    let mut joined = Vec::new(alloc);
-    append_directory(&mut joined, path.base)?;
-    append_directory(&mut joined, path.directory)?;
-    append(&mut joined, path.name)?;
-    Ok(joined)
-}
-
-fn append_directory(text: &mut Vec<u8>, directory: &[u8]) -> Result<(), NoMemory>
-    ensures { OnOk result (text.new.items ≡ text.old.items ++ directory.now ++ slash_after directory.now) }
-{
-    append(text, directory)?;
-    append(text, slash_after(directory))
-}
-
-fn append(text: &mut Vec<u8>, bytes: &[u8]) -> Result<(), NoMemory>
-    ensures { OnOk result (text.new.items ≡ text.old.items ++ bytes.now) }
-{
-    match text.extend_from_slice(bytes) {
-        Ok(()) => Ok(()),
-        Err(_) => Err(NoMemory),
-    }
-}
-
-/// A path as it stands in a location: a backslash as two, control bytes and what isn't UTF-8 by their numbers.
-fn shown(alloc: Global, path: &[u8]) -> Result<Vec<u8>, NoMemory>
-    ensures { IfOk result (λ text. text.items ≡ shown path.now) }
-{
-    let mut text = Vec::new(alloc);
     let mut at = 0;
-    while at < path.len() {
-        at += append_first(&mut text, &path[at..])?;
+    while at < text.len() {
+        let rest = &text[at..];
+        let len = front_len(rest);
+        print_front(printer, output, &rest[..len])?;
+        at += len;
     }
-    Ok(text)
+    Ok(())
 }
 
-/// Appends the character that a path begins with, or the byte that is part of none, and answers how many bytes it has.
-fn append_first(text: &mut Vec<u8>, path: &[u8]) -> Result<usize, NoMemory>
-    requires { 0 < length path.now }
-    ensures some { IfOk result (λ n. 0 < n) }
-    ensures within { IfOk result (λ n. n ≤ length path.now) }
-    ensures shown { IfOk result (λ n. text.new.items ++ shown (drop n path.now) ≡ text.old.items ++ shown path.now) }
+/// How many bytes at the front of a text are printed in one go: all that stand for themselves, or else a character,
+/// or a byte that is part of none.
+fn front_len(text: &[u8]) -> usize
+    requires { 0 < length text.now }
+    ensures some { 0 < result }
+    ensures within { result ≤ length text.now }
+    ensures cut { shown text.now ≡ front_text shown_byte (take result text.now) ++ shown (drop result text.now) }
 {
-    let len = character_len(path);
-    if len < 2 {
-        append_byte(text, len == 1, path[0])?;
-        return Ok(1);
+    let plain = plain_len(text);
+    if plain > 0 {
+        return plain;
     }
-    append(text, &path[..len])?;
-    Ok(len)
+    character_len(text).max(1)
 }
 
-/// Appends a byte that is a character, or part of none.
-fn append_byte(text: &mut Vec<u8>, is_character: bool, byte: u8) -> Result<(), NoMemory>
-    ensures { OnOk result (text.new.items ≡ text.old.items ++ shown_first (if is_character then 1 else 0) byte) }
+/// How many bytes at the front of a text stand for themselves.
+fn plain_len(text: &[u8]) -> usize
+    ensures within { result ≤ length text.now }
+    ensures plain { list_all is_plain (take result text.now) ≡ true }
 {
-    if is_character {
-        append_character(text, byte)
+    let mut len = 0;
+    while len < text.len() && is_plain(text[len]) {
+        len += 1;
+    }
+    len
+}
+
+/// Whether all bytes of a text stand for themselves. Each is looked at, which takes less time than to stop at the first
+/// that does not.
+pub fn is_all_plain(text: &[u8]) -> bool
+    ensures { result ≡ list_all is_plain text.now }
+{
+    let mut all = true;
+    for byte in text {
+        all = all & is_plain(*byte);
+    }
+    all
+}
+
+/// Whether a byte is a character of ASCII that stands for itself, in a location and in a JSON string.
+fn is_plain(byte: u8) -> bool
+    ensures { result ≡ is_plain byte }
+{
+    0x20 <= byte && byte < 0x7f && byte != b'"' && byte != b'\\'
+}
+
+/// Prints bytes that are printed in one go.
+fn print_front<W: Write>(
+    printer: &mut Printer,
+    output: &mut W,
+    front: &[u8],
+) -> Result<(), WriteFault>
+    ensures { Prints (W.contents output.old) (W.contents output.new) printer.old printer.new
+        (front_text shown_byte front.now) result }
+{
+    if front.len() == 1 {
+        print_byte(printer, output, front[0])
     } else {
-        append_number(text, byte)
+        printer.put(output, front)
     }
 }
 
-/// Appends a character of one byte.
-fn append_character(text: &mut Vec<u8>, byte: u8) -> Result<(), NoMemory>
-    ensures { OnOk result (text.new.items ≡ text.old.items ++ shown_first 1 byte) }
+/// Prints a byte that is a character, or part of none.
+fn print_byte<W: Write>(printer: &mut Printer, output: &mut W, byte: u8) -> Result<(), WriteFault>
+    ensures { Prints (W.contents output.old) (W.contents output.new) printer.old printer.new
+        (shown_byte byte) result }
 {
     if byte == b'\\' {
-        append(text, b"\\\\")
-    } else if is_control(byte) {
-        append_number(text, byte)
+        printer.put(output, b"\\\\")
+    } else if is_control(byte) || byte >= 0x80 {
+        print_number(printer, output, byte)
     } else {
-        append(text, &[byte])
+        printer.put(output, &[byte])
     }
 }
 
-/// Appends a byte by its number.
-fn append_number(text: &mut Vec<u8>, byte: u8) -> Result<(), NoMemory>
-    ensures { OnOk result (text.new.items ≡ text.old.items ++ numbered byte) }
+/// Prints a byte by its number.
+fn print_number<W: Write>(printer: &mut Printer, output: &mut W, byte: u8) -> Result<(), WriteFault>
+    ensures { Prints (W.contents output.old) (W.contents output.new) printer.old printer.new
+        (numbered byte) result }
 {
-    append(
-        text,
+    printer.put(
+        output,
         &[b'\\', b'x', last_digit(byte / 16), last_digit(byte)],
     )
 }

@@ -1,63 +1,173 @@
 //! The texts of the paths of files that answer.
 
-ghost use Rattle.std.specs.Prelude.{◌≡◌, ◌≢◌, ◌<◌, ◌≤◌, ◌+◌, ◌⊎◌, ℕ, length, replicate, slice_get, slice_index_or};
-ghost use Rattle.std.specs.Prelude.{IfOk, IfSome, OnOk, None, Some};
-ghost use Rattle.std.specs.Option.{option_copied, option_map_or};
+ghost use Rattle.std.specs.Prelude.{◌≡◌, ◌≢◌, ◌<◌, ◌≤◌, ◌+◌, ℕ, List, Option, [], length, slice_get, slice_index_or};
+ghost use Rattle.std.specs.Prelude.{IfOk, IfSome, OnOk, None, Some, unwrap_or};
+ghost use Rattle.std.specs.Option.{option_and_then, option_copied, option_map, option_map_or};
 ghost use Rattle.dl_look.specs.Ledgers.{no_answer};
-ghost use Rattle.dl_addr.specs.Texts.{AreNumbers, AreSeen, Grows, IsKept, IsOther, text_at, text_of_file};
+ghost use Rattle.dl_addr.specs.Parts.{path_seen};
+ghost use Rattle.dl_addr.specs.PathParts.{FromDirectories, IsDirectory, directory_seen, parts_seen, text_seen};
+ghost use Rattle.dl_addr.specs.Texts.{AreNumbers, AreSeen, AreTexts, Grows, HasPath, IsKept, IsOther, IsPath};
+ghost use Rattle.dl_addr.specs.Texts.{kept_seen};
+ghost use Rattle.dl_addr.specs.Texts.{TextsGrow, directory_text, named, part_at, path_at, path_of_file, text_at};
+ghost use Rattle.dl_print.specs.ValueText.{strings_of};
+ghost use Rattle.dl_addr.specs.Paths.{path_of};
 
-use crate::path::path_of;
-use crate::shown::path_text;
+use crate::basename::basename;
+use crate::parts::{Directory, Parts, Text, parts_of};
+use crate::path::Path;
 use crate::style::Style;
 use dl_head::Header;
 use dl_look::{Answered, NoMemory};
 use dl_print::StringSections;
 use std::alloc::Global;
+use std::collections::BTreeMap;
 
-/// The text of a file's path.
+/// A text that is kept. The string sections are held as long as the texts, those of headers aren't.
 #[derive(Drop)]
-pub struct FileText {
+pub enum KeptText<'s> {
+    Lent(&'s [u8]),
+    Copied(Vec<u8>),
+}
+
+/// The path of a file, in the numbers of its texts.
+#[derive(Clone, Copy)]
+pub struct FilePath {
     /// The offset of the file's unit in its section.
     pub unit: u64,
-    pub text: Vec<u8>,
+    pub base: Option<usize>,
+    pub directory: Option<usize>,
+    /// None where the path isn't known.
+    pub name: Option<usize>,
+}
+
+/// The paths of the files that answer. Each text of a unit is among them once.
+#[derive(Drop)]
+pub struct Paths<'s> {
+    pub files: Vec<FilePath>,
+    pub texts: Vec<KeptText<'s>>,
 }
 
 /// The files of a unit, and how their paths are printed.
 #[derive(Clone, Copy)]
-pub struct UnitFiles<'a, 'b> {
-    pub strings: &'a StringSections<'b>,
-    pub header: Option<&'a Header>,
+pub struct UnitFiles<'s, 'o, 'h> {
+    pub strings: &'s StringSections<'o>,
+    pub header: Option<&'h Header>,
     pub style: Style,
     /// The offset of the unit in its section.
     pub offset: u64,
 }
 
-/// Keeps the text of the file of each place that a unit answers: a file's text once, and for each place
-/// the number of its text.
-pub fn keep_all(
+/// What is kept of the current unit, by its numbers.
+#[derive(Drop)]
+pub struct UnitNumbers {
+    /// The number of each file's path.
+    pub files: BTreeMap<u64, usize>,
+    /// The number of each directory's text.
+    pub directories: BTreeMap<u64, usize>,
+    /// The file that was looked up last, with the number of its path: rows that follow one another often name one file.
+    pub last: Option<(u64, usize)>,
+}
+
+/// The bytes of a text that is kept.
+fn kept_bytes<'a>(text: &'a KeptText<'_>) -> &'a [u8]
+    ensures { result.now ≡ kept_seen text.now }
+{
+    match text {
+        KeptText::Lent(bytes) => bytes,
+        KeptText::Copied(bytes) => bytes.as_slice(),
+    }
+}
+
+impl Paths<'_> {
+    ghost use Rattle.std.specs.Prelude.{◌≡◌, [], unwrap_or};
+    ghost use Rattle.std.specs.Option.{option_and_then, option_copied, option_map};
+    ghost use Rattle.dl_addr.specs.Parts.{path_seen};
+    ghost use Rattle.dl_addr.specs.Texts.{path_at, text_at};
+
+    /// The path of a file.
+    pub fn path(&self, file: &FilePath) -> Option<Path<'_>>
+        ensures { option_map path_seen result ≡ path_at self.now.texts.items file.now }
+    {
+        let name = self.text(file.name)?;
+        Some(Path {
+            base: self.text_or_none(file.base),
+            directory: self.text_or_none(file.directory),
+            name,
+        })
+    }
+
+    fn text_or_none(&self, number: Option<usize>) -> &[u8]
+        ensures { result.now ≡ unwrap_or (option_and_then (text_at self.now.texts.items) number) [] }
+    {
+        match self.text(number) {
+            Some(text) => text,
+            None => b"",
+        }
+    }
+
+    /// The text of this number.
+    fn text(&self, number: Option<usize>) -> Option<&[u8]>
+        ensures { option_copied result ≡ option_and_then (text_at self.now.texts.items) number }
+    {
+        Some(kept_bytes(self.texts.as_slice().get(number?)?))
+    }
+}
+
+/// Keeps the path of the file of each place that a unit answers: a file's path once, and for each place
+/// the number of its path.
+pub fn keep_all<'s>(
     alloc: Global,
-    texts: &mut Vec<FileText>,
+    paths: &mut Paths<'s>,
     kept: &mut Vec<usize>,
-    unit: &UnitFiles<'_, '_>,
+    unit: &UnitFiles<'s, '_, '_>,
     answered: &[Answered],
 ) -> Result<(), NoMemory>
-    ensures grows { Grows texts.old.items texts.new.items }
+    ensures grows { Grows paths.old paths.new }
     ensures len { length kept.new.items ≡ length kept.old.items }
     ensures others { (i : ℕ) → IsOther answered.now (length answered.now) i
         → slice_get kept.new.items i ≡ slice_get kept.old.items i }
     ensures right { OnOk result (AreNumbers answered.now kept.old.items → (j : ℕ) → j < length answered.now
-        → IsKept texts.new.items kept.new.items (slice_index_or answered.now j no_answer).number
-        (text_of_file unit.now (slice_index_or answered.now j no_answer).row.file)) }
+        → IsKept paths.new kept.new.items (slice_index_or answered.now j no_answer).number
+        (path_of_file unit.now (slice_index_or answered.now j no_answer).row.file)) }
 {
-    let mut seen = no_texts(alloc, files(unit).saturating_add(1))?;
+    let mut numbers = UnitNumbers {
+        files: BTreeMap::new(alloc),
+        directories: BTreeMap::new(alloc),
+        last: None,
+    };
     for answer in answered {
-        keep(alloc, texts, &mut seen, kept, unit, answer)?;
+        keep(alloc, paths, &mut numbers, kept, unit, answer)?;
+    }
+    Ok(())
+}
+
+/// Keeps the path of the file of a place.
+fn keep<'s>(
+    alloc: Global,
+    paths: &mut Paths<'s>,
+    numbers: &mut UnitNumbers,
+    kept: &mut Vec<usize>,
+    unit: &UnitFiles<'s, '_, '_>,
+    answer: &Answered,
+) -> Result<(), NoMemory>
+    ensures grows { Grows paths.old paths.new }
+    ensures seen { OnOk result (AreSeen unit.now numbers.old paths.old → AreSeen unit.now numbers.new paths.new) }
+    ensures len { length kept.new.items ≡ length kept.old.items }
+    ensures others { (i : ℕ) → answer.now.number ≢ i → slice_get kept.new.items i ≡ slice_get kept.old.items i }
+    ensures right { OnOk result (AreSeen unit.now numbers.old paths.old
+        → answer.now.number < length kept.old.items
+        → IsKept paths.new kept.new.items answer.now.number (path_of_file unit.now answer.now.row.file)) }
+{
+    let number = number_of(alloc, paths, numbers, unit, answer.row.file)?;
+    numbers.last = Some((answer.row.file, number));
+    if answer.number < kept.len() {
+        kept[answer.number] = number;
     }
     Ok(())
 }
 
 /// How many files the unit's table has.
-fn files(unit: &UnitFiles<'_, '_>) -> usize
+fn files(unit: &UnitFiles<'_, '_, '_>) -> usize
     ensures { result ≡ option_map_or (λ h. length h.files.entries) (option_copied unit.now.header) 0 }
 {
     match unit.header {
@@ -66,105 +176,182 @@ fn files(unit: &UnitFiles<'_, '_>) -> usize
     }
 }
 
-/// No text for each of `count` files.
-fn no_texts(alloc: Global, count: usize) -> Result<Vec<Option<usize>>, NoMemory>
-    ensures { IfOk result (λ seen. seen.items ≡ replicate count None) }
-{
-    let Ok(mut seen) = Vec::with_capacity(alloc, count) else {
-        return Err(NoMemory);
-    };
-    while seen.len() < count {
-        seen.push_reserved(None);
-    }
-    Ok(seen)
-}
-
-/// Keeps the text of the file of a place.
-fn keep(
+/// The number of the path of a file, which is added where the file wasn't seen.
+fn number_of<'s>(
     alloc: Global,
-    texts: &mut Vec<FileText>,
-    seen: &mut Vec<Option<usize>>,
-    kept: &mut Vec<usize>,
-    unit: &UnitFiles<'_, '_>,
-    answer: &Answered,
-) -> Result<(), NoMemory>
-    ensures grows { Grows texts.old.items texts.new.items }
-    ensures seen { AreSeen unit.now seen.old.items texts.old.items → AreSeen unit.now seen.new.items texts.new.items }
-    ensures len { length kept.new.items ≡ length kept.old.items }
-    ensures others { (i : ℕ) → answer.now.number ≢ i → slice_get kept.new.items i ≡ slice_get kept.old.items i }
-    ensures right { OnOk result (AreSeen unit.now seen.old.items texts.old.items
-        → answer.now.number < length kept.old.items
-        → IsKept texts.new.items kept.new.items answer.now.number (text_of_file unit.now answer.now.row.file)) }
-{
-    let text = number_of(alloc, texts, seen, unit, answer.row.file)?;
-    if answer.number < kept.len() {
-        kept[answer.number] = text;
-    }
-    Ok(())
-}
-
-/// The number of the text of a file, which is added where the file wasn't seen.
-fn number_of(
-    alloc: Global,
-    texts: &mut Vec<FileText>,
-    seen: &mut Vec<Option<usize>>,
-    unit: &UnitFiles<'_, '_>,
+    paths: &mut Paths<'s>,
+    numbers: &mut UnitNumbers,
+    unit: &UnitFiles<'s, '_, '_>,
     file: u64,
 ) -> Result<usize, NoMemory>
-    ensures grows { Grows texts.old.items texts.new.items }
-    ensures seen { AreSeen unit.now seen.old.items texts.old.items → AreSeen unit.now seen.new.items texts.new.items }
-    ensures right { IfOk result (λ k. AreSeen unit.now seen.old.items texts.old.items
-        → text_at texts.new.items k ≡ Some (text_of_file unit.now file)) }
+    ensures grows { Grows paths.old paths.new }
+    ensures seen { OnOk result (AreSeen unit.now numbers.old paths.old → AreSeen unit.now numbers.new paths.new) }
+    ensures right { IfOk result (λ k. AreSeen unit.now numbers.old paths.old
+        → HasPath paths.new k (path_of_file unit.now file)) }
 {
-    // Files that the table lacks have one text.
-    let entry = file.min(files(unit) as u64);
-    if let Some(number) = seen_at(seen.as_slice(), entry as usize) {
+    if let Some(number) = last_number(numbers, file) {
         return Ok(number);
     }
-    let number = add(alloc, texts, unit, entry)?;
-    mark(seen, entry as usize, number);
-    Ok(number)
-}
-
-/// The number of the text of a file that was seen.
-fn seen_at(seen: &[Option<usize>], entry: usize) -> Option<usize>
-    ensures { IfSome result (λ k. slice_get seen.now entry ≡ Some (Some k)) }
-{
-    if entry < seen.len() {
-        seen[entry]
-    } else {
-        None
+    // Files that the table lacks have one path.
+    let entry = file.min(files(unit) as u64);
+    if let Some(number) = numbers.files.get(&entry) {
+        return Ok(*number);
+    }
+    let number = add_file(alloc, paths, &mut numbers.directories, unit, entry)?;
+    match numbers.files.insert(entry, number) {
+        Ok(_) => Ok(number),
+        Err(_) => Err(NoMemory),
     }
 }
 
-/// The text of a file has this number.
-fn mark(seen: &mut Vec<Option<usize>>, entry: usize, number: usize)
-    ensures { (i k : ℕ) → slice_get seen.new.items i ≡ Some (Some k)
-        → (slice_get seen.old.items i ≡ Some (Some k)) ⊎ ((i ≡ entry) × (k ≡ number)) }
+/// The number of the path of a file that was looked up last.
+fn last_number(numbers: &UnitNumbers, file: u64) -> Option<usize>
+    ensures { IfSome result (λ k. numbers.now.last ≡ Some (file, k)) }
 {
-    if entry < seen.len() {
-        seen[entry] = Some(number);
-    }
+    let (last, number) = numbers.last?;
+    if last == file { Some(number) } else { None }
 }
 
-/// Adds the text of a file, and answers its number.
-fn add(
+/// Adds the path of a file, and answers its number.
+fn add_file<'s>(
     alloc: Global,
-    texts: &mut Vec<FileText>,
-    unit: &UnitFiles<'_, '_>,
+    paths: &mut Paths<'s>,
+    directories: &mut BTreeMap<u64, usize>,
+    unit: &UnitFiles<'s, '_, '_>,
     file: u64,
 ) -> Result<usize, NoMemory>
-    ensures grows { Grows texts.old.items texts.new.items }
-    ensures right { IfOk result (λ k. text_at texts.new.items k ≡ Some (text_of_file unit.now file)) }
+    ensures grows { Grows paths.old paths.new }
+    ensures directories { OnOk result (AreTexts (directory_text unit.now) directories.old paths.old.texts.items
+        → AreTexts (directory_text unit.now) directories.new paths.new.texts.items) }
+    ensures right { IfOk result (λ k. AreTexts (directory_text unit.now) directories.old paths.old.texts.items
+        → HasPath paths.new k (path_of_file unit.now file)) }
 {
-    let text = path_text(alloc, unit.style, path_of(unit.strings, unit.header, file))?;
-    let number = texts.len();
-    let added = texts.push(FileText {
-        unit: unit.offset,
-        text,
-    });
-    match added {
+    let parts = file_parts(unit, file);
+    let path = keep_parts(alloc, &mut paths.texts, directories, unit.offset, parts)?;
+    let number = paths.files.len();
+    match paths.files.push(path) {
         Ok(()) => Ok(number),
         Err(_) => Err(NoMemory),
+    }
+}
+
+/// The parts of the path of a file, as far as they are printed.
+fn file_parts<'s, 'h>(unit: &UnitFiles<'s, '_, 'h>, file: u64) -> Option<Parts<'s, 'h>>
+    ensures seen { option_map parts_seen result ≡ named unit.now.style
+        (path_of (strings_of unit.now.strings.now) (option_copied unit.now.header) file) }
+    ensures numbered { IfSome result (FromDirectories (directory_text unit.now)) }
+{
+    let parts = parts_of(unit.strings, unit.header, file)?;
+    if unit.style.basenames {
+        return Some(basename(parts));
+    }
+    Some(parts)
+}
+
+/// Keeps the texts of a path of the unit at this offset.
+fn keep_parts<'s>(
+    alloc: Global,
+    texts: &mut Vec<KeptText<'s>>,
+    directories: &mut BTreeMap<u64, usize>,
+    unit: u64,
+    parts: Option<Parts<'s, '_>>,
+) -> Result<FilePath, NoMemory>
+    ensures grows { TextsGrow texts.old.items texts.new.items }
+    ensures directories { OnOk result ((f : ℕ → Option (List ℕ)) → AreTexts f directories.old texts.old.items
+        → IfSome parts.entry (FromDirectories f) → AreTexts f directories.new texts.new.items) }
+    ensures right { IfOk result (λ p. (f : ℕ → Option (List ℕ)) → AreTexts f directories.old texts.old.items
+        → IfSome parts.entry (FromDirectories f) → IsPath texts.new.items p (option_map parts_seen parts.entry)) }
+    ensures unit { IfOk result (λ p. p.unit ≡ unit) }
+{
+    let Some(parts) = parts else {
+        return Ok(FilePath {
+            unit,
+            base: None,
+            directory: None,
+            name: None,
+        });
+    };
+    let base = keep_directory(alloc, texts, directories, parts.base)?;
+    let directory = keep_directory(alloc, texts, directories, parts.directory)?;
+    let name = add_text(alloc, texts, parts.name)?;
+    Ok(FilePath {
+        unit,
+        base,
+        directory,
+        name: Some(name),
+    })
+}
+
+/// Keeps the text of a directory, where there is one, and answers its number.
+fn keep_directory<'s>(
+    alloc: Global,
+    texts: &mut Vec<KeptText<'s>>,
+    directories: &mut BTreeMap<u64, usize>,
+    directory: Option<Directory<'s, '_>>,
+) -> Result<Option<usize>, NoMemory>
+    ensures grows { TextsGrow texts.old.items texts.new.items }
+    ensures directories { OnOk result ((f : ℕ → Option (List ℕ)) → AreTexts f directories.old texts.old.items
+        → IsDirectory f directory.entry → AreTexts f directories.new texts.new.items) }
+    ensures right { IfOk result (λ n. (f : ℕ → Option (List ℕ)) → AreTexts f directories.old texts.old.items
+        → IsDirectory f directory.entry → part_at texts.new.items n ≡ Some (directory_seen directory.entry)) }
+{
+    let Some(directory) = directory else {
+        return Ok(None);
+    };
+    Ok(Some(directory_number(alloc, texts, directories, directory)?))
+}
+
+/// The number of the text of a directory, which is added where the directory wasn't seen.
+fn directory_number<'s>(
+    alloc: Global,
+    texts: &mut Vec<KeptText<'s>>,
+    directories: &mut BTreeMap<u64, usize>,
+    directory: Directory<'s, '_>,
+) -> Result<usize, NoMemory>
+    ensures grows { TextsGrow texts.old.items texts.new.items }
+    ensures directories { OnOk result ((f : ℕ → Option (List ℕ)) → AreTexts f directories.old texts.old.items
+        → f directory.entry.number ≡ Some (text_seen directory.entry.text)
+        → AreTexts f directories.new texts.new.items) }
+    ensures right { IfOk result (λ k. (f : ℕ → Option (List ℕ)) → AreTexts f directories.old texts.old.items
+        → f directory.entry.number ≡ Some (text_seen directory.entry.text)
+        → text_at texts.new.items k ≡ Some (text_seen directory.entry.text)) }
+{
+    if let Some(number) = directories.get(&directory.number) {
+        return Ok(*number);
+    }
+    let number = add_text(alloc, texts, directory.text)?;
+    match directories.insert(directory.number, number) {
+        Ok(_) => Ok(number),
+        Err(_) => Err(NoMemory),
+    }
+}
+
+/// Adds a text, and answers its number.
+fn add_text<'s>(
+    alloc: Global,
+    texts: &mut Vec<KeptText<'s>>,
+    text: Text<'s, '_>,
+) -> Result<usize, NoMemory>
+    ensures grows { TextsGrow texts.old.items texts.new.items }
+    ensures right { IfOk result (λ k. text_at texts.new.items k ≡ Some (text_seen text.entry)) }
+{
+    let kept = kept_text(alloc, text)?;
+    let number = texts.len();
+    match texts.push(kept) {
+        Ok(()) => Ok(number),
+        Err(_) => Err(NoMemory),
+    }
+}
+
+/// A text as it is kept.
+fn kept_text<'s>(alloc: Global, text: Text<'s, '_>) -> Result<KeptText<'s>, NoMemory>
+    ensures { IfOk result (λ kept. kept_seen kept ≡ text_seen text.entry) }
+{
+    match text {
+        Text::Section(bytes) => Ok(KeptText::Lent(bytes)),
+        Text::Header(bytes) => match bytes.to_vec(alloc) {
+            Ok(copy) => Ok(KeptText::Copied(copy)),
+            Err(_) => Err(NoMemory),
+        },
     }
 }

@@ -1,6 +1,7 @@
 pub mod CommandLineLemmas
 pub mod AddressLemmas
 pub mod LineTexts
+pub mod WordLemmas
 pub mod LineCuts
 pub mod LineLemmas
 pub mod WorkedLines

@@ -11,7 +11,9 @@ use Rattle.dl_cmd.specs.Line.{after_blank, after_byte, after_digit, after_mark, 
 use Rattle.dl_cmd.specs.Line.{digits_or_other, new_line, text_so_far}
 use Rattle.dl_cmd.specs.LinesRead.{asked_from, base_of, no_address_from}
 use Rattle.dl_cmd.specs.AskedLines.{and_asked, asked_in, asked_of_line, asked_of_lines, if_no_address, is_blank}
-use Rattle.dl_cmd.specs.AskedLines.{lines_after, no_address_among, no_address_in, without_return}
+use Rattle.dl_cmd.specs.AskedLines.{lines_after, no_address_among, no_address_in, trim_end, without_return}
+use Rattle.dl_cmd.specs.LineWord.{with_byte, word_after, word_so_far}
+use Rattle.dl_cmd.proofs.WordLemmas.{kept_more, kept_of}
 use Rattle.dl_cmd.proofs.LineTexts.{line_asks, not_digit, run, run-more, step}
 
 -- ---- a 0x0d at the end of a line
@@ -46,15 +48,17 @@ return_steps base Other = refl
 record Read (base : ℕ) (line : List ℕ) (l : Line) : Type 0 where
   so_far : text_so_far l ≡ run base Blank line
   ended : l.text ≡ run base Blank (without_return line)
+  word : word_so_far l (kept_of (without_return line)) ≡ kept_of line
 
 read_none : (base : ℕ) → Read base [] new_line
-read_none base = record { so_far = refl; ended = refl }
+read_none base = record { so_far = refl; ended = refl; word = refl }
 
 read_return : (base : ℕ) (line : List ℕ) (l : Line) → Read base line l
     → Read base (line ++ 13 ∷ []) (after_byte base l 13)
 read_return base line l r = record {
   so_far = sym (run-more base Blank line 13 ∙ return_steps base (run base Blank line));
   ended = r.so_far ∙ sym (ap (run base Blank) (dropped line));
+  word = ap (λ l. with_byte (kept_of l) 13) (dropped line) ∙ kept_more line 13;
 }
 
 byte_is : (base : ℕ) (l : Line) (c : ℕ) → (c == 13) ≡ false
@@ -83,7 +87,11 @@ read_other base line l c not r =
     let now : step base (text_so_far l) c ≡ run base Blank (line ++ c ∷ []) =
     ap (λ t. step base t c) r.so_far ∙ sym (run-more base Blank line c) in
     let at : Read base (line ++ c ∷ []) (record { text = step base (text_so_far l) c; returned = false }) =
-    record { so_far = now; ended = now ∙ sym (ap (run base Blank) (kept line c not)) } in
+    record {
+      so_far = now;
+      ended = now ∙ sym (ap (run base Blank) (kept line c not));
+      word = ap kept_of (kept line c not);
+    } in
     subst (Read base (line ++ c ∷ [])) (sym (byte_is base l c not)) at
 
 read_byte : (base : ℕ) (line : List ℕ) (l : Line) (c : ℕ) → Read base line l
@@ -116,22 +124,38 @@ asked_after hex line l (c ∷ b) r =
       | false ↦ asked_after hex (line ++ c ∷ []) next b (read_byte (base_of hex) line l c r)
     ]
 
+-- what it says first, with a byte more
+word_read : (base : ℕ) (line : List ℕ) (l : Line) (c : ℕ) → Read base line l
+    → word_after l (kept_of (without_return line)) c ≡ kept_of (without_return (line ++ c ∷ []))
+word_read base line l c r = by (c == 13) refl where
+  now : List ℕ
+  now = word_so_far l (kept_of (without_return line))
+
+  by : (b : Bool) → (c == 13) ≡ b
+      → (if b then now else with_byte now c) ≡ kept_of (without_return (line ++ c ∷ []))
+  by true e =
+      r.word ∙ ap kept_of (sym (ap (λ d. without_return (line ++ d ∷ [])) (eqb-true c 13 e) ∙ dropped line))
+  by false e = ap (λ w. with_byte w c) r.word ∙ (kept_more line c ∙ ap kept_of (sym (kept line c e)))
+
 numbered_after : (hex : Bool) (n : ℕ) (line : List ℕ) (l : Line) (b : List ℕ) → Read (base_of hex) line l
-    → no_address_from (base_of hex) l n b ≡ no_address_among hex n (lines_after line b)
-numbered_after hex n line l [] r = ap (λ a. if_no_address a n None) (input_ends hex line l r)
+    → no_address_from (base_of hex) l n (kept_of (without_return line)) b ≡ no_address_among hex n (lines_after line b)
+numbered_after hex n line l [] r =
+    ap₂ (λ a w. if_no_address a (n, trim_end w) None) (input_ends hex line l r) r.word
 numbered_after hex n line l (c ∷ b) r =
     let next = after_byte (base_of hex) l c in
-    elim (c == 10) as (λ x. (if x
-    then if_no_address (asked_of l.text) n (no_address_from (base_of hex) new_line (suc n) b)
-    else no_address_from (base_of hex) next n b) ≡ no_address_among hex n (if x
+    let word = kept_of (without_return line) in
+    elim (c == 10) as (λ x. (if x then if_no_address (asked_of l.text) (n, trim_end word)
+    (no_address_from (base_of hex) new_line (suc n) [] b)
+    else no_address_from (base_of hex) next n (word_after l word c) b) ≡ no_address_among hex n (if x
     then without_return line ∷ lines_after [] b else lines_after (line ++ c ∷ []) b)) [
-      | true ↦ ap₂ (λ a o. if_no_address a n o) (line_ends hex line l r)
+      | true ↦ ap₂ (λ a o. if_no_address a (n, trim_end word) o) (line_ends hex line l r)
           (numbered_after hex (suc n) [] new_line b (read_none (base_of hex)))
-      | false ↦ numbered_after hex n (line ++ c ∷ []) next b (read_byte (base_of hex) line l c r)
+      | false ↦ ap (λ w. no_address_from (base_of hex) next n w b) (word_read (base_of hex) line l c r)
+          ∙ numbered_after hex n (line ++ c ∷ []) next b (read_byte (base_of hex) line l c r)
     ]
 
 pub lines_asked : (hex : Bool) (b : List ℕ) → asked_from (base_of hex) new_line b ≡ asked_in hex b
 lines_asked hex b = asked_after hex [] new_line b (read_none (base_of hex))
 
-pub lines_numbered : (hex : Bool) (b : List ℕ) → no_address_from (base_of hex) new_line 1 b ≡ no_address_in hex b
+pub lines_numbered : (hex : Bool) (b : List ℕ) → no_address_from (base_of hex) new_line 1 [] b ≡ no_address_in hex b
 lines_numbered hex b = numbered_after hex 1 [] new_line b (read_none (base_of hex))

@@ -3,7 +3,7 @@ use Rattle.std.proofs.Common.{◌≡◌, ◌≢◌, ℕ, suc, ◌+◌, ◌<◌, 
 use Rattle.std.proofs.Common.{◌∷◌, ◌++◌, length, take, drop, get_or, subst, Option, Some, None, arith, refl, sym, ap}
 use Rattle.std.proofs.Common.{ap₂, ◌∙◌, append-nil, append_assoc, length-append}
 use Rattle.std.proofs.Common.{Result, Ok, Err, IfOk, IfErr, MatchResult}
-use Rattle.std.specs.Prelude.{is_some}
+use Rattle.std.specs.Prelude.{is_some, option_map}
 use Rattle.std.specs.Option.{option_or}
 use Rattle.std.proofs.lemmas.Bool.Decides.{nat_tests}
 use Rattle.std.proofs.lemmas.List.{length_push, take-append-drop, take_all, take_more}
@@ -13,7 +13,9 @@ use Rattle.dl_addr.specs.declared.asked.Asked.{Asked}
 use Rattle.dl_cmd.specs.declared.asked_lines.AskedLines.{AskedLines}
 use Rattle.dl_cmd.specs.declared.asked_lines.Lines.{Lines}
 use Rattle.dl_cmd.specs.Line.{after_byte, asked_at_end, asked_of, new_line}
-use Rattle.dl_cmd.specs.AskedLines.{IsAsked, StopsAsking, and_asked, if_no_address}
+use Rattle.dl_cmd.specs.AskedLines.{IsAsked, NumberedWord, StopsAsking, and_asked, if_no_address, other_line_seen}
+use Rattle.dl_cmd.specs.AskedLines.{trim_end}
+use Rattle.dl_cmd.specs.LineWord.{word_after, word_so_far}
 use Rattle.dl_cmd.specs.LinesRead.{Adds, RefusesAsked, Stands, asked_from, base_of, no_address_from}
 use Rattle.dl_cmd.proofs.LineCuts.{lines_asked, lines_numbered}
 
@@ -21,16 +23,16 @@ and_asked_front : (a : Option Asked) (xs : List Asked) → and_asked a xs ≡ an
 and_asked_front None xs = refl
 and_asked_front (Some a) xs = refl
 
-or_none : (o : Option ℕ) → option_or o None ≡ o
+or_none : (o : Option NumberedWord) → option_or o None ≡ o
 or_none None = refl
 or_none (Some n) = refl
 
 -- the current line takes a byte
 pub byte_taken : (base : ℕ) (done : List ℕ) (c : ℕ) (old new : Lines) → Stands base done old → (c == 10) ≡ false
     → new.base ≡ old.base → new.line ≡ after_byte old.base old.line c
-    → new.number ≡ old.number → new.asked.items ≡ old.asked.items → new.no_address ≡ old.no_address
-    → Stands base (done ++ c ∷ []) new
-byte_taken base done c old new s not_end own line number items no_address =
+    → new.number ≡ old.number → new.word ≡ word_after old.line old.word c → new.asked.items ≡ old.asked.items
+    → new.no_address ≡ old.no_address → Stands base (done ++ c ∷ []) new
+byte_taken base done c old new s not_end own line number word items no_address =
     let now : new.line ≡ after_byte base old.line c = line ∙ ap (λ b. after_byte b old.line c) s.own in
     let len = length_push done c in
     record {
@@ -42,32 +44,37 @@ byte_taken base done c old new s not_end own line number items no_address =
           ∙ ap₂ (λ xs l. xs ++ asked_from base l rest) (sym items) (sym now)));
       counted = λ few. (let before = s.counted (omega (arith, len, few)) in omega (arith, len, before, number));
       no_address =
-          λ few rest. ap (no_address_from base new_line 1) (append_assoc done (c ∷ []) rest)
+          λ few rest. ap (no_address_from base new_line 1 []) (append_assoc done (c ∷ []) rest)
           ∙ (s.no_address (omega (arith, len, few)) (c ∷ rest)
-          ∙ (ap (λ (b : Bool). option_or old.no_address (if b
-          then if_no_address (asked_of old.line.text) old.number
-          (no_address_from base new_line (suc old.number) rest)
-          else no_address_from base (after_byte base old.line c) old.number rest)) not_end
-          ∙ (ap₂ (λ o l. option_or o (no_address_from base l old.number rest)) (sym no_address) (sym now)
-          ∙ ap (λ n. option_or new.no_address (no_address_from base new.line n rest)) (sym number))));
+          ∙ (ap (λ (b : Bool). option_or (option_map other_line_seen old.no_address) (if b
+          then if_no_address (asked_of old.line.text) (old.number, trim_end old.word)
+          (no_address_from base new_line (suc old.number) [] rest)
+          else no_address_from base (after_byte base old.line c) old.number (word_after old.line old.word c) rest)) not_end
+          ∙ (ap₂ (λ o l. option_or (option_map other_line_seen o)
+          (no_address_from base l old.number (word_after old.line old.word c) rest)) (sym no_address) (sym now)
+          ∙ ap₂ (λ n w. option_or (option_map other_line_seen new.no_address)
+          (no_address_from base new.line n w rest)) (sym number) (sym word))));
     }
 
 -- the input ends
-pub all_taken : (hex : Bool) (done : List ℕ) (old new : Lines) (lines : AskedLines) → Stands (base_of hex) done old
-    → Adds (asked_at_end old.line) old new
+pub all_taken : (hex : Bool) (done word : List ℕ) (old new : Lines) (lines : AskedLines)
+    → Stands (base_of hex) done old → word ≡ word_so_far old.line old.word
+    → Adds (asked_at_end old.line) (record old { word = word }) new
     → lines.asked.items ≡ new.asked.items → lines.no_address ≡ new.no_address → IsAsked hex done lines
-all_taken hex done old new lines s adds items no_address =
+all_taken hex done word old new lines s told adds items no_address =
     let base = base_of hex in
     record {
       asked = items
           ∙ (adds.asked
           ∙ (sym (s.asked []) ∙ (ap (asked_from base new_line) (append-nil done) ∙ lines_asked hex done)));
       no_address =
-          λ few. no_address
-          ∙ (sym (or_none new.no_address)
+          λ few. ap (option_map other_line_seen) no_address
+          ∙ (sym (or_none (option_map other_line_seen new.no_address))
           ∙ (adds.no_address None
+          ∙ (ap (λ w. option_or (option_map other_line_seen old.no_address)
+          (if_no_address (asked_at_end old.line) (old.number, trim_end w) None)) told
           ∙ (sym (s.no_address few [])
-          ∙ (ap (no_address_from base new_line 1) (append-nil done) ∙ lines_numbered hex done))));
+          ∙ (ap (no_address_from base new_line 1 []) (append-nil done) ∙ lines_numbered hex done)))));
     }
 
 -- no bytes more

@@ -1,12 +1,13 @@
 -- The addresses asked for on an input, one a line.
 use Rattle.std.specs.Prelude.{⊤, ◌≡◌, ◌<◌, ◌≢◌, ◌^◌, ℕ, suc, Bool, ◌||◌, ◌==◌, if◌then◌else◌, List, [], ◌∷◌, ◌++◌}
-use Rattle.std.specs.Prelude.{length, Option, Some, None, is_none}
+use Rattle.std.specs.Prelude.{length, take, Option, Some, None, is_none, option_map}
 use Rattle.std.specs.List.{list_all}
 use Rattle.dl_cmd.specs.Address.{address_in, hex_address_in}
 use Rattle.dl_run.specs.declared.fault.RunFault.{RunFault}
 use Rattle.dl_run.specs.declared.fault.RunFault.TheVariants as fault
 use Rattle.dl_addr.specs.declared.asked.Asked.{Asked}
 use Rattle.dl_cmd.specs.declared.asked_lines.AskedLines.{AskedLines}
+use Rattle.dl_cmd.specs.declared.asked_lines.OtherLine.{OtherLine}
 
 -- ---- lines: each ends at a 0x0a (10), before which one 0x0d (13) is dropped; the last one may lack its 0x0a
 
@@ -64,26 +65,42 @@ asked_of_lines hex (line ∷ lines) = and_asked (asked_of_line hex line) (asked_
 abbrev pub asked_in : (hex : Bool) → List ℕ → List Asked
 asked_in hex b = asked_of_lines hex (lines_in b)
 
--- n, where it asks for what is no address
-abbrev pub if_no_address : Option Asked → ℕ → Option ℕ → Option ℕ
-if_no_address None n rest = rest
-if_no_address (Some a) n rest = if is_none a.address then Some n else rest
+-- how many bytes of a line are told
+abbrev pub word_size : ℕ
+word_size = 64
 
--- the number of the first line that is no address, n being that of the first line
-abbrev pub no_address_among : (hex : Bool) → (n : ℕ) → List (List ℕ) → Option ℕ
+-- what is told of a line: its first bytes, without the blanks around them
+abbrev pub word_of : List ℕ → List ℕ
+word_of line = trim_end (take word_size (trim_start line))
+
+-- the number of a line and what is told of it
+abbrev pub NumberedWord : Type 0
+NumberedWord = ℕ × List ℕ
+
+-- line n and what is told of it, where it asks for what is no address
+abbrev pub if_no_address : Option Asked → NumberedWord → Option NumberedWord → Option NumberedWord
+if_no_address None told rest = rest
+if_no_address (Some a) told rest = if is_none a.address then Some told else rest
+
+-- the first line that is no address, n being the number of the first line
+abbrev pub no_address_among : (hex : Bool) → (n : ℕ) → List (List ℕ) → Option NumberedWord
 no_address_among hex n [] = None
-no_address_among hex n (line ∷ lines) = if_no_address (asked_of_line hex line) n (no_address_among hex (suc n) lines)
+no_address_among hex n (line ∷ lines) =
+    if_no_address (asked_of_line hex line) (n, word_of line) (no_address_among hex (suc n) lines)
 
 -- lines are counted from 1 on, empty ones too
-abbrev pub no_address_in : (hex : Bool) → List ℕ → Option ℕ
+abbrev pub no_address_in : (hex : Bool) → List ℕ → Option NumberedWord
 no_address_in hex b = no_address_among hex 1 (lines_in b)
+
+abbrev pub other_line_seen : OtherLine → NumberedWord
+other_line_seen line = (line.number, line.word)
 
 -- ---- what is read
 
 -- these bytes ask for it; the first line that is no address is told of less than 2^63 bytes
 pub record IsAsked (hex : Bool) (b : List ℕ) (lines : AskedLines) : Type 0 where
   pub asked : lines.asked.items ≡ asked_in hex b
-  pub no_address : length b < 2 ^ 63 → lines.no_address ≡ no_address_in hex b
+  pub no_address : length b < 2 ^ 63 → option_map other_line_seen lines.no_address ≡ no_address_in hex b
 
 -- the input can't be read, or memory is refused for what these bytes, which were read, ask for
 abbrev pub StopsAsking : (hex : Bool) (b : List ℕ) → RunFault → Type 0

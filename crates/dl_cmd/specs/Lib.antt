@@ -6,4 +6,5 @@ pub mod Address
 pub mod AskedLines
 -- Of contracts inside the crate, and of proofs; no public contract reaches these.
 pub mod Line
+pub mod LineWord
 pub mod LinesRead

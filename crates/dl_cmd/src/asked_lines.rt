@@ -4,18 +4,28 @@ ghost use Rattle.std.specs.Io.KnownBytes.{Consumes, IsAtEnd};
 ghost use Rattle.dl_cmd.specs.AskedLines.{IsAsked, StopsAsking};
 
 use crate::line::Line;
+use crate::line_word::LineWord;
 use dl_addr::Asked;
 use dl_run::{Input, RunFault};
 use std::alloc::Global;
 use std::io::Read;
+
+/// A line that is no address.
+#[derive(Debug, Drop)]
+pub struct OtherLine {
+    /// Lines are counted from 1 on, empty ones too.
+    pub number: u64,
+    /// What it says, as far as it is told.
+    pub word: LineWord,
+}
 
 /// What is asked for on an input.
 #[derive(Debug, Drop)]
 pub struct AskedLines {
     /// An entry for each line that isn't empty, in order.
     pub asked: Vec<Asked>,
-    /// The number of the first line that is no address; lines are counted from 1 on, empty ones too.
-    pub no_address: Option<u64>,
+    /// The first line that is no address.
+    pub no_address: Option<OtherLine>,
 }
 
 /// The lines that were read so far.
@@ -27,8 +37,10 @@ struct Lines {
     line: Line,
     /// Its number.
     number: u64,
+    /// What it says first.
+    word: LineWord,
     asked: Vec<Asked>,
-    no_address: Option<u64>,
+    no_address: Option<OtherLine>,
 }
 
 impl Lines {
@@ -45,6 +57,7 @@ impl Lines {
             base: if hex { 16 } else { 10 },
             line: Line::new(),
             number: 1,
+            word: LineWord::new(),
             asked: Vec::new(alloc),
             no_address: None,
         }
@@ -59,7 +72,10 @@ impl Lines {
             return Ok(());
         };
         if asked.address.is_none() && self.no_address.is_none() {
-            self.no_address = Some(self.number);
+            self.no_address = Some(OtherLine {
+                number: self.number,
+                word: self.word.trimmed(),
+            });
         }
         if self.asked.push(asked).is_err() {
             return Err(RunFault::NoMemory);
@@ -75,6 +91,7 @@ impl Lines {
             → IfErr result (RefusesAsked base (done ++ byte ∷ [])) }
     {
         if byte != b'\n' {
+            self.word.take(self.line, byte);
             self.line = self.line.after(self.base, byte);
             return Ok(());
         }
@@ -82,6 +99,7 @@ impl Lines {
         self.add(asked)?;
         self.line = Line::new();
         self.number = self.number.wrapping_add(1);
+        self.word.clear();
         Ok(())
     }
 
@@ -106,11 +124,13 @@ impl Lines {
     {
         let mut lines = self;
         let last = lines.line.asked_at_end();
+        lines.word.go_on(lines.line);
         lines.add(last)?;
         let Lines {
             base: _,
             line: _,
             number: _,
+            word: _,
             asked,
             no_address,
         } = lines;

@@ -6,3 +6,4 @@ pub mod FoundLemmas
 mod ForwardLemmas
 pub mod NoteLemmas
 pub mod WorkedFile
+pub mod NumberedLemmas

@@ -6,7 +6,7 @@ use Rattle.std.specs.Fmt.{decimal, digits}
 use Rattle.dl_elf.specs.declared.fault.ElfFault.{ElfFault}
 use Rattle.dl_elf.specs.declared.fault.ElfFault.TheVariants.{Read, NotElf, Damaged, NoLineSection, Compressed}
 use Rattle.dl_elf.specs.declared.fault.ElfFault.TheVariants.{DamagedStream}
-use Rattle.dl_elf.specs.declared.fault.ElfFault.TheVariants.{UnknownRelocation, RelocationOutside, CompactRelocations, NoMemory}
+use Rattle.dl_elf.specs.declared.fault.ElfFault.TheVariants.{UnknownRelocation, RelocationOutside, NoMemory}
 use Rattle.dl_elf.specs.declared.fault.Part.{Part}
 use Rattle.dl_elf.specs.declared.fault.Part.TheVariants.{SectionHeaderSize, SectionHeaders, NameTable, Section}
 use Rattle.dl_elf.specs.declared.fault.Part.TheVariants.{CompressionHeader, Relocations, Symbols}
@@ -57,6 +57,4 @@ fault_text (UnknownRelocation name number machine) =
     ++ (codes " of machine " ++ decimal machine)))))
 fault_text (RelocationOutside name) =
     Some (codes "section " ++ name_bytes name ++ codes ": relocation outside the section")
-fault_text (CompactRelocations name) =
-    Some (codes "section " ++ name_bytes name ++ codes ": relocations of type CREL are not read")
 fault_text NoMemory = Some (codes "out of memory")

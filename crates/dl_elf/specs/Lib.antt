@@ -4,6 +4,7 @@ pub mod Elf
 pub mod Sections
 pub mod Names
 pub mod Found
+pub mod Numbered
 pub mod Forward
 pub mod Compressed
 pub mod Notes

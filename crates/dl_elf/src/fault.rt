@@ -52,9 +52,6 @@ pub enum ElfFault {
     },
     /// It is an object file, and the bytes that a relocation of this section changes don't lie in it.
     RelocationOutside(SectionName),
-    /// It is an object file, and its relocations of this section are written as differences (SHT_CREL), which aren't
-    /// read.
-    CompactRelocations(SectionName),
     /// A growth was refused.
     NoMemory,
 }
@@ -91,9 +88,6 @@ impl fmt::Display for ElfFault {
             ),
             ElfFault::RelocationOutside(name) => {
                 write!(f, "section {name}: relocation outside the section")
-            }
-            ElfFault::CompactRelocations(name) => {
-                write!(f, "section {name}: relocations of type CREL are not read")
             }
             ElfFault::NoMemory => write!(f, "out of memory"),
         }

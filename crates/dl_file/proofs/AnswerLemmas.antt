@@ -8,7 +8,7 @@ use Rattle.dl_elf.specs.declared.file.Elf.{Elf}
 use Rattle.dl_elf.specs.declared.name.SectionName.{SectionName}
 use Rattle.dl_elf.specs.Answers.{IfRead}
 use Rattle.dl_reloc.specs.declared.apply.RelocationFault.{RelocationFault}
-use Rattle.dl_reloc.specs.declared.apply.RelocationFault.TheVariants.{UnknownType, PlaceOutside, SymbolOutside}
+use Rattle.dl_reloc.specs.declared.apply.RelocationFault.TheVariants.{UnknownType, PlaceOutside, SymbolOutside, Damaged}
 use Rattle.dl_elf.specs.declared.compression.CompressionHeader.{CompressionHeader}
 use Rattle.dl_elf.specs.declared.named.NamedSection.{NamedSection}
 use Rattle.dl_elf.specs.Sections.{section_bytes, section_range}
@@ -37,6 +37,7 @@ pub fault_unread : (Fails : Error → Type 0) (e : Elf) (name : SectionName) (wh
 fault_unread Fails e name (UnknownType n) = tt
 fault_unread Fails e name PlaceOutside = tt
 fault_unread Fails e name SymbolOutside = tt
+fault_unread Fails e name Damaged = tt
 
 -- the fault of a part is that of the whole
 pub fault_made : (answer whole : Result (List ℕ) ElfFault) (made made' : List ℕ) (why : ElfFault)

@@ -6,3 +6,4 @@ pub mod SectionBytesLemmas
 pub mod PieceLemmas
 pub mod StreamLemmas
 pub mod InflatedLemmas
+pub mod PlaceLemmas

@@ -42,7 +42,7 @@ has_table f e at wanted result is found table =
 
 -- ---- no fault of the headers is that memory was refused
 
-abbrev MemoryIsFree : Result Elf ElfFault → Type 0
+abbrev pub MemoryIsFree : Result Elf ElfFault → Type 0
 MemoryIsFree (Err fault.NoMemory) = ⊥
 MemoryIsFree other = Unit {0}
 
@@ -70,7 +70,7 @@ first_free : (h : FileHeader) (f : List ℕ) (slot : Option SectionHeader) → M
 first_free h f None = tt
 first_free h f (Some s) = counted_free h f (section_count h s) (name_table_number h s)
 
-header_free : (f : List ℕ) (header : Option FileHeader) → MemoryIsFree (opened_with f header)
+pub header_free : (f : List ℕ) (header : Option FileHeader) → MemoryIsFree (opened_with f header)
 header_free f None = tt
 header_free f (Some h) = elim (cases_Bool (h.table_offset == 0)) [
   | inl none ↦ rw none tt

@@ -105,7 +105,7 @@ bytes_relocated e f line (suc n) told some few =
     let past : nat_le 16 n ≡ false = lt-leb 16 n (omega (arith, few)) in
     ap (bytes_with e f line) told ∙ rw past refl
 
-no_sum : (m n : Option ℕ) → sum_of m n ≡ Some 0 → (m ≡ Some 0) × (n ≡ Some 0)
+pub no_sum : (m n : Option ℕ) → sum_of m n ≡ Some 0 → (m ≡ Some 0) × (n ≡ Some 0)
 no_sum None n is = absurd (none-some 0 is)
 no_sum (Some m) None is = absurd (none-some 0 is)
 no_sum (Some m) (Some n) is =
@@ -113,7 +113,7 @@ no_sum (Some m) (Some n) is =
     let first : m ≡ 0 = omega (arith, sum) in
     let second : n ≡ 0 = omega (arith, sum) in (ap Some first, ap Some second)
 
-not_one : (b : Bool) → ◌≡◌ {A = Option ℕ} (Some (if b then 1 else 0)) (Some 0) → b ≡ false
+pub not_one : (b : Bool) → ◌≡◌ {A = Option ℕ} (Some (if b then 1 else 0)) (Some 0) → b ≡ false
 not_one false is = refl
 not_one true is = absurd (omega (arith, same_Some {A = ℕ} 1 0 is))
 

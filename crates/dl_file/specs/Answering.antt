@@ -6,6 +6,7 @@ use Rattle.dl_elf.specs.declared.fault.ElfFault.{ElfFault}
 use Rattle.dl_elf.specs.declared.fault.ElfFault.TheVariants as fault
 use Rattle.dl_elf.specs.declared.fault.Part.TheVariants as part
 use Rattle.dl_elf.specs.declared.file.Elf.{Elf}
+use Rattle.dl_reloc.specs.declared.placed.Placed.{Placed}
 use Rattle.dl_file.specs.declared.relocating.RelocationSections.{RelocationSections}
 use Rattle.dl_file.specs.Relocations.{relocations_of, relocations_upto}
 use Rattle.dl_file.specs.declared.line_file.LineFile.{LineFile}
@@ -31,6 +32,12 @@ IsMade answer made (Ok done) = answer ≡ Ok made
 IsMade answer made (Err (fault.Read error)) = Unit {0}
 IsMade answer made (Err fault.NoMemory) = Unit {0}
 IsMade answer made (Err other) = answer ≡ Err other
+
+-- this fault keeps these places from being listed; or a read failed, or a growth was refused, for which `Memory` holds
+abbrev pub StopsListing : (answer : Result (List Placed) ElfFault) (Memory : Type 0) → ElfFault → Type 0
+StopsListing answer Memory (fault.Read error) = Unit {0}
+StopsListing answer Memory fault.NoMemory = Memory
+StopsListing answer Memory other = answer ≡ Err other
 
 -- this number was counted, or a section header isn't there; or a read failed
 abbrev pub IsCounted : Option ℕ → Result ℕ ElfFault → Type 0

@@ -19,9 +19,10 @@ use Rattle.dl_reloc.specs.declared.target.Form.{Form}
 use Rattle.dl_reloc.specs.declared.target.Form.TheVariants.{Rela, Rel}
 use Rattle.dl_reloc.specs.declared.target.Target.{Target}
 use Rattle.dl_reloc.specs.declared.apply.RelocationFault.{RelocationFault}
-use Rattle.dl_reloc.specs.declared.apply.RelocationFault.TheVariants.{UnknownType, PlaceOutside, SymbolOutside}
+use Rattle.dl_reloc.specs.declared.apply.RelocationFault.TheVariants.{UnknownType, PlaceOutside, SymbolOutside, Damaged}
 use Rattle.dl_reloc.specs.Entries.{symbol_values}
 use Rattle.dl_reloc.specs.Relocated.{relocated}
+use Rattle.dl_reloc.specs.Compact.{relocated_compact}
 
 -- ---- what the headers say
 
@@ -41,6 +42,7 @@ abbrev pub fault_of : Elf → SectionName → RelocationFault → ElfFault
 fault_of e name (UnknownType n) = fault.UnknownRelocation name n e.header.machine
 fault_of e name PlaceOutside = fault.RelocationOutside name
 fault_of e name SymbolOutside = fault.Damaged (part.Symbols name)
+fault_of e name Damaged = fault.Damaged (part.Relocations name)
 
 abbrev pub with_fault_of : Elf → SectionName → Result (List ℕ) RelocationFault → Result (List ℕ) ElfFault
 with_fault_of e name (Ok b) = Ok b
@@ -71,10 +73,17 @@ by_entries e name form (Some entries) None b = Err (fault.Damaged (part.Symbols 
 by_entries e name form (Some entries) (Some symbols) b =
     with_fault_of e name (relocated (target_of e) form entries symbols b)
 
--- what the relocations of section s make of b; those of a section of type CREL aren't read
+-- what compact relocations make of b, whose section has these bytes
+abbrev pub by_compact : Elf → SectionName → (section symbols : Option (List ℕ)) → List ℕ → Result (List ℕ) ElfFault
+by_compact e name None symbols b = Err (fault.Damaged (part.Relocations name))
+by_compact e name (Some section) None b = Err (fault.Damaged (part.Symbols name))
+by_compact e name (Some section) (Some symbols) b =
+    with_fault_of e name (relocated_compact (target_of e) section symbols b)
+
+-- what the relocations of section s make of b; SHT_CREL is 0x40000014
 abbrev pub relocated_by : Elf → List ℕ → SectionName → SectionHeader → List ℕ → Result (List ℕ) ElfFault
 relocated_by e f name s b =
-    if s.section_type == 0x40000014 then Err (fault.CompactRelocations name)
+    if s.section_type == 0x40000014 then by_compact e name (bytes_in f s) (symbols_in e f s.link) b
     else by_entries e name (form_of s) (bytes_in f s) (symbols_in e f s.link) b
 
 -- ---- all of them, in the order of their sections

@@ -30,7 +30,7 @@ use std::io::{Cursor, Read};
 
 /// How many sections of relocations a line section may have. Assemblers write one; the work grows with their number,
 /// since each may name the same bytes.
-const MOST_RELOCATIONS: u64 = 16;
+pub const MOST_RELOCATIONS: u64 = 16;
 
 /// How many bytes a compressed line section with relocations may inflate to, which is held: 2^32.
 const HELD_LIMIT: u64 = 1 << 32;
@@ -95,7 +95,7 @@ impl Chosen {
 }
 
 /// The line section.
-fn line_section(sections: &Sections) -> Option<NamedSection>
+pub fn line_section(sections: &Sections) -> Option<NamedSection>
     ensures { result ≡ line_section (slot_of (slots sections.now)) }
 {
     sections
@@ -353,19 +353,18 @@ fn open_chosen<'a, S: ReadAt>(
 /// of one name the first counts whose type isn't SHT_NOBITS. Sections that aren't wanted are not
 /// looked at. A section that is compressed with zlib is inflated as it is read. In an object file the
 /// relocations of the line section are applied to its bytes, in
-/// the order of their sections (of type SHT_RELA or SHT_REL, with its number in sh_info), with the
+/// the order of their sections (of type SHT_RELA, SHT_REL or SHT_CREL, with its number in sh_info), with the
 /// symbols of the section that sh_link names; where it is compressed it is inflated before.
 ///
 /// The faults, of which the first is told: `Read` where a read failed; `NotElf`; `Damaged` with
 /// what lies outside the file, or isn't where it has to stand; `NoLineSection`; `Compressed` where a wanted
 /// section is compressed otherwise than with zlib; `DamagedStream` where the line section is inflated here;
-/// and of the first relocation that can't be applied `UnknownRelocation`, `RelocationOutside` or `Damaged`, or
-/// `CompactRelocations` where its section has the type SHT_CREL;
+/// and of the first relocation that can't be applied `UnknownRelocation`, `RelocationOutside` or `Damaged`;
 /// `Damaged` too where more than 16 sections are of relocations of the line section. Memory is
 /// taken only where a wanted section is compressed, some 128 KiB for each, and where there are relocations
-/// of the line section: for its bytes, and for the values of the symbols of one section of relocations at a
-/// time, 8 bytes each. Where a growth is refused, or a compressed line section with relocations inflates to
-/// more than 2^32 bytes, as it says, the fault is `NoMemory`.
+/// of the line section: for its bytes, and of one section of relocations at a time for the values of the symbols, 8
+/// bytes each, and for its bytes where its type is SHT_CREL. Where a growth is refused, or a compressed line section
+/// with relocations inflates to more than 2^32 bytes, as it says, the fault is `NoMemory`.
 pub fn open_line_file<'a, S: ReadAt>(
     alloc: Global,
     source: &'a S,

@@ -7,22 +7,23 @@ ghost use Rattle.dl_elf.specs.Window.{Shows};
 ghost use Rattle.dl_elf.specs.SectionsHeld.{forward_of};
 ghost use Rattle.dl_elf.specs.Forward.{NoneForward};
 ghost use Rattle.dl_file.specs.Answering.{AreFound, IsCounted, IsMade};
+ghost use Rattle.dl_file.specs.Relocations.{by_compact, bytes_in, symbols_in};
 ghost use Rattle.dl_file.specs.Relocations.{by_entries, class_of, fault_of, form_of, relocated_at, relocated_by};
 ghost use Rattle.dl_file.specs.Relocations.{relocated_upto, relocations_at, relocations_upto, target_of};
 
-use crate::section_bytes::{PIECE, read_piece, read_symbols};
+use crate::section_bytes::{PIECE, read_bytes, read_piece, read_symbols};
 use dl_elf::{
     Elf, ElfFault, NamedSection, Part, ReadAt, SectionHeader, SectionName, Sections, Window,
     lies_within, section_at, section_range,
 };
-use dl_reloc::{Class, Form, RelocationFault, Target, relocate};
+use dl_reloc::{Class, Form, RelocationFault, Target, relocate, relocate_compact};
 use std::alloc::Global;
 
 /// The type of a section of relocations with addends (SHT_RELA).
 const RELA: u64 = 4;
 
 /// The type of a section of relocations as differences in LEB128 (SHT_CREL).
-const CREL: u64 = 0x4000_0014;
+pub const CREL: u64 = 0x4000_0014;
 
 fn class_of(class: dl_elf::Class) -> Class
     ensures { result ≡ class_of class }
@@ -45,7 +46,7 @@ pub fn target_of(elf: &Elf) -> Target
 }
 
 /// The form of the entries of a section of relocations.
-fn form_of(section: &SectionHeader) -> Form
+pub fn form_of(section: &SectionHeader) -> Form
     ensures { result ≡ form_of section.now }
 {
     if section.section_type == RELA {
@@ -67,6 +68,7 @@ fn fault_of(elf: &Elf, section: SectionName, fault: RelocationFault) -> ElfFault
         },
         RelocationFault::PlaceOutside => ElfFault::RelocationOutside(section),
         RelocationFault::SymbolOutside => ElfFault::Damaged(Part::Symbols(section)),
+        RelocationFault::Damaged => ElfFault::Damaged(Part::Relocations(section)),
     }
 }
 
@@ -100,8 +102,34 @@ fn relocate_pieces<S: ReadAt>(
     Ok(())
 }
 
-/// Applies the entries of a section of relocations to the bytes of the section of this name. Those of the type SHT_CREL
-/// are refused.
+/// Applies the entries of a section of compact relocations to the bytes of the section of this name. It is held in
+/// memory, since its entries don't say where in it the next one begins.
+fn relocate_by_compact<S: ReadAt>(
+    alloc: Global,
+    source: &S,
+    elf: &Elf,
+    name: SectionName,
+    section: &SectionHeader,
+    bytes: &mut [u8],
+) -> Result<(), ElfFault>
+    ensures made { ForBytes (S.all_bytes source.now) (λ f. IsMade (by_compact elf.now name
+        (bytes_in f section.now) (symbols_in elf.now f section.now.link) bytes.old) bytes.new result) }
+    ensures read { IfRead (S.fails_with source.now) result }
+{
+    let Some(entries) = read_bytes(alloc, source, section)? else {
+        return Err(ElfFault::Damaged(Part::Relocations(name)));
+    };
+    let Some(symbols) = read_symbols(alloc, source, elf, section.link)? else {
+        return Err(ElfFault::Damaged(Part::Symbols(name)));
+    };
+    let target = target_of(elf);
+    match relocate_compact(&target, entries.as_slice(), symbols.as_slice(), bytes) {
+        Ok(()) => Ok(()),
+        Err(fault) => Err(fault_of(elf, name, fault)),
+    }
+}
+
+/// Applies the entries of a section of relocations to the bytes of the section of this name.
 fn relocate_by<S: ReadAt>(
     alloc: Global,
     source: &S,
@@ -115,7 +143,7 @@ fn relocate_by<S: ReadAt>(
     ensures read { IfRead (S.fails_with source.now) result }
 {
     if section.section_type == CREL {
-        return Err(ElfFault::CompactRelocations(name));
+        return relocate_by_compact(alloc, source, elf, name, section, bytes);
     }
     let range = section_range(section);
     if !lies_within(source, range.offset, range.size)? {

@@ -3,8 +3,10 @@ ghost use Rattle.std.specs.Prelude.{◌≡◌, ◌≢◌, ◌+◌, ◌≤◌, �
 ghost use Rattle.dl_reloc.specs.Changes.{change_size};
 ghost use Rattle.dl_reloc.specs.LowTypes.{AreLow, IsLong};
 ghost use Rattle.dl_reloc.specs.Relocated.{applied, by_change, place_changed, relocated, AreWhole};
+ghost use Rattle.dl_reloc.specs.Compact.{relocated_compact};
 
 use crate::change::{Change, Width};
+use crate::compact::CompactHeader;
 use crate::entry::{Entry, entry_size};
 use crate::machine::{LOW, change_in, low_types};
 use crate::number::{number_of, put_number};
@@ -22,6 +24,9 @@ pub enum RelocationFault {
     PlaceOutside,
     /// The symbol table doesn't have a symbol that one names.
     SymbolOutside,
+    /// The bytes of compact relocations end inside the header or an entry, or have a number there that doesn't fit its
+    /// 64 bits.
+    Damaged,
 }
 
 /// Changes the bytes at a place by a symbol of this value. Where there is no addend, it is what stands there.
@@ -197,4 +202,37 @@ pub fn relocate(
         }
         _ => relocate_entries(target, form, entries, symbols, bytes),
     }
+}
+
+/// Applies the entries of a section of compact relocations (SHT_CREL) to the bytes of the section that they are for, in
+/// order.
+///
+/// Symbols, sums and faults are as of [`relocate`]. Where the section ends inside its header or an entry, or has a
+/// number there that doesn't fit its 64 bits, the fault is `Damaged`, after the entries before it. What follows the last
+/// entry belongs to none.
+pub fn relocate_compact(
+    target: &Target,
+    section: &[u8],
+    symbols: &[u64],
+    bytes: &mut [u8],
+) -> Result<(), RelocationFault>
+    ensures { MatchResult result
+        (λ _. relocated_compact target.now section.now symbols.now bytes.old ≡ Ok bytes.new)
+        (λ fault. relocated_compact target.now section.now symbols.now bytes.old ≡ Err fault) }
+{
+    let Some((header, mut rest)) = CompactHeader::read(section) else {
+        return Err(RelocationFault::Damaged);
+    };
+    let low = low_types(target);
+    let mut long = None;
+    let mut entry = header.before_all();
+    for _ in 0..header.count {
+        let Some((next, after)) = header.next_entry(target.class, &entry, rest) else {
+            return Err(RelocationFault::Damaged);
+        };
+        apply(target, &low, &mut long, symbols, &next, bytes)?;
+        entry = next;
+        rest = after;
+    }
+    Ok(())
 }

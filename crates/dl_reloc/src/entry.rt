@@ -34,7 +34,7 @@ pub fn entry_size(class: Class, form: Form) -> usize
 }
 
 /// A signed number of 32 bits, modulo 2^64.
-fn extended(number: u64) -> u64
+pub fn extended(number: u64) -> u64
     ensures { result ≡ extended number }
 {
     if number < 0x8000_0000 {

@@ -14,6 +14,7 @@ pub mod Judged
 pub mod JudgedNumbers
 pub mod OperandLemmas
 pub mod OperandRanges
+pub mod OperationFront
 pub mod OperationLaws
 pub mod PhaseLemmas
 pub mod PlaceLemmas

@@ -1,6 +1,7 @@
 //! The rows of a line table unit of DWARF 5: its operations, its registers, and its reader. Section 6.2.
 #![tactic(auto)]
 
+mod front;
 pub mod laws;
 pub mod operation;
 mod operation_state;
@@ -11,6 +12,7 @@ pub mod row;
 pub mod sink;
 mod unit_body;
 
+pub use front::operation_at_front;
 pub use operation::Operation;
 pub use reader::{Event, Fed, Finish, Listener, Reader, Run};
 pub use row::Row;

@@ -1,5 +1,6 @@
 -- What the public contracts say rests on these, in reading order.
 pub mod Shown
+pub mod DebugFile
 pub mod Stops
 pub mod Asked
 pub mod Files

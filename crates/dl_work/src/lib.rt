@@ -4,6 +4,7 @@
 mod addr_words;
 mod code;
 mod command;
+mod debug_file;
 mod files;
 mod locating;
 mod over_file;
@@ -13,6 +14,7 @@ mod stop;
 mod strings;
 mod working;
 
+pub use debug_file::{DebugFile, with_debug_file};
 pub use files::FileSource;
 pub use locating::locate;
 pub use stop::{FileFault, Stop};

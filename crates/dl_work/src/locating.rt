@@ -20,7 +20,7 @@ use crate::over_file::on_file;
 use crate::over_input::{Section, on_input};
 use crate::stop::{FileFault, Stop};
 use dl_addr::Found;
-use dl_cmd::{AddrWords, AskedLines, read_asked};
+use dl_cmd::{AddrWords, AskedLines, OtherLine, read_asked};
 use dl_look::CodeRanges;
 use dl_run::{RunFault, Summary};
 use std::alloc::Global;
@@ -58,7 +58,7 @@ fn is_not_found(stop: &Stop<'_>) -> bool
 }
 
 /// What was found, unless a line is no address.
-fn unless_no_address<'a>(no_address: Option<u64>, found: Found) -> Result<Found, Stop<'a>>
+fn unless_no_address<'a>(no_address: Option<OtherLine>, found: Found) -> Result<Found, Stop<'a>>
     ensures { result ≡ unless_no_address no_address found }
 {
     match no_address {
@@ -70,7 +70,7 @@ fn unless_no_address<'a>(no_address: Option<u64>, found: Found) -> Result<Found,
 /// What is told in the end: a line that is no address, where no other fault stands.
 fn located<'a>(
     answer: Result<Summary, Stop<'a>>,
-    no_address: Option<u64>,
+    no_address: Option<OtherLine>,
 ) -> Result<Found, Stop<'a>>
     ensures { result ≡ located answer.entry no_address }
 {

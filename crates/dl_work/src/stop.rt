@@ -4,7 +4,9 @@ ghost use Rattle.std.specs.Io.KnownBytes.{Appends};
 ghost use Rattle.dl_work.specs.Stops.{IsReadFault, StopsAt, file_fault_status, file_fault_text};
 ghost use Rattle.dl_work.specs.Stops.{stop_line, stop_status, stop_text};
 
-use crate::shown::Shown;
+use crate::debug_file::DebugFile;
+use crate::shown::{Shown, ShownBytes};
+use dl_cmd::OtherLine;
 use dl_elf::{ElfFault, SectionName};
 use dl_file::ReadFault;
 use dl_run::RunFault;
@@ -22,8 +24,8 @@ pub enum Stop<'a> {
     Run(RunFault),
     /// The ELF file at this path stops it.
     File { path: &'a str, fault: FileFault },
-    /// A line of the input, counted from 1 on, is no address. Only `locate` answers it.
-    NoAddress { line: u64 },
+    /// This line of the input is no address. Only `locate` answers it.
+    NoAddress { line: OtherLine },
 }
 
 /// What is wrong with an ELF file, or with reading it.
@@ -33,6 +35,9 @@ pub enum FileFault {
     Open(io::Error),
     /// It has no line table that is read, or a read of it failed.
     Elf(ElfFault),
+    /// It has no line table, but a build ID, by which its debug information is looked for. Only `with_debug_file`
+    /// answers it.
+    Stripped(DebugFile),
     /// It is an object file, which isn't copied.
     ObjectCopy,
     /// A growth was refused.
@@ -47,7 +52,7 @@ impl FileFault {
         match self {
             FileFault::Open(_) | FileFault::NoMemory => 3,
             FileFault::Elf(ElfFault::Read(_) | ElfFault::NoMemory) => 3,
-            FileFault::Elf(_) | FileFault::ObjectCopy => 1,
+            FileFault::Elf(_) | FileFault::Stripped(_) | FileFault::ObjectCopy => 1,
         }
     }
 }
@@ -59,6 +64,7 @@ impl fmt::Display for FileFault {
         match self {
             FileFault::Open(error) => write!(f, "cannot open: {error}"),
             FileFault::Elf(fault) => write!(f, "{fault}"),
+            FileFault::Stripped(file) => write!(f, "no section .debug_line ({file})"),
             FileFault::ObjectCopy => {
                 write!(f, "an object file; its copy would lose its relocations")
             }
@@ -134,7 +140,12 @@ impl fmt::Display for Stop<'_> {
             Stop::NotAddress { word } => write!(f, "{} is no address", Shown(word)),
             Stop::Run(fault) => write!(f, "{fault}"),
             Stop::File { path, fault } => write!(f, "{}: {fault}", Shown(path)),
-            Stop::NoAddress { line } => write!(f, "line {line}: words not understood"),
+            Stop::NoAddress { line } => write!(
+                f,
+                "line {}: {} is no address",
+                line.number,
+                ShownBytes(line.word.as_bytes())
+            ),
         }
     }
 }

@@ -5,7 +5,7 @@ use dl_addr::Found;
 use dl_cmd::{Job, read_job, word_status};
 use dl_elf::ReadAt;
 use dl_run::{RunFault, read_strings};
-use dl_work::{FileSource, Stop, locate, work};
+use dl_work::{FileSource, Stop, locate, with_debug_file, work};
 use std::alloc::{AllocError, Global};
 use std::fs::File;
 use std::io::{ErrorKind, Write};
@@ -23,12 +23,29 @@ enum Ending<'a> {
 }
 
 impl From<AllocError> for Ending<'_> {
+    ghost use Rattle.std.specs.Prelude.{◌≡◌};
+    ghost use Rattle.dl_run.specs.declared.fault.RunFault.TheVariants as fault;
+    ghost use Rattle.dl_work.specs.declared.stop.Stop.TheVariants as stop;
+    ghost use Rattle.dwline.specs.declared.Ending.TheVariants as ending;
+
+    ghost from_gives = { λ error given. given ≡ ending.Stop (stop.Run fault.NoMemory) };
+
     fn from(_error: AllocError) -> Self {
         Ending::Stop(Stop::Run(RunFault::NoMemory))
     }
 }
 
 impl From<clap::Error> for Ending<'_> {
+    ghost use Rattle.std.specs.Prelude.{◌≡◌};
+    ghost use Rattle.clap.specs.Words.{kind_of};
+    ghost use Rattle.clap.specs.declared.error.kind.ErrorKind.TheVariants.{OutOfMemory};
+    ghost use Rattle.dl_run.specs.declared.fault.RunFault.TheVariants as fault;
+    ghost use Rattle.dl_work.specs.declared.stop.Stop.TheVariants as stop;
+    ghost use Rattle.dwline.specs.declared.Ending.TheVariants as ending;
+
+    /// Want of memory while the words are read is told as want of memory elsewhere is.
+    ghost from_gives = { λ error given. kind_of error ≡ OutOfMemory → given ≡ ending.Stop (stop.Run fault.NoMemory) };
+
     fn from(error: clap::Error) -> Self {
         match error.kind() {
             clap::error::ErrorKind::OutOfMemory => Ending::from(AllocError),
@@ -133,6 +150,7 @@ fn report(rt: &HostRuntime, ending: Ending<'_>) -> u8 {
             2
         }
         Ending::Stop(stop) => {
+            let stop = with_debug_file(&System { rt }, stop);
             let _ = stop.write_line(&mut rt.stderr());
             stop.status()
         }
@@ -157,6 +175,3 @@ fn main(rt: HostRuntime) -> ExitCode {
         Err(ending) => ExitCode::from(report(&rt, ending)),
     }
 }
-
-#[cfg(test)]
-mod tests;

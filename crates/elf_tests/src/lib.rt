@@ -10,6 +10,10 @@ mod faults;
 #[cfg(test)]
 mod image;
 #[cfg(test)]
+mod numbered;
+#[cfg(test)]
+mod places;
+#[cfg(test)]
 mod reads;
 #[cfg(test)]
 mod relocations;

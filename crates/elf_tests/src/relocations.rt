@@ -69,13 +69,35 @@ const OF_ANOTHER_SECTION: NewSection<'_> = NewSection { info: 2, ..FRONT };
 
 const WITHOUT_SYMBOLS: NewSection<'_> = NewSection { link: 0, ..FRONT };
 
-/// Relocations as differences (SHT_CREL): one entry with an addend, as `8*1 + 4`, offset 0 with symbol, type and addend.
+/// Compact relocations (SHT_CREL): one entry with an addend, as `8*1 + 4`, offset 0, symbol 1, type 10, and the addend
+/// `abcd`.
 const COMPACT: NewSection<'_> = NewSection {
     name: ".crel.debug_line",
     section_type: 0x4000_0014,
-    bytes: b"\x0c\x07\x01\x0a\x00",
+    bytes: b"\x0c\x07\x01\x0a\xe1\xc4\x8d\xa3\x06",
     ..FRONT
 };
+
+/// One entry without an addend, as `8*1`: offset 0, symbol 1, type 10.
+const COMPACT_ADDED: NewSection<'_> = NewSection {
+    bytes: b"\x08\x03\x01\x0a",
+    ..COMPACT
+};
+
+/// The same where two are told.
+const COMPACT_CUT: NewSection<'_> = NewSection {
+    bytes: b"\x10\x03\x01\x0a",
+    ..COMPACT
+};
+
+/// One entry with a type that x86-64 doesn't have, where two are told.
+const COMPACT_UNKNOWN: NewSection<'_> = NewSection {
+    bytes: b"\x10\x02\xe3\0",
+    ..COMPACT
+};
+
+/// Its symbols are those of section 1, which has none.
+const COMPACT_NO_SYMBOL: NewSection<'_> = NewSection { link: 1, ..COMPACT };
 
 const COMPACT_OF_ANOTHER: NewSection<'_> = NewSection { info: 2, ..COMPACT };
 
@@ -123,7 +145,22 @@ const APPLIED: &[Case<'_>] = &[
         "little object line - -",
     ),
     (
-        "differences, of another section",
+        "compact, a symbol and an addend",
+        &[LINE, SYMBOL_TABLE, COMPACT, EMPTY],
+        "little object bbcd - -",
+    ),
+    (
+        "compact, a symbol and what stands there",
+        &[LINE, SYMBOL_TABLE, COMPACT_ADDED, EMPTY],
+        "little object mine - -",
+    ),
+    (
+        "compact after others",
+        &[LINE, SYMBOL_TABLE, FRONT, COMPACT_ADDED],
+        "little object bbcd - -",
+    ),
+    (
+        "compact, of another section",
         &[LINE, SYMBOL_TABLE, COMPACT_OF_ANOTHER, EMPTY],
         "little object line - -",
     ),
@@ -165,19 +202,19 @@ const FAULTS: &[Case<'_>] = &[
         "damaged ELF file: symbols of the relocations of section .debug_line",
     ),
     (
-        "differences",
-        &[LINE, SYMBOL_TABLE, COMPACT, EMPTY],
-        "section .debug_line: relocations of type CREL are not read",
+        "compact, cut",
+        &[LINE, SYMBOL_TABLE, COMPACT_CUT, UNKNOWN],
+        "damaged ELF file: relocations of section .debug_line",
     ),
     (
-        "differences after a fault",
-        &[LINE, SYMBOL_TABLE, UNKNOWN, COMPACT],
+        "compact, type",
+        &[LINE, SYMBOL_TABLE, COMPACT_UNKNOWN, EMPTY],
         "section .debug_line: unknown relocation 99 of machine 62",
     ),
     (
-        "differences before a fault",
-        &[LINE, SYMBOL_TABLE, COMPACT, UNKNOWN],
-        "section .debug_line: relocations of type CREL are not read",
+        "compact, symbol",
+        &[LINE, SYMBOL_TABLE, COMPACT_NO_SYMBOL, EMPTY],
+        "damaged ELF file: symbols of the relocations of section .debug_line",
     ),
 ];
 

@@ -5,7 +5,7 @@ use crate::row::Row;
 use dl_num::Order;
 use dl_reloc::{Class, Form};
 
-const X86_64: Row<'static> = Row {
+pub const X86_64: Row<'static> = Row {
     name: "x86_64",
     machine: 62,
     class: Class::Bits64,
@@ -37,7 +37,7 @@ const X86_64: Row<'static> = Row {
     ],
 };
 
-const I386: Row<'static> = Row {
+pub const I386: Row<'static> = Row {
     name: "i386",
     machine: 3,
     class: Class::Bits32,
@@ -110,7 +110,7 @@ const AARCH64: Row<'static> = Row {
     ],
 };
 
-const AARCH64_BIG: Row<'static> = Row {
+pub const AARCH64_BIG: Row<'static> = Row {
     name: "aarch64 big",
     machine: 183,
     class: Class::Bits64,
@@ -170,7 +170,7 @@ const ARM: Row<'static> = Row {
     relocated: &[0x39, 0x12, 0x00, 0x00, 0x44, 0x33, 0x22, 0x11],
 };
 
-const RISCV64: Row<'static> = Row {
+pub const RISCV64: Row<'static> = Row {
     name: "riscv64",
     machine: 243,
     class: Class::Bits64,
@@ -231,7 +231,7 @@ const RISCV64: Row<'static> = Row {
     ],
 };
 
-const RISCV32: Row<'static> = Row {
+pub const RISCV32: Row<'static> = Row {
     name: "riscv32",
     machine: 243,
     class: Class::Bits32,
@@ -334,7 +334,7 @@ const POWERPC: Row<'static> = Row {
     relocated: &[0x00, 0x00, 0x12, 0x39, 0x11, 0x22, 0x33, 0x44],
 };
 
-const S390X: Row<'static> = Row {
+pub const S390X: Row<'static> = Row {
     name: "s390x",
     machine: 22,
     class: Class::Bits64,
@@ -370,7 +370,7 @@ const S390X: Row<'static> = Row {
     ],
 };
 
-const MIPS: Row<'static> = Row {
+pub const MIPS: Row<'static> = Row {
     name: "mips",
     machine: 8,
     class: Class::Bits32,

@@ -4,6 +4,8 @@
 #[cfg(test)]
 mod assembled;
 #[cfg(test)]
+mod compact;
+#[cfg(test)]
 mod faults;
 #[cfg(test)]
 mod row;

@@ -1,6 +1,8 @@
 //! A row: relocations, and what they make of bytes.
 use dl_num::Order;
-use dl_reloc::{Class, Form, RelocationFault, Target, push_symbol_values, relocate};
+use dl_reloc::{
+    Class, Form, RelocationFault, Target, push_symbol_values, relocate, relocate_compact,
+};
 use std::alloc::Global;
 use std::test::Fail;
 
@@ -18,21 +20,41 @@ pub struct Row<'a> {
     pub relocated: &'a [u8],
 }
 
+fn target_of(row: &Row<'_>) -> Target {
+    Target {
+        machine: row.machine,
+        class: row.class,
+        order: row.order,
+    }
+}
+
+/// The values of the row's symbols.
+fn values(alloc: Global, row: &Row<'_>) -> Result<Vec<u64>, Fail> {
+    let mut symbols = Vec::new(alloc);
+    push_symbol_values(&target_of(row), row.symbols, &mut symbols)?;
+    Ok(symbols)
+}
+
 /// Relocates the row's bytes, which are then in `bytes`.
 fn answer(
     alloc: Global,
     row: &Row<'_>,
     bytes: &mut [u8],
 ) -> Result<Result<(), RelocationFault>, Fail> {
-    let target = Target {
-        machine: row.machine,
-        class: row.class,
-        order: row.order,
-    };
-    let mut symbols = Vec::new(alloc);
-    push_symbol_values(&target, row.symbols, &mut symbols)?;
+    let symbols = values(alloc, row)?;
     let symbols = symbols.as_slice();
-    Ok(relocate(&target, row.form, row.entries, symbols, bytes))
+    Ok(relocate(&target_of(row), row.form, row.entries, symbols, bytes))
+}
+
+/// The same where the row's entries are compact relocations, whatever its form.
+fn compact_answer(
+    alloc: Global,
+    row: &Row<'_>,
+    bytes: &mut [u8],
+) -> Result<Result<(), RelocationFault>, Fail> {
+    let symbols = values(alloc, row)?;
+    let symbols = symbols.as_slice();
+    Ok(relocate_compact(&target_of(row), row.entries, symbols, bytes))
 }
 
 /// Whether the relocations make of the row's bytes what it says.
@@ -46,4 +68,17 @@ pub fn is_relocated(alloc: Global, row: &Row<'_>) -> Result<bool, Fail> {
 pub fn fault(alloc: Global, row: &Row<'_>) -> Result<Option<RelocationFault>, Fail> {
     let mut bytes = Vec::from_slice(alloc, row.bytes)?;
     Ok(answer(alloc, row, &mut bytes)?.err())
+}
+
+/// Whether the row's compact relocations make of its bytes what it says.
+pub fn is_relocated_compactly(alloc: Global, row: &Row<'_>) -> Result<bool, Fail> {
+    let mut bytes = Vec::from_slice(alloc, row.bytes)?;
+    let answer = compact_answer(alloc, row, &mut bytes)?;
+    Ok(answer.is_ok() && bytes.as_slice() == row.relocated)
+}
+
+/// The fault of the row's compact relocations; None where they have none.
+pub fn compact_fault(alloc: Global, row: &Row<'_>) -> Result<Option<RelocationFault>, Fail> {
+    let mut bytes = Vec::from_slice(alloc, row.bytes)?;
+    Ok(compact_answer(alloc, row, &mut bytes)?.err())
 }

@@ -4,6 +4,8 @@
 #[cfg(test)]
 mod compressed;
 #[cfg(test)]
+mod debug_file;
+#[cfg(test)]
 mod elf;
 #[cfg(test)]
 mod file;

@@ -115,7 +115,7 @@ const INPUTS: &[(&[u8], u8, &[u8], &str)] = &[
         b"\nmain\n 4198400\r\n",
         1,
         b"??:0\ncd/yz:1\n",
-        "dwline: line 2: words not understood\n",
+        "dwline: line 2: main is no address\n",
     ),
 ];
 

@@ -2,6 +2,7 @@ use Rattle.std.proofs.Common.{sym, subst}
 use Rattle.std.proofs.KnownBytes.{Appends-nil}
 use Rattle.dl_run.specs.Commands.{strings_in}
 use Rattle.dl_addr.specs.Commands.{Locates}
+use Rattle.dl_addr.specs.Knowing.{Knows}
 use Rattle.dl_addr.proofs.AnsweringLemmas.{is_told}
 use Rattle.dl_addr.proofs.answering.addr.Goals as goal
 
@@ -18,7 +19,8 @@ returns g c =
     let read = c.read_units-ended.ensures in
     let ran = read.2 (c.in-Ok.ensures.begins start) (Appends-nil start) in
     let new = c.read_units-ended.new.visitor in
-    let locates = is_told options.order q s first c.in-Ok.ensures.knows options.limit read.0 left new start mid
+    let knows = subst (Knows first q) c.new-strings.ensures c.in-Ok.ensures.knows in
+    let locates = is_told options.order q s first knows options.limit read.0 left new start mid
     c.in-Ok.ensures.made now c.read_units-ended.result c.print_all-printed.result ran
     (λ visits stands. c.print_all-printed.ensures first start mid visits stands c.in-Ok.ensures.made) in
     (read.0, read.1, subst (Locates options.order s q options.limit read.0 left start now) (sym c.told.ensures) locates)

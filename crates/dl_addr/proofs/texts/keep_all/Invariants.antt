@@ -1,16 +1,16 @@
--- The texts of the places so far are kept.
+-- The paths of the places so far are kept.
 use Rattle.std.proofs.Common.{◌≡◌, ℕ, ◌<◌, length, slice_get, slice_index_or}
 use Rattle.dl_look.specs.Ledgers.{no_answer}
-use Rattle.dl_addr.specs.Texts.{AreNumbers, AreSeen, Grows, IsKept, IsOther, text_of_file}
+use Rattle.dl_addr.specs.Texts.{AreNumbers, AreSeen, Grows, IsKept, IsOther, path_of_file}
 use Rattle.dl_addr.proofs.texts.keep_all.Given as goal
 
 abbrev pub invariant-loop-answer : goal.invariant-loop-answer
 invariant-loop-answer l = record {
-  grows : Grows l.initial.texts.items l.texts.items;
-  seen : AreSeen l.unit l.seen.items l.texts.items;
+  grows : Grows l.initial.paths l.paths;
+  seen : AreSeen l.unit l.numbers l.paths;
   len : length l.kept.items ≡ length l.initial.kept.items;
   others : (i : ℕ) → IsOther l.answered l.answer-index i → slice_get l.kept.items i ≡ slice_get l.initial.kept.items i;
   right : AreNumbers l.answered l.initial.kept.items → (j : ℕ) → j < l.answer-index
-      → IsKept l.texts.items l.kept.items (slice_index_or l.answered j no_answer).number
-      (text_of_file l.unit (slice_index_or l.answered j no_answer).row.file);
+      → IsKept l.paths l.kept.items (slice_index_or l.answered j no_answer).number
+      (path_of_file l.unit (slice_index_or l.answered j no_answer).row.file);
 }

@@ -1,30 +1,31 @@
-use Rattle.std.proofs.Common.{◌≡◌, ℕ, Some, slice_get, ap, ◌∙◌, subst}
-use Rattle.dl_addr.specs.Texts.{text_of_file}
-use Rattle.dl_addr.proofs.TextLemmas.{seen_more, seen_stays, text_clamped}
+use Rattle.std.proofs.Common.{ap, ◌∙◌, sym, subst, refl}
+use Rattle.dl_addr.specs.Texts.{HasPath, path_of_file}
+use Rattle.dl_addr.proofs.TextLemmas.{file_added, path_clamped}
 use Rattle.dl_addr.proofs.texts.number_of.Goals as goal
 
 pub returns-in-Some-clause-right : goal.returns-in-Some-clause-right
-returns-in-Some-clause-right c are =
+returns-in-Some-clause-right c are = are.last c.args.file c.in-Some.number c.in-Some.ensures
+
+pub returns-in-Some-get-clause-right : goal.returns-in-Some-get-clause-right
+returns-in-Some-get-clause-right c are =
     let u = c.args.unit.now in
-    let at = subst (λ seen. slice_get seen c.min-entry.result ≡ Some (Some c.in-Some.number)) c.as_slice.ensures.value
-    c.in-Some.ensures in
-    are c.min-entry.result c.in-Some.number at ∙ ap (λ (n : ℕ). Some (text_of_file u n)) c.min-entry.ensures
-    ∙ ap Some (text_clamped u c.args.file c.files.result c.files.ensures)
+    subst (HasPath c.args.paths.now c.in-Some-get.number.now)
+    (ap (path_of_file u) c.min-entry.ensures ∙ path_clamped u c.args.file c.files.result c.files.ensures)
+    (are.files c.min-entry.result c.in-Some-get.number.now (sym c.in-Some-get.ensures.value))
 
-pub returns-in_err-number-clause-seen : goal.returns-in_err-number-clause-seen
-returns-in_err-number-clause-seen c are =
-    seen_stays c.args.unit.now c.args.seen.now.items c.args.texts.now.items c.add.new.texts.items c.add.ensures.grows
-    are
+pub returns-in-Ok-clause-seen : goal.returns-in-Ok-clause-seen
+returns-in-Ok-clause-seen c are =
+    file_added c.args.unit.now c.args.numbers.now (record {
+      files = c.insert.new.self;
+      directories = c.add_file.new.directories;
+      last = c.args.numbers.now.last;
+    }) c.args.paths.now c.add_file.new.paths c.min-entry.result c.in_ok-number.number c.add_file.ensures.grows refl
+    c.in-Ok.ensures.updates (c.in_ok-number.ensures.right are.directories)
+    (c.in_ok-number.ensures.directories are.directories) are
 
-pub returns-clause-seen : goal.returns-clause-seen
-returns-clause-seen c are =
-    seen_more c.args.unit.now c.args.seen.now.items c.mark.new.seen.items c.add.new.texts.items _ _ c.mark.ensures
-    c.in_ok-number.ensures.right
-    (seen_stays c.args.unit.now c.args.seen.now.items c.args.texts.now.items c.add.new.texts.items c.add.ensures.grows
-    are)
-
-pub returns-clause-right : goal.returns-clause-right
-returns-clause-right c are =
+pub returns-in-Ok-clause-right : goal.returns-in-Ok-clause-right
+returns-in-Ok-clause-right c are =
     let u = c.args.unit.now in
-    c.in_ok-number.ensures.right ∙ ap (λ (n : ℕ). Some (text_of_file u n)) c.min-entry.ensures
-    ∙ ap Some (text_clamped u c.args.file c.files.result c.files.ensures)
+    subst (HasPath c.add_file.new.paths c.in_ok-number.number)
+    (ap (path_of_file u) c.min-entry.ensures ∙ path_clamped u c.args.file c.files.result c.files.ensures)
+    (c.in_ok-number.ensures.right are.directories)

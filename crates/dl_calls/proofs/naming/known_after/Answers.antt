@@ -1,6 +1,9 @@
-use Rattle.std.proofs.Common.{◌≡◌, ℕ, List, ◌++◌, ap, ◌∙◌, append_assoc}
+use Rattle.std.proofs.Common.{◌≡◌, ℕ, List, ◌++◌, sym, ap, ap₂, ◌∙◌, append_assoc}
 use Rattle.dl_calls.specs.UnitCalls.{length_told, written_over}
-use Rattle.dl_addr.proofs.PathLemmas.{joined}
+use Rattle.dl_addr.specs.declared.path.Path.{Path}
+use Rattle.dl_addr.specs.Parts.{path_seen}
+use Rattle.dl_addr.specs.Paths.{slash_after}
+use Rattle.dl_addr.proofs.PathLemmas.{slash_after-under}
 use Rattle.dl_calls.proofs.naming.known_after.Goals as goal
 
 -- what five texts come to after another one
@@ -11,6 +14,13 @@ after text a b c d e =
     ∙ (ap (λ (l : List ℕ). (l ++ d) ++ e) (append_assoc text (a ++ b) c)
     ∙ (ap (λ (l : List ℕ). l ++ e) (append_assoc text ((a ++ b) ++ c) d)
     ∙ append_assoc text (((a ++ b) ++ c) ++ d) e))
+
+-- a path is its parts, each directory with what stands after it
+joined : (p : Path) (slash slash' : List ℕ) → slash ≡ slash_after p.base.now → slash' ≡ slash_after p.directory.now
+    → (((p.base.now ++ slash) ++ p.directory.now) ++ slash') ++ p.name.now ≡ path_seen p
+joined p slash slash' e e' =
+    ap₂ (λ (x y : List ℕ). (((p.base.now ++ x) ++ p.directory.now) ++ y) ++ p.name.now) e
+    (e' ∙ sym (slash_after-under p.base.now p.directory.now))
 
 pub returns-clause-written : goal.returns-clause-written
 returns-clause-written c first text is at =

@@ -1,7 +1,7 @@
 use Rattle.std.proofs.Common.{◌≡◌, ◌<◌, length, arith, refl, sym, ◌∙◌}
 use Rattle.std.specs.Option.{option_copied}
 use Rattle.std.proofs.lemmas.Bool.{eqb-false, eqb-true}
-use Rattle.dl_addr.specs.Keeping.{text_under}
+use Rattle.dl_addr.specs.Keeping.{path_under}
 use Rattle.dl_addr.proofs.KeepLemmas.{is_kept, is_other, none_kept, numbers, on_err, on_ok, some_first}
 use Rattle.dl_addr.proofs.TextLemmas.{grows_none}
 use Rattle.dl_addr.proofs.locating.Locator.keep.Goals as goal
@@ -17,7 +17,7 @@ returns-then-is_empty c =
       unit = refl;
       live = refl;
       finders = refl;
-      grows = grows_none c.args.self.now.texts.items;
+      grows = grows_none c.args.self.now.paths;
       count = refl;
       others = λ places units rows st i none. refl;
       right = λ places units rows st count i r f.
@@ -48,7 +48,7 @@ returns c =
           (is_other places units rows answered (c.answered_so_far-answered.ensures places units rows st) i none);
       right = on_ok c.keep_all.result c.keep_all.ensures.right (λ each places units rows st count.
           is_kept places units rows answered (c.answered_so_far-answered.ensures places units rows st)
-          c.keep_all.new.texts.items c.keep_all.new.kept.items (text_under old h)
+          c.keep_all.new.paths c.keep_all.new.kept.items (path_under old h)
           (each (numbers places units rows answered (c.answered_so_far-answered.ensures places units rows st)
           old.kept.items count)));
       some = on_err c.keep_all.result (λ places units rows st. some_first places units rows answered

@@ -6,12 +6,12 @@ use Rattle.dl_cmd.proofs.asked_lines.Lines.end.Goals as goal
 
 pub returns-clause-asked : goal.returns-clause-asked
 returns-clause-asked c = λ hex done stands.
-    all_taken hex done c.args.self c.add.new.self (record {
+    all_taken hex done c.go_on.new.self c.args.self c.add.new.self (record {
       asked = c.add.new.self.asked;
       no_address =
           c.add.new.self.no_address;
-    }) stands
-    (subst (λ a. Adds a c.args.self c.add.new.self) c.asked_at_end-last.ensures c.in_ok-add.ensures.added) refl refl
+    }) stands c.go_on.ensures
+    (subst (λ a. Adds a (record c.args.self { word = c.go_on.new.self }) c.add.new.self) c.asked_at_end-last.ensures c.in_ok-add.ensures.added) refl refl
 
 pub returns-in_err-add-clause-memory : goal.returns-in_err-add-clause-memory
 returns-in_err-add-clause-memory c = λ hex done stands.

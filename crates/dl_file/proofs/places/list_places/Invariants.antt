@@ -1,0 +1,14 @@
+-- The places of the sections so far.
+use Rattle.std.proofs.Common.{◌≡◌, ◌≤◌, ◌-◌, Ok}
+use Rattle.dl_elf.specs.Source.{ForBytes}
+use Rattle.dl_elf.specs.Window.{Shows}
+use Rattle.dl_file.specs.Places.{placed_upto}
+use Rattle.dl_file.proofs.places.list_places.Given as goal
+
+abbrev pub invariant-loop-at : goal.invariant-loop-at
+invariant-loop-at g l = record {
+  from : 1 ≤ l.at;
+  upto : l.at - 1 ≤ l.elf.count - 1;
+  shows : Shows (g.S.ReadAt.all_bytes l.source) l.window;
+  listed : ForBytes (g.S.ReadAt.all_bytes l.source) (λ f. placed_upto l.elf f l.line (l.at - 1) ≡ Ok l.places.items);
+}

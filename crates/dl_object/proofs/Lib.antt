@@ -1,0 +1,14 @@
+pub mod FrontLemmas
+pub mod HeadLemmas
+pub mod KeptLemmas
+pub mod LeftOperations
+pub mod OneKeeping
+pub mod PartLemmas
+pub mod PassedOver
+pub mod PlaceLemmas
+pub mod MachineRows
+pub mod ProgramLemmas
+pub mod RowLaws
+pub mod RunLemmas
+pub mod SamePlaces
+pub mod SectionLemmas

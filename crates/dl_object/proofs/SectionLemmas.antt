@@ -1,0 +1,211 @@
+-- A section of which the units at the front are worked through.
+use Rattle.std.proofs.Common.{◌≡◌, ◌≢◌, ◌⊎◌, inl, inr, ℕ, ◌+◌, ◌-◌, ◌<◌, ◌≤◌, min, List, [], ◌++◌, length, take, drop, Option, Some}
+use Rattle.std.proofs.Common.{None, Bool, true, false}
+use Rattle.std.proofs.Common.{refl, sym, ap, subst, ◌∙◌, arith, append_assoc, length-drop, length-take-le}
+use Rattle.std.proofs.lemmas.Bool.{cases_lt}
+use Rattle.std.proofs.lemmas.List.{take-append-drop, take-take, drop-drop, drop_all}
+use Rattle.std.proofs.lemmas.Slice.{between_to_end}
+use borrow.Rule.Slice.PartMut.{put_mid}
+use Rattle.dl_num.specs.declared.fixed.Order.{Order}
+use Rattle.dl_field.specs.HeaderData.{HeaderData}
+use Rattle.dl_head.specs.Header.{IsHeader, foreign_in, unit_len}
+use Rattle.dl_reloc.specs.declared.placed.Placed.{Placed}
+use Rattle.dl_object.specs.Sequences.{spelled_in}
+use Rattle.dl_object.specs.Kept.{program_kept}
+use Rattle.dl_object.specs.Section.{IsBody, NoUnitBegins, Keeps, ends, foreign, whole, damaged, AddsCell, WantsCell}
+use Rattle.dl_object.specs.declared.head.UnitHead.{UnitHead}
+use Rattle.dl_object.specs.Fronts.{KindIs, HeadIs, HeadWithin, UnitKept}
+use Rattle.dl_object.proofs.PartLemmas.{PutIn, part_len, put_in}
+
+true_is : {b : Bool} → b ≡ true → b ≡ false → ⊥
+true_is e f = let g : ◌≡◌ {A = Bool} true false = sym e ∙ f in absurd cc
+
+module _ (order : Order) (places : List Placed) (section : ℕ) (old : List ℕ) where
+  -- what is left of the whole, by what is left from a place on
+  pub record UnitsReplaced (bytes : List ℕ) (at : ℕ) : Type 0 where
+    pub rest : drop at bytes ≡ drop at old
+    pub kept : (new : List ℕ) → Keeps order places section at (drop at old) new
+        → Keeps order places section 0 old (take at bytes ++ new)
+
+  pub no_unit_yet : UnitsReplaced old 0
+  no_unit_yet = record { rest = refl; kept = λ new k. k }
+
+  module _ (bytes : List ℕ) (at : ℕ) (so : UnitsReplaced bytes at) (b : List ℕ) (same : b ≡ drop at bytes) where
+    -- no unit more
+    pub no_more : NoUnitBegins order b → Keeps order places section 0 old bytes
+    no_more none =
+        subst (Keeps order places section 0 old)
+        (ap (λ (z : List ℕ). take at bytes ++ z) (sym so.rest) ∙ take-append-drop at bytes)
+        (so.kept (drop at old) (ends (subst (NoUnitBegins order) (same ∙ so.rest) none)))
+
+    pub cell_wanted : AddsCell order b → WantsCell order old
+    cell_wanted cell =
+        (take at old, drop at old, sym (take-append-drop at old), subst (AddsCell order) (same ∙ so.rest) cell)
+
+    -- a unit more, whose head has `len` bytes, of `unit`
+    module _ (len unit told : ℕ) (first : len ≤ unit) (room : unit ≤ length b)
+        (known : unit_len order (take len b) ≡ Some told) (is : unit ≡ min told (length b)) where
+      abbrev u : List ℕ
+      u = take unit b
+
+      abbrev head : List ℕ
+      head = take len u
+
+      abbrev body : List ℕ
+      body = drop len u
+
+      abbrev after : List ℕ
+      after = drop unit b
+
+      front_is : head ++ body ≡ u
+      front_is = take-append-drop len u
+
+      front_len : length (head ++ body) ≡ unit
+      front_len = ap length front_is ∙ length-take-le unit b room
+
+      head_is : take len b ≡ head
+      head_is = sym (take-take len unit b first)
+
+      head_len : length head ≡ len
+      head_len = ap length (sym head_is) ∙ length-take-le len b (omega (arith, first, room))
+
+      split : (head ++ body) ++ after ≡ drop at old
+      split = ap (λ (z : List ℕ). z ++ after) front_is ∙ take-append-drop unit b ∙ same ∙ so.rest
+
+      cut_short : (unit ≡ told) ⊎ (unit < told) → (length (head ++ body) ≡ told)
+          ⊎ ((length (head ++ body) < told) × (after ≡ []))
+      cut_short (inl e) = inl (front_len ∙ e)
+      cut_short (inr lt) =
+          let size = front_len in
+          let all : length b ≤ unit = omega (arith, is, lt) in
+          inr (omega (arith, size, lt), drop_all unit b all)
+
+      same_or_less : (unit ≡ told) ⊎ (unit < told)
+      same_or_less = elim (cases_lt unit told) [ inl lt ↦ inr lt | inr ge ↦ inl (omega (arith, is, ge)) ]
+
+      body_is : IsBody order head body after
+      body_is = record {
+        len = told;
+        told = ap (unit_len order) (sym head_is) ∙ known;
+        head_within = (let size = head_len in omega (arith, size, first, is));
+        size = cut_short same_or_less;
+      }
+
+      later : after ≡ drop (at + unit) old
+      later = ap (drop unit) (same ∙ so.rest) ∙ drop-drop unit at old
+
+      place : at + unit ≡ at + length (head ++ body)
+      place = ap (λ (n : ℕ). at + n) (sym front_len)
+
+      after_it : (z : List ℕ) → Keeps order places section (at + unit) (drop (at + unit) old) z
+          → Keeps order places section (at + length (head ++ body)) after z
+      after_it z k =
+          subst (λ (n : ℕ). Keeps order places section n after z) place
+          (subst (λ (y : List ℕ). Keeps order places section (at + unit) y z) (sym later) k)
+
+      -- new is what is left of it, and next the bytes then
+      module _ (new next : List ℕ) (rest : drop (at + unit) next ≡ drop (at + unit) bytes)
+          (front : take (at + unit) next ≡ take at bytes ++ new) where
+        rest_is : drop (at + unit) next ≡ drop (at + unit) old
+        rest_is = rest ∙ sym (drop-drop unit at bytes) ∙ ap (drop unit) (sym same) ∙ later
+
+        joined : (z : List ℕ) → Keeps order places section at ((head ++ body) ++ after) (new ++ z)
+            → Keeps order places section 0 old (take (at + unit) next ++ z)
+        joined z k =
+            subst (Keeps order places section 0 old)
+            (sym (append_assoc (take at bytes) new z) ∙ ap (λ (y : List ℕ). y ++ z) (sym front))
+            (so.kept (new ++ z) (subst (λ (y : List ℕ). Keeps order places section at y (new ++ z)) split k))
+
+        -- of another version
+        foreign_more : (version : ℕ) → foreign_in order head ≡ Some version → new ≡ u
+            → UnitsReplaced next (at + unit)
+        foreign_more version f e = record {
+          rest = rest_is;
+          kept = λ z k. joined z (subst (λ (y : List ℕ). Keeps order places section at ((head ++ body) ++ after) (y ++ z))
+              (front_is ∙ sym e) (foreign f body_is (after_it z k)));
+        }
+
+        -- of version 5, whose program is replaced
+        module _ (h : HeaderData) (header : IsHeader order h head)
+            (e : new ≡ head ++ program_kept order h.params places section (at + len) body) where
+          left_is : head ++ program_kept order h.params places section (at + length head) body ≡ new
+          left_is =
+              ap (λ (n : ℕ). head ++ program_kept order h.params places section (at + n) body) head_len ∙ sym e
+
+          whole_more : (spelled_in order h.params body).rest ≡ [] → UnitsReplaced next (at + unit)
+          whole_more good = record {
+            rest = rest_is;
+            kept = λ z k. joined z (subst (λ (y : List ℕ). Keeps order places section at ((head ++ body) ++ after) (y ++ z))
+                left_is (whole header body_is good (after_it z k)));
+          }
+
+          damaged_last : (spelled_in order h.params body).rest ≢ [] → Keeps order places section 0 old next
+          damaged_last bad =
+              subst (Keeps order places section 0 old)
+              (ap (λ (z : List ℕ). take (at + unit) next ++ z) (later ∙ sym rest_is)
+              ∙ take-append-drop (at + unit) next)
+              (joined after (subst (λ (y : List ℕ). Keeps order places section at ((head ++ body) ++ after) (y ++ after))
+              left_is (damaged header body_is bad)))
+
+        -- by its kind
+        pub unit_more : (o : Option HeaderData) (on : Bool) → KindIs order (take len b) o
+            → UnitKept order places section at o len u new on → on ≡ true → UnitsReplaced next (at + unit)
+        unit_more None on kind kept go =
+            foreign_more kind.0 (ap (foreign_in order) (sym head_is) ∙ kind.1) kept.0
+        unit_more (Some h) on kind kept go =
+            whole_more h (subst (IsHeader order h) head_is kind) kept.0 (kept.1.0 go)
+
+        pub unit_last : (o : Option HeaderData) (on : Bool) → KindIs order (take len b) o
+            → UnitKept order places section at o len u new on → on ≡ false → Keeps order places section 0 old next
+        unit_last None on kind kept stop = absurd (true_is kept.1 stop)
+        unit_last (Some h) on kind kept stop =
+            damaged_last h (subst (IsHeader order h) head_is kind) kept.0 (λ good. true_is (kept.1.1 good) stop)
+
+  -- the unit whose head a reader has found, as it is in the bytes
+  module _ (bytes : List ℕ) (at : ℕ) (so : UnitsReplaced bytes at) (le : at ≤ length bytes) (found : UnitHead)
+      (is : HeadIs order (take (length bytes - at) (drop at bytes)) found)
+      (within : HeadWithin (length (take (length bytes - at) (drop at bytes))) (Some found)) (new : List ℕ) (on : Bool)
+      (kept : UnitKept order places section at found.header found.len
+      (take (at + found.unit_len - at) (drop at bytes)) new on)
+      (size : length new ≡ length (take (at + found.unit_len - at) (drop at bytes))) where
+    abbrev b : List ℕ
+    b = take (length bytes - at) (drop at bytes)
+
+    abbrev unit : ℕ
+    unit = found.unit_len
+
+    abbrev next : List ℕ
+    next = put_mid at (at + unit - at) bytes new
+
+    same : b ≡ drop at bytes
+    same = between_to_end bytes at (length bytes) (omega arith)
+
+    room : unit ≤ length (drop at bytes)
+    room = let n = ap length same in omega (arith, n, within.2)
+
+    put : PutIn bytes new next at unit
+    put = put_in bytes new at unit le room (size ∙ part_len bytes at unit room)
+
+    part : take (at + unit - at) (drop at bytes) ≡ take unit b
+    part =
+        let k : at + unit - at ≡ unit = omega arith in
+        ap (λ (n : ℕ). take n (drop at bytes)) k ∙ ap (take unit) (sym same)
+
+    kept_so : UnitKept order places section at found.header found.len (take unit b) new on
+    kept_so = subst (λ (z : List ℕ). UnitKept order places section at found.header found.len z new on) part kept
+
+    pub unit_size : length next ≡ length bytes
+    unit_size = put.size
+
+    pub unit_within : at + unit ≤ length next
+    unit_within = let n = put.size in let m = length-drop at bytes in omega (arith, n, m, room, le)
+
+    pub unit_goes : on ≡ true → UnitsReplaced next (at + unit)
+    unit_goes go =
+        unit_more bytes at so b same found.len unit is.len within.1 within.2 is.told is.unit new next put.rest put.front
+        found.header on is.kind kept_so go
+
+    pub unit_stops : on ≡ false → Keeps order places section 0 old next
+    unit_stops stop =
+        unit_last bytes at so b same found.len unit is.len within.1 within.2 is.told is.unit new next put.rest put.front
+        found.header on is.kind kept_so stop

@@ -1,0 +1,50 @@
+//! The header of the unit at the front of bytes. Section 6.2.4.
+
+ghost use Rattle.std.specs.Prelude.{◌≡◌, ℕ, List, MatchOption, IfOk, IfErr, length};
+ghost use Rattle.dl_object.specs.Section.{AddsCell, NoUnitBegins};
+ghost use Rattle.dl_object.specs.Fronts.{HeadIs, HeadWithin};
+
+use crate::section::NoMemory;
+use dl_head::{HeadReader, HeadStep, Header};
+use dl_num::Order;
+use std::alloc::Global;
+
+/// The first bytes of a unit, up to the end of its header, or of its version where that isn't 5.
+#[derive(Drop)]
+pub struct UnitHead {
+    /// None where the version isn't 5.
+    pub header: Option<Header>,
+    /// How many bytes they are.
+    pub len: usize,
+    /// How many bytes the unit has, or those that are there.
+    pub unit_len: usize,
+}
+
+/// The head of the unit that the bytes begin with; None where they begin with none.
+pub fn head_at_front(
+    alloc: Global,
+    order: Order,
+    bytes: &[u8],
+) -> Result<Option<UnitHead>, NoMemory>
+    ensures within { IfOk result (λ found. HeadWithin (length bytes.now) found) }
+    ensures head { IfOk result (λ found. MatchOption found (NoUnitBegins order bytes.now) (HeadIs order bytes.now)) }
+    ensures memory { IfErr result (λ error. AddsCell order bytes.now) }
+{
+    let mut reader = HeadReader::new(alloc, order);
+    let (len, step) = reader.offer(bytes);
+    match step {
+        HeadStep::More | HeadStep::Fault(_) => return Ok(None),
+        HeadStep::NoMemory => return Err(NoMemory),
+        HeadStep::Done | HeadStep::Foreign(_) => {}
+    }
+    let Some(unit_len) = reader.unit_len() else {
+        unreachable!()
+    };
+    let unit_len = unit_len.min(bytes.len() as u64) as usize;
+    let header = reader.into_header();
+    Ok(Some(UnitHead {
+        header,
+        len,
+        unit_len,
+    }))
+}

@@ -1,0 +1,92 @@
+//! The units of a section. Section 6.2.4.
+
+ghost use Rattle.std.specs.Prelude.{ℕ, List, ◌≡◌, ◌⊎◌, IfOk, IfErr, length, ◌<◌, ◌≤◌, ◌+◌, ◌^◌};
+ghost use Rattle.dl_object.specs.Section.{Keeps, WantsCell};
+ghost use Rattle.dl_object.specs.Kept.{Rises};
+ghost use Rattle.dl_object.specs.Fronts.{UnitKept};
+
+use crate::head::{UnitHead, head_at_front};
+use crate::places::{are_rising, sorted};
+use crate::program::{Wanted, keep_sequences};
+use dl_num::Order;
+use dl_reloc::Placed;
+use std::alloc::Global;
+
+/// A growth was refused.
+#[derive(Debug, Clone, Copy, PartialEq, Eq)]
+pub struct NoMemory;
+
+/// Makes of each whole sequence of a section of units that isn't of the wanted section of the object file an operation
+/// that is passed over, of as many bytes.
+///
+/// `places` are those that the relocations of the section changed, in the order of the relocations: of several at one
+/// place the first counts. A sequence that sets no address, or whose first one no relocation changed, is of no section.
+/// Memory is taken for a header at a time, and for a copy of the places where these aren't in rising order. Where that is refused, some of the sequences
+/// are replaced.
+pub fn keep_section(
+    alloc: Global,
+    order: Order,
+    bytes: &mut [u8],
+    places: &[Placed],
+    section: u64,
+) -> Result<(), NoMemory>
+    ensures kept { IfOk result (λ done. Keeps order places.now section 0 bytes.old bytes.new) }
+    ensures memory { IfErr result (λ error. (Rises places.now → ⊥) ⊎ WantsCell order bytes.old) }
+{
+    if are_rising(places) {
+        let wanted = Wanted { places, section };
+        return keep_units(alloc, order, bytes, &wanted);
+    }
+    let sorted = sorted(alloc, places)?;
+    let wanted = Wanted {
+        places: sorted.as_slice(),
+        section,
+    };
+    keep_units(alloc, order, bytes, &wanted)
+}
+
+/// The same, of places in rising order.
+fn keep_units(
+    alloc: Global,
+    order: Order,
+    bytes: &mut [u8],
+    wanted: &Wanted<'_>,
+) -> Result<(), NoMemory>
+    requires { Rises wanted.now.places.now }
+    ensures kept { IfOk result
+        (λ done. Keeps order wanted.now.places.now wanted.now.section 0 bytes.old bytes.new) }
+    ensures memory { IfErr result (λ error. WantsCell order bytes.old) }
+{
+    let mut at = 0;
+    loop {
+        let Some(head) = head_at_front(alloc, order, &bytes[at..])? else {
+            return Ok(());
+        };
+        let end = at + head.unit_len;
+        if !keep_unit(order, &head, &mut bytes[at..end], at, wanted) {
+            return Ok(());
+        }
+        at = end;
+    }
+}
+
+/// The same in a unit, which begins at this offset of the section. Whether the unit after it is read.
+fn keep_unit(
+    order: Order,
+    head: &UnitHead,
+    unit: &mut [u8],
+    offset: usize,
+    wanted: &Wanted<'_>,
+) -> bool
+    requires rises { Rises wanted.now.places.now }
+    requires within { head.now.len ≤ length unit.old }
+    requires fits { offset + length unit.old < 2 ^ 64 }
+    ensures { UnitKept order wanted.now.places.now wanted.now.section offset head.now.header head.now.len
+        unit.old unit.new result }
+{
+    let Some(header) = &head.header else {
+        return true;
+    };
+    let program = &mut unit[head.len..];
+    keep_sequences(order, header.params(), program, offset + head.len, wanted)
+}
