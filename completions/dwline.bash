@@ -13,16 +13,16 @@ _dwline() {
             mapfile -t COMPREPLY < <(compgen -f -- "$current")
             return
             ;;
-        --op | --base)
+        --op | --base | -j | --section)
             return
             ;;
     esac
     local options
     case ${COMP_WORDS[1]} in
-        addr) options="-a --addresses -s --basenames --json --hex --base --all -e --exe --big --line-str --str -h --help" ;;
+        addr) options="-a --addresses -s --basenames --json --hex --base --all -j --section -e --exe --big --line-str --str -h --help" ;;
         dump) options="--big --line-str --str -h --help" ;;
         check | copy) options="--big -h --help" ;;
-        find) options="--op --big --line-str --str -h --help" ;;
+        find) options="--op -j --section --big --line-str --str -h --help" ;;
         help)
             mapfile -t COMPREPLY < <(compgen -W "addr dump check find copy help" -- "$current")
             return

@@ -12,12 +12,14 @@ use Rattle.std.proofs.lemmas.Option.{none-some}
 use Rattle.clap.specs.Words.{Row, is_simple, subcommand_of, subcommand_rows}
 use Rattle.dl_cmd.specs.Job.{Request}
 use Rattle.dl_cmd.specs.Words.{request_of, requested}
-use Rattle.clap.specs.Adds.{AddsConflicts}
+use Rattle.clap.specs.Adds.{AddsConflicts, AddsRequirements}
+use Rattle.clap.specs.declared.builder.arg.ArgPredicate.{ArgPredicate}
+use Rattle.clap.specs.declared.builder.arg.ArgPredicate.TheVariants.{IsPresent}
 use Rattle.clap.specs.Walk.{Text, is_empty, rule_of, texts}
 use Rattle.clap.specs.Words.{App, Rule, AddsArg, AddsSubcommand, with_rule, with_subcommand}
 use Rattle.clap.specs.declared.builder.arg.Arg.{Arg}
 use Rattle.clap.specs.declared.builder.command.Command.{Command}
-use Rattle.dl_cmd.specs.CommandLine.{Excludes, IsApp, IsRule, command_line}
+use Rattle.dl_cmd.specs.CommandLine.{Excludes, IsApp, IsRule, Wants, command_line, need_text}
 
 pub IsApp-arg : (old : Command) (a : Arg) (new : Command) (A : App) (r : Rule) → AddsArg old a new → IsApp A old
     → IsRule r a → IsApp (with_rule A r) new
@@ -43,6 +45,32 @@ IsRule-excluding r old new id added i = (
   }) i.0 (not_free old.exclusive _ id old.conflicts.items new.conflicts.items added.1),
   ap (λ (a : Arg). a.global) added.0 ∙ i.1,
 )
+
+-- one that wants another isn't free
+not_alone : {X : Type 0} (exclusive conflicts rest : Bool) (x : X) (old new : List X) → new ≡ old ++ x ∷ []
+    → (not exclusive && (conflicts && (is_empty new && rest))) ≡ false
+not_alone true conflicts rest x old new e = refl
+not_alone false false rest x old new e = refl
+not_alone false true rest x old new e = rw e (grind (arith, length-append))
+
+pub IsRule-wanting : (r : Rule) (old new : Arg) (id : Bor (List ℕ))
+    → AddsRequirements old new ((IsPresent, id) ∷ []) → IsRule r old → IsRule (record r { is_free = false }) new
+IsRule-wanting r old new id added i = (
+  ap rule_of added.0 ∙ ap₂ (λ (r : Rule) (b : Bool). record r {
+    is_free =
+        b;
+  }) i.0 (not_alone old.exclusive _ _ (IsPresent, id) old.needs.items new.needs.items added.1),
+  ap (λ (a : Arg). a.global) added.0 ∙ i.1,
+)
+
+-- one that wanted nothing wants the one
+pub Wants-one : (old : Arg) (id : Bor (List ℕ)) (new : Result Arg AllocError)
+    → IfOk new (λ r. AddsRequirements old r ((IsPresent, id) ∷ [])) → Wants [] old → IfOk new (Wants (id.now ∷ []))
+Wants-one old id (Ok new) added none =
+    ap (map need_text) added.1
+    ∙ map-append _ old.needs.items ((IsPresent, id) ∷ [])
+    ∙ ap (λ (l : List (ArgPredicate × Text)). l ++ (IsPresent, id.now) ∷ []) none
+Wants-one old id (Err error) added none = tt
 
 pub excludes_more : (old new : Arg) (id : Bor (List ℕ)) (ids : List Text) → AddsConflicts old new (id ∷ [])
     → Excludes ids old → Excludes (ids ++ id.now ∷ []) new

@@ -1,8 +1,11 @@
 -- The command line of the program, as clap reads it.
-use Rattle.std.specs.Prelude.{◌≡◌, ℕ, List, false, [], ◌∷◌, Some, codes, true, pos}
+use Rattle.std.specs.Prelude.{◌≡◌, ℕ, List, false, [], ◌∷◌, Some, codes, true, pos, map}
+use Rattle.std.specs.Borrow.{Bor}
 use Rattle.clap.specs.Words.{App, app_of, rule_of, Rule, Text, new_app, new_rule, with_rule, with_subcommand}
 use Rattle.clap.specs.Walk.{texts}
 use Rattle.clap.specs.declared.builder.arg.Arg.{Arg}
+use Rattle.clap.specs.declared.builder.arg.ArgPredicate.{ArgPredicate}
+use Rattle.clap.specs.declared.builder.arg.ArgPredicate.TheVariants.{IsPresent}
 use Rattle.clap.specs.declared.builder.command.Command.{Command}
 use Rattle.clap.specs.declared.builder.command.Command.TheViews.{out-Command}
 use Rattle.clap.specs.declared.builder.ArgAction.TheVariants.{Append, SetTrue}
@@ -53,6 +56,14 @@ addresses_rule = record (new_rule (codes "address")) { action = Some Append; val
 abbrev pub base_rule : Rule
 base_rule = record (new_rule (codes "base")) { long = Some (codes "base"); value_names = 1 }
 
+-- `--section NAME`, or `-j NAME`
+abbrev pub section_rule : Rule
+section_rule = record (new_rule (codes "section")) { long = Some (codes "section"); short = Some 106; value_names = 1 }
+
+-- the same, which wants `FILE`
+abbrev pub section_of_file_rule : Rule
+section_of_file_rule = record section_rule { is_free = false }
+
 -- `--id`, without a value
 abbrev pub switch_rule : Text → Rule
 switch_rule id = record (new_rule id) { long = Some id; action = Some SetTrue }
@@ -82,16 +93,16 @@ with_printing a =
 -- what addresses are asked for, and how they are answered
 abbrev pub with_settings : App → App
 with_settings a =
-    with_rule (with_rule (with_rule (with_printing a) (switch_rule (codes "hex"))) base_rule)
-    (switch_rule (codes "all"))
+    with_rule (with_rule (with_rule (with_rule (with_printing a) (switch_rule (codes "hex"))) base_rule)
+    (switch_rule (codes "all"))) section_rule
 
 abbrev pub with_addresses : App → App
 with_addresses a =
     with_rule (with_rule (with_rule (with_rule (with_rule (with_rule (with_settings a) big_rule) line_str_rule) str_rule)
     exe_rule) addr_file_rule) addresses_rule
 
--- `addr [-a] [-s] [--json] [--hex] [--base ADDRESS] [--all] [--big] [--line-str PATH] [--str PATH] FILE [ADDRESS]..`, or
--- with `-e FILE` in place of `FILE`
+-- `addr [-a] [-s] [--json] [--hex] [--base ADDRESS] [--all] [-j NAME] [--big] [--line-str PATH] [--str PATH] FILE
+-- [ADDRESS]..`, or with `-e FILE` in place of `FILE`
 abbrev pub addr_app : App
 addr_app = with_addresses (new_app (codes "addr"))
 
@@ -103,9 +114,10 @@ dump_app = with_strings (new_app (codes "dump"))
 abbrev pub check_app : App
 check_app = with_input (new_app (codes "check"))
 
--- `find ADDRESS [--op N] [--big] [--line-str PATH] [--str PATH] [FILE]`
+-- `find ADDRESS [--op N] [-j NAME] [--big] [--line-str PATH] [--str PATH] [FILE]`
 abbrev pub find_app : App
-find_app = with_strings (with_rule (with_rule (new_app (codes "find")) address_rule) op_rule)
+find_app =
+    with_strings (with_rule (with_rule (with_rule (new_app (codes "find")) address_rule) op_rule) section_of_file_rule)
 
 -- `copy [--big] [FILE]`
 abbrev pub copy_app : App
@@ -135,6 +147,17 @@ IsRule r a = (rule_of a ≡ r) × (a.global ≡ false)
 -- it has to be there, unless one of those of these ids is
 abbrev pub IsWantedUnless : List Text → Arg → Type 0
 IsWantedUnless ids a = texts a.r_unless.items ≡ ids
+
+-- what an argument wants of another one, by its id
+abbrev pub need_text : ArgPredicate × Bor (List ℕ) → ArgPredicate × Text
+need_text need = (need.0, need.1.now)
+
+abbrev pub present : Text → ArgPredicate × Text
+present id = (IsPresent, id)
+
+-- those of these ids have to be there where it is
+abbrev pub Wants : List Text → Arg → Type 0
+Wants ids a = map need_text a.needs.items ≡ map present ids
 
 -- it may not be used with those of these ids
 abbrev pub Excludes : List Text → Arg → Type 0

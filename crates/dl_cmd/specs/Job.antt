@@ -18,6 +18,7 @@ pub record AddrTexts : Type 0 where
   pub basenames : Bool
   pub json : Bool
   pub all : Bool
+  pub section : Option Text
   pub big : Bool
   pub line_str : Option Text
   pub strings : Option Text
@@ -26,7 +27,8 @@ pub record AddrTexts : Type 0 where
 pub data Request : Type 0 where
   dump : (file : Option Text) (big : Bool) (line_str strings : Option Text) → Request
   check : (file : Option Text) (big : Bool) → Request
-  find : (file : Option Text) (big : Bool) (address : Option Text) (op : ℕ) (line_str strings : Option Text) → Request
+  find : (file : Option Text) (big : Bool) (address : Option Text) (op : ℕ) (section line_str strings : Option Text)
+      → Request
   copy : (file : Option Text) (big : Bool) → Request
   addr : AddrTexts → Request
 
@@ -40,6 +42,7 @@ addr_words_made w = record {
   basenames = w.basenames;
   json = w.json;
   all = w.all;
+  section = option_map (λ s. s.now) w.section;
   big = w.big;
   line_str = option_map (λ s. s.now) w.line_str;
   strings = option_map (λ s. s.now) w.strings;
@@ -49,8 +52,8 @@ abbrev pub request_made : Job → Request
 request_made (Dump file big line_str strings) =
     dump (option_map (λ s. s.now) file) big (option_map (λ s. s.now) line_str) (option_map (λ s. s.now) strings)
 request_made (Check file big) = check (option_map (λ s. s.now) file) big
-request_made (Find file big address op line_str strings) =
-    find (option_map (λ s. s.now) file) big (option_map (λ s. s.now) address) op (option_map (λ s. s.now) line_str)
-    (option_map (λ s. s.now) strings)
+request_made (Find file big address op section line_str strings) =
+    find (option_map (λ s. s.now) file) big (option_map (λ s. s.now) address) op (option_map (λ s. s.now) section)
+    (option_map (λ s. s.now) line_str) (option_map (λ s. s.now) strings)
 request_made (Copy file big) = copy (option_map (λ s. s.now) file) big
 request_made (Addr w) = addr (addr_words_made w)

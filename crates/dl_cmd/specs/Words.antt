@@ -39,6 +39,7 @@ addr_words_of rows = record {
   basenames = flag_of (codes "basenames") rows;
   json = flag_of (codes "json") rows;
   all = flag_of (codes "all") rows;
+  section = text_of (codes "section") rows;
   big = flag_of (codes "big") rows;
   line_str = text_of (codes "line-str") rows;
   strings = text_of (codes "str") rows;
@@ -55,7 +56,8 @@ request_of name rows =
     if bytes_eq name (codes "dump") then Some (dump file big line_str strings) else
     if bytes_eq name (codes "check") then Some (check file big) else
     if bytes_eq name (codes "find")
-    then Some (find file big (text_of (codes "address") rows) (byte_of (codes "op") rows) line_str strings) else
+    then Some (find file big (text_of (codes "address") rows) (byte_of (codes "op") rows)
+        (text_of (codes "section") rows) line_str strings) else
     if bytes_eq name (codes "copy") then Some (copy file big) else None
 
 -- the same of a reading of the words, which may hold no subcommand

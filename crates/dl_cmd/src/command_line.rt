@@ -3,7 +3,7 @@ ghost use Rattle.std.specs.Prelude.{IfOk, [], ◌∷◌, codes};
 ghost use Rattle.clap.specs.Words.{App};
 ghost use Rattle.dl_cmd.specs.CommandLine.{Excludes, IsApp, IsRule, IsWantedUnless, big_rule, file_rule, line_str_rule};
 ghost use Rattle.dl_cmd.specs.CommandLine.{address_rule, op_rule, addr_file_rule, addresses_rule, base_rule, exe_rule};
-ghost use Rattle.dl_cmd.specs.CommandLine.{json_rule, str_rule};
+ghost use Rattle.dl_cmd.specs.CommandLine.{Wants, json_rule, section_of_file_rule, section_rule, str_rule};
 ghost use Rattle.dl_cmd.specs.CommandLine.{switch_rule, letter_rule, addr_app, with_addresses, with_input};
 ghost use Rattle.dl_cmd.specs.CommandLine.{with_printing, with_strings, dump_app, check_app, find_app, copy_app};
 ghost use Rattle.dl_cmd.specs.CommandLine.{command_line};
@@ -91,6 +91,29 @@ fn op<'a>(alloc: Global) -> Arg<'a>
         .value_parser(clap::value_parser!(u8))
         .default_value("0")
         .help("Operation within the instruction at ADDRESS, from 0 to 255")
+}
+
+/// The section of an object file in which addresses are looked up, also by the letter that addr2line has for it.
+fn section<'a>(alloc: Global) -> Arg<'a>
+    ensures rule { IsRule section_rule result }
+    ensures wants { Wants [] result }
+{
+    Arg::new(alloc, "section")
+        .long("section")
+        .short('j')
+        .value_name("NAME")
+        .help(
+            "Section of an object file to look into; without it .text, or where there is none the \
+             first section with code",
+        )
+}
+
+/// The same of a command whose FILE may be left out: FILE has to be there.
+fn section_of_file<'a>(alloc: Global) -> Result<Arg<'a>, AllocError>
+    ensures rule { IfOk result (IsRule section_of_file_rule) }
+    ensures wants { IfOk result (Wants (codes "file" ∷ [])) }
+{
+    section(alloc).requires_arg("file")
 }
 
 /// The file of `addr`, which may be `-` beside `--big`, `--line-str` and `--str`. It is wanted unless `-e` names it.
@@ -211,7 +234,8 @@ fn find<'a>(alloc: Global) -> Result<Command<'a>, AllocError>
         .about("Print the source file and the row of an address")
         .after_help("Examples:\n  dwline find 0x401136 program\n  dwline find 4198710 < debug_line")
         .arg(address(alloc))?
-        .arg(op(alloc))?;
+        .arg(op(alloc))?
+        .arg(section_of_file(alloc)?)?;
     add_strings(alloc, command)
 }
 
@@ -258,6 +282,7 @@ fn add_addresses<'a>(alloc: Global, command: Command<'a>) -> Result<Command<'a>,
             "all",
             "Look into sequences too that begin outside executable sections",
         ))?
+        .arg(section(alloc))?
         .arg(big(alloc))?
         .arg(line_str(alloc))?
         .arg(strings(alloc))?

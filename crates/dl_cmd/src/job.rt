@@ -28,6 +28,8 @@ pub enum Job<'a> {
         address: Option<&'a str>,
         /// The operation index.
         op: u8,
+        /// The name of the section of an object file that is looked into.
+        section: Option<&'a str>,
         line_str: Option<&'a str>,
         strings: Option<&'a str>,
     },
@@ -58,6 +60,8 @@ pub struct AddrWords<'a> {
     pub json: bool,
     /// Sequences that begin outside executable sections count too.
     pub all: bool,
+    /// The name of the section of an object file that is looked into.
+    pub section: Option<&'a str>,
     pub big: bool,
     pub line_str: Option<&'a str>,
     pub strings: Option<&'a str>,

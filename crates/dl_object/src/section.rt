@@ -21,8 +21,8 @@ pub struct NoMemory;
 ///
 /// `places` are those that the relocations of the section changed, in the order of the relocations: of several at one
 /// place the first counts. A sequence that sets no address, or whose first one no relocation changed, is of no section.
-/// Memory is taken for a header at a time, and for a copy of the places where these aren't in rising order. Where that is refused, some of the sequences
-/// are replaced.
+/// Memory is taken for a header at a time, and for a copy of the places where these aren't in rising order. Where that
+/// is refused, some of the sequences are replaced.
 pub fn keep_section(
     alloc: Global,
     order: Order,

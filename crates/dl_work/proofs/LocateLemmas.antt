@@ -1,7 +1,8 @@
 -- What the program does for the words of `addr`.
 use Rattle.std.proofs.Common.{◌≡◌, ◌⊎◌, inl, inr, ℕ, ◌||◌, Bool, true, false, List, [], Option, Some, None, Result, Ok}
 use Rattle.std.proofs.Common.{Err, IfOk, IfErr, MatchResult, refl, sym, ap, ◌∙◌, subst}
-use Rattle.std.specs.Prelude.{◌≢◌}
+use Rattle.std.specs.Prelude.{◌≢◌, is_some, option_map}
+use Rattle.std.specs.Borrow.{Bor}
 use Rattle.std.specs.Option.{option_copied}
 use Rattle.std.specs.declared.io.Error.{Error}
 use Rattle.std.proofs.KnownBytes.{Keeps-refl}
@@ -21,7 +22,7 @@ use Rattle.dl_work.specs.declared.stop.FileFault.{FileFault}
 use Rattle.dl_work.specs.declared.stop.FileFault.TheVariants.{NoMemory}
 use Rattle.dl_work.specs.declared.stop.Stop.{Stop}
 use Rattle.dl_work.specs.declared.stop.Stop.TheVariants.{NotUnderstood}
-use Rattle.dl_work.specs.Locate.{HasAsked, InputStops, LocatesInFile, LocatesInSection, RefusesCode, WordsStop}
+use Rattle.dl_work.specs.Locate.{HasAsked, InputStops, IsNoQuestion, LocatesInFile, LocatesInSection, RefusesCode, WordsStop}
 use Rattle.dl_work.specs.Locate.{Asks, Unanswered, are_addresses, asked_in_words, base_in, form_in, live_by}
 use Rattle.dl_work.specs.Locate.{says_section}
 use Rattle.dl_work.specs.Understood.{IsUnderstood}
@@ -50,9 +51,18 @@ all_live false code a = refl
 
 pub section_stops : (held : Text → Option (List ℕ)) (w : AddrTexts) (left start : Option (List ℕ))
     (result : Result Found Stop) (stop : Stop) → result ≡ Err stop → WordsStop w stop
-    ⊎ ((w.addresses ≡ []) × (stop ≡ NotUnderstood))
+    ⊎ (IsNoQuestion w × (stop ≡ NotUnderstood))
     → LocatesInSection held w [] left start start result
 section_stops held w left start result stop is why = inl (stop, why, (is, refl, Keeps-refl start))
+
+-- a section of an object file is named
+pub section_named : (o : Option (Bor (List ℕ))) → is_some o ≡ true → option_map (λ s. s.now) o ≢ None
+section_named None is none = absurd (cc is)
+section_named (Some s) is none = absurd (cc none)
+
+pub section_unnamed : (o : Option (Bor (List ℕ))) → is_some o ≡ false → option_map (λ s. s.now) o ≡ None
+section_unnamed None is = refl
+section_unnamed (Some s) is = absurd (cc is)
 
 -- ---- a file
 
@@ -106,7 +116,7 @@ module _ (held : Text → Option (List ℕ)) (fails : Text → Error → Type 0)
       → q.style.basenames ≡ w.basenames
       → ForBytes (held path) (λ f. (code : Code) × IsCode f (Ok code)
       × ((a : ℕ) → is_code ranges a ≡ live_by false code a))
-      → ForBytes (held path) (λ f. OnFile (fails path) path (Addr q) f start now answer)
+      → ForBytes (held path) (λ f. OnFile (fails path) path w.section (Addr q) f start now answer)
       → result ≡ located answer lines.no_address → LocatesInFile held fails path w bytes left start now result
   file_done ranges given slice base bytes left start now lines q answer result says words has understood based asked
       sliced own live form basenames codes does is = λ f known short.

@@ -1,9 +1,10 @@
 -- The command over the line table of a file.
-use Rattle.std.proofs.Common.{◌≡◌, ◌∙◌, ◌&&◌, ℕ, ◌+◌, Bool, false, List, length, Option, None, Some, Result, arith}
+use Rattle.std.proofs.Common.{◌≡◌, ◌∙◌, ◌&&◌, ℕ, ◌+◌, Bool, true, false, List, length, Option, None, Some, Result, Err, arith}
 use Rattle.std.proofs.Common.{inl, inr}
 use Rattle.std.specs.declared.io.Error.{Error}
-use Rattle.std.proofs.Common.{refl, ap, sym, subst, length-append}
-use Rattle.std.specs.Io.KnownBytes.{Consumes}
+use Rattle.std.proofs.Common.{refl, ap, sym, subst, length-append, append-nil}
+use Rattle.std.specs.Io.KnownBytes.{Consumes, IsAtEnd}
+use Rattle.std.specs.Prelude.{◌⊎◌, ◌++◌, IfSome}
 use Rattle.dl_cmd.specs.Job.{Text}
 use Rattle.dl_num.specs.declared.fixed.Order.{Order}
 use Rattle.dl_elf.specs.declared.name.SectionName.{SectionName}
@@ -14,7 +15,7 @@ use Rattle.dl_run.specs.Strings.{StopsReading}
 use Rattle.dl_run.specs.declared.fault.RunFault.TheVariants as fault
 use Rattle.dl_work.specs.declared.strings.TheConstants.{STRINGS_LIMIT}
 use Rattle.dl_work.specs.Files.{FileStops}
-use Rattle.dl_work.specs.Stops.{StopsAt}
+use Rattle.dl_work.specs.Stops.{IsAt, StopsAt}
 use Rattle.dl_file.specs.LineReader.{line_remaining, line_stream}
 use Rattle.dl_file.specs.LineTable.{Content, GivesLine, GivesOption, Inflated, LineTable, Plain}
 use Rattle.dl_run.specs.declared.options.TheConstants.{SECTION_LIMIT}
@@ -26,17 +27,23 @@ use Rattle.dl_work.specs.declared.stop.Stop.{Stop}
 use Rattle.dl_elf.specs.declared.fault.ElfFault.TheVariants.{Read, NoMemory}
 use Rattle.dl_file.specs.declared.line_file.Wanted.{Wanted}
 use Rattle.dl_work.specs.declared.stop.FileFault.{FileFault}
-use Rattle.dl_work.specs.declared.stop.FileFault.TheVariants.{Open, Elf}
-use Rattle.dl_work.specs.Asked.{Does, is_copy, wanted_of}
-use Rattle.dl_work.specs.Tables.{EndsAt, IsWhole, OnFile, OnTable, OnTableWhere, Refuses, RunsOn, SectionStops}
+use Rattle.dl_work.specs.declared.stop.FileFault.TheVariants.{Open, Elf, NoMemory as Refused}
+use Rattle.dl_work.specs.Asked.{Does, WithoutTable, is_copy, wanted_of}
+use Rattle.dl_work.specs.Tables.{EndsAt, IsWhole, OnFile, OnFound, OnFoundWhere, OnLines, OnTable, OnTableWhere, Refuses, RunsOn}
+use Rattle.dl_work.specs.Tables.{KeepingStops, SectionStops}
+use Rattle.dl_object.specs.Kept.{Rises}
+use Rattle.dl_object.specs.Section.{WantsCell}
+use Rattle.dl_reloc.specs.declared.placed.Placed.{Placed}
+use Rattle.dl_work.specs.Parts.{PartStops, RefusesPlaces, RefusesSection, looks_up}
+use Rattle.dl_work.specs.declared.object_part.Part.{Part}
 use Rattle.dl_work.specs.Tables.{known_bytes, stream_of}
 
 -- it isn't the copy of an object file
-pub not_refused : (path : Text) (command : Command) (t : LineTable) (start now : Option (List ℕ))
+pub not_refused : (path : Text) (command : Command) (t : LineTable) (part : Option Part) (start now : Option (List ℕ))
     (result : Result Summary Stop) (is_object : Bool) → (is_copy command && is_object) ≡ false
-    → is_object ≡ t.is_object_file → OnTableWhere false path command t start now result
-    → OnTable path command t start now result
-not_refused path command t start now result is_object not_copy object does =
+    → is_object ≡ t.is_object_file → OnTableWhere false path command t part start now result
+    → OnTable path command t part start now result
+not_refused path command t part start now result is_object not_copy object does =
     let e : (is_copy command && t.is_object_file) ≡ false =
     ap (λ (b : Bool). is_copy command && b) (sym object) ∙ not_copy in
     rw e does
@@ -81,16 +88,16 @@ ran path command t start now left remaining s strings order limit answer result 
 -- ---- a string section
 
 -- what stops the reading of bytes stops that of a section of which they are the first
-stops_known : (known left : Option (List ℕ)) (bs : List ℕ) (f : RunFault) → Consumes known left bs
-    → StopsReading STRINGS_LIMIT bs f → FileStops known STRINGS_LIMIT f
-stops_known known left bs fault.Read consumes stops = tt
-stops_known known left bs fault.NoMemory consumes stops = tt
-stops_known None left bs fault.SectionTooLong consumes stops = tt
-stops_known (Some xs) None bs fault.SectionTooLong consumes stops = absurd consumes
-stops_known (Some xs) (Some ys) bs fault.SectionTooLong consumes stops =
+pub stops_known : (limit : ℕ) (known left : Option (List ℕ)) (bs : List ℕ) (f : RunFault) → Consumes known left bs
+    → StopsReading limit bs f → FileStops known limit f
+stops_known limit known left bs fault.Read consumes stops = tt
+stops_known limit known left bs fault.NoMemory consumes stops = tt
+stops_known limit None left bs fault.SectionTooLong consumes stops = tt
+stops_known limit (Some xs) None bs fault.SectionTooLong consumes stops = absurd consumes
+stops_known limit (Some xs) (Some ys) bs fault.SectionTooLong consumes stops =
     let size : length xs ≡ length bs + length ys = ap (λ l. length l) consumes ∙ length-append bs ys in
     omega (arith, size, stops)
-stops_known known left bs other consumes stops = absurd stops
+stops_known limit known left bs other consumes stops = absurd stops
 
 -- the reading of a section stops
 pub section_stops : {S : Type 0} {g : _} (all_bytes : S
@@ -111,7 +118,7 @@ section_stops all_bytes path (Some other) reader (Some (Plain bytes)) stream lef
       refl,
       (
         f,
-        stops_known (Some bytes) left bs f
+        stops_known STRINGS_LIMIT (Some bytes) left bs f
             (subst (λ (r : Option (List ℕ)). Consumes r left bs) known read) stops,
         subst (λ (n : Option SectionName). StopsAt path n f stop) its_name at,
       ),
@@ -124,10 +131,56 @@ section_stops all_bytes path (Some other) reader (Some (Inflated name bytes dama
       refl,
       (
         f,
-        stops_known bytes left bs f (subst (λ (r : Option (List ℕ)). Consumes r left bs) known read) stops,
+        stops_known STRINGS_LIMIT bytes left bs f (subst (λ (r : Option (List ℕ)). Consumes r left bs) known read) stops,
         subst (λ (n : Option SectionName). StopsAt path n f stop) (named ∙ (ap stream_name (sym same) ∙ gives.3)) at,
       ),
     )
+
+-- ---- what is left of a line section
+
+-- bytes that were read up to the end are all that are known
+pub all_read : (known left : Option (List ℕ)) (bs : List ℕ) → Consumes known left bs → IsAtEnd left
+    → IfSome known (λ whole. bs ≡ whole)
+all_read None left bs consumes at_end = tt
+all_read (Some xs) None bs consumes at_end = absurd consumes
+all_read (Some xs) (Some ys) bs consumes at_end =
+    sym (consumes ∙ (ap (λ (l : List ℕ). bs ++ l) at_end ∙ append-nil bs))
+
+-- the bytes of a section that is in memory
+pub plain_known : (content : Content) (bytes : List ℕ) (left : Option (List ℕ)) (read : List ℕ) → content ≡ Plain bytes
+    → Consumes (Some bytes) left read → Consumes (known_bytes content) left read
+plain_known content bytes left read is consumes =
+    subst (λ (c : Content). Consumes (known_bytes c) left read) (sym is) consumes
+
+-- the command is done over the sequences of a part
+pub of_part : (path : Text) (command : Command) (t : LineTable) (part : Part) (chosen : Option Part)
+    (start now : Option (List ℕ)) (result : Result Summary Stop) → chosen ≡ Some part
+    → OnLines path command t (Some part) start now result → OnLines path command t chosen start now result
+of_part path command t part chosen start now result is done =
+    subst (λ (p : Option Part). OnLines path command t p start now result) (sym is) done
+
+-- memory is refused for what is left of them
+pub keeping_refused : (path : Text) (order : Order) (part : Part) (content : Content) (items bs slice : List ℕ)
+    (places : List Placed) (stop : Stop) → IfSome (known_bytes content) (λ known. bs ≡ known) → items ≡ bs
+    → slice ≡ items → places ≡ part.places.items → (Rises places → ⊥) ⊎ WantsCell order slice → IsAt path Refused stop
+    → KeepingStops path order part content stop
+keeping_refused path order part content items bs slice places stop whole read viewed placed why at =
+    let own = subst (λ (p : List Placed). (Rises p → ⊥) ⊎ WantsCell order slice) placed why in
+    inr (
+      bs,
+      whole,
+      subst (λ (b : List ℕ). (Rises part.places.items → ⊥) ⊎ WantsCell order b) (viewed ∙ read) own,
+      at,
+    )
+
+-- it can't be told among which sequences a command looks
+pub found_stops : (fails : Error → Type 0) (path : Text) (name : Option Text) (command : Command) (f : List ℕ)
+    (t : LineTable) (start now : Option (List ℕ)) (stop : Stop) (looks is_object : Bool) → looks ≡ true
+    → looks ≡ looks_up command → is_object ≡ t.is_object_file → PartStops fails path f is_object name stop
+    → WithoutTable command start now → OnFound fails path name command f t start now (Err stop)
+found_stops fails path name command f t start now stop looks is_object said own object why written =
+    subst (λ (looks : Bool). OnFoundWhere looks fails path name command f t start now (Err stop)) (sym said ∙ own)
+    (inl (stop, refl, subst (λ (b : Bool). PartStops fails path f b name stop) object why, written))
 
 -- ---- the errors that opening and reading may give
 
@@ -139,10 +192,44 @@ refuses_weaker fails wider f wanted (Elf NoMemory) more refuses = refuses
 refuses_weaker fails wider f wanted (Elf fault) more refuses = refuses
 refuses_weaker fails wider f wanted fault more refuses = refuses
 
+places_weaker : (fails wider : Error → Type 0) (f : List ℕ) (is_object : Bool) (fault : FileFault)
+    → ((e : Error) → fails e → wider e) → RefusesPlaces fails f is_object fault → RefusesPlaces wider f is_object fault
+places_weaker fails wider f is_object (Elf (Read error)) more refuses = more error refuses
+places_weaker fails wider f is_object (Elf NoMemory) more refuses = refuses
+places_weaker fails wider f is_object (Elf fault) more refuses = refuses
+places_weaker fails wider f is_object fault more refuses = refuses
+
+section_weaker : (fails wider : Error → Type 0) (f : List ℕ) (fault : FileFault)
+    → ((e : Error) → fails e → wider e) → RefusesSection fails f fault → RefusesSection wider f fault
+section_weaker fails wider f (Elf (Read error)) more refuses = more error refuses
+section_weaker fails wider f (Elf fault) more refuses = refuses
+section_weaker fails wider f fault more refuses = refuses
+
+part_stops_weaker : (fails wider : Error → Type 0) (path : Text) (f : List ℕ) (is_object : Bool) (name : Option Text)
+    (stop : Stop) → ((e : Error) → fails e → wider e) → PartStops fails path f is_object name stop
+    → PartStops wider path f is_object name stop
+part_stops_weaker fails wider path f is_object name stop more (inl lacks) = inl lacks
+part_stops_weaker fails wider path f is_object name stop more (inr (fault, inl refuses, at)) =
+    inr (fault, inl (places_weaker fails wider f is_object fault more refuses), at)
+part_stops_weaker fails wider path f is_object name stop more (inr (fault, inr (inl refuses), at)) =
+    inr (fault, inr (inl (section_weaker fails wider f fault more refuses)), at)
+part_stops_weaker fails wider path f is_object name stop more (inr (fault, inr (inr refuses), at)) =
+    inr (fault, inr (inr refuses), at)
+
+on_found_weaker : (looks : Bool) (fails wider : Error → Type 0) (path : Text) (name : Option Text) (command : Command)
+    (f : List ℕ) (t : LineTable) (start now : Option (List ℕ)) (result : Result Summary Stop)
+    → ((e : Error) → fails e → wider e) → OnFoundWhere looks fails path name command f t start now result
+    → OnFoundWhere looks wider path name command f t start now result
+on_found_weaker false fails wider path name command f t start now result more found = found
+on_found_weaker true fails wider path name command f t start now result more (inl (stop, is, why, written)) =
+    inl (stop, is, part_stops_weaker fails wider path f t.is_object_file name stop more why, written)
+on_found_weaker true fails wider path name command f t start now result more (inr found) = inr found
+
 -- what is done for an open file, by the errors of its source
-pub on_file_weaker : (fails wider : Error → Type 0) (path : Text) (command : Command) (f : List ℕ)
+pub on_file_weaker : (fails wider : Error → Type 0) (path : Text) (name : Option Text) (command : Command) (f : List ℕ)
     (start now : Option (List ℕ)) (result : Result Summary Stop) → ((e : Error) → fails e → wider e)
-    → OnFile fails path command f start now result → OnFile wider path command f start now result
-on_file_weaker fails wider path command f start now result more (inl (stop, is, (fault, refuses, at), written)) =
+    → OnFile fails path name command f start now result → OnFile wider path name command f start now result
+on_file_weaker fails wider path name command f start now result more (inl (stop, is, (fault, refuses, at), written)) =
     inl (stop, is, (fault, refuses_weaker fails wider f (wanted_of command) fault more refuses, at), written)
-on_file_weaker fails wider path command f start now result more (inr table) = inr table
+on_file_weaker fails wider path name command f start now result more (inr (t, has, found)) =
+    inr (t, has, on_found_weaker (looks_up command) fails wider path name command f t start now result more found)

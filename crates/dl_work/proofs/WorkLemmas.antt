@@ -1,11 +1,13 @@
--- A request over a section on the input.
-use Rattle.std.proofs.Common.{◌≡◌, ℕ, List, Option, Some, None, Result, subst}
+-- A request over a section on the input, and over the ELF file of a path.
+use Rattle.std.proofs.Common.{◌≡◌, ℕ, List, [], Option, Some, None, Result, refl, subst}
 use Rattle.std.specs.declared.io.Error.{Error}
 use Rattle.dl_print.specs.declared.summary.Summary.{Summary}
 use Rattle.dl_cmd.specs.Job.{Request, Text}
 use Rattle.dl_work.specs.declared.command.Command.{Command}
 use Rattle.dl_work.specs.declared.stop.Stop.{Stop}
-use Rattle.dl_work.specs.Asked.{SectionWords, command_of, file_of, section_of}
+use Rattle.dl_work.specs.Asked.{SectionWords, command_of, file_of, part_name_of, section_of}
+use Rattle.dl_elf.specs.Source.{ForBytes}
+use Rattle.dl_work.specs.Tables.{OnFile}
 use Rattle.dl_work.specs.Work.{OnInput, Works}
 
 pub works_on_input : (held : Text → Option (List ℕ)) (fails : Text → Error → Type 0) (request : Option Request)
@@ -15,3 +17,16 @@ pub works_on_input : (held : Text → Option (List ℕ)) (fails : Text → Error
     → OnInput held words command bytes left start now result → Works held fails request bytes left start now result
 works_on_input held fails request r command words bytes left start now result is asks no_file said does =
     rw (is, asks, no_file) (subst (λ (w : SectionWords). OnInput held w command bytes left start now result) said does)
+
+pub works_on_named : (held : Text → Option (List ℕ)) (fails : Text → Error → Type 0) (request : Option Request)
+    (r : Request) (command : Command) (path : Text) (name : Option Text) (left start now : Option (List ℕ))
+    (result : Result Summary Stop) → request ≡ Some r → command_of r ≡ Some command → file_of r ≡ Some path
+    → name ≡ part_name_of r
+    → ForBytes (held path) (λ f. OnFile (fails path) path name command f start now result)
+    → Works held fails request [] left start now result
+works_on_named held fails request r command path name left start now result is asks named said does =
+    rw (is, asks, named) (
+      refl,
+      subst (λ (n : Option Text). ForBytes (held path) (λ f. OnFile (fails path) path n command f start now result)) said
+          does,
+    )

@@ -26,11 +26,13 @@ use Rattle.dl_run.specs.declared.fault.RunFault.TheVariants.{NotFound}
 abbrev pub place_of : (address : Option Text) (op : ℕ) → Option Place
 place_of address op = option_map (λ n. record { address = n; op_index = op }) (option_and_then address_in address)
 
--- the command; none where ADDRESS is no address, and of `addr`, which asks for many
+-- the command; none where ADDRESS is no address, where a section of an object file is named without FILE, and of `addr`,
+-- which asks for many
 abbrev pub command_of : Request → Option Command
 command_of (dump file big line_str str) = Some Dump
 command_of (check file big) = Some Check
-command_of (find file big address op line_str str) = option_map Find (place_of address op)
+command_of (find None big address op (Some section) line_str str) = None
+command_of (find file big address op section line_str str) = option_map Find (place_of address op)
 command_of (copy file big) = Some Copy
 command_of (addr words) = None
 
@@ -38,9 +40,15 @@ command_of (addr words) = None
 abbrev pub file_of : Request → Option Text
 file_of (dump file big line_str str) = file
 file_of (check file big) = file
-file_of (find file big address op line_str str) = file
+file_of (find file big address op section line_str str) = file
 file_of (copy file big) = file
 file_of (addr words) = words.file
+
+-- the section of an object file that is looked into
+abbrev pub part_name_of : Request → Option Text
+part_name_of (find file big address op section line_str str) = section
+part_name_of (addr words) = words.section
+part_name_of other = None
 
 -- what is said of a section on the input
 pub record SectionWords : Type 0 where
@@ -51,7 +59,7 @@ pub record SectionWords : Type 0 where
 abbrev pub section_of : Request → SectionWords
 section_of (dump file big line_str str) = record { big = big; line_str = line_str; strings = str }
 section_of (check file big) = record { big = big; line_str = None; strings = None }
-section_of (find file big address op line_str str) = record { big = big; line_str = line_str; strings = str }
+section_of (find file big address op section line_str str) = record { big = big; line_str = line_str; strings = str }
 section_of (copy file big) = record { big = big; line_str = None; strings = None }
 section_of (addr words) = record { big = words.big; line_str = words.line_str; strings = words.strings }
 

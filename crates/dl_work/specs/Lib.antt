@@ -4,6 +4,7 @@ pub mod DebugFile
 pub mod Stops
 pub mod Asked
 pub mod Files
+pub mod Parts
 pub mod Tables
 pub mod Work
 pub mod Located

@@ -90,14 +90,17 @@ WordsStop w (NotAddress word) = first_other w.hex (address_words w) ≡ Some wor
 WordsStop w (Run fault.NoMemory) = w.addresses ≢ []
 WordsStop w other = ⊥
 
--- ---- the section on the input, which wants an address among the words
+-- ---- the section on the input, which wants an address among the words, and no section of an object file
+
+abbrev pub IsNoQuestion : AddrTexts → Type 0
+IsNoQuestion w = (w.section ≢ None) ⊎ (w.addresses ≡ [])
 
 abbrev pub LocatesInSection : (held : Text → Option (List ℕ)) → AddrTexts
     → (bytes : List ℕ) (left start now : Option (List ℕ)) → Result Found Stop → Type 0
 LocatesInSection held w bytes left start now result =
-    ((stop : Stop) × (WordsStop w stop ⊎ ((w.addresses ≡ []) × (stop ≡ NotUnderstood)))
+    ((stop : Stop) × (WordsStop w stop ⊎ (IsNoQuestion w × (stop ≡ NotUnderstood)))
     × StopsBefore bytes start now result stop)
-    ⊎ ((q : Question) × (answer : Result Summary Stop) × (w.addresses ≢ []) × Asks w (asked_in_words w) (λ a. true) q
+    ⊎ ((q : Question) × (answer : Result Summary Stop) × (IsNoQuestion w → ⊥) × Asks w (asked_in_words w) (λ a. true) q
     × OnInput held (section_of (addr w)) (Addr q) bytes left start now answer × (result ≡ located answer None))
 
 -- ---- the ELF file of a path. f: its bytes
@@ -152,7 +155,7 @@ LocatesInFile held fails path w bytes left start now result = ForBytes (held pat
     ⊎ ((code : Code) × (lines : AskedLines) × (q : Question) × (answer : Result Summary Stop)
     × (says_section w ≡ false) × IsCode f (Ok code) × HasAsked w (asked_in_words w) bytes left lines
     × Asks w lines.asked.items (live_by w.all code) q
-    × OnFile (fails path) path (Addr q) f start now answer × (result ≡ located answer lines.no_address)))
+    × OnFile (fails path) path w.section (Addr q) f start now answer × (result ≡ located answer lines.no_address)))
 
 -- ---- by the words; a path `-` stands for a section on the input
 

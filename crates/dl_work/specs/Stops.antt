@@ -9,17 +9,18 @@ use Rattle.dl_run.specs.RunText.{run_fault_text, status}
 use Rattle.dl_run.specs.declared.fault.RunFault.{RunFault}
 use Rattle.dl_run.specs.declared.fault.RunFault.TheVariants as fault
 use Rattle.dl_work.specs.declared.stop.FileFault.{FileFault}
-use Rattle.dl_work.specs.declared.stop.FileFault.TheVariants.{Open, Elf, Stripped, ObjectCopy, NoMemory}
+use Rattle.dl_work.specs.declared.stop.FileFault.TheVariants.{Open, Elf, Stripped, ObjectCopy, NotRelative, NoMemory}
 use Rattle.dl_work.specs.declared.stop.Stop.{Stop}
 use Rattle.dl_work.specs.DebugFile.{debug_file_text}
 use Rattle.dl_work.specs.Shown.{shown_bytes, shown_word}
-use Rattle.dl_work.specs.declared.stop.Stop.TheVariants.{NoAddress, NotAddress, NotUnderstood, Run, File}
+use Rattle.dl_work.specs.declared.stop.Stop.TheVariants.{NoAddress, NoSection, NotAddress, NotUnderstood, Run, File}
 
 -- the text of a fault; None where the system words it
 abbrev pub file_fault_text : FileFault → Option (List ℕ)
 file_fault_text (Open error) = None
 file_fault_text (Elf f) = fault_text f
 file_fault_text (Stripped file) = Some (codes "no section .debug_line (" ++ debug_file_text file ++ codes ")")
+file_fault_text NotRelative = Some (codes "its addresses are not relative to a section")
 file_fault_text ObjectCopy = Some (codes "an object file; its copy would lose its relocations")
 file_fault_text NoMemory = Some (codes "out of memory")
 
@@ -28,6 +29,7 @@ stop_text NotUnderstood = Some (codes "words not understood")
 stop_text (NotAddress word) = Some (shown_word word.now ++ codes " is no address")
 stop_text (Run f) = Some (run_fault_text f)
 stop_text (File path f) = option_map (λ text. shown_word path.now ++ codes ": " ++ text) (file_fault_text f)
+stop_text (NoSection path name) = Some (shown_word path.now ++ (codes ": no section " ++ shown_word name.now))
 stop_text (NoAddress line) =
     Some (codes "line " ++ (decimal line.number ++ (codes ": " ++ (shown_bytes line.word ++ codes " is no address"))))
 
@@ -43,6 +45,7 @@ file_fault_status (Elf Refused) = 3
 file_fault_status (Elf f) = 1
 file_fault_status (Stripped file) = 1
 file_fault_status ObjectCopy = 1
+file_fault_status NotRelative = 1
 file_fault_status NoMemory = 3
 
 abbrev pub stop_status : Stop → ℕ
@@ -50,6 +53,7 @@ stop_status NotUnderstood = 2
 stop_status (NotAddress word) = 2
 stop_status (Run f) = status f
 stop_status (File path f) = file_fault_status f
+stop_status (NoSection path name) = 1
 stop_status (NoAddress line) = 1
 
 -- ---- stops at the ELF file of a path

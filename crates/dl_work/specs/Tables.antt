@@ -9,17 +9,22 @@ use Rattle.dl_file.specs.declared.line_file.Wanted.{Wanted}
 use Rattle.dl_elf.specs.declared.fault.ElfFault.TheVariants.{Read, NoMemory}
 use Rattle.dl_elf.specs.declared.name.SectionName.{SectionName}
 use Rattle.dl_file.specs.LineTable.{Content, HasLineTable, Inflated, LineTable, Plain, TakesMemory}
+use Rattle.dl_num.specs.declared.fixed.Order.{Order}
+use Rattle.dl_object.specs.Kept.{Rises}
+use Rattle.dl_object.specs.Section.{Keeps, WantsCell}
 use Rattle.dl_run.specs.declared.options.TheConstants.{SECTION_LIMIT}
 use Rattle.dl_run.specs.declared.fault.RunFault.{RunFault}
 use Rattle.dl_print.specs.declared.summary.Summary.{Summary}
 use Rattle.dl_print.specs.ValueText.{Strings}
 use Rattle.dl_work.specs.declared.strings.TheConstants.{STRINGS_LIMIT}
 use Rattle.dl_work.specs.declared.command.Command.{Command}
+use Rattle.dl_work.specs.declared.object_part.Part.{Part}
 use Rattle.dl_work.specs.declared.stop.FileFault.{FileFault}
-use Rattle.dl_work.specs.declared.stop.FileFault.TheVariants.{Open, Elf, ObjectCopy}
+use Rattle.dl_work.specs.declared.stop.FileFault.TheVariants.{Open, Elf, ObjectCopy, NoMemory as Refused}
 use Rattle.dl_work.specs.declared.stop.Stop.{Stop}
 use Rattle.dl_work.specs.Asked.{Does, WithoutTable, is_copy, wanted_of}
 use Rattle.dl_work.specs.Files.{FileStops}
+use Rattle.dl_work.specs.Parts.{IsPart, PartStops, looks_up}
 use Rattle.dl_work.specs.Stops.{IsAt, StopsAt}
 
 -- ---- string sections of the file
@@ -84,22 +89,63 @@ pub record RunsOn (path : Text) (command : Command) (t : LineTable) (start now :
   pub done : Does command t.order strings SECTION_LIMIT read left start now answer
   pub ends : EndsAt path (stream_of t.line) answer result
 
+-- ---- the sequences of one section of an object file
+
+-- what is left of the section's bytes
+abbrev pub IsKept : Order → Part → Content → (kept : List ℕ) → Type 0
+IsKept order part content kept = (whole : List ℕ) × IfSome (known_bytes content) (λ known. whole ≡ known)
+    × Keeps order part.places.items part.section 0 whole kept
+
+-- they can't be read whole, or memory is refused: for a header, or for places that don't rise
+abbrev pub KeepingStops : (path : Text) → Order → Part → Content → Stop → Type 0
+KeepingStops path order part content stop =
+    ((f : RunFault) × FileStops (known_bytes content) SECTION_LIMIT f × StopsAt path (stream_of content) f stop)
+    ⊎ ((whole : List ℕ) × IfSome (known_bytes content) (λ known. whole ≡ known)
+    × ((Rises part.places.items → ⊥) ⊎ WantsCell order whole) × IsAt path Refused stop)
+
+-- the table with these bytes of its line section
+abbrev pub with_bytes : LineTable → List ℕ → LineTable
+with_bytes t bytes = record t { line = Plain bytes }
+
+-- ---- the command over the line section, or over a part of it
+
 -- the program stops before its command
 abbrev pub StopsEarly : Command → (Stop → Type 0) → (start now : Option (List ℕ)) → Result Summary Stop → Type 0
 StopsEarly command Reason start now result =
     (stop : Stop) × (result ≡ Err stop) × Reason stop × WithoutTable command start now
 
--- an object file isn't copied
-abbrev pub OnTableWhere : (is_object_copy : Bool) → (path : Text) → Command → LineTable → (start now : Option (List ℕ))
+abbrev pub OnLines : (path : Text) → Command → LineTable → Option Part → (start now : Option (List ℕ))
     → Result Summary Stop → Type 0
-OnTableWhere true path command t start now result = StopsEarly command (IsAt path ObjectCopy) start now result
-OnTableWhere false path command t start now result =
-    StopsEarly command (StringsStop path t.line_str t.str) start now result ⊎ RunsOn path command t start now result
+OnLines path command t None start now result = RunsOn path command t start now result
+OnLines path command t (Some part) start now result =
+    StopsEarly command (KeepingStops path t.order part t.line) start now result
+    ⊎ ((kept : List ℕ) × IsKept t.order part t.line kept × RunsOn path command (with_bytes t kept) start now result)
 
-abbrev pub OnTable : (path : Text) → Command → LineTable → (start now : Option (List ℕ)) → Result Summary Stop → Type 0
-OnTable path command t = OnTableWhere (is_copy command && t.is_object_file) path command t
+-- an object file isn't copied
+abbrev pub OnTableWhere : (is_object_copy : Bool) → (path : Text) → Command → LineTable → Option Part
+    → (start now : Option (List ℕ)) → Result Summary Stop → Type 0
+OnTableWhere true path command t part start now result = StopsEarly command (IsAt path ObjectCopy) start now result
+OnTableWhere false path command t part start now result =
+    StopsEarly command (StringsStop path t.line_str t.str) start now result
+    ⊎ OnLines path command t part start now result
 
--- ---- the file. fails: the errors that opening and reading it may give
+abbrev pub OnTable : (path : Text) → Command → LineTable → Option Part → (start now : Option (List ℕ))
+    → Result Summary Stop → Type 0
+OnTable path command t part = OnTableWhere (is_copy command && t.is_object_file) path command t part
+
+-- ---- the file. fails: the errors that opening and reading it may give; name: the section that is looked into
+
+-- all sequences answer, but where addresses are looked up: then those of a part
+abbrev pub OnFoundWhere : (looks_up : Bool) (fails : Error → Type 0) (path : Text) (name : Option Text) → Command
+    → (f : List ℕ) → LineTable → (start now : Option (List ℕ)) → Result Summary Stop → Type 0
+OnFoundWhere false fails path name command f t start now result = OnTable path command t None start now result
+OnFoundWhere true fails path name command f t start now result =
+    StopsEarly command (PartStops fails path f t.is_object_file name) start now result
+    ⊎ ((part : Option Part) × IsPart f t.is_object_file name part × OnTable path command t part start now result)
+
+abbrev pub OnFound : (fails : Error → Type 0) (path : Text) (name : Option Text) → Command → (f : List ℕ) → LineTable
+    → (start now : Option (List ℕ)) → Result Summary Stop → Type 0
+OnFound fails path name command f t = OnFoundWhere (looks_up command) fails path name command f t
 
 -- why its line table can't be had; memory is refused only for a line section with relocations, and for streams
 abbrev pub Refuses : (fails : Error → Type 0) (f : List ℕ) → Wanted → FileFault → Type 0
@@ -109,9 +155,10 @@ Refuses fails f wanted (Elf NoMemory) = TakesMemory f wanted
 Refuses fails f wanted (Elf fault) = HasLineTable f wanted (Err fault)
 Refuses fails f wanted other = ⊥
 
-abbrev pub OnFile : (fails : Error → Type 0) (path : Text) → Command → (f : List ℕ) (start now : Option (List ℕ))
-    → Result Summary Stop → Type 0
-OnFile fails path command f start now result =
+abbrev pub OnFile : (fails : Error → Type 0) (path : Text) (name : Option Text) → Command
+    → (f : List ℕ) (start now : Option (List ℕ)) → Result Summary Stop → Type 0
+OnFile fails path name command f start now result =
     StopsEarly command (λ stop. (fault : FileFault) × Refuses fails f (wanted_of command) fault
     × IsAt path fault stop) start now result
-    ⊎ ((t : LineTable) × HasLineTable f (wanted_of command) (Ok t) × OnTable path command t start now result)
+    ⊎ ((t : LineTable) × HasLineTable f (wanted_of command) (Ok t)
+    × OnFound fails path name command f t start now result)

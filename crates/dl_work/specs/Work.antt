@@ -13,7 +13,7 @@ use Rattle.dl_print.specs.ValueText.{Strings}
 use Rattle.dl_work.specs.declared.command.Command.{Command}
 use Rattle.dl_work.specs.declared.stop.Stop.{Stop}
 use Rattle.dl_work.specs.declared.stop.Stop.TheVariants.{NotUnderstood, Run}
-use Rattle.dl_work.specs.Asked.{Does, SectionWords, command_of, file_of, order_of, section_of}
+use Rattle.dl_work.specs.Asked.{Does, SectionWords, command_of, file_of, order_of, part_name_of, section_of}
 use Rattle.dl_work.specs.Files.{FilesStop, StringsAre}
 use Rattle.dl_work.specs.Tables.{OnFile}
 
@@ -37,11 +37,11 @@ OnInput held section command bytes left start now result =
     × Does command (order_of section.big) s SECTION_LIMIT bytes left start now answer)
     ⊎ ((f : RunFault) × FilesStop held section.line_str section.strings f × StopsBefore bytes start now result (Run f))
 
--- over the ELF file of a path: nothing is read of the input
-abbrev pub OnNamed : (held : Text → Option (List ℕ)) (fails : Text → Error → Type 0) → Text → Command
-    → (bytes : List ℕ) (start now : Option (List ℕ)) → Result Summary Stop → Type 0
-OnNamed held fails path command bytes start now result =
-    (bytes ≡ []) × ForBytes (held path) (λ f. OnFile (fails path) path command f start now result)
+-- over the ELF file of a path: nothing is read of the input. name: the section that is looked into
+abbrev pub OnNamed : (held : Text → Option (List ℕ)) (fails : Text → Error → Type 0) → Text → (name : Option Text)
+    → Command → (bytes : List ℕ) (start now : Option (List ℕ)) → Result Summary Stop → Type 0
+OnNamed held fails path name command bytes start now result =
+    (bytes ≡ []) × ForBytes (held path) (λ f. OnFile (fails path) path name command f start now result)
 
 -- what is done for a request
 abbrev pub Works : (held : Text → Option (List ℕ)) (fails : Text → Error → Type 0) → Option Request
@@ -50,4 +50,4 @@ Works held fails None bytes left start now result = StopsBefore bytes start now 
 Works held fails (Some request) bytes left start now result =
     MatchOption (command_of request) (StopsBefore bytes start now result NotUnderstood)
     (λ command. MatchOption (file_of request) (OnInput held (section_of request) command bytes left start now result)
-    (λ path. OnNamed held fails path command bytes start now result))
+    (λ path. OnNamed held fails path (part_name_of request) command bytes start now result))

@@ -4,6 +4,7 @@ ghost use Rattle.std.specs.Option.{option_copied};
 ghost use Rattle.std.specs.Io.KnownBytes.{Consumes};
 ghost use Rattle.dl_run.specs.Commands.{strings_in};
 ghost use Rattle.dl_cmd.specs.Job.{request_made};
+ghost use Rattle.dl_work.specs.Parts.{looks_up};
 ghost use Rattle.dl_work.specs.Asked.{Does, WithoutTable, answered, command_of, is_copy, place_of, wanted_of};
 
 use dl_addr::{Found, Question, addr};
@@ -68,13 +69,19 @@ fn answered(found: Result<Found, RunFault>) -> Result<Summary, RunFault>
 }
 
 impl<'a> Command<'a> {
-    /// What a job asks; None where its ADDRESS is no address, and of `addr`, which asks for many.
+    /// What a job asks; None where its ADDRESS is no address, where it names a section of an object file without a
+    /// file, and of `addr`, which asks for many.
     pub fn of(job: &Job<'_>) -> Option<Command<'a>>
         ensures { result ≡ command_of (request_made job.now) }
     {
         match job {
             Job::Dump { .. } => Some(Command::Dump),
             Job::Check { .. } => Some(Command::Check),
+            Job::Find {
+                file: None,
+                section: Some(_),
+                ..
+            } => None,
             Job::Find { address, op, .. } => Some(Command::Find(place(*address, *op)?)),
             Job::Copy { .. } => Some(Command::Copy),
             Job::Addr(_) => None,
@@ -89,6 +96,13 @@ impl<'a> Command<'a> {
             Command::Dump | Command::Find(_) | Command::Addr(_) => Wanted::LineAndStringSections,
             Command::Check | Command::Copy => Wanted::LineSection,
         }
+    }
+
+    /// Whether it looks addresses up.
+    pub fn looks_up(self) -> bool
+        ensures { result ≡ looks_up self.entry }
+    {
+        matches!(self, Command::Find(_) | Command::Addr(_))
     }
 
     /// Whether it would lose what belongs to a file: `copy` would lose the relocations of an object

@@ -98,6 +98,9 @@ fn in_section<'a, F: FileSource, R: Read, W: Write>(
         × LocatesInSection (F.held files.now) (addr_words_made words.now) bytes (R.remaining input.new)
         (W.contents output.old) (W.contents output.new) result }
 {
+    if words.section.is_some() {
+        return Err(Stop::NotUnderstood);
+    }
     let AskedWords { base, lines } = asked_words(alloc, words)?;
     if lines.asked.is_empty() {
         return Err(Stop::NotUnderstood);
@@ -177,7 +180,7 @@ fn in_file<'a, F: FileSource, R: Read, W: Write>(
     let lines = given_or_read(alloc, words, lines, input)?;
     let live = live_in(words.all, code.as_ref());
     let command = Command::Addr(question(words, base, lines.asked.as_slice(), live));
-    let answer = on_file(alloc, path, &file, command, output);
+    let answer = on_file(alloc, path, &file, words.section, command, output);
     located(answer, lines.no_address)
 }
 
@@ -185,8 +188,8 @@ fn in_file<'a, F: FileSource, R: Read, W: Write>(
 /// of the section on the input.
 ///
 /// The addresses are among the words. Where there are none, they are read from the input, once the file has
-/// shown where it has code; a section on the input wants one among the words. Beside an ELF file the words say
-/// neither an order nor string sections. In a linked file that has code the sequences count that begin in it,
+/// shown where it has code; a section on the input wants one among the words, and no section of an object file. Beside
+/// an ELF file the words say neither an order nor string sections. In a linked file that has code the sequences count that begin in it,
 /// unless all are asked for. Where the file can't be read for its line table, each address has no answer, and its
 /// fault is told.
 ///

@@ -1,28 +1,134 @@
 //! Commands over an ELF file.
-ghost use Rattle.std.specs.Prelude.{◌≡◌};
+ghost use Rattle.std.specs.Prelude.{◌≡◌, MatchResult, option_map};
+ghost use Rattle.std.specs.Option.{option_copied};
 ghost use Rattle.dl_elf.specs.Source.{ForBytes};
-ghost use Rattle.dl_file.specs.LineTable.{GivesTable, LineTable};
-ghost use Rattle.dl_work.specs.Tables.{OnFile, OnTable};
+ghost use Rattle.dl_file.specs.LineTable.{Content, GivesLine, GivesTable, LineTable, Plain};
+ghost use Rattle.dl_run.specs.Commands.{strings_in};
+ghost use Rattle.dl_work.specs.Tables.{IsKept, IsWhole, KeepingStops, OnFile, OnFound, OnLines, OnTable, RunsOn};
 
 use crate::command::Command;
+use crate::object_part::{Part, part_of};
 use crate::stop::{FileFault, Stop};
 use crate::strings::StringSections;
 use dl_elf::ReadAt;
-use dl_file::{LineFile, open_line_file};
-use dl_run::Summary;
+use dl_file::{LineFile, LineReader, open_line_file};
+use dl_num::Order;
+use dl_object::keep_section;
+use dl_run::{Options, SECTION_LIMIT, Summary, read_strings};
 use std::alloc::Global;
 use std::io::Write;
 
-/// Does what is asked of the line table of the file at this path, which is opened.
+/// Works through the line section of the file at this path.
+fn on_section<'p, S: ReadAt, W: Write>(
+    alloc: Global,
+    path: &'p str,
+    command: Command<'_>,
+    line: &mut LineReader<'_, S>,
+    options: &Options<'_>,
+    output: &mut W,
+) -> Result<Summary, Stop<'p>>
+    requires { options.now.limit ≡ SECTION_LIMIT }
+    ensures { (t : LineTable) → GivesLine S.all_bytes line.old t.line → options.now.order ≡ t.order
+        → IsWhole t.line_str t.str (strings_in options.now) → RunsOn path.entry.now command.entry t
+        (W.contents output.old) (W.contents output.new) result }
+{
+    let stream = line.stream_name();
+    match command.run(alloc, line, output, options) {
+        Ok(summary) => Ok(summary),
+        Err(fault) => Err(Stop::at(path, stream, fault, line.last_fault())),
+    }
+}
+
+/// The bytes of the line section of the object file at this path, of whose sequences those of a part are left.
+fn kept_bytes<'p, S: ReadAt>(
+    alloc: Global,
+    path: &'p str,
+    order: Order,
+    part: &Part,
+    line: &mut LineReader<'_, S>,
+) -> Result<Vec<u8>, Stop<'p>>
+    ensures { (content : Content) → GivesLine S.all_bytes line.old content → MatchResult result
+        (λ kept. IsKept order part.now content kept.items) (KeepingStops path.entry.now order part.now content) }
+{
+    let stream = line.stream_name();
+    let mut bytes = match read_strings(alloc, line, SECTION_LIMIT) {
+        Ok(bytes) => bytes,
+        Err(fault) => return Err(Stop::at(path, stream, fault, line.last_fault())),
+    };
+    match keep_section(
+        alloc,
+        order,
+        bytes.as_mut_slice(),
+        part.places.as_slice(),
+        part.section,
+    ) {
+        Ok(()) => Ok(bytes),
+        Err(_) => Err(Stop::File {
+            path,
+            fault: FileFault::NoMemory,
+        }),
+    }
+}
+
+/// Works through what is left of the line section of the object file at this path.
+fn on_kept<'p, W: Write>(
+    alloc: Global,
+    path: &'p str,
+    command: Command<'_>,
+    bytes: &[u8],
+    options: &Options<'_>,
+    output: &mut W,
+) -> Result<Summary, Stop<'p>>
+    requires { options.now.limit ≡ SECTION_LIMIT }
+    ensures { (t : LineTable) → t.line ≡ Plain bytes.now → options.now.order ≡ t.order
+        → IsWhole t.line_str t.str (strings_in options.now) → RunsOn path.entry.now command.entry t
+        (W.contents output.old) (W.contents output.new) result }
+{
+    let mut input = bytes;
+    match command.run(alloc, &mut input, output, options) {
+        Ok(summary) => Ok(summary),
+        Err(fault) => Err(Stop::at(path, None, fault, None)),
+    }
+}
+
+/// Works through the line section of the file at this path, or through the sequences of a part of it.
+fn on_lines<'p, S: ReadAt, W: Write>(
+    alloc: Global,
+    path: &'p str,
+    command: Command<'_>,
+    part: Option<&Part>,
+    line: &mut LineReader<'_, S>,
+    options: &Options<'_>,
+    output: &mut W,
+) -> Result<Summary, Stop<'p>>
+    requires { options.now.limit ≡ SECTION_LIMIT }
+    ensures { (t : LineTable) → GivesLine S.all_bytes line.old t.line → options.now.order ≡ t.order
+        → IsWhole t.line_str t.str (strings_in options.now) → OnLines path.entry.now command.entry t
+        (option_copied part.entry) (W.contents output.old) (W.contents output.new) result }
+{
+    let Some(part) = part else {
+        return on_section(alloc, path, command, line, options, output);
+    };
+    match kept_bytes(alloc, path, options.order, part, line) {
+        Ok(bytes) => on_kept(alloc, path, command, bytes.as_slice(), options, output),
+        Err(stop) => {
+            command.without_table(alloc, output);
+            Err(stop)
+        }
+    }
+}
+
+/// Does what is asked of the line table of the file at this path, which is opened, or of a part of it.
 fn on_table<'p, S: ReadAt, W: Write>(
     alloc: Global,
     path: &'p str,
     command: Command<'_>,
     table: LineFile<'_, S>,
+    part: Option<&Part>,
     output: &mut W,
 ) -> Result<Summary, Stop<'p>>
     ensures { (t : LineTable) → GivesTable S.all_bytes table.entry t → OnTable path.entry.now command.entry t
-        (W.contents output.old) (W.contents output.new) result }
+        (option_copied part.entry) (W.contents output.old) (W.contents output.new) result }
 {
     let LineFile {
         order,
@@ -45,27 +151,53 @@ fn on_table<'p, S: ReadAt, W: Write>(
             return Err(stop);
         }
     };
-    let stream = line.stream_name();
-    match command.run(alloc, &mut line, output, &strings.options(order)) {
-        Ok(summary) => Ok(summary),
-        Err(fault) => Err(Stop::at(path, stream, fault, line.last_fault())),
+    let options = strings.options(order);
+    on_lines(alloc, path, command, part, &mut line, &options, output)
+}
+
+/// Does what is asked of the line table of the file at this path, whose table was found. Addresses are looked up in the
+/// section of this name.
+fn on_found<'p, S: ReadAt, W: Write>(
+    alloc: Global,
+    path: &'p str,
+    file: &S,
+    section: Option<&'p str>,
+    command: Command<'_>,
+    table: LineFile<'_, S>,
+    output: &mut W,
+) -> Result<Summary, Stop<'p>>
+    ensures { ForBytes (S.all_bytes file.now) (λ f. (t : LineTable) → GivesTable S.all_bytes table.entry t
+        → OnFound (S.fails_with file.now) path.entry.now (option_map (λ s. s.now) section.entry) command.entry f t
+        (W.contents output.old) (W.contents output.new) result) }
+{
+    if !command.looks_up() {
+        return on_table(alloc, path, command, table, None, output);
+    }
+    match part_of(alloc, path, file, table.is_object, section) {
+        Ok(part) => on_table(alloc, path, command, table, part.as_ref(), output),
+        Err(stop) => {
+            command.without_table(alloc, output);
+            Err(stop)
+        }
     }
 }
 
-/// Does what is asked of the line table of the file at this path, which is open. Where the table can't be had, `addr`
+/// Does what is asked of the line table of the file at this path, which is open. In an object file addresses are looked
+/// up in the section of this name, or where none is named in that of its code. Where the table can't be had, `addr`
 /// says of each address that it has no answer.
 pub fn on_file<'p, S: ReadAt, W: Write>(
     alloc: Global,
     path: &'p str,
     file: &S,
+    section: Option<&'p str>,
     command: Command<'_>,
     output: &mut W,
 ) -> Result<Summary, Stop<'p>>
-    ensures { ForBytes (S.all_bytes file.now) (λ f. OnFile (S.fails_with file.now) path.entry.now command.entry f
-        (W.contents output.old) (W.contents output.new) result) }
+    ensures { ForBytes (S.all_bytes file.now) (λ f. OnFile (S.fails_with file.now) path.entry.now
+        (option_map (λ s. s.now) section.entry) command.entry f (W.contents output.old) (W.contents output.new) result) }
 {
     match open_line_file(alloc, file, command.wanted()) {
-        Ok(table) => on_table(alloc, path, command, table, output),
+        Ok(table) => on_found(alloc, path, file, section, command, table, output),
         Err(fault) => {
             command.without_table(alloc, output);
             Err(Stop::File {

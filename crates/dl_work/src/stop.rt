@@ -24,6 +24,8 @@ pub enum Stop<'a> {
     Run(RunFault),
     /// The ELF file at this path stops it.
     File { path: &'a str, fault: FileFault },
+    /// The ELF file at this path has no section of this name, in which addresses are to be looked up.
+    NoSection { path: &'a str, name: &'a str },
     /// This line of the input is no address. Only `locate` answers it.
     NoAddress { line: OtherLine },
 }
@@ -40,6 +42,8 @@ pub enum FileFault {
     Stripped(DebugFile),
     /// It is an object file, which isn't copied.
     ObjectCopy,
+    /// A section is named of it, but its addresses aren't relative to sections.
+    NotRelative,
     /// A growth was refused.
     NoMemory,
 }
@@ -52,7 +56,10 @@ impl FileFault {
         match self {
             FileFault::Open(_) | FileFault::NoMemory => 3,
             FileFault::Elf(ElfFault::Read(_) | ElfFault::NoMemory) => 3,
-            FileFault::Elf(_) | FileFault::Stripped(_) | FileFault::ObjectCopy => 1,
+            FileFault::Elf(_)
+            | FileFault::Stripped(_)
+            | FileFault::ObjectCopy
+            | FileFault::NotRelative => 1,
         }
     }
 }
@@ -68,6 +75,7 @@ impl fmt::Display for FileFault {
             FileFault::ObjectCopy => {
                 write!(f, "an object file; its copy would lose its relocations")
             }
+            FileFault::NotRelative => write!(f, "its addresses are not relative to a section"),
             FileFault::NoMemory => write!(f, "out of memory"),
         }
     }
@@ -118,7 +126,7 @@ impl<'a> Stop<'a> {
             Stop::NotUnderstood | Stop::NotAddress { .. } => 2,
             Stop::Run(fault) => fault.status(),
             Stop::File { fault, .. } => fault.status(),
-            Stop::NoAddress { .. } => 1,
+            Stop::NoSection { .. } | Stop::NoAddress { .. } => 1,
         }
     }
 
@@ -140,6 +148,9 @@ impl fmt::Display for Stop<'_> {
             Stop::NotAddress { word } => write!(f, "{} is no address", Shown(word)),
             Stop::Run(fault) => write!(f, "{fault}"),
             Stop::File { path, fault } => write!(f, "{}: {fault}", Shown(path)),
+            Stop::NoSection { path, name } => {
+                write!(f, "{}: no section {}", Shown(path), Shown(name))
+            }
             Stop::NoAddress { line } => write!(
                 f,
                 "line {}: {} is no address",

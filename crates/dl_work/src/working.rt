@@ -2,7 +2,7 @@
 ghost use Rattle.std.specs.Prelude.{◌≡◌, ℕ, List, option_map};
 ghost use Rattle.std.specs.Io.KnownBytes.{Consumes};
 ghost use Rattle.dl_cmd.specs.Job.{request_made};
-ghost use Rattle.dl_work.specs.Asked.{file_of, section_of};
+ghost use Rattle.dl_work.specs.Asked.{file_of, part_name_of, section_of};
 ghost use Rattle.dl_elf.specs.Source.{ForBytes};
 ghost use Rattle.dl_work.specs.Held.{section_seen};
 ghost use Rattle.dl_work.specs.Tables.{OnFile};
@@ -28,6 +28,17 @@ fn file<'a>(job: &Job<'a>) -> Option<&'a str>
         | Job::Find { file, .. }
         | Job::Copy { file, .. } => *file,
         Job::Addr(words) => words.file,
+    }
+}
+
+/// The name of the section of an object file in which a job looks.
+fn part_name<'a>(job: &Job<'a>) -> Option<&'a str>
+    ensures { option_map (λ s. s.now) result ≡ part_name_of (request_made job.now) }
+{
+    match job {
+        Job::Find { section, .. } => *section,
+        Job::Addr(words) => words.section,
+        Job::Dump { .. } | Job::Check { .. } | Job::Copy { .. } => None,
     }
 }
 
@@ -65,19 +76,20 @@ fn section<'a>(job: &Job<'a>) -> Section<'a>
     }
 }
 
-/// Does what is asked of the line table of the file at this path.
+/// Does what is asked of the line table of the file at this path. Addresses are looked up in the section of this name.
 fn on_named<'p, F: FileSource, W: Write>(
     alloc: Global,
     files: &F,
     path: &'p str,
+    section: Option<&'p str>,
     command: Command<'_>,
     output: &mut W,
 ) -> Result<Summary, Stop<'p>>
     ensures { ForBytes (F.held files.now path.entry.now) (λ f. OnFile (F.fails_with files.now path.entry.now)
-        path.entry.now command.entry f (W.contents output.old) (W.contents output.new) result) }
+        path.entry.now (option_map (λ s. s.now) section.entry) command.entry f (W.contents output.old) (W.contents output.new) result) }
 {
     match open_file(files, path) {
-        Ok(file) => on_file(alloc, path, &file, command, output),
+        Ok(file) => on_file(alloc, path, &file, section, command, output),
         Err(fault) => {
             command.without_table(alloc, output);
             Err(Stop::File { path, fault })
@@ -92,8 +104,8 @@ fn on_named<'p, F: FileSource, W: Write>(
 /// by the commands that look into them; else the files of `--line-str` and `--str` are read, in this
 /// order. Then the command works through the section.
 ///
-/// `NotUnderstood` where there is no job, ADDRESS is no address, or the job is `addr`, which is that of
-/// `locate`; then, and at each fault before the command, nothing is written. Of the input nothing is read
+/// `NotUnderstood` where there is no job, ADDRESS is no address, a section of an object file is named without a file,
+/// or the job is `addr`, which is that of `locate`; then, and at each fault before the command, nothing is written. Of the input nothing is read
 /// then, nor where a file is named.
 pub fn work<'a, F: FileSource, R: Read, W: Write>(
     alloc: Global,
@@ -114,7 +126,7 @@ pub fn work<'a, F: FileSource, R: Read, W: Write>(
         return Err(Stop::NotUnderstood);
     };
     match file(&job) {
-        Some(path) => on_named(alloc, files, path, command, output),
+        Some(path) => on_named(alloc, files, path, part_name(&job), command, output),
         None => on_input(alloc, files, section(&job), command, input, output),
     }
 }

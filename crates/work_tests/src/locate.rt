@@ -22,6 +22,7 @@ const ELF: Asked<'_> = Asked {
     basenames: false,
     json: false,
     all: false,
+    section: None,
     big: false,
     line_str: None,
     strings: None,

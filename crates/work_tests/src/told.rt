@@ -21,7 +21,7 @@ pub enum Command {
     Copy,
 }
 
-/// The words of a job. Only `find` has an ADDRESS, and only `dump` and `find` have string sections.
+/// The words of a job. Only `find` has an ADDRESS and a section of an object file, and only `dump` and `find` have string sections.
 #[derive(Clone, Copy)]
 pub struct Words<'a> {
     pub command: Command,
@@ -29,6 +29,7 @@ pub struct Words<'a> {
     pub big: bool,
     pub address: Option<&'a str>,
     pub op: u8,
+    pub section: Option<&'a str>,
     pub line_str: Option<&'a str>,
     pub strings: Option<&'a str>,
 }
@@ -40,6 +41,7 @@ pub const DUMP: Words<'_> = Words {
     big: false,
     address: None,
     op: 0,
+    section: None,
     line_str: None,
     strings: None,
 };
@@ -77,6 +79,7 @@ fn job_of(words: Words<'_>) -> Job<'_> {
         big,
         address,
         op,
+        section,
         line_str,
         strings,
     } = words;
@@ -93,6 +96,7 @@ fn job_of(words: Words<'_>) -> Job<'_> {
             big,
             address,
             op,
+            section,
             line_str,
             strings,
         },
@@ -118,6 +122,7 @@ pub struct Asked<'a> {
     pub basenames: bool,
     pub json: bool,
     pub all: bool,
+    pub section: Option<&'a str>,
     pub big: bool,
     pub line_str: Option<&'a str>,
     pub strings: Option<&'a str>,
@@ -133,6 +138,7 @@ fn addr_words<'a>(alloc: Global, asked: Asked<'a>) -> Result<AddrWords<'a>, Allo
         basenames: asked.basenames,
         json: asked.json,
         all: asked.all,
+        section: asked.section,
         big: asked.big,
         line_str: asked.line_str,
         strings: asked.strings,

@@ -7,9 +7,10 @@ returns c = λ a none.
     let one = IsApp-arg _ _ _ _ _ c.in_ok-arg.ensures (c.in_ok-add_printing.ensures a none) c.switch.ensures in
     let two = IsApp-arg _ _ _ _ _ c.in_ok-arg-2.ensures one c.base.ensures in
     let three = IsApp-arg _ _ _ _ _ c.in_ok-arg-3.ensures two c.switch-2.ensures in
-    let four = IsApp-arg _ _ _ _ _ c.in_ok-arg-4.ensures three c.big.ensures in
-    let five = IsApp-arg _ _ _ _ _ c.in_ok-arg-5.ensures four c.line_str.ensures in
-    let six = IsApp-arg _ _ _ _ _ c.in_ok-arg-6.ensures five c.strings.ensures in
-    let seven = IsApp-arg _ _ _ _ _ c.in_ok-arg-7.ensures six c.exe.ensures in
-    let eight = IsApp-arg _ _ _ _ _ c.in_ok-arg-8.ensures seven c.in_ok-addr_file.ensures.rule in
-    IfOk-weaker _ _ _ (λ r added. IsApp-arg _ _ r _ _ added eight c.addresses.ensures) c.arg-9.ensures
+    let four = IsApp-arg _ _ _ _ _ c.in_ok-arg-4.ensures three c.section.ensures.rule in
+    let five = IsApp-arg _ _ _ _ _ c.in_ok-arg-5.ensures four c.big.ensures in
+    let six = IsApp-arg _ _ _ _ _ c.in_ok-arg-6.ensures five c.line_str.ensures in
+    let seven = IsApp-arg _ _ _ _ _ c.in_ok-arg-7.ensures six c.strings.ensures in
+    let eight = IsApp-arg _ _ _ _ _ c.in_ok-arg-8.ensures seven c.exe.ensures in
+    let nine = IsApp-arg _ _ _ _ _ c.in_ok-arg-9.ensures eight c.in_ok-addr_file.ensures.rule in
+    IfOk-weaker _ _ _ (λ r added. IsApp-arg _ _ r _ _ added nine c.addresses.ensures) c.arg-10.ensures

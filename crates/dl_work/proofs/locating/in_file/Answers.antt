@@ -71,7 +71,7 @@ returns g c =
           ∙ (c.live_in-live.ensures a ∙ ap (λ code. c.args.words.now.all || is_code code a) c.as_ref.ensures.value))
           q.form q.basenames
           c.in-Ok.ensures.code
-          (λ f known short. on_file_weaker _ _ c.args.path.now (Addr c.question.result) f _ _ _ c.in-Ok.ensures.reads
+          (λ f known short. on_file_weaker _ _ c.args.path.now _ (Addr c.question.result) f _ _ _ c.in-Ok.ensures.reads
           (c.on_file-answer.ensures f (c.in-Ok.ensures.bytes ∙ known) short))
           c.located.ensures,
     )

@@ -1,11 +1,18 @@
-use Rattle.std.proofs.Common.{◌≡◌, rules, arith, length, vec_len, [], Err, inl, inr, refl, sym, ap, ◌∙◌}
+use Rattle.std.proofs.Common.{◌≡◌, ◌⊎◌, rules, arith, length, vec_len, [], Err, inl, inr, refl, sym, ap, ◌∙◌}
 use Rattle.std.proofs.lemmas.Bool.{eqb-true}
 use Rattle.std.proofs.lemmas.Grind.{common_steps}
 use Rattle.std.proofs.KnownBytes.{Consumes-nil}
 use Rattle.std.proofs.lemmas.Result.{err_from_is_err_and}
-use Rattle.dl_work.proofs.LocateLemmas.{section_stops}
+use Rattle.dl_work.proofs.LocateLemmas.{section_named, section_stops}
 use Rattle.dl_work.proofs.WordsLemmas.{map_none}
 use Rattle.dl_work.proofs.locating.in_section.Goals as goal
+
+pub returns-then-is_some : goal.returns-then-is_some
+returns-then-is_some g c = (
+  [],
+  Consumes-nil _,
+  section_stops _ _ _ _ _ _ refl (inr (inl (section_named _ (sym c.is_some.ensures ∙ c.if-is_some.true)), refl)),
+)
 
 pub returns-in_err-base : goal.returns-in_err-base
 returns-in_err-base g c =
@@ -20,5 +27,8 @@ pub returns-then-is_empty : goal.returns-then-is_empty
 returns-then-is_empty g c =
     let asked = c.in_ok-base.field-0.lines.asked in
     let none : vec_len asked ≡ 0 = eqb-true (vec_len asked) 0 (sym c.is_empty.ensures ∙ c.if-is_empty.true) in
-    let empty : length asked.items ≡ 0 = first_of (omega arith, search rules, grind (arith, common_steps)) in
-    ([], Consumes-nil _, section_stops _ _ _ _ _ _ refl (inr (map_none _ _ _ c.in_ok-base.ensures.asked empty, refl)))
+    let empty : length asked.items ≡ 0 = first_of (omega arith, search rules, grind (arith, common_steps)) in (
+      [],
+      Consumes-nil _,
+      section_stops _ _ _ _ _ _ refl (inr (inr (map_none _ _ _ c.in_ok-base.ensures.asked empty), refl)),
+    )

@@ -1,0 +1,17 @@
+use Rattle.std.proofs.Common.{Some, refl, subst, sym}
+use Rattle.dl_file.specs.LineTable.{Content}
+use Rattle.dl_work.specs.Stops.{StopsAt}
+use Rattle.dl_work.specs.Tables.{stream_of}
+use Rattle.dl_work.proofs.TableLemmas.{plain_known, ran}
+use Rattle.dl_work.proofs.over_file.on_kept.Goals as goal
+
+pub returns-in-Err : goal.returns-in-Err
+returns-in-Err g c t line ordered whole =
+    ran _ _ t _ _ _ (Some c.args.bytes.now) _ _ _ _ _ _ (λ read.
+    plain_known t.line c.args.bytes.now _ read line) whole ordered refl
+    c.requires c.in-Err.ensures (
+      c.at.result,
+      refl,
+      subst (λ (content : Content). StopsAt c.args.path.now (stream_of content) c.in-Err.fault c.at.result) (sym line)
+          c.at.ensures,
+    )
