@@ -1,5 +1,5 @@
 -- What is kept of answers. No promise rests on this file.
-use Rattle.std.specs.Prelude.{ℕ, List, Option, option_map}
+use Rattle.std.specs.Prelude.{ℕ, List, Option}
 use Rattle.dl_rows.specs.declared.row.Row.{Row}
 use Rattle.dl_addr.specs.declared.locating.Answer.{Answer}
 use Rattle.dl_addr.specs.declared.locating.Locator.{Locator}

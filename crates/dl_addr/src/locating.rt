@@ -21,7 +21,7 @@ pub struct Locator<'s, 'o, 'q> {
     alloc: Global,
     strings: &'s StringSections<'o>,
     code: Option<&'q CodeRanges>,
-    style: Style,
+    style: Style<'q>,
     /// Was given the live rows of the units.
     finders: Finders,
     /// Was given the rows of the current unit.
@@ -119,7 +119,7 @@ impl<'s, 'o, 'q> Locator<'s, 'o, 'q> {
         alloc: Global,
         strings: &'s StringSections<'o>,
         code: Option<&'q CodeRanges>,
-        style: Style,
+        style: Style<'q>,
         places: &[Place],
     ) -> Result<Locator<'s, 'o, 'q>, NoMemory>
         ensures made { IfOk result (λ l. IsMadeFor l places.now) }
@@ -127,7 +127,7 @@ impl<'s, 'o, 'q> Locator<'s, 'o, 'q> {
         ensures unit { IfOk result (λ l. l.unit ≡ 0) }
         ensures strings { IfOk result (λ l. l.strings.now ≡ strings.now) }
         ensures code { IfOk result (λ l. l.code ≡ code.entry) }
-        ensures style { IfOk result (λ l. l.style ≡ style) }
+        ensures style { IfOk result (λ l. l.style ≡ style.entry) }
     {
         let finders = Finders::build(alloc, places)?;
         Ok(Locator {

@@ -1,7 +1,7 @@
 //! The lines of what is asked.
 
 ghost use Rattle.std.specs.Prelude.{◌≡◌, []};
-ghost use Rattle.std.specs.Option.{option_map};
+ghost use Rattle.std.specs.Option.{option_copied, option_map};
 ghost use Rattle.dl_print.specs.Output.{Prints};
 ghost use Rattle.dl_addr.specs.Answers.{answer_seen};
 ghost use Rattle.dl_addr.specs.Locations.{address_text, asked_text, column_text, no_row_text, place_text, row_text};
@@ -9,7 +9,7 @@ ghost use Rattle.dl_addr.specs.Texts.{path_kept};
 ghost use Rattle.dl_addr.specs.Printing.{named_text, seen_line, seen_text};
 
 use crate::asked::Asked;
-use crate::json_line::{print_json_address, print_json_row};
+use crate::json_line::{print_json_asked, print_json_row};
 use crate::kept::KeptPath;
 use crate::locating::Answer;
 use crate::path_text::print_path;
@@ -22,14 +22,14 @@ use std::io::Write;
 pub fn print_line<W: Write>(
     printer: &mut Printer,
     output: &mut W,
-    style: Style,
+    style: Style<'_>,
     asked: Asked,
     answer: Option<Answer<'_, '_>>,
 ) -> Result<(), WriteFault>
     ensures { Prints (W.contents output.old) (W.contents output.new) printer.old printer.new
-        (seen_line style asked (option_map answer_seen answer.entry)) result }
+        (seen_line style.entry asked (option_map answer_seen answer.entry)) result }
 {
-    print_asked(printer, output, style.form, asked)?;
+    print_asked(printer, output, style, asked)?;
     print_answer(printer, output, style.form, answer)?;
     printer.put(output, b"\n")
 }
@@ -38,16 +38,16 @@ pub fn print_line<W: Write>(
 fn print_asked<W: Write>(
     printer: &mut Printer,
     output: &mut W,
-    form: Form,
+    style: Style<'_>,
     asked: Asked,
 ) -> Result<(), WriteFault>
     ensures { Prints (W.contents output.old) (W.contents output.new) printer.old printer.new
-        (asked_text form asked) result }
+        (asked_text style.entry.form (option_copied style.entry.section) asked) result }
 {
-    match form {
+    match style.form {
         Form::Location => printer.put(output, b""),
         Form::AddressAndLocation => print_address(printer, output, asked.address),
-        Form::Json => print_json_address(printer, output, asked.address),
+        Form::Json => print_json_asked(printer, output, asked.address, style.section),
     }
 }
 

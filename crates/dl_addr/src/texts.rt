@@ -25,7 +25,7 @@ use std::collections::BTreeMap;
 pub struct UnitFiles<'s, 'o, 'h> {
     pub strings: &'s StringSections<'o>,
     pub header: Option<&'h Header>,
-    pub style: Style,
+    pub style: Style<'h>,
     /// The offset of the unit in its section.
     pub offset: u64,
 }

@@ -1,4 +1,4 @@
-use Rattle.std.proofs.Common.{◌++◌, ℕ, List, codes, sym, subst}
+use Rattle.std.proofs.Common.{codes, sym, subst}
 use Rattle.std.proofs.lemmas.Result.{err_from_is_err_and}
 use Rattle.dl_print.specs.Output.{Prints}
 use Rattle.dl_addr.specs.declared.style.Form.{Form}
