@@ -28,9 +28,10 @@ const DRIVES: &str =
         00 00 00 00 04 00 05 01 01 02 10 04 01 03 01 05 02 01 02 10 04 02 03 01 05 03 \
         01 02 10 00 01 01";
 
-const BASENAMES: Style = Style {
+const BASENAMES: Style<'static> = Style {
     form: Form::Location,
     basenames: true,
+    section: None,
 };
 
 /// An address of each file of `BORDERS` and of `OTHER`, the units in turns.

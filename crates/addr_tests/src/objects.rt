@@ -40,3 +40,51 @@ fn objects(rt: HostRuntime) -> Result<(), Fail> {
         (text, NOT_ALL),
     )
 }
+
+/// A section that is named is a member after the address, as a JSON string; a line that is no address has none.
+#[test]
+fn objects_of_a_section(rt: HostRuntime) -> Result<(), Fail> {
+    let asked = [at(0x13), NO_ADDRESS, at(0x18)];
+    let style = Style {
+        form: Form::Json,
+        section: Some(".text.\"\\\n\u{e9}"),
+        ..PLAIN
+    };
+    let question = Question {
+        style,
+        ..plain(&asked)
+    };
+    let text =
+        "{\"address\":\"0x0000000000000013\",\"section\":\".text.\\\"\\\\\\n\u{e9}\",\"path\":\"/q\\\"/a\\\\b\",\
+                \"line\":1,\"column\":0,\"discriminator\":3,\"is_stmt\":false,\"unit\":\"0x65\"}\n{\"address\":null}\n\
+                {\"address\":\"0x0000000000000018\",\"section\":\".text.\\\"\\\\\\n\u{e9}\"}\n";
+    assert_addr(
+        &rt,
+        rt.alloc(),
+        &[OVER, QUOTES, PATHS],
+        &question,
+        (text, NOT_ALL),
+    )
+}
+
+/// A location doesn't name it.
+#[test]
+fn locations_of_a_section(rt: HostRuntime) -> Result<(), Fail> {
+    let asked = [at(0x13), at(0x18)];
+    let style = Style {
+        section: Some(".text"),
+        ..PLAIN
+    };
+    let question = Question {
+        style,
+        ..plain(&asked)
+    };
+    let text = "/q\"/a\\\\b:1\n??:0\n";
+    assert_addr(
+        &rt,
+        rt.alloc(),
+        &[OVER, QUOTES, PATHS],
+        &question,
+        (text, NOT_ALL),
+    )
+}

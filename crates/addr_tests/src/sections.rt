@@ -59,9 +59,10 @@ pub const TOP: &str =
         02 f0 ff ff ff ff ff ff ff 04 00 05 01 01 02 0f 00 01 01";
 
 /// Locations, with whole paths.
-pub const PLAIN: Style = Style {
+pub const PLAIN: Style<'static> = Style {
     form: Form::Location,
     basenames: false,
+    section: None,
 };
 
 pub fn options() -> Options<'static>

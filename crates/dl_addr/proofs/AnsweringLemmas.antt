@@ -97,7 +97,7 @@ module _ (order : Order) (q : Question) (s : Strings) (first : Locator) (knows :
 
     pub lines_same : seen_lines q.style (answer_for first visits q.base) q.asked.now ≡ answer_lines order s q units
     lines_same =
-        flat_same _ _ (λ (a : Asked). ap (λ (t : List ℕ). (asked_text q.style.form a ++ t) ++ 10 ∷ [])
+        flat_same _ _ (λ (a : Asked). ap (λ (t : List ℕ). (asked_text q.style.form (option_copied q.style.section) a ++ t) ++ 10 ∷ [])
         (ap (seen_text q.style.form) (answer_same a) ∙ text_seen (answer_in order q units a))) q.asked.now
 
     some_same : (o : Option Located) → is_some (option_map (located_seen first) o) ≡ is_some o

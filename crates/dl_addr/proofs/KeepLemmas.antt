@@ -8,7 +8,7 @@ use Rattle.dl_look.specs.declared.ledger.Answered.{Answered}
 use Rattle.dl_look.specs.declared.place.Place.{Place}
 use Rattle.dl_look.specs.Ledgers.{no_answer}
 use Rattle.dl_look.specs.Units.{AreFirstAnswers, FirstAnswer}
-use Rattle.dl_addr.specs.declared.texts.Paths.{Paths}
+use Rattle.dl_addr.specs.declared.kept.Paths.{Paths}
 use Rattle.dl_addr.specs.Texts.{AreNumbers, IsKept, IsOther}
 
 pub on_ok : {A B : Type 0} (r : Result ⊤ NoMemory) → OnOk r A → (A → B) → OnOk r B

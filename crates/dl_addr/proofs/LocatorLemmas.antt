@@ -25,8 +25,8 @@ use Rattle.dl_run.specs.Visiting.{GoesOn, StopsIn}
 use Rattle.dl_run.proofs.VisitLemmas.{rows_after-append}
 use Rattle.dl_run.proofs.Fronts.{map_none, or_none}
 use Rattle.dl_addr.specs.declared.locating.Locator.{Locator}
-use Rattle.dl_addr.specs.declared.texts.FilePath.{FilePath}
-use Rattle.dl_addr.specs.declared.texts.Paths.{Paths}
+use Rattle.dl_addr.specs.declared.kept.FilePath.{FilePath}
+use Rattle.dl_addr.specs.declared.kept.Paths.{Paths}
 use Rattle.dl_addr.specs.Answers.{SeenRow, located_seen}
 use Rattle.dl_addr.specs.Keeping.{Keeps, path_under}
 use Rattle.dl_addr.specs.Locating.{IsMadeFor, Locating, LooksFor, code_of, ended_rows, locate_story, located_after}

@@ -16,9 +16,8 @@ use Rattle.dl_table.specs.EntryData.{with_content}
 use Rattle.dl_field.specs.HeaderData.{HeaderData}
 use Rattle.dl_table.specs.Value.{Value}
 use Rattle.dl_print.specs.ValueText.{Strings, strings_of}
-use Rattle.dl_addr.specs.declared.texts.FilePath.{FilePath}
-use Rattle.dl_addr.specs.declared.texts.KeptText.{KeptText}
-use Rattle.dl_addr.specs.declared.texts.Paths.{Paths}
+use Rattle.dl_addr.specs.declared.kept.FilePath.{FilePath}
+use Rattle.dl_addr.specs.declared.kept.Paths.{Paths}
 use Rattle.dl_addr.specs.declared.texts.UnitFiles.{UnitFiles}
 use Rattle.dl_addr.specs.declared.texts.UnitNumbers.{UnitNumbers}
 use Rattle.dl_addr.specs.Paths.{file_path, path_of, under}
@@ -33,11 +32,11 @@ some_same a b e = cc
 
 -- ---- what is kept stays
 
-pub texts_none : (texts : List KeptText) → TextsGrow texts texts
+pub texts_none : (texts : List (List ℕ)) → TextsGrow texts texts
 texts_none texts = ([], sym (append-nil texts))
 
-pub texts_on : (a b c : List KeptText) → TextsGrow a b → TextsGrow b c → TextsGrow a c
-texts_on a b c (x, e) (y, f) = (x ++ y, f ∙ ap (λ (l : List KeptText). l ++ y) e ∙ append_assoc a x y)
+pub texts_on : (a b c : List (List ℕ)) → TextsGrow a b → TextsGrow b c → TextsGrow a c
+texts_on a b c (x, e) (y, f) = (x ++ y, f ∙ ap (λ (l : List (List ℕ)). l ++ y) e ∙ append_assoc a x y)
 
 pub grows_none : (paths : Paths) → Grows paths paths
 grows_none paths = record { files = ([], sym (append-nil paths.files.items)); texts = texts_none paths.texts.items }
@@ -58,29 +57,29 @@ get_front [] more k x e = absurd (none_is_some e)
 get_front (y ∷ xs) more zero x e = e
 get_front (y ∷ xs) more (suc k) x e = get_front xs more k x e
 
-text_front : (texts more : List KeptText) (k : ℕ) (w : List ℕ) → text_at texts k ≡ Some w
+text_front : (texts more : List (List ℕ)) (k : ℕ) (w : List ℕ) → text_at texts k ≡ Some w
     → text_at (texts ++ more) k ≡ Some w
 text_front [] more k w e = absurd (none_is_some e)
 text_front (x ∷ texts) more zero w e = e
 text_front (x ∷ texts) more (suc k) w e = text_front texts more k w e
 
-pub text_stays : (old new : List KeptText) (k : ℕ) (w : List ℕ) → TextsGrow old new → text_at old k ≡ Some w
+pub text_stays : (old new : List (List ℕ)) (k : ℕ) (w : List ℕ) → TextsGrow old new → text_at old k ≡ Some w
     → text_at new k ≡ Some w
-text_stays old new k w (more, e) is = ap (λ (l : List KeptText). text_at l k) e ∙ text_front old more k w is
+text_stays old new k w (more, e) is = ap (λ (l : List (List ℕ)). text_at l k) e ∙ text_front old more k w is
 
-pub part_stays : (old new : List KeptText) (n : Option ℕ) (w : List ℕ) → TextsGrow old new → part_at old n ≡ Some w
+pub part_stays : (old new : List (List ℕ)) (n : Option ℕ) (w : List ℕ) → TextsGrow old new → part_at old n ≡ Some w
     → part_at new n ≡ Some w
 part_stays old new None w grows is = is
 part_stays old new (Some k) w grows is = text_stays old new k w grows is
 
-name_stays : (old new : List KeptText) (n : Option ℕ) (w : Option (List ℕ)) → TextsGrow old new
+name_stays : (old new : List (List ℕ)) (n : Option ℕ) (w : Option (List ℕ)) → TextsGrow old new
     → option_map (text_at old) n ≡ option_map Some w → option_map (text_at new) n ≡ option_map Some w
 name_stays old new None w grows is = is
 name_stays old new (Some k) None grows is = absurd (none_is_some (sym is))
 name_stays old new (Some k) (Some w) grows is =
     ap Some (text_stays old new k w grows (some_same (text_at old k) (Some w) is))
 
-pub path_stays : (old new : List KeptText) (f : FilePath) (path : Option (List ℕ)) → TextsGrow old new
+pub path_stays : (old new : List (List ℕ)) (f : FilePath) (path : Option (List ℕ)) → TextsGrow old new
     → IsPath old f path → IsPath new f path
 path_stays old new f path grows p = record {
   base = p.base;
@@ -111,18 +110,18 @@ kept_stays old new kept kept' i path grows same k = record {
   is = has_stays old new k.number path grows k.is;
 }
 
-pub texts_stay : (f : ℕ → Option (List ℕ)) (numbers : BTreeMap ℕ ℕ) (old new : List KeptText) → TextsGrow old new
+pub texts_stay : (f : ℕ → Option (List ℕ)) (numbers : BTreeMap ℕ ℕ) (old new : List (List ℕ)) → TextsGrow old new
     → AreTexts f numbers old → AreTexts f numbers new
 texts_stay f numbers old new grows are n k at =
     let w = are n k at in (w.0, w.1, text_stays old new k w.0 grows w.2)
 
 -- ---- a path by its parts
 
-part_is : (texts : List KeptText) (n : Option ℕ) (w : List ℕ) → part_at texts n ≡ Some w → text_or_none texts n ≡ w
+part_is : (texts : List (List ℕ)) (n : Option ℕ) (w : List ℕ) → part_at texts n ≡ Some w → text_or_none texts n ≡ w
 part_is texts None w is = some_same [] w is
 part_is texts (Some k) w is = ap (λ (o : Option (List ℕ)). unwrap_or o []) is
 
-name_is : (texts : List KeptText) (n : Option ℕ) (w : Option (List ℕ))
+name_is : (texts : List (List ℕ)) (n : Option ℕ) (w : Option (List ℕ))
     → option_map (text_at texts) n ≡ option_map Some w → option_and_then (text_at texts) n ≡ w
 name_is texts None None is = refl
 name_is texts None (Some w) is = absurd (none_is_some is)
@@ -130,7 +129,7 @@ name_is texts (Some k) None is = absurd (none_is_some (sym is))
 name_is texts (Some k) (Some w) is = some_same (text_at texts k) (Some w) is
 
 -- what is found by the numbers is the path
-pub path_found : (texts : List KeptText) (f : FilePath) (path : Option (List ℕ)) → IsPath texts f path
+pub path_found : (texts : List (List ℕ)) (f : FilePath) (path : Option (List ℕ)) → IsPath texts f path
     → path_at texts f ≡ path
 path_found texts f path p =
     ap₂ (λ (b d : List ℕ). option_map (under (under b d)) (option_and_then (text_at texts) f.name))
@@ -157,7 +156,7 @@ added m n key v u q k at = by (is_at (nat_cmp key) q) refl where
       )
   by false e = inl (sym (ap (λ (b : Bool). cond b (Some v) (get nat_cmp m q)) e) ∙ sym (u.0 q) ∙ at)
 
-pub directory_added : (f : ℕ → Option (List ℕ)) (m n : BTreeMap ℕ ℕ) (texts : List KeptText) (key v : ℕ) (w : List ℕ)
+pub directory_added : (f : ℕ → Option (List ℕ)) (m n : BTreeMap ℕ ℕ) (texts : List (List ℕ)) (key v : ℕ) (w : List ℕ)
     → Updates nat_cmp m n key (Some v) → f key ≡ Some w → text_at texts v ≡ Some w → AreTexts f m texts
     → AreTexts f n texts
 directory_added f m n texts key v w u is at are q k has = by (added m n key v u q k has) where

@@ -1,18 +1,18 @@
 -- What is kept of answers. No promise rests on this file.
-use Rattle.std.specs.Prelude.{ℕ, List, Option, option_map}
+use Rattle.std.specs.Prelude.{ℕ, List, Option}
 use Rattle.dl_rows.specs.declared.row.Row.{Row}
 use Rattle.dl_addr.specs.declared.locating.Answer.{Answer}
 use Rattle.dl_addr.specs.declared.locating.Locator.{Locator}
 use Rattle.dl_addr.specs.Locating.{path_of_located}
 use Rattle.dl_addr.specs.Locations.{Located}
-use Rattle.dl_addr.specs.Parts.{path_seen}
+use Rattle.dl_addr.specs.Texts.{path_kept}
 
 -- the row, its path as far as it is printed, and the offset of its unit
 abbrev pub SeenRow : Type 0
 SeenRow = Row × (Option (List ℕ) × ℕ)
 
 abbrev pub answer_seen : Answer → SeenRow
-answer_seen a = (a.row, (option_map path_seen a.path, a.unit))
+answer_seen a = (a.row, (path_kept a.path, a.path.file.now.unit))
 
 abbrev pub located_seen : Locator → Located → SeenRow
 located_seen first l = (l.row, path_of_located first l)

@@ -1,5 +1,5 @@
 -- What is known of an address as a JSON object (RFC 8259), in one line.
-use Rattle.std.specs.Prelude.{ℕ, Bool, if◌then◌else◌, List, ◌++◌, Option, Some, None, codes, decimal}
+use Rattle.std.specs.Prelude.{ℕ, Bool, if◌then◌else◌, List, [], ◌++◌, Option, Some, None, codes, decimal}
 use Rattle.std.specs.Str.Lossy.{utf8_lossy}
 use Rattle.json.specs.Print.{quoted}
 use Rattle.dl_rows.specs.declared.row.Row.{Row}
@@ -13,6 +13,15 @@ json_string text = quoted (utf8_lossy text)
 abbrev pub json_address : Option ℕ → List ℕ
 json_address (Some address) = (codes "{\"address\":\"" ++ (codes "0x" ++ hexadecimal_of 16 address)) ++ codes "\""
 json_address None = codes "{\"address\":null"
+
+-- after an address the name of the section that is asked of, where it is named
+abbrev pub json_section : (address : Option ℕ) → (section : Option (List ℕ)) → List ℕ
+json_section (Some address) (Some name) = codes ",\"section\":" ++ json_string name
+json_section address section = []
+
+-- what stands before the answer
+abbrev pub json_asked : (address : Option ℕ) → (section : Option (List ℕ)) → List ℕ
+json_asked address section = json_address address ++ json_section address section
 
 abbrev pub json_position : Row → List ℕ
 json_position r =

@@ -10,8 +10,9 @@ pub mod Commands
 -- Of contracts inside the crate, and of proofs; no public contract reaches these.
 pub mod PathParts
 pub mod Windows
-pub mod Texts
 pub mod Fronts
+pub mod Kept
+pub mod Texts
 pub mod Keeping
 pub mod Locating
 pub mod Answers

@@ -1,7 +1,7 @@
 -- What is answered for an address, and its text.
 use Rattle.std.specs.Prelude.{ℕ, ◌+◌, Bool, ◌==◌, if◌then◌else◌, List, [], ◌∷◌, ◌++◌, length, Option, None, codes}
 use Rattle.std.specs.Prelude.{decimal, option_map}
-use Rattle.std.specs.Option.{option_map_or, option_or}
+use Rattle.std.specs.Option.{option_copied, option_map_or, option_or}
 use Rattle.dl_num.specs.declared.fixed.Order.{Order}
 use Rattle.dl_field.specs.HeaderData.{HeaderData}
 use Rattle.dl_rows.specs.declared.row.Row.{Row}
@@ -16,7 +16,7 @@ use Rattle.dl_addr.specs.declared.asked.Asked.{Asked}
 use Rattle.dl_addr.specs.declared.style.Form.{Form}
 use Rattle.dl_addr.specs.declared.style.Form.TheVariants.{Location, AddressAndLocation, Json}
 use Rattle.dl_addr.specs.declared.style.Style.{Style}
-use Rattle.dl_addr.specs.Json.{json_address, json_row}
+use Rattle.dl_addr.specs.Json.{json_asked, json_row}
 use Rattle.dl_addr.specs.Paths.{path_of}
 use Rattle.dl_addr.specs.Shown.{path_text}
 
@@ -81,11 +81,11 @@ abbrev pub address_text : Option ℕ → List ℕ
 address_text address = option_map_or (λ n. codes "0x" ++ hexadecimal_of 16 n ++ codes " ") address []
 
 -- what stands before the answer
-abbrev pub asked_text : Form → Asked → List ℕ
-asked_text Location a = []
-asked_text AddressAndLocation a = address_text a.address
-asked_text Json a = json_address a.address
+abbrev pub asked_text : Form → (section : Option (List ℕ)) → Asked → List ℕ
+asked_text Location section a = []
+asked_text AddressAndLocation section a = address_text a.address
+asked_text Json section a = json_asked a.address section
 
 -- the line of what is asked, where this is its answer
 abbrev pub asked_line : Style → Strings → Asked → Option Located → List ℕ
-asked_line style s a answer = line (asked_text style.form a ++ answer_text style s answer)
+asked_line style s a answer = line (asked_text style.form (option_copied style.section) a ++ answer_text style s answer)

@@ -3,7 +3,7 @@ use Rattle.std.specs.Prelude.{◌≡◌, ℕ, if◌then◌else◌, List, ◌++�
 use Rattle.std.specs.Prelude.{Result, Ok, Err}
 use Rattle.std.specs.Io.KnownBytes.{Appends}
 use Rattle.std.specs.List.{list_all}
-use Rattle.std.specs.Option.{option_and_then}
+use Rattle.std.specs.Option.{option_and_then, option_copied}
 use Rattle.std.specs.Str.Lossy.{utf8_lossy}
 use Rattle.json.specs.Print.{escape}
 use Rattle.dl_print.specs.declared.fault.WriteFault.{WriteFault}
@@ -43,7 +43,7 @@ seen_text form None = no_row_text form
 seen_text form (Some (r, (path, unit))) = row_text form (named_text form path) r unit
 
 abbrev pub seen_line : Style → Asked → Option SeenRow → List ℕ
-seen_line style a seen = line (asked_text style.form a ++ seen_text style.form seen)
+seen_line style a seen = line (asked_text style.form (option_copied style.section) a ++ seen_text style.form seen)
 
 -- for each that is asked, where f is what is kept of its answer
 abbrev pub seen_lines : Style → (f : Asked → Option SeenRow) → List Asked → List ℕ

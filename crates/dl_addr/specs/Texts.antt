@@ -8,10 +8,9 @@ use Rattle.dl_look.specs.declared.ledger.Answered.{Answered}
 use Rattle.dl_look.specs.Ledgers.{no_answer}
 use Rattle.dl_print.specs.ValueText.{strings_of}
 use Rattle.dl_addr.specs.declared.style.Style.{Style}
-use Rattle.dl_addr.specs.declared.texts.FilePath.{FilePath}
-use Rattle.dl_addr.specs.declared.texts.KeptText.{KeptText}
-use Rattle.dl_addr.specs.declared.texts.KeptText.TheVariants.{Lent, Copied}
-use Rattle.dl_addr.specs.declared.texts.Paths.{Paths}
+use Rattle.dl_addr.specs.declared.kept.FilePath.{FilePath}
+use Rattle.dl_addr.specs.declared.kept.KeptPath.{KeptPath}
+use Rattle.dl_addr.specs.declared.kept.Paths.{Paths}
 use Rattle.dl_addr.specs.declared.texts.UnitFiles.{UnitFiles}
 use Rattle.dl_addr.specs.declared.texts.UnitNumbers.{UnitNumbers}
 use Rattle.dl_addr.specs.PathParts.{text_of_directory}
@@ -20,24 +19,20 @@ use Rattle.dl_addr.specs.Shown.{basename}
 
 -- ---- texts
 
-abbrev pub kept_seen : KeptText → List ℕ
-kept_seen (Lent w) = w.now
-kept_seen (Copied v) = v.items
-
-abbrev pub text_at : List KeptText → ℕ → Option (List ℕ)
-text_at texts k = option_map kept_seen (slice_get texts k)
+abbrev pub text_at : List (List ℕ) → ℕ → Option (List ℕ)
+text_at texts k = slice_get texts k
 
 -- a part of a path, which may lack; None where its text isn't there
-abbrev pub part_at : List KeptText → Option ℕ → Option (List ℕ)
+abbrev pub part_at : List (List ℕ) → Option ℕ → Option (List ℕ)
 part_at texts None = Some []
 part_at texts (Some k) = text_at texts k
 
 -- texts are added after those before
-abbrev pub TextsGrow : List KeptText → List KeptText → Type 0
-TextsGrow old new = (more : List KeptText) × (new ≡ old ++ more)
+abbrev pub TextsGrow : List (List ℕ) → List (List ℕ) → Type 0
+TextsGrow old new = (more : List (List ℕ)) × (new ≡ old ++ more)
 
 -- each number that was seen has a text, which is kept
-abbrev pub AreTexts : (f : ℕ → Option (List ℕ)) → BTreeMap ℕ ℕ → List KeptText → Type 0
+abbrev pub AreTexts : (f : ℕ → Option (List ℕ)) → BTreeMap ℕ ℕ → List (List ℕ) → Type 0
 AreTexts f numbers texts = (n k : ℕ) → get nat_cmp numbers n ≡ Some k
     → (w : List ℕ) × (f n ≡ Some w) × (text_at texts k ≡ Some w)
 
@@ -47,16 +42,24 @@ AreTexts f numbers texts = (n k : ℕ) → get nat_cmp numbers n ≡ Some k
 abbrev pub named : Style → Option (List ℕ) → Option (List ℕ)
 named style path = option_map (λ p. if style.basenames then basename p else p) path
 
-abbrev pub text_or_none : List KeptText → Option ℕ → List ℕ
+abbrev pub text_or_none : List (List ℕ) → Option ℕ → List ℕ
 text_or_none texts number = unwrap_or (option_and_then (text_at texts) number) []
 
-abbrev pub path_at : List KeptText → FilePath → Option (List ℕ)
+abbrev pub path_at : List (List ℕ) → FilePath → Option (List ℕ)
 path_at texts f =
     option_map (under (under (text_or_none texts f.base) (text_or_none texts f.directory)))
     (option_and_then (text_at texts) f.name)
 
+-- of a file whose own path is this one
+abbrev pub path_named : KeptPath → List ℕ → List ℕ
+path_named p name =
+    under (under (text_or_none p.texts.now p.file.now.base) (text_or_none p.texts.now p.file.now.directory)) name
+
+unfoldable pub path_kept : KeptPath → Option (List ℕ)
+path_kept p = path_at p.texts.now p.file.now
+
 -- the texts make up the path
-pub record IsPath (texts : List KeptText) (f : FilePath) (path : Option (List ℕ)) : Type 0 where
+pub record IsPath (texts : List (List ℕ)) (f : FilePath) (path : Option (List ℕ)) : Type 0 where
   pub base : List ℕ
   pub directory : List ℕ
   pub name : Option (List ℕ)

@@ -130,12 +130,12 @@ fn print_all<W: Write>(
 }
 
 /// The answer to the address of this number among those that are asked for.
-fn answer_to<'a>(
-    locator: &'a Locator<'_, '_, '_>,
+fn answer_to<'a, 's>(
+    locator: &'a Locator<'s, '_, '_>,
     asked: Asked,
     base: u64,
     number: usize,
-) -> Option<Answer<'a>>
+) -> Option<Answer<'a, 's>>
     ensures { (first : locators.Locator) (start held : Option (List ℕ)) (visits : List Visit)
         (places : List place.Place)
         → Locating first locator.now start held visits → IsMadeFor first places

@@ -3,21 +3,62 @@
 ghost use Rattle.std.specs.Prelude.{◌≡◌, ◌++◌, [], codes, decimal};
 ghost use Rattle.dl_print.specs.Digits.{hexadecimal, hexadecimal_of};
 ghost use Rattle.dl_print.specs.Output.{Prints};
-ghost use Rattle.std.specs.Option.{option_map};
-ghost use Rattle.dl_addr.specs.Json.{json_address, json_is_stmt, json_position, json_row};
+ghost use Rattle.std.specs.Option.{option_copied};
+ghost use Rattle.dl_addr.specs.Json.{json_address, json_asked, json_is_stmt, json_position, json_row, json_section, json_string};
 ghost use Rattle.dl_addr.specs.declared.style.Form.TheVariants as all_forms;
-ghost use Rattle.dl_addr.specs.Parts.{path_seen};
+ghost use Rattle.dl_addr.specs.Texts.{path_kept};
 ghost use Rattle.dl_addr.specs.Printing.{named_text};
 
-use crate::path::Path;
+use crate::json_text::print_json_text;
+use crate::kept::KeptPath;
 use crate::path_text::print_path;
 use crate::style::Form;
 use dl_print::{Printer, WriteFault};
 use dl_rows::Row;
 use std::io::Write;
 
-/// Prints the beginning of an object: the address as it was given, or null of a line that is none.
-pub fn print_json_address<W: Write>(
+/// Prints the beginning of an object: the address as it was given, and the section where it is named, or null of a
+/// line that is no address.
+pub fn print_json_asked<W: Write>(
+    printer: &mut Printer,
+    output: &mut W,
+    address: Option<u64>,
+    section: Option<&str>,
+) -> Result<(), WriteFault>
+    ensures { Prints (W.contents output.old) (W.contents output.new) printer.old printer.new
+        (json_asked address (option_copied section.entry)) result }
+{
+    print_json_address(printer, output, address)?;
+    print_section(printer, output, address, section)
+}
+
+/// Prints the section after an address, where it is named.
+fn print_section<W: Write>(
+    printer: &mut Printer,
+    output: &mut W,
+    address: Option<u64>,
+    section: Option<&str>,
+) -> Result<(), WriteFault>
+    ensures { Prints (W.contents output.old) (W.contents output.new) printer.old printer.new
+        (json_section address (option_copied section.entry)) result }
+{
+    match (address, section) {
+        (Some(_), Some(name)) => print_name(printer, output, name),
+        _ => printer.put(output, b""),
+    }
+}
+
+fn print_name<W: Write>(printer: &mut Printer, output: &mut W, name: &str) -> Result<(), WriteFault>
+    ensures { Prints (W.contents output.old) (W.contents output.new) printer.old printer.new
+        (codes ",\"section\":" ++ json_string name.now) result }
+{
+    printer.put(output, b",\"section\":\"")?;
+    print_json_text(printer, output, name.as_bytes())?;
+    printer.put(output, b"\"")
+}
+
+/// Prints the address as it was given, or null of a line that is none.
+fn print_json_address<W: Write>(
     printer: &mut Printer,
     output: &mut W,
     address: Option<u64>,
@@ -60,25 +101,24 @@ fn print_address_open<W: Write>(
 pub fn print_json_row<W: Write>(
     printer: &mut Printer,
     output: &mut W,
-    path: Option<Path<'_>>,
+    path: KeptPath<'_, '_>,
     row: &Row,
-    unit: u64,
 ) -> Result<(), WriteFault>
     ensures { Prints (W.contents output.old) (W.contents output.new) printer.old printer.new
-        (json_row (named_text all_forms.Json (option_map path_seen path.entry)) row.now unit) result }
+        (json_row (named_text all_forms.Json (path_kept path.entry)) row.now path.entry.file.now.unit) result }
 {
     print_path_member(printer, output, path)?;
     print_position(printer, output, row)?;
-    print_end(printer, output, row.is_stmt, unit)
+    print_end(printer, output, row.is_stmt, path.file.unit)
 }
 
 fn print_path_member<W: Write>(
     printer: &mut Printer,
     output: &mut W,
-    path: Option<Path<'_>>,
+    path: KeptPath<'_, '_>,
 ) -> Result<(), WriteFault>
     ensures { Prints (W.contents output.old) (W.contents output.new) printer.old printer.new
-        (codes ",\"path\":" ++ named_text all_forms.Json (option_map path_seen path.entry)) result }
+        (codes ",\"path\":" ++ named_text all_forms.Json (path_kept path.entry)) result }
 {
     printer.put(output, b",\"path\":")?;
     print_path(printer, output, Form::Json, path)

@@ -6,6 +6,7 @@ mod asked;
 mod basename;
 mod json_line;
 mod json_text;
+mod kept;
 mod locating;
 mod parts;
 mod path;

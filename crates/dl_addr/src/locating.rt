@@ -4,9 +4,9 @@ ghost use Rattle.std.specs.Prelude.{◌≡◌, IfOk, length};
 ghost use Rattle.std.specs.Option.{option_copied};
 ghost use Rattle.dl_addr.specs.Code.{is_code};
 
-use crate::path::Path;
+use crate::kept::{FilePath, KeptPath, Paths};
 use crate::style::Style;
-use crate::texts::{FilePath, Paths, UnitFiles, keep_all};
+use crate::texts::{UnitFiles, keep_all};
 use dl_head::Header;
 use dl_look::{CodeRanges, Finders, LiveRows, NoMemory, Place};
 use dl_print::StringSections;
@@ -21,7 +21,7 @@ pub struct Locator<'s, 'o, 'q> {
     alloc: Global,
     strings: &'s StringSections<'o>,
     code: Option<&'q CodeRanges>,
-    style: Style,
+    style: Style<'q>,
     /// Was given the live rows of the units.
     finders: Finders,
     /// Was given the rows of the current unit.
@@ -78,12 +78,10 @@ impl<W: Write> Visitor<W> for Locator<'_, '_, '_> {
 
 /// The answer for a place.
 #[derive(Clone, Copy)]
-pub struct Answer<'a> {
+pub struct Answer<'a, 's> {
     pub row: Row,
-    /// The path of the row's file, as far as it is printed; None where it isn't known.
-    pub path: Option<Path<'a>>,
-    /// The offset of the row's unit.
-    pub unit: u64,
+    /// The path of the row's file, as far as it is printed.
+    pub path: KeptPath<'a, 's>,
 }
 
 /// Whether there is code at an address, as far as it is known.
@@ -121,7 +119,7 @@ impl<'s, 'o, 'q> Locator<'s, 'o, 'q> {
         alloc: Global,
         strings: &'s StringSections<'o>,
         code: Option<&'q CodeRanges>,
-        style: Style,
+        style: Style<'q>,
         places: &[Place],
     ) -> Result<Locator<'s, 'o, 'q>, NoMemory>
         ensures made { IfOk result (λ l. IsMadeFor l places.now) }
@@ -129,7 +127,7 @@ impl<'s, 'o, 'q> Locator<'s, 'o, 'q> {
         ensures unit { IfOk result (λ l. l.unit ≡ 0) }
         ensures strings { IfOk result (λ l. l.strings.now ≡ strings.now) }
         ensures code { IfOk result (λ l. l.code ≡ code.entry) }
-        ensures style { IfOk result (λ l. l.style ≡ style) }
+        ensures style { IfOk result (λ l. l.style ≡ style.entry) }
     {
         let finders = Finders::build(alloc, places)?;
         Ok(Locator {
@@ -162,7 +160,7 @@ impl<'s, 'o, 'q> Locator<'s, 'o, 'q> {
     }
 
     /// What the place of this number is answered, by the units that have ended.
-    pub fn answer(&self, number: usize) -> Option<Answer<'_>>
+    pub fn answer(&self, number: usize) -> Option<Answer<'_, 's>>
         ensures { (first : locator.Locator) (start held : Option (List ℕ)) (visits : List Visit) (places : List Place)
             → Locating first self.now start held visits → IsMadeFor first places
             → option_map answer_seen result ≡ option_map (located_seen first)
@@ -175,7 +173,7 @@ impl<'s, 'o, 'q> Locator<'s, 'o, 'q> {
     }
 
     /// The row, with the path that is kept for the place of this number.
-    fn answer_of(&self, row: Row, number: usize) -> Option<Answer<'_>>
+    fn answer_of(&self, row: Row, number: usize) -> Option<Answer<'_, 's>>
         ensures { option_map answer_seen result ≡ option_map
             (λ f. (row, (path_at self.now.paths.texts.items f, f.unit)))
             (option_and_then (slice_get self.now.paths.files.items) (slice_get self.now.kept.items number)) }
@@ -183,8 +181,10 @@ impl<'s, 'o, 'q> Locator<'s, 'o, 'q> {
         let file = self.file(number)?;
         Some(Answer {
             row,
-            path: self.paths.path(file),
-            unit: file.unit,
+            path: KeptPath {
+                texts: self.paths.texts.as_slice(),
+                file,
+            },
         })
     }
 

@@ -1,6 +1,6 @@
 //! The path of a file under the header of its unit. Section 6.2.4.
 
-ghost use Rattle.std.specs.Prelude.{◌≡◌};
+ghost use Rattle.std.specs.Prelude.{◌≡◌, [], ◌∷◌, if◌then◌else◌};
 ghost use Rattle.std.specs.Option.{option_copied, option_map};
 ghost use Rattle.dl_print.specs.ValueText.{strings_of};
 ghost use Rattle.dl_addr.specs.Parts.{path_seen};
@@ -39,11 +39,18 @@ pub fn path_of<'a>(
 pub fn slash_after(directory: &[u8]) -> &'static [u8]
     ensures { result.now ≡ slash_after directory.now }
 {
+    if wants_slash(directory) { b"/" } else { b"" }
+}
+
+/// Whether a slash stands between a directory and a path in it.
+pub fn wants_slash(directory: &[u8]) -> bool
+    ensures { slash_after directory.now ≡ (if result then 0x2f ∷ [] else []) }
+{
     if directory.is_empty() {
-        return b"";
+        return false;
     }
     let last = directory[directory.len() - 1];
-    if last == b'/' { b"" } else { b"/" }
+    last != b'/'
 }
 
 /// Whether a path stands for itself, under no directory.

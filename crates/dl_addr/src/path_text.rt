@@ -1,16 +1,17 @@
 //! The texts of paths, as they are printed.
 
-ghost use Rattle.std.specs.Prelude.{◌≡◌, ◌++◌, codes};
-ghost use Rattle.std.specs.Option.{option_map};
+ghost use Rattle.std.specs.Prelude.{◌≡◌, ◌++◌, [], codes, unwrap_or};
+ghost use Rattle.std.specs.Option.{option_copied};
 ghost use Rattle.dl_print.specs.Output.{Prints};
 ghost use Rattle.dl_addr.specs.declared.style.Form.TheVariants as all_forms;
-ghost use Rattle.dl_addr.specs.Parts.{path_seen};
 ghost use Rattle.dl_addr.specs.Paths.{slash_after};
 ghost use Rattle.dl_addr.specs.Printing.{inner_text, named_text};
 ghost use Rattle.dl_addr.specs.Shown.{no_path_text, text_in};
+ghost use Rattle.dl_addr.specs.Texts.{path_kept, path_named};
 
 use crate::json_text::print_json_text;
-use crate::path::{Path, slash_after};
+use crate::kept::{KeptPath, KeptText};
+use crate::path::wants_slash;
 use crate::shown::print_shown;
 use crate::style::Form;
 use dl_print::{Printer, WriteFault};
@@ -21,30 +22,31 @@ pub fn print_path<W: Write>(
     printer: &mut Printer,
     output: &mut W,
     form: Form,
-    path: Option<Path<'_>>,
+    path: KeptPath<'_, '_>,
 ) -> Result<(), WriteFault>
     ensures { Prints (W.contents output.old) (W.contents output.new) printer.old printer.new
-        (named_text form (option_map path_seen path.entry)) result }
+        (named_text form (path_kept path.entry)) result }
 {
-    match path {
-        Some(path) => print_known(printer, output, form, path),
+    match path.text(path.file.name) {
+        Some(name) => print_known(printer, output, form, path, name),
         None => print_no_path(printer, output, form),
     }
 }
 
-/// Prints a path that is known.
+/// Prints a path whose file's own path is this one.
 fn print_known<W: Write>(
     printer: &mut Printer,
     output: &mut W,
     form: Form,
-    path: Path<'_>,
+    path: KeptPath<'_, '_>,
+    name: &KeptText<'_>,
 ) -> Result<(), WriteFault>
     ensures { Prints (W.contents output.old) (W.contents output.new) printer.old printer.new
-        (text_in form (path_seen path.entry)) result }
+        (text_in form (path_named path.entry name.now)) result }
 {
     match form {
-        Form::Location | Form::AddressAndLocation => print_parts(printer, output, form, path),
-        Form::Json => print_quoted(printer, output, path),
+        Form::Location | Form::AddressAndLocation => print_parts(printer, output, form, path, name),
+        Form::Json => print_quoted(printer, output, path, name),
     }
 }
 
@@ -67,13 +69,14 @@ fn print_no_path<W: Write>(
 fn print_quoted<W: Write>(
     printer: &mut Printer,
     output: &mut W,
-    path: Path<'_>,
+    path: KeptPath<'_, '_>,
+    name: &KeptText<'_>,
 ) -> Result<(), WriteFault>
     ensures { Prints (W.contents output.old) (W.contents output.new) printer.old printer.new
-        (text_in all_forms.Json (path_seen path.entry)) result }
+        (text_in all_forms.Json (path_named path.entry name.now)) result }
 {
     printer.put(output, b"\"")?;
-    print_parts(printer, output, Form::Json, path)?;
+    print_parts(printer, output, Form::Json, path, name)?;
     printer.put(output, b"\"")
 }
 
@@ -82,45 +85,83 @@ fn print_parts<W: Write>(
     printer: &mut Printer,
     output: &mut W,
     form: Form,
-    path: Path<'_>,
+    path: KeptPath<'_, '_>,
+    name: &KeptText<'_>,
 ) -> Result<(), WriteFault>
     ensures { Prints (W.contents output.old) (W.contents output.new) printer.old printer.new
-        (inner_text form (path_seen path.entry)) result }
+        (inner_text form (path_named path.entry name.now)) result }
 {
-    print_directory(printer, output, form, path.base)?;
-    print_directory(printer, output, form, path.directory)?;
-    print_text(printer, output, form, path.name)
+    print_directory(printer, output, form, path.text(path.file.base))?;
+    print_directory(printer, output, form, path.text(path.file.directory))?;
+    print_text(printer, output, form, name)
 }
 
-/// Prints a directory, with what stands between it and a path in it.
+/// Prints a directory, with what stands between it and a path in it; nothing where there is none.
+#[inline]
 fn print_directory<W: Write>(
     printer: &mut Printer,
     output: &mut W,
     form: Form,
-    directory: &[u8],
+    directory: Option<&KeptText<'_>>,
+) -> Result<(), WriteFault>
+    ensures { Prints (W.contents output.old) (W.contents output.new) printer.old printer.new
+        (inner_text form (unwrap_or (option_copied directory.entry) [])
+        ++ slash_after (unwrap_or (option_copied directory.entry) [])) result }
+{
+    match directory {
+        Some(directory) => print_folder(printer, output, form, directory),
+        None => printer.put(output, b""),
+    }
+}
+
+/// Prints a directory that is there.
+#[inline]
+fn print_folder<W: Write>(
+    printer: &mut Printer,
+    output: &mut W,
+    form: Form,
+    directory: &KeptText<'_>,
 ) -> Result<(), WriteFault>
     ensures { Prints (W.contents output.old) (W.contents output.new) printer.old printer.new
         (inner_text form directory.now ++ slash_after directory.now) result }
 {
-    if directory.is_empty() {
-        return printer.put(output, b"");
-    }
     print_text(printer, output, form, directory)?;
-    printer.put(output, slash_after(directory))
+    print_slash(printer, output, directory.bytes())
+}
+
+/// Prints what stands between a directory and a path in it.
+#[inline]
+fn print_slash<W: Write>(
+    printer: &mut Printer,
+    output: &mut W,
+    directory: &[u8],
+) -> Result<(), WriteFault>
+    ensures { Prints (W.contents output.old) (W.contents output.new) printer.old printer.new
+        (slash_after directory.now) result }
+{
+    if wants_slash(directory) {
+        printer.put(output, b"/")
+    } else {
+        printer.put(output, b"")
+    }
 }
 
 /// Prints a text as it stands in a path.
+#[inline]
 fn print_text<W: Write>(
     printer: &mut Printer,
     output: &mut W,
     form: Form,
-    text: &[u8],
+    text: &KeptText<'_>,
 ) -> Result<(), WriteFault>
     ensures { Prints (W.contents output.old) (W.contents output.new) printer.old printer.new
         (inner_text form text.now) result }
 {
+    if text.is_plain() {
+        return printer.put(output, text.bytes());
+    }
     match form {
-        Form::Location | Form::AddressAndLocation => print_shown(printer, output, text),
-        Form::Json => print_json_text(printer, output, text),
+        Form::Location | Form::AddressAndLocation => print_shown(printer, output, text.bytes()),
+        Form::Json => print_json_text(printer, output, text.bytes()),
     }
 }

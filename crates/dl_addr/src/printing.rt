@@ -1,17 +1,17 @@
 //! The lines of what is asked.
 
 ghost use Rattle.std.specs.Prelude.{◌≡◌, []};
-ghost use Rattle.std.specs.Option.{option_map};
+ghost use Rattle.std.specs.Option.{option_copied, option_map};
 ghost use Rattle.dl_print.specs.Output.{Prints};
 ghost use Rattle.dl_addr.specs.Answers.{answer_seen};
 ghost use Rattle.dl_addr.specs.Locations.{address_text, asked_text, column_text, no_row_text, place_text, row_text};
-ghost use Rattle.dl_addr.specs.Parts.{path_seen};
+ghost use Rattle.dl_addr.specs.Texts.{path_kept};
 ghost use Rattle.dl_addr.specs.Printing.{named_text, seen_line, seen_text};
 
 use crate::asked::Asked;
-use crate::json_line::{print_json_address, print_json_row};
+use crate::json_line::{print_json_asked, print_json_row};
+use crate::kept::KeptPath;
 use crate::locating::Answer;
-use crate::path::Path;
 use crate::path_text::print_path;
 use crate::style::{Form, Style};
 use dl_print::{Printer, WriteFault};
@@ -22,14 +22,14 @@ use std::io::Write;
 pub fn print_line<W: Write>(
     printer: &mut Printer,
     output: &mut W,
-    style: Style,
+    style: Style<'_>,
     asked: Asked,
-    answer: Option<Answer<'_>>,
+    answer: Option<Answer<'_, '_>>,
 ) -> Result<(), WriteFault>
     ensures { Prints (W.contents output.old) (W.contents output.new) printer.old printer.new
-        (seen_line style asked (option_map answer_seen answer.entry)) result }
+        (seen_line style.entry asked (option_map answer_seen answer.entry)) result }
 {
-    print_asked(printer, output, style.form, asked)?;
+    print_asked(printer, output, style, asked)?;
     print_answer(printer, output, style.form, answer)?;
     printer.put(output, b"\n")
 }
@@ -38,16 +38,16 @@ pub fn print_line<W: Write>(
 fn print_asked<W: Write>(
     printer: &mut Printer,
     output: &mut W,
-    form: Form,
+    style: Style<'_>,
     asked: Asked,
 ) -> Result<(), WriteFault>
     ensures { Prints (W.contents output.old) (W.contents output.new) printer.old printer.new
-        (asked_text form asked) result }
+        (asked_text style.entry.form (option_copied style.entry.section) asked) result }
 {
-    match form {
+    match style.form {
         Form::Location => printer.put(output, b""),
         Form::AddressAndLocation => print_address(printer, output, asked.address),
-        Form::Json => print_json_address(printer, output, asked.address),
+        Form::Json => print_json_asked(printer, output, asked.address, style.section),
     }
 }
 
@@ -73,13 +73,13 @@ fn print_answer<W: Write>(
     printer: &mut Printer,
     output: &mut W,
     form: Form,
-    answer: Option<Answer<'_>>,
+    answer: Option<Answer<'_, '_>>,
 ) -> Result<(), WriteFault>
     ensures { Prints (W.contents output.old) (W.contents output.new) printer.old printer.new
         (seen_text form (option_map answer_seen answer.entry)) result }
 {
     match answer {
-        Some(answer) => print_row(printer, output, form, answer.path, &answer.row, answer.unit),
+        Some(answer) => print_row(printer, output, form, answer.path, &answer.row),
         None => print_no_row(printer, output, form),
     }
 }
@@ -89,17 +89,16 @@ fn print_row<W: Write>(
     printer: &mut Printer,
     output: &mut W,
     form: Form,
-    path: Option<Path<'_>>,
+    path: KeptPath<'_, '_>,
     row: &Row,
-    unit: u64,
 ) -> Result<(), WriteFault>
     ensures { Prints (W.contents output.old) (W.contents output.new) printer.old printer.new
-        (row_text form (named_text form (option_map path_seen path.entry)) row.now unit) result }
+        (row_text form (named_text form (path_kept path.entry)) row.now path.entry.file.now.unit) result }
 {
     match form {
         Form::Location | Form::AddressAndLocation => print_place(printer, output, form, path, row),
         Form::Json => {
-            print_json_row(printer, output, path, row, unit)?;
+            print_json_row(printer, output, path, row)?;
             printer.put(output, b"}")
         }
     }
@@ -124,11 +123,11 @@ fn print_place<W: Write>(
     printer: &mut Printer,
     output: &mut W,
     form: Form,
-    path: Option<Path<'_>>,
+    path: KeptPath<'_, '_>,
     row: &Row,
 ) -> Result<(), WriteFault>
     ensures { Prints (W.contents output.old) (W.contents output.new) printer.old printer.new
-        (place_text (named_text form (option_map path_seen path.entry)) row.now) result }
+        (place_text (named_text form (path_kept path.entry)) row.now) result }
 {
     print_path(printer, output, form, path)?;
     printer.number(output, b":", row.line)?;

@@ -15,7 +15,7 @@ pub struct Question<'a> {
     /// sequence answers.
     pub code: Option<&'a CodeRanges>,
     /// How the answers are printed.
-    pub style: Style,
+    pub style: Style<'a>,
 }
 
 /// Whether each address was answered.

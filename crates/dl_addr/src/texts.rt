@@ -1,20 +1,18 @@
 //! The texts of the paths of files that answer.
 
-ghost use Rattle.std.specs.Prelude.{◌≡◌, ◌≢◌, ◌<◌, ◌≤◌, ◌+◌, ℕ, List, Option, [], length, slice_get, slice_index_or};
-ghost use Rattle.std.specs.Prelude.{IfOk, IfSome, OnOk, None, Some, unwrap_or};
-ghost use Rattle.std.specs.Option.{option_and_then, option_copied, option_map, option_map_or};
+ghost use Rattle.std.specs.Prelude.{◌≡◌, ◌≢◌, ◌<◌, ◌≤◌, ◌+◌, ℕ, List, Option, length, slice_get, slice_index_or};
+ghost use Rattle.std.specs.Prelude.{IfOk, IfSome, OnOk, None, Some};
+ghost use Rattle.std.specs.Option.{option_copied, option_map, option_map_or};
 ghost use Rattle.dl_look.specs.Ledgers.{no_answer};
-ghost use Rattle.dl_addr.specs.Parts.{path_seen};
 ghost use Rattle.dl_addr.specs.PathParts.{FromDirectories, IsDirectory, directory_seen, parts_seen, text_seen};
 ghost use Rattle.dl_addr.specs.Texts.{AreNumbers, AreSeen, AreTexts, Grows, HasPath, IsKept, IsOther, IsPath};
-ghost use Rattle.dl_addr.specs.Texts.{kept_seen};
-ghost use Rattle.dl_addr.specs.Texts.{TextsGrow, directory_text, named, part_at, path_at, path_of_file, text_at};
+ghost use Rattle.dl_addr.specs.Texts.{TextsGrow, directory_text, named, part_at, path_of_file, text_at};
 ghost use Rattle.dl_print.specs.ValueText.{strings_of};
 ghost use Rattle.dl_addr.specs.Paths.{path_of};
 
 use crate::basename::basename;
+use crate::kept::{FilePath, KeptBytes, KeptText, Paths};
 use crate::parts::{Directory, Parts, Text, parts_of};
-use crate::path::Path;
 use crate::style::Style;
 use dl_head::Header;
 use dl_look::{Answered, NoMemory};
@@ -22,37 +20,12 @@ use dl_print::StringSections;
 use std::alloc::Global;
 use std::collections::BTreeMap;
 
-/// A text that is kept. The string sections are held as long as the texts, those of headers aren't.
-#[derive(Drop)]
-pub enum KeptText<'s> {
-    Lent(&'s [u8]),
-    Copied(Vec<u8>),
-}
-
-/// The path of a file, in the numbers of its texts.
-#[derive(Clone, Copy)]
-pub struct FilePath {
-    /// The offset of the file's unit in its section.
-    pub unit: u64,
-    pub base: Option<usize>,
-    pub directory: Option<usize>,
-    /// None where the path isn't known.
-    pub name: Option<usize>,
-}
-
-/// The paths of the files that answer. Each text of a unit is among them once.
-#[derive(Drop)]
-pub struct Paths<'s> {
-    pub files: Vec<FilePath>,
-    pub texts: Vec<KeptText<'s>>,
-}
-
 /// The files of a unit, and how their paths are printed.
 #[derive(Clone, Copy)]
 pub struct UnitFiles<'s, 'o, 'h> {
     pub strings: &'s StringSections<'o>,
     pub header: Option<&'h Header>,
-    pub style: Style,
+    pub style: Style<'h>,
     /// The offset of the unit in its section.
     pub offset: u64,
 }
@@ -66,51 +39,6 @@ pub struct UnitNumbers {
     pub directories: BTreeMap<u64, usize>,
     /// The file that was looked up last, with the number of its path: rows that follow one another often name one file.
     pub last: Option<(u64, usize)>,
-}
-
-/// The bytes of a text that is kept.
-fn kept_bytes<'a>(text: &'a KeptText<'_>) -> &'a [u8]
-    ensures { result.now ≡ kept_seen text.now }
-{
-    match text {
-        KeptText::Lent(bytes) => bytes,
-        KeptText::Copied(bytes) => bytes.as_slice(),
-    }
-}
-
-impl Paths<'_> {
-    ghost use Rattle.std.specs.Prelude.{◌≡◌, [], unwrap_or};
-    ghost use Rattle.std.specs.Option.{option_and_then, option_copied, option_map};
-    ghost use Rattle.dl_addr.specs.Parts.{path_seen};
-    ghost use Rattle.dl_addr.specs.Texts.{path_at, text_at};
-
-    /// The path of a file.
-    pub fn path(&self, file: &FilePath) -> Option<Path<'_>>
-        ensures { option_map path_seen result ≡ path_at self.now.texts.items file.now }
-    {
-        let name = self.text(file.name)?;
-        Some(Path {
-            base: self.text_or_none(file.base),
-            directory: self.text_or_none(file.directory),
-            name,
-        })
-    }
-
-    fn text_or_none(&self, number: Option<usize>) -> &[u8]
-        ensures { result.now ≡ unwrap_or (option_and_then (text_at self.now.texts.items) number) [] }
-    {
-        match self.text(number) {
-            Some(text) => text,
-            None => b"",
-        }
-    }
-
-    /// The text of this number.
-    fn text(&self, number: Option<usize>) -> Option<&[u8]>
-        ensures { option_copied result ≡ option_and_then (text_at self.now.texts.items) number }
-    {
-        Some(kept_bytes(self.texts.as_slice().get(number?)?))
-    }
 }
 
 /// Keeps the path of the file of each place that a unit answers: a file's path once, and for each place
@@ -345,12 +273,12 @@ fn add_text<'s>(
 
 /// A text as it is kept.
 fn kept_text<'s>(alloc: Global, text: Text<'s, '_>) -> Result<KeptText<'s>, NoMemory>
-    ensures { IfOk result (λ kept. kept_seen kept ≡ text_seen text.entry) }
+    ensures { IfOk result (λ kept. kept ≡ text_seen text.entry) }
 {
     match text {
-        Text::Section(bytes) => Ok(KeptText::Lent(bytes)),
+        Text::Section(bytes) => Ok(KeptText::new(KeptBytes::Lent(bytes))),
         Text::Header(bytes) => match bytes.to_vec(alloc) {
-            Ok(copy) => Ok(KeptText::Copied(copy)),
+            Ok(copy) => Ok(KeptText::new(KeptBytes::Copied(copy))),
             Err(_) => Err(NoMemory),
         },
     }

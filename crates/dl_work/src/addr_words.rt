@@ -110,6 +110,7 @@ pub fn question<'q>(
     ensures code { result.code ≡ code.entry }
     ensures form { result.style.form ≡ form_in (addr_words_made words.now) }
     ensures basenames { result.style.basenames ≡ words.now.basenames }
+    ensures section { result.style.section ≡ None }
 {
     Question {
         asked,
@@ -118,6 +119,7 @@ pub fn question<'q>(
         style: Style {
             form: form(words),
             basenames: words.basenames,
+            section: None,
         },
     }
 }

@@ -1,10 +1,9 @@
 use Rattle.std.proofs.Common.{◌++◌, codes}
 use Rattle.std.proofs.lemmas.Result.{err_from_is_err_and}
 use Rattle.dl_print.specs.Digits.{hexadecimal}
-use Rattle.std.specs.Prelude.{option_map}
 use Rattle.dl_addr.specs.declared.style.Form.TheVariants.{Json}
 use Rattle.dl_addr.specs.Json.{json_is_stmt, json_position}
-use Rattle.dl_addr.specs.Parts.{path_seen}
+use Rattle.dl_addr.specs.Texts.{path_kept}
 use Rattle.dl_addr.specs.Printing.{named_text}
 use Rattle.dl_addr.proofs.PrintLemmas.{loses_front, loses_then}
 use Rattle.dl_addr.proofs.json_line.print_json_row.Goals as goal
@@ -13,8 +12,8 @@ pub returns-in_err-print_path_member : goal.returns-in_err-print_path_member
 returns-in_err-print_path_member g c start text h =
     let p = err_from_is_err_and c.from_residual.result c.from_residual.ensures.1 in
     let row = c.args.row.now in
-    let path = codes ",\"path\":" ++ named_text Json (option_map path_seen c.args.path) in
-    let rest = json_is_stmt row.is_stmt ++ ((codes ",\"unit\":\"0x" ++ hexadecimal c.args.unit) ++ codes "\"") in
+    let path = codes ",\"path\":" ++ named_text Json (path_kept c.args.path) in
+    let rest = json_is_stmt row.is_stmt ++ ((codes ",\"unit\":\"0x" ++ hexadecimal c.args.path.file.now.unit) ++ codes "\"") in
     let old = g.W.Write.contents c.args.output.now in
     let new = g.W.Write.contents c.print_path_member.new.output in
     rw (
@@ -28,8 +27,8 @@ returns-in_err-print_position g c start text h =
     let p = err_from_is_err_and c.from_residual-in_err-print_position.result
     c.from_residual-in_err-print_position.ensures.1 in
     let row = c.args.row.now in
-    let path = codes ",\"path\":" ++ named_text Json (option_map path_seen c.args.path) in
-    let rest = json_is_stmt row.is_stmt ++ ((codes ",\"unit\":\"0x" ++ hexadecimal c.args.unit) ++ codes "\"") in
+    let path = codes ",\"path\":" ++ named_text Json (path_kept c.args.path) in
+    let rest = json_is_stmt row.is_stmt ++ ((codes ",\"unit\":\"0x" ++ hexadecimal c.args.path.file.now.unit) ++ codes "\"") in
     let old = g.W.Write.contents c.args.output.now in
     let mid = g.W.Write.contents c.print_path_member.new.output in
     let new = g.W.Write.contents c.print_position.new.output in

@@ -1,14 +1,16 @@
-use Rattle.std.proofs.Common.{◌≡◌, ◌++◌, ℕ, List, refl, sym}
+use Rattle.std.proofs.Common.{◌≡◌, ◌++◌, ◌∙◌, ℕ, List, [], Option, refl, sym, ap₂}
+use Rattle.std.specs.Option.{option_and_then, option_copied}
+use Rattle.std.specs.Prelude.{unwrap_or}
 use Rattle.std.proofs.lemmas.Result.{err_from_is_err_and}
 use Rattle.json.specs.Print.{escape}
 use Rattle.std.specs.Str.Lossy.{utf8_lossy}
-use Rattle.dl_addr.specs.declared.path.Path.{Path}
+use Rattle.dl_addr.specs.declared.kept.KeptPath.{KeptPath}
 use Rattle.dl_addr.specs.declared.style.Form.{Form}
 use Rattle.dl_addr.specs.declared.style.Form.TheVariants.{Location, AddressAndLocation, Json}
-use Rattle.dl_addr.specs.Parts.{path_seen}
 use Rattle.dl_addr.specs.Paths.{slash_after}
 use Rattle.dl_addr.specs.Printing.{inner_text}
 use Rattle.dl_addr.specs.Shown.{shown}
+use Rattle.dl_addr.specs.Texts.{path_named, text_at, text_or_none}
 use Rattle.dl_addr.proofs.FrontLemmas.{json_at_slash, json_nothing}
 use Rattle.dl_addr.proofs.PathLemmas.{parts_apart}
 use Rattle.dl_addr.proofs.PrintLemmas.{loses_front, loses_same, loses_then, more_then, prints_same, prints_then}
@@ -18,26 +20,46 @@ use Rattle.dl_addr.proofs.path_text.print_parts.Goals as goal
 abbrev folder : Form → List ℕ → List ℕ
 folder form directory = inner_text form directory ++ slash_after directory
 
-apart : (form : Form) (p : Path)
-    → inner_text form (path_seen p)
-    ≡ (folder form p.base.now ++ folder form p.directory.now) ++ inner_text form p.name.now
-apart Location p = parts_apart shown refl shown_at_slash p.base.now p.directory.now p.name.now
-apart AddressAndLocation p = parts_apart shown refl shown_at_slash p.base.now p.directory.now p.name.now
-apart Json p =
-    parts_apart (λ w. escape (utf8_lossy w)) json_nothing json_at_slash p.base.now p.directory.now p.name.now
+abbrev base_of : KeptPath → List ℕ
+base_of p = text_or_none p.texts.now p.file.now.base
+
+abbrev directory_of : KeptPath → List ℕ
+directory_of p = text_or_none p.texts.now p.file.now.directory
+
+apart : (form : Form) (p : KeptPath) (name : List ℕ)
+    → inner_text form (path_named p name)
+    ≡ (folder form (base_of p) ++ folder form (directory_of p)) ++ inner_text form name
+apart Location p name = parts_apart shown refl shown_at_slash (base_of p) (directory_of p) name
+apart AddressAndLocation p name = parts_apart shown refl shown_at_slash (base_of p) (directory_of p) name
+apart Json p name =
+    parts_apart (λ w. escape (utf8_lossy w)) json_nothing json_at_slash (base_of p) (directory_of p) name
+
+-- by what was looked up
+apart_by : (form : Form) (p : KeptPath) (name : List ℕ) (base directory : Option (List ℕ))
+    → base ≡ option_and_then (text_at p.texts.now) p.file.now.base
+    → directory ≡ option_and_then (text_at p.texts.now) p.file.now.directory
+    → (folder form (unwrap_or base []) ++ folder form (unwrap_or directory [])) ++ inner_text form name
+    ≡ inner_text form (path_named p name)
+apart_by form p name base directory e e' =
+    ap₂ (λ (x y : Option (List ℕ)). (folder form (unwrap_or x []) ++ folder form (unwrap_or y [])) ++ inner_text form name)
+    e e'
+    ∙ sym (apart form p name)
 
 pub returns-in_err-print_directory : goal.returns-in_err-print_directory
 returns-in_err-print_directory g c start text h =
     let e = err_from_is_err_and c.from_residual.result c.from_residual.ensures.1 in
     let form = c.args.form in
     let p = c.args.path in
-    let a = folder form p.base.now in
-    let b = folder form p.directory.now in
-    let n = inner_text form p.name.now in
+    let name = c.args.name.now in
+    let base = option_copied c.text.result in
+    let directory = option_and_then (text_at p.texts.now) p.file.now.directory in
+    let a = folder form (unwrap_or base []) in
+    let b = folder form (unwrap_or directory []) in
+    let n = inner_text form name in
     let old = g.W.Write.contents c.args.output.now in
     let new = g.W.Write.contents c.print_directory.new.output in
-    rw (e.1, e.2) (loses_same old new c.args.printer.now ((a ++ b) ++ n) (inner_text form (path_seen p)) _
-    (sym (apart form p))
+    rw (e.1, e.2) (loses_same old new c.args.printer.now ((a ++ b) ++ n) (inner_text form (path_named p name)) _
+    (apart_by form p name base directory c.text.ensures refl)
     (loses_front old new c.args.printer.now (a ++ b) n _
     (loses_front old new c.args.printer.now a b _ c.in_err-print_directory.ensures)) start text h)
 
@@ -47,14 +69,17 @@ returns-in_err-print_directory-2 g c start text h =
     c.from_residual-in_err-print_directory-2.ensures.1 in
     let form = c.args.form in
     let p = c.args.path in
-    let a = folder form p.base.now in
-    let b = folder form p.directory.now in
-    let n = inner_text form p.name.now in
+    let name = c.args.name.now in
+    let base = option_copied c.text.result in
+    let directory = option_copied c.text-2.result in
+    let a = folder form (unwrap_or base []) in
+    let b = folder form (unwrap_or directory []) in
+    let n = inner_text form name in
     let old = g.W.Write.contents c.args.output.now in
     let mid = g.W.Write.contents c.print_directory.new.output in
     let new = g.W.Write.contents c.print_directory-2.new.output in
-    rw (e.1, e.2) (loses_same old new c.args.printer.now ((a ++ b) ++ n) (inner_text form (path_seen p)) _
-    (sym (apart form p))
+    rw (e.1, e.2) (loses_same old new c.args.printer.now ((a ++ b) ++ n) (inner_text form (path_named p name)) _
+    (apart_by form p name base directory c.text.ensures c.text-2.ensures)
     (loses_front old new c.args.printer.now (a ++ b) n _
     (loses_then old mid new c.args.printer.now c.print_directory.new.printer a b _ c.in_ok-print_directory.ensures
     c.in_err-print_directory-2.ensures)) start text h)
@@ -63,15 +88,18 @@ pub returns : goal.returns
 returns g c =
     let form = c.args.form in
     let p = c.args.path in
-    let a = folder form p.base.now in
-    let b = folder form p.directory.now in
-    let n = inner_text form p.name.now in
+    let name = c.args.name.now in
+    let base = option_copied c.text.result in
+    let directory = option_copied c.text-2.result in
+    let a = folder form (unwrap_or base []) in
+    let b = folder form (unwrap_or directory []) in
+    let n = inner_text form name in
     let old = g.W.Write.contents c.args.output.now in
     let mid = g.W.Write.contents c.print_directory.new.output in
     let between = g.W.Write.contents c.print_directory-2.new.output in
     let new = g.W.Write.contents c.print_text.new.output in
-    prints_same old new c.args.printer.now c.print_text.new.printer ((a ++ b) ++ n) (inner_text form (path_seen p))
-    c.print_text.result (sym (apart form p))
+    prints_same old new c.args.printer.now c.print_text.new.printer ((a ++ b) ++ n) (inner_text form (path_named p name))
+    c.print_text.result (apart_by form p name base directory c.text.ensures c.text-2.ensures)
     (prints_then old between new c.args.printer.now c.print_directory-2.new.printer c.print_text.new.printer (a ++ b) n
     c.print_text.result
     (more_then old mid between c.args.printer.now c.print_directory.new.printer c.print_directory-2.new.printer a b

@@ -2,7 +2,7 @@ use Rattle.std.proofs.Common.{[], ◌∷◌, ◌++◌}
 use Rattle.std.proofs.lemmas.Result.{err_from_is_err_and}
 use Rattle.std.specs.Str.Lossy.{utf8_lossy}
 use Rattle.json.specs.Print.{escape}
-use Rattle.dl_addr.specs.Parts.{path_seen}
+use Rattle.dl_addr.specs.Texts.{path_named}
 use Rattle.dl_addr.proofs.PrintLemmas.{loses_front, loses_then}
 use Rattle.dl_addr.proofs.path_text.print_quoted.Goals as goal
 
@@ -11,7 +11,7 @@ returns-in_err-print_parts g c start text h =
     let p = err_from_is_err_and c.from_residual-in_err-print_parts.result
     c.from_residual-in_err-print_parts.ensures.1 in
     let quote = 0x22 ∷ [] in
-    let inner = escape (utf8_lossy (path_seen c.args.path)) in
+    let inner = escape (utf8_lossy (path_named c.args.path c.args.name.now)) in
     let old = g.W.Write.contents c.args.output.now in
     let mid = g.W.Write.contents c.put.new.output in
     let new = g.W.Write.contents c.print_parts.new.output in

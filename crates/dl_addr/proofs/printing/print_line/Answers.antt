@@ -1,6 +1,7 @@
 use Rattle.std.proofs.Common.{[], ◌∷◌, ◌++◌}
 use Rattle.std.specs.Prelude.{option_map}
 use Rattle.std.proofs.lemmas.Result.{err_from_is_err_and}
+use Rattle.std.specs.Option.{option_copied}
 use Rattle.dl_addr.specs.Answers.{answer_seen}
 use Rattle.dl_addr.specs.Locations.{asked_text}
 use Rattle.dl_addr.specs.Printing.{seen_text}
@@ -10,7 +11,7 @@ use Rattle.dl_addr.proofs.printing.print_line.Goals as goal
 pub returns-in_err-print_asked : goal.returns-in_err-print_asked
 returns-in_err-print_asked g c start text h =
     let p = err_from_is_err_and c.from_residual.result c.from_residual.ensures.1 in
-    let a = asked_text c.args.style.form c.args.asked in
+    let a = asked_text c.args.style.form (option_copied c.args.style.section) c.args.asked in
     let b = seen_text c.args.style.form (option_map answer_seen c.args.answer) in
     let old = g.W.Write.contents c.args.output.now in
     let new = g.W.Write.contents c.print_asked.new.output in
@@ -24,7 +25,7 @@ pub returns-in_err-print_answer : goal.returns-in_err-print_answer
 returns-in_err-print_answer g c start text h =
     let p = err_from_is_err_and c.from_residual-in_err-print_answer.result
     c.from_residual-in_err-print_answer.ensures.1 in
-    let a = asked_text c.args.style.form c.args.asked in
+    let a = asked_text c.args.style.form (option_copied c.args.style.section) c.args.asked in
     let b = seen_text c.args.style.form (option_map answer_seen c.args.answer) in
     let old = g.W.Write.contents c.args.output.now in
     let mid = g.W.Write.contents c.print_asked.new.output in

@@ -1,8 +1,7 @@
 use Rattle.std.proofs.Common.{◌++◌, codes, decimal}
-use Rattle.std.specs.Prelude.{option_map}
 use Rattle.std.proofs.lemmas.Result.{err_from_is_err_and}
 use Rattle.dl_addr.specs.Locations.{column_text}
-use Rattle.dl_addr.specs.Parts.{path_seen}
+use Rattle.dl_addr.specs.Texts.{path_kept}
 use Rattle.dl_addr.specs.Printing.{named_text}
 use Rattle.dl_addr.proofs.PrintLemmas.{loses_front, loses_then}
 use Rattle.dl_addr.proofs.printing.print_place.Goals as goal
@@ -10,7 +9,7 @@ use Rattle.dl_addr.proofs.printing.print_place.Goals as goal
 pub returns-in_err-print_path : goal.returns-in_err-print_path
 returns-in_err-print_path g c start text h =
     let p = err_from_is_err_and c.from_residual.result c.from_residual.ensures.1 in
-    let path = named_text c.args.form (option_map path_seen c.args.path) in
+    let path = named_text c.args.form (path_kept c.args.path) in
     let row = c.args.row.now in
     let old = g.W.Write.contents c.args.output.now in
     let new = g.W.Write.contents c.print_path.new.output in
@@ -21,7 +20,7 @@ returns-in_err-print_path g c start text h =
 pub returns-in_err-number : goal.returns-in_err-number
 returns-in_err-number g c start text h =
     let p = err_from_is_err_and c.from_residual-in_err-number.result c.from_residual-in_err-number.ensures.1 in
-    let path = named_text c.args.form (option_map path_seen c.args.path) in
+    let path = named_text c.args.form (path_kept c.args.path) in
     let row = c.args.row.now in
     let old = g.W.Write.contents c.args.output.now in
     let mid = g.W.Write.contents c.print_path.new.output in

@@ -1,0 +1,32 @@
+use Rattle.std.proofs.Common.{◌≡◌, ◌∙◌, ℕ, List, Option, sym, ap, subst}
+use Rattle.std.specs.Prelude.{option_map}
+use Rattle.std.specs.Option.{option_copied, option_and_then}
+use Rattle.dl_print.specs.Output.{Prints}
+use Rattle.dl_addr.specs.declared.kept.KeptPath.{KeptPath}
+use Rattle.dl_addr.specs.Printing.{named_text}
+use Rattle.dl_addr.specs.Texts.{path_kept, path_named, text_at}
+use Rattle.dl_addr.proofs.path_text.print_path.Goals as goal
+
+-- by the file's own path
+named_by : (p : KeptPath) (name : Option (List ℕ)) → name ≡ option_and_then (text_at p.texts.now) p.file.now.name
+    → option_map (path_named p) name ≡ path_kept p
+unfolding path_kept
+named_by p name is = ap (option_map (path_named p)) is
+
+pub returns-in-Some : goal.returns-in-Some
+returns-in-Some g c =
+    let old = g.W.Write.contents c.args.output.now in
+    let new = g.W.Write.contents c.print_known.new.output in
+    subst (λ (o : Option (List ℕ)). Prints old new c.args.printer.now c.print_known.new.printer
+    (named_text c.args.form o) c.print_known.result)
+    (ap (option_map (path_named c.args.path)) (sym (ap option_copied c.in-Some.is))
+    ∙ named_by c.args.path (option_copied c.text.result) c.text.ensures) c.print_known.ensures
+
+pub returns-in-None : goal.returns-in-None
+returns-in-None g c =
+    let old = g.W.Write.contents c.args.output.now in
+    let new = g.W.Write.contents c.print_no_path.new.output in
+    subst (λ (o : Option (List ℕ)). Prints old new c.args.printer.now c.print_no_path.new.printer
+    (named_text c.args.form o) c.print_no_path.result)
+    (ap (option_map (path_named c.args.path)) (sym (ap option_copied c.in-None.is))
+    ∙ named_by c.args.path (option_copied c.text.result) c.text.ensures) c.print_no_path.ensures
