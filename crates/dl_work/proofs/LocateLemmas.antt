@@ -69,14 +69,15 @@ section_unnamed (Some s) is = absurd (cc is)
 -- what is asked of each address, wherever there is code
 pub asks_all : (w : AddrTexts) (u : AskedWords) (these slice : List Asked) (q : Question) → IsUnderstood w u
     → q.asked.now ≡ slice → slice ≡ these → q.base ≡ u.base → q.code ≡ None → q.style.form ≡ form_in w
-    → q.style.basenames ≡ w.basenames → Asks w these (λ a. true) q
-asks_all w u these slice q i asked sliced own code form basenames = record {
+    → q.style.basenames ≡ w.basenames → option_copied q.style.section ≡ w.section → Asks w these (λ a. true) q
+asks_all w u these slice q i asked sliced own code form basenames section = record {
   asked = asked ∙ sliced;
   understood = i.understood;
   base = i.base ∙ ap Some (sym own);
   code = λ a. ap (λ (c : Option _). is_code (option_copied c) a) code;
   form = form;
   basenames = basenames;
+  section = section;
 }
 
 module _ (held : Text → Option (List ℕ)) (fails : Text → Error → Type 0) (path : Text) (w : AddrTexts) where
@@ -113,13 +114,13 @@ module _ (held : Text → Option (List ℕ)) (fails : Text → Error → Type 0)
       → base_in w ≡ Some base
       → q.asked.now ≡ slice → slice ≡ lines.asked.items → q.base ≡ base
       → ((a : ℕ) → is_code (option_copied q.code) a ≡ (w.all || is_code ranges a)) → q.style.form ≡ form_in w
-      → q.style.basenames ≡ w.basenames
+      → q.style.basenames ≡ w.basenames → option_copied q.style.section ≡ w.section
       → ForBytes (held path) (λ f. (code : Code) × IsCode f (Ok code)
       × ((a : ℕ) → is_code ranges a ≡ live_by false code a))
       → ForBytes (held path) (λ f. OnFile (fails path) path w.section (Addr q) f start now answer)
       → result ≡ located answer lines.no_address → LocatesInFile held fails path w bytes left start now result
   file_done ranges given slice base bytes left start now lines q answer result says words has understood based asked
-      sliced own live form basenames codes does is = λ f known short.
+      sliced own live form basenames section codes does is = λ f known short.
       let k = codes f known short in
       inr (inr (inr (
         k.0,
@@ -136,6 +137,7 @@ module _ (held : Text → Option (List ℕ)) (fails : Text → Error → Type 0)
           code = λ a. live a ∙ (ap (λ (b : Bool). w.all || b) (k.2 a) ∙ all_live w.all k.0 a);
           form = form;
           basenames = basenames;
+          section = section;
         },
         does f known short,
         is,

@@ -65,6 +65,7 @@ pub record Asks (w : AddrTexts) (these : List Asked) (live : ℕ → Bool) (q : 
   pub code : (a : ℕ) → is_code (option_copied q.code) a ≡ live a
   pub form : q.style.form ≡ form_in w
   pub basenames : q.style.basenames ≡ w.basenames
+  pub section : option_copied q.style.section ≡ w.section
 
 -- the first of the words that is no address, that of `--base` before the others
 abbrev pub first_other : (hex : Bool) → List Text → Option Text

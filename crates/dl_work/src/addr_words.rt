@@ -1,6 +1,7 @@
 //! What the words of `addr` ask for.
 ghost use Rattle.std.specs.Prelude.{◌≡◌, IfErr, IfOk, MatchResult, None, Some, is_some, map, option_to_list, true};
 ghost use Rattle.std.specs.List.{list_all};
+ghost use Rattle.std.specs.Option.{option_copied};
 ghost use Rattle.dl_cmd.specs.Job.{addr_words_made};
 ghost use Rattle.dl_cmd.specs.AskedLines.{address_by};
 ghost use Rattle.dl_work.specs.Locate.{AddressesStop, IsFirstOther, WordsStop, are_addresses, asked_in_words, base_in};
@@ -100,7 +101,7 @@ fn form(words: &AddrWords<'_>) -> Form
 
 /// What is asked of a section.
 pub fn question<'q>(
-    words: &AddrWords<'_>,
+    words: &AddrWords<'q>,
     base: u64,
     asked: &'q [Asked],
     code: Option<&'q CodeRanges>,
@@ -110,7 +111,7 @@ pub fn question<'q>(
     ensures code { result.code ≡ code.entry }
     ensures form { result.style.form ≡ form_in (addr_words_made words.now) }
     ensures basenames { result.style.basenames ≡ words.now.basenames }
-    ensures section { result.style.section ≡ None }
+    ensures section { option_copied result.style.section ≡ (addr_words_made words.now).section }
 {
     Question {
         asked,
@@ -119,7 +120,7 @@ pub fn question<'q>(
         style: Style {
             form: form(words),
             basenames: words.basenames,
-            section: None,
+            section: words.section,
         },
     }
 }

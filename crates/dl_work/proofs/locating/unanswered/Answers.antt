@@ -18,7 +18,7 @@ returns-in-Ok g c =
         subst (λ (these : List Asked). HasAsked w these e.0 (g.R.Read.remaining c.given_or_read.new.input) c.in-Ok.lines)
             i.asked (e.2 i.no_lines),
         asks_all w c.args.understood c.in-Ok.lines.asked.items _ c.question.result i q.asked c.as_slice.ensures.value
-            q.base q.code q.form q.basenames,
+            q.base q.code q.form q.basenames q.section,
         c.without_table.ensures,
       ),
     )
