@@ -5,6 +5,7 @@ pub mod Stops
 pub mod Asked
 pub mod Files
 pub mod Tables
+pub mod NotRead
 pub mod Work
 pub mod Located
 pub mod Locate
