@@ -6,6 +6,7 @@ pub mod SectionCuts
 pub mod VisitsGrowth
 pub mod SectionGrowth
 pub mod OneAnswers
+pub mod OnePassing
 pub mod OneCopying
 pub mod DumpFronts
 pub mod UnitsLemmas
@@ -23,6 +24,7 @@ pub mod FindingAnswers
 pub mod SeekerLemmas
 pub mod DumpingLemmas
 pub mod CheckingLemmas
+pub mod PassingLemmas
 pub mod RangeLemmas
 pub mod CopyingVisits
 pub mod CopyingSections

@@ -6,6 +6,7 @@ pub mod Section
 pub mod Visiting
 pub mod SectionText
 pub mod Commands
+pub mod PassedOver
 pub mod SectionLaws
 pub mod CopyLaws
 -- Of contracts inside the crate, and of proofs; no public contract reaches these.
@@ -13,6 +14,7 @@ pub mod UnitPrinted
 pub mod UnitsRead
 pub mod Told
 pub mod Checking
+pub mod PassingOver
 pub mod Dumping
 pub mod RowsTold
 pub mod Finding

@@ -8,8 +8,10 @@ use Rattle.dl_rows.specs.declared.row.Row.{Row}
 use Rattle.dl_look.specs.declared.place.Place.{Place}
 use Rattle.dl_run.specs.declared.fault.RunFault.{RunFault}
 use Rattle.dl_run.specs.declared.fault.RunFault.TheVariants as fault
+use Rattle.dl_run.specs.declared.passing_over.PassedOver.{PassedOver}
 use Rattle.dl_print.specs.declared.summary.Summary.{Summary}
 use Rattle.dl_run.specs.Commands.{Checks, Dumps, IsFound, Finds, Copies}
+use Rattle.dl_run.specs.PassedOver.{PassesOver}
 use Rattle.dl_run.specs.RunOutput.{TellsOut}
 use Rattle.dl_print.specs.ValueText.{Strings}
 use Rattle.dl_run.specs.Section.{Visit, HasUnits, NoUnitBegins, EndsAs, section_visits}
@@ -22,7 +24,7 @@ OneCut =
     → HasUnits order s units2 rest2 → NoUnitBegins order rest2 → (units ≡ units2) × (rest ≡ rest2)
 
 -- an answer for which neither memory nor input nor output is the reason
-abbrev pub IsOfBytes : Result Summary RunFault → Type 0
+abbrev pub IsOfBytes : {A : Type 0} → Result A RunFault → Type 0
 IsOfBytes (Err fault.NoMemory) = ⊥
 IsOfBytes (Err fault.Read) = ⊥
 IsOfBytes (Err (fault.Write out)) = ⊥
@@ -56,6 +58,13 @@ OneChecking =
     (result result2 : Result Summary RunFault) → IsOfBytes result → IsOfBytes result2
     → Checks order limit bytes left start now result → Checks order limit bytes left2 start2 now2 result2
     → result ≡ result2
+
+-- what `passed_over` answers is settled by the bytes and the limit
+abbrev pub OnePassingOver : Type 0
+OnePassingOver =
+    (order : Order) (limit : ℕ) (bytes : List ℕ) (left left2 : Option (List ℕ))
+    (result result2 : Result (Option PassedOver) RunFault) → IsOfBytes result → IsOfBytes result2
+    → PassesOver order limit bytes left result → PassesOver order limit bytes left2 result2 → result ≡ result2
 
 -- one unit alone is the first that has an answer, with one header and one row
 abbrev pub OneFound : Type 0

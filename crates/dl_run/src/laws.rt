@@ -2,7 +2,7 @@
 
 ghost use Rattle.dl_run.specs.CopyLaws.{CopiesAreUnits};
 ghost use Rattle.dl_run.specs.SectionLaws.{OneCut, OneEnd, MoreIsTold, OneChecking, OneFound, OneFinding, OneDumping};
-ghost use Rattle.dl_run.specs.SectionLaws.{OneDump, DumpIsFront, OneCopying, OneCopy, CopyIsFront};
+ghost use Rattle.dl_run.specs.SectionLaws.{OneDump, DumpIsFront, OneCopying, OneCopy, CopyIsFront, OnePassingOver};
 
 /// Bytes are cut into units, up to bytes that no unit begins, in one way alone. Section 6.2.4.
 pub fn one_cut()
@@ -25,6 +25,12 @@ pub fn more_is_told()
 /// reason.
 pub fn one_checking()
     ensures { OneChecking }
+{}
+
+/// What `passed_over` answers is settled by the bytes and the limit, but where memory or input is the
+/// reason.
+pub fn one_passing_over()
+    ensures { OnePassingOver }
 {}
 
 /// What `find` answers is settled by the bytes, the limit and the place, but where memory, input or

@@ -10,6 +10,7 @@ mod finding;
 mod input;
 pub mod laws;
 mod options;
+mod passing_over;
 mod section;
 mod strings;
 
@@ -22,5 +23,6 @@ pub use fault::RunFault;
 pub use finding::find;
 pub use input::{Input, ReadFailed};
 pub use options::{Options, SECTION_LIMIT};
+pub use passing_over::{PassedOver, passed_over};
 pub use section::{Visitor, read_units};
 pub use strings::read_strings;

@@ -1,4 +1,5 @@
 pub mod TableLemmas
+pub mod NotReadLemmas
 pub mod WorkLemmas
 pub mod WordsLemmas
 pub mod LocateLemmas

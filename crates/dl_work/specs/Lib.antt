@@ -6,6 +6,7 @@ pub mod Asked
 pub mod Files
 pub mod Parts
 pub mod Tables
+pub mod NotRead
 pub mod Work
 pub mod Located
 pub mod Locate

@@ -7,7 +7,11 @@ mod command;
 mod debug_file;
 mod files;
 mod locating;
+<<<<<<< HEAD
 mod object_part;
+=======
+mod not_read;
+>>>>>>> d2b7f0d25b2a5e84673be4e6ddb7a83f1865d676
 mod over_file;
 mod over_input;
 mod shown;
@@ -18,5 +22,6 @@ mod working;
 pub use debug_file::{DebugFile, with_debug_file};
 pub use files::FileSource;
 pub use locating::locate;
+pub use not_read::{UnitsNotRead, looked_into, units_not_read};
 pub use stop::{FileFault, Stop};
 pub use working::work;

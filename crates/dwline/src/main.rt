@@ -5,7 +5,7 @@ use dl_addr::Found;
 use dl_cmd::{Job, read_job, word_status};
 use dl_elf::ReadAt;
 use dl_run::{RunFault, read_strings};
-use dl_work::{FileSource, Stop, locate, with_debug_file, work};
+use dl_work::{FileSource, Stop, locate, looked_into, units_not_read, with_debug_file, work};
 use std::alloc::{AllocError, Global};
 use std::fs::File;
 use std::io::{ErrorKind, Write};
@@ -122,20 +122,41 @@ fn read_words(rt: &HostRuntime) -> Result<Vec<String>, Ending<'static>> {
     }
 }
 
+/// Says of the file at this path which units aren't read, where there is one.
+fn tell_not_read(rt: &HostRuntime, path: Option<&str>) {
+    let Some(path) = path else {
+        return;
+    };
+    if let Some(units) = units_not_read(rt.alloc(), &System { rt }, path) {
+        let _ = units.write_line(&mut rt.stderr());
+    }
+}
+
 /// Does what the words say, the program's name first, over the system's files and streams, and answers
-/// the program's status.
+/// the program's status. Where an address has no answer, it is said which units of the file aren't read.
 fn run_words<'a>(rt: &HostRuntime, words: &'a [&'a str]) -> Result<u8, Ending<'a>> {
     let job = read_job(rt.alloc(), words)?;
     let files = System { rt };
     let (alloc, input, output) = (rt.alloc(), &mut rt.stdin(), &mut rt.stdout());
+    let path = job.as_ref().and_then(|job| looked_into(job));
     if let Some(Job::Addr(words)) = &job {
         return match locate(alloc, words, &files, input, output)? {
             Found::All => Ok(0),
-            Found::NotAll => Ok(1),
+            Found::NotAll => {
+                tell_not_read(rt, path);
+                Ok(1)
+            }
         };
     }
-    work(alloc, job, &files, input, output)?;
-    Ok(0)
+    match work(alloc, job, &files, input, output) {
+        Ok(_) => Ok(0),
+        Err(stop) => {
+            if matches!(stop, Stop::Run(RunFault::NotFound)) {
+                tell_not_read(rt, path);
+            }
+            Err(Ending::Stop(stop))
+        }
+    }
 }
 
 /// Says why the program ended, and answers its status.

@@ -1,0 +1,175 @@
+-- The units of other versions, what is told of them, and what is kept of that.
+use Rattle.std.proofs.Common.{◌≡◌, ◌⊎◌, inl, inr, ℕ, ◌<◌, ◌≤◌, ◌+◌, min, max, List, [], ◌∷◌, ◌++◌, length, map, flat_map, Option, Some}
+use Rattle.std.proofs.Common.{None, Ok, Err, Bool, true, false, arith, refl, sym, ap, ap₂, ◌∙◌, subst, append-nil}
+use Rattle.std.proofs.Common.{length-append}
+use Rattle.std.specs.Prelude.{cond, is_some, option_to_list}
+use Rattle.std.specs.List.{Contains}
+use Rattle.std.proofs.lemmas.Bool.{cases_lt}
+use Rattle.std.proofs.lemmas.Grind.{flat_map-append}
+use Rattle.std.proofs.lemmas.List.Sums.{sum_by-cons}
+use Rattle.std.proofs.lemmas.List.Elements.{All-push, Contains-append_left, Contains-push}
+use Rattle.dl_num.specs.declared.fixed.Order.{Order}
+use Rattle.dl_field.specs.HeaderData.{HeaderData}
+use Rattle.dl_head.specs.Header.{foreign_in, header_in}
+use Rattle.dl_rows.specs.declared.row.Row.{Row}
+use Rattle.dl_rows.specs.declared.reader.Event.TheVariants as event
+use Rattle.dl_rows.specs.LineUnit.{ends_open, events_of, own_events, rows_later, unit_rows}
+use Rattle.dl_run.specs.declared.fault.RunFault.{RunFault}
+use Rattle.dl_run.specs.declared.fault.RunFault.TheVariants as fault
+use Rattle.dl_run.specs.declared.passing_over.OtherVersions.{OtherVersions}
+use Rattle.dl_run.specs.declared.passing_over.PassedOver.{PassedOver}
+use Rattle.dl_run.specs.declared.passing_over.VersionRange.{VersionRange}
+use Rattle.dl_print.specs.declared.summary.Summary.{Summary}
+use Rattle.dl_run.specs.PassedOver.{AreTold, IsGreatest, IsLeast, PassesOver, other_versions}
+use Rattle.dl_run.specs.PassingOver.{IsPassedOver, Spans, version_story, version_told, versions_told}
+use Rattle.dl_run.specs.Section.{Visit, of_row, of_end, header_of, header_visit, event_visits, visits, open_visit}
+use Rattle.dl_run.specs.Section.{end_visits, section_visits, summary_of, unit_visits, units_visits}
+use Rattle.dl_run.specs.Visiting.{Ran}
+use Rattle.dl_run.proofs.EventLemmas.{rows_visited}
+
+-- ---- one number more
+
+least_is : (a b : ℕ) → (min a b ≡ a) ⊎ (min a b ≡ b)
+least_is a b = by (cases_lt a b) where
+  by : (a < b) ⊎ (b ≤ a) → (min a b ≡ a) ⊎ (min a b ≡ b)
+  by (inl lt) = inl (omega (arith, lt))
+  by (inr le) = inr (omega (arith, le))
+
+greatest_is : (a b : ℕ) → (max a b ≡ a) ⊎ (max a b ≡ b)
+greatest_is a b = by (cases_lt a b) where
+  by : (a < b) ⊎ (b ≤ a) → (max a b ≡ a) ⊎ (max a b ≡ b)
+  by (inl lt) = inr (omega (arith, lt))
+  by (inr le) = inl (omega (arith, le))
+
+module _ (numbers : List ℕ) (n old : ℕ) where
+  is_in_more : (new : ℕ) → (new ≡ n) ⊎ (new ≡ old) → Contains numbers old → Contains (numbers ++ n ∷ []) new
+  is_in_more new (inl e) has = subst (Contains (numbers ++ n ∷ [])) (sym e) (Contains-push numbers n)
+  is_in_more new (inr e) has =
+      subst (Contains (numbers ++ n ∷ [])) (sym e) (Contains-append_left numbers (n ∷ []) old has)
+
+  pub least_of_more : IsLeast old numbers → IsLeast (min n old) (numbers ++ n ∷ [])
+  least_of_more (has, least) = (
+    is_in_more (min n old) (least_is n old) has,
+    All-push (λ k. min n old ≤ k) numbers n (λ k d lt. let own = least k d lt in omega (arith, own)) (omega arith),
+  )
+
+  pub greatest_of_more : IsGreatest old numbers → IsGreatest (max n old) (numbers ++ n ∷ [])
+  greatest_of_more (has, greatest) = (
+    is_in_more (max n old) (greatest_is n old) has,
+    All-push (λ k. k ≤ max n old) numbers n (λ k d lt. let own = greatest k d lt in omega (arith, own)) (omega arith),
+  )
+
+-- ---- the versions that visits tell
+
+pub told-push : (before : List Visit) (visit : Visit)
+    → versions_told (before ++ visit ∷ []) ≡ versions_told before ++ version_told visit
+told-push before visit =
+    flat_map-append version_told before (visit ∷ [])
+    ∙ ap (λ (l : List ℕ). versions_told before ++ l) (append-nil (version_told visit))
+
+-- a visit that tells none
+pub spans_same : (before : List Visit) (visit : Visit) (range : Option VersionRange) → version_told visit ≡ []
+    → Spans (versions_told before) range → Spans (versions_told (before ++ visit ∷ [])) range
+spans_same before visit range none spans =
+    subst (λ (l : List ℕ). Spans l range) (sym (told-push before visit
+    ∙ ap (λ (l : List ℕ). versions_told before ++ l) none ∙ append-nil (versions_told before))) spans
+
+rows_tell_none : (rows : List Row) → versions_told (map of_row rows) ≡ []
+rows_tell_none [] = refl
+rows_tell_none (r ∷ rows) = rows_tell_none rows
+
+header_tells_none : (offset : ℕ) (h : Option HeaderData) → versions_told (header_visit offset h) ≡ []
+header_tells_none offset None = refl
+header_tells_none offset (Some h) = refl
+
+own_tell_none : (order : Order) (offset : ℕ) (h : Option HeaderData) (parts : Option (HeaderData × List ℕ))
+    → versions_told (flat_map (event_visits offset h) (own_events order parts)) ≡ []
+own_tell_none order offset h None = refl
+own_tell_none order offset h (Some parts) =
+    let rows = rows_later order (Some parts) in
+    flat_map-append version_told (header_visit offset h)
+    (flat_map (event_visits offset h) (map event.Row rows))
+    ∙ ap₂ (λ (a b : List ℕ). a ++ b) (header_tells_none offset h)
+    (ap versions_told (rows_visited offset h rows) ∙ rows_tell_none rows)
+
+events_tell : (order : Order) (offset : ℕ) (h : Option HeaderData) (version : Option ℕ)
+    (parts : Option (HeaderData × List ℕ))
+    → versions_told (flat_map (event_visits offset h) (events_of order version parts)) ≡ option_to_list version
+events_tell order offset h None parts = own_tell_none order offset h parts
+events_tell order offset h (Some version) parts = refl
+
+end_tells_none : (is_open : Bool) (h : Option HeaderData)
+    → versions_told (open_visit is_open ++ of_end h ∷ []) ≡ []
+end_tells_none true h = refl
+end_tells_none false h = refl
+
+unit_tells : (order : Order) (offset : ℕ) (u : List ℕ)
+    → versions_told (unit_visits order offset u) ≡ option_to_list (foreign_in order u)
+unit_tells order offset u =
+    flat_map-append version_told (visits order offset u) (end_visits order u)
+    ∙ ap₂ (λ (a b : List ℕ). a ++ b)
+    (events_tell order offset (header_of order u) (foreign_in order u) (header_in order u))
+    (end_tells_none (ends_open (unit_rows order u)) (header_of order u))
+    ∙ append-nil (option_to_list (foreign_in order u))
+
+units_tell : (order : Order) (offset : ℕ) (units : List (List ℕ))
+    → versions_told (units_visits order offset units) ≡ other_versions order units
+units_tell order offset [] = refl
+units_tell order offset (u ∷ units) =
+    flat_map-append version_told (unit_visits order offset u) (units_visits order (offset + length u) units)
+    ∙ ap₂ (λ (a b : List ℕ). a ++ b) (unit_tells order offset u) (units_tell order (offset + length u) units)
+
+pub section_tells : (order : Order) (units : List (List ℕ))
+    → versions_told (section_visits order units []) ≡ other_versions order units
+section_tells order units = ap versions_told (append-nil (units_visits order 0 units)) ∙ units_tell order 0 units
+
+-- ---- how many there are
+
+of_one : (version : Option ℕ) → cond (is_some version) 1 0 ≡ length (option_to_list version)
+of_one None = refl
+of_one (Some version) = refl
+
+pub versions_counted : (order : Order) (units : List (List ℕ))
+    → (summary_of order units).skipped ≡ length (other_versions order units)
+versions_counted order [] = refl
+versions_counted order (u ∷ units) =
+    sum_by-cons (λ (b : List ℕ). cond (is_some (foreign_in order b)) 1 0) u units
+    ∙ ap₂ (λ (m n : ℕ). m + n) (of_one (foreign_in order u)) (versions_counted order units)
+    ∙ sym (length-append (option_to_list (foreign_in order u)) (other_versions order units))
+
+-- ---- the answer
+
+told : (units : ℕ) (versions : List ℕ) (range : Option VersionRange) (passed : Option PassedOver)
+    → Spans versions range → units ≡ length versions → IsPassedOver units range passed → AreTold versions passed
+told units versions None passed spans many is = subst (λ (p : Option PassedOver). AreTold versions p) (sym is) spans
+told units versions (Some range) passed spans many is =
+    subst (λ (p : Option PassedOver). AreTold versions p) (sym is) (many, spans.0, spans.1)
+
+module _ (order : Order) (limit : ℕ) (bytes : List ℕ) (left : Option (List ℕ)) (first new : OtherVersions)
+    (start now : Option (List ℕ)) where
+  pub counted : (summary : Summary) (passed : Option PassedOver)
+      → Ran version_story order limit bytes left first new start now (Ok summary)
+      → IsPassedOver summary.skipped new.range passed → PassesOver order limit bytes left (Ok passed)
+  counted summary passed (inl (units, ends, settled)) is =
+      let many = ap (λ (s : Summary). s.skipped) ends.5 ∙ versions_counted order units in
+      let spans = subst (λ (l : List ℕ). Spans l new.range) (section_tells order units) settled.tells.1 in
+      (units, summary, ends, told summary.skipped (other_versions order units) new.range passed spans many is)
+  counted summary passed (inr done) is = absurd done.4.tells
+
+  pub failed : (f : RunFault) → Ran version_story order limit bytes left first new start now (Err f)
+      → PassesOver order limit bytes left (Err f)
+  failed (fault.Write out) (units, b, back, has, writes) = absurd (omega (arith, writes.3.0))
+  failed (fault.Damage offset kind) (units, b, back, inl (ends, settled)) = (units, b, back, ends)
+  failed fault.NoMemory (units, b, back, inl (ends, settled)) = (units, b, back, ends)
+  failed fault.Read (units, b, back, inl (ends, settled)) = (units, b, back, ends)
+  failed fault.SectionTooLong (units, b, back, inl (ends, settled)) = (units, b, back, ends)
+  failed fault.NotFound (units, b, back, inl (ends, settled)) = absurd ends
+  failed (fault.ForeignUnit unit) (units, b, back, inl (ends, settled)) = absurd ends
+  failed (fault.Emit unit f) (units, b, back, inl (ends, settled)) = absurd ends
+  failed (fault.Damage offset kind) (units, b, back, inr (has, sound, stops)) = absurd stops.reason
+  failed fault.NoMemory (units, b, back, inr (has, sound, stops)) = absurd stops.reason
+  failed fault.Read (units, b, back, inr (has, sound, stops)) = absurd stops.reason
+  failed fault.SectionTooLong (units, b, back, inr (has, sound, stops)) = absurd stops.reason
+  failed fault.NotFound (units, b, back, inr (has, sound, stops)) = absurd stops.reason
+  failed (fault.ForeignUnit unit) (units, b, back, inr (has, sound, stops)) = absurd stops.reason
+  failed (fault.Emit unit f) (units, b, back, inr (has, sound, stops)) = absurd stops.reason

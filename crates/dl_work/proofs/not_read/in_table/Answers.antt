@@ -1,0 +1,17 @@
+use Rattle.std.proofs.Common.{subst}
+use Rattle.dl_num.specs.declared.fixed.Order.{Order}
+use Rattle.dl_file.specs.LineReader.{line_remaining}
+use Rattle.dl_run.specs.declared.options.TheConstants.{SECTION_LIMIT}
+use Rattle.dl_run.specs.PassedOver.{PassesOver}
+use Rattle.dl_work.proofs.TableLemmas.{reader_known}
+use Rattle.dl_work.proofs.not_read.in_table.Goals as goal
+
+pub returns : goal.returns
+returns g c t given =
+    let (read, consumes, passes) = c.passed_over.ensures in
+    let left = line_remaining g.S.ReadAt.all_bytes c.passed_over.new.input in (
+      read,
+      left,
+      reader_known {S = g.row.S.Denot} g.S.ReadAt.all_bytes c.args.table.line t.line left read given.line consumes,
+      subst (λ (order : Order). PassesOver order SECTION_LIMIT read left c.passed_over.result) given.order passes,
+    )

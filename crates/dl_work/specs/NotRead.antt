@@ -1,0 +1,66 @@
+-- What is said of the units of other versions, which aren't read, where an address has no answer.
+use Rattle.std.specs.Prelude.{◌≡◌, ◌⊎◌, ℕ, ◌==◌, if◌then◌else◌, List, ◌++◌, codes, decimal, Option, Some, None, Result}
+use Rattle.std.specs.Prelude.{Ok, Err}
+use Rattle.std.specs.Io.KnownBytes.{Consumes}
+use Rattle.std.specs.Str.{bytes_eq}
+use Rattle.std.specs.declared.io.Error.{Error}
+use Rattle.dl_cmd.specs.Job.{Request, Text, addr, find}
+use Rattle.dl_file.specs.declared.line_file.Wanted.TheVariants.{LineSection}
+use Rattle.dl_file.specs.LineTable.{HasLineTable, LineTable}
+use Rattle.dl_run.specs.declared.fault.RunFault.{RunFault}
+use Rattle.dl_run.specs.declared.options.TheConstants.{SECTION_LIMIT}
+use Rattle.dl_run.specs.declared.passing_over.PassedOver.{PassedOver}
+use Rattle.dl_run.specs.PassedOver.{PassesOver}
+use Rattle.dl_work.specs.declared.not_read.UnitsNotRead.{UnitsNotRead}
+use Rattle.dl_work.specs.declared.stop.FileFault.{FileFault}
+use Rattle.dl_work.specs.Shown.{shown_word}
+use Rattle.dl_work.specs.Tables.{Refuses, known_bytes}
+
+-- ---- the line on standard error
+
+abbrev pub versions_text : PassedOver → List ℕ
+versions_text units =
+    if units.least == units.greatest then codes "version " ++ decimal units.least
+    else codes "versions " ++ (decimal units.least ++ (codes " to " ++ decimal units.greatest))
+
+abbrev pub units_text : PassedOver → List ℕ
+units_text units =
+    if units.units == 1 then codes "1 unit of " ++ (versions_text units ++ codes " is not read")
+    else decimal units.units ++ (codes " units of " ++ (versions_text units ++ codes " are not read"))
+
+abbrev pub not_read_text : UnitsNotRead → List ℕ
+not_read_text units = shown_word units.path.now ++ codes ": " ++ units_text units.units
+
+-- ---- the units that it tells of
+
+-- nothing is told of a fault
+abbrev pub told_of : Result (Option PassedOver) RunFault → Option PassedOver
+told_of (Ok units) = units
+told_of (Err fault) = None
+
+-- what `passed_over` answers for the bytes of the line section, of which `left` are left
+abbrev pub PassesOverTable : LineTable → Result (Option PassedOver) RunFault → Type 0
+PassesOverTable t answer =
+    (read : List ℕ) × (left : Option (List ℕ)) × Consumes (known_bytes t.line) left read
+    × PassesOver t.order SECTION_LIMIT read left answer
+
+-- what is told of a file with these bytes: nothing where its line section can't be had. fails: the errors that opening
+-- and reading it may give
+abbrev pub IsToldOfFile : (fails : Error → Type 0) (f : List ℕ) → Option PassedOver → Type 0
+IsToldOfFile fails f units =
+    ((fault : FileFault) × Refuses fails f LineSection fault × (units ≡ None))
+    ⊎ ((t : LineTable) × (answer : Result (Option PassedOver) RunFault) × HasLineTable f LineSection (Ok t)
+    × PassesOverTable t answer × (units ≡ told_of answer))
+
+-- ---- the file
+
+-- `-` is no path of a file
+abbrev pub unless_input : Option Text → Option Text
+unless_input None = None
+unless_input (Some path) = if bytes_eq path (codes "-") then None else Some path
+
+-- the path of the ELF file in which addresses are looked up
+abbrev pub looked_into : Request → Option Text
+looked_into (find file big address op section line_str str) = file
+looked_into (addr words) = unless_input words.file
+looked_into other = None
