@@ -12,6 +12,8 @@ mod faults;
 #[cfg(test)]
 mod finding;
 #[cfg(test)]
+mod passing;
+#[cfg(test)]
 mod printing;
 #[cfg(test)]
 mod reading;
