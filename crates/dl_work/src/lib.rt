@@ -7,11 +7,8 @@ mod command;
 mod debug_file;
 mod files;
 mod locating;
-<<<<<<< HEAD
-mod object_part;
-=======
 mod not_read;
->>>>>>> d2b7f0d25b2a5e84673be4e6ddb7a83f1865d676
+mod object_part;
 mod over_file;
 mod over_input;
 mod shown;
