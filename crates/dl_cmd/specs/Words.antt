@@ -57,7 +57,7 @@ request_of name rows =
     if bytes_eq name (codes "check") then Some (check file big) else
     if bytes_eq name (codes "find")
     then Some (find file big (text_of (codes "address") rows) (byte_of (codes "op") rows)
-        (text_of (codes "section") rows) line_str strings) else
+    (text_of (codes "section") rows) line_str strings) else
     if bytes_eq name (codes "copy") then Some (copy file big) else None
 
 -- the same of a reading of the words, which may hold no subcommand

@@ -99,9 +99,20 @@ fn form(words: &AddrWords<'_>) -> Form
     }
 }
 
-/// What is asked of a section.
+/// The section of an object file that they name.
+pub fn part_name<'q>(words: &'q AddrWords<'_>) -> Option<&'q str>
+    ensures { option_copied result ≡ (addr_words_made words.entry.now).section }
+{
+    match words.section {
+        Some(name) => Some(name),
+        None => None,
+    }
+}
+
+/// What is asked of a section, which is of an object file where it is named.
 pub fn question<'q>(
-    words: &AddrWords<'q>,
+    words: &AddrWords<'_>,
+    section: Option<&'q str>,
     base: u64,
     asked: &'q [Asked],
     code: Option<&'q CodeRanges>,
@@ -111,7 +122,7 @@ pub fn question<'q>(
     ensures code { result.code ≡ code.entry }
     ensures form { result.style.form ≡ form_in (addr_words_made words.now) }
     ensures basenames { result.style.basenames ≡ words.now.basenames }
-    ensures section { option_copied result.style.section ≡ (addr_words_made words.now).section }
+    ensures section { result.style.section ≡ section.entry }
 {
     Question {
         asked,
@@ -120,7 +131,7 @@ pub fn question<'q>(
         style: Style {
             form: form(words),
             basenames: words.basenames,
-            section: words.section,
+            section,
         },
     }
 }

@@ -1,5 +1,5 @@
 //! Where the code of an ELF file is, for the look-up.
-ghost use Rattle.std.specs.Prelude.{◌≡◌, ◌≢◌, ◌||◌, [], ℕ, false, IfErr, IfOk, MatchResult, Ok, map};
+ghost use Rattle.std.specs.Prelude.{◌≡◌, ◌≢◌, ◌||◌, [], ℕ, None, false, IfErr, IfOk, MatchResult, Ok, map};
 ghost use Rattle.std.specs.List.{list_any};
 ghost use Rattle.std.specs.Option.{option_copied};
 ghost use Rattle.dl_file.specs.Code.{IsCode};
@@ -68,6 +68,13 @@ pub fn code_of<S: ReadAt>(alloc: Global, file: &S) -> Result<Option<CodeRanges>,
         Err(CodeFault::Elf(fault)) => Err(FileFault::Elf(fault)),
         Err(CodeFault::NoMemory) => Err(FileFault::NoMemory),
     }
+}
+
+/// No ranges, so that there is code everywhere.
+pub fn everywhere<'a>() -> Option<&'a CodeRanges>
+    ensures { result ≡ None }
+{
+    None
 }
 
 /// The ranges that count: none where all sequences are asked for.

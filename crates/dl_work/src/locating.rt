@@ -12,8 +12,8 @@ ghost use Rattle.dl_work.specs.Locate.{HasAsked, InputStops, LocatesFor, Locates
 ghost use Rattle.dl_work.specs.Locate.{RefusesCode, Unanswered, live_by};
 ghost use Rattle.dl_work.specs.Understood.{IsUnderstood};
 
-use crate::addr_words::{AskedWords, asked_words, question, says_section};
-use crate::code::{code_of, live_in};
+use crate::addr_words::{AskedWords, asked_words, part_name, question, says_section};
+use crate::code::{code_of, everywhere, live_in};
 use crate::command::Command;
 use crate::files::{FileSource, open_file};
 use crate::over_file::on_file;
@@ -110,7 +110,8 @@ fn in_section<'a, F: FileSource, R: Read, W: Write>(
         line_str: words.line_str,
         strings: words.strings,
     };
-    let command = Command::Addr(question(words, base, lines.asked.as_slice(), None));
+    let part = part_name(words);
+    let command = Command::Addr(question(words, part, base, lines.asked.as_slice(), everywhere()));
     let answer = on_input(alloc, files, section, command, input, output);
     located(answer, None)
 }
@@ -146,9 +147,15 @@ fn unanswered<'a, R: Read, W: Write>(
 {
     let AskedWords { base, lines } = understood;
     if let Ok(lines) = given_or_read(alloc, words, lines, input) {
-        Command::Addr(question(words, base, lines.asked.as_slice(), None)).without_table(
-            alloc, output,
-        );
+        let section = part_name(words);
+        let command = Command::Addr(question(
+            words,
+            section,
+            base,
+            lines.asked.as_slice(),
+            everywhere(),
+        ));
+        command.without_table(alloc, output);
     }
 }
 
@@ -179,7 +186,13 @@ fn in_file<'a, F: FileSource, R: Read, W: Write>(
     let AskedWords { base, lines } = understood;
     let lines = given_or_read(alloc, words, lines, input)?;
     let live = live_in(words.all, code.as_ref());
-    let command = Command::Addr(question(words, base, lines.asked.as_slice(), live));
+    let command = Command::Addr(question(
+        words,
+        part_name(words),
+        base,
+        lines.asked.as_slice(),
+        live,
+    ));
     let answer = on_file(alloc, path, &file, words.section, command, output);
     located(answer, lines.no_address)
 }

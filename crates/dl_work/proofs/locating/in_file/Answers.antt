@@ -69,7 +69,7 @@ returns g c =
           c.as_slice.ensures.value q.base
           (λ a. ap (λ code. is_code (option_copied code) a) q.code
           ∙ (c.live_in-live.ensures a ∙ ap (λ code. c.args.words.now.all || is_code code a) c.as_ref.ensures.value))
-          q.form q.basenames q.section
+          q.form q.basenames (ap option_copied q.section ∙ c.part_name.ensures)
           c.in-Ok.ensures.code
           (λ f known short. on_file_weaker _ _ c.args.path.now _ (Addr c.question.result) f _ _ _ c.in-Ok.ensures.reads
           (c.on_file-answer.ensures f (c.in-Ok.ensures.bytes ∙ known) short))

@@ -1,4 +1,5 @@
-use Rattle.std.proofs.Common.{inr, List, subst}
+use Rattle.std.proofs.Common.{◌∙◌, ap, inr, List, subst}
+use Rattle.std.specs.Option.{option_copied}
 use Rattle.dl_cmd.specs.Job.{addr_words_made}
 use Rattle.dl_addr.specs.declared.asked.Asked.{Asked}
 use Rattle.dl_work.specs.Locate.{HasAsked}
@@ -18,7 +19,7 @@ returns-in-Ok g c =
         subst (λ (these : List Asked). HasAsked w these e.0 (g.R.Read.remaining c.given_or_read.new.input) c.in-Ok.lines)
             i.asked (e.2 i.no_lines),
         asks_all w c.args.understood c.in-Ok.lines.asked.items _ c.question.result i q.asked c.as_slice.ensures.value
-            q.base q.code q.form q.basenames q.section,
+            q.base (q.code ∙ c.everywhere.ensures) q.form q.basenames (ap option_copied q.section ∙ c.part_name-section.ensures),
         c.without_table.ensures,
       ),
     )
