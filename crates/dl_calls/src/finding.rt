@@ -34,7 +34,7 @@ impl RowSink for Seeker {
 }
 
 /// The row that answers for a place, and the offset of its unit.
-#[derive(Clone, Copy, Debug)]
+#[derive(Clone, Copy)]
 pub struct Found {
     pub row: Row,
     pub unit: u64,

@@ -10,7 +10,7 @@ use dl_rows::Row;
 
 /// What the units of a section come to.
 #[repr(C)]
-#[derive(Clone, Copy, Debug, PartialEq, Eq)]
+#[derive(Clone, Copy)]
 pub struct Counts {
     /// Units of version 5.
     pub units: u64,
@@ -37,7 +37,7 @@ impl Counts {
 
 /// The first fault of a section.
 #[repr(C)]
-#[derive(Clone, Copy, Debug, PartialEq, Eq)]
+#[derive(Clone, Copy)]
 pub struct FaultRecord {
     /// Where it stands, from the section's first byte.
     pub offset: u64,
@@ -72,7 +72,7 @@ impl FaultRecord {
 
 /// A unit that was read whole. Section 6.2.4.
 #[repr(C)]
-#[derive(Clone, Copy, Debug, PartialEq, Eq)]
+#[derive(Clone, Copy)]
 pub struct UnitRecord {
     /// Where it begins, from the section's first byte.
     pub offset: u64,
@@ -93,7 +93,7 @@ pub struct UnitRecord {
 
 /// A row of the matrix. Section 6.2.2.
 #[repr(C)]
-#[derive(Clone, Copy, Debug, PartialEq, Eq)]
+#[derive(Clone, Copy)]
 pub struct RowRecord {
     /// The address of the instruction.
     pub address: u64,

@@ -1,7 +1,7 @@
 //! How a call ends.
 
 /// How a call ends.
-#[derive(Clone, Copy, Debug, PartialEq, Eq)]
+#[derive(Clone, Copy)]
 pub enum Status {
     /// The answer is given.
     Done,

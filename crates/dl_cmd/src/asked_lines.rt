@@ -29,7 +29,7 @@ pub struct AskedLines {
 }
 
 /// The lines that were read so far.
-#[derive(Debug, Drop)]
+#[derive(Drop)]
 struct Lines {
     /// The base of digits without `0x`.
     base: u64,

@@ -17,7 +17,7 @@ pub struct AddressRange {
 }
 
 /// A range, in the order of their starts, with how far it and the ranges before it reach.
-#[derive(Debug, Clone, Copy, PartialEq, Eq)]
+#[derive(Clone, Copy)]
 struct Reach {
     start: u64,
     /// After the last address. At most 2^65.
@@ -25,7 +25,7 @@ struct Reach {
 }
 
 /// Ranges of addresses of code.
-#[derive(Debug, Drop)]
+#[derive(Drop)]
 pub struct CodeRanges {
     reaches: Vec<Reach>,
     ghost rising: { AreRising reaches.items },

@@ -19,7 +19,7 @@ use std::alloc::Global;
 
 /// From this place on, up to that of the next cut, the sequence of this number is the first rising one that
 /// covers; None where none does.
-#[derive(Debug, Clone, Copy, PartialEq, Eq)]
+#[derive(Clone, Copy)]
 pub struct Cut {
     pub place: Place,
     pub sequence: Option<usize>,

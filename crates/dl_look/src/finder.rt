@@ -6,14 +6,14 @@ use crate::place::Place;
 use dl_rows::Row;
 
 /// The look-up of one place in rows that come one after the other, in fixed space.
-#[derive(Debug, Clone, Copy)]
+#[derive(Clone, Copy)]
 pub struct Finder {
     place: Place,
     state: State,
 }
 
 /// What is kept of the rows that came.
-#[derive(Debug, Clone, Copy)]
+#[derive(Clone, Copy)]
 enum State {
     /// The next row is the first of a sequence.
     Start,

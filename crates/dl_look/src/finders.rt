@@ -25,7 +25,7 @@ use std::alloc::Global;
 /// A row takes constant time, and a binary search of the places where it passes over some. The end row of
 /// a rising sequence takes besides what these searches found, and each place that it answers, a little
 /// more than constant time. `build` takes 176 bytes for each place.
-#[derive(Debug, Drop)]
+#[derive(Drop)]
 pub struct Finders {
     /// The places in order.
     slots: Vec<Slot>,
@@ -51,7 +51,7 @@ pub struct Finders {
 }
 
 /// What is kept of the current sequence.
-#[derive(Debug, Clone, Copy)]
+#[derive(Clone, Copy)]
 enum State {
     /// The next row is the first of a sequence.
     Start,

@@ -18,7 +18,7 @@ use std::marker::Model;
 pub struct NoMemory;
 
 /// Rows, with what is kept of each of their sequences that has an end row.
-#[derive(Debug, Drop)]
+#[derive(Drop)]
 pub struct Index {
     rows: Vec<Row>,
     spans: Vec<Span>,
@@ -109,7 +109,7 @@ fn spans_of(alloc: Global, rows: &[Row]) -> Result<Vec<Span>, NoMemory>
 }
 
 /// The rows of an index, seen by counted calls.
-#[derive(Debug, Drop)]
+#[derive(Drop)]
 pub struct Probe<'a> {
     rows: &'a [Row],
     spans: &'a [Span],

@@ -18,7 +18,7 @@ pub struct Answered {
 }
 
 /// The answers of places, and which slots have none.
-#[derive(Debug, Drop)]
+#[derive(Drop)]
 pub struct Ledger {
     links: Links,
     entries: Vec<Option<usize>>,

@@ -6,7 +6,7 @@ use std::alloc::Global;
 
 /// Of each slot one that isn't before it, with no open slot from the one up to before the other; of an
 /// open slot itself. After the slots stands one more, which stays open.
-#[derive(Debug, Drop)]
+#[derive(Drop)]
 pub struct Links {
     next: Vec<usize>,
 }

@@ -7,13 +7,13 @@ use dl_rows::Row;
 ///
 /// Where `begins` says so, the next row's address is looked up among those of code. Each row goes to
 /// `takes`, and those that it says are live go on to `Finder::row` or `Finders::row`.
-#[derive(Debug, Clone, Copy, PartialEq, Eq)]
+#[derive(Clone, Copy)]
 pub struct LiveRows {
     at: At,
 }
 
 /// Where the rows are.
-#[derive(Debug, Clone, Copy, PartialEq, Eq)]
+#[derive(Clone, Copy)]
 enum At {
     /// The next row is the first of a sequence.
     Between,

@@ -4,7 +4,7 @@ use crate::place::Place;
 
 /// Rows one after the other: the places of the first and of the last, and whether no place is below
 /// the one before it.
-#[derive(Debug, Clone, Copy, PartialEq, Eq)]
+#[derive(Clone, Copy)]
 pub struct SequenceSoFar {
     pub first: Place,
     pub last: Place,

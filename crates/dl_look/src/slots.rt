@@ -8,7 +8,7 @@ use crate::place::Place;
 use std::alloc::Global;
 
 /// A place that was given, and its number among these. Slots are ordered by place, then by number.
-#[derive(Debug, Clone, Copy, PartialEq, Eq, PartialOrd, Ord)]
+#[derive(Clone, Copy, PartialEq, Eq, PartialOrd, Ord)]
 pub struct Slot {
     pub place: Place,
     pub number: usize,

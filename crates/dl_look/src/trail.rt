@@ -14,7 +14,7 @@ use crate::slots::{Slot, first_not_below};
 use dl_rows::Row;
 
 /// Slots from `start` on, up to where the next stretch starts, have this row.
-#[derive(Debug, Clone, Copy, PartialEq, Eq)]
+#[derive(Clone, Copy)]
 pub struct Stretch {
     pub start: usize,
     pub row: Row,

@@ -16,7 +16,7 @@ pub enum Order {
 }
 
 /// A number of 1 to 16 bytes, as its bytes come.
-#[derive(Debug, Clone, Copy)]
+#[derive(Clone, Copy)]
 pub struct Fixed {
     len: usize,
     filled: usize,

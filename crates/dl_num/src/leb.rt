@@ -11,7 +11,7 @@ ghost use Rattle.dl_num.specs.LebReader.{signed_of};
 pub struct LebRange;
 
 /// An unsigned number in LEB128, as its bytes come, with any padding.
-#[derive(Debug, Clone, Copy)]
+#[derive(Clone, Copy)]
 pub struct Uleb {
     number: Option<u64>,
     weight: Option<u64>,
@@ -76,7 +76,7 @@ impl Uleb {
 
 /// A signed number in LEB128, as its bytes come, with any padding. It keeps the number's groups and
 /// those of its complement, since padding may make either one large.
-#[derive(Debug, Clone, Copy)]
+#[derive(Clone, Copy)]
 pub struct Sleb {
     number: Option<u64>,
     turned: Option<u64>,
@@ -168,7 +168,7 @@ fn signed(negative: bool, number: Option<u64>, turned: Option<u64>) -> Result<i6
 }
 
 /// A number in LEB128 of any size that nobody reads, as its bytes come.
-#[derive(Debug, Clone, Copy)]
+#[derive(Clone, Copy)]
 pub struct Skip;
 
 impl Skip {

@@ -6,7 +6,7 @@ ghost use Rattle.dl_num.specs.FixedBytes.{size_of, taken_by, IsFull};
 use crate::fixed::Fixed;
 
 /// A number of fixed size that lacks at least one byte.
-#[derive(Debug, Clone, Copy)]
+#[derive(Clone, Copy)]
 pub struct PartialBytes {
     fixed: Fixed,
     ghost lacks: { length (taken_by fixed) < size_of fixed },

@@ -8,7 +8,7 @@ use crate::fixed::Order;
 use crate::partial_bytes::PartialBytes;
 
 /// A number of 1, 2, 4 or 8 bytes that lacks at least one byte.
-#[derive(Debug, Clone, Copy)]
+#[derive(Clone, Copy)]
 pub struct PartialNumber {
     operand: PartialBytes,
     ghost size: { IsTrue (is_number_size (operand_size operand)) },

@@ -10,7 +10,7 @@ use dl_num::Order;
 use dl_rows::{Operation, operation_at_front};
 
 /// What stands at the front of the bytes of a program.
-#[derive(Clone, Copy, Debug, PartialEq, Eq)]
+#[derive(Clone, Copy)]
 pub enum Front {
     /// A whole sequence.
     Sequence(Sequence),
@@ -21,7 +21,7 @@ pub enum Front {
 }
 
 /// A whole sequence.
-#[derive(Clone, Copy, Debug, PartialEq, Eq)]
+#[derive(Clone, Copy)]
 pub struct Sequence {
     /// How many bytes it has.
     pub len: usize,

@@ -3,7 +3,7 @@ ghost use Rattle.std.specs.Prelude.{◌≡◌, ◌≤◌, ◌<◌, ◌^◌};
 ghost use Rattle.dl_reloc.specs.Changes.{change_size, changed, width_bytes};
 
 /// How many bits a relocation writes.
-#[derive(Clone, Copy, Debug, PartialEq, Eq)]
+#[derive(Clone, Copy)]
 pub enum Width {
     Bits8,
     Bits16,
@@ -13,7 +13,7 @@ pub enum Width {
 }
 
 /// What a relocation does with the sum of its symbol's value and its addend.
-#[derive(Clone, Copy, Debug, PartialEq, Eq)]
+#[derive(Clone, Copy)]
 pub enum Change {
     /// It changes nothing.
     Nothing,

@@ -8,7 +8,7 @@ use crate::target::{Class, Form, Target};
 use dl_num::Order;
 
 /// An entry of a relocation section. The names that the ABI gives the fields stand in parentheses.
-#[derive(Clone, Copy, Debug, PartialEq, Eq)]
+#[derive(Clone, Copy)]
 pub struct Entry {
     /// The place that it changes, in bytes from the section's first (r_offset).
     pub offset: u64,

@@ -20,7 +20,7 @@ use dl_num::{
 };
 
 /// A standard opcode with an unsigned operand.
-#[derive(Debug, Clone, Copy)]
+#[derive(Clone, Copy)]
 pub enum UnsignedOpcode {
     AdvancePc,
     SetFile,

@@ -8,7 +8,7 @@ use crate::row::Row;
 use dl_head::Params;
 
 /// The registers of the line number state machine. Address and line wrap at 2^64.
-#[derive(Debug, Clone, Copy)]
+#[derive(Clone, Copy)]
 pub struct Registers {
     address: u64,
     file: u64,

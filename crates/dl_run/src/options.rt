@@ -6,7 +6,7 @@ use dl_num::Order;
 pub const SECTION_LIMIT: u64 = 1 << 44;
 
 /// What a command over a section is told besides the bytes.
-#[derive(Debug, Clone, Copy)]
+#[derive(Clone, Copy)]
 pub struct Options<'a> {
     /// The order of the section's numbers.
     pub order: Order,

@@ -25,7 +25,7 @@ pub struct PassedOver {
 }
 
 /// The least of some versions and the greatest.
-#[derive(Clone, Copy, Debug, PartialEq, Eq)]
+#[derive(Clone, Copy)]
 struct VersionRange {
     least: u16,
     greatest: u16,

@@ -7,7 +7,7 @@ ghost use Rattle.dl_zlib.specs.Zlib.{sums};
 const TURN: usize = 5552;
 
 /// Both sums of Adler-32 over the bytes so far, modulo 65521.
-#[derive(Debug, Clone, Copy)]
+#[derive(Clone, Copy)]
 pub struct Adler {
     pub low: u32,
     pub high: u32,
