@@ -1,6 +1,6 @@
 //! Addresses that come on an input, one a line.
-use dl_addr::Asked;
-use dl_cmd::read_asked;
+use dl_asked::read_asked;
+use dl_look::Asked;
 use dl_run::RunFault;
 use std::alloc::Global;
 use std::process::Abort;

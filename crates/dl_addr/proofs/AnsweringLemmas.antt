@@ -19,14 +19,14 @@ use Rattle.dl_run.specs.declared.fault.RunFault.TheVariants as fault
 use Rattle.dl_run.specs.Section.{Visit, HasBegun, EndsAs, of_end, section_visits}
 use Rattle.dl_run.specs.Visiting.{Ran, VisitorStops}
 use Rattle.dl_run.proofs.SectionLemmas.{has_front}
-use Rattle.dl_addr.specs.declared.asked.Asked.{Asked}
+use Rattle.dl_look.specs.declared.asked.Asked.{Asked}
 use Rattle.dl_addr.specs.declared.locating.Locator.{Locator}
 use Rattle.dl_addr.specs.declared.question.Found.{Found}
 use Rattle.dl_addr.specs.declared.question.Found.TheVariants as found
 use Rattle.dl_addr.specs.declared.question.Question.{Question}
 use Rattle.dl_addr.specs.declared.style.Style.{Style}
 use Rattle.dl_addr.specs.Answers.{located_seen}
-use Rattle.dl_addr.specs.Asked.{looked_up, place_of}
+use Rattle.dl_look.specs.Asked.{looked_up, place_of}
 use Rattle.dl_addr.specs.Code.{is_code}
 use Rattle.dl_addr.specs.Commands.{Ends, Locates, answer_in, answer_lines, found_in}
 use Rattle.dl_addr.specs.Knowing.{Knows}

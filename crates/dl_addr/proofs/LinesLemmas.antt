@@ -10,7 +10,7 @@ use Rattle.dl_print.specs.declared.fault.WriteFault.{WriteFault}
 use Rattle.dl_print.specs.Printed.{Printed}
 use Rattle.dl_print.specs.Output.{HasPrinted, PrintsMore, TellsOut}
 use Rattle.dl_print.proofs.Outs.{HasPrinted-out, TellsOut-more}
-use Rattle.dl_addr.specs.declared.asked.Asked.{Asked}
+use Rattle.dl_look.specs.declared.asked.Asked.{Asked}
 use Rattle.dl_addr.specs.declared.question.Found.{Found}
 use Rattle.dl_addr.specs.declared.question.Found.TheVariants as found
 use Rattle.dl_addr.specs.declared.style.Style.{Style}

@@ -12,11 +12,11 @@ use Rattle.dl_run.specs.declared.fault.RunFault.{RunFault}
 use Rattle.dl_run.specs.declared.fault.RunFault.TheVariants as fault
 use Rattle.dl_print.specs.declared.summary.Summary.{Summary}
 use Rattle.dl_run.specs.Section.{EndsAs, HasUnits}
-use Rattle.dl_addr.specs.declared.asked.Asked.{Asked}
+use Rattle.dl_look.specs.declared.asked.Asked.{Asked}
 use Rattle.dl_addr.specs.declared.question.Found.{Found}
 use Rattle.dl_addr.specs.declared.question.Found.TheVariants as found
 use Rattle.dl_addr.specs.declared.question.Question.{Question}
-use Rattle.dl_addr.specs.Asked.{looked_up, place_of}
+use Rattle.dl_look.specs.Asked.{looked_up, place_of}
 use Rattle.dl_addr.specs.Code.{is_code}
 use Rattle.dl_addr.specs.Locations.{Located, located, asked_line}
 

@@ -1,5 +1,4 @@
 -- What the public contracts say rests on these, in reading order.
-pub mod Asked
 pub mod Paths
 pub mod Parts
 pub mod Json

@@ -12,7 +12,7 @@ use Rattle.dl_print.specs.Digits.{hexadecimal_of}
 use Rattle.dl_print.specs.Text.{line}
 use Rattle.dl_print.specs.ValueText.{Strings}
 use Rattle.dl_run.specs.Section.{header_of}
-use Rattle.dl_addr.specs.declared.asked.Asked.{Asked}
+use Rattle.dl_look.specs.declared.asked.Asked.{Asked}
 use Rattle.dl_addr.specs.declared.style.Form.{Form}
 use Rattle.dl_addr.specs.declared.style.Form.TheVariants.{Location, AddressAndLocation, Json}
 use Rattle.dl_addr.specs.declared.style.Style.{Style}

@@ -13,7 +13,7 @@ use Rattle.dl_print.specs.declared.summary.Summary.{Summary}
 use Rattle.dl_run.specs.declared.fault.RunFault.{RunFault}
 use Rattle.dl_run.specs.declared.fault.RunFault.TheVariants as fault
 use Rattle.dl_run.specs.Section.{Visit}
-use Rattle.dl_addr.specs.declared.asked.Asked.{Asked}
+use Rattle.dl_look.specs.declared.asked.Asked.{Asked}
 use Rattle.dl_addr.specs.declared.locating.Locator.{Locator}
 use Rattle.dl_addr.specs.declared.question.Found.{Found}
 use Rattle.dl_addr.specs.declared.question.Found.TheVariants as found
@@ -22,7 +22,7 @@ use Rattle.dl_addr.specs.declared.style.Form.{Form}
 use Rattle.dl_addr.specs.declared.style.Form.TheVariants.{Location, AddressAndLocation, Json}
 use Rattle.dl_addr.specs.declared.style.Style.{Style}
 use Rattle.dl_addr.specs.Answers.{SeenRow, located_seen}
-use Rattle.dl_addr.specs.Asked.{place_of}
+use Rattle.dl_look.specs.Asked.{place_of}
 use Rattle.dl_addr.specs.Locating.{located_by}
 use Rattle.dl_addr.specs.Locations.{asked_text, no_row_text, row_text}
 use Rattle.dl_addr.specs.Shown.{no_path_text, shown, text_in}

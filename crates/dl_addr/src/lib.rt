@@ -2,7 +2,6 @@
 #![tactic(auto)]
 
 mod answering;
-mod asked;
 mod basename;
 mod json_line;
 mod json_text;
@@ -18,7 +17,7 @@ mod style;
 mod texts;
 
 pub use answering::addr;
-pub use asked::Asked;
+pub use dl_look::Asked;
 pub use path::{Path, path_of, slash_after};
 pub use question::{Found, Question};
 pub use style::{Form, Style};

@@ -8,12 +8,12 @@ ghost use Rattle.dl_addr.specs.Locations.{address_text, asked_text, column_text,
 ghost use Rattle.dl_addr.specs.Texts.{path_kept};
 ghost use Rattle.dl_addr.specs.Printing.{named_text, seen_line, seen_text};
 
-use crate::asked::Asked;
 use crate::json_line::{print_json_asked, print_json_row};
 use crate::kept::KeptPath;
 use crate::locating::Answer;
 use crate::path_text::print_path;
 use crate::style::{Form, Style};
+use dl_look::Asked;
 use dl_print::{Printer, WriteFault};
 use dl_rows::Row;
 use std::io::Write;

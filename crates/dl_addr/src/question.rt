@@ -1,8 +1,7 @@
 //! What is asked of a section.
 
-use crate::asked::Asked;
 use crate::style::Style;
-use dl_look::CodeRanges;
+use dl_look::{Asked, CodeRanges};
 
 /// What is asked of a section.
 #[derive(Clone, Copy)]

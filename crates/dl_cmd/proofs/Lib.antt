@@ -1,7 +1,2 @@
 pub mod CommandLineLemmas
 pub mod AddressLemmas
-pub mod LineTexts
-pub mod WordLemmas
-pub mod LineCuts
-pub mod LineLemmas
-pub mod WorkedLines

@@ -3,8 +3,3 @@ pub mod CommandLine
 pub mod Job
 pub mod Words
 pub mod Address
-pub mod AskedLines
--- Of contracts inside the crate, and of proofs; no public contract reaches these.
-pub mod Line
-pub mod LineWord
-pub mod LinesRead

@@ -1,20 +1,11 @@
-//! The program's commands, and the words of the command line that ask for them, with the addresses that words
-//! and lines say.
+//! The words of the command line that ask for the program's commands, and the addresses that words say.
 #![tactic(auto)]
 
 mod address;
-mod asked_lines;
 mod command_line;
 mod job;
-mod line;
-mod line_word;
 mod words;
 
-pub use address::{read_address, read_hex_address};
-pub use asked_lines::{AskedLines, OtherLine, read_asked};
-pub use dl_run::{
-    Options, RunFault, SECTION_LIMIT, Summary, check, copy, dump, find, read_strings,
-};
+pub use address::{digit_of, read_address, read_hex_address};
 pub use job::{AddrWords, Job};
-pub use line_word::LineWord;
 pub use words::{read_job, word_status};

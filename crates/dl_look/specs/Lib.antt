@@ -7,6 +7,7 @@ pub mod LiveRows
 pub mod Laws
 pub mod Spans
 pub mod Units
+pub mod Asked
 -- For what a value stands; public contracts name this, and don't rest on how it is said.
 pub mod Slots
 pub mod Ledgers

@@ -1,6 +1,7 @@
 //! Look-up of addresses in the rows of a line table. Section 6.2.2.
 #![tactic(auto)]
 
+mod asked;
 mod code_ranges;
 mod cuts;
 mod finder;
@@ -17,6 +18,7 @@ mod sequence_so_far;
 mod slots;
 mod trail;
 
+pub use asked::Asked;
 pub use code_ranges::{AddressRange, CodeRanges};
 pub use finder::Finder;
 pub use finders::Finders;

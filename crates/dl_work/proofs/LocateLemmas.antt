@@ -13,8 +13,8 @@ use Rattle.dl_look.specs.declared.code_ranges.CodeRanges.{CodeRanges}
 use Rattle.dl_cmd.specs.Job.{AddrTexts, Text}
 use Rattle.dl_print.specs.declared.summary.Summary.{Summary}
 use Rattle.dl_addr.specs.Code.{is_code}
-use Rattle.dl_addr.specs.declared.asked.Asked.{Asked}
-use Rattle.dl_cmd.specs.declared.asked_lines.AskedLines.{AskedLines}
+use Rattle.dl_look.specs.declared.asked.Asked.{Asked}
+use Rattle.dl_asked.specs.declared.asked_lines.AskedLines.{AskedLines}
 use Rattle.dl_addr.specs.declared.question.Found.{Found}
 use Rattle.dl_addr.specs.declared.question.Question.{Question}
 use Rattle.dl_work.specs.declared.command.Command.TheVariants.{Addr}

@@ -9,8 +9,8 @@ use Rattle.std.specs.List.{list_all}
 use Rattle.std.proofs.lemmas.List.Folds.{list_all-map}
 use Rattle.dl_cmd.specs.Job.{AddrTexts, Text}
 use Rattle.dl_run.specs.declared.fault.RunFault.TheVariants as fault
-use Rattle.dl_addr.specs.declared.asked.Asked.{Asked}
-use Rattle.dl_cmd.specs.AskedLines.{address_by}
+use Rattle.dl_look.specs.declared.asked.Asked.{Asked}
+use Rattle.dl_asked.specs.AskedLines.{address_by}
 use Rattle.dl_work.specs.declared.stop.Stop.{Stop}
 use Rattle.dl_work.specs.declared.stop.Stop.TheVariants.{NotAddress, Run}
 use Rattle.dl_work.specs.Locate.{AddressesStop, IsFirstOther, WordsStop, base_in, first_other}

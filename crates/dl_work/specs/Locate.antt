@@ -20,10 +20,10 @@ use Rattle.dl_cmd.specs.Job.{AddrTexts, Text, addr}
 use Rattle.dl_run.specs.declared.fault.RunFault.{RunFault}
 use Rattle.dl_run.specs.declared.fault.RunFault.TheVariants as fault
 use Rattle.dl_print.specs.declared.summary.Summary.{Summary}
-use Rattle.dl_cmd.specs.AskedLines.{IsAsked, StopsAsking, address_by}
+use Rattle.dl_asked.specs.AskedLines.{IsAsked, StopsAsking, address_by}
 use Rattle.dl_addr.specs.Code.{is_code}
-use Rattle.dl_addr.specs.declared.asked.Asked.{Asked}
-use Rattle.dl_cmd.specs.declared.asked_lines.AskedLines.{AskedLines}
+use Rattle.dl_look.specs.declared.asked.Asked.{Asked}
+use Rattle.dl_asked.specs.declared.asked_lines.AskedLines.{AskedLines}
 use Rattle.dl_addr.specs.declared.question.Found.{Found}
 use Rattle.dl_addr.specs.declared.question.Question.{Question}
 use Rattle.dl_addr.specs.declared.style.Form.{Form}

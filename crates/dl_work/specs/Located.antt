@@ -2,7 +2,7 @@
 use Rattle.std.specs.Prelude.{Bool, true, false, if◌then◌else◌, Option, Some, None, Result, Ok, Err}
 use Rattle.dl_print.specs.declared.summary.Summary.{Summary}
 use Rattle.dl_run.specs.declared.fault.RunFault.TheVariants.{NotFound}
-use Rattle.dl_cmd.specs.declared.asked_lines.OtherLine.{OtherLine}
+use Rattle.dl_asked.specs.declared.asked_lines.OtherLine.{OtherLine}
 use Rattle.dl_addr.specs.declared.question.Found.{Found}
 use Rattle.dl_addr.specs.declared.question.Found.TheVariants.{All, NotAll}
 use Rattle.dl_work.specs.declared.stop.Stop.{Stop}

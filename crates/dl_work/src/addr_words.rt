@@ -3,13 +3,14 @@ ghost use Rattle.std.specs.Prelude.{◌≡◌, IfErr, IfOk, MatchResult, None, S
 ghost use Rattle.std.specs.List.{list_all};
 ghost use Rattle.std.specs.Option.{option_copied};
 ghost use Rattle.dl_cmd.specs.Job.{addr_words_made};
-ghost use Rattle.dl_cmd.specs.AskedLines.{address_by};
+ghost use Rattle.dl_asked.specs.AskedLines.{address_by};
 ghost use Rattle.dl_work.specs.Locate.{AddressesStop, IsFirstOther, WordsStop, are_addresses, asked_in_words, base_in};
 ghost use Rattle.dl_work.specs.Locate.{form_in, says_section};
 
 use crate::stop::Stop;
 use dl_addr::{Asked, Form, Question, Style};
-use dl_cmd::{AddrWords, AskedLines, read_address, read_hex_address};
+use dl_asked::AskedLines;
+use dl_cmd::{AddrWords, read_address, read_hex_address};
 use dl_look::CodeRanges;
 use dl_run::RunFault;
 use std::alloc::Global;

@@ -6,7 +6,7 @@ ghost use Rattle.dl_work.specs.Stops.{stop_line, stop_status, stop_text};
 
 use crate::debug_file::DebugFile;
 use crate::shown::{Shown, ShownBytes};
-use dl_cmd::OtherLine;
+use dl_asked::OtherLine;
 use dl_elf::{ElfFault, SectionName};
 use dl_file::ReadFault;
 use dl_run::RunFault;

@@ -3,7 +3,7 @@ use Rattle.std.specs.Prelude.{unwrap_or}
 use Rattle.std.specs.Option.{option_and_then}
 use Rattle.dl_look.specs.declared.place.Place.{Place}
 use Rattle.dl_addr.specs.Answers.{SeenRow, located_seen}
-use Rattle.dl_addr.specs.Asked.{last}
+use Rattle.dl_look.specs.Asked.{last}
 use Rattle.dl_addr.specs.Locating.{located_by}
 use Rattle.dl_addr.proofs.answering.answer_to.Goals as goal
 

@@ -1,6 +1,6 @@
 -- The places of those so far.
 use Rattle.std.proofs.Common.{◌≡◌, ◌≤◌, length, map, take, vec_len, vec_capacity}
-use Rattle.dl_addr.specs.Asked.{looked_up}
+use Rattle.dl_look.specs.Asked.{looked_up}
 use Rattle.dl_addr.proofs.answering.places_of.Given as goal
 
 abbrev pub invariant-loop-each : goal.invariant-loop-each

@@ -4,9 +4,9 @@ use Rattle.std.proofs.lemmas.Option.{slice_get-get_or, slice_get-map}
 use Rattle.std.proofs.lemmas.Result.{err_from_is_err_and}
 use Rattle.std.specs.Prelude.{is_some}
 use Rattle.dl_print.proofs.Outs.{HasPrinted-nothing}
-use Rattle.dl_addr.specs.declared.asked.Asked.{Asked}
+use Rattle.dl_look.specs.declared.asked.Asked.{Asked}
 use Rattle.dl_addr.specs.Answers.{answer_seen}
-use Rattle.dl_addr.specs.Asked.{looked_up}
+use Rattle.dl_look.specs.Asked.{looked_up}
 use Rattle.dl_addr.specs.Printing.{answer_for}
 use Rattle.dl_addr.proofs.LinesLemmas.{all_out, found_all, found_more, loses_all, loses_line, prints_line, some_mapped}
 use Rattle.dl_addr.proofs.answering.print_all.Goals as goal

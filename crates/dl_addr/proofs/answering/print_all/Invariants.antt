@@ -3,7 +3,7 @@ use Rattle.std.proofs.Common.{◌≡◌, ◌-◌, ◌≤◌, ℕ, List, Option, 
 use Rattle.dl_print.specs.Output.{PrintsMore}
 use Rattle.dl_run.specs.Section.{Visit}
 use Rattle.dl_addr.specs.declared.locating.Locator.{Locator}
-use Rattle.dl_addr.specs.Asked.{looked_up}
+use Rattle.dl_look.specs.Asked.{looked_up}
 use Rattle.dl_addr.specs.Locating.{IsMadeFor, Locating}
 use Rattle.dl_addr.specs.Printing.{answer_for, found_by, seen_lines}
 use Rattle.dl_addr.proofs.answering.print_all.Given as goal

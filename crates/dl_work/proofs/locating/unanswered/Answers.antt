@@ -1,7 +1,7 @@
 use Rattle.std.proofs.Common.{◌∙◌, ap, inr, List, subst}
 use Rattle.std.specs.Option.{option_copied}
 use Rattle.dl_cmd.specs.Job.{addr_words_made}
-use Rattle.dl_addr.specs.declared.asked.Asked.{Asked}
+use Rattle.dl_look.specs.declared.asked.Asked.{Asked}
 use Rattle.dl_work.specs.Locate.{HasAsked}
 use Rattle.dl_work.proofs.LocateLemmas.{asks_all}
 use Rattle.dl_work.proofs.locating.unanswered.Goals as goal

@@ -1,0 +1,9 @@
+//! The addresses that are asked for on an input, one a line.
+#![tactic(auto)]
+
+mod asked_lines;
+mod line;
+mod line_word;
+
+pub use asked_lines::{AskedLines, OtherLine, read_asked};
+pub use line_word::LineWord;
