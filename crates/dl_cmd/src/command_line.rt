@@ -1,12 +1,12 @@
 //! The command line: its subcommands and arguments, with their help.
 ghost use Rattle.std.specs.Prelude.{IfOk, [], ◌∷◌, codes};
-ghost use Rattle.clap.specs.Words.{App};
+ghost use Rattle.clap.specs.Words.{App, Rule, with_rule, with_subcommand};
 ghost use Rattle.dl_cmd.specs.CommandLine.{Excludes, IsApp, IsRule, IsWantedUnless, big_rule, file_rule, line_str_rule};
 ghost use Rattle.dl_cmd.specs.CommandLine.{address_rule, op_rule, addr_file_rule, addresses_rule, base_rule, exe_rule};
 ghost use Rattle.dl_cmd.specs.CommandLine.{Wants, json_rule, section_of_file_rule, section_rule, str_rule};
 ghost use Rattle.dl_cmd.specs.CommandLine.{switch_rule, letter_rule, addr_app, with_addresses, with_input};
 ghost use Rattle.dl_cmd.specs.CommandLine.{with_printing, with_strings, dump_app, check_app, find_app, copy_app};
-ghost use Rattle.dl_cmd.specs.CommandLine.{command_line};
+ghost use Rattle.dl_cmd.specs.CommandLine.{command_line, top_app};
 
 use clap::{Arg, ArgAction, Command};
 use std::alloc::{AllocError, Global};
@@ -188,20 +188,42 @@ fn letter<'a>(alloc: Global, id: &'a str, short: char, help: &'a str) -> Arg<'a>
     switch(alloc, id, help).short(short)
 }
 
+/// The command with one argument more, where that could be made.
+fn with_arg<'a>(
+    command: Command<'a>,
+    arg: Result<Arg<'a>, AllocError>,
+) -> Result<Command<'a>, AllocError>
+    ensures { (a : App) (r : Rule) → IsApp a command.entry → IfOk arg.entry (IsRule r)
+        → IfOk result (IsApp (with_rule a r)) }
+{
+    command.arg(arg?)
+}
+
+/// The command line with one subcommand more, where that could be made.
+fn with_command<'a>(
+    line: Command<'a>,
+    command: Result<Command<'a>, AllocError>,
+) -> Result<Command<'a>, AllocError>
+    ensures { (a sub : App) → IsApp a line.entry → IfOk command.entry (IsApp sub)
+        → IfOk result (IsApp (with_subcommand a sub.top)) }
+{
+    line.subcommand(command?)
+}
+
 fn add_input<'a>(alloc: Global, command: Command<'a>) -> Result<Command<'a>, AllocError>
     ensures { (a : App) → IsApp a command.entry → IfOk result (IsApp (with_input a)) }
 {
-    command.arg(big(alloc))?.arg(file(alloc)?)
+    with_arg(command.arg(big(alloc))?, file(alloc))
 }
 
 fn add_strings<'a>(alloc: Global, command: Command<'a>) -> Result<Command<'a>, AllocError>
     ensures { (a : App) → IsApp a command.entry → IfOk result (IsApp (with_strings a)) }
 {
-    command
+    let command = command
         .arg(big(alloc))?
         .arg(line_str(alloc))?
-        .arg(strings(alloc))?
-        .arg(file_with_strings(alloc)?)
+        .arg(strings(alloc))?;
+    with_arg(command, file_with_strings(alloc))
 }
 
 fn dump<'a>(alloc: Global) -> Result<Command<'a>, AllocError>
@@ -234,8 +256,8 @@ fn find<'a>(alloc: Global) -> Result<Command<'a>, AllocError>
         .about("Print the source file and the row of an address")
         .after_help("Examples:\n  dwline find 0x401136 program\n  dwline find 4198710 < debug_line")
         .arg(address(alloc))?
-        .arg(op(alloc))?
-        .arg(section_of_file(alloc)?)?;
+        .arg(op(alloc))?;
+    let command = with_arg(command, section_of_file(alloc))?;
     add_strings(alloc, command)
 }
 
@@ -255,7 +277,7 @@ fn copy<'a>(alloc: Global) -> Result<Command<'a>, AllocError>
 fn add_printing<'a>(alloc: Global, command: Command<'a>) -> Result<Command<'a>, AllocError>
     ensures { (a : App) → IsApp a command.entry → IfOk result (IsApp (with_printing a)) }
 {
-    command
+    let command = command
         .arg(letter(
             alloc,
             "addresses",
@@ -267,14 +289,14 @@ fn add_printing<'a>(alloc: Global, command: Command<'a>) -> Result<Command<'a>, 
             "basenames",
             's',
             "Print the last component of each path alone",
-        ))?
-        .arg(json(alloc)?)
+        ))?;
+    with_arg(command, json(alloc))
 }
 
 fn add_addresses<'a>(alloc: Global, command: Command<'a>) -> Result<Command<'a>, AllocError>
     ensures { (a : App) → IsApp a command.entry → IfOk result (IsApp (with_addresses a)) }
 {
-    add_printing(alloc, command)?
+    let command = add_printing(alloc, command)?
         .arg(switch(alloc, "hex", "Read digits without 0x as hexadecimal too"))?
         .arg(base(alloc))?
         .arg(switch(
@@ -286,9 +308,8 @@ fn add_addresses<'a>(alloc: Global, command: Command<'a>) -> Result<Command<'a>,
         .arg(big(alloc))?
         .arg(line_str(alloc))?
         .arg(strings(alloc))?
-        .arg(exe(alloc))?
-        .arg(addr_file(alloc)?)?
-        .arg(addresses(alloc))
+        .arg(exe(alloc))?;
+    with_arg(command, addr_file(alloc))?.arg(addresses(alloc))
 }
 
 fn addr<'a>(alloc: Global) -> Result<Command<'a>, AllocError>
@@ -304,9 +325,9 @@ fn addr<'a>(alloc: Global) -> Result<Command<'a>, AllocError>
     add_addresses(alloc, command)
 }
 
-/// The whole command line.
-pub fn make_command_line<'a>(alloc: Global) -> Result<Command<'a>, AllocError>
-    ensures { IfOk result (IsApp command_line) }
+/// The command line without its subcommands, of which one is wanted.
+fn program<'a>(alloc: Global) -> Command<'a>
+    ensures { IsApp top_app result }
 {
     Command::new(alloc, "dwline")
         .about(
@@ -320,9 +341,15 @@ pub fn make_command_line<'a>(alloc: Global) -> Result<Command<'a>, AllocError>
         )
         .version(VERSION)
         .subcommand_required(true)
-        .subcommand(addr(alloc)?)?
-        .subcommand(dump(alloc)?)?
-        .subcommand(check(alloc)?)?
-        .subcommand(find(alloc)?)?
-        .subcommand(copy(alloc)?)
+}
+
+/// The whole command line.
+pub fn make_command_line<'a>(alloc: Global) -> Result<Command<'a>, AllocError>
+    ensures { IfOk result (IsApp command_line) }
+{
+    let line = with_command(program(alloc), addr(alloc))?;
+    let line = with_command(line, dump(alloc))?;
+    let line = with_command(line, check(alloc))?;
+    let line = with_command(line, find(alloc))?;
+    with_command(line, copy(alloc))
 }

@@ -334,8 +334,27 @@ pub fn read_units<R: Read, W: Write, V: Visitor<W>>(
         → Ran V.story options.now.order options.now.limit bs (R.remaining input.new) visitor.old visitor.new
         (W.contents output.old) (W.contents output.new) result) }
 {
-    let mut buffer = Input::new();
     let mut units = SectionUnits::new(alloc, options.order);
+    read_pieces(&mut units, input, output, options, visitor)
+}
+
+/// Reads the units piece by piece, of which nothing was read yet.
+fn read_pieces<R: Read, W: Write, V: Visitor<W>>(
+    units: &mut SectionUnits,
+    input: &mut R,
+    output: &mut W,
+    options: &Options<'_>,
+    visitor: &mut V,
+) -> Result<Summary, RunFault>
+    requires limit { options.now.limit ≤ SECTION_LIMIT }
+    requires begun { UnitsAre options.now.order units.old [] [] [] }
+    ensures { (bs : List ℕ) × Consumes (R.remaining input.old) (R.remaining input.new) bs
+        × (V.story.tells visitor.old visitor.old (W.contents output.old) (W.contents output.old) []
+        → Appends (W.contents output.old) (W.contents output.old) (V.story.text visitor.old [])
+        → Ran V.story options.now.order options.now.limit bs (R.remaining input.new) visitor.old visitor.new
+        (W.contents output.old) (W.contents output.new) result) }
+{
+    let mut buffer = Input::new();
     let mut left = options.limit;
     'pieces: loop {
         let Ok(piece) = buffer.next_piece(input) else {
@@ -345,7 +364,7 @@ pub fn read_units<R: Read, W: Write, V: Visitor<W>>(
             return units.finish();
         }
         let within = front(piece, left);
-        match work_through(&mut units, output, visitor, within)? {
+        match work_through(units, output, visitor, within)? {
             Flow::On => {}
             Flow::Stop => return Ok(units.summary),
         }

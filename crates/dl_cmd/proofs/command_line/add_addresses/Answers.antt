@@ -11,6 +11,6 @@ returns c = λ a none.
     let five = IsApp-arg _ _ _ _ _ c.in_ok-arg-5.ensures four c.big.ensures in
     let six = IsApp-arg _ _ _ _ _ c.in_ok-arg-6.ensures five c.line_str.ensures in
     let seven = IsApp-arg _ _ _ _ _ c.in_ok-arg-7.ensures six c.strings.ensures in
-    let eight = IsApp-arg _ _ _ _ _ c.in_ok-arg-8.ensures seven c.exe.ensures in
-    let nine = IsApp-arg _ _ _ _ _ c.in_ok-arg-9.ensures eight c.in_ok-addr_file.ensures.rule in
-    IfOk-weaker _ _ _ (λ r added. IsApp-arg _ _ r _ _ added nine c.addresses.ensures) c.arg-10.ensures
+    let eight = IsApp-arg _ _ _ _ _ c.in_ok-command.ensures seven c.exe.ensures in
+    let nine = c.in_ok-with_arg.ensures _ _ eight c.addr_file.ensures.rule in
+    IfOk-weaker _ _ _ (λ r added. IsApp-arg _ _ r _ _ added nine c.addresses.ensures) c.arg-9.ensures

@@ -5,7 +5,7 @@ use Rattle.std.proofs.lemmas.List.{nil_from_length}
 use Rattle.std.proofs.KnownBytes.{Consumes-nil}
 use Rattle.dl_run.proofs.SectionLemmas.{none_begins, none_refused}
 use Rattle.dl_run.proofs.ReadLemmas.{failed_read, at_end, stops, wants_no_more, too_long, reads_on}
-use Rattle.dl_run.proofs.section.read_units.Goals as goal
+use Rattle.dl_run.proofs.section.read_pieces.Goals as goal
 
 pub pieces-init : goal.pieces-init
 pieces-init g c = record {
@@ -15,7 +15,7 @@ pieces-init g c = record {
   told = λ tells out. record {
     units = [];
     b = [];
-    are = c.new-units.ensures.units;
+    are = c.requires.begun;
     none = none_begins c.args.options.now.order;
     sound = none_refused c.args.options.now.order;
     settled = record { tells = tells; out = out };
@@ -43,7 +43,7 @@ returns-then-is_empty g c =
     (nil_from_length c.in-Ok.piece.now (eqb-true (length c.in-Ok.piece.now) 0 (sym c.is_empty.ensures
     ∙ c.if-is_empty.true)))) c.finish.result
     (λ units b are none sound. c.finish.ensures c.args.options.now.order l.invariant.t units b are none sound
-    (omega (arith, c.requires, l.invariant.within)))
+    (omega (arith, c.requires.limit, l.invariant.within)))
 
 pub returns-in_err-work_through : goal.returns-in_err-work_through
 returns-in_err-work_through g c =
@@ -59,7 +59,7 @@ returns-in_err-work_through g c =
     (g.W.Write.contents c.work_through.new.output) c.work_through.new.units _ _ c.front-within.ensures.front
     (λ told. c.in_err-work_through.ensures c.args.options.now.order l.invariant.t told.units told.b
     c.args.visitor.now (g.W.Write.contents c.args.output.now) told.are
-    (omega (arith, c.requires, l.invariant.within, c.front-within.ensures.short)) told.settled.tells))
+    (omega (arith, c.requires.limit, l.invariant.within, c.front-within.ensures.short)) told.settled.tells))
 
 pub returns-in-Stop : goal.returns-in-Stop
 returns-in-Stop g c =
@@ -72,7 +72,7 @@ returns-in-Stop g c =
     c.in-Stop.is c.front-within.ensures.front
     (λ told. c.in_ok-work_through.ensures c.args.options.now.order l.invariant.t told.units told.b
     c.args.visitor.now (g.W.Write.contents c.args.output.now) told.are
-    (omega (arith, c.requires, l.invariant.within, c.front-within.ensures.short)) told.settled.tells)
+    (omega (arith, c.requires.limit, l.invariant.within, c.front-within.ensures.short)) told.settled.tells)
 
 pub returns-then-within-piece : goal.returns-then-within-piece
 returns-then-within-piece g c =
@@ -85,7 +85,7 @@ returns-then-within-piece g c =
     c.in-On.is c.front-within.ensures.front
     (λ told. c.in_ok-work_through.ensures c.args.options.now.order l.invariant.t told.units told.b
     c.args.visitor.now (g.W.Write.contents c.args.output.now) told.are
-    (omega (arith, c.requires, l.invariant.within, c.front-within.ensures.short)) told.settled.tells)
+    (omega (arith, c.requires.limit, l.invariant.within, c.front-within.ensures.short)) told.settled.tells)
     c.if-within-piece.true
 
 pub pieces-preserved : goal.pieces-preserved
@@ -99,5 +99,5 @@ pieces-preserved g c =
     c.in-On.is c.front-within.ensures.front
     (λ told. c.in_ok-work_through.ensures c.args.options.now.order l.invariant.t told.units told.b
     c.args.visitor.now (g.W.Write.contents c.args.output.now) told.are
-    (omega (arith, c.requires, l.invariant.within, c.front-within.ensures.short)) told.settled.tells)
+    (omega (arith, c.requires.limit, l.invariant.within, c.front-within.ensures.short)) told.settled.tells)
     (c.front-within.ensures.whole (omega (arith, c.if-within-piece.false)))

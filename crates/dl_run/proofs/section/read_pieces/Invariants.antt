@@ -1,5 +1,5 @@
 use Rattle.dl_run.proofs.ReadLemmas.{ReadSo}
-use Rattle.dl_run.proofs.section.read_units.Given as goal
+use Rattle.dl_run.proofs.section.read_pieces.Given as goal
 
 abbrev pub invariant-pieces : goal.invariant-pieces
 invariant-pieces g l =
