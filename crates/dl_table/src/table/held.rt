@@ -3,6 +3,7 @@
 ghost use Rattle.std.specs.Prelude.{◌≡◌, ◌-◌, ◌^◌, ◌≤◌, length, min};
 ghost use Rattle.dl_table.specs.Held.{cells_held, held_end, pooled, value_held, value_lent};
 
+use std::fmt;
 use std::marker::Model;
 use std::mem::size_of;
 
@@ -35,7 +36,7 @@ impl ValueRef<'_> {
 
 /// A number of 64 bits as eight bytes, which may stand anywhere in memory. So a `StoredValue` takes 17
 /// bytes; it would take 24 with a `u64`, whose place has to be a multiple of eight.
-#[derive(Debug, Drop)]
+#[derive(Drop)]
 pub struct Word {
     bytes: [u8; 8],
 }
@@ -64,6 +65,13 @@ impl Word {
         ensures { result ≡ self.now }
     {
         u64::from_le_bytes(self.bytes)
+    }
+}
+
+/// As the number.
+impl fmt::Debug for Word {
+    fn fmt<W: fmt::Write>(&self, f: &mut fmt::Formatter<W>) -> fmt::Result {
+        fmt::Debug::fmt(&self.get(), f)
     }
 }
 
