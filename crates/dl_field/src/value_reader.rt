@@ -11,7 +11,7 @@ use crate::sixteen::Sixteen;
 use crate::table_reader::{TablePhase, TableReader};
 use crate::value_phase::{Cursor, ValuePhase};
 use dl_num::{LebRange, Order, PartialNumber, Uleb};
-use dl_table::{Extent, FaultKind, Form, Format, StoredValue};
+use dl_table::{Extent, FaultKind, Form, Format, StoredValue, Word};
 
 impl TableReader {
     ghost use Rattle.dl_field.specs.declared.table_reader.TablePhase.TheVariants as phase;
@@ -103,7 +103,7 @@ impl TableReader {
     {
         if byte == 0 {
             let len = self.pool.len() - start;
-            return self.enter(at, StoredValue::Text(Extent { start, len }), format);
+            return self.enter(at, StoredValue::Text(Extent::new(start, len)), format);
         }
         if self.pool.push(byte).is_err() {
             return FieldStep::NoMemory;
@@ -166,7 +166,7 @@ impl TableReader {
         let len = size as usize;
         if self
             .values
-            .push(StoredValue::Block(Extent { start, len }))
+            .push(StoredValue::Block(Extent::new(start, len)))
             .is_err()
         {
             return FieldStep::NoMemory;
@@ -258,9 +258,9 @@ pub(crate) fn held_number(form: Form, number: u64) -> StoredValue
     ensures value { (pool : List ℕ) → value_held pool result ≡ number_value form number }
 {
     match form {
-        Form::LineStrp => StoredValue::LineStr(number),
-        Form::Strp => StoredValue::Str(number),
-        Form::StrpSup => StoredValue::StrSup(number),
-        _ => StoredValue::Number(number),
+        Form::LineStrp => StoredValue::LineStr(Word::new(number)),
+        Form::Strp => StoredValue::Str(Word::new(number)),
+        Form::StrpSup => StoredValue::StrSup(Word::new(number)),
+        _ => StoredValue::Number(Word::new(number)),
     }
 }

@@ -13,7 +13,7 @@ use crate::value_phase::{Cursor, ValuePhase};
 use crate::value_reader::held_number;
 use dl_num::{Order, PartialNumber, Uleb, fixed_at_front, short_uleb_at_front, uleb_at_front};
 use dl_table::text::first_zero;
-use dl_table::{Extent, Form, Format, StoredValue};
+use dl_table::{Extent, Form, Format, StoredValue, Word};
 
 /// The number or offset of this form that the bytes begin with, and the bytes after it, where none of its
 /// bytes has come. None where the bytes end before it does.
@@ -44,7 +44,7 @@ fn short_leb_at_front(number: Uleb, bytes: &[u8]) -> Option<(StoredValue, &[u8])
         return None;
     }
     let (number, tail) = short_uleb_at_front(bytes)?;
-    Some((StoredValue::Number(number), tail))
+    Some((StoredValue::Number(Word::new(number)), tail))
 }
 
 /// The sixteen bytes that the bytes begin with, and the bytes after them, where none of them has come. None
@@ -82,7 +82,7 @@ fn value_at_front(value: ValuePhase, order: Order, bytes: &[u8]) -> Option<(Stor
         ValuePhase::Number(form, number) => number_at_front(form, number, order, bytes),
         ValuePhase::Leb(number) => {
             let (number, tail) = leb_at_front(number, bytes)?;
-            Some((StoredValue::Number(number), tail))
+            Some((StoredValue::Number(Word::new(number)), tail))
         }
         ValuePhase::Data16(sixteen) => sixteen_at_front(sixteen, bytes),
         _ => None,
@@ -240,7 +240,7 @@ impl TableReader {
         if self.pool.extend_from_slice(&bytes[..len]).is_err() {
             return None;
         }
-        match self.enter(at, StoredValue::Text(Extent { start, len }), format) {
+        match self.enter(at, StoredValue::Text(Extent::new(start, len)), format) {
             FieldStep::Ends => Some(&bytes[len + 1..]),
             _ => None,
         }
@@ -272,7 +272,7 @@ impl TableReader {
         if self.pool.extend_from_slice(&bytes[..len]).is_err() {
             return None;
         }
-        match self.enter(at, StoredValue::Block(Extent { start, len }), format) {
+        match self.enter(at, StoredValue::Block(Extent::new(start, len)), format) {
             FieldStep::Ends => Some(&bytes[len..]),
             _ => None,
         }

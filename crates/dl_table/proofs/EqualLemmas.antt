@@ -1,40 +1,35 @@
 -- Tables are equal where their formats, pairs and values are.
 use Rattle.std.proofs.Common.{◌≡◌, ℕ, ◌+◌, ◌/◌, ◌<◌, List, length, take, map, get_or, refl, sym, ap, ◌∙◌, arith}
 use Rattle.std.specs.List.{flat_map}
-use Rattle.std.proofs.lemmas.List.{length-map, get_or-map, take_more_same}
+use Rattle.std.proofs.lemmas.List.{length-map, take_more_same}
 use Rattle.dl_table.specs.declared.form.Format.{Format}
 use Rattle.dl_table.specs.declared.table.Pair.{Pair}
 use Rattle.dl_table.specs.declared.table.held.StoredValue.{StoredValue}
 use Rattle.dl_table.specs.Value.{Value, number}
 use Rattle.dl_table.specs.TableData.{TableData}
 use Rattle.dl_table.specs.Held.{table_of, value_held, IsWhole}
+use Rattle.dl_table.proofs.HeldLemmas.{value_at}
 use Rattle.dl_table.proofs.RowLemmas.{joined_rows}
 
 module _ (pool other : List ℕ) (values others : List StoredValue) where
-  at_left : (i : ℕ) (d : StoredValue) → i < length values
-      → get_or (map (value_held pool) values) i (number 0) ≡ value_held pool (get_or values i d)
-  at_left i d h = get_or-map (value_held pool) values i d (number 0) h
-
-  at_right : (i : ℕ) (d : StoredValue) → i < length others
-      → get_or (map (value_held other) others) i (number 0) ≡ value_held other (get_or others i d)
-  at_right i d h = get_or-map (value_held other) others i d (number 0) h
-
   -- one value more is the same
-  pub same_values-more : (i : ℕ) (d e : StoredValue) → i < length values → i < length others
+  pub same_values-more : (i : ℕ) {h k : StoredValue} → i < length values → i < length others
+      → h ≡ get_or values i h → k ≡ get_or others i k
       → take i (map (value_held pool) values) ≡ take i (map (value_held other) others)
-      → value_held pool (get_or values i d) ≡ value_held other (get_or others i e)
+      → value_held pool h ≡ value_held other k
       → take (i + 1) (map (value_held pool) values) ≡ take (i + 1) (map (value_held other) others)
-  same_values-more i d e h k before now =
+  same_values-more i within other_within is other_is before now =
       take_more_same (map (value_held pool) values) (map (value_held other) others) i (number 0)
       (omega (arith, length-map values (value_held pool))) (omega (arith, length-map others (value_held other))) before
-      (at_left i d h ∙ now ∙ sym (at_right i e k))
+      (value_at pool values i within is ∙ now ∙ sym (value_at other others i other_within other_is))
 
   -- the same values are the same at each place
-  pub same_values-at : (i : ℕ) (d e : StoredValue) → i < length values → i < length others
-      → map (value_held pool) values ≡ map (value_held other) others
-      → value_held pool (get_or values i d) ≡ value_held other (get_or others i e)
-  same_values-at i d e h k all =
-      sym (at_left i d h) ∙ ap (λ (vs : List Value). get_or vs i (number 0)) all ∙ at_right i e k
+  pub same_values-at : (i : ℕ) {h k : StoredValue} → i < length values → i < length others
+      → h ≡ get_or values i h → k ≡ get_or others i k
+      → map (value_held pool) values ≡ map (value_held other) others → value_held pool h ≡ value_held other k
+  same_values-at i within other_within is other_is all =
+      sym (value_at pool values i within is) ∙ ap (λ (vs : List Value). get_or vs i (number 0)) all
+      ∙ value_at other others i other_within other_is
 
   -- a table has the values of its entries
   pub table_of-same : (format other_format : Format) (pairs other_pairs : List Pair) → format ≡ other_format

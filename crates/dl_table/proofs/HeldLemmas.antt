@@ -1,14 +1,14 @@
 -- Where the bytes of values end in a pool.
 use Rattle.std.proofs.Common.{◌≡◌, ℕ, zero, suc, ◌+◌, ◌*◌, ◌/◌, ◌<◌, ◌≤◌, List, [], ◌∷◌, ◌++◌, length, take, drop, map}
-use Rattle.std.proofs.Common.{get_or, max, refl, ap, arith}
+use Rattle.std.proofs.Common.{get_or, max, refl, sym, ap, arith, ◌∙◌}
 use Rattle.std.proofs.lemmas.List.{take-append-drop, take-append-le, drop-append-le, length-drop}
-use Rattle.std.proofs.lemmas.List.{map-append, take_more, append_assoc}
+use Rattle.std.proofs.lemmas.List.{map-append, take_more, append_assoc, get_or-map}
 use Rattle.dl_table.specs.declared.table.held.StoredValue.{StoredValue}
 use Rattle.std.proofs.Math.Nat.{mul-le-mul_right, div-mul-le_self, mul-div_cancel}
 use Rattle.dl_table.specs.declared.table.held.Extent.{Extent}
 use Rattle.dl_table.specs.declared.table.held.ValueRef.{ValueRef}
 use Rattle.dl_table.specs.declared.table.held.StoredValue.TheVariants as held
-use Rattle.dl_table.specs.Value.{Value, text, block}
+use Rattle.dl_table.specs.Value.{Value, text, number, block}
 use Rattle.dl_table.specs.Held.{bytes_at, held_end, value_held, value_lent, values_end, rows, IsWhole}
 
 pub values_end-append : (xs ys : List StoredValue) → values_end (xs ++ ys) ≡ max (values_end xs) (values_end ys)
@@ -22,11 +22,21 @@ values_end-push xs y = omega (arith, values_end-append xs (y ∷ []))
 pub ruleset pushes = (values_end-push)
 
 -- no value ends after all of them
-pub held_end-le : (xs : List StoredValue) (i : ℕ) (d : StoredValue) → i < length xs
+held_end-at : (xs : List StoredValue) (i : ℕ) (d : StoredValue) → i < length xs
     → held_end (get_or xs i d) ≤ values_end xs
-held_end-le [] i d h = absurd (omega arith)
-held_end-le (x ∷ xs) zero d h = omega arith
-held_end-le (x ∷ xs) (suc i) d h = let e = held_end-le xs i d (omega arith) in omega arith
+held_end-at [] i d h = absurd (omega arith)
+held_end-at (x ∷ xs) zero d h = omega arith
+held_end-at (x ∷ xs) (suc i) d h = let e = held_end-at xs i d (omega arith) in omega arith
+
+pub held_end-le : (xs : List StoredValue) (i : ℕ) {h : StoredValue} → i < length xs → h ≡ get_or xs i h
+    → held_end h ≤ values_end xs
+held_end-le xs i {h} k is = omega (arith, held_end-at xs i h k, ap held_end is)
+
+-- the value at a place, by what is held there
+pub value_at : (pool : List ℕ) (xs : List StoredValue) (i : ℕ) {h : StoredValue} → i < length xs → h ≡ get_or xs i h
+    → get_or (map (value_held pool) xs) i (number 0) ≡ value_held pool h
+value_at pool xs i {h} k is =
+    get_or-map (value_held pool) xs i h (number 0) k ∙ ap (value_held pool) (sym is)
 
 pub values_end-take : (xs : List StoredValue) (n : ℕ) → values_end (take n xs) ≤ values_end xs
 values_end-take xs n =

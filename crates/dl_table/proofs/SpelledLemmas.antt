@@ -2,7 +2,7 @@
 use Rattle.std.proofs.Common.{◌≡◌, ℕ, zero, suc, ◌+◌, ◌*◌, ◌<◌, ◌≤◌, List, [], length, take, drop, map, get_or, refl}
 use Rattle.std.proofs.Common.{sym, ap, ◌∙◌, arith}
 use Rattle.std.specs.List.{flat_map}
-use Rattle.std.proofs.lemmas.List.{drop_more, drop_all, drop-drop, length-append, length-map, get_or-map, take-map}
+use Rattle.std.proofs.lemmas.List.{drop_more, drop_all, drop-drop, length-append, length-map, take-map}
 use Rattle.std.proofs.lemmas.List.{drop-map}
 use Rattle.std.proofs.Math.Nat.{zero-mul}
 use Rattle.dl_num.specs.declared.fixed.Order.{Order}
@@ -13,6 +13,7 @@ use Rattle.dl_table.specs.Value.{Value, number}
 use Rattle.dl_table.specs.Held.{rows, value_held}
 use Rattle.dl_table.specs.Written.{entry_bytes, value_bytes}
 use Rattle.dl_table.proofs.BuildLemmas.{no_pair}
+use Rattle.dl_table.proofs.HeldLemmas.{value_at}
 
 -- the parts from a place on: the part there, and those after it
 pub parts_from : {A : Type 0} (f : A → List ℕ) (xs : List A) (i : ℕ) (d : A) → i < length xs
@@ -25,17 +26,15 @@ parts_end f xs i h = rw (drop_all i xs h) refl
 
 -- the same of an entry, whose parts are the values in the forms of their pairs
 pub entry_from : (order : Order) (format : Format) (pairs : List Pair) (held : List StoredValue) (pool : List ℕ) (i : ℕ)
-    (d : StoredValue) → i < length pairs → i < length held
+    {h : StoredValue} → i < length pairs → i < length held → h ≡ get_or held i h
     → length (entry_bytes order format (drop i pairs) (drop i (map (value_held pool) held)))
-    ≡ length (value_bytes order format (get_or pairs i no_pair).form (value_held pool (get_or held i d)))
+    ≡ length (value_bytes order format (get_or pairs i no_pair).form (value_held pool h))
     + length (entry_bytes order format (drop (i + 1) pairs) (drop (i + 1) (map (value_held pool) held)))
-entry_from order format pairs held pool i d h k =
+entry_from order format pairs held pool i {h} in_pairs in_held is =
     let all = map (value_held pool) held in
     let within : i < length all = omega (arith, length-map held (value_held pool)) in
-    let at : get_or all i (number 0) ≡ value_held pool (get_or held i d) =
-    get_or-map (value_held pool) held i d (number 0) k in
-    rw (drop_more pairs i no_pair h, drop_more all i (number 0) within, at)
-    (length-append (value_bytes order format (get_or pairs i no_pair).form (value_held pool (get_or held i d)))
+    rw (drop_more pairs i no_pair in_pairs, drop_more all i (number 0) within, value_at pool held i in_held is)
+    (length-append (value_bytes order format (get_or pairs i no_pair).form (value_held pool h))
     (entry_bytes order format (drop (i + 1) pairs) (drop (i + 1) all)))
 
 pub entry_end : (order : Order) (format : Format) (pairs : List Pair) (values : List Value) (i : ℕ) → length pairs ≤ i

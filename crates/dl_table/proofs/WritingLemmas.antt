@@ -3,7 +3,7 @@ use Rattle.std.proofs.Common.{◌≡◌, ℕ, ◌+◌, ◌-◌, ◌/◌, ◌<◌
 use Rattle.std.proofs.Common.{Result, MatchResult, refl, arith, sym, ap, subst, ◌∙◌, append_assoc, length-append}
 use Rattle.std.proofs.Math.Seq.{take-add, take-append-add}
 use Rattle.std.proofs.lemmas.List.{take_rest, take-append-le, take_more, take-append-drop, length-map, length-take}
-use Rattle.std.proofs.lemmas.List.{get_or-map, append-nil}
+use Rattle.std.proofs.lemmas.List.{append-nil}
 use Rattle.std.specs.List.{flat_map}
 use Rattle.std.proofs.lemmas.Grind.{flat_map-append}
 use Rattle.std.specs.Io.KnownBytes.{Appends}
@@ -17,7 +17,7 @@ use Rattle.dl_num.specs.Shortest.{shortest_uleb}
 use Rattle.dl_table.specs.Held.{table_of, value_held}
 use Rattle.dl_table.specs.Spelled.{format_parts, table_parts}
 use Rattle.dl_table.specs.Written.{entry_bytes, table_bytes, value_bytes}
-use Rattle.dl_table.proofs.HeldLemmas.{length-rows}
+use Rattle.dl_table.proofs.HeldLemmas.{length-rows, value_at}
 use Rattle.dl_table.proofs.BuildLemmas.{no_pair}
 use Rattle.dl_table.specs.declared.counted.HeadWrite.{HeadWrite}
 use Rattle.dl_table.specs.declared.counted.HeadWrite.TheVariants.{TooLong, Write}
@@ -102,30 +102,26 @@ module _ (order : Order) (format : Format) where
       ∙ sym (append_assoc (value_bytes order format p.form v) (entry_bytes order format ps vs)
       (entry_bytes order format qs ws))
 
-  pub entry_more : (pairs : List Pair) (pool : List ℕ) (held : List StoredValue) (i : ℕ) (d : StoredValue)
-      → i < length pairs → i < length held → entry_bytes order format (take (i + 1) pairs)
+  pub entry_more : (pairs : List Pair) (pool : List ℕ) (held : List StoredValue) (i : ℕ) {h : StoredValue}
+      → i < length pairs → i < length held → h ≡ get_or held i h → entry_bytes order format (take (i + 1) pairs)
       (take (i + 1) (map (value_held pool) held)) ≡ entry_bytes order format (take i pairs)
       (take i (map (value_held pool) held)) ++ value_bytes order format (get_or pairs i no_pair).form
-      (value_held pool (get_or held i d))
-  entry_more pairs pool held i d h k =
+      (value_held pool h)
+  entry_more pairs pool held i {h} in_pairs in_held is =
       let all = map (value_held pool) held in
       let within : i < length all = omega (arith, length-map held (value_held pool)) in
-      let at : get_or all i (number 0) ≡ value_held pool (get_or held i d) =
-      get_or-map (value_held pool) held i d (number 0) k in
       let even : length (take i pairs) ≡ length (take i all) = omega (arith, length-take i pairs, length-take i all) in
-      let last = append-nil (value_bytes order format (get_or pairs i no_pair).form
-      (value_held pool (get_or held i d))) in
-      rw (take_more pairs i no_pair h, take_more all i (number 0) within, at)
-      (entry-append (take i pairs) (get_or pairs i no_pair ∷ []) (take i all) (value_held pool (get_or held i d) ∷ [])
-      even ∙ ap (λ (l : List ℕ). entry_bytes order format (take i pairs) (take i all) ++ l) last)
+      let last = append-nil (value_bytes order format (get_or pairs i no_pair).form (value_held pool h)) in
+      rw (take_more pairs i no_pair in_pairs, take_more all i (number 0) within, value_at pool held i in_held is)
+      (entry-append (take i pairs) (get_or pairs i no_pair ∷ []) (take i all) (value_held pool h ∷ []) even ∙ ap (λ (l : List ℕ). entry_bytes order format (take i pairs) (take i all) ++ l) last)
 
-  pub entry_split : (pairs : List Pair) (pool : List ℕ) (held : List StoredValue) (i : ℕ) (d : StoredValue)
-      → i < length pairs → length held ≡ length pairs
+  pub entry_split : (pairs : List Pair) (pool : List ℕ) (held : List StoredValue) (i : ℕ) {h : StoredValue}
+      → i < length pairs → length held ≡ length pairs → h ≡ get_or held i h
       → entry_bytes order format pairs (map (value_held pool) held)
       ≡ entry_bytes order format (take i pairs) (take i (map (value_held pool) held))
-      ++ value_bytes order format (get_or pairs i no_pair).form (value_held pool (get_or held i d))
+      ++ value_bytes order format (get_or pairs i no_pair).form (value_held pool h)
       ++ entry_bytes order format (drop (i + 1) pairs) (drop (i + 1) (map (value_held pool) held))
-  entry_split pairs pool held i d h same =
+  entry_split pairs pool held i in_pairs same is =
       let all = map (value_held pool) held in
       let even : length (take (i + 1) pairs) ≡ length (take (i + 1) all) =
       omega (arith, length-take (i + 1) pairs, length-take (i + 1) all, length-map held (value_held pool)) in
@@ -134,7 +130,7 @@ module _ (order : Order) (format : Format) where
       (sym (take-append-drop (i + 1) all))
       ∙ entry-append (take (i + 1) pairs) (drop (i + 1) pairs) (take (i + 1) all) (drop (i + 1) all) even
       ∙ ap (λ (l : List ℕ). l ++ entry_bytes order format (drop (i + 1) pairs) (drop (i + 1) all))
-      (entry_more pairs pool held i d h (omega arith))
+      (entry_more pairs pool held i in_pairs (omega arith) is)
 
 pub table_parts-is : (order : Order) (format : Format) (pairs : List Pair) (values : List StoredValue) (pool : List ℕ)
     → table_parts order format pairs values pool ≡ table_bytes order (table_of format pairs values pool)

@@ -10,5 +10,5 @@ pub mod text;
 pub use counted::HeadWrite;
 pub use fault::{BuildFault, FaultKind};
 pub use form::{Form, Format};
-pub use table::{Entry, Extent, Pair, StoredValue, Table, ValueRef, Values};
+pub use table::{Entry, Extent, Pair, StoredValue, Table, ValueRef, Values, Word};
 pub use text::text_at;

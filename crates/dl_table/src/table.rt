@@ -20,7 +20,7 @@ mod writing;
 use crate::fault::BuildFault;
 use crate::form::{Form, Format};
 pub use entry::{Entry, Values};
-pub use held::{Extent, StoredValue, ValueRef};
+pub use held::{Extent, StoredValue, ValueRef, Word};
 use std::alloc::{AllocError, Global};
 use std::marker::Model;
 

@@ -9,7 +9,7 @@ ghost use Rattle.dl_table.specs.Building.{fits_block};
 
 use crate::form::{Form, Format};
 use crate::table::Pair;
-use crate::table::held::{Extent, StoredValue, ValueRef};
+use crate::table::held::{Extent, StoredValue, ValueRef, Word};
 
 /// The least place at which a value is missing, is too many, or isn't one of its pair's form.
 pub fn wrong_value(format: Format, pairs: &[Pair], values: &[ValueRef<'_>]) -> Option<usize>
@@ -141,10 +141,10 @@ fn pool_bytes(pool: &mut Vec<u8>, value: &ValueRef<'_>) -> StoredValue
 {
     match *value {
         ValueRef::Text(bytes) => StoredValue::Text(copy(pool, bytes)),
-        ValueRef::LineStr(offset) => StoredValue::LineStr(offset),
-        ValueRef::Str(offset) => StoredValue::Str(offset),
-        ValueRef::StrSup(offset) => StoredValue::StrSup(offset),
-        ValueRef::Number(number) => StoredValue::Number(number),
+        ValueRef::LineStr(offset) => StoredValue::LineStr(Word::new(offset)),
+        ValueRef::Str(offset) => StoredValue::Str(Word::new(offset)),
+        ValueRef::StrSup(offset) => StoredValue::StrSup(Word::new(offset)),
+        ValueRef::Number(number) => StoredValue::Number(Word::new(number)),
         ValueRef::Block(bytes) => StoredValue::Block(copy(pool, bytes)),
         ValueRef::Data16(bytes) => StoredValue::Data16(bytes),
     }
@@ -161,8 +161,5 @@ fn copy(pool: &mut Vec<u8>, bytes: &[u8]) -> Extent
 {
     let start = pool.len();
     pool.extend_from_slice(bytes).unwrap();
-    Extent {
-        start,
-        len: bytes.len(),
-    }
+    Extent::new(start, bytes.len())
 }

@@ -66,17 +66,17 @@ fn same_values(
         return false;
     }
     for (i, held) in values.iter().enumerate() {
-        if !is_same_value(*held, pool, others[i], other_pool) {
+        if !is_same_value(held, pool, &others[i], other_pool) {
             return false;
         }
     }
     true
 }
 
-fn is_same_value(held: StoredValue, pool: &[u8], other: StoredValue, other_pool: &[u8]) -> bool
-    requires within { held_end held ≤ length pool.now }
-    requires other_within { held_end other ≤ length other_pool.now }
-    ensures { IsTrue result ↔ (value_held pool.now held ≡ value_held other_pool.now other) }
+fn is_same_value(held: &StoredValue, pool: &[u8], other: &StoredValue, other_pool: &[u8]) -> bool
+    requires within { held_end held.now ≤ length pool.now }
+    requires other_within { held_end other.now ≤ length other_pool.now }
+    ensures { IsTrue result ↔ (value_held pool.now held.now ≡ value_held other_pool.now other.now) }
 {
     held.lend(pool) == other.lend(other_pool)
 }

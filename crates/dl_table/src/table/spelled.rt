@@ -73,15 +73,15 @@ fn row_len(format: Format, pairs: &[Pair], held: &[StoredValue], pool: &[u8]) ->
 {
     let mut len = 0u64;
     for (i, pair) in pairs.iter().enumerate() {
-        len = len.saturating_add(held_len(format, pair.form, held[i], pool));
+        len = len.saturating_add(held_len(format, pair.form, &held[i], pool));
     }
     len
 }
 
-fn held_len(format: Format, form: Form, held: StoredValue, pool: &[u8]) -> u64
-    requires { held_end held ≤ length pool.now }
+fn held_len(format: Format, form: Form, held: &StoredValue, pool: &[u8]) -> u64
+    requires { held_end held.now ≤ length pool.now }
     ensures { result ≡ min (length (value_bytes Little format form
-        (value_held pool.now held))) (2 ^ 64 - 1) }
+        (value_held pool.now held.now))) (2 ^ 64 - 1) }
 {
     let value = held.lend(pool);
     value_len(format, form, &value)

@@ -154,7 +154,7 @@ fn put_row<W: Write>(
         (entry_bytes encoding.order encoding.format pairs.now (map (value_held pool.now) held.now)) result }
 {
     for (i, pair) in pairs.iter().enumerate() {
-        out = put_held(output, out, encoding, pair.form, held[i], pool)?;
+        out = put_held(output, out, encoding, pair.form, &held[i], pool)?;
     }
     Ok(out)
 }
@@ -164,12 +164,12 @@ fn put_held<W: Write>(
     out: u64,
     encoding: Encoding,
     form: Form,
-    held: StoredValue,
+    held: &StoredValue,
     pool: &[u8],
 ) -> Result<u64, HeadWrite>
-    requires { held_end held ≤ length pool.now }
+    requires { held_end held.now ≤ length pool.now }
     ensures written { Writes (W.contents output.old) (W.contents output.new) out
-        (value_bytes encoding.order encoding.format form (value_held pool.now held)) result }
+        (value_bytes encoding.order encoding.format form (value_held pool.now held.now)) result }
 {
     let value = held.lend(pool);
     put_value(output, out, encoding, form, &value)

@@ -10,5 +10,5 @@ returns-in_ok-number-in-Leb c =
     let bytes = c.args.bytes.now in
     let tail = c.in_ok-number-in-Leb.tail.now in
     let number = c.in_ok-number-in-Leb.number in
-    subst (λ (v : ValuePhase). InFront c.args.order v bytes (held.Number number) tail) (sym c.in-Leb.is)
-    (leb_in_front c.args.order c.in-Leb.number bytes tail number c.in_ok-number-in-Leb.ensures)
+    rw c.new.ensures (subst (λ (v : ValuePhase). InFront c.args.order v bytes (held.Number number) tail) (sym c.in-Leb.is)
+    (leb_in_front c.args.order c.in-Leb.number bytes tail number c.in_ok-number-in-Leb.ensures))

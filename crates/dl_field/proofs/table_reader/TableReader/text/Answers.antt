@@ -17,7 +17,7 @@ returns-then-byte-eq0-clause-made c = λ order next layout rest at.
     (text_form order c.args.format a.pair.form w _ a.value.0
     (text_held rest c.args.byte c.args.self.now.pool.items c.args.start (c.len.result - c.args.start) a.value.3
     c.if-byte-eq0.true a.value.2 (omega (arith, c.len.ensures, c.args.self.now.pool.ok.0))))
-    (omega (arith, c.len.ensures, c.args.self.now.pool.ok.0, a.value.1)) c.enter.ensures.made
+    (omega (arith, c.len.ensures, c.args.self.now.pool.ok.0, a.value.1)) (rw c.new.ensures at c.enter.ensures.made)
 
 pub returns-clause-made : goal.returns-clause-made
 returns-clause-made c = λ order next layout rest at.

@@ -19,7 +19,7 @@ returns-in-Ends c =
       made = λ order next layout v rest is clear.
           block_entered order old _ _ c.enter.new.self c.args.at _ _ (take c.args.size bytes) c.args.format next layout
           v rest is clear (c.len-start.ensures ∙ old.pool.ok.0) (sym size) c.reserve.ensures.items grown
-          (c.enter.ensures.goes c.in-Ends.is);
+          (rw c.new.ensures at (c.enter.ensures.goes c.in-Ends.is));
       cells = omega (
         arith,
         c.in-Ends.ensures.cells,

@@ -13,6 +13,6 @@ returns-in-Ends c =
           (c.extend_from_slice.ensures.items ∙ pushed _ _ c.extend_from_slice.result
           (sym c.is_err-2.ensures.value ∙ c.if-is_err-2.false))
           (omega (arith, c.if-start-len.false, c.len.ensures, old.pool.ok.0)) c.in_ok-len.ensures.within
-          (sym c.first_zero.ensures.value ∙ c.in_ok-len.was) c.in-Ends.ensures.made c.in-Ends.ensures.cells,
+          (sym c.first_zero.ensures.value ∙ c.in_ok-len.was) (rw c.new.ensures at c.in-Ends.ensures.made) c.in-Ends.ensures.cells,
       λ whole. c.enter.ensures.last whole (among_values old c.args.at (value.Text c.args.start) c.requires),
     )

@@ -1,7 +1,5 @@
 use Rattle.std.proofs.Common.{◌+◌, drop, get_or, take, map, arith}
 use Rattle.std.proofs.lemmas.Result.{err_from_is_err_and}
-use Rattle.dl_table.specs.declared.table.held.StoredValue.{StoredValue}
-use Rattle.dl_table.specs.declared.table.held.StoredValue.TheVariants.{Text}
 use Rattle.dl_table.specs.Held.{value_held}
 use Rattle.dl_table.specs.Written.{entry_bytes, value_bytes}
 use Rattle.dl_table.proofs.BuildLemmas.{no_pair}
@@ -9,11 +7,8 @@ use Rattle.dl_table.proofs.HeldLemmas.{held_end-le}
 use Rattle.dl_table.proofs.WritingLemmas.{TellsOut-piece, IsOut-piece, entry_more, entry_split}
 use Rattle.dl_table.proofs.table.writing.put_row.Goals as goal
 
-abbrev no_text : StoredValue
-no_text = Text (record { start = 0; len = 0 })
-
 pub put_held-requires : goal.put_held-requires
-put_held-requires g c = omega (arith, held_end-le c.args.held.now c.loop-i.i no_text (omega arith))
+put_held-requires g c = omega (arith, held_end-le c.args.held.now c.loop-i.i (omega arith) c.index-held-i.is)
 
 pub returns-in_err-out : goal.returns-in_err-out
 returns-in_err-out g c = record {
@@ -28,16 +23,15 @@ returns-in_err-out g c = record {
       let tells = c.in_err-out.ensures.written start _ (c.loop-i.invariant start text h) in
       rw (p.1, p.2) (TellsOut-piece start _ text (bytes (take i pairs) (take i all))
       (value_bytes c.args.encoding.order c.args.encoding.format (get_or pairs i no_pair).form
-      (value_held pool (get_or held i no_text)))
+      (value_held pool c.index-held-i.result))
       (bytes (drop (i + 1) pairs) (drop (i + 1) all)) (bytes pairs all) _
-      (entry_split c.args.encoding.order c.args.encoding.format pairs pool held i no_text c.loop-i-test.true
-      c.requires.whole) tells);
+      (entry_split c.args.encoding.order c.args.encoding.format pairs pool held i c.loop-i-test.true
+      c.requires.whole c.index-held-i.is) tells);
 }
 
 pub loop-i-preserved : goal.loop-i-preserved
 loop-i-preserved g c = λ start text h.
     let i = c.loop-i.i in
     let more = entry_more c.args.encoding.order c.args.encoding.format c.args.pairs.now c.args.pool.now c.args.held.now
-    i no_text
-    c.loop-i-test.true (omega arith) in
+    i c.loop-i-test.true (omega arith) c.index-held-i.is in
     IsOut-piece start _ text _ _ _ _ more (c.in_ok-out.ensures.written start _ (c.loop-i.invariant start text h))
