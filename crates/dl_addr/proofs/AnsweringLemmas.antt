@@ -32,7 +32,7 @@ use Rattle.dl_addr.specs.Commands.{Ends, Locates, answer_in, answer_lines, found
 use Rattle.dl_addr.specs.Knowing.{Knows}
 use Rattle.dl_addr.specs.Locating.{IsMadeFor, Locating, StopsAt, code_of, locate_story, located_by}
 use Rattle.dl_addr.specs.Locations.{Located, answer_text, asked_text, located, row_text}
-use Rattle.dl_addr.specs.Paths.{path_of}
+use Rattle.dl_path.specs.Paths.{path_of}
 use Rattle.dl_addr.specs.Printing.{PrintsAll, answer_for, found_by, named_text, seen_lines, seen_text, told}
 use Rattle.dl_addr.specs.Shown.{path_text}
 use Rattle.dl_addr.specs.Texts.{named}

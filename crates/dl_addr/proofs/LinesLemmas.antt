@@ -16,7 +16,7 @@ use Rattle.dl_addr.specs.declared.question.Found.TheVariants as found
 use Rattle.dl_addr.specs.declared.style.Style.{Style}
 use Rattle.dl_addr.specs.Answers.{SeenRow}
 use Rattle.dl_addr.specs.Printing.{found_by, seen_line, seen_lines}
-use Rattle.dl_addr.proofs.PrintLemmas.{Loses, loses_then, more_then}
+use Rattle.dl_path.proofs.PrintLemmas.{Loses, loses_then, more_then}
 
 module _ (style : Style) (f : Asked → Option SeenRow) (asked : List Asked) where
   abbrev line_of : Asked → List ℕ

@@ -25,7 +25,8 @@ use Rattle.dl_addr.specs.Answers.{SeenRow, located_seen}
 use Rattle.dl_addr.specs.Asked.{place_of}
 use Rattle.dl_addr.specs.Locating.{located_by}
 use Rattle.dl_addr.specs.Locations.{asked_text, no_row_text, row_text}
-use Rattle.dl_addr.specs.Shown.{no_path_text, shown, text_in}
+use Rattle.dl_path.specs.Shown.{shown}
+use Rattle.dl_addr.specs.Shown.{no_path_text, text_in}
 
 -- a text as it stands in a path of this form
 abbrev pub inner_text : Form → List ℕ → List ℕ
