@@ -28,11 +28,11 @@ use Rattle.dl_addr.specs.declared.style.Style.{Style}
 use Rattle.dl_addr.specs.Answers.{located_seen}
 use Rattle.dl_look.specs.Asked.{looked_up, place_of}
 use Rattle.dl_addr.specs.Code.{is_code}
-use Rattle.dl_addr.specs.Commands.{Ends, Locates, answer_in, answer_lines, found_in}
+use Rattle.dl_addr.specs.Commands.{Ends, Locates, answer_in, answer_lines, found_in, is_answered}
 use Rattle.dl_addr.specs.Knowing.{Knows}
 use Rattle.dl_addr.specs.Locating.{IsMadeFor, Locating, StopsAt, code_of, locate_story, located_by}
 use Rattle.dl_addr.specs.Locations.{Located, answer_text, asked_text, located, row_text}
-use Rattle.dl_addr.specs.Paths.{path_of}
+use Rattle.dl_path.specs.Paths.{path_of}
 use Rattle.dl_addr.specs.Printing.{PrintsAll, answer_for, found_by, named_text, seen_lines, seen_text, told}
 use Rattle.dl_addr.specs.Shown.{path_text}
 use Rattle.dl_addr.specs.Texts.{named}
@@ -107,7 +107,8 @@ module _ (order : Order) (q : Question) (s : Strings) (first : Locator) (knows :
     pub found_same : found_by (answer_for first visits q.base) q.asked.now ≡ found_in order q units
     found_same =
         ap (λ (b : Bool). if b then found.All else found.NotAll)
-        (all_same _ _ (λ (a : Asked). ap is_some (answer_same a) ∙ some_same (answer_in order q units a)) q.asked.now)
+        (all_same _ _ (λ (a : Asked). ap (is_answered a) (ap is_some (answer_same a)
+        ∙ some_same (answer_in order q units a))) q.asked.now)
 
   -- ---- the reading
 

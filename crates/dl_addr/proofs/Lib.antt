@@ -1,14 +1,7 @@
-pub mod PathLemmas
-pub mod BasenameLemmas
-pub mod WindowsLemmas
-pub mod LossyLemmas
-pub mod ShownLemmas
-pub mod FrontLemmas
 pub mod TextLemmas
 pub mod LocatedLemmas
 pub mod LocatorLemmas
 pub mod KeepLemmas
-pub mod PrintLemmas
 pub mod EndLemmas
 pub mod LinesLemmas
 pub mod AnsweringLemmas

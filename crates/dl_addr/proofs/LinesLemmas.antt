@@ -15,8 +15,9 @@ use Rattle.dl_addr.specs.declared.question.Found.{Found}
 use Rattle.dl_addr.specs.declared.question.Found.TheVariants as found
 use Rattle.dl_addr.specs.declared.style.Style.{Style}
 use Rattle.dl_addr.specs.Answers.{SeenRow}
+use Rattle.dl_addr.specs.Commands.{is_answered}
 use Rattle.dl_addr.specs.Printing.{found_by, seen_line, seen_lines}
-use Rattle.dl_addr.proofs.PrintLemmas.{Loses, loses_then, more_then}
+use Rattle.dl_path.proofs.PrintLemmas.{Loses, loses_then, more_then}
 
 module _ (style : Style) (f : Asked → Option SeenRow) (asked : List Asked) where
   abbrev line_of : Asked → List ℕ
@@ -91,12 +92,13 @@ module _ (style : Style) (f : Asked → Option SeenRow) (asked : List Asked) whe
   and_true true = refl
   and_true false = refl
 
-  all_more : (xs : List Asked) (a : Asked)
-      → list_all (λ b. is_some (f b)) (xs ++ a ∷ []) ≡ (list_all (λ b. is_some (f b)) xs && is_some (f a))
-  all_more [] a = and_true (is_some (f a))
+  abbrev is_fine : Asked → Bool
+  is_fine a = is_answered a (is_some (f a))
+
+  all_more : (xs : List Asked) (a : Asked) → list_all is_fine (xs ++ a ∷ []) ≡ (list_all is_fine xs && is_fine a)
+  all_more [] a = and_true (is_fine a)
   all_more (x ∷ xs) a =
-      ap (λ (b : Bool). is_some (f x) && b) (all_more xs a)
-      ∙ and_same (is_some (f x)) (list_all (λ b. is_some (f b)) xs) (is_some (f a)) where
+      ap (λ (b : Bool). is_fine x && b) (all_more xs a) ∙ and_same (is_fine x) (list_all is_fine xs) (is_fine a) where
         and_same : (a b c : Bool) → (a && (b && c)) ≡ ((a && b) && c)
         and_same true b c = refl
         and_same false b c = refl
@@ -110,12 +112,12 @@ module _ (style : Style) (f : Asked → Option SeenRow) (asked : List Asked) whe
   both_found false false = refl
 
   pub found_more : (n : ℕ) (d : Asked) (is_found : Bool) (before after : Found) → n < length asked
-      → is_found ≡ is_some (f (get_or asked n d)) → before ≡ found_by f (take n asked)
+      → is_found ≡ is_fine (get_or asked n d) → before ≡ found_by f (take n asked)
       → after ≡ (if is_found then before else found.NotAll) → after ≡ found_by f (take (n + 1) asked)
   found_more n d is_found before after lt is was now =
       now
       ∙ ap₂ (λ (b : Bool) (o : Found). if b then o else found.NotAll) is was
-      ∙ sym (both_found (list_all (λ b. is_some (f b)) (take n asked)) (is_some (f (get_or asked n d))))
+      ∙ sym (both_found (list_all is_fine (take n asked)) (is_fine (get_or asked n d)))
       ∙ ap (λ (b : Bool). if b then found.All else found.NotAll) (sym (all_more (take n asked) (get_or asked n d)))
       ∙ ap (found_by f) (sym (take_more asked n d lt))
 

@@ -32,7 +32,7 @@ use Rattle.dl_addr.specs.Keeping.{Keeps, path_under}
 use Rattle.dl_addr.specs.Locating.{IsMadeFor, Locating, LooksFor, code_of, ended_rows, locate_story, located_after}
 use Rattle.dl_addr.specs.Locating.{located_by, located_under, path_of_located}
 use Rattle.dl_addr.specs.Locations.{Located}
-use Rattle.dl_addr.specs.Paths.{path_of}
+use Rattle.dl_path.specs.Paths.{path_of}
 use Rattle.dl_addr.specs.Texts.{HasPath, IsKept, named, path_at}
 use Rattle.dl_addr.proofs.LocatedLemmas.{ended_rows-append, located_after-append, no_live_rows, offset_after-append}
 use Rattle.dl_addr.proofs.LocatedLemmas.{rows_located}

@@ -20,7 +20,7 @@ use Rattle.dl_addr.specs.declared.kept.FilePath.{FilePath}
 use Rattle.dl_addr.specs.declared.kept.Paths.{Paths}
 use Rattle.dl_addr.specs.declared.texts.UnitFiles.{UnitFiles}
 use Rattle.dl_addr.specs.declared.texts.UnitNumbers.{UnitNumbers}
-use Rattle.dl_addr.specs.Paths.{file_path, path_of, under}
+use Rattle.dl_path.specs.Paths.{file_path, path_of, under}
 use Rattle.dl_addr.specs.Texts.{AreSeen, AreTexts, Grows, HasPath, IsKept, IsPath, TextsGrow, directory_text, named}
 use Rattle.dl_addr.specs.Texts.{part_at, path_at, path_of_file, text_at, text_or_none}
 

@@ -1,6 +1,7 @@
 -- What `addr` answers and writes. bytes: what was read from a reader, which has `left` left. start, now: what the
 -- writer held at first, and holds now. None: it isn't known.
-use Rattle.std.specs.Prelude.{◌≡◌, ◌⊎◌, ℕ, true, if◌then◌else◌, List, [], ◌∷◌, ◌++◌, take, flat_map, is_some, slice_get}
+use Rattle.std.specs.Prelude.{◌≡◌, ◌⊎◌, ℕ, Bool, true, ◌||◌, if◌then◌else◌, List, [], ◌∷◌, ◌++◌, take, flat_map, is_none}
+use Rattle.std.specs.Prelude.{is_some, slice_get}
 use Rattle.std.specs.Prelude.{Option, Some, None, Result, Ok, Err}
 use Rattle.std.specs.List.{list_all}
 use Rattle.std.specs.Option.{option_and_then, option_copied}
@@ -28,10 +29,14 @@ answer_in order q units a = option_and_then (located order (is_code (option_copi
 abbrev pub answer_lines : Order → Strings → Question → List (List ℕ) → List ℕ
 answer_lines order s q units = flat_map (λ a. asked_line q.style s a (answer_in order q units a)) q.asked.now
 
--- whether each has an answer
+-- whether it has an answer, where it is an address
+abbrev pub is_answered : Asked → (is_found : Bool) → Bool
+is_answered a is_found = is_none a.address || is_found
+
+-- whether each address has an answer
 abbrev pub found_in : Order → Question → List (List ℕ) → Found
 found_in order q units =
-    if list_all (λ a. is_some (answer_in order q units a)) q.asked.now then found.All else found.NotAll
+    if list_all (λ a. is_answered a (is_some (answer_in order q units a))) q.asked.now then found.All else found.NotAll
 
 -- u is a unit that is the first to answer for a place that is looked up
 pub record AnswersFirst (order : Order) (q : Question) (units : List (List ℕ)) (u : List ℕ) : Type 0 where

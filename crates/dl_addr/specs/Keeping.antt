@@ -8,7 +8,7 @@ use Rattle.dl_look.specs.FindersRows.{Stand}
 use Rattle.dl_look.specs.Units.{FirstAnswer}
 use Rattle.dl_print.specs.ValueText.{strings_of}
 use Rattle.dl_addr.specs.declared.locating.Locator.{Locator}
-use Rattle.dl_addr.specs.Paths.{path_of}
+use Rattle.dl_path.specs.Paths.{path_of}
 use Rattle.dl_addr.specs.Texts.{Grows, IsKept, named}
 
 abbrev pub path_under : Locator → Option HeaderData → Row → Option (List ℕ) × ℕ

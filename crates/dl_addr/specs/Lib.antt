@@ -1,15 +1,10 @@
 -- What the public contracts say rests on these, in reading order.
-pub mod Paths
-pub mod Parts
 pub mod Json
 pub mod Shown
 pub mod Code
 pub mod Locations
 pub mod Commands
 -- Of contracts inside the crate, and of proofs; no public contract reaches these.
-pub mod PathParts
-pub mod Windows
-pub mod Fronts
 pub mod Kept
 pub mod Texts
 pub mod Keeping

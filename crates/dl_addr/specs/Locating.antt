@@ -19,7 +19,7 @@ use Rattle.dl_run.specs.Visiting.{Story}
 use Rattle.dl_addr.specs.declared.locating.Locator.{Locator}
 use Rattle.dl_addr.specs.Code.{is_code}
 use Rattle.dl_addr.specs.Locations.{Located}
-use Rattle.dl_addr.specs.Paths.{path_of}
+use Rattle.dl_path.specs.Paths.{path_of}
 use Rattle.dl_addr.specs.Texts.{IsKept, named}
 
 -- ---- what visits give; rows, offset: of the current unit before the visits

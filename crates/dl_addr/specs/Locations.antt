@@ -17,7 +17,7 @@ use Rattle.dl_addr.specs.declared.style.Form.{Form}
 use Rattle.dl_addr.specs.declared.style.Form.TheVariants.{Location, AddressAndLocation, Json}
 use Rattle.dl_addr.specs.declared.style.Style.{Style}
 use Rattle.dl_addr.specs.Json.{json_asked, json_row}
-use Rattle.dl_addr.specs.Paths.{path_of}
+use Rattle.dl_path.specs.Paths.{path_of}
 use Rattle.dl_addr.specs.Shown.{path_text}
 
 -- ---- answers

@@ -23,9 +23,11 @@ use Rattle.dl_addr.specs.declared.style.Form.TheVariants.{Location, AddressAndLo
 use Rattle.dl_addr.specs.declared.style.Style.{Style}
 use Rattle.dl_addr.specs.Answers.{SeenRow, located_seen}
 use Rattle.dl_look.specs.Asked.{place_of}
+use Rattle.dl_addr.specs.Commands.{is_answered}
 use Rattle.dl_addr.specs.Locating.{located_by}
 use Rattle.dl_addr.specs.Locations.{asked_text, no_row_text, row_text}
-use Rattle.dl_addr.specs.Shown.{no_path_text, shown, text_in}
+use Rattle.dl_path.specs.Shown.{shown}
+use Rattle.dl_addr.specs.Shown.{no_path_text, text_in}
 
 -- a text as it stands in a path of this form
 abbrev pub inner_text : Form → List ℕ → List ℕ
@@ -50,7 +52,7 @@ abbrev pub seen_lines : Style → (f : Asked → Option SeenRow) → List Asked 
 seen_lines style f asked = flat_map (λ a. seen_line style a (f a)) asked
 
 abbrev pub found_by : (f : Asked → Option SeenRow) → List Asked → Found
-found_by f asked = if list_all (λ a. is_some (f a)) asked then found.All else found.NotAll
+found_by f asked = if list_all (λ a. is_answered a (is_some (f a))) asked then found.All else found.NotAll
 
 -- what a locator that was told these visits is asked
 abbrev pub answer_for : Locator → List Visit → (base : ℕ) → Asked → Option SeenRow

@@ -13,9 +13,9 @@ use Rattle.dl_addr.specs.declared.kept.KeptPath.{KeptPath}
 use Rattle.dl_addr.specs.declared.kept.Paths.{Paths}
 use Rattle.dl_addr.specs.declared.texts.UnitFiles.{UnitFiles}
 use Rattle.dl_addr.specs.declared.texts.UnitNumbers.{UnitNumbers}
-use Rattle.dl_addr.specs.PathParts.{text_of_directory}
-use Rattle.dl_addr.specs.Paths.{path_of, under}
-use Rattle.dl_addr.specs.Shown.{basename}
+use Rattle.dl_path.specs.PathParts.{text_of_directory}
+use Rattle.dl_path.specs.Paths.{path_of, under}
+use Rattle.dl_path.specs.Shown.{basename}
 
 -- ---- texts
 

@@ -11,7 +11,7 @@ ghost use Rattle.dl_addr.specs.declared.locating.Locator as locators;
 ghost use Rattle.dl_addr.specs.declared.question.Found.TheVariants as all_found;
 ghost use Rattle.dl_addr.specs.Answers.{answer_seen};
 ghost use Rattle.dl_look.specs.Asked.{looked_up};
-ghost use Rattle.dl_addr.specs.Commands.{Locates};
+ghost use Rattle.dl_addr.specs.Commands.{Locates, is_answered};
 ghost use Rattle.dl_addr.specs.Knowing.{Knows};
 ghost use Rattle.dl_addr.specs.Locating.{IsMadeFor, Locating};
 ghost use Rattle.dl_addr.specs.Printing.{PrintsAll, answer_for, told};
@@ -120,7 +120,7 @@ fn print_all<W: Write>(
     while number < question.asked.len() {
         let asked = question.asked[number];
         let answer = answer_to(locator, asked, question.base, number);
-        found = also(found, answer.is_some());
+        found = also(found, is_answered(asked, answer.is_some()));
         print_line(&mut printer, output, question.style, asked, answer)?;
         number += 1;
     }
@@ -145,6 +145,13 @@ fn answer_to<'a, 's>(
         Some(_) => locator.answer(number),
         None => None,
     }
+}
+
+/// Whether what is asked has an answer, where it is an address.
+fn is_answered(asked: Asked, is_found: bool) -> bool
+    ensures { result ≡ is_answered asked is_found }
+{
+    asked.address.is_none() || is_found
 }
 
 /// Whether all are found, with one more.

@@ -9,10 +9,10 @@ ghost use Rattle.dl_addr.specs.declared.style.Form.TheVariants as all_forms;
 ghost use Rattle.dl_addr.specs.Texts.{path_kept};
 ghost use Rattle.dl_addr.specs.Printing.{named_text};
 
-use crate::json_text::print_json_text;
 use crate::kept::KeptPath;
 use crate::path_text::print_path;
 use crate::style::Form;
+use dl_path::print_json_text;
 use dl_print::{Printer, WriteFault};
 use dl_rows::Row;
 use std::io::Write;

@@ -2,10 +2,10 @@
 
 ghost use Rattle.std.specs.Prelude.{◌≡◌};
 ghost use Rattle.std.specs.List.{list_all};
-ghost use Rattle.dl_addr.specs.Fronts.{is_plain};
+ghost use Rattle.dl_path.specs.Shown.{is_plain};
 ghost use Rattle.dl_addr.specs.Kept.{bytes_seen};
 
-use crate::shown::is_all_plain;
+use dl_path::is_all_plain;
 use std::marker::Model;
 
 /// The bytes of a text that is kept. The string sections are held as long as the texts, those of headers aren't.
@@ -26,7 +26,7 @@ pub struct KeptText<'s> {
 impl<'s> Model for KeptText<'s> {
     ghost use Rattle.std.specs.Prelude.{◌≡◌, ℕ, List};
     ghost use Rattle.std.specs.List.{list_all};
-    ghost use Rattle.dl_addr.specs.Fronts.{is_plain};
+    ghost use Rattle.dl_path.specs.Shown.{is_plain};
     ghost use Rattle.dl_addr.specs.Kept.{bytes_seen};
 
     ghost Value = { List ℕ };
@@ -74,7 +74,7 @@ fn slice_of<'a>(bytes: &'a KeptBytes<'_>) -> &'a [u8]
 impl<'s> KeptText<'s> {
     ghost use Rattle.std.specs.Prelude.{◌≡◌};
     ghost use Rattle.std.specs.List.{list_all};
-    ghost use Rattle.dl_addr.specs.Fronts.{is_plain};
+    ghost use Rattle.dl_path.specs.Shown.{is_plain};
     ghost use Rattle.dl_addr.specs.Kept.{bytes_seen};
 
     /// A text of these bytes.

@@ -4,16 +4,14 @@ ghost use Rattle.std.specs.Prelude.{◌≡◌, ◌++◌, [], codes, unwrap_or};
 ghost use Rattle.std.specs.Option.{option_copied};
 ghost use Rattle.dl_print.specs.Output.{Prints};
 ghost use Rattle.dl_addr.specs.declared.style.Form.TheVariants as all_forms;
-ghost use Rattle.dl_addr.specs.Paths.{slash_after};
+ghost use Rattle.dl_path.specs.Paths.{slash_after};
 ghost use Rattle.dl_addr.specs.Printing.{inner_text, named_text};
 ghost use Rattle.dl_addr.specs.Shown.{no_path_text, text_in};
 ghost use Rattle.dl_addr.specs.Texts.{path_kept, path_named};
 
-use crate::json_text::print_json_text;
 use crate::kept::{KeptPath, KeptText};
-use crate::path::wants_slash;
-use crate::shown::print_shown;
 use crate::style::Form;
+use dl_path::{print_json_text, print_shown, wants_slash};
 use dl_print::{Printer, WriteFault};
 use std::io::Write;
 

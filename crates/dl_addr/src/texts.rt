@@ -4,18 +4,17 @@ ghost use Rattle.std.specs.Prelude.{◌≡◌, ◌≢◌, ◌<◌, ◌≤◌, �
 ghost use Rattle.std.specs.Prelude.{IfOk, IfSome, OnOk, None, Some};
 ghost use Rattle.std.specs.Option.{option_copied, option_map, option_map_or};
 ghost use Rattle.dl_look.specs.Ledgers.{no_answer};
-ghost use Rattle.dl_addr.specs.PathParts.{FromDirectories, IsDirectory, directory_seen, parts_seen, text_seen};
+ghost use Rattle.dl_path.specs.PathParts.{FromDirectories, IsDirectory, directory_seen, parts_seen, text_seen};
 ghost use Rattle.dl_addr.specs.Texts.{AreNumbers, AreSeen, AreTexts, Grows, HasPath, IsKept, IsOther, IsPath};
 ghost use Rattle.dl_addr.specs.Texts.{TextsGrow, directory_text, named, part_at, path_of_file, text_at};
 ghost use Rattle.dl_print.specs.ValueText.{strings_of};
-ghost use Rattle.dl_addr.specs.Paths.{path_of};
+ghost use Rattle.dl_path.specs.Paths.{path_of};
 
-use crate::basename::basename;
 use crate::kept::{FilePath, KeptBytes, KeptText, Paths};
-use crate::parts::{Directory, Parts, Text, parts_of};
 use crate::style::Style;
 use dl_head::Header;
 use dl_look::{Answered, NoMemory};
+use dl_path::{Directory, Parts, Text, basename, parts_of};
 use dl_print::StringSections;
 use std::alloc::Global;
 use std::collections::BTreeMap;

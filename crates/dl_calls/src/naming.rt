@@ -1,8 +1,8 @@
 //! The call that tells the path of a file.
 
 ghost use Rattle.std.specs.Prelude.{◌≡◌, ◌++◌, ℕ, List, drop, option_map};
-ghost use Rattle.dl_addr.specs.Parts.{path_seen};
-ghost use Rattle.dl_addr.specs.Paths.{path_of};
+ghost use Rattle.dl_path.specs.Parts.{path_seen};
+ghost use Rattle.dl_path.specs.Paths.{path_of};
 ghost use Rattle.dl_num.specs.declared.fixed.Order.{Order};
 ghost use Rattle.dl_print.specs.ValueText.{strings_of};
 ghost use Rattle.dl_head.specs.Header.{foreign_in};
@@ -17,11 +17,11 @@ use crate::record::FaultRecord;
 use crate::room::add;
 use crate::status::Status;
 use crate::unit::{UnitRead, WholeUnit, read_unit, rest_from};
-use dl_addr::{Path, path_of, slash_after};
+use dl_path::{Path, path_of, slash_after};
 use dl_print::StringSections;
 use std::alloc::Global;
 
-/// Tells the path of the file of this number in the unit that begins at an offset of a section, as `dl_addr::addr`
+/// Tells the path of the file of this number in the unit that begins at an offset of a section, as `dl_path::path_of`
 /// joins it, as far as there is room. The string sections are `.debug_line_str` and `.debug_str`.
 ///
 /// Done: the path is told, and how many bytes it has; `??` where the unit has no file of this number, or the file's

@@ -19,8 +19,8 @@ use crate::record::FaultRecord;
 use crate::room::put;
 use crate::status::Status;
 use crate::unit::{UnitRead, WholeUnit, read_unit, rest_from};
-use dl_addr::path_of;
 use dl_head::Header;
+use dl_path::path_of;
 use dl_print::StringSections;
 use std::alloc::Global;
 

@@ -15,9 +15,9 @@ use Rattle.dl_print.specs.declared.summary.Summary.{Summary}
 use Rattle.dl_addr.specs.Code.{is_code}
 use Rattle.dl_look.specs.declared.asked.Asked.{Asked}
 use Rattle.dl_asked.specs.declared.asked_lines.AskedLines.{AskedLines}
-use Rattle.dl_addr.specs.declared.question.Found.{Found}
 use Rattle.dl_addr.specs.declared.question.Question.{Question}
 use Rattle.dl_work.specs.declared.command.Command.TheVariants.{Addr}
+use Rattle.dl_work.specs.declared.located.Located.{Located}
 use Rattle.dl_work.specs.declared.stop.FileFault.{FileFault}
 use Rattle.dl_work.specs.declared.stop.FileFault.TheVariants.{NoMemory}
 use Rattle.dl_work.specs.declared.stop.Stop.{Stop}
@@ -50,7 +50,7 @@ all_live false code a = refl
 -- ---- a section on the input
 
 pub section_stops : (held : Text → Option (List ℕ)) (w : AddrTexts) (left start : Option (List ℕ))
-    (result : Result Found Stop) (stop : Stop) → result ≡ Err stop → WordsStop w stop
+    (result : Result Located Stop) (stop : Stop) → result ≡ Err stop → WordsStop w stop
     ⊎ (IsNoQuestion w × (stop ≡ NotUnderstood))
     → LocatesInSection held w [] left start start result
 section_stops held w left start result stop is why = inl (stop, why, (is, refl, Keeps-refl start))
@@ -81,12 +81,12 @@ asks_all w u these slice q i asked sliced own code form basenames section = reco
 }
 
 module _ (held : Text → Option (List ℕ)) (fails : Text → Error → Type 0) (path : Text) (w : AddrTexts) where
-  pub file_stops : (left start : Option (List ℕ)) (result : Result Found Stop) (stop : Stop) → result ≡ Err stop
+  pub file_stops : (left start : Option (List ℕ)) (result : Result Located Stop) (stop : Stop) → result ≡ Err stop
       → WordsStop w stop ⊎ ((says_section w ≡ true) × (stop ≡ NotUnderstood))
       → LocatesInFile held fails path w [] left start start result
   file_stops left start result stop is why = λ f known short. inl (stop, why, (is, refl, Keeps-refl start))
 
-  pub file_refused : (u : AskedWords) (bytes : List ℕ) (left start now : Option (List ℕ)) (result : Result Found Stop)
+  pub file_refused : (u : AskedWords) (bytes : List ℕ) (left start now : Option (List ℕ)) (result : Result Located Stop)
       (stop : Stop) (fault : FileFault)
       → says_section w ≡ false → IsUnderstood w u → result ≡ Err stop
       → ForBytes (held path) (λ f. RefusesCode (fails path) f fault) → IsAt path fault stop
@@ -95,7 +95,7 @@ module _ (held : Text → Option (List ℕ)) (fails : Text → Error → Type 0)
   file_refused u bytes left start now result stop fault says understood is refuses at unanswered =
       λ f known short. inr (inl (stop, fault, says, refuses f known short, at, is, unanswered understood))
 
-  pub input_stops : (given : List Asked) (bytes : List ℕ) (left start : Option (List ℕ)) (result : Result Found Stop)
+  pub input_stops : (given : List Asked) (bytes : List ℕ) (left start : Option (List ℕ)) (result : Result Located Stop)
       (stop : Stop) → result ≡ Err stop → given ≡ asked_in_words w → InputStops w given bytes stop
       → LocatesInFile held fails path w bytes left start start result
   input_stops given bytes left start result stop is words stops =
@@ -109,7 +109,7 @@ module _ (held : Text → Option (List ℕ)) (fails : Text → Error → Type 0)
 
   pub file_done : (ranges : Option CodeRanges) (given : List Asked) (slice : List Asked) (base : ℕ) (bytes : List ℕ)
       (left start now : Option (List ℕ)) (lines : AskedLines) (q : Question) (answer : Result Summary Stop)
-      (result : Result Found Stop)
+      (result : Result Located Stop)
       → says_section w ≡ false → given ≡ asked_in_words w → HasAsked w given bytes left lines → are_addresses w ≡ true
       → base_in w ≡ Some base
       → q.asked.now ≡ slice → slice ≡ lines.asked.items → q.base ≡ base

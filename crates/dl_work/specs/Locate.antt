@@ -24,11 +24,11 @@ use Rattle.dl_asked.specs.AskedLines.{IsAsked, StopsAsking, address_by}
 use Rattle.dl_addr.specs.Code.{is_code}
 use Rattle.dl_look.specs.declared.asked.Asked.{Asked}
 use Rattle.dl_asked.specs.declared.asked_lines.AskedLines.{AskedLines}
-use Rattle.dl_addr.specs.declared.question.Found.{Found}
 use Rattle.dl_addr.specs.declared.question.Question.{Question}
 use Rattle.dl_addr.specs.declared.style.Form.{Form}
 use Rattle.dl_addr.specs.declared.style.Form.TheVariants.{Location, AddressAndLocation, Json}
 use Rattle.dl_work.specs.declared.command.Command.TheVariants.{Addr}
+use Rattle.dl_work.specs.declared.located.Located.{Located}
 use Rattle.dl_work.specs.declared.stop.FileFault.{FileFault}
 use Rattle.dl_work.specs.declared.stop.FileFault.TheVariants.{Open, Elf, NoMemory}
 use Rattle.dl_work.specs.declared.stop.Stop.{Stop}
@@ -97,7 +97,7 @@ abbrev pub IsNoQuestion : AddrTexts → Type 0
 IsNoQuestion w = (w.section ≢ None) ⊎ (w.addresses ≡ [])
 
 abbrev pub LocatesInSection : (held : Text → Option (List ℕ)) → AddrTexts
-    → (bytes : List ℕ) (left start now : Option (List ℕ)) → Result Found Stop → Type 0
+    → (bytes : List ℕ) (left start now : Option (List ℕ)) → Result Located Stop → Type 0
 LocatesInSection held w bytes left start now result =
     ((stop : Stop) × (WordsStop w stop ⊎ (IsNoQuestion w × (stop ≡ NotUnderstood)))
     × StopsBefore bytes start now result stop)
@@ -146,7 +146,7 @@ Unanswered w bytes left start now =
     × Asks w lines.asked.items (λ a. true) q × WithoutTable (Addr q) start now)
 
 abbrev pub LocatesInFile : (held : Text → Option (List ℕ)) (fails : Text → Error → Type 0) → Text → AddrTexts
-    → (bytes : List ℕ) (left start now : Option (List ℕ)) → Result Found Stop → Type 0
+    → (bytes : List ℕ) (left start now : Option (List ℕ)) → Result Located Stop → Type 0
 LocatesInFile held fails path w bytes left start now result = ForBytes (held path) (λ f.
     ((stop : Stop) × (WordsStop w stop ⊎ ((says_section w ≡ true) × (stop ≡ NotUnderstood)))
     × StopsBefore bytes start now result stop)
@@ -161,13 +161,13 @@ LocatesInFile held fails path w bytes left start now result = ForBytes (held pat
 -- ---- by the words; a path `-` stands for a section on the input
 
 abbrev pub LocatesWhere : (is_input : Bool) → (held : Text → Option (List ℕ)) (fails : Text → Error → Type 0) → Text
-    → AddrTexts → (bytes : List ℕ) (left start now : Option (List ℕ)) → Result Found Stop → Type 0
+    → AddrTexts → (bytes : List ℕ) (left start now : Option (List ℕ)) → Result Located Stop → Type 0
 LocatesWhere true held fails path w bytes left start now result = LocatesInSection held w bytes left start now result
 LocatesWhere false held fails path w bytes left start now result =
     LocatesInFile held fails path w bytes left start now result
 
 abbrev pub LocatesFor : (held : Text → Option (List ℕ)) (fails : Text → Error → Type 0) → AddrTexts
-    → (bytes : List ℕ) (left start now : Option (List ℕ)) → Result Found Stop → Type 0
+    → (bytes : List ℕ) (left start now : Option (List ℕ)) → Result Located Stop → Type 0
 LocatesFor held fails w bytes left start now result =
     MatchOption w.file (StopsBefore bytes start now result NotUnderstood)
     (λ path. LocatesWhere (bytes_eq path (codes "-")) held fails path w bytes left start now result)

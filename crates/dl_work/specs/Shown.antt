@@ -2,7 +2,7 @@
 use Rattle.std.specs.Prelude.{ℕ, ◌/◌, ◌%◌, ◌==◌, if◌then◌else◌, List, ◌++◌, encode_utf8, flat_map, codes, nat_lt}
 use Rattle.std.specs.Str.{chars, is_utf8}
 use Rattle.dl_print.specs.Digits.{hexadecimal}
-use Rattle.dl_addr.specs.Shown.{is_control}
+use Rattle.dl_path.specs.Shown.{is_control}
 
 -- a backslash as two, a control character by its number
 abbrev pub shown_character : (character : ℕ) → List ℕ

@@ -6,6 +6,7 @@ mod code;
 mod command;
 mod debug_file;
 mod files;
+mod located;
 mod locating;
 mod not_read;
 mod object_part;
@@ -18,6 +19,7 @@ mod working;
 
 pub use debug_file::{DebugFile, with_debug_file};
 pub use files::FileSource;
+pub use located::Located;
 pub use locating::locate;
 pub use not_read::{UnitsNotRead, looked_into, units_not_read};
 pub use stop::{FileFault, Stop};

@@ -7,7 +7,6 @@ ghost use Rattle.dl_file.specs.Code.{IsCode};
 ghost use Rattle.dl_file.specs.declared.code.Code as file_code;
 ghost use Rattle.dl_addr.specs.Code.{is_code};
 ghost use Rattle.dl_cmd.specs.Job.{addr_words_made};
-ghost use Rattle.dl_work.specs.Located.{is_not_found, located, unless_no_address};
 ghost use Rattle.dl_work.specs.Locate.{HasAsked, InputStops, LocatesFor, LocatesInFile, LocatesInSection};
 ghost use Rattle.dl_work.specs.Locate.{RefusesCode, Unanswered, live_by};
 ghost use Rattle.dl_work.specs.Understood.{IsUnderstood};
@@ -16,14 +15,13 @@ use crate::addr_words::{AskedWords, asked_words, part_name, question, says_secti
 use crate::code::{code_of, everywhere, live_in};
 use crate::command::Command;
 use crate::files::{FileSource, open_file};
+use crate::located::Located;
 use crate::over_file::on_file;
 use crate::over_input::{Section, on_input};
 use crate::stop::{FileFault, Stop};
-use dl_addr::Found;
-use dl_asked::{AskedLines, OtherLine, read_asked};
+use dl_asked::{AskedLines, read_asked};
 use dl_cmd::AddrWords;
 use dl_look::CodeRanges;
-use dl_run::{RunFault, Summary};
 use std::alloc::Global;
 use std::io::{Read, Write};
 
@@ -51,42 +49,6 @@ fn given_or_read<'a, R: Read>(
     }
 }
 
-/// Whether some address has no answer, and nothing else is wrong.
-fn is_not_found(stop: &Stop<'_>) -> bool
-    ensures { result ≡ is_not_found stop.now }
-{
-    matches!(stop, Stop::Run(RunFault::NotFound))
-}
-
-/// What was found, unless a line is no address.
-fn unless_no_address<'a>(no_address: Option<OtherLine>, found: Found) -> Result<Found, Stop<'a>>
-    ensures { result ≡ unless_no_address no_address found }
-{
-    match no_address {
-        Some(line) => Err(Stop::NoAddress { line }),
-        None => Ok(found),
-    }
-}
-
-/// What is told in the end: a line that is no address, where no other fault stands.
-fn located<'a>(
-    answer: Result<Summary, Stop<'a>>,
-    no_address: Option<OtherLine>,
-) -> Result<Found, Stop<'a>>
-    ensures { result ≡ located answer.entry no_address }
-{
-    match answer {
-        Ok(_summary) => unless_no_address(no_address, Found::All),
-        Err(stop) => {
-            if is_not_found(&stop) {
-                unless_no_address(no_address, Found::NotAll)
-            } else {
-                Err(stop)
-            }
-        }
-    }
-}
-
 /// Looks into the section on the input.
 fn in_section<'a, F: FileSource, R: Read, W: Write>(
     alloc: Global,
@@ -94,7 +56,7 @@ fn in_section<'a, F: FileSource, R: Read, W: Write>(
     files: &F,
     input: &mut R,
     output: &mut W,
-) -> Result<Found, Stop<'a>>
+) -> Result<Located, Stop<'a>>
     ensures { (bytes : List ℕ) × Consumes (R.remaining input.old) (R.remaining input.new) bytes
         × LocatesInSection (F.held files.now) (addr_words_made words.now) bytes (R.remaining input.new)
         (W.contents output.old) (W.contents output.new) result }
@@ -114,7 +76,7 @@ fn in_section<'a, F: FileSource, R: Read, W: Write>(
     let part = part_name(words);
     let command = Command::Addr(question(words, part, base, lines.asked.as_slice(), everywhere()));
     let answer = on_input(alloc, files, section, command, input, output);
-    located(answer, None)
+    Located::by_answer(answer, None)
 }
 
 /// The file at a path, open, and where it has code.
@@ -168,7 +130,7 @@ fn in_file<'a, F: FileSource, R: Read, W: Write>(
     files: &F,
     input: &mut R,
     output: &mut W,
-) -> Result<Found, Stop<'a>>
+) -> Result<Located, Stop<'a>>
     ensures { (bytes : List ℕ) × Consumes (R.remaining input.old) (R.remaining input.new) bytes
         × LocatesInFile (F.held files.now) (F.fails_with files.now) path.entry.now (addr_words_made words.now) bytes
         (R.remaining input.new) (W.contents output.old) (W.contents output.new) result }
@@ -195,7 +157,7 @@ fn in_file<'a, F: FileSource, R: Read, W: Write>(
         live,
     ));
     let answer = on_file(alloc, path, &file, words.section, command, output);
-    located(answer, lines.no_address)
+    Located::by_answer(answer, lines.no_address)
 }
 
 /// Prints where addresses are in the source, of the ELF file that the words name, or where that is `-`
@@ -207,14 +169,14 @@ fn in_file<'a, F: FileSource, R: Read, W: Write>(
 /// unless all are asked for. Where the file can't be read for its line table, each address has no answer, and its
 /// fault is told.
 ///
-/// `NoAddress` names the first line of the input that is no address, where nothing else is wrong.
+/// The answer says whether each address has one, and names the first line of the input that is no address.
 pub fn locate<'a, F: FileSource, R: Read, W: Write>(
     alloc: Global,
     words: &AddrWords<'a>,
     files: &F,
     input: &mut R,
     output: &mut W,
-) -> Result<Found, Stop<'a>>
+) -> Result<Located, Stop<'a>>
     ensures { (bytes : List ℕ) × Consumes (R.remaining input.old) (R.remaining input.new) bytes
         × LocatesFor (F.held files.now) (F.fails_with files.now) (addr_words_made words.now) bytes
         (R.remaining input.new) (W.contents output.old) (W.contents output.new) result }

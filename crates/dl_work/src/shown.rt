@@ -1,6 +1,6 @@
 //! Words in a line on standard error: whatever stands in them, it stays one line.
 ghost use Rattle.std.specs.Prelude.{◌≡◌};
-ghost use Rattle.dl_addr.specs.Shown.{is_control};
+ghost use Rattle.dl_path.specs.Shown.{is_control};
 
 use std::{fmt, str};
 

@@ -26,7 +26,7 @@ pub enum Stop<'a> {
     File { path: &'a str, fault: FileFault },
     /// The ELF file at this path has no section of this name, in which addresses are to be looked up.
     NoSection { path: &'a str, name: &'a str },
-    /// This line of the input is no address. Only `locate` answers it.
+    /// This line of the input is no address. Only `Located::told` answers it.
     NoAddress { line: OtherLine },
 }
 

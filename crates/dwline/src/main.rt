@@ -140,12 +140,13 @@ fn run_words<'a>(rt: &HostRuntime, words: &'a [&'a str]) -> Result<u8, Ending<'a
     let (alloc, input, output) = (rt.alloc(), &mut rt.stdin(), &mut rt.stdout());
     let path = job.as_ref().and_then(|job| looked_into(job));
     if let Some(Job::Addr(words)) = &job {
-        return match locate(alloc, words, &files, input, output)? {
+        let located = locate(alloc, words, &files, input, output)?;
+        if located.found == Found::NotAll {
+            tell_not_read(rt, path);
+        }
+        return match located.told()? {
             Found::All => Ok(0),
-            Found::NotAll => {
-                tell_not_read(rt, path);
-                Ok(1)
-            }
+            Found::NotAll => Ok(1),
         };
     }
     match work(alloc, job, &files, input, output) {

@@ -3,7 +3,7 @@ use crate::shelf::Shelf;
 use dl_addr::Found;
 use dl_cmd::{AddrWords, Job};
 use dl_run::Summary;
-use dl_work::{Stop, locate, work};
+use dl_work::{Located, Stop, locate, work};
 use std::alloc::{AllocError, Global};
 use std::process::Abort;
 use std::test::Fail;
@@ -230,7 +230,7 @@ impl Told {
         shelf: &Shelf<'_>,
         words: &AddrWords<'a>,
         input: &[u8],
-    ) -> Result<Found, Stop<'a>> {
+    ) -> Result<Located, Stop<'a>> {
         let mut input = input;
         let located = locate(alloc, words, shelf, &mut input, &mut self.output);
         self.left = input.len();
@@ -238,8 +238,8 @@ impl Told {
     }
 
     /// What was found, or why nothing was.
-    fn found(&mut self, located: Result<Found, Stop<'_>>) -> Result<(), Fail> {
-        match located {
+    fn found(&mut self, located: Result<Located, Stop<'_>>) -> Result<(), Fail> {
+        match told_in_the_end(located) {
             Ok(Found::All) => Ok(()),
             Ok(Found::NotAll) => {
                 self.status = 1;
@@ -248,6 +248,11 @@ impl Told {
             Err(stop) => self.stop(&stop),
         }
     }
+}
+
+/// What is told in the end of addresses that were looked up.
+fn told_in_the_end<'a>(located: Result<Located, Stop<'a>>) -> Result<Found, Stop<'a>> {
+    located?.told()
 }
 
 /// What stops a program.

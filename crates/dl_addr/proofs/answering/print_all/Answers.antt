@@ -7,6 +7,7 @@ use Rattle.dl_print.proofs.Outs.{HasPrinted-nothing}
 use Rattle.dl_look.specs.declared.asked.Asked.{Asked}
 use Rattle.dl_addr.specs.Answers.{answer_seen}
 use Rattle.dl_look.specs.Asked.{looked_up}
+use Rattle.dl_addr.specs.Commands.{is_answered}
 use Rattle.dl_addr.specs.Printing.{answer_for}
 use Rattle.dl_addr.proofs.LinesLemmas.{all_out, found_all, found_more, loses_all, loses_line, prints_line, some_mapped}
 use Rattle.dl_addr.proofs.answering.print_all.Goals as goal
@@ -54,10 +55,11 @@ loop-number-preserved g c =
           (place_at q.base q.asked.now l.number lt))
           (l.invariant.printed first start held visits s made) c.in_ok-print_line.ensures;
       found = λ first start held visits s made. found_more q.style (answer_for first visits q.base) q.asked.now l.number
-          no_asked c.is_some.result l.found c.also-found.result lt
-          (c.is_some.ensures ∙ some_mapped answer_seen c.answer_to-answer.result
+          no_asked c.is_answered.result l.found c.also-found.result lt
+          (c.is_answered.ensures ∙ ap (is_answered (get_or q.asked.now l.number no_asked)) (c.is_some.ensures
+          ∙ some_mapped answer_seen c.answer_to-answer.result
           ∙ ap is_some (c.answer_to-answer.ensures first start held visits (map (looked_up q.base) q.asked.now) s
-          made (place_at q.base q.asked.now l.number lt)))
+          made (place_at q.base q.asked.now l.number lt))))
           (l.invariant.found first start held visits s made) c.also-found.ensures;
     }
 

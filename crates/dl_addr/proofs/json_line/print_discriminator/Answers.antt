@@ -1,6 +1,6 @@
 use Rattle.std.proofs.Common.{codes, decimal}
 use Rattle.std.proofs.lemmas.Result.{err_from_is_err_and}
-use Rattle.dl_addr.proofs.PrintLemmas.{loses_front, prints_then}
+use Rattle.dl_path.proofs.PrintLemmas.{loses_front, prints_then}
 use Rattle.dl_addr.proofs.json_line.print_discriminator.Goals as goal
 
 pub returns-in_err-put : goal.returns-in_err-put

@@ -1,7 +1,7 @@
 use Rattle.std.proofs.lemmas.Result.{err_from_is_err_and}
 use Rattle.std.specs.Option.{option_copied}
 use Rattle.dl_addr.specs.Json.{json_address, json_section}
-use Rattle.dl_addr.proofs.PrintLemmas.{loses_front}
+use Rattle.dl_path.proofs.PrintLemmas.{loses_front}
 use Rattle.dl_addr.proofs.json_line.print_json_asked.Goals as goal
 
 pub returns-in_err-print_json_address : goal.returns-in_err-print_json_address

@@ -5,7 +5,7 @@ use Rattle.dl_addr.specs.declared.style.Form.TheVariants.{Json}
 use Rattle.dl_addr.specs.Json.{json_is_stmt, json_position}
 use Rattle.dl_addr.specs.Texts.{path_kept}
 use Rattle.dl_addr.specs.Printing.{named_text}
-use Rattle.dl_addr.proofs.PrintLemmas.{loses_front, loses_then}
+use Rattle.dl_path.proofs.PrintLemmas.{loses_front, loses_then}
 use Rattle.dl_addr.proofs.json_line.print_json_row.Goals as goal
 
 pub returns-in_err-print_path_member : goal.returns-in_err-print_path_member

@@ -2,7 +2,7 @@ use Rattle.std.proofs.Common.{◌++◌, codes}
 use Rattle.std.proofs.lemmas.Result.{err_from_is_err_and}
 use Rattle.std.specs.Str.Lossy.{utf8_lossy}
 use Rattle.json.specs.Print.{escape}
-use Rattle.dl_addr.proofs.PrintLemmas.{loses_front, loses_then, more_then, prints_then}
+use Rattle.dl_path.proofs.PrintLemmas.{loses_front, loses_then, more_then, prints_then}
 use Rattle.dl_addr.proofs.json_line.print_name.Goals as goal
 
 pub returns-in_err-put : goal.returns-in_err-put

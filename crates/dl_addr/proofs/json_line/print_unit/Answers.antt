@@ -1,7 +1,7 @@
 use Rattle.std.proofs.Common.{◌++◌, codes}
 use Rattle.std.proofs.lemmas.Result.{err_from_is_err_and}
 use Rattle.dl_print.specs.Digits.{hexadecimal}
-use Rattle.dl_addr.proofs.PrintLemmas.{loses_front, prints_then}
+use Rattle.dl_path.proofs.PrintLemmas.{loses_front, prints_then}
 use Rattle.dl_addr.proofs.json_line.print_unit.Goals as goal
 
 pub returns-in_err-hexadecimal_number : goal.returns-in_err-hexadecimal_number

@@ -4,10 +4,10 @@ use Rattle.std.specs.Prelude.{unwrap_or}
 use Rattle.dl_print.specs.Output.{Prints}
 use Rattle.dl_addr.specs.declared.style.Form.{Form}
 use Rattle.dl_addr.specs.declared.style.Form.TheVariants.{Location, AddressAndLocation, Json}
-use Rattle.dl_addr.specs.Paths.{slash_after}
+use Rattle.dl_path.specs.Paths.{slash_after}
 use Rattle.dl_addr.specs.Printing.{inner_text}
-use Rattle.dl_addr.proofs.FrontLemmas.{json_nothing}
-use Rattle.dl_addr.proofs.PrintLemmas.{prints_same}
+use Rattle.dl_path.proofs.FrontLemmas.{json_nothing}
+use Rattle.dl_path.proofs.PrintLemmas.{prints_same}
 use Rattle.dl_addr.proofs.path_text.print_directory.Goals as goal
 
 no_text : (form : Form) → [] ≡ inner_text form [] ++ slash_after []

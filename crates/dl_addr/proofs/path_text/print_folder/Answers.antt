@@ -1,7 +1,7 @@
 use Rattle.std.proofs.lemmas.Result.{err_from_is_err_and}
-use Rattle.dl_addr.specs.Paths.{slash_after}
+use Rattle.dl_path.specs.Paths.{slash_after}
 use Rattle.dl_addr.specs.Printing.{inner_text}
-use Rattle.dl_addr.proofs.PrintLemmas.{loses_front}
+use Rattle.dl_path.proofs.PrintLemmas.{loses_front}
 use Rattle.dl_addr.proofs.path_text.print_folder.Goals as goal
 
 pub returns-in_err-print_text : goal.returns-in_err-print_text

@@ -7,14 +7,14 @@ use Rattle.std.specs.Str.Lossy.{utf8_lossy}
 use Rattle.dl_addr.specs.declared.kept.KeptPath.{KeptPath}
 use Rattle.dl_addr.specs.declared.style.Form.{Form}
 use Rattle.dl_addr.specs.declared.style.Form.TheVariants.{Location, AddressAndLocation, Json}
-use Rattle.dl_addr.specs.Paths.{slash_after}
+use Rattle.dl_path.specs.Paths.{slash_after}
 use Rattle.dl_addr.specs.Printing.{inner_text}
-use Rattle.dl_addr.specs.Shown.{shown}
+use Rattle.dl_path.specs.Shown.{shown}
 use Rattle.dl_addr.specs.Texts.{path_named, text_at, text_or_none}
-use Rattle.dl_addr.proofs.FrontLemmas.{json_at_slash, json_nothing}
-use Rattle.dl_addr.proofs.PathLemmas.{parts_apart}
-use Rattle.dl_addr.proofs.PrintLemmas.{loses_front, loses_same, loses_then, more_then, prints_same, prints_then}
-use Rattle.dl_addr.proofs.ShownLemmas.{shown_at_slash}
+use Rattle.dl_path.proofs.FrontLemmas.{json_at_slash, json_nothing}
+use Rattle.dl_path.proofs.PathLemmas.{parts_apart}
+use Rattle.dl_path.proofs.PrintLemmas.{loses_front, loses_same, loses_then, more_then, prints_same, prints_then}
+use Rattle.dl_path.proofs.ShownLemmas.{shown_at_slash}
 use Rattle.dl_addr.proofs.path_text.print_parts.Goals as goal
 
 abbrev folder : Form → List ℕ → List ℕ

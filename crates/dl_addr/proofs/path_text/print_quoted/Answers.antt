@@ -3,7 +3,7 @@ use Rattle.std.proofs.lemmas.Result.{err_from_is_err_and}
 use Rattle.std.specs.Str.Lossy.{utf8_lossy}
 use Rattle.json.specs.Print.{escape}
 use Rattle.dl_addr.specs.Texts.{path_named}
-use Rattle.dl_addr.proofs.PrintLemmas.{loses_front, loses_then}
+use Rattle.dl_path.proofs.PrintLemmas.{loses_front, loses_then}
 use Rattle.dl_addr.proofs.path_text.print_quoted.Goals as goal
 
 pub returns-in_err-print_parts : goal.returns-in_err-print_parts

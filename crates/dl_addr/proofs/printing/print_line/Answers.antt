@@ -5,7 +5,7 @@ use Rattle.std.specs.Option.{option_copied}
 use Rattle.dl_addr.specs.Answers.{answer_seen}
 use Rattle.dl_addr.specs.Locations.{asked_text}
 use Rattle.dl_addr.specs.Printing.{seen_text}
-use Rattle.dl_addr.proofs.PrintLemmas.{loses_front, loses_then}
+use Rattle.dl_path.proofs.PrintLemmas.{loses_front, loses_then}
 use Rattle.dl_addr.proofs.printing.print_line.Goals as goal
 
 pub returns-in_err-print_asked : goal.returns-in_err-print_asked

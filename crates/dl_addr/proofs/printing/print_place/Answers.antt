@@ -3,7 +3,7 @@ use Rattle.std.proofs.lemmas.Result.{err_from_is_err_and}
 use Rattle.dl_addr.specs.Locations.{column_text}
 use Rattle.dl_addr.specs.Texts.{path_kept}
 use Rattle.dl_addr.specs.Printing.{named_text}
-use Rattle.dl_addr.proofs.PrintLemmas.{loses_front, loses_then}
+use Rattle.dl_path.proofs.PrintLemmas.{loses_front, loses_then}
 use Rattle.dl_addr.proofs.printing.print_place.Goals as goal
 
 pub returns-in_err-print_path : goal.returns-in_err-print_path

@@ -7,7 +7,7 @@ use Rattle.dl_addr.specs.Json.{json_row}
 use Rattle.dl_addr.specs.Locations.{row_text}
 use Rattle.dl_addr.specs.Printing.{named_text}
 use Rattle.dl_addr.specs.Texts.{path_kept}
-use Rattle.dl_addr.proofs.PrintLemmas.{loses_front, prints_then}
+use Rattle.dl_path.proofs.PrintLemmas.{loses_front, prints_then}
 use Rattle.dl_addr.proofs.printing.print_row.Goals as goal
 
 pub returns-in_err-print_json_row-in-Json : goal.returns-in_err-print_json_row-in-Json

@@ -1,4 +1,4 @@
-use Rattle.dl_addr.specs.PathParts.{text_seen}
+use Rattle.dl_path.specs.PathParts.{text_seen}
 use Rattle.dl_addr.proofs.TextLemmas.{directory_added, texts_stay}
 use Rattle.dl_addr.proofs.texts.directory_number.Goals as goal
 

@@ -1,7 +1,7 @@
 use Rattle.std.proofs.Common.{Option, Some, None, [], ap, refl, subst}
 use Rattle.std.specs.Prelude.{IfSome, option_map}
-use Rattle.dl_addr.specs.declared.parts.Parts.{Parts}
-use Rattle.dl_addr.specs.PathParts.{FromDirectories, directory_seen, parts_seen, text_seen}
+use Rattle.dl_path.specs.declared.parts.Parts.{Parts}
+use Rattle.dl_path.specs.PathParts.{FromDirectories, directory_seen, parts_seen, text_seen}
 use Rattle.dl_addr.proofs.TextLemmas.{part_stays, texts_stay}
 use Rattle.dl_addr.proofs.texts.keep_parts.Goals as goal
 

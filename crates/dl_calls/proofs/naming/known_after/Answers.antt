@@ -1,9 +1,9 @@
 use Rattle.std.proofs.Common.{◌≡◌, ℕ, List, ◌++◌, sym, ap, ap₂, ◌∙◌, append_assoc}
 use Rattle.dl_calls.specs.UnitCalls.{length_told, written_over}
-use Rattle.dl_addr.specs.declared.path.Path.{Path}
-use Rattle.dl_addr.specs.Parts.{path_seen}
-use Rattle.dl_addr.specs.Paths.{slash_after}
-use Rattle.dl_addr.proofs.PathLemmas.{slash_after-under}
+use Rattle.dl_path.specs.declared.path.Path.{Path}
+use Rattle.dl_path.specs.Parts.{path_seen}
+use Rattle.dl_path.specs.Paths.{slash_after}
+use Rattle.dl_path.proofs.PathLemmas.{slash_after-under}
 use Rattle.dl_calls.proofs.naming.known_after.Goals as goal
 
 -- what five texts come to after another one

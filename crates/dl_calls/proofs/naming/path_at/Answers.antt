@@ -3,7 +3,7 @@ use Rattle.dl_num.specs.declared.fixed.Order.{Order}
 use Rattle.dl_head.specs.Header.{foreign_in}
 use Rattle.dl_print.specs.ValueText.{Strings}
 use Rattle.dl_run.specs.Section.{header_of}
-use Rattle.dl_addr.specs.Paths.{path_of}
+use Rattle.dl_path.specs.Paths.{path_of}
 use Rattle.dl_calls.specs.declared.status.Status.TheVariants as status
 use Rattle.dl_calls.specs.Records.{record_of}
 use Rattle.dl_calls.specs.PathCalls.{Names, TellsPath, both_strings, path_or_missing}

@@ -73,5 +73,5 @@ returns g c =
           c.in-Ok.ensures.code
           (λ f known short. on_file_weaker _ _ c.args.path.now _ (Addr c.question.result) f _ _ _ c.in-Ok.ensures.reads
           (c.on_file-answer.ensures f (c.in-Ok.ensures.bytes ∙ known) short))
-          c.located.ensures,
+          c.by_answer.ensures,
     )

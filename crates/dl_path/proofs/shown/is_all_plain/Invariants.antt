@@ -1,0 +1,8 @@
+-- Whether those so far stand for themselves.
+use Rattle.std.proofs.Common.{◌≡◌, take}
+use Rattle.std.specs.List.{list_all}
+use Rattle.dl_path.specs.Shown.{is_plain}
+use Rattle.dl_path.proofs.shown.is_all_plain.Given as goal
+
+abbrev pub invariant-loop-byte : goal.invariant-loop-byte
+invariant-loop-byte l = l.all ≡ list_all is_plain (take l.byte-index l.text)

@@ -1,0 +1,14 @@
+//! The paths of files under the headers of their units, and texts of paths as they are printed.
+#![tactic(auto)]
+
+mod component;
+mod json_text;
+mod parts;
+mod path;
+mod shown;
+
+pub use component::basename;
+pub use json_text::print_json_text;
+pub use parts::{Directory, Parts, Text, parts_of};
+pub use path::{Path, path_of, slash_after, wants_slash};
+pub use shown::{is_all_plain, print_shown};
