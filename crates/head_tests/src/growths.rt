@@ -11,10 +11,10 @@ use std::test::Fail;
 use test_support::{hoard, hoard_but};
 
 /// Room for the 2,000 values that a header claims.
-const CLAIMED_ROOM: usize = 48_000;
+const CLAIMED_ROOM: usize = 34_000;
 
 /// The size of the first growth of a table's values.
-const VALUES_SIZE: usize = 96;
+const VALUES_SIZE: usize = 68;
 
 const PAIRS: [Pair; 2] = [
     Pair {
