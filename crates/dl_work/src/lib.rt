@@ -7,6 +7,7 @@ mod command;
 mod debug_file;
 mod files;
 mod locating;
+mod named;
 mod not_read;
 mod object_part;
 mod over_file;

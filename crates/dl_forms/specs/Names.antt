@@ -1,0 +1,39 @@
+-- Whether a table of a section of units names `.debug_str`. DWARF 5, sections 6.2.4, 6.2.4.1, 7.4 and 7.5.6.
+use Rattle.std.specs.Prelude.{◌≡◌, ℕ, ◌≤◌, Bool, true, false, ◌||◌, List, ◌++◌, length, drop, Option, Some, None}
+use Rattle.std.specs.List.{list_any}
+use Rattle.dl_num.specs.declared.fixed.Order.{Order}
+use Rattle.dl_table.specs.declared.form.Form.{Form}
+use Rattle.dl_table.specs.declared.form.Form.TheVariants as form
+use Rattle.dl_table.specs.declared.table.Pair.{Pair}
+use Rattle.dl_field.specs.HeaderData.{HeaderData}
+use Rattle.dl_head.specs.Header.{IsHeader, foreign_in, unit_len}
+
+abbrev pub is_strp : Form → Bool
+is_strp form.Strp = true
+is_strp other = false
+
+-- one of the pairs of a format has DW_FORM_strp
+abbrev pub has_strp : List Pair → Bool
+has_strp pairs = list_any (λ p. is_strp p.form) pairs
+
+-- the format of the directories has such a pair, or that of the files
+abbrev pub names_str : HeaderData → Bool
+names_str h = has_strp h.directories.pairs || has_strp h.files.pairs
+
+abbrev pub named_in : Option HeaderData → Bool
+named_in None = false
+named_in (Some h) = names_str h
+
+-- The header of a unit in b names the section. The units are cut by their lengths alone: their programs aren't looked
+-- into, and a unit that is cut short is followed by nothing. After a header that isn't one no unit stands.
+pub data Names (order : Order) : List ℕ → Type 0 where
+  -- b begins with such a header
+  here : {h : HeaderData} {b : List ℕ} (head back : List ℕ) → b ≡ head ++ back → IsHeader order h head
+      → names_str h ≡ true → Names order b
+  -- b begins with a header, and a unit after that one has such a header
+  after : {h : HeaderData} {b : List ℕ} (head back : List ℕ) {len : ℕ} → b ≡ head ++ back → IsHeader order h head
+      → unit_len order head ≡ Some len → Names order (drop len b) → Names order b
+  -- the same after a unit of another version, which b begins with up to that version
+  after_foreign : {b : List ℕ} (head back : List ℕ) {version len : ℕ} → b ≡ head ++ back
+      → foreign_in order head ≡ Some version → unit_len order head ≡ Some len → length head ≤ len
+      → Names order (drop len b) → Names order b

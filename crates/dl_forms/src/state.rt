@@ -1,0 +1,130 @@
+//! Where a walk over the units of a section is. Section 6.2.4.
+
+ghost use Rattle.std.specs.Prelude.{◌≡◌, ◌≤◌, ◌++◌, ℕ, List, length, take, IfOk, IfErr};
+ghost use Rattle.std.specs.Option.{option_copied};
+ghost use Rattle.dl_object.specs.Section.{WantsCell};
+ghost use Rattle.dl_forms.specs.declared.state.State.TheVariants as state;
+ghost use Rattle.dl_forms.specs.Names.{has_strp, is_strp, named_in};
+ghost use Rattle.dl_forms.specs.Standing.{Begins, IsHead, Onward, StandsAt};
+
+use dl_head::{Form, HeadReader, HeadStep, Header, Pair};
+use dl_num::Order;
+use dl_object::NoMemory;
+use std::alloc::Global;
+
+/// Where a walk is.
+#[derive(Drop)]
+pub enum State {
+    /// In the head of a unit.
+    Head(HeadReader),
+    /// After the head of a unit, so many bytes before its end.
+    Body(u64),
+    /// After a header that names the section.
+    Named,
+    /// Where no unit begins. Nothing after it is read.
+    Ended,
+}
+
+fn is_strp(form: Form) -> bool
+    ensures { result ≡ is_strp form }
+{
+    matches!(form, Form::Strp)
+}
+
+/// Whether one of the pairs has DW_FORM_strp.
+fn has_strp(pairs: &[Pair]) -> bool
+    ensures { result ≡ has_strp pairs.now }
+{
+    pairs.iter().any(|pair| is_strp(pair.form))
+}
+
+/// Whether a table of the header names the section, where there is a header.
+fn is_named(header: Option<&Header>) -> bool
+    ensures { result ≡ named_in (option_copied header.entry) }
+{
+    match header {
+        Some(header) => {
+            has_strp(header.directories().pairs()) || has_strp(header.files().pairs())
+        }
+        None => false,
+    }
+}
+
+/// Where a walk is after the head of a unit.
+fn after_head(reader: &HeadReader) -> State
+    ensures { (b w : List ℕ) → IsHead reader.now w → Onward reader.now.order b w
+        → StandsAt reader.now.order result b }
+{
+    if is_named(reader.header()) {
+        return State::Named;
+    }
+    match reader.unit_len() {
+        Some(len) => State::Body(len.saturating_sub(reader.taken())),
+        None => State::Ended,
+    }
+}
+
+/// Takes bytes of the head of a unit: where the walk is after them, and how many they are.
+fn read_head(reader: HeadReader, piece: &[u8]) -> Result<(State, usize), NoMemory>
+    requires { 1 ≤ length piece.now }
+    ensures within { IfOk result (λ r. r.1 ≤ length piece.now) }
+    ensures stands { (b u : List ℕ) → Begins reader u → Onward reader.order b u
+        → IfOk result (λ r. (1 ≤ r.1) × StandsAt reader.order r.0 (b ++ take r.1 piece.now)) }
+    ensures memory { (b u : List ℕ) → Begins reader u → Onward reader.order b u
+        → IfErr result (λ error. WantsCell reader.order (b ++ piece.now)) }
+{
+    let mut reader = reader;
+    let (used, step) = reader.offer(piece);
+    match step {
+        HeadStep::More => Ok((State::Head(reader), used)),
+        HeadStep::Done | HeadStep::Foreign(_) => Ok((after_head(&reader), used)),
+        HeadStep::Fault(_) => Ok((State::Ended, used)),
+        HeadStep::NoMemory => Err(NoMemory),
+    }
+}
+
+/// Takes bytes of a section: where the walk is after them, and how many they are.
+pub fn advance(
+    alloc: Global,
+    order: Order,
+    state: State,
+    piece: &[u8],
+) -> Result<(State, usize), NoMemory>
+    requires { 1 ≤ length piece.now }
+    ensures within { IfOk result (λ r. r.1 ≤ length piece.now) }
+    ensures stands { (b : List ℕ) → StandsAt order state b
+        → IfOk result (λ r. (1 ≤ r.1) × StandsAt order r.0 (b ++ take r.1 piece.now)) }
+    ensures memory { (b : List ℕ) → StandsAt order state b
+        → IfErr result (λ error. WantsCell order (b ++ piece.now)) }
+{
+    match state {
+        State::Head(reader) => read_head(reader, piece),
+        State::Body(left) => after_body(alloc, order, left, piece),
+        State::Named => Ok((State::Named, piece.len())),
+        State::Ended => Ok((State::Ended, piece.len())),
+    }
+}
+
+/// The same after the head of a unit, so many bytes before its end.
+fn after_body(
+    alloc: Global,
+    order: Order,
+    left: u64,
+    piece: &[u8],
+) -> Result<(State, usize), NoMemory>
+    requires { 1 ≤ length piece.now }
+    ensures within { IfOk result (λ r. r.1 ≤ length piece.now) }
+    ensures stands { (b : List ℕ) → StandsAt order (state.Body left) b
+        → IfOk result (λ r. (1 ≤ r.1) × StandsAt order r.0 (b ++ take r.1 piece.now)) }
+    ensures memory { (b : List ℕ) → StandsAt order (state.Body left) b
+        → IfErr result (λ error. WantsCell order (b ++ piece.now)) }
+{
+    if left >= piece.len() as u64 {
+        return Ok((State::Body(left - piece.len() as u64), piece.len()));
+    }
+    let left = left as usize;
+    let Ok((state, used)) = read_head(HeadReader::new(alloc, order), &piece[left..]) else {
+        return Err(NoMemory);
+    };
+    Ok((state, left + used))
+}

@@ -1,0 +1,84 @@
+//! A walk over the units of a section, whose bytes come in pieces. Section 6.2.4.
+
+ghost use Rattle.std.specs.Prelude.{◌≡◌, ◌↔◌, ◌++◌, ℕ, List, [], IfOk, IfErr, IsTrue};
+ghost use Rattle.dl_object.specs.Section.{WantsCell};
+ghost use Rattle.dl_forms.specs.Names.{Names};
+ghost use Rattle.dl_forms.specs.Standing.{StandsFor};
+
+use crate::state::{State, advance};
+use dl_head::HeadReader;
+use dl_num::Order;
+use dl_object::NoMemory;
+use std::alloc::Global;
+
+/// A walk over the units of a section, which tells whether a table of one of them names `.debug_str`: a pair of the
+/// format of its directories or files has DW_FORM_strp.
+///
+/// Of each unit it reads the header, and passes over what follows by the unit's length, as over units of other
+/// versions. Where no unit begins, as at a fault in a header, it ends. Memory is taken for a header at a time.
+#[derive(Drop)]
+pub struct StringWalk {
+    alloc: Global,
+    order: Order,
+    state: State,
+}
+
+impl StringWalk {
+    /// No byte yet of a section whose numbers stand in this order. It takes no memory.
+    pub fn new(alloc: Global, order: Order) -> StringWalk
+        ensures stands { StandsFor result [] }
+        ensures order { result.order ≡ order }
+    {
+        StringWalk {
+            alloc,
+            order,
+            state: State::Head(HeadReader::new(alloc, order)),
+        }
+    }
+
+    /// Takes the next bytes of the section.
+    pub fn feed(self, piece: &[u8]) -> Result<StringWalk, NoMemory>
+        ensures stands { (b : List ℕ) → StandsFor self b → IfOk result (λ walk. StandsFor walk (b ++ piece.now)) }
+        ensures order { IfOk result (λ walk. walk.order ≡ self.order) }
+        ensures memory { (b : List ℕ) → StandsFor self b
+            → IfErr result (λ error. WantsCell self.order (b ++ piece.now)) }
+    {
+        let StringWalk {
+            alloc,
+            order,
+            mut state,
+        } = self;
+        let mut at = 0;
+        for _ in 0..piece.len() {
+            if at == piece.len() {
+                break;
+            }
+            let Ok((next, used)) = advance(alloc, order, state, &piece[at..]) else {
+                return Err(NoMemory);
+            };
+            state = next;
+            at += used;
+        }
+        Ok(StringWalk {
+            alloc,
+            order,
+            state,
+        })
+    }
+
+    /// Whether a table of a unit in the bytes taken names the section.
+    pub fn names_str(&self) -> bool
+        ensures { (b : List ℕ) → StandsFor self.now b → IsTrue result ↔ Names self.now.order b }
+    {
+        matches!(self.state, State::Named)
+    }
+
+    /// Whether that is settled, whatever bytes follow.
+    pub fn is_over(&self) -> bool
+        ensures settled { (b rest : List ℕ) → StandsFor self.now b → IsTrue result
+            → Names self.now.order (b ++ rest) ↔ Names self.now.order b }
+        ensures named { (b : List ℕ) → StandsFor self.now b → Names self.now.order b → IsTrue result }
+    {
+        matches!(self.state, State::Named | State::Ended)
+    }
+}
