@@ -6,9 +6,8 @@ use Rattle.std.proofs.lemmas.Bool.{eqb-true}
 use Rattle.std.specs.Prelude.{IfSome}
 use Rattle.std.specs.Io.KnownBytes.{Consumes, IsAtEnd}
 use Rattle.dl_num.specs.declared.fixed.Order.{Order}
-use Rattle.dl_object.specs.Section.{WantsCell}
 use Rattle.dl_run.specs.declared.options.TheConstants.{SECTION_LIMIT}
-use Rattle.dl_forms.specs.Names.{Names}
+use Rattle.dl_forms.specs.Names.{AddsCellFrom, Names}
 
 -- it is told of all bytes, where those that were read settle it
 settled : (order : Order) (known left : Option (List ℕ)) (bs : List ℕ) (names : Bool) → Consumes known left bs
@@ -44,18 +43,18 @@ over order known left bs names consumes told same =
     settled order known left bs names consumes told (λ rest is. same rest)
 
 -- memory was refused
-pub wants : (order : Order) (known left : Option (List ℕ)) (bs : List ℕ) → Consumes known left bs → WantsCell order bs
-    → IfSome known (WantsCell order)
-wants order None left bs consumes cell = tt
-wants order (Some bytes) None bs consumes cell = absurd consumes
-wants order (Some bytes) (Some rest) bs consumes (before, after, split, front, byte, back, begins, adds) = (
+pub wants : (order : Order) (known left : Option (List ℕ)) (bs : List ℕ) (n : ℕ) → Consumes known left bs
+    → AddsCellFrom order n bs → IfSome known (AddsCellFrom order 0)
+wants order None left bs n consumes cell = tt
+wants order (Some bytes) None bs n consumes cell = absurd consumes
+wants order (Some bytes) (Some rest) bs n consumes (before, front, byte, back, split, past, adds) = (
   before,
-  after ++ rest,
-  consumes ∙ ap (λ (z : List ℕ). z ++ rest) split ∙ append_assoc before after rest,
   front,
   byte,
   back ++ rest,
-  ap (λ (z : List ℕ). z ++ rest) begins ∙ append_assoc front (byte ∷ back) rest,
+  consumes ∙ ap (λ (z : List ℕ). z ++ rest) split ∙ append_assoc before (front ++ byte ∷ back) rest
+      ∙ ap (λ (z : List ℕ). before ++ z) (append_assoc front (byte ∷ back) rest),
+  omega arith,
   adds,
 )
 

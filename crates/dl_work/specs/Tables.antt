@@ -11,7 +11,7 @@ use Rattle.dl_elf.specs.declared.fault.ElfFault.TheVariants.{Read, NoMemory}
 use Rattle.dl_elf.specs.declared.name.SectionName.{SectionName}
 use Rattle.dl_file.specs.LineTable.{Content, HasLineTable, Inflated, LineTable, Plain, TakesMemory}
 use Rattle.dl_num.specs.declared.fixed.Order.{Order}
-use Rattle.dl_forms.specs.Names.{Names}
+use Rattle.dl_forms.specs.Names.{AddsCellFrom, Names}
 use Rattle.dl_object.specs.Kept.{Rises}
 use Rattle.dl_object.specs.Section.{Keeps, WantsCell}
 use Rattle.dl_run.specs.declared.options.TheConstants.{SECTION_LIMIT}
@@ -173,7 +173,7 @@ IsNamed order (Inflated name known damage) names = IfSome known (λ bytes. IsTru
 -- it can't be told: a read failed, or memory was refused for a header, or the section is too long
 abbrev pub StopsNaming : Order → (known : Option (List ℕ)) → RunFault → Type 0
 StopsNaming order known fault.Read = ⊤
-StopsNaming order known fault.NoMemory = IfSome known (WantsCell order)
+StopsNaming order known fault.NoMemory = IfSome known (AddsCellFrom order 0)
 StopsNaming order known fault.SectionTooLong = IfSome known (λ bytes. SECTION_LIMIT < length bytes)
 StopsNaming order known other = ⊥
 

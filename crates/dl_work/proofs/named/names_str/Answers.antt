@@ -1,8 +1,7 @@
-use Rattle.std.proofs.Common.{◌++◌, ◌≡◌, [], ap, arith, append-nil, length-append, subst, sym, refl, ◌∙◌, List, ℕ}
+use Rattle.std.proofs.Common.{◌++◌, ◌≡◌, [], ap, arith, append-nil, length, length-append, subst, sym, refl, ◌∙◌, List, ℕ}
 use Rattle.std.proofs.KnownBytes.{Consumes-nil, Consumes-trans}
 use Rattle.dl_num.specs.declared.fixed.Order.{Order}
-use Rattle.dl_forms.specs.Names.{Names}
-use Rattle.dl_object.specs.Section.{WantsCell}
+use Rattle.dl_forms.specs.Names.{AddsCellFrom}
 use Rattle.dl_work.proofs.NamedLemmas.{at_end, empty_is, over, told_in, wants}
 use Rattle.dl_work.proofs.NamedLemmas.{too_long, same_over}
 use Rattle.dl_work.proofs.named.names_str.Goals as goal
@@ -35,9 +34,9 @@ pub returns-in-Err : goal.returns-in-Err
 returns-in-Err g c =
     let l = c.loop-buffer in
     let read = l.invariant.read in
-    wants c.args.order _ _ (read.0 ++ c.in-Ok.piece.now)
+    wants c.args.order _ _ (read.0 ++ c.in-Ok.piece.now) (length read.0)
     (Consumes-trans _ _ _ read.0 c.in-Ok.piece.now read.1 c.in-Ok.ensures.ok)
-    (subst (λ (o : Order). WantsCell o (read.0 ++ c.in-Ok.piece.now)) l.invariant.order
+    (subst (λ (o : Order). AddsCellFrom o (length read.0) (read.0 ++ c.in-Ok.piece.now)) l.invariant.order
     (c.in-Err.ensures.memory read.0 read.2))
 
 pub loop-buffer-preserved : goal.loop-buffer-preserved
