@@ -1,6 +1,6 @@
 -- A walk over the units of a section, a piece further on.
-use Rattle.std.proofs.Common.{◌≡◌, ◌≢◌, ◌⊎◌, ◌↔◌, inl, inr, ℕ, ◌+◌, ◌-◌, ◌<◌, ◌≤◌, List, [], ◌∷◌, ◌++◌, length, take, drop}
-use Rattle.std.proofs.Common.{Bool, true, false, Option, Some, None, refl, sym, ap, subst, ◌∙◌, arith, append_assoc, append-nil}
+use Rattle.std.proofs.Common.{◌≡◌, ◌≢◌, ◌⊎◌, ◌↔◌, inl, inr, ℕ, ◌+◌, ◌-◌, ◌<◌, ◌≤◌, List, [], ◌++◌, length, take, drop}
+use Rattle.std.proofs.Common.{true, false, Option, Some, None, refl, sym, ap, subst, ◌∙◌, arith, append_assoc, append-nil}
 use Rattle.std.proofs.Common.{length-append, length-drop, length-take-le}
 use Rattle.std.proofs.lemmas.Bool.{cases_lt}
 use Rattle.std.proofs.lemmas.List.{take-append-drop, take-append-le, take-take, take_all, take_at, drop-drop, drop_all, drop_at, take_rest}
@@ -10,17 +10,17 @@ use Rattle.dl_field.proofs.FieldLemmas.{none_some}
 use Rattle.dl_head.specs.declared.reader.HeadReader.{HeadReader}
 use Rattle.dl_head.specs.declared.reader.HeadStep.{HeadStep}
 use Rattle.dl_head.specs.declared.reader.HeadStep.TheVariants as answer
-use Rattle.dl_head.specs.Header.{IsHeader, foreign_in, unit_len}
+use Rattle.dl_head.specs.Header.{IsHeader, unit_len}
 use Rattle.dl_head.specs.Reading.{Answers, Gives}
 use Rattle.dl_head.specs.Runs.{Offered, Took, so_far}
 use Rattle.dl_head.specs.Standing.{StandsFor as HeadStandsFor}
 use Rattle.dl_rows.proofs.ReaderFeeds.{nothing_yet}
 use Rattle.dl_rows.proofs.UnitKnown.{foreign_known, header_known}
-use Rattle.dl_object.specs.Section.{AddsCell, NoUnitBegins, WantsCell}
+use Rattle.dl_object.specs.Section.{NoUnitBegins}
 use Rattle.dl_object.proofs.HeadLemmas.{none_begins}
 use Rattle.dl_forms.specs.declared.state.State.{State}
 use Rattle.dl_forms.specs.declared.state.State.TheVariants as state
-use Rattle.dl_forms.specs.Names.{Names, named_in}
+use Rattle.dl_forms.specs.Names.{AddsCellFrom, Names, named_in}
 use Rattle.dl_forms.specs.Standing.{Begins, IsHead, Onward, StandsAt}
 use Rattle.dl_forms.proofs.NamesLemmas.{Kind, named_here, none_named, past_head}
 
@@ -120,14 +120,20 @@ module _ (order : Order) (u piece : List ℕ) (goes : IsOpen order u) (used : �
       (λ more. let g : answer.Fault f ≡ answer.More = sym e ∙ more in absurd cc))
 
   -- memory is refused
-  pub adds_cell : step ≡ answer.NoMemory → AddsCell order (u ++ piece)
-  adds_cell e =
-      let cell = took.unfed e in (
+  pub adds_cell : step ≡ answer.NoMemory → (before b : List ℕ) → b ≡ before ++ u
+      → AddsCellFrom order (length b) (b ++ piece)
+  adds_cell e before b split =
+      let cell = took.unfed e in
+      let n = ap length split ∙ length-append before u in
+      let m = w_len in (
+        before,
         w,
         cell.0,
         cell.1,
-        ap (λ (z : List ℕ). u ++ z) (sym (take-append-drop used piece)) ∙ sym (append_assoc u (take used piece) (drop used piece))
-            ∙ ap (λ (z : List ℕ). w ++ z) cell.2,
+        ap (λ (z : List ℕ). z ++ piece) split ∙ append_assoc before u piece
+            ∙ ap (λ (z : List ℕ). before ++ z) (ap (λ (z : List ℕ). u ++ z) (sym (take-append-drop used piece))
+            ∙ sym (append_assoc u (take used piece) (drop used piece)) ∙ ap (λ (z : List ℕ). w ++ z) cell.2),
+        omega (arith, n, m),
         cell.3,
       )
 
@@ -291,13 +297,9 @@ module _ (reader new : HeadReader) (b u piece : List ℕ) (used : ℕ) (step : H
       fault_names_none reader.order u piece begins.goes used step took f fault rest ((later.same rest).0 named)
 
   -- memory is refused
-  pub wants_cell : step ≡ answer.NoMemory → WantsCell reader.order (b ++ piece)
-  wants_cell refused = (
-    onward.before,
-    u ++ piece,
-    ap (λ (z : List ℕ). z ++ piece) onward.split ∙ append_assoc onward.before u piece,
-    adds_cell reader.order u piece begins.goes used step took refused,
-  )
+  pub wants_cell : step ≡ answer.NoMemory → AddsCellFrom reader.order (length b) (b ++ piece)
+  wants_cell refused =
+      adds_cell reader.order u piece begins.goes used step took refused onward.before b onward.split
 
 -- ---- a part of a piece, and bytes of what follows it
 
@@ -322,11 +324,20 @@ further_within piece at used le within =
     omega (arith, n, m, le, within)
 
 pub wants_further : (order : Order) (b piece : List ℕ) (at : ℕ)
-    → WantsCell order ((b ++ take at piece) ++ take (length piece - at) (drop at piece)) → WantsCell order (b ++ piece)
-wants_further order b piece at wants =
-    subst (WantsCell order) (append_assoc b (take at piece) (take (length piece - at) (drop at piece))
-    ∙ ap (λ (z : List ℕ). b ++ z) (ap (λ (z : List ℕ). take at piece ++ z) (take_rest piece at) ∙ take-append-drop at piece))
-    wants
+    → AddsCellFrom order (length (b ++ take at piece)) ((b ++ take at piece) ++ take (length piece - at) (drop at piece))
+    → AddsCellFrom order (length b) (b ++ piece)
+wants_further order b piece at (before, front, byte, back, split, past, adds) =
+    let n = length-append b (take at piece) in (
+      before,
+      front,
+      byte,
+      back,
+      sym (append_assoc b (take at piece) (take (length piece - at) (drop at piece))
+          ∙ ap (λ (z : List ℕ). b ++ z) (ap (λ (z : List ℕ). take at piece ++ z) (take_rest piece at)
+          ∙ take-append-drop at piece)) ∙ split,
+      omega (arith, n, past),
+      adds,
+    )
 
 -- ---- what was named, by where the walk is
 

@@ -1,4 +1,4 @@
 -- What the public contracts say rests on this.
 pub mod Names
--- Which bytes a walk has taken; no promise rests on how this is said.
+-- For what a value stands; public contracts name this, and don't rest on how it is said.
 pub mod Standing

@@ -1,5 +1,5 @@
 -- Whether a table of a section of units names `.debug_str`. DWARF 5, sections 6.2.4, 6.2.4.1, 7.4 and 7.5.6.
-use Rattle.std.specs.Prelude.{◌≡◌, ℕ, ◌≤◌, Bool, true, false, ◌||◌, List, ◌++◌, length, drop, Option, Some, None}
+use Rattle.std.specs.Prelude.{◌≡◌, ℕ, ◌+◌, ◌≤◌, Bool, true, false, ◌||◌, List, ◌∷◌, ◌++◌, length, drop, Option, Some, None}
 use Rattle.std.specs.List.{list_any}
 use Rattle.dl_num.specs.declared.fixed.Order.{Order}
 use Rattle.dl_table.specs.declared.form.Form.{Form}
@@ -7,6 +7,7 @@ use Rattle.dl_table.specs.declared.form.Form.TheVariants as form
 use Rattle.dl_table.specs.declared.table.Pair.{Pair}
 use Rattle.dl_field.specs.HeaderData.{HeaderData}
 use Rattle.dl_head.specs.Header.{IsHeader, foreign_in, unit_len}
+use Rattle.dl_head.specs.Reading.{AddsCell}
 
 abbrev pub is_strp : Form → Bool
 is_strp form.Strp = true
@@ -37,3 +38,9 @@ pub data Names (order : Order) : List ℕ → Type 0 where
   after_foreign : {b : List ℕ} (head back : List ℕ) {version len : ℕ} → b ≡ head ++ back
       → foreign_in order head ≡ Some version → unit_len order head ≡ Some len → length head ≤ len
       → Names order (drop len b) → Names order b
+
+-- with a byte after the first n of b the header of a unit in b holds a cell more, for which memory may be refused
+abbrev pub AddsCellFrom : Order → (n : ℕ) (b : List ℕ) → Type 0
+AddsCellFrom order n b =
+    (before : List ℕ) × (front : List ℕ) × (byte : ℕ) × (back : List ℕ) × (b ≡ before ++ (front ++ byte ∷ back))
+    × (n ≤ length before + length front) × AddsCell order front byte

@@ -2,9 +2,8 @@
 
 ghost use Rattle.std.specs.Prelude.{◌≡◌, ◌≤◌, ◌++◌, ℕ, List, length, take, IfOk, IfErr};
 ghost use Rattle.std.specs.Option.{option_copied};
-ghost use Rattle.dl_object.specs.Section.{WantsCell};
 ghost use Rattle.dl_forms.specs.declared.state.State.TheVariants as state;
-ghost use Rattle.dl_forms.specs.Names.{has_strp, is_strp, named_in};
+ghost use Rattle.dl_forms.specs.Names.{AddsCellFrom, has_strp, is_strp, named_in};
 ghost use Rattle.dl_forms.specs.Standing.{Begins, IsHead, Onward, StandsAt};
 
 use dl_head::{Form, HeadReader, HeadStep, Header, Pair};
@@ -71,7 +70,7 @@ fn read_head(reader: HeadReader, piece: &[u8]) -> Result<(State, usize), NoMemor
     ensures stands { (b u : List ℕ) → Begins reader u → Onward reader.order b u
         → IfOk result (λ r. (1 ≤ r.1) × StandsAt reader.order r.0 (b ++ take r.1 piece.now)) }
     ensures memory { (b u : List ℕ) → Begins reader u → Onward reader.order b u
-        → IfErr result (λ error. WantsCell reader.order (b ++ piece.now)) }
+        → IfErr result (λ error. AddsCellFrom reader.order (length b) (b ++ piece.now)) }
 {
     let mut reader = reader;
     let (used, step) = reader.offer(piece);
@@ -95,7 +94,7 @@ pub fn advance(
     ensures stands { (b : List ℕ) → StandsAt order state b
         → IfOk result (λ r. (1 ≤ r.1) × StandsAt order r.0 (b ++ take r.1 piece.now)) }
     ensures memory { (b : List ℕ) → StandsAt order state b
-        → IfErr result (λ error. WantsCell order (b ++ piece.now)) }
+        → IfErr result (λ error. AddsCellFrom order (length b) (b ++ piece.now)) }
 {
     match state {
         State::Head(reader) => read_head(reader, piece),
@@ -117,7 +116,7 @@ fn after_body(
     ensures stands { (b : List ℕ) → StandsAt order (state.Body left) b
         → IfOk result (λ r. (1 ≤ r.1) × StandsAt order r.0 (b ++ take r.1 piece.now)) }
     ensures memory { (b : List ℕ) → StandsAt order (state.Body left) b
-        → IfErr result (λ error. WantsCell order (b ++ piece.now)) }
+        → IfErr result (λ error. AddsCellFrom order (length b) (b ++ piece.now)) }
 {
     if left >= piece.len() as u64 {
         return Ok((State::Body(left - piece.len() as u64), piece.len()));

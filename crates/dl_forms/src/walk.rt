@@ -1,8 +1,7 @@
 //! A walk over the units of a section, whose bytes come in pieces. Section 6.2.4.
 
-ghost use Rattle.std.specs.Prelude.{◌≡◌, ◌↔◌, ◌++◌, ℕ, List, [], IfOk, IfErr, IsTrue};
-ghost use Rattle.dl_object.specs.Section.{WantsCell};
-ghost use Rattle.dl_forms.specs.Names.{Names};
+ghost use Rattle.std.specs.Prelude.{◌≡◌, ◌↔◌, ◌++◌, ℕ, List, [], length, IfOk, IfErr, IsTrue};
+ghost use Rattle.dl_forms.specs.Names.{AddsCellFrom, Names};
 ghost use Rattle.dl_forms.specs.Standing.{StandsFor};
 
 use crate::state::{State, advance};
@@ -36,12 +35,12 @@ impl StringWalk {
         }
     }
 
-    /// Takes the next bytes of the section.
+    /// Takes the next bytes of the section. Where memory is refused for a header, the walk is used up.
     pub fn feed(self, piece: &[u8]) -> Result<StringWalk, NoMemory>
         ensures stands { (b : List ℕ) → StandsFor self b → IfOk result (λ walk. StandsFor walk (b ++ piece.now)) }
         ensures order { IfOk result (λ walk. walk.order ≡ self.order) }
         ensures memory { (b : List ℕ) → StandsFor self b
-            → IfErr result (λ error. WantsCell self.order (b ++ piece.now)) }
+            → IfErr result (λ error. AddsCellFrom self.order (length b) (b ++ piece.now)) }
     {
         let StringWalk {
             alloc,

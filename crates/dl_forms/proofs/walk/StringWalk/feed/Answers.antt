@@ -1,4 +1,4 @@
-use Rattle.std.proofs.Common.{◌≤◌, ◌++◌, ◌+◌, ◌-◌, List, ℕ, arith, drop, length, subst, take}
+use Rattle.std.proofs.Common.{◌++◌, arith, subst, take}
 use Rattle.dl_forms.specs.Standing.{StandsAt}
 use Rattle.dl_forms.proofs.WalkLemmas.{further, further_within, wants_further}
 use Rattle.dl_forms.proofs.walk.StringWalk.feed.Goals as goal

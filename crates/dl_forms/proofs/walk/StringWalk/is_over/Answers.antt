@@ -1,4 +1,3 @@
-use Rattle.std.proofs.Common.{true, false, refl}
 use Rattle.dl_forms.proofs.WalkLemmas.{over_at, unnamed_at}
 use Rattle.dl_forms.proofs.walk.StringWalk.is_over.Goals as goal
 

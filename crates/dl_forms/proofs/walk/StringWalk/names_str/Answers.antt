@@ -1,4 +1,4 @@
-use Rattle.std.proofs.Common.{true, false, refl}
+use Rattle.std.proofs.Common.{refl}
 use Rattle.dl_forms.proofs.WalkLemmas.{named_now, unnamed_at}
 use Rattle.dl_forms.proofs.walk.StringWalk.names_str.Goals as goal
 

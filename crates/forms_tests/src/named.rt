@@ -1,0 +1,83 @@
+//! Which sections name it, by the forms in their headers.
+
+use dl_forms::StringWalk;
+use dl_num::Order;
+use std::alloc::Global;
+use std::test::Fail;
+
+/// The unit of examples/operations, as the assembler wrote it. The path of its directory has DW_FORM_line_strp, at byte
+/// 32, and those of its files DW_FORM_strp, at byte 40.
+const UNIT: [u8; 75] = [
+    0x47, 0, 0, 0, 5, 0, 8, 0, 0x2a, 0, 0, 0, 4, 2, 1, 0xfd, 0x0c, 0x0d, 0, 1, 1, 1, 1, 0, 0, 0, 1,
+    0, 0, 1, 1, 1, 0x1f, 1, 6, 0, 0, 0, 2, 1, 0x0e, 2, 0x0b, 2, 7, 0, 0, 0, 0, 7, 0, 0, 0, 0, 0, 9,
+    2, 0, 0, 2, 0, 0, 0, 0, 0, 3, 9, 1, 0x1d, 0x28, 2, 3, 0, 1, 1,
+];
+
+const DIRECTORY: usize = 32;
+
+const FILE: usize = 40;
+
+/// Adds the unit to a section, with other bytes at these places.
+fn push(section: &mut Vec<u8>, changes: &[(usize, u8)]) -> Result<(), Fail> {
+    let mut unit = UNIT;
+    for (at, byte) in changes {
+        if let Some(place) = unit.get_mut(*at) {
+            *place = *byte;
+        }
+    }
+    section.extend_from_slice(&unit)?;
+    Ok(())
+}
+
+/// What a walk says that takes all bytes at once, and one that takes them one at a time.
+fn named(alloc: Global, section: &[u8]) -> Result<(bool, bool), Fail> {
+    let whole = StringWalk::new(alloc, Order::Little).feed(section)?;
+    let mut walk = StringWalk::new(alloc, Order::Little);
+    for byte in section {
+        walk = walk.feed(&[*byte])?;
+    }
+    Ok((whole.names_str(), walk.names_str()))
+}
+
+/// The same of a unit with changes, and then one with others.
+fn both(
+    alloc: Global,
+    first: &[(usize, u8)],
+    second: &[(usize, u8)],
+) -> Result<(bool, bool), Fail> {
+    let mut section = Vec::new(alloc);
+    push(&mut section, first)?;
+    push(&mut section, second)?;
+    named(alloc, &section)
+}
+
+const YES: (bool, bool) = (true, true);
+
+const NO: (bool, bool) = (false, false);
+
+#[test]
+fn a_table_of_any_unit_names_it(rt: HostRuntime) -> Result<(), Fail> {
+    let alloc = rt.alloc();
+    let none = [(FILE, 0x1f)];
+    let directory = [(DIRECTORY, 0x0e), (FILE, 0x1f)];
+    assert!(rt; named(alloc, &[])? == NO);
+    assert!(rt; named(alloc, &UNIT)? == YES);
+    assert!(rt; both(alloc, &none, &none)? == NO);
+    assert!(rt; both(alloc, &none, &directory)? == YES);
+    assert!(rt; both(alloc, &none, &[])? == YES);
+    Ok(())
+}
+
+#[test]
+fn units_are_cut_by_their_lengths(rt: HostRuntime) -> Result<(), Fail> {
+    let alloc = rt.alloc();
+    let none = [(FILE, 0x1f)];
+    // Version 4, and its length with that of the next unit.
+    assert!(rt; both(alloc, &[(4, 4)], &[])? == YES);
+    assert!(rt; both(alloc, &[(4, 4)], &none)? == NO);
+    assert!(rt; both(alloc, &[(4, 4), (0, 0x92)], &[])? == NO);
+    // An address of three bytes, and a length that is reserved.
+    assert!(rt; both(alloc, &[(6, 3)], &[])? == NO);
+    assert!(rt; both(alloc, &[(0, 0xf0), (1, 0xff), (2, 0xff), (3, 0xff)], &[])? == NO);
+    Ok(())
+}
