@@ -164,11 +164,11 @@ OpeningStops fails path f wanted stop = (fault : FileFault) × Refuses fails f w
 
 -- ---- .debug_str, which is looked into only where a table of the line section names it
 
--- a table of a line section of these bytes names it. Of a section that is inflated as it is read it is left open where
--- a read fails
+-- whether a table of a line section of these bytes names it. One that is inflated as it is read is taken to name it where
+-- a read of its stream fails
 abbrev pub IsNamed : Order → Content → (names : Bool) → Type 0
 IsNamed order (Plain bytes) names = IsTrue names ↔ Names order bytes
-IsNamed order (Inflated name known damage) names = IfSome known (λ bytes. IsTrue names → Names order bytes)
+IsNamed order (Inflated name known damage) names = IfSome known (λ bytes. Names order bytes → IsTrue names)
 
 -- it can't be told: a read failed, or memory was refused for a header, or the section is too long
 abbrev pub StopsNaming : Order → (known : Option (List ℕ)) → RunFault → Type 0

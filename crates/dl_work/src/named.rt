@@ -45,8 +45,8 @@ fn names_str<R: Read>(alloc: Global, order: Order, input: &mut R) -> Result<bool
     Ok(walk.names_str())
 }
 
-/// The same of the line section of the file at this path. Where a section is inflated as it is read, a read that fails
-/// ends the walk: the command's reads fail at the same place.
+/// The same of the line section of the file at this path. Where it is inflated as it is read and a read fails, its tables
+/// are taken to name `.debug_str`, and the command's own reads tell of the fault.
 fn is_named<'p, S: ReadAt>(
     alloc: Global,
     path: &'p str,
@@ -59,7 +59,7 @@ fn is_named<'p, S: ReadAt>(
     let stream = line.stream_name();
     match names_str(alloc, order, line) {
         Ok(names) => Ok(names),
-        Err(RunFault::Read) if stream.is_some() => Ok(false),
+        Err(RunFault::Read) if stream.is_some() => Ok(true),
         Err(fault) => Err(Stop::at(path, stream, fault, line.last_fault())),
     }
 }
@@ -121,7 +121,7 @@ fn with_named<'p, 'a, S: ReadAt>(
     file: &'a S,
     table: LineFile<'a, S>,
 ) -> Result<LineFile<'a, S>, Stop<'p>>
-    ensures { ForBytes (S.all_bytes file.entry.now) (λ f. (t : LineTable) → GivesTable S.all_bytes table t
+    ensures { ForBytes (S.all_bytes file.entry.now) (λ f. (t : LineTable) → GivesTable S.all_bytes table.entry t
         → HasLineTable f LineAndLineStrings (Ok t) → MatchResult result
         (λ opened. (names : Bool) × IsNamed t.order t.line names × ((t2 : LineTable)
         × HasLineTable f (with_strings names) (Ok t2) × GivesTable S.all_bytes opened t2))

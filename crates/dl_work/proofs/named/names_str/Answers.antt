@@ -1,4 +1,4 @@
-use Rattle.std.proofs.Common.{◌++◌, ◌≡◌, [], ap, arith, append-nil, length, length-append, subst, sym, refl, ◌∙◌, List, ℕ}
+use Rattle.std.proofs.Common.{◌++◌, [], ap, arith, append-nil, length, length-append, subst, sym, refl, ◌∙◌, List, ℕ}
 use Rattle.std.proofs.KnownBytes.{Consumes-nil, Consumes-trans}
 use Rattle.dl_num.specs.declared.fixed.Order.{Order}
 use Rattle.dl_forms.specs.Names.{AddsCellFrom}
