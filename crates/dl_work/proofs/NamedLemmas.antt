@@ -114,12 +114,16 @@ held_plain all_bytes (Held cursor) (Plain own) bytes is gives =
 
 -- ---- the sections that a command looks into
 
+-- it is told whether its tables name .debug_str, or why it can't be
+abbrev pub IsTold : (path : Text) → LineTable → Result Bool Stop → Type 0
+IsTold path t answer = MatchResult answer (IsNamed t.order t.line) (NamingStops path t.order t.line)
+
 -- it is told of bytes that are held
 pub held_answer : {S : Type 0} {g : _} (all_bytes : S → Option (List ℕ)) (reader : LineReader S g) (t : LineTable)
     (order : Order) (path : Text) (bytes : List ℕ) (answer : Result Bool Stop) → Some bytes ≡ line_held reader
     → GivesLine all_bytes reader t.line → order ≡ t.order
     → MatchResult answer (λ names. IsTrue names ↔ Names order bytes) (NamingStops path order (Plain bytes))
-    → MatchResult answer (IsNamed t.order t.line) (NamingStops path t.order t.line)
+    → IsTold path t answer
 held_answer all_bytes reader t order path bytes answer is gives same told =
     subst (λ (c : Content). MatchResult answer (IsNamed t.order c) (NamingStops path t.order c))
     (sym (held_plain all_bytes reader t.line bytes is gives))
@@ -138,7 +142,7 @@ answered answer names value is same = subst (λ (b : Bool). answer ≡ Ok b) sam
 -- the file is opened anew
 pub anew : {S : Type 0} {g : _} (all_bytes : S → Option (List ℕ)) (fails : Error → Type 0) (path : Text) (f : List ℕ)
     (t : LineTable) (names : Bool) (answer : Result Bool Stop) (result own : Result (LineFile S g) Stop)
-    → answer ≡ Ok names → MatchResult answer (IsNamed t.order t.line) (NamingStops path t.order t.line) → result ≡ own
+    → answer ≡ Ok names → IsTold path t answer → result ≡ own
     → MatchResult own (λ table. (t2 : LineTable) × HasLineTable f (with_strings names) (Ok t2)
     × GivesTable all_bytes table t2) (OpeningStops fails path f (with_strings names))
     → IsOpened all_bytes fails path f t result
@@ -148,29 +152,27 @@ anew {S = S} {g = g} all_bytes fails path f t names answer result own said told 
     by_own : (own : Result (LineFile S g) Stop) → MatchResult own (λ table. (t2 : LineTable)
         × HasLineTable f (with_strings names) (Ok t2) × GivesTable all_bytes table t2)
         (OpeningStops fails path f (with_strings names)) → IsOpened all_bytes fails path f t own
-    by_own (Ok table) opens =
-        (names, subst (λ (r : Result Bool Stop). MatchResult r (IsNamed t.order t.line) (NamingStops path t.order t.line)) said told, opens)
-    by_own (Err stop) stops =
-        inr (names, subst (λ (r : Result Bool Stop). MatchResult r (IsNamed t.order t.line) (NamingStops path t.order t.line)) said told, stops)
+    by_own (Ok table) opens = (names, subst (IsTold path t) said told, opens)
+    by_own (Err stop) stops = inr (names, subst (IsTold path t) said told, stops)
 
 -- the file stays as it was opened
 pub as_opened : {S : Type 0} {g : _} (all_bytes : S → Option (List ℕ)) (fails : Error → Type 0) (path : Text)
     (f : List ℕ) (t : LineTable) (answer : Result Bool Stop) (result : Result (LineFile S g) Stop)
     (table : LineFile S g) → answer ≡ Ok false
-    → MatchResult answer (IsNamed t.order t.line) (NamingStops path t.order t.line) → result ≡ Ok table
+    → IsTold path t answer → result ≡ Ok table
     → HasLineTable f LineAndLineStrings (Ok t) → GivesTable all_bytes table t
     → IsOpened all_bytes fails path f t result
 as_opened {S = S} {g = g} all_bytes fails path f t answer result table said told is has given =
-    let named = subst (λ (r : Result Bool Stop). MatchResult r (IsNamed t.order t.line) (NamingStops path t.order t.line)) said told in
+    let named = subst (IsTold path t) said told in
     subst (λ (r : Result (LineFile S g) Stop). IsOpened all_bytes fails path f t r) (sym is) (false, named, (t, has, given))
 
 -- it can't be told what they name
 pub not_told : {S : Type 0} {g : _} (all_bytes : S → Option (List ℕ)) (fails : Error → Type 0) (path : Text)
     (f : List ℕ) (t : LineTable) (answer : Result Bool Stop) (result : Result (LineFile S g) Stop) (stop : Stop)
-    → answer ≡ Err stop → MatchResult answer (IsNamed t.order t.line) (NamingStops path t.order t.line)
+    → answer ≡ Err stop → IsTold path t answer
     → result ≡ Err stop → IsOpened all_bytes fails path f t result
 not_told {S = S} {g = g} all_bytes fails path f t answer result stop said told is =
-    let stops = subst (λ (r : Result Bool Stop). MatchResult r (IsNamed t.order t.line) (NamingStops path t.order t.line)) said told in
+    let stops = subst (IsTold path t) said told in
     subst (λ (r : Result (LineFile S g) Stop). IsOpened all_bytes fails path f t r) (sym is) (inl stops)
 
 plain_wanted : (command : Command) → prints_strings command ≡ false → wanted_of command ≡ LineSection
