@@ -1,6 +1,6 @@
 -- What contracts see of a reader of a line section.
-use Rattle.std.specs.Prelude.{ℕ, List, Option, None, Some}
-use Rattle.std.specs.Io.Cursor.{cursor_remaining}
+use Rattle.std.specs.Prelude.{ℕ, List, Option, None, Some, drop}
+use Rattle.std.specs.Io.Cursor.{cursor_inner, cursor_position, cursor_remaining}
 use Rattle.std.specs.declared.io.Error.{Error}
 use Rattle.dl_elf.specs.declared.name.SectionName.{SectionName}
 use Rattle.dl_file.specs.declared.read_fault.ReadFault.{ReadFault}
@@ -12,6 +12,11 @@ use Rattle.dl_file.specs.ContentReader.{content_damage, content_remaining, conte
 abbrev pub line_remaining : {S : Type 0} {g : _} → (S → Option (List ℕ)) → LineReader S g → Option (List ℕ)
 line_remaining all_bytes (File reader) = content_remaining all_bytes reader
 line_remaining all_bytes (Held bytes) = cursor_remaining (λ v. Some v.items) bytes
+
+-- the bytes that are left of those that are held
+abbrev pub line_held : {S : Type 0} {g : _} → LineReader S g → Option (List ℕ)
+line_held (File reader) = None
+line_held (Held bytes) = Some (drop (cursor_position bytes) (cursor_inner bytes).items)
 
 -- the byte that shows the damage of its section, if it has some, where that is known; bytes that are held have none
 abbrev pub line_damage : {S : Type 0} {g : _} → (S → Option (List ℕ)) → LineReader S g → Option (Option ℕ)

@@ -1,6 +1,6 @@
 -- What open_line_file answers. f: the bytes of a file; e: the file as it is opened.
 use Rattle.std.specs.Prelude.{◌≡◌, ◌⊎◌, ℕ, zero, Bool, List, Option, Some, None, option_map, option_and_then}
-use Rattle.std.specs.Prelude.{Result, Ok, Err, MatchResult, MatchOption}
+use Rattle.std.specs.Prelude.{Result, Ok, Err, MatchResult, MatchOption, is_some}
 use Rattle.dl_num.specs.declared.fixed.Order.{Order}
 use Rattle.dl_elf.specs.declared.file.Elf.{Elf}
 use Rattle.dl_elf.specs.declared.name.SectionName.{SectionName}
@@ -50,15 +50,21 @@ abbrev pub debug_str_section : Sections → SectionName → Option NamedSection
 debug_str_section at DebugLineDwo = at DebugStrDwo
 debug_str_section at _ = option_or (at DebugStr) (at ZdebugStr)
 
+-- each where it is wanted
+abbrev pub if_line_strings : Wanted → Option NamedSection → Option NamedSection
+if_line_strings LineSection section = None
+if_line_strings other section = section
+
 abbrev pub if_strings : Wanted → Option NamedSection → Option NamedSection
-if_strings LineSection section = None
 if_strings LineAndStringSections section = section
+if_strings other section = None
 
 abbrev pub chosen_with : Sections → Wanted → NamedSection → Chosen
 chosen_with at wanted line = record {
   line = line;
-  debug_line_str = if_strings wanted (debug_line_str_section at line.name);
+  debug_line_str = if_line_strings wanted (debug_line_str_section at line.name);
   debug_str = if_strings wanted (debug_str_section at line.name);
+  has_debug_str = is_some (debug_str_section at line.name);
 }
 
 -- the sections that are wanted; None where there is no line section
@@ -134,6 +140,8 @@ pub record LineTable : Type 0 where
   pub line : Content
   pub line_str : Option Content
   pub str : Option Content
+  -- the file has a section with the strings of DW_FORM_strp, be it wanted or not
+  pub has_str : Bool
 
 abbrev pub line_table : Elf → List ℕ → Chosen → (line : Content) → LineTable
 line_table e f c line = record {
@@ -142,6 +150,7 @@ line_table e f c line = record {
   line = line;
   line_str = option_map (content e f) c.debug_line_str;
   str = option_map (content e f) c.debug_str;
+  has_str = c.has_debug_str;
 }
 
 abbrev pub with_line : Elf → List ℕ → Chosen → Result Content ElfFault → Result LineTable ElfFault
@@ -221,6 +230,7 @@ pub record GivesTable {S : Type 0} {g : _} (all_bytes : S
   pub line : GivesLine all_bytes file.line t.line
   pub line_str : GivesOption all_bytes file.debug_line_str t.line_str
   pub str : GivesOption all_bytes file.debug_str t.str
+  pub has_str : file.has_debug_str ≡ t.has_str
 
 -- what open_line_file answers for a file with these bytes: its readers, a fault, that a read failed, or that memory was
 -- refused

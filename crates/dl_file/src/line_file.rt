@@ -40,7 +40,9 @@ const HELD_LIMIT: u64 = 1 << 32;
 pub enum Wanted {
     /// The section with the line table alone.
     LineSection,
-    /// It, and the string sections that belong to it.
+    /// It, and the section with the strings of DW_FORM_line_strp that belongs to it.
+    LineAndLineStrings,
+    /// It, and both string sections that belong to it.
     LineAndStringSections,
 }
 
@@ -57,6 +59,8 @@ pub struct LineFile<'a, S: ReadAt> {
     pub debug_line_str: Option<ContentReader<'a, S>>,
     /// The strings of DW_FORM_strp; None where the file has none or they aren't wanted.
     pub debug_str: Option<ContentReader<'a, S>>,
+    /// Whether the file has a section with the strings of DW_FORM_strp, be they wanted or not.
+    pub has_debug_str: bool,
 }
 
 /// The sections that are wanted.
@@ -65,6 +69,8 @@ pub struct Chosen {
     pub line: NamedSection,
     pub debug_line_str: Option<NamedSection>,
     pub debug_str: Option<NamedSection>,
+    /// Whether there is a section of the strings of DW_FORM_strp, be it wanted or not.
+    pub has_debug_str: bool,
 }
 
 impl Chosen {
@@ -82,14 +88,17 @@ impl Chosen {
     fn with_line(sections: &Sections, wanted: Wanted, line: NamedSection) -> Chosen
         ensures { result ≡ chosen_with (slot_of (slots sections.now)) wanted line }
     {
+        let (line_strings, strings) = string_sections(sections, line.name);
         let (debug_line_str, debug_str) = match wanted {
             Wanted::LineSection => (None, None),
-            Wanted::LineAndStringSections => string_sections(sections, line.name),
+            Wanted::LineAndLineStrings => (line_strings, None),
+            Wanted::LineAndStringSections => (line_strings, strings),
         };
         Chosen {
             line,
             debug_line_str,
             debug_str,
+            has_debug_str: strings.is_some(),
         }
     }
 }
@@ -343,6 +352,7 @@ fn open_chosen<'a, S: ReadAt>(
         line: line_reader(alloc, source, elf, sections, &chosen.line)?,
         debug_line_str: optional_reader(alloc, source, elf, chosen.debug_line_str)?,
         debug_str: optional_reader(alloc, source, elf, chosen.debug_str)?,
+        has_debug_str: chosen.has_debug_str,
     })
 }
 

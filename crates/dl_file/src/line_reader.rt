@@ -1,10 +1,12 @@
 //! The bytes of a line section as a reader.
-ghost use Rattle.std.specs.Prelude.{◌≡◌, IfErr};
+ghost use Rattle.std.specs.Prelude.{◌≡◌, IfErr, drop, option_map};
+ghost use Rattle.std.specs.Io.Cursor.{cursor_inner, cursor_position};
 ghost use Rattle.std.specs.Io.{ReadsAtMost};
 ghost use Rattle.std.specs.Io.KnownBytes.{ReadConsumes};
 ghost use Rattle.dl_file.specs.Faults.{Tells};
 ghost use Rattle.dl_file.specs.ContentReader.{EndsBy};
-ghost use Rattle.dl_file.specs.LineReader.{LineReaderFails, line_damage, line_fault, line_remaining, line_stream};
+ghost use Rattle.dl_file.specs.LineReader.{LineReaderFails, line_damage, line_fault, line_held, line_remaining};
+ghost use Rattle.dl_file.specs.LineReader.{line_stream};
 
 use crate::content_reader::ContentReader;
 use crate::read_fault::ReadFault;
@@ -32,6 +34,16 @@ impl<'a, S: ReadAt> LineReader<'a, S> {
         }
     }
 
+    /// The bytes that are left where they are held in memory; None where they are read from the file.
+    pub fn held(&self) -> Option<&[u8]>
+        ensures { option_map (λ bytes. bytes.now) result ≡ line_held self.now }
+    {
+        match self {
+            LineReader::File(_) => None,
+            LineReader::Held(bytes) => Some(rest_of(bytes)),
+        }
+    }
+
     /// Why the last read failed; None where it didn't, or there was none.
     pub fn last_fault(&self) -> Option<ReadFault>
         ensures { result ≡ line_fault self.now }
@@ -40,6 +52,19 @@ impl<'a, S: ReadAt> LineReader<'a, S> {
             LineReader::File(reader) => reader.last_fault(),
             LineReader::Held(_) => None,
         }
+    }
+}
+
+/// The bytes from the cursor's place on.
+fn rest_of(bytes: &Cursor<Vec<u8>>) -> &[u8]
+    ensures { result.now ≡ drop (cursor_position bytes.entry.now) (cursor_inner bytes.entry.now).items }
+{
+    let all = bytes.get_ref().as_slice();
+    let at = bytes.position();
+    if at < all.len() as u64 {
+        &all[at as usize..]
+    } else {
+        &[]
     }
 }
 

@@ -3,3 +3,4 @@ pub mod NotReadLemmas
 pub mod WorkLemmas
 pub mod WordsLemmas
 pub mod LocateLemmas
+pub mod NamedLemmas

@@ -30,7 +30,7 @@ use Rattle.dl_work.specs.declared.stop.FileFault.{FileFault}
 use Rattle.dl_work.specs.declared.stop.FileFault.TheVariants.{Open, Elf, NoMemory as Refused}
 use Rattle.dl_work.specs.Asked.{Does, WithoutTable, is_copy, wanted_of}
 use Rattle.dl_work.specs.Tables.{EndsAt, IsWhole, OnFile, OnFound, OnFoundWhere, OnLines, OnTable, OnTableWhere, Refuses, RunsOn}
-use Rattle.dl_work.specs.Tables.{KeepingStops, SectionStops}
+use Rattle.dl_work.specs.Tables.{KeepingStops, OpeningStops, SectionStops, TableStops, with_strings}
 use Rattle.dl_object.specs.Kept.{Rises}
 use Rattle.dl_object.specs.Section.{WantsCell}
 use Rattle.dl_reloc.specs.declared.placed.Placed.{Placed}
@@ -225,11 +225,25 @@ on_found_weaker true fails wider path name command f t start now result more (in
     inl (stop, is, part_stops_weaker fails wider path f t.is_object_file name stop more why, written)
 on_found_weaker true fails wider path name command f t start now result more (inr found) = inr found
 
+opening_stops_weaker : (fails wider : Error → Type 0) (path : Text) (f : List ℕ) (wanted : Wanted) (stop : Stop)
+    → ((e : Error) → fails e → wider e) → OpeningStops fails path f wanted stop → OpeningStops wider path f wanted stop
+opening_stops_weaker fails wider path f wanted stop more (fault, refuses, at) =
+    (fault, refuses_weaker fails wider f wanted fault more refuses, at)
+
+table_stops_weaker : (fails wider : Error → Type 0) (path : Text) (command : Command) (f : List ℕ) (stop : Stop)
+    → ((e : Error) → fails e → wider e) → TableStops fails path command f stop → TableStops wider path command f stop
+table_stops_weaker fails wider path command f stop more (inl first) =
+    inl (opening_stops_weaker fails wider path f (wanted_of command) stop more first)
+table_stops_weaker fails wider path command f stop more (inr (t, prints, has, some, inl naming)) =
+    inr (t, prints, has, some, inl naming)
+table_stops_weaker fails wider path command f stop more (inr (t, prints, has, some, inr (names, named, opening))) =
+    inr (t, prints, has, some, inr (names, named, opening_stops_weaker fails wider path f (with_strings names) stop more opening))
+
 -- what is done for an open file, by the errors of its source
 pub on_file_weaker : (fails wider : Error → Type 0) (path : Text) (name : Option Text) (command : Command) (f : List ℕ)
     (start now : Option (List ℕ)) (result : Result Summary Stop) → ((e : Error) → fails e → wider e)
     → OnFile fails path name command f start now result → OnFile wider path name command f start now result
-on_file_weaker fails wider path name command f start now result more (inl (stop, is, (fault, refuses, at), written)) =
-    inl (stop, is, (fault, refuses_weaker fails wider f (wanted_of command) fault more refuses, at), written)
+on_file_weaker fails wider path name command f start now result more (inl (stop, is, why, written)) =
+    inl (stop, is, table_stops_weaker fails wider path command f stop more why, written)
 on_file_weaker fails wider path name command f start now result more (inr (t, has, found)) =
     inr (t, has, on_found_weaker (looks_up command) fails wider path name command f t start now result more found)

@@ -6,7 +6,7 @@ use Rattle.dl_num.specs.declared.fixed.Order.{Order}
 use Rattle.dl_num.specs.declared.fixed.Order.TheVariants.{Little, Big}
 use Rattle.dl_look.specs.declared.place.Place.{Place}
 use Rattle.dl_file.specs.declared.line_file.Wanted.{Wanted}
-use Rattle.dl_file.specs.declared.line_file.Wanted.TheVariants.{LineSection, LineAndStringSections}
+use Rattle.dl_file.specs.declared.line_file.Wanted.TheVariants.{LineSection, LineAndLineStrings}
 use Rattle.dl_run.specs.declared.options.TheConstants.{SECTION_LIMIT}
 use Rattle.dl_run.specs.declared.fault.RunFault.{RunFault}
 use Rattle.dl_print.specs.declared.summary.Summary.{Summary}
@@ -71,13 +71,19 @@ abbrev pub is_copy : Command → Bool
 is_copy Copy = true
 is_copy other = false
 
--- the sections of a file that a command looks into
+-- whether it prints texts of string sections
+abbrev pub prints_strings : Command → Bool
+prints_strings Check = false
+prints_strings Copy = false
+prints_strings other = true
+
+-- the sections of a file that a command looks into, but for .debug_str
 abbrev pub wanted_of : Command → Wanted
-wanted_of Dump = LineAndStringSections
+wanted_of Dump = LineAndLineStrings
 wanted_of Check = LineSection
-wanted_of (Find place) = LineAndStringSections
+wanted_of (Find place) = LineAndLineStrings
 wanted_of Copy = LineSection
-wanted_of (Addr question) = LineAndStringSections
+wanted_of (Addr question) = LineAndLineStrings
 
 -- what `addr` answered, as the other commands answer
 abbrev pub answered : Result Found RunFault → Result Summary RunFault

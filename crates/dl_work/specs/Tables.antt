@@ -1,19 +1,22 @@
 -- What the program does with the ELF file of a path. f: its bytes; t: its line table as dl_file defines it. start, now:
 -- what the output held at first, and holds now.
-use Rattle.std.specs.Prelude.{◌≡◌, ◌⊎◌, ◌≤◌, ℕ, Bool, true, false, ◌&&◌, List, length, Option, Some, IfSome, Result, Ok}
-use Rattle.std.specs.Prelude.{None, Err, MatchResult}
+use Rattle.std.specs.Prelude.{⊤, ◌≡◌, ◌⊎◌, ◌↔◌, ◌<◌, ◌≤◌, ℕ, Bool, true, false, ◌&&◌, IsTrue, if◌then◌else◌, List, length}
+use Rattle.std.specs.Prelude.{Option, Some, None, IfSome, Result, Ok, Err, MatchResult}
 use Rattle.std.specs.Io.KnownBytes.{Consumes}
 use Rattle.std.specs.declared.io.Error.{Error}
 use Rattle.dl_cmd.specs.Job.{Text}
 use Rattle.dl_file.specs.declared.line_file.Wanted.{Wanted}
+use Rattle.dl_file.specs.declared.line_file.Wanted.TheVariants.{LineSection, LineAndLineStrings, LineAndStringSections}
 use Rattle.dl_elf.specs.declared.fault.ElfFault.TheVariants.{Read, NoMemory}
 use Rattle.dl_elf.specs.declared.name.SectionName.{SectionName}
 use Rattle.dl_file.specs.LineTable.{Content, HasLineTable, Inflated, LineTable, Plain, TakesMemory}
 use Rattle.dl_num.specs.declared.fixed.Order.{Order}
+use Rattle.dl_forms.specs.Names.{AddsCellFrom, Names}
 use Rattle.dl_object.specs.Kept.{Rises}
 use Rattle.dl_object.specs.Section.{Keeps, WantsCell}
 use Rattle.dl_run.specs.declared.options.TheConstants.{SECTION_LIMIT}
 use Rattle.dl_run.specs.declared.fault.RunFault.{RunFault}
+use Rattle.dl_run.specs.declared.fault.RunFault.TheVariants as fault
 use Rattle.dl_print.specs.declared.summary.Summary.{Summary}
 use Rattle.dl_print.specs.ValueText.{Strings}
 use Rattle.dl_work.specs.declared.strings.TheConstants.{STRINGS_LIMIT}
@@ -22,7 +25,7 @@ use Rattle.dl_work.specs.declared.object_part.Part.{Part}
 use Rattle.dl_work.specs.declared.stop.FileFault.{FileFault}
 use Rattle.dl_work.specs.declared.stop.FileFault.TheVariants.{Open, Elf, ObjectCopy, NoMemory as Refused}
 use Rattle.dl_work.specs.declared.stop.Stop.{Stop}
-use Rattle.dl_work.specs.Asked.{Does, WithoutTable, is_copy, wanted_of}
+use Rattle.dl_work.specs.Asked.{Does, WithoutTable, is_copy, prints_strings, wanted_of}
 use Rattle.dl_work.specs.Files.{FileStops}
 use Rattle.dl_work.specs.Parts.{IsPart, PartStops, looks_up}
 use Rattle.dl_work.specs.Stops.{IsAt, StopsAt}
@@ -155,10 +158,63 @@ Refuses fails f wanted (Elf NoMemory) = TakesMemory f wanted
 Refuses fails f wanted (Elf fault) = HasLineTable f wanted (Err fault)
 Refuses fails f wanted other = ⊥
 
+-- opening it for these sections does
+abbrev pub OpeningStops : (fails : Error → Type 0) (path : Text) (f : List ℕ) → Wanted → Stop → Type 0
+OpeningStops fails path f wanted stop = (fault : FileFault) × Refuses fails f wanted fault × IsAt path fault stop
+
+-- ---- .debug_str, which is looked into only where a table of the line section names it
+
+-- whether a table of a line section of these bytes names it. One that is inflated as it is read is taken to name it where
+-- a read of its stream fails
+abbrev pub IsNamed : Order → Content → (names : Bool) → Type 0
+IsNamed order (Plain bytes) names = IsTrue names ↔ Names order bytes
+IsNamed order (Inflated name known damage) names = IfSome known (λ bytes. Names order bytes → IsTrue names)
+
+-- it can't be told: a read failed, or memory was refused for a header, or the section is too long
+abbrev pub StopsNaming : Order → (known : Option (List ℕ)) → RunFault → Type 0
+StopsNaming order known fault.Read = ⊤
+StopsNaming order known fault.NoMemory = IfSome known (AddsCellFrom order 0)
+StopsNaming order known fault.SectionTooLong = IfSome known (λ bytes. SECTION_LIMIT < length bytes)
+StopsNaming order known other = ⊥
+
+abbrev pub NamingStops : (path : Text) → Order → Content → Stop → Type 0
+NamingStops path order content stop =
+    (f : RunFault) × StopsNaming order (known_bytes content) f × StopsAt path (stream_of content) f stop
+
+abbrev pub with_strings : (names : Bool) → Wanted
+with_strings names = if names then LineAndStringSections else LineAndLineStrings
+
+-- the sections that a command looks into, by whether it prints texts of string sections
+abbrev pub LooksIntoWhere : (prints : Bool) → (f : List ℕ) → Wanted → Type 0
+LooksIntoWhere false f wanted = wanted ≡ LineSection
+LooksIntoWhere true f wanted = (t : LineTable) × HasLineTable f LineAndLineStrings (Ok t)
+    × (((t.has_str ≡ false) × (wanted ≡ LineAndLineStrings))
+    ⊎ ((names : Bool) × (t.has_str ≡ true) × IsNamed t.order t.line names × (wanted ≡ with_strings names)))
+
+abbrev pub LooksInto : Command → (f : List ℕ) → Wanted → Type 0
+LooksInto command f wanted = LooksIntoWhere (prints_strings command) f wanted
+
+-- the file has this line table, with the string sections that the command looks into
+abbrev pub HasTable : Command → (f : List ℕ) → LineTable → Type 0
+HasTable command f t = (wanted : Wanted) × LooksInto command f wanted × HasLineTable f wanted (Ok t)
+
+-- t, the line section and .debug_line_str, can be had: why no more, for the walk over the tables, or for what they name
+abbrev pub NamedStops : (fails : Error → Type 0) (path : Text) (f : List ℕ) → LineTable → Stop → Type 0
+NamedStops fails path f t stop =
+    NamingStops path t.order t.line stop
+    ⊎ ((names : Bool) × IsNamed t.order t.line names × OpeningStops fails path f (with_strings names) stop)
+
+-- why it can't be had: for the line section and .debug_line_str, or where the file has .debug_str for more
+abbrev pub TableStops : (fails : Error → Type 0) (path : Text) → Command → (f : List ℕ) → Stop → Type 0
+TableStops fails path command f stop =
+    OpeningStops fails path f (wanted_of command) stop
+    ⊎ ((t : LineTable) × (prints_strings command ≡ true) × HasLineTable f LineAndLineStrings (Ok t) × (t.has_str ≡ true)
+    × NamedStops fails path f t stop)
+
+-- ---- what is done
+
 abbrev pub OnFile : (fails : Error → Type 0) (path : Text) (name : Option Text) → Command
     → (f : List ℕ) (start now : Option (List ℕ)) → Result Summary Stop → Type 0
 OnFile fails path name command f start now result =
-    StopsEarly command (λ stop. (fault : FileFault) × Refuses fails f (wanted_of command) fault
-    × IsAt path fault stop) start now result
-    ⊎ ((t : LineTable) × HasLineTable f (wanted_of command) (Ok t)
-    × OnFound fails path name command f t start now result)
+    StopsEarly command (TableStops fails path command f) start now result
+    ⊎ ((t : LineTable) × HasTable command f t × OnFound fails path name command f t start now result)

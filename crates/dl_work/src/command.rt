@@ -5,7 +5,8 @@ ghost use Rattle.std.specs.Io.KnownBytes.{Consumes};
 ghost use Rattle.dl_run.specs.Commands.{strings_in};
 ghost use Rattle.dl_cmd.specs.Job.{request_made};
 ghost use Rattle.dl_work.specs.Parts.{looks_up};
-ghost use Rattle.dl_work.specs.Asked.{Does, WithoutTable, answered, command_of, is_copy, place_of, wanted_of};
+ghost use Rattle.dl_work.specs.Asked.{Does, WithoutTable, answered, command_of, is_copy, place_of};
+ghost use Rattle.dl_work.specs.Asked.{prints_strings, wanted_of};
 
 use dl_addr::{Found, Question, addr};
 use dl_cmd::{Job, read_address};
@@ -88,14 +89,21 @@ impl<'a> Command<'a> {
         }
     }
 
-    /// The sections of a file that the command looks into.
+    /// The sections of a file that the command looks into, but for `.debug_str`.
     pub fn wanted(self) -> Wanted
         ensures { result ≡ wanted_of self.entry }
     {
         match self {
-            Command::Dump | Command::Find(_) | Command::Addr(_) => Wanted::LineAndStringSections,
+            Command::Dump | Command::Find(_) | Command::Addr(_) => Wanted::LineAndLineStrings,
             Command::Check | Command::Copy => Wanted::LineSection,
         }
+    }
+
+    /// Whether it prints texts of string sections.
+    pub fn prints_strings(self) -> bool
+        ensures { result ≡ prints_strings self.entry }
+    {
+        matches!(self, Command::Dump | Command::Find(_) | Command::Addr(_))
     }
 
     /// Whether it looks addresses up.

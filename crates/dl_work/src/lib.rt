@@ -8,6 +8,7 @@ mod debug_file;
 mod files;
 mod located;
 mod locating;
+mod named;
 mod not_read;
 mod object_part;
 mod over_file;

@@ -7,11 +7,12 @@ ghost use Rattle.dl_run.specs.Commands.{strings_in};
 ghost use Rattle.dl_work.specs.Tables.{IsKept, IsWhole, KeepingStops, OnFile, OnFound, OnLines, OnTable, RunsOn};
 
 use crate::command::Command;
+use crate::named::open_table;
 use crate::object_part::{Part, part_of};
 use crate::stop::{FileFault, Stop};
 use crate::strings::StringSections;
 use dl_elf::ReadAt;
-use dl_file::{LineFile, LineReader, open_line_file};
+use dl_file::{LineFile, LineReader};
 use dl_num::Order;
 use dl_object::keep_section;
 use dl_run::{Options, SECTION_LIMIT, Summary, read_strings};
@@ -136,6 +137,7 @@ fn on_table<'p, S: ReadAt, W: Write>(
         mut line,
         debug_line_str,
         debug_str,
+        ..
     } = table;
     if command.loses(is_object) {
         command.without_table(alloc, output);
@@ -196,14 +198,11 @@ pub fn on_file<'p, S: ReadAt, W: Write>(
     ensures { ForBytes (S.all_bytes file.now) (λ f. OnFile (S.fails_with file.now) path.entry.now
         (option_map (λ s. s.now) section.entry) command.entry f (W.contents output.old) (W.contents output.new) result) }
 {
-    match open_line_file(alloc, file, command.wanted()) {
+    match open_table(alloc, path, file, command) {
         Ok(table) => on_found(alloc, path, file, section, command, table, output),
-        Err(fault) => {
+        Err(stop) => {
             command.without_table(alloc, output);
-            Err(Stop::File {
-                path,
-                fault: FileFault::Elf(fault),
-            })
+            Err(stop)
         }
     }
 }

@@ -18,5 +18,6 @@ returns-clause-opens g c = λ f is short.
         line = line.2;
         line_str = c.in_ok-optional_reader.ensures.opens f is short;
         str = c.in_ok-optional_reader-2.ensures.opens f is short;
+        has_str = refl;
       },
     )

@@ -1,0 +1,236 @@
+-- Whether a table of a line section names `.debug_str`.
+use Rattle.std.proofs.Common.{◌≡◌, ◌↔◌, inl, inr, ℕ, ◌+◌, ◌<◌, Bool, true, false, ◌==◌, IsTrue, List, [], ◌++◌, length}
+use Rattle.std.proofs.Common.{Option, Some, None, Result, Ok, Err}
+use Rattle.std.proofs.Common.{refl, sym, ap, subst, ◌∙◌, arith, append_assoc, append-nil, length-append}
+use Rattle.std.proofs.Common.{◌∷◌}
+use Rattle.std.proofs.lemmas.Bool.{eqb-true}
+use Rattle.std.specs.Prelude.{IfSome, MatchResult}
+use Rattle.std.specs.declared.io.Error.{Error}
+use Rattle.dl_cmd.specs.Job.{Text}
+use Rattle.dl_file.specs.declared.line_file.LineFile.{LineFile}
+use Rattle.dl_file.specs.declared.line_file.Wanted.{Wanted}
+use Rattle.dl_file.specs.declared.line_file.Wanted.TheVariants.{LineAndLineStrings, LineSection}
+use Rattle.dl_file.specs.declared.line_reader.LineReader.{LineReader}
+use Rattle.dl_file.specs.declared.line_reader.LineReader.TheVariants.{File, Held}
+use Rattle.dl_file.specs.LineReader.{line_held}
+use Rattle.dl_file.specs.LineTable.{Content, GivesLine, GivesTable, HasLineTable, Inflated, LineTable, Plain}
+use Rattle.dl_work.specs.declared.command.Command.{Command}
+use Rattle.dl_work.specs.declared.command.Command.TheVariants.{Addr, Check, Copy, Dump, Find}
+use Rattle.dl_work.specs.declared.stop.Stop.{Stop}
+use Rattle.dl_work.specs.Asked.{prints_strings, wanted_of}
+use Rattle.dl_work.specs.Tables.{HasTable, IsNamed, LooksIntoWhere, NamedStops, NamingStops, OpeningStops}
+use Rattle.dl_work.specs.Tables.{TableStops, with_strings}
+use Rattle.std.specs.Io.KnownBytes.{Consumes, IsAtEnd}
+use Rattle.dl_num.specs.declared.fixed.Order.{Order}
+use Rattle.dl_run.specs.declared.options.TheConstants.{SECTION_LIMIT}
+use Rattle.dl_forms.specs.Names.{AddsCellFrom, Names}
+
+-- it is told of all bytes, where those that were read settle it
+settled : (order : Order) (known left : Option (List ℕ)) (bs : List ℕ) (names : Bool) → Consumes known left bs
+    → IsTrue names ↔ Names order bs → ((rest : List ℕ) → left ≡ Some rest → Names order (bs ++ rest) ↔ Names order bs)
+    → IfSome known (λ bytes. IsTrue names ↔ Names order bytes)
+settled order None left bs names consumes told same = tt
+settled order (Some bytes) None bs names consumes told same = absurd consumes
+settled order (Some bytes) (Some rest) bs names consumes told same = (
+  λ said. subst (Names order) (sym consumes) ((same rest refl).1 (told.0 said)),
+  λ named. told.1 ((same rest refl).0 (subst (Names order) consumes named)),
+)
+
+-- all bytes were read
+pub at_end : (order : Order) (known left : Option (List ℕ)) (bs : List ℕ) (names : Bool) → Consumes known left bs
+    → IsTrue names ↔ Names order bs → IsAtEnd left → IfSome known (λ bytes. IsTrue names ↔ Names order bytes)
+at_end order known left bs names consumes told ended =
+    settled order known left bs names consumes told (λ rest is. same rest is)
+  where
+    nothing : (left : Option (List ℕ)) (rest : List ℕ) → left ≡ Some rest → IsAtEnd left → rest ≡ []
+    nothing None rest is ended = absurd (cc is)
+    nothing (Some other) rest is ended = let e : other ≡ rest = cc is in sym e ∙ ended
+
+    same : (rest : List ℕ) → left ≡ Some rest → Names order (bs ++ rest) ↔ Names order bs
+    same rest is =
+        let e : bs ++ rest ≡ bs = ap (λ (z : List ℕ). bs ++ z) (nothing left rest is ended) ∙ append-nil bs in
+        (λ named. subst (Names order) e named, λ named. subst (Names order) (sym e) named)
+
+-- the walk is over
+pub over : (order : Order) (known left : Option (List ℕ)) (bs : List ℕ) (names : Bool) → Consumes known left bs
+    → IsTrue names ↔ Names order bs → ((rest : List ℕ) → Names order (bs ++ rest) ↔ Names order bs)
+    → IfSome known (λ bytes. IsTrue names ↔ Names order bytes)
+over order known left bs names consumes told same =
+    settled order known left bs names consumes told (λ rest is. same rest)
+
+-- memory was refused
+pub wants : (order : Order) (known left : Option (List ℕ)) (bs : List ℕ) (n : ℕ) → Consumes known left bs
+    → AddsCellFrom order n bs → IfSome known (AddsCellFrom order 0)
+wants order None left bs n consumes cell = tt
+wants order (Some bytes) None bs n consumes cell = absurd consumes
+wants order (Some bytes) (Some rest) bs n consumes (before, front, byte, back, split, past, adds) = (
+  before,
+  front,
+  byte,
+  back ++ rest,
+  consumes ∙ ap (λ (z : List ℕ). z ++ rest) split ∙ append_assoc before (front ++ byte ∷ back) rest
+      ∙ ap (λ (z : List ℕ). before ++ z) (append_assoc front (byte ∷ back) rest),
+  omega arith,
+  adds,
+)
+
+-- it is too long
+pub too_long : (known left : Option (List ℕ)) (bs piece : List ℕ) (room : ℕ) → Consumes known left (bs ++ piece)
+    → length bs + room ≡ SECTION_LIMIT → room < length piece → IfSome known (λ bytes. SECTION_LIMIT < length bytes)
+too_long None left bs piece room consumes limit past = tt
+too_long (Some bytes) None bs piece room consumes limit past = absurd consumes
+too_long (Some bytes) (Some rest) bs piece room consumes limit past =
+    let size = ap length consumes ∙ length-append (bs ++ piece) rest in
+    let read = length-append bs piece in
+    omega (arith, size, read, limit, past)
+
+pub empty_is : (xs : List ℕ) → (length xs == 0) ≡ true → xs ≡ []
+empty_is [] e = refl
+empty_is (x ∷ xs) e = let n = eqb-true (length (x ∷ xs)) 0 e in absurd (omega (arith, n))
+
+-- the same in the order of the section, of the same bytes
+pub told_in : (own order : Order) (bs all : List ℕ) (names : Bool) → own ≡ order → bs ≡ all
+    → IsTrue names ↔ Names own bs → IsTrue names ↔ Names order all
+told_in own order bs all names same alike told =
+    subst (λ (b : List ℕ). IsTrue names ↔ Names order b) alike
+    (subst (λ (o : Order). IsTrue names ↔ Names o bs) same told)
+
+pub same_over : (own order : Order) (bs : List ℕ) → own ≡ order
+    → ((rest : List ℕ) → Names own (bs ++ rest) ↔ Names own bs)
+    → (rest : List ℕ) → Names order (bs ++ rest) ↔ Names order bs
+same_over own order bs same settled rest =
+    subst (λ (o : Order). Names o (bs ++ rest) ↔ Names o bs) same (settled rest)
+
+-- ---- the line section of a file
+
+-- bytes that are held are those of the section
+pub held_plain : {S : Type 0} {g : _} (all_bytes : S → Option (List ℕ)) (reader : LineReader S g) (content : Content)
+    (bytes : List ℕ) → Some bytes ≡ line_held reader → GivesLine all_bytes reader content → content ≡ Plain bytes
+held_plain all_bytes (File reader) content bytes is gives = absurd (cc is)
+held_plain all_bytes (Held cursor) (Inflated name known damage) bytes is gives = let n = gives.3 in absurd (cc n)
+held_plain all_bytes (Held cursor) (Plain own) bytes is gives =
+    let same : Some bytes ≡ Some own = is ∙ gives.0 in
+    let e : bytes ≡ own = cc same in ap Plain (sym e)
+
+-- ---- the sections that a command looks into
+
+-- it is told whether its tables name .debug_str, or why it can't be
+abbrev pub IsTold : (path : Text) → LineTable → Result Bool Stop → Type 0
+IsTold path t answer = MatchResult answer (IsNamed t.order t.line) (NamingStops path t.order t.line)
+
+-- it is told of bytes that are held
+pub held_answer : {S : Type 0} {g : _} (all_bytes : S → Option (List ℕ)) (reader : LineReader S g) (t : LineTable)
+    (order : Order) (path : Text) (bytes : List ℕ) (answer : Result Bool Stop) → Some bytes ≡ line_held reader
+    → GivesLine all_bytes reader t.line → order ≡ t.order
+    → MatchResult answer (λ names. IsTrue names ↔ Names order bytes) (NamingStops path order (Plain bytes))
+    → IsTold path t answer
+held_answer all_bytes reader t order path bytes answer is gives same told =
+    subst (λ (c : Content). MatchResult answer (IsNamed t.order c) (NamingStops path t.order c))
+    (sym (held_plain all_bytes reader t.line bytes is gives))
+    (subst (λ (o : Order). MatchResult answer (IsNamed o (Plain bytes)) (NamingStops path o (Plain bytes))) same told)
+
+-- the line table of a file, with .debug_str where its tables name it
+abbrev pub IsOpened : {S : Type 0} {g : _} (all_bytes : S → Option (List ℕ)) (fails : Error → Type 0) (path : Text)
+    (f : List ℕ) (t : LineTable) (result : Result (LineFile S g) Stop) → Type 0
+IsOpened all_bytes fails path f t result = MatchResult result (λ table. (names : Bool) × IsNamed t.order t.line names
+    × ((t2 : LineTable) × HasLineTable f (with_strings names) (Ok t2) × GivesTable all_bytes table t2))
+    (NamedStops fails path f t)
+
+pub answered : (answer : Result Bool Stop) (names value : Bool) → answer ≡ Ok names → names ≡ value → answer ≡ Ok value
+answered answer names value is same = subst (λ (b : Bool). answer ≡ Ok b) same is
+
+-- the file is opened anew
+pub anew : {S : Type 0} {g : _} (all_bytes : S → Option (List ℕ)) (fails : Error → Type 0) (path : Text) (f : List ℕ)
+    (t : LineTable) (names : Bool) (answer : Result Bool Stop) (result own : Result (LineFile S g) Stop)
+    → answer ≡ Ok names → IsTold path t answer → result ≡ own
+    → MatchResult own (λ table. (t2 : LineTable) × HasLineTable f (with_strings names) (Ok t2)
+    × GivesTable all_bytes table t2) (OpeningStops fails path f (with_strings names))
+    → IsOpened all_bytes fails path f t result
+anew {S = S} {g = g} all_bytes fails path f t names answer result own said told is opens =
+    subst (λ (r : Result (LineFile S g) Stop). IsOpened all_bytes fails path f t r) (sym is) (by_own own opens)
+  where
+    by_own : (own : Result (LineFile S g) Stop) → MatchResult own (λ table. (t2 : LineTable)
+        × HasLineTable f (with_strings names) (Ok t2) × GivesTable all_bytes table t2)
+        (OpeningStops fails path f (with_strings names)) → IsOpened all_bytes fails path f t own
+    by_own (Ok table) opens = (names, subst (IsTold path t) said told, opens)
+    by_own (Err stop) stops = inr (names, subst (IsTold path t) said told, stops)
+
+-- the file stays as it was opened
+pub as_opened : {S : Type 0} {g : _} (all_bytes : S → Option (List ℕ)) (fails : Error → Type 0) (path : Text)
+    (f : List ℕ) (t : LineTable) (answer : Result Bool Stop) (result : Result (LineFile S g) Stop)
+    (table : LineFile S g) → answer ≡ Ok false
+    → IsTold path t answer → result ≡ Ok table
+    → HasLineTable f LineAndLineStrings (Ok t) → GivesTable all_bytes table t
+    → IsOpened all_bytes fails path f t result
+as_opened {S = S} {g = g} all_bytes fails path f t answer result table said told is has given =
+    let named = subst (IsTold path t) said told in
+    subst (λ (r : Result (LineFile S g) Stop). IsOpened all_bytes fails path f t r) (sym is) (false, named, (t, has, given))
+
+-- it can't be told what they name
+pub not_told : {S : Type 0} {g : _} (all_bytes : S → Option (List ℕ)) (fails : Error → Type 0) (path : Text)
+    (f : List ℕ) (t : LineTable) (answer : Result Bool Stop) (result : Result (LineFile S g) Stop) (stop : Stop)
+    → answer ≡ Err stop → IsTold path t answer
+    → result ≡ Err stop → IsOpened all_bytes fails path f t result
+not_told {S = S} {g = g} all_bytes fails path f t answer result stop said told is =
+    let stops = subst (IsTold path t) said told in
+    subst (λ (r : Result (LineFile S g) Stop). IsOpened all_bytes fails path f t r) (sym is) (inl stops)
+
+plain_wanted : (command : Command) → prints_strings command ≡ false → wanted_of command ≡ LineSection
+plain_wanted Dump prints = absurd (cc prints)
+plain_wanted Check prints = refl
+plain_wanted (Find place) prints = absurd (cc prints)
+plain_wanted Copy prints = refl
+plain_wanted (Addr question) prints = absurd (cc prints)
+
+strings_wanted : (command : Command) → prints_strings command ≡ true → wanted_of command ≡ LineAndLineStrings
+strings_wanted Dump prints = refl
+strings_wanted Check prints = absurd (cc prints)
+strings_wanted (Find place) prints = refl
+strings_wanted Copy prints = absurd (cc prints)
+strings_wanted (Addr question) prints = refl
+
+opened_for : (command : Command) (f : List ℕ) (t : LineTable) → prints_strings command ≡ true
+    → HasLineTable f (wanted_of command) (Ok t) → HasLineTable f LineAndLineStrings (Ok t)
+opened_for command f t prints has =
+    subst (λ (w : Wanted). HasLineTable f w (Ok t)) (strings_wanted command prints) has
+
+looks : (command : Command) (f : List ℕ) (t : LineTable) (wanted : Wanted) (prints : Bool)
+    → prints_strings command ≡ prints → LooksIntoWhere prints f wanted → HasLineTable f wanted (Ok t)
+    → HasTable command f t
+looks command f t wanted prints is into has =
+    (wanted, subst (λ (b : Bool). LooksIntoWhere b f wanted) (sym is) into, has)
+
+-- the command prints no texts
+pub without_texts : (command : Command) (f : List ℕ) (t : LineTable) → prints_strings command ≡ false
+    → HasLineTable f (wanted_of command) (Ok t) → HasTable command f t
+without_texts command f t prints has =
+    looks command f t LineSection false prints refl
+    (subst (λ (w : Wanted). HasLineTable f w (Ok t)) (plain_wanted command prints) has)
+
+-- the file has no such section
+pub without_section : (command : Command) (f : List ℕ) (t : LineTable) → prints_strings command ≡ true
+    → t.has_str ≡ false → HasLineTable f (wanted_of command) (Ok t) → HasTable command f t
+without_section command f t prints none has =
+    let own = opened_for command f t prints has in
+    looks command f t LineAndLineStrings true prints (t, own, inl (none, refl)) own
+
+-- it has one, and it is told whether its tables name it
+pub with_section : {S : Type 0} {g : _} (all_bytes : S → Option (List ℕ)) (fails : Error → Type 0) (path : Text)
+    (command : Command) (f : List ℕ) (t : LineTable) (result : Result (LineFile S g) Stop)
+    → prints_strings command ≡ true → t.has_str ≡ true → HasLineTable f (wanted_of command) (Ok t)
+    → (HasLineTable f LineAndLineStrings (Ok t) → IsOpened all_bytes fails path f t result)
+    → MatchResult result (λ table. (t : LineTable) × HasTable command f t × GivesTable all_bytes table t)
+    (TableStops fails path command f)
+with_section {S = S} {g = g} all_bytes fails path command f t result prints some has told =
+    let own = opened_for command f t prints has in by_result result (told own)
+  where
+    by_result : (result : Result (LineFile S g) Stop) → IsOpened all_bytes fails path f t result
+        → MatchResult result (λ table. (t : LineTable) × HasTable command f t × GivesTable all_bytes table t)
+        (TableStops fails path command f)
+    by_result (Ok table) (names, named, (t2, has2, given)) = (
+      t2,
+      looks command f t2 (with_strings names) true prints
+          (t, opened_for command f t prints has, inr (names, some, named, refl)) has2,
+      given,
+    )
+    by_result (Err stop) stops = inr (t, prints, opened_for command f t prints has, some, stops)

@@ -1,0 +1,168 @@
+//! The line table of a file, with the string sections that are looked into.
+ghost use Rattle.std.specs.Prelude.{◌≡◌, ◌↔◌, Bool, Ok, IfSome, IsTrue, MatchResult};
+ghost use Rattle.dl_elf.specs.Source.{ForBytes};
+ghost use Rattle.dl_file.specs.LineTable.{Content, GivesLine, GivesTable, HasLineTable, LineTable, Plain};
+ghost use Rattle.dl_forms.specs.Names.{Names};
+ghost use Rattle.dl_work.specs.Tables.{HasTable, IsNamed, NamedStops, NamingStops, OpeningStops, StopsNaming};
+ghost use Rattle.dl_work.specs.Tables.{TableStops, with_strings};
+ghost use Rattle.dl_file.specs.declared.line_file.Wanted.TheVariants.{LineAndLineStrings};
+
+use crate::command::Command;
+use crate::stop::{FileFault, Stop};
+use dl_elf::ReadAt;
+use dl_file::{LineFile, LineReader, Wanted, open_line_file};
+use dl_forms::StringWalk;
+use dl_num::Order;
+use dl_run::{Input, RunFault, SECTION_LIMIT};
+use std::alloc::Global;
+use std::io::Read;
+
+/// Whether a table of the line section names `.debug_str`.
+fn names_str<R: Read>(alloc: Global, order: Order, input: &mut R) -> Result<bool, RunFault>
+    ensures { MatchResult result
+        (λ names. IfSome (R.remaining input.old) (λ bytes. IsTrue names ↔ Names order bytes))
+        (StopsNaming order (R.remaining input.old)) }
+{
+    let mut walk = StringWalk::new(alloc, order);
+    let mut buffer = Input::new();
+    let mut left = SECTION_LIMIT;
+    while !walk.is_over() {
+        let Ok(piece) = buffer.next_piece(input) else {
+            return Err(RunFault::Read);
+        };
+        if piece.is_empty() {
+            return Ok(walk.names_str());
+        }
+        if left < piece.len() as u64 {
+            return Err(RunFault::SectionTooLong);
+        }
+        left -= piece.len() as u64;
+        walk = match walk.feed(piece) {
+            Ok(walk) => walk,
+            Err(_) => return Err(RunFault::NoMemory),
+        };
+    }
+    Ok(walk.names_str())
+}
+
+/// The same of the line section of the file at this path. Where it is inflated as it is read and a read fails, its tables
+/// are taken to name `.debug_str`, and the command's own reads tell of the fault.
+fn is_named<'p, S: ReadAt>(
+    alloc: Global,
+    path: &'p str,
+    order: Order,
+    line: &mut LineReader<'_, S>,
+) -> Result<bool, Stop<'p>>
+    ensures { (content : Content) → GivesLine S.all_bytes line.old content → MatchResult result
+        (IsNamed order content) (NamingStops path.entry.now order content) }
+{
+    let stream = line.stream_name();
+    match names_str(alloc, order, line) {
+        Ok(names) => Ok(names),
+        Err(RunFault::Read) if stream.is_some() => Ok(true),
+        Err(fault) => Err(Stop::at(path, stream, fault, line.last_fault())),
+    }
+}
+
+/// The same of a line section that is held in memory.
+fn is_named_in<'p>(
+    alloc: Global,
+    path: &'p str,
+    order: Order,
+    bytes: &[u8],
+) -> Result<bool, Stop<'p>>
+    ensures { MatchResult result (λ names. IsTrue names ↔ Names order bytes.now)
+        (NamingStops path.entry.now order (Plain bytes.now)) }
+{
+    let mut input = bytes;
+    match names_str(alloc, order, &mut input) {
+        Ok(names) => Ok(names),
+        Err(fault) => Err(Stop::at(path, None, fault, None)),
+    }
+}
+
+/// The wanted sections of the file at this path.
+fn opened<'p, 'a, S: ReadAt>(
+    alloc: Global,
+    path: &'p str,
+    file: &'a S,
+    wanted: Wanted,
+) -> Result<LineFile<'a, S>, Stop<'p>>
+    ensures { ForBytes (S.all_bytes file.entry.now) (λ f. MatchResult result
+        (λ table. (t : LineTable) × HasLineTable f wanted (Ok t) × GivesTable S.all_bytes table t)
+        (OpeningStops (S.fails_with file.entry.now) path.entry.now f wanted)) }
+{
+    match open_line_file(alloc, file, wanted) {
+        Ok(table) => Ok(table),
+        Err(fault) => Err(Stop::File {
+            path,
+            fault: FileFault::Elf(fault),
+        }),
+    }
+}
+
+/// The sections that are wanted, by whether a table names `.debug_str`.
+fn with_strings(names: bool) -> Wanted
+    ensures { result ≡ with_strings names }
+{
+    if names {
+        Wanted::LineAndStringSections
+    } else {
+        Wanted::LineAndLineStrings
+    }
+}
+
+/// The line table of the file at this path, whose line section and `.debug_line_str` are opened, with `.debug_str` where
+/// a table names it. The walk over the tables uses up the reader of the line section, unless this is held: then the file
+/// is opened anew.
+fn with_named<'p, 'a, S: ReadAt>(
+    alloc: Global,
+    path: &'p str,
+    file: &'a S,
+    table: LineFile<'a, S>,
+) -> Result<LineFile<'a, S>, Stop<'p>>
+    ensures { ForBytes (S.all_bytes file.entry.now) (λ f. (t : LineTable) → GivesTable S.all_bytes table.entry t
+        → HasLineTable f LineAndLineStrings (Ok t) → MatchResult result
+        (λ opened. (names : Bool) × IsNamed t.order t.line names × ((t2 : LineTable)
+        × HasLineTable f (with_strings names) (Ok t2) × GivesTable S.all_bytes opened t2))
+        (NamedStops (S.fails_with file.entry.now) path.entry.now f t)) }
+{
+    let mut table = table;
+    let order = table.order;
+    if let Some(bytes) = table.line.held() {
+        return match is_named_in(alloc, path, order, bytes) {
+            Ok(true) => opened(alloc, path, file, Wanted::LineAndStringSections),
+            Ok(false) => Ok(table),
+            Err(stop) => Err(stop),
+        };
+    }
+    match is_named(alloc, path, order, &mut table.line) {
+        Ok(names) => opened(alloc, path, file, with_strings(names)),
+        Err(stop) => Err(stop),
+    }
+}
+
+/// The sections of the file at this path that the command looks into. `.debug_str` is one of them only where a table of
+/// the line section names it.
+pub fn open_table<'p, 'a, S: ReadAt>(
+    alloc: Global,
+    path: &'p str,
+    file: &'a S,
+    command: Command<'_>,
+) -> Result<LineFile<'a, S>, Stop<'p>>
+    ensures { ForBytes (S.all_bytes file.entry.now) (λ f. MatchResult result
+        (λ table. (t : LineTable) × HasTable command.entry f t × GivesTable S.all_bytes table t)
+        (TableStops (S.fails_with file.entry.now) path.entry.now command.entry f)) }
+{
+    let table = match opened(alloc, path, file, command.wanted()) {
+        Ok(table) => table,
+        Err(stop) => return Err(stop),
+    };
+    if !command.prints_strings() {
+        return Ok(table);
+    }
+    if !table.has_debug_str {
+        return Ok(table);
+    }
+    with_named(alloc, path, file, table)
+}
