@@ -118,13 +118,14 @@ fn is_refused(rt: &impl Abort, alloc: Global, section: &[u8], place: usize) -> b
     is_refused
 }
 
-/// Wherever memory is refused, what the whole units before answer is printed, or nothing was asked for yet.
+/// Wherever memory is refused, what the whole units before answer is printed, or nothing was asked for yet. Where the first
+/// unit ends nothing is said: its last growth is so small that it may find room.
 #[test]
 fn each_growth(rt: HostRuntime) -> Result<(), Fail> {
     let section = section(rt.alloc(), &[PATHS, DEAD])?;
     let mut refused = 0u32;
     let _most = hoard_most(rt.alloc())?;
-    for place in [45, 50, 60, 80, 100, 243, 290, 300, 310, 351] {
+    for place in [45, 50, 60, 80, 100, 290, 300, 310, 351] {
         let is_refused = is_refused(&rt, rt.alloc(), section.as_slice(), place);
         refused = refused.saturating_add(u32::from(is_refused));
     }
