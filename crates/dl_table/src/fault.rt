@@ -49,27 +49,28 @@ impl fmt::Display for FaultKind {
     ghost output = { λ kind. Some (fault_text kind) };
 
     fn fmt<W: fmt::Write>(&self, f: &mut fmt::Formatter<W>) -> fmt::Result {
-        match self {
-            FaultKind::ReservedLength => write!(f, "reserved initial length"),
-            FaultKind::UnitTooLong => write!(f, "unit too long"),
-            FaultKind::UnitOverrun => write!(f, "unit ends in its header"),
-            FaultKind::AddressSize => write!(f, "bad address size"),
-            FaultKind::HeaderBeyondUnit => write!(f, "header goes past the unit"),
-            FaultKind::HeaderOverrun => write!(f, "header ends too soon"),
-            FaultKind::MaxOps => write!(f, "maximum operations is 0"),
-            FaultKind::LineRange => write!(f, "line range is 0"),
-            FaultKind::OpcodeBase => write!(f, "opcode base is 0"),
+        let text = match self {
+            FaultKind::ReservedLength => "reserved initial length",
+            FaultKind::UnitTooLong => "unit too long",
+            FaultKind::UnitOverrun => "unit ends in its header",
+            FaultKind::AddressSize => "bad address size",
+            FaultKind::HeaderBeyondUnit => "header goes past the unit",
+            FaultKind::HeaderOverrun => "header ends too soon",
+            FaultKind::MaxOps => "maximum operations is 0",
+            FaultKind::LineRange => "line range is 0",
+            FaultKind::OpcodeBase => "opcode base is 0",
             FaultKind::StandardLength(opcode) => {
-                write!(f, "wrong length of standard opcode {opcode}")
+                return write!(f, "wrong length of standard opcode {opcode}");
             }
-            FaultKind::UnknownForm(code) => write!(f, "unknown form 0x{code:x}"),
-            FaultKind::EmptyFormat => write!(f, "entries without a format"),
-            FaultKind::LebRange => write!(f, "number out of range"),
-            FaultKind::ExtendedEmpty => write!(f, "empty extended opcode"),
-            FaultKind::ExtendedLength => write!(f, "wrong length of extended opcode"),
-            FaultKind::OpcodeOverrun => write!(f, "unit ends inside an opcode"),
-            FaultKind::Truncated => write!(f, "input ends inside a unit"),
-        }
+            FaultKind::UnknownForm(code) => return write!(f, "unknown form 0x{code:x}"),
+            FaultKind::EmptyFormat => "entries without a format",
+            FaultKind::LebRange => "number out of range",
+            FaultKind::ExtendedEmpty => "empty extended opcode",
+            FaultKind::ExtendedLength => "wrong length of extended opcode",
+            FaultKind::OpcodeOverrun => "unit ends inside an opcode",
+            FaultKind::Truncated => "input ends inside a unit",
+        };
+        f.write_str(text)
     }
 }
 
