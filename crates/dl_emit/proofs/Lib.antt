@@ -2,6 +2,7 @@ pub mod GatherLemmas
 pub mod GrownLemmas
 pub mod LengthLemmas
 pub mod ProgramLemmas
+pub mod PutLemmas
 pub mod ReadAgain
 pub mod RowRuns
 pub mod RunLemmas
