@@ -164,7 +164,9 @@ def applied():
     ]:
         sections = [MOVED, SYMBOLS, *sections, replace(TEXT, data=b"")]
         yield dumps(name, image(OBJECT, sections), unit_text(OBJECT, [(address, 2)]))
-        yield dumps(f"{name}, of a program", image(LITTLE_64, sections), unit_text(OBJECT, [(0x1000, 2)]))
+        for file_type in (ET_EXEC, ET_DYN):
+            linked = image(replace(OBJECT, file_type=file_type), sections)
+            yield dumps(f"{name}, of type {file_type}", linked, unit_text(OBJECT, [(0x1000, 2)]))
 
 
 def not_applied():

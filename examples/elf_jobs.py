@@ -3,7 +3,8 @@ bytes are left. The sections are worked by hand from DWARF 5, section 6.2."""
 from dataclasses import replace
 
 from elf_cases import CHECK, COMMANDS, Case, all_stop, dumps, stops
-from elf_files import BIG_32, BIG_64, ET_REL, LITTLE_32, LITTLE_64, Section, image
+from elf_contents import deflated
+from elf_files import BIG_32, BIG_64, ET_DYN, ET_REL, LITTLE_32, LITTLE_64, Section, image
 
 # One row, at address 0.
 SMALLEST = (b"\x21\0\0\0\x05\0\x08\0\x16\0\0\0\x01\x01\x01\xfb\x0e\x0d"
@@ -57,8 +58,15 @@ def over_files():
             file = image(replace(form, file_type=file_type), ELF_STRINGS)
             yield dumps(f"strings, type {file_type}", file, both_text('"cd"', '"yz"'))
         three = Section(".debug_line", THREE_ROWS)
-        yield Case("rows", image(form, [three]), CHECK, 0, COUNTS)
-        yield Case("rows", image(form, [three]), ["copy", "elf"], 0, THREE_ROWS)
+        shared = replace(form, file_type=ET_DYN)
+        for name, file in [
+            ("rows", image(form, [three])),
+            ("rows of a shared object", image(shared, [three])),
+            ("compressed rows", image(form, [deflated(".debug_line", THREE_ROWS, form)])),
+            ("rows with another header", image(form, [deflated(".zdebug_line", THREE_ROWS)])),
+        ]:
+            yield Case(name, file, CHECK, 0, COUNTS)
+            yield Case(name, file, ["copy", "elf"], 0, THREE_ROWS)
         object_file = image(replace(form, file_type=ET_REL), [three])
         yield Case("rows of an object file", object_file, CHECK, 0, COUNTS)
         yield stops("rows of an object file", object_file, "an object file; its copy would lose its relocations",
@@ -133,6 +141,8 @@ def addresses():
         yield Case(f"{asked}", file, ["addr", "elf"], status, output, errors, asked, 0)
     yield on_input("both", BOTH_STRINGS, "addr - 0x401000 --line-str line --str other", 0, "cd/yz:1\n")
     yield on_input("line strings", BOTH_STRINGS, "addr - 0x401000 --line-str line", 0, "??:1\n")
+    yield on_input("the other order", BOTH_STRINGS, "addr --big - 0x401000 --line-str line", 1, "??:0\n",
+                   DAMAGE.replace("0x34", "0x41"))
 
 
 def refused_words():
