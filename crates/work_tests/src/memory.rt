@@ -33,8 +33,8 @@ fn assert_stopped(rt: &impl Abort, found: (u8, usize, usize), errors: &[u8], lin
     assert!(rt; written == Some(line.as_bytes()));
 }
 
-/// Asserts that a job stops so, for which there is memory at first: of the heap alone nothing is left then, since the
-/// stack has grown before.
+/// Asserts that a job stops so, for which there is memory at first, where `find` alone tells something, having no row. Of
+/// the heap alone nothing is left then, since the stack has grown before.
 fn assert_wants_memory(rt: &impl Abort, alloc: Global, command: Command) -> Result<(), Fail> {
     let mut output = [0; 512];
     let mut errors = [0; 128];
