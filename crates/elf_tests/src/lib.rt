@@ -1,21 +1,9 @@
-//! Files made by hand from the tables of the System V ABI, chapter 4.
+//! The reads of a file's line table: sources that are short, are interrupted, fail, end or leave no memory.
 #![tactic(auto)]
 
 #[cfg(test)]
-mod code;
-#[cfg(test)]
-mod compressed;
-#[cfg(test)]
-mod faults;
-#[cfg(test)]
-mod image;
-#[cfg(test)]
-mod numbered;
-#[cfg(test)]
-mod places;
+mod files;
 #[cfg(test)]
 mod reads;
 #[cfg(test)]
-mod relocations;
-#[cfg(test)]
-mod sections;
+mod source;

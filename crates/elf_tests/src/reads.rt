@@ -1,441 +1,236 @@
-//! Sources that are short, are interrupted, fail, or end while they are read.
-use crate::image::{LINE, LITTLE_64, NewSection, image, object_file};
-use dl_elf::{ElfFault, ReadAt};
+//! What comes of a file's line section where reads aren't perfect.
+use crate::files::{COMPRESSED, DAMAGED, OBJECT, PLAIN};
+use crate::source::{Habit, Source};
+use dl_elf::{ElfFault, Part};
 use dl_file::{LineReader, ReadFault, Wanted, open_line_file};
-use std::alloc::{AllocError, Global};
-use std::cell::Cell;
-use std::io;
+use std::alloc::Global;
 use std::io::{ErrorKind, Read};
 use std::process::Abort;
 use std::test::Fail;
-use test_support::{hoard, hoard_most};
+use test_support::hoard_most;
 
-/// What a source does besides giving its bytes.
-#[derive(Clone, Copy, Debug)]
-pub enum Habit {
-    /// It gives one byte a read.
-    Short,
-    /// Each read is interrupted this often before it gives anything.
-    Interrupted(u32),
-    /// The read after this many others fails.
-    Fails(u32),
-    /// After this many reads the file is empty.
-    Shrinks(u32),
-}
+/// A file, and the bytes of its line section.
+type File = (&'static [u8], &'static [u8]);
 
-#[derive(Drop)]
-struct Source<'a> {
-    bytes: &'a [u8],
-    habit: Habit,
-    /// How many reads there were, or how often the one that is tried now was interrupted.
-    count: Cell<u32>,
-}
+const PLAIN_FILE: File = (PLAIN, b"the line section");
 
-impl<'a> Source<'a> {
-    fn new(bytes: &'a [u8], habit: Habit) -> Source<'a> {
-        Source {
-            bytes,
-            habit,
-            count: Cell::new(0),
-        }
-    }
+const COMPRESSED_FILE: File = (COMPRESSED, b"the line section");
 
-    /// How many bytes the read that comes now gives at most.
-    fn most(&self) -> io::Result<usize> {
-        let count = self.count.get();
-        self.count.set(count.wrapping_add(1));
-        match self.habit {
-            Habit::Short => Ok(1),
-            Habit::Interrupted(times) if count < times => {
-                Err(io::Error::from(ErrorKind::Interrupted))
-            }
-            Habit::Interrupted(_) => {
-                self.count.set(0);
-                Ok(usize::MAX)
-            }
-            Habit::Fails(before) if count == before => Err(io::Error::from(ErrorKind::BrokenPipe)),
-            Habit::Shrinks(before) if before <= count => Ok(0),
-            Habit::Fails(_) | Habit::Shrinks(_) => Ok(usize::MAX),
-        }
+const DAMAGED_FILE: File = (DAMAGED, b"the line section");
+
+/// The addend stands in place of what stood there.
+const OBJECT_FILE: File = (OBJECT, b"abcd");
+
+/// What comes of a file: when it is told, and what.
+type Told = (&'static str, &'static str);
+
+const WHOLE: Told = ("in the end", "the section");
+
+/// The section ends early, or has other bytes.
+const OTHER: Told = ("in the end", "another section");
+
+fn name_of(kind: ErrorKind) -> &'static str {
+    match kind {
+        ErrorKind::BrokenPipe => "broken pipe",
+        ErrorKind::Interrupted => "interrupted",
+        ErrorKind::UnexpectedEof => "unexpected end",
+        _ => "another error",
     }
 }
 
-impl ReadAt for Source<'_> {
-    fn read_at(&self, offset: u64, buffer: &mut [u8]) -> io::Result<usize> {
-        let most = self.most()?;
-        let from = offset.min(self.bytes.len() as u64) as usize;
-        let rest = &self.bytes[from..];
-        let n = rest.len().min(buffer.len()).min(most);
-        buffer[..n].copy_from_slice(&rest[..n]);
-        Ok(n)
+fn name_of_fault(fault: &ElfFault) -> &'static str {
+    match fault {
+        ElfFault::Read(error) => name_of(error.kind()),
+        ElfFault::NotElf => "not an ELF file",
+        ElfFault::Damaged(Part::SectionHeaders) => "section headers",
+        ElfFault::NoMemory => "no memory",
+        _ => "another fault",
     }
 }
 
-/// What becomes of one read.
-#[derive(Clone, Copy)]
-enum Piece {
-    Bytes,
-    End,
-    Error(ErrorKind),
-}
-
-/// Appends what one read of three bytes gives.
-fn push_piece<S: ReadAt>(
-    read: &mut Vec<u8>,
-    line: &mut LineReader<'_, S>,
-) -> Result<Piece, AllocError> {
-    let mut piece = [0; 3];
-    match line.read(&mut piece) {
-        Ok(0) => Ok(Piece::End),
-        Ok(n) => {
-            read.extend_from_slice(&piece[..n])?;
-            Ok(Piece::Bytes)
-        }
-        Err(error) => Ok(Piece::Error(error.kind())),
-    }
-}
-
-/// Appends what such reads give up to the end, or to an error, whose kind is told.
-fn push_pieces<S: ReadAt>(
-    read: &mut Vec<u8>,
-    line: &mut LineReader<'_, S>,
-) -> Result<Option<ErrorKind>, AllocError> {
-    for _ in 0..u64::MAX {
-        match push_piece(read, line)? {
-            Piece::Bytes => {}
-            Piece::End => break,
-            Piece::Error(kind) => return Ok(Some(kind)),
-        }
-    }
-    Ok(None)
-}
-
-/// The kind of a read's error, and the fault that the reader keeps.
-fn text_of_error(
-    alloc: Global,
-    kind: ErrorKind,
-    kept: Option<ReadFault>,
-) -> Result<String, AllocError> {
+/// What a read fails by, where the fault that the reader keeps is of the same kind.
+fn name_of_kept(kind: ErrorKind, kept: Option<ReadFault>) -> &'static str {
     match kept {
-        Some(ReadFault::Read(kept)) => {
-            let kept = kept.kind();
-            format!(in alloc; "{kind:?} {kept:?}")
+        Some(ReadFault::Read(error)) if error.kind() == kind => name_of(kind),
+        Some(ReadFault::DamagedStream(_)) if kind == ErrorKind::InvalidData => "damage",
+        _ => "another fault",
+    }
+}
+
+/// Whether these bytes come, three a read, and nothing after them; the kind of an error.
+fn gives<R: Read>(reader: &mut R, want: &[u8]) -> Result<bool, ErrorKind> {
+    let mut rest = want;
+    let mut piece = [0; 3];
+    for _ in 0..100 {
+        let n = match reader.read(&mut piece) {
+            Ok(n) => n,
+            Err(error) => return Err(error.kind()),
+        };
+        if n == 0 {
+            return Ok(rest.is_empty());
         }
-        Some(ReadFault::DamagedStream(at)) => format!(in alloc; "{kind:?} at 0x{at:x}"),
-        None => format!(in alloc; "{kind:?}"),
+        if rest.get(..n) != Some(&piece[..n]) {
+            return Ok(false);
+        }
+        rest = &rest[n..];
+    }
+    Ok(false)
+}
+
+/// What comes of the bytes of a line section.
+fn told_of_line(line: &mut LineReader<'_, Source<'_>>, want: &[u8]) -> Told {
+    match gives(line, want) {
+        Ok(true) => WHOLE,
+        Ok(false) => OTHER,
+        Err(kind) => ("at the section", name_of_kept(kind, line.last_fault())),
     }
 }
 
-/// The line section's bytes, or the error of a read.
-fn text_of_line<S: ReadAt>(alloc: Global, line: &mut LineReader<'_, S>) -> Result<String, Fail> {
-    let mut read = Vec::new(alloc);
-    match push_pieces(&mut read, line)? {
-        Some(kind) => Ok(text_of_error(alloc, kind, line.last_fault())?),
-        None => Ok(String::from_utf8(read)?),
-    }
-}
-
-/// What is found and read through a source: the line section's bytes, or the fault.
-pub fn read_through(alloc: Global, bytes: &[u8], habit: Habit) -> Result<String, Fail> {
-    let source = Source::new(bytes, habit);
+/// What comes of a file with this habit.
+fn told(alloc: Global, file: File, habit: Habit) -> Told {
+    let (bytes, want) = file;
+    let source = Source::new(alloc, bytes, habit);
     match open_line_file(alloc, &source, Wanted::LineSection) {
-        Ok(mut file) => text_of_line(alloc, &mut file.line),
-        Err(fault) => Ok(format!(in alloc; "{fault}")?),
+        Ok(mut file) => told_of_line(&mut file.line, want),
+        Err(fault) => ("at opening", name_of_fault(&fault)),
     }
 }
 
-/// Asserts what is found and read through a source.
-fn assert_read(
-    rt: &impl Abort,
-    alloc: Global,
-    bytes: &[u8],
-    habit: Habit,
-    want: &str,
-) -> Result<(), Fail> {
-    let text = read_through(alloc, bytes, habit)?;
-    assert_eq!(rt; text.as_str(), want, "{habit:?}");
-    Ok(())
-}
-
-/// A file whose line section is `the line section`.
-fn line_file(alloc: Global) -> Result<Vec<u8>, AllocError> {
-    let line = NewSection {
-        bytes: b"the line section",
-        ..LINE
-    };
-    image(alloc, LITTLE_64, &[line])
-}
-
-/// Asserts what is read of it through sources of these habits.
-fn assert_line_reads(rt: &impl Abort, alloc: Global, cases: &[(Habit, &str)]) -> Result<(), Fail> {
-    let bytes = line_file(alloc)?;
-    for (habit, want) in cases {
-        assert_read(rt, alloc, bytes.as_slice(), *habit, want)?;
-    }
-    Ok(())
-}
-
-const HABITS: &[(Habit, &str)] = &[
-    (Habit::Short, "the line section"),
-    (Habit::Interrupted(0), "the line section"),
-    (Habit::Interrupted(1), "Interrupted Interrupted"),
-    (Habit::Interrupted(1000), "Interrupted Interrupted"),
+const HABITS: &[(File, Habit, Told)] = &[
+    (PLAIN_FILE, Habit::Short, WHOLE),
+    (PLAIN_FILE, Habit::Interrupted(0), WHOLE),
     (
-        Habit::Interrupted(1001),
-        "cannot read: operation interrupted",
+        PLAIN_FILE,
+        Habit::Interrupted(1),
+        ("at the section", "interrupted"),
     ),
-    (Habit::Fails(0), "cannot read: broken pipe"),
-    (Habit::Fails(3), "cannot read: broken pipe"),
-    (Habit::Shrinks(0), "not an ELF file"),
-    (Habit::Shrinks(1), "damaged ELF file: section headers"),
+    (
+        PLAIN_FILE,
+        Habit::Interrupted(1000),
+        ("at the section", "interrupted"),
+    ),
+    (
+        PLAIN_FILE,
+        Habit::Interrupted(1001),
+        ("at opening", "interrupted"),
+    ),
+    (PLAIN_FILE, Habit::Fails(0), ("at opening", "broken pipe")),
+    (
+        PLAIN_FILE,
+        Habit::Shrinks(0),
+        ("at opening", "not an ELF file"),
+    ),
+    (
+        PLAIN_FILE,
+        Habit::Shrinks(1),
+        ("at opening", "section headers"),
+    ),
+    (COMPRESSED_FILE, Habit::Short, WHOLE),
+    (COMPRESSED_FILE, Habit::Interrupted(0), WHOLE),
+    (DAMAGED_FILE, Habit::Short, ("at the section", "damage")),
+    (
+        DAMAGED_FILE,
+        Habit::Interrupted(0),
+        ("at the section", "damage"),
+    ),
+    (OBJECT_FILE, Habit::Short, WHOLE),
+    (OBJECT_FILE, Habit::Interrupted(1000), WHOLE),
 ];
 
 #[test]
 fn habits(rt: HostRuntime) -> Result<(), Fail> {
-    assert_line_reads(&rt, rt.alloc(), HABITS)
-}
-
-/// Asserts that nothing but the fault is told where the read after `count` others fails; whether it was a read of the
-/// section, whose bytes are `the line section`.
-fn assert_read_fails(
-    rt: &impl Abort,
-    alloc: Global,
-    bytes: &[u8],
-    count: u32,
-) -> Result<bool, Fail> {
-    let failed = read_through(alloc, bytes, Habit::Fails(count))?;
-    let told = matches!(
-        failed.as_str(),
-        "the line section" | "cannot read: broken pipe" | "BrokenPipe BrokenPipe"
-    );
-    assert!(rt; told, "{count} {failed}");
-    Ok(failed.as_str() == "BrokenPipe BrokenPipe")
-}
-
-/// Asserts that no part of the section is taken for all of it where the file ends after `count` reads.
-fn assert_file_ends(rt: &impl Abort, alloc: Global, bytes: &[u8], count: u32) -> Result<(), Fail> {
-    let ended = read_through(alloc, bytes, Habit::Shrinks(count))?;
-    let told = ended.as_str() == "the line section" || !ended.starts_with("the");
-    assert!(rt; told, "{count} {ended}");
-    Ok(())
-}
-
-/// Asserts both for each of 40 reads of a file; how many of them were reads of the section that failed.
-pub fn assert_each_read_fails(rt: &impl Abort, alloc: Global, bytes: &[u8]) -> Result<usize, Fail> {
-    let mut failed_at_last = 0usize;
-    for count in 0..40 {
-        if assert_read_fails(rt, alloc, bytes, count)? {
-            failed_at_last = failed_at_last.saturating_add(1);
-        }
-        assert_file_ends(rt, alloc, bytes, count)?;
+    for (number, case) in HABITS.iter().enumerate() {
+        let (file, habit, want) = case;
+        assert_eq!(rt; told(rt.alloc(), *file, *habit), *want, "{number}");
     }
-    Ok(failed_at_last)
-}
-
-/// Each read fails in turn, and the file ends before each read: nothing but the fault is told, and
-/// no part of the section is taken for all of it.
-#[test]
-fn each_read_fails(rt: HostRuntime) -> Result<(), Fail> {
-    let bytes = line_file(rt.alloc())?;
-    let _failed_at_last = assert_each_read_fails(&rt, rt.alloc(), bytes.as_slice())?;
     Ok(())
 }
 
-const LAST_READ: &[(Habit, &str)] = &[
-    (Habit::Fails(14), "BrokenPipe BrokenPipe"),
-    (Habit::Shrinks(14), "UnexpectedEof UnexpectedEof"),
-    (Habit::Fails(39), "the line section"),
+/// How many reads are tried; the line section is whole where what is tried comes after them.
+const READS: u32 = 60;
+
+/// A habit at the read after this many others, or from it on.
+fn after(habit: Habit, reads: u32) -> Habit {
+    match habit {
+        Habit::Fails(_) => Habit::Fails(reads),
+        Habit::Shrinks(_) => Habit::Shrinks(reads),
+        Habit::Hoards(_) => Habit::Hoards(reads),
+        Habit::Short | Habit::Interrupted(_) => habit,
+    }
+}
+
+/// A file and a habit; what may come of it besides the whole section; and how often what stands last among that comes,
+/// where that is known.
+type EachRead = (File, Habit, &'static [Told], Option<usize>);
+
+const FAILING: &[Told] = &[
+    ("at opening", "broken pipe"),
+    ("at the section", "broken pipe"),
 ];
 
-/// The last read fails, the file ends before it, and a read after it would fail.
-#[test]
-fn the_last_read_fails(rt: HostRuntime) -> Result<(), Fail> {
-    assert_line_reads(&rt, rt.alloc(), LAST_READ)
-}
+const ENDING: &[Told] = &[
+    ("at opening", "not an ELF file"),
+    ("at opening", "section headers"),
+    ("at opening", "another fault"),
+    ("at the section", "unexpected end"),
+];
 
-/// The kind of the error of the first read, where it is that of opening the file.
-fn error_of_first_read(alloc: Global, bytes: &[u8]) -> Option<ErrorKind> {
-    let source = Source::new(bytes, Habit::Fails(0));
-    match open_line_file(alloc, &source, Wanted::LineSection) {
-        Err(ElfFault::Read(error)) => Some(error.kind()),
-        _ => None,
-    }
-}
+const REFUSED: &[Told] = &[("at opening", "no memory")];
 
-/// A fault of a read is no other fault.
-#[test]
-fn the_fault_of_a_read(rt: HostRuntime) -> Result<(), Fail> {
-    let bytes = image(rt.alloc(), LITTLE_64, &[LINE])?;
-    let error = error_of_first_read(rt.alloc(), bytes.as_slice());
-    assert!(rt; error == Some(ErrorKind::BrokenPipe));
-    Ok(())
-}
+/// The 16 bytes of a plain section take six reads of three bytes, a stream one; those of an object file are read at
+/// opening.
+const EACH_READ: &[EachRead] = &[
+    (PLAIN_FILE, Habit::Fails(0), FAILING, Some(6)),
+    (COMPRESSED_FILE, Habit::Fails(0), FAILING, Some(1)),
+    (OBJECT_FILE, Habit::Fails(0), FAILING, Some(0)),
+    (PLAIN_FILE, Habit::Shrinks(0), ENDING, Some(6)),
+    (COMPRESSED_FILE, Habit::Shrinks(0), ENDING, None),
+    (OBJECT_FILE, Habit::Shrinks(0), ENDING, Some(0)),
+];
 
-/// An object file whose line section has one relocation, with a symbol table of one symbol.
-fn object(alloc: Global) -> Result<Vec<u8>, AllocError> {
-    object_file(
-        alloc,
-        LINE,
-        b"\0\0\0\0\0\0\0\0\x0a\0\0\0\0\0\0\0abcd\0\0\0\0",
-        b"the first symbol, 24 zero",
-    )
-}
+/// Of a plain file nothing is held; of a compressed one what its stream is read with; of an object file its line section
+/// and the values of its symbols.
+const NO_MEMORY: &[EachRead] = &[
+    (PLAIN_FILE, Habit::Hoards(0), REFUSED, Some(0)),
+    (COMPRESSED_FILE, Habit::Hoards(0), REFUSED, Some(1)),
+    (OBJECT_FILE, Habit::Hoards(0), REFUSED, Some(2)),
+];
 
-/// Asserts that nothing but the fault is told where the read of an object file after `count` others fails.
-fn assert_relocated_read_fails(
-    rt: &impl Abort,
-    alloc: Global,
-    bytes: &[u8],
-    count: u32,
-) -> Result<(), Fail> {
-    let failed = read_through(alloc, bytes, Habit::Fails(count))?;
-    let told = matches!(failed.as_str(), "abcd" | "cannot read: broken pipe");
-    assert!(rt; told, "{count} {failed}");
-    Ok(())
-}
-
-/// Asserts that nothing but the fault is told wherever one of the first 60 reads of an object file fails.
-fn assert_each_relocated_read_fails(
-    rt: &impl Abort,
-    alloc: Global,
-    bytes: &[u8],
-) -> Result<(), Fail> {
-    for count in 0..60 {
-        assert_relocated_read_fails(rt, alloc, bytes, count)?;
-    }
-    Ok(())
-}
-
-/// Each read of an object file fails in turn, whose line section has relocations.
-#[test]
-fn each_read_of_relocations_fails(rt: HostRuntime) -> Result<(), Fail> {
-    let alloc = rt.alloc();
-    let bytes = object(alloc)?;
-    assert_each_relocated_read_fails(&rt, alloc, bytes.as_slice())?;
-    assert_read(&rt, alloc, bytes.as_slice(), Habit::Fails(59), "abcd")
-}
-
-/// A file that has all memory from one of its reads to the next.
-#[derive(Drop)]
-struct Hoarding<'a> {
-    alloc: Global,
-    bytes: &'a [u8],
-    /// How many reads come before that one.
-    before: u32,
-    count: Cell<u32>,
-    blocks: Cell<Vec<Vec<u8>>>,
-}
-
-impl<'a> Hoarding<'a> {
-    fn new(alloc: Global, bytes: &'a [u8], before: u32) -> Hoarding<'a> {
-        Hoarding {
-            alloc,
-            bytes,
-            before,
-            count: Cell::new(0),
-            blocks: Cell::new(Vec::new(alloc)),
+/// Asserts what comes of the file of a case, which has this number, where each read in turn has the habit; how often what
+/// stands last comes.
+fn count_last(rt: &impl Abort, alloc: Global, number: usize, case: &EachRead) -> usize {
+    let (file, habit, others, _) = case;
+    let mut count = 0usize;
+    for reads in 0..READS {
+        let found = told(alloc, *file, after(*habit, reads));
+        assert!(rt;
+            found == WHOLE || others.contains(&found),
+            "{number}, {reads}"
+        );
+        if others.last() == Some(&found) {
+            count = count.saturating_add(1);
         }
     }
+    count
+}
 
-    /// Gives the memory back.
-    fn let_go(&self) {
-        self.blocks.set(Vec::new(self.alloc));
-    }
-
-    /// Gives the memory back, and takes it where this is the read.
-    fn turn(&self) -> Result<(), AllocError> {
-        let count = self.count.get();
-        self.count.set(count.wrapping_add(1));
-        self.let_go();
-        if count == self.before {
-            self.blocks.set(hoard(self.alloc)?);
-        }
-        Ok(())
+/// Asserts of each file and habit what comes of it, and how often.
+fn assert_each_read(rt: &impl Abort, alloc: Global, cases: &[EachRead]) {
+    for (number, case) in cases.iter().enumerate() {
+        let (file, habit, _, times) = case;
+        let count = count_last(rt, alloc, number, case);
+        assert_eq!(rt; count, times.unwrap_or(count), "{number}");
+        assert_eq!(rt; told(alloc, *file, after(*habit, READS)), WHOLE, "{number}");
     }
 }
 
-impl ReadAt for Hoarding<'_> {
-    fn read_at(&self, offset: u64, buffer: &mut [u8]) -> io::Result<usize> {
-        self.turn()?;
-        let from = offset.min(self.bytes.len() as u64) as usize;
-        let rest = &self.bytes[from..];
-        let n = rest.len().min(buffer.len());
-        buffer[..n].copy_from_slice(&rest[..n]);
-        Ok(n)
-    }
-}
-
-/// What becomes of a file for which there may be no memory.
-#[derive(Clone, Copy)]
-enum Outcome {
-    /// Its line section is the one that is wanted.
-    Read,
-    /// Memory is refused.
-    Refused,
-    /// There is another fault, or another line section.
-    Wrong,
-}
-
-/// Whether one read of one byte more than these gives these.
-fn is_line<S: ReadAt>(line: &mut LineReader<'_, S>, want: &[u8]) -> Outcome {
-    let mut piece = [0; 17];
-    let most = want.len().saturating_add(1).min(17);
-    match line.read(&mut piece[..most]) {
-        Ok(n) if piece.get(..n) == Some(want) => Outcome::Read,
-        _ => Outcome::Wrong,
-    }
-}
-
-/// What becomes of a file from whose read after `before` others to the next there is no memory.
-fn outcome_of(alloc: Global, bytes: &[u8], before: u32, want: &[u8]) -> Outcome {
-    let source = Hoarding::new(alloc, bytes, before);
-    let opened = open_line_file(alloc, &source, Wanted::LineSection);
-    source.let_go();
-    match opened {
-        Ok(mut file) => is_line(&mut file.line, want),
-        Err(ElfFault::NoMemory) => Outcome::Refused,
-        Err(_) => Outcome::Wrong,
-    }
-}
-
-/// How often memory is refused, where there is none after each of the first `reads` reads. Asserts that nothing but
-/// that is told, and that the line section is the one that is wanted where it isn't refused.
-fn count_refusals(
-    rt: &impl Abort,
-    alloc: Global,
-    bytes: &[u8],
-    reads: u32,
-    want: &[u8],
-) -> Result<usize, Fail> {
-    let mut refused = 0usize;
-    for before in 0..reads {
-        let outcome = outcome_of(alloc, bytes, before, want);
-        assert!(rt; !matches!(outcome, Outcome::Wrong), "{before}");
-        if matches!(outcome, Outcome::Refused) {
-            refused = refused.saturating_add(1);
-        }
-    }
-    Ok(refused)
-}
-
-/// The same while most memory is held, so that the rest is quick to take.
-pub fn refusals(
-    rt: &impl Abort,
-    alloc: Global,
-    bytes: &[u8],
-    reads: u32,
-    want: &[u8],
-) -> Result<usize, Fail> {
-    let _most = hoard_most(alloc)?;
-    count_refusals(rt, alloc, bytes, reads, want)
-}
-
-/// No memory is to be had after each read in turn: the line section and the values of its symbols, which alone are
-/// held, are each refused once, and nothing but that is told.
+/// Each read fails in turn, the file ends before it, or no memory is to be had after it: nothing but that is told, and no
+/// part of a section is taken for all of it.
 #[test]
-fn each_growth_of_relocations(rt: HostRuntime) -> Result<(), Fail> {
-    let bytes = object(rt.alloc())?;
-    let refused = refusals(&rt, rt.alloc(), bytes.as_slice(), 40, b"abcd")?;
-    assert_eq!(rt; refused, 2);
+fn each_read(rt: HostRuntime) -> Result<(), Fail> {
+    assert_each_read(&rt, rt.alloc(), EACH_READ);
+    // The stack has grown, so that of the heap alone nothing is left. Most of it is held, so that the rest is quick to take.
+    let _most = hoard_most(rt.alloc())?;
+    assert_each_read(&rt, rt.alloc(), NO_MEMORY);
     Ok(())
 }

@@ -1,19 +1,11 @@
-//! Jobs over sections and over files in memory, and what stops them.
+//! Jobs over files whose reads fail, and where there is no memory.
 #![tactic(auto)]
 
 #[cfg(test)]
-mod compressed;
+mod files;
 #[cfg(test)]
-mod debug_file;
+mod jobs;
 #[cfg(test)]
-mod elf;
-#[cfg(test)]
-mod file;
-#[cfg(test)]
-mod input;
-#[cfg(test)]
-mod locate;
+mod memory;
 #[cfg(test)]
 mod shelf;
-#[cfg(test)]
-mod told;
