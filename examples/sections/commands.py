@@ -127,6 +127,14 @@ def run_of_place(name, section, words, lines):
     return Run(name, words, section, 1, b"", (NOT_FOUND,))
 
 
+def runs_of_fronts():
+    """A unit of version 4 that ends early is told to end there."""
+    for length in range(1, len(FOREIGN)):
+        fault = damage(length, TRUNCATED)
+        yield Run(f"version 4, {length} bytes", ("check",), FOREIGN[:length], 1, b"", (fault,))
+
+
 def runs():
     yield from runs_of_sections()
+    yield from runs_of_fronts()
     yield from runs_of_places()
