@@ -1,7 +1,7 @@
 """Worked sections of several units, and places that are looked up."""
 from sections.cases import UNIT, TRUNCATED, Run, counts_of, damage, error, row, text
 from sections.headers import DWARF64_DUMP
-from sections.programs import SMALLEST_DUMP, THREE_DUMP
+from sections.programs import THREE_DUMP
 from sections.units import (
     BIG_OPERATIONS, DWARF64_WITH_MD5, FOREIGN, PADDED, PADDED_COPIED, SMALLEST, THREE_ROWS, THREE_ROWS_AND_A_BYTE,
     WITH_FILE)
