@@ -1,11 +1,7 @@
-//! Units that are written, and writers that aren't perfect.
+//! Units that aren't written, and writers that aren't perfect.
 #![tactic(auto)]
 
 #[cfg(test)]
 mod refusals;
 #[cfg(test)]
-mod vectors;
-#[cfg(test)]
 mod writers;
-#[cfg(test)]
-mod writing;

@@ -1,140 +1,149 @@
 //! Units that aren't written.
 
-use crate::vectors::{
-    OPCODE_BASE_10, append_unit, assert_answer, assert_write, begin, changed, header,
-};
-use dl_emit::{EmitFault, Program, measure};
+use dl_emit::{EmitFault, Program, measure, write_unit};
 use dl_head::Header;
 use dl_num::Order;
 use dl_rows::Row;
 use std::alloc::Global;
 use std::process::Abort;
-use std::test::Fail;
-use test_support::{Sink, bytes, row};
+use test_support::{Sink, header_of, row};
 
-/// Asserts that nothing is written, for this reason, neither of the rows at once nor of a program of them.
-fn assert_refused(rt: &impl Abort, alloc: Global, head: &Header, rows: &[Row], fault: EmitFault) {
-    assert_answer(rt, measure(head, rows), Err(fault));
-    let output = &mut Sink::new(alloc, 1000, 7);
-    assert_write(rt, output, Order::Little, head, rows, (Err(fault), &[]));
-    assert_program_refused(rt, alloc, head, rows, fault);
+/// The header of an empty program: the 32-bit format, addresses of 8 bytes, opcode_base 13, empty tables. Little.
+pub const EMPTY_PROGRAM: [u8; 34] = [
+    0x1e, 0x00, 0x00, 0x00, 0x05, 0x00, 0x08, 0x00, 0x16, 0x00, 0x00, 0x00, 0x01, 0x01, 0x01, 0xfb,
+    0x0e, 0x0d, 0x00, 0x01, 0x01, 0x01, 0x01, 0x00, 0x00, 0x00, 0x01, 0x00, 0x00, 0x01, 0x00, 0x00,
+    0x00, 0x00,
+];
+
+/// A header of opcode_base 10.
+const OPCODE_BASE_10: &[u8] = &[
+    0x1b, 0x00, 0x00, 0x00, 0x05, 0x00, 0x08, 0x00, 0x13, 0x00, 0x00, 0x00, 0x01, 0x01, 0x01, 0xfb,
+    0x0e, 0x0a, 0x00, 0x01, 0x01, 0x01, 0x01, 0x00, 0x00, 0x00, 0x01, 0x00, 0x00, 0x00, 0x00,
+];
+
+/// The header that the bytes are.
+pub fn header(rt: &impl Abort, alloc: Global, bytes: &[u8]) -> Header {
+    header_of(alloc, Order::Little, bytes).expect(rt, "a header")
 }
 
-/// Asserts that nothing is written of a program of these rows.
-fn assert_program_refused(
+/// The header of an empty program with this address_size, minimum_instruction_length and
+/// maximum_operations_per_instruction.
+fn header_with(rt: &impl Abort, alloc: Global, numbers: [u8; 3]) -> Header {
+    let mut bytes = EMPTY_PROGRAM;
+    let [address_size, minimum, maximum] = numbers;
+    bytes[6] = address_size;
+    bytes[12] = minimum;
+    bytes[13] = maximum;
+    header(rt, alloc, &bytes)
+}
+
+/// Begins a unit with this header, and adds these rows one by one.
+fn begin(rt: &impl Abort, program: &mut Program, head: &Header, rows: &[Row]) {
+    program.begin(head);
+    for row in rows {
+        program.push(row).expect(rt, "memory");
+    }
+}
+
+/// Asserts that nothing is written, for this reason, neither of the rows at once nor of a program of them.
+fn assert_refused(
     rt: &impl Abort,
-    alloc: Global,
+    output: &mut Sink,
+    program: &mut Program,
     head: &Header,
     rows: &[Row],
     fault: EmitFault,
 ) {
-    let mut program = Program::new(alloc, Order::Little);
-    begin(rt, &mut program, head, rows);
-    assert_header_refused(rt, &mut Sink::new(alloc, 1000, 7), &program, head, fault);
-}
-
-fn assert_header_refused(
-    rt: &impl Abort,
-    output: &mut Sink,
-    program: &Program,
-    head: &Header,
-    fault: EmitFault,
-) {
-    assert_answer(rt, program.write_header(output, head), Err(fault));
+    begin(rt, program, head, rows);
+    assert!(rt; measure(head, rows) == Err(fault), "{fault:?}");
+    assert!(rt; write_unit(output, Order::Little, head, rows) == Err(fault));
+    assert!(rt; program.write_header(output, head) == Err(fault));
     assert!(rt; output.held.is_empty());
 }
 
-/// Asserts the same of the header of an empty program with these changes.
-fn assert_refused_with(
+/// The same of a new writer and a new program.
+fn assert_refused_anew(
     rt: &impl Abort,
     alloc: Global,
-    changes: &[(usize, u8)],
+    head: &Header,
     rows: &[Row],
     fault: EmitFault,
-) -> Result<(), Fail> {
-    let head = changed(rt, alloc, changes)?;
-    assert_refused(rt, alloc, &head, rows, fault);
-    Ok(())
+) {
+    let output = &mut Sink::new(alloc, 1000, 7);
+    let program = &mut Program::new(alloc, Order::Little);
+    assert_refused(rt, output, program, head, rows, fault);
 }
 
-/// The header of `OPCODE_BASE_10`.
-fn head_of_opcode_base_10(rt: &impl Abort, alloc: Global) -> Result<Header, Fail> {
-    let head = bytes(alloc, OPCODE_BASE_10)?;
-    Ok(header(rt, alloc, Order::Little, head.as_slice()))
-}
-
-/// Asserts that a row is refused for the opcode_base of this header, whatever its op_index.
-fn assert_opcode_base_refused(rt: &impl Abort, alloc: Global, head: &Header) {
-    let fault = EmitFault::OpcodeBase;
-    assert_refused(rt, alloc, head, &[row(0, 0, 6)], fault);
-    assert_refused(rt, alloc, head, &[row(0, 1, 6)], fault);
-}
-
+/// A row is refused for opcode_base 10, whatever its op_index.
 #[test]
-fn opcode_base_10(rt: HostRuntime) -> Result<(), Fail> {
-    let head = head_of_opcode_base_10(&rt, rt.alloc())?;
-    assert_opcode_base_refused(&rt, rt.alloc(), &head);
-    Ok(())
-}
-
-#[test]
-fn op_indexes_out_of_range(rt: HostRuntime) -> Result<(), Fail> {
-    let alloc = rt.alloc();
-    let three = [(12, 0x10), (13, 3)];
-    let rows = [row(0x1000, 3, 1)];
-    assert_refused_with(&rt, alloc, &three, &rows, EmitFault::RowRange(0))?;
-    let rows = [row(0, 2, 1), row(0, 3, 1), row(0, 4, 1)];
-    assert_refused_with(&rt, alloc, &three, &rows, EmitFault::RowRange(1))
-}
-
-/// Whether a unit of the header of an empty program with these changes and of these rows can be measured.
-fn is_measured(
-    rt: &impl Abort,
-    alloc: Global,
-    changes: &[(usize, u8)],
-    rows: &[Row],
-) -> Result<bool, Fail> {
-    let head = changed(rt, alloc, changes)?;
-    Ok(measure(&head, rows).is_ok())
-}
-
-#[test]
-fn addresses_out_of_range(rt: HostRuntime) -> Result<(), Fail> {
-    let alloc = rt.alloc();
-    let rows = [
-        (1, 0xff, 0x100),
-        (2, 0xffff, 0x1_0000),
-        (4, 0xffff_ffff, 0x1_0000_0000),
-    ];
-    for (size, last, beyond) in rows {
-        let rows = [row(last, 0, 1), row(beyond, 0, 1)];
-        assert_refused_with(&rt, alloc, &[(6, size)], &rows, EmitFault::RowRange(1))?;
-        assert!(rt; is_measured(&rt, alloc, &[(6, size)], &[row(last, 0, 1)])?);
+fn opcode_base_10(rt: HostRuntime) {
+    let head = header(&rt, rt.alloc(), OPCODE_BASE_10);
+    for op_index in [0, 1] {
+        let rows = [row(0, op_index, 6)];
+        assert_refused_anew(&rt, rt.alloc(), &head, &rows, EmitFault::OpcodeBase);
     }
-    Ok(())
 }
 
-/// Appends the unit of a program that begins with this header and a row that is out of range, and begins anew.
-fn append_anew(rt: &impl Abort, alloc: Global, head: &Header, output: &mut Sink) {
-    let mut program = Program::new(alloc, Order::Little);
-    begin(rt, &mut program, head, &[row(1 << 32, 0, 1), row(0, 0, 1)]);
-    begin(rt, &mut program, head, &[row(4, 0, 2)]);
-    append_unit(rt, &program, head, output);
+/// address_size, minimum_instruction_length and maximum_operations_per_instruction; the address and the op_index of each
+/// of two rows; and which of these is out of range first.
+type Case = ([u8; 3], [(u64, u8); 2], usize);
+
+const CASES: [Case; 6] = [
+    ([8, 0x10, 3], [(0x1000, 3), (0x1000, 0)], 0),
+    ([8, 0x10, 3], [(0, 2), (0, 3)], 1),
+    ([8, 0x10, 3], [(0, 3), (0, 4)], 0),
+    ([1, 1, 1], [(0xff, 0), (0x100, 0)], 1),
+    ([2, 1, 1], [(0xffff, 0), (0x1_0000, 0)], 1),
+    ([4, 1, 1], [(0xffff_ffff, 0), (0x1_0000_0000, 0)], 1),
+];
+
+fn assert_case(rt: &impl Abort, alloc: Global, case: &Case) {
+    let (numbers, [(first, first_op), (second, second_op)], place) = *case;
+    let head = header_with(rt, alloc, numbers);
+    let rows = [row(first, first_op, 1), row(second, second_op, 1)];
+    assert_refused_anew(rt, alloc, &head, &rows, EmitFault::RowRange(place));
 }
 
-/// Asserts that the unit of a program that begins anew is that of its last row.
-fn assert_begins_anew(rt: &impl Abort, alloc: Global, head: &Header) {
-    let mut output = Sink::new(alloc, 1000, 1000);
-    append_anew(rt, alloc, head, &mut output);
-    let whole = &mut Sink::new(alloc, 1000, 1000);
-    let wanted = (Ok(42), output.held.as_slice());
-    assert_write(rt, whole, Order::Little, head, &[row(4, 0, 2)], wanted);
+fn assert_cases(rt: &impl Abort, alloc: Global, cases: &[Case]) {
+    for case in cases {
+        assert_case(rt, alloc, case);
+    }
+}
+
+#[test]
+fn rows_out_of_range(rt: HostRuntime) {
+    assert_cases(&rt, rt.alloc(), &CASES);
+}
+
+/// The unit of a row at address 4 and line 2, with addresses of 4 bytes.
+const BEGUN_ANEW: &[u8] = &[
+    0x26, 0x00, 0x00, 0x00, 0x05, 0x00, 0x04, 0x00, 0x16, 0x00, 0x00, 0x00, 0x01, 0x01, 0x01, 0xfb,
+    0x0e, 0x0d, 0x00, 0x01, 0x01, 0x01, 0x01, 0x00, 0x00, 0x00, 0x01, 0x00, 0x00, 0x01, 0x00, 0x00,
+    0x00, 0x00, 0x00, 0x05, 0x02, 0x04, 0x00, 0x00, 0x00, 0x13,
+];
+
+/// Appends the unit of this header and the rows of this program, part after part.
+fn append_unit(rt: &impl Abort, program: &Program, head: &Header, output: &mut Sink) {
+    assert!(rt; program.write_header(output, head) == Ok(34));
+    for part in [program.first_bytes(), program.last_bytes()] {
+        output.held.extend_from_slice(part).expect(rt, "memory");
+    }
+}
+
+/// Asserts that a program that begins anew has the rows from then on alone.
+fn assert_begins_anew(rt: &impl Abort, output: &mut Sink, program: &mut Program, head: &Header) {
+    begin(rt, program, head, &[row(1 << 32, 0, 1), row(0, 0, 1)]);
+    assert!(rt; program.write_header(output, head) == Err(EmitFault::RowRange(0)));
+    begin(rt, program, head, &[row(4, 0, 2)]);
+    append_unit(rt, program, head, output);
+    assert!(rt; output.held.as_slice() == BEGUN_ANEW);
 }
 
 /// A program begins anew with a header: no row of before is one of it, and none is refused any more.
 #[test]
-fn a_program_begins_anew(rt: HostRuntime) -> Result<(), Fail> {
-    let head = changed(&rt, rt.alloc(), &[(6, 4)])?;
-    assert_begins_anew(&rt, rt.alloc(), &head);
-    Ok(())
+fn a_program_begins_anew(rt: HostRuntime) {
+    let head = header_with(&rt, rt.alloc(), [4, 1, 1]);
+    let output = &mut Sink::new(rt.alloc(), 1000, 1000);
+    let program = &mut Program::new(rt.alloc(), Order::Little);
+    assert_begins_anew(&rt, output, program, &head);
 }

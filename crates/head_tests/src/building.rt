@@ -1,179 +1,129 @@
 //! Tables and headers that are built.
 
-use crate::told::{assert_entry, assert_value};
-use crate::vectors::{DWARF64_WITH_MD5, EMPTY_PROGRAM, MD5, is_header_of, read};
+use crate::vectors::{DWARF64_WITH_MD5, EMPTY_PROGRAM, MD5, is_header_of};
 use dl_head::{
     BuildFault, Form, Format, Header, Pair, ParamFault, Params, Refused, Table, ValueRef,
 };
-use dl_num::Order;
 use std::alloc::Global;
 use std::process::Abort;
 use std::test::Fail;
 use test_support::{opcode_lengths, params};
 
-pub fn pair(content: u64, form: Form) -> Pair {
-    Pair { content, form }
+const FITS: Result<(), BuildFault> = Ok(());
+
+const WRONG: Result<(), BuildFault> = Err(BuildFault::WrongValue(0));
+
+const TOO_MANY: Result<(), BuildFault> = Err(BuildFault::WrongValue(1));
+
+/// A form, the values of an entry, and what a table with one pair of this form answers to it.
+type Entry<'a> = (Form, &'a [ValueRef<'a>], Result<(), BuildFault>);
+
+/// In the 32-bit format.
+const ENTRIES: &[Entry<'static>] = &[
+    (Form::String, &[ValueRef::Text(b"a")], FITS),
+    (Form::String, &[ValueRef::Text(b"a\0")], WRONG),
+    (Form::String, &[], WRONG),
+    (Form::String, &[ValueRef::Number(1)], WRONG),
+    (
+        Form::String,
+        &[ValueRef::Text(b"a"), ValueRef::Text(b"a")],
+        TOO_MANY,
+    ),
+    (Form::String, &[ValueRef::Block(b"a")], WRONG),
+    (Form::Data1, &[ValueRef::Number(255)], FITS),
+    (Form::Data1, &[ValueRef::Number(256)], WRONG),
+    (Form::Data2, &[ValueRef::Number(65_535)], FITS),
+    (Form::Data2, &[ValueRef::Number(65_536)], WRONG),
+    (Form::Data4, &[ValueRef::Number(0xffff_ffff)], FITS),
+    (Form::Data4, &[ValueRef::Number(0x1_0000_0000)], WRONG),
+    (Form::Data8, &[ValueRef::Number(u64::MAX)], FITS),
+    (Form::Udata, &[ValueRef::Number(u64::MAX)], FITS),
+    (Form::Strp, &[ValueRef::Str(0xffff_ffff)], FITS),
+    (Form::Strp, &[ValueRef::Str(0x1_0000_0000)], WRONG),
+    (Form::Strp, &[ValueRef::LineStr(0)], WRONG),
+    (Form::LineStrp, &[ValueRef::LineStr(0xffff_ffff)], FITS),
+    (Form::LineStrp, &[ValueRef::LineStr(0x1_0000_0000)], WRONG),
+    (Form::StrpSup, &[ValueRef::StrSup(7)], FITS),
+    (Form::Block1, &[ValueRef::Block(&[0; 255])], FITS),
+    (Form::Block1, &[ValueRef::Block(&[0; 256])], WRONG),
+    (Form::Block, &[ValueRef::Block(&[0; 256])], FITS),
+    (Form::Block2, &[ValueRef::Block(&[0; 256])], FITS),
+    (Form::Block4, &[ValueRef::Block(&[])], FITS),
+    (Form::Data16, &[ValueRef::Data16(MD5)], FITS),
+    (Form::Data16, &[ValueRef::Block(&MD5)], WRONG),
+];
+
+const LAST_OFFSET: &[Entry<'static>] = &[(Form::Strp, &[ValueRef::Str(u64::MAX)], FITS)];
+
+/// The value of this content code in the first entry.
+fn first_value(table: &Table, content: u64) -> Option<ValueRef<'_>> {
+    table.entry(0)?.get(content)
 }
 
-#[test]
-fn form_codes_are_the_standards(rt: HostRuntime) {
-    let rows = [
-        (Form::Block2, 0x03),
-        (Form::Block4, 0x04),
-        (Form::Data2, 0x05),
-        (Form::Data4, 0x06),
-        (Form::Data8, 0x07),
-        (Form::String, 0x08),
-        (Form::Block, 0x09),
-        (Form::Block1, 0x0a),
-        (Form::Data1, 0x0b),
-        (Form::Strp, 0x0e),
-        (Form::Udata, 0x0f),
-        (Form::StrpSup, 0x1d),
-        (Form::Data16, 0x1e),
-        (Form::LineStrp, 0x1f),
-    ];
-    for (form, code) in rows {
-        assert!(rt; form.code() == code);
-        assert_code(&rt, u64::from(code), Some(form));
-    }
+/// Whether the table has no entry, or one with this value.
+fn holds(table: &Table, value: Option<ValueRef<'_>>) -> bool {
+    table.len() == usize::from(value.is_some()) && first_value(table, 1) == value
 }
 
-/// Asserts the form of a code.
-fn assert_code(rt: &impl Abort, code: u64, form: Option<Form>) {
-    assert_eq!(rt; Form::from_code(code), form);
-}
-
-#[test]
-fn other_codes_are_no_forms(rt: HostRuntime) {
-    for code in [0, 1, 0x0d, 0x17, 0x1a, 0x20, 0x1f01, u64::MAX] {
-        assert_code(&rt, code, None);
-    }
-}
-
-/// Asserts what a table answers to an entry.
-pub fn assert_answer(
-    rt: &impl Abort,
-    answer: Result<(), BuildFault>,
-    wanted: Result<(), BuildFault>,
-) {
-    assert_eq!(rt; answer, wanted);
-}
-
-/// Asserts what the table answers to an entry, and how many it has then.
-fn assert_pushed(
+/// Asserts what an empty table answers to an entry of these values, and what it holds then.
+pub fn assert_pushed(
     rt: &impl Abort,
     table: &mut Table,
     values: &[ValueRef<'_>],
     answer: Result<(), BuildFault>,
-    len: usize,
 ) {
-    assert_answer(rt, table.push_entry(values), answer);
-    assert!(rt; table.len() == len);
+    assert!(rt; table.push_entry(values) == answer, "{answer:?}");
+    let value = values.first().copied();
+    assert!(rt; holds(table, if answer.is_ok() { value } else { None }));
 }
 
-/// Asserts that a table of texts refuses entries of other values, and takes a text.
-fn assert_takes_a_text(rt: &impl Abort, table: &mut Table) {
-    let text = ValueRef::Text(b"a");
-    let wrong = Err(BuildFault::WrongValue(0));
-    assert_pushed(rt, table, &[ValueRef::Text(&[0x61, 0x00])], wrong, 0);
-    assert_pushed(rt, table, &[], wrong, 0);
-    assert_pushed(rt, table, &[ValueRef::Number(1)], wrong, 0);
-    let two = Err(BuildFault::WrongValue(1));
-    assert_pushed(rt, table, &[text, text], two, 0);
-    assert_pushed(rt, table, &[text], Ok(()), 1);
+/// Asserts the same of a new table of these pairs.
+fn assert_entered(
+    rt: &impl Abort,
+    alloc: Global,
+    format: Format,
+    pairs: &[Pair],
+    values: &[ValueRef<'_>],
+    answer: Result<(), BuildFault>,
+) {
+    let mut table = Table::new(alloc, format, pairs).expect(rt, "a table");
+    assert_pushed(rt, &mut table, values, answer);
+}
+
+/// Asserts the same for each of these.
+fn assert_entries(rt: &impl Abort, alloc: Global, format: Format, entries: &[Entry<'_>]) {
+    for (form, values, answer) in entries {
+        let pairs = [Pair {
+            content: 1,
+            form: *form,
+        }];
+        assert_entered(rt, alloc, format, &pairs, values, *answer);
+    }
 }
 
 #[test]
-fn wrong_values_are_refused(rt: HostRuntime) -> Result<(), Fail> {
-    let mut table = Table::new(rt.alloc(), Format::Dwarf32, &[pair(1, Form::String)])?;
-    assert_takes_a_text(&rt, &mut table);
-    Ok(())
+fn values_are_those_of_their_forms(rt: HostRuntime) {
+    assert_entries(&rt, rt.alloc(), Format::Dwarf32, ENTRIES);
+    assert_entries(&rt, rt.alloc(), Format::Dwarf64, LAST_OFFSET);
 }
 
 #[test]
-fn an_empty_format_has_no_entries(rt: HostRuntime) -> Result<(), Fail> {
-    let mut table = Table::new(rt.alloc(), Format::Dwarf32, &[])?;
-    assert_without_entries(&rt, &mut table);
-    Ok(())
-}
-
-/// Asserts that the table refuses an entry, and has none.
-fn assert_without_entries(rt: &impl Abort, table: &mut Table) {
-    assert_pushed(rt, table, &[], Err(BuildFault::EmptyFormat), 0);
-    assert!(rt; table.is_empty() && table.entry(0).is_none());
+fn an_empty_format_has_no_entries(rt: HostRuntime) {
+    let empty = Err(BuildFault::EmptyFormat);
+    assert_entered(&rt, rt.alloc(), Format::Dwarf32, &[], &[], empty);
 }
 
 /// Why a table of these pairs is refused.
-fn why_refused(alloc: Global, pairs: &[Pair]) -> Option<BuildFault> {
+pub fn why_refused(alloc: Global, pairs: &[Pair]) -> Option<BuildFault> {
     Table::new(alloc, Format::Dwarf32, pairs).err()
 }
 
 #[test]
 fn formats_have_255_pairs_at_most(rt: HostRuntime) {
-    let many = [pair(1, Form::String); 256];
+    let pairs = [PATH; 256];
     let fault = BuildFault::TooManyFormats;
-    assert!(rt; why_refused(rt.alloc(), &many) == Some(fault));
-    assert!(rt; why_refused(rt.alloc(), &many[..255]).is_none());
-}
-
-/// Asserts whether the table takes an entry of this value, and that it has the value then.
-fn assert_fits(rt: &impl Abort, table: &mut Table, value: ValueRef<'_>, fits: bool) {
-    assert!(rt; table.push_entry(&[value]).is_ok() == fits);
-    let held = if fits { Some(value) } else { None };
-    assert_value(rt, table, 0, 1, held);
-}
-
-#[test]
-fn values_have_the_ranges_of_their_forms(rt: HostRuntime) -> Result<(), Fail> {
-    let rows = [
-        (Form::Data1, ValueRef::Number(255), true),
-        (Form::Data1, ValueRef::Number(256), false),
-        (Form::Data2, ValueRef::Number(65_535), true),
-        (Form::Data2, ValueRef::Number(65_536), false),
-        (Form::Data4, ValueRef::Number(0xffff_ffff), true),
-        (Form::Data4, ValueRef::Number(0x1_0000_0000), false),
-        (Form::Data8, ValueRef::Number(u64::MAX), true),
-        (Form::Udata, ValueRef::Number(u64::MAX), true),
-        (Form::Strp, ValueRef::Str(0xffff_ffff), true),
-        (Form::Strp, ValueRef::Str(0x1_0000_0000), false),
-        (Form::Strp, ValueRef::LineStr(0), false),
-        (Form::LineStrp, ValueRef::LineStr(0xffff_ffff), true),
-        (Form::LineStrp, ValueRef::LineStr(0x1_0000_0000), false),
-        (Form::StrpSup, ValueRef::StrSup(7), true),
-        (Form::Block1, ValueRef::Block(&[0; 255]), true),
-        (Form::Block1, ValueRef::Block(&[0; 256]), false),
-        (Form::Block, ValueRef::Block(&[0; 256]), true),
-        (Form::Block2, ValueRef::Block(&[0; 256]), true),
-        (Form::Block4, ValueRef::Block(&[]), true),
-        (Form::Data16, ValueRef::Data16(MD5), true),
-        (Form::Data16, ValueRef::Block(&MD5), false),
-        (Form::String, ValueRef::Block(b"a"), false),
-    ];
-    for (form, value, fits) in rows {
-        assert_range(&rt, rt.alloc(), form, value, fits)?;
-    }
-    Ok(())
-}
-
-/// Asserts whether a table of this form takes a value.
-fn assert_range(
-    rt: &impl Abort,
-    alloc: Global,
-    form: Form,
-    value: ValueRef<'_>,
-    fits: bool,
-) -> Result<(), BuildFault> {
-    let mut table = Table::new(alloc, Format::Dwarf32, &[pair(1, form)])?;
-    assert_fits(rt, &mut table, value, fits);
-    Ok(())
-}
-
-#[test]
-fn offsets_of_the_64_bit_format(rt: HostRuntime) -> Result<(), Fail> {
-    let mut table = Table::new(rt.alloc(), Format::Dwarf64, &[pair(1, Form::Strp)])?;
-    assert_pushed(&rt, &mut table, &[ValueRef::Str(u64::MAX)], Ok(()), 1);
-    Ok(())
+    assert!(rt; why_refused(rt.alloc(), &pairs) == Some(fault));
+    assert!(rt; why_refused(rt.alloc(), &pairs[..255]).is_none());
 }
 
 /// Adds entries, up to one that is refused.
@@ -185,7 +135,7 @@ fn push_all(table: &mut Table, entries: &[&[ValueRef<'_>]]) -> Result<(), BuildF
 }
 
 /// A table of these pairs and entries.
-pub fn table_of(
+fn table_of(
     alloc: Global,
     format: Format,
     pairs: &[Pair],
@@ -196,94 +146,100 @@ pub fn table_of(
     Ok(table)
 }
 
-/// A table of texts and blocks.
-fn pooled(alloc: Global) -> Result<Table, BuildFault> {
-    let pairs = [pair(1, Form::String), pair(0x2001, Form::Block1)];
-    let first = [ValueRef::Text(b"ab"), ValueRef::Block(&[0x00, 0xff])];
-    let second = [ValueRef::Text(b""), ValueRef::Block(&[])];
-    table_of(alloc, Format::Dwarf32, &pairs, &[&first, &second])
-}
+const PATH: Pair = Pair {
+    content: 1,
+    form: Form::String,
+};
 
-/// Asserts the values of entry `number`, in order, each with its content code.
-fn assert_values(rt: &impl Abort, table: &Table, number: usize, wanted: &[(u64, ValueRef<'_>)]) {
-    let mut values = table.entry(number).expect(rt, "an entry").values();
-    for value in wanted {
-        assert!(rt; values.next() == Some(*value));
-    }
-    assert!(rt; values.next().is_none());
-}
+/// The pairs of a text and a block.
+pub const PAIRS: &[Pair] = &[
+    PATH,
+    Pair {
+        content: 0x2001,
+        form: Form::Block1,
+    },
+];
 
-#[test]
-fn values_are_pooled(rt: HostRuntime) -> Result<(), Fail> {
-    let table = pooled(rt.alloc())?;
-    assert_pooled(&rt, &table);
-    Ok(())
-}
+/// Two entries of these pairs.
+const TEXTS_AND_BLOCKS: &[&[ValueRef<'static>]] = &[
+    &[ValueRef::Text(b"ab"), ValueRef::Block(&[0x00, 0xff])],
+    &[ValueRef::Text(b""), ValueRef::Block(&[])],
+];
 
-/// Asserts that the table is that of texts and blocks.
-fn assert_pooled(rt: &impl Abort, table: &Table) {
-    assert_eq!(rt; (table.len(), table.pairs().len()), (2, 2));
-    let first = [
-        (1, Some(ValueRef::Text(b"ab"))),
-        (0x2001, Some(ValueRef::Block(&[0x00, 0xff]))),
-        (2, None),
-    ];
-    assert_entry(rt, table, 0, &first);
-    let second = [(1, ValueRef::Text(b"")), (0x2001, ValueRef::Block(&[]))];
-    assert_values(rt, table, 1, &second);
-    assert!(rt; table.entry(2).is_none());
-}
+/// What came back of the parts of a header: opcode_base, how many lengths of opcodes, and how many directories and
+/// files.
+type Returned = (u8, usize, [usize; 2]);
 
-/// The header of these params and the table of texts and blocks, without files.
-fn pooled_header(alloc: Global, params: Params) -> Result<Option<Header>, BuildFault> {
-    let files = Table::without_pairs(alloc, Format::Dwarf32);
-    Ok(Header::new(params, pooled(alloc)?, files).ok())
-}
+/// The cells of a header, or why it was refused, and what came back of its parts.
+type Made = Result<u64, (ParamFault, Returned)>;
 
-#[test]
-fn cells_of_a_built_header(rt: HostRuntime) -> Result<(), Fail> {
-    let header = pooled_header(rt.alloc(), params(Format::Dwarf32))?;
-    assert!(rt; cells(header) == 10);
-    Ok(())
-}
-
-/// How many cells the header has; 0 where there is none.
-fn cells(header: Option<Header>) -> u64 {
-    match header {
-        Some(header) => header.cells(),
-        None => 0,
-    }
-}
-
-/// Why a header was refused, and what came back of its parts: opcode_base, how many lengths of opcodes, and how many
-/// directories and files.
-type Refusal = (ParamFault, u8, usize, (usize, usize));
-
-fn refusal(refused: &Refused) -> Refusal {
+fn returned(refused: &Refused) -> Returned {
     (
-        refused.fault,
         refused.params.opcode_base,
         refused.params.lengths.len(),
-        (refused.directories.len(), refused.files.len()),
+        [refused.directories.len(), refused.files.len()],
     )
 }
 
-/// The refusal of a header of these parts.
-fn refusal_of(params: Params, directories: Table, files: Table) -> Option<Refusal> {
+/// What comes of a header of these parts.
+fn made(params: Params, directories: Table, files: Table) -> Made {
     match Header::new(params, directories, files) {
-        Ok(_) => None,
-        Err(refused) => Some(refusal(&refused)),
+        Ok(header) => Ok(header.cells()),
+        Err(refused) => Err((refused.fault, returned(&refused))),
     }
 }
 
-fn assert_refusal(rt: &impl Abort, found: Option<Refusal>, wanted: Refusal) {
-    assert_eq!(rt; found, Some(wanted));
-}
+/// address_size, maximum_operations_per_instruction, line_range and opcode_base; the lengths of opcodes; the formats of
+/// the directories and of the files; and how many cells the header has, or why it is refused.
+type Parts<'a> = ([u8; 4], &'a [u8], [Format; 2], Result<u64, ParamFault>);
 
-const STANDARD_LENGTHS: [u8; 12] = [0, 1, 1, 1, 1, 0, 0, 0, 1, 0, 0, 1];
+const DWARF32: [Format; 2] = [Format::Dwarf32, Format::Dwarf32];
 
-/// Params of which the format and all but some are those of most compilers: address_size,
-/// maximum_operations_per_instruction, line_range, opcode_base, and the lengths of opcodes.
+const STANDARD: &[u8] = &[0, 1, 1, 1, 1, 0, 0, 0, 1, 0, 0, 1];
+
+const PARTS: &[Parts<'static>] = &[
+    ([8, 1, 14, 13], STANDARD, DWARF32, Ok(10)),
+    (
+        [3, 1, 14, 13],
+        STANDARD,
+        DWARF32,
+        Err(ParamFault::AddressSize),
+    ),
+    ([8, 0, 14, 13], STANDARD, DWARF32, Err(ParamFault::MaxOps)),
+    ([8, 1, 0, 13], STANDARD, DWARF32, Err(ParamFault::LineRange)),
+    (
+        [8, 1, 14, 0],
+        STANDARD,
+        DWARF32,
+        Err(ParamFault::OpcodeBase),
+    ),
+    (
+        [8, 1, 14, 13],
+        &[0, 1, 1, 1, 1, 0, 0, 0, 1, 0, 0],
+        DWARF32,
+        Err(ParamFault::OpcodeBase),
+    ),
+    (
+        [8, 1, 14, 13],
+        &[0, 0, 1, 1, 1, 0, 0, 0, 1, 0, 0, 1],
+        DWARF32,
+        Err(ParamFault::StandardLength(2)),
+    ),
+    (
+        [8, 1, 14, 13],
+        STANDARD,
+        [Format::Dwarf32, Format::Dwarf64],
+        Err(ParamFault::TableFormat),
+    ),
+    (
+        [8, 1, 14, 13],
+        STANDARD,
+        [Format::Dwarf64, Format::Dwarf32],
+        Err(ParamFault::TableFormat),
+    ),
+];
+
+/// The params of most compilers in the 32-bit format, with these numbers and lengths of opcodes.
 fn params_of(numbers: [u8; 4], lengths: &[u8]) -> Params {
     let [address_size, operations, line_range, opcode_base] = numbers;
     Params {
@@ -296,176 +252,72 @@ fn params_of(numbers: [u8; 4], lengths: &[u8]) -> Params {
     }
 }
 
-/// The refusal of a header of such params and the table of texts and blocks, without files.
-fn refusal_of_params(
-    alloc: Global,
-    numbers: [u8; 4],
-    lengths: &[u8],
-) -> Result<Option<Refusal>, BuildFault> {
-    let directories = pooled(alloc)?;
-    let files = Table::without_pairs(alloc, Format::Dwarf32);
-    Ok(refusal_of(params_of(numbers, lengths), directories, files))
+/// Asserts what comes of a header of these parts, two directories and no file.
+fn assert_made(rt: &impl Abort, alloc: Global, parts: &Parts<'_>) -> Result<(), BuildFault> {
+    let (numbers, lengths, [format, of_files], wanted) = *parts;
+    let directories = table_of(alloc, format, PAIRS, TEXTS_AND_BLOCKS)?;
+    let files = Table::without_pairs(alloc, of_files);
+    let made = made(params_of(numbers, lengths), directories, files);
+    let [_, _, _, opcode_base] = numbers;
+    let wanted = match wanted {
+        Ok(cells) => Ok(cells),
+        Err(fault) => Err((fault, (opcode_base, lengths.len(), [2, 0]))),
+    };
+    assert!(rt; made == wanted, "{made:?}");
+    Ok(())
 }
 
-#[test]
-fn wrong_params_are_refused(rt: HostRuntime) -> Result<(), Fail> {
-    let few = STANDARD_LENGTHS.split_at(11).0;
-    let wrong = [0, 0, 1, 1, 1, 0, 0, 0, 1, 0, 0, 1];
-    let rows: [([u8; 4], &[u8], ParamFault); 6] = [
-        ([3, 1, 14, 13], &STANDARD_LENGTHS, ParamFault::AddressSize),
-        ([8, 0, 14, 13], &STANDARD_LENGTHS, ParamFault::MaxOps),
-        ([8, 1, 0, 13], &STANDARD_LENGTHS, ParamFault::LineRange),
-        ([8, 1, 14, 0], &STANDARD_LENGTHS, ParamFault::OpcodeBase),
-        ([8, 1, 14, 13], few, ParamFault::OpcodeBase),
-        ([8, 1, 14, 13], &wrong, ParamFault::StandardLength(2)),
-    ];
-    for (numbers, lengths, fault) in rows {
-        let refusal = refusal_of_params(rt.alloc(), numbers, lengths)?;
-        let [_, _, _, opcode_base] = numbers;
-        let wanted = (fault, opcode_base, lengths.len(), (2, 0));
-        assert_refusal(&rt, refusal, wanted);
+/// Asserts the same for each of these.
+fn assert_all_made(rt: &impl Abort, alloc: Global, all: &[Parts<'_>]) -> Result<(), BuildFault> {
+    for parts in all {
+        assert_made(rt, alloc, parts)?;
     }
     Ok(())
 }
 
-/// The refusal of a header whose files are of another format.
-fn refusal_of_files(alloc: Global) -> Result<Option<Refusal>, BuildFault> {
-    let directories = pooled(alloc)?;
-    let files = Table::without_pairs(alloc, Format::Dwarf64);
-    Ok(refusal_of(params(Format::Dwarf32), directories, files))
-}
-
-/// The refusal of a header whose directories are of another format.
-fn refusal_of_directories(alloc: Global) -> Result<Option<Refusal>, BuildFault> {
-    let files = pooled(alloc)?;
-    let directories = Table::without_pairs(alloc, Format::Dwarf64);
-    Ok(refusal_of(params(Format::Dwarf32), directories, files))
-}
-
 #[test]
-fn tables_of_another_format_are_refused(rt: HostRuntime) -> Result<(), Fail> {
-    let fault = ParamFault::TableFormat;
-    let refusal = refusal_of_files(rt.alloc())?;
-    assert_refusal(&rt, refusal, (fault, 13, 12, (2, 0)));
-    let refusal = refusal_of_directories(rt.alloc())?;
-    assert_refusal(&rt, refusal, (fault, 13, 12, (0, 2)));
+fn headers_of_wrong_parts_are_refused(rt: HostRuntime) -> Result<(), Fail> {
+    assert_all_made(&rt, rt.alloc(), PARTS)?;
     Ok(())
 }
 
-#[test]
-fn standard_opcodes_replace_others(rt: HostRuntime) -> Result<(), Fail> {
-    let params = params_of([8, 1, 14, 10], &[0, 1, 1, 1, 1, 0, 0, 0, 1]);
-    let header = pooled_header(rt.alloc(), params)?;
-    assert_standard_opcodes(&rt, header.expect(&rt, "a header"));
-    Ok(())
-}
+/// The pairs of the files of the header of dwarf64 with MD5.
+const FILE_PAIRS: &[Pair] = &[
+    PATH,
+    Pair {
+        content: 2,
+        form: Form::Udata,
+    },
+    Pair {
+        content: 5,
+        form: Form::Data16,
+    },
+];
 
-/// Asserts that the header gets the standard opcodes, and keeps two directories.
-fn assert_standard_opcodes(rt: &impl Abort, header: Header) {
-    let header = header.with_standard_opcodes();
-    assert!(rt; has_standard_opcodes(header.params()) && header.directories().len() == 2);
-}
-
-fn has_standard_opcodes(params: &Params) -> bool {
-    params.opcode_base == 13 && params.lengths.as_slice() == STANDARD_LENGTHS.as_slice()
-}
-
-/// The directories of the header of dwarf64 with MD5.
-fn directories_with_md5(alloc: Global) -> Result<Table, BuildFault> {
-    let path = [ValueRef::Text(b"/s")];
-    table_of(alloc, Format::Dwarf64, &[pair(1, Form::String)], &[&path])
-}
-
-/// The files of the header of dwarf64 with MD5.
-fn files_with_md5(alloc: Global) -> Result<Table, BuildFault> {
-    let pairs = [
-        pair(1, Form::String),
-        pair(2, Form::Udata),
-        pair(5, Form::Data16),
-    ];
-    let values = [
-        ValueRef::Text(b"a.c"),
-        ValueRef::Number(0),
-        ValueRef::Data16(MD5),
-    ];
-    table_of(alloc, Format::Dwarf64, &pairs, &[&values])
-}
+const FILE: &[ValueRef<'static>] = &[
+    ValueRef::Text(b"a.c"),
+    ValueRef::Number(0),
+    ValueRef::Data16(MD5),
+];
 
 /// The header of dwarf64 with MD5.
 fn header_with_md5(alloc: Global) -> Result<Option<Header>, BuildFault> {
-    let directories = directories_with_md5(alloc)?;
-    let files = files_with_md5(alloc)?;
-    Ok(Header::new(params(Format::Dwarf64), directories, files).ok())
+    let format = Format::Dwarf64;
+    let directories = table_of(alloc, format, &[PATH], &[&[ValueRef::Text(b"/s")]])?;
+    let files = table_of(alloc, format, FILE_PAIRS, &[FILE])?;
+    Ok(Header::new(params(format), directories, files).ok())
+}
+
+/// Asserts that the header is that of dwarf64 with MD5, and another one than that of an empty program.
+fn assert_built(rt: &impl Abort, alloc: Global, header: &Header) {
+    assert!(rt; header.cells() == 13 && *header.directories() != *header.files());
+    assert!(rt; is_header_of(alloc, DWARF64_WITH_MD5, Some(header)));
+    assert!(rt; !is_header_of(alloc, EMPTY_PROGRAM, Some(header)));
 }
 
 #[test]
 fn a_built_header_is_the_one_that_is_read(rt: HostRuntime) -> Result<(), Fail> {
     let header = header_with_md5(rt.alloc())?.expect(&rt, "a header");
     assert_built(&rt, rt.alloc(), &header);
-    Ok(())
-}
-
-/// Asserts that the header is that of dwarf64 with MD5, and another one than that of an empty program.
-fn assert_built(rt: &impl Abort, alloc: Global, header: &Header) {
-    assert!(rt; header.cells() == 13);
-    assert!(rt; is_header_of(alloc, Order::Little, &DWARF64_WITH_MD5, Some(header)));
-    assert!(rt; is_another(alloc, &EMPTY_PROGRAM, header));
-}
-
-/// Whether the bytes are another header than this one.
-fn is_another(alloc: Global, bytes: &[u8], header: &Header) -> bool {
-    match read(alloc, bytes) {
-        Some(other) => *header != other,
-        None => false,
-    }
-}
-
-/// Whether the tables are equal; None where they are equal and differ, or neither.
-fn equal(table: &Table, other: &Table) -> Option<bool> {
-    match (*table == *other, *table != *other) {
-        (true, false) => Some(true),
-        (false, true) => Some(false),
-        _ => None,
-    }
-}
-
-/// Asserts that the table is that of texts and blocks, or that it isn't.
-fn assert_is_pooled(
-    rt: &impl Abort,
-    alloc: Global,
-    table: &Table,
-    is_pooled: bool,
-) -> Result<(), BuildFault> {
-    let pooled = pooled(alloc)?;
-    assert!(rt; equal(&pooled, table) == Some(is_pooled));
-    Ok(())
-}
-
-#[test]
-fn tables_differ_in_a_value(rt: HostRuntime) -> Result<(), Fail> {
-    let mut other = pooled(rt.alloc())?;
-    assert_differs(&rt, rt.alloc(), &mut other)?;
-    let directories = directories_with_md5(rt.alloc())?;
-    assert_is_pooled(&rt, rt.alloc(), &directories, false)?;
-    assert_other_files(&rt, rt.alloc(), &directories)?;
-    Ok(())
-}
-
-/// Asserts that the table is that of texts and blocks, until it has another entry.
-fn assert_differs(rt: &impl Abort, alloc: Global, table: &mut Table) -> Result<(), BuildFault> {
-    assert_is_pooled(rt, alloc, table, true)?;
-    let entry = [ValueRef::Text(b"ab"), ValueRef::Block(&[])];
-    assert_pushed(rt, table, &entry, Ok(()), 3);
-    assert_is_pooled(rt, alloc, table, false)
-}
-
-/// Asserts that the directories of dwarf64 with MD5 differ from its files.
-fn assert_other_files(
-    rt: &impl Abort,
-    alloc: Global,
-    directories: &Table,
-) -> Result<(), BuildFault> {
-    let files = files_with_md5(alloc)?;
-    assert!(rt; equal(directories, &files) == Some(false));
     Ok(())
 }

@@ -1,4 +1,4 @@
-//! Worked headers and tables.
+//! Tables and headers that are built, headers that are read in turns, and growths that are refused.
 #![tactic(auto)]
 
 #[cfg(test)]
@@ -7,14 +7,6 @@ mod building;
 mod growths;
 #[cfg(test)]
 mod reading;
-#[cfg(test)]
-mod runs;
-#[cfg(test)]
-mod texts;
-#[cfg(test)]
-mod told;
-#[cfg(test)]
-mod values;
 #[cfg(test)]
 mod vectors;
 #[cfg(test)]

@@ -1,155 +1,109 @@
 //! Growths that are refused: of a header each once, after it all, of which there are none.
 
-use crate::pieces::{Answer, Standing, feed, stand};
+use crate::standing::{Answer, Standing, feed, stand};
 use dl_num::Order;
 use dl_rows::{Event, Finish, Reader};
 use std::alloc::Global;
 use std::process::Abort;
 use std::test::Fail;
-use test_support::{DWARF64_WITH_MD5, bytes, end, hoard, hoard_most, row, unit_of};
+use test_support::{end, hoard, row, unit_of};
+
+/// A unit of the 64-bit format with an empty program: the directory `/s`, and the file `a.c` in it with its MD5. Little.
+const DWARF64_WITH_MD5: &[u8] = &[
+    0xff, 0xff, 0xff, 0xff, 0x42, 0x00, 0x00, 0x00, 0x00, 0x00, 0x00, 0x00, 0x05, 0x00, 0x08, 0x00,
+    0x36, 0x00, 0x00, 0x00, 0x00, 0x00, 0x00, 0x00, 0x01, 0x01, 0x01, 0xfb, 0x0e, 0x0d, 0x00, 0x01,
+    0x01, 0x01, 0x01, 0x00, 0x00, 0x00, 0x01, 0x00, 0x00, 0x01, 0x01, 0x01, 0x08, 0x01, 0x2f, 0x73,
+    0x00, 0x03, 0x01, 0x08, 0x02, 0x0f, 0x05, 0x1e, 0x01, 0x61, 0x2e, 0x63, 0x00, 0x00, 0x00, 0x01,
+    0x02, 0x03, 0x04, 0x05, 0x06, 0x07, 0x08, 0x09, 0x0a, 0x0b, 0x0c, 0x0d, 0x0e, 0x0f,
+];
 
 /// How many bytes the reader took, and how many cells.
 fn counts(reader: &Reader) -> (u64, u64) {
     (reader.taken(), reader.cells())
 }
 
-/// What the reader answers to a byte while these blocks are taken, which are given back then.
-fn feed_beside(blocks: Vec<Vec<u8>>, reader: &mut Reader, byte: u8) -> Answer {
+/// What the reader answers to a byte while all memory is taken.
+fn feed_without_memory(rt: &impl Abort, alloc: Global, reader: &mut Reader, byte: u8) -> Answer {
+    let blocks = hoard(alloc).expect(rt, "memory");
     let answer = feed(reader, &[byte]);
     drop(blocks);
     answer
 }
 
-/// What the reader answers to a byte while all memory is taken.
-fn feed_without_memory(alloc: Global, reader: &mut Reader, byte: u8) -> Result<Answer, Fail> {
-    let blocks = hoard(alloc)?;
-    Ok(feed_beside(blocks, reader, byte))
-}
-
-/// What the reader tells of a byte that was refused, which takes a cell.
-fn feed_again(rt: &impl Abort, reader: &mut Reader, byte: u8, before: (u64, u64)) -> Event {
+/// What the reader answers to a byte that was refused, which left it as it was. Then a cell is taken.
+fn feed_again(rt: &impl Abort, reader: &mut Reader, byte: u8, before: (u64, u64)) -> Answer {
     let (taken, cells) = before;
-    assert_eq!(rt; counts(reader), before);
-    let (used, event) = feed(reader, &[byte]).expect(rt, "no fault");
+    assert!(rt; counts(reader) == before);
+    let answer = feed(reader, &[byte]);
     let after = (taken.saturating_add(1), cells.saturating_add(1));
-    assert_eq!(rt; (used, counts(reader)), (1, after));
-    event
+    assert!(rt; counts(reader) == after);
+    answer
 }
 
-/// What the reader tells of a byte, which is fed without memory, and again where it was refused; and whether it was.
-/// A refusal leaves the reader as it was, and then a cell is taken.
-fn feed_twice(
-    rt: &impl Abort,
-    alloc: Global,
-    reader: &mut Reader,
-    byte: u8,
-) -> Result<(Event, bool), Fail> {
+/// What the reader answers to a byte, which is fed without memory, and again where it was refused; and how many times
+/// it was.
+fn feed_twice(rt: &impl Abort, alloc: Global, reader: &mut Reader, byte: u8) -> (Answer, u64) {
     let before = counts(reader);
-    let answer = feed_without_memory(alloc, reader, byte)?;
-    let (_, event) = answer.expect(rt, "no fault");
-    if matches!(event, Event::NoMemory) {
-        return Ok((feed_again(rt, reader, byte, before), true));
+    match feed_without_memory(rt, alloc, reader, byte) {
+        Ok((_, Event::NoMemory)) => (feed_again(rt, reader, byte, before), 1),
+        answer => (answer, 0),
     }
-    Ok((event, false))
 }
 
-/// What the reader tells last of a unit, whose growths are each refused once, and how many were.
-fn feed_all(
-    rt: &impl Abort,
-    alloc: Global,
-    reader: &mut Reader,
-    unit: &[u8],
-) -> Result<(Event, u64), Fail> {
-    let mut last = Event::More;
-    let mut refusals = 0u64;
+/// How many growths of a unit are refused, each once, none of whose bytes is faulty.
+fn feed_all(rt: &impl Abort, alloc: Global, reader: &mut Reader, unit: &[u8]) -> u64 {
+    let mut refused = 0u64;
     for byte in unit {
-        let (event, is_refused) = feed_twice(rt, alloc, reader, *byte)?;
-        last = event;
-        refusals = refusals.saturating_add(u64::from(is_refused));
+        let (answer, refusals) = feed_twice(rt, alloc, reader, *byte);
+        assert!(rt; matches!(answer, Ok((1, Event::More | Event::Header))));
+        refused = refused.saturating_add(refusals);
     }
-    Ok((last, refusals))
+    refused
 }
 
-/// The same, and how many cells a reader took then, and how it stands after the end.
-fn grow(
-    rt: &impl Abort,
-    alloc: Global,
-    unit: &[u8],
-) -> (Result<(Event, u64), Fail>, u64, Standing) {
-    let mut reader = Reader::new(alloc, Order::Little);
-    let fed = feed_all(rt, alloc, &mut reader, unit);
-    let (_, cells) = counts(&reader);
-    (fed, cells, stand(&mut reader, &[]))
+/// How a reader stands after the unit of `DWARF64_WITH_MD5`.
+const GROWN: Standing = Standing {
+    answer: Ok((0, Event::End)),
+    has_header: true,
+    in_sequence: false,
+    taken: 78,
+    cells: 13,
+    finish: Ok(Finish::Whole),
+};
+
+fn assert_grows(rt: &impl Abort, alloc: Global, reader: &mut Reader) {
+    let refused = feed_all(rt, alloc, reader, DWARF64_WITH_MD5);
+    assert!(rt; 0 < refused && stand(reader, &[]) == GROWN);
 }
 
 #[test]
-fn each_growth_of_a_unit_is_refused_once(rt: HostRuntime) -> Result<(), Fail> {
-    let _most = hoard_most(rt.alloc())?;
-    let unit = bytes(rt.alloc(), DWARF64_WITH_MD5)?;
-    let (fed, cells, standing) = grow(&rt, rt.alloc(), unit.as_slice());
-    let (last, refusals) = fed?;
-    assert_eq!(rt; (last, cells), (Event::Header, 13));
-    assert!(rt; 0 < refusals);
-    let wanted = Standing {
-        answer: Ok((0, Event::End)),
-        has_header: true,
-        in_sequence: false,
-        taken: 78,
-        cells: 13,
-        finish: Ok(Finish::Whole),
-    };
-    assert_eq!(rt; standing, wanted);
-    Ok(())
+fn each_growth_of_a_unit_is_refused_once(rt: HostRuntime) {
+    assert_grows(&rt, rt.alloc(), &mut Reader::new(rt.alloc(), Order::Little));
 }
 
-/// 99,997 special opcodes, which each add 1 to the address, and an end row.
-fn many_opcodes(alloc: Global) -> Result<Vec<u8>, Fail> {
+/// A unit of 99,997 special opcodes, which each add 1 to the address, and an end row.
+fn many_rows(alloc: Global) -> Result<Vec<u8>, Fail> {
     let mut program = vec![in alloc; 0x20; 99_997]?;
     program.extend_from_slice(&[0, 1, 1])?;
-    Ok(program)
-}
-
-/// A unit of that program.
-fn unit_of_many_rows(alloc: Global) -> Result<Vec<u8>, Fail> {
-    let program = many_opcodes(alloc)?;
     unit_of(alloc, program.as_slice())
 }
 
-/// The same with a byte after it, so that its end is told.
-fn many_rows(alloc: Global) -> Result<Vec<u8>, Fail> {
-    let mut unit = unit_of_many_rows(alloc)?;
-    unit.push(0)?;
-    Ok(unit)
-}
-
-/// What the reader answers to the bytes of a unit that it hasn't taken.
-fn feed_rest(reader: &mut Reader, unit: &[u8]) -> Result<Answer, Fail> {
-    let taken = usize::try_from(reader.taken())?;
-    let rest = unit.get(taken..).ok_or("bytes that are left")?;
-    Ok(feed(reader, rest))
-}
-
-/// Asserts what the reader tells of the bytes of a unit that it hasn't taken, and how many it has then.
-fn assert_next(
-    rt: &impl Abort,
-    reader: &mut Reader,
-    unit: &[u8],
-    event: Event,
-    taken: u64,
-) -> Result<(), Fail> {
-    let (_, told) = feed_rest(reader, unit)?.expect(rt, "no fault");
-    assert_eq!(rt; (told, reader.taken()), (event, taken));
-    Ok(())
+/// What the reader tells of the bytes of a unit that it hasn't taken, and how many it has then.
+fn feed_rest(rt: &impl Abort, reader: &mut Reader, unit: &[u8]) -> (Event, u64) {
+    let taken = usize::try_from(reader.taken()).unwrap_or(usize::MAX);
+    let (_, event) = feed(reader, unit.get(taken..).unwrap_or(&[])).expect(rt, "no fault");
+    (event, reader.taken())
 }
 
 /// Asserts that the reader tells a header, the rows of `many_rows` and the end.
-fn assert_many_rows(rt: &impl Abort, reader: &mut Reader, unit: &[u8]) -> Result<(), Fail> {
-    assert_next(rt, reader, unit, Event::Header, 34)?;
+fn assert_many_rows(rt: &impl Abort, reader: &mut Reader, unit: &[u8]) {
+    assert!(rt; feed_rest(rt, reader, unit) == (Event::Header, 34));
     for n in 1..=99_997u64 {
-        assert_next(rt, reader, unit, Event::Row(row(n, 0, 1)), 34 + n)?;
+        assert!(rt; feed_rest(rt, reader, unit) == (Event::Row(row(n, 0, 1)), 34 + n));
     }
-    assert_next(rt, reader, unit, Event::Row(end(0x1869d, 0, 1)), 100_034)?;
-    assert_next(rt, reader, unit, Event::End, 100_034)
+    let last = Event::Row(end(99_997, 0, 1));
+    assert!(rt; feed_rest(rt, reader, unit) == (last, 100_034));
+    assert!(rt; feed_rest(rt, reader, unit) == (Event::End, 100_034));
 }
 
 /// Whether a byte can be had.
@@ -158,23 +112,17 @@ fn has_memory(alloc: Global) -> bool {
 }
 
 /// Asserts what the reader tells of `many_rows` while all memory is taken.
-fn assert_rows_without_memory(
-    rt: &impl Abort,
-    alloc: Global,
-    reader: &mut Reader,
-    unit: &[u8],
-) -> Result<(), Fail> {
-    let blocks = hoard(alloc)?;
+fn assert_rows_without_memory(rt: &impl Abort, alloc: Global, reader: &mut Reader, unit: &[u8]) {
+    let blocks = hoard(alloc).expect(rt, "memory");
     assert!(rt; !has_memory(alloc));
-    let told = assert_many_rows(rt, reader, unit);
+    assert_many_rows(rt, reader, unit);
     drop(blocks);
-    told
 }
 
 #[test]
 fn after_a_header_nothing_grows(rt: HostRuntime) -> Result<(), Fail> {
     let unit = many_rows(rt.alloc())?;
-    assert_eq!(rt; unit.get(..4), Some(&[0xbe, 0x86, 0x01, 0x00][..]));
     let mut reader = Reader::new(rt.alloc(), Order::Little);
-    assert_rows_without_memory(&rt, rt.alloc(), &mut reader, unit.as_slice())
+    assert_rows_without_memory(&rt, rt.alloc(), &mut reader, unit.as_slice());
+    Ok(())
 }

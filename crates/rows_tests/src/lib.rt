@@ -1,15 +1,9 @@
-//! Worked units, in pieces of every kind.
+//! Units in pieces and in turns, and growths that are refused.
 #![tactic(auto)]
 
 #[cfg(test)]
 mod growths;
 #[cfg(test)]
-mod pieces;
-#[cfg(test)]
 mod runs;
 #[cfg(test)]
-mod sinks;
-#[cfg(test)]
-mod units;
-#[cfg(test)]
-mod vectors;
+mod standing;

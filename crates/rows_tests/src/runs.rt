@@ -7,8 +7,6 @@ use dl_num::Order;
 use dl_rows::{Event, Listener, Reader, Run};
 use std::alloc::Global;
 use std::process::Abort;
-use std::test::Fail;
-use test_support::{THREE_ROWS, bytes, unit};
 
 /// Counts what it hears.
 #[derive(Drop)]
@@ -24,82 +22,26 @@ impl Listener for Counter {
     }
 }
 
-/// What a run of turns like these comes to.
-fn run(
-    reader: &mut Reader,
-    counter: &mut Counter,
-    bytes: &[u8],
-    turns: &[usize],
-) -> Result<Run, Fault> {
-    reader.run(bytes, turns, counter)
-}
+/// A unit of three rows, and two bytes.
+const THREE_ROWS: &[u8] = &[
+    0x30, 0x00, 0x00, 0x00, 0x05, 0x00, 0x08, 0x00, 0x16, 0x00, 0x00, 0x00, 0x01, 0x01, 0x01, 0xfb,
+    0x0e, 0x0d, 0x00, 0x01, 0x01, 0x01, 0x01, 0x00, 0x00, 0x00, 0x01, 0x00, 0x00, 0x01, 0x00, 0x00,
+    0x00, 0x00, 0x00, 0x09, 0x02, 0x00, 0x10, 0x40, 0x00, 0x00, 0x00, 0x00, 0x00, 0x13, 0x4b, 0x02,
+    0x02, 0x00, 0x01, 0x01, 0x2c, 0x00,
+];
 
-/// What a run over the bytes of a unit from this place on comes to.
-fn run_rest(
-    rt: &impl Abort,
-    reader: &mut Reader,
-    counter: &mut Counter,
-    unit: &[u8],
-    place: usize,
-    turns: &[usize],
-) -> Result<Run, Fail> {
-    let rest = unit.get(place..).ok_or("bytes that are left")?;
-    let run = run(reader, counter, rest, turns);
-    Ok(run.expect(rt, "no fault"))
-}
+const RESERVED: &[u8] = &[0xf0, 0xff, 0xff, 0xff, 0x00];
 
-/// How many bytes of a unit are taken in runs of turns like these, and whether it ended then.
-fn run_all(
-    rt: &impl Abort,
-    reader: &mut Reader,
-    counter: &mut Counter,
-    unit: &[u8],
-    turns: &[usize],
-) -> Result<(usize, bool), Fail> {
-    let mut taken = 0usize;
-    for _ in 0..8 {
-        let run = run_rest(rt, reader, counter, unit, taken, turns)?;
-        taken = taken.saturating_add(run.taken);
-        if run.ended {
-            return Ok((taken, true));
-        }
-    }
-    Ok((taken, false))
-}
+const RESERVED_LENGTH: Fault = Fault {
+    offset: 0,
+    kind: FaultKind::ReservedLength,
+};
 
-/// Asserts that a unit of three rows is heard whole in turns like these.
-fn assert_heard(rt: &impl Abort, alloc: Global, turns: &[usize]) -> Result<(), Fail> {
-    let three_rows = unit(alloc, THREE_ROWS)?;
-    let mut reader = Reader::new(alloc, Order::Little);
-    let mut counter = Counter { events: 0 };
-    let run = run_all(rt, &mut reader, &mut counter, three_rows.as_slice(), turns)?;
-    assert_eq!(rt; (run, counter.events), ((52, true), 4));
-    Ok(())
-}
-
-#[test]
-fn a_unit_in_turns_is_heard_whole(rt: HostRuntime) -> Result<(), Fail> {
-    assert_heard(&rt, rt.alloc(), &[1; 80])?;
-    assert_heard(&rt, rt.alloc(), &[100, 1])?;
-    assert_heard(&rt, rt.alloc(), &[20, 0, 100, 1, 1, 1, 1])
-}
-
-/// What two runs over these bytes come to, each of its own turns; and how many bytes the reader took then, and how
-/// many events were heard.
-fn run_twice(
-    alloc: Global,
-    bytes: &[u8],
-    first: &[usize],
-    second: &[usize],
-) -> ([Result<Run, Fault>; 2], u64, u64) {
-    let mut reader = Reader::new(alloc, Order::Little);
-    let mut counter = Counter { events: 0 };
-    let runs = [
-        run(&mut reader, &mut counter, bytes, first),
-        run(&mut reader, &mut counter, bytes, second),
-    ];
-    (runs, reader.taken(), counter.events)
-}
+const WHOLE: Run = Run {
+    taken: 52,
+    refused: 0,
+    ended: true,
+};
 
 /// A run that takes nothing.
 const NOTHING: Run = Run {
@@ -108,28 +50,41 @@ const NOTHING: Run = Run {
     ended: false,
 };
 
-#[test]
-fn a_run_ends_with_its_unit(rt: HostRuntime) -> Result<(), Fail> {
-    let mut bytes = unit(rt.alloc(), THREE_ROWS)?;
-    bytes.extend_from_slice(&[0x2c, 0])?;
-    let runs = run_twice(rt.alloc(), bytes.as_slice(), &[100; 8], &[]);
-    let whole = Run {
-        taken: 52,
-        refused: 0,
-        ended: true,
-    };
-    assert_eq!(rt; runs, ([Ok(whole), Ok(NOTHING)], 52, 4));
-    Ok(())
+/// Bytes, the turns in which they are offered, what that comes to, and how many bytes were taken and events heard.
+type Case<'a> = (&'a [u8], &'a [usize], Result<Run, Fault>, [u64; 2]);
+
+const CASES: &[Case<'static>] = &[
+    (THREE_ROWS, &[1; 80], Ok(WHOLE), [52, 4]),
+    (THREE_ROWS, &[100; 8], Ok(WHOLE), [52, 4]),
+    (
+        THREE_ROWS,
+        &[20, 0, 100, 100, 100, 100, 1, 1],
+        Ok(WHOLE),
+        [52, 4],
+    ),
+    (THREE_ROWS, &[], Ok(NOTHING), [0, 0]),
+    (RESERVED, &[3, 3], Err(RESERVED_LENGTH), [4, 0]),
+];
+
+fn assert_run(rt: &impl Abort, reader: &mut Reader, counter: &mut Counter, case: &Case<'_>) {
+    let (bytes, turns, wanted, counts) = *case;
+    let run = reader.run(bytes, turns, counter);
+    assert!(rt; run == wanted, "{run:?}");
+    assert!(rt; [reader.taken(), counter.events] == counts);
+}
+
+fn assert_new(rt: &impl Abort, alloc: Global, case: &Case<'_>) {
+    let mut reader = Reader::new(alloc, Order::Little);
+    assert_run(rt, &mut reader, &mut Counter { events: 0 }, case);
+}
+
+fn assert_cases(rt: &impl Abort, alloc: Global, cases: &[Case<'_>]) {
+    for case in cases {
+        assert_new(rt, alloc, case);
+    }
 }
 
 #[test]
-fn a_run_stops_at_a_fault(rt: HostRuntime) -> Result<(), Fail> {
-    let reserved = bytes(rt.alloc(), "f0 ff ff ff 00")?;
-    let runs = run_twice(rt.alloc(), reserved.as_slice(), &[], &[3, 3]);
-    let fault = Fault {
-        offset: 0,
-        kind: FaultKind::ReservedLength,
-    };
-    assert_eq!(rt; runs, ([Ok(NOTHING), Err(fault)], 4, 0));
-    Ok(())
+fn a_unit_in_turns_is_heard_whole(rt: HostRuntime) {
+    assert_cases(&rt, rt.alloc(), CASES);
 }

@@ -1,23 +1,19 @@
-//! Commands over worked sections, and texts from outside.
+//! Commands under a limit, and over readers, writers and memory that fail.
 #![tactic(auto)]
 
 #[cfg(test)]
 mod commands;
 #[cfg(test)]
-mod copying;
-#[cfg(test)]
 mod each_call;
 #[cfg(test)]
 mod faults;
 #[cfg(test)]
-mod finding;
+mod growths;
+#[cfg(test)]
+mod limits;
 #[cfg(test)]
 mod passing;
 #[cfg(test)]
-mod printing;
-#[cfg(test)]
 mod reading;
 #[cfg(test)]
-mod sections;
-#[cfg(test)]
-mod writing;
+mod vectors;

@@ -4,8 +4,10 @@ use dl_run::{RunFault, read_strings};
 use std::alloc::Global;
 use std::io::Read;
 use std::process::Abort;
-use std::test::Fail;
 use test_support::{Endless, Fault, Hoarding, Source, hoard_most};
+
+/// What is read, or the fault.
+type Wanted<'a> = Result<&'a [u8], RunFault>;
 
 /// Asserts what is read of an input of at most `limit` bytes.
 fn assert_read<R: Read>(
@@ -13,74 +15,64 @@ fn assert_read<R: Read>(
     alloc: Global,
     input: &mut R,
     limit: u64,
-    want: Result<&[u8], RunFault>,
+    wanted: Wanted<'_>,
 ) {
     match read_strings(alloc, input, limit) {
-        Ok(bytes) => assert_eq!(rt; Ok(bytes.as_slice()), want),
-        Err(fault) => assert_eq!(rt; Err(fault), want),
+        Ok(bytes) => assert!(rt; Ok(bytes.as_slice()) == wanted),
+        Err(fault) => assert!(rt; Err(fault) == wanted, "{fault:?}"),
     }
-}
-
-/// The same of these bytes, `most` at a time.
-fn assert_bytes(
-    rt: &impl Abort,
-    alloc: Global,
-    bytes: &[u8],
-    most: usize,
-    limit: u64,
-    want: Result<&[u8], RunFault>,
-) {
-    assert_read(rt, alloc, &mut Source::new(bytes, most), limit, want);
-}
-
-#[test]
-fn limits(rt: HostRuntime) -> Result<(), Fail> {
-    let too_long = Err(RunFault::SectionTooLong);
-    for most in [1, 2, 5, 4096] {
-        assert_bytes(&rt, rt.alloc(), b"hello", most, 5, Ok(b"hello"));
-        assert_bytes(&rt, rt.alloc(), b"hello", most, 4, too_long);
-    }
-    assert_bytes(&rt, rt.alloc(), b"", 1, 0, Ok(b""));
-    assert_read(&rt, rt.alloc(), &mut Endless, 10_000, too_long);
-    Ok(())
 }
 
 const TEXT: &[u8] = b"hello, world";
 
-/// Asserts what is read of the text where this fault comes at the read that has `before` others before it.
-fn assert_fault(
-    rt: &impl Abort,
-    alloc: Global,
-    before: usize,
-    fault: Fault,
-    want: Result<&[u8], RunFault>,
-) {
-    let mut input = Source::new(TEXT, 5).with_fault(before, fault);
-    assert_read(rt, alloc, &mut input, 12, want);
+/// How many bytes come at a time, the limit, and what is read of the text.
+const LIMITS: &[(usize, u64, Wanted<'static>)] = &[
+    (1, 12, Ok(TEXT)),
+    (1, 11, Err(RunFault::SectionTooLong)),
+    (5, 12, Ok(TEXT)),
+    (5, 11, Err(RunFault::SectionTooLong)),
+    (4096, 12, Ok(TEXT)),
+    (4096, 11, Err(RunFault::SectionTooLong)),
+];
+
+fn assert_limits(rt: &impl Abort, alloc: Global, limits: &[(usize, u64, Wanted<'_>)]) {
+    for (most, limit, wanted) in limits {
+        assert_read(rt, alloc, &mut Source::new(TEXT, *most), *limit, *wanted);
+    }
 }
 
-/// Asserts what is read of the text for each fault, which comes after this front of it.
+#[test]
+fn limits(rt: HostRuntime) {
+    assert_limits(&rt, rt.alloc(), LIMITS);
+    assert_read(&rt, rt.alloc(), &mut Source::new(&[], 1), 0, Ok(&[]));
+    let too_long = Err(RunFault::SectionTooLong);
+    assert_read(&rt, rt.alloc(), &mut Endless, 10_000, too_long);
+}
+
+/// A fault, and what is read where it comes; None where it is what was read before.
+const FAULTS: &[(Fault, Option<Wanted<'static>>)] = &[
+    (Fault::Fails, Some(Err(RunFault::Read))),
+    (Fault::Interrupted(1001), Some(Err(RunFault::Read))),
+    (Fault::Interrupted(1000), Some(Ok(TEXT))),
+    (Fault::Short, Some(Ok(TEXT))),
+    (Fault::Nothing, None),
+];
+
+/// Asserts what is read of the text for each fault at the read that has `before` others before it, which gave this.
 fn assert_faults(rt: &impl Abort, alloc: Global, before: usize, front: &[u8]) {
-    let failed = Err(RunFault::Read);
-    for (fault, want) in [
-        (Fault::Fails, failed),
-        (Fault::Interrupted(1001), failed),
-        (Fault::Interrupted(1000), Ok(TEXT)),
-        (Fault::Short, Ok(TEXT)),
-        (Fault::Nothing, Ok(front)),
-    ] {
-        assert_fault(rt, alloc, before, fault, want);
+    for (fault, wanted) in FAULTS {
+        let input = &mut Source::new(TEXT, 5).with_fault(before, *fault);
+        assert_read(rt, alloc, input, 12, wanted.unwrap_or(Ok(front)));
     }
 }
 
 /// A fault at each read in turn.
 #[test]
-fn each_read(rt: HostRuntime) -> Result<(), Fail> {
+fn each_read(rt: HostRuntime) {
     assert_faults(&rt, rt.alloc(), 0, b"");
     assert_faults(&rt, rt.alloc(), 1, b"hello");
     assert_faults(&rt, rt.alloc(), 2, b"hello, wor");
-    assert_faults(&rt, rt.alloc(), 3, b"hello, world");
-    Ok(())
+    assert_faults(&rt, rt.alloc(), 3, TEXT);
 }
 
 /// Whether what is read are 64 sevens.
@@ -102,7 +94,7 @@ fn refusals(rt: &impl Abort, alloc: Global) -> u32 {
     for at in 0..64 {
         let (read, given) = read_without_memory(alloc, at);
         if read != Ok(true) {
-            assert_eq!(rt; (read, given), (Err(RunFault::NoMemory), at + 1));
+            assert!(rt; (read, given) == (Err(RunFault::NoMemory), at + 1));
             refusals = refusals.saturating_add(1);
         }
     }
@@ -111,10 +103,9 @@ fn refusals(rt: &impl Abort, alloc: Global) -> u32 {
 
 /// Each growth refused in turn, which isn't tried again.
 #[test]
-fn wants_memory(rt: HostRuntime) -> Result<(), Fail> {
-    let most = hoard_most(rt.alloc())?;
+fn wants_memory(rt: HostRuntime) {
+    let most = hoard_most(rt.alloc()).expect(&rt, "memory");
     let refusals = refusals(&rt, rt.alloc());
     drop(most);
     assert!(rt; 1 < refusals);
-    Ok(())
 }

@@ -1,0 +1,255 @@
+//! How a reader stands after pieces of a unit.
+
+use dl_head::{Fault, FaultKind};
+use dl_num::Order;
+use dl_rows::{Event, Finish, Reader, Row};
+use std::alloc::Global;
+use std::process::Abort;
+
+/// A unit without rows.
+const EMPTY_PROGRAM: &[u8] = &[
+    0x1e, 0x00, 0x00, 0x00, 0x05, 0x00, 0x08, 0x00, 0x16, 0x00, 0x00, 0x00, 0x01, 0x01, 0x01, 0xfb,
+    0x0e, 0x0d, 0x00, 0x01, 0x01, 0x01, 0x01, 0x00, 0x00, 0x00, 0x01, 0x00, 0x00, 0x01, 0x00, 0x00,
+    0x00, 0x00,
+];
+
+/// A unit of two rows, and a byte.
+const TWO_ROWS: &[u8] = &[
+    0x22, 0x00, 0x00, 0x00, 0x05, 0x00, 0x08, 0x00, 0x16, 0x00, 0x00, 0x00, 0x01, 0x01, 0x01, 0xfb,
+    0x0e, 0x0d, 0x00, 0x01, 0x01, 0x01, 0x01, 0x00, 0x00, 0x00, 0x01, 0x00, 0x00, 0x01, 0x00, 0x00,
+    0x00, 0x00, 0x01, 0x00, 0x01, 0x01, 0x05,
+];
+
+/// A unit of version 4, and a byte.
+const FOREIGN: &[u8] = &[
+    0x06, 0x00, 0x00, 0x00, 0x04, 0x00, 0xaa, 0xbb, 0xcc, 0xdd, 0x05,
+];
+
+/// A unit whose first opcode is faulty.
+const DAMAGED: &[u8] = &[
+    0x20, 0x00, 0x00, 0x00, 0x05, 0x00, 0x08, 0x00, 0x16, 0x00, 0x00, 0x00, 0x01, 0x01, 0x01, 0xfb,
+    0x0e, 0x0d, 0x00, 0x01, 0x01, 0x01, 0x01, 0x00, 0x00, 0x00, 0x01, 0x00, 0x00, 0x01, 0x00, 0x00,
+    0x00, 0x00, 0x00, 0x00,
+];
+
+/// What a call answers: how many bytes of the piece it used, and what came of them; or the fault.
+pub type Answer = Result<(usize, Event), Fault>;
+
+/// How a reader stands after a call, and what the call answered.
+#[derive(Debug, Clone, Copy, PartialEq, Eq)]
+pub struct Standing {
+    pub answer: Answer,
+    pub has_header: bool,
+    pub in_sequence: bool,
+    pub taken: u64,
+    pub cells: u64,
+    pub finish: Result<Finish, Fault>,
+}
+
+/// What a call answers.
+pub fn feed(reader: &mut Reader, piece: &[u8]) -> Answer {
+    match reader.feed(piece) {
+        Ok(fed) => Ok((fed.used, fed.event)),
+        Err(fault) => Err(fault),
+    }
+}
+
+/// How the reader stands after it is given the piece.
+pub fn stand(reader: &mut Reader, piece: &[u8]) -> Standing {
+    let answer = feed(reader, piece);
+    Standing {
+        answer,
+        has_header: reader.header().is_some(),
+        in_sequence: reader.in_sequence(),
+        taken: reader.taken(),
+        cells: reader.cells(),
+        finish: reader.finish(),
+    }
+}
+
+/// How a reader stands before any byte.
+const NEW: Standing = Standing {
+    answer: Ok((0, Event::More)),
+    has_header: false,
+    in_sequence: false,
+    taken: 0,
+    cells: 0,
+    finish: Ok(Finish::Empty),
+};
+
+/// How a reader stands after the header of a unit without directories and files.
+const AFTER_HEADER: Standing = Standing {
+    answer: Ok((34, Event::Header)),
+    has_header: true,
+    taken: 34,
+    finish: Err(Fault {
+        offset: 34,
+        kind: FaultKind::Truncated,
+    }),
+    ..NEW
+};
+
+/// The same where the unit ends there.
+const WHOLE: Standing = Standing {
+    finish: Ok(Finish::Whole),
+    ..AFTER_HEADER
+};
+
+const ENDED: Standing = Standing {
+    answer: Ok((0, Event::End)),
+    ..WHOLE
+};
+
+const END_ROW: Row = Row {
+    address: 0,
+    file: 1,
+    line: 1,
+    column: 0,
+    isa: 0,
+    discriminator: 0,
+    op_index: 0,
+    is_stmt: true,
+    basic_block: false,
+    end_sequence: true,
+    prologue_end: false,
+    epilogue_begin: false,
+};
+
+const ROW: Standing = Standing {
+    answer: Ok((
+        1,
+        Event::Row(Row {
+            end_sequence: false,
+            ..END_ROW
+        }),
+    )),
+    in_sequence: true,
+    taken: 35,
+    finish: Err(Fault {
+        offset: 35,
+        kind: FaultKind::Truncated,
+    }),
+    ..AFTER_HEADER
+};
+
+const LAST_ROW: Standing = Standing {
+    answer: Ok((3, Event::Row(END_ROW))),
+    taken: 38,
+    finish: Ok(Finish::Whole),
+    ..AFTER_HEADER
+};
+
+/// After the unit and its rows.
+const AFTER_ROWS: Standing = Standing {
+    answer: Ok((0, Event::End)),
+    ..LAST_ROW
+};
+
+const FOREIGN_VERSION: Standing = Standing {
+    answer: Ok((6, Event::Foreign(4))),
+    taken: 6,
+    finish: Err(Fault {
+        offset: 6,
+        kind: FaultKind::Truncated,
+    }),
+    ..NEW
+};
+
+const PASSED_OVER: Standing = Standing {
+    answer: Ok((4, Event::End)),
+    taken: 10,
+    finish: Ok(Finish::Whole),
+    ..NEW
+};
+
+const AFTER_FOREIGN: Standing = Standing {
+    answer: Ok((0, Event::End)),
+    ..PASSED_OVER
+};
+
+const EMPTY_OPCODE: Fault = Fault {
+    offset: 34,
+    kind: FaultKind::ExtendedEmpty,
+};
+
+const REFUSED: Standing = Standing {
+    answer: Err(EMPTY_OPCODE),
+    taken: 36,
+    finish: Err(EMPTY_OPCODE),
+    ..AFTER_HEADER
+};
+
+/// The bytes of a unit and any after it; the places from which they are given one after the other, with how the reader
+/// stands then; and whether it gives a header in the end.
+type Case<'a> = (&'a [u8], &'a [(usize, Standing)], bool);
+
+const CASES: &[Case<'static>] = &[
+    (
+        EMPTY_PROGRAM,
+        &[(34, NEW), (0, WHOLE), (34, ENDED), (34, ENDED)],
+        true,
+    ),
+    (
+        TWO_ROWS,
+        &[
+            (0, AFTER_HEADER),
+            (34, ROW),
+            (35, LAST_ROW),
+            (38, AFTER_ROWS),
+            (38, AFTER_ROWS),
+        ],
+        true,
+    ),
+    (
+        FOREIGN,
+        &[
+            (0, FOREIGN_VERSION),
+            (6, PASSED_OVER),
+            (10, AFTER_FOREIGN),
+            (10, AFTER_FOREIGN),
+        ],
+        false,
+    ),
+    (
+        DAMAGED,
+        &[
+            (0, AFTER_HEADER),
+            (34, REFUSED),
+            (35, REFUSED),
+            (36, REFUSED),
+        ],
+        true,
+    ),
+];
+
+/// Asserts how the reader stands after it is given the bytes from each of these places on.
+fn assert_standings(
+    rt: &impl Abort,
+    reader: &mut Reader,
+    bytes: &[u8],
+    standings: &[(usize, Standing)],
+) {
+    for (place, wanted) in standings {
+        let standing = stand(reader, bytes.get(*place..).unwrap_or(&[]));
+        assert!(rt; standing == *wanted, "{standing:?}");
+    }
+}
+
+fn assert_case(rt: &impl Abort, alloc: Global, case: &Case<'_>) {
+    let (bytes, standings, has_header) = *case;
+    let mut reader = Reader::new(alloc, Order::Little);
+    assert_standings(rt, &mut reader, bytes, standings);
+    assert!(rt; reader.into_header().is_some() == has_header);
+}
+
+fn assert_cases(rt: &impl Abort, alloc: Global, cases: &[Case<'_>]) {
+    for case in cases {
+        assert_case(rt, alloc, case);
+    }
+}
+
+/// A piece is used as far as its next event, and no byte after the unit is. A fault is answered again.
+#[test]
+fn readers_stand(rt: HostRuntime) {
+    assert_cases(&rt, rt.alloc(), CASES);
+}

@@ -1,0 +1,140 @@
+"""Worked sections of several units, and places that are looked up."""
+from sections.cases import UNIT, TRUNCATED, Run, counts_of, damage, error, row, text
+from sections.headers import DWARF64_DUMP
+from sections.programs import THREE_DUMP
+from sections.units import (
+    BIG_OPERATIONS, DWARF64_WITH_MD5, FOREIGN, PADDED, PADDED_COPIED, SMALLEST, THREE_ROWS, THREE_ROWS_AND_A_BYTE,
+    WITH_FILE)
+
+NOT_FOUND = error("no line for this address")
+
+
+def at(offset, dump):
+    """The dump of a unit, which begins at this byte."""
+    return dump.replace("unit 0x0 ", f"unit 0x{offset:x} ")
+
+
+def is_foreign(offset):
+    return error(f"unit 0x{offset:x} is not version 5")
+
+
+PASSED_OVER = "unit 0x0 version 4 skipped\n" + at(10, THREE_DUMP)
+
+# A section, what `dump` prints of it, and what `check` and `copy` tell.
+SECTIONS = [
+    ("no unit", b"", "", b"", b"", b""),
+    ("two units", THREE_ROWS * 2, THREE_DUMP + at(52, THREE_DUMP), b"", THREE_ROWS * 2, b""),
+    ("a shorter copy", PADDED + THREE_ROWS, UNIT + row(0, 0, 1, column=3) + "open\n" + at(48, THREE_DUMP),
+     b"", PADDED_COPIED + THREE_ROWS, b""),
+    ("a unit of version 4", FOREIGN, "unit 0x0 version 4 skipped\n", b"", b"", is_foreign(0)),
+    ("version 4 before 5", FOREIGN + THREE_ROWS, PASSED_OVER, b"", b"", is_foreign(0)),
+    ("version 4 after 5", THREE_ROWS + FOREIGN, THREE_DUMP + "unit 0x34 version 4 skipped\n",
+     b"", THREE_ROWS, is_foreign(52)),
+    ("version 4 that is cut off", THREE_ROWS + FOREIGN[:6], THREE_DUMP + "unit 0x34 version 4 skipped\n",
+     damage(58, TRUNCATED), THREE_ROWS, is_foreign(52)),
+    ("a byte after a unit", THREE_ROWS + b"\5", THREE_DUMP, damage(53, TRUNCATED), THREE_ROWS, damage(53, TRUNCATED)),
+    ("a short unit of version 4", bytes.fromhex("00 00 00 00 04 00"), "", damage(4, "unit ends in its header"),
+     b"", damage(4, "unit ends in its header")),
+    ("a third unit that is damaged", THREE_ROWS * 2 + bytes.fromhex("f0 ff ff ff"), THREE_DUMP + at(52, THREE_DUMP),
+     damage(104, "reserved initial length"), THREE_ROWS * 2, damage(104, "reserved initial length")),
+    ("an opcode that the unit cuts off", THREE_ROWS + THREE_ROWS_AND_A_BYTE, THREE_DUMP + at(52, THREE_DUMP),
+     damage(104, "unit ends inside an opcode"), THREE_ROWS, damage(104, "unit ends inside an opcode")),
+]
+
+
+def with_length(length):
+    """The unit of the 64-bit format with another initial length."""
+    return b"\xff" * 4 + length.to_bytes(8, "little") + DWARF64_WITH_MD5[12:]
+
+
+# Units of one order that are read in the other one, and lengths beyond the input.
+OTHERS = [
+    ("little-endian as big-endian", SMALLEST, ("--big",), "unit 0x0 version 1280 skipped\n", damage(37, TRUNCATED)),
+    ("a whole unit of version 1280", bytes.fromhex("00 00 00 02 05 00"), ("--big",),
+     "unit 0x0 version 1280 skipped\n", b""),
+    ("2^40 bytes", with_length(2 ** 40), (), DWARF64_DUMP, damage(78, TRUNCATED)),
+    ("2^32 + 1 bytes", with_length(2 ** 32 + 1), (), DWARF64_DUMP, damage(78, TRUNCATED)),
+    ("1 byte, 64-bit", bytes.fromhex("ff ff ff ff 01 00 00 00 00 00 00 00"), (), "", damage(12, TRUNCATED)),
+    ("the last length", bytes.fromhex("ef ff ff ff"), (), "", damage(4, TRUNCATED)),
+]
+
+
+def found(address, line, op_index=0):
+    """What `find` prints of a row of a file that its unit doesn't have."""
+    return "file 1 missing\n" + row(address, op_index, line)
+
+
+FIRST = found(0x401000, 2)
+SECOND = found(0x401004, 3)
+OF_FILE = 'file 0 path="a.c" dir=0 md5=000102030405060708090a0b0c0d0e0f\n' + row(0, 0, 1, file=0)
+
+# A section, a place, and what `find` prints; without anything it tells that there is no line.
+PLACES = [
+    ("no unit", b"", "0", ""),
+    ("an end row", SMALLEST, "0", ""),
+    ("before the rows", THREE_ROWS, "0x400fff", ""),
+    ("the first row", THREE_ROWS, "0x401000", FIRST),
+    ("before the second row", THREE_ROWS, "0x401003", FIRST),
+    ("the second row", THREE_ROWS, "0x401004", SECOND),
+    ("before the end row", THREE_ROWS, "0x401005", SECOND),
+    ("at the end row", THREE_ROWS, "0x401006", ""),
+    ("after version 4", FOREIGN + THREE_ROWS, "0x401005", SECOND),
+    ("after version 4, at the end row", FOREIGN + THREE_ROWS, "0x401006", ""),
+    ("in two units", THREE_ROWS * 2, "0x401000", FIRST),
+    ("in the second unit", DWARF64_WITH_MD5 + THREE_ROWS, "0x401003", FIRST),
+    ("before version 4", THREE_ROWS + FOREIGN, "0x401004", SECOND),
+    ("in no unit", THREE_ROWS + FOREIGN, "0x400fff", ""),
+    ("before damage", THREE_ROWS + b"\5", "0x401000", FIRST),
+    ("a file of the unit", WITH_FILE, "2", OF_FILE),
+    ("a file of the unit, at the end row", WITH_FILE, "4", ""),
+    ("a file of the second unit", THREE_ROWS + WITH_FILE, "2", OF_FILE),
+]
+
+# An operation of an instruction, and what `find` prints of it.
+OPERATIONS = [("0", ""), ("1", found(0x1000, 1, 1)), ("2", found(0x1000, 1, 2)), ("255", found(0x1000, 1, 2))]
+
+# A fault before an answer is told.
+DAMAGED = [
+    ("damage after another line", THREE_ROWS + b"\5", "1", damage(53, TRUNCATED)),
+    ("damage in the unit", THREE_ROWS_AND_A_BYTE, "0x401000", damage(52, "unit ends inside an opcode")),
+]
+
+
+def runs_of_sections():
+    for name, section, dump, fault, copied, not_copied in SECTIONS:
+        status = 1 if fault else 0
+        yield Run(f"{name}: dump", ("dump",), section, status, text(dump), (fault,))
+        counts = b"" if fault else counts_of(dump)
+        yield Run(f"{name}: check", ("check",), section, status, counts, (fault,))
+        yield Run(f"{name}: copy", ("copy",), section, 1 if not_copied else 0, copied, (not_copied,))
+    for name, section, order, dump, fault in OTHERS:
+        yield Run(name, ("dump", *order), section, 1 if fault else 0, text(dump), (fault,))
+
+
+def runs_of_places():
+    for name, section, address, lines in PLACES:
+        yield run_of_place(name, section, ("find", address), lines)
+    for operation, lines in OPERATIONS:
+        words = ("find", "0x1000", "--op", operation, "--big")
+        yield run_of_place(f"operation {operation}", BIG_OPERATIONS, words, lines)
+    for name, section, address, fault in DAMAGED:
+        yield Run(name, ("find", address), section, 1, b"", (fault,))
+
+
+def run_of_place(name, section, words, lines):
+    if lines:
+        return Run(name, words, section, 0, text(lines), (b"",))
+    return Run(name, words, section, 1, b"", (NOT_FOUND,))
+
+
+def runs_of_fronts():
+    """A unit of version 4 that ends early is told to end there."""
+    for length in range(1, len(FOREIGN)):
+        fault = damage(length, TRUNCATED)
+        yield Run(f"version 4, {length} bytes", ("check",), FOREIGN[:length], 1, b"", (fault,))
+
+
+def runs():
+    yield from runs_of_sections()
+    yield from runs_of_fronts()
+    yield from runs_of_places()
