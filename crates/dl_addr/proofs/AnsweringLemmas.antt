@@ -8,7 +8,7 @@ use Rattle.std.specs.List.{concat, list_all}
 use Rattle.std.specs.Option.{option_and_then, option_copied}
 use Rattle.std.proofs.KnownBytes.{Appends-trans}
 use Rattle.std.proofs.lemmas.Option.{slice_get-map}
-use Rattle.dl_num.specs.declared.fixed.Order.{Order}
+use Rattle.dl_head.specs.declared.dialect.Dialect.{Dialect}
 use Rattle.dl_look.specs.declared.place.Place.{Place}
 use Rattle.dl_print.specs.declared.fault.WriteFault.{WriteFault}
 use Rattle.dl_print.specs.declared.summary.Summary.{Summary}
@@ -57,16 +57,16 @@ ends_same (a ∷ xs) (b ∷ ys) x y e = let same = ends_same xs ys x y cc in (cc
 
 -- ---- the answers of a locator are those of the units
 
-module _ (order : Order) (q : Question) (s : Strings) (first : Locator) (knows : Knows first q s) where
+module _ (dialect : Dialect) (q : Question) (s : Strings) (first : Locator) (knows : Knows first q s) where
   abbrev live : ℕ → Bool
   live = is_code (option_copied q.code)
 
   pub live_is : (x : Place) (visits : List Visit) (units : List (List ℕ))
       → ((l : ℕ → Bool)
-      → Rattle.dl_addr.specs.Locating.located_after l x [] first.unit visits ≡ located order l units x)
-      → located_by first x visits ≡ located order live units x
+      → Rattle.dl_addr.specs.Locating.located_after l x [] first.unit visits ≡ located dialect l units x)
+      → located_by first x visits ≡ located dialect live units x
   live_is x visits units is =
-      is (code_of first) ∙ ap (λ code. located order (is_code (option_copied code)) units x) knows.code
+      is (code_of first) ∙ ap (λ code. located dialect (is_code (option_copied code)) units x) knows.code
 
   text_named : (path : Option (List ℕ)) → named_text q.style.form (named q.style path) ≡ path_text q.style path
   text_named None = refl
@@ -85,30 +85,31 @@ module _ (order : Order) (q : Question) (s : Strings) (first : Locator) (knows :
       knows.strings
 
   module _ (visits : List Visit) (units : List (List ℕ))
-      (is : (x : Place) → located_by first x visits ≡ located order live units x) where
+      (is : (x : Place) → located_by first x visits ≡ located dialect live units x) where
     place_same : (o : Option Place)
-        → option_and_then (λ x. located_by first x visits) o ≡ option_and_then (located order live units) o
+        → option_and_then (λ x. located_by first x visits) o ≡ option_and_then (located dialect live units) o
     place_same None = refl
     place_same (Some x) = is x
 
     answer_same : (a : Asked)
-        → answer_for first visits q.base a ≡ option_map (located_seen first) (answer_in order q units a)
+        → answer_for first visits q.base a ≡ option_map (located_seen first) (answer_in dialect q units a)
     answer_same a = ap (option_map (located_seen first)) (place_same (place_of q.base a))
 
-    pub lines_same : seen_lines q.style (answer_for first visits q.base) q.asked.now ≡ answer_lines order s q units
+    pub lines_same : seen_lines q.style (answer_for first visits q.base) q.asked.now ≡ answer_lines dialect s q units
     lines_same =
-        flat_same _ _ (λ (a : Asked). ap (λ (t : List ℕ). (asked_text q.style.form (option_copied q.style.section) a ++ t) ++ 10 ∷ [])
-        (ap (seen_text q.style.form) (answer_same a) ∙ text_seen (answer_in order q units a))) q.asked.now
+        flat_same _ _ (λ (a : Asked). ap (λ (t : List ℕ). (asked_text q.style.form (option_copied q.style.section)
+        a ++ t) ++ 10 ∷ [])
+        (ap (seen_text q.style.form) (answer_same a) ∙ text_seen (answer_in dialect q units a))) q.asked.now
 
     some_same : (o : Option Located) → is_some (option_map (located_seen first) o) ≡ is_some o
     some_same None = refl
     some_same (Some l) = refl
 
-    pub found_same : found_by (answer_for first visits q.base) q.asked.now ≡ found_in order q units
+    pub found_same : found_by (answer_for first visits q.base) q.asked.now ≡ found_in dialect q units
     found_same =
         ap (λ (b : Bool). if b then found.All else found.NotAll)
         (all_same _ _ (λ (a : Asked). ap (is_answered a) (ap is_some (answer_same a)
-        ∙ some_same (answer_in order q units a))) q.asked.now)
+        ∙ some_same (answer_in dialect q units a))) q.asked.now)
 
   -- ---- the reading
 
@@ -120,20 +121,20 @@ module _ (order : Order) (q : Question) (s : Strings) (first : Locator) (knows :
       pub b : List ℕ
       pub back : List ℕ
       pub visits : List Visit
-      pub ends : Ends order limit bytes left q units b back ending
+      pub ends : Ends dialect limit bytes left q units b back ending
       pub stands : Locating first new start mid visits
-      pub same : (x : Place) → located_by first x visits ≡ located order live units x
+      pub same : (x : Place) → located_by first x visits ≡ located dialect live units x
       pub out : Appends start mid []
 
     section_same : (units : List (List ℕ)) (b : List ℕ) (x : Place)
-        → located_by first x (section_visits order units b) ≡ located order live units x
+        → located_by first x (section_visits dialect units b) ≡ located dialect live units x
     section_same units b x =
-        live_is x (section_visits order units b) units (λ l. located_of_section l x order first.unit units b)
+        live_is x (section_visits dialect units b) units (λ l. located_of_section l x dialect first.unit units b)
 
-    pub reads_all : (summary : Summary) → Ran locate_story order limit bytes left first new start mid (Ok summary)
-        → (units : List (List ℕ)) × EndsAs order limit bytes left units [] [] (Ok summary)
-        × Locating first new start mid (section_visits order units [])
-        × ((x : Place) → located_by first x (section_visits order units []) ≡ located order live units x)
+    pub reads_all : (summary : Summary) → Ran locate_story dialect limit bytes left first new start mid (Ok summary)
+        → (units : List (List ℕ)) × EndsAs dialect limit bytes left units [] [] (Ok summary)
+        × Locating first new start mid (section_visits dialect units [])
+        × ((x : Place) → located_by first x (section_visits dialect units []) ≡ located dialect live units x)
         × Appends start mid []
     reads_all summary (inl (units, ends, settled)) = (units, ends, settled.tells, section_same units [], settled.out)
     reads_all summary (inr done) = absurd done.4.tells
@@ -155,22 +156,23 @@ module _ (order : Order) (q : Question) (s : Strings) (first : Locator) (knows :
       )
 
     -- it stopped at the end of a unit
-    stopped : (f : RunFault) (units : List (List ℕ)) (b back : List ℕ) → HasBegun order (take limit bytes) units b back
-        → VisitorStops locate_story first new start mid (section_visits order units b) f
+    stopped : (f : RunFault) (units : List (List ℕ)) (b back : List ℕ)
+        → HasBegun dialect (take limit bytes) units b back
+        → VisitorStops locate_story first new start mid (section_visits dialect units b) f
         → (f ≡ fault.NoMemory) × Reads (Err fault.NoMemory)
     stopped f units b back has stops =
         let r = stops.reason in
         let last = ends_same stops.before r.before stops.visit (of_end r.h) r.whole in
-        let cut : section_visits order units b ≡ stops.before ++ of_end r.h ∷ stops.more =
+        let cut : section_visits dialect units b ≡ stops.before ++ of_end r.h ∷ stops.more =
         stops.whole ∙ ap (λ (v : Visit). stops.before ++ v ∷ stops.more) last.1 in
-        let split = splits_section order first.unit units b stops.before r.h stops.more cut in
+        let split = splits_section dialect first.unit units b stops.before r.h stops.more cut in
         let a = r.answers (map (looked_up q.base) q.asked.now) made in
         let asked = was_asked a.0 a.1 a.2 in
-        let before_is : (x : Place) → located_by first x stops.before ≡ located order live split.front x =
+        let before_is : (x : Place) → located_by first x stops.before ≡ located dialect live split.front x =
         λ x. live_is x stops.before split.front (λ l. split.located_before l x) in
         let after_is : (x : Place)
         → located_by first x (stops.before ++ of_end r.h ∷ [])
-        ≡ located order live (split.front ++ split.u ∷ []) x =
+        ≡ located dialect live (split.front ++ split.u ∷ []) x =
         λ x. live_is x (stops.before ++ of_end r.h ∷ []) (split.front ++ split.u ∷ [])
         (λ l. split.located_later l x) in
         let all : units ≡ (split.front ++ split.u ∷ []) ++ split.after =
@@ -182,17 +184,17 @@ module _ (order : Order) (q : Question) (s : Strings) (first : Locator) (knows :
             back = concat split.after ++ (b ++ back);
             visits = stops.before;
             ends = inr (
-              has_front order (take limit bytes) units (split.front ++ split.u ∷ []) split.after
+              has_front dialect (take limit bytes) units (split.front ++ split.u ∷ []) split.after
                   (b ++ back) all has.has,
               record {
                 a = asked.0;
                 number = a.0;
                 is_asked = asked.1;
                 not_before =
-                    ap (located order live split.front) asked.2 ∙ sym (before_is a.1) ∙ ap (located_by first a.1) last.0
-                    ∙ a.3;
+                    ap (located dialect live split.front) asked.2 ∙ sym (before_is a.1)
+                    ∙ ap (located_by first a.1) last.0 ∙ a.3;
                 answers =
-                    ap is_some (ap (located order live (split.front ++ split.u ∷ [])) asked.2 ∙ sym (after_is a.1)
+                    ap is_some (ap (located dialect live (split.front ++ split.u ∷ [])) asked.2 ∙ sym (after_is a.1)
                     ∙ ap (λ (v : Visit). located_by first a.1 (stops.before ++ v ∷ [])) (sym last.1)) ∙ a.4;
               },
             );
@@ -203,7 +205,7 @@ module _ (order : Order) (q : Question) (s : Strings) (first : Locator) (knows :
         )
 
     -- where it ends with a fault
-    pub reads_some : (f : RunFault) → Ran locate_story order limit bytes left first new start mid (Err f)
+    pub reads_some : (f : RunFault) → Ran locate_story dialect limit bytes left first new start mid (Err f)
         → Reads (Err f)
     reads_some (fault.Write out) (units, b, back, has, writes) = absurd (let below = writes.3.0 in omega arith)
     reads_some fault.NoMemory (units, b, back, inl (ends, settled)) =
@@ -211,7 +213,7 @@ module _ (order : Order) (q : Question) (s : Strings) (first : Locator) (knows :
           units = units;
           b = b;
           back = back;
-          visits = section_visits order units b;
+          visits = section_visits dialect units b;
           ends = inl ends;
           stands =
               settled.tells;
@@ -225,7 +227,7 @@ module _ (order : Order) (q : Question) (s : Strings) (first : Locator) (knows :
           units = units;
           b = b;
           back = back;
-          visits = section_visits order units b;
+          visits = section_visits dialect units b;
           ends = ends;
           stands =
               settled.tells;
@@ -239,7 +241,7 @@ module _ (order : Order) (q : Question) (s : Strings) (first : Locator) (knows :
           units = units;
           b = b;
           back = back;
-          visits = section_visits order units b;
+          visits = section_visits dialect units b;
           ends = ends;
           stands =
               settled.tells;
@@ -253,7 +255,7 @@ module _ (order : Order) (q : Question) (s : Strings) (first : Locator) (knows :
           units = units;
           b = b;
           back = back;
-          visits = section_visits order units b;
+          visits = section_visits dialect units b;
           ends = ends;
           stands =
               settled.tells;
@@ -272,15 +274,15 @@ module _ (order : Order) (q : Question) (s : Strings) (first : Locator) (knows :
     reads_some (fault.Emit unit f) (units, b, back, inr (has, sound, stops)) =
         absurd (let e = (stopped _ units b back has stops).0 in cc)
 
-    pub reads : (ending : Result Summary RunFault) → Ran locate_story order limit bytes left first new start mid ending
-        → Reads ending
+    pub reads : (ending : Result Summary RunFault)
+        → Ran locate_story dialect limit bytes left first new start mid ending → Reads ending
     reads (Ok summary) ran =
         let r = reads_all summary ran in
         record {
           units = r.0;
           b = [];
           back = [];
-          visits = section_visits order r.0 [];
+          visits = section_visits dialect r.0 [];
           ends = r.1;
           stands = r.2;
           same =
@@ -294,39 +296,39 @@ module _ (order : Order) (q : Question) (s : Strings) (first : Locator) (knows :
     module _ (now : Option (List ℕ)) where
       -- the lines are out
       lines_out : (units : List (List ℕ)) (visits : List Visit)
-          → ((x : Place) → located_by first x visits ≡ located order live units x) → Appends start mid []
+          → ((x : Place) → located_by first x visits ≡ located dialect live units x) → Appends start mid []
           → Appends mid now (seen_lines q.style (answer_for first visits q.base) q.asked.now)
-          → Appends start now (answer_lines order s q units)
+          → Appends start now (answer_lines dialect s q units)
       lines_out units visits same nothing out =
-          Appends-trans start mid now [] (answer_lines order s q units) nothing
+          Appends-trans start mid now [] (answer_lines dialect s q units) nothing
           (subst (Appends mid now) (lines_same visits units same) out)
 
       pub all_told : (summary : Summary) (all_found : Found)
-          → Ran locate_story order limit bytes left first new start mid (Ok summary)
+          → Ran locate_story dialect limit bytes left first new start mid (Ok summary)
           → ((visits : List Visit) → Locating first new start mid visits
           → PrintsAll mid now q (answer_for first visits q.base) (Ok all_found))
-          → Locates order s q limit bytes left start now (Ok all_found)
+          → Locates dialect s q limit bytes left start now (Ok all_found)
       all_told summary all_found ran prints =
           let r = reads_all summary ran in
-          let p = prints (section_visits order r.0 []) r.2 in (
+          let p = prints (section_visits dialect r.0 []) r.2 in (
             r.0,
             summary,
             r.1,
-            p.0 ∙ found_same (section_visits order r.0 []) r.0 r.3,
-            lines_out r.0 (section_visits order r.0 []) r.3 r.4 p.1,
+            p.0 ∙ found_same (section_visits dialect r.0 []) r.0 r.3,
+            lines_out r.0 (section_visits dialect r.0 []) r.3 r.4 p.1,
           )
 
       told_of : (f : RunFault) (all_found : Found) → (r : Reads (Err f))
           → PrintsAll mid now q (answer_for first r.visits q.base) (Ok all_found)
           → (units : List (List ℕ)) × (b : List ℕ) × (back : List ℕ)
-          × Ends order limit bytes left q units b back (Err f) × Appends start now (answer_lines order s q units)
+          × Ends dialect limit bytes left q units b back (Err f) × Appends start now (answer_lines dialect s q units)
       told_of f all_found r p = (r.units, r.b, r.back, r.ends, lines_out r.units r.visits r.same r.out p.1)
 
       pub fault_told : (f : RunFault) (all_found : Found)
-          → Ran locate_story order limit bytes left first new start mid (Err f)
+          → Ran locate_story dialect limit bytes left first new start mid (Err f)
           → ((visits : List Visit) → Locating first new start mid visits
           → PrintsAll mid now q (answer_for first visits q.base) (Ok all_found))
-          → Locates order s q limit bytes left start now (Err f)
+          → Locates dialect s q limit bytes left start now (Err f)
       fault_told (fault.Write out) all_found (units, b, back, has, writes) prints =
           absurd (let below = writes.3.0 in omega arith)
       fault_told fault.NoMemory all_found ran prints =
@@ -350,10 +352,10 @@ module _ (order : Order) (q : Question) (s : Strings) (first : Locator) (knows :
 
       -- a write failed
       pub lines_lost : (ending : Result Summary RunFault) (lost : WriteFault)
-          → Ran locate_story order limit bytes left first new start mid ending
+          → Ran locate_story dialect limit bytes left first new start mid ending
           → ((visits : List Visit) → Locating first new start mid visits
           → PrintsAll mid now q (answer_for first visits q.base) (Err lost))
-          → Locates order s q limit bytes left start now (Err (fault.Write lost.out))
+          → Locates dialect s q limit bytes left start now (Err (fault.Write lost.out))
       lines_lost ending lost ran prints =
           let r = reads ending ran in
           let t = subst (λ (l : List ℕ). TellsOut mid now l lost) (lines_same r.visits r.units r.same)
@@ -368,16 +370,16 @@ module _ (order : Order) (q : Question) (s : Strings) (first : Locator) (knows :
               record {
                 within = t.1.within;
                 written =
-                    Appends-trans start mid now [] (take lost.out (answer_lines order s q r.units)) r.out t.1.written;
+                    Appends-trans start mid now [] (take lost.out (answer_lines dialect s q r.units)) r.out t.1.written;
               },
             ),
           )
 
       pub is_told : (ending : Result Summary RunFault) (printed : Result Found WriteFault)
-          → Ran locate_story order limit bytes left first new start mid ending
+          → Ran locate_story dialect limit bytes left first new start mid ending
           → ((visits : List Visit) → Locating first new start mid visits
           → PrintsAll mid now q (answer_for first visits q.base) printed)
-          → Locates order s q limit bytes left start now (told ending printed)
+          → Locates dialect s q limit bytes left start now (told ending printed)
       is_told ending (Err lost) ran prints = lines_lost ending lost ran prints
       is_told (Ok summary) (Ok all_found) ran prints = all_told summary all_found ran prints
       is_told (Err f) (Ok all_found) ran prints = fault_told f all_found ran prints

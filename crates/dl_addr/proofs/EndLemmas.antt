@@ -4,7 +4,7 @@ use Rattle.std.proofs.Common.{Option, Some, None, refl, sym, ap, ◌∙◌, appe
 use Rattle.std.specs.Prelude.{◌||◌}
 use Rattle.std.specs.List.{concat, list_any}
 use Rattle.std.specs.Option.{option_or}
-use Rattle.dl_num.specs.declared.fixed.Order.{Order}
+use Rattle.dl_head.specs.declared.dialect.Dialect.{Dialect}
 use Rattle.dl_field.specs.HeaderData.{HeaderData}
 use Rattle.dl_rows.specs.declared.reader.Event.{Event}
 use Rattle.dl_rows.specs.declared.reader.Event.TheVariants as event
@@ -58,19 +58,20 @@ none_open : (is_open : Bool) → list_any is_end (open_visit is_open) ≡ false
 none_open true = refl
 none_open false = refl
 
-module _ (order : Order) where
+module _ (dialect : Dialect) where
   -- the visits of a unit before its end
   abbrev own : ℕ → List ℕ → List Visit
-  own offset u = visits order offset u ++ open_visit (ends_open (unit_rows order u))
+  own offset u = visits dialect offset u ++ open_visit (ends_open (unit_rows dialect u))
 
   none_own : (offset : ℕ) (u : List ℕ) → list_any is_end (own offset u) ≡ false
   none_own offset u =
-      none_both (visits order offset u) (open_visit (ends_open (unit_rows order u)))
-      (none_in offset (header_of order u) (events order u)) (none_open (ends_open (unit_rows order u)))
+      none_both (visits dialect offset u) (open_visit (ends_open (unit_rows dialect u)))
+      (none_in offset (header_of dialect u) (events dialect u)) (none_open (ends_open (unit_rows dialect u)))
 
-  own_end : (offset : ℕ) (u : List ℕ) → own offset u ++ of_end (header_of order u) ∷ [] ≡ unit_visits order offset u
+  own_end : (offset : ℕ) (u : List ℕ) → own offset u ++ of_end (header_of dialect u) ∷ [] ≡ unit_visits dialect offset u
   own_end offset u =
-      append_assoc (visits order offset u) (open_visit (ends_open (unit_rows order u))) (of_end (header_of order u)
+      append_assoc (visits dialect offset u) (open_visit (ends_open (unit_rows dialect u)))
+      (of_end (header_of dialect u)
       ∷ [])
 
   -- u is one of the units; before the end of its visits the units before it answer, and after it u too
@@ -81,9 +82,9 @@ module _ (order : Order) where
     pub after : List (List ℕ)
     pub whole : units ≡ front ++ u ∷ after
     pub located_before : (live : ℕ → Bool) (x : Place)
-        → located_after live x [] n before ≡ located_from order live offset front x
+        → located_after live x [] n before ≡ located_from dialect live offset front x
     pub located_later : (live : ℕ → Bool) (x : Place)
-        → located_after live x [] n (before ++ of_end h ∷ []) ≡ located_from order live offset (front ++ u ∷ []) x
+        → located_after live x [] n (before ++ of_end h ∷ []) ≡ located_from dialect live offset (front ++ u ∷ []) x
 
   none_located : (live : ℕ → Bool) (x : Place) (rows : List Row) (n : ℕ) (vs : List Visit) → list_any is_end vs ≡ false
       → located_after live x rows n vs ≡ None
@@ -95,43 +96,43 @@ module _ (order : Order) where
   none_located live x rows n (of_end h ∷ vs) e = absurd (true≢false e)
 
   after_unit : (live : ℕ → Bool) (x : Place) (n offset : ℕ) (u : List ℕ) (rest : List Visit)
-      → located_after live x [] n (unit_visits order offset u ++ rest)
-      ≡ option_or (located_in order live offset u x)
-      (located_after live x [] (offset_after n (unit_visits order offset u)) rest)
+      → located_after live x [] n (unit_visits dialect offset u ++ rest)
+      ≡ option_or (located_in dialect live offset u x)
+      (located_after live x [] (offset_after n (unit_visits dialect offset u)) rest)
   after_unit live x n offset u rest =
-      let own_visits = unit_visits order offset u in
+      let own_visits = unit_visits dialect offset u in
       located_after-append live x [] n own_visits rest
       ∙ ap (λ (l : List Row). option_or (located_after live x [] n own_visits)
-      (located_after live x l (offset_after n own_visits) rest)) (rows_of_unit live x order offset u)
+      (located_after live x l (offset_after n own_visits) rest)) (rows_of_unit live x dialect offset u)
       ∙ ap (λ (o : Option Located). option_or o (located_after live x [] (offset_after n own_visits) rest))
-      (located_of_unit live x order n offset u)
+      (located_of_unit live x dialect n offset u)
 
   end_same : (a b : Option HeaderData) → of_end a ≡ of_end b → a ≡ b
   end_same a b e = cc
 
   abbrev rest_of : ℕ → List ℕ → List (List ℕ) → List Visit → List Visit
-  rest_of offset u units tail = units_visits order (offset + length u) units ++ tail
+  rest_of offset u units tail = units_visits dialect (offset + length u) units ++ tail
 
   abbrev next_offset : ℕ → ℕ → List ℕ → ℕ
-  next_offset n offset u = offset_after n (unit_visits order offset u)
+  next_offset n offset u = offset_after n (unit_visits dialect offset u)
 
   pub splits : (offset n : ℕ) (units : List (List ℕ)) (tail before : List Visit) (h : Option HeaderData)
       (more : List Visit) → list_any is_end tail ≡ false
-      → units_visits order offset units ++ tail ≡ before ++ of_end h ∷ more → SplitsAt offset n units before h
+      → units_visits dialect offset units ++ tail ≡ before ++ of_end h ∷ more → SplitsAt offset n units before h
   splits offset n [] tail before h more none e =
       absurd (true≢false (sym (any_mid before h more) ∙ ap (list_any is_end) (sym e) ∙ none))
   splits offset n (u ∷ units) tail before h more none e =
       by (λ x ends. splits (offset + length u) (next_offset n offset u) units tail x h more none ends)
-      (fronts_of (own offset u) (of_end (header_of order u)) (rest_of offset u units tail) before (of_end h
+      (fronts_of (own offset u) (of_end (header_of dialect u)) (rest_of offset u units tail) before (of_end h
       ∷ more) cut) where
-        cut : own offset u ++ of_end (header_of order u) ∷ (rest_of offset u units tail) ≡ before ++ of_end h ∷ more
+        cut : own offset u ++ of_end (header_of dialect u) ∷ (rest_of offset u units tail) ≡ before ++ of_end h ∷ more
         cut =
-            sym (append_assoc (own offset u) (of_end (header_of order u) ∷ []) (rest_of offset u units tail))
+            sym (append_assoc (own offset u) (of_end (header_of dialect u) ∷ []) (rest_of offset u units tail))
             ∙ ap (λ (l : List Visit). l ++ (rest_of offset u units tail)) (own_end offset u)
-            ∙ sym (append_assoc (unit_visits order offset u) (units_visits order (offset + length u) units) tail)
+            ∙ sym (append_assoc (unit_visits dialect offset u) (units_visits dialect (offset + length u) units) tail)
             ∙ e
 
-        later : (x : List Visit) → before ≡ own offset u ++ of_end (header_of order u) ∷ x
+        later : (x : List Visit) → before ≡ own offset u ++ of_end (header_of dialect u) ∷ x
             → SplitsAt (offset + length u) (next_offset n offset u) units x h → SplitsAt offset n (u ∷ units) before h
         later x is s = record {
           front = u ∷ s.front;
@@ -141,19 +142,19 @@ module _ (order : Order) where
           located_before = λ live y. (
               ap (located_after live y [] n) here
               ∙ after_unit live y n offset u x
-              ∙ ap (option_or (located_in order live offset u y)) (s.located_before live y));
+              ∙ ap (option_or (located_in dialect live offset u y)) (s.located_before live y));
           located_later = λ live y. (
               ap (λ (l : List Visit). located_after live y [] n (l ++ of_end h ∷ [])) here
-              ∙ ap (located_after live y [] n) (append_assoc (unit_visits order offset u) x (of_end h ∷ []))
+              ∙ ap (located_after live y [] n) (append_assoc (unit_visits dialect offset u) x (of_end h ∷ []))
               ∙ after_unit live y n offset u (x ++ of_end h ∷ [])
-              ∙ ap (option_or (located_in order live offset u y)) (s.located_later live y));
+              ∙ ap (option_or (located_in dialect live offset u y)) (s.located_later live y));
         } where
-          here : before ≡ unit_visits order offset u ++ x
-          here = is ∙ sym (append_assoc (own offset u) (of_end (header_of order u) ∷ []) x)
+          here : before ≡ unit_visits dialect offset u ++ x
+          here = is ∙ sym (append_assoc (own offset u) (of_end (header_of dialect u) ∷ []) x)
               ∙ ap (λ (l : List Visit). l ++ x) (own_end offset u)
 
         now : (x : List Visit) → own offset u ≡ before ++ x
-            → of_end h ∷ more ≡ x ++ of_end (header_of order u) ∷ (rest_of offset u units tail)
+            → of_end h ∷ more ≡ x ++ of_end (header_of dialect u) ∷ (rest_of offset u units tail)
             → SplitsAt offset n (u ∷ units) before h
         now [] is ends = record {
           front = [];
@@ -167,14 +168,14 @@ module _ (order : Order) where
               ap (λ (l : List Visit). located_after live y [] n (l ++ of_end h ∷ [])) here
               ∙ ap (λ (v : Option HeaderData). located_after live y [] n (own offset u ++ of_end v ∷ [])) same
               ∙ ap (located_after live y [] n) (own_end offset u)
-              ∙ located_of_unit live y order n offset u
-              ∙ sym (or_none (located_in order live offset u y)));
+              ∙ located_of_unit live y dialect n offset u
+              ∙ sym (or_none (located_in dialect live offset u y)));
         } where
           here : before ≡ own offset u
           here = sym (append-nil before) ∙ sym is
 
-          same : h ≡ header_of order u
-          same = end_same h (header_of order u) cc
+          same : h ≡ header_of dialect u
+          same = end_same h (header_of dialect u) cc
         now (y ∷ x) is ends =
             absurd (true≢false (sym (any_mid before h x)
             ∙ ap (list_any is_end) (ap (λ (v : Visit). before ++ v ∷ x) first
@@ -184,17 +185,17 @@ module _ (order : Order) where
 
         by : ((x : List Visit) → rest_of offset u units tail ≡ x ++ of_end h ∷ more
             → SplitsAt (offset + length u) (next_offset n offset u) units x h)
-            → ((x : List Visit) × (before ≡ own offset u ++ of_end (header_of order u) ∷ x)
+            → ((x : List Visit) × (before ≡ own offset u ++ of_end (header_of dialect u) ∷ x)
             × ((rest_of offset u units tail) ≡ x ++ of_end h ∷ more))
             ⊎ ((x : List Visit) × (own offset u ≡ before ++ x)
-            × (of_end h ∷ more ≡ x ++ of_end (header_of order u) ∷ (rest_of offset u units tail)))
+            × (of_end h ∷ more ≡ x ++ of_end (header_of dialect u) ∷ (rest_of offset u units tail)))
             → SplitsAt offset n (u ∷ units) before h
         by others (inl (x, is, ends)) = later x is (others x ends)
         by others (inr (x, is, ends)) = now x is ends
 
   -- of a section
   pub splits_section : (n : ℕ) (units : List (List ℕ)) (b : List ℕ) (before : List Visit) (h : Option HeaderData)
-      (more : List Visit) → section_visits order units b ≡ before ++ of_end h ∷ more → SplitsAt 0 n units before h
+      (more : List Visit) → section_visits dialect units b ≡ before ++ of_end h ∷ more → SplitsAt 0 n units before h
   splits_section n units b before h more e =
-      splits 0 n units (visits order (length (concat units)) b) before h more
-      (none_in (length (concat units)) (header_of order b) (events order b)) e
+      splits 0 n units (visits dialect (length (concat units)) b) before h more
+      (none_in (length (concat units)) (header_of dialect b) (events dialect b)) e

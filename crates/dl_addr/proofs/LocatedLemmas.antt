@@ -4,7 +4,7 @@ use Rattle.std.proofs.Common.{Option, Some, None, refl, sym, ap, ap₂, ◌∙�
 use Rattle.std.specs.Prelude.{if◌then◌else◌, option_map}
 use Rattle.std.specs.List.{concat}
 use Rattle.std.specs.Option.{option_or}
-use Rattle.dl_num.specs.declared.fixed.Order.{Order}
+use Rattle.dl_head.specs.declared.dialect.Dialect.{Dialect}
 use Rattle.dl_field.specs.HeaderData.{HeaderData}
 use Rattle.dl_head.specs.Header.{foreign_in, header_in}
 use Rattle.dl_rows.specs.declared.row.Row.{Row}
@@ -127,59 +127,60 @@ module _ (live : ℕ → Bool) where
         ap (λ (l : List Row). option_map {U = Located} (λ r. record { row = r; header = h; unit = n }) (answer l x))
         no_live_rows
 
-    of_unit : (order : Order) (n offset : ℕ) (is_open : Bool) (version : Option ℕ) (parts : Option (HeaderData
+    of_unit : (dialect : Dialect) (n offset : ℕ) (is_open : Bool) (version : Option ℕ) (parts : Option (HeaderData
         × List ℕ)) → ((v : ℕ) → version ≡ Some v → parts ≡ None)
         → located_after live x [] n (flat_map (event_visits offset (option_map (λ p. p.0) parts))
-        (events_of order version parts) ++ (open_visit is_open ++ of_end (option_map (λ p. p.0) parts) ∷ []))
-        ≡ located_under live x (rows_later order parts) offset (option_map (λ p. p.0) parts)
-    of_unit order n offset is_open (Some v) None only =
+        (events_of dialect.order version parts) ++ (open_visit is_open ++ of_end (option_map (λ p. p.0) parts) ∷ []))
+        ≡ located_under live x (rows_later dialect.order parts) offset (option_map (λ p. p.0) parts)
+    of_unit dialect n offset is_open (Some v) None only =
         located_of_end [] n is_open None ∙ nothing_under n None ∙ sym (nothing_under offset None)
-    of_unit order n offset is_open (Some v) (Some (h, program)) only =
+    of_unit dialect n offset is_open (Some v) (Some (h, program)) only =
         absurd (let e = only v refl in Rattle.dl_addr.proofs.TextLemmas.none_is_some (sym e))
-    of_unit order n offset is_open None None only =
+    of_unit dialect n offset is_open None None only =
         located_of_end [] n is_open None ∙ nothing_under n None ∙ sym (nothing_under offset None)
-    of_unit order n offset is_open None (Some (h, program)) only =
-        let rows = rows_in order h.params program in
+    of_unit dialect n offset is_open None (Some (h, program)) only =
+        let rows = rows_in dialect.order h.params program in
         let end = open_visit is_open ++ of_end (Some h) ∷ [] in
         ap (λ (l : List Visit). located_after live x [] offset (l ++ end)) (rows_visited offset (Some h) rows)
         ∙ located_of_rows [] rows offset end
         ∙ located_of_end rows offset is_open (Some h)
 
-    pub located_of_unit : (order : Order) (n offset : ℕ) (u : List ℕ)
-        → located_after live x [] n (unit_visits order offset u) ≡ located_in order live offset u x
-    located_of_unit order n offset u =
-        of_unit order n offset (ends_open (unit_rows order u)) (foreign_in order u) (header_in order u)
-        (λ v. foreign_no_header order u v)
-        ∙ ap (option_map {U = Located} (λ r. record { row = r; header = header_of order u; unit = offset }))
-        (of_live_rows live (unit_rows order u) x)
+    pub located_of_unit : (dialect : Dialect) (n offset : ℕ) (u : List ℕ)
+        → located_after live x [] n (unit_visits dialect offset u) ≡ located_in dialect live offset u x
+    located_of_unit dialect n offset u =
+        of_unit dialect n offset (ends_open (unit_rows dialect u)) (foreign_in dialect u) (header_in dialect u)
+        (λ v. foreign_no_header dialect u v)
+        ∙ ap (option_map {U = Located} (λ r. record { row = r; header = header_of dialect u; unit = offset }))
+        (of_live_rows live (unit_rows dialect u) x)
 
     rows_of_end : (rows : List Row) (is_open : Bool) (h : Option HeaderData)
         → rows_after rows (open_visit is_open ++ of_end h ∷ []) ≡ []
     rows_of_end rows true h = refl
     rows_of_end rows false h = refl
 
-    pub rows_of_unit : (order : Order) (offset : ℕ) (u : List ℕ) → rows_after [] (unit_visits order offset u) ≡ []
-    rows_of_unit order offset u =
-        Rattle.dl_run.proofs.VisitLemmas.rows_after-append [] (visits order offset u) (end_visits order u)
-        ∙ rows_of_end (rows_after [] (visits order offset u)) (ends_open (unit_rows order u)) (header_of order u)
+    pub rows_of_unit : (dialect : Dialect) (offset : ℕ) (u : List ℕ) → rows_after [] (unit_visits dialect offset u) ≡ []
+    rows_of_unit dialect offset u =
+        Rattle.dl_run.proofs.VisitLemmas.rows_after-append [] (visits dialect offset u) (end_visits dialect u)
+        ∙ rows_of_end (rows_after [] (visits dialect offset u)) (ends_open (unit_rows dialect u)) (header_of dialect u)
 
-    pub located_of_units : (order : Order) (n offset : ℕ) (units : List (List ℕ)) (more : List Visit)
+    pub located_of_units : (dialect : Dialect) (n offset : ℕ) (units : List (List ℕ)) (more : List Visit)
         → ((m : ℕ) → located_after live x [] m more ≡ None)
-        → located_after live x [] n (units_visits order offset units ++ more) ≡ located_from order live offset units x
-    located_of_units order n offset [] more none = none n
-    located_of_units order n offset (u ∷ units) more none =
-        let own = unit_visits order offset u in
-        let others = units_visits order (offset + length u) units in
+        → located_after live x [] n (units_visits dialect offset units ++ more)
+        ≡ located_from dialect live offset units x
+    located_of_units dialect n offset [] more none = none n
+    located_of_units dialect n offset (u ∷ units) more none =
+        let own = unit_visits dialect offset u in
+        let others = units_visits dialect (offset + length u) units in
         ap (located_after live x [] n) (append_assoc own others more)
         ∙ located_after-append [] n own (others ++ more)
         ∙ ap (λ (l : List Row). option_or (located_after live x [] n own)
-        (located_after live x l (offset_after n own) (others ++ more))) (rows_of_unit order offset u)
-        ∙ ap₂ option_or (located_of_unit order n offset u)
-        (located_of_units order (offset_after n own) (offset + length u) units more none)
+        (located_after live x l (offset_after n own) (others ++ more))) (rows_of_unit dialect offset u)
+        ∙ ap₂ option_or (located_of_unit dialect n offset u)
+        (located_of_units dialect (offset_after n own) (offset + length u) units more none)
 
     -- what is located in the visits of a section is what its units answer
-    pub located_of_section : (order : Order) (n : ℕ) (units : List (List ℕ)) (b : List ℕ)
-        → located_after live x [] n (section_visits order units b) ≡ located order live units x
-    located_of_section order n units b =
-        located_of_units order n 0 units (visits order (length (concat units)) b)
-        (λ m. none_of_visits (length (concat units)) (header_of order b) [] m (events order b))
+    pub located_of_section : (dialect : Dialect) (n : ℕ) (units : List (List ℕ)) (b : List ℕ)
+        → located_after live x [] n (section_visits dialect units b) ≡ located dialect live units x
+    located_of_section dialect n units b =
+        located_of_units dialect n 0 units (visits dialect (length (concat units)) b)
+        (λ m. none_of_visits (length (concat units)) (header_of dialect b) [] m (events dialect b))

@@ -1,12 +1,13 @@
 -- What `addr` answers and writes. bytes: what was read from a reader, which has `left` left. start, now: what the
 -- writer held at first, and holds now. None: it isn't known.
-use Rattle.std.specs.Prelude.{◌≡◌, ◌⊎◌, ℕ, Bool, true, ◌||◌, if◌then◌else◌, List, [], ◌∷◌, ◌++◌, take, flat_map, is_none}
+use Rattle.std.specs.Prelude.{◌≡◌, ◌⊎◌, ℕ, Bool, true, ◌||◌, if◌then◌else◌, List, [], ◌∷◌, ◌++◌, take, flat_map}
+use Rattle.std.specs.Prelude.{is_none}
 use Rattle.std.specs.Prelude.{is_some, slice_get}
 use Rattle.std.specs.Prelude.{Option, Some, None, Result, Ok, Err}
 use Rattle.std.specs.List.{list_all}
 use Rattle.std.specs.Option.{option_and_then, option_copied}
 use Rattle.std.specs.Io.KnownBytes.{Appends, Keeps}
-use Rattle.dl_num.specs.declared.fixed.Order.{Order}
+use Rattle.dl_head.specs.declared.dialect.Dialect.{Dialect}
 use Rattle.dl_print.specs.Output.{TellsOut}
 use Rattle.dl_print.specs.ValueText.{Strings}
 use Rattle.dl_run.specs.declared.fault.RunFault.{RunFault}
@@ -22,54 +23,56 @@ use Rattle.dl_addr.specs.Code.{is_code}
 use Rattle.dl_addr.specs.Locations.{Located, located, asked_line}
 
 -- what the units answer for what is asked
-abbrev pub answer_in : Order → Question → List (List ℕ) → Asked → Option Located
-answer_in order q units a = option_and_then (located order (is_code (option_copied q.code)) units) (place_of q.base a)
+abbrev pub answer_in : Dialect → Question → List (List ℕ) → Asked → Option Located
+answer_in dialect q units a = option_and_then (located dialect (is_code (option_copied q.code)) units)
+    (place_of q.base a)
 
 -- a line for each address, in the order in which they are asked
-abbrev pub answer_lines : Order → Strings → Question → List (List ℕ) → List ℕ
-answer_lines order s q units = flat_map (λ a. asked_line q.style s a (answer_in order q units a)) q.asked.now
+abbrev pub answer_lines : Dialect → Strings → Question → List (List ℕ) → List ℕ
+answer_lines dialect s q units = flat_map (λ a. asked_line q.style s a (answer_in dialect q units a)) q.asked.now
 
 -- whether it has an answer, where it is an address
 abbrev pub is_answered : Asked → (is_found : Bool) → Bool
 is_answered a is_found = is_none a.address || is_found
 
 -- whether each address has an answer
-abbrev pub found_in : Order → Question → List (List ℕ) → Found
-found_in order q units =
-    if list_all (λ a. is_answered a (is_some (answer_in order q units a))) q.asked.now then found.All else found.NotAll
+abbrev pub found_in : Dialect → Question → List (List ℕ) → Found
+found_in dialect q units =
+    if list_all (λ a. is_answered a (is_some (answer_in dialect q units a))) q.asked.now then found.All
+    else found.NotAll
 
 -- u is a unit that is the first to answer for a place that is looked up
-pub record AnswersFirst (order : Order) (q : Question) (units : List (List ℕ)) (u : List ℕ) : Type 0 where
+pub record AnswersFirst (dialect : Dialect) (q : Question) (units : List (List ℕ)) (u : List ℕ) : Type 0 where
   pub a : Asked
   pub number : ℕ
   pub is_asked : slice_get q.asked.now number ≡ Some a
-  pub not_before : located order (is_code (option_copied q.code)) units (looked_up q.base a) ≡ None
-  pub answers : is_some (located order (is_code (option_copied q.code)) (units ++ u ∷ []) (looked_up q.base a)) ≡ true
+  pub not_before : located dialect (is_code (option_copied q.code)) units (looked_up q.base a) ≡ None
+  pub answers : is_some (located dialect (is_code (option_copied q.code)) (units ++ u ∷ []) (looked_up q.base a)) ≡ true
 
 -- how the reading ends: as that of `check`, or memory is refused for the answers of u, the unit after these units
-abbrev pub Ends : Order → (limit : ℕ) (bytes : List ℕ) (left : Option (List ℕ)) → Question
+abbrev pub Ends : Dialect → (limit : ℕ) (bytes : List ℕ) (left : Option (List ℕ)) → Question
     → (units : List (List ℕ)) (b back : List ℕ) → Result Summary RunFault → Type 0
-Ends order limit bytes left q units b back (Err fault.NoMemory) =
-    EndsAs order limit bytes left units b back (Err fault.NoMemory)
-    ⊎ (HasUnits order (take limit bytes) (units ++ b ∷ []) back × AnswersFirst order q units b)
-Ends order limit bytes left q units b back result = EndsAs order limit bytes left units b back result
+Ends dialect limit bytes left q units b back (Err fault.NoMemory) =
+    EndsAs dialect limit bytes left units b back (Err fault.NoMemory)
+    ⊎ (HasUnits dialect (take limit bytes) (units ++ b ∷ []) back × AnswersFirst dialect q units b)
+Ends dialect limit bytes left q units b back result = EndsAs dialect limit bytes left units b back result
 
 -- `addr`: the lines of what is asked, answered by the units before the end or the fault. Where memory is refused for
 -- the places, nothing is read or written.
-abbrev pub Locates : Order → Strings → Question → (limit : ℕ) (bytes : List ℕ) (left start now : Option (List ℕ))
+abbrev pub Locates : Dialect → Strings → Question → (limit : ℕ) (bytes : List ℕ) (left start now : Option (List ℕ))
     → Result Found RunFault → Type 0
-Locates order s q limit bytes left start now (Ok all_found) =
-    (units : List (List ℕ)) × (summary : Summary) × EndsAs order limit bytes left units [] [] (Ok summary)
-    × (all_found ≡ found_in order q units) × Appends start now (answer_lines order s q units)
-Locates order s q limit bytes left start now (Err (fault.Write out)) =
+Locates dialect s q limit bytes left start now (Ok all_found) =
+    (units : List (List ℕ)) × (summary : Summary) × EndsAs dialect limit bytes left units [] [] (Ok summary)
+    × (all_found ≡ found_in dialect q units) × Appends start now (answer_lines dialect s q units)
+Locates dialect s q limit bytes left start now (Err (fault.Write out)) =
     (units : List (List ℕ)) × (b : List ℕ) × (back : List ℕ) × (ending : Result Summary RunFault)
-    × Ends order limit bytes left q units b back ending
-    × TellsOut start now (answer_lines order s q units) (record { out = out })
-Locates order s q limit bytes left start now (Err fault.NoMemory) =
+    × Ends dialect limit bytes left q units b back ending
+    × TellsOut start now (answer_lines dialect s q units) (record { out = out })
+Locates dialect s q limit bytes left start now (Err fault.NoMemory) =
     ((bytes ≡ []) × Keeps start now)
     ⊎ ((units : List (List ℕ)) × (b : List ℕ) × (back : List ℕ)
-    × Ends order limit bytes left q units b back (Err fault.NoMemory)
-    × Appends start now (answer_lines order s q units))
-Locates order s q limit bytes left start now (Err f) =
-    (units : List (List ℕ)) × (b : List ℕ) × (back : List ℕ) × Ends order limit bytes left q units b back (Err f)
-    × Appends start now (answer_lines order s q units)
+    × Ends dialect limit bytes left q units b back (Err fault.NoMemory)
+    × Appends start now (answer_lines dialect s q units))
+Locates dialect s q limit bytes left start now (Err f) =
+    (units : List (List ℕ)) × (b : List ℕ) × (back : List ℕ) × Ends dialect limit bytes left q units b back (Err f)
+    × Appends start now (answer_lines dialect s q units)

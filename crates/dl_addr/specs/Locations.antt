@@ -2,7 +2,7 @@
 use Rattle.std.specs.Prelude.{ℕ, ◌+◌, Bool, ◌==◌, if◌then◌else◌, List, [], ◌∷◌, ◌++◌, length, Option, None, codes}
 use Rattle.std.specs.Prelude.{decimal, option_map}
 use Rattle.std.specs.Option.{option_copied, option_map_or, option_or}
-use Rattle.dl_num.specs.declared.fixed.Order.{Order}
+use Rattle.dl_head.specs.declared.dialect.Dialect.{Dialect}
 use Rattle.dl_field.specs.HeaderData.{HeaderData}
 use Rattle.dl_rows.specs.declared.row.Row.{Row}
 use Rattle.dl_rows.specs.LineUnit.{unit_rows}
@@ -29,24 +29,24 @@ pub record Located : Type 0 where
   pub unit : ℕ
 
 -- of the unit u at that offset: the row of its first live rising sequence that covers x
-abbrev pub located_in : Order → (live : ℕ → Bool) → (offset : ℕ) → List ℕ → Place → Option Located
-located_in order live offset u x =
+abbrev pub located_in : Dialect → (live : ℕ → Bool) → (offset : ℕ) → List ℕ → Place → Option Located
+located_in dialect live offset u x =
     option_map (λ r. record {
       row = r;
-      header = header_of order u;
+      header = header_of dialect u;
       unit =
           offset;
-    }) (live_answer live (unit_rows order u) x)
+    }) (live_answer live (unit_rows dialect u) x)
 
 -- of units one after the other, the first at that offset: of the first that has an answer
-abbrev pub located_from : Order → (live : ℕ → Bool) → (offset : ℕ) → List (List ℕ) → Place → Option Located
-located_from order live offset [] x = None
-located_from order live offset (u ∷ units) x =
-    option_or (located_in order live offset u x) (located_from order live (offset + length u) units x)
+abbrev pub located_from : Dialect → (live : ℕ → Bool) → (offset : ℕ) → List (List ℕ) → Place → Option Located
+located_from dialect live offset [] x = None
+located_from dialect live offset (u ∷ units) x =
+    option_or (located_in dialect live offset u x) (located_from dialect live (offset + length u) units x)
 
 -- of the units of a section
-abbrev pub located : Order → (live : ℕ → Bool) → List (List ℕ) → Place → Option Located
-located order live units x = located_from order live 0 units x
+abbrev pub located : Dialect → (live : ℕ → Bool) → List (List ℕ) → Place → Option Located
+located dialect live units x = located_from dialect live 0 units x
 
 -- ---- texts
 

@@ -41,7 +41,7 @@ pub fn addr<R: Read, W: Write>(
 ) -> Result<Found, RunFault>
     requires { options.now.limit ≤ SECTION_LIMIT }
     ensures { (bs : List ℕ) × Consumes (R.remaining input.old) (R.remaining input.new) bs
-        × Locates options.now.order (strings_in options.now) question.now options.now.limit bs
+        × Locates options.now.dialect (strings_in options.now) question.now options.now.limit bs
         (R.remaining input.new) (W.contents output.old) (W.contents output.new) result }
 {
     let strings = StringSections::new(options.debug_line_str, options.debug_str);

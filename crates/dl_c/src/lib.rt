@@ -6,7 +6,7 @@
 ghost use Rattle.std.specs.Prelude.{◌≡◌, ◌≤◌, drop, length};
 ghost use Rattle.dl_calls.specs.declared.status.Status.{Status};
 ghost use Rattle.dl_calls.specs.AllCalls.{FindsAll};
-ghost use Rattle.dl_calls.specs.Calls.{Checks, order_of};
+ghost use Rattle.dl_calls.specs.Calls.{Checks, dialect_of};
 ghost use Rattle.dl_calls.specs.CopyCalls.{Copies};
 ghost use Rattle.dl_calls.specs.FaultCalls.{told_text};
 ghost use Rattle.dl_calls.specs.FindCalls.{Finds, place_at};
@@ -28,7 +28,7 @@ pub extern "C" fn boxantrel_check(
     fault: &mut FaultRecord,
 ) -> u32
     ensures { (status : Status) × (result ≡ status_code status)
-        × Checks (order_of big) section.now counts.old counts.new fault.old fault.new status }
+        × Checks (dialect_of big) section.now counts.old counts.new fault.old fault.new status }
 {
     dl_calls::check(alloc, section, big, counts, fault).code()
 }
@@ -44,7 +44,7 @@ pub extern "C" fn boxantrel_unit_at(
     fault: &mut FaultRecord,
 ) -> u32
     ensures { (status : Status) × (result ≡ status_code status)
-        × Describes (order_of big) (drop offset section.now) offset unit.old unit.new fault.old fault.new status }
+        × Describes (dialect_of big) (drop offset section.now) offset unit.old unit.new fault.old fault.new status }
 {
     dl_calls::unit_at(alloc, section, big, offset, unit, fault).code()
 }
@@ -61,7 +61,7 @@ pub extern "C" fn boxantrel_rows_at(
     fault: &mut FaultRecord,
 ) -> u32
     ensures { (status : Status) × (result ≡ status_code status)
-        × Lists (order_of big) (drop offset section.now) offset rows.old rows.new count.old count.new fault.old
+        × Lists (dialect_of big) (drop offset section.now) offset rows.old rows.new count.old count.new fault.old
         fault.new status }
 {
     dl_calls::rows_at(alloc, section, big, offset, rows, count, fault).code()
@@ -80,7 +80,7 @@ pub extern "C" fn boxantrel_find(
     fault: &mut FaultRecord,
 ) -> u32
     ensures { (status : Status) × (result ≡ status_code status)
-        × Finds (order_of big) section.now (place_at address op_index) row.old row.new unit.old unit.new fault.old
+        × Finds (dialect_of big) section.now (place_at address op_index) row.old row.new unit.old unit.new fault.old
         fault.new status }
 {
     let place = Place { address, op_index };
@@ -99,7 +99,7 @@ pub extern "C" fn boxantrel_find_all(
     fault: &mut FaultRecord,
 ) -> u32
     ensures { (status : Status) × (result ≡ status_code status)
-        × FindsAll (order_of big) section.now addresses.now rows.old rows.new units.old units.new fault.old fault.new
+        × FindsAll (dialect_of big) section.now addresses.now rows.old rows.new units.old units.new fault.old fault.new
         status }
 {
     dl_calls::find_all(alloc, section, big, addresses, rows, units, fault).code()
@@ -116,7 +116,7 @@ pub extern "C" fn boxantrel_copy(
     fault: &mut FaultRecord,
 ) -> u32
     ensures { (status : Status) × (result ≡ status_code status)
-        × Copies (order_of big) section.now room.old room.new len.old len.new fault.old fault.new status }
+        × Copies (dialect_of big) section.now room.old room.new len.old len.new fault.old fault.new status }
 {
     dl_calls::copy(alloc, section, big, room, len, fault).code()
 }
@@ -136,7 +136,7 @@ pub extern "C" fn boxantrel_path_at(
     fault: &mut FaultRecord,
 ) -> u32
     ensures { (status : Status) × (result ≡ status_code status)
-        × TellsPath (order_of big) (drop offset section.now) offset (both_strings line_str.now str.now) file path.old
+        × TellsPath (dialect_of big) (drop offset section.now) offset (both_strings line_str.now str.now) file path.old
         path.new len.old len.new fault.old fault.new status }
 {
     dl_calls::path_at(
@@ -160,7 +160,7 @@ pub extern "C" fn boxantrel_paths_at(
     fault: &mut FaultRecord,
 ) -> u32
     ensures { (status : Status) × (result ≡ status_code status)
-        × TellsPaths (order_of big) (drop offset section.now) offset (both_strings line_str.now str.now) files.now
+        × TellsPaths (dialect_of big) (drop offset section.now) offset (both_strings line_str.now str.now) files.now
         paths.old paths.new ends.old ends.new fault.old fault.new status }
 {
     dl_calls::paths_at(

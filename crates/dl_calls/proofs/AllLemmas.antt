@@ -8,7 +8,7 @@ use Rattle.std.specs.List.{concat}
 use Rattle.std.specs.Option.{option_map_or, option_or}
 use Rattle.std.proofs.lemmas.Bool.{cases_lt, eqb-false, eqb-true}
 use Rattle.std.proofs.lemmas.Option.{slice_get-map, slice_get_within}
-use Rattle.dl_num.specs.declared.fixed.Order.{Order}
+use Rattle.dl_head.specs.declared.dialect.Dialect.{Dialect}
 use Rattle.dl_rows.specs.LineUnit.{unit_rows}
 use Rattle.dl_rows.specs.declared.row.Row.{Row}
 use Rattle.dl_look.specs.Answer.{answer}
@@ -45,35 +45,36 @@ or_assoc : {A : Type 0} (a b c : Option A) → option_or (option_or a b) c ≡ o
 or_assoc None b c = refl
 or_assoc (Some a) b c = refl
 
-module _ (order : Order) where
+module _ (dialect : Dialect) where
   -- of one unit at that offset
   abbrev at : ℕ → List ℕ → Place → Option Found
-  at offset u x = option_map (λ (r : Row). record { row = r; unit = offset }) (answer (unit_rows order u) x)
+  at offset u x = option_map (λ (r : Row). record { row = r; unit = offset }) (answer (unit_rows dialect u) x)
 
   found_push : (offset : ℕ) (units : List (List ℕ)) (u : List ℕ) (x : Place)
-      → found_from order offset (units ++ u ∷ []) x
-      ≡ option_or (found_from order offset units x) (at (offset + length (concat units)) u x)
+      → found_from dialect offset (units ++ u ∷ []) x
+      ≡ option_or (found_from dialect offset units x) (at (offset + length (concat units)) u x)
   found_push offset [] u x =
       let none : offset ≡ offset + 0 = omega arith in
       or_none (at offset u x) ∙ ap (λ (n : ℕ). at n u x) none
   found_push offset (v ∷ units) u x =
       ap (option_or (at offset v x)) (found_push (offset + length v) units u x)
-      ∙ sym (or_assoc (at offset v x) (found_from order (offset + length v) units x)
+      ∙ sym (or_assoc (at offset v x) (found_from dialect (offset + length v) units x)
       (at ((offset + length v) + length (concat units)) u x))
-      ∙ ap (λ (n : ℕ). option_or (option_or (at offset v x) (found_from order (offset + length v) units x)) (at n u x))
+      ∙ ap (λ (n : ℕ). option_or (option_or (at offset v x)
+      (found_from dialect (offset + length v) units x)) (at n u x))
       (omega (arith, length-append v (concat units)))
 
   found_row : (offset : ℕ) (units : List (List ℕ)) (x : Place)
-      → answer_of_units (map (unit_rows order) units) x
-      ≡ option_map (λ (f : Found). f.row) (found_from order offset units x)
+      → answer_of_units (map (unit_rows dialect) units) x
+      ≡ option_map (λ (f : Found). f.row) (found_from dialect offset units x)
   found_row offset [] x = refl
-  found_row offset (u ∷ units) x = by (answer (unit_rows order u) x) (found_row (offset + length u) units x) where
+  found_row offset (u ∷ units) x = by (answer (unit_rows dialect u) x) (found_row (offset + length u) units x) where
     by : (o : Option Row)
-        → answer_of_units (map (unit_rows order) units) x
-        ≡ option_map (λ (f : Found). f.row) (found_from order (offset + length u) units x)
-        → option_or o (answer_of_units (map (unit_rows order) units) x)
+        → answer_of_units (map (unit_rows dialect) units) x
+        ≡ option_map (λ (f : Found). f.row) (found_from dialect (offset + length u) units x)
+        → option_or o (answer_of_units (map (unit_rows dialect) units) x)
         ≡ option_map (λ (f : Found). f.row) (option_or (option_map (λ (r : Row). record { row = r; unit = offset }) o)
-        (found_from order (offset + length u) units x))
+        (found_from dialect (offset + length u) units x))
     by None so = so
     by (Some r) so = refl
 
@@ -124,12 +125,12 @@ none_told answered (suc k) i none j lt is =
 
 -- ---- what is told after one more unit
 
-module _ (order : Order) (addresses : List ℕ) (units : List (List ℕ)) (u : List ℕ) (answered : List Answered)
-    (first : AreFirstAnswers (map place_of_address addresses) (map (unit_rows order) units) (unit_rows order u)
+module _ (dialect : Dialect) (addresses : List ℕ) (units : List (List ℕ)) (u : List ℕ) (answered : List Answered)
+    (first : AreFirstAnswers (map place_of_address addresses) (map (unit_rows dialect) units) (unit_rows dialect u)
     answered)
     (i a : ℕ) (asked : slice_get addresses i ≡ Some a) where
   abbrev rows_before : List (List Row)
-  rows_before = map (unit_rows order) units
+  rows_before = map (unit_rows dialect) units
 
   abbrev places : List Place
   places = map place_of_address addresses
@@ -138,10 +139,10 @@ module _ (order : Order) (addresses : List ℕ) (units : List (List ℕ)) (u : L
   x = place_of_address a
 
   abbrev before : Option Found
-  before = found_in order units a
+  before = found_in dialect units a
 
   abbrev here : Option Found
-  here = at order (length (concat units)) u x
+  here = at dialect (length (concat units)) u x
 
   abbrev told : Option Row
   told = told_upto answered (length answered) i
@@ -149,21 +150,21 @@ module _ (order : Order) (addresses : List ℕ) (units : List (List ℕ)) (u : L
   place_is : slice_get places i ≡ Some x
   place_is = slice_get-map place_of_address addresses i ∙ ap (option_map place_of_address) asked
 
-  after : found_in order (units ++ u ∷ []) a ≡ option_or before here
+  after : found_in dialect (units ++ u ∷ []) a ≡ option_or before here
   after =
       let same : 0 + length (concat units) ≡ length (concat units) = omega arith in
-      found_push order 0 units u x ∙ ap (λ (n : ℕ). option_or before (at order n u x)) same
+      found_push dialect 0 units u x ∙ ap (λ (n : ℕ). option_or before (at dialect n u x)) same
 
   -- where one is told, no unit before answers, and this one does
-  is_first : (r : Row) → told ≡ Some r → (before ≡ None) × (answer (unit_rows order u) x ≡ Some r)
+  is_first : (r : Row) → told ≡ Some r → (before ≡ None) × (answer (unit_rows dialect u) x ≡ Some r)
   is_first r is =
       let k = told_is answered (length answered) i r is in
       let right = first.right k.0 no_answer k.1 in
       let same : right.0 ≡ x = some_same (sym right.1
       ∙ ap (slice_get places) k.2 ∙ place_is) in (
-        none_row before (sym (found_row order 0 units x)
+        none_row before (sym (found_row dialect 0 units x)
             ∙ ap (answer_of_units rows_before) (sym same) ∙ right.2),
-        ap (answer (unit_rows order u)) (sym same) ∙ right.3 ∙ ap Some k.3,
+        ap (answer (unit_rows dialect u)) (sym same) ∙ right.3 ∙ ap Some k.3,
       ) where
         some_same : {p q : Place} → Some p ≡ Some q → p ≡ q
         some_same e = cc
@@ -173,15 +174,15 @@ module _ (order : Order) (addresses : List ℕ) (units : List (List ℕ)) (u : L
         none_row (Some f) e = cc
 
   -- where none is told, a unit before answers, or this one doesn't
-  no_first : told ≡ None → before ≡ None → answer (unit_rows order u) x ≡ None
-  no_first none unanswered = by (answer (unit_rows order u) x) refl where
-    by : (o : Option Row) → answer (unit_rows order u) x ≡ o → o ≡ None
+  no_first : told ≡ None → before ≡ None → answer (unit_rows dialect u) x ≡ None
+  no_first none unanswered = by (answer (unit_rows dialect u) x) refl where
+    by : (o : Option Row) → answer (unit_rows dialect u) x ≡ o → o ≡ None
     by None is = refl
     by (Some r) is =
         let k = first.all i r (
           x,
           place_is,
-          found_row order 0 units x
+          found_row dialect 0 units x
               ∙ ap (option_map (λ (f : Found). f.row)) unanswered,
           is,
         ) in
@@ -191,7 +192,7 @@ module _ (order : Order) (addresses : List ℕ) (units : List (List ℕ)) (u : L
   more : {A : Type 0} (of_found : Found → A) (of_row : Row → A)
       → ((r : Row) → of_row r ≡ of_found (record { row = r; unit = length (concat units) })) → (o : Option A)
       → placed (option_map of_row told) (placed (option_map of_found before) o)
-      ≡ placed (option_map of_found (found_in order (units ++ u ∷ []) a)) o
+      ≡ placed (option_map of_found (found_in dialect (units ++ u ∷ []) a)) o
   more {A} of_found of_row same o = by told refl where
     stays : told ≡ None → option_or before here ≡ before
     stays none = same_before before refl where
@@ -201,7 +202,7 @@ module _ (order : Order) (addresses : List ℕ) (units : List (List ℕ)) (u : L
           ap (option_map (λ (r : Row). record { row = r; unit = length (concat units) })) (no_first none is)
 
     by : (t : Option Row) → told ≡ t → placed (option_map of_row t) (placed (option_map of_found before) o)
-        ≡ placed (option_map of_found (found_in order (units ++ u ∷ []) a)) o
+        ≡ placed (option_map of_found (found_in dialect (units ++ u ∷ []) a)) o
     by (Some r) is =
         let e = is_first r is in
         placed_twice (of_row r) (option_map of_found before) o ∙ ap (λ (v : A). placed (Some v) o) (same r)
@@ -213,29 +214,31 @@ module _ (order : Order) (addresses : List ℕ) (units : List (List ℕ)) (u : L
         ∙ sym (ap (λ (f : Option Found). placed (option_map of_found f) o) (after ∙ stays is))
 
 -- the rows and the offsets of all addresses
-pub placed_more : (order : Order) (addresses : List ℕ) (units : List (List ℕ)) (u : List ℕ) (answered : List Answered)
-    → AreFirstAnswers (map place_of_address addresses) (map (unit_rows order) units) (unit_rows order u) answered
+pub placed_more : (dialect : Dialect) (addresses : List ℕ) (units : List (List ℕ)) (u : List ℕ)
+    (answered : List Answered)
+    → AreFirstAnswers (map place_of_address addresses) (map (unit_rows dialect) units) (unit_rows dialect u) answered
     → (unit : ℕ) → unit ≡ length (concat units) → (p q q2 : List RowRecord) (m n n2 : List ℕ)
-    → Placed order units addresses p q m n
+    → Placed dialect units addresses p q m n
     → ((i : ℕ) → slice_get q2 i ≡ row_after answered (length answered) q i)
     → ((i : ℕ) → slice_get n2 i ≡ unit_after answered unit (length answered) n i)
-    → Placed order (units ++ u ∷ []) addresses p q2 m n2
-placed_more order addresses units u answered first unit unit_is p q q2 m n n2 so rows offsets = record {
+    → Placed dialect (units ++ u ∷ []) addresses p q2 m n2
+placed_more dialect addresses units u answered first unit unit_is p q q2 m n n2 so rows offsets = record {
   rows = λ i a asked.
       rows i ∙ ap (placed (option_map row_record (told_upto answered (length answered) i))) (so.rows i a asked)
-      ∙ more order addresses units u answered first i a asked (λ (f : Found). row_record f.row) row_record (λ r. refl)
+      ∙ more dialect addresses units u answered first i a asked (λ (f : Found). row_record f.row) row_record (λ r. refl)
       (slice_get p i);
   offsets = λ i a asked.
       offsets i ∙ ap (placed (option_map (λ (r : Row). unit) (told_upto answered (length answered) i)))
       (so.offsets i a asked)
-      ∙ more order addresses units u answered first i a asked (λ (f : Found). f.unit) (λ (r : Row). unit) (λ r. unit_is)
+      ∙ more dialect addresses units u answered first i a asked (λ (f : Found). f.unit) (λ (r : Row). unit)
+      (λ r. unit_is)
       (slice_get m i);
 }
 
 -- before any unit
-pub none_placed : (order : Order) (addresses : List ℕ) (p : List RowRecord) (m : List ℕ)
-    → Placed order [] addresses p p m m
-none_placed order addresses p m = record {
+pub none_placed : (dialect : Dialect) (addresses : List ℕ) (p : List RowRecord) (m : List ℕ)
+    → Placed dialect [] addresses p p m m
+none_placed dialect addresses p m = record {
   rows = λ i a asked. sym (placed_none (slice_get p i));
   offsets = λ i a asked. sym (placed_none (slice_get m i));
 }
@@ -259,24 +262,24 @@ module _ {A : Type 0} (v : Row → A) (answered : List Answered) (k : ℕ) (old 
 
 -- ---- how the reading ends
 
-pub ends_with : (order : Order) (s : List ℕ) (P Q : List (List ℕ) → Type 0)
+pub ends_with : (dialect : Dialect) (s : List ℕ) (P Q : List (List ℕ) → Type 0)
     → ((units : List (List ℕ)) → P units → Q units)
-    → (ends : Result ⊤ Stop) → EndsWith order s P ends → EndsWith order s Q ends
-ends_with order s P Q to (Ok done) e = (e.0, e.1, to e.0 e.2)
-ends_with order s P Q to (Err (stop.Damaged offset kind)) e = (e.0, e.1, e.2, e.3, to e.0 e.4)
-ends_with order s P Q to (Err stop.NoMemory) e = (e.0, e.1, e.2, e.3, to e.0 e.4)
+    → (ends : Result ⊤ Stop) → EndsWith dialect s P ends → EndsWith dialect s Q ends
+ends_with dialect s P Q to (Ok done) e = (e.0, e.1, to e.0 e.2)
+ends_with dialect s P Q to (Err (stop.Damaged offset kind)) e = (e.0, e.1, e.2, e.3, to e.0 e.4)
+ends_with dialect s P Q to (Err stop.NoMemory) e = (e.0, e.1, e.2, e.3, to e.0 e.4)
 
 -- where the offsets stand for no unit before
-pub answers_of : (order : Order) (units : List (List ℕ)) (addresses : List ℕ) (p q : List RowRecord) (m n : List ℕ)
-    → ((i : ℕ) → i < length addresses → slice_get m i ≡ Some (2 ^ 64 - 1)) → Placed order units addresses p q m n
-    → Answers order units addresses p q n
-answers_of order units addresses p q m n none so = record {
+pub answers_of : (dialect : Dialect) (units : List (List ℕ)) (addresses : List ℕ) (p q : List RowRecord) (m n : List ℕ)
+    → ((i : ℕ) → i < length addresses → slice_get m i ≡ Some (2 ^ 64 - 1)) → Placed dialect units addresses p q m n
+    → Answers dialect units addresses p q n
+answers_of dialect units addresses p q m n none so = record {
   rows = so.rows;
   units_are = λ i a asked.
       so.offsets i a asked
-      ∙ ap (placed (option_map (λ (f : Found). f.unit) (found_in order units a)))
+      ∙ ap (placed (option_map (λ (f : Found). f.unit) (found_in dialect units a)))
       (none i (slice_get_within addresses i a asked))
-      ∙ by (found_in order units a);
+      ∙ by (found_in dialect units a);
 } where
   by : (o : Option Found) → placed (option_map (λ (f : Found). f.unit) o) (Some (2 ^ 64 - 1))
       ≡ Some (option_map_or (λ (f : Found). f.unit) o (2 ^ 64 - 1))

@@ -4,7 +4,7 @@ use Rattle.std.proofs.Common.{arith, refl, ap, ◌∙◌, length-append, append-
 use Rattle.std.specs.List.{concat}
 use Rattle.std.proofs.lemmas.List.{length-map, map-append, take_more}
 use Rattle.std.proofs.lemmas.List.Folds.{concat-append}
-use Rattle.dl_num.specs.declared.fixed.Order.{Order}
+use Rattle.dl_head.specs.declared.dialect.Dialect.{Dialect}
 use Rattle.dl_field.specs.HeaderData.{HeaderData}
 use Rattle.dl_head.specs.Header.{foreign_in}
 use Rattle.dl_print.specs.ValueText.{Strings}
@@ -15,12 +15,12 @@ use Rattle.dl_calls.specs.declared.status.Status.TheVariants as status
 use Rattle.dl_calls.specs.PathsCalls.{NamesAll, TellsPaths, ends_from, path_told, paths_of}
 use Rattle.dl_calls.specs.UnitCalls.{BeginsWith, length_told}
 
-module _ (order : Order) (t : List ℕ) (offset : ℕ) (s : Strings) (files p q m n : List ℕ) (f : FaultRecord)
-    (u : List ℕ) (begins : BeginsWith order t u) where
+module _ (dialect : Dialect) (t : List ℕ) (offset : ℕ) (s : Strings) (files p q m n : List ℕ) (f : FaultRecord)
+    (u : List ℕ) (begins : BeginsWith dialect t u) where
   -- the unit is whole
   pub named_all : (end : Status)
-      → NamesAll (foreign_in order u) (paths_of s (header_of order u) files) p q m n end
-      → TellsPaths order t offset s files p q m n f f end
+      → NamesAll (foreign_in dialect u) (paths_of s (header_of dialect u) files) p q m n end
+      → TellsPaths dialect t offset s files p q m n f f end
   named_all status.Done names = (u, begins, names, refl)
   named_all status.NoRoom names = (u, begins, names, refl)
   named_all status.OtherVersion names = (u, begins, names, refl)

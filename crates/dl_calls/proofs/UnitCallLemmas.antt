@@ -5,7 +5,7 @@ use Rattle.std.proofs.Common.{length-drop}
 use Rattle.std.proofs.Common.{min}
 use Rattle.std.specs.Prelude.{slice_set}
 use Rattle.std.proofs.lemmas.List.{length-map, map-append}
-use Rattle.dl_num.specs.declared.fixed.Order.{Order}
+use Rattle.dl_head.specs.declared.dialect.Dialect.{Dialect}
 use Rattle.dl_head.specs.declared.fault.Fault.{Fault}
 use Rattle.dl_rows.specs.LineUnit.{unit_rows}
 use Rattle.dl_rows.specs.Runs.{Sound}
@@ -29,31 +29,31 @@ use Rattle.dl_calls.proofs.RoomLemmas.{length-over, over_full, over_more, over_n
 use Rattle.dl_calls.proofs.SectionLemmas.{damaged, one_more, unmet}
 
 -- a fault stands among the bytes that decide it
-pub fault_within : (order : Order) (b back : List ℕ) (f : Fault) → IsFault order b back f → f.offset ≤ length b
-fault_within order b back f (inl refused) = omega (arith, refused.place)
-fault_within order b back f (inr cut) = omega (arith, cut.4)
+pub fault_within : (dialect : Dialect) (b back : List ℕ) (f : Fault) → IsFault dialect b back f → f.offset ≤ length b
+fault_within dialect b back f (inl refused) = omega (arith, refused.place)
+fault_within dialect b back f (inr cut) = omega (arith, cut.4)
 
-module _ (order : Order) (t : List ℕ) where
-  no_units : HasUnits order t [] t
+module _ (dialect : Dialect) (t : List ℕ) where
+  no_units : HasUnits dialect t [] t
   no_units = record { whole = refl; each = tt }
 
-  pub begins : (unit : WholeUnit) (u : List ℕ) → WholeAt order t unit u → BeginsWith order t u
-  begins unit u at = (_, one_more order t t [] no_units unit u at)
+  pub begins : (unit : WholeUnit) (u : List ℕ) → WholeAt dialect t unit u → BeginsWith dialect t u
+  begins unit u at = (_, one_more dialect t t [] no_units unit u at)
 
-  pub stops_unmet : (b back : List ℕ) → FrontAt order t b back → Sound order b → AddsCell order b back
-      → StopsIn order t b run.NoMemory
-  stops_unmet b back at sound wants = (back, unmet order t t [] no_units b back at sound wants)
+  pub stops_unmet : (b back : List ℕ) → FrontAt dialect t b back → Sound dialect b → AddsCell dialect b back
+      → StopsIn dialect t b run.NoMemory
+  stops_unmet b back at sound wants = (back, unmet dialect t t [] no_units b back at sound wants)
 
-  module _ (b back : List ℕ) (f : Fault) (at : FrontAt order t b back) (fault : IsFault order b back f) where
+  module _ (b back : List ℕ) (f : Fault) (at : FrontAt dialect t b back) (fault : IsFault dialect b back f) where
     within : f.offset ≤ length t
     within =
-        omega (arith, fault_within order b back f fault, ap length at.whole, length-append b back)
+        omega (arith, fault_within dialect b back f fault, ap length at.whole, length-append b back)
 
-    pub stops_damaged : length t < 2 ^ 64 → StopsIn order t b (run.Damage f.offset f.kind)
+    pub stops_damaged : length t < 2 ^ 64 → StopsIn dialect t b (run.Damage f.offset f.kind)
     stops_damaged short = (
       back,
-      subst (λ (n : ℕ). EndsAs order (length t) t (Some []) [] b back (Err (run.Damage n f.kind)))
-          (omega (arith, short, within)) (damaged order t t [] no_units b back f at fault short),
+      subst (λ (n : ℕ). EndsAs dialect (length t) t (Some []) [] b back (Err (run.Damage n f.kind)))
+          (omega (arith, short, within)) (damaged dialect t t [] no_units b back f at fault short),
     )
 
     -- its offset in the section s
@@ -63,10 +63,10 @@ module _ (order : Order) (t : List ℕ) where
         omega (arith, within, ap length is, length-drop offset s, short, few)
 
 -- the rows of a front of few bytes
-pub few_rows_of : (order : Order) (t b back : List ℕ) → t ≡ b ++ back → length t < 2 ^ 64
-    → length (unit_rows order b) < 2 ^ 64
-few_rows_of order t b back whole short =
-    omega (arith, few_rows order b, ap length whole, length-append b back, short)
+pub few_rows_of : (dialect : Dialect) (t b back : List ℕ) → t ≡ b ++ back → length t < 2 ^ 64
+    → length (unit_rows dialect b) < 2 ^ 64
+few_rows_of dialect t b back whole short =
+    omega (arith, few_rows dialect b, ap length whole, length-append b back, short)
 
 -- ---- rows in a room
 
@@ -114,31 +114,31 @@ short_rest s t offset is few = omega (arith, few, ap length is, length-drop offs
 
 -- ---- `rows_at`: t, what was read, is the bytes of s from an offset on; first and sink are the room before and after
 
-module _ (order o : Order) (order_is : order ≡ o) (s t : List ℕ) (offset : ℕ) (t_is : t ≡ drop offset s)
+module _ (dialect o : Dialect) (dialect_is : dialect ≡ o) (s t : List ℕ) (offset : ℕ) (t_is : t ≡ drop offset s)
     (few : length s < 2 ^ 64) (first sink : RowRoom) (q : List RowRecord)
     (q_is : first.rows.ghost_name ≡ sink.rows.ghost_name → q ≡ sink.rows.now) (m : ℕ) (f : FaultRecord) where
-  in_call : (n : ℕ) (g : FaultRecord) (end : Status) → Lists order t offset first.rows.now q m n f g end
+  in_call : (n : ℕ) (g : FaultRecord) (end : Status) → Lists dialect t offset first.rows.now q m n f g end
       → Lists o (drop offset s) offset first.rows.now q m n f g end
   in_call n g end lists =
-      subst (λ (x : Order). Lists x (drop offset s) offset first.rows.now q m n f g end) order_is
-      (subst (λ (l : List ℕ). Lists order l offset first.rows.now q m n f g end) t_is lists)
+      subst (λ (x : Dialect). Lists x (drop offset s) offset first.rows.now q m n f g end) dialect_is
+      (subst (λ (l : List ℕ). Lists dialect l offset first.rows.now q m n f g end) t_is lists)
 
-  few_rows_in : (b back : List ℕ) → t ≡ b ++ back → length (unit_rows order b) < 2 ^ 64
-  few_rows_in b back whole = few_rows_of order t b back whole (short_rest s t offset t_is few)
+  few_rows_in : (b back : List ℕ) → t ≡ b ++ back → length (unit_rows dialect b) < 2 ^ 64
+  few_rows_in b back whole = few_rows_of dialect t b back whole (short_rest s t offset t_is few)
 
-  pub lists_whole : (unit : WholeUnit) → UnitReads (room_story first) order t [] (read.Whole unit) sink
+  pub lists_whole : (unit : WholeUnit) → UnitReads (room_story first) dialect t [] (read.Whole unit) sink
       → Lists o (drop offset s) offset first.rows.now q m sink.count f f status.Done
   lists_whole unit r =
       let small = few_rows_in r.0 r.1.back r.1.whole in
       in_call sink.count f status.Done (
         r.0,
-        begins order t unit r.0 r.1,
-        room_told first sink (unit_rows order r.0) q r.2 q_is small,
+        begins dialect t unit r.0 r.1,
+        room_told first sink (unit_rows dialect r.0) q r.2 q_is small,
         r.2.count small,
         refl,
       )
 
-  pub lists_none : UnitReads (room_story first) order t [] read.Empty sink
+  pub lists_none : UnitReads (room_story first) dialect t [] read.Empty sink
       → Lists o (drop offset s) offset first.rows.now q m m f f status.NoAnswer
   lists_none r =
       in_call m f status.NoAnswer (
@@ -149,7 +149,7 @@ module _ (order o : Order) (order_is : order ≡ o) (s t : List ℕ) (offset : �
       )
 
   pub lists_damaged : (damage : Fault) (g : FaultRecord) → offset < 2 ^ 64
-      → UnitReads (room_story first) order t [] (read.Damaged damage) sink
+      → UnitReads (room_story first) dialect t [] (read.Damaged damage) sink
       → g ≡ record_of (add offset damage.offset) damage.kind
       → Lists o (drop offset s) offset first.rows.now q m sink.count f g status.Fault
   lists_damaged damage g within r g_is =
@@ -158,20 +158,20 @@ module _ (order o : Order) (order_is : order ≡ o) (s t : List ℕ) (offset : �
         r.0,
         damage.offset,
         damage.kind,
-        stops_damaged order t r.0 r.1 damage r.2 r.3 (short_rest s t offset t_is few),
-        room_told first sink (unit_rows order r.0) q r.4 q_is small,
+        stops_damaged dialect t r.0 r.1 damage r.2 r.3 (short_rest s t offset t_is few),
+        room_told first sink (unit_rows dialect r.0) q r.4 q_is small,
         r.4.count small,
         g_is ∙ ap (λ (n : ℕ). record_of n damage.kind)
-            (offset_is order t r.0 r.1 damage r.2 r.3 s offset t_is few within),
+            (offset_is dialect t r.0 r.1 damage r.2 r.3 s offset t_is few within),
       )
 
-  pub lists_unmet : UnitReads (room_story first) order t [] read.NoMemory sink
+  pub lists_unmet : UnitReads (room_story first) dialect t [] read.NoMemory sink
       → Lists o (drop offset s) offset first.rows.now q m m f f status.NoMemory
   lists_unmet r =
       in_call m f status.NoMemory (
         r.0,
-        stops_unmet order t r.0 r.1 r.2 r.3 r.4,
-        room_told first sink (unit_rows order r.0) q r.6 q_is (few_rows_in r.0 r.1 r.2.whole)
+        stops_unmet dialect t r.0 r.1 r.2 r.3 r.4,
+        room_told first sink (unit_rows dialect r.0) q r.6 q_is (few_rows_in r.0 r.1 r.2.whole)
             ∙ ap (λ (rows : List Row). written_over first.rows.now (map row_record rows)) r.5
             ∙ sym (over_none first.rows.now),
         refl,

@@ -1,7 +1,8 @@
 -- What the calls answer, and what they write where. s: the bytes of a section.
 use Rattle.std.specs.Prelude.{◌≡◌, ℕ, Bool, List, Ok, Err, if◌then◌else◌}
-use Rattle.dl_num.specs.declared.fixed.Order.{Order}
 use Rattle.dl_num.specs.declared.fixed.Order.TheVariants.{Little, Big}
+use Rattle.dl_head.specs.declared.dialect.Dialect.{Dialect}
+use Rattle.dl_head.specs.Dialect.{version_5}
 use Rattle.dl_table.specs.declared.fault.FaultKind.{FaultKind}
 use Rattle.dl_print.specs.declared.summary.Summary.{Summary}
 use Rattle.dl_calls.specs.declared.record.Counts.{Counts}
@@ -12,16 +13,16 @@ use Rattle.dl_calls.specs.declared.stop.Stop.TheVariants as stop
 use Rattle.dl_calls.specs.Records.{counts_of, record_of}
 use Rattle.dl_calls.specs.Sections.{EndsFor}
 
-abbrev pub order_of : Bool → Order
-order_of big = if big then Big else Little
+abbrev pub dialect_of : Bool → Dialect
+dialect_of big = version_5 (if big then Big else Little)
 
 -- `check`: of c and f, the counts and the fault before it, and d and g, those after it, only what the status says
 -- is written
-abbrev pub Checks : Order → (s : List ℕ) → (c d : Counts) (f g : FaultRecord) → Status → Type 0
-Checks order s c d f g status.Done =
-    (summary : Summary) × EndsFor order s (Ok summary) × (d ≡ counts_of summary) × (g ≡ f)
-Checks order s c d f g status.Fault =
-    (offset : ℕ) × (kind : FaultKind) × EndsFor order s (Err (stop.Damaged offset kind)) × (d ≡ c)
+abbrev pub Checks : Dialect → (s : List ℕ) → (c d : Counts) (f g : FaultRecord) → Status → Type 0
+Checks dialect s c d f g status.Done =
+    (summary : Summary) × EndsFor dialect s (Ok summary) × (d ≡ counts_of summary) × (g ≡ f)
+Checks dialect s c d f g status.Fault =
+    (offset : ℕ) × (kind : FaultKind) × EndsFor dialect s (Err (stop.Damaged offset kind)) × (d ≡ c)
     × (g ≡ record_of offset kind)
-Checks order s c d f g status.NoMemory = EndsFor order s (Err stop.NoMemory) × (d ≡ c) × (g ≡ f)
-Checks order s c d f g other = ⊥
+Checks dialect s c d f g status.NoMemory = EndsFor dialect s (Err stop.NoMemory) × (d ≡ c) × (g ≡ f)
+Checks dialect s c d f g other = ⊥

@@ -1,7 +1,7 @@
 -- What the call that writes all units anew answers. s: the bytes of a section. DWARF 5, section 6.2.4.
 use Rattle.std.specs.Prelude.{◌≡◌, ◌<◌, ◌≤◌, ◌^◌, ⊤, ℕ, List, [], length, Option, Some, Result, Ok, Err}
 use Rattle.std.specs.Io.KnownBytes.{Consumes}
-use Rattle.dl_num.specs.declared.fixed.Order.{Order}
+use Rattle.dl_head.specs.declared.dialect.Dialect.{Dialect}
 use Rattle.dl_table.specs.declared.fault.FaultKind.TheVariants.{UnitTooLong}
 use Rattle.dl_print.specs.declared.summary.Summary.{Summary}
 use Rattle.dl_run.specs.declared.fault.RunFault.{RunFault}
@@ -14,10 +14,10 @@ use Rattle.dl_calls.specs.Records.{record_of}
 use Rattle.dl_calls.specs.UnitCalls.{written_over}
 
 -- the command `copy` over a reader that gives s, and a writer that holds v at the end
-abbrev pub Runs : Order → (s v : List ℕ) → Result Summary RunFault → Type 0
-Runs order s v result =
+abbrev pub Runs : Dialect → (s v : List ℕ) → Result Summary RunFault → Type 0
+Runs dialect s v result =
     (bytes : List ℕ) × (left : Option (List ℕ)) × Consumes (Some s) left bytes
-    × commands.Copies order (2 ^ 44) bytes left (Some []) (Some v) result
+    × commands.Copies dialect (2 ^ 44) bytes left (Some []) (Some v) result
 
 -- `put`: of a room and a length, p before it, and q and n after it; v is the copy
 abbrev pub Puts : (v p q : List ℕ) (n : ℕ) → Status → Type 0
@@ -40,15 +40,15 @@ IsWant other = ⊤
 
 -- `copy`: of a room, a length and a fault, p, m and f before it, and q, n and g after it, only what the status says is
 -- written
-abbrev pub Copies : Order → (s p q : List ℕ) (m n : ℕ) (f g : FaultRecord) → Status → Type 0
-Copies order s p q m n f g status.Done =
-    (v : List ℕ) × (summary : Summary) × Runs order s v (Ok summary) × Puts v p q n status.Done × (g ≡ f)
-Copies order s p q m n f g status.NoRoom =
-    (v : List ℕ) × (summary : Summary) × Runs order s v (Ok summary) × Puts v p q n status.NoRoom × (g ≡ f)
-Copies order s p q m n f g status.Fault =
-    (v : List ℕ) × (r : RunFault) × Runs order s v (Err r) × TellsFault r g × (q ≡ p) × (n ≡ m)
-Copies order s p q m n f g status.OtherVersion =
-    (v : List ℕ) × (offset : ℕ) × Runs order s v (Err (run.ForeignUnit offset)) × (q ≡ p) × (n ≡ m) × (g ≡ f)
-Copies order s p q m n f g status.NoMemory =
-    (v : List ℕ) × (r : RunFault) × Runs order s v (Err r) × IsWant r × (q ≡ p) × (n ≡ m) × (g ≡ f)
-Copies order s p q m n f g status.NoAnswer = ⊥
+abbrev pub Copies : Dialect → (s p q : List ℕ) (m n : ℕ) (f g : FaultRecord) → Status → Type 0
+Copies dialect s p q m n f g status.Done =
+    (v : List ℕ) × (summary : Summary) × Runs dialect s v (Ok summary) × Puts v p q n status.Done × (g ≡ f)
+Copies dialect s p q m n f g status.NoRoom =
+    (v : List ℕ) × (summary : Summary) × Runs dialect s v (Ok summary) × Puts v p q n status.NoRoom × (g ≡ f)
+Copies dialect s p q m n f g status.Fault =
+    (v : List ℕ) × (r : RunFault) × Runs dialect s v (Err r) × TellsFault r g × (q ≡ p) × (n ≡ m)
+Copies dialect s p q m n f g status.OtherVersion =
+    (v : List ℕ) × (offset : ℕ) × Runs dialect s v (Err (run.ForeignUnit offset)) × (q ≡ p) × (n ≡ m) × (g ≡ f)
+Copies dialect s p q m n f g status.NoMemory =
+    (v : List ℕ) × (r : RunFault) × Runs dialect s v (Err r) × IsWant r × (q ≡ p) × (n ≡ m) × (g ≡ f)
+Copies dialect s p q m n f g status.NoAnswer = ⊥

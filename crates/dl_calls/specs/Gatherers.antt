@@ -9,7 +9,7 @@ use Rattle.dl_look.specs.FindersRows.{Stand}
 use Rattle.dl_look.specs.Ledgers.{no_answer}
 use Rattle.dl_calls.specs.declared.gathering.Gatherer.{Gatherer}
 use Rattle.dl_calls.specs.declared.record.RowRecord.{RowRecord}
-use Rattle.dl_num.specs.declared.fixed.Order.{Order}
+use Rattle.dl_head.specs.declared.dialect.Dialect.{Dialect}
 use Rattle.dl_calls.specs.AllCalls.{found_in, placed}
 use Rattle.dl_calls.specs.Records.{row_record}
 
@@ -36,9 +36,9 @@ unit_after answered unit k old i = placed (option_map (λ r. unit) (told_upto an
 
 -- of rows and offsets of units, p and m before, and q and n after: those of the addresses that the units answer are
 -- told
-pub record Placed (order : Order) (units : List (List ℕ)) (addresses : List ℕ) (p q : List RowRecord) (m n : List ℕ)
+pub record Placed (dialect : Dialect) (units : List (List ℕ)) (addresses : List ℕ) (p q : List RowRecord) (m n : List ℕ)
     : Type 0 where
   pub rows : (i a : ℕ) → slice_get addresses i ≡ Some a
-      → slice_get q i ≡ placed (option_map (λ f. row_record f.row) (found_in order units a)) (slice_get p i)
+      → slice_get q i ≡ placed (option_map (λ f. row_record f.row) (found_in dialect units a)) (slice_get p i)
   pub offsets : (i a : ℕ) → slice_get addresses i ≡ Some a
-      → slice_get n i ≡ placed (option_map (λ f. f.unit) (found_in order units a)) (slice_get m i)
+      → slice_get n i ≡ placed (option_map (λ f. f.unit) (found_in dialect units a)) (slice_get m i)

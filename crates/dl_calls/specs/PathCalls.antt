@@ -2,7 +2,7 @@
 -- sections 6.2.4 and 6.2.4.1.
 use Rattle.std.specs.Prelude.{◌≡◌, ℕ, ◌+◌, List, [], Option, Some, None, codes}
 use Rattle.std.specs.Option.{unwrap_or}
-use Rattle.dl_num.specs.declared.fixed.Order.{Order}
+use Rattle.dl_head.specs.declared.dialect.Dialect.{Dialect}
 use Rattle.dl_table.specs.declared.fault.FaultKind.{FaultKind}
 use Rattle.dl_head.specs.Header.{foreign_in}
 use Rattle.dl_print.specs.ValueText.{Strings}
@@ -31,19 +31,20 @@ Names foreign path p q m n other = ⊥
 
 -- `path_at`: of a room, a length and a fault, p, m and f before it, and q, n and g after it, only what the status says
 -- is written
-abbrev pub TellsPath : Order → (t : List ℕ) (offset : ℕ) → Strings → (file : ℕ) (p q : List ℕ) (m n : ℕ)
+abbrev pub TellsPath : Dialect → (t : List ℕ) (offset : ℕ) → Strings → (file : ℕ) (p q : List ℕ) (m n : ℕ)
     (f g : FaultRecord) → Status → Type 0
-TellsPath order t offset s file p q m n f g status.Done =
-    (u : List ℕ) × BeginsWith order t u
-    × Names (foreign_in order u) (path_or_missing (path_of s (header_of order u) file)) p q m n status.Done × (g ≡ f)
-TellsPath order t offset s file p q m n f g status.OtherVersion =
-    (u : List ℕ) × BeginsWith order t u
-    × Names (foreign_in order u) (path_or_missing (path_of s (header_of order u) file)) p q m n status.OtherVersion
+TellsPath dialect t offset s file p q m n f g status.Done =
+    (u : List ℕ) × BeginsWith dialect t u
+    × Names (foreign_in dialect u) (path_or_missing (path_of s (header_of dialect u) file)) p q m n
+    status.Done × (g ≡ f)
+TellsPath dialect t offset s file p q m n f g status.OtherVersion =
+    (u : List ℕ) × BeginsWith dialect t u
+    × Names (foreign_in dialect u) (path_or_missing (path_of s (header_of dialect u) file)) p q m n status.OtherVersion
     × (g ≡ f)
-TellsPath order t offset s file p q m n f g status.NoAnswer = (t ≡ []) × (q ≡ p) × (n ≡ m) × (g ≡ f)
-TellsPath order t offset s file p q m n f g status.Fault =
-    (b : List ℕ) × (at : ℕ) × (kind : FaultKind) × StopsIn order t b (run.Damage at kind)
+TellsPath dialect t offset s file p q m n f g status.NoAnswer = (t ≡ []) × (q ≡ p) × (n ≡ m) × (g ≡ f)
+TellsPath dialect t offset s file p q m n f g status.Fault =
+    (b : List ℕ) × (at : ℕ) × (kind : FaultKind) × StopsIn dialect t b (run.Damage at kind)
     × (q ≡ p) × (n ≡ m) × (g ≡ record_of (offset + at) kind)
-TellsPath order t offset s file p q m n f g status.NoMemory =
-    (b : List ℕ) × StopsIn order t b run.NoMemory × (q ≡ p) × (n ≡ m) × (g ≡ f)
-TellsPath order t offset s file p q m n f g status.NoRoom = ⊥
+TellsPath dialect t offset s file p q m n f g status.NoMemory =
+    (b : List ℕ) × StopsIn dialect t b run.NoMemory × (q ≡ p) × (n ≡ m) × (g ≡ f)
+TellsPath dialect t offset s file p q m n f g status.NoRoom = ⊥

@@ -2,7 +2,7 @@
 -- sections 6.2.4 and 6.2.4.1.
 use Rattle.std.specs.Prelude.{◌≡◌, ◌<◌, ◌≤◌, ◌-◌, ◌^◌, ℕ, ◌+◌, List, [], ◌∷◌, length, map, min, Option, Some, None}
 use Rattle.std.specs.List.{concat}
-use Rattle.dl_num.specs.declared.fixed.Order.{Order}
+use Rattle.dl_head.specs.declared.dialect.Dialect.{Dialect}
 use Rattle.dl_field.specs.HeaderData.{HeaderData}
 use Rattle.dl_table.specs.declared.fault.FaultKind.{FaultKind}
 use Rattle.dl_head.specs.Header.{foreign_in}
@@ -46,14 +46,14 @@ NamesAll foreign paths p q m n other = ⊥
 
 -- `paths_at`: of a room for the paths, one for their ends and a fault, p, m and f before it, and q, n and g after it,
 -- only what the status says is written
-abbrev pub TellsPaths : Order → (t : List ℕ) (offset : ℕ) → Strings → (files p q m n : List ℕ) (f g : FaultRecord)
+abbrev pub TellsPaths : Dialect → (t : List ℕ) (offset : ℕ) → Strings → (files p q m n : List ℕ) (f g : FaultRecord)
     → Status → Type 0
-TellsPaths order t offset s files p q m n f g status.NoAnswer = (t ≡ []) × (q ≡ p) × (n ≡ m) × (g ≡ f)
-TellsPaths order t offset s files p q m n f g status.Fault =
-    (b : List ℕ) × (at : ℕ) × (kind : FaultKind) × StopsIn order t b (run.Damage at kind)
+TellsPaths dialect t offset s files p q m n f g status.NoAnswer = (t ≡ []) × (q ≡ p) × (n ≡ m) × (g ≡ f)
+TellsPaths dialect t offset s files p q m n f g status.Fault =
+    (b : List ℕ) × (at : ℕ) × (kind : FaultKind) × StopsIn dialect t b (run.Damage at kind)
     × (q ≡ p) × (n ≡ m) × (g ≡ record_of (offset + at) kind)
-TellsPaths order t offset s files p q m n f g status.NoMemory =
-    (b : List ℕ) × StopsIn order t b run.NoMemory × (q ≡ p) × (n ≡ m) × (g ≡ f)
-TellsPaths order t offset s files p q m n f g end =
-    (u : List ℕ) × BeginsWith order t u
-    × NamesAll (foreign_in order u) (paths_of s (header_of order u) files) p q m n end × (g ≡ f)
+TellsPaths dialect t offset s files p q m n f g status.NoMemory =
+    (b : List ℕ) × StopsIn dialect t b run.NoMemory × (q ≡ p) × (n ≡ m) × (g ≡ f)
+TellsPaths dialect t offset s files p q m n f g end =
+    (u : List ℕ) × BeginsWith dialect t u
+    × NamesAll (foreign_in dialect u) (paths_of s (header_of dialect u) files) p q m n end × (g ≡ f)

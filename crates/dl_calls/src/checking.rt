@@ -3,12 +3,13 @@
 ghost use Rattle.std.specs.Prelude.{◌≡◌, ℕ, List, is_some};
 ghost use Rattle.dl_print.specs.Counts.{with_unit};
 ghost use Rattle.dl_calls.specs.Sections.{EndsFor};
-ghost use Rattle.dl_calls.specs.Calls.{Checks, order_of};
+ghost use Rattle.dl_calls.specs.Calls.{Checks, dialect_of};
 
 use crate::record::{Counts, FaultRecord};
 use crate::status::Status;
 use crate::stop::Stop;
 use crate::unit::{UnitRead, WholeUnit, offset_of, read_unit};
+use dl_head::Dialect;
 use dl_num::Order;
 use dl_print::Summary;
 use dl_rows::{Flow, Row, RowSink};
@@ -34,11 +35,12 @@ impl RowSink for Tally {
     }
 }
 
-/// The order of a section's numbers.
-pub fn order_of(big: bool) -> Order
-    ensures { result ≡ order_of big }
+/// What is read of a section: units of version 5 alone, in the order of its numbers.
+pub fn dialect_of(big: bool) -> Dialect
+    ensures { result ≡ dialect_of big }
 {
-    if big { Order::Big } else { Order::Little }
+    let order = if big { Order::Big } else { Order::Little };
+    Dialect::version_5(order)
 }
 
 /// Reads all units of a section, and counts them, their sequences and their rows.
@@ -52,9 +54,9 @@ pub fn check(
     counts: &mut Counts,
     fault: &mut FaultRecord,
 ) -> Status
-    ensures { Checks (order_of big) section.now counts.old counts.new fault.old fault.new result }
+    ensures { Checks (dialect_of big) section.now counts.old counts.new fault.old fault.new result }
 {
-    match count(alloc, order_of(big), section) {
+    match count(alloc, dialect_of(big), section) {
         Ok(summary) => {
             *counts = Counts::of(&summary);
             Status::Done
@@ -68,8 +70,8 @@ pub fn check(
 }
 
 /// What the units of a section come to.
-fn count(alloc: Global, order: Order, section: &[u8]) -> Result<Summary, Stop>
-    ensures { EndsFor order section.now result }
+fn count(alloc: Global, dialect: Dialect, section: &[u8]) -> Result<Summary, Stop>
+    ensures { EndsFor dialect section.now result }
 {
     let mut rest = section;
     let mut summary = Summary {
@@ -84,7 +86,7 @@ fn count(alloc: Global, order: Order, section: &[u8]) -> Result<Summary, Stop>
             sequences: 0,
             rows: 0,
         };
-        match read_unit(alloc, order, rest, &mut tally) {
+        match read_unit(alloc, dialect, rest, &mut tally) {
             UnitRead::Whole(unit) => {
                 let len = unit.len;
                 add_unit(&mut summary, unit, &tally);

@@ -1,9 +1,9 @@
 //! The call that writes all units anew.
 
-ghost use Rattle.dl_calls.specs.Calls.{order_of};
+ghost use Rattle.dl_calls.specs.Calls.{dialect_of};
 ghost use Rattle.dl_calls.specs.CopyCalls.{Copies, Puts};
 
-use crate::checking::order_of;
+use crate::checking::dialect_of;
 use crate::record::FaultRecord;
 use crate::room::fill;
 use crate::status::Status;
@@ -25,10 +25,10 @@ pub fn copy(
     len: &mut usize,
     fault: &mut FaultRecord,
 ) -> Status
-    ensures { Copies (order_of big) section.now room.old room.new len.old len.new fault.old fault.new result }
+    ensures { Copies (dialect_of big) section.now room.old room.new len.old len.new fault.old fault.new result }
 {
     let options = Options {
-        order: order_of(big),
+        dialect: dialect_of(big),
         debug_line_str: None,
         debug_str: None,
         limit: SECTION_LIMIT,

@@ -1,13 +1,13 @@
 //! The call that describes the unit at an offset.
 
 ghost use Rattle.std.specs.Prelude.{◌≡◌, ◌≤◌, ℕ, List, drop, length};
-ghost use Rattle.dl_num.specs.declared.fixed.Order.{Order};
+ghost use Rattle.dl_head.specs.declared.dialect.Dialect.{Dialect};
 ghost use Rattle.dl_rows.specs.LineUnit.{unit_rows};
-ghost use Rattle.dl_calls.specs.Calls.{order_of};
+ghost use Rattle.dl_calls.specs.Calls.{dialect_of};
 ghost use Rattle.dl_calls.specs.UnitCalls.{Describes, unit_record};
 ghost use Rattle.dl_calls.specs.UnitReading.{WholeAt};
 
-use crate::checking::{Tally, order_of};
+use crate::checking::{Tally, dialect_of};
 use crate::record::{FaultRecord, UnitRecord};
 use crate::status::Status;
 use crate::unit::{UnitRead, WholeUnit, read_unit, rest_from};
@@ -28,14 +28,14 @@ pub fn unit_at(
     unit: &mut UnitRecord,
     fault: &mut FaultRecord,
 ) -> Status
-    ensures { Describes (order_of big) (drop offset section.now) offset unit.old unit.new fault.old fault.new result }
+    ensures { Describes (dialect_of big) (drop offset section.now) offset unit.old unit.new fault.old fault.new result }
 {
     let bytes = rest_from(section, offset);
     let mut tally = Tally {
         sequences: 0,
         rows: 0,
     };
-    match read_unit(alloc, order_of(big), bytes, &mut tally) {
+    match read_unit(alloc, dialect_of(big), bytes, &mut tally) {
         UnitRead::Whole(whole) => {
             *unit = describe(offset, bytes, &whole, tally.rows);
             Status::Done
@@ -54,8 +54,8 @@ pub fn unit_at(
 /// The unit that the bytes begin with, which was read whole and has as many rows.
 fn describe(offset: u64, bytes: &[u8], whole: &WholeUnit, rows: u64) -> UnitRecord
     requires { whole.now.len ≤ length bytes.now }
-    ensures { (order : Order) (u : List ℕ) → WholeAt order bytes.now whole.now u
-        → rows ≡ length (unit_rows order u) → result ≡ unit_record order offset u }
+    ensures { (dialect : Dialect) (u : List ℕ) → WholeAt dialect bytes.now whole.now u
+        → rows ≡ length (unit_rows dialect u) → result ≡ unit_record dialect offset u }
 {
     let mut unit = UnitRecord {
         offset,

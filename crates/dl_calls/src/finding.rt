@@ -1,16 +1,16 @@
 //! The call that looks one place up.
 
 ghost use Rattle.std.specs.Prelude.{ℕ, List};
-ghost use Rattle.dl_calls.specs.Calls.{order_of};
+ghost use Rattle.dl_calls.specs.Calls.{dialect_of};
 ghost use Rattle.dl_calls.specs.FindCalls.{Finds, Seeks};
 
-use crate::checking::order_of;
+use crate::checking::dialect_of;
 use crate::record::{FaultRecord, RowRecord};
 use crate::status::Status;
 use crate::stop::Stop;
 use crate::unit::{UnitRead, offset_of, read_unit};
+use dl_head::Dialect;
 use dl_look::{Finder, Place};
-use dl_num::Order;
 use dl_rows::{Flow, Row, RowSink};
 use std::alloc::Global;
 use std::mem;
@@ -54,9 +54,9 @@ pub fn find(
     unit: &mut u64,
     fault: &mut FaultRecord,
 ) -> Status
-    ensures { Finds (order_of big) section.now place row.old row.new unit.old unit.new fault.old fault.new result }
+    ensures { Finds (dialect_of big) section.now place row.old row.new unit.old unit.new fault.old fault.new result }
 {
-    match seek(alloc, order_of(big), section, place) {
+    match seek(alloc, dialect_of(big), section, place) {
         Ok(Some(found)) => {
             *row = RowRecord::of(&found.row);
             *unit = found.unit;
@@ -72,15 +72,20 @@ pub fn find(
 }
 
 /// The row of the first unit that answers for the place.
-fn seek(alloc: Global, order: Order, section: &[u8], place: Place) -> Result<Option<Found>, Stop>
-    ensures { Seeks order section.now place result }
+fn seek(
+    alloc: Global,
+    dialect: Dialect,
+    section: &[u8],
+    place: Place,
+) -> Result<Option<Found>, Stop>
+    ensures { Seeks dialect section.now place result }
 {
     let mut rest = section;
     'units: loop {
         let unit = offset_of(section, rest);
         let finder = Finder::new(place);
         let mut seeker = Seeker { finder };
-        match read_unit(alloc, order, rest, &mut seeker) {
+        match read_unit(alloc, dialect, rest, &mut seeker) {
             UnitRead::Whole(whole) => {
                 let len = whole.len;
                 mem::drop(whole);

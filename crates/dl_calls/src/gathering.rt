@@ -4,16 +4,16 @@ ghost use Rattle.std.specs.Prelude.{◌≡◌, ◌==◌, ◌<◌, ◌-◌, ◌^�
 ghost use Rattle.std.specs.Prelude.{Some, None, if◌then◌else◌};
 ghost use Rattle.dl_look.specs.FindersRows.{Stand};
 ghost use Rattle.dl_calls.specs.AllCalls.{EndsWith, FindsAll, place_of_address, placed};
-ghost use Rattle.dl_calls.specs.Calls.{order_of};
+ghost use Rattle.dl_calls.specs.Calls.{dialect_of};
 ghost use Rattle.dl_calls.specs.Gatherers.{Placed, row_after, unit_after};
 
-use crate::checking::order_of;
+use crate::checking::dialect_of;
 use crate::record::{FaultRecord, RowRecord};
 use crate::status::Status;
 use crate::stop::Stop;
 use crate::unit::{UnitRead, offset_of, read_unit};
+use dl_head::Dialect;
 use dl_look::{Answered, Finders, NoMemory, Place};
-use dl_num::Order;
 use dl_rows::{Flow, Row, RowSink};
 use std::alloc::Global;
 use std::mem;
@@ -54,7 +54,7 @@ pub fn find_all(
     units: &mut [u64],
     fault: &mut FaultRecord,
 ) -> Status
-    ensures { FindsAll (order_of big) section.now addresses.now rows.old rows.new units.old units.new fault.old
+    ensures { FindsAll (dialect_of big) section.now addresses.now rows.old rows.new units.old units.new fault.old
         fault.new result }
 {
     if rows.len() != addresses.len() || units.len() != addresses.len() {
@@ -64,7 +64,7 @@ pub fn find_all(
         return Status::NoMemory;
     };
     forget(units);
-    match gather(alloc, order_of(big), section, finders, rows, units) {
+    match gather(alloc, dialect_of(big), section, finders, rows, units) {
         Ok(()) => Status::Done,
         Err(Stop::Damaged { offset, kind }) => {
             *fault = FaultRecord::of(offset, kind);
@@ -93,21 +93,21 @@ fn finders_of(alloc: Global, addresses: &[u64]) -> Result<Finders, NoMemory>
 /// Tells what the units of a section answer, unit by unit.
 fn gather(
     alloc: Global,
-    order: Order,
+    dialect: Dialect,
     section: &[u8],
     finders: Finders,
     rows: &mut [RowRecord],
     units: &mut [u64],
 ) -> Result<(), Stop>
     ensures { (addresses : List ℕ) → Stand finders (map place_of_address addresses) [] []
-        → EndsWith order section.now (λ found. Placed order found addresses rows.old rows.new units.old units.new)
+        → EndsWith dialect section.now (λ found. Placed dialect found addresses rows.old rows.new units.old units.new)
         result }
 {
     let mut rest = section;
     let mut gatherer = Gatherer { finders };
     'units: loop {
         let unit = offset_of(section, rest);
-        match read_unit(alloc, order, rest, &mut gatherer) {
+        match read_unit(alloc, dialect, rest, &mut gatherer) {
             UnitRead::Whole(whole) => {
                 let len = whole.len;
                 mem::drop(whole);

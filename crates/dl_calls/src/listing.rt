@@ -1,10 +1,10 @@
 //! The call that lists the rows of the unit at an offset.
 
 ghost use Rattle.std.specs.Prelude.{drop};
-ghost use Rattle.dl_calls.specs.Calls.{order_of};
+ghost use Rattle.dl_calls.specs.Calls.{dialect_of};
 ghost use Rattle.dl_calls.specs.UnitCalls.{Lists};
 
-use crate::checking::order_of;
+use crate::checking::dialect_of;
 use crate::record::{FaultRecord, RowRecord};
 use crate::status::Status;
 use crate::unit::{UnitRead, read_unit, rest_from};
@@ -50,11 +50,16 @@ pub fn rows_at(
     count: &mut usize,
     fault: &mut FaultRecord,
 ) -> Status
-    ensures { Lists (order_of big) (drop offset section.now) offset rows.old rows.new count.old count.new fault.old
+    ensures { Lists (dialect_of big) (drop offset section.now) offset rows.old rows.new count.old count.new fault.old
         fault.new result }
 {
     let mut room = RowRoom { rows, count: 0 };
-    let read = read_unit(alloc, order_of(big), rest_from(section, offset), &mut room);
+    let read = read_unit(
+        alloc,
+        dialect_of(big),
+        rest_from(section, offset),
+        &mut room,
+    );
     let RowRoom {
         rows: _,
         count: found,

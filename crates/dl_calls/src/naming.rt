@@ -3,16 +3,16 @@
 ghost use Rattle.std.specs.Prelude.{◌≡◌, ◌++◌, ℕ, List, drop, option_map};
 ghost use Rattle.dl_path.specs.Parts.{path_seen};
 ghost use Rattle.dl_path.specs.Paths.{path_of};
-ghost use Rattle.dl_num.specs.declared.fixed.Order.{Order};
+ghost use Rattle.dl_head.specs.declared.dialect.Dialect.{Dialect};
 ghost use Rattle.dl_print.specs.ValueText.{strings_of};
 ghost use Rattle.dl_head.specs.Header.{foreign_in};
 ghost use Rattle.dl_run.specs.Section.{header_of};
-ghost use Rattle.dl_calls.specs.Calls.{order_of};
+ghost use Rattle.dl_calls.specs.Calls.{dialect_of};
 ghost use Rattle.dl_calls.specs.PathCalls.{Names, TellsPath, both_strings, path_or_missing};
 ghost use Rattle.dl_calls.specs.UnitCalls.{length_told, written_over};
 ghost use Rattle.dl_calls.specs.UnitReading.{WholeAt};
 
-use crate::checking::{Tally, order_of};
+use crate::checking::{Tally, dialect_of};
 use crate::record::FaultRecord;
 use crate::room::add;
 use crate::status::Status;
@@ -40,7 +40,7 @@ pub fn path_at(
     len: &mut usize,
     fault: &mut FaultRecord,
 ) -> Status
-    ensures { TellsPath (order_of big) (drop offset section.now) offset (both_strings line_str.now str.now) file
+    ensures { TellsPath (dialect_of big) (drop offset section.now) offset (both_strings line_str.now str.now) file
         path.old path.new len.old len.new fault.old fault.new result }
 {
     let strings = StringSections::new(Some(line_str), Some(str));
@@ -48,7 +48,12 @@ pub fn path_at(
         sequences: 0,
         rows: 0,
     };
-    match read_unit(alloc, order_of(big), rest_from(section, offset), &mut tally) {
+    match read_unit(
+        alloc,
+        dialect_of(big),
+        rest_from(section, offset),
+        &mut tally,
+    ) {
         UnitRead::Whole(whole) => name(&strings, &whole, file, path, len),
         UnitRead::Empty => Status::NoAnswer,
         UnitRead::Stopped => Status::NoAnswer,
@@ -69,8 +74,8 @@ fn name(
     path: &mut [u8],
     len: &mut usize,
 ) -> Status
-    ensures { (order : Order) (t u : List ℕ) → WholeAt order t whole.now u
-        → Names (foreign_in order u) (path_or_missing (path_of (strings_of strings.now) (header_of order u) file))
+    ensures { (dialect : Dialect) (t u : List ℕ) → WholeAt dialect t whole.now u
+        → Names (foreign_in dialect u) (path_or_missing (path_of (strings_of strings.now) (header_of dialect u) file))
         path.old path.new len.old len.new result }
 {
     if whole.version.is_some() {

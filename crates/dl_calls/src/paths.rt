@@ -3,17 +3,17 @@
 ghost use Rattle.std.specs.Prelude.{◌≡◌, ℕ, List, drop};
 ghost use Rattle.std.specs.List.{concat};
 ghost use Rattle.std.specs.Option.{option_copied};
-ghost use Rattle.dl_num.specs.declared.fixed.Order.{Order};
+ghost use Rattle.dl_head.specs.declared.dialect.Dialect.{Dialect};
 ghost use Rattle.dl_print.specs.ValueText.{strings_of};
 ghost use Rattle.dl_head.specs.Header.{foreign_in};
 ghost use Rattle.dl_run.specs.Section.{header_of};
-ghost use Rattle.dl_calls.specs.Calls.{order_of};
+ghost use Rattle.dl_calls.specs.Calls.{dialect_of};
 ghost use Rattle.dl_calls.specs.PathCalls.{both_strings};
 ghost use Rattle.dl_calls.specs.PathsCalls.{NamesAll, TellsPaths, ends_from, paths_of};
 ghost use Rattle.dl_calls.specs.UnitCalls.{length_told, written_over};
 ghost use Rattle.dl_calls.specs.UnitReading.{WholeAt};
 
-use crate::checking::{Tally, order_of};
+use crate::checking::{Tally, dialect_of};
 use crate::naming::join_after;
 use crate::record::FaultRecord;
 use crate::room::put;
@@ -42,7 +42,7 @@ pub fn paths_at(
     ends: &mut [usize],
     fault: &mut FaultRecord,
 ) -> Status
-    ensures { TellsPaths (order_of big) (drop offset section.now) offset (both_strings line_str.now str.now) files.now
+    ensures { TellsPaths (dialect_of big) (drop offset section.now) offset (both_strings line_str.now str.now) files.now
         paths.old paths.new ends.old ends.new fault.old fault.new result }
 {
     let strings = StringSections::new(Some(line_str), Some(str));
@@ -50,7 +50,12 @@ pub fn paths_at(
         sequences: 0,
         rows: 0,
     };
-    match read_unit(alloc, order_of(big), rest_from(section, offset), &mut tally) {
+    match read_unit(
+        alloc,
+        dialect_of(big),
+        rest_from(section, offset),
+        &mut tally,
+    ) {
         UnitRead::Whole(whole) => name_all(&strings, &whole, files, paths, ends),
         UnitRead::Empty => Status::NoAnswer,
         UnitRead::Stopped => Status::NoAnswer,
@@ -71,8 +76,8 @@ fn name_all(
     paths: &mut [u8],
     ends: &mut [usize],
 ) -> Status
-    ensures { (order : Order) (t u : List ℕ) → WholeAt order t whole.now u
-        → NamesAll (foreign_in order u) (paths_of (strings_of strings.now) (header_of order u) files.now) paths.old
+    ensures { (dialect : Dialect) (t u : List ℕ) → WholeAt dialect t whole.now u
+        → NamesAll (foreign_in dialect u) (paths_of (strings_of strings.now) (header_of dialect u) files.now) paths.old
         paths.new ends.old ends.new result }
 {
     if whole.version.is_some() {

@@ -5,8 +5,7 @@ ghost use Rattle.dl_rows.specs.ReaderStands.{StandsFor};
 ghost use Rattle.dl_rows.specs.declared.row.Row.{Row};
 ghost use Rattle.dl_calls.specs.UnitReading.{UnitReads, EndsAt, whole_len};
 
-use dl_head::Fault;
-use dl_num::Order;
+use dl_head::{Dialect, Fault};
 use dl_rows::{Event, Finish, Reader, RowSink};
 use std::alloc::Global;
 
@@ -36,12 +35,17 @@ pub struct WholeUnit {
 }
 
 /// Reads the unit that the bytes begin with, and lets the sink hear its rows.
-pub fn read_unit<S: RowSink>(alloc: Global, order: Order, bytes: &[u8], sink: &mut S) -> UnitRead
+pub fn read_unit<S: RowSink>(
+    alloc: Global,
+    dialect: Dialect,
+    bytes: &[u8],
+    sink: &mut S,
+) -> UnitRead
     ensures within { whole_len result ≤ length bytes.now }
     ensures read { (first : S) (before : List Row) → (S.story first).hears sink.old before
-        → UnitReads (S.story first) order bytes.now before result sink.new }
+        → UnitReads (S.story first) dialect bytes.now before result sink.new }
 {
-    let mut reader = Reader::new(alloc, order);
+    let mut reader = Reader::of(alloc, dialect);
     let mut rest = bytes;
     let mut version = None;
     'events: loop {

@@ -124,18 +124,19 @@ nothing_left false f None e = absurd cc
 nothing_left b f (Some g) e = absurd cc
 
 pub unit_is_read_again : UnitIsReadAgain
-unit_is_read_again order h rows sound row none =
+unit_is_read_again dialect h rows sound row none =
     let count = program_len h.params rows in
-    let program = program_bytes order h.params rows in
+    let program = program_bytes dialect.order h.params rows in
     let t = nothing_left (is_within_limit h count) fault.TooLong (rows_refusal h.params rows) none in
-    let size = length-unit h rows order in
-    let again = program_is_read_again order h.params rows (sound_params h sound) row t.0 in
+    let size = length-unit h rows dialect.order in
+    let again = program_is_read_again dialect.order h.params rows (sound_params h sound) row t.0 in
     let whole =
-    length_is_written order h count program sound t.1 ∙ ap (λ (n : ℕ). let o : Option ℕ = Some n in o) (sym size) in
-    let header = header_is_written order h count sound t.1 in
-    let own : IsOwnUnit order h (operations_in order h.params program).found (unit_of order h rows) = record {
-      its_length = (length_is_computed order (unit_of order h rows)).1 whole;
-      header = header_bytes order h count;
+    length_is_written dialect h count program sound t.1 ∙ ap (λ (n : ℕ). let o : Option ℕ = Some n in o) (sym size) in
+    let header = header_is_written dialect h count sound t.1 in
+    let own : IsOwnUnit dialect h (operations_in dialect.order h.params program).found
+    (unit_of dialect.order h rows) = record {
+      its_length = (length_is_computed dialect (unit_of dialect.order h rows)).1 whole;
+      header = header_bytes dialect.order h count;
       program = program;
       whole = refl;
       spells_header = header;
@@ -144,9 +145,9 @@ unit_is_read_again order h rows sound row none =
     record {
       unit = own;
       events_are =
-          unit_comes_to order h (operations_in order h.params program).found (unit_of order h rows) own
-          ∙ ap (λ (l : List Row). event.Header ∷ map event.Row l) again.same;
+          unit_comes_to dialect h (operations_in dialect.order h.params program).found
+          (unit_of dialect.order h rows) own ∙ ap (λ (l : List Row). event.Header ∷ map event.Row l) again.same;
       whole = whole;
-      header = header_is_found order h (header_bytes order h count) program header;
+      header = header_is_found dialect h (header_bytes dialect.order h count) program header;
       program = again;
     }

@@ -1,4 +1,5 @@
 -- Laws of the definitions of what is written.
+use Rattle.dl_head.specs.declared.dialect.Dialect.{Dialect}
 use Rattle.std.specs.Prelude.{◌≡◌, ◌^◌, ◌<◌, List, [], ◌∷◌, map, length, Some, None}
 use Rattle.std.specs.Int.{w8}
 use Rattle.std.specs.Int.RustNames.{FitsSigned}
@@ -46,16 +47,17 @@ ProgramIsReadAgain =
     → IsReadAgain order h rows
 
 -- the bytes that are written for a header and rows are a unit of this header, and come to it and exactly these rows
-pub record IsUnitAgain (order : Order) (h : HeaderData) (rows : List Row) : Type 0 where
-  pub unit : IsOwnUnit order h (operations_in order h.params (program_bytes order h.params rows)).found
-      (unit_of order h rows)
-  pub events_are : events order (unit_of order h rows) ≡ event.Header ∷ map event.Row rows
-  pub whole : unit_len order (unit_of order h rows) ≡ Some (length (unit_of order h rows))
-  pub header : header_in order (unit_of order h rows) ≡ Some (h, program_bytes order h.params rows)
-  pub program : IsReadAgain order h.params rows
+pub record IsUnitAgain (dialect : Dialect) (h : HeaderData) (rows : List Row) : Type 0 where
+  pub unit : IsOwnUnit dialect h (operations_in dialect.order h.params
+      (program_bytes dialect.order h.params rows)).found
+      (unit_of dialect.order h rows)
+  pub events_are : events dialect (unit_of dialect.order h rows) ≡ event.Header ∷ map event.Row rows
+  pub whole : unit_len dialect (unit_of dialect.order h rows) ≡ Some (length (unit_of dialect.order h rows))
+  pub header : header_in dialect (unit_of dialect.order h rows) ≡ Some (h, program_bytes dialect.order h.params rows)
+  pub program : IsReadAgain dialect.order h.params rows
 
 -- so it is of all units that aren't refused
 abbrev pub UnitIsReadAgain : Type 0
 UnitIsReadAgain =
-    (order : Order) (h : HeaderData) (rows : List Row) → IsSoundHeader h → AllByRecursion IsRow rows
-    → refusal h rows ≡ None → IsUnitAgain order h rows
+    (dialect : Dialect) (h : HeaderData) (rows : List Row) → IsSoundHeader h → AllByRecursion IsRow rows
+    → refusal h rows ≡ None → IsUnitAgain dialect h rows

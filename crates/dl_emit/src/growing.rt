@@ -6,6 +6,7 @@ ghost use Rattle.dl_field.specs.Layout.{standard_params};
 ghost use Rattle.dl_field.specs.Usable.{IsUsable};
 ghost use Rattle.dl_rows.specs.declared.row.Row.{Row};
 ghost use Rattle.dl_emit.specs.Grown.{IsGrown};
+ghost use Rattle.dl_head.specs.Dialect.{version_5};
 ghost use Rattle.dl_emit.specs.Laws.{IsUnitAgain};
 ghost use Rattle.dl_emit.specs.Writing.{WritesUnitHeader};
 
@@ -132,7 +133,7 @@ impl Program {
         ensures written { (rows : List Row) → IsGrown self.now self.now.order header.now.params rows
             → WritesUnitHeader self.now.order header.now rows (W.contents output.old) (W.contents output.new) result }
         ensures readable { (rows : List Row) → IsGrown self.now self.now.order header.now.params rows
-            → OnOk result (IsUnitAgain self.now.order header.now rows) }
+            → OnOk result (IsUnitAgain (version_5 self.now.order) header.now rows) }
     {
         if header.params().opcode_base != 13 {
             return Err(EmitFault::OpcodeBase);

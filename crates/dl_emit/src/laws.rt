@@ -9,7 +9,7 @@ pub fn program_is_read_again()
 {}
 
 /// The unit that is written for a header and rows is read again as a unit of the same header and
-/// rows, in either byte order. Section 6.2.
+/// rows, in every dialect. Section 6.2.
 pub fn unit_is_read_again()
     ensures { UnitIsReadAgain }
 {}

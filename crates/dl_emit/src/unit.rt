@@ -8,6 +8,7 @@ ghost use Rattle.dl_emit.specs.WrittenUnit.{is_in_range as is_in_range_of, rows_
 ghost use Rattle.dl_emit.specs.WrittenUnit.{program_len as program_len_of};
 ghost use Rattle.dl_emit.specs.Gathered.{Gathers};
 ghost use Rattle.dl_emit.specs.Writing.{Measures, WritesUnit};
+ghost use Rattle.dl_head.specs.Dialect.{version_5};
 ghost use Rattle.dl_emit.specs.Laws.{IsRow, IsUnitAgain};
 ghost use Rattle.std.specs.List.{AllByRecursion};
 
@@ -47,7 +48,7 @@ pub fn write_unit<W: Write>(
 ) -> Result<u64, EmitFault>
     ensures written { WritesUnit order header.now rows.now
         (W.contents output.old) (W.contents output.new) result }
-    ensures readable { OnOk result (IsUnitAgain order header.now rows.now) }
+    ensures readable { OnOk result (IsUnitAgain (version_5 order) header.now rows.now) }
 {
     let program_len = program_len(header.params(), rows)?;
     let out = write_header(output, order, header, program_len)?;

@@ -1,7 +1,8 @@
 -- Whether a table of a section of units names `.debug_str`. DWARF 5, sections 6.2.4, 6.2.4.1, 7.4 and 7.5.6.
-use Rattle.std.specs.Prelude.{◌≡◌, ℕ, ◌+◌, ◌≤◌, Bool, true, false, ◌||◌, List, ◌∷◌, ◌++◌, length, drop, Option, Some, None}
+use Rattle.std.specs.Prelude.{◌≡◌, ℕ, ◌+◌, ◌≤◌, Bool, true, false, ◌||◌, List, ◌∷◌, ◌++◌, length, drop, Option, Some}
+use Rattle.std.specs.Prelude.{None}
 use Rattle.std.specs.List.{list_any}
-use Rattle.dl_num.specs.declared.fixed.Order.{Order}
+use Rattle.dl_head.specs.declared.dialect.Dialect.{Dialect}
 use Rattle.dl_table.specs.declared.form.Form.{Form}
 use Rattle.dl_table.specs.declared.form.Form.TheVariants as form
 use Rattle.dl_table.specs.declared.table.Pair.{Pair}
@@ -27,20 +28,20 @@ named_in (Some h) = names_str h
 
 -- The header of a unit in b names the section. The units are cut by their lengths alone: their programs aren't looked
 -- into, and a unit that is cut short is followed by nothing. After a header that isn't one no unit stands.
-pub data Names (order : Order) : List ℕ → Type 0 where
+pub data Names (dialect : Dialect) : List ℕ → Type 0 where
   -- b begins with such a header
-  here : {h : HeaderData} {b : List ℕ} (head back : List ℕ) → b ≡ head ++ back → IsHeader order h head
-      → names_str h ≡ true → Names order b
+  here : {h : HeaderData} {b : List ℕ} (head back : List ℕ) → b ≡ head ++ back → IsHeader dialect h head
+      → names_str h ≡ true → Names dialect b
   -- b begins with a header, and a unit after that one has such a header
-  after : {h : HeaderData} {b : List ℕ} (head back : List ℕ) {len : ℕ} → b ≡ head ++ back → IsHeader order h head
-      → unit_len order head ≡ Some len → Names order (drop len b) → Names order b
+  after : {h : HeaderData} {b : List ℕ} (head back : List ℕ) {len : ℕ} → b ≡ head ++ back → IsHeader dialect h head
+      → unit_len dialect head ≡ Some len → Names dialect (drop len b) → Names dialect b
   -- the same after a unit of another version, which b begins with up to that version
   after_foreign : {b : List ℕ} (head back : List ℕ) {version len : ℕ} → b ≡ head ++ back
-      → foreign_in order head ≡ Some version → unit_len order head ≡ Some len → length head ≤ len
-      → Names order (drop len b) → Names order b
+      → foreign_in dialect head ≡ Some version → unit_len dialect head ≡ Some len → length head ≤ len
+      → Names dialect (drop len b) → Names dialect b
 
 -- with a byte after the first n of b the header of a unit in b holds a cell more, for which memory may be refused
-abbrev pub AddsCellFrom : Order → (n : ℕ) (b : List ℕ) → Type 0
-AddsCellFrom order n b =
+abbrev pub AddsCellFrom : Dialect → (n : ℕ) (b : List ℕ) → Type 0
+AddsCellFrom dialect n b =
     (before : List ℕ) × (front : List ℕ) × (byte : ℕ) × (back : List ℕ) × (b ≡ before ++ (front ++ byte ∷ back))
-    × (n ≤ length before + length front) × AddsCell order front byte
+    × (n ≤ length before + length front) × AddsCell dialect front byte

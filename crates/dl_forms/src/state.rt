@@ -6,8 +6,7 @@ ghost use Rattle.dl_forms.specs.declared.state.State.TheVariants as state;
 ghost use Rattle.dl_forms.specs.Names.{AddsCellFrom, has_strp, is_strp, named_in};
 ghost use Rattle.dl_forms.specs.Standing.{Begins, IsHead, Onward, StandsAt};
 
-use dl_head::{Form, HeadReader, HeadStep, Header, Pair};
-use dl_num::Order;
+use dl_head::{Dialect, Form, HeadReader, HeadStep, Header, Pair};
 use dl_object::NoMemory;
 use std::alloc::Global;
 
@@ -51,8 +50,8 @@ fn is_named(header: Option<&Header>) -> bool
 
 /// Where a walk is after the head of a unit.
 fn after_head(reader: &HeadReader) -> State
-    ensures { (b w : List ℕ) → IsHead reader.now w → Onward reader.now.order b w
-        → StandsAt reader.now.order result b }
+    ensures { (b w : List ℕ) → IsHead reader.now w → Onward reader.now.dialect b w
+        → StandsAt reader.now.dialect result b }
 {
     if is_named(reader.header()) {
         return State::Named;
@@ -67,10 +66,10 @@ fn after_head(reader: &HeadReader) -> State
 fn read_head(reader: HeadReader, piece: &[u8]) -> Result<(State, usize), NoMemory>
     requires { 1 ≤ length piece.now }
     ensures within { IfOk result (λ r. r.1 ≤ length piece.now) }
-    ensures stands { (b u : List ℕ) → Begins reader u → Onward reader.order b u
-        → IfOk result (λ r. (1 ≤ r.1) × StandsAt reader.order r.0 (b ++ take r.1 piece.now)) }
-    ensures memory { (b u : List ℕ) → Begins reader u → Onward reader.order b u
-        → IfErr result (λ error. AddsCellFrom reader.order (length b) (b ++ piece.now)) }
+    ensures stands { (b u : List ℕ) → Begins reader u → Onward reader.dialect b u
+        → IfOk result (λ r. (1 ≤ r.1) × StandsAt reader.dialect r.0 (b ++ take r.1 piece.now)) }
+    ensures memory { (b u : List ℕ) → Begins reader u → Onward reader.dialect b u
+        → IfErr result (λ error. AddsCellFrom reader.dialect (length b) (b ++ piece.now)) }
 {
     let mut reader = reader;
     let (used, step) = reader.offer(piece);
@@ -85,20 +84,20 @@ fn read_head(reader: HeadReader, piece: &[u8]) -> Result<(State, usize), NoMemor
 /// Takes bytes of a section: where the walk is after them, and how many they are.
 pub fn advance(
     alloc: Global,
-    order: Order,
+    dialect: Dialect,
     state: State,
     piece: &[u8],
 ) -> Result<(State, usize), NoMemory>
     requires { 1 ≤ length piece.now }
     ensures within { IfOk result (λ r. r.1 ≤ length piece.now) }
-    ensures stands { (b : List ℕ) → StandsAt order state b
-        → IfOk result (λ r. (1 ≤ r.1) × StandsAt order r.0 (b ++ take r.1 piece.now)) }
-    ensures memory { (b : List ℕ) → StandsAt order state b
-        → IfErr result (λ error. AddsCellFrom order (length b) (b ++ piece.now)) }
+    ensures stands { (b : List ℕ) → StandsAt dialect state b
+        → IfOk result (λ r. (1 ≤ r.1) × StandsAt dialect r.0 (b ++ take r.1 piece.now)) }
+    ensures memory { (b : List ℕ) → StandsAt dialect state b
+        → IfErr result (λ error. AddsCellFrom dialect (length b) (b ++ piece.now)) }
 {
     match state {
         State::Head(reader) => read_head(reader, piece),
-        State::Body(left) => after_body(alloc, order, left, piece),
+        State::Body(left) => after_body(alloc, dialect, left, piece),
         State::Named => Ok((State::Named, piece.len())),
         State::Ended => Ok((State::Ended, piece.len())),
     }
@@ -107,22 +106,22 @@ pub fn advance(
 /// The same after the head of a unit, so many bytes before its end.
 fn after_body(
     alloc: Global,
-    order: Order,
+    dialect: Dialect,
     left: u64,
     piece: &[u8],
 ) -> Result<(State, usize), NoMemory>
     requires { 1 ≤ length piece.now }
     ensures within { IfOk result (λ r. r.1 ≤ length piece.now) }
-    ensures stands { (b : List ℕ) → StandsAt order (state.Body left) b
-        → IfOk result (λ r. (1 ≤ r.1) × StandsAt order r.0 (b ++ take r.1 piece.now)) }
-    ensures memory { (b : List ℕ) → StandsAt order (state.Body left) b
-        → IfErr result (λ error. AddsCellFrom order (length b) (b ++ piece.now)) }
+    ensures stands { (b : List ℕ) → StandsAt dialect (state.Body left) b
+        → IfOk result (λ r. (1 ≤ r.1) × StandsAt dialect r.0 (b ++ take r.1 piece.now)) }
+    ensures memory { (b : List ℕ) → StandsAt dialect (state.Body left) b
+        → IfErr result (λ error. AddsCellFrom dialect (length b) (b ++ piece.now)) }
 {
     if left >= piece.len() as u64 {
         return Ok((State::Body(left - piece.len() as u64), piece.len()));
     }
     let left = left as usize;
-    let Ok((state, used)) = read_head(HeadReader::new(alloc, order), &piece[left..]) else {
+    let Ok((state, used)) = read_head(HeadReader::new(alloc, dialect), &piece[left..]) else {
         return Err(NoMemory);
     };
     Ok((state, left + used))

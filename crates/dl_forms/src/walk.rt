@@ -5,8 +5,7 @@ ghost use Rattle.dl_forms.specs.Names.{AddsCellFrom, Names};
 ghost use Rattle.dl_forms.specs.Standing.{StandsFor};
 
 use crate::state::{State, advance};
-use dl_head::HeadReader;
-use dl_num::Order;
+use dl_head::{Dialect, HeadReader};
 use dl_object::NoMemory;
 use std::alloc::Global;
 
@@ -18,33 +17,33 @@ use std::alloc::Global;
 #[derive(Drop)]
 pub struct StringWalk {
     alloc: Global,
-    order: Order,
+    dialect: Dialect,
     state: State,
 }
 
 impl StringWalk {
-    /// No byte yet of a section whose numbers stand in this order. It takes no memory.
-    pub fn new(alloc: Global, order: Order) -> StringWalk
+    /// No byte yet of a section of this dialect. It takes no memory.
+    pub fn new(alloc: Global, dialect: Dialect) -> StringWalk
         ensures stands { StandsFor result [] }
-        ensures order { result.order ≡ order }
+        ensures dialect { result.dialect ≡ dialect }
     {
         StringWalk {
             alloc,
-            order,
-            state: State::Head(HeadReader::new(alloc, order)),
+            dialect,
+            state: State::Head(HeadReader::new(alloc, dialect)),
         }
     }
 
     /// Takes the next bytes of the section. Where memory is refused for a header, the walk is used up.
     pub fn feed(self, piece: &[u8]) -> Result<StringWalk, NoMemory>
         ensures stands { (b : List ℕ) → StandsFor self b → IfOk result (λ walk. StandsFor walk (b ++ piece.now)) }
-        ensures order { IfOk result (λ walk. walk.order ≡ self.order) }
+        ensures dialect { IfOk result (λ walk. walk.dialect ≡ self.dialect) }
         ensures memory { (b : List ℕ) → StandsFor self b
-            → IfErr result (λ error. AddsCellFrom self.order (length b) (b ++ piece.now)) }
+            → IfErr result (λ error. AddsCellFrom self.dialect (length b) (b ++ piece.now)) }
     {
         let StringWalk {
             alloc,
-            order,
+            dialect,
             mut state,
         } = self;
         let mut at = 0;
@@ -52,7 +51,7 @@ impl StringWalk {
             if at == piece.len() {
                 break;
             }
-            let Ok((next, used)) = advance(alloc, order, state, &piece[at..]) else {
+            let Ok((next, used)) = advance(alloc, dialect, state, &piece[at..]) else {
                 return Err(NoMemory);
             };
             state = next;
@@ -60,14 +59,14 @@ impl StringWalk {
         }
         Ok(StringWalk {
             alloc,
-            order,
+            dialect,
             state,
         })
     }
 
     /// Whether a table of a unit in the bytes taken names the section.
     pub fn names_str(&self) -> bool
-        ensures { (b : List ℕ) → StandsFor self.now b → IsTrue result ↔ Names self.now.order b }
+        ensures { (b : List ℕ) → StandsFor self.now b → IsTrue result ↔ Names self.now.dialect b }
     {
         matches!(self.state, State::Named)
     }
@@ -75,8 +74,8 @@ impl StringWalk {
     /// Whether that is settled, whatever bytes follow.
     pub fn is_over(&self) -> bool
         ensures settled { (b rest : List ℕ) → StandsFor self.now b → IsTrue result
-            → Names self.now.order (b ++ rest) ↔ Names self.now.order b }
-        ensures named { (b : List ℕ) → StandsFor self.now b → Names self.now.order b → IsTrue result }
+            → Names self.now.dialect (b ++ rest) ↔ Names self.now.dialect b }
+        ensures named { (b : List ℕ) → StandsFor self.now b → Names self.now.dialect b → IsTrue result }
     {
         matches!(self.state, State::Named | State::Ended)
     }

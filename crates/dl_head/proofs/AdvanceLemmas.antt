@@ -4,7 +4,7 @@ use Rattle.std.proofs.Common.{slice_index_or, Option, Some, None, refl, sym, ap,
 use Rattle.std.proofs.Common.{length-drop, length-take}
 use Rattle.std.proofs.lemmas.Bool.{leb-true}
 use Rattle.std.proofs.lemmas.List.{length-take-le, take-take, take_more, drop_more}
-use Rattle.dl_num.specs.declared.fixed.Order.{Order}
+use Rattle.dl_head.specs.declared.dialect.Dialect.{Dialect}
 use Rattle.dl_table.specs.declared.fault.FaultKind.{FaultKind}
 use Rattle.dl_field.specs.declared.field_step.FieldStep.{FieldStep}
 use Rattle.dl_field.specs.declared.field_step.FieldStep.TheVariants as byte_makes
@@ -19,7 +19,7 @@ use Rattle.dl_head.specs.Whole.{IsFront, Pushed, Advances}
 use Rattle.dl_head.proofs.ByteCounted.{settled}
 use Rattle.dl_head.proofs.OfferLemmas.{so_far_same}
 use Rattle.dl_head.proofs.OneAnswer.{one_answer}
-use Rattle.dl_head.proofs.OneByteMore.{by_order, live_of, goes_more, within_step, refused_step, unfed_step}
+use Rattle.dl_head.proofs.OneByteMore.{by_dialect, live_of, goes_more, within_step, refused_step, unfed_step}
 use Rattle.dl_head.proofs.SamePlace.{Guards, counted, at_counted}
 use Rattle.dl_head.proofs.TakenBytes.{countable, live_more}
 use Rattle.dl_head.proofs.TurnLemmas.{front_taken}
@@ -33,37 +33,38 @@ one_byte piece n one some = ap (λ (k : ℕ). take k piece) one ∙ take_more pi
 -- ---- what was taken
 
 -- n bytes were taken, and no shorter front came to anything
-taken_bytes : (order : Order) (b piece : List ℕ) (n : ℕ) (result : HeadStep) (fin : HeadReader) → n ≤ length piece
-    → Answers order (b ++ take n piece) result × StandsFor fin (b ++ take n piece)
-    → ((j : ℕ) → j < n → Answers order (b ++ take j piece) answer.More) → Advances order b piece n result fin
-taken_bytes order b piece n result fin le p before = record {
+taken_bytes : (dialect : Dialect) (b piece : List ℕ) (n : ℕ) (result : HeadStep) (fin : HeadReader) → n ≤ length piece
+    → Answers dialect (b ++ take n piece) result × StandsFor fin (b ++ take n piece)
+    → ((j : ℕ) → j < n → Answers dialect (b ++ take j piece) answer.More) → Advances dialect b piece n result fin
+taken_bytes dialect b piece n result fin le p before = record {
   took = record {
     within = le;
-    answers = subst (λ (a : HeadStep). Answers order (b ++ take n piece) a) (sym (so_far_same result fed)) p.0;
+    answers = subst (λ (a : HeadStep). Answers dialect (b ++ take n piece) a) (sym (so_far_same result fed)) p.0;
     before = before;
     unfed = λ e. absurd (fed e);
   };
   stands = p.1;
 } where
   fed : result ≢ answer.NoMemory
-  fed e = subst (λ (a : HeadStep). Answers order (b ++ take n piece) a) e p.0
+  fed e = subst (λ (a : HeadStep). Answers dialect (b ++ take n piece) a) e p.0
 
 -- one byte was taken
-taken_byte : (order : Order) (b piece : List ℕ) (n : ℕ) (result : HeadStep) (fin : HeadReader) → n ≡ 1
-    → 1 ≤ length piece → Answers order b answer.More
-    → Answers order (b ++ slice_index_or piece 0 0 ∷ []) result × StandsFor fin (b ++ slice_index_or piece 0 0 ∷ [])
-    → Advances order b piece n result fin
-taken_byte order b piece n result fin one some more p =
-    taken_bytes order b piece n result fin (omega (arith, one, some))
-    (subst (λ (l : List ℕ). Answers order (b ++ l) result × StandsFor fin (b ++ l)) (sym (one_byte piece n one some)) p)
-    λ j lt. subst (λ (k : ℕ). Answers order (b ++ take k piece) answer.More)
+taken_byte : (dialect : Dialect) (b piece : List ℕ) (n : ℕ) (result : HeadStep) (fin : HeadReader) → n ≡ 1
+    → 1 ≤ length piece → Answers dialect b answer.More
+    → Answers dialect (b ++ slice_index_or piece 0 0 ∷ []) result × StandsFor fin (b ++ slice_index_or piece 0 0 ∷ [])
+    → Advances dialect b piece n result fin
+taken_byte dialect b piece n result fin one some more p =
+    taken_bytes dialect b piece n result fin (omega (arith, one, some))
+    (subst (λ (l : List ℕ). Answers dialect (b ++ l) result × StandsFor fin (b ++ l))
+    (sym (one_byte piece n one some)) p)
+    λ j lt. subst (λ (k : ℕ). Answers dialect (b ++ take k piece) answer.More)
     (let e : 0 ≡ j = omega (arith, one, lt) in e)
-    (subst (λ (l : List ℕ). Answers order l answer.More) (sym (append-nil b)) more)
+    (subst (λ (l : List ℕ). Answers dialect l answer.More) (sym (append-nil b)) more)
 
 -- ---- what the bytes make of the field
 
 module _ (r new : HeadReader) (b piece bytes : List ℕ) (n : ℕ) (result : FieldStep) (front : IsFront r piece bytes)
-    (p : Pushed r bytes n result new) (stands : StandsFor r b) (more : Answers r.order b answer.More) where
+    (p : Pushed r bytes n result new) (stands : StandsFor r b) (more : Answers r.dialect b answer.More) where
   goes : ending r.phase ≡ None
   goes = goes_more r b stands more
 
@@ -118,26 +119,26 @@ module _ (r new : HeadReader) (b piece bytes : List ℕ) (n : ℕ) (result : Fie
 
   pub within_advances : (g : Guards new) (t : ℕ) (last : HeadStep) (fin : HeadReader) → result ≡ byte_makes.Within
       → t ≡ min (new.taken + n) (2 ^ 64 - 1) → Settles (counted new g new.start t) last fin
-      → Advances r.order b piece n last fin
+      → Advances r.dialect b piece n last fin
   within_advances g t last fin is count s =
       let one = one_of byte_makes.Within is (λ e. cc) in
-      taken_byte r.order b piece n last fin one some_piece more
+      taken_byte r.dialect b piece n last fin one some_piece more
       (within_step r new fin g b byte t last live (one_follows byte_makes.Within is (λ e. cc))
       (counts_on t count ∙ ap (λ (k : ℕ). length b + k) one) s)
 
   pub refuses_advances : (g : Guards new) (t : ℕ) (kind : FaultKind) (last : HeadStep) (fin : HeadReader)
       → result ≡ byte_makes.Refuses kind → t ≡ min (new.taken + n) (2 ^ 64 - 1)
-      → Fails (counted new g new.start t) kind last fin → Advances r.order b piece n last fin
+      → Fails (counted new g new.start t) kind last fin → Advances r.dialect b piece n last fin
   refuses_advances g t kind last fin is count f =
       let one = one_of (byte_makes.Refuses kind) is (λ e. cc) in
-      taken_byte r.order b piece n last fin one some_piece more
+      taken_byte r.dialect b piece n last fin one some_piece more
       (refused_step r new fin g b byte t kind last stands live (one_follows (byte_makes.Refuses kind) is (λ e. cc))
       (subst (λ (s : FieldStep). Keeps r s new) is p.kept)
       (counts_on t count ∙ ap (λ (k : ℕ). length b + k) one) f)
 
   pub ends_advances : (g : Guards new) (t : ℕ) (last : HeadStep) (fin : HeadReader) → result ≡ byte_makes.Ends
       → t ≡ min (new.taken + n) (2 ^ 64 - 1) → Settles (counted new g t t) last fin
-      → Advances r.order b piece n last fin
+      → Advances r.dialect b piece n last fin
   ends_advances g t last fin is count s =
       let follows : BytesFollow r (take n piece) byte_makes.Ends new =
       subst (λ (l : List ℕ). BytesFollow r l byte_makes.Ends new) same
@@ -147,28 +148,28 @@ module _ (r new : HeadReader) (b piece bytes : List ℕ) (n : ℕ) (result : Fie
       let total : t ≡ length b + length (take n piece) = counts_on t count ∙ ap (λ (k : ℕ). length b + k) (sym size) in
       let whole = whole_moved r mid b (take n piece) live
       (made.0, made.1, at_counted new g t t new.phase (live.0.items ++ made.0 ∷ []) [] made.2)
-      (follows.cells live.0.items live.0.rest live.0.at) follows.counts.order follows.counts.header total total
+      (follows.cells live.0.items live.0.rest live.0.at) follows.counts.dialect follows.counts.header total total
       (subst (λ (k : ℕ). Below (length b + (k - 1)) r.end) (sym size) (room r.end refl live.0.below)) in
-      taken_bytes r.order b piece n last fin within
-      (by_order r mid fin (b ++ take n piece) last follows.counts.order
+      taken_bytes r.dialect b piece n last fin within
+      (by_dialect r mid fin (b ++ take n piece) last follows.counts.dialect
       (settled mid fin (b ++ take n piece) whole.moved last s))
-      λ j lt. subst (λ (l : List ℕ). Answers r.order (b ++ l) answer.More) (take-take j n piece (omega (arith, lt)))
+      λ j lt. subst (λ (l : List ℕ). Answers r.dialect (b ++ l) answer.More) (take-take j n piece (omega (arith, lt)))
       (whole.more j (omega (arith, lt, size)))
 
-  pub unfed_advances : result ≡ byte_makes.NoMemory → Advances r.order b piece 0 answer.NoMemory new
+  pub unfed_advances : result ≡ byte_makes.NoMemory → Advances r.dialect b piece 0 answer.NoMemory new
   unfed_advances is =
       let u = unfed_step r new b byte goes stands live (one_follows byte_makes.NoMemory is (λ e. cc)) in
       let none = sym (append-nil b) in
       record {
         took = record {
           within = omega arith;
-          answers = subst (λ (l : List ℕ). Answers r.order l answer.More) none more;
+          answers = subst (λ (l : List ℕ). Answers r.dialect l answer.More) none more;
           before = λ j lt. absurd (omega (arith, lt));
           unfed = λ e. (
             byte,
             drop 1 piece,
             (let e : drop 0 piece ≡ byte ∷ drop 1 piece = drop_more piece 0 0 some_piece in e),
-            subst (λ (l : List ℕ). AddsCell r.order l byte) none u.0,
+            subst (λ (l : List ℕ). AddsCell r.dialect l byte) none u.0,
           );
         };
         stands = subst (λ (l : List ℕ). StandsFor new l) none u.1;
@@ -178,23 +179,23 @@ module _ (r new : HeadReader) (b piece bytes : List ℕ) (n : ℕ) (result : Fie
 
 -- `step`, by what `advance` makes of it
 pub steps_one : (r new : HeadReader) (b : List ℕ) (x n : ℕ) (result : HeadStep) → ending r.phase ≡ None → Live r b
-    → Advances r.order b (x ∷ []) n result new → (result ≢ answer.NoMemory → 1 ≤ n) → Steps r.order b x result new
+    → Advances r.dialect b (x ∷ []) n result new → (result ≢ answer.NoMemory → 1 ≤ n) → Steps r.dialect b x result new
 steps_one r new b x n result goes l a some = record {
-  ended = λ q c other. absurd (other (one_answer r.order b q answer.More c (live_more r b goes l)));
+  ended = λ q c other. absurd (other (one_answer r.dialect b q answer.More c (live_more r b goes l)));
   unfed = λ e.
       let u = a.took.unfed e in
       let none : n ≡ 0 = omega (arith, ap length u.2, length-drop n (x ∷ [])) in
       let same : x ∷ [] ≡ u.0 ∷ u.1 = ap (λ (k : ℕ). drop k (x ∷ [])) (sym none) ∙ u.2 in
       let byte : u.0 ≡ x = cc in
       let bytes : b ++ take n (x ∷ []) ≡ b = ap (λ (k : ℕ). b ++ take k (x ∷ [])) none ∙ append-nil b in (
-        subst (λ (y : ℕ). AddsCell r.order b y) byte (subst (λ (w : List ℕ). AddsCell r.order w u.0) bytes u.3),
+        subst (λ (y : ℕ). AddsCell r.dialect b y) byte (subst (λ (w : List ℕ). AddsCell r.dialect w u.0) bytes u.3),
         subst (λ (w : List ℕ). StandsFor new w) bytes a.stands,
       );
   taken = λ more fed.
       let one : n ≡ 1 = omega (arith, some fed, a.took.within) in
       let bytes : b ++ take n (x ∷ []) ≡ b ++ x ∷ [] = ap (λ (k : ℕ). b ++ take k (x ∷ [])) one in (
-        subst (λ (w : List ℕ). Answers r.order w result) bytes
-            (subst (λ (s : HeadStep). Answers r.order (b ++ take n (x ∷ [])) s) (so_far_same result fed)
+        subst (λ (w : List ℕ). Answers r.dialect w result) bytes
+            (subst (λ (s : HeadStep). Answers r.dialect (b ++ take n (x ∷ [])) s) (so_far_same result fed)
             a.took.answers),
         subst (λ (w : List ℕ). StandsFor new w) bytes a.stands,
       );

@@ -2,7 +2,7 @@
 use Rattle.std.proofs.Common.{◌≤◌, ◌≡◌, ◌≢◌, ℕ, ◌+◌, ◌⊎◌, inl, inr, List, [], length, Option, Some, None, refl, sym, ap}
 use Rattle.std.proofs.Common.{subst, ◌∙◌, arith}
 use Rattle.std.proofs.lemmas.Bool.{cases_eq}
-use Rattle.dl_num.specs.declared.fixed.Order.{Order}
+use Rattle.dl_head.specs.declared.dialect.Dialect.{Dialect}
 use Rattle.dl_head.specs.declared.reader.Phase.{Phase}
 use Rattle.dl_head.specs.declared.reader.Phase.TheVariants as phase
 use Rattle.dl_head.specs.declared.reader.HeadReader.{HeadReader}
@@ -26,42 +26,42 @@ use Rattle.dl_head.proofs.HeaderEnds.{end_from, EndsWithin, of_unit, EndIs, end_
 use Rattle.dl_head.proofs.TakenBytes.{IsNext, Place, in_field, in_padding, in_foreign, place_of, live_more, overruns}
 use Rattle.dl_head.proofs.MovedReader.{Moved}
 
-pub same_reader : (r fin : HeadReader) (b : List ℕ) (a result : HeadStep) → Answers r.order b a × StandsFor r b
-    → (result ≡ a) × (fin ≡ r) → Answers r.order b result × StandsFor fin b
+pub same_reader : (r fin : HeadReader) (b : List ℕ) (a result : HeadStep) → Answers r.dialect b a × StandsFor r b
+    → (result ≡ a) × (fin ≡ r) → Answers r.dialect b result × StandsFor fin b
 same_reader r fin b a result s q = (
-  subst (λ (z : HeadStep). Answers r.order b z) (sym q.0) s.0,
+  subst (λ (z : HeadStep). Answers r.dialect b z) (sym q.0) s.0,
   subst (λ (z : HeadReader). StandsFor z b) (sym q.1) s.1,
 )
 
-pub unit_of : (r : HeadReader) (b : List ℕ) (items : List Item) (rest : List ℕ) → cut r.order b ≡ cut_of items rest
-    → EndIs r items → unit_known (end_of_unit r) r.end ≡ unit_len r.order b
+pub unit_of : (r : HeadReader) (b : List ℕ) (items : List Item) (rest : List ℕ) → cut r.dialect b ≡ cut_of items rest
+    → EndIs r items → unit_known (end_of_unit r) r.end ≡ unit_len r.dialect b
 unit_of r b items rest e end = end.unit ∙ sym (ap (λ (c : Cut). unit_end c.items) e)
 
 -- the unit's length is kept
-pub unit_kept : (r fin : HeadReader) (b : List ℕ) → SameUnit r fin → fin.order ≡ r.order
-    → unit_known (end_of_unit r) r.end ≡ unit_len r.order b
-    → unit_known (end_of_unit fin) fin.end ≡ unit_len fin.order b
-unit_kept r fin b same order e =
+pub unit_kept : (r fin : HeadReader) (b : List ℕ) → SameUnit r fin → fin.dialect ≡ r.dialect
+    → unit_known (end_of_unit r) r.end ≡ unit_len r.dialect b
+    → unit_known (end_of_unit fin) fin.end ≡ unit_len fin.dialect b
+unit_kept r fin b same dialect e =
     ap (λ (o : Option ℕ). unit_known (end_of_unit fin) o) same.end
     ∙ ap (λ (n : ℕ). unit_known n r.end)
     (ap (λ (f : Format). initial_size f + fin.unit_length) same.format
     ∙ ap (λ (n : ℕ). initial_size r.params.format + n) same.unit_length)
-    ∙ e ∙ ap (λ (o : Order). unit_len o b) (sym order)
+    ∙ e ∙ ap (λ (d : Dialect). unit_len d b) (sym dialect)
 
 -- b is no longer than its unit
-abbrev pub FitsUnit : Order → List ℕ → Type 0
-FitsUnit order b = (n : ℕ) → unit_len order b ≡ Some n → length b ≤ n
+abbrev pub FitsUnit : Dialect → List ℕ → Type 0
+FitsUnit dialect b = (n : ℕ) → unit_len dialect b ≡ Some n → length b ≤ n
 
-pub fits_kept : (o p : Order) (b : List ℕ) → p ≡ o → FitsUnit o b → FitsUnit p b
-fits_kept o p b same fits = subst (λ (q : Order). FitsUnit q b) (sym same) fits
+pub fits_kept : (d p : Dialect) (b : List ℕ) → p ≡ d → FitsUnit d b → FitsUnit p b
+fits_kept d p b same fits = subst (λ (q : Dialect). FitsUnit q b) (sym same) fits
 
-pub fits_of : (order : Order) (b : List ℕ) (items : List Item) (rest : List ℕ) → cut order b ≡ cut_of items rest
-    → EndsWithin items → UpTo (length b) (end_from items) → FitsUnit order b
-fits_of order b items rest e ends up n unit =
+pub fits_of : (dialect : Dialect) (b : List ℕ) (items : List Item) (rest : List ℕ) → cut dialect b ≡ cut_of items rest
+    → EndsWithin items → UpTo (length b) (end_from items) → FitsUnit dialect b
+fits_of dialect b items rest e ends up n unit =
     of_unit items n (length b) ends up (sym (ap (λ (c : Cut). unit_end c.items) e) ∙ unit)
 
-moved_fits : (r : HeadReader) (b : List ℕ) → Moved r b → FitsUnit r.order b
-moved_fits r b m = fits_of r.order b m.items m.rest m.cut_is m.ends_within
+moved_fits : (r : HeadReader) (b : List ℕ) → Moved r b → FitsUnit r.dialect b
+moved_fits r b m = fits_of r.dialect b m.items m.rest m.cut_is m.ends_within
     (subst (λ (o : Option ℕ). UpTo (length b) o) (end_is r r.phase m.items m.rest m.at).end m.up_to)
 
 below_of : (n : ℕ) (end : Option ℕ) → UpTo n end → end ≢ Some n → Below n end
@@ -75,7 +75,7 @@ below_of n (Some e) le other =
 
 -- the header goes on
 pub goes_on : (r : HeadReader) (b : List ℕ) → ending r.phase ≡ None → Moved r b → r.end ≢ Some r.taken
-    → Answers r.order b answer.More × StandsFor r b
+    → Answers r.dialect b answer.More × StandsFor r b
 goes_on r b goes m other =
     let below = below_of (length b) r.end m.up_to (λ same. other (same ∙ ap (λ (n : ℕ). Some n) (sym m.taken_is))) in
     let live : Live r b = record {
@@ -100,29 +100,29 @@ goes_on r b goes m other =
 
 -- the bytes are refused
 pub failed : (r fin : HeadReader) (b : List ℕ) (kind : FaultKind) (result : HeadStep)
-    → HeaderRefused r.order b r.start kind → Unmade r b → r.taken ≡ length b
-    → unit_known (end_of_unit r) r.end ≡ unit_len r.order b → FitsUnit r.order b → Fails r kind result fin
-    → Answers r.order b result × StandsFor fin b
+    → HeaderRefused r.dialect b r.start kind → Unmade r b → r.taken ≡ length b
+    → unit_known (end_of_unit r) r.end ≡ unit_len r.dialect b → FitsUnit r.dialect b → Fails r kind result fin
+    → Answers r.dialect b result × StandsFor fin b
 failed r fin b kind result refused u taken unit fits f =
     let same = f.2 in (
-      subst (λ (a : HeadStep). Answers r.order b a) (sym f.0) refused,
+      subst (λ (a : HeadStep). Answers r.dialect b a) (sym f.0) refused,
       record {
         stands = subst (λ (o : Option HeadStep). Stands fin o b) (sym (ap ending f.1)) (
-          subst (λ (o : Order). HeaderRefused o b r.start kind) (sym same.counts.order) refused,
+          subst (λ (d : Dialect). HeaderRefused d b r.start kind) (sym same.counts.dialect) refused,
           record {
             header = same.counts.header ∙ u.header;
             cells_are = same.cells ∙ u.cells_are
-                ∙ ap (λ (o : Order). cells o b) (sym same.counts.order);
+                ∙ ap (λ (d : Dialect). cells d b) (sym same.counts.dialect);
           },
         );
         taken = same.counts.taken ∙ taken;
-        unit = unit_kept r fin b same.unit same.counts.order unit;
-        within = fits_kept r.order fin.order b same.counts.order fits;
+        unit = unit_kept r fin b same.unit same.counts.dialect unit;
+        within = fits_kept r.dialect fin.dialect b same.counts.dialect fits;
       },
     )
 
-refused_at : (r : HeadReader) (b : List ℕ) (kind : FaultKind) (m : Moved r b) → header_decided r.order b ≡ Some kind
-    → HeaderRefused r.order b r.start kind
+refused_at : (r : HeadReader) (b : List ℕ) (kind : FaultKind) (m : Moved r b) → header_decided r.dialect b ≡ Some kind
+    → HeaderRefused r.dialect b r.start kind
 refused_at r b kind m decided = record {
   place = ap (λ (c : Cut). r.start + length c.rest) m.cut_is ∙ m.start_is;
   decided = decided;
@@ -131,8 +131,8 @@ refused_at r b kind m decided = record {
 
 -- the bytes end inside a field
 fails_at_end : (r fin : HeadReader) (b : List ℕ) (m : Moved r b) (result : HeadStep)
-    → IsNext (following_all header_layout m.items) → r.end ≡ Some r.taken
-    → Fails r r.overrun result fin → Answers r.order b result × StandsFor fin b
+    → IsNext (following_all (header_layout r.dialect) m.items) → r.end ≡ Some r.taken
+    → Fails r r.overrun result fin → Answers r.dialect b result × StandsFor fin b
 fails_at_end r fin b m result next end f =
     let at = end_is r r.phase m.items m.rest m.at in
     failed r fin b r.overrun result
@@ -143,10 +143,11 @@ fails_at_end r fin b m result next end f =
 -- the header is whole
 pub header_whole : (r : HeadReader) (b : List ℕ) (m : Moved r b)
     → Past r m.items (from_end r.params r.directories r.files) → r.end ≡ Some r.taken
-    → IsHeader r.order (record { params = r.params; directories = r.directories; files = r.files }) b
+    → IsHeader r.dialect (record { params = r.params; directories = r.directories; files = r.files }) b
 header_whole r b m tail end =
-    let s : Sound r.order header_layout b (cut_of m.items m.rest) =
-    subst (λ (c : Cut). Sound r.order header_layout b c) m.cut_is (cut_sound r.order header_layout [] b) in
+    let s : Sound r.dialect.order (header_layout r.dialect) b (cut_of m.items m.rest) =
+    subst (λ (c : Cut). Sound r.dialect.order (header_layout r.dialect) b c) m.cut_is
+    (cut_sound r.dialect.order (header_layout r.dialect) [] b) in
     record {
       items = m.items;
       fields = s.front;
@@ -159,27 +160,28 @@ header_whole r b m tail end =
 
 done : (r fin : HeadReader) (b : List ℕ) (m : Moved r b) (result : HeadStep)
     → Past r m.items (from_end r.params r.directories r.files) → r.end ≡ Some r.taken
-    → (result ≡ answer.Done) × Completes r fin → Answers r.order b result × StandsFor fin b
+    → (result ≡ answer.Done) × Completes r fin → Answers r.dialect b result × StandsFor fin b
 done r fin b m result tail end f =
     let h : HeaderData = record { params = r.params; directories = r.directories; files = r.files } in
     let whole = header_whole r b m tail end in
     let c = f.1 in (
-      subst (λ (a : HeadStep). Answers r.order b a) (sym f.0) (h, whole),
+      subst (λ (a : HeadStep). Answers r.dialect b a) (sym f.0) (h, whole),
       record {
         stands = subst (λ (o : Option HeadStep). Stands fin o b) (sym (ap ending c.phase))
-            (h, c.header, subst (λ (o : Order). IsHeader o h b) (sym c.order) whole);
+            (h, c.header, subst (λ (d : Dialect). IsHeader d h b) (sym c.dialect) whole);
         taken = c.taken ∙ m.taken_is;
-        unit = unit_kept r fin b c.unit c.order
+        unit = unit_kept r fin b c.unit c.dialect
             (unit_of r b m.items m.rest m.cut_is (end_is r r.phase m.items m.rest m.at));
-        within = fits_kept r.order fin.order b c.order (moved_fits r b m);
+        within = fits_kept r.dialect fin.dialect b c.dialect (moved_fits r b m);
       },
     )
 
 foreign : (r fin : HeadReader) (b : List ℕ) (m : Moved r b) (result : HeadStep) (v : ℕ) → r.phase ≡ phase.Foreign v
-    → following_all header_layout m.items ≡ foreign_version v
-    → (result ≡ answer.Foreign v) × (fin ≡ r) → Answers r.order b result × StandsFor fin b
+    → following_all (header_layout r.dialect) m.items ≡ foreign_version v
+    → (result ≡ answer.Foreign v) × (fin ≡ r) → Answers r.dialect b result × StandsFor fin b
 foreign r fin b m result v is follows q =
-    let f : foreign_in r.order b ≡ Some v = ap (λ (c : Cut). foreign_made (following_all header_layout c.items))
+    let f : foreign_in r.dialect b ≡ Some v =
+    ap (λ (c : Cut). foreign_made (following_all (header_layout r.dialect) c.items))
     m.cut_is ∙ ap foreign_made follows in
     same_reader r fin b (answer.Foreign v) result (
       f,
@@ -223,10 +225,10 @@ at_end_or_not r = on r.end refl where
   ]
 
 pub settled : (r fin : HeadReader) (b : List ℕ) (m : Moved r b) (result : HeadStep) → Settles r result fin
-    → Answers r.order b result × StandsFor fin b
+    → Answers r.dialect b result × StandsFor fin b
 settled r fin b m result s = on (place_of r r.phase m.items m.rest refl m.at) (at_end_or_not r) where
   on : Place r r.phase m.items → (r.end ≡ Some r.taken) ⊎ (r.end ≢ Some r.taken)
-      → Answers r.order b result × StandsFor fin b
+      → Answers r.dialect b result × StandsFor fin b
   on (in_field goes out next) (inl end) = fails_at_end r fin b m result next end
       ((settles_field r fin result r.phase goes out s).1 end)
   on (in_field goes out next) (inr other) = same_reader r fin b answer.More result (goes_on r b goes m other)

@@ -2,6 +2,7 @@
 use Rattle.std.proofs.Common.{◌≡◌, ℕ, ◌-◌, Bool, true, false, List, [], ◌∷◌, ◌++◌, length, Some, None, Ok, Err, refl}
 use Rattle.std.proofs.Common.{sym, ap, subst, ◌∙◌, arith}
 use Rattle.dl_num.specs.declared.fixed.Order.{Order}
+use Rattle.dl_head.specs.declared.dialect.Dialect.{Dialect}
 use Rattle.dl_table.specs.declared.form.Format.{Format}
 use Rattle.dl_field.specs.declared.params.Params.{Params}
 use Rattle.dl_head.specs.declared.reader.byte_field.ByteField.{ByteField}
@@ -49,15 +50,15 @@ no_cells order (last_entry h) rest w e = refl
 
 -- ---- by the phase
 
-abbrev pub NoCell : List Item → Type 0
-NoCell items = is_no_cell (following_all header_layout items) ≡ true
+abbrev pub NoCell : Dialect → List Item → Type 0
+NoCell dialect items = is_no_cell (following_all (header_layout dialect) items) ≡ true
 
-pub none_later : (items is : List Item) → items ≡ is → NoCell is → NoCell items
-none_later items is e none = subst NoCell (sym e) none
+pub none_later : (dialect : Dialect) (items is : List Item) → items ≡ is → NoCell dialect is → NoCell dialect items
+none_later dialect items is e none = subst (NoCell dialect) (sym e) none
 
-pub layout_no_cell : (items : List Item) (layout : Layout) → following_all header_layout items ≡ layout
-    → is_no_cell layout ≡ true → NoCell items
-layout_no_cell items layout e none = ap is_no_cell e ∙ none
+pub layout_no_cell : (dialect : Dialect) (items : List Item) (layout : Layout)
+    → following_all (header_layout dialect) items ≡ layout → is_no_cell layout ≡ true → NoCell dialect items
+layout_no_cell dialect items layout e none = ap is_no_cell e ∙ none
 
 byte_no_cell : (f : ByteField) (unit_length : ℕ) (p : Params) → is_no_cell (from_byte f unit_length p) ≡ true
 byte_no_cell field.AddressSize unit_length p = refl
@@ -70,30 +71,32 @@ byte_no_cell field.LineRange unit_length p = refl
 byte_no_cell field.OpcodeBase unit_length p = refl
 
 pub field_no_cell : (r : HeadReader) (f : ByteField) (items : List Item) (rest : List ℕ)
-    → AtPhase r (phase.Byte f) items rest → NoCell items
-field_no_cell r f items rest at = layout_no_cell items (from_byte f r.unit_length r.params)
+    → AtPhase r (phase.Byte f) items rest → NoCell r.dialect items
+field_no_cell r f items rest at = layout_no_cell r.dialect items (from_byte f r.unit_length r.params)
     (byte_follows r f items rest at).0 (byte_no_cell f r.unit_length r.params)
 
 pub length_no_cell : (r : HeadReader) (items : List Item) (rest : List ℕ) → r.phase ≡ phase.OpcodeLength
-    → AtPhase r phase.OpcodeLength items rest → NoCell items
+    → AtPhase r phase.OpcodeLength items rest → NoCell r.dialect items
 length_no_cell r items rest e at =
     let p = r.params in
-    layout_no_cell items _ (at.0.tail.follows ∙ lengths_open p (p.opcode_base - 1 - length p.lengths.items)
+    layout_no_cell r.dialect items _ (at.0.tail.follows ∙ lengths_open p (p.opcode_base - 1 - length p.lengths.items)
     p.lengths.items (some_left r e)) refl
 
 -- ---- what the byte makes
 
 byte_made : (old new : HeadReader) (items : List Item) (rest : List ℕ) (byte : ℕ) (result : FieldStep)
-    → Made old.order items (rest ++ byte ∷ []) result new → BytesMade old items rest (byte ∷ []) result new
+    → Made old.dialect items (rest ++ byte ∷ []) result new → BytesMade old items rest (byte ∷ []) result new
 byte_made old new items rest byte byte_makes.Within made = made
 byte_made old new items rest byte byte_makes.Ends made = made
 byte_made old new items rest byte (byte_makes.Refuses kind) made = made
 byte_made old new items rest byte byte_makes.NoMemory made = absurd made
 
 adds_nothing : (old new : HeadReader) (items : List Item) (rest w : List ℕ) (result : FieldStep)
-    → Made old.order items w result new → field_cells old.order (following_all header_layout items) w
-    ≡ rest_cells (following_all header_layout items) rest
-    → held_cells new ≡ held_cells old → Adds old.order (following_all header_layout items) rest w result
+    → Made old.dialect items w result new → field_cells old.dialect.order
+    (following_all (header_layout old.dialect) items) w
+    ≡ rest_cells (following_all (header_layout old.dialect) items) rest
+    → held_cells new ≡ held_cells old → Adds old.dialect.order
+    (following_all (header_layout old.dialect) items) rest w result
     (held_cells old) (held_cells new)
 adds_nothing old new items rest w byte_makes.Within made same kept = omega (arith, same, kept)
 adds_nothing old new items rest w byte_makes.Ends made same kept = omega (arith, same, kept)
@@ -103,11 +106,13 @@ adds_nothing old new items rest w byte_makes.NoMemory made same kept = absurd ma
 -- a field that is no cell
 pub field_pushed : (old new : HeadReader) (byte : ℕ) (result : FieldStep) → Follows old byte result new
     → held_cells new ≡ held_cells old
-    → ((items : List Item) (rest : List ℕ) → At old items rest → NoCell items) → PushFollows old byte result new
+    → ((items : List Item) (rest : List ℕ) → At old items rest → NoCell old.dialect items)
+    → PushFollows old byte result new
 field_pushed old new byte result follows kept none = record {
   made = λ items rest at. byte_made old new items rest byte result (follows.made items rest at);
   cells = λ items rest at.
       adds_nothing old new items rest (rest ++ byte ∷ []) result (follows.made items rest at)
-      (no_cells old.order (following_all header_layout items) rest (rest ++ byte ∷ []) (none items rest at)) kept;
+      (no_cells old.dialect.order (following_all (header_layout old.dialect) items) rest (rest ++ byte ∷ [])
+      (none items rest at)) kept;
   counts = follows.counts;
 }

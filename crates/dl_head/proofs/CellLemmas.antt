@@ -180,13 +180,13 @@ rest_few (foreign_version v) w = omega arith
 rest_few (last_entry h) w = omega arith
 
 pub few_cells : FewCells
-few_cells order b =
-    let c = cut order b in
-    let s : Sound order header_layout b c = cut_sound order header_layout [] b in
+few_cells dialect b =
+    let c = cut dialect b in
+    let s : Sound dialect.order (header_layout dialect) b c = cut_sound dialect.order (header_layout dialect) [] b in
     omega (
       arith,
-      items_few order header_layout c.items s.front s.spelt,
-      rest_few (following_all header_layout c.items) c.rest,
+      items_few dialect.order (header_layout dialect) c.items s.front s.spelt,
+      rest_few (following_all (header_layout dialect) c.items) c.rest,
       ap length s.whole,
       length-append s.front c.rest,
     )

@@ -1,4 +1,5 @@
 -- Cutting good fields off the front of bytes may stop anywhere and go on, and what is cut off spells the values.
+use Rattle.dl_head.specs.declared.dialect.Dialect.{Dialect}
 use Rattle.std.proofs.Common.{◌≡◌, ℕ, List, [], ◌∷◌, ◌++◌, Some, None, Result, Ok, Err, refl, sym, ap, ◌∙◌}
 use Rattle.std.proofs.Common.{append_assoc, append-nil}
 use Rattle.dl_num.specs.declared.fixed.Order.{Order}
@@ -42,10 +43,10 @@ cut_after-append order layout begun (x ∷ b) c =
     ]
 
 -- what is cut off b ++ c
-pub cut-append : (order : Order) (b c : List ℕ)
-    → cut order (b ++ c) ≡ then_cut (cut order b)
-    (cut_after order (following_all header_layout (cut order b).items) (cut order b).rest c)
-cut-append order b c = cut_after-append order header_layout [] b c
+pub cut-append : (dialect : Dialect) (b c : List ℕ)
+    → cut dialect (b ++ c) ≡ then_cut (cut dialect b)
+    (cut_after dialect.order (following_all (header_layout dialect) (cut dialect b).items) (cut dialect b).rest c)
+cut-append dialect b c = cut_after-append dialect.order (header_layout dialect) [] b c
 
 pub following_all-append : (layout : Layout) (items more : List Item)
     → following_all layout (items ++ more) ≡ following_all (following_all layout items) more
@@ -54,37 +55,39 @@ following_all-append layout (i ∷ items) more = following_all-append (following
 
 -- ---- one byte more
 
-cut_step : (order : Order) (b : List ℕ) (x : ℕ) (items : List Item) (rest : List ℕ) (o : Judgement Item)
-    → cut order b ≡ cut_of items rest
-    → field_spelt order (following_all header_layout items) (rest ++ x ∷ []) ≡ o
-    → cut order (b ++ x ∷ []) ≡ then_cut (cut_of items rest)
-    (cut_on order (following_all header_layout items) (rest ++ x ∷ []) o [])
-cut_step order b x items rest o e f =
-    cut-append order b (x ∷ [])
-    ∙ ap (λ (c : Cut). then_cut c (cut_after order (following_all header_layout c.items) c.rest (x ∷ []))) e
-    ∙ ap (λ o. then_cut (cut_of items rest) (cut_on order (following_all header_layout items) (rest ++ x ∷ []) o [])) f
+cut_step : (dialect : Dialect) (b : List ℕ) (x : ℕ) (items : List Item) (rest : List ℕ) (o : Judgement Item)
+    → cut dialect b ≡ cut_of items rest
+    → field_spelt dialect.order (following_all (header_layout dialect) items) (rest ++ x ∷ []) ≡ o
+    → cut dialect (b ++ x ∷ []) ≡ then_cut (cut_of items rest)
+    (cut_on dialect.order (following_all (header_layout dialect) items) (rest ++ x ∷ []) o [])
+cut_step dialect b x items rest o e f =
+    cut-append dialect b (x ∷ [])
+    ∙ ap (λ (c : Cut). then_cut c (cut_after dialect.order (following_all (header_layout dialect) c.items)
+    c.rest (x ∷ []))) e
+    ∙ ap (λ o. then_cut (cut_of items rest) (cut_on dialect.order (following_all (header_layout dialect) items)
+    (rest ++ x ∷ []) o [])) f
 
 -- a byte within a field
-pub cut_within : (order : Order) (b : List ℕ) (x : ℕ) (items : List Item) (rest : List ℕ)
-    → cut order b ≡ cut_of items rest
-    → field_spelt order (following_all header_layout items) (rest ++ x ∷ []) ≡ None
-    → cut order (b ++ x ∷ []) ≡ cut_of items (rest ++ x ∷ [])
-cut_within order b x items rest e f = cut_step order b x items rest None e f
+pub cut_within : (dialect : Dialect) (b : List ℕ) (x : ℕ) (items : List Item) (rest : List ℕ)
+    → cut dialect b ≡ cut_of items rest
+    → field_spelt dialect.order (following_all (header_layout dialect) items) (rest ++ x ∷ []) ≡ None
+    → cut dialect (b ++ x ∷ []) ≡ cut_of items (rest ++ x ∷ [])
+cut_within dialect b x items rest e f = cut_step dialect b x items rest None e f
     ∙ ap (λ (l : List Item). cut_of l (rest ++ x ∷ [])) (append-nil items)
 
 -- a byte that ends a good field
-pub cut_good : (order : Order) (b : List ℕ) (x : ℕ) (items : List Item) (rest : List ℕ) (i : Item)
-    → cut order b ≡ cut_of items rest
-    → field_spelt order (following_all header_layout items) (rest ++ x ∷ []) ≡ good i
-    → cut order (b ++ x ∷ []) ≡ cut_of (items ++ i ∷ []) []
-cut_good order b x items rest i e f = cut_step order b x items rest (good i) e f
+pub cut_good : (dialect : Dialect) (b : List ℕ) (x : ℕ) (items : List Item) (rest : List ℕ) (i : Item)
+    → cut dialect b ≡ cut_of items rest
+    → field_spelt dialect.order (following_all (header_layout dialect) items) (rest ++ x ∷ []) ≡ good i
+    → cut dialect (b ++ x ∷ []) ≡ cut_of (items ++ i ∷ []) []
+cut_good dialect b x items rest i e f = cut_step dialect b x items rest (good i) e f
 
 -- a byte that ends a bad field
-pub cut_bad : (order : Order) (b : List ℕ) (x : ℕ) (items : List Item) (rest : List ℕ) (kind : FaultKind)
-    → cut order b ≡ cut_of items rest
-    → field_spelt order (following_all header_layout items) (rest ++ x ∷ []) ≡ bad kind
-    → cut order (b ++ x ∷ []) ≡ cut_of items (rest ++ x ∷ [])
-cut_bad order b x items rest kind e f = cut_step order b x items rest (bad kind) e f
+pub cut_bad : (dialect : Dialect) (b : List ℕ) (x : ℕ) (items : List Item) (rest : List ℕ) (kind : FaultKind)
+    → cut dialect b ≡ cut_of items rest
+    → field_spelt dialect.order (following_all (header_layout dialect) items) (rest ++ x ∷ []) ≡ bad kind
+    → cut dialect (b ++ x ∷ []) ≡ cut_of items (rest ++ x ∷ [])
+cut_bad dialect b x items rest kind e f = cut_step dialect b x items rest (bad kind) e f
     ∙ ap (λ (l : List Item). cut_of l (rest ++ x ∷ [])) (append-nil items)
 
 -- ---- fields are cut off, whatever follows

@@ -53,18 +53,19 @@ long_bad n big = rw (lt-leb n unit_length_limit (omega (arith, big))) refl
 -- the initial length is whole, and the unit starts or is too long
 pub started : (old new : HeadReader) (format : Format) (n : ℕ) (items : List Item) (w : List ℕ) (result : FieldStep)
     (o : Judgement Item) → AtStart old items
-    → initial_length_spelt old.order w ≡ o → (n ≤ unit_length_limit → o ≡ good (length_is format n))
+    → initial_length_spelt old.dialect.order w ≡ o → (n ≤ unit_length_limit → o ≡ good (length_is format n))
     → (unit_length_limit + 1 ≤ n → o ≡ bad fault.UnitTooLong)
-    → Starts old format n result new → Made old.order items w result new
+    → Starts old format n result new → Made old.dialect items w result new
 started old new format n items w byte_makes.Ends o at spelt fine long s =
     let start : AtStart old [] = subst (λ (l : List Item). AtStart old l) at.none at in (
       length_is format n,
-      ap (λ (l : List Item). field_spelt old.order (following_all header_layout l) w) at.none ∙ spelt ∙ fine s.0,
+      ap (λ (l : List Item). field_spelt old.dialect.order (following_all (header_layout old.dialect) l) w) at.none
+      ∙ spelt ∙ fine s.0,
       subst (λ (l : List Item). At new (l ++ length_is format n ∷ []) []) (sym at.none) (s.1 start),
     )
 started old new format n items w (byte_makes.Refuses kind) o at spelt fine long s =
-    ap (λ (l : List Item). field_spelt old.order (following_all header_layout l) w) at.none ∙ spelt ∙ long s.0
-    ∙ ap (λ (k : FaultKind). bad k) (sym s.1)
+    ap (λ (l : List Item). field_spelt old.dialect.order (following_all (header_layout old.dialect) l) w) at.none
+    ∙ spelt ∙ long s.0 ∙ ap (λ (k : FaultKind). bad k) (sym s.1)
 started old new format n items w byte_makes.Within o at spelt fine long s = absurd s
 started old new format n items w byte_makes.NoMemory o at spelt fine long s = absurd s
 
@@ -77,38 +78,43 @@ starts_counts old new format n byte_makes.NoMemory s = absurd s
 
 pub started_short : (old new : HeadReader) (n : ℕ) (items : List Item) (w : List ℕ) (result : FieldStep)
     → AtStart old items
-    → length w ≡ 4 → n ≡ fixed old.order w → n < 0xfffffff0 → Starts old Dwarf32 n result new
-    → Made old.order items w result new
+    → length w ≡ 4 → n ≡ fixed old.dialect.order w → n < 0xfffffff0 → Starts old Dwarf32 n result new
+    → Made old.dialect items w result new
 started_short old new n items w result at four is lt s =
-    started old new Dwarf32 n items w result (short_length n) at (short_spelt old.order w n four is) (short_good n lt)
+    started old new Dwarf32 n items w result (short_length n) at (short_spelt old.dialect.order w n four is)
+    (short_good n lt)
     (short_bad n lt) s
 
 pub started_long : (old new : HeadReader) (n : ℕ) (items : List Item) (rest number : List ℕ) (byte : ℕ)
-    (result : FieldStep) → AtStart old items → InLong old.order rest number
-    → length (number ++ byte ∷ []) ≡ 8 → n ≡ fixed old.order (number ++ byte ∷ [])
-    → Starts old Dwarf64 n result new → Made old.order items (rest ++ byte ∷ []) result new
+    (result : FieldStep) → AtStart old items → InLong old.dialect.order rest number
+    → length (number ++ byte ∷ []) ≡ 8 → n ≡ fixed old.dialect.order (number ++ byte ∷ [])
+    → Starts old Dwarf64 n result new → Made old.dialect items (rest ++ byte ∷ []) result new
 started_long old new n items rest number byte result at long eight is s =
     started old new Dwarf64 n items (rest ++ byte ∷ []) result (long_length n) at
-    (ap (λ (v : List ℕ). initial_length_spelt old.order v)
+    (ap (λ (v : List ℕ). initial_length_spelt old.dialect.order v)
     (ap (λ (v : List ℕ). v ++ byte ∷ []) long.whole ∙ append_assoc long.escape number (byte ∷ []))
-    ∙ long_spelt old.order long.escape (number ++ byte ∷ []) n long.size long.value eight is) (long_good n) (long_bad n)
+    ∙ long_spelt old.dialect.order long.escape (number ++ byte ∷ []) n long.size long.value eight is)
+    (long_good n) (long_bad n)
     s
 
 -- ---- version
 
 pub version_spelt : (r : HeadReader) (items : List Item) (rest : List ℕ) (first byte n : ℕ) → items ≡ length_item r ∷ []
     → rest ≡ first ∷ []
-    → n ≡ fixed r.order (first ∷ byte ∷ []) → field_spelt r.order (following_all header_layout items)
+    → n ≡ fixed r.dialect.order (first ∷ byte ∷ [])
+    → field_spelt r.dialect.order (following_all (header_layout r.dialect) items)
     (rest ++ byte ∷ []) ≡ good (number_is n)
 version_spelt r items rest first byte n is one e =
-    ap (λ (l : List Item). field_spelt r.order (following_all header_layout l) (rest ++ byte ∷ [])) is
-    ∙ ap (λ (w : List ℕ). field_spelt r.order (following_all header_layout (length_item r ∷ [])) (w ++ byte ∷ [])) one
-    ∙ ap (λ (k : ℕ). good (number_is k)) (sym e)
+    ap (λ (l : List Item). field_spelt r.dialect.order (following_all (header_layout r.dialect) l)
+    (rest ++ byte ∷ [])) is
+    ∙ ap (λ (w : List ℕ). field_spelt r.dialect.order (following_all (header_layout r.dialect) (length_item r ∷ []))
+    (w ++ byte ∷ [])) one ∙ ap (λ (k : ℕ). good (number_is k)) (sym e)
 
 pub foreign_follows : (r : HeadReader) (items : List Item) (n : ℕ) → items ≡ length_item r ∷ [] → n ≢ 5
-    → following_all header_layout (items ++ number_is n ∷ []) ≡ foreign_version n
+    → following_all (header_layout r.dialect) (items ++ number_is n ∷ []) ≡ foreign_version n
 foreign_follows r items n is other =
-    ap (λ (l : List Item). following_all header_layout (l ++ number_is n ∷ [])) is ∙ rw (ne_eqb n 5 other) refl
+    ap (λ (l : List Item). following_all (header_layout r.dialect) (l ++ number_is n ∷ [])) is
+    ∙ rw (ne_eqb n 5 other) refl
 
 pub items_on : (items is : List Item) (i j : Item) → items ≡ is → i ≡ j → items ++ i ∷ [] ≡ is ++ j ∷ []
 items_on items is i j e f = ap (λ (l : List Item). l ++ i ∷ []) e ∙ ap (λ (k : Item). is ++ k ∷ []) f
@@ -116,35 +122,38 @@ items_on items is i j e f = ap (λ (l : List Item). l ++ i ∷ []) e ∙ ap (λ 
 -- ---- header_length
 
 pub header_length_spelt : (r : HeadReader) (items : List Item) (w : List ℕ) (n : ℕ) → items ≡ before_header_length r
-    → length w ≡ offset_size r.params.format → n ≡ fixed r.order w
-    → field_spelt r.order (following_all header_layout items) w
+    → length w ≡ offset_size r.params.format → n ≡ fixed r.dialect.order w
+    → field_spelt r.dialect.order (following_all (header_layout r.dialect) items) w
     ≡ judged (objection (header_length r.params.format (r.unit_length - fixed_part r.params.format)) n) n
 header_length_spelt r items w n is size e =
-    ap (λ (l : List Item). field_spelt r.order (following_all header_layout l) w) is
+    ap (λ (l : List Item). field_spelt r.dialect.order (following_all (header_layout r.dialect) l) w) is
     ∙ rw (eq-eqb _ _ size, ← e) refl
 
 pub header_length_good : (r : HeadReader) (items : List Item) (w : List ℕ) (n : ℕ) → items ≡ before_header_length r
-    → length w ≡ offset_size r.params.format → n ≡ fixed r.order w → n ≤ r.unit_length - fixed_part r.params.format
-    → field_spelt r.order (following_all header_layout items) w ≡ good (number_is n)
+    → length w ≡ offset_size r.params.format → n ≡ fixed r.dialect.order w
+    → n ≤ r.unit_length - fixed_part r.params.format
+    → field_spelt r.dialect.order (following_all (header_layout r.dialect) items) w ≡ good (number_is n)
 header_length_good r items w n is size e le = header_length_spelt r items w n is size e
     ∙ rw (le-leb n (r.unit_length - fixed_part r.params.format) le) refl
 
 pub header_length_bad : (r : HeadReader) (items : List Item) (w : List ℕ) (n : ℕ) → items ≡ before_header_length r
-    → length w ≡ offset_size r.params.format → n ≡ fixed r.order w → r.unit_length - fixed_part r.params.format + 1 ≤ n
-    → field_spelt r.order (following_all header_layout items) w ≡ bad fault.HeaderBeyondUnit
+    → length w ≡ offset_size r.params.format → n ≡ fixed r.dialect.order w
+    → r.unit_length - fixed_part r.params.format + 1 ≤ n
+    → field_spelt r.dialect.order (following_all (header_layout r.dialect) items) w ≡ bad fault.HeaderBeyondUnit
 header_length_bad r items w n is size e lt = header_length_spelt r items w n is size e
     ∙ rw (lt-leb n (r.unit_length - fixed_part r.params.format) (omega (arith, lt))) refl
 
 -- header_length is the fifth value
 pub header_length_late : (r new : HeadReader) (items : List Item) (n : ℕ) → Early r items (before_header_length r)
-    → following_all header_layout (before_header_length r ++ number_is n ∷ []) ≡ from_minimum_length new.params
-    → end_of_unit new ≡ end_of_unit r
+    → following_all (header_layout r.dialect) (before_header_length r ++ number_is n ∷ [])
+    ≡ from_minimum_length new.params → end_of_unit new ≡ end_of_unit r
     → new.end ≡ Some (initial_size r.params.format + fixed_part r.params.format + n) → new.overrun ≡ fault.HeaderOverrun
     → IsFresh new.table
     → Late new (items ++ number_is n ∷ []) (from_minimum_length new.params)
 header_length_late r new items n early follows unit end overrun fresh = record {
   tail = record {
-    follows = ap (λ (k : List Item). following_all header_layout (k ++ number_is n ∷ [])) early.items_are ∙ follows;
+    follows = ap (λ (k : List Item). following_all (header_layout r.dialect) (k ++ number_is n ∷ []))
+        early.items_are ∙ follows;
     unit = ap (λ (k : List Item). unit_end (k ++ number_is n ∷ [])) early.items_are ∙ ap (λ (k : ℕ). Some k) (sym unit);
     header = initial_size r.params.format + fixed_part r.params.format + n;
     header_ends = ap (λ (k : List Item). header_end (k ++ number_is n ∷ [])) early.items_are;
@@ -157,8 +166,8 @@ header_length_late r new items n early follows unit end overrun fresh = record {
 -- header_length is whole
 pub started_header : (old new : HeadReader) (n : ℕ) (items : List Item) (w : List ℕ) (result : FieldStep)
     → Early old items (before_header_length old)
-    → length w ≡ offset_size old.params.format → n ≡ fixed old.order w → StartsHeader old n result new
-    → Made old.order items w result new
+    → length w ≡ offset_size old.params.format → n ≡ fixed old.dialect.order w → StartsHeader old n result new
+    → Made old.dialect items w result new
 started_header old new n items w byte_makes.Ends early size is s =
     (number_is n, header_length_good old items w n early.items_are size is s.0, s.1 items early)
 started_header old new n items w (byte_makes.Refuses kind) early size is s =

@@ -1,4 +1,5 @@
 -- The fields up to header_length: their values and sizes, and that version 5 leads to no foreign unit.
+use Rattle.dl_head.specs.declared.dialect.Dialect.{Dialect}
 use Rattle.std.proofs.Common.{◌≡◌, ◌≢◌, ℕ, zero, suc, ◌+◌, ◌-◌, ◌≤◌, if◌then◌else◌, ◌==◌, List, [], ◌∷◌, ◌++◌, length}
 use Rattle.std.proofs.Common.{drop, Option, Some, None, Ok, Err, refl, sym, ap, subst, ◌∙◌, arith, inl, inr}
 use Rattle.std.proofs.Common.{length-append}
@@ -262,19 +263,26 @@ five_same : {i j k l m i2 j2 k2 l2 m2 : Item} (more : List Item) → i ≡ i2 �
     → (i ∷ j ∷ k ∷ l ∷ m ∷ more) ≡ (i2 ∷ j2 ∷ k2 ∷ l2 ∷ m2 ∷ more)
 five_same more a b c d e = cc
 
-pub opening : (order : Order) (i j k l m : Item) (more : List Item) (w : List ℕ)
-    → SpellsFields order header_layout (i ∷ j ∷ k ∷ l ∷ m ∷ more) w → Opening order (i ∷ j ∷ k ∷ l ∷ m ∷ more) w
-opening order i j k l m more w s =
-    let a = is_length order s.0 i s.3 in
-    let first : SpellsFields order (number_then version (after_length a.format a.number)) (j ∷ k ∷ l ∷ m ∷ more) s.1 =
-    subst (λ (x : Item). SpellsFields order (following header_layout x) (j ∷ k ∷ l ∷ m ∷ more) s.1) a.item s.4 in
-    let b = numbered order version (after_length a.format a.number) 2 refl j (k ∷ l ∷ m ∷ more) s.1 first in
-    let five : b.number ≡ 5 = own_version order a.format a.number b.number k (l ∷ m ∷ more) b.rest b.spelt in
-    let second : SpellsFields order (from_address_size a.number (format_alone a.format)) (k ∷ l ∷ m ∷ more) b.rest =
-    subst (λ (v : ℕ). SpellsFields order (after_length a.format a.number v) (k ∷ l ∷ m ∷ more) b.rest) five b.spelt in
-    let c = numbered order address_size (after_address a.format a.number) 1 refl k (l ∷ m ∷ more) b.rest second in
-    let d = numbered order any_byte (after_segment a.format a.number c.number) 1 refl l (m ∷ more) c.rest c.spelt in
-    let e = numbered order (header_length a.format (a.number - fixed_part a.format))
+pub opening : (dialect : Dialect) (i j k l m : Item) (more : List Item) (w : List ℕ)
+    → SpellsFields dialect.order (header_layout dialect) (i ∷ j ∷ k ∷ l ∷ m ∷ more) w
+    → Opening dialect.order (i ∷ j ∷ k ∷ l ∷ m ∷ more) w
+opening dialect i j k l m more w s =
+    let a = is_length dialect.order s.0 i s.3 in
+    let first : SpellsFields dialect.order (number_then version (after_length a.format a.number))
+    (j ∷ k ∷ l ∷ m ∷ more) s.1 =
+    subst (λ (x : Item). SpellsFields dialect.order (following (header_layout dialect) x) (j ∷ k ∷ l ∷ m ∷ more)
+    s.1) a.item s.4 in
+    let b = numbered dialect.order version (after_length a.format a.number) 2 refl j (k ∷ l ∷ m ∷ more) s.1 first in
+    let five : b.number ≡ 5 = own_version dialect.order a.format a.number b.number k (l ∷ m ∷ more) b.rest b.spelt in
+    let second : SpellsFields dialect.order (from_address_size a.number (format_alone a.format))
+    (k ∷ l ∷ m ∷ more) b.rest =
+    subst (λ (v : ℕ). SpellsFields dialect.order (after_length a.format a.number v) (k ∷ l ∷ m ∷ more) b.rest)
+    five b.spelt in
+    let c = numbered dialect.order address_size (after_address a.format a.number) 1 refl k (l ∷ m ∷ more)
+    b.rest second in
+    let d = numbered dialect.order any_byte (after_segment a.format a.number c.number) 1 refl l (m ∷ more)
+    c.rest c.spelt in
+    let e = numbered dialect.order (header_length a.format (a.number - fixed_part a.format))
     (after_header a.format c.number d.number) (offset_size a.format) refl m more d.rest d.spelt in
     let whole = ap length s.2 ∙ length-append s.0 s.1 in
     let size : length s.0 ≡ initial_size a.format = a.size in
@@ -308,11 +316,12 @@ few_end (length_is f n) (a ∷ b ∷ c ∷ []) h = refl
 few_end (length_is f n) (a ∷ b ∷ c ∷ d ∷ items) h = absurd (omega arith)
 
 -- where a header's end is known, its first five fields are read
-pub opening_of : (order : Order) (items : List Item) (w : List ℕ) (end : ℕ) → SpellsFields order header_layout items w
-    → header_end items ≡ Some end → Opening order items w
-opening_of order [] w end s e = absurd (none_some refl e)
-opening_of order (i ∷ []) w end s e = absurd (none_some (few_end i [] (omega arith)) e)
-opening_of order (i ∷ j ∷ []) w end s e = absurd (none_some (few_end i (j ∷ []) (omega arith)) e)
-opening_of order (i ∷ j ∷ k ∷ []) w end s e = absurd (none_some (few_end i (j ∷ k ∷ []) (omega arith)) e)
-opening_of order (i ∷ j ∷ k ∷ l ∷ []) w end s e = absurd (none_some (few_end i (j ∷ k ∷ l ∷ []) (omega arith)) e)
-opening_of order (i ∷ j ∷ k ∷ l ∷ m ∷ more) w end s e = opening order i j k l m more w s
+pub opening_of : (dialect : Dialect) (items : List Item) (w : List ℕ) (end : ℕ)
+    → SpellsFields dialect.order (header_layout dialect) items w
+    → header_end items ≡ Some end → Opening dialect.order items w
+opening_of dialect [] w end s e = absurd (none_some refl e)
+opening_of dialect (i ∷ []) w end s e = absurd (none_some (few_end i [] (omega arith)) e)
+opening_of dialect (i ∷ j ∷ []) w end s e = absurd (none_some (few_end i (j ∷ []) (omega arith)) e)
+opening_of dialect (i ∷ j ∷ k ∷ []) w end s e = absurd (none_some (few_end i (j ∷ k ∷ []) (omega arith)) e)
+opening_of dialect (i ∷ j ∷ k ∷ l ∷ []) w end s e = absurd (none_some (few_end i (j ∷ k ∷ l ∷ []) (omega arith)) e)
+opening_of dialect (i ∷ j ∷ k ∷ l ∷ m ∷ more) w end s e = opening dialect i j k l m more w s

@@ -1,4 +1,5 @@
 -- A foreign version stays that of its unit.
+use Rattle.dl_head.specs.declared.dialect.Dialect.{Dialect}
 use Rattle.std.proofs.Common.{◌≡◌, ℕ, List, [], ◌∷◌, ◌++◌, Some, refl, ap, ◌∙◌, append-nil}
 use Rattle.dl_num.specs.declared.fixed.Order.{Order}
 use Rattle.dl_field.specs.Layout.{Layout, foreign_version, Item, following_all}
@@ -13,15 +14,16 @@ no_items : (order : Order) (version : ℕ) (begun b : List ℕ)
 no_items order version begun [] = refl
 no_items order version begun (x ∷ b) = no_items order version (begun ++ x ∷ []) b
 
-pub foreign_on : (order : Order) (b u : List ℕ) (version : ℕ) → foreign_in order b ≡ Some version
-    → foreign_in order (b ++ u) ≡ Some version
-foreign_on order b u version foreign =
-    let items = (cut order b).items in
-    let last = foreign_last (following_all header_layout items) version foreign in
-    let none : (cut_after order (following_all header_layout items) (cut order b).rest u).items ≡ [] =
-    ap (λ (l : Layout). (cut_after order l (cut order b).rest u).items) last
-    ∙ no_items order version (cut order b).rest u in
-    ap (λ (c : Cut). foreign_made (following_all header_layout c.items)) (cut-append order b u)
-    ∙ ap (λ (l : List Item). foreign_made (following_all header_layout (items ++ l))) none
-    ∙ ap (λ (l : List Item). foreign_made (following_all header_layout l)) (append-nil items)
+pub foreign_on : (dialect : Dialect) (b u : List ℕ) (version : ℕ) → foreign_in dialect b ≡ Some version
+    → foreign_in dialect (b ++ u) ≡ Some version
+foreign_on dialect b u version foreign =
+    let items = (cut dialect b).items in
+    let last = foreign_last (following_all (header_layout dialect) items) version foreign in
+    let none : (cut_after dialect.order (following_all (header_layout dialect) items) (cut dialect b).rest
+    u).items ≡ [] =
+    ap (λ (l : Layout). (cut_after dialect.order l (cut dialect b).rest u).items) last
+    ∙ no_items dialect.order version (cut dialect b).rest u in
+    ap (λ (c : Cut). foreign_made (following_all (header_layout dialect) c.items)) (cut-append dialect b u)
+    ∙ ap (λ (l : List Item). foreign_made (following_all (header_layout dialect) (items ++ l))) none
+    ∙ ap (λ (l : List Item). foreign_made (following_all (header_layout dialect) l)) (append-nil items)
     ∙ foreign

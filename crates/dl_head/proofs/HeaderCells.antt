@@ -1,4 +1,5 @@
 -- The fields of a header hold the cells of its tables.
+use Rattle.dl_head.specs.declared.dialect.Dialect.{Dialect}
 use Rattle.std.proofs.Common.{◌≡◌, ℕ, zero, suc, ◌+◌, ◌-◌, ◌≤◌, List, [], ◌∷◌, ◌++◌, length, Option, Some, None, Ok}
 use Rattle.std.proofs.Common.{refl, ap, subst, ◌∙◌, arith, inl, inr, length-append, sum_by}
 use Rattle.std.proofs.lemmas.Bool.{cases_eq, ne_eqb}
@@ -230,34 +231,34 @@ fields_hold order h unit_length p =
     number_holds order h _ _ λ address. number_holds order h _ _ λ segment. number_holds order h _ _ λ header.
     late_hold order h (record p { address_size = address; segment_selector_size = segment })
 
-header_holds : (order : Order) (h : HeaderData) (items : List Item) → Makes order h header_layout items
-    → sum_by item_cells items ≡ header_cells h
-header_holds order h [] m = absurd (none_made m.made)
-header_holds order h (i ∷ items) m =
-    let a = is_length order m.spelt.0 i m.spelt.3 in
-    let rest : Makes order h (following header_layout i) items =
+header_holds : (dialect : Dialect) (h : HeaderData) (items : List Item)
+    → Makes dialect.order h (header_layout dialect) items → sum_by item_cells items ≡ header_cells h
+header_holds dialect h [] m = absurd (none_made m.made)
+header_holds dialect h (i ∷ items) m =
+    let a = is_length dialect.order m.spelt.0 i m.spelt.3 in
+    let rest : Makes dialect.order h (following (header_layout dialect) i) items =
     record { bytes = m.spelt.1; spelt = m.spelt.4; made = m.made } in
-    let next : Makes order h (number_then version (after_length a.format a.number)) items =
-    subst (λ (j : Item). Makes order h (following header_layout j) items) a.item rest in
-    let v = after_number order h version (after_length a.format a.number) items next in
-    let five : v.0 ≡ 5 = own order h a.format a.number v.0 v.1.later v.1.makes in
-    let fields : Makes order h (from_address_size a.number (format_alone a.format)) v.1.later =
-    subst (λ (n : ℕ). Makes order h (after_length a.format a.number n) v.1.later) five v.1.makes in
+    let next : Makes dialect.order h (number_then version (after_length a.format a.number)) items =
+    subst (λ (j : Item). Makes dialect.order h (following (header_layout dialect) j) items) a.item rest in
+    let v = after_number dialect.order h version (after_length a.format a.number) items next in
+    let five : v.0 ≡ 5 = own dialect.order h a.format a.number v.0 v.1.later v.1.makes in
+    let fields : Makes dialect.order h (from_address_size a.number (format_alone a.format)) v.1.later =
+    subst (λ (n : ℕ). Makes dialect.order h (after_length a.format a.number n) v.1.later) five v.1.makes in
     omega (
       arith,
       sum_by-cons item_cells i items,
       ap item_cells a.item,
       v.1.sum,
-      fields_hold order h a.number (format_alone a.format) v.1.later fields,
+      fields_hold dialect.order h a.number (format_alone a.format) v.1.later fields,
     )
 
 pub header_holds_its_cells : HeaderHoldsItsCells
-header_holds_its_cells order h w v is =
+header_holds_its_cells dialect h w v is =
     let sum : sum_by item_cells is.items ≡ header_cells h =
-    header_holds order h is.items (record { bytes = is.fields; spelt = is.spelt; made = is.made }) in
-    let rest : rest_cells (following_all header_layout is.items) (is.padding ++ v) ≡ 0 =
+    header_holds dialect h is.items (record { bytes = is.fields; spelt = is.spelt; made = is.made }) in
+    let rest : rest_cells (following_all (header_layout dialect) is.items) (is.padding ++ v) ≡ 0 =
     ap (λ (l : Layout). rest_cells l (is.padding ++ v)) (made_last _ h is.made) in
-    let few = items_few order header_layout is.items is.fields is.spelt in (
-      ap cut_cells (header_cut order h w v is) ∙ omega (arith, sum, rest),
+    let few = items_few dialect.order (header_layout dialect) is.items is.fields is.spelt in (
+      ap (cut_cells dialect) (header_cut dialect h w v is) ∙ omega (arith, sum, rest),
       omega (arith, sum, few, ap length is.whole, length-append is.fields is.padding),
     )

@@ -2,7 +2,7 @@
 use Rattle.std.proofs.Common.{◌<◌, ◌≡◌, ℕ, ◌+◌, ◌≤◌, List, [], ◌∷◌, ◌++◌, length, Option, Some, None, refl, sym, ap}
 use Rattle.std.proofs.Common.{subst, ◌∙◌, arith, length-append, append-nil}
 use Rattle.std.proofs.lemmas.Bool.{ne_eqb, eq-eqb}
-use Rattle.dl_num.specs.declared.fixed.Order.{Order}
+use Rattle.dl_head.specs.declared.dialect.Dialect.{Dialect}
 use Rattle.dl_head.specs.declared.reader.byte_field.ByteField.TheVariants as field
 use Rattle.dl_head.specs.declared.reader.Phase.{Phase}
 use Rattle.dl_head.specs.declared.reader.Phase.TheVariants as phase
@@ -117,59 +117,59 @@ pub below_next : (n : ℕ) (end : Option ℕ) → Below n end → UpTo (n + 1) e
 below_next n None lt = tt
 below_next n (Some e) lt = omega arith
 
-header_room : (order : Order) (items : List Item) (i : Item) (w : List ℕ) (e : ℕ)
-    → SpellsFields order header_layout (items ++ i ∷ []) w
+header_room : (dialect : Dialect) (items : List Item) (i : Item) (w : List ℕ) (e : ℕ)
+    → SpellsFields dialect.order (header_layout dialect) (items ++ i ∷ []) w
     → header_end items ≡ None → header_end (items ++ i ∷ []) ≡ Some e → length w ≤ e
-header_room order items i w e s none h =
-    let o : Opening order (items ++ i ∷ []) w = opening_of order (items ++ i ∷ []) w e s h in
-    let small = early order o.format o.unit_length o.address o.segment o.header o.more items [] i w (sym o.items_are)
+header_room dialect items i w e s none h =
+    let o : Opening dialect.order (items ++ i ∷ []) w = opening_of dialect (items ++ i ∷ []) w e s h in
+    let small = early dialect o.format o.unit_length o.address o.segment o.header o.more items [] i w (sym o.items_are)
     none s in
     let same : Some (initial_size o.format + fixed_part o.format + o.header) ≡ Some e = sym (ap header_end o.items_are)
     ∙ h in
     let is : initial_size o.format + fixed_part o.format + o.header ≡ e = cc in
     omega (arith, small, is)
 
-unit_room : (order : Order) (items : List Item) (i : Item) (w : List ℕ) (n : ℕ) → length w ≡ n + 1
-    → SpellsFields order header_layout (items ++ i ∷ []) w
+unit_room : (dialect : Dialect) (items : List Item) (i : Item) (w : List ℕ) (n : ℕ) → length w ≡ n + 1
+    → SpellsFields dialect.order (header_layout dialect) (items ++ i ∷ []) w
     → Below n (unit_end items) → UpTo (length w) (unit_end (items ++ i ∷ []))
-unit_room order [] (length_is f m) w n size s lt =
-    let a = length_first order f m [] w s in
+unit_room dialect [] (length_is f m) w n size s lt =
+    let a = length_first dialect f m [] w s in
     let z : length a.0 ≡ 0 = ap length a.2 in omega (arith, a.1)
-unit_room order [] (number_is m) w n size s lt = tt
-unit_room order [] (form_is f) w n size s lt = tt
-unit_room order [] (value_is v) w n size s lt = tt
-unit_room order (length_is f m ∷ items) i w n size s lt = omega (arith, size)
-unit_room order (number_is m ∷ items) i w n size s lt = tt
-unit_room order (form_is f ∷ items) i w n size s lt = tt
-unit_room order (value_is v ∷ items) i w n size s lt = tt
+unit_room dialect [] (number_is m) w n size s lt = tt
+unit_room dialect [] (form_is f) w n size s lt = tt
+unit_room dialect [] (value_is v) w n size s lt = tt
+unit_room dialect (length_is f m ∷ items) i w n size s lt = omega (arith, size)
+unit_room dialect (number_is m ∷ items) i w n size s lt = tt
+unit_room dialect (form_is f ∷ items) i w n size s lt = tt
+unit_room dialect (value_is v ∷ items) i w n size s lt = tt
 
 -- the good fields up to a field's last byte
-spells_on : (order : Order) (b : List ℕ) (x : ℕ) (items : List Item) (rest : List ℕ) (i : Item)
-    → cut order b ≡ cut_of items rest
-    → field_spelt order (following_all header_layout items) (rest ++ x ∷ []) ≡ good i
-    → SpellsFields order header_layout (items ++ i ∷ []) (b ++ x ∷ [])
-spells_on order b x items rest i e spelt =
+spells_on : (dialect : Dialect) (b : List ℕ) (x : ℕ) (items : List Item) (rest : List ℕ) (i : Item)
+    → cut dialect b ≡ cut_of items rest
+    → field_spelt dialect.order (following_all (header_layout dialect) items) (rest ++ x ∷ []) ≡ good i
+    → SpellsFields dialect.order (header_layout dialect) (items ++ i ∷ []) (b ++ x ∷ [])
+spells_on dialect b x items rest i e spelt =
     let w = b ++ x ∷ [] in
-    let whole : Sound order header_layout w (cut_of (items ++ i ∷ []) []) =
-    subst (λ c. Sound order header_layout w c) (cut_good order b x items rest i e spelt)
-    (cut_sound order header_layout [] w) in
-    subst (λ (l : List ℕ). SpellsFields order header_layout (items ++ i ∷ []) l)
+    let whole : Sound dialect.order (header_layout dialect) w (cut_of (items ++ i ∷ []) []) =
+    subst (λ c. Sound dialect.order (header_layout dialect) w c) (cut_good dialect b x items rest i e spelt)
+    (cut_sound dialect.order (header_layout dialect) [] w) in
+    subst (λ (l : List ℕ). SpellsFields dialect.order (header_layout dialect) (items ++ i ∷ []) l)
     (sym (whole.whole ∙ append-nil whole.front)) whole.spelt
 
 -- the bytes up to a field's last one
-pub room_on : (order : Order) (b : List ℕ) (x : ℕ) (items : List Item) (rest : List ℕ) (i : Item)
-    → cut order b ≡ cut_of items rest
-    → field_spelt order (following_all header_layout items) (rest ++ x ∷ []) ≡ good i
+pub room_on : (dialect : Dialect) (b : List ℕ) (x : ℕ) (items : List Item) (rest : List ℕ) (i : Item)
+    → cut dialect b ≡ cut_of items rest
+    → field_spelt dialect.order (following_all (header_layout dialect) items) (rest ++ x ∷ []) ≡ good i
     → Below (length b) (end_from items) → UpTo (length (b ++ x ∷ [])) (end_from (items ++ i ∷ []))
-room_on order b x items rest i e spelt lt = on (header_end items) refl lt (header_end (items ++ i ∷ [])) refl where
+room_on dialect b x items rest i e spelt lt = on (header_end items) refl lt (header_end (items ++ i ∷ [])) refl where
   w : List ℕ
   w = b ++ x ∷ []
 
   size : length w ≡ length b + 1
   size = length-append b (x ∷ [])
 
-  s : SpellsFields order header_layout (items ++ i ∷ []) w
-  s = spells_on order b x items rest i e spelt
+  s : SpellsFields dialect.order (header_layout dialect) (items ++ i ∷ []) w
+  s = spells_on dialect b x items rest i e spelt
 
   up_to : (p : Option ℕ) → header_end (items ++ i ∷ []) ≡ p → UpTo (length w) (first_end p (unit_end (items ++ i ∷ [])))
       → UpTo (length w) (end_from (items ++ i ∷ []))
@@ -179,8 +179,8 @@ room_on order b x items rest i e spelt lt = on (header_end items) refl lt (heade
       → header_end (items ++ i ∷ []) ≡ p
       → UpTo (length w) (end_from (items ++ i ∷ []))
   on (Some end) h below p g = up_to (Some end) (header_end-append items (i ∷ []) end h) (omega (arith, size, below))
-  on None h below (Some end) g = up_to (Some end) g (header_room order items i w end s h g)
-  on None h below None g = up_to None g (unit_room order items i w (length b) size s below)
+  on None h below (Some end) g = up_to (Some end) g (header_room dialect items i w end s h g)
+  on None h below None g = up_to None g (unit_room dialect items i w (length b) size s below)
 
 -- ---- the header ends with its unit or before it
 
@@ -204,11 +204,11 @@ unit_known_of [] (form_is f ∷ []) e h few = absurd (none_some refl h)
 unit_known_of [] (value_is v ∷ []) e h few = absurd (none_some refl h)
 unit_known_of [] (i ∷ j ∷ more) e h few = absurd (omega (arith, few))
 
-pub ends_on : (order : Order) (b : List ℕ) (x : ℕ) (items : List Item) (rest : List ℕ) (i : Item)
-    → cut order b ≡ cut_of items rest
-    → field_spelt order (following_all header_layout items) (rest ++ x ∷ []) ≡ good i
+pub ends_on : (dialect : Dialect) (b : List ℕ) (x : ℕ) (items : List Item) (rest : List ℕ) (i : Item)
+    → cut dialect b ≡ cut_of items rest
+    → field_spelt dialect.order (following_all (header_layout dialect) items) (rest ++ x ∷ []) ≡ good i
     → Below (length b) (end_from items) → EndsWithin items → EndsWithin (items ++ i ∷ [])
-ends_on order b x items rest i e spelt below ends n stop unit header = on (header_end items) refl below where
+ends_on dialect b x items rest i e spelt below ends n stop unit header = on (header_end items) refl below where
   known : (m : ℕ) × (unit_end items ≡ Some m)
   known = unit_known_of items (i ∷ []) stop header (omega arith)
 
@@ -218,15 +218,15 @@ ends_on order b x items rest i e spelt below ends n stop unit header = on (heade
   w : List ℕ
   w = b ++ x ∷ []
 
-  s : SpellsFields order header_layout (items ++ i ∷ []) w
-  s = spells_on order b x items rest i e spelt
+  s : SpellsFields dialect.order (header_layout dialect) (items ++ i ∷ []) w
+  s = spells_on dialect b x items rest i e spelt
 
   on : (o : Option ℕ) → header_end items ≡ o → Below (length b) (first_end o (unit_end items)) → stop ≤ n
   on (Some before) h lt =
       let kept : before ≡ stop = some_same before stop (sym (header_end-append items (i ∷ []) before h) ∙ header) in
       omega (arith, ends known.0 before known.1 h, kept, same)
   on None h lt =
-      let o : Opening order (items ++ i ∷ []) w = opening_of order (items ++ i ∷ []) w stop s header in
+      let o : Opening dialect.order (items ++ i ∷ []) w = opening_of dialect (items ++ i ∷ []) w stop s header in
       let size : length w ≡ length b + 1 = length-append b (x ∷ []) in
       let lt' : length b < known.0 = subst (λ (m : Option ℕ). Below (length b) m) known.1 lt in
       let whole : initial_size o.format + o.unit_length ≡ n = some_same _ n (sym (ap unit_end o.items_are) ∙ unit) in

@@ -21,21 +21,21 @@ header_same : (g h : HeaderData) → ◌≡◌ {A = Option HeaderData} (Some g) 
 header_same g h e = cc
 
 -- a header is there only from Done on
-pub made : (r : HeadReader) (b : List ℕ) (h : HeaderData) → StandsFor r b → r.header ≡ Some h → IsHeader r.order h b
+pub made : (r : HeadReader) (b : List ℕ) (h : HeaderData) → StandsFor r b → r.header ≡ Some h → IsHeader r.dialect h b
 made r b h s is = on (ending r.phase) s.stands where
-  on : (o : Option HeadStep) → Stands r o b → IsHeader r.order h b
+  on : (o : Option HeadStep) → Stands r o b → IsHeader r.dialect h b
   on None t = absurd (none_some t.1.header is)
-  on (Some answer.Done) t = subst (λ (g : HeaderData). IsHeader r.order g b) (header_same t.0 h (sym t.1 ∙ is)) t.2
+  on (Some answer.Done) t = subst (λ (g : HeaderData). IsHeader r.dialect g b) (header_same t.0 h (sym t.1 ∙ is)) t.2
   on (Some (answer.Foreign v)) t = absurd (none_some t.1.header is)
   on (Some (answer.Fault f)) t = absurd (none_some t.1.header is)
   on (Some answer.More) t = absurd t
   on (Some answer.NoMemory) t = absurd t
 
 -- and then at once
-unmade : (r : HeadReader) (b : List ℕ) (h : HeaderData) → StandsFor r b → r.header ≡ None → IsHeader r.order h b → ⊥
+unmade : (r : HeadReader) (b : List ℕ) (h : HeaderData) → StandsFor r b → r.header ≡ None → IsHeader r.dialect h b → ⊥
 unmade r b h s is w = on (ending r.phase) refl s.stands where
-  other : (a : HeadStep) → Answers r.order b a → answer.Done ≢ a → ⊥
-  other a t differs = differs (one_answer r.order b answer.Done a (h, w) t)
+  other : (a : HeadStep) → Answers r.dialect b a → answer.Done ≢ a → ⊥
+  other a t differs = differs (one_answer r.dialect b answer.Done a (h, w) t)
 
   on : (o : Option HeadStep) → ending r.phase ≡ o → Stands r o b → ⊥
   on None e t = other answer.More (live_more r b e t.0) (λ d. cc)
@@ -45,20 +45,20 @@ unmade r b h s is w = on (ending r.phase) refl s.stands where
   on (Some answer.More) e t = t
   on (Some answer.NoMemory) e t = t
 
-pub gives_of : (r : HeadReader) (o : Option HeaderData) → r.header ≡ o → Gives r.order r o
+pub gives_of : (r : HeadReader) (o : Option HeaderData) → r.header ≡ o → Gives r.dialect r o
 gives_of r (Some h) e = λ b s. made r b h s e
 gives_of r None e = λ b s h. unmade r b h s e
 
 -- ---- cells
 
 pub made_cells : (r : HeadReader) (b : List ℕ) (h : HeaderData) → StandsFor r b → r.header ≡ Some h
-    → cells r.order b ≡ header_cells h
-made_cells r b h s is = ap (λ (l : List ℕ). cells r.order l) (sym (append-nil b))
-    ∙ (header_holds_its_cells r.order h b [] (made r b h s is)).0
+    → cells r.dialect b ≡ header_cells h
+made_cells r b h s is = ap (λ (l : List ℕ). cells r.dialect l) (sym (append-nil b))
+    ∙ (header_holds_its_cells r.dialect h b [] (made r b h s is)).0
 
-pub held_so_far : (r : HeadReader) (b : List ℕ) → StandsFor r b → r.header ≡ None → held_cells r ≡ cells r.order b
+pub held_so_far : (r : HeadReader) (b : List ℕ) → StandsFor r b → r.header ≡ None → held_cells r ≡ cells r.dialect b
 held_so_far r b s is = on (ending r.phase) s.stands where
-  on : (o : Option HeadStep) → Stands r o b → held_cells r ≡ cells r.order b
+  on : (o : Option HeadStep) → Stands r o b → held_cells r ≡ cells r.dialect b
   on None t = t.1.cells_are
   on (Some answer.Done) t = absurd (none_some is t.1)
   on (Some (answer.Foreign v)) t = t.1.cells_are

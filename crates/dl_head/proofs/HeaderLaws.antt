@@ -1,4 +1,5 @@
 -- A header is what is cut off the front of bytes: the laws of headers.
+use Rattle.dl_head.specs.declared.dialect.Dialect.{Dialect}
 use Rattle.std.proofs.Common.{◌≡◌, ℕ, ◌+◌, ◌-◌, ◌≤◌, Bool, true, false, nat_le, ◌&&◌, if◌then◌else◌, List, [], ◌∷◌}
 use Rattle.std.proofs.Common.{◌++◌, length, take, drop, Option, Some, None, Ok, Err, refl, sym, ap, subst, ◌∙◌, arith}
 use Rattle.std.proofs.Common.{inl, inr, length-append, append_assoc, append-nil}
@@ -29,13 +30,13 @@ made_last (value_then f g n) h e = absurd (none_some refl e)
 made_last (foreign_version v) h e = absurd (none_some refl e)
 
 -- what is cut off bytes that begin with a header
-pub header_cut : (order : Order) (h : HeaderData) (w y : List ℕ) (is : IsHeader order h w)
-    → cut order (w ++ y) ≡ cut_of is.items (is.padding ++ y)
-header_cut order h w y is =
-    ap (λ (z : List ℕ). cut order z) (ap (λ (z : List ℕ). z ++ y) is.whole ∙ append_assoc is.fields is.padding y)
-    ∙ cut_fields order header_layout is.items is.fields (is.padding ++ y) is.spelt
-    ∙ ap (λ (l : Layout). with_items is.items (cut_after order l [] (is.padding ++ y))) (made_last _ h is.made)
-    ∙ ap (λ (c : Cut). with_items is.items c) (cut_last order h [] (is.padding ++ y))
+pub header_cut : (dialect : Dialect) (h : HeaderData) (w y : List ℕ) (is : IsHeader dialect h w)
+    → cut dialect (w ++ y) ≡ cut_of is.items (is.padding ++ y)
+header_cut dialect h w y is =
+    ap (λ (z : List ℕ). cut dialect z) (ap (λ (z : List ℕ). z ++ y) is.whole ∙ append_assoc is.fields is.padding y)
+    ∙ cut_fields dialect.order (header_layout dialect) is.items is.fields (is.padding ++ y) is.spelt
+    ∙ ap (λ (l : Layout). with_items is.items (cut_after dialect.order l [] (is.padding ++ y))) (made_last _ h is.made)
+    ∙ ap (λ (c : Cut). with_items is.items c) (cut_last dialect.order h [] (is.padding ++ y))
     ∙ ap (λ (l : List Item). cut_of l (is.padding ++ y)) (append-nil is.items)
 
 length_nil : (v : List ℕ) → length v ≡ 0 → v ≡ []
@@ -43,15 +44,15 @@ length_nil [] e = refl
 length_nil (x ∷ v) e = absurd (omega arith)
 
 pub one_header : OneHeader
-one_header order h h2 w v a b =
-    let one = header_cut order h w v a in
-    let two = header_cut order h2 (w ++ v) [] b in
+one_header dialect h h2 w v a b =
+    let one = header_cut dialect h w v a in
+    let two = header_cut dialect h2 (w ++ v) [] b in
     let same : a.items ≡ b.items = ap (λ (c : Cut). c.items)
-    (sym one ∙ ap (λ (z : List ℕ). cut order z) (sym (append-nil (w ++ v))) ∙ two) in
+    (sym one ∙ ap (λ (z : List ℕ). cut dialect z) (sym (append-nil (w ++ v))) ∙ two) in
     let ends : Some (length w) ≡ Some (length (w ++ v)) = sym a.end ∙ ap header_end same ∙ b.end in
     let lengths : length w ≡ length (w ++ v) = cc in
     let made : ◌≡◌ {A = Option HeaderData} (Some h) (Some h2) = sym a.made
-    ∙ ap (λ (l : List Item). header_made (following_all header_layout l)) same ∙ b.made in
+    ∙ ap (λ (l : List Item). header_made (following_all (header_layout dialect) l)) same ∙ b.made in
     (length_nil v (omega (arith, length-append w v)), cc)
 
 -- ---- the header that is computed
@@ -60,19 +61,19 @@ abbrev found_if : Bool → HeaderData → List ℕ → Option (HeaderData × Lis
 found_if t h rest = if t then Some (h, rest) else None
 
 -- by what was cut off
-abbrev in_cut : List ℕ → Cut → Option (HeaderData × List ℕ)
-in_cut b c = header_up_to b (length b - length c.rest) (header_made (following_all header_layout c.items))
-    (header_end c.items)
+abbrev in_cut : Dialect → List ℕ → Cut → Option (HeaderData × List ℕ)
+in_cut dialect b c = header_up_to b (length b - length c.rest)
+    (header_made (following_all (header_layout dialect) c.items)) (header_end c.items)
 
 pub header_is_found : HeaderIsFound
-header_is_found order h w rest is =
+header_is_found dialect h w rest is =
     let fields_end : length (w ++ rest) - length (is.padding ++ rest) ≤ length w =
     (let e = ap length is.whole in omega
     (arith, e, length-append is.fields is.padding, length-append w rest, length-append is.padding rest)) in
     let within : (nat_le (length (w ++ rest) - length (is.padding ++ rest)) (length w)
     && nat_le (length w) (length (w ++ rest))) ≡ true =
     rw (le-leb _ _ fields_end) (le-leb _ _ (omega (arith, length-append w rest))) in
-    ap (λ (c : Cut). in_cut (w ++ rest) c) (header_cut order h w rest is)
+    ap (λ (c : Cut). in_cut dialect (w ++ rest) c) (header_cut dialect h w rest is)
     ∙ ap (λ o. header_up_to (w ++ rest) (length (w ++ rest) - length (is.padding ++ rest)) o (header_end is.items))
     is.made
     ∙ ap (λ o. header_up_to (w ++ rest) (length (w ++ rest) - length (is.padding ++ rest)) (Some h) o) is.end
@@ -124,10 +125,10 @@ longer_front x y n le = ap (λ (k : ℕ). take k (x ++ y)) (let e : n ≡ length
     ∙ take-append-add x y (n - length x)
 
 pub found_is_header : FoundIsHeader
-found_is_header order h b rest e =
-    let c = cut order b in
+found_is_header dialect h b rest e =
+    let c = cut dialect b in
     let f = found b (length b - length c.rest) _ _ h rest e in
-    let s : Sound order header_layout b c = cut_sound order header_layout [] b in
+    let s : Sound dialect.order (header_layout dialect) b c = cut_sound dialect.order (header_layout dialect) [] b in
     let lengths = ap length s.whole in
     let front_le : length s.front ≤ f.stop =
     (let l = f.fields_le in omega (arith, lengths, length-append s.front c.rest, l)) in
@@ -214,31 +215,33 @@ rest_has_none order layout begun (x ∷ b) none =
     (field_spelt order layout (begun ++ x ∷ [])) refl
 
 pub cut_is_computed : CutIsComputed
-cut_is_computed order b items rest = (to, from) where
-  to : IsFieldCut order b items rest → cut order b ≡ cut_of items rest
+cut_is_computed dialect b items rest = (to, from) where
+  to : IsFieldCut dialect b items rest → cut dialect b ≡ cut_of items rest
   to is =
-      ap (λ (z : List ℕ). cut order z) is.whole
-      ∙ cut_fields order header_layout items is.fields rest is.spelt
-      ∙ ap (λ (c : Cut). with_items items c) (nothing_cut order (following_all header_layout items) [] rest is.no_more)
+      ap (λ (z : List ℕ). cut dialect z) is.whole
+      ∙ cut_fields dialect.order (header_layout dialect) items is.fields rest is.spelt
+      ∙ ap (λ (c : Cut). with_items items c)
+      (nothing_cut dialect.order (following_all (header_layout dialect) items) [] rest is.no_more)
       ∙ ap (λ (l : List Item). cut_of l rest) (append-nil items)
 
-  computed : IsFieldCut order b (cut order b).items (cut order b).rest
+  computed : IsFieldCut dialect b (cut dialect b).items (cut dialect b).rest
   computed =
-      let s : Sound order header_layout b (cut order b) = cut_sound order header_layout [] b in
+      let s : Sound dialect.order (header_layout dialect) b (cut dialect b) =
+      cut_sound dialect.order (header_layout dialect) [] b in
       record {
         fields = s.front;
         whole = s.whole;
         spelt = s.spelt;
-        no_more = rest_has_none order header_layout [] b
-            (empty_has_none order header_layout);
+        no_more = rest_has_none dialect.order (header_layout dialect) [] b
+            (empty_has_none dialect.order (header_layout dialect));
       }
 
-  from : cut order b ≡ cut_of items rest → IsFieldCut order b items rest
-  from e = subst (λ (c : Cut). IsFieldCut order b c.items c.rest) e computed
+  from : cut dialect b ≡ cut_of items rest → IsFieldCut dialect b items rest
+  from e = subst (λ (c : Cut). IsFieldCut dialect b c.items c.rest) e computed
 
 -- ---- own and foreign
 
 pub header_is_not_foreign : HeaderIsNotForeign
-header_is_not_foreign order h w v is =
-    ap (λ (c : Cut). foreign_made (following_all header_layout c.items)) (header_cut order h w v is)
+header_is_not_foreign dialect h w v is =
+    ap (λ (c : Cut). foreign_made (following_all (header_layout dialect) c.items)) (header_cut dialect h w v is)
     ∙ ap foreign_made (made_last _ h is.made)

@@ -1,7 +1,7 @@
 -- One byte more of a header: what the reader answers, and the bytes that it stands for then.
 use Rattle.std.proofs.Common.{◌≡◌, ◌≢◌, ℕ, ◌+◌, List, [], ◌∷◌, ◌++◌, length, Option, Some, None, refl}
 use Rattle.std.proofs.Common.{sym, ap, subst, ◌∙◌, arith, length-append}
-use Rattle.dl_num.specs.declared.fixed.Order.{Order}
+use Rattle.dl_head.specs.declared.dialect.Dialect.{Dialect}
 use Rattle.dl_num.specs.declared.partial_number.PartialNumber.{PartialNumber}
 use Rattle.dl_num.specs.NumberBytes.{number_size, number_bytes}
 use Rattle.dl_head.specs.declared.reader.Phase.{Phase}
@@ -34,12 +34,12 @@ use Rattle.dl_head.proofs.SamePlace.{Guards, counted}
 use Rattle.dl_head.proofs.MovedReader.{nothing_on, moved_within, cells_taken}
 use Rattle.dl_head.proofs.ByteCounted.{settled, failed, unit_of, unit_kept, fits_kept, fits_of}
 
--- what the bytes c come to, by the order
-pub by_order : (r mid fin : HeadReader) (c : List ℕ) (result : HeadStep) → mid.order ≡ r.order
-    → Answers mid.order c result × StandsFor fin c → Answers r.order c result × StandsFor fin c
-by_order r mid fin c result order p = (subst (λ (o : Order). Answers o c result) order p.0, p.1)
+-- what the bytes c come to, by the dialect
+pub by_dialect : (r mid fin : HeadReader) (c : List ℕ) (result : HeadStep) → mid.dialect ≡ r.dialect
+    → Answers mid.dialect c result × StandsFor fin c → Answers r.dialect c result × StandsFor fin c
+by_dialect r mid fin c result dialect p = (subst (λ (d : Dialect). Answers d c result) dialect p.0, p.1)
 
-answers_of : (r : HeadReader) (b : List ℕ) (a : HeadStep) → Stands r (Some a) b → Answers r.order b a
+answers_of : (r : HeadReader) (b : List ℕ) (a : HeadStep) → Stands r (Some a) b → Answers r.dialect b a
 answers_of r b answer.Done t = (t.0, t.2)
 answers_of r b (answer.Foreign v) t = t.0
 answers_of r b (answer.Fault f) t = t.0
@@ -48,20 +48,20 @@ answers_of r b answer.NoMemory t = absurd t
 
 -- the header came to something before
 pub ended_step : (r : HeadReader) (b : List ℕ) (x : ℕ) (a : HeadStep) → ending r.phase ≡ Some a → a ≢ answer.More
-    → StandsFor r b → Steps r.order b x a r
+    → StandsFor r b → Steps r.dialect b x a r
 ended_step r b x a is other s =
     let answers = answers_of r b a (subst (λ (o : Option HeadStep). Stands r o b) is s.stands) in
     record {
-      ended = λ q c m. (one_answer r.order b a q answers c, s);
-      unfed = λ e. absurd (subst (λ (q : HeadStep). Answers r.order b q) e answers);
-      taken = λ more fed. absurd (other (one_answer r.order b a answer.More answers more));
+      ended = λ q c m. (one_answer r.dialect b a q answers c, s);
+      unfed = λ e. absurd (subst (λ (q : HeadStep). Answers r.dialect b q) e answers);
+      taken = λ more fed. absurd (other (one_answer r.dialect b a answer.More answers more));
     }
 
 -- what has come of the bytes is what they come to
 pub ended_as : (r : HeadReader) (b : List ℕ) (a q : HeadStep) → ending r.phase ≡ Some a → StandsFor r b
-    → Answers r.order b q → a ≡ q
+    → Answers r.dialect b q → a ≡ q
 ended_as r b a q is s answers =
-    one_answer r.order b a q (answers_of r b a (subst (λ (o : Option HeadStep). Stands r o b) is s.stands)) answers
+    one_answer r.dialect b a q (answers_of r b a (subst (λ (o : Option HeadStep). Stands r o b) is s.stands)) answers
 
 -- a header that has come to something doesn't go on
 pub ended_other : (r : HeadReader) (b : List ℕ) (a : HeadStep) → ending r.phase ≡ Some a → StandsFor r b
@@ -69,62 +69,62 @@ pub ended_other : (r : HeadReader) (b : List ℕ) (a : HeadStep) → ending r.ph
 ended_other r b a is s more = subst (λ (o : Option HeadStep). Stands r o b) (is ∙ ap Some more) s.stands
 
 pub ended_whole : (r : HeadReader) (b : List ℕ) (a : HeadStep) → ending r.phase ≡ Some a → StandsFor r b
-    → Answers r.order b answer.More → ⊥
+    → Answers r.dialect b answer.More → ⊥
 ended_whole r b a is s more = ended_other r b a is s (ended_as r b a answer.More is s more)
 
 -- a header that came to nothing goes on
-pub goes_more : (r : HeadReader) (b : List ℕ) → StandsFor r b → Answers r.order b answer.More → ending r.phase ≡ None
+pub goes_more : (r : HeadReader) (b : List ℕ) → StandsFor r b → Answers r.dialect b answer.More → ending r.phase ≡ None
 goes_more r b s more = on (ending r.phase) refl s.stands where
   on : (o : Option HeadStep) → ending r.phase ≡ o → Stands r o b → ending r.phase ≡ None
   on None e t = e
   on (Some a) e t = absurd (subst (λ (q : HeadStep). Stands r (Some q) b)
-      (one_answer r.order b a answer.More (answers_of r b a t) more) t)
+      (one_answer r.dialect b a answer.More (answers_of r b a t) more) t)
 
 pub within_step : (r new fin : HeadReader) (g : Guards new) (b : List ℕ) (x t : ℕ) (result : HeadStep)
     → Live r b × Unmade r b
     → PushFollows r x byte_makes.Within new → t ≡ length b + 1 → Settles (counted new g new.start t) result fin
-    → Answers r.order (b ++ x ∷ []) result × StandsFor fin (b ++ x ∷ [])
+    → Answers r.dialect (b ++ x ∷ []) result × StandsFor fin (b ++ x ∷ [])
 within_step r new fin g b x t result l f count s =
     let mid = counted new g new.start t in
-    by_order r mid fin (b ++ x ∷ []) result f.counts.order
+    by_dialect r mid fin (b ++ x ∷ []) result f.counts.dialect
     (settled mid fin (b ++ x ∷ []) (moved_within r new g b x t l.0 l.1 f count) result s)
 
-bad_decided : (order : Order) (b : List ℕ) (x : ℕ) (items : List Item) (rest : List ℕ) (kind : FaultKind)
-    → cut order b ≡ cut_of items rest
-    → field_spelt order (following_all header_layout items) (rest ++ x ∷ []) ≡ bad kind
-    → header_decided order (b ++ x ∷ []) ≡ Some kind
-bad_decided order b x items rest kind e spelt =
-    ap (λ (c : Cut). cut_decided order (length (b ++ x ∷ [])) c) (cut_bad order b x items rest kind e spelt)
+bad_decided : (dialect : Dialect) (b : List ℕ) (x : ℕ) (items : List Item) (rest : List ℕ) (kind : FaultKind)
+    → cut dialect b ≡ cut_of items rest
+    → field_spelt dialect.order (following_all (header_layout dialect) items) (rest ++ x ∷ []) ≡ bad kind
+    → header_decided dialect (b ++ x ∷ []) ≡ Some kind
+bad_decided dialect b x items rest kind e spelt =
+    ap (λ (c : Cut). cut_decided dialect (length (b ++ x ∷ [])) c) (cut_bad dialect b x items rest kind e spelt)
     ∙ ap (λ (o : Judgement Item). or_else (bad_kind o)
-    (header_overrun (length (b ++ x ∷ [])) items (following_all header_layout items))) spelt
+    (header_overrun (length (b ++ x ∷ [])) items (following_all (header_layout dialect) items))) spelt
 
 -- the byte ends a bad field
 pub refused_step : (r new fin : HeadReader) (g : Guards new) (b : List ℕ) (x t : ℕ) (kind : FaultKind)
     (result : HeadStep) → StandsFor r b → Live r b × Unmade r b
     → PushFollows r x (byte_makes.Refuses kind) new → SameUnit r new → t ≡ length b + 1
     → Fails (counted new g new.start t) kind result fin
-    → Answers r.order (b ++ x ∷ []) result × StandsFor fin (b ++ x ∷ [])
+    → Answers r.dialect (b ++ x ∷ []) result × StandsFor fin (b ++ x ∷ [])
 refused_step r new fin g b x t kind result stands l f unit count fails =
     let spelt = f.made l.0.items l.0.rest l.0.at in
-    let cut_is = cut_bad r.order b x l.0.items l.0.rest kind l.0.cut_is spelt in
-    let refused : HeaderRefused r.order (b ++ x ∷ []) new.start kind = record {
+    let cut_is = cut_bad r.dialect b x l.0.items l.0.rest kind l.0.cut_is spelt in
+    let refused : HeaderRefused r.dialect (b ++ x ∷ []) new.start kind = record {
       place = ap (λ (c : Cut). new.start + length c.rest) cut_is
           ∙ (let e : new.start + length (l.0.rest ++ x ∷ [])
           ≡ length (b ++ x ∷ []) = omega
           (arith, f.counts.start, l.0.start_is, length-append b (x ∷ []), length-append l.0.rest (x ∷ [])) in e);
-      decided = bad_decided r.order b x l.0.items l.0.rest kind l.0.cut_is spelt;
-      shortest = nothing_on r.order b x l.0.nothing_before (live_quiet r b l.0);
+      decided = bad_decided r.dialect b x l.0.items l.0.rest kind l.0.cut_is spelt;
+      shortest = nothing_on r.dialect b x l.0.nothing_before (live_quiet r b l.0);
     } in
     let mid = counted new g new.start t in
     let below = subst (λ (o : Option ℕ). Below (length b) o) (end_is r r.phase l.0.items l.0.rest l.0.at).end
     l.0.below in
     let up = subst (λ (n : ℕ). UpTo n (end_from l.0.items)) (sym (length-append b (x ∷ [])))
     (below_next (length b) (end_from l.0.items) below) in
-    let length_known : unit_known (end_of_unit r) r.end ≡ unit_len r.order (b ++ x ∷ []) =
+    let length_known : unit_known (end_of_unit r) r.end ≡ unit_len r.dialect (b ++ x ∷ []) =
     stands.unit ∙ ap (λ (c : Cut). unit_end c.items) l.0.cut_is ∙ sym (ap (λ (c : Cut). unit_end c.items) cut_is) in
-    by_order r mid fin (b ++ x ∷ []) result f.counts.order
+    by_dialect r mid fin (b ++ x ∷ []) result f.counts.dialect
     (failed mid fin (b ++ x ∷ []) kind result
-    (subst (λ (o : Order). HeaderRefused o (b ++ x ∷ []) new.start kind) (sym f.counts.order) refused)
+    (subst (λ (d : Dialect). HeaderRefused d (b ++ x ∷ []) new.start kind) (sym f.counts.dialect) refused)
     (record {
       header = f.counts.header ∙ l.1.header;
       cells_are = cells_taken r new b x l.0 l.1 f.counts
@@ -132,9 +132,9 @@ refused_step r new fin g b x t kind result stands l f unit count fails =
     })
     (omega (arith, count, length-append b (x ∷ [])))
     (unit_kept r mid (b ++ x ∷ []) (record { end = unit.end; unit_length = unit.unit_length; format = unit.format })
-    f.counts.order length_known)
-    (fits_kept r.order new.order (b ++ x ∷ []) f.counts.order
-    (fits_of r.order (b ++ x ∷ []) l.0.items (l.0.rest ++ x ∷ []) cut_is l.0.ends_within up)) fails)
+    f.counts.dialect length_known)
+    (fits_kept r.dialect new.dialect (b ++ x ∷ []) f.counts.dialect
+    (fits_of r.dialect (b ++ x ∷ []) l.0.items (l.0.rest ++ x ∷ []) cut_is l.0.ends_within up)) fails)
 
 -- a reader that has taken nothing, though its vectors may have moved
 pub kept_stands : (r new : HeadReader) (b : List ℕ) → ending r.phase ≡ None → StandsFor r b
@@ -145,7 +145,7 @@ kept_stands r new b goes stands l at counts same_cells = record {
       (live, unmade);
   taken = counts.taken ∙ stands.taken;
   unit = unit_of new b items rest cut_is (end_is new new.phase items rest at);
-  within = fits_kept r.order new.order b counts.order stands.within;
+  within = fits_kept r.dialect new.dialect b counts.dialect stands.within;
 } where
   items : List Item
   items = l.0.items
@@ -163,8 +163,8 @@ kept_stands r new b goes stands l at counts same_cells = record {
   end_same : new.end ≡ r.end
   end_same = (end_is new new.phase items rest at).end ∙ sym (end_is r r.phase items rest l.0.at).end
 
-  cut_is : cut new.order b ≡ cut_of items rest
-  cut_is = ap (λ (o : Order). cut o b) counts.order ∙ l.0.cut_is
+  cut_is : cut new.dialect b ≡ cut_of items rest
+  cut_is = ap (λ (d : Dialect). cut d b) counts.dialect ∙ l.0.cut_is
 
   live : Live new b
   live = record {
@@ -172,25 +172,27 @@ kept_stands r new b goes stands l at counts same_cells = record {
     rest = rest;
     cut_is = cut_is;
     at = at;
-    unjudged = ap (λ (o : Order). field_spelt o (following_all header_layout items) rest) counts.order ∙ l.0.unjudged;
+    unjudged = ap (λ (d : Dialect). field_spelt d.order (following_all (header_layout d) items) rest) counts.dialect
+        ∙ l.0.unjudged;
     start_is = omega (arith, counts.start, l.0.start_is);
     below = subst (λ (o : Option ℕ). Below (length b) o) (sym end_same) l.0.below;
-    nothing_before = subst (λ (o : Order). NothingBefore (header_decided o) b) (sym counts.order) l.0.nothing_before;
+    nothing_before = subst (λ (d : Dialect). NothingBefore (header_decided d) b) (sym counts.dialect)
+        l.0.nothing_before;
     ends_within = l.0.ends_within;
   }
 
   unmade : Unmade new b
   unmade = record {
     header = counts.header ∙ l.1.header;
-    cells_are = same_cells ∙ l.1.cells_are ∙ ap (λ (o : Order). cells o b) (sym counts.order);
+    cells_are = same_cells ∙ l.1.cells_are ∙ ap (λ (d : Dialect). cells d b) (sym counts.dialect);
   }
 
 -- memory was refused
 pub unfed_step : (r new : HeadReader) (b : List ℕ) (x : ℕ) → ending r.phase ≡ None → StandsFor r b
     → Live r b × Unmade r b → PushFollows r x byte_makes.NoMemory new
-    → AddsCell r.order b x × StandsFor new b
+    → AddsCell r.dialect b x × StandsFor new b
 unfed_step r new b x goes stands l f = (
-  omega (arith, (f.cells l.0.items l.0.rest l.0.at).1, cells_on r.order b x l.0.items l.0.rest l.0.cut_is),
+  omega (arith, (f.cells l.0.items l.0.rest l.0.at).1, cells_on r.dialect b x l.0.items l.0.rest l.0.cut_is),
   kept_stands r new b goes stands l (f.made l.0.items l.0.rest l.0.at) f.counts
       (f.cells l.0.items l.0.rest l.0.at).0,
 )
@@ -235,6 +237,6 @@ new_stands r n is none size at taken start header directories files = record {
 
 -- one that goes on has come to nothing
 pub still_goes : (r : HeadReader) (b : List ℕ) (q : HeadStep) → ending r.phase ≡ None → StandsFor r b
-    → Answers r.order b q → q ≢ answer.More → ⊥
+    → Answers r.dialect b q → q ≢ answer.More → ⊥
 still_goes r b q goes s answers other =
-    other (one_answer r.order b q answer.More answers (live_more r b goes (live_of r b goes s).0))
+    other (one_answer r.dialect b q answer.More answers (live_more r b goes (live_of r b goes s).0))

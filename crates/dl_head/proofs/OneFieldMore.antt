@@ -1,4 +1,5 @@
 -- One field more of the header reader: from where it is to where it goes.
+use Rattle.dl_head.specs.declared.dialect.Dialect.{Dialect}
 use Rattle.std.proofs.Common.{◌≡◌, ℕ, zero, suc, ◌+◌, ◌-◌, ◌<◌, ◌≤◌, Bool, true, nat_lt, if◌then◌else◌, ℤ, inl, inr, w8}
 use Rattle.std.proofs.Common.{to_z, of_z, SFits, List, [], ◌∷◌, ◌++◌, length, Some, refl, sym, ap, subst, ◌∙◌, arith}
 use Rattle.std.proofs.Common.{length-append}
@@ -43,7 +44,8 @@ pub after_on : (r new : HeadReader) (items : List Item) (layout next : Layout) (
     → following layout i ≡ next
     → new.end ≡ r.end → new.overrun ≡ r.overrun → end_of_unit new ≡ end_of_unit r → Past new (items ++ i ∷ []) next
 after_on r new items layout next i tail e end overrun unit = record {
-  follows = following_all-append header_layout items (i ∷ []) ∙ ap (λ (l : Layout). following l i) tail.follows ∙ e;
+  follows = following_all-append (header_layout r.dialect) items (i ∷ [])
+      ∙ ap (λ (l : Layout). following l i) tail.follows ∙ e;
   unit = unit_end-append items (i ∷ []) (end_of_unit r) tail.unit ∙ ap (λ (n : ℕ). Some n) (sym unit);
   header = tail.header;
   header_ends = header_end-append items (i ∷ []) tail.header tail.header_ends;
@@ -63,11 +65,11 @@ late_on r new items layout next i late e end overrun unit fresh =
 -- the first field of a layout
 pub byte_follows : (r : HeadReader) (f : ByteField) (items : List Item) (rest : List ℕ)
     → AtPhase r (phase.Byte f) items rest
-    → (following_all header_layout items ≡ from_byte f r.unit_length r.params) × (rest ≡ [])
+    → (following_all (header_layout r.dialect) items ≡ from_byte f r.unit_length r.params) × (rest ≡ [])
 byte_follows r field.AddressSize items rest at =
-    (ap (λ (l : List Item). following_all header_layout l) at.0.items_are, at.1)
+    (ap (λ (l : List Item). following_all (header_layout r.dialect) l) at.0.items_are, at.1)
 byte_follows r field.SegmentSelectorSize items rest at =
-    (ap (λ (l : List Item). following_all header_layout l) at.0.items_are, at.1)
+    (ap (λ (l : List Item). following_all (header_layout r.dialect) l) at.0.items_are, at.1)
 byte_follows r field.MinimumInstructionLength items rest at = (at.0.tail.follows, at.1)
 byte_follows r field.MaximumOperations items rest at = (at.0.tail.follows, at.1)
 byte_follows r field.DefaultIsStmt items rest at = (at.0.tail.follows, at.1)
@@ -87,15 +89,16 @@ byte_is order field.LineBase unit_length p x = refl
 byte_is order field.LineRange unit_length p x = refl
 byte_is order field.OpcodeBase unit_length p x = refl
 
-pub byte_spelt : (order : Order) (r : HeadReader) (f : ByteField) (items : List Item) (rest : List ℕ) (x : ℕ)
+pub byte_spelt : (dialect : Dialect) (r : HeadReader) (f : ByteField) (items : List Item) (rest : List ℕ) (x : ℕ)
     → AtPhase r (phase.Byte f) items rest
-    → field_spelt order (following_all header_layout items) (rest ++ x ∷ []) ≡ judged (objection (byte_kind f) x) x
-byte_spelt order r f items rest x at =
+    → field_spelt dialect.order (following_all (header_layout dialect) items) (rest ++ x ∷ [])
+    ≡ judged (objection (byte_kind f) x) x
+byte_spelt dialect r f items rest x at =
     let b = byte_follows r f items rest at in
-    ap (λ (l : Layout). field_spelt order l (rest ++ x ∷ [])) b.0
-    ∙ ap (λ (w : List ℕ). field_spelt order (from_byte f r.unit_length r.params) (w ++ x ∷ [])) b.1
-    ∙ byte_is order f r.unit_length r.params x
-    ∙ ap (λ (n : ℕ). judged (objection (byte_kind f) n) n) (fixed-one order x)
+    ap (λ (l : Layout). field_spelt dialect.order l (rest ++ x ∷ [])) b.0
+    ∙ ap (λ (w : List ℕ). field_spelt dialect.order (from_byte f r.unit_length r.params) (w ++ x ∷ [])) b.1
+    ∙ byte_is dialect.order f r.unit_length r.params x
+    ∙ ap (λ (n : ℕ). judged (objection (byte_kind f) n) n) (fixed-one dialect.order x)
 
 -- ---- line_base
 
@@ -129,16 +132,17 @@ lengths_open p (suc count) before h =
     (before ++ n ∷ []) λ lengths. tables_layout (record p { lengths = record { items = lengths } })) e
 
 -- a length is judged by its value
-pub length_judged : (order : Order) (p : Params) (items : List Item) (rest : List ℕ) (x : ℕ)
-    → following_all header_layout items ≡ from_length p → 1 ≤ p.opcode_base - 1 - length p.lengths.items → rest ≡ []
-    → field_spelt order (following_all header_layout items) (rest ++ x ∷ [])
+pub length_judged : (dialect : Dialect) (p : Params) (items : List Item) (rest : List ℕ) (x : ℕ)
+    → following_all (header_layout dialect) items ≡ from_length p
+    → 1 ≤ p.opcode_base - 1 - length p.lengths.items → rest ≡ []
+    → field_spelt dialect.order (following_all (header_layout dialect) items) (rest ++ x ∷ [])
     ≡ judged (objection (opcode_length (length p.lengths.items + 1)) x) x
-length_judged order p items rest x follows left none =
-    ap (λ (l : Layout). field_spelt order l (rest ++ x ∷ []))
+length_judged dialect p items rest x follows left none =
+    ap (λ (l : Layout). field_spelt dialect.order l (rest ++ x ∷ []))
     (follows ∙ lengths_open p (p.opcode_base - 1 - length p.lengths.items) p.lengths.items left)
-    ∙ ap (λ (w : List ℕ). field_spelt order
+    ∙ ap (λ (w : List ℕ). field_spelt dialect.order
     (number_then (opcode_length (length p.lengths.items + 1)) λ n. tables_layout p) (w ++ x ∷ [])) none
-    ∙ ap (λ (n : ℕ). judged (objection (opcode_length (length p.lengths.items + 1)) n) n) (fixed-one order x)
+    ∙ ap (λ (n : ℕ). judged (objection (opcode_length (length p.lengths.items + 1)) n) n) (fixed-one dialect.order x)
 
 abbrev with_lengths : Params → List ℕ → Params
 with_lengths p lengths = record p { lengths = record { items = lengths } }
@@ -187,7 +191,7 @@ before_tables : (r : HeadReader) (items : List Item) → Late r items (tables_la
 before_tables r items late = record {
   layout = tables_layout r.params;
   tail = late.tail;
-  at = subst (λ (p : TablePhase). TableAt r.order r.table p r.params.format (from_files r.params)
+  at = subst (λ (p : TablePhase). TableAt r.dialect.order r.table p r.params.format (from_files r.params)
       (tables_layout r.params) []) (sym late.fresh.phase) (late.fresh, refl, refl);
   going = λ whole. fresh_whole (sym late.fresh.phase ∙ whole);
 } where

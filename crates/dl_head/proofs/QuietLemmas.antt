@@ -1,4 +1,5 @@
 -- No front of a header or of a foreign unit decides anything.
+use Rattle.dl_head.specs.declared.dialect.Dialect.{Dialect}
 use Rattle.std.proofs.Common.{◌≡◌, ℕ, ◌+◌, ◌-◌, ◌<◌, ◌≤◌, inl, inr, List, [], ◌∷◌, ◌++◌, length, Option, Some, None, Ok}
 use Rattle.std.proofs.Common.{refl, sym, ap, subst, ◌∙◌, arith, length-append, append_assoc, append-nil}
 use Rattle.std.proofs.lemmas.Bool.{ne_eqb}
@@ -78,12 +79,12 @@ spells-append order layout (i ∷ items) more w v s t = (
   spells-append order (following layout i) items more s.1 v s.4 t,
 )
 
-pub length_first : (order : Order) (f : Format) (n : ℕ) (items : List Item) (w : List ℕ)
-    → SpellsFields order header_layout (length_is f n ∷ items) w
+pub length_first : (dialect : Dialect) (f : Format) (n : ℕ) (items : List Item) (w : List ℕ)
+    → SpellsFields dialect.order (header_layout dialect) (length_is f n ∷ items) w
     → (rest : List ℕ) × (length w ≡ initial_size f + length rest)
-    × SpellsFields order (following header_layout (length_is f n)) items rest
-length_first order f n items w s =
-    let a = is_length order s.0 (length_is f n) s.3 in
+    × SpellsFields dialect.order (following (header_layout dialect) (length_is f n)) items rest
+length_first dialect f n items w s =
+    let a = is_length dialect.order s.0 (length_is f n) s.3 in
     let same : f ≡ a.format = ap (λ (i : Item). elim i [
       | length_is g m ↦ g
       | number_is m ↦ f
@@ -111,76 +112,85 @@ none_left w e = ap length e
 abbrev IsEarly : Format → List ℕ → Type 0
 IsEarly f w = length w ≤ initial_size f + fixed_part f
 
-early_one : (order : Order) (f : Format) (n : ℕ) (w : List ℕ) → SpellsFields order header_layout (length_is f n ∷ []) w
-    → IsEarly f w
-early_one order f n w s = let a = length_first order f n [] w s in let z : length a.0 ≡ 0 = ap length a.2 in
+early_one : (dialect : Dialect) (f : Format) (n : ℕ) (w : List ℕ)
+    → SpellsFields dialect.order (header_layout dialect) (length_is f n ∷ []) w → IsEarly f w
+early_one dialect f n w s = let a = length_first dialect f n [] w s in let z : length a.0 ≡ 0 = ap length a.2 in
     omega (arith, a.1)
 
-early_two : (order : Order) (f : Format) (n : ℕ) (w : List ℕ)
-    → SpellsFields order header_layout (length_is f n ∷ number_is 5 ∷ []) w → IsEarly f w
-early_two order f n w s =
-    let a = length_first order f n (number_is 5 ∷ []) w s in
-    let b = number_first order version (after_length f n) 2 5 refl [] a.0 a.2 in
+early_two : (dialect : Dialect) (f : Format) (n : ℕ) (w : List ℕ)
+    → SpellsFields dialect.order (header_layout dialect) (length_is f n ∷ number_is 5 ∷ []) w → IsEarly f w
+early_two dialect f n w s =
+    let a = length_first dialect f n (number_is 5 ∷ []) w s in
+    let b = number_first dialect.order version (after_length f n) 2 5 refl [] a.0 a.2 in
     let z : length b.0 ≡ 0 = ap length b.2 in omega (arith, a.1, b.1)
 
-early_three : (order : Order) (f : Format) (n address : ℕ) (w : List ℕ)
-    → SpellsFields order header_layout (length_is f n ∷ number_is 5 ∷ number_is address ∷ []) w → IsEarly f w
-early_three order f n address w s =
-    let a = length_first order f n (number_is 5 ∷ number_is address ∷ []) w s in
-    let b = number_first order version (after_length f n) 2 5 refl (number_is address ∷ []) a.0 a.2 in
-    let c = number_first order address_size (after_address f n) 1 address refl [] b.0 b.2 in
+early_three : (dialect : Dialect) (f : Format) (n address : ℕ) (w : List ℕ)
+    → SpellsFields dialect.order (header_layout dialect) (length_is f n ∷ number_is 5 ∷ number_is address ∷ [])
+    w → IsEarly f w
+early_three dialect f n address w s =
+    let a = length_first dialect f n (number_is 5 ∷ number_is address ∷ []) w s in
+    let b = number_first dialect.order version (after_length f n) 2 5 refl (number_is address ∷ []) a.0 a.2 in
+    let c = number_first dialect.order address_size (after_address f n) 1 address refl [] b.0 b.2 in
     let z : length c.0 ≡ 0 = ap length c.2 in omega (arith, a.1, b.1, c.1)
 
-early_four : (order : Order) (f : Format) (n address segment : ℕ) (w : List ℕ)
-    → SpellsFields order header_layout (length_is f n ∷ number_is 5 ∷ number_is address ∷ number_is segment ∷ []) w
-    → IsEarly f w
-early_four order f n address segment w s =
-    let a = length_first order f n (number_is 5 ∷ number_is address ∷ number_is segment ∷ []) w s in
-    let b = number_first order version (after_length f n) 2 5 refl (number_is address ∷ number_is segment ∷ []) a.0
+early_four : (dialect : Dialect) (f : Format) (n address segment : ℕ) (w : List ℕ)
+    → SpellsFields dialect.order (header_layout dialect)
+    (length_is f n ∷ number_is 5 ∷ number_is address ∷ number_is segment ∷ []) w → IsEarly f w
+early_four dialect f n address segment w s =
+    let a = length_first dialect f n (number_is 5 ∷ number_is address ∷ number_is segment ∷ []) w s in
+    let b = number_first dialect.order version (after_length f n) 2 5 refl
+    (number_is address ∷ number_is segment ∷ []) a.0
     a.2 in
-    let c = number_first order address_size (after_address f n) 1 address refl (number_is segment ∷ []) b.0 b.2 in
-    let d = number_first order any_byte (after_segment f n address) 1 segment refl [] c.0 c.2 in
+    let c = number_first dialect.order address_size (after_address f n) 1 address refl
+    (number_is segment ∷ []) b.0 b.2 in
+    let d = number_first dialect.order any_byte (after_segment f n address) 1 segment refl [] c.0 c.2 in
     let z : length d.0 ≡ 0 = ap length d.2 in omega (arith, a.1, b.1, c.1, d.1)
 
-early_five : (order : Order) (f : Format) (n address segment header : ℕ) (w : List ℕ)
-    → SpellsFields order header_layout
+early_five : (dialect : Dialect) (f : Format) (n address segment header : ℕ) (w : List ℕ)
+    → SpellsFields dialect.order (header_layout dialect)
     (length_is f n ∷ number_is 5 ∷ number_is address ∷ number_is segment ∷ number_is header ∷ []) w → IsEarly f w
-early_five order f n address segment header w s =
-    let a = length_first order f n (number_is 5 ∷ number_is address ∷ number_is segment ∷ number_is header ∷ []) w s in
-    let b = number_first order version (after_length f n) 2 5 refl
+early_five dialect f n address segment header w s =
+    let a = length_first dialect f n (number_is 5 ∷ number_is address ∷ number_is segment ∷ number_is
+    header ∷ []) w s in
+    let b = number_first dialect.order version (after_length f n) 2 5 refl
     (number_is address ∷ number_is segment ∷ number_is header ∷ []) a.0 a.2 in
-    let c = number_first order address_size (after_address f n) 1 address refl
+    let c = number_first dialect.order address_size (after_address f n) 1 address refl
     (number_is segment ∷ number_is header ∷ []) b.0 b.2 in
-    let d = number_first order any_byte (after_segment f n address) 1 segment refl (number_is header ∷ []) c.0 c.2 in
-    let e = number_first order (header_length f (n - fixed_part f)) (after_header f address segment) (offset_size f)
+    let d = number_first dialect.order any_byte (after_segment f n address) 1 segment refl
+    (number_is header ∷ []) c.0 c.2 in
+    let e = number_first dialect.order (header_length f (n - fixed_part f)) (after_header f address segment)
+    (offset_size f)
     header refl [] d.0 d.2 in
     let z : length e.0 ≡ 0 = none_left e.0 e.2 in omega (arith, a.1, b.1, c.1, d.1, e.1)
 
 -- bytes that end inside one of these fields, and the bytes that end it
-pub early : (order : Order) (f : Format) (n address segment header : ℕ) (more before after : List Item) (item : Item)
+pub early : (dialect : Dialect) (f : Format) (n address segment header : ℕ)
+    (more before after : List Item) (item : Item)
     (w : List ℕ)
     → (length_is f n ∷ number_is 5 ∷ number_is address ∷ number_is segment ∷ number_is header ∷ more)
     ≡ before ++ item ∷ after → header_end before ≡ None
-    → SpellsFields order header_layout (before ++ item ∷ []) w → IsEarly f w
-early order f n address segment header more [] after item w e none s =
-    let same : item ≡ length_is f n = cc in early_one order f n w
-    (subst (λ (i : Item). SpellsFields order header_layout (i ∷ []) w) same s)
-early order f n address segment header more (a ∷ []) after item w e none s =
+    → SpellsFields dialect.order (header_layout dialect) (before ++ item ∷ []) w → IsEarly f w
+early dialect f n address segment header more [] after item w e none s =
+    let same : item ≡ length_is f n = cc in early_one dialect f n w
+    (subst (λ (i : Item). SpellsFields dialect.order (header_layout dialect) (i ∷ []) w) same s)
+early dialect f n address segment header more (a ∷ []) after item w e none s =
     let same : (a ∷ item ∷ []) ≡ (length_is f n ∷ number_is 5 ∷ []) = cc in
-    early_two order f n w (subst (λ (l : List Item). SpellsFields order header_layout l w) same s)
-early order f n address segment header more (a ∷ b ∷ []) after item w e none s =
+    early_two dialect f n w (subst (λ (l : List Item). SpellsFields dialect.order (header_layout dialect) l w) same s)
+early dialect f n address segment header more (a ∷ b ∷ []) after item w e none s =
     let same : (a ∷ b ∷ item ∷ []) ≡ (length_is f n ∷ number_is 5 ∷ number_is address ∷ []) = cc in
-    early_three order f n address w (subst (λ (l : List Item). SpellsFields order header_layout l w) same s)
-early order f n address segment header more (a ∷ b ∷ c ∷ []) after item w e none s =
+    early_three dialect f n address w (subst (λ (l : List Item). SpellsFields dialect.order
+    (header_layout dialect) l w) same s)
+early dialect f n address segment header more (a ∷ b ∷ c ∷ []) after item w e none s =
     let same : (a ∷ b ∷ c ∷ item ∷ []) ≡ (length_is f n ∷ number_is 5 ∷ number_is address ∷ number_is segment ∷ []) =
     cc in
-    early_four order f n address segment w (subst (λ (l : List Item). SpellsFields order header_layout l w) same s)
-early order f n address segment header more (a ∷ b ∷ c ∷ d ∷ []) after item w e none s =
+    early_four dialect f n address segment w
+    (subst (λ (l : List Item). SpellsFields dialect.order (header_layout dialect) l w) same s)
+early dialect f n address segment header more (a ∷ b ∷ c ∷ d ∷ []) after item w e none s =
     let same : (a ∷ b ∷ c ∷ d ∷ item ∷ [])
     ≡ (length_is f n ∷ number_is 5 ∷ number_is address ∷ number_is segment ∷ number_is header ∷ []) = cc in
-    early_five order f n address segment header w
-    (subst (λ (l : List Item). SpellsFields order header_layout l w) same s)
-early order f n address segment header more (a ∷ b ∷ c ∷ d ∷ m ∷ before) after item w e none s =
+    early_five dialect f n address segment header w
+    (subst (λ (l : List Item). SpellsFields dialect.order (header_layout dialect) l w) same s)
+early dialect f n address segment header more (a ∷ b ∷ c ∷ d ∷ m ∷ before) after item w e none s =
     let one : a ≡ length_is f n = cc in
     let five : m ≡ number_is header = cc in
     let end : header_end (length_is f n ∷ b ∷ c ∷ d ∷ number_is header ∷ before) ≡ None =
@@ -191,46 +201,47 @@ early order f n address segment header more (a ∷ b ∷ c ∷ d ∷ m ∷ befor
 -- ---- fronts of a header
 
 -- after good fields that end a header, any bytes
-last_quiet : (order : Order) (h : HeaderData) (w v : List ℕ) (is : IsHeader order h w)
-    → header_decided order (is.fields ++ v) ≡ None
-last_quiet order h w v is =
-    let cut_is : cut order (is.fields ++ v) ≡ cut_of is.items v =
-    cut_fields order header_layout is.items is.fields v is.spelt
-    ∙ ap (λ (l : Layout). with_items is.items (cut_after order l [] v)) (made_last _ h is.made)
-    ∙ ap (λ (c : Cut). with_items is.items c) (cut_last order h [] v)
+last_quiet : (dialect : Dialect) (h : HeaderData) (w v : List ℕ) (is : IsHeader dialect h w)
+    → header_decided dialect (is.fields ++ v) ≡ None
+last_quiet dialect h w v is =
+    let cut_is : cut dialect (is.fields ++ v) ≡ cut_of is.items v =
+    cut_fields dialect.order (header_layout dialect) is.items is.fields v is.spelt
+    ∙ ap (λ (l : Layout). with_items is.items (cut_after dialect.order l [] v)) (made_last _ h is.made)
+    ∙ ap (λ (c : Cut). with_items is.items c) (cut_last dialect.order h [] v)
     ∙ ap (λ (l : List Item). cut_of l v) (append-nil is.items) in
-    ap (λ (c : Cut). cut_decided order (length (is.fields ++ v)) c) cut_is
-    ∙ ap (λ (l : Layout). decided_on order (length (is.fields ++ v)) is.items v l) (made_last _ h is.made)
+    ap (λ (c : Cut). cut_decided dialect (length (is.fields ++ v)) c) cut_is
+    ∙ ap (λ (l : Layout). decided_on dialect.order (length (is.fields ++ v)) is.items v l) (made_last _ h is.made)
 
 some_number : (a b : ℕ) → ◌≡◌ {A = Option ℕ} (Some a) (Some b) → a ≡ b
 some_number a b e = cc
 
 -- a header has fields after header_length
-more_fields : (order : Order) (h : HeaderData) (w : List ℕ) (is : IsHeader order h w)
-    (o : Opening order is.items is.fields) → 1 ≤ length o.rest
-more_fields order h w is o = on o.more o.items_are o.spelt where
+more_fields : (dialect : Dialect) (h : HeaderData) (w : List ℕ) (is : IsHeader dialect h w)
+    (o : Opening dialect.order is.items is.fields) → 1 ≤ length o.rest
+more_fields dialect h w is o = on o.more o.items_are o.spelt where
   on : (more : List Item) → is.items ≡ length_is o.format o.unit_length ∷ number_is 5 ∷ number_is o.address
       ∷ number_is o.segment ∷ number_is o.header ∷ more
-      → SpellsFields order (from_minimum_length o.p) more o.rest → 1 ≤ length o.rest
+      → SpellsFields dialect.order (from_minimum_length o.p) more o.rest → 1 ≤ length o.rest
   on [] same s = absurd (none_some {a = h} refl
-      (sym (ap (λ (l : List Item). header_made (following_all header_layout l)) same) ∙ is.made))
+      (sym (ap (λ (l : List Item). header_made (following_all (header_layout dialect) l)) same) ∙ is.made))
   on (i ∷ more) same s =
-      let size : length s.0 ≡ 1 = sized_length order any_byte 1 s.0 (Ok i) s.3 in
+      let size : length s.0 ≡ 1 = sized_length dialect.order any_byte 1 s.0 (Ok i) s.3 in
       omega (arith, ap length s.2, length-append s.0 s.1, size)
 
 -- inside a field of a header
-inside_quiet : (order : Order) (h : HeaderData) (w b : List ℕ) (is : IsHeader order h w) → GoesOn b is.fields
-    → header_decided order b ≡ None
-inside_quiet order h w b is goes =
-    quiet order b at.before at.rest at.cut_is
-    (before_none order (following_all header_layout at.before) at.rest at.byte at.back (Ok at.item) at.field)
+inside_quiet : (dialect : Dialect) (h : HeaderData) (w b : List ℕ) (is : IsHeader dialect h w) → GoesOn b is.fields
+    → header_decided dialect b ≡ None
+inside_quiet dialect h w b is goes =
+    quiet dialect b at.before at.rest at.cut_is
+    (before_none dialect.order (following_all (header_layout dialect) at.before) at.rest at.byte at.back
+    (Ok at.item) at.field)
     (no_overrun (length b) at.before header unit)
   where
-    at : Inside order header_layout is.items b
-    at = inside order header_layout is.items is.fields b is.spelt goes
+    at : Inside dialect.order (header_layout dialect) is.items b
+    at = inside dialect.order (header_layout dialect) is.items is.fields b is.spelt goes
 
-    o : Opening order is.items is.fields
-    o = opening_of order is.items is.fields (length w) is.spelt is.end
+    o : Opening dialect.order is.items is.fields
+    o = opening_of dialect is.items is.fields (length w) is.spelt is.end
 
     shorter : length b < length w
     shorter = omega (
@@ -254,11 +265,13 @@ inside_quiet order h w b is goes =
         let whole : u ≡ initial_size o.format + o.unit_length = sym (some_number _ _ ends) in
         let header_is : initial_size o.format + fixed_part o.format + o.header ≡ length w =
         some_number _ _ (sym (ap header_end o.items_are) ∙ is.end) in
-        let part : SpellsFields order header_layout (at.before ++ at.item ∷ [])
+        let part : SpellsFields dialect.order (header_layout dialect) (at.before ++ at.item ∷ [])
         (at.fields ++ (at.rest ++ at.byte ∷ at.back)) =
-        spells-append order header_layout at.before (at.item ∷ []) at.fields (at.rest ++ at.byte ∷ at.back) at.spelt
+        spells-append dialect.order (header_layout dialect) at.before (at.item ∷ []) at.fields
+        (at.rest ++ at.byte ∷ at.back) at.spelt
         (at.rest ++ at.byte ∷ at.back, [], sym (append-nil _), at.field, refl) in
-        let small = early order o.format o.unit_length o.address o.segment o.header o.more at.before at.after at.item _
+        let small = early dialect o.format o.unit_length o.address o.segment o.header o.more at.before
+        at.after at.item _
         (sym o.items_are ∙ at.items_are) none part in
         omega (
           arith,
@@ -267,7 +280,7 @@ inside_quiet order h w b is goes =
           small,
           o.fits,
           o.size,
-          more_fields order h w is o,
+          more_fields dialect h w is o,
           ap length at.whole,
           ap length is.whole,
           length-append is.fields is.padding,
@@ -277,16 +290,17 @@ inside_quiet order h w b is goes =
         )
 
 pub header_is_not_refused : HeaderIsNotRefused
-header_is_not_refused order h w v front back at kind is e r = none_some silent r.decided where
+header_is_not_refused dialect h w v front back at kind is e r = none_some silent r.decided where
   whole : is.fields ++ (is.padding ++ v) ≡ front ++ back
   whole = sym (append_assoc is.fields is.padding v) ∙ ap (λ (l : List ℕ). l ++ v) (sym is.whole) ∙ e
 
-  silent : header_decided order front ≡ None
+  silent : header_decided dialect front ≡ None
   silent = elim (fronts is.fields front (is.padding ++ v) back whole) [
-    | inl same ↦ ap (λ (l : List ℕ). header_decided order l) (sym same ∙ sym (append-nil is.fields))
-        ∙ last_quiet order h w [] is
-    | inr (inl goes) ↦ ap (λ (l : List ℕ). header_decided order l) goes.2 ∙ last_quiet order h w (goes.0 ∷ goes.1) is
-    | inr (inr goes) ↦ inside_quiet order h w front is goes
+    | inl same ↦ ap (λ (l : List ℕ). header_decided dialect l) (sym same ∙ sym (append-nil is.fields))
+        ∙ last_quiet dialect h w [] is
+    | inr (inl goes) ↦ ap (λ (l : List ℕ). header_decided dialect l) goes.2
+        ∙ last_quiet dialect h w (goes.0 ∷ goes.1) is
+    | inr (inr goes) ↦ inside_quiet dialect h w front is goes
   ]
 
 -- ---- fronts of a foreign unit
@@ -299,44 +313,46 @@ cut_foreign order v begun (x ∷ y) = cut_foreign order v (begun ++ x ∷ []) y
     ∙ ap (λ (z : List ℕ). cut_of [] z) (append_assoc begun (x ∷ []) y)
 
 -- bytes with a foreign version that end within their unit
-record IsForeignPart (order : Order) (b : List ℕ) (items : List Item) (fields rest : List ℕ) (other unit : ℕ) : Type 0
+record IsForeignPart (dialect : Dialect) (b : List ℕ) (items : List Item) (fields rest : List ℕ)
+    (other unit : ℕ) : Type 0
   where
     whole : b ≡ fields ++ rest
-    spelt : SpellsFields order header_layout items fields
-    next : following_all header_layout items ≡ foreign_version other
+    spelt : SpellsFields dialect.order (header_layout dialect) items fields
+    next : following_all (header_layout dialect) items ≡ foreign_version other
     unit_is : unit_end items ≡ Some unit
     within : length b ≤ unit
 
-foreign_last_quiet : (order : Order) (b : List ℕ) (items : List Item) (fields rest : List ℕ) (other unit : ℕ)
-    → IsForeignPart order b items fields rest other unit
-    → (v : List ℕ) → header_decided order (fields ++ v) ≡ None
-foreign_last_quiet order b items fields rest other unit is v =
-    let cut_is : cut order (fields ++ v) ≡ cut_of items v =
-    cut_fields order header_layout items fields v is.spelt
-    ∙ ap (λ (l : Layout). with_items items (cut_after order l [] v)) is.next
-    ∙ ap (λ (c : Cut). with_items items c) (cut_foreign order other [] v)
+foreign_last_quiet : (dialect : Dialect) (b : List ℕ) (items : List Item) (fields rest : List ℕ) (other unit : ℕ)
+    → IsForeignPart dialect b items fields rest other unit
+    → (v : List ℕ) → header_decided dialect (fields ++ v) ≡ None
+foreign_last_quiet dialect b items fields rest other unit is v =
+    let cut_is : cut dialect (fields ++ v) ≡ cut_of items v =
+    cut_fields dialect.order (header_layout dialect) items fields v is.spelt
+    ∙ ap (λ (l : Layout). with_items items (cut_after dialect.order l [] v)) is.next
+    ∙ ap (λ (c : Cut). with_items items c) (cut_foreign dialect.order other [] v)
     ∙ ap (λ (l : List Item). cut_of l v) (append-nil items) in
-    ap (λ (c : Cut). cut_decided order (length (fields ++ v)) c) cut_is
-    ∙ ap (λ (l : Layout). decided_on order (length (fields ++ v)) items v l) is.next
+    ap (λ (c : Cut). cut_decided dialect (length (fields ++ v)) c) cut_is
+    ∙ ap (λ (l : Layout). decided_on dialect.order (length (fields ++ v)) items v l) is.next
 
-foreign_inside_quiet : (order : Order) (b : List ℕ) (items : List Item) (fields rest : List ℕ) (other unit : ℕ)
-    → IsForeignPart order b items fields rest other unit
-    → (front : List ℕ) → GoesOn front fields → header_decided order front ≡ None
-foreign_inside_quiet order b items fields rest other unit is front goes =
-    quiet order front at.before at.rest at.cut_is
-    (before_none order (following_all header_layout at.before) at.rest at.byte at.back (Ok at.item) at.field)
+foreign_inside_quiet : (dialect : Dialect) (b : List ℕ) (items : List Item) (fields rest : List ℕ) (other unit : ℕ)
+    → IsForeignPart dialect b items fields rest other unit
+    → (front : List ℕ) → GoesOn front fields → header_decided dialect front ≡ None
+foreign_inside_quiet dialect b items fields rest other unit is front goes =
+    quiet dialect front at.before at.rest at.cut_is
+    (before_none dialect.order (following_all (header_layout dialect) at.before) at.rest at.byte at.back
+    (Ok at.item) at.field)
     (no_overrun (length front) at.before (λ e same. absurd (no_header e same)) (λ u none same. ends u same))
   where
-    at : Inside order header_layout items front
-    at = inside order header_layout items fields front is.spelt goes
+    at : Inside dialect.order (header_layout dialect) items front
+    at = inside dialect.order (header_layout dialect) items fields front is.spelt goes
 
     no_header : (e : ℕ) → header_end at.before ≡ Some e → ⊥
     no_header e same =
-        let o = opening_of order items fields e is.spelt
+        let o = opening_of dialect items fields e is.spelt
         (ap header_end at.items_are ∙ header_end-append at.before (at.item ∷ at.after) e same) in
         not_foreign o.unit_length (format_alone o.format)
         (number_is o.address ∷ number_is o.segment ∷ number_is o.header ∷ o.more) other
-        (sym (ap (λ (l : List Item). following_all header_layout l) o.items_are) ∙ is.next)
+        (sym (ap (λ (l : List Item). following_all (header_layout dialect) l) o.items_are) ∙ is.next)
 
     ends : (u : ℕ) → unit_end at.before ≡ Some u → length front < u
     ends u same =
@@ -353,29 +369,31 @@ foreign_inside_quiet order b items fields rest other unit is front goes =
         )
 
 pub foreign_is_not_refused : ForeignIsNotRefused
-foreign_is_not_refused order b front back other unit at kind foreign unit_is within e r =
+foreign_is_not_refused dialect b front back other unit at kind foreign unit_is within e r =
     none_some silent r.decided where
-      s : Sound order header_layout b (cut order b)
-      s = cut_sound order header_layout [] b
+      s : Sound dialect.order (header_layout dialect) b (cut dialect b)
+      s = cut_sound dialect.order (header_layout dialect) [] b
 
-      part : IsForeignPart order b (cut order b).items s.front (cut order b).rest other unit
+      part : IsForeignPart dialect b (cut dialect b).items s.front (cut dialect b).rest other unit
       part = record {
         whole = s.whole;
         spelt = s.spelt;
         next = foreign_last
-            (following_all header_layout (cut order b).items) other foreign;
+            (following_all (header_layout dialect) (cut dialect b).items) other foreign;
         unit_is = unit_is;
         within = within;
       }
 
-      quiet_after : (v : List ℕ) → header_decided order (s.front ++ v) ≡ None
-      quiet_after v = foreign_last_quiet order b (cut order b).items s.front (cut order b).rest other unit part v
+      quiet_after : (v : List ℕ) → header_decided dialect (s.front ++ v) ≡ None
+      quiet_after v = foreign_last_quiet dialect b (cut dialect b).items s.front (cut dialect b).rest other unit part v
 
-      silent : header_decided order front ≡ None
-      silent = elim (fronts s.front front (cut order b).rest back (sym s.whole ∙ e)) [
-        | inl same ↦ ap (λ (l : List ℕ). header_decided order l) (sym same ∙ sym (append-nil s.front)) ∙ quiet_after []
-        | inr (inl goes) ↦ ap (λ (l : List ℕ). header_decided order l) goes.2 ∙ quiet_after (goes.0 ∷ goes.1)
-        | inr (inr goes) ↦ foreign_inside_quiet order b (cut order b).items s.front (cut order b).rest other unit part
+      silent : header_decided dialect front ≡ None
+      silent = elim (fronts s.front front (cut dialect b).rest back (sym s.whole ∙ e)) [
+        | inl same ↦ ap (λ (l : List ℕ). header_decided dialect l) (sym same ∙ sym (append-nil s.front))
+            ∙ quiet_after []
+        | inr (inl goes) ↦ ap (λ (l : List ℕ). header_decided dialect l) goes.2 ∙ quiet_after (goes.0 ∷ goes.1)
+        | inr (inr goes) ↦ foreign_inside_quiet dialect b (cut dialect b).items s.front (cut dialect b).rest
+            other unit part
             front
             goes
       ]

@@ -28,6 +28,7 @@ use Rattle.dl_field.specs.Layout.{line_range, opcode_base, opcode_length, conten
 use Rattle.dl_field.specs.Layout.{objection, Layout, number_then, form_then, value_then, foreign_version, last_entry}
 use Rattle.dl_field.specs.Layout.{Item, following, following_all, pairs_layout, entry_layout, entries_layout}
 use Rattle.dl_field.specs.Layout.{table_layout}
+use Rattle.dl_head.specs.declared.dialect.Dialect.{Dialect}
 use Rattle.dl_head.specs.HeaderLayout.{tables_layout, lengths_layout, from_minimum_length, from_address_size}
 use Rattle.dl_head.specs.HeaderLayout.{format_alone, header_layout, signed_byte, fixed_part}
 use Rattle.dl_head.specs.Header.{SpellsFields, header_made}
@@ -366,10 +367,10 @@ module _ (order : Order) (h : HeaderData) where
   version_sound true format unit v items m = fields_sound unit (format_alone format) items m
   version_sound false format unit v items m = absurd (no_foreign v items m)
 
-  whole_sound : (items : List Item) → Makes header_layout items → IsSoundHeader h
-  whole_sound items m =
-      let f = first header_layout items none_made m in
-      let next = subst (λ (i : Item). Makes (following header_layout i) f.later) f.is.2 f.makes in
+  whole_sound : (dialect : Dialect) (items : List Item) → Makes (header_layout dialect) items → IsSoundHeader h
+  whole_sound dialect items m =
+      let f = first (header_layout dialect) items none_made m in
+      let next = subst (λ (i : Item). Makes (following (header_layout dialect) i) f.later) f.is.2 f.makes in
       let v = after_number version (λ n. if n == 5 then from_address_size f.is.1 (format_alone f.is.0)
       else foreign_version n) f.later next in
       version_sound (v.number == 5) f.is.0 f.is.1 v.number v.later v.makes
@@ -387,6 +388,7 @@ table_is_sound order format t items w all spelt whole =
     subst IsSoundTable (ap (λ (g : HeaderData). g.directories) same) read.sound
 
 pub header_is_sound : ReadIsSound
-header_is_sound order h w is all =
+header_is_sound dialect h w is all =
     let fields = front_bytes is.fields is.padding (subst AllBytes is.whole all) in
-    whole_sound order h is.items (record { bytes = is.fields; all = fields; spelt = is.spelt; made = is.made })
+    whole_sound dialect.order h dialect is.items
+    (record { bytes = is.fields; all = fields; spelt = is.spelt; made = is.made })

@@ -1,4 +1,5 @@
 -- The laws of refusals: one at most, and none of a header or a foreign unit.
+use Rattle.dl_head.specs.declared.dialect.Dialect.{Dialect}
 use Rattle.std.proofs.Common.{◌≡◌, ℕ, ◌-◌, inl, inr, List, [], ◌∷◌, ◌++◌, length, Option, Some, None, refl, sym, ap}
 use Rattle.std.proofs.Common.{subst, ◌∙◌, arith, length-append, append_assoc, append-nil}
 use Rattle.dl_num.specs.declared.fixed.Order.{Order}
@@ -32,14 +33,14 @@ overrun_none n items (foreign_version v) e = refl
 overrun_none n items (last_entry h) e = refl
 
 -- an incomplete field decides nothing where no end is reached
-pub quiet : (order : Order) (b : List ℕ) (items : List Item) (rest : List ℕ) → cut order b ≡ cut_of items rest
-    → field_spelt order (following_all header_layout items) rest ≡ None
-    → field_overrun (length b) items (header_end items) ≡ None → header_decided order b ≡ None
-quiet order b items rest e none over =
-    ap (λ (c : Cut). cut_decided order (length b) c) e
+pub quiet : (dialect : Dialect) (b : List ℕ) (items : List Item) (rest : List ℕ) → cut dialect b ≡ cut_of items rest
+    → field_spelt dialect.order (following_all (header_layout dialect) items) rest ≡ None
+    → field_overrun (length b) items (header_end items) ≡ None → header_decided dialect b ≡ None
+quiet dialect b items rest e none over =
+    ap (λ (c : Cut). cut_decided dialect (length b) c) e
     ∙ ap (λ (o : Judgement Item). or_else (bad_kind o)
-    (header_overrun (length b) items (following_all header_layout items))) none
-    ∙ overrun_none (length b) items (following_all header_layout items) over
+    (header_overrun (length b) items (following_all (header_layout dialect) items))) none
+    ∙ overrun_none (length b) items (following_all (header_layout dialect) items) over
 
 pub foreign_last : (layout : Layout) (v : ℕ) → foreign_made layout ≡ Some v → layout ≡ foreign_version v
 foreign_last (foreign_version u) v e = let f : u ≡ v = cc in ap (λ (n : ℕ). foreign_version n) f
@@ -52,25 +53,26 @@ foreign_last (value_then f g n) v e = absurd (none_some refl e)
 -- ---- one refusal
 
 -- what is refused goes on to nothing that is refused
-not_longer : (order : Order) (b c : List ℕ) (at at2 : ℕ) (kind kind2 : FaultKind) → HeaderRefused order b at kind
-    → HeaderRefused order c at2 kind2 → GoesOn b c → ⊥
-not_longer order b c at at2 kind kind2 r s g = none_some (s.shortest b g.0 g.1 g.2) r.decided
+not_longer : (dialect : Dialect) (b c : List ℕ) (at at2 : ℕ) (kind kind2 : FaultKind) → HeaderRefused dialect b at kind
+    → HeaderRefused dialect c at2 kind2 → GoesOn b c → ⊥
+not_longer dialect b c at at2 kind kind2 r s g = none_some (s.shortest b g.0 g.1 g.2) r.decided
 
 kind_same : (k j : FaultKind) → ◌≡◌ {A = Option FaultKind} (Some k) (Some j) → k ≡ j
 kind_same k j e = cc
 
-same_refusal : (order : Order) (b : List ℕ) (at at2 : ℕ) (kind kind2 : FaultKind) → HeaderRefused order b at kind
-    → HeaderRefused order b at2 kind2 → (at ≡ at2) × (kind ≡ kind2)
-same_refusal order b at at2 kind kind2 r s =
+same_refusal : (dialect : Dialect) (b : List ℕ) (at at2 : ℕ) (kind kind2 : FaultKind) → HeaderRefused dialect b at kind
+    → HeaderRefused dialect b at2 kind2 → (at ≡ at2) × (kind ≡ kind2)
+same_refusal dialect b at at2 kind kind2 r s =
     (omega (arith, r.place, s.place), kind_same kind kind2 (sym r.decided ∙ s.decided))
 
 pub one_header_refusal : OneHeaderRefusal
-one_header_refusal order b c v u at at2 kind kind2 e r s = elim (fronts b c v u e) [
+one_header_refusal dialect b c v u at at2 kind kind2 e r s = elim (fronts b c v u e) [
   | inl same ↦
-      let t = same_refusal order c at at2 kind kind2 (subst (λ (l : List ℕ). HeaderRefused order l at kind) same r) s in
+      let t = same_refusal dialect c at at2 kind kind2
+      (subst (λ (l : List ℕ). HeaderRefused dialect l at kind) same r) s in
       (same, t.0, t.1)
-  | inr (inl g) ↦ absurd (not_longer order b c at at2 kind kind2 r s g)
-  | inr (inr g) ↦ absurd (not_longer order c b at2 at kind2 kind s r g)
+  | inr (inl g) ↦ absurd (not_longer dialect b c at at2 kind kind2 r s g)
+  | inr (inr g) ↦ absurd (not_longer dialect c b at2 at kind2 kind s r g)
 ]
 
 -- ---- the refusal that is computed
@@ -146,23 +148,23 @@ abbrev refusal_is : List ℕ → ℕ → FaultKind → Refusal
 refusal_is front at kind = record { front = front; at = at; kind = kind }
 
 -- the parts of the refusal that comes of what was found
-record Parts (order : Order) (o : Option (List ℕ × FaultKind)) (front : List ℕ) (at : ℕ) (kind : FaultKind) : Type 0
+record Parts (dialect : Dialect) (o : Option (List ℕ × FaultKind)) (front : List ℕ) (at : ℕ) (kind : FaultKind) : Type 0
   where
     found : o ≡ Some (front, kind)
-    place : at ≡ length front - length (cut order front).rest
+    place : at ≡ length front - length (cut dialect front).rest
 
-parts : (order : Order) (o : Option (List ℕ × FaultKind)) (front : List ℕ) (at : ℕ) (kind : FaultKind)
-    → refusal_of order o ≡ Some (refusal_is front at kind) → Parts order o front at kind
-parts order None front at kind e = absurd (none_some {a = refusal_is front at kind} refl e)
-parts order (Some (f, k)) front at kind e =
+parts : (dialect : Dialect) (o : Option (List ℕ × FaultKind)) (front : List ℕ) (at : ℕ) (kind : FaultKind)
+    → refusal_of dialect o ≡ Some (refusal_is front at kind) → Parts dialect o front at kind
+parts dialect None front at kind e = absurd (none_some {a = refusal_is front at kind} refl e)
+parts dialect (Some (f, k)) front at kind e =
     let fronts_same : f ≡ front = ap (λ (o : Option Refusal). elim o [ Some r ↦ r.front | None ↦ f ]) e in
-    let places_same : length f - length (cut order f).rest ≡ at =
-    ap (λ (o : Option Refusal). elim o [ Some r ↦ r.at | None ↦ length f - length (cut order f).rest ]) e in
+    let places_same : length f - length (cut dialect f).rest ≡ at =
+    ap (λ (o : Option Refusal). elim o [ Some r ↦ r.at | None ↦ length f - length (cut dialect f).rest ]) e in
     let kinds_same : k ≡ kind = ap (λ (o : Option Refusal). elim o [ Some r ↦ r.kind | None ↦ k ]) e in
     record {
       found = ap (λ (l : List ℕ). found_on l (Some k) None) fronts_same
           ∙ ap (λ (j : FaultKind). found_on front (Some j) None) kinds_same;
-      place = sym places_same ∙ ap (λ (l : List ℕ). length l - length (cut order l).rest) fronts_same;
+      place = sym places_same ∙ ap (λ (l : List ℕ). length l - length (cut dialect l).rest) fronts_same;
     }
 
 nothing_empty : (decided : List ℕ → Option FaultKind) → NothingBefore decided []
@@ -170,25 +172,26 @@ nothing_empty decided [] x back e = absurd cc
 nothing_empty decided (y ∷ front) x back e = absurd cc
 
 pub refusal_is_computed : RefusalIsComputed
-refusal_is_computed order b front at kind = (to, from) where
-  to : header_refusal_in order b ≡ Some (refusal_is front at kind)
-      → HeaderRefused order front at kind × ((v : List ℕ) × (b ≡ front ++ v))
+refusal_is_computed dialect b front at kind = (to, from) where
+  to : header_refusal_in dialect b ≡ Some (refusal_is front at kind)
+      → HeaderRefused dialect front at kind × ((v : List ℕ) × (b ≡ front ++ v))
   to e =
-      let p = parts order (first_decided (header_decided order) [] b) front at kind e in
-      let f = first_sound (header_decided order) [] b front kind (nothing_empty (header_decided order)) p.found in
-      let s : Sound order header_layout front (cut order front) = cut_sound order header_layout [] front in (
+      let p = parts dialect (first_decided (header_decided dialect) [] b) front at kind e in
+      let f = first_sound (header_decided dialect) [] b front kind (nothing_empty (header_decided dialect)) p.found in
+      let s : Sound dialect.order (header_layout dialect) front (cut dialect front) =
+      cut_sound dialect.order (header_layout dialect) [] front in (
         record {
-          place = omega (arith, p.place, ap length s.whole, length-append s.front (cut order front).rest);
+          place = omega (arith, p.place, ap length s.whole, length-append s.front (cut dialect front).rest);
           decided = f.decides;
           shortest = f.shortest;
         },
         (f.rest, f.whole),
       )
 
-  from : HeaderRefused order front at kind × ((v : List ℕ) × (b ≡ front ++ v))
-      → header_refusal_in order b ≡ Some (refusal_is front at kind)
+  from : HeaderRefused dialect front at kind × ((v : List ℕ) × (b ≡ front ++ v))
+      → header_refusal_in dialect b ≡ Some (refusal_is front at kind)
   from r =
-      ap (λ (l : List ℕ). header_refusal_in order l) r.1.1
-      ∙ ap (λ (o : Option (List ℕ × FaultKind)). refusal_of order o)
-      (first_found (header_decided order) [] front r.1.0 kind r.0.decided r.0.shortest)
+      ap (λ (l : List ℕ). header_refusal_in dialect l) r.1.1
+      ∙ ap (λ (o : Option (List ℕ × FaultKind)). refusal_of dialect o)
+      (first_found (header_decided dialect) [] front r.1.0 kind r.0.decided r.0.shortest)
       ∙ ap (λ (n : ℕ). let o : Option Refusal = Some (refusal_is front n kind) in o) (omega (arith, r.0.place))

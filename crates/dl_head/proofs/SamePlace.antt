@@ -23,7 +23,7 @@ pub record Guards (r : HeadReader) : Type 0 where
   pub tables : tables_fit r.phase (table_cells r.directories) (table_cells r.files) ≡ true
   pub formats : formats_fit r.phase r.params.format r.directories.format r.files.format ≡ true
   pub standard : AreStandard r.params.lengths.items
-  pub read : ∥ TableStands r.phase r.order r.params.format r.table ∥₁
+  pub read : ∥ TableStands r.phase r.dialect.order r.params.format r.table ∥₁
 
 abbrev pub counted : (r : HeadReader) → Guards r → ℕ → ℕ → HeadReader
 counted r g start taken = record r {

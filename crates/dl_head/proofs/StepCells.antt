@@ -1,7 +1,7 @@
 -- The cells that one byte more of a header adds.
 use Rattle.std.proofs.Common.{◌≡◌, ℕ, ◌+◌, List, [], ◌∷◌, ◌++◌, Some, None, Ok, Err, refl, ap, arith, sum_by}
 use Rattle.std.proofs.lemmas.List.Sums.{sum_by_push}
-use Rattle.dl_num.specs.declared.fixed.Order.{Order}
+use Rattle.dl_head.specs.declared.dialect.Dialect.{Dialect}
 use Rattle.dl_table.specs.declared.form.Form.TheVariants as form
 use Rattle.dl_table.specs.Value.{Judgement, good, bad}
 use Rattle.dl_field.specs.Layout.{Layout, initial_length_then, number_then, form_then, value_then, foreign_version}
@@ -42,63 +42,65 @@ judged_cells layout w o = elim o [
       rest_cells layout w
 ]
 
-pub cells_on : (order : Order) (b : List ℕ) (x : ℕ) (items : List Item) (rest : List ℕ)
-    → cut order b ≡ cut_of items rest
-    → cells order (b ++ x ∷ []) + rest_cells (following_all header_layout items) rest
-    ≡ cells order b + field_cells order (following_all header_layout items) (rest ++ x ∷ [])
-cells_on order b x items rest e = on (field_spelt order layout w) refl where
+pub cells_on : (dialect : Dialect) (b : List ℕ) (x : ℕ) (items : List Item) (rest : List ℕ)
+    → cut dialect b ≡ cut_of items rest
+    → cells dialect (b ++ x ∷ []) + rest_cells (following_all (header_layout dialect) items) rest
+    ≡ cells dialect b + field_cells dialect.order (following_all (header_layout dialect) items) (rest ++ x ∷ [])
+cells_on dialect b x items rest e = on (field_spelt dialect.order layout w) refl where
   layout : Layout
-  layout = following_all header_layout items
+  layout = following_all (header_layout dialect) items
 
   w : List ℕ
   w = rest ++ x ∷ []
 
-  before : cells order b ≡ sum_by item_cells items + rest_cells layout rest
-  before = ap cut_cells e
+  before : cells dialect b ≡ sum_by item_cells items + rest_cells layout rest
+  before = ap (cut_cells dialect) e
 
-  told : (o : Judgement Item) → field_spelt order layout w ≡ o → field_cells order layout w ≡ judged_cells layout w o
+  told : (o : Judgement Item) → field_spelt dialect.order layout w ≡ o
+      → field_cells dialect.order layout w ≡ judged_cells layout w o
   told o is = ap (λ (j : Judgement Item). judged_cells layout w j) is
 
-  on : (o : Judgement Item) → field_spelt order layout w ≡ o
-      → cells order (b ++ x ∷ []) + rest_cells layout rest ≡ cells order b + field_cells order layout w
+  on : (o : Judgement Item) → field_spelt dialect.order layout w ≡ o
+      → cells dialect (b ++ x ∷ []) + rest_cells layout rest ≡ cells dialect b + field_cells dialect.order layout w
   on None is =
-      let after : cells order (b ++ x ∷ []) ≡ sum_by item_cells items + rest_cells layout w =
-      ap cut_cells (cut_within order b x items rest e is) in
+      let after : cells dialect (b ++ x ∷ []) ≡ sum_by item_cells items + rest_cells layout w =
+      ap (cut_cells dialect) (cut_within dialect b x items rest e is) in
       omega (arith, before, after, told None is)
   on (Some (Err kind)) is =
-      let after : cells order (b ++ x ∷ []) ≡ sum_by item_cells items + rest_cells layout w =
-      ap cut_cells (cut_bad order b x items rest kind e is) in
+      let after : cells dialect (b ++ x ∷ []) ≡ sum_by item_cells items + rest_cells layout w =
+      ap (cut_cells dialect) (cut_bad dialect b x items rest kind e is) in
       omega (arith, before, after, told (bad kind) is)
   on (Some (Ok i)) is =
-      let after : cells order (b ++ x ∷ []) ≡ sum_by item_cells (items ++ i ∷ [])
-      + rest_cells (following_all header_layout (items ++ i ∷ [])) [] =
-      ap cut_cells (cut_good order b x items rest i e is) in
+      let after : cells dialect (b ++ x ∷ []) ≡ sum_by item_cells (items ++ i ∷ [])
+      + rest_cells (following_all (header_layout dialect) (items ++ i ∷ [])) [] =
+      ap (cut_cells dialect) (cut_good dialect b x items rest i e is) in
       omega (
         arith,
         before,
         after,
         told (good i) is,
-        none_held (following_all header_layout (items ++ i ∷ [])),
+        none_held (following_all (header_layout dialect) (items ++ i ∷ [])),
         sum_by_push item_cells items i,
       )
 
 -- b ends inside a field, and c with it
-pub cells_good_on : (order : Order) (b c : List ℕ) (items : List Item) (rest w : List ℕ) (i : Item)
-    → cut order b ≡ cut_of items rest → cut order c ≡ cut_of (items ++ i ∷ []) []
-    → field_spelt order (following_all header_layout items) w ≡ good i
-    → cells order c + rest_cells (following_all header_layout items) rest
-    ≡ cells order b + field_cells order (following_all header_layout items) w
-cells_good_on order b c items rest w i e f is =
-    let layout : Layout = following_all header_layout items in
-    let before : cells order b ≡ sum_by item_cells items + rest_cells layout rest = ap cut_cells e in
-    let after : cells order c ≡ sum_by item_cells (items ++ i ∷ [])
-    + rest_cells (following_all header_layout (items ++ i ∷ [])) [] = ap cut_cells f in
-    let told : field_cells order layout w ≡ item_cells i = ap (λ (j : Judgement Item). judged_cells layout w j) is in
+pub cells_good_on : (dialect : Dialect) (b c : List ℕ) (items : List Item) (rest w : List ℕ) (i : Item)
+    → cut dialect b ≡ cut_of items rest → cut dialect c ≡ cut_of (items ++ i ∷ []) []
+    → field_spelt dialect.order (following_all (header_layout dialect) items) w ≡ good i
+    → cells dialect c + rest_cells (following_all (header_layout dialect) items) rest
+    ≡ cells dialect b + field_cells dialect.order (following_all (header_layout dialect) items) w
+cells_good_on dialect b c items rest w i e f is =
+    let layout : Layout = following_all (header_layout dialect) items in
+    let before : cells dialect b ≡ sum_by item_cells items + rest_cells layout rest = ap (cut_cells dialect) e in
+    let after : cells dialect c ≡ sum_by item_cells (items ++ i ∷ [])
+    + rest_cells (following_all (header_layout dialect) (items ++ i ∷ [])) [] = ap (cut_cells dialect) f in
+    let told : field_cells dialect.order layout w ≡ item_cells i =
+    ap (λ (j : Judgement Item). judged_cells layout w j) is in
     omega (
       arith,
       before,
       after,
       told,
-      none_held (following_all header_layout (items ++ i ∷ [])),
+      none_held (following_all (header_layout dialect) (items ++ i ∷ [])),
       sum_by_push item_cells items i,
     )

@@ -1,4 +1,5 @@
 -- What the bytes come to that a header reader has taken.
+use Rattle.dl_head.specs.declared.dialect.Dialect.{Dialect}
 use Rattle.std.proofs.Common.{◌≡◌, ℕ, ◌-◌, ◌<◌, ◌≤◌, ◌^◌, true, List, [], ◌∷◌, ◌++◌, length, Option, Some, None, refl}
 use Rattle.std.proofs.Common.{sym, ap, subst, ◌∙◌, arith, length-append, append-nil}
 use Rattle.std.proofs.lemmas.Bool.{leb-true}
@@ -109,13 +110,16 @@ table_next order t table.Whole format next layout rest at going = absurd (going 
 -- ---- where the reader is: in a field, in the padding, or after the version of a foreign unit
 
 pub data Place (r : HeadReader) (p : Phase) (items : List Item) : Type 0 where
-  in_field : ending p ≡ None → (p ≡ phase.Padding → ⊥) → IsNext (following_all header_layout items) → Place r p items
+  in_field : ending p ≡ None → (p ≡ phase.Padding → ⊥) → IsNext (following_all (header_layout r.dialect) items)
+      → Place r p items
   in_padding : p ≡ phase.Padding → Past r items (from_end r.params r.directories r.files) → Place r p items
-  in_foreign : (v : ℕ) → p ≡ phase.Foreign v → following_all header_layout items ≡ foreign_version v → Place r p items
+  in_foreign : (v : ℕ) → p ≡ phase.Foreign v → following_all (header_layout r.dialect) items ≡ foreign_version v
+      → Place r p items
 
-next_of : (items is : List Item) → items ≡ is → IsNext (following_all header_layout is)
-    → IsNext (following_all header_layout items)
-next_of items is e next = subst (λ (l : List Item). IsNext (following_all header_layout l)) (sym e) next
+next_of : (dialect : Dialect) (items is : List Item) → items ≡ is → IsNext (following_all (header_layout dialect) is)
+    → IsNext (following_all (header_layout dialect) items)
+next_of dialect items is e next =
+    subst (λ (l : List Item). IsNext (following_all (header_layout dialect) l)) (sym e) next
 
 byte_next : (f : ByteField) (unit_length : ℕ) (p : Params) → IsNext (from_byte f unit_length p)
 byte_next field.AddressSize unit_length p = tt
@@ -134,11 +138,15 @@ length_next r e = subst IsNext
 
 pub place_of : (r : HeadReader) (p : Phase) (items : List Item) (rest : List ℕ) → r.phase ≡ p → AtPhase r p items rest
     → Place r p items
-place_of r (phase.UnitLength n) items rest e at = in_field refl (λ q. absurd cc) (next_of items _ at.0.none tt)
-place_of r (phase.LongUnitLength n) items rest e at = in_field refl (λ q. absurd cc) (next_of items _ at.0.none tt)
-place_of r phase.Version items rest e at = in_field refl (λ q. absurd cc) (next_of items _ at.0.items_are tt)
-place_of r (phase.VersionEnd first) items rest e at = in_field refl (λ q. absurd cc) (next_of items _ at.0.items_are tt)
-place_of r (phase.HeaderLength n) items rest e at = in_field refl (λ q. absurd cc) (next_of items _ at.0.items_are tt)
+place_of r (phase.UnitLength n) items rest e at =
+    in_field refl (λ q. absurd cc) (next_of r.dialect items _ at.0.none tt)
+place_of r (phase.LongUnitLength n) items rest e at =
+    in_field refl (λ q. absurd cc) (next_of r.dialect items _ at.0.none tt)
+place_of r phase.Version items rest e at = in_field refl (λ q. absurd cc) (next_of r.dialect items _ at.0.items_are tt)
+place_of r (phase.VersionEnd first) items rest e at =
+    in_field refl (λ q. absurd cc) (next_of r.dialect items _ at.0.items_are tt)
+place_of r (phase.HeaderLength n) items rest e at =
+    in_field refl (λ q. absurd cc) (next_of r.dialect items _ at.0.items_are tt)
 place_of r (phase.Byte f) items rest e at = in_field refl (λ q. absurd cc)
     (subst IsNext (sym (byte_follows r f items rest at).0) (byte_next f r.unit_length r.params))
 place_of r phase.OpcodeLength items rest e at =
@@ -146,14 +154,14 @@ place_of r phase.OpcodeLength items rest e at =
 place_of r phase.Directories items rest e at =
     in_field refl (λ q. absurd cc)
     (subst IsNext (sym at.tail.follows)
-    (table_next r.order r.table r.table.phase r.params.format _ at.layout rest at.at at.going))
+    (table_next r.dialect.order r.table r.table.phase r.params.format _ at.layout rest at.at at.going))
 place_of r phase.Files items rest e at =
     in_field refl (λ q. absurd cc)
     (subst IsNext (sym at.tail.follows)
-    (table_next r.order r.table r.table.phase r.params.format _ at.layout rest at.at at.going))
+    (table_next r.dialect.order r.table r.table.phase r.params.format _ at.layout rest at.at at.going))
 place_of r phase.Padding items rest e at = in_padding refl at
 place_of r (phase.Foreign v) items rest e at =
-    in_foreign v refl (ap (λ (l : List Item). following_all header_layout l) at.0.items_are
+    in_foreign v refl (ap (λ (l : List Item). following_all (header_layout r.dialect) l) at.0.items_are
     ∙ foreign_follows r (length_item r ∷ []) v refl at.1)
 place_of r phase.Done items rest e at = absurd at
 place_of r (phase.Failed f) items rest e at = absurd at
@@ -200,10 +208,11 @@ initial_of r phase.Done items rest at none = absurd at
 initial_of r (phase.Failed f) items rest at none = absurd at
 
 -- bytes in which no field is whole
-no_fields : (order : Order) (b rest : List ℕ) → cut order b ≡ cut_of [] rest → b ≡ rest
-no_fields order b rest e =
-    let s : Sound order header_layout b (cut_of [] rest) =
-    subst (λ (c : Cut). Sound order header_layout b c) e (cut_sound order header_layout [] b) in
+no_fields : (dialect : Dialect) (b rest : List ℕ) → cut dialect b ≡ cut_of [] rest → b ≡ rest
+no_fields dialect b rest e =
+    let s : Sound dialect.order (header_layout dialect) b (cut_of [] rest) =
+    subst (λ (c : Cut). Sound dialect.order (header_layout dialect) b c) e
+    (cut_sound dialect.order (header_layout dialect) [] b) in
     s.whole ∙ ap (λ (z : List ℕ). z ++ rest) s.spelt
 
 -- the bytes taken can be counted
@@ -213,35 +222,35 @@ countable r b l = on r.end refl l.below r.near where
   on (Some e) is below near = let le : e ≤ 2 ^ 41 = leb-true e (2 ^ 41) near in omega (arith, below, le)
   on None is below near =
       let i = initial_of r r.phase l.items l.rest l.at is in
-      let whole = no_fields r.order b l.rest (l.cut_is ∙ ap (λ (k : List Item). cut_of k l.rest) i.0) in
+      let whole = no_fields r.dialect b l.rest (l.cut_is ∙ ap (λ (k : List Item). cut_of k l.rest) i.0) in
       omega (arith, ap length whole, i.1)
 
 -- ---- what a cut decides
 
 -- bytes that end inside a field, before the end, decide nothing
-pub quiet_at : (r : HeadReader) (b : List ℕ) (items : List Item) (rest : List ℕ) → cut r.order b ≡ cut_of items rest
+pub quiet_at : (r : HeadReader) (b : List ℕ) (items : List Item) (rest : List ℕ) → cut r.dialect b ≡ cut_of items rest
     → EndIs r items
-    → field_spelt r.order (following_all header_layout items) rest ≡ None → Below (length b) r.end
-    → header_decided r.order b ≡ None
+    → field_spelt r.dialect.order (following_all (header_layout r.dialect) items) rest ≡ None → Below (length b) r.end
+    → header_decided r.dialect b ≡ None
 quiet_at r b items rest e end none below =
-    quiet r.order b items rest e none
+    quiet r.dialect b items rest e none
     (overrun_at (length b) items ∙ not_at_end (overrun_from items) (length b) (end_from items)
     (subst (λ (o : Option ℕ). Below (length b) o) end.end below))
 
 -- a header that goes on decides nothing
-pub live_quiet : (r : HeadReader) (b : List ℕ) → Live r b → header_decided r.order b ≡ None
+pub live_quiet : (r : HeadReader) (b : List ℕ) → Live r b → header_decided r.dialect b ≡ None
 live_quiet r b l = quiet_at r b l.items l.rest l.cut_is (end_is r r.phase l.items l.rest l.at) l.unjudged l.below
 
 -- bytes that end inside a field are refused
-pub overruns : (r : HeadReader) (b : List ℕ) (items : List Item) (rest : List ℕ) → cut r.order b ≡ cut_of items rest
-    → EndIs r items → IsNext (following_all header_layout items)
-    → field_spelt r.order (following_all header_layout items) rest ≡ None → r.end ≡ Some (length b)
-    → header_decided r.order b ≡ Some r.overrun
+pub overruns : (r : HeadReader) (b : List ℕ) (items : List Item) (rest : List ℕ) → cut r.dialect b ≡ cut_of items rest
+    → EndIs r items → IsNext (following_all (header_layout r.dialect) items)
+    → field_spelt r.dialect.order (following_all (header_layout r.dialect) items) rest ≡ None → r.end ≡ Some (length b)
+    → header_decided r.dialect b ≡ Some r.overrun
 overruns r b items rest e end next none is =
-    ap (λ (c : Cut). cut_decided r.order (length b) c) e
+    ap (λ (c : Cut). cut_decided r.dialect (length b) c) e
     ∙ ap (λ (o : Judgement Item). or_else (bad_kind o)
-    (header_overrun (length b) items (following_all header_layout items))) none
-    ∙ next_overrun (length b) items (following_all header_layout items) next
+    (header_overrun (length b) items (following_all (header_layout r.dialect) items))) none
+    ∙ next_overrun (length b) items (following_all (header_layout r.dialect) items) next
     ∙ overrun_at (length b) items
     ∙ just_at_end (overrun_from items) (length b) (end_from items) (sym end.end ∙ is)
     ∙ ap (λ (k : FaultKind). Some k) (sym end.overrun)
@@ -249,45 +258,47 @@ overruns r b items rest e end next none is =
 -- ---- what a header that goes on answers
 
 -- the values of a header's fields are those that are cut off
-header_items : (order : Order) (h : HeaderData) (b : List ℕ) (items : List Item) (rest : List ℕ)
-    (w : IsHeader order h b) → cut order b ≡ cut_of items rest → items ≡ w.items
-header_items order h b items rest w e =
-    ap (λ (c : Cut). c.items) (sym e ∙ ap (λ (z : List ℕ). cut order z) (sym (append-nil b))
-    ∙ header_cut order h b [] w)
+header_items : (dialect : Dialect) (h : HeaderData) (b : List ℕ) (items : List Item) (rest : List ℕ)
+    (w : IsHeader dialect h b) → cut dialect b ≡ cut_of items rest → items ≡ w.items
+header_items dialect h b items rest w e =
+    ap (λ (c : Cut). c.items) (sym e ∙ ap (λ (z : List ℕ). cut dialect z) (sym (append-nil b))
+    ∙ header_cut dialect h b [] w)
 
 not_header : (r : HeadReader) (b : List ℕ) (items : List Item) (rest : List ℕ) (h : HeaderData)
-    → cut r.order b ≡ cut_of items rest → EndIs r items
-    → Below (length b) r.end → IsHeader r.order h b → ⊥
+    → cut r.dialect b ≡ cut_of items rest → EndIs r items
+    → Below (length b) r.end → IsHeader r.dialect h b → ⊥
 not_header r b items rest h e end below w =
-    let whole : header_end items ≡ Some (length b) = ap header_end (header_items r.order h b items rest w e) ∙ w.end in
+    let whole : header_end items ≡ Some (length b) =
+    ap header_end (header_items r.dialect h b items rest w e) ∙ w.end in
     let at : r.end ≡ Some (length b) = end.end ∙ ap (λ (o : Option ℕ). first_end o (unit_end items)) whole in
     let lt : length b < length b = subst (λ (o : Option ℕ). Below (length b) o) at below in omega arith
 
-foreign_of : (order : Order) (b : List ℕ) (items : List Item) (rest : List ℕ) → cut order b ≡ cut_of items rest
-    → foreign_in order b ≡ foreign_made (following_all header_layout items)
-foreign_of order b items rest e = ap (λ (c : Cut). foreign_made (following_all header_layout c.items)) e
+foreign_of : (dialect : Dialect) (b : List ℕ) (items : List Item) (rest : List ℕ) → cut dialect b ≡ cut_of items rest
+    → foreign_in dialect b ≡ foreign_made (following_all (header_layout dialect) items)
+foreign_of dialect b items rest e = ap (λ (c : Cut). foreign_made (following_all (header_layout dialect) c.items)) e
 
 pub not_foreign : (r : HeadReader) (p : Phase) (items : List Item) → ending p ≡ None → Place r p items
-    → foreign_made (following_all header_layout items) ≡ None
-not_foreign r p items goes (in_field none out next) = next_not_foreign (following_all header_layout items) next
+    → foreign_made (following_all (header_layout r.dialect) items) ≡ None
+not_foreign r p items goes (in_field none out next) =
+    next_not_foreign (following_all (header_layout r.dialect) items) next
 not_foreign r p items goes (in_padding is tail) = ap foreign_made tail.follows
 not_foreign r p items goes (in_foreign v is follows) = absurd (none_some goes (ap ending is))
 
 -- bytes that end inside a field, before the end, come to nothing
-pub field_more : (r : HeadReader) (b : List ℕ) (items : List Item) (rest : List ℕ) → cut r.order b ≡ cut_of items rest
-    → EndIs r items → IsNext (following_all header_layout items)
-    → field_spelt r.order (following_all header_layout items) rest ≡ None → Below (length b) r.end
-    → Answers r.order b answer.More
+pub field_more : (r : HeadReader) (b : List ℕ) (items : List Item) (rest : List ℕ) → cut r.dialect b ≡ cut_of items rest
+    → EndIs r items → IsNext (following_all (header_layout r.dialect) items)
+    → field_spelt r.dialect.order (following_all (header_layout r.dialect) items) rest ≡ None → Below (length b) r.end
+    → Answers r.dialect b answer.More
 field_more r b items rest e end next none below = (
   λ h w. not_header r b items rest h e end below w,
-  foreign_of r.order b items rest e ∙ next_not_foreign (following_all header_layout items) next,
+  foreign_of r.dialect b items rest e ∙ next_not_foreign (following_all (header_layout r.dialect) items) next,
   λ at kind w. none_some (quiet_at r b items rest e end none below) w.decided,
 )
 
-pub live_more : (r : HeadReader) (b : List ℕ) → ending r.phase ≡ None → Live r b → Answers r.order b answer.More
+pub live_more : (r : HeadReader) (b : List ℕ) → ending r.phase ≡ None → Live r b → Answers r.dialect b answer.More
 live_more r b goes l = (
   λ h w. not_header r b l.items l.rest h l.cut_is (end_is r r.phase l.items l.rest l.at) l.below w,
-  foreign_of r.order b l.items l.rest l.cut_is ∙ not_foreign r r.phase l.items goes
+  foreign_of r.dialect b l.items l.rest l.cut_is ∙ not_foreign r r.phase l.items goes
       (place_of r r.phase l.items l.rest refl l.at),
   λ at kind w. none_some (live_quiet r b l) w.decided,
 )

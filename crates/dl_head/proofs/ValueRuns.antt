@@ -1,4 +1,5 @@
 -- The header reader takes values of a table, one after the other.
+use Rattle.dl_head.specs.declared.dialect.Dialect.{Dialect}
 use Rattle.std.proofs.Common.{◌≡◌, ◌≢◌, ℕ, ◌+◌, ◌-◌, ◌^◌, ◌<◌, ◌≤◌, min, inl, inr, true, List, [], ◌∷◌, ◌++◌, length}
 use Rattle.std.proofs.Common.{take, get_or, Option, Some, None, refl, sym, ap, subst, ◌∙◌, arith, append_assoc}
 use Rattle.std.proofs.Common.{append-nil, length-append}
@@ -73,23 +74,23 @@ module _ (r : HeadReader) (next : TableData → Layout) where
     pub items : List Item
     pub layout : Layout
     pub past : Past r items layout
-    pub at : TableAt r.order t t.phase r.params.format next layout rest
+    pub at : TableAt r.dialect.order t t.phase r.params.format next layout rest
     pub going : t.phase ≡ table.Whole → ⊥
-    pub cut_is : cut r.order b ≡ cut_of items rest
-    pub unjudged : field_spelt r.order (following_all header_layout items) rest ≡ None
-    pub nothing_before : NothingBefore (header_decided r.order) b
+    pub cut_is : cut r.dialect b ≡ cut_of items rest
+    pub unjudged : field_spelt r.dialect.order (following_all (header_layout r.dialect) items) rest ≡ None
+    pub nothing_before : NothingBefore (header_decided r.dialect) b
     pub below : Below (length b) r.end
     pub ends_within : EndsWithin items
-    pub cells_are : table_cells r.directories + table_cells r.files + reader_cells t ≡ cells r.order b
+    pub cells_are : table_cells r.directories + table_cells r.files + reader_cells t ≡ cells r.dialect b
 
   -- and no front of the bytes w after b comes to anything
   pub record Run (b w rest : List ℕ) (t : TableReader) : Type 0 where
     pub among : Among (b ++ w) rest t
-    pub more : (j : ℕ) → j < length w → Answers r.order (b ++ take j w) answer.More
+    pub more : (j : ℕ) → j < length w → Answers r.dialect (b ++ take j w) answer.More
 
   -- a value
   value_on : (b rest w : List ℕ) (t mid : TableReader) → Among b rest t
-      → BytesFollow r.order r.params.format t w byte_makes.Ends mid → (mid.phase ≡ table.Whole → ⊥)
+      → BytesFollow r.dialect.order r.params.format t w byte_makes.Ends mid → (mid.phase ≡ table.Whole → ⊥)
       → Below (length b + length w) r.end → Run b w [] mid
   value_on b rest w t mid a f going below = record {
     among = record {
@@ -99,7 +100,7 @@ module _ (r : HeadReader) (next : TableData → Layout) where
       at = made.2;
       going = going;
       cut_is = passed.cut_is;
-      unjudged = field_empty r.order (following_all header_layout (a.items ++ made.0 ∷ []));
+      unjudged = field_empty r.dialect.order (following_all (header_layout r.dialect) (a.items ++ made.0 ∷ []));
       nothing_before = passed.nothing_before;
       below = subst (λ (n : ℕ). Below n r.end) (sym (length-append b w)) below;
       ends_within = passed.ends_within;
@@ -107,45 +108,45 @@ module _ (r : HeadReader) (next : TableData → Layout) where
         arith,
         adds,
         a.cells_are,
-        cells_good_on r.order b (b ++ w) a.items rest (rest ++ w) made.0 a.cut_is passed.cut_is spelt,
+        cells_good_on r.dialect b (b ++ w) a.items rest (rest ++ w) made.0 a.cut_is passed.cut_is spelt,
       );
     };
     more = passed.more;
   } where
-    made : (i : Item) × (field_spelt r.order a.layout (rest ++ w) ≡ good i)
-        × TableAt r.order mid mid.phase r.params.format next (following a.layout i) []
+    made : (i : Item) × (field_spelt r.dialect.order a.layout (rest ++ w) ≡ good i)
+        × TableAt r.dialect.order mid mid.phase r.params.format next (following a.layout i) []
     made = f.made a.going next a.layout rest a.at
 
-    spelt : field_spelt r.order (following_all header_layout a.items) (rest ++ w) ≡ good made.0
-    spelt = ap (λ (l : Layout). field_spelt r.order l (rest ++ w)) a.past.follows ∙ made.1
+    spelt : field_spelt r.dialect.order (following_all (header_layout r.dialect) a.items) (rest ++ w) ≡ good made.0
+    spelt = ap (λ (l : Layout). field_spelt r.dialect.order l (rest ++ w)) a.past.follows ∙ made.1
 
-    adds : reader_cells mid + rest_cells (following_all header_layout a.items) rest
-        ≡ reader_cells t + field_cells r.order (following_all header_layout a.items) (rest ++ w)
+    adds : reader_cells mid + rest_cells (following_all (header_layout r.dialect) a.items) rest
+        ≡ reader_cells t + field_cells r.dialect.order (following_all (header_layout r.dialect) a.items) (rest ++ w)
     adds = subst (λ (l : Layout). reader_cells mid + rest_cells l rest ≡ reader_cells t
-        + field_cells r.order l (rest ++ w)) (sym a.past.follows) (f.cells a.going next a.layout rest a.at)
+        + field_cells r.dialect.order l (rest ++ w)) (sym a.past.follows) (f.cells a.going next a.layout rest a.at)
 
     end : EndIs r a.items
     end = after_end r a.items a.layout a.past
 
-    field : IsNext (following_all header_layout a.items)
+    field : IsNext (following_all (header_layout r.dialect) a.items)
     field = subst IsNext (sym a.past.follows)
-        (table_next r.order t t.phase r.params.format next a.layout rest a.at a.going)
+        (table_next r.dialect.order t t.phase r.params.format next a.layout rest a.at a.going)
 
     passed : Passed r a.items end field b rest w made.0
     passed = passes r a.items end field w b rest made.0
         (record { cut_is = a.cut_is; unjudged = a.unjudged; nothing_before = a.nothing_before; below = a.below })
         a.ends_within spelt (below_less (length b + length w) (length b + (length w - 1)) r.end (omega arith) below)
 
-  fronts : (b v w : List ℕ) → ((j : ℕ) → j < length v → Answers r.order (b ++ take j v) answer.More)
-      → ((j : ℕ) → j < length w → Answers r.order ((b ++ v) ++ take j w) answer.More) → (j : ℕ) → j < length (v ++ w)
-      → Answers r.order (b ++ take j (v ++ w)) answer.More
+  fronts : (b v w : List ℕ) → ((j : ℕ) → j < length v → Answers r.dialect (b ++ take j v) answer.More)
+      → ((j : ℕ) → j < length w → Answers r.dialect ((b ++ v) ++ take j w) answer.More) → (j : ℕ) → j < length (v ++ w)
+      → Answers r.dialect (b ++ take j (v ++ w)) answer.More
   fronts b v w first later j lt = elim (cases_lt j (length v)) [
-    | inl shorter ↦ subst (λ (l : List ℕ). Answers r.order (b ++ l) answer.More)
+    | inl shorter ↦ subst (λ (l : List ℕ). Answers r.dialect (b ++ l) answer.More)
         (sym (take-append-le j v w (omega (arith, shorter)))) (first j shorter)
     | inr tail ↦
         let k = j - length v in
         let same : length v + k ≡ j = omega (arith, tail) in
-        subst (λ (l : List ℕ). Answers r.order l answer.More)
+        subst (λ (l : List ℕ). Answers r.dialect l answer.More)
         (append_assoc b v (take k w) ∙ ap (λ (l : List ℕ). b ++ l) (sym (take-append-add v w k))
         ∙ ap (λ (n : ℕ). b ++ take n (v ++ w)) same)
         (later k (omega (arith, lt, tail, length-append v w)))
@@ -153,14 +154,14 @@ module _ (r : HeadReader) (next : TableData → Layout) where
 
   -- values, one after the other
   values_on : (values : List (List ℕ)) (b rest : List ℕ) (t new : TableReader) → Among b rest t
-      → TakesEach r.order r.params.format t values new → Below (length b + length (concat values)) r.end
+      → TakesEach r.dialect.order r.params.format t values new → Below (length b + length (concat values)) r.end
       → Run b (concat values) (left_of values rest) new
   values_on [] b rest t new a same below = record {
     among = subst (λ (l : List ℕ). Among l rest new) (sym (append-nil b)) (record {
       items = a.items;
       layout = a.layout;
       past = a.past;
-      at = table_same r.order t new r.params.format next a.layout rest same a.at;
+      at = table_same r.dialect.order t new r.params.format next a.layout rest same a.at;
       going = λ whole. a.going (sym same.phase ∙ whole);
       cut_is = a.cut_is;
       unjudged = a.unjudged;
@@ -193,21 +194,22 @@ up_to_of n (Some e) lt = omega (arith, lt)
 -- `whole_values`: values are taken
 pub values_whole : (r new : HeadReader) (b piece bytes : List ℕ) (used : ℕ) → in_table r.phase ≡ true
     → ending new.phase ≡ None → IsInside r piece bytes → 1 ≤ used → used ≤ length bytes
-    → TakesValues r.order r.params.format r.table (take used bytes) new.table
+    → TakesValues r.dialect.order r.params.format r.table (take used bytes) new.table
     → SameFields r new → ((is : List Item) (w : List ℕ) → InTable new is w
     (after_the_table r.phase r.params r.directories)
     → At new is w)
     → held_cells new ≡ table_cells r.directories + table_cells r.files + reader_cells new.table → new.header ≡ r.header
     → new.start ≡ new.taken → new.taken ≡ min (r.taken + used) (2 ^ 64 - 1) → StandsFor r b
-    → TakesAll r.order b (take used piece) new
+    → TakesAll r.dialect b (take used piece) new
 values_whole r new b piece bytes used table on inside some le v fields to held header start taken s =
-    subst (λ (l : List ℕ). TakesAll r.order b l new)
+    subst (λ (l : List ℕ). TakesAll r.dialect b l new)
     (sym v.bytes_are ∙ front_taken piece bytes inside.len used inside.bytes_are le) (record {
       stands = last.1;
       more = λ i small. elim (cases_lt i (length (concat v.values))) [
         | inl lt ↦ run.more i lt
-        | inr ge ↦ subst (λ (k : List ℕ). Answers r.order (b ++ k) answer.More) (sym (take_all i (concat v.values) ge))
-            (subst (λ (o : Order). Answers o (b ++ concat v.values) answer.More) fields.order last.0)
+        | inr ge ↦ subst (λ (k : List ℕ). Answers r.dialect (b ++ k) answer.More)
+            (sym (take_all i (concat v.values) ge))
+            (subst (λ (d : Dialect). Answers d (b ++ concat v.values) answer.More) fields.dialect last.0)
       ];
     })
   where
@@ -264,21 +266,21 @@ values_whole r new b piece bytes used table on inside some le v fields to held h
     moved = record {
       items = among.items;
       rest = [];
-      cut_is = subst (λ (o : Order). cut o (b ++ concat v.values) ≡ cut_of among.items []) (sym fields.order)
+      cut_is = subst (λ (d : Dialect). cut d (b ++ concat v.values) ≡ cut_of among.items []) (sym fields.dialect)
           among.cut_is;
       at = to among.items []
           (table_in r new new.table among.items among.layout [] (after_the_table r.phase r.params r.directories) fields
           refl among.going (after_same r new among.items among.layout fields among.past) among.at);
-      unjudged = field_empty new.order (following_all header_layout among.items);
+      unjudged = field_empty new.dialect.order (following_all (header_layout r.dialect) among.items);
       start_is = omega (arith, start, counted);
       up_to = up_to_of (length (b ++ concat v.values)) new.end
           (subst (λ (o : Option ℕ). Below (length (b ++ concat v.values)) o) (sym fields.end) among.below);
-      nothing_before = subst (λ (o : Order). NothingBefore (header_decided o) (b ++ concat v.values))
-          (sym fields.order) among.nothing_before;
+      nothing_before = subst (λ (d : Dialect). NothingBefore (header_decided d) (b ++ concat v.values))
+          (sym fields.dialect) among.nothing_before;
       ends_within = among.ends_within;
       unmade = record {
         header = header ∙ l.1.header;
-        cells_are = held ∙ among.cells_are ∙ ap (λ (o : Order). cells o (b ++ concat v.values)) (sym fields.order);
+        cells_are = held ∙ among.cells_are ∙ ap (λ (d : Dialect). cells d (b ++ concat v.values)) (sym fields.dialect);
       };
       taken_is = counted;
     }
@@ -289,7 +291,7 @@ values_whole r new b piece bytes used table on inside some le v fields to held h
         subst (λ (o : Option ℕ). Below (length (b ++ concat v.values)) o) (sym fields.end ∙ e) among.below in
         omega (arith, here, counted)
 
-    last : Answers new.order (b ++ concat v.values) answer.More × StandsFor new (b ++ concat v.values)
+    last : Answers new.dialect (b ++ concat v.values) answer.More × StandsFor new (b ++ concat v.values)
     last = goes_on new (b ++ concat v.values) on moved not_end
 
 -- no value is taken

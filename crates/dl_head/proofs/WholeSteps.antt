@@ -1,5 +1,6 @@
 -- The header reader takes a value of a table at once: what it answers on the way, and the bytes that it stands for
 -- then.
+use Rattle.dl_head.specs.declared.dialect.Dialect.{Dialect}
 use Rattle.std.proofs.Common.{◌≡◌, ℕ, zero, suc, ◌+◌, ◌-◌, ◌<◌, ◌≤◌, inl, inr, true, List, [], ◌∷◌, ◌++◌}
 use Rattle.std.proofs.Common.{length, take, drop, Option, Some, None, Ok, refl, sym, ap, subst, ◌∙◌, arith}
 use Rattle.std.proofs.Common.{append_assoc, append-nil, length-append}
@@ -42,11 +43,11 @@ use Rattle.dl_head.proofs.HeadTables.{SameFields, table_stays}
 
 -- ---- nothing is taken
 
-pub takes_none : (order : Order) (b : List ℕ) (r : HeadReader) → StandsFor r b → Answers order b answer.More
-    → TakesAll order b [] r
-takes_none order b r s more = record {
+pub takes_none : (dialect : Dialect) (b : List ℕ) (r : HeadReader) → StandsFor r b → Answers dialect b answer.More
+    → TakesAll dialect b [] r
+takes_none dialect b r s more = record {
   stands = subst (λ (l : List ℕ). StandsFor r l) (sym (append-nil b)) s;
-  more = λ i le. subst (λ (l : List ℕ). Answers order l answer.More)
+  more = λ i le. subst (λ (l : List ℕ). Answers dialect l answer.More)
       (sym (ap (λ (l : List ℕ). b ++ l) (none i) ∙ append-nil b)) more;
 } where
   none : (i : ℕ) → take {A = ℕ} i [] ≡ []
@@ -55,56 +56,59 @@ takes_none order b r s more = record {
 
 -- ---- bytes of a field up to its last one
 
-module _ (r : HeadReader) (items : List Item) (end : EndIs r items) (next : IsNext (following_all header_layout items))
+module _ (r : HeadReader) (items : List Item) (end : EndIs r items)
+    (next : IsNext (following_all (header_layout r.dialect) items))
   where
     abbrev layout : Layout
-    layout = following_all header_layout items
+    layout = following_all (header_layout r.dialect) items
 
     -- b ends inside the field
     pub record Passing (b rest : List ℕ) : Type 0 where
-      pub cut_is : cut r.order b ≡ cut_of items rest
-      pub unjudged : field_spelt r.order layout rest ≡ None
-      pub nothing_before : NothingBefore (header_decided r.order) b
+      pub cut_is : cut r.dialect b ≡ cut_of items rest
+      pub unjudged : field_spelt r.dialect.order layout rest ≡ None
+      pub nothing_before : NothingBefore (header_decided r.dialect) b
       pub below : Below (length b) r.end
 
     -- w ends it
     pub record Passed (b rest w : List ℕ) (i : Item) : Type 0 where
-      pub cut_is : cut r.order (b ++ w) ≡ cut_of (items ++ i ∷ []) []
-      pub nothing_before : NothingBefore (header_decided r.order) (b ++ w)
+      pub cut_is : cut r.dialect (b ++ w) ≡ cut_of (items ++ i ∷ []) []
+      pub nothing_before : NothingBefore (header_decided r.dialect) (b ++ w)
       pub up_to : UpTo (length (b ++ w)) (end_from (items ++ i ∷ []))
       pub ends_within : EndsWithin (items ++ i ∷ [])
-      pub more : (j : ℕ) → j < length w → Answers r.order (b ++ take j w) answer.More
+      pub more : (j : ℕ) → j < length w → Answers r.dialect (b ++ take j w) answer.More
 
-    more_at : (b rest : List ℕ) → Passing b rest → Answers r.order (b ++ []) answer.More
-    more_at b rest p = subst (λ (l : List ℕ). Answers r.order l answer.More) (sym (append-nil b))
+    more_at : (b rest : List ℕ) → Passing b rest → Answers r.dialect (b ++ []) answer.More
+    more_at b rest p = subst (λ (l : List ℕ). Answers r.dialect l answer.More) (sym (append-nil b))
         (field_more r b items rest p.cut_is end next p.unjudged p.below)
 
-    quiet_here : (b rest : List ℕ) → Passing b rest → header_decided r.order b ≡ None
+    quiet_here : (b rest : List ℕ) → Passing b rest → header_decided r.dialect b ≡ None
     quiet_here b rest p = quiet_at r b items rest p.cut_is end p.unjudged p.below
 
     pub passes : (w b rest : List ℕ) (i : Item) → Passing b rest → EndsWithin items
-        → field_spelt r.order layout (rest ++ w) ≡ good i → Below (length b + (length w - 1)) r.end → Passed b rest w i
+        → field_spelt r.dialect.order layout (rest ++ w) ≡ good i → Below (length b + (length w - 1)) r.end
+        → Passed b rest w i
     passes [] b rest i p ends spelt below = absurd
-        (none_some p.unjudged (ap (λ (l : List ℕ). field_spelt r.order layout l) (sym (append-nil rest)) ∙ spelt))
+        (none_some p.unjudged (ap (λ (l : List ℕ). field_spelt r.dialect.order layout l)
+        (sym (append-nil rest)) ∙ spelt))
     passes (x ∷ []) b rest i p ends spelt below =
         let here = subst (λ (o : Option ℕ). Below (length b) o) end.end p.below in
         record {
-          cut_is = cut_good r.order b x items rest i p.cut_is spelt;
-          nothing_before = nothing_on r.order b x p.nothing_before (quiet_here b rest p);
-          up_to = room_on r.order b x items rest i p.cut_is spelt here;
-          ends_within = ends_on r.order b x items rest i p.cut_is spelt here ends;
-          more = λ j lt. subst (λ (k : ℕ). Answers r.order (b ++ take k (x ∷ [])) answer.More)
+          cut_is = cut_good r.dialect b x items rest i p.cut_is spelt;
+          nothing_before = nothing_on r.dialect b x p.nothing_before (quiet_here b rest p);
+          up_to = room_on r.dialect b x items rest i p.cut_is spelt here;
+          ends_within = ends_on r.dialect b x items rest i p.cut_is spelt here ends;
+          more = λ j lt. subst (λ (k : ℕ). Answers r.dialect (b ++ take k (x ∷ [])) answer.More)
               (let e : 0 ≡ j = omega (arith, lt) in e) (more_at b rest p);
         }
     passes (x ∷ y ∷ w) b rest i p ends spelt below =
         let longer : (rest ++ x ∷ []) ++ y ∷ w ≡ rest ++ x ∷ y ∷ w = append_assoc rest (x ∷ []) (y ∷ w) in
-        let later : field_spelt r.order layout ((rest ++ x ∷ []) ++ y ∷ w) ≡ good i =
-        ap (λ (l : List ℕ). field_spelt r.order layout l) longer ∙ spelt in
-        let unjudged = before_none r.order layout (rest ++ x ∷ []) y w (Ok i) later in
+        let later : field_spelt r.dialect.order layout ((rest ++ x ∷ []) ++ y ∷ w) ≡ good i =
+        ap (λ (l : List ℕ). field_spelt r.dialect.order layout l) longer ∙ spelt in
+        let unjudged = before_none r.dialect.order layout (rest ++ x ∷ []) y w (Ok i) later in
         let on : Passing (b ++ x ∷ []) (rest ++ x ∷ []) = record {
-          cut_is = cut_within r.order b x items rest p.cut_is unjudged;
+          cut_is = cut_within r.dialect b x items rest p.cut_is unjudged;
           unjudged = unjudged;
-          nothing_before = nothing_on r.order b x p.nothing_before (quiet_here b rest p);
+          nothing_before = nothing_on r.dialect b x p.nothing_before (quiet_here b rest p);
           below = below_less (length b + (length (x ∷ y ∷ w) - 1)) (length (b ++ x ∷ [])) r.end
               (omega (arith, length-append b (x ∷ []))) below;
         } in
@@ -114,8 +118,8 @@ module _ (r : HeadReader) (items : List Item) (end : EndIs r items) (next : IsNe
         + (length (y ∷ w) - 1) = omega (arith, length-append b (x ∷ [])) in e) below) in
         let same = append_assoc b (x ∷ []) (y ∷ w) in
         record {
-          cut_is = ap (λ (l : List ℕ). cut r.order l) (sym same) ∙ q.cut_is;
-          nothing_before = subst (λ (l : List ℕ). NothingBefore (header_decided r.order) l) same q.nothing_before;
+          cut_is = ap (λ (l : List ℕ). cut r.dialect l) (sym same) ∙ q.cut_is;
+          nothing_before = subst (λ (l : List ℕ). NothingBefore (header_decided r.dialect) l) same q.nothing_before;
           up_to = subst (λ (l : List ℕ). UpTo (length l) (end_from (items ++ i ∷ []))) same q.up_to;
           ends_within = q.ends_within;
           more = fronts (more_at b rest p) q.more;
@@ -125,61 +129,62 @@ module _ (r : HeadReader) (items : List Item) (end : EndIs r items) (next : IsNe
         below_less m n None le lt = tt
         below_less m n (Some e) le lt = omega (arith, le, lt)
 
-        fronts : Answers r.order (b ++ []) answer.More
-            → ((j : ℕ) → j < length (y ∷ w) → Answers r.order ((b ++ x ∷ []) ++ take j (y ∷ w)) answer.More)
-            → (j : ℕ) → j < length (x ∷ y ∷ w) → Answers r.order (b ++ take j (x ∷ y ∷ w)) answer.More
+        fronts : Answers r.dialect (b ++ []) answer.More
+            → ((j : ℕ) → j < length (y ∷ w) → Answers r.dialect ((b ++ x ∷ []) ++ take j (y ∷ w)) answer.More)
+            → (j : ℕ) → j < length (x ∷ y ∷ w) → Answers r.dialect (b ++ take j (x ∷ y ∷ w)) answer.More
         fronts first more zero lt = first
-        fronts first more (suc j) lt = subst (λ (l : List ℕ). Answers r.order l answer.More)
+        fronts first more (suc j) lt = subst (λ (l : List ℕ). Answers r.dialect l answer.More)
             (append_assoc b (x ∷ []) (take j (y ∷ w))) (more j (omega (arith, lt)))
 
 -- ---- a field is whole
 
 -- what ends well is a field
-next_of_good : (order : Order) (r : HeadReader) (items : List Item) (rest w : List ℕ) (i : Item)
-    → At r items rest → field_spelt order (following_all header_layout items) w ≡ good i
-    → IsNext (following_all header_layout items)
-next_of_good order r items rest w i at spelt = on (place_of r r.phase items rest refl at) where
-  on : Place r r.phase items → IsNext (following_all header_layout items)
+next_of_good : (r : HeadReader) (items : List Item) (rest w : List ℕ) (i : Item)
+    → At r items rest → field_spelt r.dialect.order (following_all (header_layout r.dialect) items) w ≡ good i
+    → IsNext (following_all (header_layout r.dialect) items)
+next_of_good r items rest w i at spelt = on (place_of r r.phase items rest refl at) where
+  on : Place r r.phase items → IsNext (following_all (header_layout r.dialect) items)
   on (in_field goes out next) = next
   on (in_padding is tail) = absurd
-      (none_some (ap (λ (l : Layout). field_spelt order l w) tail.follows) spelt)
-  on (in_foreign v is follows) = absurd (none_some (ap (λ (l : Layout). field_spelt order l w) follows) spelt)
+      (none_some (ap (λ (l : Layout). field_spelt r.dialect.order l w) tail.follows) spelt)
+  on (in_foreign v is follows) = absurd (none_some (ap (λ (l : Layout). field_spelt r.dialect.order l w) follows) spelt)
 
 -- the reader has the bytes w more, which end the field
 pub record Whole (r fin : HeadReader) (b w : List ℕ) : Type 0 where
   pub moved : Moved fin (b ++ w)
-  pub more : (j : ℕ) → j < length w → Answers r.order (b ++ take j w) answer.More
+  pub more : (j : ℕ) → j < length w → Answers r.dialect (b ++ take j w) answer.More
 
 pub whole_moved : (r fin : HeadReader) (b w : List ℕ) → (l : Live r b × Unmade r b)
-    → Made r.order l.0.items (l.0.rest ++ w) byte_makes.Ends fin
-    → Adds r.order (following_all header_layout l.0.items) l.0.rest (l.0.rest ++ w) byte_makes.Ends (held_cells r)
+    → Made r.dialect l.0.items (l.0.rest ++ w) byte_makes.Ends fin
+    → Adds r.dialect.order (following_all (header_layout r.dialect) l.0.items) l.0.rest (l.0.rest ++ w) byte_makes.Ends
+    (held_cells r)
     (held_cells fin)
-    → fin.order ≡ r.order → fin.header ≡ r.header → fin.start ≡ length b + length w → fin.taken ≡ length b + length w
-    → Below (length b + (length w - 1)) r.end → Whole r fin b w
-whole_moved r fin b w l made adds order header start taken below = record {
+    → fin.dialect ≡ r.dialect → fin.header ≡ r.header → fin.start ≡ length b + length w
+    → fin.taken ≡ length b + length w → Below (length b + (length w - 1)) r.end → Whole r fin b w
+whole_moved r fin b w l made adds dialect header start taken below = record {
   moved = record {
     items = items ++ made.0 ∷ [];
     rest = [];
-    cut_is = subst (λ (o : Order). cut o (b ++ w) ≡ cut_of (items ++ made.0 ∷ []) []) (sym order) passed.cut_is;
+    cut_is = subst (λ (d : Dialect). cut d (b ++ w) ≡ cut_of (items ++ made.0 ∷ []) []) (sym dialect) passed.cut_is;
     at = made.2;
-    unjudged = field_empty fin.order (following_all header_layout (items ++ made.0 ∷ []));
+    unjudged = field_empty fin.dialect.order (following_all (header_layout fin.dialect) (items ++ made.0 ∷ []));
     start_is = omega (arith, size, start);
     up_to = subst (λ (o : Option ℕ). UpTo (length (b ++ w)) o)
         (sym (end_is fin fin.phase (items ++ made.0 ∷ []) [] made.2).end) passed.up_to;
-    nothing_before = subst (λ (o : Order). NothingBefore (header_decided o) (b ++ w)) (sym order)
+    nothing_before = subst (λ (d : Dialect). NothingBefore (header_decided d) (b ++ w)) (sym dialect)
         passed.nothing_before;
     ends_within = passed.ends_within;
     unmade = record {
       header = header ∙ l.1.header;
       cells_are =
-          (let e : held_cells fin ≡ cells r.order (b ++ w) = omega (
+          (let e : held_cells fin ≡ cells r.dialect (b ++ w) = omega (
             arith,
             adds,
             l.1.cells_are,
-            cells_good_on r.order b (b ++ w) items l.0.rest (l.0.rest ++ w) made.0 l.0.cut_is
+            cells_good_on r.dialect b (b ++ w) items l.0.rest (l.0.rest ++ w) made.0 l.0.cut_is
                 passed.cut_is made.1,
           ) in e)
-          ∙ ap (λ (o : Order). cells o (b ++ w)) (sym order);
+          ∙ ap (λ (d : Dialect). cells d (b ++ w)) (sym dialect);
     };
     taken_is = taken ∙ sym size;
   };
@@ -191,8 +196,8 @@ whole_moved r fin b w l made adds order header start taken below = record {
   here : EndIs r items
   here = end_is r r.phase items l.0.rest l.0.at
 
-  next : IsNext (following_all header_layout items)
-  next = next_of_good r.order r items l.0.rest (l.0.rest ++ w) made.0 l.0.at made.1
+  next : IsNext (following_all (header_layout r.dialect) items)
+  next = next_of_good r items l.0.rest (l.0.rest ++ w) made.0 l.0.at made.1
 
   passed : Passed r items here next b l.0.rest w made.0
   passed = passes r items here next w b l.0.rest made.0
@@ -248,12 +253,12 @@ pub value_refused : (r new : HeadReader) (b : List ℕ) → in_table r.phase ≡
     → SameFields r new → SameCounts r new
     → ((is : List Item) (w : List ℕ) → InTable new is w (after_the_table r.phase r.params r.directories) → At new is w)
     → held_cells new ≡ table_cells r.directories + table_cells r.files + reader_cells new.table
-    → StandsFor r b → Answers r.order b answer.More → TakesAll r.order b [] new
+    → StandsFor r b → Answers r.dialect b answer.More → TakesAll r.dialect b [] new
 value_refused r new b table same fields counts to held s more =
     let goes = table_goes r.phase table in
     let l = live_of r b goes s in
     let at = table_of_phase r r.phase l.0.items l.0.rest table l.0.at in
-    takes_none r.order b new
+    takes_none r.dialect b new
     (kept_stands r new b goes s l (to l.0.items l.0.rest
     (table_stays r new new.table l.0.items l.0.rest _ at same refl fields)) counts
     (omega (arith, held, ap length same.pairs, ap length same.values, ap length same.pool))) more
@@ -269,41 +274,42 @@ stands_on p order format old new is on = by_table
 -- ---- a piece
 
 -- a value is taken
-pub offering_whole : (order : Order) (b piece : List ℕ) (i n : ℕ) (r new : HeadReader) → Offering order b piece i r
-    → n ≤ length (drop i piece)
-    → TakesAll order (b ++ take i piece) (take n (drop i piece)) new → Offering order b piece (i + n) new
-offering_whole order b piece i n r new o le t = record {
+pub offering_whole : (dialect : Dialect) (b piece : List ℕ) (i n : ℕ) (r new : HeadReader)
+    → Offering dialect b piece i r → n ≤ length (drop i piece)
+    → TakesAll dialect (b ++ take i piece) (take n (drop i piece)) new → Offering dialect b piece (i + n) new
+offering_whole dialect b piece i n r new o le t = record {
   stands = subst (λ (l : List ℕ). StandsFor new l) (joined b piece i n) t.stands;
   more = front n (omega arith);
   before = λ j lt. elim (cases_lt j i) [
     | inl shorter ↦ o.before j shorter
     | inr tail ↦
         let same : i + (j - i) ≡ j = omega (arith, tail) in
-        subst (λ (m : ℕ). Answers order (b ++ take m piece) answer.More) same
+        subst (λ (m : ℕ). Answers dialect (b ++ take m piece) answer.More) same
         (front (j - i) (omega (arith, lt, tail)))
   ];
 } where
-  front : (j : ℕ) → j ≤ n → Answers order (b ++ take (i + j) piece) answer.More
+  front : (j : ℕ) → j ≤ n → Answers dialect (b ++ take (i + j) piece) answer.More
   front j small =
       let more = t.more j (omega (arith, small, length-take-le n (drop i piece) le)) in
-      subst (λ (l : List ℕ). Answers order l answer.More) (joined b piece i j)
-      (subst (λ (l : List ℕ). Answers order ((b ++ take i piece) ++ l) answer.More) (take-take j n (drop i piece) small)
+      subst (λ (l : List ℕ). Answers dialect l answer.More) (joined b piece i j)
+      (subst (λ (l : List ℕ). Answers dialect ((b ++ take i piece) ++ l) answer.More)
+      (take-take j n (drop i piece) small)
       more)
 
--- the same, by the reader's order
-pub offering_tried : (order : Order) (b piece rest : List ℕ) (i n : ℕ) (r new : HeadReader) → Offering order b piece i r
-    → r.order ≡ order → rest ≡ drop i piece → n ≤ length rest
-    → ((c : List ℕ) → StandsFor r c → Answers r.order c answer.More → TakesAll r.order c (take n rest) new)
-    → Offering order b piece (i + n) new
-offering_tried order b piece rest i n r new o same e le takes =
+-- the same, by the reader's dialect
+pub offering_tried : (dialect : Dialect) (b piece rest : List ℕ) (i n : ℕ) (r new : HeadReader)
+    → Offering dialect b piece i r → r.dialect ≡ dialect → rest ≡ drop i piece → n ≤ length rest
+    → ((c : List ℕ) → StandsFor r c → Answers r.dialect c answer.More → TakesAll r.dialect c (take n rest) new)
+    → Offering dialect b piece (i + n) new
+offering_tried dialect b piece rest i n r new o same e le takes =
     let c = b ++ take i piece in
-    offering_whole order b piece i n r new o (omega (arith, le, ap length e))
-    (subst (λ (k : Order). TakesAll k c (take n (drop i piece)) new) same
-    (subst (λ (l : List ℕ). TakesAll r.order c (take n l) new) e
-    (takes c o.stands (subst (λ (k : Order). Answers k c answer.More) (sym same) o.more))))
+    offering_whole dialect b piece i n r new o (omega (arith, le, ap length e))
+    (subst (λ (k : Dialect). TakesAll k c (take n (drop i piece)) new) same
+    (subst (λ (l : List ℕ). TakesAll r.dialect c (take n l) new) e
+    (takes c o.stands (subst (λ (k : Dialect). Answers k c answer.More) (sym same) o.more))))
 
 -- no byte was taken
-pub offering_still : (order : Order) (b piece : List ℕ) (i n : ℕ) (r : HeadReader) → n ≡ 0
-    → Offering order b piece (i + n) r → Offering order b piece i r
-offering_still order b piece i n r none o = subst (λ (k : ℕ). Offering order b piece k r)
+pub offering_still : (dialect : Dialect) (b piece : List ℕ) (i n : ℕ) (r : HeadReader) → n ≡ 0
+    → Offering dialect b piece (i + n) r → Offering dialect b piece i r
+offering_still dialect b piece i n r none o = subst (λ (k : ℕ). Offering dialect b piece k r)
     (let e : i + n ≡ i = omega (arith, none) in e) o

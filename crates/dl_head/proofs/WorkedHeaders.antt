@@ -7,11 +7,19 @@ use Rattle.dl_table.specs.declared.form.Format.TheVariants.{Dwarf32, Dwarf64}
 use Rattle.dl_table.specs.declared.form.Form.TheVariants as form
 use Rattle.dl_field.specs.HeaderData.{HeaderData}
 use Rattle.dl_table.specs.Value.{text, number, data16, line_str}
+use Rattle.dl_head.specs.declared.dialect.Dialect.{Dialect}
+use Rattle.dl_head.specs.Dialect.{version_5}
 use Rattle.dl_head.specs.Header.{header_in, foreign_in, unit_len}
 use Rattle.dl_head.specs.Refusal.{Refusal, header_refusal_in}
 use Rattle.dl_field.specs.HeaderData.{header_cells}
 use Rattle.dl_head.specs.Cells.{cells}
 use Rattle.dl_head.specs.Written.{header_bytes, is_within_limit}
+
+abbrev little : Dialect
+little = version_5 Little
+
+abbrev big : Dialect
+big = version_5 Big
 
 -- a refusal after these bytes
 abbrev refused : List ℕ → ℕ → FaultKind → Option Refusal
@@ -61,16 +69,16 @@ abbrev empty_program : List ℕ
 empty_program = 0x1e ∷ 0 ∷ 0 ∷ 0 ∷ 5 ∷ 0 ∷ 8 ∷ 0 ∷ 0x16 ∷ 0 ∷ 0 ∷ 0 ∷ 1 ∷ 1 ∷ 1 ∷ 0xfb ∷ 0x0e ∷ 0x0d ∷ 0 ∷ 1 ∷ 1 ∷ 1 ∷ 1
     ∷ 0 ∷ 0 ∷ 0 ∷ 1 ∷ 0 ∷ 0 ∷ 1 ∷ 0 ∷ 0 ∷ 0 ∷ 0 ∷ []
 
-empty_program_header : header_in Little empty_program ≡ Some (empty_header, [])
+empty_program_header : header_in little empty_program ≡ Some (empty_header, [])
 empty_program_header = refl
 
-empty_program_before_more : header_in Little (empty_program ++ 0xff ∷ []) ≡ Some (empty_header, 0xff ∷ [])
+empty_program_before_more : header_in little (empty_program ++ 0xff ∷ []) ≡ Some (empty_header, 0xff ∷ [])
 empty_program_before_more = refl
 
-empty_program_not_refused : header_refusal_in Little empty_program ≡ None
+empty_program_not_refused : header_refusal_in little empty_program ≡ None
 empty_program_not_refused = refl
 
-empty_program_unit : unit_len Little empty_program ≡ Some 34
+empty_program_unit : unit_len little empty_program ≡ Some 34
 empty_program_unit = refl
 
 abbrev md5 : List ℕ
@@ -79,10 +87,10 @@ md5 = 0xff ∷ 0xff ∷ 0xff ∷ 0xff ∷ 0x42 ∷ 0 ∷ 0 ∷ 0 ∷ 0 ∷ 0 ∷
     ∷ 3 ∷ 1 ∷ 8 ∷ 2 ∷ 0x0f ∷ 5 ∷ 0x1e ∷ 1 ∷ 0x61 ∷ 0x2e ∷ 0x63 ∷ 0 ∷ 0 ∷ 0 ∷ 1 ∷ 2 ∷ 3 ∷ 4 ∷ 5 ∷ 6 ∷ 7 ∷ 8 ∷ 9 ∷ 0x0a
     ∷ 0x0b ∷ 0x0c ∷ 0x0d ∷ 0x0e ∷ 0x0f ∷ []
 
-md5_is_header : header_in Little md5 ≡ Some (md5_header, [])
+md5_is_header : header_in little md5 ≡ Some (md5_header, [])
 md5_is_header = refl
 
-md5_cells : cells Little md5 ≡ 13
+md5_cells : cells little md5 ≡ 13
 md5_cells = refl
 
 md5_header_cells : header_cells md5_header ≡ 13
@@ -94,7 +102,7 @@ big_md5 = 0xff ∷ 0xff ∷ 0xff ∷ 0xff ∷ 0 ∷ 0 ∷ 0 ∷ 0 ∷ 0 ∷ 0 �
     ∷ 0x73 ∷ 0 ∷ 3 ∷ 1 ∷ 8 ∷ 2 ∷ 0x0f ∷ 5 ∷ 0x1e ∷ 1 ∷ 0x61 ∷ 0x2e ∷ 0x63 ∷ 0 ∷ 0 ∷ 0 ∷ 1 ∷ 2 ∷ 3 ∷ 4 ∷ 5 ∷ 6 ∷ 7 ∷ 8
     ∷ 9 ∷ 0x0a ∷ 0x0b ∷ 0x0c ∷ 0x0d ∷ 0x0e ∷ 0x0f ∷ []
 
-big_md5_is_header : header_in Big big_md5 ≡ Some (md5_header, [])
+big_md5_is_header : header_in big big_md5 ≡ Some (md5_header, [])
 big_md5_is_header = refl
 
 -- two bytes stand between the last entry and the program
@@ -102,7 +110,7 @@ abbrev padded : List ℕ
 padded = 0x20 ∷ 0 ∷ 0 ∷ 0 ∷ 5 ∷ 0 ∷ 8 ∷ 0 ∷ 0x18 ∷ 0 ∷ 0 ∷ 0 ∷ 1 ∷ 1 ∷ 1 ∷ 0xfb ∷ 0x0e ∷ 0x0d ∷ 0 ∷ 1 ∷ 1 ∷ 1 ∷ 1 ∷ 0
     ∷ 0 ∷ 0 ∷ 1 ∷ 0 ∷ 0 ∷ 1 ∷ 0 ∷ 0 ∷ 0 ∷ 0 ∷ 0xaa ∷ 0xbb ∷ []
 
-padded_is_header : header_in Little (padded ++ 1 ∷ []) ≡ Some (empty_header, 1 ∷ [])
+padded_is_header : header_in little (padded ++ 1 ∷ []) ≡ Some (empty_header, 1 ∷ [])
 padded_is_header = refl
 
 -- a count of 0 in two bytes
@@ -110,14 +118,14 @@ abbrev padded_count : List ℕ
 padded_count = 0x1f ∷ 0 ∷ 0 ∷ 0 ∷ 5 ∷ 0 ∷ 8 ∷ 0 ∷ 0x17 ∷ 0 ∷ 0 ∷ 0 ∷ 1 ∷ 1 ∷ 1 ∷ 0xfb ∷ 0x0e ∷ 0x0d ∷ 0 ∷ 1 ∷ 1 ∷ 1 ∷ 1
     ∷ 0 ∷ 0 ∷ 0 ∷ 1 ∷ 0 ∷ 0 ∷ 1 ∷ 0 ∷ 0x80 ∷ 0 ∷ 0 ∷ 0 ∷ []
 
-padded_count_is_header : header_in Little padded_count ≡ Some (empty_header, [])
+padded_count_is_header : header_in little padded_count ≡ Some (empty_header, [])
 padded_count_is_header = refl
 
 abbrev line_strp_directory : List ℕ
 line_strp_directory = 0x24 ∷ 0 ∷ 0 ∷ 0 ∷ 5 ∷ 0 ∷ 8 ∷ 0 ∷ 0x1c ∷ 0 ∷ 0 ∷ 0 ∷ 1 ∷ 1 ∷ 1 ∷ 0xfb ∷ 0x0e ∷ 0x0d ∷ 0 ∷ 1 ∷ 1
     ∷ 1 ∷ 1 ∷ 0 ∷ 0 ∷ 0 ∷ 1 ∷ 0 ∷ 0 ∷ 1 ∷ 1 ∷ 1 ∷ 0x1f ∷ 1 ∷ 2 ∷ 0 ∷ 0 ∷ 0 ∷ 0 ∷ 0 ∷ []
 
-line_strp_is_header : header_in Little line_strp_directory ≡ Some (
+line_strp_is_header : header_in little line_strp_directory ≡ Some (
   record empty_header {
     directories = record {
       format = Dwarf32;
@@ -134,7 +142,7 @@ abbrev low_opcode_base : List ℕ
 low_opcode_base = 0x1e ∷ 0 ∷ 0 ∷ 0 ∷ 5 ∷ 0 ∷ 8 ∷ 0 ∷ 0x13 ∷ 0 ∷ 0 ∷ 0 ∷ 1 ∷ 1 ∷ 1 ∷ 0xfb ∷ 0x0e ∷ 0x0a ∷ 0 ∷ 1 ∷ 1 ∷ 1
     ∷ 1 ∷ 0 ∷ 0 ∷ 0 ∷ 1 ∷ 0 ∷ 0 ∷ 0 ∷ 0 ∷ 3 ∷ 0x0a ∷ 0x0a ∷ []
 
-low_opcode_base_is_header : header_in Little low_opcode_base ≡ Some (
+low_opcode_base_is_header : header_in little low_opcode_base ≡ Some (
   record empty_header {
     params = record empty_header.params {
       opcode_base = 10;
@@ -145,7 +153,7 @@ low_opcode_base_is_header : header_in Little low_opcode_base ≡ Some (
 )
 low_opcode_base_is_header = refl
 
-not_yet : header_in Little (0x1e ∷ 0 ∷ 0 ∷ 0 ∷ 5 ∷ 0 ∷ 8 ∷ 0 ∷ 0x16 ∷ 0 ∷ 0 ∷ 0 ∷ 1 ∷ 1 ∷ 1 ∷ 0xfb ∷ 0x0e ∷ 0x0d ∷ 0 ∷ 1
+not_yet : header_in little (0x1e ∷ 0 ∷ 0 ∷ 0 ∷ 5 ∷ 0 ∷ 8 ∷ 0 ∷ 0x16 ∷ 0 ∷ 0 ∷ 0 ∷ 1 ∷ 1 ∷ 1 ∷ 0xfb ∷ 0x0e ∷ 0x0d ∷ 0 ∷ 1
     ∷ 1 ∷ 1 ∷ 1 ∷ 0 ∷ 0 ∷ 0 ∷ 1 ∷ 0 ∷ 0 ∷ 1 ∷ 0 ∷ 0 ∷ 0 ∷ []) ≡ None
 not_yet = refl
 
@@ -154,114 +162,114 @@ not_yet = refl
 abbrev foreign_unit : List ℕ
 foreign_unit = 6 ∷ 0 ∷ 0 ∷ 0 ∷ 4 ∷ 0 ∷ 0xaa ∷ 0xbb ∷ 0xcc ∷ 0xdd ∷ []
 
-foreign_version_4 : foreign_in Little foreign_unit ≡ Some 4
+foreign_version_4 : foreign_in little foreign_unit ≡ Some 4
 foreign_version_4 = refl
 
-foreign_not_refused : header_refusal_in Little foreign_unit ≡ None
+foreign_not_refused : header_refusal_in little foreign_unit ≡ None
 foreign_not_refused = refl
 
-foreign_no_header : header_in Little foreign_unit ≡ None
+foreign_no_header : header_in little foreign_unit ≡ None
 foreign_no_header = refl
 
-shortest_foreign_unit : header_refusal_in Little (2 ∷ 0 ∷ 0 ∷ 0 ∷ 4 ∷ 0 ∷ []) ≡ None
+shortest_foreign_unit : header_refusal_in little (2 ∷ 0 ∷ 0 ∷ 0 ∷ 4 ∷ 0 ∷ []) ≡ None
 shortest_foreign_unit = refl
 
-wrong_order : foreign_in Big (0x21 ∷ 0 ∷ 0 ∷ 0 ∷ 5 ∷ 0 ∷ 8 ∷ 0 ∷ 0x16 ∷ 0 ∷ 0 ∷ 0 ∷ 1 ∷ 1 ∷ 1 ∷ 0xfb ∷ 0x0e ∷ 0x0d ∷ 0
+wrong_order : foreign_in big (0x21 ∷ 0 ∷ 0 ∷ 0 ∷ 5 ∷ 0 ∷ 8 ∷ 0 ∷ 0x16 ∷ 0 ∷ 0 ∷ 0 ∷ 1 ∷ 1 ∷ 1 ∷ 0xfb ∷ 0x0e ∷ 0x0d ∷ 0
     ∷ 1 ∷ 1 ∷ 1 ∷ 1 ∷ 0 ∷ 0 ∷ 0 ∷ 1 ∷ 0 ∷ 0 ∷ 1 ∷ 0 ∷ 0 ∷ 0 ∷ 0 ∷ 0 ∷ 1 ∷ 1 ∷ []) ≡ Some 1280
 wrong_order = refl
 
 -- ---- refusals
 
-reserved_length : header_refusal_in Little (0xf0 ∷ 0xff ∷ 0xff ∷ 0xff ∷ [])
+reserved_length : header_refusal_in little (0xf0 ∷ 0xff ∷ 0xff ∷ 0xff ∷ [])
     ≡ refused (0xf0 ∷ 0xff ∷ 0xff ∷ 0xff ∷ []) 0 fault.ReservedLength
 reserved_length = refl
 
-too_long : header_refusal_in Little (0xff ∷ 0xff ∷ 0xff ∷ 0xff ∷ 1 ∷ 0 ∷ 0 ∷ 0 ∷ 0 ∷ 1 ∷ 0 ∷ 0 ∷ [])
+too_long : header_refusal_in little (0xff ∷ 0xff ∷ 0xff ∷ 0xff ∷ 1 ∷ 0 ∷ 0 ∷ 0 ∷ 0 ∷ 1 ∷ 0 ∷ 0 ∷ [])
     ≡ refused (0xff ∷ 0xff ∷ 0xff ∷ 0xff ∷ 1 ∷ 0 ∷ 0 ∷ 0 ∷ 0 ∷ 1 ∷ 0 ∷ 0 ∷ []) 0 fault.UnitTooLong
 too_long = refl
 
-longest : header_refusal_in Little (0xff ∷ 0xff ∷ 0xff ∷ 0xff ∷ 0 ∷ 0 ∷ 0 ∷ 0 ∷ 0 ∷ 1 ∷ 0 ∷ 0 ∷ []) ≡ None
+longest : header_refusal_in little (0xff ∷ 0xff ∷ 0xff ∷ 0xff ∷ 0 ∷ 0 ∷ 0 ∷ 0 ∷ 0 ∷ 1 ∷ 0 ∷ 0 ∷ []) ≡ None
 longest = refl
 
-small_in_64_bits : header_refusal_in Little (0xff ∷ 0xff ∷ 0xff ∷ 0xff ∷ 1 ∷ 0 ∷ 0 ∷ 0 ∷ 1 ∷ 0 ∷ 0 ∷ 0 ∷ []) ≡ None
+small_in_64_bits : header_refusal_in little (0xff ∷ 0xff ∷ 0xff ∷ 0xff ∷ 1 ∷ 0 ∷ 0 ∷ 0 ∷ 1 ∷ 0 ∷ 0 ∷ 0 ∷ []) ≡ None
 small_in_64_bits = refl
 
-no_version : header_refusal_in Little (0 ∷ 0 ∷ 0 ∷ 0 ∷ []) ≡ refused (0 ∷ 0 ∷ 0 ∷ 0 ∷ []) 4 fault.UnitOverrun
+no_version : header_refusal_in little (0 ∷ 0 ∷ 0 ∷ 0 ∷ []) ≡ refused (0 ∷ 0 ∷ 0 ∷ 0 ∷ []) 4 fault.UnitOverrun
 no_version = refl
 
-half_a_version : header_refusal_in Little (1 ∷ 0 ∷ 0 ∷ 0 ∷ 5 ∷ [])
+half_a_version : header_refusal_in little (1 ∷ 0 ∷ 0 ∷ 0 ∷ 5 ∷ [])
     ≡ refused (1 ∷ 0 ∷ 0 ∷ 0 ∷ 5 ∷ []) 4 fault.UnitOverrun
 half_a_version = refl
 
-beyond_unit : header_refusal_in Little
+beyond_unit : header_refusal_in little
     (0x1e ∷ 0 ∷ 0 ∷ 0 ∷ 5 ∷ 0 ∷ 8 ∷ 0 ∷ 0x17 ∷ 0 ∷ 0 ∷ 0 ∷ 1 ∷ 1 ∷ 1 ∷ 0xfb ∷ 0x0e ∷ 0x0d ∷ 0 ∷ 1 ∷ 1 ∷ 1 ∷ 1 ∷ 0 ∷ 0
     ∷ 0 ∷ 1 ∷ 0 ∷ 0 ∷ 1 ∷ 0 ∷ 0 ∷ 0 ∷ 0 ∷ []) ≡ refused (0x1e ∷ 0 ∷ 0 ∷ 0 ∷ 5 ∷ 0 ∷ 8 ∷ 0 ∷ 0x17 ∷ 0 ∷ 0 ∷ 0 ∷ []) 8
     fault.HeaderBeyondUnit
 beyond_unit = refl
 
-too_short : header_refusal_in Little
+too_short : header_refusal_in little
     (0x1e ∷ 0 ∷ 0 ∷ 0 ∷ 5 ∷ 0 ∷ 8 ∷ 0 ∷ 0x15 ∷ 0 ∷ 0 ∷ 0 ∷ 1 ∷ 1 ∷ 1 ∷ 0xfb ∷ 0x0e ∷ 0x0d ∷ 0 ∷ 1 ∷ 1 ∷ 1 ∷ 1 ∷ 0 ∷ 0
     ∷ 0 ∷ 1 ∷ 0 ∷ 0 ∷ 1 ∷ 0 ∷ 0 ∷ 0 ∷ 0 ∷ []) ≡ refused
     (0x1e ∷ 0 ∷ 0 ∷ 0 ∷ 5 ∷ 0 ∷ 8 ∷ 0 ∷ 0x15 ∷ 0 ∷ 0 ∷ 0 ∷ 1 ∷ 1 ∷ 1 ∷ 0xfb ∷ 0x0e ∷ 0x0d ∷ 0 ∷ 1 ∷ 1 ∷ 1 ∷ 1 ∷ 0 ∷ 0
     ∷ 0 ∷ 1 ∷ 0 ∷ 0 ∷ 1 ∷ 0 ∷ 0 ∷ 0 ∷ []) 33 fault.HeaderOverrun
 too_short = refl
 
-bad_address_size : header_refusal_in Little
+bad_address_size : header_refusal_in little
     (0x1e ∷ 0 ∷ 0 ∷ 0 ∷ 5 ∷ 0 ∷ 3 ∷ 0 ∷ 0x16 ∷ 0 ∷ 0 ∷ 0 ∷ 1 ∷ 1 ∷ 1 ∷ 0xfb ∷ 0x0e ∷ 0x0d ∷ 0 ∷ 1 ∷ 1 ∷ 1 ∷ 1 ∷ 0 ∷ 0
     ∷ 0 ∷ 1 ∷ 0 ∷ 0 ∷ 1 ∷ 0 ∷ 0 ∷ 0 ∷ 0 ∷ []) ≡ refused (0x1e ∷ 0 ∷ 0 ∷ 0 ∷ 5 ∷ 0 ∷ 3 ∷ []) 6 fault.AddressSize
 bad_address_size = refl
 
-bad_address_size_at_the_end : header_refusal_in Little (3 ∷ 0 ∷ 0 ∷ 0 ∷ 5 ∷ 0 ∷ 3 ∷ [])
+bad_address_size_at_the_end : header_refusal_in little (3 ∷ 0 ∷ 0 ∷ 0 ∷ 5 ∷ 0 ∷ 3 ∷ [])
     ≡ refused (3 ∷ 0 ∷ 0 ∷ 0 ∷ 5 ∷ 0 ∷ 3 ∷ []) 6 fault.AddressSize
 bad_address_size_at_the_end = refl
 
-no_operations : header_refusal_in Little
+no_operations : header_refusal_in little
     (0x1e ∷ 0 ∷ 0 ∷ 0 ∷ 5 ∷ 0 ∷ 8 ∷ 0 ∷ 0x16 ∷ 0 ∷ 0 ∷ 0 ∷ 1 ∷ 0 ∷ 1 ∷ 0xfb ∷ 0x0e ∷ 0x0d ∷ 0 ∷ 1 ∷ 1 ∷ 1 ∷ 1 ∷ 0 ∷ 0
     ∷ 0 ∷ 1 ∷ 0 ∷ 0 ∷ 1 ∷ 0 ∷ 0 ∷ 0 ∷ 0 ∷ []) ≡ refused
     (0x1e ∷ 0 ∷ 0 ∷ 0 ∷ 5 ∷ 0 ∷ 8 ∷ 0 ∷ 0x16 ∷ 0 ∷ 0 ∷ 0 ∷ 1 ∷ 0 ∷ []) 13 fault.MaxOps
 no_operations = refl
 
-no_line_range : header_refusal_in Little
+no_line_range : header_refusal_in little
     (0x1e ∷ 0 ∷ 0 ∷ 0 ∷ 5 ∷ 0 ∷ 8 ∷ 0 ∷ 0x16 ∷ 0 ∷ 0 ∷ 0 ∷ 1 ∷ 1 ∷ 1 ∷ 0xfb ∷ 0 ∷ 0x0d ∷ 0 ∷ 1 ∷ 1 ∷ 1 ∷ 1 ∷ 0 ∷ 0 ∷ 0
     ∷ 1 ∷ 0 ∷ 0 ∷ 1 ∷ 0 ∷ 0 ∷ 0 ∷ 0 ∷ []) ≡ refused
     (0x1e ∷ 0 ∷ 0 ∷ 0 ∷ 5 ∷ 0 ∷ 8 ∷ 0 ∷ 0x16 ∷ 0 ∷ 0 ∷ 0 ∷ 1 ∷ 1 ∷ 1 ∷ 0xfb ∷ 0 ∷ []) 16 fault.LineRange
 no_line_range = refl
 
-no_opcode_base : header_refusal_in Little
+no_opcode_base : header_refusal_in little
     (0x1e ∷ 0 ∷ 0 ∷ 0 ∷ 5 ∷ 0 ∷ 8 ∷ 0 ∷ 0x16 ∷ 0 ∷ 0 ∷ 0 ∷ 1 ∷ 1 ∷ 1 ∷ 0xfb ∷ 0x0e ∷ 0 ∷ 0 ∷ 1 ∷ 1 ∷ 1 ∷ 1 ∷ 0 ∷ 0 ∷ 0
     ∷ 1 ∷ 0 ∷ 0 ∷ 1 ∷ 0 ∷ 0 ∷ 0 ∷ 0 ∷ []) ≡ refused
     (0x1e ∷ 0 ∷ 0 ∷ 0 ∷ 5 ∷ 0 ∷ 8 ∷ 0 ∷ 0x16 ∷ 0 ∷ 0 ∷ 0 ∷ 1 ∷ 1 ∷ 1 ∷ 0xfb ∷ 0x0e ∷ 0 ∷ []) 17 fault.OpcodeBase
 no_opcode_base = refl
 
-wrong_length : header_refusal_in Little
+wrong_length : header_refusal_in little
     (0x1e ∷ 0 ∷ 0 ∷ 0 ∷ 5 ∷ 0 ∷ 8 ∷ 0 ∷ 0x16 ∷ 0 ∷ 0 ∷ 0 ∷ 1 ∷ 1 ∷ 1 ∷ 0xfb ∷ 0x0e ∷ 0x0d ∷ 0 ∷ 0 ∷ 1 ∷ 1 ∷ 1 ∷ 0 ∷ 0
     ∷ 0 ∷ 1 ∷ 0 ∷ 0 ∷ 1 ∷ 0 ∷ 0 ∷ 0 ∷ 0 ∷ []) ≡ refused
     (0x1e ∷ 0 ∷ 0 ∷ 0 ∷ 5 ∷ 0 ∷ 8 ∷ 0 ∷ 0x16 ∷ 0 ∷ 0 ∷ 0 ∷ 1 ∷ 1 ∷ 1 ∷ 0xfb ∷ 0x0e ∷ 0x0d ∷ 0 ∷ 0 ∷ []) 19
     (fault.StandardLength 2)
 wrong_length = refl
 
-directories_without_format : header_refusal_in Little
+directories_without_format : header_refusal_in little
     (0x1e ∷ 0 ∷ 0 ∷ 0 ∷ 5 ∷ 0 ∷ 8 ∷ 0 ∷ 0x16 ∷ 0 ∷ 0 ∷ 0 ∷ 1 ∷ 1 ∷ 1 ∷ 0xfb ∷ 0x0e ∷ 0x0d ∷ 0 ∷ 1 ∷ 1 ∷ 1 ∷ 1 ∷ 0 ∷ 0
     ∷ 0 ∷ 1 ∷ 0 ∷ 0 ∷ 1 ∷ 0 ∷ 1 ∷ 0 ∷ 0 ∷ []) ≡ refused
     (0x1e ∷ 0 ∷ 0 ∷ 0 ∷ 5 ∷ 0 ∷ 8 ∷ 0 ∷ 0x16 ∷ 0 ∷ 0 ∷ 0 ∷ 1 ∷ 1 ∷ 1 ∷ 0xfb ∷ 0x0e ∷ 0x0d ∷ 0 ∷ 1 ∷ 1 ∷ 1 ∷ 1 ∷ 0 ∷ 0
     ∷ 0 ∷ 1 ∷ 0 ∷ 0 ∷ 1 ∷ 0 ∷ 1 ∷ []) 31 fault.EmptyFormat
 directories_without_format = refl
 
-files_without_format : header_refusal_in Little
+files_without_format : header_refusal_in little
     (0x1e ∷ 0 ∷ 0 ∷ 0 ∷ 5 ∷ 0 ∷ 8 ∷ 0 ∷ 0x16 ∷ 0 ∷ 0 ∷ 0 ∷ 1 ∷ 1 ∷ 1 ∷ 0xfb ∷ 0x0e ∷ 0x0d ∷ 0 ∷ 1 ∷ 1 ∷ 1 ∷ 1 ∷ 0 ∷ 0
     ∷ 0 ∷ 1 ∷ 0 ∷ 0 ∷ 1 ∷ 0 ∷ 0 ∷ 0 ∷ 1 ∷ []) ≡ refused
     (0x1e ∷ 0 ∷ 0 ∷ 0 ∷ 5 ∷ 0 ∷ 8 ∷ 0 ∷ 0x16 ∷ 0 ∷ 0 ∷ 0 ∷ 1 ∷ 1 ∷ 1 ∷ 0xfb ∷ 0x0e ∷ 0x0d ∷ 0 ∷ 1 ∷ 1 ∷ 1 ∷ 1 ∷ 0 ∷ 0
     ∷ 0 ∷ 1 ∷ 0 ∷ 0 ∷ 1 ∷ 0 ∷ 0 ∷ 0 ∷ 1 ∷ []) 33 fault.EmptyFormat
 files_without_format = refl
 
-unknown_form : header_refusal_in Little
+unknown_form : header_refusal_in little
     (0x1e ∷ 0 ∷ 0 ∷ 0 ∷ 5 ∷ 0 ∷ 8 ∷ 0 ∷ 0x16 ∷ 0 ∷ 0 ∷ 0 ∷ 1 ∷ 1 ∷ 1 ∷ 0xfb ∷ 0x0e ∷ 0x0d ∷ 0 ∷ 1 ∷ 1 ∷ 1 ∷ 1 ∷ 0 ∷ 0
     ∷ 0 ∷ 1 ∷ 0 ∷ 0 ∷ 1 ∷ 1 ∷ 1 ∷ 0x0d ∷ 0 ∷ []) ≡ refused
     (0x1e ∷ 0 ∷ 0 ∷ 0 ∷ 5 ∷ 0 ∷ 8 ∷ 0 ∷ 0x16 ∷ 0 ∷ 0 ∷ 0 ∷ 1 ∷ 1 ∷ 1 ∷ 0xfb ∷ 0x0e ∷ 0x0d ∷ 0 ∷ 1 ∷ 1 ∷ 1 ∷ 1 ∷ 0 ∷ 0
     ∷ 0 ∷ 1 ∷ 0 ∷ 0 ∷ 1 ∷ 1 ∷ 1 ∷ 0x0d ∷ []) 32 (fault.UnknownForm 13)
 unknown_form = refl
 
-huge_count : header_refusal_in Little
+huge_count : header_refusal_in little
     (0x29 ∷ 0 ∷ 0 ∷ 0 ∷ 5 ∷ 0 ∷ 8 ∷ 0 ∷ 0x21 ∷ 0 ∷ 0 ∷ 0 ∷ 1 ∷ 1 ∷ 1 ∷ 0xfb ∷ 0x0e ∷ 0x0d ∷ 0 ∷ 1 ∷ 1 ∷ 1 ∷ 1 ∷ 0 ∷ 0
     ∷ 0 ∷ 1 ∷ 0 ∷ 0 ∷ 1 ∷ 1 ∷ 1 ∷ 8 ∷ 0x80 ∷ 0x80 ∷ 0x80 ∷ 0x80 ∷ 0x80 ∷ 0x80 ∷ 0x80 ∷ 0x80 ∷ 0x10 ∷ 0x2f ∷ 0x73 ∷ 0
     ∷ []) ≡ refused (0x29 ∷ 0 ∷ 0 ∷ 0 ∷ 5 ∷ 0 ∷ 8 ∷ 0 ∷ 0x21 ∷ 0 ∷ 0 ∷ 0 ∷ 1 ∷ 1 ∷ 1 ∷ 0xfb ∷ 0x0e ∷ 0x0d ∷ 0 ∷ 1 ∷ 1
@@ -269,19 +277,19 @@ huge_count : header_refusal_in Little
     ∷ 0x2f ∷ 0x73 ∷ 0 ∷ []) 45 fault.HeaderOverrun
 huge_count = refl
 
-huge_count_cells : cells Little
+huge_count_cells : cells little
     (0x29 ∷ 0 ∷ 0 ∷ 0 ∷ 5 ∷ 0 ∷ 8 ∷ 0 ∷ 0x21 ∷ 0 ∷ 0 ∷ 0 ∷ 1 ∷ 1 ∷ 1 ∷ 0xfb ∷ 0x0e ∷ 0x0d ∷ 0 ∷ 1 ∷ 1 ∷ 1 ∷ 1 ∷ 0 ∷ 0
     ∷ 0 ∷ 1 ∷ 0 ∷ 0 ∷ 1 ∷ 1 ∷ 1 ∷ 8 ∷ 0x80 ∷ 0x80 ∷ 0x80 ∷ 0x80 ∷ 0x80 ∷ 0x80 ∷ 0x80 ∷ 0x80 ∷ 0x10 ∷ 0x2f ∷ 0x73 ∷ 0
     ∷ []) ≡ 4
 huge_count_cells = refl
 
-before_the_zero_byte : cells Little
+before_the_zero_byte : cells little
     (0x29 ∷ 0 ∷ 0 ∷ 0 ∷ 5 ∷ 0 ∷ 8 ∷ 0 ∷ 0x21 ∷ 0 ∷ 0 ∷ 0 ∷ 1 ∷ 1 ∷ 1 ∷ 0xfb ∷ 0x0e ∷ 0x0d ∷ 0 ∷ 1 ∷ 1 ∷ 1 ∷ 1 ∷ 0 ∷ 0
     ∷ 0 ∷ 1 ∷ 0 ∷ 0 ∷ 1 ∷ 1 ∷ 1 ∷ 8 ∷ 0x80 ∷ 0x80 ∷ 0x80 ∷ 0x80 ∷ 0x80 ∷ 0x80 ∷ 0x80 ∷ 0x80 ∷ 0x10 ∷ 0x2f ∷ 0x73 ∷ [])
     ≡ 3
 before_the_zero_byte = refl
 
-block_past_the_header : header_refusal_in Little
+block_past_the_header : header_refusal_in little
     (0x28 ∷ 0 ∷ 0 ∷ 0 ∷ 5 ∷ 0 ∷ 8 ∷ 0 ∷ 0x20 ∷ 0 ∷ 0 ∷ 0 ∷ 1 ∷ 1 ∷ 1 ∷ 0xfb ∷ 0x0e ∷ 0x0d ∷ 0 ∷ 1 ∷ 1 ∷ 1 ∷ 1 ∷ 0 ∷ 0
     ∷ 0 ∷ 1 ∷ 0 ∷ 0 ∷ 1 ∷ 1 ∷ 1 ∷ 9 ∷ 1 ∷ 0xff ∷ 0xff ∷ 0xff ∷ 0xff ∷ 0xff ∷ 0xff ∷ 0xff ∷ 0xff ∷ 0xff ∷ 1 ∷ [])
     ≡ refused (0x28 ∷ 0 ∷ 0 ∷ 0 ∷ 5 ∷ 0 ∷ 8 ∷ 0 ∷ 0x20 ∷ 0 ∷ 0 ∷ 0 ∷ 1 ∷ 1 ∷ 1 ∷ 0xfb ∷ 0x0e ∷ 0x0d ∷ 0 ∷ 1 ∷ 1 ∷ 1 ∷ 1
@@ -289,12 +297,12 @@ block_past_the_header : header_refusal_in Little
     34 fault.HeaderOverrun
 block_past_the_header = refl
 
-block_past_the_header_cells : cells Little
+block_past_the_header_cells : cells little
     (0x28 ∷ 0 ∷ 0 ∷ 0 ∷ 5 ∷ 0 ∷ 8 ∷ 0 ∷ 0x20 ∷ 0 ∷ 0 ∷ 0 ∷ 1 ∷ 1 ∷ 1 ∷ 0xfb ∷ 0x0e ∷ 0x0d ∷ 0 ∷ 1 ∷ 1 ∷ 1 ∷ 1 ∷ 0 ∷ 0
     ∷ 0 ∷ 1 ∷ 0 ∷ 0 ∷ 1 ∷ 1 ∷ 1 ∷ 9 ∷ 1 ∷ 0xff ∷ 0xff ∷ 0xff ∷ 0xff ∷ 0xff ∷ 0xff ∷ 0xff ∷ 0xff ∷ 0xff ∷ 1 ∷ []) ≡ 2
 block_past_the_header_cells = refl
 
-count_out_of_range : header_refusal_in Little
+count_out_of_range : header_refusal_in little
     (0x28 ∷ 0 ∷ 0 ∷ 0 ∷ 5 ∷ 0 ∷ 8 ∷ 0 ∷ 0x20 ∷ 0 ∷ 0 ∷ 0 ∷ 1 ∷ 1 ∷ 1 ∷ 0xfb ∷ 0x0e ∷ 0x0d ∷ 0 ∷ 1 ∷ 1 ∷ 1 ∷ 1 ∷ 0 ∷ 0
     ∷ 0 ∷ 1 ∷ 0 ∷ 0 ∷ 1 ∷ 1 ∷ 1 ∷ 8 ∷ 0xff ∷ 0xff ∷ 0xff ∷ 0xff ∷ 0xff ∷ 0xff ∷ 0xff ∷ 0xff ∷ 0xff ∷ 2 ∷ [])
     ≡ refused (0x28 ∷ 0 ∷ 0 ∷ 0 ∷ 5 ∷ 0 ∷ 8 ∷ 0 ∷ 0x20 ∷ 0 ∷ 0 ∷ 0 ∷ 1 ∷ 1 ∷ 1 ∷ 0xfb ∷ 0x0e ∷ 0x0d ∷ 0 ∷ 1 ∷ 1 ∷ 1 ∷ 1
@@ -302,7 +310,7 @@ count_out_of_range : header_refusal_in Little
     fault.LebRange
 count_out_of_range = refl
 
-empty_header_part : header_refusal_in Little (8 ∷ 0 ∷ 0 ∷ 0 ∷ 5 ∷ 0 ∷ 8 ∷ 0 ∷ 0 ∷ 0 ∷ 0 ∷ 0 ∷ [])
+empty_header_part : header_refusal_in little (8 ∷ 0 ∷ 0 ∷ 0 ∷ 5 ∷ 0 ∷ 8 ∷ 0 ∷ 0 ∷ 0 ∷ 0 ∷ 0 ∷ [])
     ≡ refused (8 ∷ 0 ∷ 0 ∷ 0 ∷ 5 ∷ 0 ∷ 8 ∷ 0 ∷ 0 ∷ 0 ∷ 0 ∷ 0 ∷ []) 12 fault.HeaderOverrun
 empty_header_part = refl
 

@@ -1,4 +1,5 @@
 -- The bytes that are written of a header are that header. DWARF 5, section 6.2.4.
+use Rattle.dl_head.specs.declared.dialect.Dialect.{Dialect}
 use Rattle.std.proofs.Common.{◌≡◌, ℕ, lit<, suc, ◌+◌, ◌-◌, ◌%◌, ◌^◌, ◌<◌, ◌≤◌, Bool, true, false, if◌then◌else◌, ℤ, pos}
 use Rattle.std.proofs.Common.{negsuc, ◌-ℤ◌, List, [], ◌∷◌, ◌++◌, length, Option, Some, None, refl, sym, ap, subst, ◌∙◌}
 use Rattle.std.proofs.Common.{arith, append_assoc}
@@ -212,41 +213,43 @@ regroup : (i v l w : List ℕ) (a s : ℕ) → i ++ v ++ a ∷ s ∷ [] ++ l ++ 
 regroup i v l w a s = rw append-nil (simp append_assoc)
 
 -- the header, and the length that its first field tells
-written : (order : Order) (h : HeaderData) (program_len : ℕ) → IsSoundHeader h → is_within_limit h program_len ≡ true
-    → (is : IsHeader order h (header_bytes order h program_len))
+written : (dialect : Dialect) (h : HeaderData) (program_len : ℕ) → IsSoundHeader h
+    → is_within_limit h program_len ≡ true → (is : IsHeader dialect h (header_bytes dialect.order h program_len))
     × (unit_end is.items ≡ Some (initial_size h.params.format + unit_length_of h program_len))
-written order h program_len sound limit =
+written dialect h program_len sound limit =
     let p = h.params in
     let good = all_good p h.directories h.files sound.params in
     let unit = unit_length_of h program_len in
     let size = header_length_of h in
-    let after = after_header_length order h in
+    let after = after_header_length dialect.order h in
     let short = leb-true unit (written_limit p.format) limit in
-    let tail = reach_fields order h sound good in
-    let initial = initial_length_bytes order p.format unit in
-    let version_bytes = fixed_bytes order 2 5 in
-    let size_bytes = fixed_bytes order (offset_size p.format) size in
+    let tail = reach_fields dialect.order h sound good in
+    let initial = initial_length_bytes dialect.order p.format unit in
+    let version_bytes = fixed_bytes dialect.order 2 5 in
+    let size_bytes = fixed_bytes dialect.order (offset_size p.format) size in
     let p0 = format_alone p.format in
     let p1 : Params = record p0 { address_size = p.address_size } in
     let p2 : Params = record p1 { segment_selector_size = p.segment_selector_size } in
-    let long = length-header order h program_len in
-    let a = (field_is_judged order header_layout (length_is p.format unit) initial).0
-    (p.format, unit, refl, initial_written order p.format unit short) in
-    let b = (field_is_judged order (following header_layout (length_is p.format unit)) (number_is 5) version_bytes).0
-    (5, refl, fixed_written order 2 5 (lit< tt), refl) in
-    let c = (field_is_judged order (from_address_size unit p0) (number_is p.address_size) (p.address_size ∷ [])).0 (
+    let long = length-header dialect.order h program_len in
+    let a = (field_is_judged dialect.order (header_layout dialect) (length_is p.format unit) initial).0
+    (p.format, unit, refl, initial_written dialect.order p.format unit short) in
+    let b = (field_is_judged dialect.order (following (header_layout dialect) (length_is p.format unit)) (number_is 5)
+    version_bytes).0
+    (5, refl, fixed_written dialect.order 2 5 (lit< tt), refl) in
+    let c = (field_is_judged dialect.order (from_address_size unit p0) (number_is p.address_size)
+    (p.address_size ∷ [])).0 (
       p.address_size,
       refl,
-      (refl, fixed_byte order (last_entry h) p.address_size),
+      (refl, fixed_byte dialect.order (last_entry h) p.address_size),
       usable_size p.address_size good.address_size,
     ) in
-    let d = (field_is_judged order (from_segment_selector_size unit p1) (number_is p.segment_selector_size)
+    let d = (field_is_judged dialect.order (from_segment_selector_size unit p1) (number_is p.segment_selector_size)
     (p.segment_selector_size ∷ [])).0
-    (p.segment_selector_size, refl, (refl, fixed_byte order (last_entry h) p.segment_selector_size), refl) in
-    let e = (field_is_judged order (from_header_length unit p2) (number_is size) size_bytes).0 (
+    (p.segment_selector_size, refl, (refl, fixed_byte dialect.order (last_entry h) p.segment_selector_size), refl) in
+    let e = (field_is_judged dialect.order (from_header_length unit p2) (number_is size) size_bytes).0 (
       size,
       refl,
-      fixed_written order (offset_size p.format) size (offset_fits p.format size (omega arith)),
+      fixed_written dialect.order (offset_size p.format) size (offset_fits p.format size (omega arith)),
       fits_unit p.format size (unit - fixed_part p.format) (omega arith),
     ) in (
       record {
@@ -282,12 +285,12 @@ written order h program_len sound limit =
     )
 
 pub header_is_written : WrittenIsHeader
-header_is_written order h program_len sound limit = (written order h program_len sound limit).0
+header_is_written dialect h program_len sound limit = (written dialect h program_len sound limit).0
 
 pub length_is_written : WrittenHasItsLength
-length_is_written order h program_len rest sound limit =
-    let w = written order h program_len sound limit in
-    let bytes = header_bytes order h program_len in
-    let size = length-header order h program_len in
-    let cut_is = ap (λ (c : Cut). unit_end c.items) (header_cut order h bytes rest w.0) in
+length_is_written dialect h program_len rest sound limit =
+    let w = written dialect h program_len sound limit in
+    let bytes = header_bytes dialect.order h program_len in
+    let size = length-header dialect.order h program_len in
+    let cut_is = ap (λ (c : Cut). unit_end c.items) (header_cut dialect h bytes rest w.0) in
     cut_is ∙ w.1 ∙ ap (λ (n : ℕ). let o : Option ℕ = Some n in o) (omega arith)

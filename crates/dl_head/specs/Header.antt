@@ -1,4 +1,5 @@
 -- The spelling of a header, and the header that bytes begin with. DWARF 5, sections 6.2.4 and 7.4.
+use Rattle.dl_head.specs.declared.dialect.Dialect.{Dialect}
 use Rattle.std.specs.Prelude.{◌≡◌, ℕ, ◌+◌, ◌-◌, ◌&&◌, List, [], ◌∷◌, ◌++◌, length, drop, Option, Some, None, Ok, Err}
 use Rattle.std.specs.Prelude.{nat_le, if◌then◌else◌}
 use Rattle.dl_num.specs.declared.fixed.Order.{Order}
@@ -37,22 +38,22 @@ foreign_made (foreign_version v) = Some v
 foreign_made layout = None
 
 -- w is the spellings of the fields of h up to the last entry, then any bytes up to the end by header_length
-pub record IsHeader (order : Order) (h : HeaderData) (w : List ℕ) : Type 0 where
+pub record IsHeader (dialect : Dialect) (h : HeaderData) (w : List ℕ) : Type 0 where
   pub items : List Item
   pub fields : List ℕ
   pub padding : List ℕ
   pub whole : w ≡ fields ++ padding
-  pub spelt : SpellsFields order header_layout items fields
-  pub made : header_made (following_all header_layout items) ≡ Some h
+  pub spelt : SpellsFields dialect.order (header_layout dialect) items fields
+  pub made : header_made (following_all (header_layout dialect) items) ≡ Some h
   pub end : header_end items ≡ Some (length w)
 
 -- b is good fields of these values, one after the other, and then rest, at whose front no further good field stands
-pub record IsFieldCut (order : Order) (b : List ℕ) (items : List Item) (rest : List ℕ) : Type 0 where
+pub record IsFieldCut (dialect : Dialect) (b : List ℕ) (items : List Item) (rest : List ℕ) : Type 0 where
   pub fields : List ℕ
   pub whole : b ≡ fields ++ rest
-  pub spelt : SpellsFields order header_layout items fields
+  pub spelt : SpellsFields dialect.order (header_layout dialect) items fields
   pub no_more : (front : List ℕ) (back : List ℕ) (i : Item) → rest ≡ front ++ back
-      → field_spelt order (following_all header_layout items) front ≡ good i → ⊥
+      → field_spelt dialect.order (following_all (header_layout dialect) items) front ≡ good i → ⊥
 
 -- The good fields that are cut off the front of some bytes, one at a time: their values, and the bytes after them.
 pub record Cut : Type 0 where
@@ -72,20 +73,20 @@ cut_after order layout begun (x ∷ b) = elim (field_spelt order layout (begun +
 ]
 
 -- the good fields at the front of b, computed
-abbrev pub cut : Order → List ℕ → Cut
-cut order b = cut_after order header_layout [] b
+abbrev pub cut : Dialect → List ℕ → Cut
+cut dialect b = cut_after dialect.order (header_layout dialect) [] b
 
 -- what stands next, after the good fields at the front of b
-abbrev pub layout_after : Order → List ℕ → Layout
-layout_after order b = following_all header_layout (cut order b).items
+abbrev pub layout_after : Dialect → List ℕ → Layout
+layout_after dialect b = following_all (header_layout dialect) (cut dialect b).items
 
 -- the unit's bytes, once b holds a good initial length
-abbrev pub unit_len : Order → List ℕ → Option ℕ
-unit_len order b = unit_end (cut order b).items
+abbrev pub unit_len : Dialect → List ℕ → Option ℕ
+unit_len dialect b = unit_end (cut dialect b).items
 
 -- the version in b, where it isn't 5
-abbrev pub foreign_in : Order → List ℕ → Option ℕ
-foreign_in order b = foreign_made (layout_after order b)
+abbrev pub foreign_in : Dialect → List ℕ → Option ℕ
+foreign_in dialect b = foreign_made (layout_after dialect b)
 
 -- what is left of b after a header, whose fields have `fields` bytes
 abbrev pub header_up_to : List ℕ → ℕ → Option HeaderData → Option ℕ → Option (HeaderData × List ℕ)
@@ -94,7 +95,8 @@ header_up_to b fields (Some h) (Some end) = if nat_le fields end && nat_le end (
 header_up_to b fields made end = None
 
 -- the header that b begins with, and what follows it, computed
-abbrev pub header_in : Order → List ℕ → Option (HeaderData × List ℕ)
-header_in order b =
-    let c = cut order b in
-    header_up_to b (length b - length c.rest) (header_made (following_all header_layout c.items)) (header_end c.items)
+abbrev pub header_in : Dialect → List ℕ → Option (HeaderData × List ℕ)
+header_in dialect b =
+    let c = cut dialect b in
+    header_up_to b (length b - length c.rest) (header_made (following_all (header_layout dialect) c.items))
+    (header_end c.items)

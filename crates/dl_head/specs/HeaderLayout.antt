@@ -1,5 +1,6 @@
 -- The fields of a line number program header in their order. DWARF 5, sections 6.2.4 and 7.4.
 use Rattle.std.specs.Prelude.{ℕ, zero, suc, ◌+◌, ◌-◌, List, [], ◌∷◌, ◌++◌, ℤ, pos, ◌-ℤ◌, nat_lt, ◌==◌, if◌then◌else◌}
+use Rattle.dl_head.specs.declared.dialect.Dialect.{Dialect}
 use Rattle.dl_table.specs.declared.form.Format.{Format}
 use Rattle.dl_table.specs.declared.form.Format.TheVariants.{Dwarf32, Dwarf64}
 use Rattle.dl_field.specs.declared.params.Params.{Params}
@@ -92,9 +93,9 @@ format_alone format = record {
   lengths = record { items = [] };
 }
 
--- the fields of a header
-abbrev pub header_layout : Layout
-header_layout =
+-- the fields of a header; in each dialect those of version 5 alone
+abbrev pub header_layout : Dialect → Layout
+header_layout dialect =
     initial_length_then λ format unit_length.
     number_then version λ v.
     if v == 5 then from_address_size unit_length (format_alone format) else foreign_version v

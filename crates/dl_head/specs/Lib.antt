@@ -1,5 +1,6 @@
 -- What the public contracts say rests on these, in reading order.
 pub mod Turns
+pub mod Dialect
 pub mod HeaderLayout
 pub mod Header
 pub mod Refusal

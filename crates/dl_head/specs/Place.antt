@@ -1,4 +1,5 @@
 -- Where the header reader is: after which fields, and in which bytes of one. No promise rests on how this is said.
+use Rattle.dl_head.specs.declared.dialect.Dialect.{Dialect}
 use Rattle.std.specs.Prelude.{◌≡◌, ◌≢◌, ℕ, ◌+◌, ◌-◌, ◌≤◌, List, [], ◌∷◌, ◌++◌, length, Some, None}
 use Rattle.dl_num.specs.declared.fixed.Order.{Order}
 use Rattle.dl_num.specs.Fixed.{fixed}
@@ -67,7 +68,7 @@ pub record Early (r : HeadReader) (items is : List Item) : Type 0 where
 
 -- the fields after header_length
 pub record Past (r : HeadReader) (items : List Item) (layout : Layout) : Type 0 where
-  pub follows : following_all header_layout items ≡ layout
+  pub follows : following_all (header_layout r.dialect) items ≡ layout
   pub unit : unit_end items ≡ Some (end_of_unit r)
   pub header : ℕ
   pub header_ends : header_end items ≡ Some header
@@ -83,7 +84,7 @@ pub record Late (r : HeadReader) (items : List Item) (layout : Layout) : Type 0 
 pub record InTable (r : HeadReader) (items : List Item) (rest : List ℕ) (next : TableData → Layout) : Type 0 where
   pub layout : Layout
   pub tail : Past r items layout
-  pub at : TableAt r.order r.table r.table.phase r.params.format next layout rest
+  pub at : TableAt r.dialect.order r.table r.table.phase r.params.format next layout rest
   pub going : r.table.phase ≡ table.Whole → ⊥
 
 -- the values of the fields before header_length
@@ -108,7 +109,7 @@ pub record InLong (order : Order) (rest : List ℕ) (number : List ℕ) : Type 0
 -- The reader has read fields of these values, and the bytes rest of the next one, or of the padding.
 abbrev pub AtPhase : HeadReader → Phase → List Item → List ℕ → Type 0
 AtPhase r (phase.UnitLength n) items rest = AtStart r items × (number_bytes n ≡ rest) × (number_size n ≡ 4)
-AtPhase r (phase.LongUnitLength n) items rest = AtStart r items × InLong r.order rest (number_bytes n)
+AtPhase r (phase.LongUnitLength n) items rest = AtStart r items × InLong r.dialect.order rest (number_bytes n)
     × (number_size n ≡ 8)
 AtPhase r phase.Version items rest = Early r items (length_item r ∷ []) × (rest ≡ [])
 AtPhase r (phase.VersionEnd first) items rest = Early r items (length_item r ∷ []) × (rest ≡ first ∷ [])
@@ -131,24 +132,25 @@ At r items rest = AtPhase r r.phase items rest
 
 -- the counts are kept, and the header
 pub record SameCounts (old new : HeadReader) : Type 0 where
-  pub order : new.order ≡ old.order
+  pub dialect : new.dialect ≡ old.dialect
   pub start : new.start ≡ old.start
   pub taken : new.taken ≡ old.taken
   pub header : new.header ≡ old.header
 
 -- what the byte makes of the field that ends with w
-abbrev pub Made : Order → List Item → List ℕ → FieldStep → HeadReader → Type 0
-Made order items w byte_makes.Within new = (field_spelt order (following_all header_layout items) w ≡ None)
-    × At new items w
-Made order items w byte_makes.Ends new = (i : Item) × (field_spelt order (following_all header_layout items) w ≡ good i)
-    × At new (items ++ i ∷ []) []
-Made order items w (byte_makes.Refuses kind) new = field_spelt order (following_all header_layout items) w ≡ bad kind
-Made order items w byte_makes.NoMemory new = ⊥
+abbrev pub Made : Dialect → List Item → List ℕ → FieldStep → HeadReader → Type 0
+Made dialect items w byte_makes.Within new =
+    (field_spelt dialect.order (following_all (header_layout dialect) items) w ≡ None) × At new items w
+Made dialect items w byte_makes.Ends new = (i : Item)
+    × (field_spelt dialect.order (following_all (header_layout dialect) items) w ≡ good i) × At new (items ++ i ∷ []) []
+Made dialect items w (byte_makes.Refuses kind) new =
+    field_spelt dialect.order (following_all (header_layout dialect) items) w ≡ bad kind
+Made dialect items w byte_makes.NoMemory new = ⊥
 
 -- a byte of a field before the tables
 pub record Follows (old : HeadReader) (byte : ℕ) (result : FieldStep) (new : HeadReader) : Type 0 where
   pub made : (items : List Item) (rest : List ℕ) → At old items rest
-      → Made old.order items (rest ++ byte ∷ []) result new
+      → Made old.dialect items (rest ++ byte ∷ []) result new
   pub counts : SameCounts old new
 
 -- `start_unit`: the initial length is good, and the reader is at the version, or it is too long
@@ -187,13 +189,14 @@ held_cells r = table_cells r.directories + table_cells r.files + reader_cells r.
 -- what bytes make of the field, or of the padding, that they fall in
 abbrev pub BytesMade : HeadReader → List Item → List ℕ → List ℕ → FieldStep → HeadReader → Type 0
 BytesMade old items rest bytes byte_makes.NoMemory new = At new items rest
-BytesMade old items rest bytes result new = Made old.order items (rest ++ bytes) result new
+BytesMade old items rest bytes result new = Made old.dialect items (rest ++ bytes) result new
 
 -- bytes of a header that isn't whole
 pub record BytesFollow (old : HeadReader) (bytes : List ℕ) (result : FieldStep) (new : HeadReader) : Type 0 where
   pub made : (items : List Item) (rest : List ℕ) → At old items rest → BytesMade old items rest bytes result new
   pub cells : (items : List Item) (rest : List ℕ) → At old items rest
-      → Adds old.order (following_all header_layout items) rest (rest ++ bytes) result (held_cells old) (held_cells new)
+      → Adds old.dialect.order (following_all (header_layout old.dialect) items) rest (rest ++ bytes) result
+      (held_cells old) (held_cells new)
   pub counts : SameCounts old new
 
 -- `push`

@@ -1,7 +1,7 @@
 -- Where a unit is refused while its header is read, and why. Places count from its first byte. DWARF 5, section 6.2.4.
 use Rattle.std.specs.Prelude.{◌≡◌, ℕ, ◌+◌, ◌-◌, List, [], ◌∷◌, ◌++◌, length, Option, Some, None, Ok, Err, ◌==◌}
 use Rattle.std.specs.Prelude.{if◌then◌else◌}
-use Rattle.dl_num.specs.declared.fixed.Order.{Order}
+use Rattle.dl_head.specs.declared.dialect.Dialect.{Dialect}
 use Rattle.dl_table.specs.declared.fault.FaultKind.{FaultKind}
 use Rattle.dl_table.specs.declared.fault.FaultKind.TheVariants as fault
 use Rattle.dl_table.specs.Value.{Judgement}
@@ -37,14 +37,14 @@ header_overrun n items (foreign_version v) = None
 header_overrun n items layout = field_overrun n items (header_end items)
 
 -- what the last of n bytes decides, the fields at their front being cut off; an overrun counts last
-abbrev pub cut_decided : Order → ℕ → Cut → Option FaultKind
-cut_decided order n c =
-    let next = following_all header_layout c.items in
-    or_else (bad_kind (field_spelt order next c.rest)) (header_overrun n c.items next)
+abbrev pub cut_decided : Dialect → ℕ → Cut → Option FaultKind
+cut_decided dialect n c =
+    let next = following_all (header_layout dialect) c.items in
+    or_else (bad_kind (field_spelt dialect.order next c.rest)) (header_overrun n c.items next)
 
 -- the kind that the last byte of b decides
-abbrev pub header_decided : Order → List ℕ → Option FaultKind
-header_decided order b = cut_decided order (length b) (cut order b)
+abbrev pub header_decided : Dialect → List ℕ → Option FaultKind
+header_decided dialect b = cut_decided dialect (length b) (cut dialect b)
 
 -- nothing shorter than b decides anything
 abbrev pub NothingBefore : (List ℕ → Option FaultKind) → List ℕ → Type 0
@@ -52,10 +52,10 @@ NothingBefore decided b = (front : List ℕ) (x : ℕ) (back : List ℕ) → b �
 
 -- b, a front of a unit, is refused in its header: its last byte decides the kind, nothing shorter decides anything, and
 -- the good fields end at the place
-pub record HeaderRefused (order : Order) (b : List ℕ) (at : ℕ) (kind : FaultKind) : Type 0 where
-  pub place : at + length (cut order b).rest ≡ length b
-  pub decided : header_decided order b ≡ Some kind
-  pub shortest : NothingBefore (header_decided order) b
+pub record HeaderRefused (dialect : Dialect) (b : List ℕ) (at : ℕ) (kind : FaultKind) : Type 0 where
+  pub place : at + length (cut dialect b).rest ≡ length b
+  pub decided : header_decided dialect b ≡ Some kind
+  pub shortest : NothingBefore (header_decided dialect) b
 
 -- bytes that were refused, the place and the kind
 pub record Refusal : Type 0 where
@@ -69,11 +69,11 @@ first_decided decided begun [] = elim (decided begun) [ Some kind ↦ Some (begu
 first_decided decided begun (x ∷ b) =
     elim (decided begun) [ Some kind ↦ Some (begun, kind) | None ↦ first_decided decided (begun ++ x ∷ []) b ]
 
-abbrev pub refusal_of : Order → Option (List ℕ × FaultKind) → Option Refusal
-refusal_of order None = None
-refusal_of order (Some found) = Some
-    (record { front = found.0; at = length found.0 - length (cut order found.0).rest; kind = found.1 })
+abbrev pub refusal_of : Dialect → Option (List ℕ × FaultKind) → Option Refusal
+refusal_of dialect None = None
+refusal_of dialect (Some found) = Some
+    (record { front = found.0; at = length found.0 - length (cut dialect found.0).rest; kind = found.1 })
 
 -- the front of b that is refused in its header, computed
-abbrev pub header_refusal_in : Order → List ℕ → Option Refusal
-header_refusal_in order b = refusal_of order (first_decided (header_decided order) [] b)
+abbrev pub header_refusal_in : Dialect → List ℕ → Option Refusal
+header_refusal_in dialect b = refusal_of dialect (first_decided (header_decided dialect) [] b)

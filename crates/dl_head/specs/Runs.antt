@@ -1,7 +1,7 @@
 -- What turns over the bytes of a header come to. DWARF 5, section 6.2.4.
 use Rattle.std.specs.Prelude.{◌≡◌, ◌+◌, ◌<◌, ◌≤◌, ◌⊎◌, ℕ, Bool, true, false, List, ◌∷◌, ◌++◌, length, take, drop}
 use Rattle.std.specs.Prelude.{count_by}
-use Rattle.dl_num.specs.declared.fixed.Order.{Order}
+use Rattle.dl_head.specs.declared.dialect.Dialect.{Dialect}
 use Rattle.dl_head.specs.declared.reader.HeadStep.{HeadStep}
 use Rattle.dl_head.specs.declared.reader.HeadStep.TheVariants as answer
 use Rattle.dl_head.specs.declared.reader.HeadReader.{HeadReader}
@@ -18,24 +18,24 @@ so_far answer.NoMemory = answer.More
 so_far last = last
 
 -- after b the first used of some bytes were taken, and the last answer was this
-pub record Took (order : Order) (b bytes : List ℕ) (used : ℕ) (last : HeadStep) : Type 0 where
+pub record Took (dialect : Dialect) (b bytes : List ℕ) (used : ℕ) (last : HeadStep) : Type 0 where
   pub within : used ≤ length bytes
-  pub answers : Answers order (b ++ take used bytes) (so_far last)
+  pub answers : Answers dialect (b ++ take used bytes) (so_far last)
   -- no shorter front of them came to anything
-  pub before : (i : ℕ) → i < used → Answers order (b ++ take i bytes) answer.More
+  pub before : (i : ℕ) → i < used → Answers dialect (b ++ take i bytes) answer.More
   -- memory was refused before a byte that adds a cell
   pub unfed : last ≡ answer.NoMemory → (byte : ℕ) × (later : List ℕ) × (drop used bytes ≡ byte ∷ later)
-      × AddsCell order (b ++ take used bytes) byte
+      × AddsCell dialect (b ++ take used bytes) byte
 
 -- what a piece may be answered after b
-pub record Answered (order : Order) (b piece : List ℕ) (a : Answer HeadStep) : Type 0 where
-  pub took : Took order b piece a.used a.gave
+pub record Answered (dialect : Dialect) (b piece : List ℕ) (a : Answer HeadStep) : Type 0 where
+  pub took : Took dialect b piece a.used a.gave
   -- the header goes on only after the whole piece
   pub whole : a.gave ≡ answer.More → a.used ≡ length piece
 
 -- bytes offered at once
-pub record Offered (order : Order) (b piece : List ℕ) (used : ℕ) (last : HeadStep) (new : HeadReader) : Type 0 where
-  pub answered : Answered order b piece (record { used = used; gave = last })
+pub record Offered (dialect : Dialect) (b piece : List ℕ) (used : ℕ) (last : HeadStep) (new : HeadReader) : Type 0 where
+  pub answered : Answered dialect b piece (record { used = used; gave = last })
   pub stands : StandsFor new (b ++ take used piece)
 
 -- whether another turn follows
@@ -53,9 +53,9 @@ abbrev pub refusals : List (Answer HeadStep) → ℕ
 refusals answers = count_by (λ a. is_refusal a.gave) answers
 
 -- bytes offered in turns: what was answered, and what the run says of it
-pub record Traced (order : Order) (b bytes turns : List ℕ) (run : HeadRun) (new : HeadReader) : Type 0 where
+pub record Traced (dialect : Dialect) (b bytes turns : List ℕ) (run : HeadRun) (new : HeadReader) : Type 0 where
   pub answers : List (Answer HeadStep)
-  pub trace : IsTrace (Answered order) goes_on b bytes turns answers
+  pub trace : IsTrace (Answered dialect) goes_on b bytes turns answers
   pub run_is : run ≡ record {
     taken = used_in answers;
     refused = refusals answers;
@@ -64,16 +64,16 @@ pub record Traced (order : Order) (b bytes turns : List ℕ) (run : HeadRun) (ne
   pub stands : StandsFor new (b ++ take run.taken bytes)
 
 -- what comes of the bytes that were taken
-pub record Runs (order : Order) (b bytes turns : List ℕ) (run : HeadRun) : Type 0 where
-  pub took : Took order b bytes run.taken run.last
+pub record Runs (dialect : Dialect) (b bytes turns : List ℕ) (run : HeadRun) : Type 0 where
+  pub took : Took dialect b bytes run.taken run.last
   -- where the header goes on, each turn that offered anything took a byte or was refused memory, or all bytes are taken
   pub moved : so_far run.last ≡ answer.More → (run.taken ≡ length bytes) ⊎ (some_turns turns ≤ run.taken + run.refused)
 
 -- Law: so does a trace.
 abbrev pub TraceRuns : Type 0
-TraceRuns = (order : Order) (b bytes turns : List ℕ) (answers : List (Answer HeadStep)) → Answers order b answer.More
-    → IsTrace (Answered order) goes_on b bytes turns answers
-    → Runs order b bytes turns (record {
+TraceRuns = (dialect : Dialect) (b bytes turns : List ℕ) (answers : List (Answer HeadStep))
+    → Answers dialect b answer.More → IsTrace (Answered dialect) goes_on b bytes turns answers
+    → Runs dialect b bytes turns (record {
       taken = used_in answers;
       refused = refusals answers;
       last = last_given answer.More answers;
@@ -82,7 +82,7 @@ TraceRuns = (order : Order) (b bytes turns : List ℕ) (answers : List (Answer H
 -- Law: a header that the bytes complete, whatever follows it, is read whole where as many turns offer anything as bytes
 -- of it are missing and refusals came.
 abbrev pub HeaderIsRead : Type 0
-HeaderIsRead = (order : Order) (h : HeaderData) (b front rest turns : List ℕ) (run : HeadRun)
-    → Answers order b answer.More → IsHeader order h (b ++ front)
-    → Runs order b (front ++ rest) turns run → length front + run.refused ≤ some_turns turns
+HeaderIsRead = (dialect : Dialect) (h : HeaderData) (b front rest turns : List ℕ) (run : HeadRun)
+    → Answers dialect b answer.More → IsHeader dialect h (b ++ front)
+    → Runs dialect b (front ++ rest) turns run → length front + run.refused ≤ some_turns turns
     → (run.last ≡ answer.Done) × (run.taken ≡ length front)

@@ -24,18 +24,18 @@ Below n (Some end) = n < end
 pub record Live (r : HeadReader) (b : List ℕ) : Type 0 where
   pub items : List Item
   pub rest : List ℕ
-  pub cut_is : cut r.order b ≡ record { items = items; rest = rest }
+  pub cut_is : cut r.dialect b ≡ record { items = items; rest = rest }
   pub at : At r items rest
-  pub unjudged : field_spelt r.order (following_all header_layout items) rest ≡ None
+  pub unjudged : field_spelt r.dialect.order (following_all (header_layout r.dialect) items) rest ≡ None
   pub start_is : r.start + length rest ≡ length b
   pub below : Below (length b) r.end
-  pub nothing_before : NothingBefore (header_decided r.order) b
+  pub nothing_before : NothingBefore (header_decided r.dialect) b
   pub ends_within : (n e : ℕ) → unit_end items ≡ Some n → header_end items ≡ Some e → e ≤ n
 
 -- there is no header yet, and the cells of b are held
 pub record Unmade (r : HeadReader) (b : List ℕ) : Type 0 where
   pub header : r.header ≡ None
-  pub cells_are : held_cells r ≡ cells r.order b
+  pub cells_are : held_cells r ≡ cells r.dialect b
 
 -- what the header has come to, if anything
 abbrev pub ending : Phase → Option HeadStep
@@ -46,9 +46,9 @@ ending p = None
 
 abbrev pub Stands : HeadReader → Option HeadStep → List ℕ → Type 0
 Stands r None b = Live r b × Unmade r b
-Stands r (Some answer.Done) b = (h : HeaderData) × (r.header ≡ Some h) × IsHeader r.order h b
-Stands r (Some (answer.Foreign v)) b = (foreign_in r.order b ≡ Some v) × Unmade r b
-Stands r (Some (answer.Fault f)) b = HeaderRefused r.order b f.offset f.kind × Unmade r b
+Stands r (Some answer.Done) b = (h : HeaderData) × (r.header ≡ Some h) × IsHeader r.dialect h b
+Stands r (Some (answer.Foreign v)) b = (foreign_in r.dialect b ≡ Some v) × Unmade r b
+Stands r (Some (answer.Fault f)) b = HeaderRefused r.dialect b f.offset f.kind × Unmade r b
 Stands r (Some other) b = ⊥
 
 -- the unit's bytes, once they are known
@@ -60,8 +60,8 @@ unit_known unit (Some end) = Some unit
 pub record StandsFor (r : HeadReader) (b : List ℕ) : Type 0 where
   pub stands : Stands r (ending r.phase) b
   pub taken : r.taken ≡ length b
-  pub unit : unit_known (end_of_unit r) r.end ≡ unit_len r.order b
-  pub within : (n : ℕ) → unit_len r.order b ≡ Some n → length b ≤ n
+  pub unit : unit_known (end_of_unit r) r.end ≡ unit_len r.dialect b
+  pub within : (n : ℕ) → unit_len r.dialect b ≡ Some n → length b ≤ n
 
 -- `fail`
 abbrev pub failed_at : ℕ → FaultKind → Fault
@@ -81,7 +81,7 @@ Fails old kind result new = (result ≡ answer.Fault (failed_at old.start kind))
 pub record Completes (old new : HeadReader) : Type 0 where
   pub phase : new.phase ≡ phase.Done
   pub header : new.header ≡ Some (record { params = old.params; directories = old.directories; files = old.files })
-  pub order : new.order ≡ old.order
+  pub dialect : new.dialect ≡ old.dialect
   pub taken : new.taken ≡ old.taken
   pub unit : SameUnit old new
 

@@ -1,6 +1,6 @@
 -- What comes of bytes that are taken at once. No promise rests on this file.
 use Rattle.std.specs.Prelude.{◌≡◌, ◌≢◌, ℕ, ◌+◌, ◌<◌, ◌≤◌, Bool, true, false, List, ◌++◌, length, take, Some, None}
-use Rattle.dl_num.specs.declared.fixed.Order.{Order}
+use Rattle.dl_head.specs.declared.dialect.Dialect.{Dialect}
 use Rattle.dl_field.specs.declared.field_step.FieldStep.{FieldStep}
 use Rattle.dl_field.specs.declared.field_step.FieldStep.TheVariants as byte_makes
 use Rattle.dl_head.specs.declared.reader.HeadReader.{HeadReader}
@@ -42,11 +42,12 @@ pub record Pushed (old : HeadReader) (bytes : List ℕ) (used : ℕ) (result : F
   pub kept : Keeps old result new
 
 -- `advance`: the first bytes of a piece after b are taken
-pub record Advances (order : Order) (b piece : List ℕ) (used : ℕ) (last : HeadStep) (new : HeadReader) : Type 0 where
-  pub took : Took order b piece used last
+pub record Advances (dialect : Dialect) (b piece : List ℕ) (used : ℕ) (last : HeadStep)
+    (new : HeadReader) : Type 0 where
+  pub took : Took dialect b piece used last
   pub stands : StandsFor new (b ++ take used piece)
 
 -- the bytes after b are taken, and the header goes on after each front of them
-pub record TakesAll (order : Order) (b bytes : List ℕ) (new : HeadReader) : Type 0 where
+pub record TakesAll (dialect : Dialect) (b bytes : List ℕ) (new : HeadReader) : Type 0 where
   pub stands : StandsFor new (b ++ bytes)
-  pub more : (i : ℕ) → i ≤ length bytes → Answers order (b ++ take i bytes) answer.More
+  pub more : (i : ℕ) → i ≤ length bytes → Answers dialect (b ++ take i bytes) answer.More

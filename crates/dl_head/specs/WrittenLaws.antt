@@ -1,6 +1,6 @@
--- Laws of headers that are written. Each holds in either byte order, which is the same throughout a law.
+-- Laws of headers that are written. Each holds in every dialect, which is the same throughout a law.
 use Rattle.std.specs.Prelude.{◌≡◌, ℕ, ◌+◌, true, List, ◌++◌, length, Some}
-use Rattle.dl_num.specs.declared.fixed.Order.{Order}
+use Rattle.dl_head.specs.declared.dialect.Dialect.{Dialect}
 use Rattle.dl_num.specs.Laws.{AllBytes}
 use Rattle.dl_field.specs.HeaderData.{HeaderData}
 use Rattle.dl_head.specs.Sound.{IsSoundHeader}
@@ -9,16 +9,16 @@ use Rattle.dl_head.specs.Written.{header_bytes, is_within_limit}
 
 -- the bytes that are written of a header, with a program of any length that isn't too long, are this header
 abbrev pub WrittenIsHeader : Type 0
-WrittenIsHeader = (order : Order) (h : HeaderData) (program_len : ℕ) → IsSoundHeader h
-    → is_within_limit h program_len ≡ true → IsHeader order h (header_bytes order h program_len)
+WrittenIsHeader = (dialect : Dialect) (h : HeaderData) (program_len : ℕ) → IsSoundHeader h
+    → is_within_limit h program_len ≡ true → IsHeader dialect h (header_bytes dialect.order h program_len)
 
 -- and with a program of this length after them they are as long as their first field tells
 abbrev pub WrittenHasItsLength : Type 0
-WrittenHasItsLength = (order : Order) (h : HeaderData) (program_len : ℕ) (rest : List ℕ) → IsSoundHeader h
+WrittenHasItsLength = (dialect : Dialect) (h : HeaderData) (program_len : ℕ) (rest : List ℕ) → IsSoundHeader h
     → is_within_limit h program_len ≡ true
-    → unit_len order (header_bytes order h program_len ++ rest)
-    ≡ Some (length (header_bytes order h program_len) + program_len)
+    → unit_len dialect (header_bytes dialect.order h program_len ++ rest)
+    ≡ Some (length (header_bytes dialect.order h program_len) + program_len)
 
 -- a header that bytes spell is sound, so it can be written
 abbrev pub ReadIsSound : Type 0
-ReadIsSound = (order : Order) (h : HeaderData) (w : List ℕ) → IsHeader order h w → AllBytes w → IsSoundHeader h
+ReadIsSound = (dialect : Dialect) (h : HeaderData) (w : List ℕ) → IsHeader dialect h w → AllBytes w → IsSoundHeader h

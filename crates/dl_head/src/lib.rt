@@ -1,6 +1,7 @@
 //! The header of a line table unit of DWARF 5: its parts, its reader and its writer. Section 6.2.4.
 #![tactic(auto)]
 
+pub mod dialect;
 pub mod fault;
 pub mod header;
 pub mod laws;
@@ -8,6 +9,7 @@ pub mod reader;
 mod sizes;
 pub mod write;
 
+pub use dialect::Dialect;
 pub use dl_field::{Params, params};
 pub use dl_table::{
     BuildFault, Entry, FaultKind, Form, Format, HeadWrite, Pair, Table, ValueRef, Values, counted,

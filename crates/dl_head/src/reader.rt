@@ -15,12 +15,13 @@ mod fields;
 mod lengths;
 mod run;
 
+use crate::dialect::Dialect;
 use crate::fault::Fault;
 use crate::header::Header;
 use crate::sizes::initial_size;
 use byte_field::ByteField;
 use dl_field::{FieldStep, Params, TableReader};
-use dl_num::{Order, PartialNumber};
+use dl_num::PartialNumber;
 use dl_table::{FaultKind, Format, Table};
 pub use run::HeadRun;
 use std::alloc::Global;
@@ -78,7 +79,7 @@ impl Phase {
 #[derive(Drop)]
 pub struct HeadReader {
     alloc: Global,
-    order: Order,
+    dialect: Dialect,
     phase: Phase,
     params: Params,
     unit_length: u64,
@@ -104,7 +105,7 @@ pub struct HeadReader {
     ghost tables: { tables_fit phase (table_cells directories) (table_cells files) ≡ true },
     ghost formats: { formats_fit phase params.format directories.format files.format ≡ true },
     ghost standard: { AreStandard params.lengths.items } by { Prim.hlevel props },
-    ghost read: { ∥ TableStands phase order params.format table ∥₁ },
+    ghost read: { ∥ TableStands phase dialect.order params.format table ∥₁ },
 }
 
 impl HeadReader {
@@ -115,14 +116,14 @@ impl HeadReader {
     ghost use Rattle.dl_head.specs.Reading.{Answers, Steps, Gives};
     ghost use Rattle.dl_head.specs.Whole.{in_table, IsFront, Pushed, Advances};
 
-    /// No byte yet of a header whose numbers stand in this order. It takes no memory.
-    pub fn new(alloc: Global, order: Order) -> HeadReader
+    /// No byte yet of a header of this dialect. It takes no memory.
+    pub fn new(alloc: Global, dialect: Dialect) -> HeadReader
         ensures stands { StandsFor result [] }
-        ensures order { result.order ≡ order }
+        ensures dialect { result.dialect ≡ dialect }
     {
         HeadReader {
             alloc,
-            order,
+            dialect,
             phase: Phase::UnitLength(PartialNumber::new(4)),
             params: Params::least(Format::Dwarf32),
             unit_length: 0,
@@ -140,8 +141,8 @@ impl HeadReader {
     /// Takes the next byte, save where it answers NoMemory, or answered Done, Foreign or a fault
     /// before; it then answers the same again.
     pub fn step(&mut self, byte: u8) -> HeadStep
-        ensures steps { (b : List ℕ) → StandsFor self.old b → Steps self.old.order b byte result self.new }
-        ensures order { self.new.order ≡ self.old.order }
+        ensures steps { (b : List ℕ) → StandsFor self.old b → Steps self.old.dialect b byte result self.new }
+        ensures dialect { self.new.dialect ≡ self.old.dialect }
     {
         match self.ended() {
             Some(last) => last,
@@ -170,7 +171,7 @@ impl HeadReader {
 
     /// The unit's bytes, its initial length included, once that is read.
     pub fn unit_len(&self) -> Option<u64>
-        ensures unit { (b : List ℕ) → StandsFor self.now b → result ≡ unit_len self.now.order b }
+        ensures unit { (b : List ℕ) → StandsFor self.now b → result ≡ unit_len self.now.dialect b }
         ensures within { (b : List ℕ) → StandsFor self.now b → IfSome result (λ n. length b ≤ n) }
     {
         match self.end {
@@ -182,7 +183,7 @@ impl HeadReader {
     /// How many pairs, values, and bytes of texts and blocks are held; 2^64 - 1 where there are
     /// more.
     pub fn cells(&self) -> u64
-        ensures { (b : List ℕ) → StandsFor self.now b → result ≡ min (cells self.now.order b) (2 ^ 64 - 1) }
+        ensures { (b : List ℕ) → StandsFor self.now b → result ≡ min (cells self.now.dialect b) (2 ^ 64 - 1) }
     {
         match &self.header {
             Some(header) => header.cells(),
@@ -196,14 +197,14 @@ impl HeadReader {
 
     /// The header, from Done on.
     pub fn header(&self) -> Option<&Header>
-        ensures { Gives self.now.order self.now (option_copied result) }
+        ensures { Gives self.now.dialect self.now (option_copied result) }
     {
         self.header.as_ref()
     }
 
     /// The header, from Done on.
     pub fn into_header(self) -> Option<Header>
-        ensures { Gives self.order self result }
+        ensures { Gives self.dialect self result }
     {
         self.header
     }
@@ -211,7 +212,7 @@ impl HeadReader {
     /// What the bytes come to that were taken.
     fn settle(&mut self) -> HeadStep
         ensures settles { Settles self.old result self.new }
-        ensures order { self.new.order ≡ self.old.order }
+        ensures dialect { self.new.dialect ≡ self.old.dialect }
     {
         match self.phase {
             Phase::Foreign(version) => HeadStep::Foreign(version),
@@ -255,11 +256,11 @@ impl HeadReader {
     #[inline(never)]
     fn advance(&mut self, piece: &[u8]) -> (usize, HeadStep)
         requires { 1 ≤ length piece.now }
-        ensures advances { (b : List ℕ) → StandsFor self.old b → Answers self.old.order b answer.More
-            → Advances self.old.order b piece.now result.0 result.1 self.new }
+        ensures advances { (b : List ℕ) → StandsFor self.old b → Answers self.old.dialect b answer.More
+            → Advances self.old.dialect b piece.now result.0 result.1 self.new }
         ensures within { result.0 ≤ length piece.now }
         ensures some { result.1 ≢ answer.NoMemory → 1 ≤ result.0 }
-        ensures order { self.new.order ≡ self.old.order }
+        ensures dialect { self.new.dialect ≡ self.old.dialect }
     {
         let (used, field) = self.push(self.up_to_end(piece));
         match field {
@@ -336,7 +337,7 @@ impl HeadReader {
         ensures { Pushed self.old bytes.now result.0 result.1 self.new }
     {
         let format = self.params.format;
-        let next = self.table.push_front(self.order, format, bytes);
+        let next = self.table.push_front(self.dialect.order, format, bytes);
         if let Some(table) = self.table.take(self.alloc, format) {
             self.directories = table;
             self.phase = Phase::Files;
@@ -350,7 +351,7 @@ impl HeadReader {
         ensures { Pushed self.old bytes.now result.0 result.1 self.new }
     {
         let format = self.params.format;
-        let next = self.table.push_front(self.order, format, bytes);
+        let next = self.table.push_front(self.dialect.order, format, bytes);
         if let Some(table) = self.table.take(self.alloc, format) {
             self.files = table;
             self.phase = Phase::Padding;

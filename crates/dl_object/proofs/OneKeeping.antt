@@ -1,4 +1,5 @@
 -- What is left of bytes is one thing alone.
+use Rattle.dl_head.specs.declared.dialect.Dialect.{Dialect}
 use Rattle.std.proofs.Common.{◌≡◌, ◌⊎◌, inl, inr, ℕ, ◌+◌, ◌<◌, List, [], ◌∷◌, ◌++◌, length, take, drop, Some}
 use Rattle.std.proofs.Common.{refl, sym, ap, subst, ◌∙◌, arith, append_assoc, append-nil, length-append}
 use Rattle.std.proofs.lemmas.List.{take_at, drop_at}
@@ -31,12 +32,12 @@ fronts : (w after v back : List ℕ) → w ++ after ≡ v ++ back → Fronts w v
 fronts w after v back e = elim (split_front w after v back e) [ inl p ↦ inl p | inr q ↦ inr (q.0, q.1) ]
 
 -- the heads of a unit tell one length
-len_same : (order : Order) (w v : List ℕ) (m n : ℕ) → Fronts w v → unit_len order w ≡ Some m → unit_len order v ≡ Some n
-    → m ≡ n
-len_same order w v m n (inl p) a b =
-    some_same m n (sym a ∙ ap (unit_len order) p.2 ∙ unit_len_on order v (p.0 ∷ p.1) n b)
-len_same order w v m n (inr q) a b =
-    some_same m n (sym (unit_len_on order w q.0 m a) ∙ ap (unit_len order) (sym q.1) ∙ b)
+len_same : (dialect : Dialect) (w v : List ℕ) (m n : ℕ) → Fronts w v → unit_len dialect w ≡ Some m
+    → unit_len dialect v ≡ Some n → m ≡ n
+len_same dialect w v m n (inl p) a b =
+    some_same m n (sym a ∙ ap (unit_len dialect) p.2 ∙ unit_len_on dialect v (p.0 ∷ p.1) n b)
+len_same dialect w v m n (inr q) a b =
+    some_same m n (sym (unit_len_on dialect w q.0 m a) ∙ ap (unit_len dialect) (sym q.1) ∙ b)
 
 sizes : (u after v back : List ℕ) (n : ℕ) → u ++ after ≡ v ++ back
     → (length u ≡ n) ⊎ ((length u < n) × (after ≡ [])) → (length v ≡ n) ⊎ ((length v < n) × (back ≡ []))
@@ -67,17 +68,17 @@ sizes u after v back n e (inr a) (inr b) =
 regroup : (head body after b : List ℕ) → (head ++ body) ++ after ≡ b → head ++ (body ++ after) ≡ b
 regroup head body after b e = sym (append_assoc head body after) ∙ e
 
-module _ (order : Order) (head body after head2 body2 after2 : List ℕ)
+module _ (dialect : Dialect) (head body after head2 body2 after2 : List ℕ)
     (e : (head ++ body) ++ after ≡ (head2 ++ body2) ++ after2) where
   both : Fronts head head2
   both = fronts head (body ++ after) head2 (body2 ++ after2)
       (regroup head body after _ e ∙ append_assoc head2 body2 after2)
 
   -- one unit stands at the front
-  same_unit : IsBody order head body after → IsBody order head2 body2 after2
+  same_unit : IsBody dialect head body after → IsBody dialect head2 body2 after2
       → (head ++ body ≡ head2 ++ body2) × (after ≡ after2)
   same_unit one two =
-      let n : one.len ≡ two.len = len_same order head head2 one.len two.len both one.told two.told in
+      let n : one.len ≡ two.len = len_same dialect head head2 one.len two.len both one.told two.told in
       same_cut (head ++ body) after (head2 ++ body2) after2 e
       (sizes (head ++ body) after (head2 ++ body2) after2 one.len e one.size
       (subst (λ (k : ℕ). (length (head2 ++ body2) ≡ k) ⊎ ((length (head2 ++ body2) < k) × (after2 ≡ []))) (sym n)
@@ -87,35 +88,35 @@ module _ (order : Order) (head body after head2 body2 after2 : List ℕ)
   nil_or y z f = absurd cc
 
   -- of one header
-  same_header : (h h2 : HeaderData) → IsHeader order h head → IsHeader order h2 head2
+  same_header : (h h2 : HeaderData) → IsHeader dialect h head → IsHeader dialect h2 head2
       → Fronts head head2 → (head ≡ head2) × (h ≡ h2)
   same_header h h2 one two (inl p) =
-      absurd (nil_or p.0 p.1 (one_header order h2 h head2 (p.0 ∷ p.1) two (subst (IsHeader order h) p.2 one)).0)
+      absurd (nil_or p.0 p.1 (one_header dialect h2 h head2 (p.0 ∷ p.1) two (subst (IsHeader dialect h) p.2 one)).0)
   same_header h h2 one two (inr q) =
-      let same = one_header order h h2 head q.0 one (subst (IsHeader order h2) q.1 two) in
+      let same = one_header dialect h h2 head q.0 one (subst (IsHeader dialect h2) q.1 two) in
       (sym (q.1 ∙ ap (λ (u : List ℕ). head ++ u) same.0 ∙ append-nil head), same.1)
 
-  not_both : (version : ℕ) (h2 : HeaderData) → foreign_in order head ≡ Some version → IsHeader order h2 head2
+  not_both : (version : ℕ) (h2 : HeaderData) → foreign_in dialect head ≡ Some version → IsHeader dialect h2 head2
       → Fronts head head2 → ⊥
   not_both version h2 f two (inl p) =
-      none_some (header_is_not_foreign order h2 head2 (p.0 ∷ p.1) two) (ap (foreign_in order) (sym p.2) ∙ f)
+      none_some (header_is_not_foreign dialect h2 head2 (p.0 ∷ p.1) two) (ap (foreign_in dialect) (sym p.2) ∙ f)
   not_both version h2 f two (inr q) =
-      none_some (ap (foreign_in order) (sym (append-nil head2)) ∙ header_is_not_foreign order h2 head2 [] two)
-      (ap (foreign_in order) q.1 ∙ foreign_on order head q.0 version f)
+      none_some (ap (foreign_in dialect) (sym (append-nil head2)) ∙ header_is_not_foreign dialect h2 head2 [] two)
+      (ap (foreign_in dialect) q.1 ∙ foreign_on dialect head q.0 version f)
 
   -- its program
   same_body : head ≡ head2 → head ++ body ≡ head2 ++ body2 → body ≡ body2
   same_body h u = (same_cut head body head2 body2 u (ap length h)).1
 
 -- no unit begins where one does
-none_own : (order : Order) (b : List ℕ) (h : HeaderData) (head body after : List ℕ) → NoUnitBegins order b
-    → b ≡ (head ++ body) ++ after → IsHeader order h head → ⊥
-none_own order b h head body after none e is =
+none_own : (dialect : Dialect) (b : List ℕ) (h : HeaderData) (head body after : List ℕ) → NoUnitBegins dialect b
+    → b ≡ (head ++ body) ++ after → IsHeader dialect h head → ⊥
+none_own dialect b h head body after none e is =
     none.own h head (body ++ after) (e ∙ append_assoc head body after) is
 
-none_foreign : (order : Order) (b : List ℕ) (version : ℕ) (head body after : List ℕ) → NoUnitBegins order b
-    → b ≡ (head ++ body) ++ after → foreign_in order head ≡ Some version → IsBody order head body after → ⊥
-none_foreign order b version head body after none e f is =
+none_foreign : (dialect : Dialect) (b : List ℕ) (version : ℕ) (head body after : List ℕ) → NoUnitBegins dialect b
+    → b ≡ (head ++ body) ++ after → foreign_in dialect head ≡ Some version → IsBody dialect head body after → ⊥
+none_foreign dialect b version head body after none e f is =
     none.foreign version head (body ++ after) is.len (e ∙ append_assoc head body after) f is.told is.head_within
 
 left_same : (order : Order) (places : List Placed) (section at : ℕ) (h h2 : HeaderData) (head head2 body body2 : List ℕ)
@@ -133,76 +134,78 @@ rest_same order h h2 body body2 t u =
     ap (λ (z : HeaderData). (spelled_in order z.params body).rest) t
     ∙ ap (λ (z : List ℕ). (spelled_in order h2.params z).rest) u
 
-module _ (order : Order) (places : List Placed) (section : ℕ) where
-  one : {at : ℕ} {b new b2 new2 : List ℕ} → Keeps order places section at b new → Keeps order places section at b2 new2
-      → b ≡ b2 → new ≡ new2
+module _ (dialect : Dialect) (places : List Placed) (section : ℕ) where
+  one : {at : ℕ} {b new b2 new2 : List ℕ} → Keeps dialect places section at b new
+      → Keeps dialect places section at b2 new2 → b ≡ b2 → new ≡ new2
   one (ends n) (ends m) e = e
   one (ends {b = b} n) (foreign {version = version} {head = head} {body = body} {after = after} f is k) e =
-      absurd (none_foreign order b version head body after n e f is)
+      absurd (none_foreign dialect b version head body after n e f is)
   one (ends {b = b} n) (whole {h = h} {head = head} {body = body} {after = after} a is good k) e =
-      absurd (none_own order b h head body after n e a)
+      absurd (none_own dialect b h head body after n e a)
   one (ends {b = b} n) (damaged {h = h} {head = head} {body = body} {after = after} a is bad) e =
-      absurd (none_own order b h head body after n e a)
+      absurd (none_own dialect b h head body after n e a)
   one (foreign {version = version} {head = head} {body = body} {after = after} f is k) (ends {b = b} n) e =
-      absurd (none_foreign order b version head body after n (sym e) f is)
+      absurd (none_foreign dialect b version head body after n (sym e) f is)
   one (foreign {at = at} {head = head} {body = body} {after = after} {new = new} f is k)
       (foreign {head = head2} {body = body2} {after = after2} {new = new2} f2 is2 k2) e =
-      let u = same_unit order head body after head2 body2 after2 e is is2 in
+      let u = same_unit dialect head body after head2 body2 after2 e is is2 in
       let later : new ≡ new2 =
-      one k (subst (λ (z : List ℕ). Keeps order places section (at + length z) after2 new2) (sym u.0) k2) u.1 in
+      one k (subst (λ (z : List ℕ). Keeps dialect places section (at + length z) after2 new2) (sym u.0) k2) u.1 in
       ap (λ (z : List ℕ). z ++ new) u.0 ∙ ap (λ (z : List ℕ). (head2 ++ body2) ++ z) later
   one (foreign {version = version} {head = head} {body = body} {after = after} f is k)
       (whole {h = h2} {head = head2} {body = body2} {after = after2} a2 is2 good2 k2) e =
-      absurd (not_both order head body after head2 body2 after2 e version h2 f a2
-      (both order head body after head2 body2 after2 e))
+      absurd (not_both dialect head body after head2 body2 after2 e version h2 f a2
+      (both dialect head body after head2 body2 after2 e))
   one (foreign {version = version} {head = head} {body = body} {after = after} f is k)
       (damaged {h = h2} {head = head2} {body = body2} {after = after2} a2 is2 bad2) e =
-      absurd (not_both order head body after head2 body2 after2 e version h2 f a2
-      (both order head body after head2 body2 after2 e))
+      absurd (not_both dialect head body after head2 body2 after2 e version h2 f a2
+      (both dialect head body after head2 body2 after2 e))
   one (whole {h = h} {head = head} {body = body} {after = after} a is good k) (ends {b = b} n) e =
-      absurd (none_own order b h head body after n (sym e) a)
+      absurd (none_own dialect b h head body after n (sym e) a)
   one (whole {h = h} {head = head} {body = body} {after = after} a is good k)
       (foreign {version = version} {head = head2} {body = body2} {after = after2} f2 is2 k2) e =
-      absurd (not_both order head2 body2 after2 head body after (sym e) version h f2 a
-      (both order head2 body2 after2 head body after (sym e)))
+      absurd (not_both dialect head2 body2 after2 head body after (sym e) version h f2 a
+      (both dialect head2 body2 after2 head body after (sym e)))
   one (whole {at = at} {h = h} {head = head} {body = body} {after = after} {new = new} a is good k)
       (whole {h = h2} {head = head2} {body = body2} {after = after2} {new = new2} a2 is2 good2 k2) e =
-      let u = same_unit order head body after head2 body2 after2 e is is2 in
-      let s = same_header order head body after head2 body2 after2 e h h2 a a2
-      (both order head body after head2 body2 after2 e) in
-      let t = same_body order head body after head2 body2 after2 e s.0 u.0 in
+      let u = same_unit dialect head body after head2 body2 after2 e is is2 in
+      let s = same_header dialect head body after head2 body2 after2 e h h2 a a2
+      (both dialect head body after head2 body2 after2 e) in
+      let t = same_body dialect head body after head2 body2 after2 e s.0 u.0 in
       let later : new ≡ new2 =
-      one k (subst (λ (z : List ℕ). Keeps order places section (at + length z) after2 new2) (sym u.0) k2) u.1 in
-      ap (λ (z : List ℕ). z ++ new) (left_same order places section at h h2 head head2 body body2 s.0 s.1 t)
-      ∙ ap (λ (z : List ℕ). (head2 ++ program_kept order h2.params places section (at + length head2) body2) ++ z) later
+      one k (subst (λ (z : List ℕ). Keeps dialect places section (at + length z) after2 new2) (sym u.0) k2) u.1 in
+      ap (λ (z : List ℕ). z ++ new) (left_same dialect.order places section at h h2 head head2 body body2 s.0 s.1 t)
+      ∙ ap (λ (z : List ℕ). (head2 ++ program_kept dialect.order h2.params places section (at + length head2)
+      body2) ++ z) later
   one (whole {h = h} {head = head} {body = body} {after = after} a is good k)
       (damaged {h = h2} {head = head2} {body = body2} {after = after2} a2 is2 bad2) e =
-      let u = same_unit order head body after head2 body2 after2 e is is2 in
-      let s = same_header order head body after head2 body2 after2 e h h2 a a2
-      (both order head body after head2 body2 after2 e) in
-      let t = same_body order head body after head2 body2 after2 e s.0 u.0 in
-      absurd (bad2 (sym (rest_same order h h2 body body2 s.1 t) ∙ good))
+      let u = same_unit dialect head body after head2 body2 after2 e is is2 in
+      let s = same_header dialect head body after head2 body2 after2 e h h2 a a2
+      (both dialect head body after head2 body2 after2 e) in
+      let t = same_body dialect head body after head2 body2 after2 e s.0 u.0 in
+      absurd (bad2 (sym (rest_same dialect.order h h2 body body2 s.1 t) ∙ good))
   one (damaged {h = h} {head = head} {body = body} {after = after} a is bad) (ends {b = b} n) e =
-      absurd (none_own order b h head body after n (sym e) a)
+      absurd (none_own dialect b h head body after n (sym e) a)
   one (damaged {h = h} {head = head} {body = body} {after = after} a is bad)
       (foreign {version = version} {head = head2} {body = body2} {after = after2} f2 is2 k2) e =
-      absurd (not_both order head2 body2 after2 head body after (sym e) version h f2 a
-      (both order head2 body2 after2 head body after (sym e)))
+      absurd (not_both dialect head2 body2 after2 head body after (sym e) version h f2 a
+      (both dialect head2 body2 after2 head body after (sym e)))
   one (damaged {h = h} {head = head} {body = body} {after = after} a is bad)
       (whole {h = h2} {head = head2} {body = body2} {after = after2} a2 is2 good2 k2) e =
-      let u = same_unit order head body after head2 body2 after2 e is is2 in
-      let s = same_header order head body after head2 body2 after2 e h h2 a a2
-      (both order head body after head2 body2 after2 e) in
-      let t = same_body order head body after head2 body2 after2 e s.0 u.0 in
-      absurd (bad (rest_same order h h2 body body2 s.1 t ∙ good2))
+      let u = same_unit dialect head body after head2 body2 after2 e is is2 in
+      let s = same_header dialect head body after head2 body2 after2 e h h2 a a2
+      (both dialect head body after head2 body2 after2 e) in
+      let t = same_body dialect head body after head2 body2 after2 e s.0 u.0 in
+      absurd (bad (rest_same dialect.order h h2 body body2 s.1 t ∙ good2))
   one (damaged {at = at} {h = h} {head = head} {body = body} {after = after} a is bad)
       (damaged {h = h2} {head = head2} {body = body2} {after = after2} a2 is2 bad2) e =
-      let u = same_unit order head body after head2 body2 after2 e is is2 in
-      let s = same_header order head body after head2 body2 after2 e h h2 a a2
-      (both order head body after head2 body2 after2 e) in
-      let t = same_body order head body after head2 body2 after2 e s.0 u.0 in
-      ap (λ (z : List ℕ). z ++ after) (left_same order places section at h h2 head head2 body body2 s.0 s.1 t)
-      ∙ ap (λ (z : List ℕ). (head2 ++ program_kept order h2.params places section (at + length head2) body2) ++ z) u.1
+      let u = same_unit dialect head body after head2 body2 after2 e is is2 in
+      let s = same_header dialect head body after head2 body2 after2 e h h2 a a2
+      (both dialect head body after head2 body2 after2 e) in
+      let t = same_body dialect head body after head2 body2 after2 e s.0 u.0 in
+      ap (λ (z : List ℕ). z ++ after) (left_same dialect.order places section at h h2 head head2 body body2 s.0 s.1 t)
+      ∙ ap (λ (z : List ℕ). (head2 ++ program_kept dialect.order h2.params places section (at + length head2)
+      body2) ++ z) u.1
 
 pub one_keeping : OneKeeping
-one_keeping order places section at b new new2 k k2 = one order places section k k2 refl
+one_keeping dialect places section at b new new2 k k2 = one dialect places section k k2 refl

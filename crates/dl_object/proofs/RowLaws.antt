@@ -1,5 +1,6 @@
 -- The rows of what is left of a program.
-use Rattle.std.proofs.Common.{◌≡◌, ℕ, ◌+◌, ◌≤◌, Bool, true, false, cond, List, [], ◌∷◌, ◌++◌, length, map, refl, sym, ap, subst}
+use Rattle.std.proofs.Common.{◌≡◌, ℕ, ◌+◌, ◌≤◌, Bool, true, false, cond, List, [], ◌∷◌, ◌++◌, length, map, refl, sym}
+use Rattle.std.proofs.Common.{ap, subst}
 use Rattle.std.proofs.Common.{◌∙◌, arith, append_assoc, append-nil}
 use Rattle.std.proofs.lemmas.List.{map-append}
 use Rattle.std.specs.List.{AllByRecursion}
@@ -15,7 +16,8 @@ use Rattle.dl_rows.proofs.HeaderParams.{header_fits}
 use Rattle.dl_object.specs.Sequences.{Spelled, spelled, spelled_in, bytes_of, sequences}
 use Rattle.dl_object.specs.Kept.{section_of, is_same, program_kept}
 use Rattle.dl_object.specs.Laws.{RowsOfSection, rows_alone, rows_kept}
-use Rattle.dl_object.proofs.LeftOperations.{AllGood, IsGoodSequence, good_append, cut_good, cut_build, operations_are, good_cut, left_of}
+use Rattle.dl_object.proofs.LeftOperations.{AllGood, IsGoodSequence, good_append, cut_good, cut_build, operations_are}
+use Rattle.dl_object.proofs.LeftOperations.{good_cut, left_of}
 use Rattle.dl_object.proofs.LeftOperations.{sequence_left, left_bytes, left_good}
 use Rattle.dl_object.proofs.MachineRows.{machine_rows, start, Ranged, matrix_is, sequence_rows}
 use Rattle.dl_object.proofs.RunLemmas.{cut_of}
@@ -66,28 +68,30 @@ module _ (order : Order) (h : Params) (fits : FitsProgram h) (places : List Plac
       (machine_rows h (start h) (operations begun)))
 
 pub rows_of_section : RowsOfSection
-rows_of_section order h head program places section at all bytes is =
+rows_of_section dialect h head program places section at all bytes is =
     let p = h.params in
-    let good = header_fits order h head all is in
+    let good = header_fits dialect h head all is in
     let fits : FitsProgram p = record { usable = good.0; line_base = good.1 } in
     let some : 1 ≤ p.opcode_base = omega (arith, good.0.opcodes) in
-    let found = spelled_in order p program in
+    let found = spelled_in dialect.order p program in
     let cut = sequences found.found in
-    let parts = cut_good order p good.0 found.found program found.rest bytes (cut_of order p program) in
-    let goods = good_cut order p [] found.found tt tt parts.0 in
-    let left = left_of order p places section at cut.whole in
-    let last : IsCut (spelled order p) (bytes_of cut.begun ++ found.rest) cut.begun found.rest =
-    subst (λ (z : List Spelled). IsCut (spelled order p) (bytes_of cut.begun ++ found.rest) z found.rest)
+    let parts = cut_good dialect.order p good.0 found.found program found.rest bytes (cut_of dialect.order p program) in
+    let goods = good_cut dialect.order p [] found.found tt tt parts.0 in
+    let left = left_of dialect.order p places section at cut.whole in
+    let last : IsCut (spelled dialect.order p) (bytes_of cut.begun ++ found.rest) cut.begun found.rest =
+    subst (λ (z : List Spelled). IsCut (spelled dialect.order p) (bytes_of cut.begun ++ found.rest) z found.rest)
     (append-nil cut.begun)
-    (cut_build order p cut.begun found.rest [] found.rest goods.begun (refl, parts.1)) in
-    let lefts = left_good order p places section some at cut.whole goods.whole in
-    let kept : IsCut (spelled order p) (program_kept order p places section at program) (left ++ cut.begun) found.rest =
-    subst (λ (z : List ℕ). IsCut (spelled order p) (z ++ (bytes_of cut.begun ++ found.rest)) (left ++ cut.begun) found.rest)
-    (left_bytes order p places section at cut.whole)
-    (cut_build order p left (bytes_of cut.begun ++ found.rest) cut.begun found.rest lefts last) in
-    ap (matrix p) (operations_are order p (program_kept order p places section at program) (left ++ cut.begun) found.rest kept)
-    ∙ matrix_is p fits (operations (left ++ cut.begun))
-    (good_ranged order p (left ++ cut.begun) (good_append order p left cut.begun lefts goods.begun))
-    ∙ left_rows order p fits places section at cut.whole cut.begun goods.whole
+    (cut_build dialect.order p cut.begun found.rest [] found.rest goods.begun (refl, parts.1)) in
+    let lefts = left_good dialect.order p places section some at cut.whole goods.whole in
+    let kept : IsCut (spelled dialect.order p) (program_kept dialect.order p places section at program)
+    (left ++ cut.begun) found.rest =
+    subst (λ (z : List ℕ). IsCut (spelled dialect.order p) (z ++ (bytes_of cut.begun ++ found.rest))
+    (left ++ cut.begun) found.rest)
+    (left_bytes dialect.order p places section at cut.whole)
+    (cut_build dialect.order p left (bytes_of cut.begun ++ found.rest) cut.begun found.rest lefts last) in
+    ap (matrix p) (operations_are dialect.order p (program_kept dialect.order p places section at program)
+    (left ++ cut.begun) found.rest kept) ∙ matrix_is p fits (operations (left ++ cut.begun))
+    (good_ranged dialect.order p (left ++ cut.begun) (good_append dialect.order p left cut.begun lefts goods.begun))
+    ∙ left_rows dialect.order p fits places section at cut.whole cut.begun goods.whole
     ∙ ap (λ (z : List Row). rows_kept p places section at cut.whole ++ z)
-    (sym (matrix_is p fits (operations cut.begun) (good_ranged order p cut.begun goods.begun)))
+    (sym (matrix_is p fits (operations cut.begun) (good_ranged dialect.order p cut.begun goods.begun)))

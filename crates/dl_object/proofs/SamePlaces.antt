@@ -1,6 +1,7 @@
 -- What is left of a section hangs on the section at each place alone.
-use Rattle.std.proofs.Common.{◌≡◌, ℕ, ◌+◌, cond, List, [], ◌∷◌, ◌++◌, length, Option, Some, None, refl, sym, ap, subst, ◌∙◌}
-use Rattle.dl_num.specs.declared.fixed.Order.{Order}
+use Rattle.std.proofs.Common.{◌≡◌, ℕ, ◌+◌, cond, List, [], ◌∷◌, ◌++◌, length, Option, Some, None, refl, sym, ap, subst}
+use Rattle.std.proofs.Common.{◌∙◌}
+use Rattle.dl_head.specs.declared.dialect.Dialect.{Dialect}
 use Rattle.dl_field.specs.declared.params.Params.{Params}
 use Rattle.dl_reloc.specs.declared.placed.Placed.{Placed}
 use Rattle.dl_object.specs.Sequences.{Spelled, spelled_in, bytes_of, sequences}
@@ -8,7 +9,8 @@ use Rattle.dl_object.specs.Kept.{address_place, section_at, section_at_any, is_s
 use Rattle.dl_object.specs.Kept.{sequences_kept, program_kept}
 use Rattle.dl_object.specs.Section.{Keeps, ends, foreign, whole, damaged}
 
-module _ (places sorted : List Placed) (section : ℕ) (same : (at : ℕ) → section_at sorted at ≡ section_at places at) where
+module _ (places sorted : List Placed) (section : ℕ)
+    (same : (at : ℕ) → section_at sorted at ≡ section_at places at) where
   same_any : (o : Option ℕ) → section_at_any sorted o ≡ section_at_any places o
   same_any None = refl
   same_any (Some at) = same at
@@ -27,20 +29,21 @@ module _ (places sorted : List Placed) (section : ℕ) (same : (at : ℕ) → se
       ∙ ap (λ (z : List ℕ). sequence_kept h places section at s ++ z)
       (same_sequences h (at + length (bytes_of s)) more)
 
-  same_program : (order : Order) (h : Params) (at : ℕ) (program : List ℕ)
-      → program_kept order h sorted section at program ≡ program_kept order h places section at program
-  same_program order h at program =
-      let found = spelled_in order h program in
+  same_program : (dialect : Dialect) (h : Params) (at : ℕ) (program : List ℕ)
+      → program_kept dialect.order h sorted section at program ≡ program_kept dialect.order h places section at program
+  same_program dialect h at program =
+      let found = spelled_in dialect.order h program in
       let cut = sequences found.found in
       ap (λ (z : List ℕ). z ++ (bytes_of cut.begun ++ found.rest)) (same_sequences h at cut.whole)
 
-  pub same_kept : (order : Order) {at : ℕ} {b new : List ℕ} → Keeps order sorted section at b new
-      → Keeps order places section at b new
-  same_kept order (ends none) = ends none
-  same_kept order (foreign f body k) = foreign f body (same_kept order k)
-  same_kept order (whole {at = at} {h = h} {head = head} {body = program} {after = after} {new = new} header body good k) =
-      subst (λ (z : List ℕ). Keeps order places section at ((head ++ program) ++ after) ((head ++ z) ++ new))
-      (sym (same_program order h.params (at + length head) program)) (whole header body good (same_kept order k))
-  same_kept order (damaged {at = at} {h = h} {head = head} {body = program} {after = after} header body bad) =
-      subst (λ (z : List ℕ). Keeps order places section at ((head ++ program) ++ after) ((head ++ z) ++ after))
-      (sym (same_program order h.params (at + length head) program)) (damaged header body bad)
+  pub same_kept : (dialect : Dialect) {at : ℕ} {b new : List ℕ} → Keeps dialect sorted section at b new
+      → Keeps dialect places section at b new
+  same_kept dialect (ends none) = ends none
+  same_kept dialect (foreign f body k) = foreign f body (same_kept dialect k)
+  same_kept dialect (whole {at = at} {h = h} {head = head} {body = program} {after = after} {new = new} header
+      body good k) =
+      subst (λ (z : List ℕ). Keeps dialect places section at ((head ++ program) ++ after) ((head ++ z) ++ new))
+      (sym (same_program dialect h.params (at + length head) program)) (whole header body good (same_kept dialect k))
+  same_kept dialect (damaged {at = at} {h = h} {head = head} {body = program} {after = after} header body bad) =
+      subst (λ (z : List ℕ). Keeps dialect places section at ((head ++ program) ++ after) ((head ++ z) ++ after))
+      (sym (same_program dialect h.params (at + length head) program)) (damaged header body bad)

@@ -1,12 +1,13 @@
 -- A section of which the units at the front are worked through.
-use Rattle.std.proofs.Common.{◌≡◌, ◌≢◌, ◌⊎◌, inl, inr, ℕ, ◌+◌, ◌-◌, ◌<◌, ◌≤◌, min, List, [], ◌++◌, length, take, drop, Option, Some}
+use Rattle.std.proofs.Common.{◌≡◌, ◌≢◌, ◌⊎◌, inl, inr, ℕ, ◌+◌, ◌-◌, ◌<◌, ◌≤◌, min, List, [], ◌++◌, length, take, drop}
+use Rattle.std.proofs.Common.{Option, Some}
 use Rattle.std.proofs.Common.{None, Bool, true, false}
 use Rattle.std.proofs.Common.{refl, sym, ap, subst, ◌∙◌, arith, append_assoc, length-drop, length-take-le}
 use Rattle.std.proofs.lemmas.Bool.{cases_lt}
 use Rattle.std.proofs.lemmas.List.{take-append-drop, take-take, drop-drop, drop_all}
 use Rattle.std.proofs.lemmas.Slice.{between_to_end}
 use borrow.Rule.Slice.PartMut.{put_mid}
-use Rattle.dl_num.specs.declared.fixed.Order.{Order}
+use Rattle.dl_head.specs.declared.dialect.Dialect.{Dialect}
 use Rattle.dl_field.specs.HeaderData.{HeaderData}
 use Rattle.dl_head.specs.Header.{IsHeader, foreign_in, unit_len}
 use Rattle.dl_reloc.specs.declared.placed.Placed.{Placed}
@@ -20,31 +21,31 @@ use Rattle.dl_object.proofs.PartLemmas.{PutIn, part_len, put_in}
 true_is : {b : Bool} → b ≡ true → b ≡ false → ⊥
 true_is e f = let g : ◌≡◌ {A = Bool} true false = sym e ∙ f in absurd cc
 
-module _ (order : Order) (places : List Placed) (section : ℕ) (old : List ℕ) where
+module _ (dialect : Dialect) (places : List Placed) (section : ℕ) (old : List ℕ) where
   -- what is left of the whole, by what is left from a place on
   pub record UnitsReplaced (bytes : List ℕ) (at : ℕ) : Type 0 where
     pub rest : drop at bytes ≡ drop at old
-    pub kept : (new : List ℕ) → Keeps order places section at (drop at old) new
-        → Keeps order places section 0 old (take at bytes ++ new)
+    pub kept : (new : List ℕ) → Keeps dialect places section at (drop at old) new
+        → Keeps dialect places section 0 old (take at bytes ++ new)
 
   pub no_unit_yet : UnitsReplaced old 0
   no_unit_yet = record { rest = refl; kept = λ new k. k }
 
   module _ (bytes : List ℕ) (at : ℕ) (so : UnitsReplaced bytes at) (b : List ℕ) (same : b ≡ drop at bytes) where
     -- no unit more
-    pub no_more : NoUnitBegins order b → Keeps order places section 0 old bytes
+    pub no_more : NoUnitBegins dialect b → Keeps dialect places section 0 old bytes
     no_more none =
-        subst (Keeps order places section 0 old)
+        subst (Keeps dialect places section 0 old)
         (ap (λ (z : List ℕ). take at bytes ++ z) (sym so.rest) ∙ take-append-drop at bytes)
-        (so.kept (drop at old) (ends (subst (NoUnitBegins order) (same ∙ so.rest) none)))
+        (so.kept (drop at old) (ends (subst (NoUnitBegins dialect) (same ∙ so.rest) none)))
 
-    pub cell_wanted : AddsCell order b → WantsCell order old
+    pub cell_wanted : AddsCell dialect b → WantsCell dialect old
     cell_wanted cell =
-        (take at old, drop at old, sym (take-append-drop at old), subst (AddsCell order) (same ∙ so.rest) cell)
+        (take at old, drop at old, sym (take-append-drop at old), subst (AddsCell dialect) (same ∙ so.rest) cell)
 
     -- a unit more, whose head has `len` bytes, of `unit`
     module _ (len unit told : ℕ) (first : len ≤ unit) (room : unit ≤ length b)
-        (known : unit_len order (take len b) ≡ Some told) (is : unit ≡ min told (length b)) where
+        (known : unit_len dialect (take len b) ≡ Some told) (is : unit ≡ min told (length b)) where
       abbrev u : List ℕ
       u = take unit b
 
@@ -83,10 +84,10 @@ module _ (order : Order) (places : List Placed) (section : ℕ) (old : List ℕ)
       same_or_less : (unit ≡ told) ⊎ (unit < told)
       same_or_less = elim (cases_lt unit told) [ inl lt ↦ inr lt | inr ge ↦ inl (omega (arith, is, ge)) ]
 
-      body_is : IsBody order head body after
+      body_is : IsBody dialect head body after
       body_is = record {
         len = told;
-        told = ap (unit_len order) (sym head_is) ∙ known;
+        told = ap (unit_len dialect) (sym head_is) ∙ known;
         head_within = (let size = head_len in omega (arith, size, first, is));
         size = cut_short same_or_less;
       }
@@ -97,11 +98,11 @@ module _ (order : Order) (places : List Placed) (section : ℕ) (old : List ℕ)
       place : at + unit ≡ at + length (head ++ body)
       place = ap (λ (n : ℕ). at + n) (sym front_len)
 
-      after_it : (z : List ℕ) → Keeps order places section (at + unit) (drop (at + unit) old) z
-          → Keeps order places section (at + length (head ++ body)) after z
+      after_it : (z : List ℕ) → Keeps dialect places section (at + unit) (drop (at + unit) old) z
+          → Keeps dialect places section (at + length (head ++ body)) after z
       after_it z k =
-          subst (λ (n : ℕ). Keeps order places section n after z) place
-          (subst (λ (y : List ℕ). Keeps order places section (at + unit) y z) (sym later) k)
+          subst (λ (n : ℕ). Keeps dialect places section n after z) place
+          (subst (λ (y : List ℕ). Keeps dialect places section (at + unit) y z) (sym later) k)
 
       -- new is what is left of it, and next the bytes then
       module _ (new next : List ℕ) (rest : drop (at + unit) next ≡ drop (at + unit) bytes)
@@ -109,63 +110,67 @@ module _ (order : Order) (places : List Placed) (section : ℕ) (old : List ℕ)
         rest_is : drop (at + unit) next ≡ drop (at + unit) old
         rest_is = rest ∙ sym (drop-drop unit at bytes) ∙ ap (drop unit) (sym same) ∙ later
 
-        joined : (z : List ℕ) → Keeps order places section at ((head ++ body) ++ after) (new ++ z)
-            → Keeps order places section 0 old (take (at + unit) next ++ z)
+        joined : (z : List ℕ) → Keeps dialect places section at ((head ++ body) ++ after) (new ++ z)
+            → Keeps dialect places section 0 old (take (at + unit) next ++ z)
         joined z k =
-            subst (Keeps order places section 0 old)
+            subst (Keeps dialect places section 0 old)
             (sym (append_assoc (take at bytes) new z) ∙ ap (λ (y : List ℕ). y ++ z) (sym front))
-            (so.kept (new ++ z) (subst (λ (y : List ℕ). Keeps order places section at y (new ++ z)) split k))
+            (so.kept (new ++ z) (subst (λ (y : List ℕ). Keeps dialect places section at y (new ++ z)) split k))
 
         -- of another version
-        foreign_more : (version : ℕ) → foreign_in order head ≡ Some version → new ≡ u
+        foreign_more : (version : ℕ) → foreign_in dialect head ≡ Some version → new ≡ u
             → UnitsReplaced next (at + unit)
         foreign_more version f e = record {
           rest = rest_is;
-          kept = λ z k. joined z (subst (λ (y : List ℕ). Keeps order places section at ((head ++ body) ++ after) (y ++ z))
+          kept = λ z k. joined z (subst (λ (y : List ℕ). Keeps dialect places section at
+              ((head ++ body) ++ after) (y ++ z))
               (front_is ∙ sym e) (foreign f body_is (after_it z k)));
         }
 
         -- of version 5, whose program is replaced
-        module _ (h : HeaderData) (header : IsHeader order h head)
-            (e : new ≡ head ++ program_kept order h.params places section (at + len) body) where
-          left_is : head ++ program_kept order h.params places section (at + length head) body ≡ new
+        module _ (h : HeaderData) (header : IsHeader dialect h head)
+            (e : new ≡ head ++ program_kept dialect.order h.params places section (at + len) body) where
+          left_is : head ++ program_kept dialect.order h.params places section (at + length head) body ≡ new
           left_is =
-              ap (λ (n : ℕ). head ++ program_kept order h.params places section (at + n) body) head_len ∙ sym e
+              ap (λ (n : ℕ). head ++ program_kept dialect.order h.params places section (at + n) body) head_len ∙ sym e
 
-          whole_more : (spelled_in order h.params body).rest ≡ [] → UnitsReplaced next (at + unit)
+          whole_more : (spelled_in dialect.order h.params body).rest ≡ [] → UnitsReplaced next (at + unit)
           whole_more good = record {
             rest = rest_is;
-            kept = λ z k. joined z (subst (λ (y : List ℕ). Keeps order places section at ((head ++ body) ++ after) (y ++ z))
+            kept = λ z k. joined z (subst (λ (y : List ℕ). Keeps dialect places section at
+                ((head ++ body) ++ after) (y ++ z))
                 left_is (whole header body_is good (after_it z k)));
           }
 
-          damaged_last : (spelled_in order h.params body).rest ≢ [] → Keeps order places section 0 old next
+          damaged_last : (spelled_in dialect.order h.params body).rest ≢ [] → Keeps dialect places section 0 old next
           damaged_last bad =
-              subst (Keeps order places section 0 old)
+              subst (Keeps dialect places section 0 old)
               (ap (λ (z : List ℕ). take (at + unit) next ++ z) (later ∙ sym rest_is)
               ∙ take-append-drop (at + unit) next)
-              (joined after (subst (λ (y : List ℕ). Keeps order places section at ((head ++ body) ++ after) (y ++ after))
+              (joined after (subst (λ (y : List ℕ). Keeps dialect places section at
+              ((head ++ body) ++ after) (y ++ after))
               left_is (damaged header body_is bad)))
 
         -- by its kind
-        pub unit_more : (o : Option HeaderData) (on : Bool) → KindIs order (take len b) o
-            → UnitKept order places section at o len u new on → on ≡ true → UnitsReplaced next (at + unit)
+        pub unit_more : (o : Option HeaderData) (on : Bool) → KindIs dialect (take len b) o
+            → UnitKept dialect.order places section at o len u new on → on ≡ true → UnitsReplaced next (at + unit)
         unit_more None on kind kept go =
-            foreign_more kind.0 (ap (foreign_in order) (sym head_is) ∙ kind.1) kept.0
+            foreign_more kind.0 (ap (foreign_in dialect) (sym head_is) ∙ kind.1) kept.0
         unit_more (Some h) on kind kept go =
-            whole_more h (subst (IsHeader order h) head_is kind) kept.0 (kept.1.0 go)
+            whole_more h (subst (IsHeader dialect h) head_is kind) kept.0 (kept.1.0 go)
 
-        pub unit_last : (o : Option HeaderData) (on : Bool) → KindIs order (take len b) o
-            → UnitKept order places section at o len u new on → on ≡ false → Keeps order places section 0 old next
+        pub unit_last : (o : Option HeaderData) (on : Bool) → KindIs dialect (take len b) o
+            → UnitKept dialect.order places section at o len u new on → on ≡ false
+            → Keeps dialect places section 0 old next
         unit_last None on kind kept stop = absurd (true_is kept.1 stop)
         unit_last (Some h) on kind kept stop =
-            damaged_last h (subst (IsHeader order h) head_is kind) kept.0 (λ good. true_is (kept.1.1 good) stop)
+            damaged_last h (subst (IsHeader dialect h) head_is kind) kept.0 (λ good. true_is (kept.1.1 good) stop)
 
   -- the unit whose head a reader has found, as it is in the bytes
   module _ (bytes : List ℕ) (at : ℕ) (so : UnitsReplaced bytes at) (le : at ≤ length bytes) (found : UnitHead)
-      (is : HeadIs order (take (length bytes - at) (drop at bytes)) found)
+      (is : HeadIs dialect (take (length bytes - at) (drop at bytes)) found)
       (within : HeadWithin (length (take (length bytes - at) (drop at bytes))) (Some found)) (new : List ℕ) (on : Bool)
-      (kept : UnitKept order places section at found.header found.len
+      (kept : UnitKept dialect.order places section at found.header found.len
       (take (at + found.unit_len - at) (drop at bytes)) new on)
       (size : length new ≡ length (take (at + found.unit_len - at) (drop at bytes))) where
     abbrev b : List ℕ
@@ -191,8 +196,8 @@ module _ (order : Order) (places : List Placed) (section : ℕ) (old : List ℕ)
         let k : at + unit - at ≡ unit = omega arith in
         ap (λ (n : ℕ). take n (drop at bytes)) k ∙ ap (take unit) (sym same)
 
-    kept_so : UnitKept order places section at found.header found.len (take unit b) new on
-    kept_so = subst (λ (z : List ℕ). UnitKept order places section at found.header found.len z new on) part kept
+    kept_so : UnitKept dialect.order places section at found.header found.len (take unit b) new on
+    kept_so = subst (λ (z : List ℕ). UnitKept dialect.order places section at found.header found.len z new on) part kept
 
     pub unit_size : length next ≡ length bytes
     unit_size = put.size
@@ -205,7 +210,7 @@ module _ (order : Order) (places : List Placed) (section : ℕ) (old : List ℕ)
         unit_more bytes at so b same found.len unit is.len within.1 within.2 is.told is.unit new next put.rest put.front
         found.header on is.kind kept_so go
 
-    pub unit_stops : on ≡ false → Keeps order places section 0 old next
+    pub unit_stops : on ≡ false → Keeps dialect places section 0 old next
     unit_stops stop =
         unit_last bytes at so b same found.len unit is.len within.1 within.2 is.told is.unit new next put.rest put.front
         found.header on is.kind kept_so stop

@@ -1,4 +1,5 @@
 -- What stands at the front of bytes. No promise rests on this file.
+use Rattle.dl_head.specs.declared.dialect.Dialect.{Dialect}
 use Rattle.std.specs.Prelude.{◌≡◌, ◌≢◌, ℕ, ◌+◌, ◌≤◌, min, true, false, List, [], ◌∷◌, ◌++◌, length, take, drop}
 use Rattle.std.specs.Prelude.{Bool, IsTrue, ◌↔◌, Option, Some, None, if◌then◌else◌}
 use Rattle.std.specs.List.{AllByRecursion}
@@ -64,14 +65,14 @@ IsWithin n (front.Sequence q) = (3 ≤ q.len) × (q.len ≤ n) × PlaceWithin q.
 IsWithin n other = Unit {0}
 
 -- the head of a unit at the front of b
-abbrev pub KindIs : Order → List ℕ → Option HeaderData → Type 0
-KindIs order head (Some h) = IsHeader order h head
-KindIs order head None = (version : ℕ) × (foreign_in order head ≡ Some version)
+abbrev pub KindIs : Dialect → List ℕ → Option HeaderData → Type 0
+KindIs dialect head (Some h) = IsHeader dialect h head
+KindIs dialect head None = (version : ℕ) × (foreign_in dialect head ≡ Some version)
 
-pub record HeadIs (order : Order) (b : List ℕ) (u : UnitHead) : Type 0 where
-  pub kind : KindIs order (take u.len b) u.header
+pub record HeadIs (dialect : Dialect) (b : List ℕ) (u : UnitHead) : Type 0 where
+  pub kind : KindIs dialect (take u.len b) u.header
   pub len : ℕ
-  pub told : unit_len order (take u.len b) ≡ Some len
+  pub told : unit_len dialect (take u.len b) ≡ Some len
   pub unit : u.unit_len ≡ min len (length b)
 
 abbrev pub HeadWithin : ℕ → Option UnitHead → Type 0

@@ -1,6 +1,6 @@
 -- Laws of what is left of a section, and of its rows. DWARF 5, sections 6.2.2 and 6.2.5.3.
 use Rattle.std.specs.Prelude.{◌≡◌, ℕ, ◌+◌, List, [], ◌∷◌, ◌++◌, length, map, if◌then◌else◌}
-use Rattle.dl_num.specs.declared.fixed.Order.{Order}
+use Rattle.dl_head.specs.declared.dialect.Dialect.{Dialect}
 use Rattle.dl_num.specs.Laws.{AllBytes}
 use Rattle.dl_field.specs.declared.params.Params.{Params}
 use Rattle.dl_field.specs.HeaderData.{HeaderData}
@@ -28,14 +28,14 @@ rows_kept h places section at (s ∷ more) =
 -- operations after its last sequence
 abbrev pub RowsOfSection : Type 0
 RowsOfSection =
-    (order : Order) (h : HeaderData) (head program : List ℕ) (places : List Placed) (section at : ℕ) → AllBytes head
-    → AllBytes program → IsHeader order h head
-    → rows_in order h.params (program_kept order h.params places section at program)
-    ≡ rows_kept h.params places section at (sequences (spelled_in order h.params program).found).whole
-    ++ rows_alone h.params (sequences (spelled_in order h.params program).found).begun
+    (dialect : Dialect) (h : HeaderData) (head program : List ℕ) (places : List Placed) (section at : ℕ) → AllBytes head
+    → AllBytes program → IsHeader dialect h head
+    → rows_in dialect.order h.params (program_kept dialect.order h.params places section at program)
+    ≡ rows_kept h.params places section at (sequences (spelled_in dialect.order h.params program).found).whole
+    ++ rows_alone h.params (sequences (spelled_in dialect.order h.params program).found).begun
 
 -- what is left of bytes is settled by them, the places and the section
 abbrev pub OneKeeping : Type 0
 OneKeeping =
-    (order : Order) (places : List Placed) (section at : ℕ) (b new new2 : List ℕ)
-    → Keeps order places section at b new → Keeps order places section at b new2 → new ≡ new2
+    (dialect : Dialect) (places : List Placed) (section at : ℕ) (b new new2 : List ℕ)
+    → Keeps dialect places section at b new → Keeps dialect places section at b new2 → new ≡ new2

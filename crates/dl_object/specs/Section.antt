@@ -1,7 +1,7 @@
 -- What is left of a section of units where the sequences of one section of an object file are wanted. DWARF 5, sections
 -- 6.2.4 and 7.4.
 use Rattle.std.specs.Prelude.{◌≡◌, ◌≢◌, ◌⊎◌, ℕ, ◌+◌, ◌<◌, ◌≤◌, List, [], ◌∷◌, ◌++◌, length, Some}
-use Rattle.dl_num.specs.declared.fixed.Order.{Order}
+use Rattle.dl_head.specs.declared.dialect.Dialect.{Dialect}
 use Rattle.dl_field.specs.HeaderData.{HeaderData}
 use Rattle.dl_head.specs.Header.{IsHeader, foreign_in, unit_len}
 use Rattle.dl_head.specs.Reading.{AddsCell as AddsCellAt}
@@ -11,46 +11,46 @@ use Rattle.dl_object.specs.Kept.{program_kept}
 
 -- the first bytes of a unit, its header, are `head`; `body` is the rest of it, or all bytes that are there, where it is
 -- cut short, and `after` follows it
-pub record IsBody (order : Order) (head body after : List ℕ) : Type 0 where
+pub record IsBody (dialect : Dialect) (head body after : List ℕ) : Type 0 where
   pub len : ℕ
-  pub told : unit_len order head ≡ Some len
+  pub told : unit_len dialect head ≡ Some len
   pub head_within : length head ≤ len
   pub size : (length (head ++ body) ≡ len) ⊎ ((length (head ++ body) < len) × (after ≡ []))
 
 -- b begins with no header, nor with a unit of another version, up to that version
-pub record NoUnitBegins (order : Order) (b : List ℕ) : Type 0 where
-  pub own : (h : HeaderData) (head back : List ℕ) → b ≡ head ++ back → IsHeader order h head → ⊥
+pub record NoUnitBegins (dialect : Dialect) (b : List ℕ) : Type 0 where
+  pub own : (h : HeaderData) (head back : List ℕ) → b ≡ head ++ back → IsHeader dialect h head → ⊥
   pub foreign : (version : ℕ) (head back : List ℕ) (len : ℕ) → b ≡ head ++ back
-      → foreign_in order head ≡ Some version → unit_len order head ≡ Some len → length head ≤ len → ⊥
+      → foreign_in dialect head ≡ Some version → unit_len dialect head ≡ Some len → length head ≤ len → ⊥
 
 -- what is left of the units at the front of bytes, which begin at that place
-pub data Keeps (order : Order) (places : List Placed) (section : ℕ) : ℕ → List ℕ → List ℕ → Type 0 where
+pub data Keeps (dialect : Dialect) (places : List Placed) (section : ℕ) : ℕ → List ℕ → List ℕ → Type 0 where
   -- after the last unit, and after a fault, all stays
-  ends : {at : ℕ} {b : List ℕ} → NoUnitBegins order b → Keeps order places section at b b
+  ends : {at : ℕ} {b : List ℕ} → NoUnitBegins dialect b → Keeps dialect places section at b b
   -- a unit of another version stays
-  foreign : {at version : ℕ} {head body after new : List ℕ} → foreign_in order head ≡ Some version
-      → IsBody order head body after
-      → Keeps order places section (at + length (head ++ body)) after new
-      → Keeps order places section at ((head ++ body) ++ after) ((head ++ body) ++ new)
+  foreign : {at version : ℕ} {head body after new : List ℕ} → foreign_in dialect head ≡ Some version
+      → IsBody dialect head body after
+      → Keeps dialect places section (at + length (head ++ body)) after new
+      → Keeps dialect places section at ((head ++ body) ++ after) ((head ++ body) ++ new)
   -- of a unit whose operations are all good, the sequences of the section stay
-  whole : {at : ℕ} {h : HeaderData} {head body after new : List ℕ} → IsHeader order h head
-      → IsBody order head body after
-      → (spelled_in order h.params body).rest ≡ []
-      → Keeps order places section (at + length (head ++ body)) after new
-      → Keeps order places section at ((head ++ body) ++ after)
-      ((head ++ program_kept order h.params places section (at + length head) body) ++ new)
+  whole : {at : ℕ} {h : HeaderData} {head body after new : List ℕ} → IsHeader dialect h head
+      → IsBody dialect head body after
+      → (spelled_in dialect.order h.params body).rest ≡ []
+      → Keeps dialect places section (at + length (head ++ body)) after new
+      → Keeps dialect places section at ((head ++ body) ++ after)
+      ((head ++ program_kept dialect.order h.params places section (at + length head) body) ++ new)
   -- and of one with a fault too, after which all stays
-  damaged : {at : ℕ} {h : HeaderData} {head body after : List ℕ} → IsHeader order h head
-      → IsBody order head body after
-      → (spelled_in order h.params body).rest ≢ []
-      → Keeps order places section at ((head ++ body) ++ after)
-      ((head ++ program_kept order h.params places section (at + length head) body) ++ after)
+  damaged : {at : ℕ} {h : HeaderData} {head body after : List ℕ} → IsHeader dialect h head
+      → IsBody dialect head body after
+      → (spelled_in dialect.order h.params body).rest ≢ []
+      → Keeps dialect places section at ((head ++ body) ++ after)
+      ((head ++ program_kept dialect.order h.params places section (at + length head) body) ++ after)
 
 -- with a byte of b the header that b begins with holds a cell more, for which memory may be refused
-abbrev pub AddsCell : Order → List ℕ → Type 0
-AddsCell order b =
-    (front : List ℕ) × (byte : ℕ) × (back : List ℕ) × (b ≡ front ++ byte ∷ back) × AddsCellAt order front byte
+abbrev pub AddsCell : Dialect → List ℕ → Type 0
+AddsCell dialect b =
+    (front : List ℕ) × (byte : ℕ) × (back : List ℕ) × (b ≡ front ++ byte ∷ back) × AddsCellAt dialect front byte
 
 -- the same of a unit in b
-abbrev pub WantsCell : Order → List ℕ → Type 0
-WantsCell order b = (before after : List ℕ) × (b ≡ before ++ after) × AddsCell order after
+abbrev pub WantsCell : Dialect → List ℕ → Type 0
+WantsCell dialect b = (before after : List ℕ) × (b ≡ before ++ after) × AddsCell dialect after

@@ -5,8 +5,7 @@ ghost use Rattle.dl_object.specs.Section.{AddsCell, NoUnitBegins};
 ghost use Rattle.dl_object.specs.Fronts.{HeadIs, HeadWithin};
 
 use crate::section::NoMemory;
-use dl_head::{HeadReader, HeadStep, Header};
-use dl_num::Order;
+use dl_head::{Dialect, HeadReader, HeadStep, Header};
 use std::alloc::Global;
 
 /// The first bytes of a unit, up to the end of its header, or of its version where that isn't 5.
@@ -23,14 +22,15 @@ pub struct UnitHead {
 /// The head of the unit that the bytes begin with; None where they begin with none.
 pub fn head_at_front(
     alloc: Global,
-    order: Order,
+    dialect: Dialect,
     bytes: &[u8],
 ) -> Result<Option<UnitHead>, NoMemory>
     ensures within { IfOk result (λ found. HeadWithin (length bytes.now) found) }
-    ensures head { IfOk result (λ found. MatchOption found (NoUnitBegins order bytes.now) (HeadIs order bytes.now)) }
-    ensures memory { IfErr result (λ error. AddsCell order bytes.now) }
+    ensures head { IfOk result (λ found. MatchOption found (NoUnitBegins dialect bytes.now)
+        (HeadIs dialect bytes.now)) }
+    ensures memory { IfErr result (λ error. AddsCell dialect bytes.now) }
 {
-    let mut reader = HeadReader::new(alloc, order);
+    let mut reader = HeadReader::new(alloc, dialect);
     let (len, step) = reader.offer(bytes);
     match step {
         HeadStep::More | HeadStep::Fault(_) => return Ok(None),

@@ -8,6 +8,7 @@ ghost use Rattle.dl_object.specs.Fronts.{UnitKept};
 use crate::head::{UnitHead, head_at_front};
 use crate::places::{are_rising, sorted};
 use crate::program::{Wanted, keep_sequences};
+use dl_head::Dialect;
 use dl_num::Order;
 use dl_reloc::Placed;
 use std::alloc::Global;
@@ -25,45 +26,45 @@ pub struct NoMemory;
 /// is refused, some of the sequences are replaced.
 pub fn keep_section(
     alloc: Global,
-    order: Order,
+    dialect: Dialect,
     bytes: &mut [u8],
     places: &[Placed],
     section: u64,
 ) -> Result<(), NoMemory>
-    ensures kept { IfOk result (λ done. Keeps order places.now section 0 bytes.old bytes.new) }
-    ensures memory { IfErr result (λ error. (Rises places.now → ⊥) ⊎ WantsCell order bytes.old) }
+    ensures kept { IfOk result (λ done. Keeps dialect places.now section 0 bytes.old bytes.new) }
+    ensures memory { IfErr result (λ error. (Rises places.now → ⊥) ⊎ WantsCell dialect bytes.old) }
 {
     if are_rising(places) {
         let wanted = Wanted { places, section };
-        return keep_units(alloc, order, bytes, &wanted);
+        return keep_units(alloc, dialect, bytes, &wanted);
     }
     let sorted = sorted(alloc, places)?;
     let wanted = Wanted {
         places: sorted.as_slice(),
         section,
     };
-    keep_units(alloc, order, bytes, &wanted)
+    keep_units(alloc, dialect, bytes, &wanted)
 }
 
 /// The same, of places in rising order.
 fn keep_units(
     alloc: Global,
-    order: Order,
+    dialect: Dialect,
     bytes: &mut [u8],
     wanted: &Wanted<'_>,
 ) -> Result<(), NoMemory>
     requires { Rises wanted.now.places.now }
     ensures kept { IfOk result
-        (λ done. Keeps order wanted.now.places.now wanted.now.section 0 bytes.old bytes.new) }
-    ensures memory { IfErr result (λ error. WantsCell order bytes.old) }
+        (λ done. Keeps dialect wanted.now.places.now wanted.now.section 0 bytes.old bytes.new) }
+    ensures memory { IfErr result (λ error. WantsCell dialect bytes.old) }
 {
     let mut at = 0;
     loop {
-        let Some(head) = head_at_front(alloc, order, &bytes[at..])? else {
+        let Some(head) = head_at_front(alloc, dialect, &bytes[at..])? else {
             return Ok(());
         };
         let end = at + head.unit_len;
-        if !keep_unit(order, &head, &mut bytes[at..end], at, wanted) {
+        if !keep_unit(dialect.order, &head, &mut bytes[at..end], at, wanted) {
             return Ok(());
         }
         at = end;

@@ -1,4 +1,5 @@
 -- Rows that are told inside one call, and calls that tell one row each.
+use Rattle.dl_head.specs.declared.dialect.Dialect.{Dialect}
 use Rattle.std.proofs.Common.{◌≡◌, ◌+◌, ◌-◌, ◌<◌, ◌≤◌, ◌⊎◌, inl, inr, ◌≢◌, IfOk, ℕ, zero, suc, List, [], ◌∷◌, ◌++◌}
 use Rattle.std.proofs.Common.{length, map, take, drop, slice_get, Result, Ok, Err, refl, sym, ap, subst, ◌∙◌, arith}
 use Rattle.std.proofs.Common.{length-append, append_assoc, append-nil, length-drop}
@@ -35,7 +36,7 @@ slice_drop (suc n) i (x ∷ l) =
     (let same : suc (n + i) ≡ suc n + i = omega arith in slice_drop n i l ∙ ap (slice_get (x ∷ l)) same)
 
 -- n bytes of the piece were used before, and more of the rest
-module _ (order : Order) (b piece : List ℕ) (n more : ℕ) (before after : List Event) (same : after ≡ before)
+module _ (dialect : Dialect) (b piece : List ℕ) (n more : ℕ) (before after : List Event) (same : after ≡ before)
     (some : 1 ≤ n) (le : n ≤ length piece) where
   abbrev mid : List ℕ
   mid = b ++ take n piece
@@ -55,38 +56,38 @@ module _ (order : Order) (b piece : List ℕ) (n more : ℕ) (before after : Lis
       let count : n + (more - 1) ≡ n + more - 1 = omega (arith, any) in
       joined b piece n (more - 1) ∙ ap (λ (k : ℕ). b ++ take k piece) count
 
-  last_on : 1 ≤ more → events order (mid ++ take (more - 1) rest) ≡ after
-      → events order (b ++ take (n + more - 1) piece) ≡ before
-  last_on any e = ap (events order) (sym (last any)) ∙ e ∙ same
+  last_on : 1 ≤ more → events dialect (mid ++ take (more - 1) rest) ≡ after
+      → events dialect (b ++ take (n + more - 1) piece) ≡ before
+  last_on any e = ap (events dialect) (sym (last any)) ∙ e ∙ same
 
-  last_back : 1 ≤ more → events order (b ++ take (n + more - 1) piece) ≡ before
-      → events order (mid ++ take (more - 1) rest) ≡ after
-  last_back any e = ap (events order) (last any) ∙ e ∙ sym same
+  last_back : 1 ≤ more → events dialect (b ++ take (n + more - 1) piece) ≡ before
+      → events dialect (mid ++ take (more - 1) rest) ≡ after
+  last_back any e = ap (events dialect) (last any) ∙ e ∙ sym same
 
-  memory_on : EventHoldsAfter order after mid rest more event.NoMemory
-      → EventHoldsAfter order before b piece (n + more) event.NoMemory
+  memory_on : EventHoldsAfter dialect after mid rest more event.NoMemory
+      → EventHoldsAfter dialect before b piece (n + more) event.NoMemory
   memory_on holds = (
     holds.0,
     sym (slice_drop n more piece) ∙ holds.1,
-    ap (header_in order) (sym whole) ∙ holds.2,
-    subst (λ (z : List ℕ). cells order z < cells order (z ++ holds.0 ∷ [])) whole holds.3,
+    ap (header_in dialect) (sym whole) ∙ holds.2,
+    subst (λ (z : List ℕ). cells dialect z < cells dialect (z ++ holds.0 ∷ [])) whole holds.3,
   )
 
-  memory_back : EventHoldsAfter order before b piece (n + more) event.NoMemory
-      → EventHoldsAfter order after mid rest more event.NoMemory
+  memory_back : EventHoldsAfter dialect before b piece (n + more) event.NoMemory
+      → EventHoldsAfter dialect after mid rest more event.NoMemory
   memory_back holds = (
     holds.0,
     slice_drop n more piece ∙ holds.1,
-    ap (header_in order) whole ∙ holds.2,
-    subst (λ (z : List ℕ). cells order z < cells order (z ++ holds.0 ∷ [])) (sym whole) holds.3,
+    ap (header_in dialect) whole ∙ holds.2,
+    subst (λ (z : List ℕ). cells dialect z < cells dialect (z ++ holds.0 ∷ [])) (sym whole) holds.3,
   )
 
   -- bytes were left for another call
-  holds_on : n < length piece → (e : Event) → EventHoldsAfter order after mid rest more e
-      → EventHoldsAfter order before b piece (n + more) e
+  holds_on : n < length piece → (e : Event) → EventHoldsAfter dialect after mid rest more e
+      → EventHoldsAfter dialect before b piece (n + more) e
   holds_on lt event.More holds = (omega (arith, holds.0, size, lt), λ unit. omega (arith, some))
   holds_on lt event.End holds = (
-    subst (λ (z : List ℕ). IsUnit order z) whole holds.0,
+    subst (λ (z : List ℕ). IsUnit dialect z) whole holds.0,
     elim holds.1 [ inl none ↦ inr (omega (arith, none, lt)) | inr less ↦ inr (omega (arith, less, size, lt)) ],
   )
   holds_on lt event.NoMemory holds = memory_on holds
@@ -94,28 +95,28 @@ module _ (order : Order) (b piece : List ℕ) (n more : ℕ) (before after : Lis
   holds_on lt (event.Foreign version) holds = (omega (arith, some), last_on holds.0 holds.1)
   holds_on lt (event.Row row) holds = (omega (arith, some), last_on holds.0 holds.1)
 
-  tell_on : n < length piece → (gave : Result Event Fault) → MayGiveAfter order after mid rest more gave
-      → MayGiveAfter order before b piece (n + more) gave
+  tell_on : n < length piece → (gave : Result Event Fault) → MayGiveAfter dialect after mid rest more gave
+      → MayGiveAfter dialect before b piece (n + more) gave
   tell_on lt (Ok e) m = record {
     within = omega (arith, m.within, size, lt);
-    in_unit = subst (WithinUnit order) whole m.in_unit;
-    grows = ap (events order) (sym whole) ∙ m.grows ∙ ap (λ (z : List Event). z ++ told e) same;
+    in_unit = subst (WithinUnit dialect) whole m.in_unit;
+    grows = ap (events dialect) (sym whole) ∙ m.grows ∙ ap (λ (z : List Event). z ++ told e) same;
     holds = holds_on lt e m.holds;
     sound = λ front back at kind k. m.sound front back at kind (whole ∙ k);
   }
   tell_on lt (Err fault) m = record {
     within = omega (arith, m.within, size, lt);
-    in_unit = subst (WithinUnit order) whole m.in_unit;
-    refused = subst (λ (z : List ℕ). Refused order z fault.offset fault.kind) whole m.refused;
-    no_event = ap (events order) (sym whole) ∙ m.no_event ∙ same;
+    in_unit = subst (WithinUnit dialect) whole m.in_unit;
+    refused = subst (λ (z : List ℕ). Refused dialect z fault.offset fault.kind) whole m.refused;
+    no_event = ap (events dialect) (sym whole) ∙ m.no_event ∙ same;
   }
 
   -- an answer that tells an event isn't that of the first n bytes
   holds_back : n < length piece → (e : Event) → (told e ≢ [] → 1 ≤ more)
-      → EventHoldsAfter order before b piece (n + more) e → EventHoldsAfter order after mid rest more e
+      → EventHoldsAfter dialect before b piece (n + more) e → EventHoldsAfter dialect after mid rest more e
   holds_back lt event.More any holds = (omega (arith, holds.0, size, lt), λ unit. omega (arith, holds.0, lt))
   holds_back lt event.End any holds = (
-    subst (λ (z : List ℕ). IsUnit order z) (sym whole) holds.0,
+    subst (λ (z : List ℕ). IsUnit dialect z) (sym whole) holds.0,
     elim holds.1 [ inl none ↦ absurd (omega (arith, none, some)) | inr less ↦ inr (omega (arith, less, size, lt)) ],
   )
   holds_back lt event.NoMemory any holds = memory_back holds
@@ -124,94 +125,95 @@ module _ (order : Order) (b piece : List ℕ) (n more : ℕ) (before after : Lis
   holds_back lt (event.Row row) any holds = (let one = any (λ k. absurd cc) in (one, last_back one holds.1))
 
   tell_back : n < length piece → (gave : Result Event Fault) → (IfOk gave (λ e. told e ≢ [] → 1 ≤ more))
-      → MayGiveAfter order before b piece (n + more) gave → MayGiveAfter order after mid rest more gave
+      → MayGiveAfter dialect before b piece (n + more) gave → MayGiveAfter dialect after mid rest more gave
   tell_back lt (Ok e) any m = record {
     within = omega (arith, m.within, size, lt);
-    in_unit = subst (WithinUnit order) (sym whole) m.in_unit;
-    grows = ap (events order) whole ∙ m.grows ∙ ap (λ (z : List Event). z ++ told e) (sym same);
+    in_unit = subst (WithinUnit dialect) (sym whole) m.in_unit;
+    grows = ap (events dialect) whole ∙ m.grows ∙ ap (λ (z : List Event). z ++ told e) (sym same);
     holds = holds_back lt e any m.holds;
     sound = λ front back at kind k. m.sound front back at kind (sym whole ∙ k);
   }
   tell_back lt (Err fault) any m = record {
     within = omega (arith, m.within, size, lt);
-    in_unit = subst (WithinUnit order) (sym whole) m.in_unit;
-    refused = subst (λ (z : List ℕ). Refused order z fault.offset fault.kind) (sym whole) m.refused;
-    no_event = ap (events order) whole ∙ m.no_event ∙ sym same;
+    in_unit = subst (WithinUnit dialect) (sym whole) m.in_unit;
+    refused = subst (λ (z : List ℕ). Refused dialect z fault.offset fault.kind) (sym whole) m.refused;
+    no_event = ap (events dialect) whole ∙ m.no_event ∙ sym same;
   }
 
 -- ---- calls tell what one call may
 
-alone : (order : Order) (b piece : List ℕ) (used : ℕ) (gave : Result Event Fault)
-    → MayGiveAfter order (events order b) b piece used gave → MayGive order b piece used gave
-alone order b piece used (Ok e) m = m
-alone order b piece used (Err fault) m = m
+alone : (dialect : Dialect) (b piece : List ℕ) (used : ℕ) (gave : Result Event Fault)
+    → MayGiveAfter dialect (events dialect b) b piece used gave → MayGive dialect b piece used gave
+alone dialect b piece used (Ok e) m = m
+alone dialect b piece used (Err fault) m = m
 
-not_alone : (order : Order) (b piece : List ℕ) (used : ℕ) (gave : Result Event Fault) → MayGive order b piece used gave
-    → MayGiveAfter order (events order b) b piece used gave
-not_alone order b piece used (Ok e) m = m
-not_alone order b piece used (Err fault) m = m
+not_alone : (dialect : Dialect) (b piece : List ℕ) (used : ℕ) (gave : Result Event Fault)
+    → MayGive dialect b piece used gave → MayGiveAfter dialect (events dialect b) b piece used gave
+not_alone dialect b piece used (Ok e) m = m
+not_alone dialect b piece used (Err fault) m = m
 
-tells_of : (order : Order) (b piece : List ℕ) (rows : List Row) (used : ℕ) (gave : Result Event Fault)
-    → Calls order b piece rows used gave → MayTell order b piece rows used gave
-tells_of order b piece [] used gave calls =
-    subst (λ (z : List Event). MayGiveAfter order z b piece used gave) (sym (append-nil (events order b)))
-    (not_alone order b piece used gave calls)
-tells_of order b piece (r ∷ rows) used gave (n, may, inl (all, none, size, is)) =
-    let nothing : events order b ++ map event.Row (r ∷ rows) ≡ events order b ++ event.Row r ∷ [] =
-    ap (λ (z : List Row). events order b ++ event.Row r ∷ map event.Row z) none in
-    let told_here : MayGiveAfter order (events order b ++ event.Row r ∷ []) b piece n (Ok event.More) = record {
+tells_of : (dialect : Dialect) (b piece : List ℕ) (rows : List Row) (used : ℕ) (gave : Result Event Fault)
+    → Calls dialect b piece rows used gave → MayTell dialect b piece rows used gave
+tells_of dialect b piece [] used gave calls =
+    subst (λ (z : List Event). MayGiveAfter dialect z b piece used gave) (sym (append-nil (events dialect b)))
+    (not_alone dialect b piece used gave calls)
+tells_of dialect b piece (r ∷ rows) used gave (n, may, inl (all, none, size, is)) =
+    let nothing : events dialect b ++ map event.Row (r ∷ rows) ≡ events dialect b ++ event.Row r ∷ [] =
+    ap (λ (z : List Row). events dialect b ++ event.Row r ∷ map event.Row z) none in
+    let told_here : MayGiveAfter dialect (events dialect b ++ event.Row r ∷ []) b piece n (Ok event.More) = record {
       within = may.within;
       in_unit = may.in_unit;
-      grows = may.grows ∙ sym (append-nil (events order b ++ event.Row r ∷ []));
+      grows = may.grows ∙ sym (append-nil (events dialect b ++ event.Row r ∷ []));
       holds = (all, λ unit. may.holds.0);
       sound = may.sound;
     } in
-    subst (λ (k : ℕ). MayGiveAfter order (events order b ++ map event.Row (r ∷ rows)) b piece k gave) (sym size)
-    (subst (λ (g : Result Event Fault). MayGiveAfter order (events order b ++ map event.Row (r ∷ rows)) b piece n g)
+    subst (λ (k : ℕ). MayGiveAfter dialect (events dialect b ++ map event.Row (r ∷ rows)) b piece k gave) (sym size)
+    (subst (λ (g : Result Event Fault). MayGiveAfter dialect (events dialect b ++ map event.Row (r ∷ rows)) b piece n g)
     (sym is)
-    (subst (λ (z : List Event). MayGiveAfter order z b piece n (Ok event.More)) (sym nothing) told_here))
-tells_of order b piece (r ∷ rows) used gave (n, may, inr (lt, more, size, calls)) =
-    let later = tells_of order (b ++ take n piece) (drop n piece) rows more gave calls in
-    let same : events order (b ++ take n piece) ++ map event.Row rows ≡ events order b ++ map event.Row (r ∷ rows) =
+    (subst (λ (z : List Event). MayGiveAfter dialect z b piece n (Ok event.More)) (sym nothing) told_here))
+tells_of dialect b piece (r ∷ rows) used gave (n, may, inr (lt, more, size, calls)) =
+    let later = tells_of dialect (b ++ take n piece) (drop n piece) rows more gave calls in
+    let same : events dialect (b ++ take n piece) ++ map event.Row rows ≡ events dialect b ++ map event.Row (r ∷ rows) =
     ap (λ (z : List Event). z ++ map event.Row rows) may.grows
-    ∙ append_assoc (events order b) (event.Row r ∷ []) (map event.Row rows) in
-    subst (λ (k : ℕ). MayGiveAfter order (events order b ++ map event.Row (r ∷ rows)) b piece k gave) (sym size)
-    (tell_on order b piece n more (events order b ++ map event.Row (r ∷ rows)) (events order (b ++ take n piece)
+    ∙ append_assoc (events dialect b) (event.Row r ∷ []) (map event.Row rows) in
+    subst (λ (k : ℕ). MayGiveAfter dialect (events dialect b ++ map event.Row (r ∷ rows)) b piece k gave) (sym size)
+    (tell_on dialect b piece n more (events dialect b ++ map event.Row (r ∷ rows)) (events dialect (b ++ take n piece)
     ++ map event.Row rows) same may.holds.0 may.within lt gave later)
 
 -- ---- one call tells what calls may
 
 -- what is said of the bytes that were used, whatever was answered
-record Used (order : Order) (before : List Event) (b piece : List ℕ) (used : ℕ) (gave : Result Event Fault) : Type
+record Used (dialect : Dialect) (before : List Event) (b piece : List ℕ) (used : ℕ) (gave : Result Event Fault) : Type
     0 where
   within : used ≤ length piece
-  in_unit : WithinUnit order (b ++ take used piece)
+  in_unit : WithinUnit dialect (b ++ take used piece)
   es : List Event
-  grows : events order (b ++ take used piece) ≡ before ++ es
+  grows : events dialect (b ++ take used piece) ≡ before ++ es
 
-used_of : (order : Order) (before : List Event) (b piece : List ℕ) (used : ℕ) (gave : Result Event Fault)
-    → MayGiveAfter order before b piece used gave → Used order before b piece used gave
-used_of order before b piece used (Ok e) m =
+used_of : (dialect : Dialect) (before : List Event) (b piece : List ℕ) (used : ℕ) (gave : Result Event Fault)
+    → MayGiveAfter dialect before b piece used gave → Used dialect before b piece used gave
+used_of dialect before b piece used (Ok e) m =
     record { within = m.within; in_unit = m.in_unit; es = told e; grows = m.grows }
-used_of order before b piece used (Err fault) m =
+used_of dialect before b piece used (Err fault) m =
     record { within = m.within; in_unit = m.in_unit; es = []; grows = m.no_event ∙ sym (append-nil before) }
 
 -- the first row is what `feed` may answer
-first_call : (order : Order) (b piece : List ℕ) (used : ℕ) (gave : Result Event Fault) (r : Row) (before : List Event)
-    (t : RowTaken order b piece used r)
-    → MayGiveAfter order before b piece used gave → MayGive order b piece t.n (Ok (event.Row r))
-first_call order b piece used gave r before t m = record {
+first_call : (dialect : Dialect) (b piece : List ℕ) (used : ℕ) (gave : Result Event Fault) (r : Row)
+    (before : List Event)
+    (t : RowTaken dialect b piece used r)
+    → MayGiveAfter dialect before b piece used gave → MayGive dialect b piece t.n (Ok (event.Row r))
+first_call dialect b piece used gave r before t m = record {
   within = omega (arith, u.within, t.total);
   in_unit =
-      λ k e. at_most k (u.in_unit k (ap (unit_len order) (sym whole)
-      ∙ unit_len_on order (b ++ take t.n piece) (take t.more (drop t.n piece)) k e));
+      λ k e. at_most k (u.in_unit k (ap (unit_len dialect) (sym whole)
+      ∙ unit_len_on dialect (b ++ take t.n piece) (take t.more (drop t.n piece)) k e));
   grows = t.row;
   holds = (t.some, t.before);
   sound = sound gave m;
 }
   where
-    u : Used order before b piece used gave
-    u = used_of order before b piece used gave m
+    u : Used dialect before b piece used gave
+    u = used_of dialect before b piece used gave m
 
     whole : (b ++ take t.n piece) ++ take t.more (drop t.n piece) ≡ b ++ take used piece
     whole = joined b piece t.n t.more ∙ ap (λ (k : ℕ). b ++ take k piece) (sym t.total)
@@ -221,19 +223,19 @@ first_call order b piece used gave r before t m = record {
         (let e = ap length whole in
         omega (arith, le, e, length-append (b ++ take t.n piece) (take t.more (drop t.n piece))))
 
-    not_refused : (at : ℕ) (kind : FaultKind) → Refused order (b ++ take t.n piece) at kind → ⊥
+    not_refused : (at : ℕ) (kind : FaultKind) → Refused dialect (b ++ take t.n piece) at kind → ⊥
     not_refused at kind refused = none_some t.quiet refused.decided
 
-    sound : (gave : Result Event Fault) → MayGiveAfter order before b piece used gave
+    sound : (gave : Result Event Fault) → MayGiveAfter dialect before b piece used gave
         → (front back : List ℕ) (at : ℕ) (kind : FaultKind) → b ++ take t.n piece ≡ front ++ back
-        → Refused order front at kind → ⊥
+        → Refused dialect front at kind → ⊥
     sound (Ok e) may front back at kind k refused =
         may.sound front (back ++ take t.more (drop t.n piece)) at kind (sym whole
         ∙ ap (λ (z : List ℕ). z ++ take t.more (drop t.n piece)) k
         ∙ append_assoc front back (take t.more (drop t.n piece))) refused
     sound (Err fault) may front back at kind k refused =
         let same =
-        one_refusal order front (b ++ take used piece) (back ++ take t.more (drop t.n piece)) [] at fault.offset
+        one_refusal dialect front (b ++ take used piece) (back ++ take t.more (drop t.n piece)) [] at fault.offset
         kind fault.kind
         (sym (append_assoc front back (take t.more (drop t.n piece)))
         ∙ ap (λ (z : List ℕ). z ++ take t.more (drop t.n piece)) (sym k) ∙ whole
@@ -251,7 +253,7 @@ first_call order b piece used gave r before t m = record {
           length-append (b ++ take t.n piece) (take t.more (drop t.n piece)),
         )) in
         not_refused at kind
-        (subst (λ (z : List ℕ). Refused order z at kind) (sym (k ∙ ap (λ (z : List ℕ). front ++ z) none
+        (subst (λ (z : List ℕ). Refused dialect z at kind) (sym (k ∙ ap (λ (z : List ℕ). front ++ z) none
         ∙ append-nil front)) refused)
 
 -- where nothing follows the first row, it was the only one, and the whole piece is used, or bytes are left
@@ -273,44 +275,45 @@ no_rows : (rows : List Row) → ◌≡◌ {A = List Event} (map event.Row rows) 
 no_rows [] e = refl
 no_rows (r ∷ rows) e = absurd cc
 
-module _ (order : Order) (b piece : List ℕ) (used : ℕ) (r : Row) (rows : List Row)
-    (t : RowTaken order b piece used r) where
+module _ (dialect : Dialect) (b piece : List ℕ) (used : ℕ) (r : Row) (rows : List Row)
+    (t : RowTaken dialect b piece used r) where
   abbrev all_before : List Event
-  all_before = events order b ++ map event.Row (r ∷ rows)
+  all_before = events dialect b ++ map event.Row (r ∷ rows)
 
-  same_events : events order (b ++ take t.n piece) ++ map event.Row rows ≡ all_before
+  same_events : events dialect (b ++ take t.n piece) ++ map event.Row rows ≡ all_before
   same_events =
       ap (λ (z : List Event). z ++ map event.Row rows) t.row
-      ∙ append_assoc (events order b) (event.Row r ∷ []) (map event.Row rows)
+      ∙ append_assoc (events dialect b) (event.Row r ∷ []) (map event.Row rows)
 
   used_none : t.more ≡ 0 → used ≡ t.n
   used_none e = omega (arith, e, t.total)
 
   -- where the row comes with the last byte used, it is all that was told
-  only : t.more ≡ 0 → (es : List Event) → events order (b ++ take used piece) ≡ all_before ++ es
+  only : t.more ≡ 0 → (es : List Event) → events dialect (b ++ take used piece) ≡ all_before ++ es
       → (rows ≡ []) × (es ≡ [])
   only e es grows =
-      let here : events order (b ++ take used piece) ≡ events order (b ++ take t.n piece) =
-      ap (λ (k : ℕ). events order (b ++ take k piece)) (used_none e) in
-      let none : events order (b ++ take t.n piece) ≡ events order (b ++ take t.n piece) ++ (map event.Row rows ++ es) =
+      let here : events dialect (b ++ take used piece) ≡ events dialect (b ++ take t.n piece) =
+      ap (λ (k : ℕ). events dialect (b ++ take k piece)) (used_none e) in
+      let none : events dialect (b ++ take t.n piece)
+      ≡ events dialect (b ++ take t.n piece) ++ (map event.Row rows ++ es) =
       sym here ∙ grows ∙ ap (λ (z : List Event). z ++ es) (sym same_events)
-      ∙ append_assoc (events order (b ++ take t.n piece)) (map event.Row rows) es in
+      ∙ append_assoc (events dialect (b ++ take t.n piece)) (map event.Row rows) es in
       let both =
-      parted (map event.Row rows) es (no_events (events order (b ++ take t.n piece)) (map event.Row rows
+      parted (map event.Row rows) es (no_events (events dialect (b ++ take t.n piece)) (map event.Row rows
       ++ es) none) in
       (no_rows rows both.0, both.1)
 
   -- an answer that tells an event comes after the row
-  later : (e : Event) → events order (b ++ take used piece) ≡ all_before ++ told e → told e ≢ [] → 1 ≤ t.more
+  later : (e : Event) → events dialect (b ++ take used piece) ≡ all_before ++ told e → told e ≢ [] → 1 ≤ t.more
   later e grows some = on (cases_eq t.more 0) where
     on : (t.more ≡ 0) ⊎ (t.more ≢ 0) → 1 ≤ t.more
     on (inl none) = absurd (some (only none (told e) grows).1)
     on (inr any) = omega (arith, any)
 
   abbrev Goes : (gave : Result Event Fault) → Type 0
-  Goes gave = Ended order b piece used rows gave t.n ⊎ (t.n < length piece)
+  Goes gave = Ended dialect.order b piece used rows gave t.n ⊎ (t.n < length piece)
 
-  ends_or_goes : (gave : Result Event Fault) → MayGiveAfter order all_before b piece used gave → Goes gave
+  ends_or_goes : (gave : Result Event Fault) → MayGiveAfter dialect all_before b piece used gave → Goes gave
   ends_or_goes (Ok event.More) m = on (cases_eq t.more 0) where
     on : (t.more ≡ 0) ⊎ (t.more ≢ 0) → Goes (Ok event.More)
     on (inl none) =
@@ -342,49 +345,50 @@ module _ (order : Order) (b piece : List ℕ) (used : ℕ) (r : Row) (rows : Lis
   ends_or_goes (Err fault) m = on (cases_eq t.more 0) where
     on : (t.more ≡ 0) ⊎ (t.more ≢ 0) → Goes (Err fault)
     on (inl none) =
-        absurd (none_some t.quiet (ap (λ (k : ℕ). unit_decided order (b ++ take k piece)) (sym (used_none none))
+        absurd (none_some t.quiet (ap (λ (k : ℕ). unit_decided dialect (b ++ take k piece)) (sym (used_none none))
         ∙ m.refused.decided))
     on (inr any) = inr (omega (arith, any, t.total, m.within))
 
-  any_later : (gave : Result Event Fault) → MayGiveAfter order all_before b piece used gave
+  any_later : (gave : Result Event Fault) → MayGiveAfter dialect all_before b piece used gave
       → IfOk gave (λ e. told e ≢ [] → 1 ≤ t.more)
   any_later (Ok e) m = later e m.grows
   any_later (Err fault) m = tt
 
-calls_of : (order : Order) (b piece : List ℕ) (rows : List Row) (used : ℕ) (gave : Result Event Fault)
-    → MayTell order b piece rows used gave → Calls order b piece rows used gave
-calls_of order b piece [] used gave m =
-    alone order b piece used gave (subst (λ (z : List Event). MayGiveAfter order z b piece used gave)
-    (append-nil (events order b)) m)
-calls_of order b piece (r ∷ rows) used gave m =
-    on (ends_or_goes order b piece used r rows t gave m)
-    (λ lt. calls_of order (b ++ take t.n piece) (drop t.n piece) rows t.more gave
-    (tell_back order b piece t.n t.more (events order b ++ map event.Row (r ∷ rows)) (events order (b ++ take t.n piece)
-    ++ map event.Row rows) (same_events order b piece used r rows t)
-    t.some (omega (arith, u.within, t.total)) lt gave (any_later order b piece used r rows t gave m)
-    (subst (λ (k : ℕ). MayGiveAfter order (events order b ++ map event.Row (r ∷ rows)) b piece k gave) t.total m)))
+calls_of : (dialect : Dialect) (b piece : List ℕ) (rows : List Row) (used : ℕ) (gave : Result Event Fault)
+    → MayTell dialect b piece rows used gave → Calls dialect b piece rows used gave
+calls_of dialect b piece [] used gave m =
+    alone dialect b piece used gave (subst (λ (z : List Event). MayGiveAfter dialect z b piece used gave)
+    (append-nil (events dialect b)) m)
+calls_of dialect b piece (r ∷ rows) used gave m =
+    on (ends_or_goes dialect b piece used r rows t gave m)
+    (λ lt. calls_of dialect (b ++ take t.n piece) (drop t.n piece) rows t.more gave
+    (tell_back dialect b piece t.n t.more (events dialect b ++ map event.Row (r ∷ rows))
+    (events dialect (b ++ take t.n piece)
+    ++ map event.Row rows) (same_events dialect b piece used r rows t)
+    t.some (omega (arith, u.within, t.total)) lt gave (any_later dialect b piece used r rows t gave m)
+    (subst (λ (k : ℕ). MayGiveAfter dialect (events dialect b ++ map event.Row (r ∷ rows)) b piece k gave) t.total m)))
   where
-    u : Used order (events order b ++ map event.Row (r ∷ rows)) b piece used gave
-    u = used_of order (events order b ++ map event.Row (r ∷ rows)) b piece used gave m
+    u : Used dialect (events dialect b ++ map event.Row (r ∷ rows)) b piece used gave
+    u = used_of dialect (events dialect b ++ map event.Row (r ∷ rows)) b piece used gave m
 
-    t : RowTaken order b piece used r
-    t = row_taken order b piece used r (map event.Row rows ++ u.es) u.within (u.grows
-        ∙ append_assoc (events order b) (map event.Row (r ∷ rows)) u.es)
+    t : RowTaken dialect b piece used r
+    t = row_taken dialect b piece used r (map event.Row rows ++ u.es) u.within (u.grows
+        ∙ append_assoc (events dialect b) (map event.Row (r ∷ rows)) u.es)
 
-    on : Ended order b piece used rows gave t.n ⊎ (t.n < length piece)
-        → (t.n < length piece → Calls order (b ++ take t.n piece) (drop t.n piece) rows t.more gave)
-        → Calls order b piece (r ∷ rows) used gave
+    on : Ended dialect.order b piece used rows gave t.n ⊎ (t.n < length piece)
+        → (t.n < length piece → Calls dialect (b ++ take t.n piece) (drop t.n piece) rows t.more gave)
+        → Calls dialect b piece (r ∷ rows) used gave
     on (inl e) more = (
       t.n,
-      first_call order b piece used gave r (events order b ++ map event.Row (r ∷ rows)) t m,
+      first_call dialect b piece used gave r (events dialect b ++ map event.Row (r ∷ rows)) t m,
       inl (e.all, e.none, e.size, e.is),
     )
     on (inr lt) more = (
       t.n,
-      first_call order b piece used gave r (events order b ++ map event.Row (r ∷ rows)) t m,
+      first_call dialect b piece used gave r (events dialect b ++ map event.Row (r ∷ rows)) t m,
       inr (lt, t.more, t.total, more lt),
     )
 
 pub rows_are_calls : RowsAreCalls
-rows_are_calls order b piece rows used gave =
-    (calls_of order b piece rows used gave, tells_of order b piece rows used gave)
+rows_are_calls dialect b piece rows used gave =
+    (calls_of dialect b piece rows used gave, tells_of dialect b piece rows used gave)

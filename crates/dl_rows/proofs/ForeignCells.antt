@@ -1,4 +1,5 @@
 -- A foreign unit holds no cells.
+use Rattle.dl_head.specs.declared.dialect.Dialect.{Dialect}
 use Rattle.std.proofs.Common.{◌≡◌, inl, inr, ℕ, ◌+◌, Some, List, [], ◌∷◌, refl, sym, ap, subst, ◌∙◌, arith, sum_by}
 use Rattle.std.proofs.lemmas.Bool.{cases_eq, eq-eqb, ne_eqb}
 use Rattle.std.proofs.lemmas.List.Sums.{sum_by-cons}
@@ -34,35 +35,39 @@ from_version order format n m v items w s e = elim (cases_eq m 5) [
 ]
 
 -- nor is its length or its version a cell
-in_fields : (order : Order) (v : ℕ) (items : List Item) (w : List ℕ) → SpellsFields order header_layout items w
-    → following_all header_layout items ≡ foreign_version v → sum_by item_cells items ≡ 0
-in_fields order v [] w s f = absurd (none_some {a = v} refl (ap foreign_made f))
-in_fields order v (i ∷ []) w s f =
-    let a = is_length order s.0 i s.3 in
-    absurd (none_some {a = v} (ap (λ (j : Item). foreign_made (following header_layout j)) a.item) (ap foreign_made f))
-in_fields order v (i ∷ j ∷ items) w s f =
-    let a = is_length order s.0 i s.3 in
-    let next : SpellsFields order (number_then version (after_length a.format a.number)) (j ∷ items) s.1 =
-    subst (λ (k : Item). SpellsFields order (following header_layout k) (j ∷ items) s.1) a.item s.4 in
-    let n = is_number order version (after_length a.format a.number) next.0 j next.3 in
+in_fields : (dialect : Dialect) (v : ℕ) (items : List Item) (w : List ℕ)
+    → SpellsFields dialect.order (header_layout dialect) items w
+    → following_all (header_layout dialect) items ≡ foreign_version v → sum_by item_cells items ≡ 0
+in_fields dialect v [] w s f = absurd (none_some {a = v} refl (ap foreign_made f))
+in_fields dialect v (i ∷ []) w s f =
+    let a = is_length dialect.order s.0 i s.3 in
+    absurd (none_some {a = v} (ap (λ (j : Item). foreign_made (following (header_layout dialect) j)) a.item)
+    (ap foreign_made f))
+in_fields dialect v (i ∷ j ∷ items) w s f =
+    let a = is_length dialect.order s.0 i s.3 in
+    let next : SpellsFields dialect.order (number_then version (after_length a.format a.number)) (j ∷ items) s.1 =
+    subst (λ (k : Item). SpellsFields dialect.order (following (header_layout dialect) k) (j ∷ items) s.1) a.item s.4 in
+    let n = is_number dialect.order version (after_length a.format a.number) next.0 j next.3 in
     let tail : following_all (after_length a.format a.number n.number) items ≡ foreign_version v =
     ap (λ (k : Item). following_all (following (number_then version (after_length a.format a.number)) k) items)
     (sym n.item)
-    ∙ ap (λ (k : Item). following_all (following header_layout k) (j ∷ items)) (sym a.item) ∙ f in
+    ∙ ap (λ (k : Item). following_all (following (header_layout dialect) k) (j ∷ items)) (sym a.item) ∙ f in
     let rest =
-    from_version order a.format a.number n.number v items next.1
-    (subst (λ (k : Item). SpellsFields order (following (number_then version (after_length a.format a.number)) k)
+    from_version dialect.order a.format a.number n.number v items next.1
+    (subst (λ (k : Item). SpellsFields dialect.order
+    (following (number_then version (after_length a.format a.number)) k)
     items next.1) n.item next.4) tail in
     let first : item_cells i ≡ 0 = ap item_cells a.item in
     let second : item_cells j ≡ 0 = ap item_cells n.item in
     omega (arith, sum_by-cons item_cells i (j ∷ items), sum_by-cons item_cells j items, first, second, rest)
 
 -- what begins with a foreign version holds no cells
-pub foreign_no_cells : (order : Order) (v : ℕ) (b : List ℕ) → foreign_in order b ≡ Some v → cells order b ≡ 0
-foreign_no_cells order v b foreign =
-    let s : Sound order header_layout b (cut order b) = cut_sound order header_layout [] b in
-    let last : following_all header_layout (cut order b).items ≡ foreign_version v =
-    foreign_last (following_all header_layout (cut order b).items) v foreign in
-    let items = in_fields order v (cut order b).items s.front s.spelt last in
-    ap (λ (l : Layout). sum_by item_cells (cut order b).items + rest_cells l (cut order b).rest) last
+pub foreign_no_cells : (dialect : Dialect) (v : ℕ) (b : List ℕ) → foreign_in dialect b ≡ Some v → cells dialect b ≡ 0
+foreign_no_cells dialect v b foreign =
+    let s : Sound dialect.order (header_layout dialect) b (cut dialect b) =
+    cut_sound dialect.order (header_layout dialect) [] b in
+    let last : following_all (header_layout dialect) (cut dialect b).items ≡ foreign_version v =
+    foreign_last (following_all (header_layout dialect) (cut dialect b).items) v foreign in
+    let items = in_fields dialect v (cut dialect b).items s.front s.spelt last in
+    ap (λ (l : Layout). sum_by item_cells (cut dialect b).items + rest_cells l (cut dialect b).rest) last
     ∙ ap (λ (n : ℕ). n + 0) items

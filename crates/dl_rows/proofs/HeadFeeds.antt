@@ -4,7 +4,7 @@ use Rattle.std.proofs.Common.{take, drop, get_or, slice_get, Option, Some, None,
 use Rattle.std.proofs.Common.{append-nil, append_assoc}
 use Rattle.std.proofs.lemmas.List.{take-append-drop}
 use Rattle.std.proofs.Math.Seq.{take-suc}
-use Rattle.dl_num.specs.declared.fixed.Order.{Order}
+use Rattle.dl_head.specs.declared.dialect.Dialect.{Dialect}
 use Rattle.dl_num.specs.Laws.{AllBytes}
 use Rattle.dl_head.specs.declared.fault.Fault.{Fault}
 use Rattle.dl_table.specs.declared.fault.FaultKind.{FaultKind}
@@ -47,58 +47,59 @@ one_on b piece i lt =
     ap (λ (l : List ℕ). b ++ l) (take-suc piece i 0 lt) ∙ sym (append_assoc b (take i piece) (get_or piece i 0 ∷ []))
 
 -- no front is a header
-abbrev NoHeaders : Order → List ℕ → List ℕ → ℕ → Type 0
-NoHeaders order b piece n = (i : ℕ) → i ≤ n → (h : HeaderData) → IsHeader order h (b ++ take i piece) → ⊥
+abbrev NoHeaders : Dialect → List ℕ → List ℕ → ℕ → Type 0
+NoHeaders dialect b piece n = (i : ℕ) → i ≤ n → (h : HeaderData) → IsHeader dialect h (b ++ take i piece) → ⊥
 
-no_header_up_to : (order : Order) (b piece : List ℕ) (n : ℕ) → n ≤ length piece → header_in order b ≡ None
-    → NoHeaders order b piece n → header_in order (b ++ take n piece) ≡ None
-no_header_up_to order b piece zero le none not = ap (header_in order) (append-nil b) ∙ none
-no_header_up_to order b piece (suc n) le none not =
-    let before = no_header_up_to order b piece n (omega (arith, le)) none (λ i lt. not i (omega (arith, lt))) in
+no_header_up_to : (dialect : Dialect) (b piece : List ℕ) (n : ℕ) → n ≤ length piece → header_in dialect b ≡ None
+    → NoHeaders dialect b piece n → header_in dialect (b ++ take n piece) ≡ None
+no_header_up_to dialect b piece zero le none not = ap (header_in dialect) (append-nil b) ∙ none
+no_header_up_to dialect b piece (suc n) le none not =
+    let before = no_header_up_to dialect b piece n (omega (arith, le)) none (λ i lt. not i (omega (arith, lt))) in
     let one : b ++ take (suc n) piece ≡ (b ++ take n piece) ++ get_or piece n 0 ∷ [] =
     one_on b piece n (omega (arith, le)) in
-    ap (header_in order) one
-    ∙ no_header_on order (b ++ take n piece) (get_or piece n 0) before
-    (λ h is. not (suc n) (omega arith) h (subst (λ (w : List ℕ). IsHeader order h w) (sym one) is))
+    ap (header_in dialect) one
+    ∙ no_header_on dialect (b ++ take n piece) (get_or piece n 0) before
+    (λ h is. not (suc n) (omega arith) h (subst (λ (w : List ℕ). IsHeader dialect h w) (sym one) is))
 
 -- nor is any refused in its header
-abbrev NoneRefusedTo : Order → List ℕ → List ℕ → ℕ → Type 0
-NoneRefusedTo order b piece n =
-    (i : ℕ) → i ≤ n → (at : ℕ) (kind : FaultKind) → HeaderRefused order (b ++ take i piece) at kind → ⊥
+abbrev NoneRefusedTo : Dialect → List ℕ → List ℕ → ℕ → Type 0
+NoneRefusedTo dialect b piece n =
+    (i : ℕ) → i ≤ n → (at : ℕ) (kind : FaultKind) → HeaderRefused dialect (b ++ take i piece) at kind → ⊥
 
-sound_up_to : (order : Order) (b piece : List ℕ) (n : ℕ) → n ≤ length piece → header_in order b ≡ None
-    → NoneRefused order b → NoHeaders order b piece n → NoneRefusedTo order b piece n
-    → NoneRefused order (b ++ take n piece)
-sound_up_to order b piece zero le none sound not quiet = subst (NoneRefused order) (sym (append-nil b)) sound
-sound_up_to order b piece (suc n) le none sound not quiet =
+sound_up_to : (dialect : Dialect) (b piece : List ℕ) (n : ℕ) → n ≤ length piece → header_in dialect b ≡ None
+    → NoneRefused dialect b → NoHeaders dialect b piece n → NoneRefusedTo dialect b piece n
+    → NoneRefused dialect (b ++ take n piece)
+sound_up_to dialect b piece zero le none sound not quiet = subst (NoneRefused dialect) (sym (append-nil b)) sound
+sound_up_to dialect b piece (suc n) le none sound not quiet =
     let before =
-    sound_up_to order b piece n (omega (arith, le)) none sound (λ i lt. not i (omega (arith, lt)))
+    sound_up_to dialect b piece n (omega (arith, le)) none sound (λ i lt. not i (omega (arith, lt)))
     (λ i lt. quiet i (omega (arith, lt))) in
     let one : b ++ take (suc n) piece ≡ (b ++ take n piece) ++ get_or piece n 0 ∷ [] =
     one_on b piece n (omega (arith, le)) in
-    let here = no_header_up_to order b piece (suc n) le none not in
-    subst (NoneRefused order) (sym one)
-    (header_sound_on order (b ++ take n piece) (get_or piece n 0) before (ap (header_in order) (sym one)
+    let here = no_header_up_to dialect b piece (suc n) le none not in
+    subst (NoneRefused dialect) (sym one)
+    (header_sound_on dialect (b ++ take n piece) (get_or piece n 0) before (ap (header_in dialect) (sym one)
     ∙ here) (λ at kind is. quiet (suc n) (omega arith) at kind
-    (subst (λ (w : List ℕ). HeaderRefused order w at kind) (sym one) is)))
+    (subst (λ (w : List ℕ). HeaderRefused dialect w at kind) (sym one) is)))
 
 -- ---- the reader has offered the piece to that of the header
 
 -- the first `used` bytes of the piece are taken
-pub record HeadTook (order : Order) (new : HeadReader) (b piece : List ℕ) (used : ℕ) (step : HeadStep) : Type 0 where
-  pub took : Took order b piece used step
+pub record HeadTook (dialect : Dialect) (new : HeadReader) (b piece : List ℕ) (used : ℕ)
+    (step : HeadStep) : Type 0 where
+  pub took : Took dialect b piece used step
   pub stands : HeadStands new (b ++ take used piece)
   pub whole : step ≡ answer.More → used ≡ length piece
-  pub same_order : new.order ≡ order
+  pub same_dialect : new.dialect ≡ dialect
   pub bytes : AllBytes piece
 
 -- no front goes on to anything else
-goes_to : (order : Order) (b piece : List ℕ) (used : ℕ)
-    → ((i : ℕ) → i < used → Answers order (b ++ take i piece) answer.More)
-    → Answers order (b ++ take used piece) answer.More
-    → (i : ℕ) → i ≤ used → Answers order (b ++ take i piece) answer.More
-goes_to order b piece used before here i le = elim (cases_eq i used) [
-  | inl same ↦ subst (λ (n : ℕ). Answers order (b ++ take n piece) answer.More) (sym same) here
+goes_to : (dialect : Dialect) (b piece : List ℕ) (used : ℕ)
+    → ((i : ℕ) → i < used → Answers dialect (b ++ take i piece) answer.More)
+    → Answers dialect (b ++ take used piece) answer.More
+    → (i : ℕ) → i ≤ used → Answers dialect (b ++ take i piece) answer.More
+goes_to dialect b piece used before here i le = elim (cases_eq i used) [
+  | inl same ↦ subst (λ (n : ℕ). Answers dialect (b ++ take n piece) answer.More) (sym same) here
   | inr other ↦ before i (omega (arith, le, other))
 ]
 
@@ -109,11 +110,12 @@ taken_bytes b piece used all more =
     (bytes_front (take used piece) (drop used piece) (subst AllBytes (sym (take-append-drop used piece)) more))
 
 -- bytes whose header isn't complete, and which aren't foreign, are no unit
-pub no_unit : (order : Order) (b : List ℕ) → header_in order b ≡ None → foreign_in order b ≡ None → IsUnit order b → ⊥
-no_unit order b none own (inl foreign) = none_some own (foreign_of order foreign.0 b foreign.1)
-no_unit order b none own (inr unit) =
-    none_some none (ap (header_in order) unit.2.whole
-    ∙ header_is_found order unit.0 unit.2.header unit.2.program unit.2.spells_header)
+pub no_unit : (dialect : Dialect) (b : List ℕ) → header_in dialect b ≡ None → foreign_in dialect b ≡ None
+    → IsUnit dialect b → ⊥
+no_unit dialect b none own (inl foreign) = none_some own (foreign_of dialect foreign.0 b foreign.1)
+no_unit dialect b none own (inr unit) =
+    none_some none (ap (header_in dialect) unit.2.whole
+    ∙ header_is_found dialect unit.0 unit.2.header unit.2.program unit.2.spells_header)
 
 byte_at : (piece : List ℕ) (i byte : ℕ) (later : List ℕ) → drop i piece ≡ byte ∷ later → slice_get piece i ≡ Some byte
 byte_at [] zero byte later e = absurd cc
@@ -121,36 +123,36 @@ byte_at [] (suc i) byte later e = absurd cc
 byte_at (x ∷ piece) zero byte later e = let same : x ≡ byte = cc in ap (λ (n : ℕ). Some n) same
 byte_at (x ∷ piece) (suc i) byte later e = byte_at piece i byte later e
 
-module _ (order : Order) (old new : HeadReader) (b piece : List ℕ) (used : ℕ) (step : HeadStep)
-    (was : InHeader order old b) (h : HeadTook order new b piece used step) where
+module _ (dialect : Dialect) (old new : HeadReader) (b piece : List ℕ) (used : ℕ) (step : HeadStep)
+    (was : InHeader dialect old b) (h : HeadTook dialect new b piece used step) where
   w : List ℕ
   w = b ++ take used piece
 
-  no_event_before : events order b ≡ []
-  no_event_before = no_events order b was.incomplete was.more.1
+  no_event_before : events dialect b ≡ []
+  no_event_before = no_events dialect b was.incomplete was.more.1
 
   le : used ≤ length piece
   le = h.took.within
 
-  in_unit : WithinUnit order (b ++ take used piece)
-  in_unit n len = h.stands.within n (ap (λ (o : Order). unit_len o (b ++ take used piece)) h.same_order ∙ len)
+  in_unit : WithinUnit dialect (b ++ take used piece)
+  in_unit n len = h.stands.within n (ap (λ (d : Dialect). unit_len d (b ++ take used piece)) h.same_dialect ∙ len)
 
   -- ---- the header goes on
 
-  module _ (goes : Answers order (b ++ take used piece) answer.More) where
-    all_go : (i : ℕ) → i ≤ used → Answers order (b ++ take i piece) answer.More
-    all_go = goes_to order b piece used h.took.before goes
+  module _ (goes : Answers dialect (b ++ take used piece) answer.More) where
+    all_go : (i : ℕ) → i ≤ used → Answers dialect (b ++ take i piece) answer.More
+    all_go = goes_to dialect b piece used h.took.before goes
 
-    incomplete : header_in order (b ++ take used piece) ≡ None
-    incomplete = no_header_up_to order b piece used h.took.within was.incomplete (λ i lt. (all_go i lt).0)
+    incomplete : header_in dialect (b ++ take used piece) ≡ None
+    incomplete = no_header_up_to dialect b piece used h.took.within was.incomplete (λ i lt. (all_go i lt).0)
 
-    sound : NoneRefused order (b ++ take used piece)
-    sound = sound_up_to order b piece used h.took.within was.incomplete was.sound (λ i lt. (all_go i lt).0)
+    sound : NoneRefused dialect (b ++ take used piece)
+    sound = sound_up_to dialect b piece used h.took.within was.incomplete was.sound (λ i lt. (all_go i lt).0)
         (λ i lt. (all_go i lt).2)
 
-    pub goes_stands : InHeader order new (b ++ take used piece)
+    pub goes_stands : InHeader dialect new (b ++ take used piece)
     goes_stands = record {
-      same_order = h.same_order;
+      same_dialect = h.same_dialect;
       stands = h.stands;
       more = goes;
       bytes = taken_bytes b piece used was.bytes h.bytes;
@@ -159,14 +161,14 @@ module _ (order : Order) (old new : HeadReader) (b piece : List ℕ) (used : ℕ
     }
 
     pub feeds_goes : (fed : Fed) (fin : Reader) → StandsFor fin (b ++ take used piece) → fed.used ≡ used
-        → told fed.event ≡ [] → EventHolds order b piece used fed.event → Feeds StandsFor order b piece fed fin
+        → told fed.event ≡ [] → EventHolds dialect b piece used fed.event → Feeds StandsFor dialect b piece fed fin
     feeds_goes fed fin stands same none holds =
-        subst (λ (n : ℕ). Feeds StandsFor order b piece (record { used = n; event = fed.event }) fin) (sym same)
+        subst (λ (n : ℕ). Feeds StandsFor dialect b piece (record { used = n; event = fed.event }) fin) (sym same)
         (record {
           answered = record {
             within = h.took.within;
             in_unit = in_unit;
-            grows = no_events order (b ++ take used piece) incomplete goes.1
+            grows = no_events dialect (b ++ take used piece) incomplete goes.1
                 ∙ sym (ap (λ (l : List Event). l ++ told fed.event) no_event_before ∙ none);
             holds = holds;
             sound = sound;
@@ -174,10 +176,10 @@ module _ (order : Order) (old new : HeadReader) (b piece : List ℕ) (used : ℕ
           stands = stands;
         })
 
-    pub holds_more : used ≡ length piece → EventHolds order b piece used event.More
-    holds_more all = (all, λ unit. absurd (no_unit order (b ++ take used piece) incomplete goes.1 unit))
+    pub holds_more : used ≡ length piece → EventHolds dialect b piece used event.More
+    holds_more all = (all, λ unit. absurd (no_unit dialect (b ++ take used piece) incomplete goes.1 unit))
 
-    pub holds_refused : step ≡ answer.NoMemory → EventHolds order b piece used event.NoMemory
+    pub holds_refused : step ≡ answer.NoMemory → EventHolds dialect b piece used event.NoMemory
     holds_refused is = let u = h.took.unfed is in (u.0, byte_at piece used u.0 u.1 u.2, incomplete, u.3)
 
   -- ---- it has come to something
@@ -185,60 +187,60 @@ module _ (order : Order) (old new : HeadReader) (b piece : List ℕ) (used : ℕ
   abbrev Ended : Type 0
   Ended = step ≢ answer.More
 
-  fronts_go : (i : ℕ) → i < used → Answers order (b ++ take i piece) answer.More
+  fronts_go : (i : ℕ) → i < used → Answers dialect (b ++ take i piece) answer.More
   fronts_go = h.took.before
 
-  last_event : 1 ≤ used → events order (b ++ take (used - 1) piece) ≡ events order b
+  last_event : 1 ≤ used → events dialect (b ++ take (used - 1) piece) ≡ events dialect b
   last_event some =
       let one : used - 1 < used = omega (arith, some) in
       let none =
-      no_header_up_to order b piece (used - 1) (omega (arith, h.took.within)) was.incomplete
+      no_header_up_to dialect b piece (used - 1) (omega (arith, h.took.within)) was.incomplete
       (λ i lt. (fronts_go i (omega (arith, lt, one))).0) in
-      no_events order (b ++ take (used - 1) piece) none (fronts_go (used - 1) one).1 ∙ sym no_event_before
+      no_events dialect (b ++ take (used - 1) piece) none (fronts_go (used - 1) one).1 ∙ sym no_event_before
 
   -- what isn't a header has none after it
-  none_here : ((g : HeaderData) → IsHeader order g (b ++ take used piece) → ⊥)
-      → header_in order (b ++ take used piece) ≡ None
-  none_here not = no_header_up_to order b piece used h.took.within was.incomplete headers where
-    headers : NoHeaders order b piece used
+  none_here : ((g : HeaderData) → IsHeader dialect g (b ++ take used piece) → ⊥)
+      → header_in dialect (b ++ take used piece) ≡ None
+  none_here not = no_header_up_to dialect b piece used h.took.within was.incomplete headers where
+    headers : NoHeaders dialect b piece used
     headers i le g is = elim (cases_eq i used) [
-      | inl same ↦ not g (subst (λ (n : ℕ). IsHeader order g (b ++ take n piece)) same is)
+      | inl same ↦ not g (subst (λ (n : ℕ). IsHeader dialect g (b ++ take n piece)) same is)
       | inr other ↦ (fronts_go i (omega (arith, le, other))).0 g is
     ]
 
   -- ---- a fault
 
-  module _ (f : Fault) (refused : HeaderRefused order (b ++ take used piece) f.offset f.kind) where
-    no_header_here : (g : HeaderData) → IsHeader order g (b ++ take used piece) → ⊥
+  module _ (f : Fault) (refused : HeaderRefused dialect (b ++ take used piece) f.offset f.kind) where
+    no_header_here : (g : HeaderData) → IsHeader dialect g (b ++ take used piece) → ⊥
     no_header_here g is =
-        (let e : answer.Fault f ≡ answer.Done = one_answer order (b
+        (let e : answer.Fault f ≡ answer.Done = one_answer dialect (b
         ++ take used piece) (answer.Fault f) answer.Done refused (g, is) in absurd cc)
 
-    not_foreign_here : (o : Option ℕ) → foreign_in order (b ++ take used piece) ≡ o
-        → foreign_in order (b ++ take used piece) ≡ None
+    not_foreign_here : (o : Option ℕ) → foreign_in dialect (b ++ take used piece) ≡ o
+        → foreign_in dialect (b ++ take used piece) ≡ None
     not_foreign_here None e = e
     not_foreign_here (Some v) e =
-        (let d : answer.Fault f ≡ answer.Foreign v = one_answer order (b
+        (let d : answer.Fault f ≡ answer.Foreign v = one_answer dialect (b
         ++ take used piece) (answer.Fault f) (answer.Foreign v) refused e in absurd cc)
 
-    pub fails_head : Fails order b piece f used
+    pub fails_head : Fails dialect b piece f used
     fails_head =
         let none = none_here no_header_here in
         record {
           within = h.took.within;
           in_unit = in_unit;
-          refused = (refused_in_header order (b ++ take used piece) f.offset f.kind none).1 refused;
+          refused = (refused_in_header dialect (b ++ take used piece) f.offset f.kind none).1 refused;
           no_event =
-              no_events order (b ++ take used piece) none
-              (not_foreign_here (foreign_in order (b ++ take used piece)) refl) ∙ sym no_event_before;
+              no_events dialect (b ++ take used piece) none
+              (not_foreign_here (foreign_in dialect (b ++ take used piece)) refl) ∙ sym no_event_before;
         }
 
     pub stopped_head : (stop : HeaderStop) → stop.fault ≡ f → stop.taken ≡ length (b ++ take used piece)
-        → stop.cells ≡ min (cells order (b ++ take used piece)) (2 ^ 64 - 1)
-        → StoppedInHeader order stop (b ++ take used piece)
+        → stop.cells ≡ min (cells dialect (b ++ take used piece)) (2 ^ 64 - 1)
+        → StoppedInHeader dialect stop (b ++ take used piece)
     stopped_head stop fault taken held = record {
       refused =
-          subst (λ (g : Fault). Refused order (b ++ take used piece) g.offset g.kind) (sym fault) fails_head.refused;
+          subst (λ (g : Fault). Refused dialect (b ++ take used piece) g.offset g.kind) (sym fault) fails_head.refused;
       taken = taken;
       in_unit = in_unit;
       incomplete = none_here no_header_here;
@@ -247,83 +249,84 @@ module _ (order : Order) (old new : HeadReader) (b piece : List ℕ) (used : ℕ
 
   -- ---- a foreign version
 
-  module _ (fin : Reader) (v : ℕ) (foreign : foreign_in order (b ++ take used piece) ≡ Some v) where
-    not_refused_here : (at : ℕ) (kind : FaultKind) → HeaderRefused order (b ++ take used piece) at kind → ⊥
+  module _ (fin : Reader) (v : ℕ) (foreign : foreign_in dialect (b ++ take used piece) ≡ Some v) where
+    not_refused_here : (at : ℕ) (kind : FaultKind) → HeaderRefused dialect (b ++ take used piece) at kind → ⊥
     not_refused_here at kind r =
         (let e : answer.Foreign v ≡ answer.Fault (record { offset = at; kind = kind }) =
-        one_answer order (b ++ take used piece) (answer.Foreign v) (answer.Fault (record { offset = at; kind = kind }))
+        one_answer dialect (b ++ take used piece) (answer.Foreign v)
+        (answer.Fault (record { offset = at; kind = kind }))
         foreign r in absurd cc)
 
     pub feeds_version : 1 ≤ used → StandsFor fin (b ++ take used piece)
-        → Feeds StandsFor order b piece (record { used = used; event = event.Foreign v }) fin
+        → Feeds StandsFor dialect b piece (record { used = used; event = event.Foreign v }) fin
     feeds_version some stands =
-        let none = foreign_no_header order (b ++ take used piece) v foreign in
+        let none = foreign_no_header dialect (b ++ take used piece) v foreign in
         record {
           answered = record {
             within = h.took.within;
             in_unit = in_unit;
-            grows = ap (λ (o : Option ℕ). events_of order o (header_in order (b ++ take used piece))) foreign
+            grows = ap (λ (o : Option ℕ). events_of dialect.order o (header_in dialect (b ++ take used piece))) foreign
                 ∙ sym (ap (λ (l : List Event). l ++ event.Foreign v ∷ []) no_event_before);
             holds = (some, last_event some);
-            sound = sound_up_to order b piece used h.took.within was.incomplete was.sound headers refusals;
+            sound = sound_up_to dialect b piece used h.took.within was.incomplete was.sound headers refusals;
           };
           stands = stands;
         }
       where
-        headers : NoHeaders order b piece used
+        headers : NoHeaders dialect b piece used
         headers i lt g is = elim (cases_eq i used) [
           | inl same ↦
-              none_some (foreign_no_header order (b ++ take used piece) v foreign)
-              (ap (header_in order) (sym (append-nil (b ++ take used piece)))
-              ∙ header_is_found order g (b ++ take used piece) []
-              (subst (λ (n : ℕ). IsHeader order g (b ++ take n piece)) same is))
+              none_some (foreign_no_header dialect (b ++ take used piece) v foreign)
+              (ap (header_in dialect) (sym (append-nil (b ++ take used piece)))
+              ∙ header_is_found dialect g (b ++ take used piece) []
+              (subst (λ (n : ℕ). IsHeader dialect g (b ++ take n piece)) same is))
           | inr other ↦ (fronts_go i (omega (arith, lt, other))).0 g is
         ]
 
-        refusals : NoneRefusedTo order b piece used
+        refusals : NoneRefusedTo dialect b piece used
         refusals i lt at kind r = elim (cases_eq i used) [
           | inl same ↦ not_refused_here at kind
-              (subst (λ (n : ℕ). HeaderRefused order (b ++ take n piece) at kind) same r)
+              (subst (λ (n : ℕ). HeaderRefused dialect (b ++ take n piece) at kind) same r)
           | inr other ↦ (fronts_go i (omega (arith, lt, other))).2 at kind r
         ]
 
   -- ---- a header
 
-  module _ (fin : Reader) (g : HeaderData) (is : IsHeader order g (b ++ take used piece)) where
+  module _ (fin : Reader) (g : HeaderData) (is : IsHeader dialect g (b ++ take used piece)) where
     pub feeds_header : 1 ≤ used → StandsFor fin (b ++ take used piece)
-        → Feeds StandsFor order b piece (record { used = used; event = event.Header }) fin
+        → Feeds StandsFor dialect b piece (record { used = used; event = event.Header }) fin
     feeds_header some stands = record {
       answered = record {
         within = h.took.within;
         in_unit = in_unit;
-        grows = header_event order g (b ++ take used piece) is
+        grows = header_event dialect g (b ++ take used piece) is
             ∙ sym (ap (λ (l : List Event). l ++ event.Header ∷ []) no_event_before);
         holds = (some, last_event some);
-        sound = header_sound order g (b ++ take used piece) is;
+        sound = header_sound dialect g (b ++ take used piece) is;
       };
       stands = stands;
     }
 
 -- by what the reader of the header answers
-pub head_took : (order : Order) (old new : HeadReader) (b piece : List ℕ) (used : ℕ) (step : HeadStep)
-    → InHeader order old b → AllBytes piece
-    → ((d : List ℕ) → HeadStands old d → Answers old.order d answer.More → Offered old.order d piece used step new)
-    → new.order ≡ old.order → HeadTook order new b piece used step
-head_took order old new b piece used step was all offered same =
-    let o : Offered order b piece used step new =
-    subst (λ (p : Order). Offered p b piece used step new) was.same_order
-    (offered b was.stands (subst (λ (p : Order). Answers p b answer.More) (sym was.same_order) was.more)) in
+pub head_took : (dialect : Dialect) (old new : HeadReader) (b piece : List ℕ) (used : ℕ) (step : HeadStep)
+    → InHeader dialect old b → AllBytes piece
+    → ((d : List ℕ) → HeadStands old d → Answers old.dialect d answer.More → Offered old.dialect d piece used step new)
+    → new.dialect ≡ old.dialect → HeadTook dialect new b piece used step
+head_took dialect old new b piece used step was all offered same =
+    let o : Offered dialect b piece used step new =
+    subst (λ (p : Dialect). Offered p b piece used step new) was.same_dialect
+    (offered b was.stands (subst (λ (p : Dialect). Answers p b answer.More) (sym was.same_dialect) was.more)) in
     record {
       took = o.answered.took;
       stands = o.stands;
       whole = o.answered.whole;
-      same_order = same ∙ was.same_order;
+      same_dialect = same ∙ was.same_dialect;
       bytes = all;
     }
 
 -- what the bytes come to, by the step
-pub come_to : {order : Order} {new : HeadReader} {b piece : List ℕ} {used : ℕ} {step : HeadStep}
-    (h : HeadTook order new b piece used step) (a : HeadStep) → step ≡ a
-    → Answers order (b ++ take used piece) (so_far a)
-come_to {order} {new} {b} {piece} {used} {step} h a is =
-    subst (λ (s : HeadStep). Answers order (b ++ take used piece) (so_far s)) is h.took.answers
+pub come_to : {dialect : Dialect} {new : HeadReader} {b piece : List ℕ} {used : ℕ} {step : HeadStep}
+    (h : HeadTook dialect new b piece used step) (a : HeadStep) → step ≡ a
+    → Answers dialect (b ++ take used piece) (so_far a)
+come_to {dialect} {new} {b} {piece} {used} {step} h a is =
+    subst (λ (s : HeadStep). Answers dialect (b ++ take used piece) (so_far s)) is h.took.answers

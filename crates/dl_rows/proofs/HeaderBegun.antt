@@ -2,7 +2,7 @@
 use Rattle.std.proofs.Common.{◌≡◌, ◌≢◌, ◌++◌, ◌≤◌, ℕ, List, length, take, Option, None, sym, subst, ◌∙◌}
 use Rattle.std.proofs.Props.{props}
 use Rattle.std.proofs.Math.Logic.{∥∥₁_elim, ∥∥₁_prop}
-use Rattle.dl_num.specs.declared.fixed.Order.{Order}
+use Rattle.dl_head.specs.declared.dialect.Dialect.{Dialect}
 use Rattle.dl_head.specs.declared.reader.HeadReader.{HeadReader}
 use Rattle.dl_head.specs.declared.reader.HeadStep.{HeadStep}
 use Rattle.dl_head.specs.declared.reader.HeadStep.TheVariants as answer
@@ -28,38 +28,38 @@ taken_is head n begun counts = ∥∥₁_elim begun (hlevel props) (λ g. counts
 
 -- one that comes to something takes a byte
 pub begun_takes : (head : HeadReader) (used : ℕ) (step : HeadStep) → ∥ GoesOn head ∥₁
-    → ((b : List ℕ) → HeadStands head b → Answers head.order b answer.More → step ≢ answer.More
+    → ((b : List ℕ) → HeadStands head b → Answers head.dialect b answer.More → step ≢ answer.More
     → step ≢ answer.NoMemory → 1 ≤ used) → step ≢ answer.More → step ≢ answer.NoMemory → 1 ≤ used
 begun_takes head used step begun takes ends fed =
     ∥∥₁_elim begun (hlevel props) (λ g. takes g.0 g.1 g.2 ends fed)
 
 -- a reader that knows how long the unit is answers that
 pub length_known : (head : HeadReader) (o : Option ℕ) → ∥ KnowsLength head ∥₁
-    → ((b : List ℕ) → HeadStands head b → o ≡ unit_len head.order b) → o ≡ None → ⊥
+    → ((b : List ℕ) → HeadStands head b → o ≡ unit_len head.dialect b) → o ≡ None → ⊥
 length_known head o known tells none = ∥∥₁_elim known (hlevel props) (λ k. none_some none (tells k.0 k.1 ∙ k.2.1))
 
 -- a reader that has taken a header does so
 pub header_knows : (head : HeadReader) → ∥ HasHeader head ∥₁ → ∥ KnowsLength head ∥₁
-header_knows head has = ∥∥₁_elim has ∥∥₁_prop (λ k. ∣ (k.0, k.1, header_known head.order k.2.0 k.0 k.2.1) ∣₁)
+header_knows head has = ∥∥₁_elim has ∥∥₁_prop (λ k. ∣ (k.0, k.1, header_known head.dialect k.2.0 k.0 k.2.1) ∣₁)
 
 -- and gives it
-pub header_given : (head : HeadReader) (o : Option HeaderData) → ∥ HasHeader head ∥₁ → Gives head.order head o
+pub header_given : (head : HeadReader) (o : Option HeaderData) → ∥ HasHeader head ∥₁ → Gives head.dialect head o
     → o ≡ None → ⊥
 header_given head o has gives none =
     ∥∥₁_elim has (hlevel props)
-    (λ k. (let n : Gives head.order head None = subst (λ (p : Option HeaderData). Gives head.order head
+    (λ k. (let n : Gives head.dialect head None = subst (λ (p : Option HeaderData). Gives head.dialect head
     p) none gives in n k.0 k.1 k.2.0 k.2.1))
 
 -- a piece was offered to the reader of a header
 module _ (old new : HeadReader) (piece : List ℕ) (used : ℕ) (step : HeadStep) (begun : ∥ GoesOn old ∥₁)
-    (offered : (b : List ℕ) → HeadStands old b → Answers old.order b answer.More
-    → Offered old.order b piece used step new)
-    (same : new.order ≡ old.order) where
-  answers : (s : HeadStep) → step ≡ s → (b : List ℕ) → Offered old.order b piece used step new
-      → Answers new.order (b ++ take used piece) (so_far s)
+    (offered : (b : List ℕ) → HeadStands old b → Answers old.dialect b answer.More
+    → Offered old.dialect b piece used step new)
+    (same : new.dialect ≡ old.dialect) where
+  answers : (s : HeadStep) → step ≡ s → (b : List ℕ) → Offered old.dialect b piece used step new
+      → Answers new.dialect (b ++ take used piece) (so_far s)
   answers s is b o =
-      subst (λ (order : Order). Answers order (b ++ take used piece) (so_far s)) (sym same)
-      (subst (λ (t : HeadStep). Answers old.order (b ++ take used piece) (so_far t)) is o.answered.took.answers)
+      subst (λ (d : Dialect). Answers d (b ++ take used piece) (so_far s)) (sym same)
+      (subst (λ (t : HeadStep). Answers old.dialect (b ++ take used piece) (so_far t)) is o.answered.took.answers)
 
   -- the header still goes on
   pub goes_more : step ≡ answer.More → ∥ GoesOn new ∥₁
@@ -79,7 +79,7 @@ module _ (old new : HeadReader) (piece : List ℕ) (used : ℕ) (step : HeadStep
       ∣ (
         g.0 ++ take used piece,
         o.stands,
-        foreign_known new.order (g.0 ++ take used piece) version (answers (answer.Foreign version) is g.0 o),
+        foreign_known new.dialect (g.0 ++ take used piece) version (answers (answer.Foreign version) is g.0 o),
       ) ∣₁))
 
   -- the header is complete

@@ -1,4 +1,5 @@
 -- The params of a header are usable, and line_base is a byte.
+use Rattle.dl_head.specs.declared.dialect.Dialect.{Dialect}
 use Rattle.std.proofs.Common.{◌≡◌, ℕ, zero, suc, ◌+◌, ◌-◌, ◌≤◌, Bool, true, false, if◌then◌else◌, ◌==◌, List, [], ◌∷◌}
 use Rattle.std.proofs.Common.{◌++◌, length, Some, None, refl, sym, subst, arith, inl, inr, length-append, ◌∙◌, ◌<◌, ◌^◌}
 use Rattle.std.proofs.Common.{pos, negsuc, ◌-ℤ◌, Option, ap}
@@ -198,19 +199,20 @@ leads_version Bytes format n v = elim (cases_eq v 5) [
   | inr other ↦ rw (ne_eqb v 5 other) tt
 ]
 
-fit_of : (Bytes : Type 0) (order : Order) (h : HeaderData) (w : List ℕ) (is : IsHeader order h w)
+fit_of : (Bytes : Type 0) (dialect : Dialect) (h : HeaderData) (w : List ℕ) (is : IsHeader dialect h w)
     → (Bytes → AllBytes is.fields) → IsFit Bytes h.params
-fit_of Bytes order h w is all =
-    subst (λ (l : Layout). LeadsTo Bytes (Fit Bytes) l) (made_last (following_all header_layout is.items) h is.made)
-    (leads_all Bytes (Fit Bytes) order header_layout is.items is.fields all is.spelt
+fit_of Bytes dialect h w is all =
+    subst (λ (l : Layout). LeadsTo Bytes (Fit Bytes) l)
+    (made_last (following_all (header_layout dialect) is.items) h is.made)
+    (leads_all Bytes (Fit Bytes) dialect.order (header_layout dialect) is.items is.fields all is.spelt
     (λ format n v fits few. leads_version Bytes format n v))
 
-pub header_is_usable : (order : Order) (h : HeaderData) (w : List ℕ) → IsHeader order h w → IsUsable h.params
-header_is_usable order h w is = (fit_of ⊥ order h w is (λ never. absurd never)).0
+pub header_is_usable : (dialect : Dialect) (h : HeaderData) (w : List ℕ) → IsHeader dialect h w → IsUsable h.params
+header_is_usable dialect h w is = (fit_of ⊥ dialect h w is (λ never. absurd never)).0
 
 pub header_fits : HeaderFits
-header_fits order h w all is = (
-  header_is_usable order h w is,
-  (fit_of (AllBytes w) order h w is
+header_fits dialect h w all is = (
+  header_is_usable dialect h w is,
+  (fit_of (AllBytes w) dialect h w is
       (λ bytes. bytes_front is.fields is.padding (subst (λ (z : List ℕ). AllBytes z) is.whole bytes))).1 all,
 )

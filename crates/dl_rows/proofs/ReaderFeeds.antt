@@ -1,7 +1,7 @@
 -- What a reader of a unit answers, by what it stands for.
 use Rattle.std.proofs.Common.{◌≡◌, ◌≢◌, inr, ℕ, List, [], ◌∷◌, ◌++◌, length, length-append, map, IfOk, take, Result, Ok}
 use Rattle.std.proofs.Common.{Err, refl, sym, ap, subst, ◌∙◌, arith, append-nil}
-use Rattle.dl_num.specs.declared.fixed.Order.{Order}
+use Rattle.dl_head.specs.declared.dialect.Dialect.{Dialect}
 use Rattle.dl_head.specs.declared.fault.Fault.{Fault}
 use Rattle.dl_table.specs.declared.fault.FaultKind.TheVariants.{Truncated}
 use Rattle.dl_head.specs.declared.reader.HeadReader.{HeadReader}
@@ -42,91 +42,92 @@ no_bytes b piece = append-nil b
 
 -- after a fault in the header
 feeds_stopped : (r new : Reader) (b piece : List ℕ) (stop : HeaderStop) → r.state ≡ state.StoppedInHeader stop
-    → new.order ≡ r.order → new.state ≡ state.StoppedInHeader stop → StandsFor r b
-    → ReaderFed r.order b piece (Err stop.fault) new
+    → new.dialect ≡ r.dialect → new.state ≡ state.StoppedInHeader stop → StandsFor r b
+    → ReaderFed r.dialect b piece (Err stop.fault) new
 feeds_stopped r new b piece stop is same made s =
-    let at : StandsAt r.order (state.StoppedInHeader stop) b = subst (λ (x : State). StandsAt r.order x b) is s in (
+    let at : StandsAt r.dialect (state.StoppedInHeader stop) b = subst (λ (x : State). StandsAt r.dialect x b) is s in (
       0,
-      fails_again r.order b piece stop.fault at.in_unit at.refused,
-      subst (λ (o : Order). StandsAt o new.state (b ++ take 0 piece)) (sym same)
-          (subst (λ (x : State). StandsAt r.order x (b ++ take 0 piece)) (sym made)
-          (subst (λ (w : List ℕ). StandsAt r.order (state.StoppedInHeader stop) w) (sym (no_bytes b piece)) at)),
+      fails_again r.dialect b piece stop.fault at.in_unit at.refused,
+      subst (λ (d : Dialect). StandsAt d new.state (b ++ take 0 piece)) (sym same)
+          (subst (λ (x : State). StandsAt r.dialect x (b ++ take 0 piece)) (sym made)
+          (subst (λ (w : List ℕ). StandsAt r.dialect (state.StoppedInHeader stop) w) (sym (no_bytes b piece)) at)),
     )
 
 -- after a foreign version
 pub feeds_foreign : (r new : Reader) (t u : UnitBytes) (b piece : List ℕ) (fed : Fed) → r.state ≡ state.Foreign t
-    → new.order ≡ r.order → new.state ≡ state.Foreign u → StandsFor r b
-    → ((version : ℕ) → InForeign r.order version t b → Feeds (InForeign r.order version) r.order b piece fed u)
-    → Feeds StandsFor r.order b piece fed new
-feeds_foreign r new t u b piece fed is order made s feeds =
-    let at : StandsAt r.order (state.Foreign t) b = subst (λ (x : State). StandsAt r.order x b) is s in
+    → new.dialect ≡ r.dialect → new.state ≡ state.Foreign u → StandsFor r b
+    → ((version : ℕ) → InForeign r.dialect version t b → Feeds (InForeign r.dialect version) r.dialect b piece fed u)
+    → Feeds StandsFor r.dialect b piece fed new
+feeds_foreign r new t u b piece fed is dialect made s feeds =
+    let at : StandsAt r.dialect (state.Foreign t) b = subst (λ (x : State). StandsAt r.dialect x b) is s in
     let f = feeds at.0 at.1 in
-    let stands : StandsAt r.order (state.Foreign u) (b ++ take fed.used piece) = (at.0, f.stands) in
+    let stands : StandsAt r.dialect (state.Foreign u) (b ++ take fed.used piece) = (at.0, f.stands) in
     record {
       answered = f.answered;
       stands =
-          subst (λ (o : Order). StandsAt o new.state (b ++ take fed.used piece)) (sym order)
-          (subst (λ (x : State). StandsAt r.order x (b ++ take fed.used piece)) (sym made) stands);
+          subst (λ (d : Dialect). StandsAt d new.state (b ++ take fed.used piece)) (sym dialect)
+          (subst (λ (x : State). StandsAt r.dialect x (b ++ take fed.used piece)) (sym made) stands);
     }
 
 -- after the header
-body_fed : (order : Order) (h : HeaderData) (before : List Event) (b piece : List ℕ) (result : Result Fed Fault)
-    (now : BodyState) (new : Reader) → new.order ≡ order → new.state ≡ state.AfterHeader h now
-    → BodyFedAfter order h before b piece result now → FedAfter order before b piece result new
-body_fed order h before b piece (Ok fed) now new same made f = record {
+body_fed : (dialect : Dialect) (h : HeaderData) (before : List Event) (b piece : List ℕ) (result : Result Fed Fault)
+    (now : BodyState) (new : Reader) → new.dialect ≡ dialect → new.state ≡ state.AfterHeader h now
+    → BodyFedAfter dialect h before b piece result now → FedAfter dialect before b piece result new
+body_fed dialect h before b piece (Ok fed) now new same made f = record {
   answered = f.answered;
   stands =
-      subst (λ (o : Order). StandsAt o new.state (b ++ take fed.used piece)) (sym same)
-      (subst (λ (x : State). StandsAt order x (b ++ take fed.used piece)) (sym made) f.stands);
+      subst (λ (d : Dialect). StandsAt d new.state (b ++ take fed.used piece)) (sym same)
+      (subst (λ (x : State). StandsAt dialect x (b ++ take fed.used piece)) (sym made) f.stands);
 }
-body_fed order h before b piece (Err fault) now new same made f = (
+body_fed dialect h before b piece (Err fault) now new same made f = (
   f.0,
   f.1,
-  subst (λ (o : Order). StandsAt o new.state (b ++ take f.0 piece)) (sym same)
-      (subst (λ (x : State). StandsAt order x (b ++ take f.0 piece)) (sym made) f.2),
+  subst (λ (d : Dialect). StandsAt d new.state (b ++ take f.0 piece)) (sym same)
+      (subst (λ (x : State). StandsAt dialect x (b ++ take f.0 piece)) (sym made) f.2),
 )
 
 pub feeds_body : {S : Type 0} (story : Story S) (r new : Reader) (h : HeaderData) (old now : BodyState)
     (b piece : List ℕ) (before : List Row) (result : Result Fed Fault) (sink : S) → r.state ≡ state.AfterHeader h old
-    → new.order ≡ r.order → new.state ≡ state.AfterHeader h now → StandsFor r b
-    → (StandsAt r.order (state.AfterHeader h old) b → BodyTells story r.order h b piece before result now sink)
-    → RowsFed story r.order b piece before result new sink
+    → new.dialect ≡ r.dialect → new.state ≡ state.AfterHeader h now → StandsFor r b
+    → (StandsAt r.dialect (state.AfterHeader h old) b → BodyTells story r.dialect h b piece before result now sink)
+    → RowsFed story r.dialect b piece before result new sink
 feeds_body story r new h old now b piece before result sink is same made s tells =
-    let f = tells (subst (λ (x : State). StandsAt r.order x b) is s) in
+    let f = tells (subst (λ (x : State). StandsAt r.dialect x b) is s) in
     record {
       rows = f.rows;
       fed =
-          body_fed r.order h (events r.order b ++ map event.Row f.rows) b piece result now new same made f.fed;
+          body_fed r.dialect h (events r.dialect b ++ map event.Row f.rows) b piece result now new same made f.fed;
       sink =
           f.sink;
     }
 
 -- ---- a new reader
 
-pub nothing_yet : (order : Order) → Answers order [] answer.More
-nothing_yet order = (
-  λ h is. none_some {a = (h, [])} refl (header_is_found order h [] [] is),
+pub nothing_yet : (dialect : Dialect) → Answers dialect [] answer.More
+nothing_yet dialect = (
+  λ h is. none_some {a = (h, [])} refl (header_is_found dialect h [] [] is),
   refl,
   λ at kind r. none_some refl r.decided,
 )
 
-pub none_refused : (order : Order) → NoneRefused order []
-none_refused order front back at kind e r =
-    none_some refl (subst (λ (w : List ℕ). Refused order w at kind) (nil_of front back e) r).decided where
+pub none_refused : (dialect : Dialect) → NoneRefused dialect []
+none_refused dialect front back at kind e r =
+    none_some refl (subst (λ (w : List ℕ). Refused dialect w at kind) (nil_of front back e) r).decided where
       nil_of : (front back : List ℕ) → ◌≡◌ {A = List ℕ} [] (front ++ back) → front ≡ []
       nil_of [] back e = refl
       nil_of (x ∷ front) back e = absurd cc
 
-pub new_stands : (order : Order) (head : HeadReader) → head.order ≡ order → HeadStands head [] → InHeader order head []
-new_stands order head same stands =
+pub new_stands : (dialect : Dialect) (head : HeadReader) → head.dialect ≡ dialect → HeadStands head []
+    → InHeader dialect head []
+new_stands dialect head same stands =
     record {
-      same_order = same;
+      same_dialect = same;
       stands = stands;
-      more = nothing_yet order;
+      more = nothing_yet dialect;
       bytes = tt;
       incomplete = refl;
       sound =
-          none_refused order;
+          none_refused dialect;
     }
 
 -- ---- `finish` in a header
@@ -135,12 +136,12 @@ empty_of : (b : List ℕ) → length b ≡ 0 → b ≡ []
 empty_of [] e = refl
 empty_of (x ∷ b) e = absurd (omega (arith, e))
 
-pub finish_cut : (order : Order) (head : HeadReader) (b : List ℕ) (taken : ℕ) → taken ≡ length b → taken ≢ 0
-    → InHeader order head b → FinishIs order b (Err (record { offset = taken; kind = Truncated }))
-finish_cut order head b taken is some s = inr (
+pub finish_cut : (dialect : Dialect) (head : HeadReader) (b : List ℕ) (taken : ℕ) → taken ≡ length b → taken ≢ 0
+    → InHeader dialect head b → FinishIs dialect b (Err (record { offset = taken; kind = Truncated }))
+finish_cut dialect head b taken is some s = inr (
   ap (λ (n : ℕ). record { offset = n; kind = Truncated }) is,
   λ nil. some (is ∙ ap length nil),
-  no_unit order b s.incomplete s.more.1,
+  no_unit dialect b s.incomplete s.more.1,
   λ place kind refused. s.sound b [] place kind (sym (append-nil b)) refused,
 )
 
@@ -169,33 +170,33 @@ no_row_paused event.Header pause r e = absurd pause
 no_row_paused (event.Foreign version) pause r e = absurd pause
 no_row_paused (event.Row x) pause r e = absurd pause
 
-after_of_fed : (order : Order) (b piece : List ℕ) (result : Result Fed Fault) (new : Reader)
-    → ReaderFed order b piece result new → FedAfter order (events order b) b piece result new
-after_of_fed order b piece (Ok fed) new f = f
-after_of_fed order b piece (Err fault) new f = f
+after_of_fed : (dialect : Dialect) (b piece : List ℕ) (result : Result Fed Fault) (new : Reader)
+    → ReaderFed dialect b piece result new → FedAfter dialect (events dialect b) b piece result new
+after_of_fed dialect b piece (Ok fed) new f = f
+after_of_fed dialect b piece (Err fault) new f = f
 
-fed_of_after : (order : Order) (b piece : List ℕ) (result : Result Fed Fault) (new : Reader)
-    → FedAfter order (events order b) b piece result new → ReaderFed order b piece result new
-fed_of_after order b piece (Ok fed) new f = f
-fed_of_after order b piece (Err fault) new f = f
+fed_of_after : (dialect : Dialect) (b piece : List ℕ) (result : Result Fed Fault) (new : Reader)
+    → FedAfter dialect (events dialect b) b piece result new → ReaderFed dialect b piece result new
+fed_of_after dialect b piece (Ok fed) new f = f
+fed_of_after dialect b piece (Err fault) new f = f
 
-pub no_rows : {S : Type 0} (story : Story S) (order : Order) (b piece : List ℕ) (before : List Row)
-    (result : Result Fed Fault) (new : Reader) (s : S) → ReaderFed order b piece result new
-    → SinkAfter story s before result → RowsFed story order b piece before result new s
-no_rows story order b piece before result new s fed sink = record {
+pub no_rows : {S : Type 0} (story : Story S) (dialect : Dialect) (b piece : List ℕ) (before : List Row)
+    (result : Result Fed Fault) (new : Reader) (s : S) → ReaderFed dialect b piece result new
+    → SinkAfter story s before result → RowsFed story dialect b piece before result new s
+no_rows story dialect b piece before result new s fed sink = record {
   rows = [];
-  fed = subst (λ (es : List Event). FedAfter order es b piece result new) (sym (append-nil (events order b)))
-      (after_of_fed order b piece result new fed);
+  fed = subst (λ (es : List Event). FedAfter dialect es b piece result new) (sym (append-nil (events dialect b)))
+      (after_of_fed dialect b piece result new fed);
   sink = subst (λ (rows : List Row). SinkAfter story s rows result) (sym (append-nil before)) sink;
 }
 
 -- the same after a fault in the header
 pub rows_stopped : {S : Type 0} (story : Story S) (r new : Reader) (b piece : List ℕ) (before : List Row)
-    (stop : HeaderStop) (s : S) → r.state ≡ state.StoppedInHeader stop → new.order ≡ r.order
+    (stop : HeaderStop) (s : S) → r.state ≡ state.StoppedInHeader stop → new.dialect ≡ r.dialect
     → new.state ≡ state.StoppedInHeader stop → StandsFor r b → story.hears s before
-    → RowsFed story r.order b piece before (Err stop.fault) new s
+    → RowsFed story r.dialect b piece before (Err stop.fault) new s
 rows_stopped story r new b piece before stop s is same made stands hears =
-    no_rows story r.order b piece before (Err stop.fault) new s (feeds_stopped r new b piece stop is same made stands)
+    no_rows story r.dialect b piece before (Err stop.fault) new s (feeds_stopped r new b piece stop is same made stands)
     hears
 
 none_before : (rows : List Row) (r row : Row) → rows ++ r ∷ [] ≡ row ∷ [] → rows ≡ []
@@ -217,10 +218,10 @@ each_result s rows (Ok fed) at = each_none s rows fed.event at
 each_result s rows (Err fault) at = at
 
 -- a sink that stops at each row hears none on the way
-pub fed_alone : (order : Order) (b piece : List ℕ) (result : Result Fed Fault) (new : Reader) (s : EachRow)
-    → RowsFed each_row order b piece [] result new s → ReaderFed order b piece result new
-fed_alone order b piece result new s f =
+pub fed_alone : (dialect : Dialect) (b piece : List ℕ) (result : Result Fed Fault) (new : Reader) (s : EachRow)
+    → RowsFed each_row dialect b piece [] result new s → ReaderFed dialect b piece result new
+fed_alone dialect b piece result new s f =
     let none = each_result s f.rows result f.sink in
-    fed_of_after order b piece result new
-    (subst (λ (es : List Event). FedAfter order es b piece result new)
-    (ap (λ (rows : List Row). events order b ++ map event.Row rows) none ∙ append-nil (events order b)) f.fed)
+    fed_of_after dialect b piece result new
+    (subst (λ (es : List Event). FedAfter dialect es b piece result new)
+    (ap (λ (rows : List Row). events dialect b ++ map event.Row rows) none ∙ append-nil (events dialect b)) f.fed)

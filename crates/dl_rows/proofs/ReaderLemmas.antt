@@ -2,7 +2,7 @@
 use Rattle.std.proofs.Common.{◌≡◌, ◌≢◌, ◌≤◌, ◌^◌, inl, inr, ℕ, ◌+◌, ◌-◌, min, List, [], ◌∷◌, length, Option, Some, None}
 use Rattle.std.proofs.Common.{Result, Ok, Err, refl, sym, ap, subst, ◌∙◌, arith, append-nil}
 use Rattle.std.proofs.lemmas.Bool.{cases_eq}
-use Rattle.dl_num.specs.declared.fixed.Order.{Order}
+use Rattle.dl_head.specs.declared.dialect.Dialect.{Dialect}
 use Rattle.dl_head.specs.declared.fault.Fault.{Fault}
 use Rattle.dl_table.specs.declared.fault.FaultKind.TheVariants.{Truncated}
 use Rattle.dl_head.specs.declared.reader.HeadReader.{HeadReader}
@@ -32,45 +32,45 @@ use Rattle.dl_rows.proofs.UnitQuiet.{foreign_quiet}
 use Rattle.dl_rows.proofs.UnitWhole.{NoneRefused, unit_unless_refused}
 
 -- a foreign unit has no header
-pub foreign_no_header : (order : Order) (b : List ℕ) (version : ℕ) → foreign_in order b ≡ Some version
-    → header_in order b ≡ None
-foreign_no_header order b version foreign = on (header_in order b) refl where
-  on : (o : Option (HeaderData × List ℕ)) → header_in order b ≡ o → header_in order b ≡ None
+pub foreign_no_header : (dialect : Dialect) (b : List ℕ) (version : ℕ) → foreign_in dialect b ≡ Some version
+    → header_in dialect b ≡ None
+foreign_no_header dialect b version foreign = on (header_in dialect b) refl where
+  on : (o : Option (HeaderData × List ℕ)) → header_in dialect b ≡ o → header_in dialect b ≡ None
   on None e = e
   on (Some (h, rest)) e =
-      let f = found_is_header order h b rest e in
-      absurd (none_some (header_is_not_foreign order h f.0 rest f.2) (ap (foreign_in order) (sym f.1) ∙ foreign))
+      let f = found_is_header dialect h b rest e in
+      absurd (none_some (header_is_not_foreign dialect h f.0 rest f.2) (ap (foreign_in dialect) (sym f.1) ∙ foreign))
 
 -- where there is no header, there are no rows
-pub no_rows : (order : Order) (b : List ℕ) → header_in order b ≡ None → unit_rows order b ≡ []
-no_rows order b none = ap (rows_later order) none
+pub no_rows : (dialect : Dialect) (b : List ℕ) → header_in dialect b ≡ None → unit_rows dialect b ≡ []
+no_rows dialect b none = ap (rows_later dialect.order) none
 
 -- the rows after a header
-pub rows_here : (order : Order) (h : HeaderData) (t : UnitBody) (b : List ℕ) (is : InProgram order h t b)
-    → unit_rows order b ≡ rows_in order h.params is.program
-rows_here order h t b is =
-    ap (unit_rows order) (sym (append-nil b)) ∙ rows_on order h t b [] is (omega arith) []
-    ∙ ap (λ (w : List ℕ). rows_in order h.params w) (append-nil is.program)
+pub rows_here : (dialect : Dialect) (h : HeaderData) (t : UnitBody) (b : List ℕ) (is : InProgram dialect h t b)
+    → unit_rows dialect b ≡ rows_in dialect.order h.params is.program
+rows_here dialect h t b is =
+    ap (unit_rows dialect) (sym (append-nil b)) ∙ rows_on dialect h t b [] is (omega arith) []
+    ∙ ap (λ (w : List ℕ). rows_in dialect.order h.params w) (append-nil is.program)
 
 -- the header that a reader after it has
-pub header_here : (order : Order) (h : HeaderData) (s : BodyState) (b : List ℕ) → BodyStands order h s b
-    → (program : List ℕ) × (header_in order b ≡ Some (h, program))
-header_here order h (body.InProgram t) b is =
-    (is.program, ap (header_in order) is.whole ∙ header_is_found order h is.header is.program is.spells)
-header_here order h (body.Stopped stop) b is =
-    (is.program, ap (header_in order) is.whole ∙ header_is_found order h is.header is.program is.spells)
+pub header_here : (dialect : Dialect) (h : HeaderData) (s : BodyState) (b : List ℕ) → BodyStands dialect h s b
+    → (program : List ℕ) × (header_in dialect b ≡ Some (h, program))
+header_here dialect h (body.InProgram t) b is =
+    (is.program, ap (header_in dialect) is.whole ∙ header_is_found dialect h is.header is.program is.spells)
+header_here dialect h (body.Stopped stop) b is =
+    (is.program, ap (header_in dialect) is.whole ∙ header_is_found dialect h is.header is.program is.spells)
 
 -- its cells are those of the bytes
-pub cells_here : (order : Order) (h : HeaderData) (s : BodyState) (b : List ℕ) → BodyStands order h s b
-    → cells order b ≡ header_cells h
-cells_here order h (body.InProgram t) b is =
-    ap (cells order) is.whole ∙ (header_holds_its_cells order h is.header is.program is.spells).0
-cells_here order h (body.Stopped stop) b is =
-    ap (cells order) is.whole ∙ (header_holds_its_cells order h is.header is.program is.spells).0
+pub cells_here : (dialect : Dialect) (h : HeaderData) (s : BodyState) (b : List ℕ) → BodyStands dialect h s b
+    → cells dialect b ≡ header_cells h
+cells_here dialect h (body.InProgram t) b is =
+    ap (cells dialect) is.whole ∙ (header_holds_its_cells dialect h is.header is.program is.spells).0
+cells_here dialect h (body.Stopped stop) b is =
+    ap (cells dialect) is.whole ∙ (header_holds_its_cells dialect h is.header is.program is.spells).0
 
-module _ (order : Order) (b : List ℕ) where
+module _ (dialect : Dialect) (b : List ℕ) where
   -- how many bytes were taken
-  pub taken_here : (s : State) → StandsAt order s b → taken_in s ≡ length b
+  pub taken_here : (s : State) → StandsAt dialect s b → taken_in s ≡ length b
   taken_here (state.InHeader head) s = s.stands.taken
   taken_here (state.StoppedInHeader stop) s = s.taken
   taken_here (state.Foreign bytes) s = s.1.counts.taken
@@ -78,22 +78,24 @@ module _ (order : Order) (b : List ℕ) where
   taken_here (state.AfterHeader h (body.Stopped stop)) s = s.taken
 
   -- no byte after the unit is taken
-  pub within_here : (s : State) → StandsAt order s b → WithinUnit order b
-  within_here (state.InHeader head) s = λ n len. s.stands.within n (ap (λ (o : Order). unit_len o b) s.same_order ∙ len)
+  pub within_here : (s : State) → StandsAt dialect s b → WithinUnit dialect b
+  within_here (state.InHeader head) s = λ n len. s.stands.within n
+      (ap (λ (d : Dialect). unit_len d b) s.same_dialect ∙ len)
   within_here (state.StoppedInHeader stop) s = s.in_unit
-  within_here (state.Foreign bytes) s = counts_within order bytes b s.1.counts
-  within_here (state.AfterHeader h (body.InProgram t)) s = counts_within order t.bytes b s.counts
+  within_here (state.Foreign bytes) s = counts_within dialect bytes b s.1.counts
+  within_here (state.AfterHeader h (body.InProgram t)) s = counts_within dialect t.bytes b s.counts
   within_here (state.AfterHeader h (body.Stopped stop)) s = s.in_unit
 
 -- the cells that a reader of the header holds
-pub cells_at : (order : Order) (head : HeadReader) (b : List ℕ) (n : ℕ) → head.order ≡ order
-    → n ≡ min (cells head.order b) (2 ^ 64 - 1) → n ≡ min (cells order b) (2 ^ 64 - 1)
-cells_at order head b n same is = is ∙ ap (λ (o : Order). min (cells o b) (2 ^ 64 - 1)) same
+pub cells_at : (dialect : Dialect) (head : HeadReader) (b : List ℕ) (n : ℕ) → head.dialect ≡ dialect
+    → n ≡ min (cells head.dialect b) (2 ^ 64 - 1) → n ≡ min (cells dialect b) (2 ^ 64 - 1)
+cells_at dialect head b n same is = is ∙ ap (λ (d : Dialect). min (cells d b) (2 ^ 64 - 1)) same
 
 -- those of a foreign unit
-pub no_cells : (order : Order) (version : ℕ) (b : List ℕ) → foreign_in order b ≡ Some version
-    → 0 ≡ min (cells order b) (2 ^ 64 - 1)
-no_cells order version b foreign = sym (ap (λ (n : ℕ). min n (2 ^ 64 - 1)) (foreign_no_cells order version b foreign))
+pub no_cells : (dialect : Dialect) (version : ℕ) (b : List ℕ) → foreign_in dialect b ≡ Some version
+    → 0 ≡ min (cells dialect b) (2 ^ 64 - 1)
+no_cells dialect version b foreign = sym (ap (λ (n : ℕ). min n (2 ^ 64 - 1))
+    (foreign_no_cells dialect version b foreign))
 
 -- ---- `finish`
 
@@ -102,43 +104,43 @@ some_bytes [] some = absurd (some refl)
 some_bytes (x ∷ b) some = omega arith
 
 -- bytes that are counted, and of which none is refused
-pub finish_counted : (order : Order) (t : UnitBytes) (b : List ℕ) (result : Result Finish Fault) → Counts order t b
-    → b ≢ [] → NoneRefused order b → (t.left ≡ 0 → IsUnit order b)
+pub finish_counted : (dialect : Dialect) (t : UnitBytes) (b : List ℕ) (result : Result Finish Fault)
+    → Counts dialect t b → b ≢ [] → NoneRefused dialect b → (t.left ≡ 0 → IsUnit dialect b)
     → (t.left ≡ 0 → result ≡ Ok finish.Whole)
-    → (t.left ≢ 0 → result ≡ Err (record { offset = t.taken; kind = Truncated })) → FinishIs order b result
-finish_counted order t b result counts some sound whole is_whole is_cut = elim (cases_eq t.left 0) [
-  | inl none ↦ subst (FinishIs order b) (sym (is_whole none)) (whole none)
-  | inr more ↦ subst (FinishIs order b) (sym (is_cut more)) (inr (
+    → (t.left ≢ 0 → result ≡ Err (record { offset = t.taken; kind = Truncated })) → FinishIs dialect b result
+finish_counted dialect t b result counts some sound whole is_whole is_cut = elim (cases_eq t.left 0) [
+  | inl none ↦ subst (FinishIs dialect b) (sym (is_whole none)) (whole none)
+  | inr more ↦ subst (FinishIs dialect b) (sym (is_cut more)) (inr (
     ap (λ (n : ℕ). record { offset = n; kind = Truncated }) counts.taken,
     some,
-    λ unit. (let e = some_same (t.taken + t.left) (length b) (sym counts.left ∙ length_of_unit order b unit) in
+    λ unit. (let e = some_same (t.taken + t.left) (length b) (sym counts.left ∙ length_of_unit dialect b unit) in
         more (omega (arith, e, counts.taken))),
     λ place kind refused. sound b [] place kind (sym (append-nil b)) refused,
   ))
 ]
 
-pub finish_foreign : (order : Order) (version : ℕ) (t : UnitBytes) (b : List ℕ) (result : Result Finish Fault)
-    → InForeign order version t b
+pub finish_foreign : (dialect : Dialect) (version : ℕ) (t : UnitBytes) (b : List ℕ) (result : Result Finish Fault)
+    → InForeign dialect version t b
     → (t.left ≡ 0 → result ≡ Ok finish.Whole)
-    → (t.left ≢ 0 → result ≡ Err (record { offset = t.taken; kind = Truncated })) → FinishIs order b result
-finish_foreign order version t b result is = finish_counted order t b result is.counts
-    (λ none. none_some {a = version} refl (ap (foreign_in order) (sym none) ∙ is.foreign))
-    (foreign_quiet order b version (t.taken + t.left) is.foreign is.counts.left (omega (arith, is.counts.taken)))
+    → (t.left ≢ 0 → result ≡ Err (record { offset = t.taken; kind = Truncated })) → FinishIs dialect b result
+finish_foreign dialect version t b result is = finish_counted dialect t b result is.counts
+    (λ none. none_some {a = version} refl (ap (foreign_in dialect) (sym none) ∙ is.foreign))
+    (foreign_quiet dialect b version (t.taken + t.left) is.foreign is.counts.left (omega (arith, is.counts.taken)))
     (λ none. inl (
       version,
-      foreign_unit order version b (is.counts.left ∙ ap (λ (n : ℕ). Some n) (omega (arith, none, is.counts.taken)))
+      foreign_unit dialect version b (is.counts.left ∙ ap (λ (n : ℕ). Some n) (omega (arith, none, is.counts.taken)))
           is.foreign,
     ))
 
-pub finish_program : (order : Order) (h : HeaderData) (t : UnitBody) (b : List ℕ) (result : Result Finish Fault)
-    → InProgram order h t b
+pub finish_program : (dialect : Dialect) (h : HeaderData) (t : UnitBody) (b : List ℕ) (result : Result Finish Fault)
+    → InProgram dialect h t b
     → (t.bytes.left ≡ 0 → result ≡ Ok finish.Whole)
     → (t.bytes.left ≢ 0 → result ≡ Err (record { offset = t.bytes.taken; kind = Truncated }))
-    → FinishIs order b result
-finish_program order h t b result is = finish_counted order t.bytes b result is.counts
-    (λ none. none_some {a = (h, is.program)} (ap (header_in order) none) (ap (header_in order) is.whole
-    ∙ header_is_found order h is.header is.program is.spells))
+    → FinishIs dialect b result
+finish_program dialect h t b result is = finish_counted dialect t.bytes b result is.counts
+    (λ none. none_some {a = (h, is.program)} (ap (header_in dialect) none) (ap (header_in dialect) is.whole
+    ∙ header_is_found dialect h is.header is.program is.spells))
     is.sound
     (λ none.
-    (unit_unless_refused order b (is.counts.left ∙ ap (λ (n : ℕ). Some n) (omega (arith, none, is.counts.taken)))).1
+    (unit_unless_refused dialect b (is.counts.left ∙ ap (λ (n : ℕ). Some n) (omega (arith, none, is.counts.taken)))).1
     is.sound)

@@ -1,4 +1,5 @@
 -- Which byte of some bytes of a program is the last that its first row takes.
+use Rattle.dl_head.specs.declared.dialect.Dialect.{Dialect}
 use Rattle.std.proofs.Common.{◌≡◌, ◌+◌, ◌-◌, ◌≤◌, ◌⊎◌, inl, inr, ℕ, suc, Bool, true, false, cond, List, [], ◌∷◌, ◌++◌}
 use Rattle.std.proofs.Common.{length, map, take, drop, Option, Some, None, refl, sym, ap, subst, ◌∙◌, arith}
 use Rattle.std.proofs.Common.{length-append, append_assoc, append-nil, length-take}
@@ -132,113 +133,117 @@ first_row order h p done (x ∷ todo) r rows none e =
 -- ---- the header before a row
 
 -- b is a header and bytes of its program
-record HasHeader (order : Order) (b : List ℕ) : Type 0 where
+record HasHeader (dialect : Dialect) (b : List ℕ) : Type 0 where
   h : HeaderData
   header : List ℕ
   program : List ℕ
   whole : b ≡ header ++ program
-  spells : IsHeader order h header
+  spells : IsHeader dialect h header
 
 -- what bytes come to, by its first event
-data Comes (order : Order) (c : List ℕ) : Type 0 where
-  nothing : events order c ≡ [] → Comes order c
-  foreign : (v : ℕ) → events order c ≡ event.Foreign v ∷ [] → Comes order c
-  own : (es : List Event) → events order c ≡ event.Header ∷ es → Comes order c
+data Comes (dialect : Dialect) (c : List ℕ) : Type 0 where
+  nothing : events dialect c ≡ [] → Comes dialect c
+  foreign : (v : ℕ) → events dialect c ≡ event.Foreign v ∷ [] → Comes dialect c
+  own : (es : List Event) → events dialect c ≡ event.Header ∷ es → Comes dialect c
 
-comes : (order : Order) (c : List ℕ) → Comes order c
-comes order c = on (foreign_in order c) (header_in order c) refl refl where
-  on : (f : Option ℕ) (o : Option (HeaderData × List ℕ)) → foreign_in order c ≡ f → header_in order c ≡ o
-      → Comes order c
-  on (Some v) o e k = foreign v (ap (λ (z : Option ℕ). events_of order z (header_in order c)) e)
-  on None None e k = nothing (ap (λ (z : Option ℕ). events_of order z (header_in order c)) e ∙ ap (own_events order) k)
+comes : (dialect : Dialect) (c : List ℕ) → Comes dialect c
+comes dialect c = on (foreign_in dialect c) (header_in dialect c) refl refl where
+  on : (f : Option ℕ) (o : Option (HeaderData × List ℕ)) → foreign_in dialect c ≡ f → header_in dialect c ≡ o
+      → Comes dialect c
+  on (Some v) o e k = foreign v (ap (λ (z : Option ℕ). events_of dialect.order z (header_in dialect c)) e)
+  on None None e k = nothing (ap (λ (z : Option ℕ). events_of dialect.order z (header_in dialect c)) e
+      ∙ ap (own_events dialect.order) k)
   on None (Some parts) e k =
-      own (map event.Row (rows_in order parts.0.params parts.1))
-      (ap (λ (z : Option ℕ). events_of order z (header_in order c)) e ∙ ap (own_events order) k)
+      own (map event.Row (rows_in dialect.order parts.0.params parts.1))
+      (ap (λ (z : Option ℕ). events_of dialect.order z (header_in dialect c)) e ∙ ap (own_events dialect.order) k)
 
 -- a row comes after a header alone
-no_row_first : (order : Order) (c : List ℕ) (r : Row) (es : List Event) → events order c ≡ event.Row r ∷ es → ⊥
-no_row_first order c r es e = on (comes order c) where
-  on : Comes order c → ⊥
+no_row_first : (dialect : Dialect) (c : List ℕ) (r : Row) (es : List Event) → events dialect c ≡ event.Row r ∷ es → ⊥
+no_row_first dialect c r es e = on (comes dialect c) where
+  on : Comes dialect c → ⊥
   on (nothing k) = (let f : ◌≡◌ {A = List Event} [] (event.Row r ∷ es) = sym k ∙ e in absurd cc)
   on (foreign v k) = (let f : event.Foreign v ∷ [] ≡ event.Row r ∷ es = sym k ∙ e in absurd cc)
   on (own fs k) = (let f : event.Header ∷ fs ≡ event.Row r ∷ es = sym k ∙ e in absurd cc)
 
-no_row_after_version : (order : Order) (c : List ℕ) (v : ℕ) (r : Row) (es : List Event)
-    → events order c ≡ event.Foreign v ∷ event.Row r ∷ es → ⊥
-no_row_after_version order c v r es e = on (comes order c) where
-  on : Comes order c → ⊥
+no_row_after_version : (dialect : Dialect) (c : List ℕ) (v : ℕ) (r : Row) (es : List Event)
+    → events dialect c ≡ event.Foreign v ∷ event.Row r ∷ es → ⊥
+no_row_after_version dialect c v r es e = on (comes dialect c) where
+  on : Comes dialect c → ⊥
   on (nothing k) = (let f : ◌≡◌ {A = List Event} [] (event.Foreign v ∷ event.Row r ∷ es) = sym k ∙ e in absurd cc)
   on (foreign w k) = (let f : event.Foreign w ∷ [] ≡ event.Foreign v ∷ event.Row r ∷ es = sym k ∙ e in absurd cc)
   on (own fs k) = (let f : event.Header ∷ fs ≡ event.Foreign v ∷ event.Row r ∷ es = sym k ∙ e in absurd cc)
 
-has_header : (order : Order) (b c : List ℕ) (r : Row) (es : List Event)
-    → events order c ≡ events order b ++ event.Row r ∷ es → HasHeader order b
-has_header order b c r es e = on (foreign_in order b) (header_in order b) refl refl where
-  on : (f : Option ℕ) (o : Option (HeaderData × List ℕ)) → foreign_in order b ≡ f → header_in order b ≡ o
-      → HasHeader order b
+has_header : (dialect : Dialect) (b c : List ℕ) (r : Row) (es : List Event)
+    → events dialect c ≡ events dialect b ++ event.Row r ∷ es → HasHeader dialect b
+has_header dialect b c r es e = on (foreign_in dialect b) (header_in dialect b) refl refl where
+  on : (f : Option ℕ) (o : Option (HeaderData × List ℕ)) → foreign_in dialect b ≡ f → header_in dialect b ≡ o
+      → HasHeader dialect b
   on (Some v) o k l =
-      let is : events order b ≡ event.Foreign v ∷ [] = ap (λ (z : Option ℕ). events_of order z (header_in order b)) k in
-      absurd (no_row_after_version order c v r es (e ∙ ap (λ (z : List Event). z ++ event.Row r ∷ es) is))
+      let is : events dialect b ≡ event.Foreign v ∷ [] =
+      ap (λ (z : Option ℕ). events_of dialect.order z (header_in dialect b)) k in
+      absurd (no_row_after_version dialect c v r es (e ∙ ap (λ (z : List Event). z ++ event.Row r ∷ es) is))
   on None None k l =
-      let is : events order b ≡ [] =
-      ap (λ (z : Option ℕ). events_of order z (header_in order b)) k ∙ ap (own_events order) l in
-      absurd (no_row_first order c r es (e ∙ ap (λ (z : List Event). z ++ event.Row r ∷ es) is))
+      let is : events dialect b ≡ [] =
+      ap (λ (z : Option ℕ). events_of dialect.order z (header_in dialect b)) k ∙ ap (own_events dialect.order) l in
+      absurd (no_row_first dialect c r es (e ∙ ap (λ (z : List Event). z ++ event.Row r ∷ es) is))
   on None (Some (h, program)) k l =
-      let f = found_is_header order h b program l in
+      let f = found_is_header dialect h b program l in
       record { h = h; header = f.0; program = program; whole = f.1; spells = f.2 }
 
 -- ---- the first row of those that a piece gives
 
 -- n bytes of the piece give the row, the last of them alone; more follow
-pub record RowTaken (order : Order) (b piece : List ℕ) (used : ℕ) (r : Row) : Type 0 where
+pub record RowTaken (dialect : Dialect) (b piece : List ℕ) (used : ℕ) (r : Row) : Type 0 where
   pub n : ℕ
   pub more : ℕ
   pub some : 1 ≤ n
   pub total : used ≡ n + more
-  pub before : events order (b ++ take (n - 1) piece) ≡ events order b
-  pub row : events order (b ++ take n piece) ≡ events order b ++ event.Row r ∷ []
-  pub quiet : unit_decided order (b ++ take n piece) ≡ None
+  pub before : events dialect (b ++ take (n - 1) piece) ≡ events dialect b
+  pub row : events dialect (b ++ take n piece) ≡ events dialect b ++ event.Row r ∷ []
+  pub quiet : unit_decided dialect (b ++ take n piece) ≡ None
 
 rows_begin : (more : List Row) (r : Row) (es : List Event)
     → ◌≡◌ {A = List Event} (map event.Row more) (event.Row r ∷ es) → (rest : List Row) × (more ≡ r ∷ rest)
 rows_begin [] r es e = absurd cc
 rows_begin (x ∷ more) r es e = (let same : x ≡ r = cc in (more, ap (λ (z : Row). z ∷ more) same))
 
-module _ (order : Order) (b piece : List ℕ) (used : ℕ) (r : Row) (es : List Event) (le : used ≤ length piece)
-    (grown : events order (b ++ take used piece) ≡ events order b ++ event.Row r ∷ es) where
-  its : HasHeader order b
-  its = has_header order b (b ++ take used piece) r es grown
+module _ (dialect : Dialect) (b piece : List ℕ) (used : ℕ) (r : Row) (es : List Event) (le : used ≤ length piece)
+    (grown : events dialect (b ++ take used piece) ≡ events dialect b ++ event.Row r ∷ es) where
+  its : HasHeader dialect b
+  its = has_header dialect b (b ++ take used piece) r es grown
 
   abbrev rows_of : List ℕ → List Row
-  rows_of v = rows_in order its.h.params (its.program ++ v)
+  rows_of v = rows_in dialect.order its.h.params (its.program ++ v)
 
-  events_on : (v : List ℕ) → events order (b ++ v) ≡ event.Header ∷ map event.Row (rows_of v)
+  events_on : (v : List ℕ) → events dialect (b ++ v) ≡ event.Header ∷ map event.Row (rows_of v)
   events_on v =
-      ap (λ (z : List ℕ). events order (z ++ v)) its.whole ∙ ap (events order) (append_assoc its.header its.program v)
-      ∙ events_here order its.h its.header its.spells (its.program ++ v)
+      ap (λ (z : List ℕ). events dialect (z ++ v)) its.whole
+      ∙ ap (events dialect) (append_assoc its.header its.program v)
+      ∙ events_here dialect its.h its.header its.spells (its.program ++ v)
 
   abbrev rows_before : List Row
-  rows_before = rows_in order its.h.params its.program
+  rows_before = rows_in dialect.order its.h.params its.program
 
-  events_before : events order b ≡ event.Header ∷ map event.Row rows_before
-  events_before = ap (events order) its.whole ∙ events_here order its.h its.header its.spells its.program
+  events_before : events dialect b ≡ event.Header ∷ map event.Row rows_before
+  events_before = ap (events dialect) its.whole ∙ events_here dialect its.h its.header its.spells its.program
 
   -- rows that bytes append
   rows_more : (v : List ℕ) (more : List Row) → rows_of v ≡ rows_before ++ more
-      → events order (b ++ v) ≡ events order b ++ map event.Row more
+      → events dialect (b ++ v) ≡ events dialect b ++ map event.Row more
   rows_more v more e =
       events_on v ∙ ap (λ (z : List Row). event.Header ∷ map event.Row z) e
       ∙ ap (λ (z : List Event). event.Header ∷ z) (map-append event.Row rows_before more)
       ∙ ap (λ (z : List Event). z ++ map event.Row more) (sym events_before)
 
-  first : FirstRow order its.h.params its.program (take used piece) r
+  first : FirstRow dialect.order its.h.params its.program (take used piece) r
   first =
-      let g = rows_grow order its.h.params its.program (take used piece) in
-      let e : events order b ++ map event.Row g.0 ≡ events order b ++ event.Row r ∷ es =
+      let g = rows_grow dialect.order its.h.params its.program (take used piece) in
+      let e : events dialect b ++ map event.Row g.0 ≡ events dialect b ++ event.Row r ∷ es =
       sym (rows_more (take used piece) g.0 g.1) ∙ grown in
-      let begins = rows_begin g.0 r es (append_cancel_left (events order b) (map event.Row g.0) (event.Row r ∷ es) e) in
-      first_row order its.h.params its.program [] (take used piece) r begins.0
-      (ap (rows_in order its.h.params) (append-nil its.program)) (g.1
+      let begins = rows_begin g.0 r es (append_cancel_left (events dialect b) (map event.Row g.0)
+      (event.Row r ∷ es) e) in
+      first_row dialect.order its.h.params its.program [] (take used piece) r begins.0
+      (ap (rows_in dialect.order its.h.params) (append-nil its.program)) (g.1
       ∙ ap (λ (z : List Row). rows_before ++ z) begins.1)
 
   piece_is : piece ≡ first.front ++ (first.last ∷ first.back ++ drop used piece)
@@ -260,20 +265,22 @@ module _ (order : Order) (b piece : List ℕ) (used : ℕ) (r : Row) (es : List 
       ∙ sym (append_assoc first.front (first.last ∷ []) (first.back ++ drop used piece)))
       ∙ take-append_seam (first.front ++ first.last ∷ []) (first.back ++ drop used piece)
 
-  pub row_taken : RowTaken order b piece used r
+  pub row_taken : RowTaken dialect b piece used r
   row_taken =
       let whole : (its.program ++ first.front) ++ first.last ∷ [] ≡ its.program ++ (first.front ++ first.last ∷ []) =
       append_assoc its.program first.front (first.last ∷ []) in
-      let grows : rows_in order its.h.params ((its.program ++ first.front) ++ first.last ∷ []) ≡ rows_of first.front
+      let grows : rows_in dialect.order its.h.params ((its.program ++ first.front) ++ first.last ∷ [])
+      ≡ rows_of first.front
       ++ r ∷ [] =
-      ap (rows_in order its.h.params) whole ∙ first.row ∙ ap (λ (z : List Row). z ++ r ∷ []) (sym first.before) in
-      let ends = row_ends order its.h.params (its.program ++ first.front) first.last r grows in
-      let none : unit_decided order (its.header ++ (its.program ++ (first.front ++ first.last ∷ []))) ≡ None =
-      decided_here order its.h its.header its.spells (its.program ++ (first.front ++ first.last ∷ []))
-      ∙ ap (λ (w : List ℕ). operation_decided order its.h.params w
+      ap (rows_in dialect.order its.h.params) whole ∙ first.row
+      ∙ ap (λ (z : List Row). z ++ r ∷ []) (sym first.before) in
+      let ends = row_ends dialect.order its.h.params (its.program ++ first.front) first.last r grows in
+      let none : unit_decided dialect (its.header ++ (its.program ++ (first.front ++ first.last ∷ []))) ≡ None =
+      decided_here dialect its.h its.header its.spells (its.program ++ (first.front ++ first.last ∷ []))
+      ∙ ap (λ (w : List ℕ). operation_decided dialect.order its.h.params w
       (length (its.header ++ (its.program ++ (first.front ++ first.last ∷ []))))
-      (unit_len order (its.header ++ (its.program ++ (first.front ++ first.last ∷ [])))))
-      (ap (λ (z : List ℕ). (operations_in order its.h.params z).rest) (sym whole) ∙ ends) in
+      (unit_len dialect (its.header ++ (its.program ++ (first.front ++ first.last ∷ [])))))
+      (ap (λ (z : List ℕ). (operations_in dialect.order its.h.params z).rest) (sym whole) ∙ ends) in
       let size = ap length first.whole in
       let one : suc (length first.front) - 1 ≡ length first.front = omega arith in
       record {
@@ -282,12 +289,13 @@ module _ (order : Order) (b piece : List ℕ) (used : ℕ) (r : Row) (es : List 
         some = omega arith;
         total = omega (arith, size, length-take used piece, le, length-append first.front (first.last ∷ first.back));
         before =
-            ap (λ (k : ℕ). events order (b ++ take k piece)) one ∙ ap (λ (z : List ℕ). events order (b ++ z)) front_is
-            ∙ rows_more first.front [] (first.before ∙ sym (append-nil rows_before)) ∙ append-nil (events order b);
-        row = ap (λ (z : List ℕ). events order (b ++ z)) row_is
+            ap (λ (k : ℕ). events dialect (b ++ take k piece)) one
+            ∙ ap (λ (z : List ℕ). events dialect (b ++ z)) front_is
+            ∙ rows_more first.front [] (first.before ∙ sym (append-nil rows_before)) ∙ append-nil (events dialect b);
+        row = ap (λ (z : List ℕ). events dialect (b ++ z)) row_is
             ∙ rows_more (first.front ++ first.last ∷ []) (r ∷ []) first.row;
         quiet =
-            ap (λ (z : List ℕ). unit_decided order (b ++ z)) row_is
-            ∙ ap (λ (z : List ℕ). unit_decided order (z ++ (first.front ++ first.last ∷ []))) its.whole
-            ∙ ap (unit_decided order) (append_assoc its.header its.program (first.front ++ first.last ∷ [])) ∙ none;
+            ap (λ (z : List ℕ). unit_decided dialect (b ++ z)) row_is
+            ∙ ap (λ (z : List ℕ). unit_decided dialect (z ++ (first.front ++ first.last ∷ []))) its.whole
+            ∙ ap (unit_decided dialect) (append_assoc its.header its.program (first.front ++ first.last ∷ [])) ∙ none;
       }

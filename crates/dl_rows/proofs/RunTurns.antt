@@ -5,7 +5,7 @@ use Rattle.std.proofs.Common.{append-nil}
 use Rattle.std.proofs.lemmas.List.{take_all}
 use Rattle.std.proofs.lemmas.List.Sums.{sum_by_push}
 use Rattle.std.proofs.lemmas.Grind.{flat_map-append}
-use Rattle.dl_num.specs.declared.fixed.Order.{Order}
+use Rattle.dl_head.specs.declared.dialect.Dialect.{Dialect}
 use Rattle.dl_head.specs.declared.fault.Fault.{Fault}
 use Rattle.dl_head.specs.Turns.{used_in, last_given, IsTrace}
 use Rattle.dl_head.proofs.TurnLemmas.{last_of_push, trace_more, trace_last}
@@ -26,10 +26,10 @@ use Rattle.dl_rows.proofs.RunLemmas.{Given, turned, trace_runs}
 use Rattle.dl_rows.proofs.RunUnits.{trace_of_unit}
 
 -- the turns so far, which others follow
-pub record Going {S : Type 0} (Heard : S → List Event → Type 0) (order : Order) (b bytes turns : List ℕ) (run : Run)
+pub record Going {S : Type 0} (Heard : S → List Event → Type 0) (dialect : Dialect) (b bytes turns : List ℕ) (run : Run)
     (before now : S) (r : Reader) : Type 0 where
   pub answers : List Given
-  pub trace : IsTrace (May order) goes_on b bytes turns answers
+  pub trace : IsTrace (May dialect) goes_on b bytes turns answers
   pub goes : goes_on (last_given (Ok event.More) answers) ≡ true
   pub run_is : run ≡ record { taken = used_in answers; refused = refusals answers; ended = false }
   pub hears : Hears Heard before now (heard_in answers)
@@ -39,7 +39,7 @@ pub hears_none : {S : Type 0} (Heard : S → List Event → Type 0) (l : S) → 
 hears_none {S} Heard l = λ es h. subst (λ (q : List Event). Heard l q) (sym (append-nil es)) h
 
 pub going_none : {S : Type 0} (Heard : S → List Event → Type 0) (b bytes : List ℕ) (l : S) (r : Reader) → StandsFor r b
-    → Going Heard r.order b bytes [] (record { taken = 0; refused = 0; ended = false }) l l r
+    → Going Heard r.dialect b bytes [] (record { taken = 0; refused = 0; ended = false }) l l r
 going_none {S} Heard b bytes l r s = record {
   answers = [];
   trace = refl;
@@ -55,9 +55,10 @@ hears_on {S} Heard before mid after heard more first then =
     λ es h. subst (λ (q : List Event). Heard after q) (append_assoc es heard more) (then (es ++ heard) (first es h))
 
 -- one turn more
-module _ {S : Type 0} (Heard : S → List Event → Type 0) (order : Order) (b bytes turns : List ℕ) (i : ℕ) (run : Run)
+module _ {S : Type 0} (Heard : S → List Event → Type 0) (dialect : Dialect) (b bytes turns : List ℕ) (i : ℕ) (run : Run)
     (before now after : S) (r new : Reader) (piece : List ℕ)
-    (lt : i < length turns) (g : Going Heard order b bytes (take i turns) run before now r) (same : r.order ≡ order)
+    (lt : i < length turns) (g : Going Heard dialect b bytes (take i turns) run before now r)
+    (same : r.dialect ≡ dialect)
     (is : piece ≡ take (slice_index_or turns i 0) (drop run.taken bytes)) where
   abbrev pub n : ℕ
   n = slice_index_or turns i 0
@@ -69,7 +70,7 @@ module _ {S : Type 0} (Heard : S → List Event → Type 0) (order : Order) (b b
   piece_is = is ∙ ap (λ (r : Run). take n (drop r.taken bytes)) g.run_is
 
   -- what was answered, the reader standing for what was taken in it
-  module _ (used : ℕ) (gave : Result Event Fault) (may : MayGive order d piece used gave) (le : used ≤ length piece)
+  module _ (used : ℕ) (gave : Result Event Fault) (may : MayGive dialect d piece used gave) (le : used ≤ length piece)
       (stands : StandsFor new (d ++ take used piece)) (hears : Hears Heard now after (told_by gave)) where
     abbrev given_now : Given
     given_now = record { used = used; gave = gave }
@@ -77,8 +78,8 @@ module _ {S : Type 0} (Heard : S → List Event → Type 0) (order : Order) (b b
     abbrev answers_now : List Given
     answers_now = g.answers ++ given_now ∷ []
 
-    may_here : May order d (take n (drop (used_in g.answers) bytes)) given_now
-    may_here = subst (λ (l : List ℕ). MayGive order d l used gave) piece_is may
+    may_here : May dialect d (take n (drop (used_in g.answers) bytes)) given_now
+    may_here = subst (λ (l : List ℕ). MayGive dialect d l used gave) piece_is may
 
     used_now : used_in answers_now ≡ used_in g.answers + used
     used_now = sum_by_push (λ (a : Given). a.used) g.answers given_now
@@ -106,10 +107,10 @@ module _ {S : Type 0} (Heard : S → List Event → Type 0) (order : Order) (b b
 
     pub goes_to : (next : Run) (more : ℕ) → next ≡ record { taken = run.taken + used; refused = more; ended = false }
         → more ≡ run.refused + cond (is_refusal gave) 1 0 → goes_on gave ≡ true
-        → Going Heard order b bytes (take (i + 1) turns) next before after new
+        → Going Heard dialect b bytes (take (i + 1) turns) next before after new
     goes_to next more next_is counted goes = record {
       answers = answers_now;
-      trace = trace_more (May order) goes_on b bytes turns i g.answers given_now (Ok event.More) lt g.trace g.goes
+      trace = trace_more (May dialect) goes_on b bytes turns i g.answers given_now (Ok event.More) lt g.trace g.goes
           may_here;
       goes = ap goes_on last_now ∙ goes;
       run_is =
@@ -127,10 +128,10 @@ module _ {S : Type 0} (Heard : S → List Event → Type 0) (order : Order) (b b
     }
 
     pub ends_with : (result : Result Run Fault) → result ≡ outcome answers_now gave → goes_on gave ≡ false
-        → Traced order b bytes turns (Hears Heard before after) result new
+        → Traced dialect b bytes turns (Hears Heard before after) result new
     ends_with result is_outcome ends = record {
       answers = answers_now;
-      trace = trace_last (May order) goes_on b bytes turns i g.answers given_now (Ok event.More) lt g.trace g.goes
+      trace = trace_last (May dialect) goes_on b bytes turns i g.answers given_now (Ok event.More) lt g.trace g.goes
           may_here ends;
       result_is = is_outcome ∙ ap (λ (g : Result Event Fault). outcome answers_now g) (sym last_now);
       hears = hears_now;
@@ -138,10 +139,10 @@ module _ {S : Type 0} (Heard : S → List Event → Type 0) (order : Order) (b b
     }
 
   -- by what the reader answered
-  module _ (fed : Fed) (feed : (d : List ℕ) → StandsFor r d → ReaderFed r.order d piece (Ok fed) new)
+  module _ (fed : Fed) (feed : (d : List ℕ) → StandsFor r d → ReaderFed r.dialect d piece (Ok fed) new)
       (hears : Hears Heard now after (told fed.event)) where
-    fed_here : ReaderFed order d piece (Ok fed) new
-    fed_here = subst (λ (o : Order). ReaderFed o d piece (Ok fed) new) same (feed d g.stands)
+    fed_here : ReaderFed dialect d piece (Ok fed) new
+    fed_here = subst (λ (o : Dialect). ReaderFed o d piece (Ok fed) new) same (feed d g.stands)
 
     pub going_on : (next : Run) (more : ℕ) → next ≡ record {
       taken = run.taken + fed.used;
@@ -149,7 +150,7 @@ module _ {S : Type 0} (Heard : S → List Event → Type 0) (order : Order) (b b
       ended =
           false;
     } → more ≡ run.refused + cond (is_refusal (Ok fed.event)) 1 0
-        → goes_on (Ok fed.event) ≡ true → Going Heard order b bytes (take (i + 1) turns) next before after new
+        → goes_on (Ok fed.event) ≡ true → Going Heard dialect b bytes (take (i + 1) turns) next before after new
     going_on next more next_is counted goes =
         goes_to fed.used (Ok fed.event) fed_here.answered fed_here.answered.within fed_here.stands hears next more
         next_is counted goes
@@ -170,7 +171,7 @@ module _ {S : Type 0} (Heard : S → List Event → Type 0) (order : Order) (b b
         ∙ ap (λ (e : Event). refusals g.answers + cond (is_refusal (Ok e)) 1 0) ends ∙ omega arith
 
     pub traced_end : fed.event ≡ event.End
-        → Traced order b bytes turns (Hears Heard before after) (Ok (record {
+        → Traced dialect b bytes turns (Hears Heard before after) (Ok (record {
           taken = run.taken + fed.used;
           refused =
               run.refused;
@@ -193,19 +194,19 @@ module _ {S : Type 0} (Heard : S → List Event → Type 0) (order : Order) (b b
         })) (sym (ap is_end ends)))
         (ap (λ (e : Event). goes_on (Ok e)) ends)
 
-  pub traced_fault : (fault : Fault) → ((d : List ℕ) → StandsFor r d → ReaderFed r.order d piece (Err fault) new)
-      → Hears Heard now after [] → Traced order b bytes turns (Hears Heard before after) (Err fault) new
+  pub traced_fault : (fault : Fault) → ((d : List ℕ) → StandsFor r d → ReaderFed r.dialect d piece (Err fault) new)
+      → Hears Heard now after [] → Traced dialect b bytes turns (Hears Heard before after) (Err fault) new
   traced_fault fault feed hears =
-      let f = subst (λ (o : Order). ReaderFed o d piece (Err fault) new) same (feed d g.stands) in
+      let f = subst (λ (o : Dialect). ReaderFed o d piece (Err fault) new) same (feed d g.stands) in
       ends_with f.0 (Err fault) f.1 f.1.within f.2 hears (Err fault) refl refl
 
-pub traced_all : {S : Type 0} (Heard : S → List Event → Type 0) (order : Order) (b bytes turns : List ℕ) (i : ℕ)
+pub traced_all : {S : Type 0} (Heard : S → List Event → Type 0) (dialect : Dialect) (b bytes turns : List ℕ) (i : ℕ)
     (run : Run) (before now : S) (r : Reader) → length turns ≤ i
-    → Going Heard order b bytes (take i turns) run before now r
-    → Traced order b bytes turns (Hears Heard before now) (Ok run) r
-traced_all {S} Heard order b bytes turns i run before now r le g = record {
+    → Going Heard dialect b bytes (take i turns) run before now r
+    → Traced dialect b bytes turns (Hears Heard before now) (Ok run) r
+traced_all {S} Heard dialect b bytes turns i run before now r le g = record {
   answers = g.answers;
-  trace = subst (λ (l : List ℕ). IsTrace (May order) goes_on b bytes l g.answers) (take_all i turns le) g.trace;
+  trace = subst (λ (l : List ℕ). IsTrace (May dialect) goes_on b bytes l g.answers) (take_all i turns le) g.trace;
   result_is = ap (λ (r : Run). Ok r) g.run_is ∙ not_ended g.answers (last_given (Ok event.More) g.answers) g.goes;
   hears = g.hears;
   stands = g.stands;
@@ -222,23 +223,23 @@ traced_all {S} Heard order b bytes turns i run before now r le g = record {
 
 -- what a reader that stands for b makes of a trace
 module _ (r : Reader) (b bytes turns : List ℕ) (stands : StandsFor r b) (Heard : List Event → Type 0)
-    (result : Result Run Fault) (new : Reader) (t : Traced r.order b bytes turns Heard result new) where
-  in_unit : WithinUnit r.order b
-  in_unit = within_here r.order b r.state stands
+    (result : Result Run Fault) (new : Reader) (t : Traced r.dialect b bytes turns Heard result new) where
+  in_unit : WithinUnit r.dialect b
+  in_unit = within_here r.dialect b r.state stands
 
-  pub runs_of : (heard : List Event) × Heard heard × RunIs r.order b bytes turns heard result
+  pub runs_of : (heard : List Event) × Heard heard × RunIs r.dialect b bytes turns heard result
   runs_of = (
     heard_in t.answers,
     t.hears,
-    subst (λ (o : Result Run Fault). RunIs r.order b bytes turns (heard_in t.answers) o)
-        (sym t.result_is) (trace_runs r.order b bytes turns t.answers in_unit t.trace),
+    subst (λ (o : Result Run Fault). RunIs r.dialect b bytes turns (heard_in t.answers) o)
+        (sym t.result_is) (trace_runs r.dialect b bytes turns t.answers in_unit t.trace),
   )
 
-  pub unit_of : (u rest : List ℕ) → b ++ bytes ≡ u ++ rest → IsUnit r.order u → (heard : List Event) × Heard heard
-      × UnitRunIs r.order b bytes turns u heard result
+  pub unit_of : (u rest : List ℕ) → b ++ bytes ≡ u ++ rest → IsUnit r.dialect u → (heard : List Event) × Heard heard
+      × UnitRunIs r.dialect b bytes turns u heard result
   unit_of u rest e unit = (
     heard_in t.answers,
     t.hears,
-    subst (λ (o : Result Run Fault). UnitRunIs r.order b bytes turns u (heard_in t.answers) o) (sym t.result_is)
-        (trace_of_unit r.order b bytes turns u rest t.answers in_unit t.trace e unit),
+    subst (λ (o : Result Run Fault). UnitRunIs r.dialect b bytes turns u (heard_in t.answers) o) (sym t.result_is)
+        (trace_of_unit r.dialect b bytes turns u rest t.answers in_unit t.trace e unit),
   )

@@ -1,4 +1,5 @@
 -- What a reader answers after the header of a unit, or after a foreign version.
+use Rattle.dl_head.specs.declared.dialect.Dialect.{Dialect}
 use Rattle.std.proofs.Common.{◌≡◌, ℕ, suc, get_or, ◌+◌, ◌-◌, ◌^◌, ◌<◌, ◌≤◌, List, [], ◌∷◌, ◌++◌}
 use Rattle.std.proofs.Common.{length, map, take, drop, min, Some, Err, refl, sym, ap, subst, ◌∙◌, arith, length-append}
 use Rattle.std.proofs.Common.{append_assoc, append-nil, length-take}
@@ -42,22 +43,22 @@ all_bytes [] h = tt
 all_bytes (b ∷ w) h = (h 0 (omega arith), all_bytes w (λ i lt. h (suc i) (omega arith)))
 
 -- what the reader of a program gives for the bytes that are left of the unit
-pub tells_in : {S : Type 0} (story : Story S) (order : Order) (h : HeaderData) (p : Params) (t new : UnitBody)
+pub tells_in : {S : Type 0} (story : Story S) (dialect : Dialect) (h : HeaderData) (p : Params) (t new : UnitBody)
     (b piece bytes : List ℕ) (before : List Row) (given : ProgramStep) (q : Program) (s : S)
-    (is : InProgram order h t b) → h.params ≡ p
+    (is : InProgram dialect h t b) → h.params ≡ p
     → bytes ≡ take t.bytes.left piece → AllBytes piece → new.program ≡ q
-    → ((c : List ℕ) → FitsProgram p → AllBytes bytes → ProgramStands order p t.program c
-    → Tells story order p c bytes before given q s)
-    → Tells story order h.params is.program (take t.bytes.left piece) before given new.program s
-tells_in story order h p t new b piece bytes before given q s is params front all program gives =
+    → ((c : List ℕ) → FitsProgram p → AllBytes bytes → ProgramStands dialect.order p t.program c
+    → Tells story dialect.order p c bytes before given q s)
+    → Tells story dialect.order h.params is.program (take t.bytes.left piece) before given new.program s
+tells_in story dialect h p t new b piece bytes before given q s is params front all program gives =
     let some : AllBytes (take t.bytes.left piece) =
     bytes_front (take t.bytes.left piece) (drop t.bytes.left piece)
     (subst (λ (w : List ℕ). AllBytes w) (sym (take-append-drop t.bytes.left piece)) all) in
-    subst (λ (r : Program). Tells story order h.params is.program (take t.bytes.left piece) before given r s)
+    subst (λ (r : Program). Tells story dialect.order h.params is.program (take t.bytes.left piece) before given r s)
     (sym program)
-    (subst (λ (w : List ℕ). Tells story order h.params is.program w before given q s) front
-    (subst (λ (r : Params). FitsProgram r → AllBytes bytes → ProgramStands order r t.program is.program
-    → Tells story order r is.program bytes before given q s) (sym params) (gives is.program) is.fits
+    (subst (λ (w : List ℕ). Tells story dialect.order h.params is.program w before given q s) front
+    (subst (λ (r : Params). FitsProgram r → AllBytes bytes → ProgramStands dialect.order r t.program is.program
+    → Tells story dialect.order r is.program bytes before given q s) (sym params) (gives is.program) is.fits
     (subst (λ (w : List ℕ). AllBytes w) (sym front) some) is.stands))
 
 -- what is said of bytes that give a row
@@ -158,14 +159,15 @@ flat_bad order h program bytes rows since kind tail new t (front, last, e, quiet
       subst (λ (w : List ℕ). new.in_sequence ≡ ends_open (rows_in order h.params w)) here open_is,
     )
 
-pub feeds_row : (order : Order) (h : HeaderData) (t new : UnitBody) (b piece tail : List ℕ) (rows : List Row)
-    (row : Row) (used : ℕ) (is : InProgram order h t b)
-    → RowGiven order h is.program (take t.bytes.left piece) rows row tail new.program
+pub feeds_row : (dialect : Dialect) (h : HeaderData) (t new : UnitBody) (b piece tail : List ℕ) (rows : List Row)
+    (row : Row) (used : ℕ) (is : InProgram dialect h t b)
+    → RowGiven dialect.order h is.program (take t.bytes.left piece) rows row tail new.program
     → used ≡ length (take t.bytes.left piece) - length tail
     → new.bytes.taken ≡ min (t.bytes.taken + used) (2 ^ 64 - 1) → new.bytes.left ≡ t.bytes.left - used
-    → FeedsAfter (InProgram order h) order (events order b ++ map event.Row rows) b piece (fed_of used (event.Row row))
+    → FeedsAfter (InProgram dialect h) dialect (events dialect b ++ map event.Row rows) b piece
+    (fed_of used (event.Row row))
     new
-feeds_row order h t new b piece tail rows row used is (
+feeds_row dialect h t new b piece tail rows row used is (
   front,
   last,
   e,
@@ -179,123 +181,126 @@ feeds_row order h t new b piece tail rows row used is (
     let exact : used ≡ length u = omega (arith, size, ap length e, length-append u tail) in
     let whole = piece_is piece u tail t.bytes.left e in
     let same = take_front piece u (tail ++ drop t.bytes.left piece) used whole exact in
-    let ends : (operations_in order h.params (is.program ++ u)).rest ≡ [] =
-    subst (λ (w : List ℕ). (operations_in order h.params w).rest ≡ []) (append_assoc is.program front (last ∷ []))
-    (row_ends order h.params (is.program ++ front) last row
-    (ap (rows_in order h.params) (append_assoc is.program front (last ∷ [])) ∙ grown
+    let ends : (operations_in dialect.order h.params (is.program ++ u)).rest ≡ [] =
+    subst (λ (w : List ℕ). (operations_in dialect.order h.params w).rest ≡ [])
+    (append_assoc is.program front (last ∷ []))
+    (row_ends dialect.order h.params (is.program ++ front) last row
+    (ap (rows_in dialect.order h.params) (append_assoc is.program front (last ∷ [])) ∙ grown
     ∙ ap (λ (rs : List Row). rs ++ row ∷ []) (sym before))) in
-    let now : InProgram order h new (b ++ u) =
-    program_on order h t b u is le.0 new stands unrefused (λ full. ends) (taken
+    let now : InProgram dialect h new (b ++ u) =
+    program_on dialect h t b u is le.0 new stands unrefused (λ full. ends) (taken
     ∙ ap (λ (n : ℕ). min (t.bytes.taken + n) (2 ^ 64 - 1)) exact) (left ∙ ap (λ (n : ℕ). t.bytes.left - n) exact) in
     let one : 1 ≤ used = omega (arith, exact, length-append front (last ∷ [])) in
     let fewer : used - 1 ≡ length front = omega (arith, exact, length-append front (last ∷ [])) in
     let front_is =
     take_front piece front ((last ∷ []) ++ (tail ++ drop t.bytes.left piece)) (used - 1) (whole
     ∙ append_assoc front (last ∷ []) (tail ++ drop t.bytes.left piece)) fewer in
-    feeds_with (InProgram order h) order (events order b ++ map event.Row rows) b piece u new
+    feeds_with (InProgram dialect h) dialect (events dialect b ++ map event.Row rows) b piece u new
     (fed_of used (event.Row row)) (event.Row row) same (omega (arith, exact, le.1)) refl now
-    (events_more order h t b u is le.0 u (rows ++ row ∷ []) (grown
-    ∙ append_assoc (rows_in order h.params is.program) rows (row ∷ []))
-    ∙ ap (λ (es : List Event). events order b ++ es) (map-append event.Row rows (row ∷ []))
-    ∙ sym (append_assoc (events order b) (map event.Row rows) (event.Row row ∷ []))) (
+    (events_more dialect h t b u is le.0 u (rows ++ row ∷ []) (grown
+    ∙ append_assoc (rows_in dialect.order h.params is.program) rows (row ∷ []))
+    ∙ ap (λ (es : List Event). events dialect b ++ es) (map-append event.Row rows (row ∷ []))
+    ∙ sym (append_assoc (events dialect b) (map event.Row rows) (event.Row row ∷ []))) (
       one,
-      ap (λ (w : List ℕ). events order (b ++ w)) front_is
-          ∙ events_more order h t b front is (omega (arith, le.0, length-append front (last ∷ []))) front rows before,
+      ap (λ (w : List ℕ). events dialect (b ++ w)) front_is
+          ∙ events_more dialect h t b front is (omega (arith, le.0, length-append front (last ∷ []))) front rows before,
     )
-    now.sound (counts_within order new.bytes (b ++ u) now.counts)
+    now.sound (counts_within dialect new.bytes (b ++ u) now.counts)
 
-pub feeds_nothing : (order : Order) (h : HeaderData) (t new : UnitBody) (b piece : List ℕ) (rows : List Row) (fed : Fed)
-    (is : InProgram order h t b) → NothingGiven order h is.program (take t.bytes.left piece) rows new.program
+pub feeds_nothing : (dialect : Dialect) (h : HeaderData) (t new : UnitBody) (b piece : List ℕ)
+    (rows : List Row) (fed : Fed)
+    (is : InProgram dialect h t b) → NothingGiven dialect.order h is.program (take t.bytes.left piece) rows new.program
     → fed.used ≡ length (take t.bytes.left piece)
     → fed.event ≡ paused new.bytes.taken new.bytes.left fed.used (length piece)
     → new.bytes.taken ≡ min (t.bytes.taken + length (take t.bytes.left piece)) (2 ^ 64 - 1)
     → new.bytes.left ≡ t.bytes.left - length (take t.bytes.left piece)
-    → (new.bytes.left ≡ 0 → (operations_in order h.params (is.program ++ take t.bytes.left piece)).rest ≡ [])
-    → FeedsAfter (InProgram order h) order (events order b ++ map event.Row rows) b piece fed new
-feeds_nothing order h t new b piece rows fed is (stands, grown, unrefused) size answer taken left between =
+    → (new.bytes.left ≡ 0 → (operations_in dialect.order h.params (is.program ++ take t.bytes.left piece)).rest ≡ [])
+    → FeedsAfter (InProgram dialect h) dialect (events dialect b ++ map event.Row rows) b piece fed new
+feeds_nothing dialect h t new b piece rows fed is (stands, grown, unrefused) size answer taken left between =
     let u = take t.bytes.left piece in
     let le : length u ≤ t.bytes.left = (let l = length-take t.bytes.left piece in omega (arith, l)) in
-    let now : InProgram order h new (b ++ u) =
-    program_on order h t b u is le new stands unrefused
+    let now : InProgram dialect h new (b ++ u) =
+    program_on dialect h t b u is le new stands unrefused
     (λ full. between (omega (arith, left, full, is.counts.taken, length-append b u))) taken left in
-    pauses_after (InProgram order h) order (events order b ++ map event.Row rows) b piece t.bytes.left new.bytes new
-    fed size answer (left ∙ ap (λ (n : ℕ). t.bytes.left - n) (sym size)) (some_bytes order h new (b ++ u) now)
+    pauses_after (InProgram dialect h) dialect (events dialect b ++ map event.Row rows) b piece
+    t.bytes.left new.bytes new
+    fed size answer (left ∙ ap (λ (n : ℕ). t.bytes.left - n) (sym size)) (some_bytes dialect h new (b ++ u) now)
     now.counts now
-    (events_more order h t b u is le u rows grown) now.sound
-    (λ none. (unit_unless_refused order (b ++ u) (now.counts.left
+    (events_more dialect h t b u is le u rows grown) now.sound
+    (λ none. (unit_unless_refused dialect (b ++ u) (now.counts.left
     ∙ ap (λ (n : ℕ). Some n) (omega (arith, none, now.counts.taken)))).1 now.sound)
 
 abbrev fault_of : ℕ → FaultKind → Fault
 fault_of at kind = record { offset = at; kind = kind }
 
 -- a fault, u being what is taken of the piece
-fails_with : (order : Order) (before : List Event) (b piece u : List ℕ) (used : ℕ) (new : UnitBody)
+fails_with : (dialect : Dialect) (before : List Event) (b piece u : List ℕ) (used : ℕ) (new : UnitBody)
     (answer made : Fault) → take used piece ≡ u → used ≤ length piece → answer ≡ made
-    → Refused order (b ++ u) made.offset made.kind
-    → events order (b ++ u) ≡ before → Stops order new (b ++ u) → (n : ℕ) × FailsAfter order before b piece answer n
-    × Stops order new (b ++ take n piece)
-fails_with order before b piece u used new answer made same le is refused events_are stops = (
+    → Refused dialect (b ++ u) made.offset made.kind
+    → events dialect (b ++ u) ≡ before → Stops dialect new (b ++ u) → (n : ℕ)
+    × FailsAfter dialect before b piece answer n × Stops dialect new (b ++ take n piece)
+fails_with dialect before b piece u used new answer made same le is refused events_are stops = (
   used,
   record {
     within = le;
-    in_unit = subst (λ (w : List ℕ). WithinUnit order (b ++ w)) (sym same) stops.in_unit;
+    in_unit = subst (λ (w : List ℕ). WithinUnit dialect (b ++ w)) (sym same) stops.in_unit;
     refused =
-        subst (λ (f : Fault). Refused order (b ++ take used piece) f.offset f.kind) (sym is)
-        (subst (λ (w : List ℕ). Refused order (b ++ w) made.offset made.kind) (sym same) refused);
-    no_event = ap (λ (w : List ℕ). events order (b ++ w)) same ∙ events_are;
+        subst (λ (f : Fault). Refused dialect (b ++ take used piece) f.offset f.kind) (sym is)
+        (subst (λ (w : List ℕ). Refused dialect (b ++ w) made.offset made.kind) (sym same) refused);
+    no_event = ap (λ (w : List ℕ). events dialect (b ++ w)) same ∙ events_are;
   },
-  subst (λ (w : List ℕ). Stops order new (b ++ w)) (sym same) stops,
+  subst (λ (w : List ℕ). Stops dialect new (b ++ w)) (sym same) stops,
 )
 
 -- the unit ends in an operation
-pub fails_overrun : (order : Order) (h : HeaderData) (t new : UnitBody) (b piece : List ℕ) (rows : List Row)
-    (answer : Fault) (is : InProgram order h t b)
-    → NothingGiven order h is.program (take t.bytes.left piece) rows new.program
+pub fails_overrun : (dialect : Dialect) (h : HeaderData) (t new : UnitBody) (b piece : List ℕ) (rows : List Row)
+    (answer : Fault) (is : InProgram dialect h t b)
+    → NothingGiven dialect.order h is.program (take t.bytes.left piece) rows new.program
     → new.bytes.taken ≡ min (t.bytes.taken + length (take t.bytes.left piece)) (2 ^ 64 - 1)
     → new.bytes.left ≡ t.bytes.left - length (take t.bytes.left piece) → new.bytes.left ≡ 0
-    → ((operations_in order h.params (is.program ++ take t.bytes.left piece)).rest ≡ [] → ⊥)
+    → ((operations_in dialect.order h.params (is.program ++ take t.bytes.left piece)).rest ≡ [] → ⊥)
     → answer ≡ record { offset = new.bytes.taken - new.program.begun; kind = fault.OpcodeOverrun }
-    → (n : ℕ) × FailsAfter order (events order b ++ map event.Row rows) b piece answer n
-    × Stops order new (b ++ take n piece)
-fails_overrun order h t new b piece rows answer is (stands, grown, unrefused) taken left none begun answer_is =
+    → (n : ℕ) × FailsAfter dialect (events dialect b ++ map event.Row rows) b piece answer n
+    × Stops dialect new (b ++ take n piece)
+fails_overrun dialect h t new b piece rows answer is (stands, grown, unrefused) taken left none begun answer_is =
     let u = take t.bytes.left piece in
     let long = length-take t.bytes.left piece in
     let le : length u ≤ t.bytes.left = omega (arith, long) in
     let full : length (b ++ u) ≡ t.bytes.taken + t.bytes.left =
     omega (arith, left, none, le, is.counts.taken, length-append b u) in
-    let decides = decides_overrun order h t b u is le full begun (λ k. unrefused u [] (sym (append-nil u)) k) in
+    let decides = decides_overrun dialect h t b u is le full begun (λ k. unrefused u [] (sym (append-nil u)) k) in
     let count =
     stands.count
     ∙ ap (λ (w : List ℕ). min (length w) (2 ^ 64 - 1))
-    (sym (rest-found order h.params (is.program ++ u) stands.operations stands.begun stands.found)) in
-    let counts = counts_on order t.bytes new.bytes b u is.counts le taken left in
+    (sym (rest-found dialect.order h.params (is.program ++ u) stands.operations stands.begun stands.found)) in
+    let counts = counts_on dialect t.bytes new.bytes b u is.counts le taken left in
     let refused =
-    refused_on order h t b u is le fault.OpcodeOverrun decides (λ front x back e k. unrefused front (x ∷ back) e k)
+    refused_on dialect h t b u is le fault.OpcodeOverrun decides (λ front x back e k. unrefused front (x ∷ back) e k)
     new.bytes.taken new.program.begun taken count in
-    fails_with order (events order b ++ map event.Row rows) b piece u (length u) new answer (record {
+    fails_with dialect (events dialect b ++ map event.Row rows) b piece u (length u) new answer (record {
       offset =
           new.bytes.taken - new.program.begun;
       kind = fault.OpcodeOverrun;
     })
     (take_front piece u (drop t.bytes.left piece) (length u) (sym (take-append-drop t.bytes.left piece)) refl)
-    (omega (arith, long)) answer_is refused (events_more order h t b u is le u rows grown)
+    (omega (arith, long)) answer_is refused (events_more dialect h t b u is le u rows grown)
     (record {
       taken = counts.taken;
-      in_unit = counts_within order new.bytes (b ++ u) counts;
+      in_unit = counts_within dialect new.bytes (b ++ u) counts;
       in_sequence =
-          in_sequence_is order h.params new.program (is.program ++ u) stands
-          ∙ ap ends_open (sym (rows_on order h t b u is le u));
+          in_sequence_is dialect.order h.params new.program (is.program ++ u) stands
+          ∙ ap ends_open (sym (rows_on dialect h t b u is le u));
     })
 
-pub fails_bad : (order : Order) (h : HeaderData) (t new : UnitBody) (b piece tail : List ℕ) (rows : List Row)
-    (kind : FaultKind) (answer : Fault) (used : ℕ) (is : InProgram order h t b)
-    → BadGiven order h is.program (take t.bytes.left piece) rows kind tail new.program
+pub fails_bad : (dialect : Dialect) (h : HeaderData) (t new : UnitBody) (b piece tail : List ℕ) (rows : List Row)
+    (kind : FaultKind) (answer : Fault) (used : ℕ) (is : InProgram dialect h t b)
+    → BadGiven dialect.order h is.program (take t.bytes.left piece) rows kind tail new.program
     → used ≡ length (take t.bytes.left piece) - length tail
     → new.bytes.taken ≡ min (t.bytes.taken + used) (2 ^ 64 - 1) → new.bytes.left ≡ t.bytes.left - used
     → answer ≡ record { offset = new.bytes.taken - new.program.begun; kind = kind }
-    → (n : ℕ) × FailsAfter order (events order b ++ map event.Row rows) b piece answer n
-    × Stops order new (b ++ take n piece)
-fails_bad order h t new b piece tail rows kind answer used is (
+    → (n : ℕ) × FailsAfter dialect (events dialect b ++ map event.Row rows) b piece answer n
+    × Stops dialect new (b ++ take n piece)
+fails_bad dialect h t new b piece tail rows kind answer used is (
   front,
   last,
   e,
@@ -310,22 +315,22 @@ fails_bad order h t new b piece tail rows kind answer used is (
     let exact : used ≡ length u = omega (arith, size, ap length e, length-append u tail) in
     let counted = taken ∙ ap (λ (n : ℕ). min (t.bytes.taken + n) (2 ^ 64 - 1)) exact in
     let counts =
-    counts_on order t.bytes new.bytes b u is.counts le.0 counted (left ∙ ap (λ (n : ℕ). t.bytes.left - n) exact) in
+    counts_on dialect t.bytes new.bytes b u is.counts le.0 counted (left ∙ ap (λ (n : ℕ). t.bytes.left - n) exact) in
     let refused =
-    refused_on order h t b u is le.0 kind (decides_bad order h t b u is le.0 kind spelt) (λ f x back k. (let z =
+    refused_on dialect h t b u is le.0 kind (decides_bad dialect h t b u is le.0 kind spelt) (λ f x back k. (let z =
     front_before front f last x back k in unrefused f z.0 z.1)) new.bytes.taken new.program.begun counted count in
-    fails_with order (events order b ++ map event.Row rows) b piece u used new answer (record {
+    fails_with dialect (events dialect b ++ map event.Row rows) b piece u used new answer (record {
       offset =
           new.bytes.taken - new.program.begun;
       kind = kind;
     })
     (take_front piece u (tail ++ drop t.bytes.left piece) used (piece_is piece u tail t.bytes.left e) exact)
-    (omega (arith, exact, le.1)) answer_is refused (events_more order h t b u is le.0 u rows grown)
+    (omega (arith, exact, le.1)) answer_is refused (events_more dialect h t b u is le.0 u rows grown)
     (record {
       taken = counts.taken;
-      in_unit = counts_within order new.bytes (b ++ u) counts;
+      in_unit = counts_within dialect new.bytes (b ++ u) counts;
       in_sequence =
-          open_is ∙ ap ends_open (sym (rows_on order h t b u is le.0 u));
+          open_is ∙ ap ends_open (sym (rows_on dialect h t b u is le.0 u));
     })
 
 -- after a pause a sink goes on

@@ -5,7 +5,7 @@ use Rattle.std.proofs.Common.{append_assoc, append-nil, length-take}
 use Rattle.std.proofs.lemmas.Bool.{cases_eq, cases_lt, eq-eqb, ne_eqb, lt-ltb, le-ltb}
 use Rattle.std.proofs.lemmas.List.{take-append-drop}
 use Rattle.std.proofs.Math.Seq.{take-append_seam}
-use Rattle.dl_num.specs.declared.fixed.Order.{Order}
+use Rattle.dl_head.specs.declared.dialect.Dialect.{Dialect}
 use Rattle.dl_field.specs.HeaderData.{HeaderData}
 use Rattle.dl_head.specs.Header.{header_in}
 use Rattle.dl_field.proofs.FieldLemmas.{none_some}
@@ -72,43 +72,48 @@ paused_cases taken left used len some = elim (cases_eq left 0) [
     any same = omega arith
 
 -- bytes that a header stands in are some
-pub some_bytes : (order : Order) (h : HeaderData) (t : UnitBody) (b : List ℕ) → InProgram order h t b → 1 ≤ length b
-some_bytes order h t [] is =
+pub some_bytes : (dialect : Dialect) (h : HeaderData) (t : UnitBody) (b : List ℕ) → InProgram dialect h t b
+    → 1 ≤ length b
+some_bytes dialect h t [] is =
     absurd (none_some {a =
-    (h, is.program)} refl (ap (header_in order) is.whole ∙ header_is_found order h is.header is.program is.spells))
-some_bytes order h t (x ∷ b) is = omega arith
+    (h, is.program)} refl (ap (header_in dialect) is.whole ∙ header_is_found dialect h is.header is.program is.spells))
+some_bytes dialect h t (x ∷ b) is = omega arith
 
 -- an answer, u being what is taken of the piece
-pub feeds_with : {S : Type 0} (StandsFor : S → List ℕ → Type 0) (order : Order) (before : List Event)
+pub feeds_with : {S : Type 0} (StandsFor : S → List ℕ → Type 0) (dialect : Dialect) (before : List Event)
     (b piece u : List ℕ)
     (s : S) (fed : Fed) (e : Event) → take fed.used piece ≡ u → fed.used ≤ length piece → fed.event ≡ e
-    → StandsFor s (b ++ u) → events order (b ++ u) ≡ before ++ told e → EventHoldsAfter order before b piece fed.used e
-    → NoneRefused order (b ++ u) → WithinUnit order (b ++ u) → FeedsAfter StandsFor order before b piece fed s
-feeds_with StandsFor order before b piece u s fed e same le is stands grows holds sound in_unit = record {
+    → StandsFor s (b ++ u) → events dialect (b ++ u) ≡ before ++ told e
+    → EventHoldsAfter dialect before b piece fed.used e
+    → NoneRefused dialect (b ++ u) → WithinUnit dialect (b ++ u) → FeedsAfter StandsFor dialect before b piece fed s
+feeds_with StandsFor dialect before b piece u s fed e same le is stands grows holds sound in_unit = record {
   answered = record {
     within = le;
-    in_unit = subst (λ (w : List ℕ). WithinUnit order (b ++ w)) (sym same) in_unit;
-    grows = ap (λ (w : List ℕ). events order (b ++ w)) same ∙ grows ∙ ap (λ (x : Event). before ++ told x) (sym is);
-    holds = subst (λ (x : Event). EventHoldsAfter order before b piece fed.used x) (sym is) holds;
-    sound = subst (λ (w : List ℕ). NoneRefused order (b ++ w)) (sym same) sound;
+    in_unit = subst (λ (w : List ℕ). WithinUnit dialect (b ++ w)) (sym same) in_unit;
+    grows = ap (λ (w : List ℕ). events dialect (b ++ w)) same ∙ grows ∙ ap (λ (x : Event). before ++ told x) (sym is);
+    holds = subst (λ (x : Event). EventHoldsAfter dialect before b piece fed.used x) (sym is) holds;
+    sound = subst (λ (w : List ℕ). NoneRefused dialect (b ++ w)) (sym same) sound;
   };
   stands = subst (λ (w : List ℕ). StandsFor s (b ++ w)) (sym same) stands;
 }
 
 -- a pause after the events before, where nothing is refused
-pub pauses_after : {S : Type 0} (StandsFor : S → List ℕ → Type 0) (order : Order) (before : List Event)
+pub pauses_after : {S : Type 0} (StandsFor : S → List ℕ → Type 0) (dialect : Dialect) (before : List Event)
     (b piece : List ℕ) (left : ℕ) (new : UnitBytes) (s : S) (fed : Fed) → fed.used ≡ length (take left piece)
     → fed.event ≡ paused new.taken new.left fed.used (length piece) → new.left ≡ left - fed.used
     → 1 ≤ length (b ++ take left piece)
-    → Counts order new (b ++ take left piece) → StandsFor s (b ++ take left piece)
-    → events order (b ++ take left piece) ≡ before
-    → NoneRefused order (b ++ take left piece) → (new.left ≡ 0 → IsUnit order (b ++ take left piece))
-    → FeedsAfter StandsFor order before b piece fed s
-pauses_after StandsFor order before b piece left new s fed size is left_is some counts stands same sound whole =
+    → Counts dialect new (b ++ take left piece) → StandsFor s (b ++ take left piece)
+    → events dialect (b ++ take left piece) ≡ before
+    → NoneRefused dialect (b ++ take left piece) → (new.left ≡ 0 → IsUnit dialect (b ++ take left piece))
+    → FeedsAfter StandsFor dialect before b piece fed s
+pauses_after StandsFor dialect before b piece left new s fed size is left_is some counts stands same sound whole =
     elim (paused_cases new.taken new.left fed.used (length piece) (omega (arith, some, counts.taken))) [
-      | inl e ↦ feeds_with StandsFor order before b piece u s fed event.End back within (is
-          ∙ e.0) stands grows (subst (λ (w : List ℕ). IsUnit order (b ++ w)) (sym back) (whole e.1), e.2) sound in_unit
-      | inr m ↦ feeds_with StandsFor order before b piece u s fed event.More back within (is ∙ m.0) stands grows (
+      | inl e ↦ feeds_with StandsFor dialect before b piece u s fed event.End back within (is
+          ∙ e.0) stands grows (
+            subst (λ (w : List ℕ). IsUnit dialect (b ++ w)) (sym back) (whole e.1),
+            e.2,
+          ) sound in_unit
+      | inr m ↦ feeds_with StandsFor dialect before b piece u s fed event.More back within (is ∙ m.0) stands grows (
         all m.1,
         λ unit. (m.1 (none_left unit)).0,
       ) sound in_unit
@@ -126,10 +131,10 @@ pauses_after StandsFor order before b piece left new s fed size is left_is some 
     within : fed.used ≤ length piece
     within = omega (arith, size, long)
 
-    in_unit : WithinUnit order (b ++ take left piece)
-    in_unit = counts_within order new (b ++ take left piece) counts
+    in_unit : WithinUnit dialect (b ++ take left piece)
+    in_unit = counts_within dialect new (b ++ take left piece) counts
 
-    grows : events order (b ++ take left piece) ≡ before ++ []
+    grows : events dialect (b ++ take left piece) ≡ before ++ []
     grows = same ∙ sym (append-nil before)
 
     all : (new.left ≡ 0 → (1 ≤ fed.used) × (length piece ≤ fed.used)) → fed.used ≡ length piece
@@ -138,23 +143,23 @@ pauses_after StandsFor order before b piece left new s fed size is left_is some 
       | inr other ↦ omega (arith, other, left_is, size, long)
     ]
 
-    none_left : IsUnit order (b ++ take fed.used piece) → new.left ≡ 0
+    none_left : IsUnit dialect (b ++ take fed.used piece) → new.left ≡ 0
     none_left unit =
         let len =
-        length_of_unit order (b ++ take left piece) (subst (λ (w : List ℕ). IsUnit order (b ++ w)) back unit) in
+        length_of_unit dialect (b ++ take left piece) (subst (λ (w : List ℕ). IsUnit dialect (b ++ w)) back unit) in
         let e : new.taken + new.left ≡ length (b ++ take left piece) =
         some_same (new.taken + new.left) (length (b ++ take left piece)) (sym counts.left ∙ len) in
         omega (arith, e, counts.taken)
 
 -- the same, where the events stay the same
-pub pauses : {S : Type 0} (StandsFor : S → List ℕ → Type 0) (order : Order) (b piece : List ℕ) (left : ℕ)
+pub pauses : {S : Type 0} (StandsFor : S → List ℕ → Type 0) (dialect : Dialect) (b piece : List ℕ) (left : ℕ)
     (new : UnitBytes) (s : S) (fed : Fed) → fed.used ≡ length (take left piece)
     → fed.event ≡ paused new.taken new.left fed.used (length piece) → new.left ≡ left - fed.used
     → 1 ≤ length (b ++ take left piece)
-    → Counts order new (b ++ take left piece) → StandsFor s (b ++ take left piece)
-    → events order (b ++ take left piece) ≡ events order b
-    → NoneRefused order (b ++ take left piece) → (new.left ≡ 0 → IsUnit order (b ++ take left piece))
-    → Feeds StandsFor order b piece fed s
-pauses StandsFor order b piece left new s fed size event left_is some counts stands same sound whole =
-    pauses_after StandsFor order (events order b) b piece left new s fed size event left_is some counts stands same
+    → Counts dialect new (b ++ take left piece) → StandsFor s (b ++ take left piece)
+    → events dialect (b ++ take left piece) ≡ events dialect b
+    → NoneRefused dialect (b ++ take left piece) → (new.left ≡ 0 → IsUnit dialect (b ++ take left piece))
+    → Feeds StandsFor dialect b piece fed s
+pauses StandsFor dialect b piece left new s fed size event left_is some counts stands same sound whole =
+    pauses_after StandsFor dialect (events dialect b) b piece left new s fed size event left_is some counts stands same
     sound whole

@@ -1,4 +1,5 @@
 -- What is refused after a header.
+use Rattle.dl_head.specs.declared.dialect.Dialect.{Dialect}
 use Rattle.std.proofs.Common.{◌≡◌, ℕ, ◌+◌, ◌<◌, ◌≤◌, Bool, if◌then◌else◌, List, [], ◌∷◌, ◌++◌, length, Option, Some}
 use Rattle.std.proofs.Common.{None, Ok, Err, refl, sym, ap, subst, ◌∙◌, arith, inl, inr, ◌⊎◌, append_assoc, append-nil}
 use Rattle.std.proofs.Common.{length-append}
@@ -39,14 +40,15 @@ no_bytes : (order : Order) (h : Params) (kind : FaultKind)
 no_bytes order h kind e = none_some refl e
 
 -- where a front has no header, it decides nothing
-quiet_in_header : (order : Order) (h : HeaderData) (w v front back : List ℕ) → IsHeader order h w
-    → w ++ v ≡ front ++ back → header_in order front ≡ None → unit_decided order front ≡ None
-quiet_in_header order h w v front back is e none = silent order front front [] refused (sym (append-nil front)) where
-  refused : NoneRefused order front
-  refused begun more at kind split r =
-      let none_begun = no_header_before order begun more (ap (header_in order) (sym split) ∙ none) in
-      header_is_not_refused order h w v begun (more ++ back) at kind is (e ∙ ap (λ (z : List ℕ). z ++ back) split
-      ∙ append_assoc begun more back) ((refused_in_header order begun at kind none_begun).0 r)
+quiet_in_header : (dialect : Dialect) (h : HeaderData) (w v front back : List ℕ) → IsHeader dialect h w
+    → w ++ v ≡ front ++ back → header_in dialect front ≡ None → unit_decided dialect front ≡ None
+quiet_in_header dialect h w v front back is e none =
+    silent dialect front front [] refused (sym (append-nil front)) where
+      refused : NoneRefused dialect front
+      refused begun more at kind split r =
+          let none_begun = no_header_before dialect begun more (ap (header_in dialect) (sym split) ∙ none) in
+          header_is_not_refused dialect h w v begun (more ++ back) at kind is (e ∙ ap (λ (z : List ℕ). z ++ back) split
+          ∙ append_assoc begun more back) ((refused_in_header dialect begun at kind none_begun).0 r)
 
 -- an overrun is decided at the end, and is one
 ended : (kind k : FaultKind) (n : ℕ) (end : Option ℕ) → at_end kind n end ≡ Some k → (end ≡ Some n) × (k ≡ kind)
@@ -97,65 +99,68 @@ quiet_incomplete order h w n end some none e =
           none_some e (ap (λ (i : Judgement Operation). or_else (bad_kind i) (at_end fault.OpcodeOverrun n end)) j)
 
 -- what the bytes of an operation decide
-operation_faults : (order : Order) (h : Params) (b begun : List ℕ) (kind : FaultKind) → 1 ≤ h.opcode_base
-    → operation_decided order h begun (length b) (unit_len order b) ≡ Some kind
-    → ((o : Operation) → SpellsOperation order h o begun → ⊥) → IsBadOperation h begun kind
-    ⊎ (IsCutShort order h b begun × (kind ≡ fault.OpcodeOverrun))
-operation_faults order h b [] kind some e none = absurd (none_some {a = kind} refl e)
-operation_faults order h b (x ∷ w) kind some e none = on (operation_spelt order h (x ∷ w)) refl e where
-  cut_short : (j : Judgement Operation) → operation_spelt order h (x ∷ w) ≡ j
+operation_faults : (dialect : Dialect) (h : Params) (b begun : List ℕ) (kind : FaultKind) → 1 ≤ h.opcode_base
+    → operation_decided dialect.order h begun (length b) (unit_len dialect b) ≡ Some kind
+    → ((o : Operation) → SpellsOperation dialect.order h o begun → ⊥) → IsBadOperation h begun kind
+    ⊎ (IsCutShort dialect h b begun × (kind ≡ fault.OpcodeOverrun))
+operation_faults dialect h b [] kind some e none = absurd (none_some {a = kind} refl e)
+operation_faults dialect h b (x ∷ w) kind some e none = on (operation_spelt dialect.order h (x ∷ w)) refl e where
+  cut_short : (j : Judgement Operation) → operation_spelt dialect.order h (x ∷ w) ≡ j
       → ((k : FaultKind) → ◌≡◌ {A = Judgement Operation} j (bad k) → ⊥)
-      → at_end fault.OpcodeOverrun (length b) (unit_len order b) ≡ Some kind
-      → IsCutShort order h b (x ∷ w) × (kind ≡ fault.OpcodeOverrun)
+      → at_end fault.OpcodeOverrun (length b) (unit_len dialect b) ≡ Some kind
+      → IsCutShort dialect h b (x ∷ w) × (kind ≡ fault.OpcodeOverrun)
   cut_short j is good f =
-      let end = ended fault.OpcodeOverrun kind (length b) (unit_len order b) f in (
+      let end = ended fault.OpcodeOverrun kind (length b) (unit_len dialect b) f in (
         record {
           last = end.0;
           some = omega arith;
           incomplete =
-              (none, λ k faulty. good k (sym is ∙ (bad_is_faulty order h k (x ∷ w) some).0 faulty));
+              (none, λ k faulty. good k (sym is ∙ (bad_is_faulty dialect.order h k (x ∷ w) some).0 faulty));
         },
         end.1,
       )
 
-  on : (j : Judgement Operation) → operation_spelt order h (x ∷ w) ≡ j
-      → or_else (bad_kind j) (at_end fault.OpcodeOverrun (length b) (unit_len order b)) ≡ Some kind
-      → IsBadOperation h (x ∷ w) kind ⊎ (IsCutShort order h b (x ∷ w) × (kind ≡ fault.OpcodeOverrun))
+  on : (j : Judgement Operation) → operation_spelt dialect.order h (x ∷ w) ≡ j
+      → or_else (bad_kind j) (at_end fault.OpcodeOverrun (length b) (unit_len dialect b)) ≡ Some kind
+      → IsBadOperation h (x ∷ w) kind ⊎ (IsCutShort dialect h b (x ∷ w) × (kind ≡ fault.OpcodeOverrun))
   on (Some (Err k)) j f =
-      inl ((bad_is_faulty order h kind (x ∷ w) some).1 (j ∙ ap (λ (y : FaultKind). let i : Judgement Operation =
+      inl ((bad_is_faulty dialect.order h kind (x ∷ w) some).1 (j ∙ ap (λ (y : FaultKind). let i : Judgement Operation =
       bad y in i) (kind_same k kind f)))
   on (Some (Ok o)) j f = inr (cut_short (Some (Ok o)) j (λ k g. some_apart g) f)
   on None j f = inr (cut_short None j (λ k g. none_some refl g) f)
 
 pub refused_in_program : RefusedInProgram
-refused_in_program order b h program at kind found r = record {
-  operations = (operations_in order h.params program).found;
+refused_in_program dialect b h program at kind found r = record {
+  operations = (operations_in dialect.order h.params program).found;
   done = p.0;
   begun = rest;
   whole = p.1;
   spells = p.2;
-  place = subst (λ (w : List ℕ). at + length w ≡ length b) (ap (left_after order b) found) r.place;
+  place = subst (λ (w : List ℕ). at + length w ≡ length b) (ap (left_after dialect b) found) r.place;
   shortest = shortest;
-  fault = operation_faults order h.params b rest kind some (sym (ap (decided_after order b) found)
+  fault = operation_faults dialect h.params b rest kind some (sym (ap (decided_after dialect b) found)
       ∙ r.decided) (λ o s. none o rest [] (sym (append-nil rest)) s);
 } where
-  head : (w : List ℕ) × (b ≡ w ++ program) × IsHeader order h w
-  head = found_is_header order h b program found
+  head : (w : List ℕ) × (b ≡ w ++ program) × IsHeader dialect h w
+  head = found_is_header dialect h b program found
 
   some : 1 ≤ h.params.opcode_base
-  some = (let opcodes = (header_is_usable order h head.0 head.2).opcodes in omega arith)
+  some = (let opcodes = (header_is_usable dialect h head.0 head.2).opcodes in omega arith)
 
   rest : List ℕ
-  rest = (operations_in order h.params program).rest
+  rest = (operations_in dialect.order h.params program).rest
 
-  p : (w : List ℕ) × (program ≡ w ++ rest) × SpellsProgram order h.params (operations_in order h.params program).found w
-  p = found_is_program order h.params program some
+  p : (w : List ℕ) × (program ≡ w ++ rest) × SpellsProgram dialect.order h.params
+      (operations_in dialect.order h.params program).found w
+  p = found_is_program dialect.order h.params program some
 
-  none : (o : Operation) (front back : List ℕ) → rest ≡ front ++ back → SpellsOperation order h.params o front → ⊥
-  none o front back e s = none_begins_rest order h.params program o front back some e s
+  none : (o : Operation) (front back : List ℕ) → rest ≡ front ++ back
+      → SpellsOperation dialect.order h.params o front → ⊥
+  none o front back e s = none_begins_rest dialect.order h.params program o front back some e s
 
   -- a shorter front of b decides nothing
-  shortest : (front : List ℕ) (x : ℕ) (back : List ℕ) → rest ≡ front ++ x ∷ back → IsIncomplete order h.params front
+  shortest : (front : List ℕ) (x : ℕ) (back : List ℕ) → rest ≡ front ++ x ∷ back
+      → IsIncomplete dialect.order h.params front
   shortest front x back e =
       let none_here =
       λ (o : Operation) (w v : List ℕ) (is : front ≡ w ++ v). none o w (v ++ x ∷ back) (e
@@ -164,14 +169,15 @@ refused_in_program order b h program at kind found r = record {
       let whole : b ≡ c ++ x ∷ back =
       head.1 ∙ ap (λ (z : List ℕ). head.0 ++ z) (p.1 ∙ ap (λ (z : List ℕ). p.0 ++ z) e
       ∙ sym (append_assoc p.0 front (x ∷ back))) ∙ sym (append_assoc head.0 (p.0 ++ front) (x ∷ back)) in
-      let decided : operation_decided order h.params (operations_in order h.params (p.0 ++ front)).rest (length c)
-      (unit_len order c) ≡ None =
-      sym (ap (decided_after order c) (header_is_found order h head.0 (p.0 ++ front) head.2))
+      let decided : operation_decided dialect.order h.params
+      (operations_in dialect.order h.params (p.0 ++ front)).rest (length c)
+      (unit_len dialect c) ≡ None =
+      sym (ap (decided_after dialect c) (header_is_found dialect h head.0 (p.0 ++ front) head.2))
       ∙ r.shortest c x back whole in
-      quiet_incomplete order h.params front (length c) (unit_len order c) some
+      quiet_incomplete dialect.order h.params front (length c) (unit_len dialect c) some
       (λ o s. none_here o front [] (sym (append-nil front)) s)
-      (sym (ap (λ (z : List ℕ). operation_decided order h.params z (length c) (unit_len order c))
-      (rest_is order h.params (operations_in order h.params program).found p.0 front some p.2
+      (sym (ap (λ (z : List ℕ). operation_decided dialect.order h.params z (length c) (unit_len dialect c))
+      (rest_is dialect.order h.params (operations_in dialect.order h.params program).found p.0 front some p.2
       (λ o w v is s. none_here o w v is s))) ∙ decided)
 
 -- ---- and the other way
@@ -191,79 +197,84 @@ incomplete_quiet order h (x ∷ w) n end some none before = on (operation_spelt 
   on None j = before_end end refl
 
 -- the bytes of the operation decide the fault
-faults_decided : (order : Order) (h : Params) (b begun : List ℕ) (kind : FaultKind) → 1 ≤ h.opcode_base
-    → IsBadOperation h begun kind ⊎ (IsCutShort order h b begun × (kind ≡ fault.OpcodeOverrun))
-    → operation_decided order h begun (length b) (unit_len order b) ≡ Some kind
-faults_decided order h b [] kind some (inl is_bad) =
-    absurd (no_bytes order h kind ((bad_is_faulty order h kind [] some).0 is_bad))
-faults_decided order h b [] kind some (inr (short, is)) = absurd (omega (arith, short.some))
-faults_decided order h b (x ∷ w) kind some (inl is_bad) =
-    ap (λ (j : Judgement Operation). or_else (bad_kind j) (at_end fault.OpcodeOverrun (length b) (unit_len order b)))
-    ((bad_is_faulty order h kind (x ∷ w) some).0 is_bad)
-faults_decided order h b (x ∷ w) kind some (inr (short, is)) = on (operation_spelt order h (x ∷ w)) refl where
-  at_last : at_end fault.OpcodeOverrun (length b) (unit_len order b) ≡ Some kind
+faults_decided : (dialect : Dialect) (h : Params) (b begun : List ℕ) (kind : FaultKind) → 1 ≤ h.opcode_base
+    → IsBadOperation h begun kind ⊎ (IsCutShort dialect h b begun × (kind ≡ fault.OpcodeOverrun))
+    → operation_decided dialect.order h begun (length b) (unit_len dialect b) ≡ Some kind
+faults_decided dialect h b [] kind some (inl is_bad) =
+    absurd (no_bytes dialect.order h kind ((bad_is_faulty dialect.order h kind [] some).0 is_bad))
+faults_decided dialect h b [] kind some (inr (short, is)) = absurd (omega (arith, short.some))
+faults_decided dialect h b (x ∷ w) kind some (inl is_bad) =
+    ap (λ (j : Judgement Operation). or_else (bad_kind j) (at_end fault.OpcodeOverrun (length b) (unit_len dialect b)))
+    ((bad_is_faulty dialect.order h kind (x ∷ w) some).0 is_bad)
+faults_decided dialect h b (x ∷ w) kind some (inr (short, is)) = on (operation_spelt dialect.order h (x ∷ w)) refl where
+  at_last : at_end fault.OpcodeOverrun (length b) (unit_len dialect b) ≡ Some kind
   at_last =
       ap (at_end fault.OpcodeOverrun (length b)) short.last
       ∙ ap (λ (v : Bool). let o : Option FaultKind = if v then Some fault.OpcodeOverrun else None in
       o) (eq-eqb (length b) (length b) refl)
       ∙ ap (λ (k : FaultKind). let o : Option FaultKind = Some k in o) (sym is)
 
-  on : (j : Judgement Operation) → operation_spelt order h (x ∷ w) ≡ j
-      → or_else (bad_kind j) (at_end fault.OpcodeOverrun (length b) (unit_len order b)) ≡ Some kind
-  on (Some (Err k)) j = absurd (short.incomplete.1 k ((bad_is_faulty order h k (x ∷ w) some).1 j))
+  on : (j : Judgement Operation) → operation_spelt dialect.order h (x ∷ w) ≡ j
+      → or_else (bad_kind j) (at_end fault.OpcodeOverrun (length b) (unit_len dialect b)) ≡ Some kind
+  on (Some (Err k)) j = absurd (short.incomplete.1 k ((bad_is_faulty dialect.order h k (x ∷ w) some).1 j))
   on (Some (Ok o)) j = at_last
   on None j = at_last
 
-module _ (order : Order) (b : List ℕ) (h : HeaderData) (program : List ℕ) (at : ℕ) (kind : FaultKind)
-    (found : header_in order b ≡ Some (h, program)) (within : WithinUnit order b)
-    (r : RefusesOperation order h.params b program at kind) where
-  abbrev head : (w : List ℕ) × (b ≡ w ++ program) × IsHeader order h w
-  head = found_is_header order h b program found
+module _ (dialect : Dialect) (b : List ℕ) (h : HeaderData) (program : List ℕ) (at : ℕ) (kind : FaultKind)
+    (found : header_in dialect b ≡ Some (h, program)) (within : WithinUnit dialect b)
+    (r : RefusesOperation dialect h.params b program at kind) where
+  abbrev head : (w : List ℕ) × (b ≡ w ++ program) × IsHeader dialect h w
+  head = found_is_header dialect h b program found
 
   base : 1 ≤ h.params.opcode_base
-  base = (let opcodes = (header_is_usable order h head.0 head.2).opcodes in omega arith)
+  base = (let opcodes = (header_is_usable dialect h head.0 head.2).opcodes in omega arith)
 
   -- what is begun is no operation
-  not_whole : (o : Operation) → SpellsOperation order h.params o r.begun → ⊥
+  not_whole : (o : Operation) → SpellsOperation dialect.order h.params o r.begun → ⊥
   not_whole o s = elim r.fault [
-    | inl is_bad ↦ no_spelling_is_faulty order h.params o kind r.begun [] base
-        (subst (SpellsOperation order h.params o) (sym (append-nil r.begun)) s) is_bad.faulty
+    | inl is_bad ↦ no_spelling_is_faulty dialect.order h.params o kind r.begun [] base
+        (subst (SpellsOperation dialect.order h.params o) (sym (append-nil r.begun)) s) is_bad.faulty
     | inr short ↦ short.0.incomplete.0 o s
   ]
 
-  none_begins : (o : Operation) (front back : List ℕ) → r.begun ≡ front ++ back → SpellsOperation order h.params o front
-      → ⊥
-  none_begins o front [] e s = not_whole o (subst (SpellsOperation order h.params o) (sym (e ∙ append-nil front)) s)
+  none_begins : (o : Operation) (front back : List ℕ) → r.begun ≡ front ++ back
+      → SpellsOperation dialect.order h.params o front → ⊥
+  none_begins o front [] e s = not_whole o (subst (SpellsOperation dialect.order h.params o)
+      (sym (e ∙ append-nil front)) s)
   none_begins o front (x ∷ back) e s = (r.shortest front x back e).0 o s
 
-  rest_begun : (operations_in order h.params program).rest ≡ r.begun
+  rest_begun : (operations_in dialect.order h.params program).rest ≡ r.begun
   rest_begun =
-      ap (λ (w : List ℕ). (operations_in order h.params w).rest) r.whole
-      ∙ rest_is order h.params r.operations r.done r.begun base r.spells none_begins
+      ap (λ (w : List ℕ). (operations_in dialect.order h.params w).rest) r.whole
+      ∙ rest_is dialect.order h.params r.operations r.done r.begun base r.spells none_begins
 
   -- the unit goes on after a shorter front
   before_end : (front : List ℕ) (x : ℕ) (back : List ℕ) → b ≡ front ++ x ∷ back → (n : ℕ)
-      → unit_len order front ≡ Some n → length front + length (x ∷ back) ≤ n
+      → unit_len dialect front ≡ Some n → length front + length (x ∷ back) ≤ n
   before_end front x back e n len =
-      let le = within n (ap (unit_len order) e ∙ unit_len_on order front (x ∷ back) n len) in
+      let le = within n (ap (unit_len dialect) e ∙ unit_len_on dialect front (x ∷ back) n len) in
       omega (arith, le, ap length e, length-append front (x ∷ back))
 
   -- a shorter front with a part of the program
   quiet_program : (front : List ℕ) (x : ℕ) (back v : List ℕ) → b ≡ front ++ x ∷ back → program ≡ v ++ x ∷ back
-      → operation_decided order h.params (operations_in order h.params v).rest (length front) (unit_len order front)
+      → operation_decided dialect.order h.params (operations_in dialect.order h.params v).rest (length front)
+      (unit_len dialect front)
       ≡ None
   quiet_program front x back v e part = elim (fronts v r.done (x ∷ back) r.begun (sym part ∙ r.whole)) [
     | inl same ↦
-        let spelled = subst (SpellsProgram order h.params r.operations) (sym same ∙ sym (append-nil v)) r.spells in
-        operation_quiet order h.params r.operations v [] (operations_in order h.params v).rest (length front)
-        (unit_len order front) base spelled refl (λ n len. omega (arith, before_end front x back e n len))
+        let spelled = subst (SpellsProgram dialect.order h.params r.operations)
+        (sym same ∙ sym (append-nil v)) r.spells in
+        operation_quiet dialect.order h.params r.operations v [] (operations_in dialect.order h.params v).rest
+        (length front)
+        (unit_len dialect front) base spelled refl (λ n len. omega (arith, before_end front x back e n len))
     | inr (inl more) ↦
-        let spelled = subst (SpellsProgram order h.params r.operations) more.2 r.spells in
+        let spelled = subst (SpellsProgram dialect.order h.params r.operations) more.2 r.spells in
         let longer =
         after_front v (x ∷ back) ((more.0 ∷ more.1) ++ r.begun) (sym part ∙ r.whole
         ∙ ap (λ (z : List ℕ). z ++ r.begun) more.2 ∙ append_assoc v (more.0 ∷ more.1) r.begun) in
-        operation_quiet order h.params r.operations v (more.0 ∷ more.1) (operations_in order h.params v).rest
-        (length front) (unit_len order front) base spelled refl
+        operation_quiet dialect.order h.params r.operations v (more.0 ∷ more.1)
+        (operations_in dialect.order h.params v).rest
+        (length front) (unit_len dialect front) base spelled refl
         (λ n len. omega (
           arith,
           before_end front x back e n len,
@@ -275,41 +286,43 @@ module _ (order : Order) (b : List ℕ) (h : HeaderData) (program : List ℕ) (a
         let begun : r.begun ≡ w ++ x ∷ back =
         sym (after_front r.done (w ++ x ∷ back) r.begun (sym (append_assoc r.done w (x ∷ back))
         ∙ ap (λ (z : List ℕ). z ++ x ∷ back) (sym more.2) ∙ sym part ∙ r.whole)) in
-        let none : (o : Operation) (u t : List ℕ) → w ≡ u ++ t → SpellsOperation order h.params o u → ⊥ =
+        let none : (o : Operation) (u t : List ℕ) → w ≡ u ++ t → SpellsOperation dialect.order h.params o u → ⊥ =
         λ o u t is s. none_begins o u (t ++ x ∷ back) (begun ∙ ap (λ (z : List ℕ). z ++ x ∷ back) is
         ∙ append_assoc u t (x ∷ back)) s in
-        let rest : (operations_in order h.params v).rest ≡ w =
-        ap (λ (z : List ℕ). (operations_in order h.params z).rest) more.2
-        ∙ rest_is order h.params r.operations r.done w base r.spells none in
-        ap (λ (z : List ℕ). operation_decided order h.params z (length front) (unit_len order front)) rest
-        ∙ incomplete_quiet order h.params w (length front) (unit_len order front) base (r.shortest w x back begun)
+        let rest : (operations_in dialect.order h.params v).rest ≡ w =
+        ap (λ (z : List ℕ). (operations_in dialect.order h.params z).rest) more.2
+        ∙ rest_is dialect.order h.params r.operations r.done w base r.spells none in
+        ap (λ (z : List ℕ). operation_decided dialect.order h.params z (length front) (unit_len dialect front)) rest
+        ∙ incomplete_quiet dialect.order h.params w (length front) (unit_len dialect front) base
+        (r.shortest w x back begun)
         (λ n len. omega (arith, before_end front x back e n len))
   ]
 
-  quiet_before : NothingBefore (unit_decided order) b
-  quiet_before front x back e = on (header_in order front) refl where
-    on : (o : Option (HeaderData × List ℕ)) → header_in order front ≡ o → unit_decided order front ≡ None
-    on None none = quiet_in_header order h head.0 program front (x ∷ back) head.2 (sym head.1 ∙ e) none
+  quiet_before : NothingBefore (unit_decided dialect) b
+  quiet_before front x back e = on (header_in dialect front) refl where
+    on : (o : Option (HeaderData × List ℕ)) → header_in dialect front ≡ o → unit_decided dialect front ≡ None
+    on None none = quiet_in_header dialect h head.0 program front (x ∷ back) head.2 (sym head.1 ∙ e) none
     on (Some (g, v)) is =
         let same =
-        parts_same g h (v ++ x ∷ back) program (sym (header_on order front (x ∷ back) g v is)
-        ∙ ap (header_in order) (sym e) ∙ found) in
-        ap (decided_after order front) is
-        ∙ ap (λ (d : HeaderData). operation_decided order d.params (operations_in order d.params v).rest (length front)
-        (unit_len order front)) same.0
+        parts_same g h (v ++ x ∷ back) program (sym (header_on dialect front (x ∷ back) g v is)
+        ∙ ap (header_in dialect) (sym e) ∙ found) in
+        ap (decided_after dialect front) is
+        ∙ ap (λ (d : HeaderData). operation_decided dialect.order d.params
+        (operations_in dialect.order d.params v).rest (length front)
+        (unit_len dialect front)) same.0
         ∙ quiet_program front x back v e (sym same.1)
 
-  pub operation_refused : Refused order b at kind
+  pub operation_refused : Refused dialect b at kind
   operation_refused = record {
-    place = subst (λ (w : List ℕ). at + length w ≡ length b) (sym (ap (left_after order b) found ∙ rest_begun))
+    place = subst (λ (w : List ℕ). at + length w ≡ length b) (sym (ap (left_after dialect b) found ∙ rest_begun))
         r.place;
     decided =
-        ap (decided_after order b) found
-        ∙ ap (λ (w : List ℕ). operation_decided order h.params w (length b) (unit_len order b)) rest_begun
-        ∙ faults_decided order h.params b r.begun kind base r.fault;
+        ap (decided_after dialect b) found
+        ∙ ap (λ (w : List ℕ). operation_decided dialect.order h.params w (length b) (unit_len dialect b)) rest_begun
+        ∙ faults_decided dialect h.params b r.begun kind base r.fault;
     shortest = quiet_before;
   }
 
 pub operation_is_refused : OperationIsRefused
-operation_is_refused order b h program at kind found within r =
-    operation_refused order b h program at kind found within r
+operation_is_refused dialect b h program at kind found within r =
+    operation_refused dialect b h program at kind found within r

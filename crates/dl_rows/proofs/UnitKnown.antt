@@ -1,6 +1,6 @@
 -- Bytes that have come to a header or a foreign version have a good initial length.
 use Rattle.std.proofs.Common.{◌≡◌, ℕ, List, [], ◌∷◌, ◌++◌, Some, refl, sym, ap, subst, ◌∙◌, append-nil}
-use Rattle.dl_num.specs.declared.fixed.Order.{Order}
+use Rattle.dl_head.specs.declared.dialect.Dialect.{Dialect}
 use Rattle.dl_field.specs.HeaderData.{HeaderData}
 use Rattle.dl_field.specs.Layout.{Item, following_all}
 use Rattle.dl_head.specs.HeaderLayout.{header_layout}
@@ -10,25 +10,28 @@ use Rattle.dl_field.proofs.FieldLemmas.{none_some}
 use Rattle.dl_head.proofs.HeaderLaws.{header_cut}
 use Rattle.dl_head.proofs.FirstFields.{is_length}
 
-known_by : (order : Order) (b : List ℕ) (items : List Item) (rest : List ℕ) → cut order b ≡ cut_of items rest
-    → (items ≡ [] → ⊥) → (n : ℕ) × (unit_len order b ≡ Some n)
-known_by order b items rest e some =
-    on items e some (subst (λ (c : Cut). Sound order header_layout b c) e (cut_sound order header_layout [] b)) where
-      on : (items : List Item) → cut order b ≡ cut_of items rest → (items ≡ [] → ⊥)
-          → Sound order header_layout b (cut_of items rest) → (n : ℕ) × (unit_len order b ≡ Some n)
+known_by : (dialect : Dialect) (b : List ℕ) (items : List Item) (rest : List ℕ) → cut dialect b ≡ cut_of items rest
+    → (items ≡ [] → ⊥) → (n : ℕ) × (unit_len dialect b ≡ Some n)
+known_by dialect b items rest e some =
+    on items e some (subst (λ (c : Cut). Sound dialect.order (header_layout dialect) b c) e
+    (cut_sound dialect.order (header_layout dialect) [] b)) where
+      on : (items : List Item) → cut dialect b ≡ cut_of items rest → (items ≡ [] → ⊥)
+          → Sound dialect.order (header_layout dialect) b (cut_of items rest) → (n : ℕ) × (unit_len dialect b ≡ Some n)
       on [] e some s = absurd (some refl)
       on (i ∷ more) e some s =
-          let is = is_length order s.spelt.0 i s.spelt.3 in
+          let is = is_length dialect.order s.spelt.0 i s.spelt.3 in
           (_, ap (λ (c : Cut). unit_end c.items) e ∙ ap (λ (j : Item). unit_end (j ∷ more)) is.item)
 
-pub foreign_known : (order : Order) (b : List ℕ) (v : ℕ) → foreign_in order b ≡ Some v
-    → (n : ℕ) × (unit_len order b ≡ Some n)
-foreign_known order b v foreign =
-    known_by order b (cut order b).items (cut order b).rest refl
-    (λ none. none_some (ap (λ (l : List Item). foreign_made (following_all header_layout l)) none) foreign)
+pub foreign_known : (dialect : Dialect) (b : List ℕ) (v : ℕ) → foreign_in dialect b ≡ Some v
+    → (n : ℕ) × (unit_len dialect b ≡ Some n)
+foreign_known dialect b v foreign =
+    known_by dialect b (cut dialect b).items (cut dialect b).rest refl
+    (λ none. none_some (ap (λ (l : List Item). foreign_made (following_all (header_layout dialect) l)) none) foreign)
 
-pub header_known : (order : Order) (h : HeaderData) (w : List ℕ) → IsHeader order h w
-    → (n : ℕ) × (unit_len order w ≡ Some n)
-header_known order h w is =
-    known_by order w is.items (is.padding ++ []) (ap (cut order) (sym (append-nil w)) ∙ header_cut order h w [] is)
-    (λ none. none_some {a = h} (ap (λ (l : List Item). header_made (following_all header_layout l)) none) is.made)
+pub header_known : (dialect : Dialect) (h : HeaderData) (w : List ℕ) → IsHeader dialect h w
+    → (n : ℕ) × (unit_len dialect w ≡ Some n)
+header_known dialect h w is =
+    known_by dialect w is.items (is.padding ++ [])
+    (ap (cut dialect) (sym (append-nil w)) ∙ header_cut dialect h w [] is)
+    (λ none. none_some {a = h} (ap (λ (l : List Item). header_made (following_all (header_layout dialect) l))
+    none) is.made)

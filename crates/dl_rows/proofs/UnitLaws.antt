@@ -2,7 +2,7 @@
 use Rattle.std.proofs.Common.{◌≡◌, ℕ, List, [], ◌∷◌, length, Option, Some, None, sym, ap, subst, ◌∙◌, arith, inl, inr}
 use Rattle.std.proofs.Common.{append-nil}
 use Rattle.std.specs.Prelude.{map}
-use Rattle.dl_num.specs.declared.fixed.Order.{Order}
+use Rattle.dl_head.specs.declared.dialect.Dialect.{Dialect}
 use Rattle.dl_num.specs.Front.{Standing}
 use Rattle.dl_table.specs.declared.fault.FaultKind.{FaultKind}
 use Rattle.dl_field.specs.HeaderData.{HeaderData}
@@ -22,47 +22,47 @@ use Rattle.dl_rows.proofs.ProgramLaws.{program_is_found, a_row_for_a_byte}
 use Rattle.dl_rows.proofs.UnitLengths.{foreign_of}
 
 pub foreign_comes_to : ForeignComesTo
-foreign_comes_to order version u is =
-    ap (λ (o : Option ℕ). events_of order o (header_in order u)) (foreign_of order version u is)
+foreign_comes_to dialect version u is =
+    ap (λ (o : Option ℕ). events_of dialect.order o (header_in dialect u)) (foreign_of dialect version u is)
 
 pub unit_comes_to : UnitComesTo
-unit_comes_to order h p u is =
-    let opcodes = (header_is_usable order h is.header is.spells_header).opcodes in
-    let own : foreign_in order u ≡ None =
-    ap (foreign_in order) is.whole ∙ header_is_not_foreign order h is.header is.program is.spells_header in
-    let parts : header_in order u ≡ Some (h, is.program) =
-    ap (header_in order) is.whole ∙ header_is_found order h is.header is.program is.spells_header in
-    let found = program_is_found order h.params p is.program [] (omega arith) is.spells_program in
-    let operations : (operations_in order h.params is.program).found ≡ p =
-    ap (λ (b : List ℕ). (operations_in order h.params b).found) (sym (append-nil is.program))
+unit_comes_to dialect h p u is =
+    let opcodes = (header_is_usable dialect h is.header is.spells_header).opcodes in
+    let own : foreign_in dialect u ≡ None =
+    ap (foreign_in dialect) is.whole ∙ header_is_not_foreign dialect h is.header is.program is.spells_header in
+    let parts : header_in dialect u ≡ Some (h, is.program) =
+    ap (header_in dialect) is.whole ∙ header_is_found dialect h is.header is.program is.spells_header in
+    let found = program_is_found dialect.order h.params p is.program [] (omega arith) is.spells_program in
+    let operations : (operations_in dialect.order h.params is.program).found ≡ p =
+    ap (λ (b : List ℕ). (operations_in dialect.order h.params b).found) (sym (append-nil is.program))
     ∙ ap (λ (s : Standing Operation). s.found) found ∙ append-nil p in
-    ap (λ (o : Option ℕ). events_of order o (header_in order u)) own
-    ∙ ap (own_events order) parts
+    ap (λ (o : Option ℕ). events_of dialect.order o (header_in dialect u)) own
+    ∙ ap (own_events dialect.order) parts
     ∙ ap (λ (q : List Operation). event.Header ∷ map event.Row (matrix h.params q)) operations
 
-not_longer : (order : Order) (b c : List ℕ) (at at2 : ℕ) (kind kind2 : FaultKind) → Refused order b at kind
-    → Refused order c at2 kind2 → GoesOn b c → ⊥
-not_longer order b c at at2 kind kind2 r s g = none_some (s.shortest b g.0 g.1 g.2) r.decided
+not_longer : (dialect : Dialect) (b c : List ℕ) (at at2 : ℕ) (kind kind2 : FaultKind) → Refused dialect b at kind
+    → Refused dialect c at2 kind2 → GoesOn b c → ⊥
+not_longer dialect b c at at2 kind kind2 r s g = none_some (s.shortest b g.0 g.1 g.2) r.decided
 
 kind_same : (k j : FaultKind) → ◌≡◌ {A = Option FaultKind} (Some k) (Some j) → k ≡ j
 kind_same k j e = cc
 
-same_refusal : (order : Order) (b : List ℕ) (at at2 : ℕ) (kind kind2 : FaultKind) → Refused order b at kind
-    → Refused order b at2 kind2 → (at ≡ at2) × (kind ≡ kind2)
-same_refusal order b at at2 kind kind2 r s =
+same_refusal : (dialect : Dialect) (b : List ℕ) (at at2 : ℕ) (kind kind2 : FaultKind) → Refused dialect b at kind
+    → Refused dialect b at2 kind2 → (at ≡ at2) × (kind ≡ kind2)
+same_refusal dialect b at at2 kind kind2 r s =
     (omega (arith, r.place, s.place), kind_same kind kind2 (sym r.decided ∙ s.decided))
 
 pub one_refusal : OneRefusal
-one_refusal order b c v u at at2 kind kind2 e r s = elim (fronts b c v u e) [
+one_refusal dialect b c v u at at2 kind kind2 e r s = elim (fronts b c v u e) [
   | inl same ↦
-      let t = same_refusal order c at at2 kind kind2 (subst (λ (l : List ℕ). Refused order l at kind) same r) s in
+      let t = same_refusal dialect c at at2 kind kind2 (subst (λ (l : List ℕ). Refused dialect l at kind) same r) s in
       (same, t.0, t.1)
-  | inr (inl g) ↦ absurd (not_longer order b c at at2 kind kind2 r s g)
-  | inr (inr g) ↦ absurd (not_longer order c b at2 at kind2 kind s r g)
+  | inr (inl g) ↦ absurd (not_longer dialect b c at at2 kind kind2 r s g)
+  | inr (inr g) ↦ absurd (not_longer dialect c b at2 at kind2 kind s r g)
 ]
 
 pub row_for_program_byte : RowForProgramByte
-row_for_program_byte order b h program e =
-    let few = a_row_for_a_byte order h.params program in
-    let rows = ap (λ (o : Option (HeaderData × List ℕ)). length (rows_later order o)) e in
+row_for_program_byte dialect b h program e =
+    let few = a_row_for_a_byte dialect.order h.params program in
+    let rows = ap (λ (o : Option (HeaderData × List ℕ)). length (rows_later dialect.order o)) e in
     omega (arith, few, rows)

@@ -1,7 +1,7 @@
 -- Fronts of a unit: what a header and a length that stand in them are, and what they decide.
 use Rattle.std.proofs.Common.{◌≡◌, ℕ, ◌+◌, List, ◌∷◌, ◌++◌, length, Option, Some, None, refl, sym, ap, subst, ◌∙◌}
 use Rattle.std.proofs.Common.{append_assoc}
-use Rattle.dl_num.specs.declared.fixed.Order.{Order}
+use Rattle.dl_head.specs.declared.dialect.Dialect.{Dialect}
 use Rattle.dl_field.specs.HeaderData.{HeaderData}
 use Rattle.dl_field.specs.Layout.{following_all}
 use Rattle.dl_head.specs.HeaderLayout.{header_layout}
@@ -15,50 +15,54 @@ use Rattle.dl_rows.specs.Refusal.{left_after, decided_after, unit_decided}
 use Rattle.dl_rows.specs.UnitLaws.{RefusedInHeader}
 
 -- a header stands there still where more bytes come
-pub header_on : (order : Order) (b v : List ℕ) (h : HeaderData) (program : List ℕ)
-    → header_in order b ≡ Some (h, program) → header_in order (b ++ v) ≡ Some (h, program ++ v)
-header_on order b v h program e =
-    let f = found_is_header order h b program e in
-    ap (header_in order) (ap (λ (z : List ℕ). z ++ v) f.1 ∙ append_assoc f.0 program v)
-    ∙ header_is_found order h f.0 (program ++ v) f.2
+pub header_on : (dialect : Dialect) (b v : List ℕ) (h : HeaderData) (program : List ℕ)
+    → header_in dialect b ≡ Some (h, program) → header_in dialect (b ++ v) ≡ Some (h, program ++ v)
+header_on dialect b v h program e =
+    let f = found_is_header dialect h b program e in
+    ap (header_in dialect) (ap (λ (z : List ℕ). z ++ v) f.1 ∙ append_assoc f.0 program v)
+    ∙ header_is_found dialect h f.0 (program ++ v) f.2
 
 -- where there is none, there was none
-pub no_header_before : (order : Order) (b v : List ℕ) → header_in order (b ++ v) ≡ None → header_in order b ≡ None
-no_header_before order b v none = on (header_in order b) refl where
-  on : (o : Option (HeaderData × List ℕ)) → header_in order b ≡ o → header_in order b ≡ None
+pub no_header_before : (dialect : Dialect) (b v : List ℕ) → header_in dialect (b ++ v) ≡ None
+    → header_in dialect b ≡ None
+no_header_before dialect b v none = on (header_in dialect b) refl where
+  on : (o : Option (HeaderData × List ℕ)) → header_in dialect b ≡ o → header_in dialect b ≡ None
   on None e = e
-  on (Some (h, program)) e = absurd (none_some none (header_on order b v h program e))
+  on (Some (h, program)) e = absurd (none_some none (header_on dialect b v h program e))
 
 -- the length that stands in the front of bytes is theirs
-pub unit_len_on : (order : Order) (b v : List ℕ) (n : ℕ) → unit_len order b ≡ Some n → unit_len order (b ++ v) ≡ Some n
-unit_len_on order b v n e =
-    ap (λ (c : Cut). unit_end c.items) (cut-append order b v)
-    ∙ unit_end-append (cut order b).items (cut_after order (following_all header_layout (cut order b).items)
-    (cut order b).rest v).items n e
+pub unit_len_on : (dialect : Dialect) (b v : List ℕ) (n : ℕ) → unit_len dialect b ≡ Some n
+    → unit_len dialect (b ++ v) ≡ Some n
+unit_len_on dialect b v n e =
+    ap (λ (c : Cut). unit_end c.items) (cut-append dialect b v)
+    ∙ unit_end-append (cut dialect b).items (cut_after dialect.order
+    (following_all (header_layout dialect) (cut dialect b).items)
+    (cut dialect b).rest v).items n e
 
 -- what bytes without a whole header decide
-pub decided_in_header : (order : Order) (b : List ℕ) → header_in order b ≡ None
-    → unit_decided order b ≡ header_decided order b
-decided_in_header order b none = ap (decided_after order b) none
+pub decided_in_header : (dialect : Dialect) (b : List ℕ) → header_in dialect b ≡ None
+    → unit_decided dialect b ≡ header_decided dialect b
+decided_in_header dialect b none = ap (decided_after dialect b) none
 
 pub refused_in_header : RefusedInHeader
-refused_in_header order b at kind none = (
+refused_in_header dialect b at kind none = (
   λ r. record {
     place = subst (λ (w : List ℕ). at + length w ≡ length b) left r.place;
-    decided = sym (decided_in_header order b none) ∙ r.decided;
+    decided = sym (decided_in_header dialect b none) ∙ r.decided;
     shortest = λ front x back e. sym (before front x back e) ∙ r.shortest front x back e;
   },
   λ r. record {
     place = subst (λ (w : List ℕ). at + length w ≡ length b) (sym left) r.place;
-    decided = decided_in_header order b none ∙ r.decided;
+    decided = decided_in_header dialect b none ∙ r.decided;
     shortest = λ front x back e. before front x back e ∙ r.shortest front x back e;
   },
 )
   where
-    left : left_after order b (header_in order b) ≡ (cut order b).rest
-    left = ap (left_after order b) none
+    left : left_after dialect b (header_in dialect b) ≡ (cut dialect b).rest
+    left = ap (left_after dialect b) none
 
     before : (front : List ℕ) (x : ℕ) (back : List ℕ) → b ≡ front ++ x ∷ back
-        → unit_decided order front ≡ header_decided order front
+        → unit_decided dialect front ≡ header_decided dialect front
     before front x back e =
-        decided_in_header order front (no_header_before order front (x ∷ back) (ap (header_in order) (sym e) ∙ none))
+        decided_in_header dialect front (no_header_before dialect front (x ∷ back)
+        (ap (header_in dialect) (sym e) ∙ none))

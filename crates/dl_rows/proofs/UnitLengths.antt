@@ -1,4 +1,5 @@
 -- The length of a unit, and the version of a foreign one, as they are computed.
+use Rattle.dl_head.specs.declared.dialect.Dialect.{Dialect}
 use Rattle.std.proofs.Common.{◌≡◌, ◌≢◌, ℕ, ◌≤◌, ◌^◌, ◌+◌, List, [], ◌∷◌, ◌++◌, length, Option, Some, refl, sym, ap}
 use Rattle.std.proofs.Common.{subst, ◌∙◌, arith, inl, inr, length-append, append_assoc, append-nil}
 use Rattle.std.proofs.lemmas.Bool.{cases_eq, eq-eqb, ne_eqb}
@@ -31,32 +32,33 @@ initial_length order Dwarf64 n w s =
     let l = ap length s.2 in let m = length-append s.0 s.1 in omega (arith, s.3.0, s.4.0)
 
 -- an initial length is the first field
-length_judged : (order : Order) (format : Format) (n : ℕ) (w : List ℕ) → IsInitialLength order format n w
-    → field_spelt order header_layout w ≡ good (length_is format n)
-length_judged order format n w s = (field_is_judged order header_layout (length_is format n) w).0 (format, n, refl, s)
+length_judged : (dialect : Dialect) (format : Format) (n : ℕ) (w : List ℕ) → IsInitialLength dialect.order format n w
+    → field_spelt dialect.order (header_layout dialect) w ≡ good (length_is format n)
+length_judged dialect format n w s = (field_is_judged dialect.order (header_layout dialect) (length_is format n) w).0
+    (format, n, refl, s)
 
-length_of : (order : Order) (u : List ℕ) → HasItsLength order u → unit_len order u ≡ Some (length u)
-length_of order u is =
-    let first = length_judged order is.format is.unit_length is.front is.spells in
+length_of : (dialect : Dialect) (u : List ℕ) → HasItsLength dialect.order u → unit_len dialect u ≡ Some (length u)
+length_of dialect u is =
+    let first = length_judged dialect is.format is.unit_length is.front is.spells in
     let whole : initial_size is.format + is.unit_length ≡ length u =
     omega (
       arith,
       ap length is.whole,
       length-append is.front is.rest,
       is.size,
-      initial_length order is.format is.unit_length is.front is.spells,
+      initial_length dialect.order is.format is.unit_length is.front is.spells,
     ) in
-    ap (λ (b : List ℕ). unit_len order b) is.whole
+    ap (λ (b : List ℕ). unit_len dialect b) is.whole
     ∙ ap (λ (c : Cut). unit_end c.items)
-    (cut_front order header_layout is.front is.rest (length_is is.format is.unit_length) first)
+    (cut_front dialect.order (header_layout dialect) is.front is.rest (length_is is.format is.unit_length) first)
     ∙ ap (λ (n : ℕ). Some n) whole
 
 -- the initial length that is the first field
-length_first : (order : Order) (u : List ℕ) (format : Format) (n : ℕ) (front rest : List ℕ) → u ≡ front ++ rest
-    → field_spelt order header_layout front ≡ good (length_is format n)
-    → initial_size format + n ≡ length u → HasItsLength order u
-length_first order u format n front rest whole e size =
-    let is = (field_is_judged order header_layout (length_is format n) front).1 e in
+length_first : (dialect : Dialect) (u : List ℕ) (format : Format) (n : ℕ) (front rest : List ℕ) → u ≡ front ++ rest
+    → field_spelt dialect.order (header_layout dialect) front ≡ good (length_is format n)
+    → initial_size format + n ≡ length u → HasItsLength dialect.order u
+length_first dialect u format n front rest whole e size =
+    let is = (field_is_judged dialect.order (header_layout dialect) (length_is format n) front).1 e in
     let sizes : initial_size is.0 + is.1 ≡ initial_size format + n =
     ap (λ (i : Item). elim i [
       | length_is g m ↦ initial_size g
@@ -76,71 +78,73 @@ length_first order u format n front rest whole e size =
         arith,
         ap length whole,
         length-append front rest,
-        initial_length order is.0 is.1 front is.3,
+        initial_length dialect.order is.0 is.1 front is.3,
         sizes,
         size,
       );
     }
 
-length_in : (order : Order) (u fields rest : List ℕ) (items : List Item) → u ≡ fields ++ rest
-    → SpellsFields order header_layout items fields → unit_end items ≡ Some (length u) → HasItsLength order u
-length_in order u fields rest [] whole s e = absurd (none_some refl e)
-length_in order u fields rest (number_is n ∷ items) whole s e = absurd (none_some refl e)
-length_in order u fields rest (form_is f ∷ items) whole s e = absurd (none_some refl e)
-length_in order u fields rest (value_is v ∷ items) whole s e = absurd (none_some refl e)
-length_in order u fields rest (length_is format n ∷ items) whole s e =
-    length_first order u format n s.0 (s.1 ++ rest) (whole ∙ ap (λ (w : List ℕ). w ++ rest) s.2
+length_in : (dialect : Dialect) (u fields rest : List ℕ) (items : List Item) → u ≡ fields ++ rest
+    → SpellsFields dialect.order (header_layout dialect) items fields → unit_end items ≡ Some (length u)
+    → HasItsLength dialect.order u
+length_in dialect u fields rest [] whole s e = absurd (none_some refl e)
+length_in dialect u fields rest (number_is n ∷ items) whole s e = absurd (none_some refl e)
+length_in dialect u fields rest (form_is f ∷ items) whole s e = absurd (none_some refl e)
+length_in dialect u fields rest (value_is v ∷ items) whole s e = absurd (none_some refl e)
+length_in dialect u fields rest (length_is format n ∷ items) whole s e =
+    length_first dialect u format n s.0 (s.1 ++ rest) (whole ∙ ap (λ (w : List ℕ). w ++ rest) s.2
     ∙ append_assoc s.0 s.1 rest) s.3 (some_same _ _ e)
 
 pub length_is_computed : LengthIsComputed
-length_is_computed order u = (
-  length_of order u,
-  λ e. (let s : Sound order header_layout u (cut order
-      u) = cut_sound order header_layout [] u in
-      length_in order u s.front (cut order u).rest (cut order u).items s.whole s.spelt e),
+length_is_computed dialect u = (
+  length_of dialect u,
+  λ e. (let s : Sound dialect.order (header_layout dialect) u (cut dialect
+      u) = cut_sound dialect.order (header_layout dialect) [] u in
+      length_in dialect u s.front (cut dialect u).rest (cut dialect u).items s.whole s.spelt e),
 )
 
-pub length_of_unit : (order : Order) (u : List ℕ) → IsUnit order u → unit_len order u ≡ Some (length u)
-length_of_unit order u (inl foreign) = length_of order u foreign.1.its_length
-length_of_unit order u (inr own) = length_of order u own.2.its_length
+pub length_of_unit : (dialect : Dialect) (u : List ℕ) → IsUnit dialect u → unit_len dialect u ≡ Some (length u)
+length_of_unit dialect u (inl foreign) = length_of dialect u foreign.1.its_length
+length_of_unit dialect u (inr own) = length_of dialect u own.2.its_length
 
 pub nothing_left : (v : List ℕ) → length v ≡ 0 → v ≡ []
 nothing_left [] e = refl
 nothing_left (x ∷ v) e = absurd (omega arith)
 
 pub no_unit_begins_another : NoUnitBeginsAnother
-no_unit_begins_another order u v one two =
+no_unit_begins_another dialect u v one two =
     let same =
-    some_same _ _ (sym (unit_len_on order u v (length u) (length_of_unit order u one))
-    ∙ length_of_unit order (u ++ v) two) in
+    some_same _ _ (sym (unit_len_on dialect u v (length u) (length_of_unit dialect u one))
+    ∙ length_of_unit dialect (u ++ v) two) in
     nothing_left v (omega (arith, same, length-append u v))
 
 -- ---- the version of a foreign unit
 
-pub foreign_of : (order : Order) (v : ℕ) (u : List ℕ) → IsForeignUnit order v u → foreign_in order u ≡ Some v
-foreign_of order v u is =
+pub foreign_of : (dialect : Dialect) (v : ℕ) (u : List ℕ) → IsForeignUnit dialect v u → foreign_in dialect u ≡ Some v
+foreign_of dialect v u is =
     let l = is.its_length in
     let next : after_length l.format l.unit_length v ≡ foreign_version v = rw (ne_eqb v 5 is.other) refl in
     let judged =
-    (field_is_judged order (number_then version (after_length l.format l.unit_length)) (number_is v) is.front).0 (
+    (field_is_judged dialect.order (number_then version (after_length l.format l.unit_length))
+    (number_is v) is.front).0 (
       v,
       refl,
       is.spells,
       refl,
     ) in
-    let computed = (cut_is_computed order u (length_is l.format l.unit_length ∷ number_is v ∷ []) is.back).0 (record {
+    let computed = (cut_is_computed dialect u (length_is l.format l.unit_length ∷ number_is v ∷ []) is.back).0 (record {
       fields = l.front ++ is.front;
       whole = l.whole ∙ ap (λ (w : List ℕ). l.front ++ w) is.whole ∙ sym (append_assoc l.front is.front is.back);
       spelt = (
         l.front,
         is.front,
         refl,
-        length_judged order l.format l.unit_length l.front l.spells,
+        length_judged dialect l.format l.unit_length l.front l.spells,
         (is.front, [], sym (append-nil is.front), judged, refl),
       );
-      no_more = λ front back i e f. none_some (ap (λ (x : Layout). field_spelt order x front) next) f;
+      no_more = λ front back i e f. none_some (ap (λ (x : Layout). field_spelt dialect.order x front) next) f;
     }) in
-    ap (λ (c : Cut). foreign_made (following_all header_layout c.items)) computed ∙ ap foreign_made next
+    ap (λ (c : Cut). foreign_made (following_all (header_layout dialect) c.items)) computed ∙ ap foreign_made next
 
 -- after a foreign version no field is spelled
 none_foreign : (order : Order) (v w : ℕ) (items : List Item) (b : List ℕ)
@@ -168,51 +172,55 @@ version_of order format n m v items b s e = elim (cases_eq m 5) [
       (same, λ five. other (same ∙ five))
 ]
 
-foreign_in_fields : (order : Order) (v : ℕ) (u fields rest : List ℕ) (items : List Item) → u ≡ fields ++ rest
-    → SpellsFields order header_layout items fields → unit_end items ≡ Some (length u)
-    → following_all header_layout items ≡ foreign_version v → IsForeignUnit order v u
+foreign_in_fields : (dialect : Dialect) (v : ℕ) (u fields rest : List ℕ) (items : List Item) → u ≡ fields ++ rest
+    → SpellsFields dialect.order (header_layout dialect) items fields → unit_end items ≡ Some (length u)
+    → following_all (header_layout dialect) items ≡ foreign_version v → IsForeignUnit dialect v u
 unfolding length_first
-foreign_in_fields order v u fields rest [] whole s e f = absurd (none_some {a = v} refl (ap foreign_made f))
-foreign_in_fields order v u fields rest (i ∷ []) whole s e f =
-    let a = is_length order s.0 i s.3 in
-    absurd (none_some {a = v} (ap (λ (j : Item). foreign_made (following header_layout j)) a.item) (ap foreign_made f))
-foreign_in_fields order v u fields rest (i ∷ j ∷ items) whole s e f =
-    let a = is_length order s.0 i s.3 in
-    let first : field_spelt order header_layout s.0 ≡ good (length_is a.format a.number) =
+foreign_in_fields dialect v u fields rest [] whole s e f = absurd (none_some {a = v} refl (ap foreign_made f))
+foreign_in_fields dialect v u fields rest (i ∷ []) whole s e f =
+    let a = is_length dialect.order s.0 i s.3 in
+    absurd (none_some {a = v} (ap (λ (j : Item). foreign_made (following (header_layout dialect) j)) a.item)
+    (ap foreign_made f))
+foreign_in_fields dialect v u fields rest (i ∷ j ∷ items) whole s e f =
+    let a = is_length dialect.order s.0 i s.3 in
+    let first : field_spelt dialect.order (header_layout dialect) s.0 ≡ good (length_is a.format a.number) =
     s.3 ∙ ap (λ (k : Item). good k) a.item in
-    let next : SpellsFields order (number_then version (after_length a.format a.number)) (j ∷ items) s.1 =
-    subst (λ (k : Item). SpellsFields order (following header_layout k) (j ∷ items) s.1) a.item s.4 in
-    let n = is_number order version (after_length a.format a.number) next.0 j next.3 in
+    let next : SpellsFields dialect.order (number_then version (after_length a.format a.number)) (j ∷ items) s.1 =
+    subst (λ (k : Item). SpellsFields dialect.order (following (header_layout dialect) k) (j ∷ items) s.1) a.item s.4 in
+    let n = is_number dialect.order version (after_length a.format a.number) next.0 j next.3 in
     let tail : following_all (after_length a.format a.number n.number) items ≡ foreign_version v =
     ap (λ (k : Item). following_all (following (number_then version (after_length a.format a.number)) k) items)
     (sym n.item)
-    ∙ ap (λ (k : Item). following_all (following header_layout k) (j ∷ items)) (sym a.item) ∙ f in
+    ∙ ap (λ (k : Item). following_all (following (header_layout dialect) k) (j ∷ items)) (sym a.item) ∙ f in
     let found =
-    version_of order a.format a.number n.number v items next.1
-    (subst (λ (k : Item). SpellsFields order (following (number_then version (after_length a.format a.number)) k)
+    version_of dialect.order a.format a.number n.number v items next.1
+    (subst (λ (k : Item). SpellsFields dialect.order
+    (following (number_then version (after_length a.format a.number)) k)
     items next.1) n.item next.4) tail in
     let judged =
-    (field_is_judged order (number_then version (after_length a.format a.number)) (number_is n.number) next.0).1
+    (field_is_judged dialect.order (number_then version (after_length a.format a.number)) (number_is n.number) next.0).1
     (next.3 ∙ ap (λ (k : Item). good k) n.item) in
     record {
       its_length =
-          length_first order u a.format a.number s.0 (s.1 ++ rest) (whole ∙ ap (λ (w : List ℕ). w ++ rest) s.2
+          length_first dialect u a.format a.number s.0 (s.1 ++ rest) (whole ∙ ap (λ (w : List ℕ). w ++ rest) s.2
           ∙ append_assoc s.0 s.1 rest) first
           (some_same _ _ (ap (λ (k : Item). unit_end (k ∷ j ∷ items)) (sym a.item) ∙ e));
       front = next.0;
       back = next.1 ++ rest;
       whole = ap (λ (w : List ℕ). w ++ rest) next.2 ∙ append_assoc next.0 next.1 rest;
       spells =
-          subst (λ (m : ℕ). IsFixed order 2 m next.0) (sym (number_same n.number judged.0 judged.1) ∙ found.0) judged.2;
+          subst (λ (m : ℕ). IsFixed dialect.order 2 m next.0)
+          (sym (number_same n.number judged.0 judged.1) ∙ found.0) judged.2;
       other = found.1;
     }
 
-pub foreign_unit : (order : Order) (v : ℕ) (u : List ℕ) → unit_len order u ≡ Some (length u)
-    → foreign_in order u ≡ Some v → IsForeignUnit order v u
-foreign_unit order v u len foreign =
-    let s : Sound order header_layout u (cut order u) = cut_sound order header_layout [] u in
-    foreign_in_fields order v u s.front (cut order u).rest (cut order u).items s.whole s.spelt len
-    (foreign_last (following_all header_layout (cut order u).items) v foreign)
+pub foreign_unit : (dialect : Dialect) (v : ℕ) (u : List ℕ) → unit_len dialect u ≡ Some (length u)
+    → foreign_in dialect u ≡ Some v → IsForeignUnit dialect v u
+foreign_unit dialect v u len foreign =
+    let s : Sound dialect.order (header_layout dialect) u (cut dialect u) =
+    cut_sound dialect.order (header_layout dialect) [] u in
+    foreign_in_fields dialect v u s.front (cut dialect u).rest (cut dialect u).items s.whole s.spelt len
+    (foreign_last (following_all (header_layout dialect) (cut dialect u).items) v foreign)
 
 -- no unit is very long
 small_length : (order : Order) (format : Format) (n : ℕ) (w : List ℕ) → IsInitialLength order format n w
@@ -220,19 +228,20 @@ small_length : (order : Order) (format : Format) (n : ℕ) (w : List ℕ) → Is
 small_length order Dwarf32 n w s = omega (arith, s.1)
 small_length order Dwarf64 n w s = omega (arith, s.5)
 
-pub unit_len_small : (order : Order) (b : List ℕ) (n : ℕ) → unit_len order b ≡ Some n → n ≤ 2 ^ 41
-unit_len_small order b n e =
-    let s : Sound order header_layout b (cut order b) = cut_sound order header_layout [] b in
-    on (cut order b).items s.front s.spelt e
+pub unit_len_small : (dialect : Dialect) (b : List ℕ) (n : ℕ) → unit_len dialect b ≡ Some n → n ≤ 2 ^ 41
+unit_len_small dialect b n e =
+    let s : Sound dialect.order (header_layout dialect) b (cut dialect b) =
+    cut_sound dialect.order (header_layout dialect) [] b in
+    on (cut dialect b).items s.front s.spelt e
   where
-    on : (items : List Item) (w : List ℕ) → SpellsFields order header_layout items w → unit_end items ≡ Some n
-        → n ≤ 2 ^ 41
+    on : (items : List Item) (w : List ℕ) → SpellsFields dialect.order (header_layout dialect) items w
+        → unit_end items ≡ Some n → n ≤ 2 ^ 41
     on [] w s e = absurd (none_some refl e)
     on (number_is m ∷ items) w s e = absurd (none_some refl e)
     on (form_is f ∷ items) w s e = absurd (none_some refl e)
     on (value_is v ∷ items) w s e = absurd (none_some refl e)
     on (length_is format m ∷ items) w s e =
-        let is = (field_is_judged order header_layout (length_is format m) s.0).1 s.3 in
+        let is = (field_is_judged dialect.order (header_layout dialect) (length_is format m) s.0).1 s.3 in
         let sizes : initial_size is.0 + is.1 ≡ initial_size format + m =
         ap (λ (i : Item). elim i [
           | length_is g k ↦ initial_size g
@@ -241,4 +250,4 @@ unit_len_small order b n e =
           | form_is g ↦ 0
           | value_is v ↦ 0
         ]) (sym is.2) in
-        omega (arith, some_same _ _ e, sizes, small_length order is.0 is.1 s.0 is.3)
+        omega (arith, some_same _ _ e, sizes, small_length dialect.order is.0 is.1 s.0 is.3)

@@ -1,4 +1,5 @@
 -- No front of a unit is refused.
+use Rattle.dl_head.specs.declared.dialect.Dialect.{Dialect}
 use Rattle.std.proofs.Common.{◌≡◌, ℕ, ◌+◌, ◌≤◌, List, [], ◌∷◌, ◌++◌, length, Option, Some, None, Ok, Err, refl, sym, ap}
 use Rattle.std.proofs.Common.{subst, ◌∙◌, arith, inl, inr, length-append, append_assoc, append-nil}
 use Rattle.std.proofs.lemmas.Bool.{ne_eqb}
@@ -118,55 +119,56 @@ parts_same g h v w e = (
 )
 
 -- a front with the header decides nothing
-own_quiet : (order : Order) (h : HeaderData) (p : List Operation) (u front back : List ℕ) (g : HeaderData)
-    (begun : List ℕ) → IsOwnUnit order h p u → u ≡ front ++ back
-    → header_in order front ≡ Some (g, begun) → unit_decided order front ≡ None
-own_quiet order h p u front back g begun is e found =
-    let all : header_in order u ≡ Some (h, is.program) =
-    ap (header_in order) is.whole ∙ header_is_found order h is.header is.program is.spells_header in
+own_quiet : (dialect : Dialect) (h : HeaderData) (p : List Operation) (u front back : List ℕ) (g : HeaderData)
+    (begun : List ℕ) → IsOwnUnit dialect h p u → u ≡ front ++ back
+    → header_in dialect front ≡ Some (g, begun) → unit_decided dialect front ≡ None
+own_quiet dialect h p u front back g begun is e found =
+    let all : header_in dialect u ≡ Some (h, is.program) =
+    ap (header_in dialect) is.whole ∙ header_is_found dialect h is.header is.program is.spells_header in
     let same =
-    parts_same g h (begun ++ back) is.program (sym (header_on order front back g begun found)
-    ∙ ap (header_in order) (sym e) ∙ all) in
-    let opcodes = (header_is_usable order h is.header is.spells_header).opcodes in
-    let program : SpellsProgram order g.params p (begun ++ back) =
-    subst (λ (d : HeaderData). SpellsProgram order d.params p (begun ++ back)) (sym same.0)
-    (subst (λ (w : List ℕ). SpellsProgram order h.params p w) (sym same.1) is.spells_program) in
+    parts_same g h (begun ++ back) is.program (sym (header_on dialect front back g begun found)
+    ∙ ap (header_in dialect) (sym e) ∙ all) in
+    let opcodes = (header_is_usable dialect h is.header is.spells_header).opcodes in
+    let program : SpellsProgram dialect.order g.params p (begun ++ back) =
+    subst (λ (d : HeaderData). SpellsProgram dialect.order d.params p (begun ++ back)) (sym same.0)
+    (subst (λ (w : List ℕ). SpellsProgram dialect.order h.params p w) (sym same.1) is.spells_program) in
     let some : 1 ≤ g.params.opcode_base =
     subst (λ (d : HeaderData). 1 ≤ d.params.opcode_base) (sym same.0) (omega arith) in
-    ap (decided_after order front) found
-    ∙ operation_quiet order g.params p begun back (operations_in order g.params begun).rest (length front)
-    (unit_len order front) some program refl ends
+    ap (decided_after dialect front) found
+    ∙ operation_quiet dialect.order g.params p begun back (operations_in dialect.order g.params begun).rest
+    (length front)
+    (unit_len dialect front) some program refl ends
   where
-    ends : (n : ℕ) → unit_len order front ≡ Some n → length front + length back ≤ n
+    ends : (n : ℕ) → unit_len dialect front ≡ Some n → length front + length back ≤ n
     ends n k =
-        let len = length_of_unit order u (inr (h, p, is)) in
-        let same : Some (length u) ≡ Some n = sym len ∙ ap (unit_len order) e ∙ unit_len_on order front back n k in
+        let len = length_of_unit dialect u (inr (h, p, is)) in
+        let same : Some (length u) ≡ Some n = sym len ∙ ap (unit_len dialect) e ∙ unit_len_on dialect front back n k in
         let l : length u ≡ n = cc in
         omega (arith, l, ap length e, length-append front back)
 
 -- no front of the bytes of a foreign unit, or of a front of one, is refused
-pub foreign_quiet : (order : Order) (b : List ℕ) (version n : ℕ) → foreign_in order b ≡ Some version
-    → unit_len order b ≡ Some n → length b ≤ n
-    → (front back : List ℕ) (at : ℕ) (kind : FaultKind) → b ≡ front ++ back → Refused order front at kind → ⊥
-foreign_quiet order b version n foreign len le front back at kind e r = on (header_in order front) refl where
-  on : (o : Option (HeaderData × List ℕ)) → header_in order front ≡ o → ⊥
+pub foreign_quiet : (dialect : Dialect) (b : List ℕ) (version n : ℕ) → foreign_in dialect b ≡ Some version
+    → unit_len dialect b ≡ Some n → length b ≤ n
+    → (front back : List ℕ) (at : ℕ) (kind : FaultKind) → b ≡ front ++ back → Refused dialect front at kind → ⊥
+foreign_quiet dialect b version n foreign len le front back at kind e r = on (header_in dialect front) refl where
+  on : (o : Option (HeaderData × List ℕ)) → header_in dialect front ≡ o → ⊥
   on None none =
-      foreign_is_not_refused order b front back version n at kind foreign len le e
-      ((refused_in_header order front at kind none).0 r)
+      foreign_is_not_refused dialect b front back version n at kind foreign len le e
+      ((refused_in_header dialect front at kind none).0 r)
   on (Some (g, begun)) found =
-      let f = found_is_header order g front begun found in
-      none_some (header_is_not_foreign order g f.0 (begun ++ back) f.2)
-      (ap (foreign_in order) (sym (append_assoc f.0 begun back) ∙ ap (λ (w : List ℕ). w ++ back) (sym f.1) ∙ sym e)
+      let f = found_is_header dialect g front begun found in
+      none_some (header_is_not_foreign dialect g f.0 (begun ++ back) f.2)
+      (ap (foreign_in dialect) (sym (append_assoc f.0 begun back) ∙ ap (λ (w : List ℕ). w ++ back) (sym f.1) ∙ sym e)
       ∙ foreign)
 
-pub unit_is_not_refused : (order : Order) (u : List ℕ) → IsUnit order u
-    → (front back : List ℕ) (at : ℕ) (kind : FaultKind) → u ≡ front ++ back → Refused order front at kind → ⊥
-unit_is_not_refused order u (inl (v, foreign)) front back at kind e r =
-    foreign_quiet order u v (length u) (foreign_of order v u foreign) (length_of_unit order u (inl (v, foreign)))
+pub unit_is_not_refused : (dialect : Dialect) (u : List ℕ) → IsUnit dialect u
+    → (front back : List ℕ) (at : ℕ) (kind : FaultKind) → u ≡ front ++ back → Refused dialect front at kind → ⊥
+unit_is_not_refused dialect u (inl (v, foreign)) front back at kind e r =
+    foreign_quiet dialect u v (length u) (foreign_of dialect v u foreign) (length_of_unit dialect u (inl (v, foreign)))
     (omega arith) front back at kind e r
-unit_is_not_refused order u (inr (h, p, own)) front back at kind e r = on (header_in order front) refl where
-  on : (o : Option (HeaderData × List ℕ)) → header_in order front ≡ o → ⊥
+unit_is_not_refused dialect u (inr (h, p, own)) front back at kind e r = on (header_in dialect front) refl where
+  on : (o : Option (HeaderData × List ℕ)) → header_in dialect front ≡ o → ⊥
   on None none =
-      header_is_not_refused order h own.header own.program front back at kind own.spells_header (sym own.whole
-      ∙ e) ((refused_in_header order front at kind none).0 r)
-  on (Some (g, begun)) found = none_some (own_quiet order h p u front back g begun own e found) r.decided
+      header_is_not_refused dialect h own.header own.program front back at kind own.spells_header (sym own.whole
+      ∙ e) ((refused_in_header dialect front at kind none).0 r)
+  on (Some (g, begun)) found = none_some (own_quiet dialect h p u front back g begun own e found) r.decided

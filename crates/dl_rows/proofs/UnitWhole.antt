@@ -1,4 +1,5 @@
 -- Bytes as long as their initial length says, of which no front is refused, are a unit.
+use Rattle.dl_head.specs.declared.dialect.Dialect.{Dialect}
 use Rattle.std.proofs.Common.{◌≡◌, ℕ, ◌+◌, ◌-◌, ◌≤◌, Bool, true, nat_le, ◌&&◌, if◌then◌else◌, List, [], ◌∷◌, ◌++◌}
 use Rattle.std.proofs.Common.{length, take, drop, Option, Some, None, refl, sym, ap, subst, ◌∙◌, arith, inl, inr}
 use Rattle.std.proofs.Common.{length-append, append_assoc, append-nil}
@@ -38,49 +39,50 @@ use Rattle.dl_rows.proofs.UnitQuiet.{unit_is_not_refused}
 
 -- ---- where something is decided, a front is refused
 
-pub left_le : (order : Order) (b : List ℕ) → length (left_over order b) ≤ length b
-left_le order b = on (header_in order b) refl where
-  on : (o : Option (HeaderData × List ℕ)) → header_in order b ≡ o → length (left_after order b o) ≤ length b
+pub left_le : (dialect : Dialect) (b : List ℕ) → length (left_over dialect b) ≤ length b
+left_le dialect b = on (header_in dialect b) refl where
+  on : (o : Option (HeaderData × List ℕ)) → header_in dialect b ≡ o → length (left_after dialect b o) ≤ length b
   on None e =
-      let s : Sound order header_layout b (cut order b) = cut_sound order header_layout [] b in
-      omega (arith, ap length s.whole, length-append s.front (cut order b).rest)
+      let s : Sound dialect.order (header_layout dialect) b (cut dialect b) =
+      cut_sound dialect.order (header_layout dialect) [] b in
+      omega (arith, ap length s.whole, length-append s.front (cut dialect b).rest)
   on (Some (h, program)) e =
-      let f = found_is_header order h b program e in
-      let opcodes = (header_is_usable order h f.0 f.2).opcodes in
-      let p = found_is_program order h.params program (omega arith) in
+      let f = found_is_header dialect h b program e in
+      let opcodes = (header_is_usable dialect h f.0 f.2).opcodes in
+      let p = found_is_program dialect.order h.params program (omega arith) in
       omega (
         arith,
         ap length f.1,
         length-append f.0 program,
         ap length p.1,
-        length-append p.0 (operations_in order h.params program).rest,
+        length-append p.0 (operations_in dialect.order h.params program).rest,
       )
 
 -- the first front that decides anything
-record RefusedFront (order : Order) (b : List ℕ) : Type 0 where
+record RefusedFront (dialect : Dialect) (b : List ℕ) : Type 0 where
   front : List ℕ
   back : List ℕ
   at : ℕ
   kind : FaultKind
   whole : b ≡ front ++ back
-  refused : Refused order front at kind
+  refused : Refused dialect front at kind
 
-refused_front : (order : Order) (b : List ℕ) (kind : FaultKind) → unit_decided order b ≡ Some kind
-    → RefusedFront order b
-refused_front order b kind e =
-    on (standing (unit_decided order) b).found ((one_cut FaultKind (unit_decided order) b _ _ refl).1 refl) where
-      on : (found : List FaultKind) → IsCut (unit_decided order) b found (standing (unit_decided order) b).rest
-          → RefusedFront order b
+refused_front : (dialect : Dialect) (b : List ℕ) (kind : FaultKind) → unit_decided dialect b ≡ Some kind
+    → RefusedFront dialect b
+refused_front dialect b kind e =
+    on (standing (unit_decided dialect) b).found ((one_cut FaultKind (unit_decided dialect) b _ _ refl).1 refl) where
+      on : (found : List FaultKind) → IsCut (unit_decided dialect) b found (standing (unit_decided dialect) b).rest
+          → RefusedFront dialect b
       on [] c = absurd (none_some (c.1 b [] (sym c.0 ∙ sym (append-nil b))) e)
       on (k ∷ found) (w, v, whole, first, c) = record {
         front = w;
         back = v;
-        at = length w - length (left_over order w);
+        at = length w - length (left_over dialect w);
         kind = k;
         whole = whole;
         refused =
             record {
-              place = (let l = left_le order w in omega (arith, l));
+              place = (let l = left_le dialect w in omega (arith, l));
               decided = first.spells;
               shortest =
                   first.shortest;
@@ -88,17 +90,17 @@ refused_front order b kind e =
       }
 
 -- no front of b is refused
-abbrev pub NoneRefused : Order → List ℕ → Type 0
-NoneRefused order b =
-    (front back : List ℕ) (at : ℕ) (kind : FaultKind) → b ≡ front ++ back → Refused order front at kind → ⊥
+abbrev pub NoneRefused : Dialect → List ℕ → Type 0
+NoneRefused dialect b =
+    (front back : List ℕ) (at : ℕ) (kind : FaultKind) → b ≡ front ++ back → Refused dialect front at kind → ⊥
 
-pub silent : (order : Order) (b front back : List ℕ) → NoneRefused order b → b ≡ front ++ back
-    → unit_decided order front ≡ None
-silent order b front back none e = on (unit_decided order front) refl where
-  on : (o : Option FaultKind) → unit_decided order front ≡ o → unit_decided order front ≡ None
+pub silent : (dialect : Dialect) (b front back : List ℕ) → NoneRefused dialect b → b ≡ front ++ back
+    → unit_decided dialect front ≡ None
+silent dialect b front back none e = on (unit_decided dialect front) refl where
+  on : (o : Option FaultKind) → unit_decided dialect front ≡ o → unit_decided dialect front ≡ None
   on None d = d
   on (Some k) d =
-      let r = refused_front order front k d in
+      let r = refused_front dialect front k d in
       absurd (none r.front (r.back ++ back) r.at r.kind (e ∙ ap (λ (w : List ℕ). w ++ back) r.whole
       ∙ append_assoc r.front r.back back) r.refused)
 
@@ -110,39 +112,39 @@ decides None kind n e =
     none_some {a = kind} (sym (ap (λ (b : Bool). if b then Some kind else None) (eq-eqb n n refl)) ∙ e) refl
 
 -- all fields that header_length and what follows it leave decide something at the header's last byte
-end_decides : (order : Order) (b : List ℕ) → header_end (cut order b).items ≡ Some (length b) → header_in order b ≡ None
-    → header_decided order b ≡ None → ⊥
-end_decides order b end none quiet = on (following_all header_layout (cut order b).items) refl where
-  s : Sound order header_layout b (cut order b)
-  s = cut_sound order header_layout [] b
+end_decides : (dialect : Dialect) (b : List ℕ) → header_end (cut dialect b).items ≡ Some (length b)
+    → header_in dialect b ≡ None → header_decided dialect b ≡ None → ⊥
+end_decides dialect b end none quiet = on (following_all (header_layout dialect) (cut dialect b).items) refl where
+  s : Sound dialect.order (header_layout dialect) b (cut dialect b)
+  s = cut_sound dialect.order (header_layout dialect) [] b
 
   -- a field is incomplete
-  incomplete : (l : Layout) → following_all header_layout (cut order b).items ≡ l
-      → decided_on order (length b) (cut order b).items (cut order b).rest l
-      ≡ or_else (bad_kind (field_spelt order l (cut order b).rest))
-      (field_overrun (length b) (cut order b).items (header_end (cut order b).items))
+  incomplete : (l : Layout) → following_all (header_layout dialect) (cut dialect b).items ≡ l
+      → decided_on dialect.order (length b) (cut dialect b).items (cut dialect b).rest l
+      ≡ or_else (bad_kind (field_spelt dialect.order l (cut dialect b).rest))
+      (field_overrun (length b) (cut dialect b).items (header_end (cut dialect b).items))
       → ⊥
   incomplete l e same =
-      let bad = bad_kind (field_spelt order l (cut order b).rest) in
+      let bad = bad_kind (field_spelt dialect.order l (cut dialect b).rest) in
       decides bad fault.HeaderOverrun (length b)
-      (sym (ap (λ (o : Option ℕ). or_else bad (field_overrun (length b) (cut order b).items o)) end) ∙ sym same
-      ∙ sym (ap (decided_on order (length b) (cut order b).items (cut order b).rest) e) ∙ quiet)
+      (sym (ap (λ (o : Option ℕ). or_else bad (field_overrun (length b) (cut dialect b).items o)) end) ∙ sym same
+      ∙ sym (ap (decided_on dialect.order (length b) (cut dialect b).items (cut dialect b).rest) e) ∙ quiet)
 
-  on : (l : Layout) → following_all header_layout (cut order b).items ≡ l → ⊥
+  on : (l : Layout) → following_all (header_layout dialect) (cut dialect b).items ≡ l → ⊥
   on (last_entry h) e =
-      let fields = length b - length (cut order b).rest in
+      let fields = length b - length (cut dialect b).rest in
       let within : (nat_le fields (length b) && nat_le (length b) (length b)) ≡ true =
       rw (le-leb fields (length b) (omega arith)) (le-leb (length b) (length b) (omega arith)) in
-      let found : header_in order b ≡ Some (h, drop (length b) b) =
-      ap (λ (l : Layout). header_up_to b fields (header_made l) (header_end (cut order b).items)) e
+      let found : header_in dialect b ≡ Some (h, drop (length b) b) =
+      ap (λ (l : Layout). header_up_to b fields (header_made l) (header_end (cut dialect b).items)) e
       ∙ ap (λ (o : Option ℕ). header_up_to b fields (Some h) o) end
       ∙ ap (λ (t : Bool). if t then Some (h, drop (length b) b) else None) within in
       none_some none found
   on (foreign_version v) e =
-      let o = opening_of order (cut order b).items s.front (length b) s.spelt end in
+      let o = opening_of dialect (cut dialect b).items s.front (length b) s.spelt end in
       not_foreign o.unit_length (format_alone o.format) (number_is o.address ∷ number_is o.segment ∷ number_is o.header
       ∷ o.more) v
-      (sym (ap (λ (l : List Item). following_all header_layout l) o.items_are) ∙ e)
+      (sym (ap (λ (l : List Item). following_all (header_layout dialect) l) o.items_are) ∙ e)
   on (initial_length_then next) e = incomplete (initial_length_then next) e refl
   on (number_then field next) e = incomplete (number_then field next) e refl
   on (form_then next) e = incomplete (form_then next) e refl
@@ -167,27 +169,28 @@ some_same : (m n : ℕ) → ◌≡◌ {A = Option ℕ} (Some m) (Some n) → m �
 some_same m n e = cc
 
 -- the bytes of a unit up to the end of its header
-record UpToHeader (order : Order) (b : List ℕ) : Type 0 where
+record UpToHeader (dialect : Dialect) (b : List ℕ) : Type 0 where
   front : List ℕ
   back : List ℕ
   whole : b ≡ front ++ back
-  ends : header_end (cut order front).items ≡ Some (length front)
+  ends : header_end (cut dialect front).items ≡ Some (length front)
 
 -- the values of the fields up to header_length
 abbrev five : Format → ℕ → ℕ → ℕ → ℕ → List Item
 five f n address segment header =
     length_is f n ∷ number_is 5 ∷ number_is address ∷ number_is segment ∷ number_is header ∷ []
 
-five_size : (order : Order) (f : Format) (n address segment header : ℕ) (w : List ℕ)
-    → SpellsFields order header_layout (five f n address segment header) w → length w ≡ initial_size f + fixed_part f
-five_size order f n address segment header w s =
-    sized (opening_of order (five f n address segment header) w (initial_size f + fixed_part f + header) s refl) where
+five_size : (dialect : Dialect) (f : Format) (n address segment header : ℕ) (w : List ℕ)
+    → SpellsFields dialect.order (header_layout dialect) (five f n address segment header) w
+    → length w ≡ initial_size f + fixed_part f
+five_size dialect f n address segment header w s =
+    sized (opening_of dialect (five f n address segment header) w (initial_size f + fixed_part f + header) s refl) where
       nothing : (p : Params) (more : List Item) (rest : List ℕ) → more ≡ []
-          → SpellsFields order (from_minimum_length p) more rest → length rest ≡ 0
+          → SpellsFields dialect.order (from_minimum_length p) more rest → length rest ≡ 0
       nothing p more rest none t =
-          ap length (subst (λ (l : List Item). SpellsFields order (from_minimum_length p) l rest) none t)
+          ap length (subst (λ (l : List Item). SpellsFields dialect.order (from_minimum_length p) l rest) none t)
 
-      sized : Opening order (five f n address segment header) w → length w ≡ initial_size f + fixed_part f
+      sized : Opening dialect.order (five f n address segment header) w → length w ≡ initial_size f + fixed_part f
       sized o =
           let same : o.format ≡ f = format_same o.format f o.unit_length n (cc) in
           let none : o.more ≡ [] = cc in
@@ -196,18 +199,19 @@ five_size order f n address segment header w s =
           ap (λ (g : Format). initial_size g + fixed_part g) same in
           omega (arith, o.size, zero, sizes)
 
-up_to_fields : (order : Order) (b u tail : List ℕ) (f : Format) (n address segment header : ℕ) → b ≡ u ++ tail
-    → SpellsFields order header_layout (five f n address segment header) u
-    → header ≤ length tail → UpToHeader order b
-up_to_fields order b u tail f n address segment header whole s le =
-    let size = five_size order f n address segment header u s in
+up_to_fields : (dialect : Dialect) (b u tail : List ℕ) (f : Format) (n address segment header : ℕ) → b ≡ u ++ tail
+    → SpellsFields dialect.order (header_layout dialect) (five f n address segment header) u
+    → header ≤ length tail → UpToHeader dialect b
+up_to_fields dialect b u tail f n address segment header whole s le =
+    let size = five_size dialect f n address segment header u s in
     record {
       front = u ++ take header tail;
       back = drop header tail;
       whole = whole ∙ ap (λ (w : List ℕ). u ++ w) (sym (take-append-drop header tail))
           ∙ sym (append_assoc u (take header tail) (drop header tail));
       ends =
-          ap (λ (c : Cut). header_end c.items) (cut_fields order header_layout (five f n address segment header) u
+          ap (λ (c : Cut). header_end c.items)
+          (cut_fields dialect.order (header_layout dialect) (five f n address segment header) u
           (take header tail) s)
           ∙ ap (λ (m : ℕ). Some m) (omega (
             arith,
@@ -217,25 +221,27 @@ up_to_fields order b u tail f n address segment header whole s le =
           ));
     }
 
-up_to_header : (order : Order) (b : List ℕ) (end : ℕ) → unit_len order b ≡ Some (length b)
-    → header_end (cut order b).items ≡ Some end → UpToHeader order b
-up_to_header order b end len e =
-    let s : Sound order header_layout b (cut order b) = cut_sound order header_layout [] b in
-    opened (cut order b).items s.front (cut order b).rest s.whole s.spelt len
-    (opening_of order (cut order b).items s.front end s.spelt e)
+up_to_header : (dialect : Dialect) (b : List ℕ) (end : ℕ) → unit_len dialect b ≡ Some (length b)
+    → header_end (cut dialect b).items ≡ Some end → UpToHeader dialect b
+up_to_header dialect b end len e =
+    let s : Sound dialect.order (header_layout dialect) b (cut dialect b) =
+    cut_sound dialect.order (header_layout dialect) [] b in
+    opened (cut dialect b).items s.front (cut dialect b).rest s.whole s.spelt len
+    (opening_of dialect (cut dialect b).items s.front end s.spelt e)
   where
     opened : (items : List Item) (fields rest : List ℕ) → b ≡ fields ++ rest
-        → SpellsFields order header_layout items fields → unit_end items ≡ Some (length b) → Opening order items fields
-        → UpToHeader order b
+        → SpellsFields dialect.order (header_layout dialect) items fields → unit_end items ≡ Some (length b)
+        → Opening dialect.order items fields → UpToHeader dialect b
     opened items fields rest whole s unit o =
-        let u = spells_split order header_layout (five o.format o.unit_length o.address o.segment o.header) o.more
-        fields (subst (λ (l : List Item). SpellsFields order header_layout l fields) o.items_are s) in
+        let u = spells_split dialect.order (header_layout dialect)
+        (five o.format o.unit_length o.address o.segment o.header) o.more
+        fields (subst (λ (l : List Item). SpellsFields dialect.order (header_layout dialect) l fields) o.items_are s) in
         let tail = u.1 ++ rest in
         let all : b ≡ u.0 ++ tail = whole ∙ ap (λ (w : List ℕ). w ++ rest) u.2 ∙ append_assoc u.0 u.1 rest in
-        let size = five_size order o.format o.unit_length o.address o.segment o.header u.0 u.3 in
+        let size = five_size dialect o.format o.unit_length o.address o.segment o.header u.0 u.3 in
         let long : initial_size o.format + o.unit_length ≡ length b =
         some_same _ _ (ap unit_end (sym o.items_are) ∙ unit) in
-        up_to_fields order b u.0 tail o.format o.unit_length o.address o.segment o.header all u.3
+        up_to_fields dialect b u.0 tail o.format o.unit_length o.address o.segment o.header all u.3
         (omega (arith, o.fits, size, long, ap length all, length-append u.0 tail))
 
 -- ---- where header_length isn't complete
@@ -272,114 +278,121 @@ made_version order f n v items w le s = elim (cases_eq v 5) [
   | inr other ↦ rw (ne_eqb v 5 other) (made_foreign order v items w (rw (ne_eqb v 5 other) at s))
 ]
 
-made_early : (order : Order) (i : Item) (items : List Item) (w : List ℕ) → length items ≤ 3
-    → SpellsFields order header_layout (i ∷ items) w → header_made (following_all header_layout (i ∷ items)) ≡ None
-made_early order i [] w le s =
-    ap (λ (x : Item). header_made (following header_layout x)) (is_length order s.0 i s.3).item
-made_early order i (j ∷ items) w le s =
-    let a = is_length order s.0 i s.3 in
-    let t : SpellsFields order (number_then version (after_length a.format a.number)) (j ∷ items) s.1 =
-    subst (λ (x : Item). SpellsFields order (following header_layout x) (j ∷ items) s.1) a.item s.4 in
-    let b = is_number order version (after_length a.format a.number) t.0 j t.3 in
-    ap (λ (x : Item). header_made (following_all (following header_layout x) (j ∷ items))) a.item
+made_early : (dialect : Dialect) (i : Item) (items : List Item) (w : List ℕ) → length items ≤ 3
+    → SpellsFields dialect.order (header_layout dialect) (i ∷ items) w
+    → header_made (following_all (header_layout dialect) (i ∷ items)) ≡ None
+made_early dialect i [] w le s =
+    ap (λ (x : Item). header_made (following (header_layout dialect) x)) (is_length dialect.order s.0 i s.3).item
+made_early dialect i (j ∷ items) w le s =
+    let a = is_length dialect.order s.0 i s.3 in
+    let t : SpellsFields dialect.order (number_then version (after_length a.format a.number)) (j ∷ items) s.1 =
+    subst (λ (x : Item). SpellsFields dialect.order (following (header_layout dialect) x) (j ∷ items) s.1) a.item s.4 in
+    let b = is_number dialect.order version (after_length a.format a.number) t.0 j t.3 in
+    ap (λ (x : Item). header_made (following_all (following (header_layout dialect) x) (j ∷ items))) a.item
     ∙ ap (λ (x : Item). header_made (following_all (following (number_then version (after_length a.format a.number)) x)
     items)) b.item
-    ∙ made_version order a.format a.number b.number items t.1 (omega arith)
-    (subst (λ (x : Item). SpellsFields order (following (number_then version (after_length a.format a.number)) x)
+    ∙ made_version dialect.order a.format a.number b.number items t.1 (omega arith)
+    (subst (λ (x : Item). SpellsFields dialect.order
+    (following (number_then version (after_length a.format a.number)) x)
     items t.1) b.item t.4)
 
 -- a complete header has its header_length
-made_ends : (order : Order) (items : List Item) (w : List ℕ) → SpellsFields order header_layout items w
-    → header_end items ≡ None → header_made (following_all header_layout items) ≡ None
-made_ends order [] w s e = refl
-made_ends order (i ∷ []) w s e = made_early order i [] w (omega arith) s
-made_ends order (i ∷ j ∷ []) w s e = made_early order i (j ∷ []) w (omega arith) s
-made_ends order (i ∷ j ∷ k ∷ []) w s e = made_early order i (j ∷ k ∷ []) w (omega arith) s
-made_ends order (i ∷ j ∷ k ∷ l ∷ []) w s e = made_early order i (j ∷ k ∷ l ∷ []) w (omega arith) s
-made_ends order (i ∷ j ∷ k ∷ l ∷ m ∷ more) w s e =
-    absurd (none_some e (ap header_end (opening order i j k l m more w s).items_are))
+made_ends : (dialect : Dialect) (items : List Item) (w : List ℕ)
+    → SpellsFields dialect.order (header_layout dialect) items w
+    → header_end items ≡ None → header_made (following_all (header_layout dialect) items) ≡ None
+made_ends dialect [] w s e = refl
+made_ends dialect (i ∷ []) w s e = made_early dialect i [] w (omega arith) s
+made_ends dialect (i ∷ j ∷ []) w s e = made_early dialect i (j ∷ []) w (omega arith) s
+made_ends dialect (i ∷ j ∷ k ∷ []) w s e = made_early dialect i (j ∷ k ∷ []) w (omega arith) s
+made_ends dialect (i ∷ j ∷ k ∷ l ∷ []) w s e = made_early dialect i (j ∷ k ∷ l ∷ []) w (omega arith) s
+made_ends dialect (i ∷ j ∷ k ∷ l ∷ m ∷ more) w s e =
+    absurd (none_some e (ap header_end (opening dialect i j k l m more w s).items_are))
 
 -- the unit's last byte decides something
-unit_decides : (order : Order) (b : List ℕ) → unit_len order b ≡ Some (length b) → header_end (cut order b).items ≡ None
-    → foreign_in order b ≡ None → header_decided order b ≡ None → ⊥
-unit_decides order b len end foreign quiet = on (following_all header_layout (cut order b).items) refl where
-  incomplete : (l : Layout) → following_all header_layout (cut order b).items ≡ l
-      → decided_on order (length b) (cut order b).items (cut order b).rest l
-      ≡ or_else (bad_kind (field_spelt order l (cut order b).rest))
-      (field_overrun (length b) (cut order b).items (header_end (cut order b).items))
-      → ⊥
-  incomplete l e same =
-      let bad = bad_kind (field_spelt order l (cut order b).rest) in
-      decides bad fault.UnitOverrun (length b)
-      (sym (ap (λ (o : Option ℕ). or_else bad (field_overrun (length b) (cut order b).items o)) end
-      ∙ ap (λ (o : Option ℕ). or_else bad (at_end fault.UnitOverrun (length b) o)) len) ∙ sym same
-      ∙ sym (ap (decided_on order (length b) (cut order b).items (cut order b).rest) e) ∙ quiet)
+unit_decides : (dialect : Dialect) (b : List ℕ) → unit_len dialect b ≡ Some (length b)
+    → header_end (cut dialect b).items ≡ None → foreign_in dialect b ≡ None → header_decided dialect b ≡ None → ⊥
+unit_decides dialect b len end foreign quiet =
+    on (following_all (header_layout dialect) (cut dialect b).items) refl where
+      incomplete : (l : Layout) → following_all (header_layout dialect) (cut dialect b).items ≡ l
+          → decided_on dialect.order (length b) (cut dialect b).items (cut dialect b).rest l
+          ≡ or_else (bad_kind (field_spelt dialect.order l (cut dialect b).rest))
+          (field_overrun (length b) (cut dialect b).items (header_end (cut dialect b).items))
+          → ⊥
+      incomplete l e same =
+          let bad = bad_kind (field_spelt dialect.order l (cut dialect b).rest) in
+          decides bad fault.UnitOverrun (length b)
+          (sym (ap (λ (o : Option ℕ). or_else bad (field_overrun (length b) (cut dialect b).items o)) end
+          ∙ ap (λ (o : Option ℕ). or_else bad (at_end fault.UnitOverrun (length b) o)) len) ∙ sym same
+          ∙ sym (ap (decided_on dialect.order (length b) (cut dialect b).items (cut dialect b).rest) e) ∙ quiet)
 
-  on : (l : Layout) → following_all header_layout (cut order b).items ≡ l → ⊥
-  on (last_entry h) e =
-      let s : Sound order header_layout b (cut order b) = cut_sound order header_layout [] b in
-      none_some {a = h} (made_ends order (cut order b).items s.front s.spelt end) (ap header_made e)
-  on (foreign_version v) e = none_some {a = v} foreign (ap foreign_made e)
-  on (initial_length_then next) e = incomplete (initial_length_then next) e refl
-  on (number_then field next) e = incomplete (number_then field next) e refl
-  on (form_then next) e = incomplete (form_then next) e refl
-  on (value_then format f next) e = incomplete (value_then format f next) e refl
+      on : (l : Layout) → following_all (header_layout dialect) (cut dialect b).items ≡ l → ⊥
+      on (last_entry h) e =
+          let s : Sound dialect.order (header_layout dialect) b (cut dialect b) =
+          cut_sound dialect.order (header_layout dialect) [] b in
+          none_some {a = h} (made_ends dialect (cut dialect b).items s.front s.spelt end) (ap header_made e)
+      on (foreign_version v) e = none_some {a = v} foreign (ap foreign_made e)
+      on (initial_length_then next) e = incomplete (initial_length_then next) e refl
+      on (number_then field next) e = incomplete (number_then field next) e refl
+      on (form_then next) e = incomplete (form_then next) e refl
+      on (value_then format f next) e = incomplete (value_then format f next) e refl
 
 -- ---- whole units
 
 -- where nothing is refused and the unit isn't foreign, the header is complete
-header_whole : (order : Order) (b : List ℕ) → unit_len order b ≡ Some (length b) → NoneRefused order b
-    → foreign_in order b ≡ None → header_in order b ≡ None → ⊥
-header_whole order b len none foreign no_header = on (header_end (cut order b).items) refl where
-  on : (o : Option ℕ) → header_end (cut order b).items ≡ o → ⊥
+header_whole : (dialect : Dialect) (b : List ℕ) → unit_len dialect b ≡ Some (length b) → NoneRefused dialect b
+    → foreign_in dialect b ≡ None → header_in dialect b ≡ None → ⊥
+header_whole dialect b len none foreign no_header = on (header_end (cut dialect b).items) refl where
+  on : (o : Option ℕ) → header_end (cut dialect b).items ≡ o → ⊥
   on None e =
-      unit_decides order b len e foreign (sym (decided_in_header order b no_header)
-      ∙ silent order b b [] none (sym (append-nil b)))
+      unit_decides dialect b len e foreign (sym (decided_in_header dialect b no_header)
+      ∙ silent dialect b b [] none (sym (append-nil b)))
   on (Some end) e =
-      let f = up_to_header order b end len e in
-      let before = no_header_before order f.front f.back (ap (header_in order) (sym f.whole) ∙ no_header) in
-      end_decides order f.front f.ends before (sym (decided_in_header order f.front before)
-      ∙ silent order b f.front f.back none f.whole)
+      let f = up_to_header dialect b end len e in
+      let before = no_header_before dialect f.front f.back (ap (header_in dialect) (sym f.whole) ∙ no_header) in
+      end_decides dialect f.front f.ends before (sym (decided_in_header dialect f.front before)
+      ∙ silent dialect b f.front f.back none f.whole)
 
-own_unit : (order : Order) (b : List ℕ) (h : HeaderData) (program : List ℕ) → unit_len order b ≡ Some (length b)
-    → unit_decided order b ≡ None → header_in order b ≡ Some (h, program)
-    → IsOwnUnit order h (operations_in order h.params program).found b
-own_unit order b h program len quiet e =
-    let f = found_is_header order h b program e in
-    let opcodes = (header_is_usable order h f.0 f.2).opcodes in
-    let p = found_is_program order h.params program (omega arith) in
+own_unit : (dialect : Dialect) (b : List ℕ) (h : HeaderData) (program : List ℕ) → unit_len dialect b ≡ Some (length b)
+    → unit_decided dialect b ≡ None → header_in dialect b ≡ Some (h, program)
+    → IsOwnUnit dialect h (operations_in dialect.order h.params program).found b
+own_unit dialect b h program len quiet e =
+    let f = found_is_header dialect h b program e in
+    let opcodes = (header_is_usable dialect h f.0 f.2).opcodes in
+    let p = found_is_program dialect.order h.params program (omega arith) in
     let over =
-    none_over (operations_in order h.params program).rest (sym (ap (decided_after order b) e
-    ∙ ap (λ (o : Option ℕ). operation_decided order h.params (operations_in order h.params program).rest
+    none_over (operations_in dialect.order h.params program).rest (sym (ap (decided_after dialect b) e
+    ∙ ap (λ (o : Option ℕ). operation_decided dialect.order h.params (operations_in dialect.order h.params program).rest
     (length b) o) len) ∙ quiet) in
     let whole : p.0 ≡ program = sym (p.1 ∙ ap (λ (w : List ℕ). p.0 ++ w) over ∙ append-nil p.0) in
     record {
-      its_length = (length_is_computed order b).1 len;
+      its_length = (length_is_computed dialect b).1 len;
       header = f.0;
       program = program;
       whole = f.1;
       spells_header = f.2;
       spells_program =
-          subst (λ (w : List ℕ). SpellsProgram order h.params (operations_in order h.params program).found w) whole p.2;
+          subst (λ (w : List ℕ). SpellsProgram dialect.order h.params
+          (operations_in dialect.order h.params program).found w) whole p.2;
     }
   where
-    none_over : (w : List ℕ) → operation_decided order h.params w (length b) (Some (length b)) ≡ None → w ≡ []
+    none_over : (w : List ℕ) → operation_decided dialect.order h.params w (length b) (Some (length b)) ≡ None → w ≡ []
     none_over [] d = refl
     none_over (x ∷ w) d =
-        absurd (decides (bad_kind (operation_spelt order h.params (x ∷ w))) fault.OpcodeOverrun (length b) d)
+        absurd (decides (bad_kind (operation_spelt dialect.order h.params (x ∷ w))) fault.OpcodeOverrun (length b) d)
 
-unit_whole : (order : Order) (b : List ℕ) → unit_len order b ≡ Some (length b) → NoneRefused order b → IsUnit order b
-unit_whole order b len none = on (foreign_in order b) refl (header_in order b) refl where
-  on : (o : Option ℕ) → foreign_in order b ≡ o → (q : Option (HeaderData × List ℕ)) → header_in order b ≡ q
-      → IsUnit order b
-  on (Some v) foreign q e = inl (v, foreign_unit order v b len foreign)
-  on None foreign None e = absurd (header_whole order b len none foreign e)
+unit_whole : (dialect : Dialect) (b : List ℕ) → unit_len dialect b ≡ Some (length b) → NoneRefused dialect b
+    → IsUnit dialect b
+unit_whole dialect b len none = on (foreign_in dialect b) refl (header_in dialect b) refl where
+  on : (o : Option ℕ) → foreign_in dialect b ≡ o → (q : Option (HeaderData × List ℕ)) → header_in dialect b ≡ q
+      → IsUnit dialect b
+  on (Some v) foreign q e = inl (v, foreign_unit dialect v b len foreign)
+  on None foreign None e = absurd (header_whole dialect b len none foreign e)
   on None foreign (Some (h, program)) e =
       inr (
         h,
-        (operations_in order h.params program).found,
-        own_unit order b h program len (silent order b b [] none (sym (append-nil b))) e,
+        (operations_in dialect.order h.params program).found,
+        own_unit dialect b h program len (silent dialect b b [] none (sym (append-nil b))) e,
       )
 
 pub unit_unless_refused : UnitUnlessRefused
-unit_unless_refused order b len = (unit_is_not_refused order b, unit_whole order b len)
+unit_unless_refused dialect b len = (unit_is_not_refused dialect b, unit_whole dialect b len)

@@ -5,12 +5,20 @@ use Rattle.dl_num.specs.declared.fixed.Order.TheVariants.{Little, Big}
 use Rattle.dl_table.specs.declared.fault.FaultKind.{FaultKind}
 use Rattle.dl_table.specs.declared.fault.FaultKind.TheVariants as fault
 use Rattle.dl_field.specs.Layout.{standard_lengths}
+use Rattle.dl_head.specs.declared.dialect.Dialect.{Dialect}
+use Rattle.dl_head.specs.Dialect.{version_5}
 use Rattle.dl_head.specs.Header.{unit_len}
 use Rattle.dl_rows.specs.declared.reader.Event.{Event}
 use Rattle.dl_rows.specs.declared.reader.Event.TheVariants as event
 use Rattle.dl_rows.specs.declared.row.Row.{Row}
 use Rattle.dl_rows.specs.LineUnit.{events}
 use Rattle.dl_rows.specs.Refusal.{left_over, unit_decided}
+
+abbrev little : Dialect
+little = version_5 Little
+
+abbrev big : Dialect
+big = version_5 Big
 
 -- a unit of this unit_length, with empty tables: 34 bytes, and the program
 abbrev unit_of : ℕ → List ℕ → List ℕ
@@ -23,7 +31,7 @@ unit program = unit_of (0x1e + length program) program
 
 -- what the last byte decides, and the place
 abbrev refusal : List ℕ → Option FaultKind × ℕ
-refusal b = (unit_decided Little b, length b - length (left_over Little b))
+refusal b = (unit_decided little b, length b - length (left_over little b))
 
 -- address, line, and whether it ends a sequence
 abbrev row_at : ℕ → ℕ → Row
@@ -50,36 +58,36 @@ end_at address line = record (row_at address line) { end_sequence = true }
 abbrev smallest : List ℕ
 smallest = unit (0 ∷ 1 ∷ 1 ∷ [])
 
-smallest_length : unit_len Little smallest ≡ Some (length smallest)
+smallest_length : unit_len little smallest ≡ Some (length smallest)
 smallest_length = refl
 
-smallest_events : events Little smallest ≡ event.Header ∷ event.Row (end_at 0 1) ∷ []
+smallest_events : events little smallest ≡ event.Header ∷ event.Row (end_at 0 1) ∷ []
 smallest_events = refl
 
-smallest_is_not_refused : unit_decided Little smallest ≡ None
+smallest_is_not_refused : unit_decided little smallest ≡ None
 smallest_is_not_refused = refl
 
 -- read in the other order it is a foreign unit
-smallest_big : events Big smallest ≡ event.Foreign 1280 ∷ []
+smallest_big : events big smallest ≡ event.Foreign 1280 ∷ []
 smallest_big = refl
 
-empty_events : events Little (unit []) ≡ event.Header ∷ []
+empty_events : events little (unit []) ≡ event.Header ∷ []
 empty_events = refl
 
 abbrev three_rows : List ℕ
 three_rows = 0 ∷ 9 ∷ 2 ∷ 0 ∷ 0x10 ∷ 0x40 ∷ 0 ∷ 0 ∷ 0 ∷ 0 ∷ 0 ∷ 0x13 ∷ 0x4b ∷ 2 ∷ 2 ∷ 0 ∷ 1 ∷ 1 ∷ []
 
-three_rows_events : events Little (unit three_rows) ≡ event.Header ∷ event.Row (row_at 0x401000 2)
+three_rows_events : events little (unit three_rows) ≡ event.Header ∷ event.Row (row_at 0x401000 2)
     ∷ event.Row (row_at 0x401004 3) ∷ event.Row (end_at 0x401006 3) ∷ []
 three_rows_events = refl
 
 abbrev foreign : List ℕ
 foreign = 6 ∷ 0 ∷ 0 ∷ 0 ∷ 4 ∷ 0 ∷ 0xaa ∷ 0xbb ∷ 0xcc ∷ 0xdd ∷ []
 
-foreign_events : events Little foreign ≡ event.Foreign 4 ∷ []
+foreign_events : events little foreign ≡ event.Foreign 4 ∷ []
 foreign_events = refl
 
-foreign_version_cut : ◌≡◌ {A = List Event} (events Little (take 5 foreign)) []
+foreign_version_cut : ◌≡◌ {A = List Event} (events little (take 5 foreign)) []
 foreign_version_cut = refl
 
 -- ---- refusals

@@ -1,4 +1,5 @@
 -- A unit of a line table, and what its bytes come to. DWARF 5, section 6.2.4; initial lengths are of section 7.4.
+use Rattle.dl_head.specs.declared.dialect.Dialect.{Dialect}
 use Rattle.std.specs.Prelude.{◌≡◌, ◌≢◌, ◌⊎◌, ℕ, Bool, false, not, List, [], ◌∷◌, ◌++◌, length, map, Option, Some, None}
 use Rattle.dl_num.specs.declared.fixed.Order.{Order}
 use Rattle.dl_table.specs.declared.form.Format.{Format}
@@ -25,27 +26,28 @@ pub record HasItsLength (order : Order) (u : List ℕ) : Type 0 where
   pub size : length rest ≡ unit_length
 
 -- after its initial length stand a version other than 5 and any bytes
-pub record IsForeignUnit (order : Order) (version : ℕ) (u : List ℕ) : Type 0 where
-  pub its_length : HasItsLength order u
+pub record IsForeignUnit (dialect : Dialect) (version : ℕ) (u : List ℕ) : Type 0 where
+  pub its_length : HasItsLength dialect.order u
   pub front : List ℕ
   pub back : List ℕ
   pub whole : its_length.rest ≡ front ++ back
-  pub spells : IsFixed order 2 version front
+  pub spells : IsFixed dialect.order 2 version front
   pub other : version ≢ 5
 
 -- u is a header and a program
-pub record IsOwnUnit (order : Order) (h : HeaderData) (p : List Operation) (u : List ℕ) : Type 0 where
-  pub its_length : HasItsLength order u
+pub record IsOwnUnit (dialect : Dialect) (h : HeaderData) (p : List Operation) (u : List ℕ) : Type 0 where
+  pub its_length : HasItsLength dialect.order u
   pub header : List ℕ
   pub program : List ℕ
   pub whole : u ≡ header ++ program
-  pub spells_header : IsHeader order h header
-  pub spells_program : SpellsProgram order h.params p program
+  pub spells_header : IsHeader dialect h header
+  pub spells_program : SpellsProgram dialect.order h.params p program
 
 -- u is one unit
-abbrev pub IsUnit : Order → List ℕ → Type 0
-IsUnit order u =
-    ((version : ℕ) × IsForeignUnit order version u) ⊎ ((h : HeaderData) × (p : List Operation) × IsOwnUnit order h p u)
+abbrev pub IsUnit : Dialect → List ℕ → Type 0
+IsUnit dialect u =
+    ((version : ℕ) × IsForeignUnit dialect version u)
+    ⊎ ((h : HeaderData) × (p : List Operation) × IsOwnUnit dialect h p u)
 
 -- ---- what bytes come to, computed
 
@@ -58,8 +60,8 @@ rows_later order None = []
 rows_later order (Some (h, program)) = rows_in order h.params program
 
 -- the rows in b, which has none until its header is complete
-abbrev pub unit_rows : Order → List ℕ → List Row
-unit_rows order b = rows_later order (header_in order b)
+abbrev pub unit_rows : Dialect → List ℕ → List Row
+unit_rows dialect b = rows_later dialect.order (header_in dialect b)
 
 -- there is a row, and the last one isn't an end row
 abbrev pub ends_open : List Row → Bool
@@ -76,5 +78,5 @@ events_of order (Some version) parts = event.Foreign version ∷ []
 events_of order None parts = own_events order parts
 
 -- what b comes to, which goes no further than its unit, and of which no front is refused
-abbrev pub events : Order → List ℕ → List Event
-events order b = events_of order (foreign_in order b) (header_in order b)
+abbrev pub events : Dialect → List ℕ → List Event
+events dialect b = events_of dialect.order (foreign_in dialect b) (header_in dialect b)

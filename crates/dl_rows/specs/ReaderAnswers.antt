@@ -1,6 +1,6 @@
 -- What the calls of a reader of a unit answer. DWARF 5, section 6.2.
 use Rattle.std.specs.Prelude.{◌≡◌, ℕ, List, ◌++◌, map, take, Option, Some, None, Result, Ok, Err}
-use Rattle.dl_num.specs.declared.fixed.Order.{Order}
+use Rattle.dl_head.specs.declared.dialect.Dialect.{Dialect}
 use Rattle.dl_head.specs.declared.fault.Fault.{Fault}
 use Rattle.dl_field.specs.HeaderData.{HeaderData}
 use Rattle.dl_head.specs.Header.{header_in}
@@ -15,25 +15,25 @@ use Rattle.dl_rows.specs.Sinks.{Story}
 use Rattle.dl_rows.specs.ReaderStands.{StandsFor}
 
 -- `feed`: an event, or the fault of the bytes that it took (none, where the fault stood before)
-abbrev pub ReaderFed : Order → List ℕ → List ℕ → Result Fed Fault → Reader → Type 0
-ReaderFed order b piece (Ok fed) new = Feeds StandsFor order b piece fed new
-ReaderFed order b piece (Err fault) new =
-    (used : ℕ) × Fails order b piece fault used × StandsFor new (b ++ take used piece)
+abbrev pub ReaderFed : Dialect → List ℕ → List ℕ → Result Fed Fault → Reader → Type 0
+ReaderFed dialect b piece (Ok fed) new = Feeds StandsFor dialect b piece fed new
+ReaderFed dialect b piece (Err fault) new =
+    (used : ℕ) × Fails dialect b piece fault used × StandsFor new (b ++ take used piece)
 
 -- an answer after the events before
-abbrev pub FedAfter : Order → (before : List Event) → (b piece : List ℕ) → Result Fed Fault → Reader → Type 0
-FedAfter order before b piece (Ok fed) new = FeedsAfter StandsFor order before b piece fed new
-FedAfter order before b piece (Err fault) new =
-    (used : ℕ) × FailsAfter order before b piece fault used × StandsFor new (b ++ take used piece)
+abbrev pub FedAfter : Dialect → (before : List Event) → (b piece : List ℕ) → Result Fed Fault → Reader → Type 0
+FedAfter dialect before b piece (Ok fed) new = FeedsAfter StandsFor dialect before b piece fed new
+FedAfter dialect before b piece (Err fault) new =
+    (used : ℕ) × FailsAfter dialect before b piece fault used × StandsFor new (b ++ take used piece)
 
 -- `feed_rows`: the sink, which had heard the rows before, heard those that come before the answer
-pub record RowsFed {S : Type 0} (story : Story S) (order : Order) (b piece : List ℕ) (before : List Row)
+pub record RowsFed {S : Type 0} (story : Story S) (dialect : Dialect) (b piece : List ℕ) (before : List Row)
     (result : Result Fed Fault) (new : Reader) (s : S) : Type 0 where
   pub rows : List Row
-  pub fed : FedAfter order (events order b ++ map event.Row rows) b piece result new
+  pub fed : FedAfter dialect (events dialect b ++ map event.Row rows) b piece result new
   pub sink : SinkAfter story s (before ++ rows) result
 
 -- `header` and `into_header`: the header that b begins with
 abbrev pub HeaderIs : Reader → Option HeaderData → Type 0
-HeaderIs r (Some h) = (b : List ℕ) → StandsFor r b → (program : List ℕ) × (header_in r.order b ≡ Some (h, program))
-HeaderIs r None = (b : List ℕ) → StandsFor r b → header_in r.order b ≡ None
+HeaderIs r (Some h) = (b : List ℕ) → StandsFor r b → (program : List ℕ) × (header_in r.dialect b ≡ Some (h, program))
+HeaderIs r None = (b : List ℕ) → StandsFor r b → header_in r.dialect b ≡ None

@@ -1,6 +1,6 @@
 -- What the states of a reader of a unit stand for. No promise rests on how this is said.
 use Rattle.std.specs.Prelude.{◌≡◌, ◌-◌, ◌^◌, ℕ, Bool, true, false, List, ◌++◌, length, min, Some, None}
-use Rattle.dl_num.specs.declared.fixed.Order.{Order}
+use Rattle.dl_head.specs.declared.dialect.Dialect.{Dialect}
 use Rattle.dl_num.specs.Laws.{AllBytes}
 use Rattle.dl_table.specs.declared.fault.FaultKind.{FaultKind}
 use Rattle.dl_head.specs.declared.reader.HeadReader.{HeadReader}
@@ -18,28 +18,28 @@ use Rattle.dl_rows.specs.Refusal.{Refused}
 use Rattle.dl_rows.specs.UnitBodies.{InForeign, BodyStands, taken_in_body}
 
 -- the header isn't complete, and no foreign version is
-pub record InHeader (order : Order) (head : HeadReader) (b : List ℕ) : Type 0 where
-  pub same_order : head.order ≡ order
+pub record InHeader (dialect : Dialect) (head : HeadReader) (b : List ℕ) : Type 0 where
+  pub same_dialect : head.dialect ≡ dialect
   pub stands : HeadStands head b
-  pub more : Answers order b answer.More
+  pub more : Answers dialect b answer.More
   pub bytes : AllBytes b
-  pub incomplete : header_in order b ≡ None
-  pub sound : (front back : List ℕ) (at : ℕ) (kind : FaultKind) → b ≡ front ++ back → Refused order front at kind → ⊥
+  pub incomplete : header_in dialect b ≡ None
+  pub sound : (front back : List ℕ) (at : ℕ) (kind : FaultKind) → b ≡ front ++ back → Refused dialect front at kind → ⊥
 
 -- a fault was answered in the header, at the last byte of b
-pub record StoppedInHeader (order : Order) (stop : HeaderStop) (b : List ℕ) : Type 0 where
-  pub refused : Refused order b stop.fault.offset stop.fault.kind
+pub record StoppedInHeader (dialect : Dialect) (stop : HeaderStop) (b : List ℕ) : Type 0 where
+  pub refused : Refused dialect b stop.fault.offset stop.fault.kind
   pub taken : stop.taken ≡ length b
-  pub in_unit : WithinUnit order b
-  pub incomplete : header_in order b ≡ None
-  pub cells : stop.cells ≡ min (cells order b) (2 ^ 64 - 1)
+  pub in_unit : WithinUnit dialect b
+  pub incomplete : header_in dialect b ≡ None
+  pub cells : stop.cells ≡ min (cells dialect b) (2 ^ 64 - 1)
 
 -- in this state a reader has taken the bytes b
-abbrev pub StandsAt : Order → State → List ℕ → Type 0
-StandsAt order (state.InHeader head) b = InHeader order head b
-StandsAt order (state.StoppedInHeader stop) b = StoppedInHeader order stop b
-StandsAt order (state.Foreign bytes) b = (version : ℕ) × InForeign order version bytes b
-StandsAt order (state.AfterHeader h body) b = BodyStands order h body b
+abbrev pub StandsAt : Dialect → State → List ℕ → Type 0
+StandsAt dialect (state.InHeader head) b = InHeader dialect head b
+StandsAt dialect (state.StoppedInHeader stop) b = StoppedInHeader dialect stop b
+StandsAt dialect (state.Foreign bytes) b = (version : ℕ) × InForeign dialect version bytes b
+StandsAt dialect (state.AfterHeader h body) b = BodyStands dialect h body b
 
 -- how many bytes were taken
 abbrev pub taken_in : State → ℕ
@@ -54,7 +54,7 @@ is_in_header other = false
 
 -- a reader of the header has taken some bytes, after which the header goes on
 abbrev pub GoesOn : HeadReader → Type 0
-GoesOn head = (b : List ℕ) × HeadStands head b × Answers head.order b answer.More
+GoesOn head = (b : List ℕ) × HeadStands head b × Answers head.dialect b answer.More
 
 abbrev pub IsBegun : State → Type 0
 IsBegun (state.InHeader head) = GoesOn head
@@ -62,8 +62,8 @@ IsBegun other = Unit {0}
 
 -- it has taken bytes that say how long the unit is
 abbrev pub KnowsLength : HeadReader → Type 0
-KnowsLength head = (b : List ℕ) × HeadStands head b × ((n : ℕ) × (unit_len head.order b ≡ Some n))
+KnowsLength head = (b : List ℕ) × HeadStands head b × ((n : ℕ) × (unit_len head.dialect b ≡ Some n))
 
 -- it has taken a header
 abbrev pub HasHeader : HeadReader → Type 0
-HasHeader head = (b : List ℕ) × HeadStands head b × ((h : HeaderData) × IsHeader head.order h b)
+HasHeader head = (b : List ℕ) × HeadStands head b × ((h : HeaderData) × IsHeader head.dialect h b)

@@ -1,7 +1,7 @@
 -- What a reader of a unit answers. Places count from the unit's first byte. DWARF 5, section 6.2.4.
 use Rattle.std.specs.Prelude.{◌≡◌, ◌≢◌, ◌<◌, ◌≤◌, ◌⊎◌, ◌-◌, ℕ, List, [], ◌∷◌, ◌++◌, length, take, Some, None, slice_get}
 use Rattle.std.specs.Prelude.{Result, Ok, Err}
-use Rattle.dl_num.specs.declared.fixed.Order.{Order}
+use Rattle.dl_head.specs.declared.dialect.Dialect.{Dialect}
 use Rattle.dl_head.specs.declared.fault.Fault.{Fault}
 use Rattle.dl_table.specs.declared.fault.FaultKind.{FaultKind}
 use Rattle.dl_table.specs.declared.fault.FaultKind.TheVariants.{Truncated}
@@ -18,8 +18,8 @@ use Rattle.dl_rows.specs.Sinks.{Story}
 use Rattle.dl_rows.specs.Refusal.{Refused}
 
 -- where the length of its unit is known, b is no longer
-abbrev pub WithinUnit : Order → List ℕ → Type 0
-WithinUnit order b = (n : ℕ) → unit_len order b ≡ Some n → length b ≤ n
+abbrev pub WithinUnit : Dialect → List ℕ → Type 0
+WithinUnit dialect b = (n : ℕ) → unit_len dialect b ≡ Some n → length b ≤ n
 
 -- an answer that may use no byte
 abbrev pub IsPause : Event → Type 0
@@ -38,60 +38,60 @@ told other = other ∷ []
 -- What is said of an answer, b being the bytes taken before the call, used bytes of the piece taken in it, and before
 -- the
 -- events up to this answer.
-abbrev pub EventHoldsAfter : Order → (before : List Event) → List ℕ → List ℕ → ℕ → Event → Type 0
+abbrev pub EventHoldsAfter : Dialect → (before : List Event) → List ℕ → List ℕ → ℕ → Event → Type 0
 -- the whole piece is used; where it ends a unit, it isn't empty
-EventHoldsAfter order before b piece used event.More =
-    (used ≡ length piece) × (IsUnit order (b ++ take used piece) → 1 ≤ used)
+EventHoldsAfter dialect before b piece used event.More =
+    (used ≡ length piece) × (IsUnit dialect (b ++ take used piece) → 1 ≤ used)
 -- a unit is whole
-EventHoldsAfter order before b piece used event.End =
-    IsUnit order (b ++ take used piece) × ((used ≡ 0) ⊎ (used < length piece))
+EventHoldsAfter dialect before b piece used event.End =
+    IsUnit dialect (b ++ take used piece) × ((used ≡ 0) ⊎ (used < length piece))
 -- the next byte of a header adds a cell
-EventHoldsAfter order before b piece used event.NoMemory =
-    (byte : ℕ) × (slice_get piece used ≡ Some byte) × (header_in order (b ++ take used piece) ≡ None)
-    × (cells order (b ++ take used piece) < cells order ((b ++ take used piece) ++ byte ∷ []))
+EventHoldsAfter dialect before b piece used event.NoMemory =
+    (byte : ℕ) × (slice_get piece used ≡ Some byte) × (header_in dialect (b ++ take used piece) ≡ None)
+    × (cells dialect (b ++ take used piece) < cells dialect ((b ++ take used piece) ++ byte ∷ []))
 -- what is told comes with the last byte used
-EventHoldsAfter order before b piece used other = (1 ≤ used) × (events order (b ++ take (used - 1) piece) ≡ before)
+EventHoldsAfter dialect before b piece used other = (1 ≤ used) × (events dialect (b ++ take (used - 1) piece) ≡ before)
 
 -- the same, where nothing was told in the call before
-abbrev pub EventHolds : Order → List ℕ → List ℕ → ℕ → Event → Type 0
-EventHolds order b piece used e = EventHoldsAfter order (events order b) b piece used e
+abbrev pub EventHolds : Dialect → List ℕ → List ℕ → ℕ → Event → Type 0
+EventHolds dialect b piece used e = EventHoldsAfter dialect (events dialect b) b piece used e
 
 -- what a piece may be answered after b and the events before, where that is an event
-pub record AnsweredAfter (order : Order) (before : List Event) (b piece : List ℕ) (fed : Fed) : Type 0 where
+pub record AnsweredAfter (dialect : Dialect) (before : List Event) (b piece : List ℕ) (fed : Fed) : Type 0 where
   pub within : fed.used ≤ length piece
-  pub in_unit : WithinUnit order (b ++ take fed.used piece)
+  pub in_unit : WithinUnit dialect (b ++ take fed.used piece)
   -- the events grow by what is told, and by nothing else
-  pub grows : events order (b ++ take fed.used piece) ≡ before ++ told fed.event
-  pub holds : EventHoldsAfter order before b piece fed.used fed.event
+  pub grows : events dialect (b ++ take fed.used piece) ≡ before ++ told fed.event
+  pub holds : EventHoldsAfter dialect before b piece fed.used fed.event
   -- nothing that was taken is refused
   pub sound : (front back : List ℕ) (at : ℕ) (kind : FaultKind) → b ++ take fed.used piece ≡ front ++ back
-      → Refused order front at kind → ⊥
+      → Refused dialect front at kind → ⊥
 
 -- the same, where nothing was told in the call before
-abbrev pub Answered : Order → (b piece : List ℕ) → Fed → Type 0
-Answered order b piece fed = AnsweredAfter order (events order b) b piece fed
+abbrev pub Answered : Dialect → (b piece : List ℕ) → Fed → Type 0
+Answered dialect b piece fed = AnsweredAfter dialect (events dialect b) b piece fed
 
 -- an answer of an event after those before, the reader then being new
-pub record FeedsAfter {S : Type 0} (StandsFor : S → List ℕ → Type 0) (order : Order) (before : List Event)
+pub record FeedsAfter {S : Type 0} (StandsFor : S → List ℕ → Type 0) (dialect : Dialect) (before : List Event)
     (b piece : List ℕ) (fed : Fed) (new : S) : Type 0 where
-  pub answered : AnsweredAfter order before b piece fed
+  pub answered : AnsweredAfter dialect before b piece fed
   pub stands : StandsFor new (b ++ take fed.used piece)
 
 -- an answer of an event
-abbrev pub Feeds : {S : Type 0} → (S → List ℕ → Type 0) → Order → (b piece : List ℕ) → Fed → S → Type 0
-Feeds StandsFor order b piece fed new = FeedsAfter StandsFor order (events order b) b piece fed new
+abbrev pub Feeds : {S : Type 0} → (S → List ℕ → Type 0) → Dialect → (b piece : List ℕ) → Fed → S → Type 0
+Feeds StandsFor dialect b piece fed new = FeedsAfter StandsFor dialect (events dialect b) b piece fed new
 
 -- an answer of a fault after the events before: the bytes up to the one that decides it are refused
-pub record FailsAfter (order : Order) (before : List Event) (b piece : List ℕ) (fault : Fault)
+pub record FailsAfter (dialect : Dialect) (before : List Event) (b piece : List ℕ) (fault : Fault)
     (used : ℕ) : Type 0 where
   pub within : used ≤ length piece
-  pub in_unit : WithinUnit order (b ++ take used piece)
-  pub refused : Refused order (b ++ take used piece) fault.offset fault.kind
-  pub no_event : events order (b ++ take used piece) ≡ before
+  pub in_unit : WithinUnit dialect (b ++ take used piece)
+  pub refused : Refused dialect (b ++ take used piece) fault.offset fault.kind
+  pub no_event : events dialect (b ++ take used piece) ≡ before
 
 -- an answer of a fault
-abbrev pub Fails : Order → (b piece : List ℕ) → Fault → ℕ → Type 0
-Fails order b piece fault used = FailsAfter order (events order b) b piece fault used
+abbrev pub Fails : Dialect → (b piece : List ℕ) → Fault → ℕ → Type 0
+Fails dialect b piece fault used = FailsAfter dialect (events dialect b) b piece fault used
 
 -- the sink stopped at the row of this event, or goes on
 abbrev pub SinkAt : {S : Type 0} → Story S → S → List Row → Event → Type 0
@@ -104,10 +104,10 @@ SinkAfter story s rows (Ok fed) = SinkAt story s rows fed.event
 SinkAfter story s rows (Err fault) = story.hears s rows
 
 -- `finish`: no byte was taken; a unit was; b is refused; or it is none of these
-abbrev pub FinishIs : Order → List ℕ → Result Finish Fault → Type 0
-FinishIs order b (Ok finish.Empty) = b ≡ []
-FinishIs order b (Ok finish.Whole) = IsUnit order b
-FinishIs order b (Err f) =
-    Refused order b f.offset f.kind
-    ⊎ ((f ≡ record { offset = length b; kind = Truncated }) × (b ≢ []) × (IsUnit order b → ⊥)
-    × ((at : ℕ) (kind : FaultKind) → Refused order b at kind → ⊥))
+abbrev pub FinishIs : Dialect → List ℕ → Result Finish Fault → Type 0
+FinishIs dialect b (Ok finish.Empty) = b ≡ []
+FinishIs dialect b (Ok finish.Whole) = IsUnit dialect b
+FinishIs dialect b (Err f) =
+    Refused dialect b f.offset f.kind
+    ⊎ ((f ≡ record { offset = length b; kind = Truncated }) × (b ≢ []) × (IsUnit dialect b → ⊥)
+    × ((at : ℕ) (kind : FaultKind) → Refused dialect b at kind → ⊥))

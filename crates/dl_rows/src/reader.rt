@@ -4,6 +4,7 @@ ghost use Rattle.std.specs.Prelude.{◌≡◌, ◌≢◌, ◌≤◌, ◌+◌, �
 ghost use Rattle.std.specs.Option.{option_copied};
 ghost use Rattle.dl_num.specs.Laws.{AllBytes};
 ghost use Rattle.dl_head.specs.Cells.{cells};
+ghost use Rattle.dl_head.specs.Dialect.{version_5};
 ghost use Rattle.dl_head.specs.Header.{unit_len};
 ghost use Rattle.dl_head.specs.Standing.{StandsFor as HeadStands};
 ghost use Rattle.dl_rows.specs.LineUnit.{unit_rows, ends_open};
@@ -17,7 +18,7 @@ use crate::program::Program;
 use crate::row::Row;
 use crate::sink::{EachRow, RowSink};
 use crate::unit_body::{BodyState, UnitBody, UnitBytes};
-use dl_head::{Fault, FaultKind, HeadReader, HeadStep, Header};
+use dl_head::{Dialect, Fault, FaultKind, HeadReader, HeadStep, Header};
 use dl_num::Order;
 pub use run::{Listener, Run};
 use std::alloc::Global;
@@ -83,7 +84,7 @@ enum State {
 #[derive(Drop)]
 pub struct Reader {
     alloc: Global,
-    order: Order,
+    dialect: Dialect,
     state: State,
     ghost begun: { ∥ IsBegun state ∥₁ },
 }
@@ -95,16 +96,26 @@ impl Reader {
     ghost use Rattle.dl_rows.specs.ReaderAnswers.{HeaderIs, ReaderFed, RowsFed};
     ghost use Rattle.dl_rows.specs.declared.row.Row.{Row};
 
-    /// No byte yet of a unit whose numbers stand in this order. It takes no memory.
+    /// No byte yet of a unit whose numbers stand in this order; units of other versions than 5 aren't read. It takes no
+    /// memory.
     pub fn new(alloc: Global, order: Order) -> Reader
         ensures stands { StandsFor result [] }
-        ensures order { result.order ≡ order }
+        ensures dialect { result.dialect ≡ version_5 order }
+        ensures taken { taken_of result ≡ 0 }
+    {
+        Reader::of(alloc, Dialect::version_5(order))
+    }
+
+    /// No byte yet of a unit of this dialect. It takes no memory.
+    pub fn of(alloc: Global, dialect: Dialect) -> Reader
+        ensures stands { StandsFor result [] }
+        ensures dialect { result.dialect ≡ dialect }
         ensures taken { taken_of result ≡ 0 }
     {
         Reader {
             alloc,
-            order,
-            state: State::InHeader(HeadReader::new(alloc, order)),
+            dialect,
+            state: State::InHeader(HeadReader::new(alloc, dialect)),
         }
     }
 
@@ -114,8 +125,8 @@ impl Reader {
         ensures progress { IfOk result (λ fed. IsPause fed.event ⊎ (1 ≤ fed.used)) }
         ensures end { IfOk result (λ fed. fed.event ≡ Event.End → 1 ≤ taken_of self.old + fed.used) }
         ensures fed { (b : List ℕ) → StandsFor self.old b
-            → ReaderFed self.old.order b piece.now result self.new }
-        ensures order { self.new.order ≡ self.old.order }
+            → ReaderFed self.old.dialect b piece.now result self.new }
+        ensures dialect { self.new.dialect ≡ self.old.dialect }
     {
         self.feed_rows(piece, &mut EachRow)
     }
@@ -129,15 +140,15 @@ impl Reader {
         ensures end { IfOk result (λ fed. fed.event ≡ Event.End → 1 ≤ taken_of self.old + fed.used) }
         ensures fed { (b : List ℕ) (before : List Row) (first : S) → StandsFor self.old b
             → (S.story first).hears sink.old before
-            → RowsFed (S.story first) self.old.order b piece.now before result self.new sink.new }
-        ensures order { self.new.order ≡ self.old.order }
+            → RowsFed (S.story first) self.old.dialect b piece.now before result self.new sink.new }
+        ensures dialect { self.new.dialect ≡ self.old.dialect }
     {
         match &mut self.state {
             State::InHeader(_) => self.feed_head(piece),
             State::StoppedInHeader(stop) => Err(stop.fault),
             State::Foreign(bytes) => Ok(bytes.pass_over(piece)),
             State::AfterHeader(header, body) => {
-                body.feed(self.order, header.params(), piece, sink)
+                body.feed(self.dialect, header.params(), piece, sink)
             }
         }
     }
@@ -158,7 +169,7 @@ impl Reader {
     {
         let Reader {
             alloc: _,
-            order: _,
+            dialect: _,
             state,
         } = self;
         match state {
@@ -171,7 +182,7 @@ impl Reader {
     pub fn taken(&self) -> u64
         ensures field { result ≡ taken_of self.now }
         ensures bytes { (b : List ℕ) → StandsFor self.now b → result ≡ length b }
-        ensures in_unit { (b : List ℕ) → StandsFor self.now b → (n : ℕ) → unit_len self.now.order b ≡ Some n
+        ensures in_unit { (b : List ℕ) → StandsFor self.now b → (n : ℕ) → unit_len self.now.dialect b ≡ Some n
             → result ≤ n }
     {
         match &self.state {
@@ -185,7 +196,7 @@ impl Reader {
     /// How many pairs, values, and bytes of texts and blocks the header holds; 2^64 - 1 where there
     /// are more.
     pub fn cells(&self) -> u64
-        ensures { (b : List ℕ) → StandsFor self.now b → result ≡ min (cells self.now.order b) (2 ^ 64 - 1) }
+        ensures { (b : List ℕ) → StandsFor self.now b → result ≡ min (cells self.now.dialect b) (2 ^ 64 - 1) }
     {
         match &self.state {
             State::InHeader(head) => head.cells(),
@@ -197,7 +208,7 @@ impl Reader {
 
     /// Whether a row was handed out, and the last one isn't an end row.
     pub fn in_sequence(&self) -> bool
-        ensures { (b : List ℕ) → StandsFor self.now b → result ≡ ends_open (unit_rows self.now.order b) }
+        ensures { (b : List ℕ) → StandsFor self.now b → result ≡ ends_open (unit_rows self.now.dialect b) }
     {
         match &self.state {
             State::InHeader(_) | State::StoppedInHeader(_) | State::Foreign(_) => false,
@@ -207,7 +218,7 @@ impl Reader {
 
     /// How the unit stands where no more bytes come: Truncated where it isn't whole.
     pub fn finish(&self) -> Result<Finish, Fault>
-        ensures { (b : List ℕ) → StandsFor self.now b → FinishIs self.now.order b result }
+        ensures { (b : List ℕ) → StandsFor self.now b → FinishIs self.now.dialect b result }
     {
         match &self.state {
             State::InHeader(head) => finish_in_header(head),
@@ -225,8 +236,8 @@ impl Reader {
         ensures progress { IfOk result (λ fed. IsPause fed.event ⊎ (1 ≤ fed.used)) }
         ensures not_end { IfOk result (λ fed. fed.event ≢ Event.End) }
         ensures no_row { IfOk result (λ fed. (r : Row) → fed.event ≢ Event.Row r) }
-        ensures fed { (b : List ℕ) → StandsFor self.old b → ReaderFed self.old.order b piece.now result self.new }
-        ensures order { self.new.order ≡ self.old.order }
+        ensures fed { (b : List ℕ) → StandsFor self.old b → ReaderFed self.old.dialect b piece.now result self.new }
+        ensures dialect { self.new.dialect ≡ self.old.dialect }
     {
         let State::InHeader(head) = &mut self.state else {
             unreachable!()
@@ -240,7 +251,7 @@ impl Reader {
                 Event::Foreign(version)
             }
             HeadStep::Done => {
-                let read = mem::replace(head, HeadReader::new(self.alloc, self.order));
+                let read = mem::replace(head, HeadReader::new(self.alloc, self.dialect));
                 self.state = after_header(read);
                 Event::Header
             }
@@ -261,7 +272,7 @@ impl Reader {
 /// are left.
 fn bytes_of(head: &HeadReader) -> UnitBytes
     requires { ∥ KnowsLength head.now ∥₁ }
-    ensures { (b : List ℕ) → HeadStands head.now b → Counts head.now.order result b }
+    ensures { (b : List ℕ) → HeadStands head.now b → Counts head.now.dialect result b }
 {
     let Some(len) = head.unit_len() else {
         unreachable!()
@@ -276,7 +287,7 @@ fn bytes_of(head: &HeadReader) -> UnitBytes
 /// The state after the header that this reader has read.
 fn after_header(head: HeadReader) -> State
     requires { ∥ HasHeader head ∥₁ }
-    ensures stands { (b : List ℕ) → HeadStands head b → AllBytes b → StandsAt head.order result b }
+    ensures stands { (b : List ℕ) → HeadStands head b → AllBytes b → StandsAt head.dialect result b }
     ensures begun { ∥ IsBegun result ∥₁ }
 {
     let bytes = bytes_of(&head);
@@ -289,7 +300,7 @@ fn after_header(head: HeadReader) -> State
 
 /// How a unit stands whose header isn't complete, where no more bytes come.
 fn finish_in_header(head: &HeadReader) -> Result<Finish, Fault>
-    ensures { (order : Order) (b : List ℕ) → InHeader order head.now b → FinishIs order b result }
+    ensures { (dialect : Dialect) (b : List ℕ) → InHeader dialect head.now b → FinishIs dialect b result }
 {
     let taken = head.taken();
     if taken == 0 {

@@ -8,8 +8,7 @@ ghost use Rattle.dl_rows.specs.Reading.{IsPause};
 use crate::program::{Program, ProgramStep};
 use crate::reader::{Event, Fed, Finish};
 use crate::sink::RowSink;
-use dl_head::{Fault, FaultKind, Params};
-use dl_num::Order;
+use dl_head::{Dialect, Fault, FaultKind, Params};
 
 /// How many bytes of a unit were taken, and how many are left.
 #[derive(Clone, Copy)]
@@ -52,8 +51,8 @@ impl UnitBytes {
         ensures used { result.used ≤ length piece.now }
         ensures pause { IsPause result.event }
         ensures end { result.event ≡ Event.End → 1 ≤ self.old.taken + result.used }
-        ensures fed { (order : Order) (version : ℕ) (b : List ℕ) → InForeign order version self.old b
-            → Feeds (InForeign order version) order b piece.now result self.new }
+        ensures fed { (dialect : Dialect) (version : ℕ) (b : List ℕ) → InForeign dialect version self.old b
+            → Feeds (InForeign dialect version) dialect b piece.now result self.new }
     {
         let used = front(piece, self.left).len();
         self.count(used);
@@ -105,7 +104,7 @@ impl UnitBody {
     /// Takes bytes of the program up to the next event.
     pub fn feed<S: RowSink>(
         &mut self,
-        order: Order,
+        dialect: Dialect,
         params: &Params,
         piece: &[u8],
         sink: &mut S,
@@ -115,12 +114,12 @@ impl UnitBody {
         ensures progress { IfOk result (λ fed. IsPause fed.event ⊎ (1 ≤ fed.used)) }
         ensures end { IfOk result (λ fed. fed.event ≡ Event.End → 1 ≤ self.old.bytes.taken + fed.used) }
         ensures fed { (h : HeaderData) (b : List ℕ) (before : List Row) (first : S) → h.params ≡ params.now
-            → InProgram order h self.old b
+            → InProgram dialect h self.old b
             → (S.story first).hears sink.old before
-            → ProgramTells (S.story first) order h b piece.now before result self.new sink.new }
+            → ProgramTells (S.story first) dialect h b piece.now before result self.new sink.new }
     {
         let bytes = front(piece, self.bytes.left);
-        match self.program.push(order, params, bytes, sink) {
+        match self.program.push(dialect.order, params, bytes, sink) {
             ProgramStep::Row(row, tail) => {
                 let used = bytes.len() - tail.len();
                 self.bytes.count(used);
@@ -179,7 +178,7 @@ impl BodyState {
     /// Takes bytes up to the next event. After a fault it answers the fault again.
     pub fn feed<S: RowSink>(
         &mut self,
-        order: Order,
+        dialect: Dialect,
         params: &Params,
         piece: &[u8],
         sink: &mut S,
@@ -189,13 +188,13 @@ impl BodyState {
         ensures progress { IfOk result (λ fed. IsPause fed.event ⊎ (1 ≤ fed.used)) }
         ensures end { IfOk result (λ fed. fed.event ≡ Event.End → 1 ≤ taken_in_body self.old + fed.used) }
         ensures fed { (h : HeaderData) (b : List ℕ) (before : List Row) (first : S) → h.params ≡ params.now
-            → BodyStands order h self.old b
+            → BodyStands dialect h self.old b
             → (S.story first).hears sink.old before
-            → BodyTells (S.story first) order h b piece.now before result self.new sink.new }
+            → BodyTells (S.story first) dialect h b piece.now before result self.new sink.new }
     {
         match self {
             BodyState::InProgram(body) => {
-                let fed = body.feed(order, params, piece, sink);
+                let fed = body.feed(dialect, params, piece, sink);
                 if let Err(fault) = fed {
                     let stop = body.stop(fault);
                     self.stop_by(stop);
@@ -225,8 +224,8 @@ impl BodyState {
 
     /// Whether there was a row, and the last one isn't an end row.
     pub fn in_sequence(&self) -> bool
-        ensures { (order : Order) (h : HeaderData) (b : List ℕ) → BodyStands order h self.now b
-            → result ≡ ends_open (unit_rows order b) }
+        ensures { (dialect : Dialect) (h : HeaderData) (b : List ℕ) → BodyStands dialect h self.now b
+            → result ≡ ends_open (unit_rows dialect b) }
     {
         match self {
             BodyState::InProgram(body) => body.program.in_sequence(),
@@ -236,8 +235,8 @@ impl BodyState {
 
     /// How the unit stands where no more bytes come.
     pub fn finish(&self) -> Result<Finish, Fault>
-        ensures { (order : Order) (h : HeaderData) (b : List ℕ) → BodyStands order h self.now b
-            → FinishIs order b result }
+        ensures { (dialect : Dialect) (h : HeaderData) (b : List ℕ) → BodyStands dialect h self.now b
+            → FinishIs dialect b result }
     {
         match self {
             BodyState::InProgram(body) => body.bytes.finish(),

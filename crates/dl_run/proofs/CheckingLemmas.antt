@@ -1,7 +1,7 @@
 -- What a check comes to.
 use Rattle.std.proofs.Common.{inl, inr, ℕ, List, [], Option, Ok, Err, arith, refl}
 use Rattle.std.specs.Io.KnownBytes.{Appends}
-use Rattle.dl_num.specs.declared.fixed.Order.{Order}
+use Rattle.dl_head.specs.declared.dialect.Dialect.{Dialect}
 use Rattle.dl_run.specs.declared.checking.Checker.{Checker}
 use Rattle.dl_run.specs.declared.fault.RunFault.{RunFault}
 use Rattle.dl_run.specs.declared.fault.RunFault.TheVariants as fault
@@ -14,23 +14,23 @@ use Rattle.dl_print.specs.Text.{summary_line}
 use Rattle.dl_run.specs.Visiting.{Ran}
 use Rattle.dl_print.proofs.Outs.{keeps_by_nothing}
 
-module _ (order : Order) (limit : ℕ) (bytes : List ℕ) (left : Option (List ℕ)) (first new : Checker)
+module _ (dialect : Dialect) (limit : ℕ) (bytes : List ℕ) (left : Option (List ℕ)) (first new : Checker)
     (start mid now : Option (List ℕ)) where
   -- the section is units to its end, and nothing is written yet
-  pub counted : (summary : Summary) → Ran check_story order limit bytes left first new start mid (Ok summary)
-      → ((units : List (List ℕ)) × EndsAs order limit bytes left units [] [] (Ok summary)) × Appends start mid []
+  pub counted : (summary : Summary) → Ran check_story dialect limit bytes left first new start mid (Ok summary)
+      → ((units : List (List ℕ)) × EndsAs dialect limit bytes left units [] [] (Ok summary)) × Appends start mid []
   counted summary (inl (units, ends, settled)) = ((units, ends), settled.out)
   counted summary (inr done) = absurd done.4.tells
 
   -- the line isn't out
   pub line_lost : (summary : Summary) (out : ℕ)
-      → Ran check_story order limit bytes left first new start mid (Ok summary)
+      → Ran check_story dialect limit bytes left first new start mid (Ok summary)
       → TellsOut start now (summary_line summary) (fault.Write out)
-      → Checks order limit bytes left start now (Err (fault.Write out))
+      → Checks dialect limit bytes left start now (Err (fault.Write out))
   line_lost summary out ran t = let c = counted summary ran in (c.0.0, summary, c.0.1, t)
 
-  pub failed : (f : RunFault) → Ran check_story order limit bytes left first new start mid (Err f)
-      → Checks order limit bytes left start mid (Err f)
+  pub failed : (f : RunFault) → Ran check_story dialect limit bytes left first new start mid (Err f)
+      → Checks dialect limit bytes left start mid (Err f)
   failed (fault.Write out) (units, b, back, has, writes) = absurd (omega (arith, writes.3.0))
   failed (fault.Damage offset kind) (units, b, back, inl (ends, settled)) =
       (units, b, back, ends, keeps_by_nothing start mid [] refl settled.out)
@@ -52,6 +52,6 @@ module _ (order : Order) (limit : ℕ) (bytes : List ℕ) (left : Option (List �
   failed (fault.Emit unit f) (units, b, back, inr (has, sound, stops)) = absurd stops.reason
 
   -- the line is out
-  pub line_out : (summary : Summary) → Ran check_story order limit bytes left first new start mid (Ok summary)
-      → Appends start now (summary_line summary) → Checks order limit bytes left start now (Ok summary)
+  pub line_out : (summary : Summary) → Ran check_story dialect limit bytes left first new start mid (Ok summary)
+      → Appends start now (summary_line summary) → Checks dialect limit bytes left start now (Ok summary)
   line_out summary ran out = let c = counted summary ran in (c.0.0, c.0.1, out)

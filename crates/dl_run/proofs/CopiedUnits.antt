@@ -1,4 +1,5 @@
 -- What is written for units that were read is units of the same rows.
+use Rattle.dl_head.specs.declared.dialect.Dialect.{Dialect}
 use Rattle.std.proofs.Common.{◌≡◌, inr, ℕ, zero, suc, ◌^◌, ◌<◌, ◌≤◌, ℤ, pos, negsuc, Bool, true, false, List, [], ◌∷◌}
 use Rattle.std.proofs.Common.{◌++◌, drop, map, Option, Some, None, refl, sym, ap, subst, ◌∙◌, arith, append-nil}
 use Rattle.std.specs.Prelude.{option_map, unwrap_or, if◌then◌else◌}
@@ -157,74 +158,78 @@ standard_sound h sound =
     }
 
 -- the header of bytes, and the rows after it
-record HasHeader (order : Order) (u : List ℕ) (h : HeaderData) : Type 0 where
+record HasHeader (dialect : Dialect) (u : List ℕ) (h : HeaderData) : Type 0 where
   sound : IsSoundHeader h
-  rows : AllByRecursion IsRow (unit_rows order u)
+  rows : AllByRecursion IsRow (unit_rows dialect u)
 
-header_read : (order : Order) (u : List ℕ) (h : HeaderData) → AllBytes u → header_of order u ≡ Some h
-    → HasHeader order u h
-header_read order u h all is = by (header_in order u) refl where
-  by : (parts : Option (HeaderData × List ℕ)) → header_in order u ≡ parts → HasHeader order u h
+header_read : (dialect : Dialect) (u : List ℕ) (h : HeaderData) → AllBytes u → header_of dialect u ≡ Some h
+    → HasHeader dialect u h
+header_read dialect u h all is = by (header_in dialect u) refl where
+  by : (parts : Option (HeaderData × List ℕ)) → header_in dialect u ≡ parts → HasHeader dialect u h
   by None e = absurd (none_is_some (sym (ap (λ (p : Option (HeaderData × List ℕ)). option_map (λ q. q.0) p) e) ∙ is))
   by (Some (own, program)) e =
       let same : own ≡ h =
       value_same own h (sym (ap (λ (p : Option (HeaderData × List ℕ)). option_map (λ q. q.0) p) e) ∙ is) in
-      let w = found_is_header order own u program e in
-      let sound = header_is_sound order own w.0 w.2 (bytes_front w.0 program (subst AllBytes w.1 all)) in
+      let w = found_is_header dialect own u program e in
+      let sound = header_is_sound dialect own w.0 w.2 (bytes_front w.0 program (subst AllBytes w.1 all)) in
       let params = usable own.params own.directories own.files sound.params in
-      let found = found_is_program order own.params program (let opcodes = params.opcodes in omega arith) in
-      let small = all_small order own.params (operations_in order own.params program).found found.0 found.2 in
+      let found = found_is_program dialect.order own.params program (let opcodes = params.opcodes in omega arith) in
+      let small = all_small dialect.order own.params (operations_in dialect.order own.params program).found
+      found.0 found.2 in
       record {
         sound = subst IsSoundHeader same sound;
-        rows = subst (AllByRecursion IsRow) (sym (ap (rows_later order) e))
+        rows = subst (AllByRecursion IsRow) (sym (ap (rows_later dialect.order) e))
             (rows_are own.params params.operations sound.maximum_operations []
-            (operations_in order own.params program).found tt small);
+            (operations_in dialect.order own.params program).found tt small);
       }
 
-copy_is_anew : (order : Order) (u : List ℕ) → AllBytes u → IsCopied order u → IsAnew order u (copied_unit order u)
-copy_is_anew order u all (h, is, none) =
-    let read = header_read order u h all is in
+copy_is_anew : (dialect : Dialect) (u : List ℕ) → AllBytes u → IsCopied dialect u
+    → IsAnew dialect u (copied_unit dialect u)
+copy_is_anew dialect u all (h, is, none) =
+    let read = header_read dialect u h all is in
     let std = with_standard_opcodes h in
-    let rows = unit_rows order u in
-    let again = unit_is_read_again order std rows (standard_sound h read.sound) read.rows none in
-    let anew : IsAnew order u (unit_of order std rows) = record {
+    let rows = unit_rows dialect u in
+    let again = unit_is_read_again dialect std rows (standard_sound h read.sound) read.rows none in
+    let anew : IsAnew dialect u (unit_of dialect.order std rows) = record {
       header = h;
       its_header = is;
       operations = _;
       unit = again.unit;
       events_are = again.events_are;
-      rows = ap (rows_later order) again.header ∙ again.program.same;
+      rows = ap (rows_later dialect.order) again.header ∙ again.program.same;
     } in
-    subst (IsAnew order u)
-    (sym (ap (λ (o : Option HeaderData). option_map_or (λ g. unit_of order (with_standard_opcodes g) rows) o [])
+    subst (IsAnew dialect u)
+    (sym (ap (λ (o : Option HeaderData). option_map_or (λ g. unit_of dialect.order (with_standard_opcodes g) rows) o [])
     is)) anew
 
 -- ---- units
 
-copies : (order : Order) (units : List (List ℕ)) → AllBytes (concat units) → AreCopied order units
-    → AllByRecursion (λ u. IsAnew order u (copied_unit order u)) units
-copies order [] all copied = tt
-copies order (u ∷ units) all copied = (
-  copy_is_anew order u (bytes_front u (concat units) all) copied.0,
-  copies order units (bytes_back u (concat units) all) copied.1,
+copies : (dialect : Dialect) (units : List (List ℕ)) → AllBytes (concat units) → AreCopied dialect units
+    → AllByRecursion (λ u. IsAnew dialect u (copied_unit dialect u)) units
+copies dialect [] all copied = tt
+copies dialect (u ∷ units) all copied = (
+  copy_is_anew dialect u (bytes_front u (concat units) all) copied.0,
+  copies dialect units (bytes_back u (concat units) all) copied.1,
 )
 
-are_units : (order : Order) (units : List (List ℕ)) → AllByRecursion (λ u. IsAnew order u (copied_unit order u)) units
-    → AllByRecursion (IsUnit order) (map (copied_unit order) units)
-are_units order [] anew = tt
-are_units order (u ∷ units) anew = (inr (_, _, anew.0.unit), are_units order units anew.1)
+are_units : (dialect : Dialect) (units : List (List ℕ))
+    → AllByRecursion (λ u. IsAnew dialect u (copied_unit dialect u)) units
+    → AllByRecursion (IsUnit dialect) (map (copied_unit dialect) units)
+are_units dialect [] anew = tt
+are_units dialect (u ∷ units) anew = (inr (_, _, anew.0.unit), are_units dialect units anew.1)
 
-joined : (order : Order) (units : List (List ℕ)) → copied_units order units ≡ concat (map (copied_unit order) units)
-joined order [] = refl
-joined order (u ∷ units) = ap (λ (l : List ℕ). copied_unit order u ++ l) (joined order units)
+joined : (dialect : Dialect) (units : List (List ℕ))
+    → copied_units dialect units ≡ concat (map (copied_unit dialect) units)
+joined dialect [] = refl
+joined dialect (u ∷ units) = ap (λ (l : List ℕ). copied_unit dialect u ++ l) (joined dialect units)
 
 pub copies_are_units : CopiesAreUnits
-copies_are_units order s units rest all has copied =
-    let anew = copies order units (bytes_front (concat units) rest (subst AllBytes has.whole all)) copied in (
+copies_are_units dialect s units rest all has copied =
+    let anew = copies dialect units (bytes_front (concat units) rest (subst AllBytes has.whole all)) copied in (
       record {
-        whole = joined order units ∙ sym (append-nil (concat (map (copied_unit order) units)));
+        whole = joined dialect units ∙ sym (append-nil (concat (map (copied_unit dialect) units)));
         each =
-            are_units order units anew;
+            are_units dialect units anew;
       },
       anew,
     )

@@ -1,4 +1,5 @@
 -- What `copy` answers and writes.
+use Rattle.dl_head.specs.declared.dialect.Dialect.{Dialect}
 use Rattle.std.proofs.Common.{[], ◌≡◌, inl, inr, ℕ, List, ◌∷◌, ◌++◌, length}
 use Rattle.std.proofs.Common.{take, Option, Some, None, Result, Ok, Err, arith, refl, sym, ap, ◌∙◌, subst}
 use Rattle.std.proofs.Common.{append_assoc, append-nil}
@@ -45,65 +46,65 @@ stop_is_last order n rows (of_end (Some h)) f e =
       by None unit e = absurd (none_is_some e)
       by (Some g) unit e = refl
 
-module _ (order : Order) (limit : ℕ) (bytes : List ℕ) (left : Option (List ℕ)) (first new : Copier)
-    (start now : Option (List ℕ)) (own : first.program.order ≡ order) where
+module _ (dialect : Dialect) (limit : ℕ) (bytes : List ℕ) (left : Option (List ℕ)) (first new : Copier)
+    (start now : Option (List ℕ)) (own : first.program.order ≡ dialect.order) where
   abbrev pub s : List ℕ
   s = take limit bytes
 
-  heard_in : (units : List (List ℕ)) (b : List ℕ) (heard more : List Visit) → AllByRecursion (IsUnit order) units
-      → section_visits order units b ≡ heard ++ more → Heard order first.unit 0 units b heard more
+  heard_in : (units : List (List ℕ)) (b : List ℕ) (heard more : List Visit) → AllByRecursion (IsUnit dialect) units
+      → section_visits dialect units b ≡ heard ++ more → Heard dialect first.unit 0 units b heard more
   heard_in units b heard more each e =
-      heard_of order first.unit 0 (length (concat units)) units b heard more each (omega arith) e
+      heard_of dialect first.unit 0 (length (concat units)) units b heard more each (omega arith) e
 
   -- without a fault all units are copied
-  all_copied : (units : List (List ℕ)) (b : List ℕ) → AllByRecursion (IsUnit order) units
-      → Settled copy_story first start now (section_visits order units b) (Copying first new start now)
-      → HasCopied order units start now
+  all_copied : (units : List (List ℕ)) (b : List ℕ) → AllByRecursion (IsUnit dialect) units
+      → Settled copy_story first start now (section_visits dialect units b) (Copying first new start now)
+      → HasCopied dialect units start now
   all_copied units b each settled =
-      let visits = section_visits order units b in
+      let visits = section_visits dialect units b in
       let f = heard_in units b visits [] each (sym (append-nil visits)) in
       let same : units ≡ f.done =
       f.whole ∙ ap (λ (l : List (List ℕ)). f.done ++ l) (f.all refl settled.tells.goes_on).0 ∙ append-nil f.done in
-      let out : Appends start now (text_after order [] visits) =
+      let out : Appends start now (text_after dialect.order [] visits) =
       subst (λ (o : Order). Appends start now (text_after o [] visits)) own settled.out in
-      subst (λ (l : List (List ℕ)). HasCopied order l start now) (sym same) (
+      subst (λ (l : List (List ℕ)). HasCopied dialect l start now) (sym same) (
         f.copied,
         subst (Appends start now) f.text out,
       )
 
   -- without a fault b isn't of another version
-  not_version : (units : List (List ℕ)) (b : List ℕ) → AllByRecursion (IsUnit order) units
-      → Settled copy_story first start now (section_visits order units b) (Copying first new start now)
-      → foreign_in order b ≡ None
+  not_version : (units : List (List ℕ)) (b : List ℕ) → AllByRecursion (IsUnit dialect) units
+      → Settled copy_story first start now (section_visits dialect units b) (Copying first new start now)
+      → foreign_in dialect b ≡ None
   not_version units b each settled =
-      let visits = section_visits order units b in
+      let visits = section_visits dialect units b in
       ((heard_in units b visits [] each (sym (append-nil visits))).all refl settled.tells.goes_on).1
 
   failed_write : (units : List (List ℕ)) (b back : List ℕ) (heard more : List Visit) (out : ℕ)
-      → HasUnits order s units (b ++ back) → section_visits order units b ≡ heard ++ more
+      → HasUnits dialect s units (b ++ back) → section_visits dialect units b ≡ heard ++ more
       → TellsOut start now (text_after first.program.order [] heard) (fault.Write out)
-      → Copies order limit bytes left start now (Err (fault.Write out))
+      → Copies dialect limit bytes left start now (Err (fault.Write out))
   failed_write units b back heard more out has whole tells =
       let f = heard_in units b heard more has.each whole in
-      let tells_own : TellsOut start now (text_after order [] heard) (fault.Write out) =
+      let tells_own : TellsOut start now (text_after dialect.order [] heard) (fault.Write out) =
       subst (λ (o : Order). TellsOut start now (text_after o [] heard) (fault.Write out)) own tells in (
         f.done,
         concat f.after ++ (b ++ back),
-        has_front order s units f.done f.after (b ++ back) f.whole has,
+        has_front dialect s units f.done f.after (b ++ back) f.whole has,
         f.copied,
         subst (λ (l : List ℕ). TellsOut start now l (fault.Write out)) f.text tells_own,
       )
 
-  module _ (units : List (List ℕ)) (b back : List ℕ) (begun : HasBegun order s units b back) (f : RunFault)
-      (stops : VisitorStops copy_story first new start now (section_visits order units b) f) where
-    has : HasUnits order s units (b ++ back)
+  module _ (units : List (List ℕ)) (b back : List ℕ) (begun : HasBegun dialect s units b back) (f : RunFault)
+      (stops : VisitorStops copy_story first new start now (section_visits dialect units b) f) where
+    has : HasUnits dialect s units (b ++ back)
     has = begun.has
 
-    out_before : Appends start now (text_after order [] stops.before)
+    out_before : Appends start now (text_after dialect.order [] stops.before)
     out_before = subst (λ (o : Order). Appends start now (text_after o [] stops.before)) own stops.out
 
-    no_memory : Sound order b → StopsAt first (stops.before ++ stops.visit ∷ []) fault.NoMemory
-        → Copies order limit bytes left start now (Err fault.NoMemory)
+    no_memory : Sound dialect b → StopsAt first (stops.before ++ stops.visit ∷ []) fault.NoMemory
+        → Copies dialect limit bytes left start now (Err fault.NoMemory)
     no_memory sound (before, visit, same, growth) =
         let h = heard_in units b stops.before (stops.visit ∷ stops.more) has.each stops.whole in
         let a = h.current stops.visit stops.more refl
@@ -117,7 +118,8 @@ module _ (order : Order) (limit : ℕ) (bytes : List ℕ) (left : Option (List �
           a.tail ++ back,
           record {
             has =
-                subst (HasUnits order s h.done) rest (has_front order s units h.done h.after (b ++ back) h.whole has);
+                subst (HasUnits dialect s h.done) rest
+                (has_front dialect s units h.done h.after (b ++ back) h.whole has);
             in_unit = a.within;
           },
           a.sound,
@@ -129,7 +131,7 @@ module _ (order : Order) (limit : ℕ) (bytes : List ℕ) (left : Option (List �
     abbrev heard : List Visit
     heard = stops.before ++ stops.visit ∷ []
 
-    told : Heard order first.unit 0 units b heard stops.more
+    told : Heard dialect first.unit 0 units b heard stops.more
     told = heard_in units b heard stops.more has.each (stops.whole
         ∙ sym (append_assoc stops.before (stops.visit ∷ []) stops.more))
 
@@ -143,23 +145,24 @@ module _ (order : Order) (limit : ℕ) (bytes : List ℕ) (left : Option (List �
           ∙ sym (stop_after-append first.unit [] stops.before (stops.visit ∷ []))
           ∙ reason
 
-      text_before : text_after order [] stops.before ≡ copied_units order told.done
+      text_before : text_after dialect.order [] stops.before ≡ copied_units dialect told.done
       text_before =
-          sym (append-nil (text_after order [] stops.before))
-          ∙ ap (λ (l : List ℕ). text_after order [] stops.before ++ l)
-          (sym (stop_is_last order (offset_after first.unit stops.before) (rows_since [] stops.before) stops.visit f
+          sym (append-nil (text_after dialect.order [] stops.before))
+          ∙ ap (λ (l : List ℕ). text_after dialect.order [] stops.before ++ l)
+          (sym (stop_is_last dialect.order (offset_after first.unit stops.before)
+          (rows_since [] stops.before) stops.visit f
           at_last))
-          ∙ sym (text_after-append order first.unit [] stops.before (stops.visit ∷ []) stops.tells.goes_on)
+          ∙ sym (text_after-append dialect.order first.unit [] stops.before (stops.visit ∷ []) stops.tells.goes_on)
           ∙ told.text
 
-      copied_before : HasCopied order told.done start now
+      copied_before : HasCopied dialect told.done start now
       copied_before = (told.copied, subst (Appends start now) text_before out_before)
 
-      done_in : HasUnits order s told.done (concat told.after ++ (b ++ back))
-      done_in = has_front order s units told.done told.after (b ++ back) told.whole has
+      done_in : HasUnits dialect s told.done (concat told.after ++ (b ++ back))
+      done_in = has_front dialect s units told.done told.after (b ++ back) told.whole has
 
-      by_stop : (g : RunFault) → StopIs order 0 told.done told.after b g
-          → Copies order limit bytes left start now (Err g)
+      by_stop : (g : RunFault) → StopIs dialect 0 told.done told.after b g
+          → Copies dialect limit bytes left start now (Err g)
       by_stop (fault.ForeignUnit offset) (c, more, version, whole, at, within, foreign) =
           let rest : concat told.after ++ (b ++ back) ≡ c ++ (more ++ back) =
           sym (append_assoc (concat told.after) b back) ∙ ap (λ (l : List ℕ). l ++ back) whole
@@ -169,7 +172,7 @@ module _ (order : Order) (limit : ℕ) (bytes : List ℕ) (left : Option (List �
             more ++ back,
             version,
             record {
-              has = subst (HasUnits order s told.done) rest done_in;
+              has = subst (HasUnits dialect s told.done) rest done_in;
               in_unit = within;
             },
             at ∙ omega arith,
@@ -184,11 +187,11 @@ module _ (order : Order) (limit : ℕ) (bytes : List ℕ) (left : Option (List �
             u,
             concat later ++ (b ++ back),
             h,
-            has_front order s units (told.done ++ u ∷ []) later (b ++ back) all has,
+            has_front dialect s units (told.done ++ u ∷ []) later (b ++ back) all has,
             at ∙ omega arith,
             header,
             refused,
-            too_long order u h g header refused,
+            too_long dialect u h g header refused,
             copied_before,
           )
       by_stop (fault.Damage at kind) stop = absurd stop
@@ -198,11 +201,11 @@ module _ (order : Order) (limit : ℕ) (bytes : List ℕ) (left : Option (List �
       by_stop fault.SectionTooLong stop = absurd stop
       by_stop fault.NotFound stop = absurd stop
 
-      stopped : Copies order limit bytes left start now (Err f)
+      stopped : Copies dialect limit bytes left start now (Err f)
       stopped = by_stop f (told.stop begun.in_unit f reason)
 
-  pub copies : (result : Result Summary RunFault) → Ran copy_story order limit bytes left first new start now result
-      → Copies order limit bytes left start now result
+  pub copies : (result : Result Summary RunFault) → Ran copy_story dialect limit bytes left first new start now result
+      → Copies dialect limit bytes left start now result
   copies (Ok summary) (inl (units, ends, settled)) = (units, ends, all_copied units [] ends.0.each settled)
   copies (Ok summary) (inr (_, _, _, _, settled)) = absurd settled.tells
   copies (Err (fault.Write out)) (units, b, back, has, (heard, more, whole, tells)) =

@@ -5,7 +5,7 @@ use Rattle.std.proofs.Common.{append_assoc, append-nil, length-append}
 use Rattle.std.specs.Prelude.{◌≢◌, option_map}
 use Rattle.std.specs.List.{AllByRecursion, concat}
 use Rattle.std.specs.Option.{option_or, option_map_or}
-use Rattle.dl_num.specs.declared.fixed.Order.{Order}
+use Rattle.dl_head.specs.declared.dialect.Dialect.{Dialect}
 use Rattle.dl_head.specs.Built.{with_standard_opcodes}
 use Rattle.dl_field.specs.HeaderData.{HeaderData}
 use Rattle.dl_head.specs.Header.{foreign_in, header_in}
@@ -32,53 +32,54 @@ use Rattle.dl_run.proofs.CopyingVisits.{stop_of_foreign, stop_of_own, text_of_fo
 -- ---- the visits of a section, or some of the first of them
 
 -- the fault is that of what stands after the units that are done, the first of which is at n
-abbrev pub StopIs : Order → (n : ℕ) (done after : List (List ℕ)) (b : List ℕ) → RunFault → Type 0
-StopIs order n done after b (fault.ForeignUnit offset) =
+abbrev pub StopIs : Dialect → (n : ℕ) (done after : List (List ℕ)) (b : List ℕ) → RunFault → Type 0
+StopIs dialect n done after b (fault.ForeignUnit offset) =
     (c : List ℕ) × (back : List ℕ) × (version : ℕ) × (concat after ++ b ≡ c ++ back)
-    × (offset ≡ n + length (concat done)) × WithinUnit order c × (foreign_in order c ≡ Some version)
-StopIs order n done after b (fault.Emit offset f) =
+    × (offset ≡ n + length (concat done)) × WithinUnit dialect c × (foreign_in dialect c ≡ Some version)
+StopIs dialect n done after b (fault.Emit offset f) =
     (u : List ℕ) × (later : List (List ℕ)) × (h : HeaderData) × (after ≡ u ∷ later)
-    × (offset ≡ n + length (concat done)) × (header_of order u ≡ Some h)
-    × (refusal (with_standard_opcodes h) (unit_rows order u) ≡ Some f)
-StopIs order n done after b other = ⊥
+    × (offset ≡ n + length (concat done)) × (header_of dialect u ≡ Some h)
+    × (refusal (with_standard_opcodes h) (unit_rows dialect u) ≡ Some f)
+StopIs dialect n done after b other = ⊥
 
 -- one unit more is done
-stop_later : (order : Order) (n : ℕ) (u : List ℕ) (done after : List (List ℕ)) (b : List ℕ) (f : RunFault)
-    → StopIs order (n + length u) done after b f → StopIs order n (u ∷ done) after b f
-stop_later order n u done after b (fault.ForeignUnit offset) (c, back, version, whole, at, within, foreign) =
+stop_later : (dialect : Dialect) (n : ℕ) (u : List ℕ) (done after : List (List ℕ)) (b : List ℕ) (f : RunFault)
+    → StopIs dialect (n + length u) done after b f → StopIs dialect n (u ∷ done) after b f
+stop_later dialect n u done after b (fault.ForeignUnit offset) (c, back, version, whole, at, within, foreign) =
     (c, back, version, whole, omega (arith, at, length-append u (concat done)), within, foreign)
-stop_later order n u done after b (fault.Emit offset f) (v, later, h, whole, at, header, refused) =
+stop_later dialect n u done after b (fault.Emit offset f) (v, later, h, whole, at, header, refused) =
     (v, later, h, whole, omega (arith, at, length-append u (concat done)), header, refused)
-stop_later order n u done after b (fault.Damage at kind) s = absurd s
-stop_later order n u done after b fault.NoMemory s = absurd s
-stop_later order n u done after b fault.Read s = absurd s
-stop_later order n u done after b (fault.Write out) s = absurd s
-stop_later order n u done after b fault.SectionTooLong s = absurd s
-stop_later order n u done after b fault.NotFound s = absurd s
+stop_later dialect n u done after b (fault.Damage at kind) s = absurd s
+stop_later dialect n u done after b fault.NoMemory s = absurd s
+stop_later dialect n u done after b fault.Read s = absurd s
+stop_later dialect n u done after b (fault.Write out) s = absurd s
+stop_later dialect n u done after b fault.SectionTooLong s = absurd s
+stop_later dialect n u done after b fault.NotFound s = absurd s
 
 -- of the units that aren't copied, or of b after them, the current bytes are at fault in no way, and memory grows for
 -- them
-pub record CurrentUnit (order : Order) (after : List (List ℕ)) (b : List ℕ) : Type 0 where
+pub record CurrentUnit (dialect : Dialect) (after : List (List ℕ)) (b : List ℕ) : Type 0 where
   pub c : List ℕ
   pub tail : List ℕ
   pub whole : concat after ++ b ≡ c ++ tail
-  pub within : WithinUnit order c
-  pub sound : Sound order c
-  pub not_foreign : foreign_in order c ≡ None
-  pub grows : (unit_rows order c ≢ []) ⊎ IsUnit order c
+  pub within : WithinUnit dialect c
+  pub sound : Sound dialect c
+  pub not_foreign : foreign_in dialect c ≡ None
+  pub grows : (unit_rows dialect c ≢ []) ⊎ IsUnit dialect c
 
 -- of the units some first ones are copied, all where all is told and there is no fault, and then b isn't of another
 -- version; m: the offset before the visits
-pub record Heard (order : Order) (m n : ℕ) (units : List (List ℕ)) (b : List ℕ) (heard more : List Visit) : Type 0 where
+pub record Heard (dialect : Dialect) (m n : ℕ) (units : List (List ℕ)) (b : List ℕ)
+    (heard more : List Visit) : Type 0 where
   pub done : List (List ℕ)
   pub after : List (List ℕ)
   pub whole : units ≡ done ++ after
-  pub copied : AreCopied order done
-  pub text : text_after order [] heard ≡ copied_units order done
-  pub stop : WithinUnit order b → (f : RunFault) → stop_after m [] heard ≡ Some f → StopIs order n done after b f
-  pub all : more ≡ [] → stop_after m [] heard ≡ None → (after ≡ []) × (foreign_in order b ≡ None)
-  pub current : (visit : Visit) (others : List Visit) → more ≡ visit ∷ others → IsGrowth visit → WithinUnit order b
-      → Sound order b → stop_after m [] heard ≡ None → CurrentUnit order after b
+  pub copied : AreCopied dialect done
+  pub text : text_after dialect.order [] heard ≡ copied_units dialect done
+  pub stop : WithinUnit dialect b → (f : RunFault) → stop_after m [] heard ≡ Some f → StopIs dialect n done after b f
+  pub all : more ≡ [] → stop_after m [] heard ≡ None → (after ≡ []) × (foreign_in dialect b ≡ None)
+  pub current : (visit : Visit) (others : List Visit) → more ≡ visit ∷ others → IsGrowth visit → WithinUnit dialect b
+      → Sound dialect b → stop_after m [] heard ≡ None → CurrentUnit dialect after b
 
 no_middle : {A : Type 0} (xs : List A) (x : A) (ys : List A) → xs ++ x ∷ ys ≡ [] → ⊥
 no_middle xs x ys e = omega (arith, ap length e, length-append xs (x ∷ ys))
@@ -110,29 +111,35 @@ regroup {A} v o e u b =
     append_assoc (v ++ (o ++ e ∷ [])) u b ∙ ap (λ (l : List A). l ++ (u ++ b)) (sym (append_assoc v o (e ∷ [])))
     ∙ append_assoc (v ++ o) (e ∷ []) (u ++ b)
 
-module _ (order : Order) where
+module _ (dialect : Dialect) where
   -- what a unit is
-  unit_kind : (u : List ℕ) → IsUnit order u → Foreign order 0 u ⊎ Own order 0 u
-  unit_kind u (inl (version, is)) = inl (version, foreign_of order version u is)
+  unit_kind : (u : List ℕ) → IsUnit dialect u → Foreign dialect 0 u ⊎ Own dialect 0 u
+  unit_kind u (inl (version, is)) = inl (version, foreign_of dialect version u is)
   unit_kind u (inr (h, p, is)) =
-      inr (h, is.program, ap (header_in order) is.whole ∙ header_is_found order h is.header is.program is.spells_header)
+      inr (
+        h,
+        is.program,
+        ap (header_in dialect) is.whole
+            ∙ header_is_found dialect h is.header is.program is.spells_header,
+      )
 
   -- a unit doesn't go beyond its end
-  unit_within : (u : List ℕ) → IsUnit order u → WithinUnit order u
-  unit_within u is n len = omega (arith, some_same (length u) n (sym (length_of_unit order u is) ∙ len))
+  unit_within : (u : List ℕ) → IsUnit dialect u → WithinUnit dialect u
+  unit_within u is n len = omega (arith, some_same (length u) n (sym (length_of_unit dialect u is) ∙ len))
 
   -- where the first unit is of another version
-  stops_foreign : (m n : ℕ) (u : List ℕ) (units : List (List ℕ)) (b : List ℕ) (heard more : List Visit) → IsUnit order u
-      → (v : Foreign order 0 u)
-      → text_after order [] heard ≡ [] → ((f : RunFault) → stop_after m [] heard ≡ Some f → f ≡ fault.ForeignUnit n)
-      → (stop_after m [] heard ≡ None → ⊥) → Heard order m n (u ∷ units) b heard more
+  stops_foreign : (m n : ℕ) (u : List ℕ) (units : List (List ℕ)) (b : List ℕ) (heard more : List Visit)
+      → IsUnit dialect u → (v : Foreign dialect 0 u)
+      → text_after dialect.order [] heard ≡ []
+      → ((f : RunFault) → stop_after m [] heard ≡ Some f → f ≡ fault.ForeignUnit n)
+      → (stop_after m [] heard ≡ None → ⊥) → Heard dialect m n (u ∷ units) b heard more
   stops_foreign m n u units b heard more unit v text stop loud = record {
     done = [];
     after = u ∷ units;
     whole = refl;
     copied = tt;
     text = text;
-    stop = λ within f is. subst (StopIs order n [] (u ∷ units) b) (sym (stop f is)) (
+    stop = λ within f is. subst (StopIs dialect n [] (u ∷ units) b) (sym (stop f is)) (
       u,
       concat units ++ b,
       v.0,
@@ -146,70 +153,75 @@ module _ (order : Order) where
   }
 
   -- where the first unit is told to its end, and has a header
-  module _ (m n : ℕ) (u : List ℕ) (units : List (List ℕ)) (b : List ℕ) (heard more x : List Visit) (own : Own order n u)
-      (cut : heard ≡ (visits order n u ++ open_visit (ends_open (unit_rows order u))) ++ of_end (header_of order
+  module _ (m n : ℕ) (u : List ℕ) (units : List (List ℕ)) (b : List ℕ) (heard more x : List Visit)
+      (own : Own dialect n u)
+      (cut : heard ≡ (visits dialect n u ++ open_visit (ends_open (unit_rows dialect u))) ++ of_end (header_of dialect
       u) ∷ x) where
     abbrev its_rows : List Row
-    its_rows = unit_rows order u
+    its_rows = unit_rows dialect u
 
     abbrev its_header : HeaderData
     its_header = with_standard_opcodes own.0
 
     abbrev its_end : Visit
-    its_end = of_end (header_of order u)
+    its_end = of_end (header_of dialect u)
 
     stop_is : (o : Option EmitFault) → refusal its_header its_rows ≡ o
         → stop_after m [] heard ≡ option_or (option_map (fault.Emit n) o) (stop_after n [] x)
     stop_is o r =
         ap (stop_after m []) cut
-        ∙ stop_of_own order n u (ends_open its_rows) m own (its_end ∷ x)
+        ∙ stop_of_own dialect n u (ends_open its_rows) m own (its_end ∷ x)
         ∙ ap (λ (h : Option HeaderData). option_or (end_stop n its_rows h) (stop_after n [] x))
-        (header_is order n u own)
+        (header_is dialect n u own)
         ∙ ap (λ (q : Option EmitFault). option_or (option_map (fault.Emit n) q) (stop_after n [] x)) r
 
     text_is : (o : Option EmitFault) → refusal its_header its_rows ≡ o
-        → text_after order [] heard ≡ written o (unit_of order its_header its_rows ++ text_after order [] x)
+        → text_after dialect.order [] heard ≡ written o
+        (unit_of dialect.order its_header its_rows ++ text_after dialect.order [] x)
     text_is o r =
-        ap (text_after order []) cut
-        ∙ text_of_own order n u (ends_open its_rows) own (its_end ∷ x)
-        ∙ ap (λ (h : Option HeaderData). end_text order its_rows h (text_after order [] x)) (header_is order n u own)
-        ∙ ap (λ (q : Option EmitFault). written q (unit_of order its_header its_rows ++ text_after order [] x)) r
+        ap (text_after dialect.order []) cut
+        ∙ text_of_own dialect n u (ends_open its_rows) own (its_end ∷ x)
+        ∙ ap (λ (h : Option HeaderData). end_text dialect.order its_rows h (text_after dialect.order [] x))
+        (header_is dialect n u own)
+        ∙ ap (λ (q : Option EmitFault). written q
+        (unit_of dialect.order its_header its_rows ++ text_after dialect.order [] x)) r
 
-    stops_refused : (f : EmitFault) → refusal its_header its_rows ≡ Some f → Heard order m n (u ∷ units) b heard more
+    stops_refused : (f : EmitFault) → refusal its_header its_rows ≡ Some f → Heard dialect m n (u ∷ units) b heard more
     stops_refused f r = record {
       done = [];
       after = u ∷ units;
       whole = refl;
       copied = tt;
       text = text_is (Some f) r;
-      stop = λ within g is. subst (StopIs order n [] (u ∷ units) b)
+      stop = λ within g is. subst (StopIs dialect n [] (u ∷ units) b)
           (value_same (fault.Emit n f) g (sym (stop_is (Some f) r) ∙ is)) (
             u,
             units,
             own.0,
             refl,
             omega arith,
-            header_is order n u own,
+            header_is dialect n u own,
             r,
           );
       all = λ none quiet. absurd (none_is_some (sym quiet ∙ stop_is (Some f) r));
       current = λ visit others next growth within sound quiet. absurd (none_is_some (sym quiet ∙ stop_is (Some f) r));
     }
 
-    its_copy : unit_of order its_header its_rows ≡ copied_unit order u
+    its_copy : unit_of dialect.order its_header its_rows ≡ copied_unit dialect u
     its_copy =
-        ap (λ (o : Option HeaderData). option_map_or (λ h. unit_of order (with_standard_opcodes h) its_rows) o [])
-        (sym (header_is order n u own))
+        ap (λ (o : Option HeaderData). option_map_or
+        (λ h. unit_of dialect.order (with_standard_opcodes h) its_rows) o [])
+        (sym (header_is dialect n u own))
 
-    goes_after : refusal its_header its_rows ≡ None → Heard order n (n + length u) units b x more
-        → Heard order m n (u ∷ units) b heard more
+    goes_after : refusal its_header its_rows ≡ None → Heard dialect n (n + length u) units b x more
+        → Heard dialect m n (u ∷ units) b heard more
     goes_after r later = record {
       done = u ∷ later.done;
       after = later.after;
       whole = ap (λ (l : List (List ℕ)). u ∷ l) later.whole;
-      copied = ((own.0, header_is order n u own, r), later.copied);
+      copied = ((own.0, header_is dialect n u own, r), later.copied);
       text = text_is None r ∙ ap₂ (λ (v w : List ℕ). v ++ w) its_copy later.text;
-      stop = λ within f is. stop_later order n u later.done later.after b f (later.stop within f (sym (stop_is None r)
+      stop = λ within f is. stop_later dialect n u later.done later.after b f (later.stop within f (sym (stop_is None r)
           ∙ is));
       all = λ none quiet. later.all none (sym (stop_is None r) ∙ quiet);
       current =
@@ -217,121 +229,123 @@ module _ (order : Order) where
           (sym (stop_is None r) ∙ quiet);
     }
 
-    by_refusal : (o : Option EmitFault) → refusal its_header its_rows ≡ o → Heard order n (n + length u) units b x more
-        → Heard order m n (u ∷ units) b heard more
+    by_refusal : (o : Option EmitFault) → refusal its_header its_rows ≡ o
+        → Heard dialect n (n + length u) units b x more → Heard dialect m n (u ∷ units) b heard more
     by_refusal None r later = goes_after r later
     by_refusal (Some f) r later = stops_refused f r
 
   -- of each front of the visits of units and of bytes after them
   pub heard_of : (m n k : ℕ) (units : List (List ℕ)) (b : List ℕ) (heard more : List Visit)
-      → AllByRecursion (IsUnit order) units → k ≡ n + length (concat units)
-      → units_visits order n units ++ visits order k b ≡ heard ++ more → Heard order m n units b heard more
+      → AllByRecursion (IsUnit dialect) units → k ≡ n + length (concat units)
+      → units_visits dialect n units ++ visits dialect k b ≡ heard ++ more → Heard dialect m n units b heard more
   heard_of m n k [] b heard more all at e =
-      let cut : visits order k b ++ open_visit false ≡ heard ++ more = append-nil (visits order k b) ∙ e in
+      let cut : visits dialect k b ++ open_visit false ≡ heard ++ more = append-nil (visits dialect k b) ∙ e in
       record {
         done = [];
         after = [];
         whole = refl;
         copied = tt;
-        text = nothing_before order k b false heard more cut;
-        stop = λ within f is. by within f (foreign_before order k b false m heard more f cut is);
+        text = nothing_before dialect k b false heard more cut;
+        stop = λ within f is. by within f (foreign_before dialect k b false m heard more f cut is);
         all = λ none quiet. (
           refl,
-          not_version (foreign_in order b) refl
-              (ap (stop_after m []) (append-nil (visits order k b ++ open_visit false) ∙ cut
+          not_version (foreign_in dialect b) refl
+              (ap (stop_after m []) (append-nil (visits dialect k b ++ open_visit false) ∙ cut
               ∙ ap (λ (l : List Visit). heard ++ l) none ∙ append-nil heard) ∙ quiet),
         );
         current =
-            λ visit others next growth within sound quiet. last_current (one_of order k b) visit others
-            (sym (append-nil (visits order k b)) ∙ cut ∙ ap (λ (l : List Visit). heard ++ l) next) growth within sound
+            λ visit others next growth within sound quiet. last_current (one_of dialect k b) visit others
+            (sym (append-nil (visits dialect k b)) ∙ cut ∙ ap (λ (l : List Visit). heard ++ l) next) growth within sound
             quiet;
       } where
-        last_current : Foreign order k b ⊎ (Own order k b ⊎ Neither order k b) → (visit : Visit) (others : List Visit)
-            → visits order k b ≡ heard ++ visit ∷ others → IsGrowth visit
-            → WithinUnit order b → Sound order b → stop_after m [] heard ≡ None → CurrentUnit order [] b
+        last_current : Foreign dialect k b ⊎ (Own dialect k b ⊎ Neither dialect k b)
+            → (visit : Visit) (others : List Visit) → visits dialect k b ≡ heard ++ visit ∷ others → IsGrowth visit
+            → WithinUnit dialect b → Sound dialect b → stop_after m [] heard ≡ None → CurrentUnit dialect [] b
         last_current (inl v) visit others at growth within sound quiet =
-            absurd (not_at_version m k v.0 [] heard visit others (sym (foreign_visits order k b v) ∙ at) quiet growth)
+            absurd (not_at_version m k v.0 [] heard visit others (sym (foreign_visits dialect k b v) ∙ at) quiet growth)
         last_current (inr (inl own)) visit others at growth within sound quiet = record {
           c = b;
           tail = [];
           whole = sym (append-nil b);
           within = within;
           sound = sound;
-          not_foreign = not_foreign order k b own (foreign_in order b) refl;
+          not_foreign = not_foreign dialect k b own (foreign_in dialect b) refl;
           grows = inl
-              (λ none. subst IsGrowth (single heard visit others (of_header k own.0) (sym at ∙ own_visits order k b own
+              (λ none. subst IsGrowth (single heard visit others (of_header k own.0)
+              (sym at ∙ own_visits dialect k b own
               ∙ ap (λ (l : List Row). of_header k own.0 ∷ map of_row l) none)) growth);
         }
         last_current (inr (inr none)) visit others at growth within sound quiet =
-            absurd (no_middle heard visit others (sym at ∙ no_visits order k b none))
+            absurd (no_middle heard visit others (sym at ∙ no_visits dialect k b none))
 
-        not_version : (v : Option ℕ) → foreign_in order b ≡ v
-            → stop_after m [] ((visits order k b ++ open_visit false) ++ []) ≡ None → foreign_in order b ≡ None
+        not_version : (v : Option ℕ) → foreign_in dialect b ≡ v
+            → stop_after m [] ((visits dialect k b ++ open_visit false) ++ []) ≡ None → foreign_in dialect b ≡ None
         not_version None is quiet = is
-        not_version (Some v) is quiet = absurd (none_is_some (sym quiet ∙ stop_of_foreign order k b false m (v, is) []))
+        not_version (Some v) is quiet = absurd
+            (none_is_some (sym quiet ∙ stop_of_foreign dialect k b false m (v, is) []))
 
-        by : WithinUnit order b → (f : RunFault) → (v : Foreign order k b) × (f ≡ fault.ForeignUnit k)
-            → StopIs order n [] [] b f
+        by : WithinUnit dialect b → (f : RunFault) → (v : Foreign dialect k b) × (f ≡ fault.ForeignUnit k)
+            → StopIs dialect n [] [] b f
         by within f (v, same) =
-            subst (StopIs order n [] [] b) (sym same) (b, [], v.0, sym (append-nil b), at, within, v.1)
+            subst (StopIs dialect n [] [] b) (sym same) (b, [], v.0, sym (append-nil b), at, within, v.1)
   heard_of m n k (u ∷ units) b heard more all at e =
       on_half (fronts_of own_front end_is rest heard more
-      (sym (regroup (visits order n u) (open_visit is_open) end_is (units_visits order (n + length u) units)
-      (visits order k b)) ∙ e)) (heard_of n (n + length u) k units b) where
+      (sym (regroup (visits dialect n u) (open_visit is_open) end_is (units_visits dialect (n + length u) units)
+      (visits dialect k b)) ∙ e)) (heard_of n (n + length u) k units b) where
         is_open : Bool
-        is_open = ends_open (unit_rows order u)
+        is_open = ends_open (unit_rows dialect u)
 
         own_front : List Visit
-        own_front = visits order n u ++ open_visit is_open
+        own_front = visits dialect n u ++ open_visit is_open
 
         end_is : Visit
-        end_is = of_end (header_of order u)
+        end_is = of_end (header_of dialect u)
 
         rest : List Visit
-        rest = units_visits order (n + length u) units ++ visits order k b
+        rest = units_visits dialect (n + length u) units ++ visits dialect k b
 
         on_half : ((x : List Visit) × (heard ≡ own_front ++ end_is ∷ x) × (rest ≡ x ++ more))
             ⊎ ((x : List Visit) × (own_front ≡ heard ++ x) × (more ≡ x ++ end_is ∷ rest))
-            → ((x y : List Visit) → AllByRecursion (IsUnit order) units → k ≡ n + length u + length (concat units)
-            → units_visits order (n + length u) units ++ visits order k b ≡ x ++ y
-            → Heard order n (n + length u) units b x y)
-            → Heard order m n (u ∷ units) b heard more
+            → ((x y : List Visit) → AllByRecursion (IsUnit dialect) units → k ≡ n + length u + length (concat units)
+            → units_visits dialect (n + length u) units ++ visits dialect k b ≡ x ++ y
+            → Heard dialect n (n + length u) units b x y)
+            → Heard dialect m n (u ∷ units) b heard more
         on_half (inr (x, half, left)) later = stops_within (unit_kind u all.0) where
-          stops_within : Foreign order 0 u ⊎ Own order 0 u → Heard order m n (u ∷ units) b heard more
+          stops_within : Foreign dialect 0 u ⊎ Own dialect 0 u → Heard dialect m n (u ∷ units) b heard more
           stops_within kind = record {
             done = [];
             after = u ∷ units;
             whole = refl;
             copied = tt;
-            text = nothing_before order n u is_open heard x half;
-            stop = λ in_unit f is. within f (foreign_before order n u is_open m heard x f half is);
+            text = nothing_before dialect n u is_open heard x half;
+            stop = λ in_unit f is. within f (foreign_before dialect n u is_open m heard x f half is);
             all = λ none quiet. absurd (no_middle x end_is rest (sym left ∙ none));
             current =
                 λ visit others next growth in_unit sound quiet. unit_current kind visit others
                 (ap (λ (l : List Visit). l ++ end_is ∷ rest) half ∙ append_assoc heard x (end_is ∷ rest)
                 ∙ ap (λ (l : List Visit). heard ++ l) (sym left ∙ next)) growth quiet;
           } where
-            unit_current : Foreign order 0 u ⊎ Own order 0 u → (visit : Visit) (others : List Visit)
+            unit_current : Foreign dialect 0 u ⊎ Own dialect 0 u → (visit : Visit) (others : List Visit)
                 → own_front ++ end_is ∷ rest ≡ heard ++ visit ∷ others → IsGrowth visit → stop_after m [] heard ≡ None
-                → CurrentUnit order (u ∷ units) b
+                → CurrentUnit dialect (u ∷ units) b
             unit_current (inl v) visit others at growth quiet =
                 absurd (not_at_version m n v.0 (open_visit is_open ++ end_is ∷ rest) heard visit others
-                (ap (λ (l : List Visit). (l ++ open_visit is_open) ++ end_is ∷ rest) (sym (foreign_visits order n u v))
-                ∙ at) quiet growth)
+                (ap (λ (l : List Visit). (l ++ open_visit is_open) ++ end_is ∷ rest)
+                (sym (foreign_visits dialect n u v)) ∙ at) quiet growth)
             unit_current (inr own) visit others at growth quiet = record {
               c = u;
               tail = concat units ++ b;
               whole = append_assoc u (concat units) b;
               within = unit_within u all.0;
-              sound = unit_is_not_refused order u all.0;
-              not_foreign = not_foreign order n u own (foreign_in order u) refl;
+              sound = unit_is_not_refused dialect u all.0;
+              not_foreign = not_foreign dialect n u own (foreign_in dialect u) refl;
               grows = inr all.0;
             }
 
-            within : (f : RunFault) → (v : Foreign order n u) × (f ≡ fault.ForeignUnit n)
-                → StopIs order n [] (u ∷ units) b f
+            within : (f : RunFault) → (v : Foreign dialect n u) × (f ≡ fault.ForeignUnit n)
+                → StopIs dialect n [] (u ∷ units) b f
             within f (v, same) =
-                subst (StopIs order n [] (u ∷ units) b) (sym same) (
+                subst (StopIs dialect n [] (u ∷ units) b) (sym same) (
                   u,
                   concat units ++ b,
                   v.0,
@@ -341,14 +355,15 @@ module _ (order : Order) where
                   v.1,
                 )
         on_half (inl (x, half, left)) later = by (unit_kind u all.0) where
-          by : Foreign order 0 u ⊎ Own order 0 u → Heard order m n (u ∷ units) b heard more
+          by : Foreign dialect 0 u ⊎ Own dialect 0 u → Heard dialect m n (u ∷ units) b heard more
           by (inl v) =
               let stop : stop_after m [] heard ≡ Some (fault.ForeignUnit n) =
-              ap (stop_after m []) half ∙ stop_of_foreign order n u is_open m v (end_is ∷ x) in
-              stops_foreign m n u units b heard more all.0 v (ap (text_after order []) half
-              ∙ text_of_foreign order n u is_open v (end_is ∷ x))
+              ap (stop_after m []) half ∙ stop_of_foreign dialect n u is_open m v (end_is ∷ x) in
+              stops_foreign m n u units b heard more all.0 v (ap (text_after dialect.order []) half
+              ∙ text_of_foreign dialect n u is_open v (end_is ∷ x))
               (λ f is. value_same f (fault.ForeignUnit n) (sym is ∙ stop)) (λ quiet. none_is_some (sym quiet ∙ stop))
           by (inr own) =
-              by_refusal m n u units b heard more x own half (refusal (with_standard_opcodes own.0) (unit_rows order u))
+              by_refusal m n u units b heard more x own half
+              (refusal (with_standard_opcodes own.0) (unit_rows dialect u))
               refl
               (later x more all.1 (omega (arith, at, length-append u (concat units))) left)

@@ -1,4 +1,5 @@
 -- What is copied of visits one after the other, and of those of a unit.
+use Rattle.dl_head.specs.declared.dialect.Dialect.{Dialect}
 use Rattle.std.proofs.Common.{[], ◌≡◌, ◌⊎◌, inl, inr, ℕ, Bool, true, false, List, ◌∷◌, ◌++◌, map, flat_map}
 use Rattle.std.proofs.Common.{Option, Some, None, refl, sym, ap, ap₂, ◌∙◌}
 use Rattle.std.proofs.Common.{append_assoc, append-nil}
@@ -140,80 +141,82 @@ text_of_open : (order : Order) (rows : List Row) (is_open : Bool) (more : List V
 text_of_open order rows true more = refl
 text_of_open order rows false more = refl
 
-module _ (order : Order) (n : ℕ) (c : List ℕ) where
+module _ (dialect : Dialect) (n : ℕ) (c : List ℕ) where
   -- c says its version, which isn't 5
   abbrev pub Foreign : Type 0
-  Foreign = (version : ℕ) × (foreign_in order c ≡ Some version)
+  Foreign = (version : ℕ) × (foreign_in dialect c ≡ Some version)
 
   -- c has a header
   abbrev pub Own : Type 0
-  Own = (h : HeaderData) × (program : List ℕ) × (header_in order c ≡ Some (h, program))
+  Own = (h : HeaderData) × (program : List ℕ) × (header_in dialect c ≡ Some (h, program))
 
   -- c has neither yet
   abbrev pub Neither : Type 0
-  Neither = (foreign_in order c ≡ None) × (header_in order c ≡ None)
+  Neither = (foreign_in dialect c ≡ None) × (header_in dialect c ≡ None)
 
-  by_version : (v : Option ℕ) (parts : Option (HeaderData × List ℕ)) → foreign_in order c ≡ v
-      → header_in order c ≡ parts → Foreign ⊎ (Own ⊎ Neither)
+  by_version : (v : Option ℕ) (parts : Option (HeaderData × List ℕ)) → foreign_in dialect c ≡ v
+      → header_in dialect c ≡ parts → Foreign ⊎ (Own ⊎ Neither)
   by_version (Some v) parts e is = inl (v, e)
   by_version None (Some (h, program)) e is = inr (inl (h, program, is))
   by_version None None e is = inr (inr (e, is))
 
   -- one of these three holds
   pub one_of : Foreign ⊎ (Own ⊎ Neither)
-  one_of = by_version (foreign_in order c) (header_in order c) refl refl
+  one_of = by_version (foreign_in dialect c) (header_in dialect c) refl refl
 
-  pub not_foreign : (own : Own) (v : Option ℕ) → foreign_in order c ≡ v → foreign_in order c ≡ None
+  pub not_foreign : (own : Own) (v : Option ℕ) → foreign_in dialect c ≡ v → foreign_in dialect c ≡ None
   not_foreign own None e = e
-  not_foreign own (Some v) e = absurd (none_is_some (sym (foreign_no_header order c v e) ∙ own.2))
+  not_foreign own (Some v) e = absurd (none_is_some (sym (foreign_no_header dialect c v e) ∙ own.2))
 
   abbrev visits_by : Option ℕ → Option (HeaderData × List ℕ) → List Visit
-  visits_by version parts = flat_map (event_visits n (option_map (λ p. p.0) parts)) (events_of order version parts)
+  visits_by version parts = flat_map (event_visits n (option_map (λ p. p.0) parts))
+      (events_of dialect.order version parts)
 
   -- its visits, by its case
-  pub foreign_visits : (f : Foreign) → visits order n c ≡ of_version n f.0 ∷ []
-  foreign_visits f = ap (λ (o : Option ℕ). visits_by o (header_in order c)) f.1
+  pub foreign_visits : (f : Foreign) → visits dialect n c ≡ of_version n f.0 ∷ []
+  foreign_visits f = ap (λ (o : Option ℕ). visits_by o (header_in dialect c)) f.1
 
-  pub own_visits : (own : Own) → visits order n c ≡ of_header n own.0 ∷ map of_row (unit_rows order c)
+  pub own_visits : (own : Own) → visits dialect n c ≡ of_header n own.0 ∷ map of_row (unit_rows dialect c)
   own_visits own =
-      ap (λ (o : Option ℕ). visits_by o (header_in order c)) (not_foreign own (foreign_in order c) refl)
+      ap (λ (o : Option ℕ). visits_by o (header_in dialect c)) (not_foreign own (foreign_in dialect c) refl)
       ∙ ap (λ (p : Option (HeaderData × List ℕ)). visits_by None p) own.2
       ∙ ap (λ (l : List Visit). of_header n own.0 ∷ l)
-      (row_visits n (Some own.0) (rows_later order (Some (own.0, own.1))))
-      ∙ ap (λ (p : Option (HeaderData × List ℕ)). of_header n own.0 ∷ map of_row (rows_later order p)) (sym own.2)
+      (row_visits n (Some own.0) (rows_later dialect.order (Some (own.0, own.1))))
+      ∙ ap (λ (p : Option (HeaderData × List ℕ)). of_header n own.0 ∷ map of_row
+      (rows_later dialect.order p)) (sym own.2)
 
-  pub no_visits : Neither → visits order n c ≡ []
+  pub no_visits : Neither → visits dialect n c ≡ []
   no_visits none =
-      ap (λ (o : Option ℕ). visits_by o (header_in order c)) none.0
+      ap (λ (o : Option ℕ). visits_by o (header_in dialect c)) none.0
       ∙ ap (λ (p : Option (HeaderData × List ℕ)). visits_by None p) none.1
 
   -- the header of its visits
-  pub header_is : (own : Own) → header_of order c ≡ Some own.0
+  pub header_is : (own : Own) → header_of dialect c ≡ Some own.0
   header_is own = ap (λ (p : Option (HeaderData × List ℕ)). option_map (λ q. q.0) p) own.2
 
   -- ---- up to its end
 
   module _ (is_open : Bool) where
     abbrev pub front : List Visit
-    front = visits order n c ++ open_visit is_open
+    front = visits dialect n c ++ open_visit is_open
 
     -- its rows come before the first fault of what follows
     pub stop_of_own : (m : ℕ) (own : Own) (more : List Visit)
-        → stop_after m [] (front ++ more) ≡ stop_after n (unit_rows order c) more
+        → stop_after m [] (front ++ more) ≡ stop_after n (unit_rows dialect c) more
     stop_of_own m own more =
-        ap (stop_after m []) (append_assoc (visits order n c) (open_visit is_open) more)
+        ap (stop_after m []) (append_assoc (visits dialect n c) (open_visit is_open) more)
         ∙ ap (λ (l : List Visit). stop_after m [] (l ++ (open_visit is_open ++ more))) (own_visits own)
-        ∙ stop_of_rows n [] (unit_rows order c) (open_visit is_open ++ more)
-        ∙ stop_of_open n (unit_rows order c) is_open more
+        ∙ stop_of_rows n [] (unit_rows dialect c) (open_visit is_open ++ more)
+        ∙ stop_of_open n (unit_rows dialect c) is_open more
 
     -- what is written of its rows and of what follows
     pub text_of_own : (own : Own) (more : List Visit)
-        → text_after order [] (front ++ more) ≡ text_after order (unit_rows order c) more
+        → text_after dialect.order [] (front ++ more) ≡ text_after dialect.order (unit_rows dialect c) more
     text_of_own own more =
-        ap (text_after order []) (append_assoc (visits order n c) (open_visit is_open) more)
-        ∙ ap (λ (l : List Visit). text_after order [] (l ++ (open_visit is_open ++ more))) (own_visits own)
-        ∙ text_of_rows order [] (unit_rows order c) (open_visit is_open ++ more)
-        ∙ text_of_open order (unit_rows order c) is_open more
+        ap (text_after dialect.order []) (append_assoc (visits dialect n c) (open_visit is_open) more)
+        ∙ ap (λ (l : List Visit). text_after dialect.order [] (l ++ (open_visit is_open ++ more))) (own_visits own)
+        ∙ text_of_rows dialect.order [] (unit_rows dialect c) (open_visit is_open ++ more)
+        ∙ text_of_open dialect.order (unit_rows dialect c) is_open more
 
     -- another version is the first fault, and nothing is written
     pub stop_of_foreign : (m : ℕ) (f : Foreign) (more : List Visit)
@@ -221,9 +224,9 @@ module _ (order : Order) (n : ℕ) (c : List ℕ) where
     stop_of_foreign m f more =
         ap (λ (l : List Visit). stop_after m [] ((l ++ open_visit is_open) ++ more)) (foreign_visits f)
 
-    pub text_of_foreign : (f : Foreign) (more : List Visit) → text_after order [] (front ++ more) ≡ []
+    pub text_of_foreign : (f : Foreign) (more : List Visit) → text_after dialect.order [] (front ++ more) ≡ []
     text_of_foreign f more =
-        ap (λ (l : List Visit). text_after order [] ((l ++ open_visit is_open) ++ more)) (foreign_visits f)
+        ap (λ (l : List Visit). text_after dialect.order [] ((l ++ open_visit is_open) ++ more)) (foreign_visits f)
 
     stop_of_neither : (m : ℕ) → Neither → stop_after m [] (front ++ []) ≡ None
     stop_of_neither m none =
@@ -233,20 +236,21 @@ module _ (order : Order) (n : ℕ) (c : List ℕ) where
           stop_open true = refl
           stop_open false = refl
 
-    text_of_neither : Neither → text_after order [] (front ++ []) ≡ []
+    text_of_neither : Neither → text_after dialect.order [] (front ++ []) ≡ []
     text_of_neither none =
-        ap (λ (l : List Visit). text_after order [] ((l ++ open_visit is_open) ++ [])) (no_visits none)
-        ∙ text_of_open order [] is_open []
+        ap (λ (l : List Visit). text_after dialect.order [] ((l ++ open_visit is_open) ++ [])) (no_visits none)
+        ∙ text_of_open dialect.order [] is_open []
 
-    nothing_by : Foreign ⊎ (Own ⊎ Neither) → text_after order [] (front ++ []) ≡ []
+    nothing_by : Foreign ⊎ (Own ⊎ Neither) → text_after dialect.order [] (front ++ []) ≡ []
     nothing_by (inl f) = text_of_foreign f []
     nothing_by (inr (inl own)) = text_of_own own []
     nothing_by (inr (inr none)) = text_of_neither none
 
     -- nothing is written before the end
-    pub nothing_before : (heard x : List Visit) → front ≡ heard ++ x → text_after order [] heard ≡ []
+    pub nothing_before : (heard x : List Visit) → front ≡ heard ++ x → text_after dialect.order [] heard ≡ []
     nothing_before heard x e =
-        text_front order [] heard x (ap (text_after order []) (sym e ∙ sym (append-nil front)) ∙ nothing_by one_of)
+        text_front dialect.order [] heard x (ap (text_after dialect.order []) (sym e ∙ sym (append-nil front))
+        ∙ nothing_by one_of)
 
     foreign_by : (m : ℕ) (f : RunFault) → stop_after m [] (front ++ []) ≡ Some f → Foreign ⊎ (Own ⊎ Neither)
         → (v : Foreign) × (f ≡ fault.ForeignUnit n)

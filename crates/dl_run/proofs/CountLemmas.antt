@@ -4,7 +4,7 @@ use Rattle.std.proofs.Common.{append-nil, arith, refl, sym, ap, ◌∙◌, subst
 use Rattle.std.specs.Prelude.{◌||◌}
 use Rattle.std.proofs.lemmas.List.Sums.{count_by-le-length}
 use Rattle.std.specs.List.{concat}
-use Rattle.dl_num.specs.declared.fixed.Order.{Order}
+use Rattle.dl_head.specs.declared.dialect.Dialect.{Dialect}
 use Rattle.dl_rows.specs.declared.row.Row.{Row}
 use Rattle.dl_rows.specs.declared.reader.Event.{Event}
 use Rattle.dl_rows.specs.declared.reader.Event.TheVariants as event
@@ -55,8 +55,8 @@ module _ (u : SectionUnits) where
   same_but event.End = refl
   same_but event.NoMemory = refl
 
-module _ (order : Order) (u : SectionUnits) (t piece : List ℕ) (units : List (List ℕ)) (b : List ℕ)
-    (are : UnitsAre order u t units b) (v : SectionUnits) (own : v.reader.order ≡ order)
+module _ (dialect : Dialect) (u : SectionUnits) (t piece : List ℕ) (units : List (List ℕ)) (b : List ℕ)
+    (are : UnitsAre dialect u t units b) (v : SectionUnits) (own : v.reader.dialect ≡ dialect)
     (short : length t + length piece < 2 ^ 64) where
   -- the reader took bytes and told rows, and then an event that is none; v: with the rows' counts
   pub more_read : (rows : List Row) (fed : Fed) → v ≡ record u {
@@ -65,26 +65,26 @@ module _ (order : Order) (u : SectionUnits) (t piece : List ℕ) (units : List (
     rows =
         v.rows;
   } → Counted u.rows u.sequences v.rows v.sequences rows → row_told fed.event ≡ []
-      → FeedsAfter StandsFor order (events order b ++ map event.Row rows) b piece fed v.reader
-      → UnitsAre order (counted fed.event v) (t ++ take fed.used piece) units (b ++ take fed.used piece)
+      → FeedsAfter StandsFor dialect (events dialect b ++ map event.Row rows) b piece fed v.reader
+      → UnitsAre dialect (counted fed.event v) (t ++ take fed.used piece) units (b ++ take fed.used piece)
   more_read rows fed same counts none f =
       let x = take fed.used piece in
       let c = b ++ x in
       let e = fed.event in
       let w : SectionUnits = counted e v in
       let but : w ≡ record v { is_foreign = w.is_foreign } = same_but v e in
-      let before = events order b ++ map event.Row rows in
-      let rows_are : rows_told (events order c) ≡ rows_told (events order b) ++ rows =
+      let before = events dialect b ++ map event.Row rows in
+      let rows_are : rows_told (events dialect c) ≡ rows_told (events dialect b) ++ rows =
       ap rows_told f.answered.grows ∙ rows_told-append before (told e)
       ∙ ap (λ (l : List Row). rows_told before ++ l) (none_told e none) ∙ append-nil (rows_told before)
-      ∙ rows_told-append (events order b) (map event.Row rows)
-      ∙ ap (λ (l : List Row). rows_told (events order b) ++ l) (rows_told-rows rows) in
-      let foreign_are : is_foreign (events order c) ≡ (is_foreign (events order b) || is_foreign (told e)) =
+      ∙ rows_told-append (events dialect b) (map event.Row rows)
+      ∙ ap (λ (l : List Row). rows_told (events dialect b) ++ l) (rows_told-rows rows) in
+      let foreign_are : is_foreign (events dialect c) ≡ (is_foreign (events dialect b) || is_foreign (told e)) =
       ap is_foreign f.answered.grows ∙ foreign-append before (told e)
-      ∙ ap (λ (y : Bool). y || is_foreign (told e)) (foreign-append (events order b) (map event.Row rows)
-      ∙ ap (λ (y : Bool). is_foreign (events order b) || y) (no_version rows)
-      ∙ or_false (is_foreign (events order b))) in
-      let size : length (rows_told (events order c)) < 2 ^ 64 =
+      ∙ ap (λ (y : Bool). y || is_foreign (told e)) (foreign-append (events dialect b) (map event.Row rows)
+      ∙ ap (λ (y : Bool). is_foreign (events dialect b) || y) (no_version rows)
+      ∙ or_false (is_foreign (events dialect b))) in
+      let size : length (rows_told (events dialect c)) < 2 ^ 64 =
       omega (
         arith,
         short,
@@ -93,19 +93,20 @@ module _ (order : Order) (u : SectionUnits) (t piece : List ℕ) (units : List (
         ap length are.has.whole,
         length-append (concat units) b,
         length-append b x,
-        few_told order c,
+        few_told dialect c,
       ) in
-      let lengths = ap length rows_are ∙ length-append (rows_told (events order b)) rows in
-      let all_ends = ap ends rows_are ∙ ends-append (rows_told (events order b)) rows in
-      let few = count_by-le-length (λ (r : Row). r.end_sequence) (rows_told (events order c)) in
+      let lengths = ap length rows_are ∙ length-append (rows_told (events dialect b)) rows in
+      let all_ends = ap ends rows_are ∙ ends-append (rows_told (events dialect b)) rows in
+      let few = count_by-le-length (λ (r : Row). r.end_sequence) (rows_told (events dialect c)) in
       record {
         has = record {
           whole = ap (λ (l : List ℕ). l ++ x) are.has.whole ∙ append_assoc (concat units) b x;
           each =
               are.has.each;
         };
-        order_is = ap (λ (z : SectionUnits). z.order) but ∙ ap (λ (z : SectionUnits). z.order) same ∙ are.order_is;
-        reader_order = ap (λ (z : SectionUnits). z.reader.order) but ∙ own;
+        dialect_is = ap (λ (z : SectionUnits). z.dialect) but ∙ ap (λ (z : SectionUnits). z.dialect) same
+            ∙ are.dialect_is;
+        reader_dialect = ap (λ (z : SectionUnits). z.reader.dialect) but ∙ own;
         stands = subst (λ (r : Reader). StandsFor r c) (sym (ap (λ (z : SectionUnits). z.reader) but)) f.stands;
         offset = ap (λ (z : SectionUnits). z.offset) but ∙ ap (λ (z : SectionUnits). z.offset) same ∙ are.offset;
         foreign = foreign_more v e _ (ap (λ (z : SectionUnits). z.is_foreign) same ∙ are.foreign) ∙ sym foreign_are;

@@ -1,4 +1,5 @@
 -- What a failed write leaves of a dump is a front of what is written without one.
+use Rattle.dl_head.specs.declared.dialect.Dialect.{Dialect}
 use Rattle.std.proofs.Common.{◌≡◌, ◌<◌, ◌≤◌, ◌⊎◌, inl, inr, ℕ, ◌+◌, List, [], ◌∷◌, ◌++◌, length, map, take, Option}
 use Rattle.std.proofs.Common.{Some, None, Ok, Err, arith, refl, sym, ap, ap₂, ◌∙◌, subst, append_assoc, append-nil}
 use Rattle.std.proofs.Common.{length-append}
@@ -99,77 +100,78 @@ same_rest done begun w rest e same = elim (fronts done w begun rest e) [
   ))
 ]
 
-module _ (order : Order) (b x : List ℕ) (at : ℕ) (kind : FaultKind) (refused : Refused order b at kind)
-    (within : WithinUnit order (b ++ x)) where
+module _ (dialect : Dialect) (b x : List ℕ) (at : ℕ) (kind : FaultKind) (refused : Refused dialect b at kind)
+    (within : WithinUnit dialect (b ++ x)) where
   abbrev Still : Type 0
-  Still = events order (b ++ x) ≡ events order b
+  Still = events dialect (b ++ x) ≡ events dialect b
 
-  still_in_program : (h : HeaderData) (program : List ℕ) → header_in order b ≡ Some (h, program) → Still
+  still_in_program : (h : HeaderData) (program : List ℕ) → header_in dialect b ≡ Some (h, program) → Still
   still_in_program h program is = by r.fault where
-    r : RefusesOperation order h.params b program at kind
-    r = refused_in_program order b h program at kind is refused
+    r : RefusesOperation dialect h.params b program at kind
+    r = refused_in_program dialect b h program at kind is refused
 
     some : 1 ≤ h.params.opcode_base
     some =
-        let head = found_is_header order h b program is in
-        let opcodes = (header_is_usable order h head.0 head.2).opcodes in
+        let head = found_is_header dialect h b program is in
+        let opcodes = (header_is_usable dialect h head.0 head.2).opcodes in
         omega arith
 
-    rest_is : r.begun ≡ (operations_in order h.params program).rest
+    rest_is : r.begun ≡ (operations_in dialect.order h.params program).rest
     rest_is =
-        let p = found_is_program order h.params program some in
-        let place : at + length (operations_in order h.params program).rest ≡ length b =
-        subst (λ (w : List ℕ). at + length w ≡ length b) (ap (left_after order b) is) refused.place in
-        same_rest r.done r.begun p.0 (operations_in order h.params program).rest (sym r.whole
+        let p = found_is_program dialect.order h.params program some in
+        let place : at + length (operations_in dialect.order h.params program).rest ≡ length b =
+        subst (λ (w : List ℕ). at + length w ≡ length b) (ap (left_after dialect b) is) refused.place in
+        same_rest r.done r.begun p.0 (operations_in dialect.order h.params program).rest (sym r.whole
         ∙ p.1) (omega (arith, place, r.place))
 
-    by : IsBadOperation h.params r.begun kind ⊎ (IsCutShort order h.params b r.begun × (kind ≡ OpcodeOverrun)) → Still
+    by : IsBadOperation h.params r.begun kind ⊎ (IsCutShort dialect h.params b r.begun × (kind ≡ OpcodeOverrun)) → Still
     by (inl faulty) =
-        own order (b ++ x) h (program ++ x) (header_on order b x h program is)
+        own dialect (b ++ x) h (program ++ x) (header_on dialect b x h program is)
         ∙ ap (λ (os : List Operation). event.Header ∷ map event.Row (matrix h.params os))
-        (no_more_found order h.params program x kind some
+        (no_more_found dialect.order h.params program x kind some
         (subst (λ (l : List ℕ). IsBadOperation h.params l kind) rest_is faulty))
-        ∙ sym (own order b h program is)
+        ∙ sym (own dialect b h program is)
     by (inr (short, overrun)) =
-        let end = within (length b) (unit_len_on order b x (length b) short.last) in
+        let end = within (length b) (unit_len_on dialect b x (length b) short.last) in
         let nothing : x ≡ [] = nil_from_length x (omega (arith, end, length-append b x)) in
-        ap (events order) (ap (λ (l : List ℕ). b ++ l) nothing ∙ append-nil b)
+        ap (events dialect) (ap (λ (l : List ℕ). b ++ l) nothing ∙ append-nil b)
 
-  still_in_header : header_in order b ≡ None → Still
+  still_in_header : header_in dialect b ≡ None → Still
   still_in_header is =
-      by (foreign_in order (b ++ x)) (header_in order (b ++ x)) (foreign_in order b) refl refl refl where
-        r : HeaderRefused order b at kind
-        r = (refused_in_header order b at kind is).0 refused
+      by (foreign_in dialect (b ++ x)) (header_in dialect (b ++ x)) (foreign_in dialect b) refl refl refl where
+        r : HeaderRefused dialect b at kind
+        r = (refused_in_header dialect b at kind is).0 refused
 
-        by : (v : Option ℕ) (parts : Option (HeaderData × List ℕ)) (before : Option ℕ) → foreign_in order (b ++ x) ≡ v
-            → header_in order (b ++ x) ≡ parts → foreign_in order b ≡ before → Still
+        by : (v : Option ℕ) (parts : Option (HeaderData × List ℕ)) (before : Option ℕ) → foreign_in dialect (b ++ x) ≡ v
+            → header_in dialect (b ++ x) ≡ parts → foreign_in dialect b ≡ before → Still
         by (Some v) parts before foreign found none =
-            let unit = foreign_known order (b ++ x) v foreign in
-            absurd (foreign_is_not_refused order (b ++ x) b x v unit.0 at kind foreign unit.1 (within unit.0 unit.1)
+            let unit = foreign_known dialect (b ++ x) v foreign in
+            absurd (foreign_is_not_refused dialect (b ++ x) b x v unit.0 at kind foreign unit.1 (within unit.0 unit.1)
             refl r)
         by None (Some (h, program)) before foreign found none =
-            let f = found_is_header order h (b ++ x) program found in
-            absurd (header_is_not_refused order h f.0 program b x at kind f.2 (sym f.1) r)
-        by None None (Some v) foreign found none = absurd (none_is_some (sym foreign ∙ foreign_on order b x v none))
-        by None None None foreign found none = no_events order (b ++ x) found foreign ∙ sym (no_events order b is none)
+            let f = found_is_header dialect h (b ++ x) program found in
+            absurd (header_is_not_refused dialect h f.0 program b x at kind f.2 (sym f.1) r)
+        by None None (Some v) foreign found none = absurd (none_is_some (sym foreign ∙ foreign_on dialect b x v none))
+        by None None None foreign found none = no_events dialect (b ++ x) found foreign
+            ∙ sym (no_events dialect b is none)
 
   pub still : Still
-  still = by (header_in order b) refl where
-    by : (parts : Option (HeaderData × List ℕ)) → header_in order b ≡ parts → Still
+  still = by (header_in dialect b) refl where
+    by : (parts : Option (HeaderData × List ℕ)) → header_in dialect b ≡ parts → Still
     by None is = still_in_header is
     by (Some (h, program)) is = still_in_program h program is
 
 -- ---- what was begun is a front
 
 -- the units are the same, where the bytes go beyond those that no unit begins
-same_units : (order : Order) (units units2 : List (List ℕ)) (b back b2 back2 : List ℕ)
-    → AllByRecursion (IsUnit order) units → AllByRecursion (IsUnit order) units2 → WithinUnit order b
-    → NoUnitBegins order (b2 ++ back2) → concat units ++ (b ++ back) ≡ concat units2 ++ (b2 ++ back2)
+same_units : (dialect : Dialect) (units units2 : List (List ℕ)) (b back b2 back2 : List ℕ)
+    → AllByRecursion (IsUnit dialect) units → AllByRecursion (IsUnit dialect) units2 → WithinUnit dialect b
+    → NoUnitBegins dialect (b2 ++ back2) → concat units ++ (b ++ back) ≡ concat units2 ++ (b2 ++ back2)
     → length (concat units2 ++ b2) < length (concat units ++ b)
     → (units ≡ units2) × (b ++ back ≡ b2 ++ back2)
-same_units order [] [] b back b2 back2 all all2 within none e lt = (refl, e)
-same_units order [] (u ∷ units2) b back b2 back2 all all2 within none e lt =
-    let more = begun_unit order b back u (concat units2 ++ (b2 ++ back2)) within all2.0 (e
+same_units dialect [] [] b back b2 back2 all all2 within none e lt = (refl, e)
+same_units dialect [] (u ∷ units2) b back b2 back2 all all2 within none e lt =
+    let more = begun_unit dialect b back u (concat units2 ++ (b2 ++ back2)) within all2.0 (e
     ∙ append_assoc u (concat units2) (b2 ++ back2)) in
     absurd (omega (
       arith,
@@ -179,10 +181,10 @@ same_units order [] (u ∷ units2) b back b2 back2 all all2 within none e lt =
       length-append (u ++ concat units2) b2,
       length-append u (concat units2),
     ))
-same_units order (u ∷ units) [] b back b2 back2 all all2 within none e lt =
+same_units dialect (u ∷ units) [] b back b2 back2 all all2 within none e lt =
     absurd (none u (concat units ++ (b ++ back)) (sym e ∙ append_assoc u (concat units) (b ++ back)) all.0)
-same_units order (u ∷ units) (v ∷ units2) b back b2 back2 all all2 within none e lt =
-    let front = one_front order u v (concat units ++ (b ++ back)) (concat units2 ++ (b2 ++ back2)) all.0 all2.0
+same_units dialect (u ∷ units) (v ∷ units2) b back b2 back2 all all2 within none e lt =
+    let front = one_front dialect u v (concat units ++ (b ++ back)) (concat units2 ++ (b2 ++ back2)) all.0 all2.0
     (sym (append_assoc u (concat units) (b ++ back)) ∙ e ∙ append_assoc v (concat units2) (b2 ++ back2)) in
     let longer : length (concat units2 ++ b2) < length (concat units ++ b) =
     omega (
@@ -196,27 +198,27 @@ same_units order (u ∷ units) (v ∷ units2) b back b2 back2 all all2 within no
       length-append (concat units) b,
       length-append (concat units2) b2,
     ) in
-    let more = same_units order units units2 b back b2 back2 all.1 all2.1 within none front.1 longer in
+    let more = same_units dialect units units2 b back b2 back2 all.1 all2.1 within none front.1 longer in
     (ap₂ (λ (y : List ℕ) (ys : List (List ℕ)). y ∷ ys) front.0 more.0, more.1)
 
-module _ (order : Order) (t : List ℕ) (units units2 : List (List ℕ)) (b b2 back back2 : List ℕ)
-    (s : HasBegun order t units b back) (s2 : Stops order t units2 b2 back2) where
+module _ (dialect : Dialect) (t : List ℕ) (units units2 : List (List ℕ)) (b b2 back back2 : List ℕ)
+    (s : HasBegun dialect t units b back) (s2 : Stops dialect t units2 b2 back2) where
   abbrev Grows : Type 0
-  Grows = (others : List Visit) × (section_visits order units2 b2 ≡ section_visits order units b ++ others)
+  Grows = (others : List Visit) × (section_visits dialect units2 b2 ≡ section_visits dialect units b ++ others)
 
   whole : concat units ++ (b ++ back) ≡ concat units2 ++ (b2 ++ back2)
   whole = sym s.has.whole ∙ s2.has.whole
 
   no_further : length (concat units ++ b) ≤ length (concat units2 ++ b2) → Grows
   no_further le =
-      let more = told order 0 units units2 b back b2 back2 s.has.each s2.has.each s.in_unit s2.none whole le in (
+      let more = told dialect 0 units units2 b back b2 back2 s.has.each s2.has.each s.in_unit s2.none whole le in (
         more.0,
-        sym (from_zero order units2 b2) ∙ more.1
-            ∙ ap (λ (l : List Visit). l ++ more.0) (from_zero order units b),
+        sym (from_zero dialect units2 b2) ∙ more.1
+            ∙ ap (λ (l : List Visit). l ++ more.0) (from_zero dialect units b),
       )
 
   further : length (concat units2 ++ b2) < length (concat units ++ b)
-      → ((at : ℕ) × (kind : FaultKind) × Refused order b2 at kind) ⊎ ((back2 ≡ []) × Sound order b2) → Grows
+      → ((at : ℕ) × (kind : FaultKind) × Refused dialect b2 at kind) ⊎ ((back2 ≡ []) × Sound dialect b2) → Grows
   further lt (inr (nothing, sound)) =
       absurd (omega (
         arith,
@@ -231,7 +233,7 @@ module _ (order : Order) (t : List ℕ) (units units2 : List (List ℕ)) (b b2 b
         length-append (concat units2) b2,
       ))
   further lt (inl (at, kind, refused)) =
-      let same = same_units order units units2 b back b2 back2 s.has.each s2.has.each s.in_unit s2.none whole lt in
+      let same = same_units dialect units units2 b back b2 back2 s.has.each s2.has.each s.in_unit s2.none whole lt in
       let le : length b2 ≤ length b =
       omega (
         arith,
@@ -241,15 +243,15 @@ module _ (order : Order) (t : List ℕ) (units units2 : List (List ℕ)) (b b2 b
         length-append (concat units2) b2,
       ) in
       let more = longer_front b2 back2 b back (sym same.1) le in
-      let quiet = still order b2 more.0 at kind refused (subst (WithinUnit order) more.1 s.in_unit) in
+      let quiet = still dialect b2 more.0 at kind refused (subst (WithinUnit dialect) more.1 s.in_unit) in
       let n = length (concat units2) in
-      let seen : visits order n b ≡ visits order n b2 =
-      ap (visits order n) more.1 ∙ visits_grow order n b2 more.0 [] (quiet ∙ sym (append-nil (events order b2)))
-      ∙ append-nil (visits order n b2) in
-      let all : section_visits order units b ≡ section_visits order units2 b2 =
-      ap (λ (us : List (List ℕ)). section_visits order us b) same.0
-      ∙ ap (λ (l : List Visit). units_visits order 0 units2 ++ l) seen in
-      ([], sym all ∙ sym (append-nil (section_visits order units b)))
+      let seen : visits dialect n b ≡ visits dialect n b2 =
+      ap (visits dialect n) more.1 ∙ visits_grow dialect n b2 more.0 [] (quiet ∙ sym (append-nil (events dialect b2)))
+      ∙ append-nil (visits dialect n b2) in
+      let all : section_visits dialect units b ≡ section_visits dialect units2 b2 =
+      ap (λ (us : List (List ℕ)). section_visits dialect us b) same.0
+      ∙ ap (λ (l : List Visit). units_visits dialect 0 units2 ++ l) seen in
+      ([], sym all ∙ sym (append-nil (section_visits dialect units b)))
 
   pub begun_grows : Grows
   begun_grows = elim (cases_lt (length (concat units2 ++ b2)) (length (concat units ++ b))) [
@@ -258,22 +260,22 @@ module _ (order : Order) (t : List ℕ) (units units2 : List (List ℕ)) (b b2 b
   ]
 
 pub dump_is_front : DumpIsFront
-dump_is_front order strings limit bytes left left2 start start2 now now2 out result2 of2 (
+dump_is_front dialect strings limit bytes left left2 start start2 now now2 out result2 of2 (
   units,
   b,
   back,
   begun,
   tells,
 ) dumps2 =
-    let d2 = dumped order strings limit bytes left2 start2 now2 result2 of2 dumps2 in
-    let s2 = stops order limit bytes left2 d2.units d2.b d2.back result2 (λ e. subst IsOfBytes e of2) d2.ends in
-    let more = begun_grows order (take limit bytes) units d2.units b d2.b back d2.back begun s2 in
-    let text : section_text order strings d2.units d2.b ≡ section_text order strings units b
+    let d2 = dumped dialect strings limit bytes left2 start2 now2 result2 of2 dumps2 in
+    let s2 = stops dialect limit bytes left2 d2.units d2.b d2.back result2 (λ e. subst IsOfBytes e of2) d2.ends in
+    let more = begun_grows dialect (take limit bytes) units d2.units b d2.b back d2.back begun s2 in
+    let text : section_text dialect strings d2.units d2.b ≡ section_text dialect strings units b
     ++ visits_text strings more.0 =
-    ap (visits_text strings) more.1 ∙ flat_map-append (visit_text strings) (section_visits order units b) more.0 in (
-      section_text order strings d2.units d2.b,
+    ap (visits_text strings) more.1 ∙ flat_map-append (visit_text strings) (section_visits dialect units b) more.0 in (
+      section_text dialect strings d2.units d2.b,
       subst (λ (l : List ℕ). TellsOut start now l (fault.Write out)) (sym text)
-          (TellsOut-more start now (section_text order strings units b) (visits_text strings more.0)
+          (TellsOut-more start now (section_text dialect strings units b) (visits_text strings more.0)
           (fault.Write out) tells),
       d2.out,
     )

@@ -2,7 +2,7 @@
 use Rattle.std.proofs.Common.{◌≡◌, inl, inr, ℕ, List, [], ◌∷◌, ◌++◌, Option, Result, Ok, Err, refl, sym, ap, ◌∙◌, subst}
 use Rattle.std.proofs.Common.{append-nil}
 use Rattle.std.proofs.lemmas.Grind.{flat_map-append}
-use Rattle.dl_num.specs.declared.fixed.Order.{Order}
+use Rattle.dl_head.specs.declared.dialect.Dialect.{Dialect}
 use Rattle.dl_run.specs.declared.dumping.Dumper.{Dumper}
 use Rattle.dl_run.specs.declared.fault.RunFault.{RunFault}
 use Rattle.dl_run.specs.declared.fault.RunFault.TheVariants as fault
@@ -55,10 +55,10 @@ out_of_all s start now visits heard more f is t =
     subst (λ (l : List ℕ). TellsOut start now l f) (sym (flat_map-append (visit_text s) heard more)
     ∙ sym (ap (visits_text s) is)) (TellsOut-more start now (visits_text s heard) (visits_text s more) f t)
 
-module _ (order : Order) (limit : ℕ) (bytes : List ℕ) (left : Option (List ℕ)) (first new : Dumper)
+module _ (dialect : Dialect) (limit : ℕ) (bytes : List ℕ) (left : Option (List ℕ)) (first new : Dumper)
     (start now : Option (List ℕ)) where
-  pub dumps : (result : Result Summary RunFault) → Ran dump_story order limit bytes left first new start now result
-      → Dumps order (strings_of first.strings) limit bytes left start now result
+  pub dumps : (result : Result Summary RunFault) → Ran dump_story dialect limit bytes left first new start now result
+      → Dumps dialect (strings_of first.strings) limit bytes left start now result
   dumps (Ok summary) (inl (units, ends, settled)) = (units, [], [], ends, settled.out)
   dumps (Ok summary) (inr done) = absurd done.4.tells
   dumps (Err (fault.Write out)) (units, b, back, has, writes) = (
@@ -66,7 +66,7 @@ module _ (order : Order) (limit : ℕ) (bytes : List ℕ) (left : Option (List �
     b,
     back,
     has,
-    out_of_all (strings_of first.strings) start now (section_visits order units b) writes.0 writes.1 (fault.Write out)
+    out_of_all (strings_of first.strings) start now (section_visits dialect units b) writes.0 writes.1 (fault.Write out)
         writes.2 writes.3,
   )
   dumps (Err (fault.Damage offset kind)) (units, b, back, inl (ends, settled)) = (units, b, back, ends, settled.out)

@@ -1,4 +1,5 @@
 -- Events of a unit, and the visits, rows and versions that they tell.
+use Rattle.dl_head.specs.declared.dialect.Dialect.{Dialect}
 use Rattle.std.proofs.Common.{◌≡◌, ℕ, false, List, [], ◌∷◌, ◌++◌, map, flat_map, Option, Some, None, refl, sym, ap, ap₂}
 use Rattle.std.proofs.Common.{◌∙◌, append_assoc}
 use Rattle.std.specs.Prelude.{is_some}
@@ -34,14 +35,14 @@ rows_of_own : (order : Order) (parts : Option (HeaderData × List ℕ))
 rows_of_own order None = refl
 rows_of_own order (Some (h, program)) = rows_told-rows (rows_in order h.params program)
 
-rows_by : (order : Order) (b : List ℕ) (version : Option ℕ) → foreign_in order b ≡ version
-    → rows_told (events_of order version (header_in order b)) ≡ unit_rows order b
-rows_by order b None is = rows_of_own order (header_in order b)
-rows_by order b (Some v) is = sym (no_rows order b (foreign_no_header order b v is))
+rows_by : (dialect : Dialect) (b : List ℕ) (version : Option ℕ) → foreign_in dialect b ≡ version
+    → rows_told (events_of dialect.order version (header_in dialect b)) ≡ unit_rows dialect b
+rows_by dialect b None is = rows_of_own dialect.order (header_in dialect b)
+rows_by dialect b (Some v) is = sym (no_rows dialect b (foreign_no_header dialect b v is))
 
 -- the rows of the events are those of the unit
-pub rows_of_events : (order : Order) (b : List ℕ) → rows_told (events order b) ≡ unit_rows order b
-rows_of_events order b = rows_by order b (foreign_in order b) refl
+pub rows_of_events : (dialect : Dialect) (b : List ℕ) → rows_told (events dialect b) ≡ unit_rows dialect b
+rows_of_events dialect b = rows_by dialect b (foreign_in dialect b) refl
 
 -- an event that tells no row
 pub none_told : (e : Event) → row_told e ≡ [] → rows_told (told e) ≡ []
@@ -73,8 +74,9 @@ foreign_by : (order : Order) (version : Option ℕ) (parts : Option (HeaderData 
 foreign_by order None parts = foreign_of_own order parts
 foreign_by order (Some v) parts = refl
 
-pub foreign_of_events : (order : Order) (b : List ℕ) → is_foreign (events order b) ≡ is_some (foreign_in order b)
-foreign_of_events order b = foreign_by order (foreign_in order b) (header_in order b)
+pub foreign_of_events : (dialect : Dialect) (b : List ℕ)
+    → is_foreign (events dialect b) ≡ is_some (foreign_in dialect b)
+foreign_of_events dialect b = foreign_by dialect.order (foreign_in dialect b) (header_in dialect b)
 
 -- ---- visits
 
@@ -85,33 +87,33 @@ headerless : (offset : ℕ) (h : Option HeaderData) (order : Order) (version : O
 headerless offset h order None = refl
 headerless offset h order (Some v) = refl
 
-same_visits : (order : Order) (offset : ℕ) (b x : List ℕ) (parts : Option (HeaderData × List ℕ))
-    → header_in order b ≡ parts
-    → flat_map (event_visits offset (header_of order (b ++ x))) (events order b) ≡ visits order offset b
-same_visits order offset b x None is =
-    ap (λ (p : Option (HeaderData × List ℕ)). flat_map (event_visits offset (header_of order (b ++ x)))
-    (events_of order (foreign_in order b) p)) is
-    ∙ headerless offset (header_of order (b ++ x)) order (foreign_in order b)
+same_visits : (dialect : Dialect) (offset : ℕ) (b x : List ℕ) (parts : Option (HeaderData × List ℕ))
+    → header_in dialect b ≡ parts
+    → flat_map (event_visits offset (header_of dialect (b ++ x))) (events dialect b) ≡ visits dialect offset b
+same_visits dialect offset b x None is =
+    ap (λ (p : Option (HeaderData × List ℕ)). flat_map (event_visits offset (header_of dialect (b ++ x)))
+    (events_of dialect.order (foreign_in dialect b) p)) is
+    ∙ headerless offset (header_of dialect (b ++ x)) dialect.order (foreign_in dialect b)
     ∙ sym (ap
     (λ (p : Option (HeaderData × List ℕ)). flat_map
     (event_visits offset (Rattle.std.specs.Option.option_map (λ parts. parts.0) p))
-    (events_of order (foreign_in order b) p)) is)
-same_visits order offset b x (Some (h, program)) is =
+    (events_of dialect.order (foreign_in dialect b) p)) is)
+same_visits dialect offset b x (Some (h, program)) is =
     ap₂ (λ (p q : Option (HeaderData × List ℕ)). flat_map
     (event_visits offset (Rattle.std.specs.Option.option_map (λ parts. parts.0) p))
-    (events_of order (foreign_in order b) q)) (header_on order b x h program is) is
+    (events_of dialect.order (foreign_in dialect b) q)) (header_on dialect b x h program is) is
     ∙ sym (ap
     (λ (p : Option (HeaderData × List ℕ)). flat_map
     (event_visits offset (Rattle.std.specs.Option.option_map (λ parts. parts.0) p))
-    (events_of order (foreign_in order b) p)) is)
+    (events_of dialect.order (foreign_in dialect b) p)) is)
 
 -- where the events grow, so do the visits
-pub visits_grow : (order : Order) (offset : ℕ) (b x : List ℕ) (told : List Event)
-    → events order (b ++ x) ≡ events order b ++ told
-    → visits order offset (b ++ x) ≡ visits order offset b
-    ++ flat_map (event_visits offset (header_of order (b ++ x))) told
-visits_grow order offset b x told grows =
-    let at = event_visits offset (header_of order (b ++ x)) in
+pub visits_grow : (dialect : Dialect) (offset : ℕ) (b x : List ℕ) (told : List Event)
+    → events dialect (b ++ x) ≡ events dialect b ++ told
+    → visits dialect offset (b ++ x) ≡ visits dialect offset b
+    ++ flat_map (event_visits offset (header_of dialect (b ++ x))) told
+visits_grow dialect offset b x told grows =
+    let at = event_visits offset (header_of dialect (b ++ x)) in
     ap (flat_map at) grows
-    ∙ flat_map-append at (events order b) told
-    ∙ ap (λ (l : List Visit). l ++ flat_map at told) (same_visits order offset b x (header_in order b) refl)
+    ∙ flat_map-append at (events dialect b) told
+    ∙ ap (λ (l : List Visit). l ++ flat_map at told) (same_visits dialect offset b x (header_in dialect b) refl)

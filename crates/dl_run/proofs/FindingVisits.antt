@@ -5,7 +5,7 @@ use Rattle.std.proofs.Common.{append-nil, length-append}
 use Rattle.std.specs.Prelude.{option_map}
 use Rattle.std.specs.List.{concat}
 use Rattle.std.specs.Option.{option_or}
-use Rattle.dl_num.specs.declared.fixed.Order.{Order}
+use Rattle.dl_head.specs.declared.dialect.Dialect.{Dialect}
 use Rattle.dl_field.specs.HeaderData.{HeaderData}
 use Rattle.dl_head.specs.Header.{header_in}
 use Rattle.dl_rows.specs.declared.row.Row.{Row}
@@ -116,58 +116,59 @@ same_front (a ∷ xs) [] x y e = absurd (omega (arith, ap length e, length-appen
 same_front (a ∷ xs) (b ∷ ys) x y e = let same = same_front xs ys x y cc in cc
 
 -- u is the first of the units that answers for x: the row r; h is its header
-pub record FirstOf (order : Order) (x : Place) (units : List (List ℕ)) (h : HeaderData) (r : Row) : Type 0 where
+pub record FirstOf (dialect : Dialect) (x : Place) (units : List (List ℕ)) (h : HeaderData) (r : Row) : Type 0 where
   pub before : List (List ℕ)
   pub u : List ℕ
   pub after : List (List ℕ)
   pub whole : units ≡ before ++ u ∷ after
-  pub none_before : NoneAnswers order x before
-  pub row : answer (unit_rows order u) x ≡ Some r
-  pub header : header_of order u ≡ Some h
+  pub none_before : NoneAnswers dialect x before
+  pub row : answer (unit_rows dialect u) x ≡ Some r
+  pub header : header_of dialect u ≡ Some h
 
-module _ (order : Order) (x : Place) where
+module _ (dialect : Dialect) (x : Place) where
   -- a unit's answer, with its header
   abbrev unit_answer : List ℕ → Option (HeaderData × Row)
-  unit_answer u = answer_under x (unit_rows order u) (header_of order u)
+  unit_answer u = answer_under x (unit_rows dialect u) (header_of dialect u)
 
   abbrev first_answer : List (List ℕ) → Option (HeaderData × Row)
   first_answer [] = None
   first_answer (u ∷ units) = option_or (unit_answer u) (first_answer units)
 
-  found_of_unit : (offset : ℕ) (u : List ℕ) → found_after x [] (unit_visits order offset u) ≡ unit_answer u
+  found_of_unit : (offset : ℕ) (u : List ℕ) → found_after x [] (unit_visits dialect offset u) ≡ unit_answer u
   found_of_unit offset u =
-      found_after-append x [] (visits order offset u) (end_visits order u)
+      found_after-append x [] (visits dialect offset u) (end_visits dialect u)
       ∙ ap (λ (o : Option (HeaderData × Row)). option_or o
-      (found_after x (rows_after [] (visits order offset u)) (end_visits order u)))
-      (none_of_visits x offset (header_of order u) [] (events order u))
-      ∙ ap (λ (l : List Row). found_after x l (end_visits order u))
-      (rows_of_visits offset (header_of order u) [] (events order u) ∙ rows_of_events order u)
-      ∙ found_of_end x (unit_rows order u) (ends_open (unit_rows order u)) (header_of order u)
+      (found_after x (rows_after [] (visits dialect offset u)) (end_visits dialect u)))
+      (none_of_visits x offset (header_of dialect u) [] (events dialect u))
+      ∙ ap (λ (l : List Row). found_after x l (end_visits dialect u))
+      (rows_of_visits offset (header_of dialect u) [] (events dialect u) ∙ rows_of_events dialect u)
+      ∙ found_of_end x (unit_rows dialect u) (ends_open (unit_rows dialect u)) (header_of dialect u)
 
-  rows_of_unit : (offset : ℕ) (u : List ℕ) → rows_after [] (unit_visits order offset u) ≡ []
+  rows_of_unit : (offset : ℕ) (u : List ℕ) → rows_after [] (unit_visits dialect offset u) ≡ []
   rows_of_unit offset u =
-      rows_after-append [] (visits order offset u) (end_visits order u)
-      ∙ rows_of_end (rows_after [] (visits order offset u)) (ends_open (unit_rows order u)) (header_of order u)
+      rows_after-append [] (visits dialect offset u) (end_visits dialect u)
+      ∙ rows_of_end (rows_after [] (visits dialect offset u)) (ends_open (unit_rows dialect u)) (header_of dialect u)
 
   found_of_units : (offset : ℕ) (units : List (List ℕ)) (more : List Visit) → found_after x [] more ≡ None
-      → found_after x [] (units_visits order offset units ++ more) ≡ first_answer units
+      → found_after x [] (units_visits dialect offset units ++ more) ≡ first_answer units
   found_of_units offset [] more none = none
   found_of_units offset (u ∷ units) more none =
-      ap (found_after x []) (append_assoc (unit_visits order offset u) (units_visits order (offset + length u) units)
+      ap (found_after x []) (append_assoc (unit_visits dialect offset u)
+      (units_visits dialect (offset + length u) units)
       more)
-      ∙ found_after-append x [] (unit_visits order offset u) (units_visits order (offset + length u) units ++ more)
-      ∙ ap (λ (l : List Row). option_or (found_after x [] (unit_visits order offset u))
-      (found_after x l (units_visits order (offset + length u) units ++ more))) (rows_of_unit offset u)
+      ∙ found_after-append x [] (unit_visits dialect offset u) (units_visits dialect (offset + length u) units ++ more)
+      ∙ ap (λ (l : List Row). option_or (found_after x [] (unit_visits dialect offset u))
+      (found_after x l (units_visits dialect (offset + length u) units ++ more))) (rows_of_unit offset u)
       ∙ ap (λ (o : Option (HeaderData × Row)). option_or o
-      (found_after x [] (units_visits order (offset + length u) units ++ more))) (found_of_unit offset u)
+      (found_after x [] (units_visits dialect (offset + length u) units ++ more))) (found_of_unit offset u)
       ∙ ap (option_or (unit_answer u)) (found_of_units (offset + length u) units more none)
 
   -- what is found in the visits of a section is what its first unit with an answer gives
   pub found_of_section : (units : List (List ℕ)) (b : List ℕ)
-      → found_after x [] (section_visits order units b) ≡ first_answer units
+      → found_after x [] (section_visits dialect units b) ≡ first_answer units
   found_of_section units b =
-      found_of_units 0 units (visits order (length (concat units)) b)
-      (none_of_visits x (length (concat units)) (header_of order b) [] (events order b))
+      found_of_units 0 units (visits dialect (length (concat units)) b)
+      (none_of_visits x (length (concat units)) (header_of dialect b) [] (events dialect b))
 
   first_answer-append : (units more : List (List ℕ))
       → first_answer (units ++ more) ≡ option_or (first_answer units) (first_answer more)
@@ -179,20 +180,20 @@ module _ (order : Order) (x : Place) where
   -- ---- where none is found
 
   none_by : (parts : Option (HeaderData × List ℕ))
-      → answer_under x (rows_later order parts) (option_map (λ p. p.0) parts) ≡ None
-      → answer (rows_later order parts) x ≡ None
+      → answer_under x (rows_later dialect.order parts) (option_map (λ p. p.0) parts) ≡ None
+      → answer (rows_later dialect.order parts) x ≡ None
   none_by None e = refl
-  none_by (Some (h, program)) e = map_none (λ (r : Row). (h, r)) (answer (rows_in order h.params program) x) e
+  none_by (Some (h, program)) e = map_none (λ (r : Row). (h, r)) (answer (rows_in dialect.order h.params program) x) e
 
-  none_first : (units : List (List ℕ)) → first_answer units ≡ None → NoneAnswers order x units
+  none_first : (units : List (List ℕ)) → first_answer units ≡ None → NoneAnswers dialect x units
   none_first [] e = tt
   none_first (u ∷ units) e =
       let none = neither (unit_answer u) (first_answer units) e in
-      (none_by (header_in order u) none.0, none_first units none.1)
+      (none_by (header_in dialect u) none.0, none_first units none.1)
 
   -- where nothing is found, no unit answers
-  pub none_answers : (units : List (List ℕ)) (b : List ℕ) → found_after x [] (section_visits order units b) ≡ None
-      → NoneAnswers order x units
+  pub none_answers : (units : List (List ℕ)) (b : List ℕ) → found_after x [] (section_visits dialect units b) ≡ None
+      → NoneAnswers dialect x units
   none_answers units b e = none_first units (sym (found_of_section units b) ∙ e)
 
   -- ---- where one is found
@@ -204,11 +205,11 @@ module _ (order : Order) (x : Place) where
 
   -- one of the units is the first that answers
   pub split_first : (units : List (List ℕ)) (h : HeaderData) (r : Row) → first_answer units ≡ Some (h, r)
-      → FirstOf order x units h r
+      → FirstOf dialect x units h r
   split_first [] h r e = absurd (none_is_some e)
   split_first (u ∷ units) h r e = by (unit_answer u) refl (split_first units h r) where
     by : (o : Option (HeaderData × Row)) → unit_answer u ≡ o
-        → (first_answer units ≡ Some (h, r) → FirstOf order x units h r) → FirstOf order x (u ∷ units) h r
+        → (first_answer units ≡ Some (h, r) → FirstOf dialect x units h r) → FirstOf dialect x (u ∷ units) h r
     by None is split =
         let later = split (ap (λ (o : Option (HeaderData × Row)). option_or o (first_answer units)) (sym is) ∙ e) in
         record {
@@ -216,12 +217,12 @@ module _ (order : Order) (x : Place) where
           u = later.u;
           after = later.after;
           whole = ap (λ (l : List (List ℕ)). u ∷ l) later.whole;
-          none_before = (none_by (header_in order u) is, later.none_before);
+          none_before = (none_by (header_in dialect u) is, later.none_before);
           row = later.row;
           header = later.header;
         }
     by (Some f) is split =
-        let own = answers_by (unit_rows order u) (header_of order u) h r (is
+        let own = answers_by (unit_rows dialect u) (header_of dialect u) h r (is
         ∙ ap (λ (o : Option (HeaderData × Row)). option_or o (first_answer units)) (sym is) ∙ e) in
         record {
           before = [];
@@ -235,34 +236,34 @@ module _ (order : Order) (x : Place) where
 
   -- where none is found before the last visit, the last of the units is the first that answers
   pub last_first : (units : List (List ℕ)) (before : List Visit) (last : Visit) (h : HeaderData) (r : Row)
-      → section_visits order units [] ≡ before ++ last ∷ [] → found_after x [] before ≡ None
-      → found_after x [] (section_visits order units []) ≡ Some (h, r)
-      → (f : FirstOf order x units h r) × (f.after ≡ [])
+      → section_visits dialect units [] ≡ before ++ last ∷ [] → found_after x [] before ≡ None
+      → found_after x [] (section_visits dialect units []) ≡ Some (h, r)
+      → (f : FirstOf dialect x units h r) × (f.after ≡ [])
   last_first units before last h r whole none is = by (last_of units) where
     by : (units ≡ []) ⊎ ((init : List (List ℕ)) × (u : List ℕ) × (units ≡ init ++ u ∷ []))
-        → (f : FirstOf order x units h r) × (f.after ≡ [])
+        → (f : FirstOf dialect x units h r) × (f.after ≡ [])
     by (inl e) = absurd (none_is_some (ap first_answer (sym e) ∙ sym (found_of_section units []) ∙ is))
     by (inr (init, u, e)) =
-        let open_is = open_visit (ends_open (unit_rows order u)) in
-        let end_is = of_end (header_of order u) in
-        let visits_are : section_visits order init u ++ end_visits order u ≡ before ++ last ∷ [] =
-        sym (section_visits-push order init u) ∙ ap (λ (l : List (List ℕ)). section_visits order l []) (sym e)
+        let open_is = open_visit (ends_open (unit_rows dialect u)) in
+        let end_is = of_end (header_of dialect u) in
+        let visits_are : section_visits dialect init u ++ end_visits dialect u ≡ before ++ last ∷ [] =
+        sym (section_visits-push dialect init u) ∙ ap (λ (l : List (List ℕ)). section_visits dialect l []) (sym e)
         ∙ whole in
-        let front : section_visits order init u ++ open_is ≡ before =
-        same_front (section_visits order init u ++ open_is) before end_is last
-        (append_assoc (section_visits order init u) open_is (end_is ∷ []) ∙ visits_are) in
-        let none_front = sym (found_after-append x [] (section_visits order init u) open_is)
+        let front : section_visits dialect init u ++ open_is ≡ before =
+        same_front (section_visits dialect init u ++ open_is) before end_is last
+        (append_assoc (section_visits dialect init u) open_is (end_is ∷ []) ∙ visits_are) in
+        let none_front = sym (found_after-append x [] (section_visits dialect init u) open_is)
         ∙ ap (found_after x []) front ∙ none in
         let none_init : first_answer init ≡ None =
         sym (found_of_section init u)
-        ∙ (neither (found_after x [] (section_visits order init u))
-        (found_after x (rows_after [] (section_visits order init u)) open_is) none_front).0 in
+        ∙ (neither (found_after x [] (section_visits dialect init u))
+        (found_after x (rows_after [] (section_visits dialect init u)) open_is) none_front).0 in
         let own : unit_answer u ≡ Some (h, r) =
         sym (or_none (unit_answer u))
         ∙ ap (λ (o : Option (HeaderData × Row)). option_or o (first_answer (u ∷ []))) (sym none_init)
         ∙ sym (first_answer-append init (u ∷ [])) ∙ ap first_answer (sym e) ∙ sym (found_of_section units [])
         ∙ is in
-        let answers = answers_by (unit_rows order u) (header_of order u) h r own in (
+        let answers = answers_by (unit_rows dialect u) (header_of dialect u) h r own in (
           record {
             before = init;
             u = u;
@@ -277,12 +278,12 @@ module _ (order : Order) (x : Place) where
 
   -- the first unit that answers, in the bytes
   pub found_in_bytes : (s : List ℕ) (units : List (List ℕ)) (back : List ℕ) (h : HeaderData) (r : Row)
-      → HasUnits order s units back → (f : FirstOf order x units h r)
-      → IsFound order x s f.before f.u (concat f.after ++ back) h r
+      → HasUnits dialect s units back → (f : FirstOf dialect x units h r)
+      → IsFound dialect x s f.before f.u (concat f.after ++ back) h r
   found_in_bytes s units back h r has f =
       let all : units ≡ (f.before ++ f.u ∷ []) ++ f.after = f.whole ∙ sym (append_assoc f.before (f.u ∷ []) f.after) in
       record {
-        has = has_front order s units (f.before ++ f.u ∷ []) f.after back all has;
+        has = has_front dialect s units (f.before ++ f.u ∷ []) f.after back all has;
         none_before = f.none_before;
         row = f.row;
         header = f.header;

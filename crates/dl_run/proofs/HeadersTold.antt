@@ -3,7 +3,7 @@ use Rattle.std.proofs.Common.{◌≡◌, ◌⊎◌, inl, inr, ℕ, ◌+◌, Bool
 use Rattle.std.proofs.Common.{Some, None, refl, sym, ap, ◌∙◌}
 use Rattle.std.specs.Prelude.{option_map}
 use Rattle.std.specs.List.{concat}
-use Rattle.dl_num.specs.declared.fixed.Order.{Order}
+use Rattle.dl_head.specs.declared.dialect.Dialect.{Dialect}
 use Rattle.dl_field.specs.HeaderData.{HeaderData}
 use Rattle.dl_rows.specs.declared.row.Row.{Row}
 use Rattle.dl_rows.specs.LineUnit.{ends_open, unit_rows}
@@ -37,38 +37,38 @@ rows_tell_none : (h : Option HeaderData) (rows : List Row) → header_told h (ma
 rows_tell_none h [] = refl
 rows_tell_none h (r ∷ rows) = rows_tell_none h rows
 
-module _ (order : Order) where
+module _ (dialect : Dialect) where
   -- at the end of a unit none is told
-  none_at_end : (n : ℕ) (u : List ℕ) → header_told None (unit_visits order n u) ≡ None
+  none_at_end : (n : ℕ) (u : List ℕ) → header_told None (unit_visits dialect n u) ≡ None
   none_at_end n u =
-      header_told-append None (visits order n u) (end_visits order u)
-      ∙ header_told-append (header_told None (visits order n u)) (open_visit (ends_open (unit_rows order u)))
-      (of_end (header_of order u) ∷ [])
+      header_told-append None (visits dialect n u) (end_visits dialect u)
+      ∙ header_told-append (header_told None (visits dialect n u)) (open_visit (ends_open (unit_rows dialect u)))
+      (of_end (header_of dialect u) ∷ [])
 
-  none_of_units : (n : ℕ) (units : List (List ℕ)) → header_told None (units_visits order n units) ≡ None
+  none_of_units : (n : ℕ) (units : List (List ℕ)) → header_told None (units_visits dialect n units) ≡ None
   none_of_units n [] = refl
   none_of_units n (u ∷ units) =
-      header_told-append None (unit_visits order n u) (units_visits order (n + length u) units)
-      ∙ ap (λ (h : Option HeaderData). header_told h (units_visits order (n + length u) units)) (none_at_end n u)
+      header_told-append None (unit_visits dialect n u) (units_visits dialect (n + length u) units)
+      ∙ ap (λ (h : Option HeaderData). header_told h (units_visits dialect (n + length u) units)) (none_at_end n u)
       ∙ none_of_units (n + length u) units
 
-  by_kind : (n : ℕ) (b : List ℕ) → Foreign order n b ⊎ (Own order n b ⊎ Neither order n b)
-      → header_told None (visits order n b) ≡ header_of order b
+  by_kind : (n : ℕ) (b : List ℕ) → Foreign dialect n b ⊎ (Own dialect n b ⊎ Neither dialect n b)
+      → header_told None (visits dialect n b) ≡ header_of dialect b
   by_kind n b (inl f) =
-      ap (header_told None) (foreign_visits order n b f)
-      ∙ sym (ap (λ (p : Option (HeaderData × List ℕ)). option_map (λ q. q.0) p) (foreign_no_header order b f.0 f.1))
+      ap (header_told None) (foreign_visits dialect n b f)
+      ∙ sym (ap (λ (p : Option (HeaderData × List ℕ)). option_map (λ q. q.0) p) (foreign_no_header dialect b f.0 f.1))
   by_kind n b (inr (inl own)) =
-      ap (header_told None) (own_visits order n b own) ∙ rows_tell_none (Some own.0) (unit_rows order b)
-      ∙ sym (header_is order n b own)
+      ap (header_told None) (own_visits dialect n b own) ∙ rows_tell_none (Some own.0) (unit_rows dialect b)
+      ∙ sym (header_is dialect n b own)
   by_kind n b (inr (inr none)) =
-      ap (header_told None) (no_visits order n b none)
+      ap (header_told None) (no_visits dialect n b none)
       ∙ sym (ap (λ (p : Option (HeaderData × List ℕ)). option_map (λ q. q.0) p) none.1)
 
   -- that of the bytes after the units
   pub header_of_section : (units : List (List ℕ)) (b : List ℕ)
-      → header_told None (section_visits order units b) ≡ header_of order b
+      → header_told None (section_visits dialect units b) ≡ header_of dialect b
   header_of_section units b =
       let n = length (concat units) in
-      header_told-append None (units_visits order 0 units) (visits order n b)
-      ∙ ap (λ (h : Option HeaderData). header_told h (visits order n b)) (none_of_units 0 units)
-      ∙ by_kind n b (one_of order n b)
+      header_told-append None (units_visits dialect 0 units) (visits dialect n b)
+      ∙ ap (λ (h : Option HeaderData). header_told h (visits dialect n b)) (none_of_units 0 units)
+      ∙ by_kind n b (one_of dialect n b)

@@ -4,7 +4,7 @@ use Rattle.std.proofs.Common.{arith, refl, sym, ap, ap₂, ◌∙◌, subst, app
 use Rattle.std.specs.Prelude.{option_map}
 use Rattle.std.specs.Io.KnownBytes.{Appends}
 use Rattle.std.specs.List.{AllByRecursion, concat}
-use Rattle.dl_num.specs.declared.fixed.Order.{Order}
+use Rattle.dl_head.specs.declared.dialect.Dialect.{Dialect}
 use Rattle.dl_head.specs.Built.{with_standard_opcodes}
 use Rattle.dl_table.specs.declared.fault.FaultKind.{FaultKind}
 use Rattle.dl_head.specs.Header.{foreign_in, header_in}
@@ -33,29 +33,29 @@ use Rattle.dl_run.proofs.SectionCuts.{one_front, one_end, Ending, is_whole, is_r
 use Rattle.dl_run.proofs.VisitsGrowth.{foreign_on}
 use Rattle.dl_run.proofs.SectionLemmas.{has_front}
 
-module _ (order : Order) where
+module _ (dialect : Dialect) where
   -- ---- units that are copied
 
   -- no unit that is copied stands at the front of w
   abbrev NoCopyBegins : List ℕ → Type 0
-  NoCopyBegins w = (u back : List ℕ) → w ≡ u ++ back → IsUnit order u → IsCopied order u → ⊥
+  NoCopyBegins w = (u back : List ℕ) → w ≡ u ++ back → IsUnit dialect u → IsCopied dialect u → ⊥
 
   -- those of the first that are copied up to some one are the first of those that are copied as far as can be
-  fewer_copies : (units units2 : List (List ℕ)) (w w2 : List ℕ) → AllByRecursion (IsUnit order) units
-      → AllByRecursion (IsUnit order) units2 → AreCopied order units
+  fewer_copies : (units units2 : List (List ℕ)) (w w2 : List ℕ) → AllByRecursion (IsUnit dialect) units
+      → AllByRecursion (IsUnit dialect) units2 → AreCopied dialect units
       → NoCopyBegins w2 → concat units ++ w ≡ concat units2 ++ w2
       → (others : List (List ℕ)) × (units2 ≡ units ++ others)
   fewer_copies [] units2 w w2 all all2 copied none2 e = (units2, refl)
   fewer_copies (u ∷ units) [] w w2 all all2 copied none2 e =
       absurd (none2 u (concat units ++ w) (sym e ∙ append_assoc u (concat units) w) all.0 copied.0)
   fewer_copies (u ∷ units) (v ∷ units2) w w2 all all2 copied none2 e =
-      let front = one_front order u v (concat units ++ w) (concat units2 ++ w2) all.0 all2.0
+      let front = one_front dialect u v (concat units ++ w) (concat units2 ++ w2) all.0 all2.0
       (sym (append_assoc u (concat units) w) ∙ e ∙ append_assoc v (concat units2) w2) in
       let more = fewer_copies units units2 w w2 all.1 all2.1 copied.1 none2 front.1 in
       (more.0, ap₂ (λ (x : List ℕ) (xs : List (List ℕ)). x ∷ xs) (sym front.0) more.1)
 
-  same_copies : (units units2 : List (List ℕ)) (w w2 : List ℕ) → AllByRecursion (IsUnit order) units
-      → AllByRecursion (IsUnit order) units2 → AreCopied order units → AreCopied order units2
+  same_copies : (units units2 : List (List ℕ)) (w w2 : List ℕ) → AllByRecursion (IsUnit dialect) units
+      → AllByRecursion (IsUnit dialect) units2 → AreCopied dialect units → AreCopied dialect units2
       → NoCopyBegins w → NoCopyBegins w2 → concat units ++ w ≡ concat units2 ++ w2 → (units ≡ units2) × (w ≡ w2)
   same_copies [] [] w w2 all all2 copied copied2 none none2 e = (refl, e)
   same_copies [] (v ∷ units2) w w2 all all2 copied copied2 none none2 e =
@@ -63,7 +63,7 @@ module _ (order : Order) where
   same_copies (u ∷ units) [] w w2 all all2 copied copied2 none none2 e =
       absurd (none2 u (concat units ++ w) (sym e ∙ append_assoc u (concat units) w) all.0 copied.0)
   same_copies (u ∷ units) (v ∷ units2) w w2 all all2 copied copied2 none none2 e =
-      let front = one_front order u v (concat units ++ w) (concat units2 ++ w2) all.0 all2.0
+      let front = one_front dialect u v (concat units ++ w) (concat units2 ++ w2) all.0 all2.0
       (sym (append_assoc u (concat units) w) ∙ e ∙ append_assoc v (concat units2) w2) in
       let more = same_copies units units2 w w2 all.1 all2.1 copied.1 copied2.1 none none2 front.1 in
       (ap₂ (λ (x : List ℕ) (xs : List (List ℕ)). x ∷ xs) front.0 more.0, more.1)
@@ -71,47 +71,47 @@ module _ (order : Order) where
   -- ---- units that aren't copied
 
   -- what begins with another version doesn't begin with a unit that has a header
-  no_header_begins : (b m u back : List ℕ) (version : ℕ) (h : HeaderData) → foreign_in order b ≡ Some version
-      → b ++ m ≡ u ++ back → header_of order u ≡ Some h → ⊥
-  no_header_begins b m u back version h foreign e header = by (header_in order u) refl header where
-    by : (o : Option (HeaderData × List ℕ)) → header_in order u ≡ o → option_map (λ p. p.0) o ≡ Some h → ⊥
+  no_header_begins : (b m u back : List ℕ) (version : ℕ) (h : HeaderData) → foreign_in dialect b ≡ Some version
+      → b ++ m ≡ u ++ back → header_of dialect u ≡ Some h → ⊥
+  no_header_begins b m u back version h foreign e header = by (header_in dialect u) refl header where
+    by : (o : Option (HeaderData × List ℕ)) → header_in dialect u ≡ o → option_map (λ p. p.0) o ≡ Some h → ⊥
     by None is some = none_is_some some
     by (Some (g, program)) is some =
-        none_is_some (sym (foreign_no_header order (b ++ m) version (foreign_on order b m version foreign))
-        ∙ ap (header_in order) e ∙ header_on order u back g program is)
+        none_is_some (sym (foreign_no_header dialect (b ++ m) version (foreign_on dialect b m version foreign))
+        ∙ ap (header_in dialect) e ∙ header_on dialect u back g program is)
 
-  not_both : (u v : List ℕ) (h g : HeaderData) (f : EmitFault) → u ≡ v → header_of order u ≡ Some h
-      → header_of order v ≡ Some g
-      → refusal (with_standard_opcodes h) (unit_rows order u) ≡ Some f
-      → refusal (with_standard_opcodes g) (unit_rows order v) ≡ None → ⊥
+  not_both : (u v : List ℕ) (h g : HeaderData) (f : EmitFault) → u ≡ v → header_of dialect u ≡ Some h
+      → header_of dialect v ≡ Some g
+      → refusal (with_standard_opcodes h) (unit_rows dialect u) ≡ Some f
+      → refusal (with_standard_opcodes g) (unit_rows dialect v) ≡ None → ⊥
   not_both u v h g f same header header2 some none =
-      let headers : g ≡ h = value_same g h (sym header2 ∙ ap (header_of order) (sym same) ∙ header) in
+      let headers : g ≡ h = value_same g h (sym header2 ∙ ap (header_of dialect) (sym same) ∙ header) in
       none_is_some (sym none
-      ∙ ap₂ (λ (d : HeaderData) (l : List ℕ). refusal (with_standard_opcodes d) (unit_rows order l)) headers
+      ∙ ap₂ (λ (d : HeaderData) (l : List ℕ). refusal (with_standard_opcodes d) (unit_rows dialect l)) headers
       (sym same) ∙ some)
 
 -- ---- how copying ends
 
 -- w, after the units: no unit begins it, or another version does, or a unit whose copy would be too long
-data How (order : Order) (limit : ℕ) (bytes : List ℕ) (left : Option (List ℕ)) (units : List (List ℕ)) (w : List ℕ)
+data How (dialect : Dialect) (limit : ℕ) (bytes : List ℕ) (left : Option (List ℕ)) (units : List (List ℕ)) (w : List ℕ)
     (result : Result Summary RunFault) : Type 0 where
-  at_end : (b back : List ℕ) → w ≡ b ++ back → IsOfBytes result → EndsAs order limit bytes left units b back result
-      → foreign_in order b ≡ None → How order limit bytes left units w result
-  at_version : (b back : List ℕ) (version : ℕ) → w ≡ b ++ back → WithinUnit order b → foreign_in order b ≡ Some version
-      → result ≡ Err (fault.ForeignUnit (length (concat units)))
-      → How order limit bytes left units w result
-  at_unit : (u back : List ℕ) (h : HeaderData) (f : EmitFault) → w ≡ u ++ back → IsUnit order u
-      → header_of order u ≡ Some h → refusal (with_standard_opcodes h) (unit_rows order u) ≡ Some f
-      → result ≡ Err (fault.Emit (length (concat units)) TooLong) → How order limit bytes left units w result
+  at_end : (b back : List ℕ) → w ≡ b ++ back → IsOfBytes result → EndsAs dialect limit bytes left units b back result
+      → foreign_in dialect b ≡ None → How dialect limit bytes left units w result
+  at_version : (b back : List ℕ) (version : ℕ) → w ≡ b ++ back → WithinUnit dialect b
+      → foreign_in dialect b ≡ Some version → result ≡ Err (fault.ForeignUnit (length (concat units)))
+      → How dialect limit bytes left units w result
+  at_unit : (u back : List ℕ) (h : HeaderData) (f : EmitFault) → w ≡ u ++ back → IsUnit dialect u
+      → header_of dialect u ≡ Some h → refusal (with_standard_opcodes h) (unit_rows dialect u) ≡ Some f
+      → result ≡ Err (fault.Emit (length (concat units)) TooLong) → How dialect limit bytes left units w result
 
-record Copied (order : Order) (limit : ℕ) (bytes : List ℕ) (left start now : Option (List ℕ))
+record Copied (dialect : Dialect) (limit : ℕ) (bytes : List ℕ) (left start now : Option (List ℕ))
     (result : Result Summary RunFault) : Type 0 where
   units : List (List ℕ)
   w : List ℕ
-  has : HasUnits order (take limit bytes) units w
-  copied : AreCopied order units
-  out : Appends start now (copied_units order units)
-  how : How order limit bytes left units w result
+  has : HasUnits dialect (take limit bytes) units w
+  copied : AreCopied dialect units
+  out : Appends start now (copied_units dialect units)
+  how : How dialect limit bytes left units w result
 
 last_of : {A : Type 0} (P : A → Type 0) (xs : List A) (x : A) → AllByRecursion P (xs ++ x ∷ []) → P x
 last_of P [] x all = all.0
@@ -125,22 +125,22 @@ version_is : (n m : ℕ) → n ≡ m
     → ◌≡◌ {A = Result Summary RunFault} (Err (fault.ForeignUnit n)) (Err (fault.ForeignUnit m))
 version_is n m e = rw e refl
 
-module _ (order : Order) (limit : ℕ) (bytes : List ℕ) (left start now : Option (List ℕ)) where
+module _ (dialect : Dialect) (limit : ℕ) (bytes : List ℕ) (left start now : Option (List ℕ)) where
   ends_so : (result : Result Summary RunFault) → IsOfBytes result → (units : List (List ℕ)) (b back : List ℕ)
-      → EndsAs order limit bytes left units b back result → foreign_in order b ≡ None
-      → AreCopied order units → Appends start now (copied_units order units)
-      → Copied order limit bytes left start now result
+      → EndsAs dialect limit bytes left units b back result → foreign_in dialect b ≡ None
+      → AreCopied dialect units → Appends start now (copied_units dialect units)
+      → Copied dialect limit bytes left start now result
   ends_so result of units b back ends none copied out = record {
     units = units;
     w = b ++ back;
-    has = (ended order limit bytes left units b back result of ends).has;
+    has = (ended dialect limit bytes left units b back result of ends).has;
     copied = copied;
     out = out;
     how = at_end b back refl of ends none;
   }
 
-  copied_of : (result : Result Summary RunFault) → IsOfBytes result → Copies order limit bytes left start now result
-      → Copied order limit bytes left start now result
+  copied_of : (result : Result Summary RunFault) → IsOfBytes result → Copies dialect limit bytes left start now result
+      → Copied dialect limit bytes left start now result
   copied_of (Ok summary) of (units, ends, (copied, out)) = ends_so (Ok summary) of units [] [] ends refl copied out
   copied_of (Err (fault.ForeignUnit offset)) of (units, b, back, version, has, place, foreign, (copied, out)) = record {
     units = units;
@@ -154,10 +154,10 @@ module _ (order : Order) (limit : ℕ) (bytes : List ℕ) (left start now : Opti
       record {
         units = units;
         w = concat (u ∷ []) ++ back;
-        has = has_front order (take limit bytes) (units ++ u ∷ []) units (u ∷ []) back refl has;
+        has = has_front dialect (take limit bytes) (units ++ u ∷ []) units (u ∷ []) back refl has;
         copied = copied;
         out = out;
-        how = at_unit u back h f (append_assoc u [] back) (last_of (IsUnit order) units u has.each) header refused
+        how = at_unit u back h f (append_assoc u [] back) (last_of (IsUnit dialect) units u has.each) header refused
             (emit_is offset (length (concat units)) f place long);
       }
   copied_of (Err (fault.Damage offset kind)) of (units, b, back, ends, none, (copied, out)) =
@@ -169,31 +169,32 @@ module _ (order : Order) (limit : ℕ) (bytes : List ℕ) (left start now : Opti
   copied_of (Err fault.Read) of copies = absurd of
   copied_of (Err (fault.Write n)) of copies = absurd of
 
-module _ (order : Order) (limit : ℕ) (bytes : List ℕ) where
+module _ (dialect : Dialect) (limit : ℕ) (bytes : List ℕ) where
   no_copy : (left : Option (List ℕ)) (units : List (List ℕ)) (w : List ℕ) (result : Result Summary RunFault)
-      → How order limit bytes left units w result → NoCopyBegins order w
+      → How dialect limit bytes left units w result → NoCopyBegins dialect w
   no_copy left units w result (at_end b back is of ends none) u more e unit copied =
-      (ended order limit bytes left units b back result of ends).none u more (sym is ∙ e) unit
+      (ended dialect limit bytes left units b back result of ends).none u more (sym is ∙ e) unit
   no_copy left units w result (at_version b back version is within foreign answer) u more e unit copied =
-      no_header_begins order b back u more version copied.0 foreign (sym is ∙ e) copied.1
+      no_header_begins dialect b back u more version copied.0 foreign (sym is ∙ e) copied.1
   no_copy left units w result (at_unit v back h f is unit2 header refused answer) u more e unit copied =
-      not_both order v u h copied.0 f (one_front order v u back more unit2 unit (sym is ∙ e)).0 header copied.1 refused
+      not_both dialect v u h copied.0 f (one_front dialect v u back more unit2 unit (sym is ∙ e)).0 header
+      copied.1 refused
       copied.2
 
   -- where the end comes no other version does
   module _ (units : List (List ℕ)) (b back b2 back2 : List ℕ) (version : ℕ) (whole : b ++ back ≡ b2 ++ back2)
-      (none : foreign_in order b ≡ None) (within : WithinUnit order b2)
-      (foreign : foreign_in order b2 ≡ Some version) where
-    not_refused : (x : ℕ) (v : List ℕ) (at : ℕ) (kind : FaultKind) → b2 ≡ b ++ x ∷ v → Refused order b at kind → ⊥
-    not_refused x v at kind e refused = by (header_in order b) refl where
-      by : (o : Option (HeaderData × List ℕ)) → header_in order b ≡ o → ⊥
+      (none : foreign_in dialect b ≡ None) (within : WithinUnit dialect b2)
+      (foreign : foreign_in dialect b2 ≡ Some version) where
+    not_refused : (x : ℕ) (v : List ℕ) (at : ℕ) (kind : FaultKind) → b2 ≡ b ++ x ∷ v → Refused dialect b at kind → ⊥
+    not_refused x v at kind e refused = by (header_in dialect b) refl where
+      by : (o : Option (HeaderData × List ℕ)) → header_in dialect b ≡ o → ⊥
       by None is =
-          let unit = foreign_known order b2 version foreign in
-          foreign_is_not_refused order b2 b (x ∷ v) version unit.0 at kind foreign unit.1 (within unit.0 unit.1) e
-          ((refused_in_header order b at kind is).0 refused)
+          let unit = foreign_known dialect b2 version foreign in
+          foreign_is_not_refused dialect b2 b (x ∷ v) version unit.0 at kind foreign unit.1 (within unit.0 unit.1) e
+          ((refused_in_header dialect b at kind is).0 refused)
       by (Some (h, program)) is =
-          none_is_some (sym (foreign_no_header order b2 version foreign) ∙ ap (header_in order) e
-          ∙ header_on order b (x ∷ v) h program is)
+          none_is_some (sym (foreign_no_header dialect b2 version foreign) ∙ ap (header_in dialect) e
+          ∙ header_on dialect b (x ∷ v) h program is)
 
     some_after : (x : ℕ) (v : List ℕ) → b2 ≡ b ++ x ∷ v → back ≡ [] → ⊥
     some_after x v e nothing =
@@ -208,40 +209,40 @@ module _ (order : Order) (limit : ℕ) (bytes : List ℕ) where
         )
 
     not_longer : (x : ℕ) (v : List ℕ) (result : Result Summary RunFault) → b2 ≡ b ++ x ∷ v
-        → Ending order limit bytes units b back result → ⊥
+        → Ending dialect limit bytes units b back result → ⊥
     not_longer x v result e (is_whole empty nothing fits is) = some_after x v e nothing
     not_longer x v result e (is_refused at kind refused is) = not_refused x v at kind e refused
     not_longer x v result e (is_short nothing some sound fits is) = some_after x v e nothing
     not_longer x v result e (is_long nothing sound long is) = some_after x v e nothing
 
-    no_version : (result : Result Summary RunFault) → Ending order limit bytes units b back result → ⊥
+    no_version : (result : Result Summary RunFault) → Ending dialect limit bytes units b back result → ⊥
     no_version result ending = elim (fronts b b2 back back2 whole) [
-      | inl same ↦ none_is_some (sym none ∙ ap (foreign_in order) same ∙ foreign)
+      | inl same ↦ none_is_some (sym none ∙ ap (foreign_in dialect) same ∙ foreign)
       | inr (inl g) ↦ not_longer g.0 g.1 result g.2 ending
-      | inr (inr g) ↦ none_is_some (sym none ∙ ap (foreign_in order) g.2
-          ∙ foreign_on order b2 (g.0 ∷ g.1) version foreign)
+      | inr (inr g) ↦ none_is_some (sym none ∙ ap (foreign_in dialect) g.2
+          ∙ foreign_on dialect b2 (g.0 ∷ g.1) version foreign)
     ]
 
   -- two ends after the same units
   module _ (units : List (List ℕ)) (w : List ℕ) where
     apart : (left : Option (List ℕ)) (result : Result Summary RunFault) (b back b2 back2 : List ℕ) (version : ℕ)
         → w ≡ b ++ back → w ≡ b2 ++ back2 → IsOfBytes result
-        → EndsAs order limit bytes left units b back result → foreign_in order b ≡ None → WithinUnit order b2
-        → foreign_in order b2 ≡ Some version → ⊥
+        → EndsAs dialect limit bytes left units b back result → foreign_in dialect b ≡ None → WithinUnit dialect b2
+        → foreign_in dialect b2 ≡ Some version → ⊥
     apart left result b back b2 back2 version is is2 of ends none within foreign =
         no_version units b back b2 back2 version (sym is ∙ is2) none within foreign result
-        (ended order limit bytes left units b back result of ends).ending
+        (ended dialect limit bytes left units b back result of ends).ending
 
     no_unit : (left : Option (List ℕ)) (result : Result Summary RunFault) (b back u more : List ℕ) → w ≡ b ++ back
         → w ≡ u ++ more → IsOfBytes result
-        → EndsAs order limit bytes left units b back result → IsUnit order u → ⊥
+        → EndsAs dialect limit bytes left units b back result → IsUnit dialect u → ⊥
     no_unit left result b back u more is is2 of ends unit =
-        (ended order limit bytes left units b back result of ends).none u more (sym is ∙ is2) unit
+        (ended dialect limit bytes left units b back result of ends).none u more (sym is ∙ is2) unit
 
     same_answer : (left left2 : Option (List ℕ)) (result result2 : Result Summary RunFault)
-        → How order limit bytes left units w result → How order limit bytes left2 units w result2 → result ≡ result2
+        → How dialect limit bytes left units w result → How dialect limit bytes left2 units w result2 → result ≡ result2
     same_answer left left2 result result2 (at_end b back is of ends none) (at_end b2 back2 is2 of2 ends2 none2) =
-        (one_end order limit bytes left left2 units units b b2 back back2 result result2 of of2 ends ends2).3
+        (one_end dialect limit bytes left left2 units units b b2 back back2 result result2 of of2 ends ends2).3
     same_answer left left2 result result2 (at_end b back is of ends none)
         (at_version b2 back2 version is2 within foreign answer) =
         absurd (apart left result b back b2 back2 version is is2 of ends none within foreign)
@@ -255,64 +256,64 @@ module _ (order : Order) (limit : ℕ) (bytes : List ℕ) where
         (at_version b2 back2 version2 is2 within2 foreign2 answer2) = answer ∙ sym answer2
     same_answer left left2 result result2 (at_version b back version is within foreign answer)
         (at_unit u more h f is2 unit header refused answer2) =
-        absurd (no_header_begins order b back u more version h foreign (sym is ∙ is2) header)
+        absurd (no_header_begins dialect b back u more version h foreign (sym is ∙ is2) header)
     same_answer left left2 result result2 (at_unit u more h f is unit header refused answer)
         (at_end b2 back2 is2 of2 ends2 none2) = absurd (no_unit left2 result2 b2 back2 u more is2 is of2 ends2 unit)
     same_answer left left2 result result2 (at_unit u more h f is unit header refused answer)
         (at_version b2 back2 version is2 within foreign answer2) =
-        absurd (no_header_begins order b2 back2 u more version h foreign (sym is2 ∙ is) header)
+        absurd (no_header_begins dialect b2 back2 u more version h foreign (sym is2 ∙ is) header)
     same_answer left left2 result result2 (at_unit u more h f is unit header refused answer)
         (at_unit u2 more2 h2 f2 is2 unit2 header2 refused2 answer2) = answer ∙ sym answer2
 
   same_units : (left left2 start start2 now now2 : Option (List ℕ)) (result result2 : Result Summary RunFault)
-      (c : Copied order limit bytes left start now result) (c2 : Copied order limit bytes left2 start2 now2 result2)
+      (c : Copied dialect limit bytes left start now result) (c2 : Copied dialect limit bytes left2 start2 now2 result2)
       → (c.units ≡ c2.units) × (c.w ≡ c2.w)
   same_units left left2 start start2 now now2 result result2 c c2 =
-      same_copies order c.units c2.units c.w c2.w c.has.each c2.has.each c.copied c2.copied
+      same_copies dialect c.units c2.units c.w c2.w c.has.each c2.has.each c.copied c2.copied
       (no_copy left c.units c.w result c.how) (no_copy left2 c2.units c2.w result2 c2.how) (sym c.has.whole
       ∙ c2.has.whole)
 
 pub one_copying : OneCopying
-one_copying order limit bytes left left2 start start2 now now2 result result2 of of2 copies copies2 =
-    let c = copied_of order limit bytes left start now result of copies in
-    let c2 = copied_of order limit bytes left2 start2 now2 result2 of2 copies2 in
-    let same = same_units order limit bytes left left2 start start2 now now2 result result2 c c2 in
-    let how2 = subst (λ (us : List (List ℕ)). How order limit bytes left2 us c.w result2) (sym same.0)
-    (subst (λ (v : List ℕ). How order limit bytes left2 c2.units v result2) (sym same.1) c2.how) in
-    same_answer order limit bytes c.units c.w left left2 result result2 c.how how2
+one_copying dialect limit bytes left left2 start start2 now now2 result result2 of of2 copies copies2 =
+    let c = copied_of dialect limit bytes left start now result of copies in
+    let c2 = copied_of dialect limit bytes left2 start2 now2 result2 of2 copies2 in
+    let same = same_units dialect limit bytes left left2 start start2 now now2 result result2 c c2 in
+    let how2 = subst (λ (us : List (List ℕ)). How dialect limit bytes left2 us c.w result2) (sym same.0)
+    (subst (λ (v : List ℕ). How dialect limit bytes left2 c2.units v result2) (sym same.1) c2.how) in
+    same_answer dialect limit bytes c.units c.w left left2 result result2 c.how how2
 
 pub one_copy : OneCopy
-one_copy order limit bytes left left2 start start2 now now2 result result2 of of2 copies copies2 =
-    let c = copied_of order limit bytes left start now result of copies in
-    let c2 = copied_of order limit bytes left2 start2 now2 result2 of2 copies2 in
-    let same = same_units order limit bytes left left2 start start2 now now2 result result2 c c2 in (
-      copied_units order c.units,
+one_copy dialect limit bytes left left2 start start2 now now2 result result2 of of2 copies copies2 =
+    let c = copied_of dialect limit bytes left start now result of copies in
+    let c2 = copied_of dialect limit bytes left2 start2 now2 result2 of2 copies2 in
+    let same = same_units dialect limit bytes left left2 start start2 now now2 result result2 c c2 in (
+      copied_units dialect c.units,
       c.out,
-      subst (λ (us : List (List ℕ)). Appends start2 now2 (copied_units order us)) (sym same.0) c2.out,
+      subst (λ (us : List (List ℕ)). Appends start2 now2 (copied_units dialect us)) (sym same.0) c2.out,
     )
 
-copied_units-append : (order : Order) (units others : List (List ℕ))
-    → copied_units order (units ++ others) ≡ copied_units order units ++ copied_units order others
-copied_units-append order [] others = refl
-copied_units-append order (u ∷ units) others =
-    ap (λ (l : List ℕ). copied_unit order u ++ l) (copied_units-append order units others)
-    ∙ sym (append_assoc (copied_unit order u) (copied_units order units) (copied_units order others))
+copied_units-append : (dialect : Dialect) (units others : List (List ℕ))
+    → copied_units dialect (units ++ others) ≡ copied_units dialect units ++ copied_units dialect others
+copied_units-append dialect [] others = refl
+copied_units-append dialect (u ∷ units) others =
+    ap (λ (l : List ℕ). copied_unit dialect u ++ l) (copied_units-append dialect units others)
+    ∙ sym (append_assoc (copied_unit dialect u) (copied_units dialect units) (copied_units dialect others))
 
 pub copy_is_front : CopyIsFront
-copy_is_front order limit bytes left left2 start start2 now now2 out result2 of2 (
+copy_is_front dialect limit bytes left left2 start start2 now now2 out result2 of2 (
   units,
   back,
   has,
   copied,
   tells,
 ) copies2 =
-    let c2 = copied_of order limit bytes left2 start2 now2 result2 of2 copies2 in
-    let fewer = fewer_copies order units c2.units back c2.w has.each c2.has.each copied
-    (no_copy order limit bytes left2 c2.units c2.w result2 c2.how) (sym has.whole ∙ c2.has.whole) in
-    let text : copied_units order c2.units ≡ copied_units order units ++ copied_units order fewer.0 =
-    ap (copied_units order) fewer.1 ∙ copied_units-append order units fewer.0 in (
-      copied_units order c2.units,
+    let c2 = copied_of dialect limit bytes left2 start2 now2 result2 of2 copies2 in
+    let fewer = fewer_copies dialect units c2.units back c2.w has.each c2.has.each copied
+    (no_copy dialect limit bytes left2 c2.units c2.w result2 c2.how) (sym has.whole ∙ c2.has.whole) in
+    let text : copied_units dialect c2.units ≡ copied_units dialect units ++ copied_units dialect fewer.0 =
+    ap (copied_units dialect) fewer.1 ∙ copied_units-append dialect units fewer.0 in (
+      copied_units dialect c2.units,
       subst (λ (l : List ℕ). TellsOut start now l (fault.Write out)) (sym text)
-          (TellsOut-more start now (copied_units order units) (copied_units order fewer.0) (fault.Write out) tells),
+          (TellsOut-more start now (copied_units dialect units) (copied_units dialect fewer.0) (fault.Write out) tells),
       c2.out,
     )

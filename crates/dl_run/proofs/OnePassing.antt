@@ -1,7 +1,7 @@
 -- What `passed_over` answers of bytes is one thing alone.
 use Rattle.std.proofs.Common.{◌≡◌, ℕ, List, [], length, Option, Some, None, Result, Ok, Err, arith, refl, sym, ap}
 use Rattle.std.proofs.Common.{ap₂, ◌∙◌, subst}
-use Rattle.dl_num.specs.declared.fixed.Order.{Order}
+use Rattle.dl_head.specs.declared.dialect.Dialect.{Dialect}
 use Rattle.dl_run.specs.declared.fault.RunFault.{RunFault}
 use Rattle.dl_run.specs.declared.fault.RunFault.TheVariants as fault
 use Rattle.dl_run.specs.declared.passing_over.PassedOver.{PassedOver}
@@ -46,13 +46,13 @@ module _ (versions : List ℕ) where
 -- ---- how the section ends
 
 -- it ends so, and where it is whole its versions are told
-data Passing (order : Order) (limit : ℕ) (bytes : List ℕ) (left : Option (List ℕ))
+data Passing (dialect : Dialect) (limit : ℕ) (bytes : List ℕ) (left : Option (List ℕ))
     (result : Result (Option PassedOver) RunFault) : Type 0 where
   whole : (units : List (List ℕ)) (summary : Summary) (passed : Option PassedOver)
-      → EndsAs order limit bytes left units [] [] (Ok summary) → AreTold (other_versions order units) passed
-      → result ≡ Ok passed → Passing order limit bytes left result
+      → EndsAs dialect limit bytes left units [] [] (Ok summary) → AreTold (other_versions dialect units) passed
+      → result ≡ Ok passed → Passing dialect limit bytes left result
   ends : (units : List (List ℕ)) (b back : List ℕ) (f : RunFault) → IsOfBytes {A = Summary} (Err f)
-      → EndsAs order limit bytes left units b back (Err f) → result ≡ Err f → Passing order limit bytes left result
+      → EndsAs dialect limit bytes left units b back (Err f) → result ≡ Err f → Passing dialect limit bytes left result
 
 apart : (summary : Summary) (f : RunFault) → ◌≡◌ {A = Result Summary RunFault} (Ok summary) (Err f) → ⊥
 apart summary f e = cc
@@ -60,9 +60,9 @@ apart summary f e = cc
 fault_same : (f g : RunFault) → ◌≡◌ {A = Result Summary RunFault} (Err f) (Err g) → f ≡ g
 fault_same f g e = cc
 
-module _ (order : Order) (limit : ℕ) (bytes : List ℕ) where
+module _ (dialect : Dialect) (limit : ℕ) (bytes : List ℕ) where
   passing : (left : Option (List ℕ)) (result : Result (Option PassedOver) RunFault) → IsOfBytes result
-      → PassesOver order limit bytes left result → Passing order limit bytes left result
+      → PassesOver dialect limit bytes left result → Passing dialect limit bytes left result
   passing left (Ok passed) of (units, summary, is, told) = whole units summary passed is told refl
   passing left (Err (fault.Damage offset kind)) of (units, b, back, is) = ends units b back _ of is refl
   passing left (Err fault.SectionTooLong) of (units, b, back, is) = ends units b back _ of is refl
@@ -74,22 +74,24 @@ module _ (order : Order) (limit : ℕ) (bytes : List ℕ) where
   passing left (Err fault.Read) of passes = absurd of
 
   one_of : (left left2 : Option (List ℕ)) (result result2 : Result (Option PassedOver) RunFault)
-      → Passing order limit bytes left result → Passing order limit bytes left2 result2 → result ≡ result2
+      → Passing dialect limit bytes left result → Passing dialect limit bytes left2 result2 → result ≡ result2
   one_of left left2 result result2 (whole units summary p is told e) (whole units2 summary2 q is2 told2 e2) =
-      let one = one_end order limit bytes left left2 units units2 [] [] [] [] (Ok summary) (Ok summary2) tt tt is is2 in
-      e ∙ ap (λ (o : Option PassedOver). Ok o) (one_told (other_versions order units) p q told
-      (subst (λ (us : List (List ℕ)). AreTold (other_versions order us) q) (sym one.0) told2)) ∙ sym e2
+      let one = one_end dialect limit bytes left left2 units units2 [] [] [] [] (Ok summary) (Ok summary2)
+      tt tt is is2 in
+      e ∙ ap (λ (o : Option PassedOver). Ok o) (one_told (other_versions dialect units) p q told
+      (subst (λ (us : List (List ℕ)). AreTold (other_versions dialect us) q) (sym one.0) told2)) ∙ sym e2
   one_of left left2 result result2 (whole units summary p is told e) (ends units2 b2 back2 f of2 is2 e2) =
       absurd (apart summary f
-      (one_end order limit bytes left left2 units units2 [] b2 [] back2 (Ok summary) (Err f) tt of2 is is2).3)
+      (one_end dialect limit bytes left left2 units units2 [] b2 [] back2 (Ok summary) (Err f) tt of2 is is2).3)
   one_of left left2 result result2 (ends units b back f of is e) (whole units2 summary2 q is2 told2 e2) =
       absurd (apart summary2 f
-      (sym (one_end order limit bytes left left2 units units2 b [] back [] (Err f) (Ok summary2) of tt is is2).3))
+      (sym (one_end dialect limit bytes left left2 units units2 b [] back [] (Err f) (Ok summary2) of tt is is2).3))
   one_of left left2 result result2 (ends units b back f of is e) (ends units2 b2 back2 g of2 is2 e2) =
-      let same = (one_end order limit bytes left left2 units units2 b b2 back back2 (Err f) (Err g) of of2 is is2).3 in
+      let same = (one_end dialect limit bytes left left2 units units2 b b2 back back2 (Err f) (Err g) of
+      of2 is is2).3 in
       e ∙ ap (λ (h : RunFault). Err h) (fault_same f g same) ∙ sym e2
 
 pub one_passing_over : OnePassingOver
-one_passing_over order limit bytes left left2 result result2 of of2 passes passes2 =
-    one_of order limit bytes left left2 result result2 (passing order limit bytes left result of passes)
-    (passing order limit bytes left2 result2 of2 passes2)
+one_passing_over dialect limit bytes left left2 result result2 of of2 passes passes2 =
+    one_of dialect limit bytes left left2 result result2 (passing dialect limit bytes left result of passes)
+    (passing dialect limit bytes left2 result2 of2 passes2)

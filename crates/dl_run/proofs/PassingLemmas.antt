@@ -1,5 +1,7 @@
 -- The units of other versions, what is told of them, and what is kept of that.
-use Rattle.std.proofs.Common.{◌≡◌, ◌⊎◌, inl, inr, ℕ, ◌<◌, ◌≤◌, ◌+◌, min, max, List, [], ◌∷◌, ◌++◌, length, map, flat_map, Option, Some}
+use Rattle.dl_head.specs.declared.dialect.Dialect.{Dialect}
+use Rattle.std.proofs.Common.{◌≡◌, ◌⊎◌, inl, inr, ℕ, ◌<◌, ◌≤◌, ◌+◌, min, max, List, [], ◌∷◌, ◌++◌, length, map}
+use Rattle.std.proofs.Common.{flat_map, Option, Some}
 use Rattle.std.proofs.Common.{None, Ok, Err, Bool, true, false, arith, refl, sym, ap, ap₂, ◌∙◌, subst, append-nil}
 use Rattle.std.proofs.Common.{length-append}
 use Rattle.std.specs.Prelude.{cond, is_some, option_to_list}
@@ -103,25 +105,25 @@ end_tells_none : (is_open : Bool) (h : Option HeaderData)
 end_tells_none true h = refl
 end_tells_none false h = refl
 
-unit_tells : (order : Order) (offset : ℕ) (u : List ℕ)
-    → versions_told (unit_visits order offset u) ≡ option_to_list (foreign_in order u)
-unit_tells order offset u =
-    flat_map-append version_told (visits order offset u) (end_visits order u)
+unit_tells : (dialect : Dialect) (offset : ℕ) (u : List ℕ)
+    → versions_told (unit_visits dialect offset u) ≡ option_to_list (foreign_in dialect u)
+unit_tells dialect offset u =
+    flat_map-append version_told (visits dialect offset u) (end_visits dialect u)
     ∙ ap₂ (λ (a b : List ℕ). a ++ b)
-    (events_tell order offset (header_of order u) (foreign_in order u) (header_in order u))
-    (end_tells_none (ends_open (unit_rows order u)) (header_of order u))
-    ∙ append-nil (option_to_list (foreign_in order u))
+    (events_tell dialect.order offset (header_of dialect u) (foreign_in dialect u) (header_in dialect u))
+    (end_tells_none (ends_open (unit_rows dialect u)) (header_of dialect u))
+    ∙ append-nil (option_to_list (foreign_in dialect u))
 
-units_tell : (order : Order) (offset : ℕ) (units : List (List ℕ))
-    → versions_told (units_visits order offset units) ≡ other_versions order units
-units_tell order offset [] = refl
-units_tell order offset (u ∷ units) =
-    flat_map-append version_told (unit_visits order offset u) (units_visits order (offset + length u) units)
-    ∙ ap₂ (λ (a b : List ℕ). a ++ b) (unit_tells order offset u) (units_tell order (offset + length u) units)
+units_tell : (dialect : Dialect) (offset : ℕ) (units : List (List ℕ))
+    → versions_told (units_visits dialect offset units) ≡ other_versions dialect units
+units_tell dialect offset [] = refl
+units_tell dialect offset (u ∷ units) =
+    flat_map-append version_told (unit_visits dialect offset u) (units_visits dialect (offset + length u) units)
+    ∙ ap₂ (λ (a b : List ℕ). a ++ b) (unit_tells dialect offset u) (units_tell dialect (offset + length u) units)
 
-pub section_tells : (order : Order) (units : List (List ℕ))
-    → versions_told (section_visits order units []) ≡ other_versions order units
-section_tells order units = ap versions_told (append-nil (units_visits order 0 units)) ∙ units_tell order 0 units
+pub section_tells : (dialect : Dialect) (units : List (List ℕ))
+    → versions_told (section_visits dialect units []) ≡ other_versions dialect units
+section_tells dialect units = ap versions_told (append-nil (units_visits dialect 0 units)) ∙ units_tell dialect 0 units
 
 -- ---- how many there are
 
@@ -129,13 +131,13 @@ of_one : (version : Option ℕ) → cond (is_some version) 1 0 ≡ length (optio
 of_one None = refl
 of_one (Some version) = refl
 
-pub versions_counted : (order : Order) (units : List (List ℕ))
-    → (summary_of order units).skipped ≡ length (other_versions order units)
-versions_counted order [] = refl
-versions_counted order (u ∷ units) =
-    sum_by-cons (λ (b : List ℕ). cond (is_some (foreign_in order b)) 1 0) u units
-    ∙ ap₂ (λ (m n : ℕ). m + n) (of_one (foreign_in order u)) (versions_counted order units)
-    ∙ sym (length-append (option_to_list (foreign_in order u)) (other_versions order units))
+pub versions_counted : (dialect : Dialect) (units : List (List ℕ))
+    → (summary_of dialect units).skipped ≡ length (other_versions dialect units)
+versions_counted dialect [] = refl
+versions_counted dialect (u ∷ units) =
+    sum_by-cons (λ (b : List ℕ). cond (is_some (foreign_in dialect b)) 1 0) u units
+    ∙ ap₂ (λ (m n : ℕ). m + n) (of_one (foreign_in dialect u)) (versions_counted dialect units)
+    ∙ sym (length-append (option_to_list (foreign_in dialect u)) (other_versions dialect units))
 
 -- ---- the answer
 
@@ -145,19 +147,19 @@ told units versions None passed spans many is = subst (λ (p : Option PassedOver
 told units versions (Some range) passed spans many is =
     subst (λ (p : Option PassedOver). AreTold versions p) (sym is) (many, spans.0, spans.1)
 
-module _ (order : Order) (limit : ℕ) (bytes : List ℕ) (left : Option (List ℕ)) (first new : OtherVersions)
+module _ (dialect : Dialect) (limit : ℕ) (bytes : List ℕ) (left : Option (List ℕ)) (first new : OtherVersions)
     (start now : Option (List ℕ)) where
   pub counted : (summary : Summary) (passed : Option PassedOver)
-      → Ran version_story order limit bytes left first new start now (Ok summary)
-      → IsPassedOver summary.skipped new.range passed → PassesOver order limit bytes left (Ok passed)
+      → Ran version_story dialect limit bytes left first new start now (Ok summary)
+      → IsPassedOver summary.skipped new.range passed → PassesOver dialect limit bytes left (Ok passed)
   counted summary passed (inl (units, ends, settled)) is =
-      let many = ap (λ (s : Summary). s.skipped) ends.5 ∙ versions_counted order units in
-      let spans = subst (λ (l : List ℕ). Spans l new.range) (section_tells order units) settled.tells.1 in
-      (units, summary, ends, told summary.skipped (other_versions order units) new.range passed spans many is)
+      let many = ap (λ (s : Summary). s.skipped) ends.5 ∙ versions_counted dialect units in
+      let spans = subst (λ (l : List ℕ). Spans l new.range) (section_tells dialect units) settled.tells.1 in
+      (units, summary, ends, told summary.skipped (other_versions dialect units) new.range passed spans many is)
   counted summary passed (inr done) is = absurd done.4.tells
 
-  pub failed : (f : RunFault) → Ran version_story order limit bytes left first new start now (Err f)
-      → PassesOver order limit bytes left (Err f)
+  pub failed : (f : RunFault) → Ran version_story dialect limit bytes left first new start now (Err f)
+      → PassesOver dialect limit bytes left (Err f)
   failed (fault.Write out) (units, b, back, has, writes) = absurd (omega (arith, writes.3.0))
   failed (fault.Damage offset kind) (units, b, back, inl (ends, settled)) = (units, b, back, ends)
   failed fault.NoMemory (units, b, back, inl (ends, settled)) = (units, b, back, ends)

@@ -6,7 +6,7 @@ use Rattle.std.specs.Option.{option_or}
 use Rattle.std.proofs.lemmas.Bool.{lt-ltb}
 use Rattle.std.proofs.lemmas.Nat.{pow_pos}
 use Rattle.std.proofs.Math.Nat.{mod-lt}
-use Rattle.dl_num.specs.declared.fixed.Order.{Order}
+use Rattle.dl_head.specs.declared.dialect.Dialect.{Dialect}
 use Rattle.dl_head.specs.Built.{with_standard_opcodes}
 use Rattle.dl_field.specs.HeaderData.{HeaderData}
 use Rattle.dl_head.specs.Header.{header_in}
@@ -77,19 +77,20 @@ refused_rows h rows f none e =
     length_alone within f (sym (ap (λ (o : Option EmitFault). option_or o (unless within emit.TooLong)) none) ∙ e)
 
 -- a unit that was read is refused for its length alone
-pub too_long : (order : Order) (u : List ℕ) (h : HeaderData) (f : EmitFault) → header_of order u ≡ Some h
-    → refusal (with_standard_opcodes h) (unit_rows order u) ≡ Some f → f ≡ emit.TooLong
-too_long order u h f is refused = by (header_in order u) refl where
-  by : (parts : Option (HeaderData × List ℕ)) → header_in order u ≡ parts → f ≡ emit.TooLong
+pub too_long : (dialect : Dialect) (u : List ℕ) (h : HeaderData) (f : EmitFault) → header_of dialect u ≡ Some h
+    → refusal (with_standard_opcodes h) (unit_rows dialect u) ≡ Some f → f ≡ emit.TooLong
+too_long dialect u h f is refused = by (header_in dialect u) refl where
+  by : (parts : Option (HeaderData × List ℕ)) → header_in dialect u ≡ parts → f ≡ emit.TooLong
   by None e = absurd (none_is_some (sym (ap (λ (p : Option (HeaderData × List ℕ)). option_map (λ q. q.0) p) e) ∙ is))
   by (Some (own, program)) e =
       let same : own ≡ h =
       value_same own h (sym (ap (λ (p : Option (HeaderData × List ℕ)). option_map (λ q. q.0) p) e) ∙ is) in
-      let w = found_is_header order own u program e in
-      let usable = header_is_usable order own w.0 w.2 in
-      let rows : unit_rows order u ≡ rows_later order (Some (own, program)) = ap (rows_later order) e in
+      let w = found_is_header dialect own u program e in
+      let usable = header_is_usable dialect own w.0 w.2 in
+      let rows : unit_rows dialect u ≡ rows_later dialect.order (Some (own, program)) =
+      ap (rows_later dialect.order) e in
       let refused_own = ap
-      (λ (d : HeaderData). refusal (with_standard_opcodes d) (rows_later order (Some (own, program)))) same
+      (λ (d : HeaderData). refusal (with_standard_opcodes d) (rows_later dialect.order (Some (own, program)))) same
       ∙ ap (refusal (with_standard_opcodes h)) (sym rows) ∙ refused in
-      refused_rows own (rows_later order (Some (own, program))) f
-      (none_out own usable.operations 0 [] (operations_in order own.params program).found) refused_own
+      refused_rows own (rows_later dialect.order (Some (own, program))) f
+      (none_out own usable.operations 0 [] (operations_in dialect.order own.params program).found) refused_own

@@ -1,4 +1,5 @@
 -- A section of which more bytes come: how far its front was told, and where both end.
+use Rattle.dl_head.specs.declared.dialect.Dialect.{Dialect}
 use Rattle.std.proofs.Common.{[], ◌≡◌, ◌≢◌, ◌≤◌, ◌⊎◌, inl, inr, ℕ, ◌+◌, ◌-◌, List, ◌∷◌, ◌++◌, length}
 use Rattle.std.proofs.Common.{take, drop, Option, Some, Result, Ok, Err, arith, refl, sym, ap, ap₂}
 use Rattle.std.proofs.Common.{◌∙◌, subst, append_assoc, append-nil, length-append, length-take, length-drop}
@@ -45,20 +46,22 @@ initial_length order Dwarf32 n w s = s.0.0
 initial_length order Dwarf64 n w s = omega (arith, ap length s.2, length-append s.0 s.1, s.3.0, s.4.0)
 
 -- the length of a unit stands in its own bytes
-unit_len_front : (order : Order) (b : List ℕ) (n : ℕ) → unit_len order b ≡ Some n → n ≤ length b
-    → unit_len order (take n b) ≡ Some (length (take n b))
-unit_len_front order b n e le =
-    let s : CutSound order header_layout b (cut order b) = cut_sound order header_layout [] b in
-    on (cut order b).items s.front (cut order b).rest s.whole s.spelt e
+unit_len_front : (dialect : Dialect) (b : List ℕ) (n : ℕ) → unit_len dialect b ≡ Some n → n ≤ length b
+    → unit_len dialect (take n b) ≡ Some (length (take n b))
+unit_len_front dialect b n e le =
+    let s : CutSound dialect.order (header_layout dialect) b (cut dialect b) =
+    cut_sound dialect.order (header_layout dialect) [] b in
+    on (cut dialect b).items s.front (cut dialect b).rest s.whole s.spelt e
   where
-    on : (items : List Item) (w rest : List ℕ) → b ≡ w ++ rest → SpellsFields order header_layout items w
-        → unit_end items ≡ Some n → unit_len order (take n b) ≡ Some (length (take n b))
+    on : (items : List Item) (w rest : List ℕ) → b ≡ w ++ rest
+        → SpellsFields dialect.order (header_layout dialect) items w
+        → unit_end items ≡ Some n → unit_len dialect (take n b) ≡ Some (length (take n b))
     on [] w rest whole s e = absurd (none_some refl e)
     on (number_is m ∷ items) w rest whole s e = absurd (none_some refl e)
     on (form_is f ∷ items) w rest whole s e = absurd (none_some refl e)
     on (value_is v ∷ items) w rest whole s e = absurd (none_some refl e)
     on (length_is format m ∷ items) w rest whole s e =
-        let is = (field_is_judged order header_layout (length_is format m) s.0).1 s.3 in
+        let is = (field_is_judged dialect.order (header_layout dialect) (length_is format m) s.0).1 s.3 in
         let sizes : initial_size is.0 + is.1 ≡ initial_size format + m =
         ap (λ (i : Item). elim i [
           | length_is g k ↦ initial_size g
@@ -67,10 +70,10 @@ unit_len_front order b n e le =
           | form_is g ↦ 0
           | value_is v ↦ 0
         ]) (sym is.2) in
-        let size = initial_length order is.0 is.1 s.0 is.3 in
+        let size = initial_length dialect.order is.0 is.1 s.0 is.3 in
         let n_is : n ≡ length s.0 + is.1 = omega (arith, some_same _ _ e, sizes, size) in
         let b_is : b ≡ s.0 ++ (s.1 ++ rest) = whole ∙ ap (λ (l : List ℕ). l ++ rest) s.2 ∙ append_assoc s.0 s.1 rest in
-        (length_is_computed order (take n b)).0 (record {
+        (length_is_computed dialect (take n b)).0 (record {
           format = is.0;
           unit_length = is.1;
           front = s.0;
@@ -88,19 +91,19 @@ unit_len_front order b n e le =
         })
 
 -- no front of b but b is refused
-abbrev NoneBefore : Order → List ℕ → Type 0
-NoneBefore order b =
+abbrev NoneBefore : Dialect → List ℕ → Type 0
+NoneBefore dialect b =
     (front back : List ℕ) (at : ℕ) (kind : FaultKind) → b ≡ front ++ back → 1 ≤ length back
-    → Refused order front at kind → ⊥
+    → Refused dialect front at kind → ⊥
 
-within_unit : (order : Order) (b back : List ℕ) → NoUnitBegins order (b ++ back) → NoneBefore order b
-    → WithinUnit order b
-within_unit order b back none before n e = elim (cases_lt n (length b)) [
+within_unit : (dialect : Dialect) (b back : List ℕ) → NoUnitBegins dialect (b ++ back) → NoneBefore dialect b
+    → WithinUnit dialect b
+within_unit dialect b back none before n e = elim (cases_lt n (length b)) [
   | inr le ↦ le
   | inl lt ↦
       let parts : b ≡ take n b ++ drop n b = sym (take-append-drop n b) in
-      let len = unit_len_front order b n e (omega (arith, lt)) in
-      let is = (unit_unless_refused order (take n b) len).1 (λ front more at kind f refused.
+      let len = unit_len_front dialect b n e (omega (arith, lt)) in
+      let is = (unit_unless_refused dialect (take n b) len).1 (λ front more at kind f refused.
       before front (more ++ drop n b) at kind (parts ∙ ap (λ (l : List ℕ). l ++ drop n b) f
       ∙ append_assoc front more (drop n b)) (omega (arith, lt, length-drop n b, length-append more (drop n b)))
       refused) in
@@ -108,51 +111,54 @@ within_unit order b back none before n e = elim (cases_lt n (length b)) [
       ∙ append_assoc (take n b) (drop n b) back) is)
 ]
 
-none_before : (order : Order) (b : List ℕ) (at : ℕ) (kind : FaultKind) → Refused order b at kind → NoneBefore order b
-none_before order b at kind refused front back at2 kind2 e some refused2 =
-    let one = one_refusal order front b back [] at2 at kind2 kind (sym e ∙ sym (append-nil b)) refused2 refused in
+none_before : (dialect : Dialect) (b : List ℕ) (at : ℕ) (kind : FaultKind) → Refused dialect b at kind
+    → NoneBefore dialect b
+none_before dialect b at kind refused front back at2 kind2 e some refused2 =
+    let one = one_refusal dialect front b back [] at2 at kind2 kind (sym e ∙ sym (append-nil b)) refused2 refused in
     omega (arith, some, ap length one.0, ap length e, length-append front back)
 
 -- ---- two ends
 
 -- how the reading of a section stops: at a refusal, or where the bytes end
-pub record Stops (order : Order) (t : List ℕ) (units : List (List ℕ)) (b back : List ℕ) : Type 0 where
-  pub has : HasUnits order t units (b ++ back)
-  pub none : NoUnitBegins order (b ++ back)
-  pub how : ((at : ℕ) × (kind : FaultKind) × Refused order b at kind) ⊎ ((back ≡ []) × Sound order b)
+pub record Stops (dialect : Dialect) (t : List ℕ) (units : List (List ℕ)) (b back : List ℕ) : Type 0 where
+  pub has : HasUnits dialect t units (b ++ back)
+  pub none : NoUnitBegins dialect (b ++ back)
+  pub how : ((at : ℕ) × (kind : FaultKind) × Refused dialect b at kind) ⊎ ((back ≡ []) × Sound dialect b)
 
 after_nothing : (b back : List ℕ) → back ≡ [] → b ++ back ≡ b
 after_nothing b back nothing = ap (λ (l : List ℕ). b ++ l) nothing ∙ append-nil b
 
-stops_at_end : (order : Order) (t : List ℕ) (units : List (List ℕ)) (b back : List ℕ) → HasUnits order t units b
-    → back ≡ [] → NoUnitBegins order b → Sound order b → Stops order t units b back
-stops_at_end order t units b back has nothing none sound = record {
-  has = subst (HasUnits order t units) (sym (after_nothing b back nothing)) has;
-  none = subst (NoUnitBegins order) (sym (after_nothing b back nothing)) none;
+stops_at_end : (dialect : Dialect) (t : List ℕ) (units : List (List ℕ)) (b back : List ℕ) → HasUnits dialect t units b
+    → back ≡ [] → NoUnitBegins dialect b → Sound dialect b → Stops dialect t units b back
+stops_at_end dialect t units b back has nothing none sound = record {
+  has = subst (HasUnits dialect t units) (sym (after_nothing b back nothing)) has;
+  none = subst (NoUnitBegins dialect) (sym (after_nothing b back nothing)) none;
   how = inr (nothing, sound);
 }
 
-module _ (order : Order) (limit : ℕ) (bytes : List ℕ) (left : Option (List ℕ)) (units : List (List ℕ))
+module _ (dialect : Dialect) (limit : ℕ) (bytes : List ℕ) (left : Option (List ℕ)) (units : List (List ℕ))
     (b back : List ℕ) where
-  within_limit : length bytes ≤ limit → (rest : List ℕ) → HasUnits order bytes units rest
-      → HasUnits order (take limit bytes) units rest
-  within_limit fits rest has = subst (λ (l : List ℕ). HasUnits order l units rest) (sym (take_all limit bytes fits)) has
+  within_limit : length bytes ≤ limit → (rest : List ℕ) → HasUnits dialect bytes units rest
+      → HasUnits dialect (take limit bytes) units rest
+  within_limit fits rest has = subst (λ (l : List ℕ). HasUnits dialect l units rest)
+      (sym (take_all limit bytes fits)) has
 
   pub stops : (result : Result Summary RunFault) → result ≢ Err fault.NoMemory
-      → EndsAs order limit bytes left units b back result → Stops order (take limit bytes) units b back
+      → EndsAs dialect limit bytes left units b back result → Stops dialect (take limit bytes) units b back
   stops (Ok summary) not (has, empty, nothing, fits, at_end, is) =
-      stops_at_end order (take limit bytes) units b back (subst (HasUnits order (take limit bytes) units) (sym empty)
+      stops_at_end dialect (take limit bytes) units b back
+      (subst (HasUnits dialect (take limit bytes) units) (sym empty)
       (within_limit fits [] has)) nothing
-      (subst (NoUnitBegins order) (sym empty) (none_begins order))
-      (subst (Sound order) (sym empty) (none_refused order))
+      (subst (NoUnitBegins dialect) (sym empty) (none_begins dialect))
+      (subst (Sound dialect) (sym empty) (none_refused dialect))
   stops (Err (fault.Damage offset kind)) not (has, none, inl (at, place, refused)) =
       record { has = has; none = none; how = inl (at, kind, refused) }
   stops (Err (fault.Damage offset kind)) not (has, none, inr (nothing, some, sound, fits, at_end, place, is)) =
       record { has = has; none = none; how = inr (nothing, sound) }
   stops (Err fault.Read) not (has, nothing, none, sound, fits) =
-      stops_at_end order (take limit bytes) units b back (within_limit fits b has) nothing none sound
+      stops_at_end dialect (take limit bytes) units b back (within_limit fits b has) nothing none sound
   stops (Err fault.SectionTooLong) not (has, nothing, none, sound, long) =
-      stops_at_end order (take limit bytes) units b back has nothing none sound
+      stops_at_end dialect (take limit bytes) units b back has nothing none sound
   stops (Err fault.NoMemory) not ends = absurd (not refl)
   stops (Err fault.NotFound) not ends = absurd ends
   stops (Err (fault.Write out)) not ends = absurd ends
@@ -173,10 +179,10 @@ take_more limit bytes more = elim (cases_lt limit (length bytes)) [
   )
 ]
 
-module _ (order : Order) (t m : List ℕ) (units units2 : List (List ℕ)) (b b2 back back2 : List ℕ)
-    (s : Stops order t units b back) (s2 : Stops order (t ++ m) units2 b2 back2) where
+module _ (dialect : Dialect) (t m : List ℕ) (units units2 : List (List ℕ)) (b b2 back back2 : List ℕ)
+    (s : Stops dialect t units b back) (s2 : Stops dialect (t ++ m) units2 b2 back2) where
   abbrev Grows : Type 0
-  Grows = (others : List Visit) × (section_visits order units2 b2 ≡ section_visits order units b ++ others)
+  Grows = (others : List Visit) × (section_visits dialect units2 b2 ≡ section_visits dialect units b ++ others)
 
   whole : concat units ++ (b ++ (back ++ m)) ≡ concat units2 ++ (b2 ++ back2)
   whole =
@@ -188,27 +194,27 @@ module _ (order : Order) (t m : List ℕ) (units units2 : List (List ℕ)) (b b2
   same_told : units ≡ units2 → b ≡ b2 → Grows
   same_told us bs = (
     [],
-    ap₂ (λ (x : List (List ℕ)) (y : List ℕ). section_visits order x y) (sym us) (sym bs)
-        ∙ sym (append-nil (section_visits order units b)),
+    ap₂ (λ (x : List (List ℕ)) (y : List ℕ). section_visits dialect x y) (sym us) (sym bs)
+        ∙ sym (append-nil (section_visits dialect units b)),
   )
 
   -- the front is refused
-  at_refusal : (at : ℕ) (kind : FaultKind) → Refused order b at kind
-      → ((at : ℕ) × (kind : FaultKind) × Refused order b2 at kind) ⊎ ((back2 ≡ []) × Sound order b2) → Grows
+  at_refusal : (at : ℕ) (kind : FaultKind) → Refused dialect b at kind
+      → ((at : ℕ) × (kind : FaultKind) × Refused dialect b2 at kind) ⊎ ((back2 ≡ []) × Sound dialect b2) → Grows
   at_refusal at kind refused how2 =
-      let within = within_unit order b back s.none (none_before order b at kind refused) in
-      let cut = cuts order units units2 (b ++ (back ++ m)) (b2 ++ back2) s.has.each s2.has.each
-      (no_unit_refused order b (back ++ m) at kind within refused) s2.none whole in
+      let within = within_unit dialect b back s.none (none_before dialect b at kind refused) in
+      let cut = cuts dialect units units2 (b ++ (back ++ m)) (b2 ++ back2) s.has.each s2.has.each
+      (no_unit_refused dialect b (back ++ m) at kind within refused) s2.none whole in
       elim how2 [
         | inl (at2, kind2, refused2) ↦ same_told cut.0
-            (one_refusal order b b2 (back ++ m) back2 at at2 kind kind2 cut.1 refused refused2).0
+            (one_refusal dialect b b2 (back ++ m) back2 at at2 kind kind2 cut.1 refused refused2).0
         | inr (
           nothing,
           sound,
         ) ↦ absurd (sound b (back ++ m) at kind (sym (cut.1 ∙ after_nothing b2 back2 nothing)) refused)
       ]
 
-  module _ (nothing : back ≡ []) (sound : Sound order b) where
+  module _ (nothing : back ≡ []) (sound : Sound dialect b) where
     t_is : t ≡ concat units ++ b
     t_is = s.has.whole ∙ ap (λ (l : List ℕ). concat units ++ l) (after_nothing b back nothing)
 
@@ -216,21 +222,21 @@ module _ (order : Order) (t m : List ℕ) (units units2 : List (List ℕ)) (b b2
     both = ap (λ (l : List ℕ). l ++ m) (sym t_is) ∙ s2.has.whole ∙ sym (append_assoc (concat units2) b2 back2)
 
     -- a refusal is no earlier
-    no_earlier : (at : ℕ) (kind : FaultKind) → Refused order b2 at kind
+    no_earlier : (at : ℕ) (kind : FaultKind) → Refused dialect b2 at kind
         → GoesOn (concat units2 ++ b2) (concat units ++ b) → ⊥
     no_earlier at kind refused (x, w, goes) =
         let rest : (x ∷ w) ++ m ≡ back2 =
         after_front (concat units2 ++ b2) ((x ∷ w) ++ m) back2 (sym (append_assoc (concat units2 ++ b2) (x ∷ w) m)
         ∙ ap (λ (l : List ℕ). l ++ m) (sym goes) ∙ both) in
-        let none : NoUnitBegins order (b2 ++ x ∷ w) = λ u more e is.
+        let none : NoUnitBegins dialect (b2 ++ x ∷ w) = λ u more e is.
         s2.none u (more ++ m) (ap (λ (l : List ℕ). b2 ++ l) (sym rest) ∙ sym (append_assoc b2 (x ∷ w) m)
         ∙ ap (λ (l : List ℕ). l ++ m) e ∙ append_assoc u more m) is in
-        let cut = cuts order units units2 b (b2 ++ x ∷ w) s.has.each s2.has.each
-        (subst (NoUnitBegins order) (after_nothing b back nothing) s.none) none (goes
+        let cut = cuts dialect units units2 b (b2 ++ x ∷ w) s.has.each s2.has.each
+        (subst (NoUnitBegins dialect) (after_nothing b back nothing) s.none) none (goes
         ∙ append_assoc (concat units2) b2 (x ∷ w)) in
         sound b2 (x ∷ w) at kind cut.1 refused
 
-    no_further : ((at : ℕ) × (kind : FaultKind) × Refused order b2 at kind) ⊎ ((back2 ≡ []) × Sound order b2)
+    no_further : ((at : ℕ) × (kind : FaultKind) × Refused dialect b2 at kind) ⊎ ((back2 ≡ []) × Sound dialect b2)
         → length (concat units ++ b) ≤ length (concat units2 ++ b2)
     no_further (inr (nothing2, sound2)) =
         omega (
@@ -246,16 +252,17 @@ module _ (order : Order) (t m : List ℕ) (units units2 : List (List ℕ)) (b b2
       | inr (inr g) ↦ absurd (no_earlier at kind refused g)
     ]
 
-    at_end : ((at : ℕ) × (kind : FaultKind) × Refused order b2 at kind) ⊎ ((back2 ≡ []) × Sound order b2) → Grows
+    at_end : ((at : ℕ) × (kind : FaultKind) × Refused dialect b2 at kind) ⊎ ((back2 ≡ []) × Sound dialect b2) → Grows
     at_end how2 =
-        let within = within_unit order b back s.none
+        let within = within_unit dialect b back s.none
         (λ front more at kind e some refused. sound front more at kind e refused) in
         let e : concat units ++ (b ++ m) ≡ concat units2 ++ (b2 ++ back2) =
         ap (λ (l : List ℕ). concat units ++ (b ++ (l ++ m))) (sym nothing) ∙ whole in
-        let more = told order 0 units units2 b m b2 back2 s.has.each s2.has.each within s2.none e (no_further how2) in (
+        let more = told dialect 0 units units2 b m b2 back2 s.has.each s2.has.each within s2.none e
+        (no_further how2) in (
           more.0,
-          sym (from_zero order units2 b2) ∙ more.1
-              ∙ ap (λ (l : List Visit). l ++ more.0) (from_zero order units b),
+          sym (from_zero dialect units2 b2) ∙ more.1
+              ∙ ap (λ (l : List Visit). l ++ more.0) (from_zero dialect units b),
         )
 
   grows : Grows
@@ -265,9 +272,9 @@ module _ (order : Order) (t m : List ℕ) (units units2 : List (List ℕ)) (b b2
   ]
 
 pub more_is_told : MoreIsTold
-more_is_told order limit bytes more left left2 units units2 b b2 back back2 result result2 not not2 ends ends2 =
+more_is_told dialect limit bytes more left left2 units units2 b b2 back back2 result result2 not not2 ends ends2 =
     let m = take_more limit bytes more in
-    let s = stops order limit bytes left units b back result not ends in
-    let s2 = subst (λ (l : List ℕ). Stops order l units2 b2 back2) m.1
-    (stops order limit (bytes ++ more) left2 units2 b2 back2 result2 not2 ends2) in
-    grows order (take limit bytes) m.0 units units2 b b2 back back2 s s2
+    let s = stops dialect limit bytes left units b back result not ends in
+    let s2 = subst (λ (l : List ℕ). Stops dialect l units2 b2 back2) m.1
+    (stops dialect limit (bytes ++ more) left2 units2 b2 back2 result2 not2 ends2) in
+    grows dialect (take limit bytes) m.0 units units2 b b2 back back2 s s2

@@ -110,9 +110,9 @@ module _ {W V : Type 0} (story : Story V) (contents : W → Option (List ℕ)) w
 
   -- w, after: what the visitor and the writer end as, where the sink still holds them
   pub all_told : (b piece : List ℕ) (old : SectionUnits) (reader : Reader) (first sink : Told W V) (w : V) (now : W)
-      (fed : Result Fed Fault) → sink.failed ≡ None → reader.order ≡ old.reader.order
+      (fed : Result Fed Fault) → sink.failed ≡ None → reader.dialect ≡ old.reader.dialect
       → first.rows ≡ old.rows → first.sequences ≡ old.sequences
-      → RowsFed (told_story story contents first) old.reader.order b piece [] fed reader sink
+      → RowsFed (told_story story contents first) old.reader.dialect b piece [] fed reader sink
       → (first.visitor.ghost_name ≡ sink.visitor.ghost_name → w ≡ sink.visitor.now)
       → (first.output.ghost_name ≡ sink.output.ghost_name → now ≡ sink.output.now)
       → RowsOf story b piece old (record old {
@@ -121,12 +121,12 @@ module _ {W V : Type 0} (story : Story V) (contents : W → Option (List ℕ)) w
         rows =
             sink.rows;
       }) first.visitor.now w (contents first.output.now) (contents now) fed
-  all_told b piece old reader first sink w now fed none order rows_are ends_are f w_is now_is =
+  all_told b piece old reader first sink w now fed none dialect rows_are ends_are f w_is now_is =
       let so = goes_on_without first sink f.rows fed none f.sink in
       let told = so.1 in
       record {
         rows = f.rows;
-        order = order;
+        dialect = dialect;
         fed_rows = f.fed;
         same = refl;
         counts =
@@ -138,12 +138,12 @@ module _ {W V : Type 0} (story : Story V) (contents : W → Option (List ℕ)) w
 
   pub stopped_told : (b piece : List ℕ) (old new : SectionUnits) (first sink : Told W V) (w : V) (now : W)
       (f : RunFault)
-      (fed : Result Fed Fault) → sink.failed ≡ Some f → new.reader.order ≡ old.reader.order
-      → RowsFed (told_story story contents first) old.reader.order b piece [] fed new.reader sink
+      (fed : Result Fed Fault) → sink.failed ≡ Some f → new.reader.dialect ≡ old.reader.dialect
+      → RowsFed (told_story story contents first) old.reader.dialect b piece [] fed new.reader sink
       → (first.visitor.ghost_name ≡ sink.visitor.ghost_name → w ≡ sink.visitor.now)
       → (first.output.ghost_name ≡ sink.output.ghost_name → now ≡ sink.output.now)
       → StopsAtRow story b piece old new first.visitor.now w (contents first.output.now) (contents now) f
-  stopped_told b piece old new first sink w now f fed some order rf w_is now_is =
+  stopped_told b piece old new first sink w now f fed some dialect rf w_is now_is =
       let so = stops_with first sink rf.rows f fed some rf.sink in
       let told = so.4 in
       record {
@@ -151,9 +151,9 @@ module _ {W V : Type 0} (story : Story V) (contents : W → Option (List ℕ)) w
         row = so.2;
         fed = so.0;
         is_row = so.3;
-        order = order;
+        dialect = dialect;
         fed_rows =
-            subst (λ (r : Result Fed Fault). FedAfter old.reader.order (events old.reader.order b
+            subst (λ (r : Result Fed Fault). FedAfter old.reader.dialect (events old.reader.dialect b
             ++ map event.Row rf.rows) b piece r new.reader) so.1 rf.fed;
         hears = rw (w_is (sym told.visitor), now_is (sym told.output)) told.hears;
       }

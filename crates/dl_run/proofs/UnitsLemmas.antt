@@ -4,7 +4,7 @@ use Rattle.std.proofs.Common.{◌++◌, length, Option, Some, None, arith, refl,
 use Rattle.std.proofs.Common.{length-append}
 use Rattle.std.specs.Prelude.{is_some, is_none, count_by, cond}
 use Rattle.std.specs.List.{concat}
-use Rattle.dl_num.specs.declared.fixed.Order.{Order}
+use Rattle.dl_head.specs.declared.dialect.Dialect.{Dialect}
 use Rattle.std.specs.Option.{option_map}
 use Rattle.dl_head.specs.declared.fault.Fault.{Fault}
 use Rattle.dl_table.specs.declared.fault.FaultKind.TheVariants.{Truncated}
@@ -35,75 +35,75 @@ exact m n lt = omega (arith, lt)
 
 -- the header that a reader hands over
 pub header_is : (r old : Reader) (o : Option HeaderData) (b : List ℕ) → r ≡ old → HeaderIs r o → StandsFor old b
-    → o ≡ header_of old.order b
+    → o ≡ header_of old.dialect b
 header_is r old (Some h) b same is stands =
     sym (ap (λ (p : Option (HeaderData × List ℕ)). option_map (λ parts. parts.0) p)
-    (subst (λ (q : Reader). (program : List ℕ) × (header_in q.order b ≡ Some (h, program))) same
+    (subst (λ (q : Reader). (program : List ℕ) × (header_in q.dialect b ≡ Some (h, program))) same
     (is b (subst (λ (q : Reader). StandsFor q b) (sym same) stands))).1)
 header_is r old None b same is stands =
     sym (ap (λ (p : Option (HeaderData × List ℕ)). option_map (λ parts. parts.0) p)
-    (subst (λ (q : Reader). header_in q.order b ≡ None) same
+    (subst (λ (q : Reader). header_in q.dialect b ≡ None) same
     (is b (subst (λ (q : Reader). StandsFor q b) (sym same) stands))))
 
 same_summary : {s t : Summary} → s.units ≡ t.units → s.skipped ≡ t.skipped → s.sequences ≡ t.sequences → s.rows ≡ t.rows
     → s ≡ t
 same_summary {s} {t} a b c d = rw (a, b, c, d) refl
 
-module _ (order : Order) (u : SectionUnits) (t : List ℕ) (units : List (List ℕ)) (b : List ℕ)
-    (are : UnitsAre order u t units b) (is : IsUnit order b) (short : length t < 2 ^ 64) where
+module _ (dialect : Dialect) (u : SectionUnits) (t : List ℕ) (units : List (List ℕ)) (b : List ℕ)
+    (are : UnitsAre dialect u t units b) (is : IsUnit dialect b) (short : length t < 2 ^ 64) where
   own : Bool → ℕ
   own x = cond (not x) 1 0
 
-  counts_of_unit : (o : Option ℕ) → foreign_in order b ≡ o → (0 + cond (is_none o) 1 0 ≡ cond (not (is_some o)) 1 0)
+  counts_of_unit : (o : Option ℕ) → foreign_in dialect b ≡ o → (0 + cond (is_none o) 1 0 ≡ cond (not (is_some o)) 1 0)
       × (0 + cond (is_some o) 1 0 ≡ cond (is_some o) 1 0)
   counts_of_unit None e = (refl, refl)
   counts_of_unit (Some v) e = (refl, refl)
 
-  foreign_is : u.is_foreign ≡ is_some (foreign_in order b)
-  foreign_is = are.foreign ∙ foreign_of_events order b
+  foreign_is : u.is_foreign ≡ is_some (foreign_in dialect b)
+  foreign_is = are.foreign ∙ foreign_of_events dialect b
 
-  sequences_are : u.sequences ≡ count_by (λ (r : Row). r.end_sequence) (unit_rows order b)
-  sequences_are = are.sequences ∙ ap (count_by (λ (r : Row). r.end_sequence)) (rows_of_events order b)
+  sequences_are : u.sequences ≡ count_by (λ (r : Row). r.end_sequence) (unit_rows dialect b)
+  sequences_are = are.sequences ∙ ap (count_by (λ (r : Row). r.end_sequence)) (rows_of_events dialect b)
 
-  rows_are : u.rows ≡ length (unit_rows order b)
-  rows_are = are.rows ∙ ap length (rows_of_events order b)
+  rows_are : u.rows ≡ length (unit_rows dialect b)
+  rows_are = are.rows ∙ ap length (rows_of_events dialect b)
 
-  all : HasUnits order t (units ++ b ∷ []) []
-  all = has_push order t units b are.has is
+  all : HasUnits dialect t (units ++ b ∷ []) []
+  all = has_push dialect t units b are.has is
 
   size : length (concat (units ++ b ∷ [])) < 2 ^ 64
   size = omega (arith, short, ap length all.whole, length-append (concat (units ++ b ∷ [])) [])
 
   abbrev more : Summary
-  more = summary_of order (units ++ b ∷ [])
+  more = summary_of dialect (units ++ b ∷ [])
 
   pub summary_more : with_unit u.is_foreign u.sequences u.rows u.summary ≡ more
   summary_more =
-      let s = summary_of order units in
-      let pushed = summary-push order units b in
-      let of_unit = counts_of_unit (foreign_in order b) refl in
-      let few = few_units order (units ++ b ∷ []) all.each in
-      let ends = few_ends order (units ++ b ∷ []) in
-      let rows = few_of_all order (units ++ b ∷ []) in
-      let units_are : more.units ≡ s.units + cond (not (is_some (foreign_in order b))) 1 0 =
+      let s = summary_of dialect units in
+      let pushed = summary-push dialect units b in
+      let of_unit = counts_of_unit (foreign_in dialect b) refl in
+      let few = few_units dialect (units ++ b ∷ []) all.each in
+      let ends = few_ends dialect (units ++ b ∷ []) in
+      let rows = few_of_all dialect (units ++ b ∷ []) in
+      let units_are : more.units ≡ s.units + cond (not (is_some (foreign_in dialect b))) 1 0 =
       ap (λ (q : Summary). q.units) pushed ∙ ap (λ (n : ℕ). s.units + n) of_unit.0 in
-      let skipped_are : more.skipped ≡ s.skipped + cond (is_some (foreign_in order b)) 1 0 =
+      let skipped_are : more.skipped ≡ s.skipped + cond (is_some (foreign_in dialect b)) 1 0 =
       ap (λ (q : Summary). q.skipped) pushed ∙ ap (λ (n : ℕ). s.skipped + n) of_unit.1 in
-      let sequences_sum : more.sequences ≡ s.sequences + count_by (λ (r : Row). r.end_sequence) (unit_rows order b) =
+      let sequences_sum : more.sequences ≡ s.sequences + count_by (λ (r : Row). r.end_sequence) (unit_rows dialect b) =
       ap (λ (q : Summary). q.sequences) pushed ∙ omega arith in
-      let rows_sum : more.rows ≡ s.rows + length (unit_rows order b) =
+      let rows_sum : more.rows ≡ s.rows + length (unit_rows dialect b) =
       ap (λ (q : Summary). q.rows) pushed ∙ omega arith in
       ap (λ (q : Summary). with_unit u.is_foreign u.sequences u.rows q) are.summary
       ∙ ap (λ (f : Bool). with_unit f u.sequences u.rows s) foreign_is
-      ∙ ap₂ (λ (m n : ℕ). with_unit (is_some (foreign_in order b)) m n s) sequences_are rows_are
+      ∙ ap₂ (λ (m n : ℕ). with_unit (is_some (foreign_in dialect b)) m n s) sequences_are rows_are
       ∙ same_summary
-      (exact s.units (cond (not (is_some (foreign_in order b))) 1 0) (omega (arith, few, size, units_are))
+      (exact s.units (cond (not (is_some (foreign_in dialect b))) 1 0) (omega (arith, few, size, units_are))
       ∙ sym units_are)
-      (exact s.skipped (cond (is_some (foreign_in order b)) 1 0) (omega (arith, few, size, skipped_are))
+      (exact s.skipped (cond (is_some (foreign_in dialect b)) 1 0) (omega (arith, few, size, skipped_are))
       ∙ sym skipped_are)
-      (exact s.sequences (count_by (λ (r : Row). r.end_sequence) (unit_rows order b))
+      (exact s.sequences (count_by (λ (r : Row). r.end_sequence) (unit_rows dialect b))
       (omega (arith, ends, size, sequences_sum)) ∙ sym sequences_sum)
-      (exact s.rows (length (unit_rows order b)) (omega (arith, rows, size, rows_sum)) ∙ sym rows_sum)
+      (exact s.rows (length (unit_rows dialect b)) (omega (arith, rows, size, rows_sum)) ∙ sym rows_sum)
 
   pub offset_more : add u.offset (length b) ≡ length (concat (units ++ b ∷ []))
   offset_more =
@@ -117,13 +117,13 @@ module _ (order : Order) (u : SectionUnits) (t : List ℕ) (units : List (List �
       ∙ sym (ap length (concat-push units b))
 
   -- after the unit
-  pub left_after : (new : SectionUnits) → new.order ≡ order → StandsFor new.reader [] → new.reader.order ≡ order
+  pub left_after : (new : SectionUnits) → new.dialect ≡ dialect → StandsFor new.reader [] → new.reader.dialect ≡ dialect
       → new.offset ≡ add u.offset (length b) → new.is_foreign ≡ false → new.sequences ≡ 0 → new.rows ≡ 0
-      → new.summary ≡ with_unit u.is_foreign u.sequences u.rows u.summary → UnitsAre order new t (units ++ b ∷ []) []
+      → new.summary ≡ with_unit u.is_foreign u.sequences u.rows u.summary → UnitsAre dialect new t (units ++ b ∷ []) []
   left_after new own stands same offset foreign sequences rows summary = record {
     has = all;
-    order_is = own;
-    reader_order = same;
+    dialect_is = own;
+    reader_dialect = same;
     stands = stands;
     offset = offset ∙ offset_more;
     foreign = foreign;
@@ -134,22 +134,22 @@ module _ (order : Order) (u : SectionUnits) (t : List ℕ) (units : List (List �
 
 -- ---- where the bytes are over
 
-module _ (order : Order) (u : SectionUnits) (t : List ℕ) (units : List (List ℕ)) (b : List ℕ)
-    (are : UnitsAre order u t units b) (none : NoUnitBegins order b) (sound : Sound order b) where
-  finish_is : (result : Result Finish Fault) → ((c : List ℕ) → StandsFor u.reader c → FinishIs u.reader.order c result)
-      → FinishIs order b result
-  finish_is result is = subst (λ (o : Order). FinishIs o b result) are.reader_order (is b are.stands)
+module _ (dialect : Dialect) (u : SectionUnits) (t : List ℕ) (units : List (List ℕ)) (b : List ℕ)
+    (are : UnitsAre dialect u t units b) (none : NoUnitBegins dialect b) (sound : Sound dialect b) where
+  finish_is : (result : Result Finish Fault)
+      → ((c : List ℕ) → StandsFor u.reader c → FinishIs u.reader.dialect c result) → FinishIs dialect b result
+  finish_is result is = subst (λ (d : Dialect). FinishIs d b result) are.reader_dialect (is b are.stands)
 
-  pub nothing_begun : (f : Finish) → ((c : List ℕ) → StandsFor u.reader c → FinishIs u.reader.order c (Ok f)) → b ≡ []
+  pub nothing_begun : (f : Finish) → ((c : List ℕ) → StandsFor u.reader c → FinishIs u.reader.dialect c (Ok f)) → b ≡ []
   nothing_begun finish.Empty is = finish_is (Ok finish.Empty) is
   nothing_begun finish.Whole is = absurd (none b [] (sym (append-nil b)) (finish_is (Ok finish.Whole) is))
 
-  cut_off : (f : Fault) → FinishIs order b (Err f) → (b ≢ []) × (f ≡ record { offset = length b; kind = Truncated })
+  cut_off : (f : Fault) → FinishIs dialect b (Err f) → (b ≢ []) × (f ≡ record { offset = length b; kind = Truncated })
   cut_off f (inl refused) = absurd (sound b [] f.offset f.kind (sym (append-nil b)) refused)
   cut_off f (inr over) = (over.1, over.0)
 
   pub ends_begun : (f : Fault) (g : RunFault)
-      → ((c : List ℕ) → StandsFor u.reader c → FinishIs u.reader.order c (Err f)) → length t < 2 ^ 64
+      → ((c : List ℕ) → StandsFor u.reader c → FinishIs u.reader.dialect c (Err f)) → length t < 2 ^ 64
       → g ≡ fault.Damage (add u.offset f.offset) f.kind
       → (b ≢ []) × (g ≡ fault.Damage (length t) Truncated)
   ends_begun f g is short at =
@@ -162,7 +162,8 @@ module _ (order : Order) (u : SectionUnits) (t : List ℕ) (units : List (List �
       (over.0, at ∙ ap₂ fault.Damage sum (ap (λ (q : Fault). q.kind) over.1))
 
 -- the current unit isn't over-read
-pub within_unit : (order : Order) (u : SectionUnits) (t : List ℕ) (units : List (List ℕ)) (b : List ℕ)
-    → UnitsAre order u t units b → WithinUnit order b
-within_unit order u t units b are =
-    subst (λ (o : Order). WithinUnit o b) are.reader_order (within_here u.reader.order b u.reader.state are.stands)
+pub within_unit : (dialect : Dialect) (u : SectionUnits) (t : List ℕ) (units : List (List ℕ)) (b : List ℕ)
+    → UnitsAre dialect u t units b → WithinUnit dialect b
+within_unit dialect u t units b are =
+    subst (λ (d : Dialect). WithinUnit d b) are.reader_dialect
+    (within_here u.reader.dialect b u.reader.state are.stands)

@@ -1,4 +1,5 @@
 -- What is told of a unit, and of a section, of which more bytes come.
+use Rattle.dl_head.specs.declared.dialect.Dialect.{Dialect}
 use Rattle.std.proofs.Common.{[], ◌≡◌, ◌≤◌, inl, inr, ℕ, ◌+◌, cond, true, false, List, ◌∷◌, ◌++◌, length}
 use Rattle.std.proofs.Common.{map, flat_map, Option, Some, None, arith, refl, sym, ap, ap₂}
 use Rattle.std.proofs.Common.{◌∙◌, subst, append_assoc, append-nil, length-append}
@@ -70,57 +71,60 @@ no_items order version begun [] = refl
 no_items order version begun (x ∷ b) = no_items order version (begun ++ x ∷ []) b
 
 -- a version that was read stays
-pub foreign_on : (order : Order) (b x : List ℕ) (version : ℕ) → foreign_in order b ≡ Some version
-    → foreign_in order (b ++ x) ≡ Some version
-foreign_on order b x version foreign =
-    let items = (cut order b).items in
-    let last = foreign_last (following_all header_layout items) version foreign in
-    let none : (cut_after order (following_all header_layout items) (cut order b).rest x).items ≡ [] =
-    ap (λ (l : Layout). (cut_after order l (cut order b).rest x).items) last
-    ∙ no_items order version (cut order b).rest x in
-    ap (λ (c : Cut). foreign_made (following_all header_layout c.items)) (cut-append order b x)
-    ∙ ap (λ (l : List Item). foreign_made (following_all header_layout (items ++ l))) none
-    ∙ ap (λ (l : List Item). foreign_made (following_all header_layout l)) (append-nil items)
+pub foreign_on : (dialect : Dialect) (b x : List ℕ) (version : ℕ) → foreign_in dialect b ≡ Some version
+    → foreign_in dialect (b ++ x) ≡ Some version
+foreign_on dialect b x version foreign =
+    let items = (cut dialect b).items in
+    let last = foreign_last (following_all (header_layout dialect) items) version foreign in
+    let none : (cut_after dialect.order (following_all (header_layout dialect) items) (cut dialect b).rest
+    x).items ≡ [] =
+    ap (λ (l : Layout). (cut_after dialect.order l (cut dialect b).rest x).items) last
+    ∙ no_items dialect.order version (cut dialect b).rest x in
+    ap (λ (c : Cut). foreign_made (following_all (header_layout dialect) c.items)) (cut-append dialect b x)
+    ∙ ap (λ (l : List Item). foreign_made (following_all (header_layout dialect) (items ++ l))) none
+    ∙ ap (λ (l : List Item). foreign_made (following_all (header_layout dialect) l)) (append-nil items)
     ∙ foreign
 
 -- the events of bytes that have a header
-pub own : (order : Order) (b : List ℕ) (h : HeaderData) (program : List ℕ) → header_in order b ≡ Some (h, program)
-    → events order b ≡ event.Header ∷ map event.Row (rows_in order h.params program)
-own order b h program is =
-    let f = found_is_header order h b program is in
-    let none : foreign_in order b ≡ None = ap (foreign_in order) f.1 ∙ header_is_not_foreign order h f.0 program f.2 in
-    ap₂ (λ (v : Option ℕ) (p : Option (HeaderData × List ℕ)). events_of order v p) none is
+pub own : (dialect : Dialect) (b : List ℕ) (h : HeaderData) (program : List ℕ) → header_in dialect b ≡ Some (h, program)
+    → events dialect b ≡ event.Header ∷ map event.Row (rows_in dialect.order h.params program)
+own dialect b h program is =
+    let f = found_is_header dialect h b program is in
+    let none : foreign_in dialect b ≡ None = ap (foreign_in dialect) f.1
+    ∙ header_is_not_foreign dialect h f.0 program f.2 in
+    ap₂ (λ (v : Option ℕ) (p : Option (HeaderData × List ℕ)). events_of dialect.order v p) none is
 
-events_by : (order : Order) (b x : List ℕ) (version : Option ℕ) (parts : Option (HeaderData × List ℕ))
-    → foreign_in order b ≡ version → header_in order b ≡ parts
-    → (told : List Event) × (events order (b ++ x) ≡ events order b ++ told)
-events_by order b x (Some v) parts foreign is = (
+events_by : (dialect : Dialect) (b x : List ℕ) (version : Option ℕ) (parts : Option (HeaderData × List ℕ))
+    → foreign_in dialect b ≡ version → header_in dialect b ≡ parts
+    → (told : List Event) × (events dialect (b ++ x) ≡ events dialect b ++ told)
+events_by dialect b x (Some v) parts foreign is = (
   [],
-  ap (λ (o : Option ℕ). events_of order o (header_in order (b ++ x))) (foreign_on order b x v foreign)
-      ∙ sym (ap (λ (o : Option ℕ). events_of order o (header_in order b)) foreign)
-      ∙ sym (append-nil (events order b)),
+  ap (λ (o : Option ℕ). events_of dialect.order o (header_in dialect (b ++ x))) (foreign_on dialect b x v foreign)
+      ∙ sym (ap (λ (o : Option ℕ). events_of dialect.order o (header_in dialect b)) foreign)
+      ∙ sym (append-nil (events dialect b)),
 )
-events_by order b x None None foreign is = (
-  events order (b ++ x),
-  sym (ap (λ (l : List Event). l ++ events order (b ++ x))
-      (ap₂ (λ (v : Option ℕ) (p : Option (HeaderData × List ℕ)). events_of order v p) foreign is)),
+events_by dialect b x None None foreign is = (
+  events dialect (b ++ x),
+  sym (ap (λ (l : List Event). l ++ events dialect (b ++ x))
+      (ap₂ (λ (v : Option ℕ) (p : Option (HeaderData × List ℕ)). events_of dialect.order v p) foreign is)),
 )
-events_by order b x None (Some (h, program)) foreign is =
-    let rows = rows_grow order h.params program x in (
+events_by dialect b x None (Some (h, program)) foreign is =
+    let rows = rows_grow dialect.order h.params program x in (
       map event.Row rows.0,
-      own order (b ++ x) h (program ++ x) (header_on order b x h program is)
+      own dialect (b ++ x) h (program ++ x) (header_on dialect b x h program is)
           ∙ ap (λ (l : List Row). event.Header ∷ map event.Row l) rows.1
-          ∙ ap (λ (l : List Event). event.Header ∷ l) (map-append event.Row (rows_in order h.params program) rows.0)
-          ∙ sym (ap (λ (l : List Event). l ++ map event.Row rows.0) (own order b h program is)),
+          ∙ ap (λ (l : List Event). event.Header ∷ l)
+          (map-append event.Row (rows_in dialect.order h.params program) rows.0)
+          ∙ sym (ap (λ (l : List Event). l ++ map event.Row rows.0) (own dialect b h program is)),
     )
 
-more_visits : (order : Order) (offset : ℕ) (b c : List ℕ) → (x : List ℕ) × (c ≡ b ++ x)
-    → (more : List Visit) × (visits order offset c ≡ visits order offset b ++ more)
-more_visits order offset b c (x, is) =
-    let grown = events_by order b x (foreign_in order b) (header_in order b) refl refl in (
-      flat_map (event_visits offset (header_of order (b ++ x))) grown.0,
-      ap (visits order offset) is
-          ∙ visits_grow order offset b x grown.0 grown.1,
+more_visits : (dialect : Dialect) (offset : ℕ) (b c : List ℕ) → (x : List ℕ) × (c ≡ b ++ x)
+    → (more : List Visit) × (visits dialect offset c ≡ visits dialect offset b ++ more)
+more_visits dialect offset b c (x, is) =
+    let grown = events_by dialect b x (foreign_in dialect b) (header_in dialect b) refl refl in (
+      flat_map (event_visits offset (header_of dialect (b ++ x))) grown.0,
+      ap (visits dialect offset) is
+          ∙ visits_grow dialect offset b x grown.0 grown.1,
     )
 
 -- ---- the visits of a section that goes on
@@ -134,14 +138,14 @@ longer_front b m c back e le = elim (fronts b c m back e) [
 ]
 
 -- b goes no further than a unit at the front of the same list
-pub begun_unit : (order : Order) (b m u back : List ℕ) → WithinUnit order b → IsUnit order u → b ++ m ≡ u ++ back
-    → (x : List ℕ) × (u ≡ b ++ x)
-begun_unit order b m u back within is e = elim (fronts b u m back e) [
+pub begun_unit : (dialect : Dialect) (b m u back : List ℕ) → WithinUnit dialect b → IsUnit dialect u
+    → b ++ m ≡ u ++ back → (x : List ℕ) × (u ≡ b ++ x)
+begun_unit dialect b m u back within is e = elim (fronts b u m back e) [
   | inl same ↦ ([], sym same ∙ sym (append-nil b))
   | inr (inl g) ↦ (g.0 ∷ g.1, g.2)
   | inr (inr g) ↦
-      let len = subst (λ (l : List ℕ). unit_len order l ≡ Some (length u)) (sym g.2)
-      (unit_len_on order u (g.0 ∷ g.1) (length u) (length_of_unit order u is)) in
+      let len = subst (λ (l : List ℕ). unit_len dialect l ≡ Some (length u)) (sym g.2)
+      (unit_len_on dialect u (g.0 ∷ g.1) (length u) (length_of_unit dialect u is)) in
       absurd (omega (arith, within (length u) len, ap length g.2, length-append u (g.0 ∷ g.1)))
 ]
 
@@ -150,42 +154,46 @@ regroup [] t e r v = refl
 regroup (x ∷ a) t e r v = ap (λ (l : List Visit). x ∷ l) (regroup a t e r v)
 
 -- the visits of units, and of bytes after them, from an offset on
-pub visits_from : Order → ℕ → List (List ℕ) → List ℕ → List Visit
-visits_from order offset units b = units_visits order offset units ++ visits order (offset + length (concat units)) b
+pub visits_from : Dialect → ℕ → List (List ℕ) → List ℕ → List Visit
+visits_from dialect offset units b = units_visits dialect offset units ++ visits dialect
+    (offset + length (concat units)) b
 
-visits_from-unit : (order : Order) (offset : ℕ) (u : List ℕ) (units : List (List ℕ)) (b : List ℕ)
-    → visits_from order offset (u ∷ units) b ≡ unit_visits order offset u
-    ++ visits_from order (offset + length u) units b
+visits_from-unit : (dialect : Dialect) (offset : ℕ) (u : List ℕ) (units : List (List ℕ)) (b : List ℕ)
+    → visits_from dialect offset (u ∷ units) b ≡ unit_visits dialect offset u
+    ++ visits_from dialect (offset + length u) units b
 unfolding visits_from
-visits_from-unit order offset u units b =
-    ap (λ (n : ℕ). (unit_visits order offset u ++ units_visits order (offset + length u) units) ++ visits order n b)
+visits_from-unit dialect offset u units b =
+    ap (λ (n : ℕ). (unit_visits dialect offset u ++ units_visits dialect (offset + length u)
+    units) ++ visits dialect n b)
     (omega (arith, length-append u (concat units)))
-    ∙ append_assoc (unit_visits order offset u) (units_visits order (offset + length u) units)
-    (visits order ((offset + length u) + length (concat units)) b)
+    ∙ append_assoc (unit_visits dialect offset u) (units_visits dialect (offset + length u) units)
+    (visits dialect ((offset + length u) + length (concat units)) b)
 
 -- what is told of the front of a section is told of the section first
-pub told : (order : Order) (offset : ℕ) (units units2 : List (List ℕ)) (b m b2 back2 : List ℕ)
-    → AllByRecursion (IsUnit order) units → AllByRecursion (IsUnit order) units2
-    → WithinUnit order b → NoUnitBegins order (b2 ++ back2) → concat units ++ (b ++ m) ≡ concat units2 ++ (b2 ++ back2)
+pub told : (dialect : Dialect) (offset : ℕ) (units units2 : List (List ℕ)) (b m b2 back2 : List ℕ)
+    → AllByRecursion (IsUnit dialect) units → AllByRecursion (IsUnit dialect) units2
+    → WithinUnit dialect b → NoUnitBegins dialect (b2 ++ back2)
+    → concat units ++ (b ++ m) ≡ concat units2 ++ (b2 ++ back2)
     → length (concat units ++ b) ≤ length (concat units2 ++ b2)
-    → (others : List Visit) × (visits_from order offset units2 b2 ≡ visits_from order offset units b ++ others)
+    → (others : List Visit) × (visits_from dialect offset units2 b2 ≡ visits_from dialect offset units b ++ others)
 unfolding visits_from
-told order offset [] [] b m b2 back2 all all2 within none e le =
-    more_visits order (offset + 0) b b2 (longer_front b m b2 back2 e le)
-told order offset [] (u ∷ units2) b m b2 back2 all all2 within none e le =
-    let more = more_visits order offset b u (begun_unit order b m u (concat units2 ++ (b2 ++ back2)) within all2.0 (e
+told dialect offset [] [] b m b2 back2 all all2 within none e le =
+    more_visits dialect (offset + 0) b b2 (longer_front b m b2 back2 e le)
+told dialect offset [] (u ∷ units2) b m b2 back2 all all2 within none e le =
+    let more = more_visits dialect offset b u
+    (begun_unit dialect b m u (concat units2 ++ (b2 ++ back2)) within all2.0 (e
     ∙ append_assoc u (concat units2) (b2 ++ back2))) in
-    let rest = units_visits order (offset + length u) units2 in
-    let last = visits order (offset + length (u ++ concat units2)) b2 in (
-      ((more.0 ++ end_visits order u) ++ rest) ++ last,
-      ap (λ (l : List Visit). ((l ++ end_visits order u) ++ rest) ++ last) more.1
-          ∙ regroup (visits order offset b) more.0 (end_visits order u) rest last
-          ∙ ap (λ (n : ℕ). visits order n b ++ (((more.0 ++ end_visits order u) ++ rest) ++ last)) (omega arith),
+    let rest = units_visits dialect (offset + length u) units2 in
+    let last = visits dialect (offset + length (u ++ concat units2)) b2 in (
+      ((more.0 ++ end_visits dialect u) ++ rest) ++ last,
+      ap (λ (l : List Visit). ((l ++ end_visits dialect u) ++ rest) ++ last) more.1
+          ∙ regroup (visits dialect offset b) more.0 (end_visits dialect u) rest last
+          ∙ ap (λ (n : ℕ). visits dialect n b ++ (((more.0 ++ end_visits dialect u) ++ rest) ++ last)) (omega arith),
     )
-told order offset (u ∷ units) [] b m b2 back2 all all2 within none e le =
+told dialect offset (u ∷ units) [] b m b2 back2 all all2 within none e le =
     absurd (none u (concat units ++ (b ++ m)) (sym e ∙ append_assoc u (concat units) (b ++ m)) all.0)
-told order offset (u ∷ units) (v ∷ units2) b m b2 back2 all all2 within none e le =
-    let front = one_front order u v (concat units ++ (b ++ m)) (concat units2 ++ (b2 ++ back2)) all.0 all2.0
+told dialect offset (u ∷ units) (v ∷ units2) b m b2 back2 all all2 within none e le =
+    let front = one_front dialect u v (concat units ++ (b ++ m)) (concat units2 ++ (b2 ++ back2)) all.0 all2.0
     (sym (append_assoc u (concat units) (b ++ m)) ∙ e ∙ append_assoc v (concat units2) (b2 ++ back2)) in
     let shorter : length (concat units ++ b) ≤ length (concat units2 ++ b2) =
     omega (
@@ -199,16 +207,17 @@ told order offset (u ∷ units) (v ∷ units2) b m b2 back2 all all2 within none
       length-append (concat units) b,
       length-append (concat units2) b2,
     ) in
-    let later = told order (offset + length u) units units2 b m b2 back2 all.1 all2.1 within none front.1 shorter in (
+    let later = told dialect (offset + length u) units units2 b m b2 back2 all.1 all2.1 within none front.1 shorter in (
       later.0,
-      ap (λ (w : List ℕ). visits_from order offset (w ∷ units2) b2) (sym front.0)
-          ∙ visits_from-unit order offset u units2 b2
-          ∙ ap (λ (l : List Visit). unit_visits order offset u ++ l) later.1
-          ∙ sym (append_assoc (unit_visits order offset u) (visits_from order (offset + length u) units b) later.0)
-          ∙ sym (ap (λ (l : List Visit). l ++ later.0) (visits_from-unit order offset u units b)),
+      ap (λ (w : List ℕ). visits_from dialect offset (w ∷ units2) b2) (sym front.0)
+          ∙ visits_from-unit dialect offset u units2 b2
+          ∙ ap (λ (l : List Visit). unit_visits dialect offset u ++ l) later.1
+          ∙ sym (append_assoc (unit_visits dialect offset u) (visits_from dialect (offset + length u) units b) later.0)
+          ∙ sym (ap (λ (l : List Visit). l ++ later.0) (visits_from-unit dialect offset u units b)),
     )
 
 -- at the offset 0
-pub from_zero : (order : Order) (us : List (List ℕ)) (c : List ℕ) → visits_from order 0 us c ≡ section_visits order us c
+pub from_zero : (dialect : Dialect) (us : List (List ℕ)) (c : List ℕ)
+    → visits_from dialect 0 us c ≡ section_visits dialect us c
 unfolding visits_from
-from_zero order us c = ap (λ (n : ℕ). units_visits order 0 us ++ visits order n c) (omega arith)
+from_zero dialect us c = ap (λ (n : ℕ). units_visits dialect 0 us ++ visits dialect n c) (omega arith)

@@ -5,7 +5,7 @@ use Rattle.std.specs.Prelude.{Ok, Err}
 use Rattle.std.specs.List.{AllByRecursion, concat}
 use Rattle.std.specs.Option.{option_copied, option_map_or}
 use Rattle.std.specs.Io.KnownBytes.{Appends, Keeps}
-use Rattle.dl_num.specs.declared.fixed.Order.{Order}
+use Rattle.dl_head.specs.declared.dialect.Dialect.{Dialect}
 use Rattle.dl_head.specs.Built.{with_standard_opcodes}
 use Rattle.dl_head.specs.Header.{foreign_in}
 use Rattle.dl_field.specs.HeaderData.{HeaderData}
@@ -33,41 +33,41 @@ strings_in options =
     record { line_strings = option_copied options.debug_line_str; strings = option_copied options.debug_str }
 
 -- `check`: the line of the counts where the section is units to its end, else nothing
-abbrev pub Checks : Order → (limit : ℕ) (bytes : List ℕ) (left start now : Option (List ℕ)) → Result Summary RunFault
+abbrev pub Checks : Dialect → (limit : ℕ) (bytes : List ℕ) (left start now : Option (List ℕ)) → Result Summary RunFault
     → Type 0
-Checks order limit bytes left start now (Ok summary) =
-    (units : List (List ℕ)) × EndsAs order limit bytes left units [] [] (Ok summary)
+Checks dialect limit bytes left start now (Ok summary) =
+    (units : List (List ℕ)) × EndsAs dialect limit bytes left units [] [] (Ok summary)
     × Appends start now (summary_line summary)
-Checks order limit bytes left start now (Err (fault.Write out)) =
-    (units : List (List ℕ)) × (summary : Summary) × EndsAs order limit bytes left units [] [] (Ok summary)
+Checks dialect limit bytes left start now (Err (fault.Write out)) =
+    (units : List (List ℕ)) × (summary : Summary) × EndsAs dialect limit bytes left units [] [] (Ok summary)
     × TellsOut start now (summary_line summary) (fault.Write out)
-Checks order limit bytes left start now (Err f) =
-    (units : List (List ℕ)) × (b : List ℕ) × (back : List ℕ) × EndsAs order limit bytes left units b back (Err f)
+Checks dialect limit bytes left start now (Err f) =
+    (units : List (List ℕ)) × (b : List ℕ) × (back : List ℕ) × EndsAs dialect limit bytes left units b back (Err f)
     × Keeps start now
 
 -- `dump`: the text of the units, and of what follows them up to the fault
-abbrev pub Dumps : Order → Strings → (limit : ℕ) (bytes : List ℕ) (left start now : Option (List ℕ))
+abbrev pub Dumps : Dialect → Strings → (limit : ℕ) (bytes : List ℕ) (left start now : Option (List ℕ))
     → Result Summary RunFault → Type 0
-Dumps order strings limit bytes left start now (Err (fault.Write out)) =
-    (units : List (List ℕ)) × (b : List ℕ) × (back : List ℕ) × HasBegun order (take limit bytes) units b back
-    × TellsOut start now (section_text order strings units b) (fault.Write out)
-Dumps order strings limit bytes left start now result =
-    (units : List (List ℕ)) × (b : List ℕ) × (back : List ℕ) × EndsAs order limit bytes left units b back result
-    × Appends start now (section_text order strings units b)
+Dumps dialect strings limit bytes left start now (Err (fault.Write out)) =
+    (units : List (List ℕ)) × (b : List ℕ) × (back : List ℕ) × HasBegun dialect (take limit bytes) units b back
+    × TellsOut start now (section_text dialect strings units b) (fault.Write out)
+Dumps dialect strings limit bytes left start now result =
+    (units : List (List ℕ)) × (b : List ℕ) × (back : List ℕ) × EndsAs dialect limit bytes left units b back result
+    × Appends start now (section_text dialect strings units b)
 
 -- ---- `find`
 
 -- no unit has an answer for x
-abbrev pub NoneAnswers : Order → Place → List (List ℕ) → Type 0
-NoneAnswers order x units = AllByRecursion (λ u. answer (unit_rows order u) x ≡ None) units
+abbrev pub NoneAnswers : Dialect → Place → List (List ℕ) → Type 0
+NoneAnswers dialect x units = AllByRecursion (λ u. answer (unit_rows dialect u) x ≡ None) units
 
 -- the first bytes are units, of which u, the last, is the first that has an answer for x: the row r; h is its header
-pub record IsFound (order : Order) (x : Place) (bytes : List ℕ) (units : List (List ℕ)) (u back : List ℕ)
+pub record IsFound (dialect : Dialect) (x : Place) (bytes : List ℕ) (units : List (List ℕ)) (u back : List ℕ)
     (h : HeaderData) (r : Row) : Type 0 where
-  pub has : HasUnits order bytes (units ++ u ∷ []) back
-  pub none_before : NoneAnswers order x units
-  pub row : answer (unit_rows order u) x ≡ Some r
-  pub header : header_of order u ≡ Some h
+  pub has : HasUnits dialect bytes (units ++ u ∷ []) back
+  pub none_before : NoneAnswers dialect x units
+  pub row : answer (unit_rows dialect u) x ≡ Some r
+  pub header : header_of dialect u ≡ Some h
 
 -- the line of the row's file, which the header's table may lack, and the line of the row
 abbrev pub found_text : Strings → HeaderData → Row → List ℕ
@@ -75,77 +75,78 @@ found_text strings h r = file_text strings h.files r.file ++ row_line r
 
 -- `find`: the two lines of the first unit that has an answer for x; nothing where none has, or where a fault comes
 -- before
-abbrev pub Finds : Order → Strings → Place → (limit : ℕ) (bytes : List ℕ) (left start now : Option (List ℕ))
+abbrev pub Finds : Dialect → Strings → Place → (limit : ℕ) (bytes : List ℕ) (left start now : Option (List ℕ))
     → Result Summary RunFault → Type 0
-Finds order strings x limit bytes left start now (Ok summary) =
+Finds dialect strings x limit bytes left start now (Ok summary) =
     (units : List (List ℕ)) × (u : List ℕ) × (back : List ℕ) × (h : HeaderData) × (r : Row)
-    × IsFound order x (take limit bytes) units u back h r
-    × (summary ≡ summary_of order (units ++ u ∷ [])) × Appends start now (found_text strings h r)
-Finds order strings x limit bytes left start now (Err (fault.Write out)) =
+    × IsFound dialect x (take limit bytes) units u back h r
+    × (summary ≡ summary_of dialect (units ++ u ∷ [])) × Appends start now (found_text strings h r)
+Finds dialect strings x limit bytes left start now (Err (fault.Write out)) =
     (units : List (List ℕ)) × (u : List ℕ) × (back : List ℕ) × (h : HeaderData) × (r : Row)
-    × IsFound order x (take limit bytes) units u back h r
+    × IsFound dialect x (take limit bytes) units u back h r
     × TellsOut start now (found_text strings h r) (fault.Write out)
-Finds order strings x limit bytes left start now (Err fault.NotFound) =
-    (units : List (List ℕ)) × (summary : Summary) × EndsAs order limit bytes left units [] [] (Ok summary)
-    × NoneAnswers order x units × Keeps start now
-Finds order strings x limit bytes left start now (Err f) =
-    (units : List (List ℕ)) × (b : List ℕ) × (back : List ℕ) × EndsAs order limit bytes left units b back (Err f)
-    × NoneAnswers order x units × Keeps start now
+Finds dialect strings x limit bytes left start now (Err fault.NotFound) =
+    (units : List (List ℕ)) × (summary : Summary) × EndsAs dialect limit bytes left units [] [] (Ok summary)
+    × NoneAnswers dialect x units × Keeps start now
+Finds dialect strings x limit bytes left start now (Err f) =
+    (units : List (List ℕ)) × (b : List ℕ) × (back : List ℕ) × EndsAs dialect limit bytes left units b back (Err f)
+    × NoneAnswers dialect x units × Keeps start now
 
 -- ---- `copy`
 
 -- the unit of the same rows, under the header with standard opcodes; nothing for a unit of another version, which has
 -- no header
-abbrev pub copied_unit : Order → List ℕ → List ℕ
-copied_unit order u =
-    option_map_or (λ h. unit_of order (with_standard_opcodes h) (unit_rows order u)) (header_of order u) []
+abbrev pub copied_unit : Dialect → List ℕ → List ℕ
+copied_unit dialect u =
+    option_map_or (λ h. unit_of dialect.order (with_standard_opcodes h) (unit_rows dialect u)) (header_of dialect u) []
 
-abbrev pub copied_units : Order → List (List ℕ) → List ℕ
-copied_units order units = flat_map (copied_unit order) units
+abbrev pub copied_units : Dialect → List (List ℕ) → List ℕ
+copied_units dialect units = flat_map (copied_unit dialect) units
 
 -- u has a header, and its copy can be written
-abbrev pub IsCopied : Order → List ℕ → Type 0
-IsCopied order u =
-    (h : HeaderData) × (header_of order u ≡ Some h) × (refusal (with_standard_opcodes h) (unit_rows order u) ≡ None)
+abbrev pub IsCopied : Dialect → List ℕ → Type 0
+IsCopied dialect u =
+    (h : HeaderData) × (header_of dialect u ≡ Some h) × (refusal (with_standard_opcodes h) (unit_rows dialect u) ≡ None)
 
-abbrev pub AreCopied : Order → List (List ℕ) → Type 0
-AreCopied order units = AllByRecursion (IsCopied order) units
+abbrev pub AreCopied : Dialect → List (List ℕ) → Type 0
+AreCopied dialect units = AllByRecursion (IsCopied dialect) units
 
 -- these units are copied, and their copies are out
-abbrev pub HasCopied : Order → List (List ℕ) → (start now : Option (List ℕ)) → Type 0
-HasCopied order units start now = AreCopied order units × Appends start now (copied_units order units)
+abbrev pub HasCopied : Dialect → List (List ℕ) → (start now : Option (List ℕ)) → Type 0
+HasCopied dialect units start now = AreCopied dialect units × Appends start now (copied_units dialect units)
 
 -- memory grows: for a cell of b's header, which the byte after b adds; for a row; or for the copy of a unit that is
 -- whole
-abbrev pub Grows : Order → (b back : List ℕ) → Type 0
-Grows order b back = AddsCell order b back ⊎ ((unit_rows order b ≢ []) ⊎ IsUnit order b)
+abbrev pub Grows : Dialect → (b back : List ℕ) → Type 0
+Grows dialect b back = AddsCell dialect b back ⊎ ((unit_rows dialect b ≢ []) ⊎ IsUnit dialect b)
 
 -- `copy`: the copies of all units, or of those before the fault. A unit of another version is a fault, also where it is
 -- cut off, and so is a whole unit whose copy would be too long. The fault's offset is that of the unit.
-abbrev pub Copies : Order → (limit : ℕ) (bytes : List ℕ) (left start now : Option (List ℕ)) → Result Summary RunFault
+abbrev pub Copies : Dialect → (limit : ℕ) (bytes : List ℕ) (left start now : Option (List ℕ)) → Result Summary RunFault
     → Type 0
-Copies order limit bytes left start now (Ok summary) =
-    (units : List (List ℕ)) × EndsAs order limit bytes left units [] [] (Ok summary) × HasCopied order units start now
-Copies order limit bytes left start now (Err (fault.ForeignUnit offset)) =
+Copies dialect limit bytes left start now (Ok summary) =
+    (units : List (List ℕ)) × EndsAs dialect limit bytes left units [] [] (Ok summary)
+    × HasCopied dialect units start now
+Copies dialect limit bytes left start now (Err (fault.ForeignUnit offset)) =
     (units : List (List ℕ)) × (b : List ℕ) × (back : List ℕ) × (version : ℕ)
-    × HasBegun order (take limit bytes) units b back
-    × (offset ≡ length (concat units)) × (foreign_in order b ≡ Some version) × HasCopied order units start now
-Copies order limit bytes left start now (Err (fault.Emit offset f)) =
+    × HasBegun dialect (take limit bytes) units b back
+    × (offset ≡ length (concat units)) × (foreign_in dialect b ≡ Some version) × HasCopied dialect units start now
+Copies dialect limit bytes left start now (Err (fault.Emit offset f)) =
     (units : List (List ℕ)) × (u : List ℕ) × (back : List ℕ) × (h : HeaderData)
-    × HasUnits order (take limit bytes) (units ++ u ∷ []) back
-    × (offset ≡ length (concat units)) × (header_of order u ≡ Some h)
-    × (refusal (with_standard_opcodes h) (unit_rows order u) ≡ Some f) × (f ≡ TooLong)
-    × HasCopied order units start now
+    × HasUnits dialect (take limit bytes) (units ++ u ∷ []) back
+    × (offset ≡ length (concat units)) × (header_of dialect u ≡ Some h)
+    × (refusal (with_standard_opcodes h) (unit_rows dialect u) ≡ Some f) × (f ≡ TooLong)
+    × HasCopied dialect units start now
 -- a growth was refused for b, which is in no other way at fault
-Copies order limit bytes left start now (Err fault.NoMemory) =
-    (units : List (List ℕ)) × (b : List ℕ) × (back : List ℕ) × HasBegun order (take limit bytes) units b back
-    × Sound order b × (foreign_in order b ≡ None)
-    × Grows order b back × HasCopied order units start now
-Copies order limit bytes left start now (Err (fault.Write out)) =
-    (units : List (List ℕ)) × (back : List ℕ) × HasUnits order (take limit bytes) units back × AreCopied order units
-    × TellsOut start now (copied_units order units) (fault.Write out)
+Copies dialect limit bytes left start now (Err fault.NoMemory) =
+    (units : List (List ℕ)) × (b : List ℕ) × (back : List ℕ) × HasBegun dialect (take limit bytes) units b back
+    × Sound dialect b × (foreign_in dialect b ≡ None)
+    × Grows dialect b back × HasCopied dialect units start now
+Copies dialect limit bytes left start now (Err (fault.Write out)) =
+    (units : List (List ℕ)) × (back : List ℕ) × HasUnits dialect (take limit bytes) units back × AreCopied dialect units
+    × TellsOut start now (copied_units dialect units) (fault.Write out)
 -- b isn't the front of a unit of another version
-Copies order limit bytes left start now (Err f) =
-    (units : List (List ℕ)) × (b : List ℕ) × (back : List ℕ) × EndsAs order limit bytes left units b back (Err f)
-    × (foreign_in order b ≡ None)
-    × HasCopied order units start now
+Copies dialect limit bytes left start now (Err f) =
+    (units : List (List ℕ)) × (b : List ℕ) × (back : List ℕ) × EndsAs dialect limit bytes left units b back (Err f)
+    × (foreign_in dialect b ≡ None)
+    × HasCopied dialect units start now

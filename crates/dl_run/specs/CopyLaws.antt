@@ -2,7 +2,7 @@
 -- 6.2.4.
 use Rattle.std.specs.Prelude.{◌≡◌, ℕ, List, [], ◌∷◌, map, Some}
 use Rattle.std.specs.List.{AllByRecursion}
-use Rattle.dl_num.specs.declared.fixed.Order.{Order}
+use Rattle.dl_head.specs.declared.dialect.Dialect.{Dialect}
 use Rattle.dl_num.specs.Laws.{AllBytes}
 use Rattle.dl_head.specs.Built.{with_standard_opcodes}
 use Rattle.dl_field.specs.HeaderData.{HeaderData}
@@ -13,18 +13,18 @@ use Rattle.dl_run.specs.Commands.{copied_unit, copied_units, AreCopied}
 use Rattle.dl_run.specs.Section.{HasUnits, header_of}
 
 -- v is a unit of the header of u, but for its opcodes, which are the standard ones; and it comes to the rows of u
-pub record IsAnew (order : Order) (u v : List ℕ) : Type 0 where
+pub record IsAnew (dialect : Dialect) (u v : List ℕ) : Type 0 where
   pub header : HeaderData
-  pub its_header : header_of order u ≡ Some header
+  pub its_header : header_of dialect u ≡ Some header
   pub operations : List Operation
-  pub unit : IsOwnUnit order (with_standard_opcodes header) operations v
-  pub events_are : events order v ≡ event.Header ∷ map event.Row (unit_rows order u)
-  pub rows : unit_rows order v ≡ unit_rows order u
+  pub unit : IsOwnUnit dialect (with_standard_opcodes header) operations v
+  pub events_are : events dialect v ≡ event.Header ∷ map event.Row (unit_rows dialect u)
+  pub rows : unit_rows dialect v ≡ unit_rows dialect u
 
 -- what is written for units that were read is a section of as many units, each of which is one of them anew
 abbrev pub CopiesAreUnits : Type 0
 CopiesAreUnits =
-    (order : Order) (s : List ℕ) (units : List (List ℕ)) (rest : List ℕ) → AllBytes s → HasUnits order s units rest
-    → AreCopied order units
-    → HasUnits order (copied_units order units) (map (copied_unit order) units) []
-    × AllByRecursion (λ u. IsAnew order u (copied_unit order u)) units
+    (dialect : Dialect) (s : List ℕ) (units : List (List ℕ)) (rest : List ℕ) → AllBytes s
+    → HasUnits dialect s units rest → AreCopied dialect units
+    → HasUnits dialect (copied_units dialect units) (map (copied_unit dialect) units) []
+    × AllByRecursion (λ u. IsAnew dialect u (copied_unit dialect u)) units

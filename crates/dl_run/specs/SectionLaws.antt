@@ -2,7 +2,7 @@
 -- section 6.2.4.
 use Rattle.std.specs.Prelude.{◌≡◌, ◌≢◌, ℕ, List, Option, Result, Err, ◌++◌}
 use Rattle.std.specs.Io.KnownBytes.{Appends}
-use Rattle.dl_num.specs.declared.fixed.Order.{Order}
+use Rattle.dl_head.specs.declared.dialect.Dialect.{Dialect}
 use Rattle.dl_field.specs.HeaderData.{HeaderData}
 use Rattle.dl_rows.specs.declared.row.Row.{Row}
 use Rattle.dl_look.specs.declared.place.Place.{Place}
@@ -19,9 +19,9 @@ use Rattle.dl_run.specs.Section.{Visit, HasUnits, NoUnitBegins, EndsAs, section_
 -- bytes are cut into units, up to bytes that no unit begins, in one way alone
 abbrev pub OneCut : Type 0
 OneCut =
-    (order : Order) (s : List ℕ) (units units2 : List (List ℕ)) (rest rest2 : List ℕ) → HasUnits order s units rest
-    → NoUnitBegins order rest
-    → HasUnits order s units2 rest2 → NoUnitBegins order rest2 → (units ≡ units2) × (rest ≡ rest2)
+    (dialect : Dialect) (s : List ℕ) (units units2 : List (List ℕ)) (rest rest2 : List ℕ)
+    → HasUnits dialect s units rest → NoUnitBegins dialect rest
+    → HasUnits dialect s units2 rest2 → NoUnitBegins dialect rest2 → (units ≡ units2) × (rest ≡ rest2)
 
 -- an answer for which neither memory nor input nor output is the reason
 abbrev pub IsOfBytes : {A : Type 0} → Result A RunFault → Type 0
@@ -33,102 +33,102 @@ IsOfBytes other = Unit {0}
 -- the units of bytes, the bytes after them and the answer are settled by the bytes and the limit
 abbrev pub OneEnd : Type 0
 OneEnd =
-    (order : Order) (limit : ℕ) (bytes : List ℕ) (left left2 : Option (List ℕ)) (units units2 : List (List ℕ))
+    (dialect : Dialect) (limit : ℕ) (bytes : List ℕ) (left left2 : Option (List ℕ)) (units units2 : List (List ℕ))
     (b b2 back back2 : List ℕ) (result result2 : Result Summary RunFault)
-    → IsOfBytes result → IsOfBytes result2 → EndsAs order limit bytes left units b back result
-    → EndsAs order limit bytes left2 units2 b2 back2 result2
+    → IsOfBytes result → IsOfBytes result2 → EndsAs dialect limit bytes left units b back result
+    → EndsAs dialect limit bytes left2 units2 b2 back2 result2
     → (units ≡ units2) × (b ≡ b2) × (back ≡ back2) × (result ≡ result2)
 
 -- what is told of the front of a section is the front of what is told of the section, where memory is refused in
 -- neither
 abbrev pub MoreIsTold : Type 0
 MoreIsTold =
-    (order : Order) (limit : ℕ) (bytes more : List ℕ) (left left2 : Option (List ℕ)) (units units2 : List (List ℕ))
+    (dialect : Dialect) (limit : ℕ) (bytes more : List ℕ) (left left2 : Option (List ℕ)) (units units2 : List (List ℕ))
     (b b2 back back2 : List ℕ) (result result2 : Result Summary RunFault)
-    → result ≢ Err fault.NoMemory → result2 ≢ Err fault.NoMemory → EndsAs order limit bytes left units b back result
-    → EndsAs order limit (bytes ++ more) left2 units2 b2 back2 result2
-    → (others : List Visit) × (section_visits order units2 b2 ≡ section_visits order units b ++ others)
+    → result ≢ Err fault.NoMemory → result2 ≢ Err fault.NoMemory → EndsAs dialect limit bytes left units b back result
+    → EndsAs dialect limit (bytes ++ more) left2 units2 b2 back2 result2
+    → (others : List Visit) × (section_visits dialect units2 b2 ≡ section_visits dialect units b ++ others)
 
 -- ---- the commands
 
 -- what `check` answers is settled by the bytes and the limit
 abbrev pub OneChecking : Type 0
 OneChecking =
-    (order : Order) (limit : ℕ) (bytes : List ℕ) (left left2 start start2 now now2 : Option (List ℕ))
+    (dialect : Dialect) (limit : ℕ) (bytes : List ℕ) (left left2 start start2 now now2 : Option (List ℕ))
     (result result2 : Result Summary RunFault) → IsOfBytes result → IsOfBytes result2
-    → Checks order limit bytes left start now result → Checks order limit bytes left2 start2 now2 result2
+    → Checks dialect limit bytes left start now result → Checks dialect limit bytes left2 start2 now2 result2
     → result ≡ result2
 
 -- what `passed_over` answers is settled by the bytes and the limit
 abbrev pub OnePassingOver : Type 0
 OnePassingOver =
-    (order : Order) (limit : ℕ) (bytes : List ℕ) (left left2 : Option (List ℕ))
+    (dialect : Dialect) (limit : ℕ) (bytes : List ℕ) (left left2 : Option (List ℕ))
     (result result2 : Result (Option PassedOver) RunFault) → IsOfBytes result → IsOfBytes result2
-    → PassesOver order limit bytes left result → PassesOver order limit bytes left2 result2 → result ≡ result2
+    → PassesOver dialect limit bytes left result → PassesOver dialect limit bytes left2 result2 → result ≡ result2
 
 -- one unit alone is the first that has an answer, with one header and one row
 abbrev pub OneFound : Type 0
 OneFound =
-    (order : Order) (x : Place) (bytes : List ℕ) (units units2 : List (List ℕ)) (u u2 back back2 : List ℕ)
-    (h h2 : HeaderData) (r r2 : Row) → IsFound order x bytes units u back h r
-    → IsFound order x bytes units2 u2 back2 h2 r2 → (units ≡ units2) × (u ≡ u2) × (back ≡ back2) × (h ≡ h2) × (r ≡ r2)
+    (dialect : Dialect) (x : Place) (bytes : List ℕ) (units units2 : List (List ℕ)) (u u2 back back2 : List ℕ)
+    (h h2 : HeaderData) (r r2 : Row) → IsFound dialect x bytes units u back h r
+    → IsFound dialect x bytes units2 u2 back2 h2 r2 → (units ≡ units2) × (u ≡ u2) × (back ≡ back2) × (h ≡ h2) × (r ≡ r2)
 
 -- what `find` answers is settled by the bytes, the limit and the place, whatever the string sections
 abbrev pub OneFinding : Type 0
 OneFinding =
-    (order : Order) (strings strings2 : Strings) (x : Place) (limit : ℕ) (bytes : List ℕ)
+    (dialect : Dialect) (strings strings2 : Strings) (x : Place) (limit : ℕ) (bytes : List ℕ)
     (left left2 start start2 now now2 : Option (List ℕ)) (result result2 : Result Summary RunFault)
-    → IsOfBytes result → IsOfBytes result2 → Finds order strings x limit bytes left start now result
-    → Finds order strings2 x limit bytes left2 start2 now2 result2 → result ≡ result2
+    → IsOfBytes result → IsOfBytes result2 → Finds dialect strings x limit bytes left start now result
+    → Finds dialect strings2 x limit bytes left2 start2 now2 result2 → result ≡ result2
 
 -- what `dump` answers is settled by the bytes and the limit, whatever the string sections
 abbrev pub OneDumping : Type 0
 OneDumping =
-    (order : Order) (strings strings2 : Strings) (limit : ℕ) (bytes : List ℕ)
+    (dialect : Dialect) (strings strings2 : Strings) (limit : ℕ) (bytes : List ℕ)
     (left left2 start start2 now now2 : Option (List ℕ)) (result result2 : Result Summary RunFault)
-    → IsOfBytes result → IsOfBytes result2 → Dumps order strings limit bytes left start now result
-    → Dumps order strings2 limit bytes left2 start2 now2 result2 → result ≡ result2
+    → IsOfBytes result → IsOfBytes result2 → Dumps dialect strings limit bytes left start now result
+    → Dumps dialect strings2 limit bytes left2 start2 now2 result2 → result ≡ result2
 
 -- with the string sections, so is the text that it writes
 abbrev pub OneDump : Type 0
 OneDump =
-    (order : Order) (strings : Strings) (limit : ℕ) (bytes : List ℕ)
+    (dialect : Dialect) (strings : Strings) (limit : ℕ) (bytes : List ℕ)
     (left left2 start start2 now now2 : Option (List ℕ)) (result result2 : Result Summary RunFault)
-    → IsOfBytes result → IsOfBytes result2 → Dumps order strings limit bytes left start now result
-    → Dumps order strings limit bytes left2 start2 now2 result2
+    → IsOfBytes result → IsOfBytes result2 → Dumps dialect strings limit bytes left start now result
+    → Dumps dialect strings limit bytes left2 start2 now2 result2
     → (text : List ℕ) × Appends start now text × Appends start2 now2 text
 
 -- what a failed write leaves of it is the first `out` bytes, not all
 abbrev pub DumpIsFront : Type 0
 DumpIsFront =
-    (order : Order) (strings : Strings) (limit : ℕ) (bytes : List ℕ)
+    (dialect : Dialect) (strings : Strings) (limit : ℕ) (bytes : List ℕ)
     (left left2 start start2 now now2 : Option (List ℕ)) (out : ℕ) (result2 : Result Summary RunFault)
     → IsOfBytes result2
-    → Dumps order strings limit bytes left start now (Err (fault.Write out))
-    → Dumps order strings limit bytes left2 start2 now2 result2
+    → Dumps dialect strings limit bytes left start now (Err (fault.Write out))
+    → Dumps dialect strings limit bytes left2 start2 now2 result2
     → (text : List ℕ) × TellsOut start now text (fault.Write out) × Appends start2 now2 text
 
 -- what `copy` answers is settled by the bytes and the limit
 abbrev pub OneCopying : Type 0
 OneCopying =
-    (order : Order) (limit : ℕ) (bytes : List ℕ) (left left2 start start2 now now2 : Option (List ℕ))
+    (dialect : Dialect) (limit : ℕ) (bytes : List ℕ) (left left2 start start2 now now2 : Option (List ℕ))
     (result result2 : Result Summary RunFault) → IsOfBytes result → IsOfBytes result2
-    → Copies order limit bytes left start now result → Copies order limit bytes left2 start2 now2 result2
+    → Copies dialect limit bytes left start now result → Copies dialect limit bytes left2 start2 now2 result2
     → result ≡ result2
 
 -- and so are the bytes that it writes
 abbrev pub OneCopy : Type 0
 OneCopy =
-    (order : Order) (limit : ℕ) (bytes : List ℕ) (left left2 start start2 now now2 : Option (List ℕ))
+    (dialect : Dialect) (limit : ℕ) (bytes : List ℕ) (left left2 start start2 now now2 : Option (List ℕ))
     (result result2 : Result Summary RunFault) → IsOfBytes result → IsOfBytes result2
-    → Copies order limit bytes left start now result → Copies order limit bytes left2 start2 now2 result2
+    → Copies dialect limit bytes left start now result → Copies dialect limit bytes left2 start2 now2 result2
     → (text : List ℕ) × Appends start now text × Appends start2 now2 text
 
 -- what a failed write leaves of them is the first `out` bytes, not all
 abbrev pub CopyIsFront : Type 0
 CopyIsFront =
-    (order : Order) (limit : ℕ) (bytes : List ℕ) (left left2 start start2 now now2 : Option (List ℕ)) (out : ℕ)
+    (dialect : Dialect) (limit : ℕ) (bytes : List ℕ) (left left2 start start2 now now2 : Option (List ℕ)) (out : ℕ)
     (result2 : Result Summary RunFault) → IsOfBytes result2
-    → Copies order limit bytes left start now (Err (fault.Write out))
-    → Copies order limit bytes left2 start2 now2 result2
+    → Copies dialect limit bytes left start now (Err (fault.Write out))
+    → Copies dialect limit bytes left2 start2 now2 result2
     → (text : List ℕ) × TellsOut start now text (fault.Write out) × Appends start2 now2 text

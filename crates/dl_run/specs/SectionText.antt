@@ -1,7 +1,7 @@
 -- The text that a section is printed as: a line for each event of its units, and those of their headers. DWARF 5,
 -- section 6.2.4.
 use Rattle.std.specs.Prelude.{ℕ, List, [], flat_map}
-use Rattle.dl_num.specs.declared.fixed.Order.{Order}
+use Rattle.dl_head.specs.declared.dialect.Dialect.{Dialect}
 use Rattle.dl_run.specs.Section.{Visit, of_header, of_version, of_row, of_open, of_end, section_visits}
 use Rattle.dl_print.specs.Text.{row_line, foreign_line, open_line}
 use Rattle.dl_print.specs.ValueText.{Strings}
@@ -18,5 +18,5 @@ abbrev pub visits_text : Strings → List Visit → List ℕ
 visits_text strings visits = flat_map (visit_text strings) visits
 
 -- of units, and of the front of one more
-abbrev pub section_text : Order → Strings → List (List ℕ) → List ℕ → List ℕ
-section_text order strings units b = visits_text strings (section_visits order units b)
+abbrev pub section_text : Dialect → Strings → List (List ℕ) → List ℕ → List ℕ
+section_text dialect strings units b = visits_text strings (section_visits dialect units b)

@@ -48,8 +48,8 @@ NoRow (Err fault) = ⊤
 pub record RowsOf {V : Type 0} (story : Story V) (b piece : List ℕ) (old new : SectionUnits) (v w : V)
     (before after : Option (List ℕ)) (fed : Result Fed Fault) : Type 0 where
   pub rows : List Row
-  pub order : new.reader.order ≡ old.reader.order
-  pub fed_rows : FedAfter old.reader.order (events old.reader.order b ++ map event.Row rows) b piece fed new.reader
+  pub dialect : new.reader.dialect ≡ old.reader.dialect
+  pub fed_rows : FedAfter old.reader.dialect (events old.reader.dialect b ++ map event.Row rows) b piece fed new.reader
   pub same : new ≡ record old { reader = new.reader; sequences = new.sequences; rows = new.rows }
   pub counts : Counted old.rows old.sequences new.rows new.sequences rows
   pub hears : Hears story v w before after (map of_row rows) (Ok (tt {0}))
@@ -62,8 +62,8 @@ pub record StopsAtRow {V : Type 0} (story : Story V) (b piece : List ℕ) (old n
   pub row : Row
   pub fed : Fed
   pub is_row : fed.event ≡ event.Row row
-  pub order : new.reader.order ≡ old.reader.order
-  pub fed_rows : FedAfter old.reader.order (events old.reader.order b ++ map event.Row rows) b piece
+  pub dialect : new.reader.dialect ≡ old.reader.dialect
+  pub fed_rows : FedAfter old.reader.dialect (events old.reader.dialect b ++ map event.Row rows) b piece
       (Ok fed) new.reader
   pub hears : Hears {A = ⊤} story v w before after (map of_row (rows ++ row ∷ [])) (Err f)
 

@@ -2,7 +2,7 @@
 use Rattle.std.specs.Prelude.{⊤, ◌≡◌, ◌⊎◌, ℕ, take, List, [], ◌∷◌, ◌++◌, Option, Some, None, Result, Ok, Err}
 use Rattle.std.specs.Prelude.{MatchResult}
 use Rattle.std.specs.Io.KnownBytes.{Appends}
-use Rattle.dl_num.specs.declared.fixed.Order.{Order}
+use Rattle.dl_head.specs.declared.dialect.Dialect.{Dialect}
 use Rattle.dl_field.specs.HeaderData.{HeaderData}
 use Rattle.dl_rows.specs.Runs.{Sound}
 use Rattle.dl_run.specs.declared.fault.RunFault.{RunFault}
@@ -111,21 +111,21 @@ pub record Settled {S : Type 0} (story : Story S) (first : S) (start now : Optio
 
 -- `read_units`: the units to the end, or up to one after which the visitor wants nothing more; or a write failed; or
 -- the first fault, or the visitor had a reason
-abbrev pub Ran : {S : Type 0} → Story S → Order
+abbrev pub Ran : {S : Type 0} → Story S → Dialect
     → (limit : ℕ) (bytes : List ℕ) (left : Option (List ℕ)) (first new : S) (start now : Option (List ℕ))
     → Result Summary RunFault → Type 0
-Ran story order limit bytes left first new start now (Ok summary) =
-    ((units : List (List ℕ)) × EndsAs order limit bytes left units [] [] (Ok summary)
-    × Settled story first start now (section_visits order units []) (story.tells first new start now))
-    ⊎ ((units : List (List ℕ)) × (back : List ℕ) × HasUnits order (take limit bytes) units back
-    × (summary ≡ summary_of order units)
-    × Settled story first start now (section_visits order units []) (story.is_done first new start now))
-Ran story order limit bytes left first new start now (Err (fault.Write out)) =
-    (units : List (List ℕ)) × (b : List ℕ) × (back : List ℕ) × HasBegun order (take limit bytes) units b back
-    × WritesFront story first start now (section_visits order units b) (fault.Write out)
-Ran story order limit bytes left first new start now (Err f) =
+Ran story dialect limit bytes left first new start now (Ok summary) =
+    ((units : List (List ℕ)) × EndsAs dialect limit bytes left units [] [] (Ok summary)
+    × Settled story first start now (section_visits dialect units []) (story.tells first new start now))
+    ⊎ ((units : List (List ℕ)) × (back : List ℕ) × HasUnits dialect (take limit bytes) units back
+    × (summary ≡ summary_of dialect units)
+    × Settled story first start now (section_visits dialect units []) (story.is_done first new start now))
+Ran story dialect limit bytes left first new start now (Err (fault.Write out)) =
+    (units : List (List ℕ)) × (b : List ℕ) × (back : List ℕ) × HasBegun dialect (take limit bytes) units b back
+    × WritesFront story first start now (section_visits dialect units b) (fault.Write out)
+Ran story dialect limit bytes left first new start now (Err f) =
     (units : List (List ℕ)) × (b : List ℕ) × (back : List ℕ)
-    × ((EndsAs order limit bytes left units b back (Err f)
-    × Settled story first start now (section_visits order units b) (story.tells first new start now))
-    ⊎ (HasBegun order (take limit bytes) units b back × Sound order b
-    × VisitorStops story first new start now (section_visits order units b) f))
+    × ((EndsAs dialect limit bytes left units b back (Err f)
+    × Settled story first start now (section_visits dialect units b) (story.tells first new start now))
+    ⊎ (HasBegun dialect (take limit bytes) units b back × Sound dialect b
+    × VisitorStops story first new start now (section_visits dialect units b) f))

@@ -60,7 +60,7 @@ pub fn check<R: Read, W: Write>(
 ) -> Result<Summary, RunFault>
     requires { options.now.limit ≤ SECTION_LIMIT }
     ensures { (bs : List ℕ) × Consumes (R.remaining input.old) (R.remaining input.new) bs
-        × Checks options.now.order options.now.limit bs
+        × Checks options.now.dialect options.now.limit bs
         (R.remaining input.new) (W.contents output.old) (W.contents output.new) result }
 {
     let summary = read_units(alloc, input, output, options, &mut Checker)?;

@@ -202,13 +202,13 @@ pub fn copy<R: Read, W: Write>(
 ) -> Result<Summary, RunFault>
     requires { options.now.limit ≤ SECTION_LIMIT }
     ensures { (bs : List ℕ) × Consumes (R.remaining input.old) (R.remaining input.new) bs
-        × Copies options.now.order options.now.limit bs (R.remaining input.new)
+        × Copies options.now.dialect options.now.limit bs (R.remaining input.new)
         (W.contents output.old) (W.contents output.new) result }
 {
     let mut copier = Copier {
         printer: Printer::new(),
         unit: 0,
-        program: Program::new(alloc, options.order),
+        program: Program::new(alloc, options.dialect.order),
         header: HeldHeader {
             bytes: Vec::new(alloc),
             is_full: false,

@@ -63,7 +63,7 @@ pub fn dump<R: Read, W: Write>(
 ) -> Result<Summary, RunFault>
     requires { options.now.limit ≤ SECTION_LIMIT }
     ensures { (bs : List ℕ) × Consumes (R.remaining input.old) (R.remaining input.new) bs
-        × Dumps options.now.order (strings_in options.now) options.now.limit bs
+        × Dumps options.now.dialect (strings_in options.now) options.now.limit bs
         (R.remaining input.new) (W.contents output.old) (W.contents output.new) result }
 {
     let strings = StringSections::new(options.debug_line_str, options.debug_str);

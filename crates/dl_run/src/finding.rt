@@ -82,7 +82,7 @@ pub fn find<R: Read, W: Write>(
 ) -> Result<Summary, RunFault>
     requires { options.now.limit ≤ SECTION_LIMIT }
     ensures { (bs : List ℕ) × Consumes (R.remaining input.old) (R.remaining input.new) bs
-        × Finds options.now.order (strings_in options.now) place options.now.limit bs
+        × Finds options.now.dialect (strings_in options.now) place options.now.limit bs
         (R.remaining input.new) (W.contents output.old) (W.contents output.new) result }
 {
     let strings = StringSections::new(options.debug_line_str, options.debug_str);

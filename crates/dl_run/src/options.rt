@@ -1,6 +1,6 @@
 //! What a command over a section is told besides the bytes.
 
-use dl_num::Order;
+use dl_head::Dialect;
 
 /// How many bytes of a section are read at most: 2^44.
 pub const SECTION_LIMIT: u64 = 1 << 44;
@@ -8,8 +8,8 @@ pub const SECTION_LIMIT: u64 = 1 << 44;
 /// What a command over a section is told besides the bytes.
 #[derive(Clone, Copy)]
 pub struct Options<'a> {
-    /// The order of the section's numbers.
-    pub order: Order,
+    /// What the bytes of the section's units don't say of them.
+    pub dialect: Dialect,
     /// The section `.debug_line_str`, where paths may stand.
     pub debug_line_str: Option<&'a [u8]>,
     /// The section `.debug_str`, where paths may stand.

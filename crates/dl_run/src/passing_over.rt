@@ -119,7 +119,7 @@ pub fn passed_over<R: Read>(
 ) -> Result<Option<PassedOver>, RunFault>
     requires { options.now.limit ≤ SECTION_LIMIT }
     ensures { (bs : List ℕ) × Consumes (R.remaining input.old) (R.remaining input.new) bs
-        × PassesOver options.now.order options.now.limit bs (R.remaining input.new) result }
+        × PassesOver options.now.dialect options.now.limit bs (R.remaining input.new) result }
 {
     let mut versions = OtherVersions { range: None };
     let summary = read_units(alloc, input, &mut io::sink(), options, &mut versions)?;

@@ -19,8 +19,7 @@ ghost use Rattle.dl_run.specs.UnitsRead.{UnitsAre, UnitsFed, Worked, Finishes, c
 use crate::fault::RunFault;
 use crate::input::Input;
 use crate::options::{Options, SECTION_LIMIT};
-use dl_head::{Fault, Header};
-use dl_num::Order;
+use dl_head::{Dialect, Fault, Header};
 use dl_print::Summary;
 use dl_rows::{Event, Fed, Flow, Reader, Row, RowSink};
 use std::alloc::Global;
@@ -107,7 +106,7 @@ impl<W: Write, V: Visitor<W>> RowSink for Told<'_, W, V> {
 #[derive(Drop)]
 struct SectionUnits {
     alloc: Global,
-    order: Order,
+    dialect: Dialect,
     reader: Reader,
     /// The offset of the current unit.
     offset: u64,
@@ -120,13 +119,13 @@ struct SectionUnits {
 }
 
 impl SectionUnits {
-    fn new(alloc: Global, order: Order) -> SectionUnits
-        ensures units { UnitsAre order result [] [] [] }
+    fn new(alloc: Global, dialect: Dialect) -> SectionUnits
+        ensures units { UnitsAre dialect result [] [] [] }
     {
         SectionUnits {
             alloc,
-            order,
-            reader: Reader::new(alloc, order),
+            dialect,
+            reader: Reader::of(alloc, dialect),
             offset: 0,
             is_foreign: false,
             sequences: 0,
@@ -148,11 +147,12 @@ impl SectionUnits {
         visitor: &mut V,
         piece: &[u8],
     ) -> Result<Flow, RunFault>
-        ensures { (order : Order) (t : List ℕ) (units : List (List ℕ)) (b : List ℕ) (first : V)
+        ensures { (dialect : Dialect) (t : List ℕ) (units : List (List ℕ)) (b : List ℕ) (first : V)
             (start : Option (List ℕ))
-            → UnitsAre order self.old t units b → length t + length piece.now < 2 ^ 64
-            → V.story.tells first visitor.old start (W.contents output.old) (section_visits order units b)
-            → UnitsFed V.story order (t ++ piece.now) first visitor.new start (W.contents output.new) self.new result }
+            → UnitsAre dialect self.old t units b → length t + length piece.now < 2 ^ 64
+            → V.story.tells first visitor.old start (W.contents output.old) (section_visits dialect units b)
+            → UnitsFed V.story dialect (t ++ piece.now) first visitor.new start (W.contents output.new)
+            self.new result }
     {
         let mut rest = piece;
         'events: loop {
@@ -223,7 +223,7 @@ impl SectionUnits {
         ensures counted { self.new ≡ counted event self.old }
         ensures heard { (b : List ℕ) → row_told event ≡ [] → StandsFor self.old.reader b
             → Hears V.story visitor.old visitor.new (W.contents output.old) (W.contents output.new)
-            (event_visits self.old.offset (header_of self.old.reader.order b) event) result }
+            (event_visits self.old.offset (header_of self.old.reader.dialect b) event) result }
     {
         match event {
             Event::Header => match self.reader.header() {
@@ -245,12 +245,12 @@ impl SectionUnits {
         visitor: &mut V,
     ) -> Result<Flow, RunFault>
         ensures taken { OnOk result (taken_of self.new.reader ≡ 0) }
-        ensures units { (order : Order) (t : List ℕ) (units : List (List ℕ)) (b : List ℕ)
-            → UnitsAre order self.old t units b
-            → IsUnit order b → length t < 2 ^ 64 → OnOk result (UnitsAre order self.new t (units ++ b ∷ []) []) }
+        ensures units { (dialect : Dialect) (t : List ℕ) (units : List (List ℕ)) (b : List ℕ)
+            → UnitsAre dialect self.old t units b
+            → IsUnit dialect b → length t < 2 ^ 64 → OnOk result (UnitsAre dialect self.new t (units ++ b ∷ []) []) }
         ensures heard { (b : List ℕ) → StandsFor self.old.reader b
             → HearsEnd V.story visitor.old visitor.new (W.contents output.old) (W.contents output.new)
-            (header_of self.old.reader.order b) (end_visits self.old.reader.order b) result }
+            (header_of self.old.reader.dialect b) (end_visits self.old.reader.dialect b) result }
     {
         self.close(output, visitor)?;
         visitor.end(output, self.next_unit())
@@ -264,7 +264,7 @@ impl SectionUnits {
     ) -> Result<(), RunFault>
         ensures { (b : List ℕ) → StandsFor self.now.reader b
             → Hears V.story visitor.old visitor.new (W.contents output.old) (W.contents output.new)
-            (open_visit (ends_open (unit_rows self.now.reader.order b))) result }
+            (open_visit (ends_open (unit_rows self.now.reader.dialect b))) result }
     {
         if self.reader.in_sequence() {
             visitor.unterminated(output)
@@ -276,12 +276,12 @@ impl SectionUnits {
     /// Goes on after the current unit, which is whole, and answers its header.
     fn next_unit(&mut self) -> Option<Header>
         ensures taken { taken_of self.new.reader ≡ 0 }
-        ensures header { (b : List ℕ) → StandsFor self.old.reader b → result ≡ header_of self.old.reader.order b }
-        ensures units { (order : Order) (t : List ℕ) (units : List (List ℕ)) (b : List ℕ)
-            → UnitsAre order self.old t units b
-            → IsUnit order b → length t < 2 ^ 64 → UnitsAre order self.new t (units ++ b ∷ []) [] }
+        ensures header { (b : List ℕ) → StandsFor self.old.reader b → result ≡ header_of self.old.reader.dialect b }
+        ensures units { (dialect : Dialect) (t : List ℕ) (units : List (List ℕ)) (b : List ℕ)
+            → UnitsAre dialect self.old t units b
+            → IsUnit dialect b → length t < 2 ^ 64 → UnitsAre dialect self.new t (units ++ b ∷ []) [] }
     {
-        let reader = mem::replace(&mut self.reader, Reader::new(self.alloc, self.order));
+        let reader = mem::replace(&mut self.reader, Reader::of(self.alloc, self.dialect));
         self.offset = self.offset.saturating_add(reader.taken());
         self.summary
             .add_unit(self.is_foreign, self.sequences, self.rows);
@@ -293,8 +293,9 @@ impl SectionUnits {
 
     /// What the section comes to where its bytes are over.
     fn finish(&self) -> Result<Summary, RunFault>
-        ensures { (order : Order) (t : List ℕ) (units : List (List ℕ)) (b : List ℕ) → UnitsAre order self.now t units b
-            → NoUnitBegins order b → Sound order b → length t < 2 ^ 64 → Finishes order t units b result }
+        ensures { (dialect : Dialect) (t : List ℕ) (units : List (List ℕ)) (b : List ℕ)
+            → UnitsAre dialect self.now t units b
+            → NoUnitBegins dialect b → Sound dialect b → length t < 2 ^ 64 → Finishes dialect t units b result }
     {
         match self.reader.finish() {
             Ok(_) => Ok(self.summary),
@@ -331,10 +332,10 @@ pub fn read_units<R: Read, W: Write, V: Visitor<W>>(
     ensures { (bs : List ℕ) × Consumes (R.remaining input.old) (R.remaining input.new) bs
         × (V.story.tells visitor.old visitor.old (W.contents output.old) (W.contents output.old) []
         → Appends (W.contents output.old) (W.contents output.old) (V.story.text visitor.old [])
-        → Ran V.story options.now.order options.now.limit bs (R.remaining input.new) visitor.old visitor.new
+        → Ran V.story options.now.dialect options.now.limit bs (R.remaining input.new) visitor.old visitor.new
         (W.contents output.old) (W.contents output.new) result) }
 {
-    let mut units = SectionUnits::new(alloc, options.order);
+    let mut units = SectionUnits::new(alloc, options.dialect);
     read_pieces(&mut units, input, output, options, visitor)
 }
 
@@ -347,11 +348,11 @@ fn read_pieces<R: Read, W: Write, V: Visitor<W>>(
     visitor: &mut V,
 ) -> Result<Summary, RunFault>
     requires limit { options.now.limit ≤ SECTION_LIMIT }
-    requires begun { UnitsAre options.now.order units.old [] [] [] }
+    requires begun { UnitsAre options.now.dialect units.old [] [] [] }
     ensures { (bs : List ℕ) × Consumes (R.remaining input.old) (R.remaining input.new) bs
         × (V.story.tells visitor.old visitor.old (W.contents output.old) (W.contents output.old) []
         → Appends (W.contents output.old) (W.contents output.old) (V.story.text visitor.old [])
-        → Ran V.story options.now.order options.now.limit bs (R.remaining input.new) visitor.old visitor.new
+        → Ran V.story options.now.dialect options.now.limit bs (R.remaining input.new) visitor.old visitor.new
         (W.contents output.old) (W.contents output.new) result) }
 {
     let mut buffer = Input::new();
@@ -382,10 +383,10 @@ fn work_through<W: Write, V: Visitor<W>>(
     visitor: &mut V,
     piece: &[u8],
 ) -> Result<Flow, RunFault>
-    ensures { (order : Order) (t : List ℕ) (done : List (List ℕ)) (b : List ℕ) (first : V) (start : Option (List ℕ))
-        → UnitsAre order units.old t done b → length t + length piece.now < 2 ^ 64
-        → V.story.tells first visitor.old start (W.contents output.old) (section_visits order done b)
-        → Worked V.story order (t ++ piece.now) first visitor.new start (W.contents output.new) units.new result }
+    ensures { (dialect : Dialect) (t : List ℕ) (done : List (List ℕ)) (b : List ℕ) (first : V) (start : Option (List ℕ))
+        → UnitsAre dialect units.old t done b → length t + length piece.now < 2 ^ 64
+        → V.story.tells first visitor.old start (W.contents output.old) (section_visits dialect done b)
+        → Worked V.story dialect (t ++ piece.now) first visitor.new start (W.contents output.new) units.new result }
 {
     let answer = units.feed(output, visitor, piece);
     if !is_failed_write(&answer) {

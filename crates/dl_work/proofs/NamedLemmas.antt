@@ -18,52 +18,52 @@ use Rattle.dl_work.specs.declared.command.Command.{Command}
 use Rattle.dl_work.specs.declared.command.Command.TheVariants.{Addr, Check, Copy, Dump, Find}
 use Rattle.dl_work.specs.declared.stop.Stop.{Stop}
 use Rattle.dl_work.specs.Asked.{prints_strings, wanted_of}
-use Rattle.dl_work.specs.Tables.{HasTable, IsNamed, LooksIntoWhere, NamedStops, NamingStops, OpeningStops}
+use Rattle.dl_work.specs.Tables.{file_dialect, HasTable, IsNamed, LooksIntoWhere, NamedStops, NamingStops, OpeningStops}
 use Rattle.dl_work.specs.Tables.{TableStops, with_strings}
 use Rattle.std.specs.Io.KnownBytes.{Consumes, IsAtEnd}
-use Rattle.dl_num.specs.declared.fixed.Order.{Order}
+use Rattle.dl_head.specs.declared.dialect.Dialect.{Dialect}
 use Rattle.dl_run.specs.declared.options.TheConstants.{SECTION_LIMIT}
 use Rattle.dl_forms.specs.Names.{AddsCellFrom, Names}
 
 -- it is told of all bytes, where those that were read settle it
-settled : (order : Order) (known left : Option (List ℕ)) (bs : List ℕ) (names : Bool) → Consumes known left bs
-    → IsTrue names ↔ Names order bs → ((rest : List ℕ) → left ≡ Some rest → Names order (bs ++ rest) ↔ Names order bs)
-    → IfSome known (λ bytes. IsTrue names ↔ Names order bytes)
-settled order None left bs names consumes told same = tt
-settled order (Some bytes) None bs names consumes told same = absurd consumes
-settled order (Some bytes) (Some rest) bs names consumes told same = (
-  λ said. subst (Names order) (sym consumes) ((same rest refl).1 (told.0 said)),
-  λ named. told.1 ((same rest refl).0 (subst (Names order) consumes named)),
+settled : (dialect : Dialect) (known left : Option (List ℕ)) (bs : List ℕ) (names : Bool) → Consumes known left bs
+    → IsTrue names ↔ Names dialect bs → ((rest : List ℕ) → left ≡ Some rest → Names dialect (bs ++ rest)
+    ↔ Names dialect bs) → IfSome known (λ bytes. IsTrue names ↔ Names dialect bytes)
+settled dialect None left bs names consumes told same = tt
+settled dialect (Some bytes) None bs names consumes told same = absurd consumes
+settled dialect (Some bytes) (Some rest) bs names consumes told same = (
+  λ said. subst (Names dialect) (sym consumes) ((same rest refl).1 (told.0 said)),
+  λ named. told.1 ((same rest refl).0 (subst (Names dialect) consumes named)),
 )
 
 -- all bytes were read
-pub at_end : (order : Order) (known left : Option (List ℕ)) (bs : List ℕ) (names : Bool) → Consumes known left bs
-    → IsTrue names ↔ Names order bs → IsAtEnd left → IfSome known (λ bytes. IsTrue names ↔ Names order bytes)
-at_end order known left bs names consumes told ended =
-    settled order known left bs names consumes told (λ rest is. same rest is)
+pub at_end : (dialect : Dialect) (known left : Option (List ℕ)) (bs : List ℕ) (names : Bool) → Consumes known left bs
+    → IsTrue names ↔ Names dialect bs → IsAtEnd left → IfSome known (λ bytes. IsTrue names ↔ Names dialect bytes)
+at_end dialect known left bs names consumes told ended =
+    settled dialect known left bs names consumes told (λ rest is. same rest is)
   where
     nothing : (left : Option (List ℕ)) (rest : List ℕ) → left ≡ Some rest → IsAtEnd left → rest ≡ []
     nothing None rest is ended = absurd (cc is)
     nothing (Some other) rest is ended = let e : other ≡ rest = cc is in sym e ∙ ended
 
-    same : (rest : List ℕ) → left ≡ Some rest → Names order (bs ++ rest) ↔ Names order bs
+    same : (rest : List ℕ) → left ≡ Some rest → Names dialect (bs ++ rest) ↔ Names dialect bs
     same rest is =
         let e : bs ++ rest ≡ bs = ap (λ (z : List ℕ). bs ++ z) (nothing left rest is ended) ∙ append-nil bs in
-        (λ named. subst (Names order) e named, λ named. subst (Names order) (sym e) named)
+        (λ named. subst (Names dialect) e named, λ named. subst (Names dialect) (sym e) named)
 
 -- the walk is over
-pub over : (order : Order) (known left : Option (List ℕ)) (bs : List ℕ) (names : Bool) → Consumes known left bs
-    → IsTrue names ↔ Names order bs → ((rest : List ℕ) → Names order (bs ++ rest) ↔ Names order bs)
-    → IfSome known (λ bytes. IsTrue names ↔ Names order bytes)
-over order known left bs names consumes told same =
-    settled order known left bs names consumes told (λ rest is. same rest)
+pub over : (dialect : Dialect) (known left : Option (List ℕ)) (bs : List ℕ) (names : Bool) → Consumes known left bs
+    → IsTrue names ↔ Names dialect bs → ((rest : List ℕ) → Names dialect (bs ++ rest) ↔ Names dialect bs)
+    → IfSome known (λ bytes. IsTrue names ↔ Names dialect bytes)
+over dialect known left bs names consumes told same =
+    settled dialect known left bs names consumes told (λ rest is. same rest)
 
 -- memory was refused
-pub wants : (order : Order) (known left : Option (List ℕ)) (bs : List ℕ) (n : ℕ) → Consumes known left bs
-    → AddsCellFrom order n bs → IfSome known (AddsCellFrom order 0)
-wants order None left bs n consumes cell = tt
-wants order (Some bytes) None bs n consumes cell = absurd consumes
-wants order (Some bytes) (Some rest) bs n consumes (before, front, byte, back, split, past, adds) = (
+pub wants : (dialect : Dialect) (known left : Option (List ℕ)) (bs : List ℕ) (n : ℕ) → Consumes known left bs
+    → AddsCellFrom dialect n bs → IfSome known (AddsCellFrom dialect 0)
+wants dialect None left bs n consumes cell = tt
+wants dialect (Some bytes) None bs n consumes cell = absurd consumes
+wants dialect (Some bytes) (Some rest) bs n consumes (before, front, byte, back, split, past, adds) = (
   before,
   front,
   byte,
@@ -88,18 +88,18 @@ pub empty_is : (xs : List ℕ) → (length xs == 0) ≡ true → xs ≡ []
 empty_is [] e = refl
 empty_is (x ∷ xs) e = let n = eqb-true (length (x ∷ xs)) 0 e in absurd (omega (arith, n))
 
--- the same in the order of the section, of the same bytes
-pub told_in : (own order : Order) (bs all : List ℕ) (names : Bool) → own ≡ order → bs ≡ all
-    → IsTrue names ↔ Names own bs → IsTrue names ↔ Names order all
-told_in own order bs all names same alike told =
-    subst (λ (b : List ℕ). IsTrue names ↔ Names order b) alike
-    (subst (λ (o : Order). IsTrue names ↔ Names o bs) same told)
+-- the same in the dialect of the section, of the same bytes
+pub told_in : (own dialect : Dialect) (bs all : List ℕ) (names : Bool) → own ≡ dialect → bs ≡ all
+    → IsTrue names ↔ Names own bs → IsTrue names ↔ Names dialect all
+told_in own dialect bs all names same alike told =
+    subst (λ (b : List ℕ). IsTrue names ↔ Names dialect b) alike
+    (subst (λ (d : Dialect). IsTrue names ↔ Names d bs) same told)
 
-pub same_over : (own order : Order) (bs : List ℕ) → own ≡ order
+pub same_over : (own dialect : Dialect) (bs : List ℕ) → own ≡ dialect
     → ((rest : List ℕ) → Names own (bs ++ rest) ↔ Names own bs)
-    → (rest : List ℕ) → Names order (bs ++ rest) ↔ Names order bs
-same_over own order bs same settled rest =
-    subst (λ (o : Order). Names o (bs ++ rest) ↔ Names o bs) same (settled rest)
+    → (rest : List ℕ) → Names dialect (bs ++ rest) ↔ Names dialect bs
+same_over own dialect bs same settled rest =
+    subst (λ (d : Dialect). Names d (bs ++ rest) ↔ Names d bs) same (settled rest)
 
 -- ---- the line section of a file
 
@@ -116,23 +116,24 @@ held_plain all_bytes (Held cursor) (Plain own) bytes is gives =
 
 -- it is told whether its tables name .debug_str, or why it can't be
 abbrev pub IsTold : (path : Text) → LineTable → Result Bool Stop → Type 0
-IsTold path t answer = MatchResult answer (IsNamed t.order t.line) (NamingStops path t.order t.line)
+IsTold path t answer = MatchResult answer (IsNamed (file_dialect t) t.line) (NamingStops path (file_dialect t) t.line)
 
 -- it is told of bytes that are held
 pub held_answer : {S : Type 0} {g : _} (all_bytes : S → Option (List ℕ)) (reader : LineReader S g) (t : LineTable)
-    (order : Order) (path : Text) (bytes : List ℕ) (answer : Result Bool Stop) → Some bytes ≡ line_held reader
-    → GivesLine all_bytes reader t.line → order ≡ t.order
-    → MatchResult answer (λ names. IsTrue names ↔ Names order bytes) (NamingStops path order (Plain bytes))
+    (dialect : Dialect) (path : Text) (bytes : List ℕ) (answer : Result Bool Stop) → Some bytes ≡ line_held reader
+    → GivesLine all_bytes reader t.line → dialect ≡ file_dialect t
+    → MatchResult answer (λ names. IsTrue names ↔ Names dialect bytes) (NamingStops path dialect (Plain bytes))
     → IsTold path t answer
-held_answer all_bytes reader t order path bytes answer is gives same told =
-    subst (λ (c : Content). MatchResult answer (IsNamed t.order c) (NamingStops path t.order c))
+held_answer all_bytes reader t dialect path bytes answer is gives same told =
+    subst (λ (c : Content). MatchResult answer (IsNamed (file_dialect t) c) (NamingStops path (file_dialect t) c))
     (sym (held_plain all_bytes reader t.line bytes is gives))
-    (subst (λ (o : Order). MatchResult answer (IsNamed o (Plain bytes)) (NamingStops path o (Plain bytes))) same told)
+    (subst (λ (d : Dialect). MatchResult answer (IsNamed d (Plain bytes)) (NamingStops path d (Plain bytes))) same told)
 
 -- the line table of a file, with .debug_str where its tables name it
 abbrev pub IsOpened : {S : Type 0} {g : _} (all_bytes : S → Option (List ℕ)) (fails : Error → Type 0) (path : Text)
     (f : List ℕ) (t : LineTable) (result : Result (LineFile S g) Stop) → Type 0
-IsOpened all_bytes fails path f t result = MatchResult result (λ table. (names : Bool) × IsNamed t.order t.line names
+IsOpened all_bytes fails path f t result = MatchResult result
+    (λ table. (names : Bool) × IsNamed (file_dialect t) t.line names
     × ((t2 : LineTable) × HasLineTable f (with_strings names) (Ok t2) × GivesTable all_bytes table t2))
     (NamedStops fails path f t)
 
@@ -164,7 +165,8 @@ pub as_opened : {S : Type 0} {g : _} (all_bytes : S → Option (List ℕ)) (fail
     → IsOpened all_bytes fails path f t result
 as_opened {S = S} {g = g} all_bytes fails path f t answer result table said told is has given =
     let named = subst (IsTold path t) said told in
-    subst (λ (r : Result (LineFile S g) Stop). IsOpened all_bytes fails path f t r) (sym is) (false, named, (t, has, given))
+    subst (λ (r : Result (LineFile S g) Stop). IsOpened all_bytes fails path f t r) (sym is)
+    (false, named, (t, has, given))
 
 -- it can't be told what they name
 pub not_told : {S : Type 0} {g : _} (all_bytes : S → Option (List ℕ)) (fails : Error → Type 0) (path : Text)

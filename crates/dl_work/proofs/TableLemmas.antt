@@ -1,12 +1,13 @@
 -- The command over the line table of a file.
-use Rattle.std.proofs.Common.{◌≡◌, ◌∙◌, ◌&&◌, ℕ, ◌+◌, Bool, true, false, List, length, Option, None, Some, Result, Err, arith}
+use Rattle.std.proofs.Common.{◌≡◌, ◌∙◌, ◌&&◌, ℕ, ◌+◌, Bool, true, false, List, length, Option, None, Some, Result, Err}
+use Rattle.std.proofs.Common.{arith}
 use Rattle.std.proofs.Common.{inl, inr}
 use Rattle.std.specs.declared.io.Error.{Error}
 use Rattle.std.proofs.Common.{refl, ap, sym, subst, length-append, append-nil}
 use Rattle.std.specs.Io.KnownBytes.{Consumes, IsAtEnd}
 use Rattle.std.specs.Prelude.{◌⊎◌, ◌++◌, IfSome}
 use Rattle.dl_cmd.specs.Job.{Text}
-use Rattle.dl_num.specs.declared.fixed.Order.{Order}
+use Rattle.dl_head.specs.declared.dialect.Dialect.{Dialect}
 use Rattle.dl_elf.specs.declared.name.SectionName.{SectionName}
 use Rattle.dl_file.specs.declared.content_reader.ContentReader.{ContentReader}
 use Rattle.dl_file.specs.declared.line_reader.LineReader.{LineReader}
@@ -29,7 +30,8 @@ use Rattle.dl_file.specs.declared.line_file.Wanted.{Wanted}
 use Rattle.dl_work.specs.declared.stop.FileFault.{FileFault}
 use Rattle.dl_work.specs.declared.stop.FileFault.TheVariants.{Open, Elf, NoMemory as Refused}
 use Rattle.dl_work.specs.Asked.{Does, WithoutTable, is_copy, wanted_of}
-use Rattle.dl_work.specs.Tables.{EndsAt, IsWhole, OnFile, OnFound, OnFoundWhere, OnLines, OnTable, OnTableWhere, Refuses, RunsOn}
+use Rattle.dl_work.specs.Tables.{file_dialect, EndsAt, IsWhole, OnFile, OnFound, OnFoundWhere, OnLines, OnTable}
+use Rattle.dl_work.specs.Tables.{OnTableWhere, Refuses, RunsOn}
 use Rattle.dl_work.specs.Tables.{KeepingStops, OpeningStops, SectionStops, TableStops, with_strings}
 use Rattle.dl_object.specs.Kept.{Rises}
 use Rattle.dl_object.specs.Section.{WantsCell}
@@ -65,12 +67,13 @@ reader_stream all_bytes reader (Inflated name bytes damage) gives = gives.3
 
 -- the command ran with these options, over a reader of the line section
 pub ran : (path : Text) (command : Command) (t : LineTable) (start now left remaining : Option (List ℕ))
-    (s strings : Strings) (order : Order) (limit : ℕ) (answer : Result Summary RunFault) (result : Result Summary Stop)
+    (s strings : Strings) (dialect : Dialect) (limit : ℕ) (answer : Result Summary RunFault)
+    (result : Result Summary Stop)
     → ((read : List ℕ) → Consumes remaining left read → Consumes (known_bytes t.line) left read)
-    → IsWhole t.line_str t.str s → order ≡ t.order → strings ≡ s → limit ≡ SECTION_LIMIT
-    → (read : List ℕ) × Consumes remaining left read × Does command order strings limit read left start now answer
+    → IsWhole t.line_str t.str s → dialect ≡ file_dialect t → strings ≡ s → limit ≡ SECTION_LIMIT
+    → (read : List ℕ) × Consumes remaining left read × Does command dialect strings limit read left start now answer
     → EndsAt path (stream_of t.line) answer result → RunsOn path command t start now result
-ran path command t start now left remaining s strings order limit answer result known whole ordered in_options limited
+ran path command t start now left remaining s strings dialect limit answer result known whole ordered in_options limited
     (read, consumes, does) ends =
     record {
       strings = s;
@@ -79,9 +82,9 @@ ran path command t start now left remaining s strings order limit answer result 
       left = left;
       bytes = known read consumes;
       answer = answer;
-      done = subst (λ (o : Order). Does command o s SECTION_LIMIT read left start now answer) ordered
-          (subst (λ (z : Strings). Does command order z SECTION_LIMIT read left start now answer) in_options
-          (subst (λ (l : ℕ). Does command order strings l read left start now answer) limited does));
+      done = subst (λ (d : Dialect). Does command d s SECTION_LIMIT read left start now answer) ordered
+          (subst (λ (z : Strings). Does command dialect z SECTION_LIMIT read left start now answer) in_options
+          (subst (λ (l : ℕ). Does command dialect strings l read left start now answer) limited does));
       ends = ends;
     }
 
@@ -131,7 +134,8 @@ section_stops all_bytes path (Some other) reader (Some (Inflated name bytes dama
       refl,
       (
         f,
-        stops_known STRINGS_LIMIT bytes left bs f (subst (λ (r : Option (List ℕ)). Consumes r left bs) known read) stops,
+        stops_known STRINGS_LIMIT bytes left bs f
+            (subst (λ (r : Option (List ℕ)). Consumes r left bs) known read) stops,
         subst (λ (n : Option SectionName). StopsAt path n f stop) (named ∙ (ap stream_name (sym same) ∙ gives.3)) at,
       ),
     )
@@ -160,16 +164,16 @@ of_part path command t part chosen start now result is done =
     subst (λ (p : Option Part). OnLines path command t p start now result) (sym is) done
 
 -- memory is refused for what is left of them
-pub keeping_refused : (path : Text) (order : Order) (part : Part) (content : Content) (items bs slice : List ℕ)
+pub keeping_refused : (path : Text) (dialect : Dialect) (part : Part) (content : Content) (items bs slice : List ℕ)
     (places : List Placed) (stop : Stop) → IfSome (known_bytes content) (λ known. bs ≡ known) → items ≡ bs
-    → slice ≡ items → places ≡ part.places.items → (Rises places → ⊥) ⊎ WantsCell order slice → IsAt path Refused stop
-    → KeepingStops path order part content stop
-keeping_refused path order part content items bs slice places stop whole read viewed placed why at =
-    let own = subst (λ (p : List Placed). (Rises p → ⊥) ⊎ WantsCell order slice) placed why in
+    → slice ≡ items → places ≡ part.places.items → (Rises places → ⊥) ⊎ WantsCell dialect slice → IsAt path Refused stop
+    → KeepingStops path dialect part content stop
+keeping_refused path dialect part content items bs slice places stop whole read viewed placed why at =
+    let own = subst (λ (p : List Placed). (Rises p → ⊥) ⊎ WantsCell dialect slice) placed why in
     inr (
       bs,
       whole,
-      subst (λ (b : List ℕ). (Rises part.places.items → ⊥) ⊎ WantsCell order b) (viewed ∙ read) own,
+      subst (λ (b : List ℕ). (Rises part.places.items → ⊥) ⊎ WantsCell dialect b) (viewed ∙ read) own,
       at,
     )
 
@@ -237,7 +241,18 @@ table_stops_weaker fails wider path command f stop more (inl first) =
 table_stops_weaker fails wider path command f stop more (inr (t, prints, has, some, inl naming)) =
     inr (t, prints, has, some, inl naming)
 table_stops_weaker fails wider path command f stop more (inr (t, prints, has, some, inr (names, named, opening))) =
-    inr (t, prints, has, some, inr (names, named, opening_stops_weaker fails wider path f (with_strings names) stop more opening))
+    inr (
+      t,
+      prints,
+      has,
+      some,
+      inr (
+        names,
+        named,
+        opening_stops_weaker fails wider path f (with_strings names) stop
+            more opening,
+      ),
+    )
 
 -- what is done for an open file, by the errors of its source
 pub on_file_weaker : (fails wider : Error → Type 0) (path : Text) (name : Option Text) (command : Command) (f : List ℕ)

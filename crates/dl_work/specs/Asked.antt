@@ -1,9 +1,11 @@
 -- What a request asks: which command, of which file, or of which section on the input.
-use Rattle.std.specs.Prelude.{ℕ, Bool, true, false, List, [], Option, Some, None, option_map, option_and_then, Result, Ok}
+use Rattle.std.specs.Prelude.{ℕ, Bool, true, false, List, [], Option, Some, None, option_map, option_and_then, Result}
+use Rattle.std.specs.Prelude.{Ok}
 use Rattle.std.specs.Prelude.{Err, ◌≡◌}
 use Rattle.std.specs.Io.KnownBytes.{Consumes, Keeps}
-use Rattle.dl_num.specs.declared.fixed.Order.{Order}
 use Rattle.dl_num.specs.declared.fixed.Order.TheVariants.{Little, Big}
+use Rattle.dl_head.specs.declared.dialect.Dialect.{Dialect}
+use Rattle.dl_head.specs.Dialect.{version_5}
 use Rattle.dl_look.specs.declared.place.Place.{Place}
 use Rattle.dl_file.specs.declared.line_file.Wanted.{Wanted}
 use Rattle.dl_file.specs.declared.line_file.Wanted.TheVariants.{LineSection, LineAndLineStrings}
@@ -63,9 +65,9 @@ section_of (find file big address op section line_str str) = record { big = big;
 section_of (copy file big) = record { big = big; line_str = None; strings = None }
 section_of (addr words) = record { big = words.big; line_str = words.line_str; strings = words.strings }
 
-abbrev pub order_of : (big : Bool) → Order
-order_of true = Big
-order_of false = Little
+abbrev pub dialect_of : (big : Bool) → Dialect
+dialect_of true = version_5 Big
+dialect_of false = version_5 Little
 
 abbrev pub is_copy : Command → Bool
 is_copy Copy = true
@@ -92,20 +94,21 @@ answered (Ok found.NotAll) = Err NotFound
 answered (Err f) = Err f
 
 -- what the command answers and writes. bytes: what was read of a section, which has `left` left
-abbrev pub Does : Command → Order → Strings → (limit : ℕ) (bytes : List ℕ) (left start now : Option (List ℕ))
+abbrev pub Does : Command → Dialect → Strings → (limit : ℕ) (bytes : List ℕ) (left start now : Option (List ℕ))
     → Result Summary RunFault → Type 0
-Does Dump order s limit bytes left start now answer = Dumps order s limit bytes left start now answer
-Does Check order s limit bytes left start now answer = Checks order limit bytes left start now answer
-Does (Find place) order s limit bytes left start now answer = Finds order s place limit bytes left start now answer
-Does Copy order s limit bytes left start now answer = Copies order limit bytes left start now answer
-Does (Addr question) order s limit bytes left start now answer =
+Does Dump dialect s limit bytes left start now answer = Dumps dialect s limit bytes left start now answer
+Does Check dialect s limit bytes left start now answer = Checks dialect limit bytes left start now answer
+Does (Find place) dialect s limit bytes left start now answer = Finds dialect s place limit bytes left start now answer
+Does Copy dialect s limit bytes left start now answer = Copies dialect limit bytes left start now answer
+Does (Addr question) dialect s limit bytes left start now answer =
     (found : Result Found RunFault) × (answer ≡ answered found)
-    × Locates order s question limit bytes left start now found
+    × Locates dialect s question limit bytes left start now found
 
 -- what a command writes where there is no line table: `addr` what it writes of a section without bytes, so that each
 -- address has no answer; the others nothing
 abbrev pub WithoutTable : Command → (start now : Option (List ℕ)) → Type 0
 WithoutTable (Addr question) start now =
     (bytes : List ℕ) × (left : Option (List ℕ)) × (found : Result Found RunFault) × Consumes (Some []) left bytes
-    × Locates Little (record { line_strings = None; strings = None }) question SECTION_LIMIT bytes left start now found
+    × Locates (version_5 Little) (record { line_strings = None; strings = None }) question SECTION_LIMIT bytes left
+    start now found
 WithoutTable other start now = Keeps start now

@@ -14,7 +14,7 @@ use Rattle.dl_run.specs.PassedOver.{PassesOver}
 use Rattle.dl_work.specs.declared.not_read.UnitsNotRead.{UnitsNotRead}
 use Rattle.dl_work.specs.declared.stop.FileFault.{FileFault}
 use Rattle.dl_work.specs.Shown.{shown_word}
-use Rattle.dl_work.specs.Tables.{Refuses, known_bytes}
+use Rattle.dl_work.specs.Tables.{Refuses, file_dialect, known_bytes}
 
 -- ---- the line on standard error
 
@@ -42,7 +42,7 @@ told_of (Err fault) = None
 abbrev pub PassesOverTable : LineTable → Result (Option PassedOver) RunFault → Type 0
 PassesOverTable t answer =
     (read : List ℕ) × (left : Option (List ℕ)) × Consumes (known_bytes t.line) left read
-    × PassesOver t.order SECTION_LIMIT read left answer
+    × PassesOver (file_dialect t) SECTION_LIMIT read left answer
 
 -- what is told of a file with these bytes: nothing where its line section can't be had. fails: the errors that opening
 -- and reading it may give

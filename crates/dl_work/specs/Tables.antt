@@ -1,6 +1,7 @@
 -- What the program does with the ELF file of a path. f: its bytes; t: its line table as dl_file defines it. start, now:
 -- what the output held at first, and holds now.
-use Rattle.std.specs.Prelude.{⊤, ◌≡◌, ◌⊎◌, ◌↔◌, ◌<◌, ◌≤◌, ℕ, Bool, true, false, ◌&&◌, IsTrue, if◌then◌else◌, List, length}
+use Rattle.std.specs.Prelude.{⊤, ◌≡◌, ◌⊎◌, ◌↔◌, ◌<◌, ◌≤◌, ℕ, Bool, true, false, ◌&&◌, IsTrue, if◌then◌else◌, List}
+use Rattle.std.specs.Prelude.{length}
 use Rattle.std.specs.Prelude.{Option, Some, None, IfSome, Result, Ok, Err, MatchResult}
 use Rattle.std.specs.Io.KnownBytes.{Consumes}
 use Rattle.std.specs.declared.io.Error.{Error}
@@ -10,7 +11,8 @@ use Rattle.dl_file.specs.declared.line_file.Wanted.TheVariants.{LineSection, Lin
 use Rattle.dl_elf.specs.declared.fault.ElfFault.TheVariants.{Read, NoMemory}
 use Rattle.dl_elf.specs.declared.name.SectionName.{SectionName}
 use Rattle.dl_file.specs.LineTable.{Content, HasLineTable, Inflated, LineTable, Plain, TakesMemory}
-use Rattle.dl_num.specs.declared.fixed.Order.{Order}
+use Rattle.dl_head.specs.declared.dialect.Dialect.{Dialect}
+use Rattle.dl_head.specs.Dialect.{version_5}
 use Rattle.dl_forms.specs.Names.{AddsCellFrom, Names}
 use Rattle.dl_object.specs.Kept.{Rises}
 use Rattle.dl_object.specs.Section.{Keeps, WantsCell}
@@ -79,6 +81,10 @@ abbrev pub EndsAt : (path : Text) (stream : Option SectionName) → Result Summa
 EndsAt path stream answer result = MatchResult answer (λ summary. result ≡ Ok summary)
     (λ f. (stop : Stop) × (result ≡ Err stop) × StopsAt path stream f stop)
 
+-- units of version 5 alone are read, in the order of the file
+abbrev pub file_dialect : LineTable → Dialect
+file_dialect t = version_5 t.order
+
 -- the command is done, over the bytes of the line section in the file's order, with the file's string sections. read:
 -- the bytes that it read, of which `left` are left
 pub record RunsOn (path : Text) (command : Command) (t : LineTable) (start now : Option (List ℕ))
@@ -89,22 +95,22 @@ pub record RunsOn (path : Text) (command : Command) (t : LineTable) (start now :
   pub left : Option (List ℕ)
   pub bytes : Consumes (known_bytes t.line) left read
   pub answer : Result Summary RunFault
-  pub done : Does command t.order strings SECTION_LIMIT read left start now answer
+  pub done : Does command (file_dialect t) strings SECTION_LIMIT read left start now answer
   pub ends : EndsAt path (stream_of t.line) answer result
 
 -- ---- the sequences of one section of an object file
 
 -- what is left of the section's bytes
-abbrev pub IsKept : Order → Part → Content → (kept : List ℕ) → Type 0
-IsKept order part content kept = (whole : List ℕ) × IfSome (known_bytes content) (λ known. whole ≡ known)
-    × Keeps order part.places.items part.section 0 whole kept
+abbrev pub IsKept : Dialect → Part → Content → (kept : List ℕ) → Type 0
+IsKept dialect part content kept = (whole : List ℕ) × IfSome (known_bytes content) (λ known. whole ≡ known)
+    × Keeps dialect part.places.items part.section 0 whole kept
 
 -- they can't be read whole, or memory is refused: for a header, or for places that don't rise
-abbrev pub KeepingStops : (path : Text) → Order → Part → Content → Stop → Type 0
-KeepingStops path order part content stop =
+abbrev pub KeepingStops : (path : Text) → Dialect → Part → Content → Stop → Type 0
+KeepingStops path dialect part content stop =
     ((f : RunFault) × FileStops (known_bytes content) SECTION_LIMIT f × StopsAt path (stream_of content) f stop)
     ⊎ ((whole : List ℕ) × IfSome (known_bytes content) (λ known. whole ≡ known)
-    × ((Rises part.places.items → ⊥) ⊎ WantsCell order whole) × IsAt path Refused stop)
+    × ((Rises part.places.items → ⊥) ⊎ WantsCell dialect whole) × IsAt path Refused stop)
 
 -- the table with these bytes of its line section
 abbrev pub with_bytes : LineTable → List ℕ → LineTable
@@ -121,8 +127,9 @@ abbrev pub OnLines : (path : Text) → Command → LineTable → Option Part →
     → Result Summary Stop → Type 0
 OnLines path command t None start now result = RunsOn path command t start now result
 OnLines path command t (Some part) start now result =
-    StopsEarly command (KeepingStops path t.order part t.line) start now result
-    ⊎ ((kept : List ℕ) × IsKept t.order part t.line kept × RunsOn path command (with_bytes t kept) start now result)
+    StopsEarly command (KeepingStops path (file_dialect t) part t.line) start now result
+    ⊎ ((kept : List ℕ) × IsKept (file_dialect t) part t.line kept
+    × RunsOn path command (with_bytes t kept) start now result)
 
 -- an object file isn't copied
 abbrev pub OnTableWhere : (is_object_copy : Bool) → (path : Text) → Command → LineTable → Option Part
@@ -166,20 +173,20 @@ OpeningStops fails path f wanted stop = (fault : FileFault) × Refuses fails f w
 
 -- whether a table of a line section of these bytes names it. One that is inflated as it is read is taken to name it where
 -- a read of its stream fails
-abbrev pub IsNamed : Order → Content → (names : Bool) → Type 0
-IsNamed order (Plain bytes) names = IsTrue names ↔ Names order bytes
-IsNamed order (Inflated name known damage) names = IfSome known (λ bytes. Names order bytes → IsTrue names)
+abbrev pub IsNamed : Dialect → Content → (names : Bool) → Type 0
+IsNamed dialect (Plain bytes) names = IsTrue names ↔ Names dialect bytes
+IsNamed dialect (Inflated name known damage) names = IfSome known (λ bytes. Names dialect bytes → IsTrue names)
 
 -- it can't be told: a read failed, or memory was refused for a header, or the section is too long
-abbrev pub StopsNaming : Order → (known : Option (List ℕ)) → RunFault → Type 0
-StopsNaming order known fault.Read = ⊤
-StopsNaming order known fault.NoMemory = IfSome known (AddsCellFrom order 0)
-StopsNaming order known fault.SectionTooLong = IfSome known (λ bytes. SECTION_LIMIT < length bytes)
-StopsNaming order known other = ⊥
+abbrev pub StopsNaming : Dialect → (known : Option (List ℕ)) → RunFault → Type 0
+StopsNaming dialect known fault.Read = ⊤
+StopsNaming dialect known fault.NoMemory = IfSome known (AddsCellFrom dialect 0)
+StopsNaming dialect known fault.SectionTooLong = IfSome known (λ bytes. SECTION_LIMIT < length bytes)
+StopsNaming dialect known other = ⊥
 
-abbrev pub NamingStops : (path : Text) → Order → Content → Stop → Type 0
-NamingStops path order content stop =
-    (f : RunFault) × StopsNaming order (known_bytes content) f × StopsAt path (stream_of content) f stop
+abbrev pub NamingStops : (path : Text) → Dialect → Content → Stop → Type 0
+NamingStops path dialect content stop =
+    (f : RunFault) × StopsNaming dialect (known_bytes content) f × StopsAt path (stream_of content) f stop
 
 abbrev pub with_strings : (names : Bool) → Wanted
 with_strings names = if names then LineAndStringSections else LineAndLineStrings
@@ -189,7 +196,7 @@ abbrev pub LooksIntoWhere : (prints : Bool) → (f : List ℕ) → Wanted → Ty
 LooksIntoWhere false f wanted = wanted ≡ LineSection
 LooksIntoWhere true f wanted = (t : LineTable) × HasLineTable f LineAndLineStrings (Ok t)
     × (((t.has_str ≡ false) × (wanted ≡ LineAndLineStrings))
-    ⊎ ((names : Bool) × (t.has_str ≡ true) × IsNamed t.order t.line names × (wanted ≡ with_strings names)))
+    ⊎ ((names : Bool) × (t.has_str ≡ true) × IsNamed (file_dialect t) t.line names × (wanted ≡ with_strings names)))
 
 abbrev pub LooksInto : Command → (f : List ℕ) → Wanted → Type 0
 LooksInto command f wanted = LooksIntoWhere (prints_strings command) f wanted
@@ -201,8 +208,8 @@ HasTable command f t = (wanted : Wanted) × LooksInto command f wanted × HasLin
 -- t, the line section and .debug_line_str, can be had: why no more, for the walk over the tables, or for what they name
 abbrev pub NamedStops : (fails : Error → Type 0) (path : Text) (f : List ℕ) → LineTable → Stop → Type 0
 NamedStops fails path f t stop =
-    NamingStops path t.order t.line stop
-    ⊎ ((names : Bool) × IsNamed t.order t.line names × OpeningStops fails path f (with_strings names) stop)
+    NamingStops path (file_dialect t) t.line stop
+    ⊎ ((names : Bool) × IsNamed (file_dialect t) t.line names × OpeningStops fails path f (with_strings names) stop)
 
 -- why it can't be had: for the line section and .debug_line_str, or where the file has .debug_str for more
 abbrev pub TableStops : (fails : Error → Type 0) (path : Text) → Command → (f : List ℕ) → Stop → Type 0

@@ -13,7 +13,7 @@ use Rattle.dl_print.specs.ValueText.{Strings}
 use Rattle.dl_work.specs.declared.command.Command.{Command}
 use Rattle.dl_work.specs.declared.stop.Stop.{Stop}
 use Rattle.dl_work.specs.declared.stop.Stop.TheVariants.{NotUnderstood, Run}
-use Rattle.dl_work.specs.Asked.{Does, SectionWords, command_of, file_of, order_of, part_name_of, section_of}
+use Rattle.dl_work.specs.Asked.{Does, SectionWords, command_of, file_of, dialect_of, part_name_of, section_of}
 use Rattle.dl_work.specs.Files.{FilesStop, StringsAre}
 use Rattle.dl_work.specs.Tables.{OnFile}
 
@@ -34,7 +34,7 @@ abbrev pub OnInput : (held : Text → Option (List ℕ)) → SectionWords → Co
 OnInput held section command bytes left start now result =
     ((s : Strings) × StringsAre held section.line_str section.strings s
     × (answer : Result Summary RunFault) × (result ≡ stopped answer)
-    × Does command (order_of section.big) s SECTION_LIMIT bytes left start now answer)
+    × Does command (dialect_of section.big) s SECTION_LIMIT bytes left start now answer)
     ⊎ ((f : RunFault) × FilesStop held section.line_str section.strings f × StopsBefore bytes start now result (Run f))
 
 -- over the ELF file of a path: nothing is read of the input. name: the section that is looked into

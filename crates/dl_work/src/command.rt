@@ -11,6 +11,7 @@ ghost use Rattle.dl_work.specs.Asked.{prints_strings, wanted_of};
 use dl_addr::{Found, Question, addr};
 use dl_cmd::{Job, read_address};
 use dl_file::Wanted;
+use dl_head::Dialect;
 use dl_look::Place;
 use dl_num::Order;
 use dl_run::{Options, RunFault, SECTION_LIMIT, Summary, check, copy, dump, find};
@@ -27,7 +28,9 @@ pub const NOTHING: Summary = Summary {
 
 /// The options of a section without string sections.
 const NO_STRINGS: Options<'static> = Options {
-    order: Order::Little,
+    dialect: Dialect {
+        order: Order::Little,
+    },
     debug_line_str: None,
     debug_str: None,
     limit: SECTION_LIMIT,
@@ -142,7 +145,8 @@ impl<'a> Command<'a> {
     ) -> Result<Summary, RunFault>
         requires { options.now.limit ≤ SECTION_LIMIT }
         ensures { (bytes : List ℕ) × Consumes (R.remaining input.old) (R.remaining input.new) bytes
-            × Does self.entry options.now.order (strings_in options.now) options.now.limit bytes (R.remaining input.new)
+            × Does self.entry options.now.dialect (strings_in options.now) options.now.limit bytes
+            (R.remaining input.new)
             (W.contents output.old) (W.contents output.new) result }
     {
         match self {

@@ -4,7 +4,7 @@ ghost use Rattle.dl_elf.specs.Source.{ForBytes};
 ghost use Rattle.dl_file.specs.LineTable.{Content, GivesLine, GivesTable, HasLineTable, LineTable, Plain};
 ghost use Rattle.dl_forms.specs.Names.{Names};
 ghost use Rattle.dl_work.specs.Tables.{HasTable, IsNamed, NamedStops, NamingStops, OpeningStops, StopsNaming};
-ghost use Rattle.dl_work.specs.Tables.{TableStops, with_strings};
+ghost use Rattle.dl_work.specs.Tables.{TableStops, file_dialect, with_strings};
 ghost use Rattle.dl_file.specs.declared.line_file.Wanted.TheVariants.{LineAndLineStrings};
 
 use crate::command::Command;
@@ -12,18 +12,18 @@ use crate::stop::{FileFault, Stop};
 use dl_elf::ReadAt;
 use dl_file::{LineFile, LineReader, Wanted, open_line_file};
 use dl_forms::StringWalk;
-use dl_num::Order;
+use dl_head::Dialect;
 use dl_run::{Input, RunFault, SECTION_LIMIT};
 use std::alloc::Global;
 use std::io::Read;
 
 /// Whether a table of the line section names `.debug_str`.
-fn names_str<R: Read>(alloc: Global, order: Order, input: &mut R) -> Result<bool, RunFault>
+fn names_str<R: Read>(alloc: Global, dialect: Dialect, input: &mut R) -> Result<bool, RunFault>
     ensures { MatchResult result
-        (λ names. IfSome (R.remaining input.old) (λ bytes. IsTrue names ↔ Names order bytes))
-        (StopsNaming order (R.remaining input.old)) }
+        (λ names. IfSome (R.remaining input.old) (λ bytes. IsTrue names ↔ Names dialect bytes))
+        (StopsNaming dialect (R.remaining input.old)) }
 {
-    let mut walk = StringWalk::new(alloc, order);
+    let mut walk = StringWalk::new(alloc, dialect);
     let mut buffer = Input::new();
     let mut left = SECTION_LIMIT;
     while !walk.is_over() {
@@ -50,14 +50,14 @@ fn names_str<R: Read>(alloc: Global, order: Order, input: &mut R) -> Result<bool
 fn is_named<'p, S: ReadAt>(
     alloc: Global,
     path: &'p str,
-    order: Order,
+    dialect: Dialect,
     line: &mut LineReader<'_, S>,
 ) -> Result<bool, Stop<'p>>
     ensures { (content : Content) → GivesLine S.all_bytes line.old content → MatchResult result
-        (IsNamed order content) (NamingStops path.entry.now order content) }
+        (IsNamed dialect content) (NamingStops path.entry.now dialect content) }
 {
     let stream = line.stream_name();
-    match names_str(alloc, order, line) {
+    match names_str(alloc, dialect, line) {
         Ok(names) => Ok(names),
         Err(RunFault::Read) if stream.is_some() => Ok(true),
         Err(fault) => Err(Stop::at(path, stream, fault, line.last_fault())),
@@ -68,14 +68,14 @@ fn is_named<'p, S: ReadAt>(
 fn is_named_in<'p>(
     alloc: Global,
     path: &'p str,
-    order: Order,
+    dialect: Dialect,
     bytes: &[u8],
 ) -> Result<bool, Stop<'p>>
-    ensures { MatchResult result (λ names. IsTrue names ↔ Names order bytes.now)
-        (NamingStops path.entry.now order (Plain bytes.now)) }
+    ensures { MatchResult result (λ names. IsTrue names ↔ Names dialect bytes.now)
+        (NamingStops path.entry.now dialect (Plain bytes.now)) }
 {
     let mut input = bytes;
-    match names_str(alloc, order, &mut input) {
+    match names_str(alloc, dialect, &mut input) {
         Ok(names) => Ok(names),
         Err(fault) => Err(Stop::at(path, None, fault, None)),
     }
@@ -123,20 +123,20 @@ fn with_named<'p, 'a, S: ReadAt>(
 ) -> Result<LineFile<'a, S>, Stop<'p>>
     ensures { ForBytes (S.all_bytes file.entry.now) (λ f. (t : LineTable) → GivesTable S.all_bytes table.entry t
         → HasLineTable f LineAndLineStrings (Ok t) → MatchResult result
-        (λ opened. (names : Bool) × IsNamed t.order t.line names × ((t2 : LineTable)
+        (λ opened. (names : Bool) × IsNamed (file_dialect t) t.line names × ((t2 : LineTable)
         × HasLineTable f (with_strings names) (Ok t2) × GivesTable S.all_bytes opened t2))
         (NamedStops (S.fails_with file.entry.now) path.entry.now f t)) }
 {
     let mut table = table;
-    let order = table.order;
+    let dialect = Dialect::version_5(table.order);
     if let Some(bytes) = table.line.held() {
-        return match is_named_in(alloc, path, order, bytes) {
+        return match is_named_in(alloc, path, dialect, bytes) {
             Ok(true) => opened(alloc, path, file, Wanted::LineAndStringSections),
             Ok(false) => Ok(table),
             Err(stop) => Err(stop),
         };
     }
-    match is_named(alloc, path, order, &mut table.line) {
+    match is_named(alloc, path, dialect, &mut table.line) {
         Ok(names) => opened(alloc, path, file, with_strings(names)),
         Err(stop) => Err(stop),
     }

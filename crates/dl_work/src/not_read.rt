@@ -12,6 +12,7 @@ use crate::shown::Shown;
 use dl_cmd::{AddrWords, Job};
 use dl_elf::ReadAt;
 use dl_file::{LineFile, Wanted, open_line_file};
+use dl_head::Dialect;
 use dl_run::{Options, PassedOver, RunFault, SECTION_LIMIT, passed_over};
 use std::alloc::Global;
 use std::io::Write;
@@ -102,7 +103,7 @@ fn in_table<S: ReadAt>(
         ..
     } = table;
     let options = Options {
-        order,
+        dialect: Dialect::version_5(order),
         debug_line_str: None,
         debug_str: None,
         limit: SECTION_LIMIT,

@@ -5,6 +5,7 @@ ghost use Rattle.dl_elf.specs.Source.{ForBytes};
 ghost use Rattle.dl_file.specs.LineTable.{Content, GivesLine, GivesTable, LineTable, Plain};
 ghost use Rattle.dl_run.specs.Commands.{strings_in};
 ghost use Rattle.dl_work.specs.Tables.{IsKept, IsWhole, KeepingStops, OnFile, OnFound, OnLines, OnTable, RunsOn};
+ghost use Rattle.dl_work.specs.Tables.{file_dialect};
 
 use crate::command::Command;
 use crate::named::open_table;
@@ -13,7 +14,7 @@ use crate::stop::{FileFault, Stop};
 use crate::strings::StringSections;
 use dl_elf::ReadAt;
 use dl_file::{LineFile, LineReader};
-use dl_num::Order;
+use dl_head::Dialect;
 use dl_object::keep_section;
 use dl_run::{Options, SECTION_LIMIT, Summary, read_strings};
 use std::alloc::Global;
@@ -29,7 +30,7 @@ fn on_section<'p, S: ReadAt, W: Write>(
     output: &mut W,
 ) -> Result<Summary, Stop<'p>>
     requires { options.now.limit ≡ SECTION_LIMIT }
-    ensures { (t : LineTable) → GivesLine S.all_bytes line.old t.line → options.now.order ≡ t.order
+    ensures { (t : LineTable) → GivesLine S.all_bytes line.old t.line → options.now.dialect ≡ file_dialect t
         → IsWhole t.line_str t.str (strings_in options.now) → RunsOn path.entry.now command.entry t
         (W.contents output.old) (W.contents output.new) result }
 {
@@ -44,12 +45,12 @@ fn on_section<'p, S: ReadAt, W: Write>(
 fn kept_bytes<'p, S: ReadAt>(
     alloc: Global,
     path: &'p str,
-    order: Order,
+    dialect: Dialect,
     part: &Part,
     line: &mut LineReader<'_, S>,
 ) -> Result<Vec<u8>, Stop<'p>>
     ensures { (content : Content) → GivesLine S.all_bytes line.old content → MatchResult result
-        (λ kept. IsKept order part.now content kept.items) (KeepingStops path.entry.now order part.now content) }
+        (λ kept. IsKept dialect part.now content kept.items) (KeepingStops path.entry.now dialect part.now content) }
 {
     let stream = line.stream_name();
     let mut bytes = match read_strings(alloc, line, SECTION_LIMIT) {
@@ -58,7 +59,7 @@ fn kept_bytes<'p, S: ReadAt>(
     };
     match keep_section(
         alloc,
-        order,
+        dialect,
         bytes.as_mut_slice(),
         part.places.as_slice(),
         part.section,
@@ -81,7 +82,7 @@ fn on_kept<'p, W: Write>(
     output: &mut W,
 ) -> Result<Summary, Stop<'p>>
     requires { options.now.limit ≡ SECTION_LIMIT }
-    ensures { (t : LineTable) → t.line ≡ Plain bytes.now → options.now.order ≡ t.order
+    ensures { (t : LineTable) → t.line ≡ Plain bytes.now → options.now.dialect ≡ file_dialect t
         → IsWhole t.line_str t.str (strings_in options.now) → RunsOn path.entry.now command.entry t
         (W.contents output.old) (W.contents output.new) result }
 {
@@ -103,14 +104,14 @@ fn on_lines<'p, S: ReadAt, W: Write>(
     output: &mut W,
 ) -> Result<Summary, Stop<'p>>
     requires { options.now.limit ≡ SECTION_LIMIT }
-    ensures { (t : LineTable) → GivesLine S.all_bytes line.old t.line → options.now.order ≡ t.order
+    ensures { (t : LineTable) → GivesLine S.all_bytes line.old t.line → options.now.dialect ≡ file_dialect t
         → IsWhole t.line_str t.str (strings_in options.now) → OnLines path.entry.now command.entry t
         (option_copied part.entry) (W.contents output.old) (W.contents output.new) result }
 {
     let Some(part) = part else {
         return on_section(alloc, path, command, line, options, output);
     };
-    match kept_bytes(alloc, path, options.order, part, line) {
+    match kept_bytes(alloc, path, options.dialect, part, line) {
         Ok(bytes) => on_kept(alloc, path, command, bytes.as_slice(), options, output),
         Err(stop) => {
             command.without_table(alloc, output);
@@ -153,7 +154,7 @@ fn on_table<'p, S: ReadAt, W: Write>(
             return Err(stop);
         }
     };
-    let options = strings.options(order);
+    let options = strings.options(Dialect::version_5(order));
     on_lines(alloc, path, command, part, &mut line, &options, output)
 }
 
@@ -196,7 +197,8 @@ pub fn on_file<'p, S: ReadAt, W: Write>(
     output: &mut W,
 ) -> Result<Summary, Stop<'p>>
     ensures { ForBytes (S.all_bytes file.now) (λ f. OnFile (S.fails_with file.now) path.entry.now
-        (option_map (λ s. s.now) section.entry) command.entry f (W.contents output.old) (W.contents output.new) result) }
+        (option_map (λ s. s.now) section.entry) command.entry f (W.contents output.old)
+        (W.contents output.new) result) }
 {
     match open_table(alloc, path, file, command) {
         Ok(table) => on_found(alloc, path, file, section, command, table, output),

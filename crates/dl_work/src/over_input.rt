@@ -1,7 +1,7 @@
 //! Commands over a section that comes on the input.
 ghost use Rattle.std.specs.Prelude.{◌≡◌, ℕ, List};
 ghost use Rattle.std.specs.Io.KnownBytes.{Consumes};
-ghost use Rattle.dl_work.specs.Asked.{order_of};
+ghost use Rattle.dl_work.specs.Asked.{dialect_of};
 ghost use Rattle.dl_work.specs.Held.{section_seen};
 ghost use Rattle.dl_work.specs.Work.{OnInput, stopped};
 
@@ -9,6 +9,7 @@ use crate::command::Command;
 use crate::files::FileSource;
 use crate::stop::Stop;
 use crate::strings::StringSections;
+use dl_head::Dialect;
 use dl_num::Order;
 use dl_run::{RunFault, Summary};
 use std::alloc::Global;
@@ -22,10 +23,12 @@ pub struct Section<'a> {
     pub strings: Option<&'a str>,
 }
 
-fn order(big: bool) -> Order
-    ensures { result ≡ order_of big }
+/// What is read of the section: units of version 5 alone, in the order that the words say.
+fn dialect(big: bool) -> Dialect
+    ensures { result ≡ dialect_of big }
 {
-    if big { Order::Big } else { Order::Little }
+    let order = if big { Order::Big } else { Order::Little };
+    Dialect::version_5(order)
 }
 
 /// A command's answer, its fault being the reason to stop.
@@ -53,7 +56,7 @@ pub fn on_input<'p, F: FileSource, R: Read, W: Write>(
 {
     match StringSections::of_files(alloc, files, section.line_str, section.strings) {
         Ok(strings) => {
-            let options = strings.options(order(section.big));
+            let options = strings.options(dialect(section.big));
             stopped(command.run(alloc, input, output, &options))
         }
         Err(fault) => Err(Stop::Run(fault)),

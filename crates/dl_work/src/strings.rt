@@ -11,7 +11,7 @@ use crate::files::FileSource;
 use crate::stop::Stop;
 use dl_elf::ReadAt;
 use dl_file::ContentReader;
-use dl_num::Order;
+use dl_head::Dialect;
 use dl_run::{Options, RunFault, SECTION_LIMIT, read_strings};
 use std::alloc::Global;
 
@@ -67,13 +67,13 @@ impl StringSections {
     }
 
     /// The options of a command that looks into them.
-    pub fn options(&self, order: Order) -> Options<'_>
-        ensures order { result.order ≡ order }
+    pub fn options(&self, dialect: Dialect) -> Options<'_>
+        ensures dialect { result.dialect ≡ dialect }
         ensures strings { strings_in result ≡ strings_held self.now }
         ensures limit { result.limit ≡ SECTION_LIMIT }
     {
         Options {
-            order,
+            dialect,
             debug_line_str: self.debug_line_str.as_ref().map(|bytes| bytes.as_slice()),
             debug_str: self.debug_str.as_ref().map(|bytes| bytes.as_slice()),
             limit: SECTION_LIMIT,

@@ -26,7 +26,7 @@ impl HeadReader {
         ensures kept { Keeps self.old result self.new }
         ensures cells { held_cells self.new ≡ held_cells self.old }
     {
-        match number.push(self.order, byte) {
+        match number.push(self.dialect.order, byte) {
             Err(number) => {
                 self.phase = Phase::UnitLength(number);
                 FieldStep::Within
@@ -46,7 +46,7 @@ impl HeadReader {
         ensures kept { Keeps self.old result self.new }
         ensures cells { held_cells self.new ≡ held_cells self.old }
     {
-        match number.push(self.order, byte) {
+        match number.push(self.dialect.order, byte) {
             Err(number) => {
                 self.phase = Phase::LongUnitLength(number);
                 FieldStep::Within
@@ -89,7 +89,7 @@ impl HeadReader {
         ensures kept { Keeps self.old result self.new }
         ensures cells { held_cells self.new ≡ held_cells self.old }
     {
-        let version = version_of(self.order, first, byte);
+        let version = version_of(self.dialect.order, first, byte);
         if version == 5 {
             self.phase = Phase::Byte(ByteField::AddressSize);
         } else {
@@ -104,7 +104,7 @@ impl HeadReader {
         ensures kept { Keeps self.old result self.new }
         ensures cells { held_cells self.new ≡ held_cells self.old }
     {
-        match number.push(self.order, byte) {
+        match number.push(self.dialect.order, byte) {
             Err(number) => {
                 self.phase = Phase::HeaderLength(number);
                 FieldStep::Within
@@ -116,7 +116,7 @@ impl HeadReader {
     fn start_header(&mut self, length: u64) -> FieldStep
         requires no_lengths { self.old.params.lengths.items ≡ [] }
         requires no_tables { table_cells self.old.directories + table_cells self.old.files ≡ 0 }
-        requires read { ∥ TableReads self.old.order self.old.params.format self.old.table ∥₁ }
+        requires read { ∥ TableReads self.old.dialect.order self.old.params.format self.old.table ∥₁ }
         ensures follows { StartsHeader self.old length result self.new }
         ensures kept { Keeps self.old result self.new }
         ensures cells { held_cells self.new ≡ held_cells self.old }

@@ -27,13 +27,13 @@ impl HeadReader {
     /// bytes that aren't taken, and ends early where memory is refused; the next turn offers the same byte
     /// again. Where the bytes taken before came to something, nothing is offered, and that is the last answer.
     pub fn run(&mut self, bytes: &[u8], turns: &[usize]) -> HeadRun
-        ensures traced { (b : List ℕ) → StandsFor self.old b → Answers self.old.order b answer.More
-            → Traced self.old.order b bytes.now turns.now result self.new }
-        ensures runs { (b : List ℕ) → StandsFor self.old b → Answers self.old.order b answer.More
-            → Runs self.old.order b bytes.now turns.now result }
-        ensures ended { (b : List ℕ) (r : HeadStep) → StandsFor self.old b → Answers self.old.order b r
+        ensures traced { (b : List ℕ) → StandsFor self.old b → Answers self.old.dialect b answer.More
+            → Traced self.old.dialect b bytes.now turns.now result self.new }
+        ensures runs { (b : List ℕ) → StandsFor self.old b → Answers self.old.dialect b answer.More
+            → Runs self.old.dialect b bytes.now turns.now result }
+        ensures ended { (b : List ℕ) (r : HeadStep) → StandsFor self.old b → Answers self.old.dialect b r
             → r ≢ answer.More → (result ≡ record { taken = 0; refused = 0; last = r }) × (self.new ≡ self.old) }
-        ensures order { self.new.order ≡ self.old.order }
+        ensures dialect { self.new.dialect ≡ self.old.dialect }
     {
         match self.ended() {
             Some(last) => HeadRun {
@@ -47,11 +47,11 @@ impl HeadReader {
 
     /// Takes the bytes in turns, of a header that goes on.
     fn take_turns(&mut self, bytes: &[u8], turns: &[usize]) -> HeadRun
-        ensures traced { (b : List ℕ) → StandsFor self.old b → Answers self.old.order b answer.More
-            → Traced self.old.order b bytes.now turns.now result self.new }
-        ensures runs { (b : List ℕ) → StandsFor self.old b → Answers self.old.order b answer.More
-            → Runs self.old.order b bytes.now turns.now result }
-        ensures order { self.new.order ≡ self.old.order }
+        ensures traced { (b : List ℕ) → StandsFor self.old b → Answers self.old.dialect b answer.More
+            → Traced self.old.dialect b bytes.now turns.now result self.new }
+        ensures runs { (b : List ℕ) → StandsFor self.old b → Answers self.old.dialect b answer.More
+            → Runs self.old.dialect b bytes.now turns.now result }
+        ensures dialect { self.new.dialect ≡ self.old.dialect }
     {
         let mut run = HeadRun {
             taken: 0,
@@ -74,14 +74,14 @@ impl HeadReader {
     /// Takes bytes up to an answer that isn't More; how many were taken, and that answer. Once they have come to
     /// something, nothing is taken, and it is answered again.
     pub fn offer(&mut self, piece: &[u8]) -> (usize, HeadStep)
-        ensures offered { (b : List ℕ) → StandsFor self.old b → Answers self.old.order b answer.More
-            → Offered self.old.order b piece.now result.0 result.1 self.new }
-        ensures ended { (b : List ℕ) (r : HeadStep) → StandsFor self.old b → Answers self.old.order b r
+        ensures offered { (b : List ℕ) → StandsFor self.old b → Answers self.old.dialect b answer.More
+            → Offered self.old.dialect b piece.now result.0 result.1 self.new }
+        ensures ended { (b : List ℕ) (r : HeadStep) → StandsFor self.old b → Answers self.old.dialect b r
             → r ≢ answer.More → (result ≡ (0, r)) × (self.new ≡ self.old) }
         ensures within { result.0 ≤ length piece.now }
-        ensures progress { (b : List ℕ) → StandsFor self.old b → Answers self.old.order b answer.More
+        ensures progress { (b : List ℕ) → StandsFor self.old b → Answers self.old.dialect b answer.More
             → result.1 ≢ answer.More → result.1 ≢ answer.NoMemory → 1 ≤ result.0 }
-        ensures order { self.new.order ≡ self.old.order }
+        ensures dialect { self.new.dialect ≡ self.old.dialect }
     {
         match self.ended() {
             Some(last) => (0, last),
@@ -91,11 +91,11 @@ impl HeadReader {
 
     /// Takes bytes up to an answer that isn't More, of a header that goes on.
     fn take(&mut self, piece: &[u8]) -> (usize, HeadStep)
-        ensures offered { (b : List ℕ) → StandsFor self.old b → Answers self.old.order b answer.More
-            → Offered self.old.order b piece.now result.0 result.1 self.new }
+        ensures offered { (b : List ℕ) → StandsFor self.old b → Answers self.old.dialect b answer.More
+            → Offered self.old.dialect b piece.now result.0 result.1 self.new }
         ensures within { result.0 ≤ length piece.now }
         ensures progress { result.1 ≢ answer.More → result.1 ≢ answer.NoMemory → 1 ≤ result.0 }
-        ensures order { self.new.order ≡ self.old.order }
+        ensures dialect { self.new.dialect ≡ self.old.dialect }
     {
         let mut used = 0;
         while used < piece.len() {
@@ -120,9 +120,9 @@ impl HeadReader {
     #[inline(always)]
     fn whole_values(&mut self, piece: &[u8]) -> usize
         ensures within { result ≤ length piece.now }
-        ensures order { self.new.order ≡ self.old.order }
-        ensures takes { (b : List ℕ) → StandsFor self.old b → Answers self.old.order b answer.More
-            → TakesAll self.old.order b (take result piece.now) self.new }
+        ensures dialect { self.new.dialect ≡ self.old.dialect }
+        ensures takes { (b : List ℕ) → StandsFor self.old b → Answers self.old.dialect b answer.More
+            → TakesAll self.old.dialect b (take result piece.now) self.new }
     {
         if piece.len() < 2 || !self.phase.is_table() {
             return 0;
@@ -130,7 +130,7 @@ impl HeadReader {
         let bytes = self.inside(piece);
         let used = self
             .table
-            .whole_values(self.order, self.params.format, bytes);
+            .whole_values(self.dialect.order, self.params.format, bytes);
         if used == 0 {
             return 0;
         }

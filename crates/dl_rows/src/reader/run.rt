@@ -44,14 +44,14 @@ impl Reader {
         listener: &mut L,
     ) -> Result<Run, Fault>
         ensures traced { (b : List ℕ) → StandsFor self.old b
-            → Traced self.old.order b bytes.now turns.now (Hears L.heard listener.old listener.new) result self.new }
+            → Traced self.old.dialect b bytes.now turns.now (Hears L.heard listener.old listener.new) result self.new }
         ensures runs { (b : List ℕ) → StandsFor self.old b
             → (heard : List Event) × Hears L.heard listener.old listener.new heard
-            × RunIs self.old.order b bytes.now turns.now heard result }
-        ensures unit { (b u rest : List ℕ) → StandsFor self.old b → b ++ bytes.now ≡ u ++ rest → IsUnit self.old.order u
-            → (heard : List Event) × Hears L.heard listener.old listener.new heard
-            × UnitRunIs self.old.order b bytes.now turns.now u heard result }
-        ensures order { self.new.order ≡ self.old.order }
+            × RunIs self.old.dialect b bytes.now turns.now heard result }
+        ensures unit { (b u rest : List ℕ) → StandsFor self.old b → b ++ bytes.now ≡ u ++ rest
+            → IsUnit self.old.dialect u → (heard : List Event) × Hears L.heard listener.old listener.new heard
+            × UnitRunIs self.old.dialect b bytes.now turns.now u heard result }
+        ensures dialect { self.new.dialect ≡ self.old.dialect }
     {
         let mut run = Run {
             taken: 0,

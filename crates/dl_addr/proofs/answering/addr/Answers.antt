@@ -20,7 +20,11 @@ returns g c =
     let ran = read.2 (c.in-Ok.ensures.begins start) (Appends-nil start) in
     let new = c.read_units-ended.new.visitor in
     let knows = subst (Knows first q) c.new-strings.ensures c.in-Ok.ensures.knows in
-    let locates = is_told options.order q s first knows options.limit read.0 left new start mid
+    let locates = is_told options.dialect q s first knows options.limit read.0 left new start mid
     c.in-Ok.ensures.made now c.read_units-ended.result c.print_all-printed.result ran
-    (λ visits stands. c.print_all-printed.ensures first start mid visits stands c.in-Ok.ensures.made) in
-    (read.0, read.1, subst (Locates options.order s q options.limit read.0 left start now) (sym c.told.ensures) locates)
+    (λ visits stands. c.print_all-printed.ensures first start mid visits stands c.in-Ok.ensures.made) in (
+      read.0,
+      read.1,
+      subst (Locates options.dialect s q options.limit read.0 left start now)
+          (sym c.told.ensures) locates,
+    )

@@ -1,7 +1,7 @@
 use Rattle.std.proofs.Common.{Err, refl, subst}
-use Rattle.dl_num.specs.declared.fixed.Order.{Order}
+use Rattle.dl_head.specs.declared.dialect.Dialect.{Dialect}
 use Rattle.dl_calls.specs.declared.stop.Stop.{Stop}
-use Rattle.dl_calls.specs.Calls.{order_of}
+use Rattle.dl_calls.specs.Calls.{dialect_of}
 use Rattle.dl_calls.specs.Sections.{EndsFor}
 use Rattle.dl_calls.proofs.checking.check.Goals as goal
 
@@ -9,8 +9,8 @@ pub returns-in-Err-Damaged : goal.returns-in-Err-Damaged
 returns-in-Err-Damaged c = (
   c.in-Err-Damaged.offset,
   c.in-Err-Damaged.kind,
-  subst (λ (x : Stop). EndsFor (order_of c.args.big) c.args.section.now (Err x)) c.in-Err-Damaged.field-0-is
-      (subst (λ (o : Order). EndsFor o c.args.section.now (Err c.in-Err-Damaged.field-0)) c.order_of.ensures
+  subst (λ (x : Stop). EndsFor (dialect_of c.args.big) c.args.section.now (Err x)) c.in-Err-Damaged.field-0-is
+      (subst (λ (d : Dialect). EndsFor d c.args.section.now (Err c.in-Err-Damaged.field-0)) c.dialect_of.ensures
       c.in-Err-Damaged.ensures),
   refl,
   c.of-in-Err-Damaged.ensures,
@@ -18,8 +18,8 @@ returns-in-Err-Damaged c = (
 
 pub returns-in-Err-NoMemory : goal.returns-in-Err-NoMemory
 returns-in-Err-NoMemory c = (
-  subst (λ (x : Stop). EndsFor (order_of c.args.big) c.args.section.now (Err x)) c.in-Err-NoMemory.field-0-is
-      (subst (λ (o : Order). EndsFor o c.args.section.now (Err c.in-Err-NoMemory.field-0)) c.order_of.ensures
+  subst (λ (x : Stop). EndsFor (dialect_of c.args.big) c.args.section.now (Err x)) c.in-Err-NoMemory.field-0-is
+      (subst (λ (d : Dialect). EndsFor d c.args.section.now (Err c.in-Err-NoMemory.field-0)) c.dialect_of.ensures
       c.in-Err-NoMemory.ensures),
   refl,
   refl,

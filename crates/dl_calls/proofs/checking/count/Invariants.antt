@@ -9,6 +9,6 @@ decreases-units l = length l.rest
 abbrev pub invariant-units : goal.invariant-units
 invariant-units l = record {
   units : List (List ℕ);
-  has : HasUnits l.fn.order l.section units l.rest;
-  summary_is : l.summary ≡ summary_of l.fn.order units;
+  has : HasUnits l.fn.dialect l.section units l.rest;
+  summary_is : l.summary ≡ summary_of l.fn.dialect units;
 }

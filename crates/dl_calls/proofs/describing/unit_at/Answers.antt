@@ -1,5 +1,5 @@
 use Rattle.std.proofs.Common.{List, [], ℕ, drop, arith, refl, sym, ap, ◌∙◌, subst}
-use Rattle.dl_num.specs.declared.fixed.Order.{Order}
+use Rattle.dl_head.specs.declared.dialect.Dialect.{Dialect}
 use Rattle.dl_calls.specs.declared.status.Status.TheVariants as status
 use Rattle.dl_calls.specs.Records.{record_of}
 use Rattle.dl_calls.specs.UnitCalls.{Describes}
@@ -12,14 +12,14 @@ returns-in-Whole c =
     let r = c.in-Whole.ensures.read (record { sequences = 0; rows = 0 }) [] none_counted in
     let short = short_rest c.args.section.now c.rest_from-bytes.result.now c.args.offset c.rest_from-bytes.ensures.bytes
     c.rest_from-bytes.ensures.small in
-    let few = few_rows_of c.order_of.result c.rest_from-bytes.result.now r.0 r.1.back r.1.whole short in
-    subst (λ (o : Order). Describes o (drop c.args.offset c.args.section.now) c.args.offset c.args.unit.now
-    c.describe.result c.args.fault.now c.args.fault.now status.Done) c.order_of.ensures
-    (subst (λ (t : List ℕ). Describes c.order_of.result t c.args.offset c.args.unit.now c.describe.result
+    let few = few_rows_of c.dialect_of.result c.rest_from-bytes.result.now r.0 r.1.back r.1.whole short in
+    subst (λ (d : Dialect). Describes d (drop c.args.offset c.args.section.now) c.args.offset c.args.unit.now
+    c.describe.result c.args.fault.now c.args.fault.now status.Done) c.dialect_of.ensures
+    (subst (λ (t : List ℕ). Describes c.dialect_of.result t c.args.offset c.args.unit.now c.describe.result
     c.args.fault.now c.args.fault.now status.Done) c.rest_from-bytes.ensures.bytes (
       r.0,
-      begins c.order_of.result c.rest_from-bytes.result.now c.in-Whole.whole r.0 r.1,
-      c.describe.ensures c.order_of.result r.0 r.1 (omega (arith, r.2.of_rows (omega (arith, few)))),
+      begins c.dialect_of.result c.rest_from-bytes.result.now c.in-Whole.whole r.0 r.1,
+      c.describe.ensures c.dialect_of.result r.0 r.1 (omega (arith, r.2.of_rows (omega (arith, few)))),
       refl,
     ))
 
@@ -39,17 +39,17 @@ returns-in-Damaged c =
     let t = c.rest_from-bytes.result.now in
     let short = short_rest c.args.section.now c.rest_from-bytes.result.now c.args.offset c.rest_from-bytes.ensures.bytes
     c.rest_from-bytes.ensures.small in
-    subst (λ (o : Order). Describes o (drop c.args.offset c.args.section.now) c.args.offset c.args.unit.now
-    c.args.unit.now c.args.fault.now c.of.result status.Fault) c.order_of.ensures
-    (subst (λ (l : List ℕ). Describes c.order_of.result l c.args.offset c.args.unit.now c.args.unit.now
+    subst (λ (d : Dialect). Describes d (drop c.args.offset c.args.section.now) c.args.offset c.args.unit.now
+    c.args.unit.now c.args.fault.now c.of.result status.Fault) c.dialect_of.ensures
+    (subst (λ (l : List ℕ). Describes c.dialect_of.result l c.args.offset c.args.unit.now c.args.unit.now
     c.args.fault.now c.of.result status.Fault) c.rest_from-bytes.ensures.bytes (
       r.0,
       c.in-Damaged.found.offset,
       c.in-Damaged.found.kind,
-      stops_damaged c.order_of.result t r.0 r.1 c.in-Damaged.found r.2 r.3 short,
+      stops_damaged c.dialect_of.result t r.0 r.1 c.in-Damaged.found r.2 r.3 short,
       refl,
       c.of.ensures ∙ ap (λ (n : ℕ). record_of n c.in-Damaged.found.kind) (c.saturating_add-at.ensures
-          ∙ offset_is c.order_of.result t r.0 r.1 c.in-Damaged.found r.2 r.3 c.args.section.now c.args.offset
+          ∙ offset_is c.dialect_of.result t r.0 r.1 c.in-Damaged.found r.2 r.3 c.args.section.now c.args.offset
           c.rest_from-bytes.ensures.bytes c.rest_from-bytes.ensures.small c.ranges.offset.fits),
     ))
 
@@ -57,8 +57,8 @@ pub returns-in-NoMemory : goal.returns-in-NoMemory
 returns-in-NoMemory c =
     let r = c.in-NoMemory.ensures.read (record { sequences = 0; rows = 0 }) [] none_counted in
     let t = c.rest_from-bytes.result.now in
-    subst (λ (o : Order). Describes o (drop c.args.offset c.args.section.now) c.args.offset c.args.unit.now
-    c.args.unit.now c.args.fault.now c.args.fault.now status.NoMemory) c.order_of.ensures
-    (subst (λ (l : List ℕ). Describes c.order_of.result l c.args.offset c.args.unit.now c.args.unit.now
+    subst (λ (d : Dialect). Describes d (drop c.args.offset c.args.section.now) c.args.offset c.args.unit.now
+    c.args.unit.now c.args.fault.now c.args.fault.now status.NoMemory) c.dialect_of.ensures
+    (subst (λ (l : List ℕ). Describes c.dialect_of.result l c.args.offset c.args.unit.now c.args.unit.now
     c.args.fault.now c.args.fault.now status.NoMemory) c.rest_from-bytes.ensures.bytes
-    (r.0, stops_unmet c.order_of.result t r.0 r.1 r.2 r.3 r.4, refl, refl))
+    (r.0, stops_unmet c.dialect_of.result t r.0 r.1 r.2 r.3 r.4, refl, refl))

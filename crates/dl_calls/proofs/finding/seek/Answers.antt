@@ -19,47 +19,53 @@ pub units-smaller : goal.units-smaller
 units-smaller c =
     let l = c.units in
     let first : Seeker = record { finder = c.new-finder.result } in
-    let r = subst (λ (x : UnitRead). UnitReads (seeker_story first) c.args.order l.rest.now [] x c.read_unit.new.sink)
+    let r = subst (λ (x : UnitRead). UnitReads (seeker_story first) c.args.dialect l.rest.now [] x c.read_unit.new.sink)
     c.in-Whole.is (c.read_unit.ensures.read first [] (λ x stands. stands)) in
-    fewer c.args.order c.args.section.now l.rest.now l.invariant.units l.invariant.has c.in-Whole.whole r.0 r.1
+    fewer c.args.dialect c.args.section.now l.rest.now l.invariant.units l.invariant.has c.in-Whole.whole r.0 r.1
 
 pub units-preserved : goal.units-preserved
 units-preserved c =
     let l = c.units in
     let first : Seeker = record { finder = c.new-finder.result } in
-    let r = subst (λ (x : UnitRead). UnitReads (seeker_story first) c.args.order l.rest.now [] x c.read_unit.new.sink)
+    let r = subst (λ (x : UnitRead). UnitReads (seeker_story first) c.args.dialect l.rest.now [] x c.read_unit.new.sink)
     c.in-Whole.is (c.read_unit.ensures.read first [] (λ x stands. stands)) in
-    let answers = c.answer.ensures c.args.place (unit_rows c.args.order r.0) (r.2 c.args.place c.new-finder.ensures) in
+    let answers = c.answer.ensures c.args.place (unit_rows c.args.dialect r.0)
+    (r.2 c.args.place c.new-finder.ensures) in
     record {
       units = l.invariant.units ++ r.0 ∷ [];
-      has = one_more c.args.order c.args.section.now l.rest.now l.invariant.units l.invariant.has c.in-Whole.whole r.0 r.1;
-      none = none_more c.args.order c.args.place l.invariant.units r.0 l.invariant.none (sym answers ∙ c.in_default.is);
+      has = one_more c.args.dialect c.args.section.now l.rest.now l.invariant.units l.invariant.has
+          c.in-Whole.whole r.0 r.1;
+      none = none_more c.args.dialect c.args.place l.invariant.units r.0 l.invariant.none
+          (sym answers ∙ c.in_default.is);
     }
 
 pub returns-in-Some : goal.returns-in-Some
 returns-in-Some c =
     let l = c.units in
     let first : Seeker = record { finder = c.new-finder.result } in
-    let r = subst (λ (x : UnitRead). UnitReads (seeker_story first) c.args.order l.rest.now [] x c.read_unit.new.sink)
+    let r = subst (λ (x : UnitRead). UnitReads (seeker_story first) c.args.dialect l.rest.now [] x c.read_unit.new.sink)
     c.in-Whole.is (c.read_unit.ensures.read first [] (λ x stands. stands)) in
-    let answers = c.answer.ensures c.args.place (unit_rows c.args.order r.0) (r.2 c.args.place c.new-finder.ensures) in (
+    let answers = c.answer.ensures c.args.place (unit_rows c.args.dialect r.0)
+    (r.2 c.args.place c.new-finder.ensures) in (
       l.invariant.units,
       r.0,
       _,
-      one_more c.args.order c.args.section.now l.rest.now l.invariant.units l.invariant.has c.in-Whole.whole r.0 r.1,
+      one_more c.args.dialect c.args.section.now l.rest.now l.invariant.units l.invariant.has c.in-Whole.whole r.0 r.1,
       l.invariant.none,
       sym answers ∙ c.in-Some.is,
-      c.offset_of-unit.ensures.offset ∙ place_of_rest c.args.order c.args.section.now l.rest.now l.invariant.units l.invariant.has,
+      c.offset_of-unit.ensures.offset ∙ place_of_rest c.args.dialect c.args.section.now l.rest.now l.invariant.units
+          l.invariant.has,
     )
 
 pub returns-in-Empty : goal.returns-in-Empty
 returns-in-Empty c =
     let l = c.units in
     let first : Seeker = record { finder = c.new-finder.result } in
-    let r = subst (λ (x : UnitRead). UnitReads (seeker_story first) c.args.order l.rest.now [] x c.read_unit.new.sink)
+    let r = subst (λ (x : UnitRead). UnitReads (seeker_story first) c.args.dialect l.rest.now [] x c.read_unit.new.sink)
     c.in-Empty.is (c.read_unit.ensures.read first [] (λ x stands. stands)) in (
       l.invariant.units,
-      (at_end c.args.order c.args.section.now l.rest.now l.invariant.units l.invariant.has r.0 (summary_of c.args.order l.invariant.units) refl).0,
+      (at_end c.args.dialect c.args.section.now l.rest.now l.invariant.units l.invariant.has r.0
+          (summary_of c.args.dialect l.invariant.units) refl).0,
       l.invariant.none,
     )
 
@@ -67,7 +73,7 @@ pub returns-in-Stopped : goal.returns-in-Stopped
 returns-in-Stopped c =
     let l = c.units in
     let first : Seeker = record { finder = c.new-finder.result } in
-    let r = subst (λ (x : UnitRead). UnitReads (seeker_story first) c.args.order l.rest.now [] x c.read_unit.new.sink)
+    let r = subst (λ (x : UnitRead). UnitReads (seeker_story first) c.args.dialect l.rest.now [] x c.read_unit.new.sink)
     c.in-Stopped.is (c.read_unit.ensures.read first [] (λ x stands. stands)) in
     absurd r.4
 
@@ -75,16 +81,18 @@ pub returns-in-Damaged : goal.returns-in-Damaged
 returns-in-Damaged c =
     let l = c.units in
     let first : Seeker = record { finder = c.new-finder.result } in
-    let r = subst (λ (x : UnitRead). UnitReads (seeker_story first) c.args.order l.rest.now [] x c.read_unit.new.sink)
+    let r = subst (λ (x : UnitRead). UnitReads (seeker_story first) c.args.dialect l.rest.now [] x c.read_unit.new.sink)
     c.in-Damaged.is (c.read_unit.ensures.read first [] (λ x stands. stands)) in (
       l.invariant.units,
       r.0,
       r.1,
-      subst (λ (n : ℕ). EndsAs c.args.order (length c.args.section.now) c.args.section.now (Some []) l.invariant.units r.0
+      subst (λ (n : ℕ). EndsAs c.args.dialect (length c.args.section.now) c.args.section.now (Some [])
+          l.invariant.units r.0
           r.1 (Err (run.Damage n c.in-Damaged.fault.kind)))
           (sym (c.saturating_add-at.ensures
           ∙ ap (λ (n : ℕ). add n c.in-Damaged.fault.offset) c.offset_of-unit.ensures.offset))
-          (damaged c.args.order c.args.section.now l.rest.now l.invariant.units l.invariant.has r.0 r.1 c.in-Damaged.fault r.2 r.3 c.offset_of-unit.ensures.small),
+          (damaged c.args.dialect c.args.section.now l.rest.now l.invariant.units l.invariant.has r.0 r.1
+          c.in-Damaged.fault r.2 r.3 c.offset_of-unit.ensures.small),
       l.invariant.none,
     )
 
@@ -92,6 +100,12 @@ pub returns-in-NoMemory : goal.returns-in-NoMemory
 returns-in-NoMemory c =
     let l = c.units in
     let first : Seeker = record { finder = c.new-finder.result } in
-    let r = subst (λ (x : UnitRead). UnitReads (seeker_story first) c.args.order l.rest.now [] x c.read_unit.new.sink)
-    c.in-NoMemory.is (c.read_unit.ensures.read first [] (λ x stands. stands)) in
-    (l.invariant.units, r.0, r.1, unmet c.args.order c.args.section.now l.rest.now l.invariant.units l.invariant.has r.0 r.1 r.2 r.3 r.4, l.invariant.none)
+    let r = subst (λ (x : UnitRead). UnitReads (seeker_story first) c.args.dialect l.rest.now [] x c.read_unit.new.sink)
+    c.in-NoMemory.is (c.read_unit.ensures.read first [] (λ x stands. stands)) in (
+      l.invariant.units,
+      r.0,
+      r.1,
+      unmet c.args.dialect c.args.section.now l.rest.now l.invariant.units l.invariant.has
+          r.0 r.1 r.2 r.3 r.4,
+      l.invariant.none,
+    )

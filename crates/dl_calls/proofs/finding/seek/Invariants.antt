@@ -10,6 +10,6 @@ decreases-units l = length l.rest
 abbrev pub invariant-units : goal.invariant-units
 invariant-units l = record {
   units : List (List ℕ);
-  has : HasUnits l.fn.order l.section units l.rest;
-  none : NoneAnswers l.fn.order l.fn.place units;
+  has : HasUnits l.fn.dialect l.section units l.rest;
+  none : NoneAnswers l.fn.dialect l.fn.place units;
 }

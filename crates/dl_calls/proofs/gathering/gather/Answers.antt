@@ -20,24 +20,25 @@ units-init c = record {
   units = [];
   has = record { whole = refl; each = tt };
   stand = λ addresses stands. stands;
-  told = λ addresses stands. none_placed c.args.order addresses c.args.rows.now c.args.units.now;
+  told = λ addresses stands. none_placed c.args.dialect addresses c.args.rows.now c.args.units.now;
 }
 
 pub units-smaller : goal.units-smaller
 units-smaller c =
     let l = c.units in
-    let r = subst (λ (x : UnitRead). UnitReads (gatherer_story l.gatherer) c.args.order l.rest.now [] x
+    let r = subst (λ (x : UnitRead). UnitReads (gatherer_story l.gatherer) c.args.dialect l.rest.now [] x
     c.read_unit.new.sink) c.in-Whole.is (c.read_unit.ensures.read l.gatherer [] (λ places units stands. stands)) in
-    fewer c.args.order c.args.section.now l.rest.now l.invariant.units l.invariant.has c.in-Whole.whole r.0 r.1
+    fewer c.args.dialect c.args.section.now l.rest.now l.invariant.units l.invariant.has c.in-Whole.whole r.0 r.1
 
 pub units-preserved : goal.units-preserved
 units-preserved c =
     let l = c.units in
-    let r = subst (λ (x : UnitRead). UnitReads (gatherer_story l.gatherer) c.args.order l.rest.now [] x
+    let r = subst (λ (x : UnitRead). UnitReads (gatherer_story l.gatherer) c.args.dialect l.rest.now [] x
     c.read_unit.new.sink) c.in-Whole.is (c.read_unit.ensures.read l.gatherer [] (λ places units stands. stands)) in
-    let before = map (unit_rows c.args.order) l.invariant.units in
-    let rows = unit_rows c.args.order r.0 in
-    let has = one_more c.args.order c.args.section.now l.rest.now l.invariant.units l.invariant.has c.in-Whole.whole r.0
+    let before = map (unit_rows c.args.dialect) l.invariant.units in
+    let rows = unit_rows c.args.dialect r.0 in
+    let has = one_more c.args.dialect c.args.section.now l.rest.now l.invariant.units l.invariant.has
+    c.in-Whole.whole r.0
     r.1 in
     let ended = λ (addresses : List ℕ)
     (stands : Stand c.args.finders (map place_of_address addresses) [] []).
@@ -48,13 +49,13 @@ units-preserved c =
       has = has;
       stand = λ addresses stands.
           subst (λ (units : List (List Row)). Stand c.end_unit.new.self (map place_of_address addresses) units [])
-          (sym (map-append (unit_rows c.args.order) l.invariant.units (r.0 ∷ []))) (ended addresses stands);
+          (sym (map-append (unit_rows c.args.dialect) l.invariant.units (r.0 ∷ []))) (ended addresses stands);
       told = λ addresses stands.
-          placed_more c.args.order addresses l.invariant.units r.0 c.answered.result.now
+          placed_more c.args.dialect addresses l.invariant.units r.0 c.answered.result.now
           (c.answered.ensures (map place_of_address addresses) before rows [] (ended addresses stands))
           c.offset_of-unit.result
           (c.offset_of-unit.ensures.offset
-          ∙ place_of_rest c.args.order c.args.section.now l.rest.now l.invariant.units l.invariant.has)
+          ∙ place_of_rest c.args.dialect c.args.section.now l.rest.now l.invariant.units l.invariant.has)
           c.args.rows.now l.rows c.tell.new.rows c.args.units.now l.units c.tell.new.units
           (l.invariant.told addresses stands) c.tell.ensures.rows c.tell.ensures.units;
     }
@@ -62,36 +63,36 @@ units-preserved c =
 pub returns-in-Empty : goal.returns-in-Empty
 returns-in-Empty c =
     let l = c.units in
-    let r = subst (λ (x : UnitRead). UnitReads (gatherer_story l.gatherer) c.args.order l.rest.now [] x
+    let r = subst (λ (x : UnitRead). UnitReads (gatherer_story l.gatherer) c.args.dialect l.rest.now [] x
     c.read_unit.new.sink) c.in-Empty.is (c.read_unit.ensures.read l.gatherer [] (λ places units stands. stands)) in
     λ addresses stands. (
       l.invariant.units,
-      (at_end c.args.order c.args.section.now l.rest.now l.invariant.units l.invariant.has r.0
-          (summary_of c.args.order l.invariant.units) refl).0,
+      (at_end c.args.dialect c.args.section.now l.rest.now l.invariant.units l.invariant.has r.0
+          (summary_of c.args.dialect l.invariant.units) refl).0,
       l.invariant.told addresses stands,
     )
 
 pub returns-in-Stopped : goal.returns-in-Stopped
 returns-in-Stopped c =
     let l = c.units in
-    let r = subst (λ (x : UnitRead). UnitReads (gatherer_story l.gatherer) c.args.order l.rest.now [] x
+    let r = subst (λ (x : UnitRead). UnitReads (gatherer_story l.gatherer) c.args.dialect l.rest.now [] x
     c.read_unit.new.sink) c.in-Stopped.is (c.read_unit.ensures.read l.gatherer [] (λ places units stands. stands)) in
     absurd r.4
 
 pub returns-in-Damaged : goal.returns-in-Damaged
 returns-in-Damaged c =
     let l = c.units in
-    let r = subst (λ (x : UnitRead). UnitReads (gatherer_story l.gatherer) c.args.order l.rest.now [] x
+    let r = subst (λ (x : UnitRead). UnitReads (gatherer_story l.gatherer) c.args.dialect l.rest.now [] x
     c.read_unit.new.sink) c.in-Damaged.is (c.read_unit.ensures.read l.gatherer [] (λ places units stands. stands)) in
     λ addresses stands. (
       l.invariant.units,
       r.0,
       r.1,
-      subst (λ (n : ℕ). EndsAs c.args.order (length c.args.section.now) c.args.section.now (Some []) l.invariant.units
+      subst (λ (n : ℕ). EndsAs c.args.dialect (length c.args.section.now) c.args.section.now (Some []) l.invariant.units
           r.0 r.1 (Err (run.Damage n c.in-Damaged.fault.kind)))
           (sym (c.saturating_add-at.ensures
           ∙ ap (λ (n : ℕ). add n c.in-Damaged.fault.offset) c.offset_of-unit.ensures.offset))
-          (damaged c.args.order c.args.section.now l.rest.now l.invariant.units l.invariant.has r.0 r.1
+          (damaged c.args.dialect c.args.section.now l.rest.now l.invariant.units l.invariant.has r.0 r.1
           c.in-Damaged.fault r.2 r.3 c.offset_of-unit.ensures.small),
       l.invariant.told addresses stands,
     )
@@ -99,12 +100,12 @@ returns-in-Damaged c =
 pub returns-in-NoMemory : goal.returns-in-NoMemory
 returns-in-NoMemory c =
     let l = c.units in
-    let r = subst (λ (x : UnitRead). UnitReads (gatherer_story l.gatherer) c.args.order l.rest.now [] x
+    let r = subst (λ (x : UnitRead). UnitReads (gatherer_story l.gatherer) c.args.dialect l.rest.now [] x
     c.read_unit.new.sink) c.in-NoMemory.is (c.read_unit.ensures.read l.gatherer [] (λ places units stands. stands)) in
     λ addresses stands. (
       l.invariant.units,
       r.0,
       r.1,
-      unmet c.args.order c.args.section.now l.rest.now l.invariant.units l.invariant.has r.0 r.1 r.2 r.3 r.4,
+      unmet c.args.dialect c.args.section.now l.rest.now l.invariant.units l.invariant.has r.0 r.1 r.2 r.3 r.4,
       l.invariant.told addresses stands,
     )

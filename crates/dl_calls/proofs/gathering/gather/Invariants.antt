@@ -13,9 +13,9 @@ decreases-units l = length l.rest
 abbrev pub invariant-units : goal.invariant-units
 invariant-units l = record {
   units : List (List ℕ);
-  has : HasUnits l.fn.order l.section units l.rest;
+  has : HasUnits l.fn.dialect l.section units l.rest;
   stand : (addresses : List ℕ) → Stand l.fn.finders (map place_of_address addresses) [] []
-      → Stand l.gatherer.finders (map place_of_address addresses) (map (unit_rows l.fn.order) units) [];
+      → Stand l.gatherer.finders (map place_of_address addresses) (map (unit_rows l.fn.dialect) units) [];
   told : (addresses : List ℕ) → Stand l.fn.finders (map place_of_address addresses) [] []
-      → Placed l.fn.order units addresses l.initial.rows l.rows l.initial.units l.units;
+      → Placed l.fn.dialect units addresses l.initial.rows l.rows l.initial.units l.units;
 }

@@ -1,5 +1,5 @@
 use Rattle.std.proofs.Common.{List, [], ℕ, drop, refl, sym, ap, ◌∙◌, subst}
-use Rattle.dl_num.specs.declared.fixed.Order.{Order}
+use Rattle.dl_head.specs.declared.dialect.Dialect.{Dialect}
 use Rattle.dl_head.specs.Header.{foreign_in}
 use Rattle.dl_print.specs.ValueText.{Strings}
 use Rattle.dl_run.specs.Section.{header_of}
@@ -15,19 +15,19 @@ use Rattle.dl_calls.proofs.naming.path_at.Goals as goal
 pub returns-in-Whole : goal.returns-in-Whole
 returns-in-Whole c =
     let r = c.in-Whole.ensures.read (record { sequences = 0; rows = 0 }) [] none_counted in
-    let o = c.order_of.result in
+    let d = c.dialect_of.result in
     let t = c.rest_from.result.now in
     let s = both_strings c.args.line_str.now c.args.str.now in
-    subst (λ (order : Order). TellsPath order (drop c.args.offset c.args.section.now) c.args.offset s c.args.file
+    subst (λ (d : Dialect). TellsPath d (drop c.args.offset c.args.section.now) c.args.offset s c.args.file
     c.args.path.now c.name.new.path c.args.len.now c.name.new.len c.args.fault.now c.args.fault.now c.name.result)
-    c.order_of.ensures
-    (subst (λ (l : List ℕ). TellsPath o l c.args.offset s c.args.file c.args.path.now c.name.new.path c.args.len.now
+    c.dialect_of.ensures
+    (subst (λ (l : List ℕ). TellsPath d l c.args.offset s c.args.file c.args.path.now c.name.new.path c.args.len.now
     c.name.new.len c.args.fault.now c.args.fault.now c.name.result) c.rest_from.ensures.bytes
-    (named o t c.args.offset s c.args.file c.args.path.now c.name.new.path c.args.len.now c.name.new.len
-    c.args.fault.now r.0 (begins o t c.in-Whole.whole r.0 r.1) c.name.result
-    (subst (λ (x : Strings). Names (foreign_in o r.0) (path_or_missing (path_of x (header_of o r.0) c.args.file))
+    (named d t c.args.offset s c.args.file c.args.path.now c.name.new.path c.args.len.now c.name.new.len
+    c.args.fault.now r.0 (begins d t c.in-Whole.whole r.0 r.1) c.name.result
+    (subst (λ (x : Strings). Names (foreign_in d r.0) (path_or_missing (path_of x (header_of d r.0) c.args.file))
     c.args.path.now c.name.new.path c.args.len.now c.name.new.len c.name.result) c.new-strings.ensures
-    (c.name.ensures o t r.0 r.1))))
+    (c.name.ensures d t r.0 r.1))))
 
 pub returns-in-Empty : goal.returns-in-Empty
 returns-in-Empty c =
@@ -42,34 +42,34 @@ returns-in-Stopped c =
 pub returns-in-Damaged : goal.returns-in-Damaged
 returns-in-Damaged c =
     let r = c.in-Damaged.ensures.read (record { sequences = 0; rows = 0 }) [] none_counted in
-    let o = c.order_of.result in
+    let d = c.dialect_of.result in
     let t = c.rest_from.result.now in
     let short = short_rest c.args.section.now t c.args.offset c.rest_from.ensures.bytes c.rest_from.ensures.small in
-    subst (λ (order : Order). TellsPath order (drop c.args.offset c.args.section.now) c.args.offset
+    subst (λ (d : Dialect). TellsPath d (drop c.args.offset c.args.section.now) c.args.offset
     (both_strings c.args.line_str.now c.args.str.now) c.args.file c.args.path.now c.args.path.now c.args.len.now
-    c.args.len.now c.args.fault.now c.of.result status.Fault) c.order_of.ensures
-    (subst (λ (l : List ℕ). TellsPath o l c.args.offset (both_strings c.args.line_str.now c.args.str.now) c.args.file
+    c.args.len.now c.args.fault.now c.of.result status.Fault) c.dialect_of.ensures
+    (subst (λ (l : List ℕ). TellsPath d l c.args.offset (both_strings c.args.line_str.now c.args.str.now) c.args.file
     c.args.path.now c.args.path.now c.args.len.now c.args.len.now c.args.fault.now c.of.result status.Fault)
     c.rest_from.ensures.bytes (
       r.0,
       c.in-Damaged.found.offset,
       c.in-Damaged.found.kind,
-      stops_damaged o t r.0 r.1 c.in-Damaged.found r.2 r.3 short,
+      stops_damaged d t r.0 r.1 c.in-Damaged.found r.2 r.3 short,
       refl,
       refl,
       c.of.ensures ∙ ap (λ (n : ℕ). record_of n c.in-Damaged.found.kind) (c.saturating_add-at.ensures
-          ∙ offset_is o t r.0 r.1 c.in-Damaged.found r.2 r.3 c.args.section.now c.args.offset
+          ∙ offset_is d t r.0 r.1 c.in-Damaged.found r.2 r.3 c.args.section.now c.args.offset
           c.rest_from.ensures.bytes c.rest_from.ensures.small c.ranges.offset.fits),
     ))
 
 pub returns-in-NoMemory : goal.returns-in-NoMemory
 returns-in-NoMemory c =
     let r = c.in-NoMemory.ensures.read (record { sequences = 0; rows = 0 }) [] none_counted in
-    let o = c.order_of.result in
+    let d = c.dialect_of.result in
     let t = c.rest_from.result.now in
-    subst (λ (order : Order). TellsPath order (drop c.args.offset c.args.section.now) c.args.offset
+    subst (λ (d : Dialect). TellsPath d (drop c.args.offset c.args.section.now) c.args.offset
     (both_strings c.args.line_str.now c.args.str.now) c.args.file c.args.path.now c.args.path.now c.args.len.now
-    c.args.len.now c.args.fault.now c.args.fault.now status.NoMemory) c.order_of.ensures
-    (subst (λ (l : List ℕ). TellsPath o l c.args.offset (both_strings c.args.line_str.now c.args.str.now) c.args.file
+    c.args.len.now c.args.fault.now c.args.fault.now status.NoMemory) c.dialect_of.ensures
+    (subst (λ (l : List ℕ). TellsPath d l c.args.offset (both_strings c.args.line_str.now c.args.str.now) c.args.file
     c.args.path.now c.args.path.now c.args.len.now c.args.len.now c.args.fault.now c.args.fault.now status.NoMemory)
-    c.rest_from.ensures.bytes (r.0, stops_unmet o t r.0 r.1 r.2 r.3 r.4, refl, refl, refl))
+    c.rest_from.ensures.bytes (r.0, stops_unmet d t r.0 r.1 r.2 r.3 r.4, refl, refl, refl))

@@ -1,5 +1,5 @@
 use Rattle.std.proofs.Common.{List, [], ℕ, drop, refl, sym, ap, ◌∙◌, subst}
-use Rattle.dl_num.specs.declared.fixed.Order.{Order}
+use Rattle.dl_head.specs.declared.dialect.Dialect.{Dialect}
 use Rattle.dl_head.specs.Header.{foreign_in}
 use Rattle.dl_print.specs.ValueText.{Strings}
 use Rattle.dl_run.specs.Section.{header_of}
@@ -15,20 +15,20 @@ use Rattle.dl_calls.proofs.paths.paths_at.Goals as goal
 pub returns-in-Whole : goal.returns-in-Whole
 returns-in-Whole c =
     let r = c.in-Whole.ensures.read (record { sequences = 0; rows = 0 }) [] none_counted in
-    let o = c.order_of.result in
+    let d = c.dialect_of.result in
     let t = c.rest_from.result.now in
     let s = both_strings c.args.line_str.now c.args.str.now in
-    subst (λ (order : Order). TellsPaths order (drop c.args.offset c.args.section.now) c.args.offset s c.args.files.now
+    subst (λ (d : Dialect). TellsPaths d (drop c.args.offset c.args.section.now) c.args.offset s c.args.files.now
     c.args.paths.now c.name_all.new.paths c.args.ends.now c.name_all.new.ends c.args.fault.now c.args.fault.now
-    c.name_all.result) c.order_of.ensures
-    (subst (λ (l : List ℕ). TellsPaths o l c.args.offset s c.args.files.now c.args.paths.now c.name_all.new.paths
+    c.name_all.result) c.dialect_of.ensures
+    (subst (λ (l : List ℕ). TellsPaths d l c.args.offset s c.args.files.now c.args.paths.now c.name_all.new.paths
     c.args.ends.now c.name_all.new.ends c.args.fault.now c.args.fault.now c.name_all.result)
     c.rest_from.ensures.bytes
-    (named_all o t c.args.offset s c.args.files.now c.args.paths.now c.name_all.new.paths c.args.ends.now
-    c.name_all.new.ends c.args.fault.now r.0 (begins o t c.in-Whole.whole r.0 r.1) c.name_all.result
-    (subst (λ (x : Strings). NamesAll (foreign_in o r.0) (paths_of x (header_of o r.0) c.args.files.now)
+    (named_all d t c.args.offset s c.args.files.now c.args.paths.now c.name_all.new.paths c.args.ends.now
+    c.name_all.new.ends c.args.fault.now r.0 (begins d t c.in-Whole.whole r.0 r.1) c.name_all.result
+    (subst (λ (x : Strings). NamesAll (foreign_in d r.0) (paths_of x (header_of d r.0) c.args.files.now)
     c.args.paths.now c.name_all.new.paths c.args.ends.now c.name_all.new.ends c.name_all.result) c.new-strings.ensures
-    (c.name_all.ensures o t r.0 r.1))))
+    (c.name_all.ensures d t r.0 r.1))))
 
 pub returns-in-Empty : goal.returns-in-Empty
 returns-in-Empty c =
@@ -43,35 +43,35 @@ returns-in-Stopped c =
 pub returns-in-Damaged : goal.returns-in-Damaged
 returns-in-Damaged c =
     let r = c.in-Damaged.ensures.read (record { sequences = 0; rows = 0 }) [] none_counted in
-    let o = c.order_of.result in
+    let d = c.dialect_of.result in
     let t = c.rest_from.result.now in
     let short = short_rest c.args.section.now t c.args.offset c.rest_from.ensures.bytes c.rest_from.ensures.small in
-    subst (λ (order : Order). TellsPaths order (drop c.args.offset c.args.section.now) c.args.offset
+    subst (λ (d : Dialect). TellsPaths d (drop c.args.offset c.args.section.now) c.args.offset
     (both_strings c.args.line_str.now c.args.str.now) c.args.files.now c.args.paths.now c.args.paths.now
-    c.args.ends.now c.args.ends.now c.args.fault.now c.of.result status.Fault) c.order_of.ensures
-    (subst (λ (l : List ℕ). TellsPaths o l c.args.offset (both_strings c.args.line_str.now c.args.str.now)
+    c.args.ends.now c.args.ends.now c.args.fault.now c.of.result status.Fault) c.dialect_of.ensures
+    (subst (λ (l : List ℕ). TellsPaths d l c.args.offset (both_strings c.args.line_str.now c.args.str.now)
     c.args.files.now c.args.paths.now c.args.paths.now c.args.ends.now c.args.ends.now c.args.fault.now c.of.result
     status.Fault) c.rest_from.ensures.bytes (
       r.0,
       c.in-Damaged.found.offset,
       c.in-Damaged.found.kind,
-      stops_damaged o t r.0 r.1 c.in-Damaged.found r.2 r.3 short,
+      stops_damaged d t r.0 r.1 c.in-Damaged.found r.2 r.3 short,
       refl,
       refl,
       c.of.ensures ∙ ap (λ (n : ℕ). record_of n c.in-Damaged.found.kind) (c.saturating_add-at.ensures
-          ∙ offset_is o t r.0 r.1 c.in-Damaged.found r.2 r.3 c.args.section.now c.args.offset
+          ∙ offset_is d t r.0 r.1 c.in-Damaged.found r.2 r.3 c.args.section.now c.args.offset
           c.rest_from.ensures.bytes c.rest_from.ensures.small c.ranges.offset.fits),
     ))
 
 pub returns-in-NoMemory : goal.returns-in-NoMemory
 returns-in-NoMemory c =
     let r = c.in-NoMemory.ensures.read (record { sequences = 0; rows = 0 }) [] none_counted in
-    let o = c.order_of.result in
+    let d = c.dialect_of.result in
     let t = c.rest_from.result.now in
-    subst (λ (order : Order). TellsPaths order (drop c.args.offset c.args.section.now) c.args.offset
+    subst (λ (d : Dialect). TellsPaths d (drop c.args.offset c.args.section.now) c.args.offset
     (both_strings c.args.line_str.now c.args.str.now) c.args.files.now c.args.paths.now c.args.paths.now
-    c.args.ends.now c.args.ends.now c.args.fault.now c.args.fault.now status.NoMemory) c.order_of.ensures
-    (subst (λ (l : List ℕ). TellsPaths o l c.args.offset (both_strings c.args.line_str.now c.args.str.now)
+    c.args.ends.now c.args.ends.now c.args.fault.now c.args.fault.now status.NoMemory) c.dialect_of.ensures
+    (subst (λ (l : List ℕ). TellsPaths d l c.args.offset (both_strings c.args.line_str.now c.args.str.now)
     c.args.files.now c.args.paths.now c.args.paths.now c.args.ends.now c.args.ends.now c.args.fault.now
     c.args.fault.now status.NoMemory)
-    c.rest_from.ensures.bytes (r.0, stops_unmet o t r.0 r.1 r.2 r.3 r.4, refl, refl, refl))
+    c.rest_from.ensures.bytes (r.0, stops_unmet d t r.0 r.1 r.2 r.3 r.4, refl, refl, refl))

@@ -15,8 +15,8 @@ events-init g c = record {
     n = 0;
     within = omega arith;
     rest_is = refl;
-    stands = c.new-reader.ensures.stands;
-    order_is = c.new-reader.ensures.order;
+    stands = c.of-reader.ensures.stands;
+    dialect_is = c.of-reader.ensures.dialect;
     version_is = refl;
     hears = subst (λ (l : List Row). (g.S.RowSink.story first).hears c.args.sink.now l) (sym (append-nil before)) hears;
   };
@@ -29,11 +29,11 @@ returns-in-Err-clause-read g c first before hears =
     let story = g.S.RowSink.story first in
     let v = c.feed_rows.new.self in
     let w = c.feed_rows.new.sink in
-    let r = subst (λ (x : Result Fed Fault). RowsFed story l.reader.order (take so.n c.args.bytes.now) l.rest.now
-    (before ++ unit_rows c.args.order (take so.n c.args.bytes.now)) x v w)
+    let r = subst (λ (x : Result Fed Fault). RowsFed story l.reader.dialect (take so.n c.args.bytes.now) l.rest.now
+    (before ++ unit_rows c.args.dialect (take so.n c.args.bytes.now)) x v w)
     c.in-Err.is (c.feed_rows.ensures.fed (take so.n c.args.bytes.now) _ first so.stands so.hears) in
-    damaged story c.args.order c.args.bytes.now before l.reader l.sink l.version l.rest.now so v
-    c.feed_rows.ensures.order w c.in-Err.fault r
+    damaged story c.args.dialect c.args.bytes.now before l.reader l.sink l.version l.rest.now so v
+    c.feed_rows.ensures.dialect w c.in-Err.fault r
 
 pub returns-in-More-clause-read : goal.returns-in-More-clause-read
 returns-in-More-clause-read g c first before hears =
@@ -42,13 +42,14 @@ returns-in-More-clause-read g c first before hears =
     let story = g.S.RowSink.story first in
     let v = c.feed_rows.new.self in
     let w = c.feed_rows.new.sink in
-    let r = subst (λ (x : Result Fed Fault). RowsFed story l.reader.order (take so.n c.args.bytes.now) l.rest.now
-    (before ++ unit_rows c.args.order (take so.n c.args.bytes.now)) x v w)
+    let r = subst (λ (x : Result Fed Fault). RowsFed story l.reader.dialect (take so.n c.args.bytes.now) l.rest.now
+    (before ++ unit_rows c.args.dialect (take so.n c.args.bytes.now)) x v w)
     c.in-Ok.is (c.feed_rows.ensures.fed (take so.n c.args.bytes.now) _ first so.stands so.hears) in
-    over story c.args.order c.args.bytes.now before l.reader l.sink l.version l.rest.now so v
-    c.feed_rows.ensures.order w c.in-Ok.fed r c.in-More.is c.at_end.result
-    (c.at_end.ensures.read _ (stands story c.args.order c.args.bytes.now before l.reader l.sink l.version l.rest.now so v
-    c.feed_rows.ensures.order w c.in-Ok.fed r))
+    over story c.args.dialect c.args.bytes.now before l.reader l.sink l.version l.rest.now so v
+    c.feed_rows.ensures.dialect w c.in-Ok.fed r c.in-More.is c.at_end.result
+    (c.at_end.ensures.read _ (stands story c.args.dialect c.args.bytes.now before l.reader l.sink l.version
+    l.rest.now so v
+    c.feed_rows.ensures.dialect w c.in-Ok.fed r))
 
 pub returns-in-End-clause-read : goal.returns-in-End-clause-read
 returns-in-End-clause-read g c first before hears =
@@ -57,11 +58,11 @@ returns-in-End-clause-read g c first before hears =
     let story = g.S.RowSink.story first in
     let v = c.feed_rows.new.self in
     let w = c.feed_rows.new.sink in
-    let r = subst (λ (x : Result Fed Fault). RowsFed story l.reader.order (take so.n c.args.bytes.now) l.rest.now
-    (before ++ unit_rows c.args.order (take so.n c.args.bytes.now)) x v w)
+    let r = subst (λ (x : Result Fed Fault). RowsFed story l.reader.dialect (take so.n c.args.bytes.now) l.rest.now
+    (before ++ unit_rows c.args.dialect (take so.n c.args.bytes.now)) x v w)
     c.in-Ok.is (c.feed_rows.ensures.fed (take so.n c.args.bytes.now) _ first so.stands so.hears) in
-    ended story c.args.order c.args.bytes.now before l.reader l.sink l.version l.rest.now so v
-    c.feed_rows.ensures.order w c.in-Ok.fed r c.in-End.is _ (search)
+    ended story c.args.dialect c.args.bytes.now before l.reader l.sink l.version l.rest.now so v
+    c.feed_rows.ensures.dialect w c.in-Ok.fed r c.in-End.is _ (search)
 
 pub returns-in-NoMemory-clause-read : goal.returns-in-NoMemory-clause-read
 returns-in-NoMemory-clause-read g c first before hears =
@@ -70,11 +71,11 @@ returns-in-NoMemory-clause-read g c first before hears =
     let story = g.S.RowSink.story first in
     let v = c.feed_rows.new.self in
     let w = c.feed_rows.new.sink in
-    let r = subst (λ (x : Result Fed Fault). RowsFed story l.reader.order (take so.n c.args.bytes.now) l.rest.now
-    (before ++ unit_rows c.args.order (take so.n c.args.bytes.now)) x v w)
+    let r = subst (λ (x : Result Fed Fault). RowsFed story l.reader.dialect (take so.n c.args.bytes.now) l.rest.now
+    (before ++ unit_rows c.args.dialect (take so.n c.args.bytes.now)) x v w)
     c.in-Ok.is (c.feed_rows.ensures.fed (take so.n c.args.bytes.now) _ first so.stands so.hears) in
-    unmet story c.args.order c.args.bytes.now before l.reader l.sink l.version l.rest.now so v
-    c.feed_rows.ensures.order w c.in-Ok.fed r c.in-NoMemory.is
+    unmet story c.args.dialect c.args.bytes.now before l.reader l.sink l.version l.rest.now so v
+    c.feed_rows.ensures.dialect w c.in-Ok.fed r c.in-NoMemory.is
 
 pub returns-in-Row-clause-read : goal.returns-in-Row-clause-read
 returns-in-Row-clause-read g c first before hears =
@@ -83,11 +84,11 @@ returns-in-Row-clause-read g c first before hears =
     let story = g.S.RowSink.story first in
     let v = c.feed_rows.new.self in
     let w = c.feed_rows.new.sink in
-    let r = subst (λ (x : Result Fed Fault). RowsFed story l.reader.order (take so.n c.args.bytes.now) l.rest.now
-    (before ++ unit_rows c.args.order (take so.n c.args.bytes.now)) x v w)
+    let r = subst (λ (x : Result Fed Fault). RowsFed story l.reader.dialect (take so.n c.args.bytes.now) l.rest.now
+    (before ++ unit_rows c.args.dialect (take so.n c.args.bytes.now)) x v w)
     c.in-Ok.is (c.feed_rows.ensures.fed (take so.n c.args.bytes.now) _ first so.stands so.hears) in
-    stopped story c.args.order c.args.bytes.now before l.reader l.sink l.version l.rest.now so v
-    c.feed_rows.ensures.order w c.in-Ok.fed r _ c.in-Row.is
+    stopped story c.args.dialect c.args.bytes.now before l.reader l.sink l.version l.rest.now so v
+    c.feed_rows.ensures.dialect w c.in-Ok.fed r _ c.in-Row.is
 
 pub events-preserved-in-Header : goal.events-preserved-in-Header
 events-preserved-in-Header g c = record {
@@ -106,11 +107,11 @@ events-preserved-in-Header g c = record {
       let story = g.S.RowSink.story first in
       let v = c.feed_rows.new.self in
       let w = c.feed_rows.new.sink in
-      let r = subst (λ (x : Result Fed Fault). RowsFed story l.reader.order (take so.n c.args.bytes.now) l.rest.now
-      (before ++ unit_rows c.args.order (take so.n c.args.bytes.now)) x v w)
+      let r = subst (λ (x : Result Fed Fault). RowsFed story l.reader.dialect (take so.n c.args.bytes.now) l.rest.now
+      (before ++ unit_rows c.args.dialect (take so.n c.args.bytes.now)) x v w)
       c.in-Ok.is (c.feed_rows.ensures.fed (take so.n c.args.bytes.now) _ first so.stands so.hears) in
-      after_header story c.args.order c.args.bytes.now before l.reader l.sink l.version l.rest.now so v
-      c.feed_rows.ensures.order w c.in-Ok.fed r c.in-Header.is;
+      after_header story c.args.dialect c.args.bytes.now before l.reader l.sink l.version l.rest.now so v
+      c.feed_rows.ensures.dialect w c.in-Ok.fed r c.in-Header.is;
 }
 
 pub events-preserved : goal.events-preserved
@@ -130,9 +131,9 @@ events-preserved g c = record {
       let story = g.S.RowSink.story first in
       let v = c.feed_rows.new.self in
       let w = c.feed_rows.new.sink in
-      let r = subst (λ (x : Result Fed Fault). RowsFed story l.reader.order (take so.n c.args.bytes.now) l.rest.now
-      (before ++ unit_rows c.args.order (take so.n c.args.bytes.now)) x v w)
+      let r = subst (λ (x : Result Fed Fault). RowsFed story l.reader.dialect (take so.n c.args.bytes.now) l.rest.now
+      (before ++ unit_rows c.args.dialect (take so.n c.args.bytes.now)) x v w)
       c.in-Ok.is (c.feed_rows.ensures.fed (take so.n c.args.bytes.now) _ first so.stands so.hears) in
-      after_version story c.args.order c.args.bytes.now before l.reader l.sink l.version l.rest.now so v
-      c.feed_rows.ensures.order w c.in-Ok.fed r _ c.in-Foreign.is;
+      after_version story c.args.dialect c.args.bytes.now before l.reader l.sink l.version l.rest.now so v
+      c.feed_rows.ensures.dialect w c.in-Ok.fed r _ c.in-Foreign.is;
 }

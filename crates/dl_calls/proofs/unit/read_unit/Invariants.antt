@@ -11,5 +11,5 @@ abbrev pub invariant-events : goal.invariant-events
 invariant-events g l = record {
   short : length l.rest ≤ length l.bytes;
   read : (first : g.row.S.Denot) (before : List Row) → (g.S.RowSink.story first).hears l.initial.sink before
-      → ReadUpTo (g.S.RowSink.story first) l.fn.order l.bytes before l.reader l.sink l.version l.rest;
+      → ReadUpTo (g.S.RowSink.story first) l.fn.dialect l.bytes before l.reader l.sink l.version l.rest;
 }

@@ -2,6 +2,7 @@ use Rattle.std.proofs.Common.{Ok, Err}
 use Rattle.std.proofs.lemmas.Result.{err_from_is_err_and}
 use Rattle.std.proofs.KnownBytes.{Keeps-refl}
 use Rattle.dl_emit.proofs.UnitLemmas.{refused_first, header_failed, program_written}
+use Rattle.dl_head.specs.Dialect.{version_5}
 use Rattle.dl_emit.proofs.ReadAgain.{unit_is_read_again}
 use Rattle.dl_emit.proofs.unit.write_unit.Goals as goal
 
@@ -42,4 +43,4 @@ returns-clause-readable g c =
     let out =
     program_written c.args.header.now c.args.rows.now c.args.order _ _ c.in_ok-program_len.program_len
     c.in_ok-out.out _ (Ok c.in_ok-write_program.field-0) told.ok told.len c.in_ok-out.ensures written in
-    unit_is_read_again c.args.order c.args.header.now c.args.rows.now c.params.ensures.sound told.rows out.0
+    unit_is_read_again (version_5 c.args.order) c.args.header.now c.args.rows.now c.params.ensures.sound told.rows out.0

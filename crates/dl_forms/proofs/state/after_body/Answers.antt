@@ -1,6 +1,6 @@
 use Rattle.std.proofs.Common.{◌≤◌, ◌++◌, ◌-◌, List, ℕ, arith, drop, length, sym, subst, take, []}
 use Rattle.std.proofs.lemmas.List.{take_all}
-use Rattle.dl_num.specs.declared.fixed.Order.{Order}
+use Rattle.dl_head.specs.declared.dialect.Dialect.{Dialect}
 use Rattle.dl_forms.specs.Names.{AddsCellFrom}
 use Rattle.dl_forms.specs.declared.state.State.TheVariants as state
 use Rattle.dl_forms.specs.Standing.{Onward, StandsAt}
@@ -11,9 +11,9 @@ pub returns-then-left-piece-clause-stands : goal.returns-then-left-piece-clause-
 returns-then-left-piece-clause-stands c b stands =
     let piece = c.args.piece.now in (
       c.requires,
-      subst (λ (z : List ℕ). StandsAt c.args.order (state.Body (c.args.left - length piece)) (b ++ z))
+      subst (λ (z : List ℕ). StandsAt c.args.dialect (state.Body (c.args.left - length piece)) (b ++ z))
           (sym (take_all (length piece) piece (omega arith)))
-          (body_goes c.args.order b piece c.args.left stands c.if-left-piece.true),
+          (body_goes c.args.dialect b piece c.args.left stands c.if-left-piece.true),
     )
 
 pub returns-in_default-clause-memory : goal.returns-in_default-clause-memory
@@ -21,13 +21,13 @@ returns-in_default-clause-memory c b stands =
     let piece = c.args.piece.now in
     let left = c.args.left in
     let le : left ≤ length piece = omega (arith, c.if-left-piece.false) in
-    wants_further c.args.order b piece left
-    (subst (λ (o : Order). AddsCellFrom o (length (b ++ take left piece))
+    wants_further c.args.dialect b piece left
+    (subst (λ (d : Dialect). AddsCellFrom d (length (b ++ take left piece))
     ((b ++ take left piece) ++ take (length piece - left) (drop left piece)))
-    c.new.ensures.order
+    c.new.ensures.dialect
     (c.in_default.ensures.memory (b ++ take left piece) [] (begins_none c.new.result c.new.ensures.stands)
-    (subst (λ (o : Order). Onward o (b ++ take left piece) []) (sym c.new.ensures.order)
-    (body_ends c.args.order b piece left stands le))))
+    (subst (λ (d : Dialect). Onward d (b ++ take left piece) []) (sym c.new.ensures.dialect)
+    (body_ends c.args.dialect b piece left stands le))))
 
 pub returns-clause-stands : goal.returns-clause-stands
 returns-clause-stands c b stands =
@@ -35,13 +35,13 @@ returns-clause-stands c b stands =
     let left = c.args.left in
     let le : left ≤ length piece = omega (arith, c.if-left-piece.false) in
     let found = c.in-Ok.ensures.stands (b ++ take left piece) [] (begins_none c.new.result c.new.ensures.stands)
-    (subst (λ (o : Order). Onward o (b ++ take left piece) []) (sym c.new.ensures.order)
-    (body_ends c.args.order b piece left stands le)) in
+    (subst (λ (d : Dialect). Onward d (b ++ take left piece) []) (sym c.new.ensures.dialect)
+    (body_ends c.args.dialect b piece left stands le)) in
     let some = found.0 in (
       omega (arith, some),
-      subst (λ (z : List ℕ). StandsAt c.args.order c.in-Ok.state z)
+      subst (λ (z : List ℕ). StandsAt c.args.dialect c.in-Ok.state z)
           (further b piece left c.in-Ok.used le c.in-Ok.ensures.within)
-          (subst (λ (o : Order). StandsAt o c.in-Ok.state
+          (subst (λ (d : Dialect). StandsAt d c.in-Ok.state
           ((b ++ take left piece) ++ take c.in-Ok.used (take (length piece - left) (drop left piece))))
-          c.new.ensures.order found.1),
+          c.new.ensures.dialect found.1),
     )

@@ -11,11 +11,14 @@ returns-then-is_named c b w is onward rest =
 
 pub returns-in-Some : goal.returns-in-Some
 returns-in-Some c b w is onward =
-    let order = c.args.reader.now.order in
-    subst (λ (n : ℕ). (rest : List ℕ) → Names order (b ++ rest) ↔ Names order (drop n rest)) (sym c.saturating_sub.ensures)
-    (in_body c.args.reader.now b w is onward (option_copied c.header.result) c.header.ensures c.in-Some.len c.taken.result
+    let dialect = c.args.reader.now.dialect in
+    subst (λ (n : ℕ). (rest : List ℕ) → Names dialect (b ++ rest) ↔ Names dialect (drop n rest))
+    (sym c.saturating_sub.ensures)
+    (in_body c.args.reader.now b w is onward (option_copied c.header.result) c.header.ensures c.in-Some.len
+    c.taken.result
     (c.in-Some.ensures.unit w is.stands) (c.in-Some.ensures.within w is.stands) (c.taken.ensures w is.stands)
     (sym c.is_named.ensures ∙ c.if-is_named.false))
 
 pub returns-in-None : goal.returns-in-None
-returns-in-None c b w is onward rest named = absurd (len_told c.args.reader.now w is (c.in-None.ensures.unit w is.stands))
+returns-in-None c b w is onward rest named =
+    absurd (len_told c.args.reader.now w is (c.in-None.ensures.unit w is.stands))

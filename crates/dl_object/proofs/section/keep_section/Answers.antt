@@ -10,4 +10,4 @@ returns-clause-kept c =
     IfOk-weaker c.keep_units-2.result _ _
     (λ done k. same_kept c.args.places.now c.as_slice.result.now c.args.section
     (λ at. ap (λ (l : List Placed). section_at l at) c.as_slice.ensures.value ∙ c.in_ok-sorted.ensures.same at)
-    c.args.order k) c.keep_units-2.ensures.kept
+    c.args.dialect k) c.keep_units-2.ensures.kept

@@ -7,7 +7,7 @@ invariant-loop-head l =
     record {
       len : length l.bytes ≡ length l.fn.bytes;
       within : l.at ≤ length l.bytes;
-      so_far : UnitsReplaced l.order l.wanted.places.now l.wanted.section l.fn.bytes l.bytes l.at;
+      so_far : UnitsReplaced l.dialect l.wanted.places.now l.wanted.section l.fn.bytes l.bytes l.at;
     }
 
 abbrev pub decreases-loop-head : goal.decreases-loop-head

@@ -19,7 +19,7 @@ returns-in_err-summary g c =
     rw (p.1, p.2) (
       read.0,
       read.1,
-      failed options.order options.limit read.0 (g.R.Read.remaining c.read_units.new.input) first
+      failed options.dialect options.limit read.0 (g.R.Read.remaining c.read_units.new.input) first
           c.read_units.new.visitor start mid mid _ ran,
     )
 
@@ -33,7 +33,7 @@ returns-in_err-summary-2 g c =
     let read = c.in_ok-summary.ensures in
     let ran = read.2 (Appends-nil start) (Appends-nil start) in
     let left = g.R.Read.remaining c.read_units.new.input in
-    let kept = (counted options.order options.limit read.0 left first c.read_units.new.visitor start mid mid
+    let kept = (counted options.dialect options.limit read.0 left first c.read_units.new.visitor start mid mid
     c.in_ok-summary.summary ran).1 in
     let nothing = HasPrinted-nothing start mid c.new-printer.result kept c.new-printer.ensures.nothing_pending
     c.new-printer.ensures.nothing_out in
@@ -41,7 +41,7 @@ returns-in_err-summary-2 g c =
     rw (p.1, p.2) (
       read.0,
       read.1,
-      line_lost options.order options.limit read.0 left first c.read_units.new.visitor start mid now
+      line_lost options.dialect options.limit read.0 left first c.read_units.new.visitor start mid now
           c.in_ok-summary.summary _ ran (c.in_err-summary-2.ensures.printed start [] nothing),
     )
 
@@ -55,7 +55,7 @@ returns-in_err-flush g c =
     let read = c.in_ok-summary.ensures in
     let ran = read.2 (Appends-nil start) (Appends-nil start) in
     let left = g.R.Read.remaining c.read_units.new.input in
-    let kept = (counted options.order options.limit read.0 left first c.read_units.new.visitor start mid mid
+    let kept = (counted options.dialect options.limit read.0 left first c.read_units.new.visitor start mid mid
     c.in_ok-summary.summary ran).1 in
     let nothing = HasPrinted-nothing start mid c.new-printer.result kept c.new-printer.ensures.nothing_pending
     c.new-printer.ensures.nothing_out in
@@ -64,7 +64,7 @@ returns-in_err-flush g c =
     rw (p.1, p.2) (
       read.0,
       read.1,
-      line_lost options.order options.limit read.0 left first c.read_units.new.visitor start mid now
+      line_lost options.dialect options.limit read.0 left first c.read_units.new.visitor start mid now
           c.in_ok-summary.summary _ ran
           (c.in_err-flush.ensures.printed start (summary_line c.in_ok-summary.summary) printed),
     )
@@ -78,7 +78,7 @@ returns g c =
     let read = c.in_ok-summary.ensures in
     let ran = read.2 (Appends-nil start) (Appends-nil start) in
     let left = g.R.Read.remaining c.read_units.new.input in
-    let kept = (counted options.order options.limit read.0 left first c.read_units.new.visitor start mid mid
+    let kept = (counted options.dialect options.limit read.0 left first c.read_units.new.visitor start mid mid
     c.in_ok-summary.summary ran).1 in
     let nothing = HasPrinted-nothing start mid c.new-printer.result kept c.new-printer.ensures.nothing_pending
     c.new-printer.ensures.nothing_out in
@@ -89,6 +89,6 @@ returns g c =
     c.in_ok-flush.ensures.empty in (
       read.0,
       read.1,
-      line_out options.order options.limit read.0 left first c.read_units.new.visitor start mid now
+      line_out options.dialect options.limit read.0 left first c.read_units.new.visitor start mid now
           c.in_ok-summary.summary ran out,
     )

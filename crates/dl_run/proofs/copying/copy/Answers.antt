@@ -21,7 +21,7 @@ returns g c =
     (Appends-nil start) in (
       read.0,
       read.1,
-      copies options.order options.limit read.0 (g.R.Read.remaining c.read_units.new.input) first
+      copies options.dialect options.limit read.0 (g.R.Read.remaining c.read_units.new.input) first
           c.read_units.new.visitor start (g.W.Write.contents c.read_units.new.output) c.new-2.ensures.order
           c.read_units.result ran,
     )

@@ -18,11 +18,11 @@ returns g c =
     let ran = read.2 (record { strings = refl; printed = nothing }) (Appends-nil start) in
     let remaining = g.R.Read.remaining c.read_units.new.input in
     let now = g.W.Write.contents c.read_units.new.output in
-    let told = dumps options.order options.limit read.0 remaining first c.read_units.new.visitor start now
+    let told = dumps options.dialect options.limit read.0 remaining first c.read_units.new.visitor start now
     c.read_units.result
     ran in (
       read.0,
       read.1,
-      subst (λ (s : Strings). Dumps options.order s options.limit read.0 remaining start now c.read_units.result)
+      subst (λ (s : Strings). Dumps options.dialect s options.limit read.0 remaining start now c.read_units.result)
           c.new-strings.ensures told,
     )

@@ -15,7 +15,7 @@ returns-in_err-summary g c =
     rw (p.1, p.2) (
       read.0,
       read.1,
-      failed options.order options.limit read.0 (g.R.Read.remaining c.read_units.new.input) first
+      failed options.dialect options.limit read.0 (g.R.Read.remaining c.read_units.new.input) first
           c.read_units.new.visitor None None _ ran,
     )
 
@@ -27,6 +27,6 @@ returns g c =
     let ran = read.2 (Appends-nil None, refl) (Appends-nil None) in (
       read.0,
       read.1,
-      counted options.order options.limit read.0 (g.R.Read.remaining c.read_units.new.input) first
+      counted options.dialect options.limit read.0 (g.R.Read.remaining c.read_units.new.input) first
           c.read_units.new.visitor None None c.in_ok-summary.summary c.passed_over.result ran c.passed_over.ensures,
     )

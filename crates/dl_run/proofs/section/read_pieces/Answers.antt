@@ -16,8 +16,8 @@ pieces-init g c = record {
     units = [];
     b = [];
     are = c.requires.begun;
-    none = none_begins c.args.options.now.order;
-    sound = none_refused c.args.options.now.order;
+    none = none_begins c.args.options.now.dialect;
+    sound = none_refused c.args.options.now.dialect;
     settled = record { tells = tells; out = out };
   };
 }
@@ -25,7 +25,7 @@ pieces-init g c = record {
 pub returns-in_default : goal.returns-in_default
 returns-in_default g c =
     let l = c.pieces in
-    failed_read g.V.Visitor.story c.args.options.now.order c.args.options.now.limit
+    failed_read g.V.Visitor.story c.args.options.now.dialect c.args.options.now.limit
     (g.R.Read.remaining c.args.input.now) (g.R.Read.remaining l.input) c.args.visitor.now l.visitor
     (g.W.Write.contents c.args.output.now) (g.W.Write.contents l.output) l.units l.left l.invariant
     (g.R.Read.remaining c.next_piece.new.reader) c.in_default.ensures.err
@@ -33,7 +33,7 @@ returns-in_default g c =
 pub returns-then-is_empty : goal.returns-then-is_empty
 returns-then-is_empty g c =
     let l = c.pieces in
-    at_end g.V.Visitor.story c.args.options.now.order c.args.options.now.limit (g.R.Read.remaining c.args.input.now)
+    at_end g.V.Visitor.story c.args.options.now.dialect c.args.options.now.limit (g.R.Read.remaining c.args.input.now)
     (g.R.Read.remaining l.input) c.args.visitor.now l.visitor (g.W.Write.contents c.args.output.now)
     (g.W.Write.contents l.output) l.units l.left l.invariant
     (g.R.Read.remaining c.next_piece.new.reader) c.in-Ok.piece.now c.in-Ok.ensures.ok
@@ -42,7 +42,7 @@ returns-then-is_empty g c =
     (c.in-Ok.ensures.end
     (nil_from_length c.in-Ok.piece.now (eqb-true (length c.in-Ok.piece.now) 0 (sym c.is_empty.ensures
     ∙ c.if-is_empty.true)))) c.finish.result
-    (λ units b are none sound. c.finish.ensures c.args.options.now.order l.invariant.t units b are none sound
+    (λ units b are none sound. c.finish.ensures c.args.options.now.dialect l.invariant.t units b are none sound
     (omega (arith, c.requires.limit, l.invariant.within)))
 
 pub returns-in_err-work_through : goal.returns-in_err-work_through
@@ -52,38 +52,38 @@ returns-in_err-work_through g c =
     rw (
       p.1,
       p.2,
-    ) (stops g.V.Visitor.story c.args.options.now.order c.args.options.now.limit
+    ) (stops g.V.Visitor.story c.args.options.now.dialect c.args.options.now.limit
     (g.R.Read.remaining c.args.input.now) (g.R.Read.remaining l.input) c.args.visitor.now l.visitor
     (g.W.Write.contents c.args.output.now) (g.W.Write.contents l.output) l.units l.left l.invariant
     (g.R.Read.remaining c.next_piece.new.reader) c.in-Ok.piece.now c.in-Ok.ensures.ok c.work_through.new.visitor
     (g.W.Write.contents c.work_through.new.output) c.work_through.new.units _ _ c.front-within.ensures.front
-    (λ told. c.in_err-work_through.ensures c.args.options.now.order l.invariant.t told.units told.b
+    (λ told. c.in_err-work_through.ensures c.args.options.now.dialect l.invariant.t told.units told.b
     c.args.visitor.now (g.W.Write.contents c.args.output.now) told.are
     (omega (arith, c.requires.limit, l.invariant.within, c.front-within.ensures.short)) told.settled.tells))
 
 pub returns-in-Stop : goal.returns-in-Stop
 returns-in-Stop g c =
     let l = c.pieces in
-    wants_no_more g.V.Visitor.story c.args.options.now.order c.args.options.now.limit
+    wants_no_more g.V.Visitor.story c.args.options.now.dialect c.args.options.now.limit
     (g.R.Read.remaining c.args.input.now) (g.R.Read.remaining l.input) c.args.visitor.now l.visitor
     (g.W.Write.contents c.args.output.now) (g.W.Write.contents l.output) l.units l.left l.invariant
     (g.R.Read.remaining c.next_piece.new.reader) c.in-Ok.piece.now c.in-Ok.ensures.ok c.work_through.new.visitor
     (g.W.Write.contents c.work_through.new.output) c.work_through.new.units c.in_ok-work_through.field-0 _
     c.in-Stop.is c.front-within.ensures.front
-    (λ told. c.in_ok-work_through.ensures c.args.options.now.order l.invariant.t told.units told.b
+    (λ told. c.in_ok-work_through.ensures c.args.options.now.dialect l.invariant.t told.units told.b
     c.args.visitor.now (g.W.Write.contents c.args.output.now) told.are
     (omega (arith, c.requires.limit, l.invariant.within, c.front-within.ensures.short)) told.settled.tells)
 
 pub returns-then-within-piece : goal.returns-then-within-piece
 returns-then-within-piece g c =
     let l = c.pieces in
-    too_long g.V.Visitor.story c.args.options.now.order c.args.options.now.limit (g.R.Read.remaining c.args.input.now)
+    too_long g.V.Visitor.story c.args.options.now.dialect c.args.options.now.limit (g.R.Read.remaining c.args.input.now)
     (g.R.Read.remaining l.input) c.args.visitor.now l.visitor (g.W.Write.contents c.args.output.now)
     (g.W.Write.contents l.output) l.units l.left l.invariant
     (g.R.Read.remaining c.next_piece.new.reader) c.in-Ok.piece.now c.in-Ok.ensures.ok c.work_through.new.visitor
     (g.W.Write.contents c.work_through.new.output) c.work_through.new.units c.in_ok-work_through.field-0 _
     c.in-On.is c.front-within.ensures.front
-    (λ told. c.in_ok-work_through.ensures c.args.options.now.order l.invariant.t told.units told.b
+    (λ told. c.in_ok-work_through.ensures c.args.options.now.dialect l.invariant.t told.units told.b
     c.args.visitor.now (g.W.Write.contents c.args.output.now) told.are
     (omega (arith, c.requires.limit, l.invariant.within, c.front-within.ensures.short)) told.settled.tells)
     c.if-within-piece.true
@@ -91,13 +91,13 @@ returns-then-within-piece g c =
 pub pieces-preserved : goal.pieces-preserved
 pieces-preserved g c =
     let l = c.pieces in
-    reads_on g.V.Visitor.story c.args.options.now.order c.args.options.now.limit (g.R.Read.remaining c.args.input.now)
+    reads_on g.V.Visitor.story c.args.options.now.dialect c.args.options.now.limit (g.R.Read.remaining c.args.input.now)
     (g.R.Read.remaining l.input) c.args.visitor.now l.visitor (g.W.Write.contents c.args.output.now)
     (g.W.Write.contents l.output) l.units l.left l.invariant
     (g.R.Read.remaining c.next_piece.new.reader) c.in-Ok.piece.now c.in-Ok.ensures.ok c.work_through.new.visitor
     (g.W.Write.contents c.work_through.new.output) c.work_through.new.units c.in_ok-work_through.field-0 _
     c.in-On.is c.front-within.ensures.front
-    (λ told. c.in_ok-work_through.ensures c.args.options.now.order l.invariant.t told.units told.b
+    (λ told. c.in_ok-work_through.ensures c.args.options.now.dialect l.invariant.t told.units told.b
     c.args.visitor.now (g.W.Write.contents c.args.output.now) told.are
     (omega (arith, c.requires.limit, l.invariant.within, c.front-within.ensures.short)) told.settled.tells)
     (c.front-within.ensures.whole (omega (arith, c.if-within-piece.false)))

@@ -1,6 +1,6 @@
 use Rattle.std.proofs.Common.{◌++◌, [], ap, arith, append-nil, length, length-append, subst, sym, refl, ◌∙◌, List, ℕ}
 use Rattle.std.proofs.KnownBytes.{Consumes-nil, Consumes-trans}
-use Rattle.dl_num.specs.declared.fixed.Order.{Order}
+use Rattle.dl_head.specs.declared.dialect.Dialect.{Dialect}
 use Rattle.dl_forms.specs.Names.{AddsCellFrom}
 use Rattle.dl_work.proofs.NamedLemmas.{at_end, empty_is, over, told_in, wants}
 use Rattle.dl_work.proofs.NamedLemmas.{too_long, same_over}
@@ -8,7 +8,7 @@ use Rattle.dl_work.proofs.named.names_str.Goals as goal
 
 pub loop-buffer-init : goal.loop-buffer-init
 loop-buffer-init g c = record {
-  order = c.new-walk.ensures.order;
+  dialect = c.new-walk.ensures.dialect;
   read = ([], Consumes-nil _, c.new-walk.ensures.stands, refl);
 }
 
@@ -17,9 +17,9 @@ returns-then-is_empty g c =
     let l = c.loop-buffer in
     let read = l.invariant.read in
     let nothing = empty_is c.in-Ok.piece.now (sym c.is_empty.ensures ∙ c.if-is_empty.true) in
-    at_end c.args.order _ _ (read.0 ++ c.in-Ok.piece.now) c.names_str.result
+    at_end c.args.dialect _ _ (read.0 ++ c.in-Ok.piece.now) c.names_str.result
     (Consumes-trans _ _ _ read.0 c.in-Ok.piece.now read.1 c.in-Ok.ensures.ok)
-    (told_in l.walk.order c.args.order read.0 (read.0 ++ c.in-Ok.piece.now) c.names_str.result l.invariant.order
+    (told_in l.walk.dialect c.args.dialect read.0 (read.0 ++ c.in-Ok.piece.now) c.names_str.result l.invariant.dialect
     (sym (ap (λ (z : List ℕ). read.0 ++ z) nothing ∙ append-nil read.0)) (c.names_str.ensures read.0 read.2))
     (c.in-Ok.ensures.end nothing)
 
@@ -34,9 +34,9 @@ pub returns-in-Err : goal.returns-in-Err
 returns-in-Err g c =
     let l = c.loop-buffer in
     let read = l.invariant.read in
-    wants c.args.order _ _ (read.0 ++ c.in-Ok.piece.now) (length read.0)
+    wants c.args.dialect _ _ (read.0 ++ c.in-Ok.piece.now) (length read.0)
     (Consumes-trans _ _ _ read.0 c.in-Ok.piece.now read.1 c.in-Ok.ensures.ok)
-    (subst (λ (o : Order). AddsCellFrom o (length read.0) (read.0 ++ c.in-Ok.piece.now)) l.invariant.order
+    (subst (λ (d : Dialect). AddsCellFrom d (length read.0) (read.0 ++ c.in-Ok.piece.now)) l.invariant.dialect
     (c.in-Err.ensures.memory read.0 read.2))
 
 pub loop-buffer-preserved : goal.loop-buffer-preserved
@@ -47,7 +47,7 @@ loop-buffer-preserved g c =
     let size = length-append read.0 piece in
     let limit = read.3 in
     record {
-      order = c.in-Ok-feed.ensures.order ∙ l.invariant.order;
+      dialect = c.in-Ok-feed.ensures.dialect ∙ l.invariant.dialect;
       read = (
         read.0 ++ piece,
         Consumes-trans _ _ _ read.0 piece read.1 c.in-Ok.ensures.ok,
@@ -60,8 +60,8 @@ pub returns : goal.returns
 returns g c =
     let l = c.loop-buffer in
     let read = l.invariant.read in
-    over c.args.order _ _ read.0 c.names_str-2.result read.1
-    (told_in l.walk.order c.args.order read.0 read.0 c.names_str-2.result l.invariant.order refl
+    over c.args.dialect _ _ read.0 c.names_str-2.result read.1
+    (told_in l.walk.dialect c.args.dialect read.0 read.0 c.names_str-2.result l.invariant.dialect refl
     (c.names_str-2.ensures read.0 read.2))
-    (same_over l.walk.order c.args.order read.0 l.invariant.order
+    (same_over l.walk.dialect c.args.dialect read.0 l.invariant.dialect
     (λ rest. c.is_over.ensures.settled read.0 rest read.2 c.loop-buffer-test.false))

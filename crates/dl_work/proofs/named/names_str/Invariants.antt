@@ -6,7 +6,7 @@ use Rattle.dl_work.proofs.named.names_str.Given as goal
 
 abbrev pub invariant-loop-buffer : goal.invariant-loop-buffer
 invariant-loop-buffer g l = record {
-  order : l.walk.order ≡ l.fn.order;
+  dialect : l.walk.dialect ≡ l.fn.dialect;
   read : (bs : List ℕ) × Consumes (g.R.Read.remaining l.initial.input) (g.R.Read.remaining l.input) bs
       × StandsFor l.walk bs × (length bs + l.left ≡ SECTION_LIMIT);
 }

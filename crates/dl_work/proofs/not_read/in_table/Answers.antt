@@ -1,5 +1,6 @@
-use Rattle.std.proofs.Common.{subst}
-use Rattle.dl_num.specs.declared.fixed.Order.{Order}
+use Rattle.std.proofs.Common.{ap, subst, ◌∙◌}
+use Rattle.dl_head.specs.declared.dialect.Dialect.{Dialect}
+use Rattle.dl_head.specs.Dialect.{version_5}
 use Rattle.dl_file.specs.LineReader.{line_remaining}
 use Rattle.dl_run.specs.declared.options.TheConstants.{SECTION_LIMIT}
 use Rattle.dl_run.specs.PassedOver.{PassesOver}
@@ -13,5 +14,6 @@ returns g c t given =
       read,
       left,
       reader_known {S = g.row.S.Denot} g.S.ReadAt.all_bytes c.args.table.line t.line left read given.line consumes,
-      subst (λ (order : Order). PassesOver order SECTION_LIMIT read left c.passed_over.result) given.order passes,
+      subst (λ (d : Dialect). PassesOver d SECTION_LIMIT read left c.passed_over.result)
+          (c.version_5.ensures ∙ ap version_5 given.order) passes,
     )

@@ -22,5 +22,6 @@ returns g c content gives =
     let e = c.in-Ok.ensures in
     let whole = all_read (known_bytes content) _ e.0
     (reader_known {S = g.row.S.Denot} g.S.ReadAt.all_bytes c.args.line.now content _ e.0 gives e.1) e.2.2 in
-    keeping_refused c.args.path.now c.args.order c.args.part.now content _ e.0 _ _ _ whole e.2.0 c.as_mut_slice.ensures.value c.as_slice.ensures.value
+    keeping_refused c.args.path.now c.args.dialect c.args.part.now content _ e.0 _ _ _ whole e.2.0
+    c.as_mut_slice.ensures.value c.as_slice.ensures.value
     c.in-Err-keep_section.ensures.memory (refl, refl)

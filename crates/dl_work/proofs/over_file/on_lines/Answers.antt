@@ -1,6 +1,6 @@
 use Rattle.std.proofs.Common.{ap, inr, subst, sym}
 use Rattle.std.specs.Option.{option_copied}
-use Rattle.dl_num.specs.declared.fixed.Order.{Order}
+use Rattle.dl_head.specs.declared.dialect.Dialect.{Dialect}
 use Rattle.dl_file.specs.LineTable.{Plain}
 use Rattle.dl_work.specs.Tables.{IsKept, with_bytes}
 use Rattle.dl_work.proofs.TableLemmas.{of_part}
@@ -11,6 +11,6 @@ returns-in-Ok g c t gives ordered whole =
     let kept = c.in-Ok.bytes.items in
     of_part _ _ t c.in-Some.part.now _ _ _ _ (ap option_copied c.in-Some.is) (inr (
       kept,
-      subst (λ (o : Order). IsKept o c.in-Some.part.now t.line kept) ordered (c.in-Ok.ensures t.line gives),
+      subst (λ (d : Dialect). IsKept d c.in-Some.part.now t.line kept) ordered (c.in-Ok.ensures t.line gives),
       c.on_kept.ensures (with_bytes t kept) (ap Plain (sym c.as_slice.ensures.value)) ordered whole,
     ))

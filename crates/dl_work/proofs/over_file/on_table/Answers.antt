@@ -1,4 +1,5 @@
-use Rattle.std.proofs.Common.{◌∙◌, inr, subst, sym}
+use Rattle.std.proofs.Common.{◌∙◌, ap, inr, subst, sym}
+use Rattle.dl_head.specs.Dialect.{version_5}
 use Rattle.dl_work.specs.Tables.{IsWhole}
 use Rattle.dl_work.proofs.TableLemmas.{not_refused}
 use Rattle.dl_work.proofs.over_file.on_table.Goals as goal
@@ -7,5 +8,6 @@ pub returns : goal.returns
 returns g c t given =
     let whole = c.in-Ok.ensures t.line_str t.str given.line_str given.str in
     not_refused _ _ t _ _ _ _ _ (sym c.loses.ensures ∙ c.if-loses.false) given.object
-    (inr (c.on_lines.ensures t given.line (c.options-options.ensures.order ∙ given.order)
+    (inr (c.on_lines.ensures t given.line (c.options-options.ensures.dialect ∙ c.version_5.ensures
+    ∙ ap version_5 given.order)
     (subst (IsWhole t.line_str t.str) (sym c.options-options.ensures.strings) whole)))

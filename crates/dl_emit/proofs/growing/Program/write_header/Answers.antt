@@ -9,6 +9,7 @@ use Rattle.dl_emit.specs.Grown.{ProgramData}
 use Rattle.dl_head.specs.Writing.{WritesHeader}
 use Rattle.dl_emit.proofs.GrownLemmas.{refuses_row, refuses_none, counts_all}
 use Rattle.dl_emit.proofs.UnitLemmas.{refuses_header, header_written}
+use Rattle.dl_head.specs.Dialect.{version_5}
 use Rattle.dl_emit.proofs.ReadAgain.{unit_is_read_again}
 use Rattle.dl_emit.proofs.growing.Program.write_header.Goals as goal
 
@@ -81,5 +82,5 @@ pub returns-clause-readable : goal.returns-clause-readable
 returns-clause-readable g c rows grown =
     let h = c.args.header.now in
     let none = ap (λ (p : ProgramData). p.refused) (sym c.self.view_is) ∙ c.in_default.is in
-    unit_is_read_again c.args.self.now.order h rows c.params.ensures.sound (grown.holds none).each
+    unit_is_read_again (version_5 c.args.self.now.order) h rows c.params.ensures.sound (grown.holds none).each
     (returns-clause-written g c rows grown).0

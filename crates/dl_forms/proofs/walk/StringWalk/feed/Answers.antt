@@ -7,7 +7,7 @@ pub returns-in_default-clause-memory : goal.returns-in_default-clause-memory
 returns-in_default-clause-memory c b stands =
     let l = c.loop in
     let piece = c.args.piece.now in
-    wants_further c.args.self.order b piece l.at
+    wants_further c.args.self.dialect b piece l.at
     (c.in_default.ensures.memory (b ++ take l.at piece) (l.invariant.stands b stands).1)
 
 pub loop-preserved : goal.loop-preserved
@@ -24,7 +24,8 @@ loop-preserved c =
           let some = next.0 in
           let before = at.0 in (
             omega (arith, some, before),
-            subst (StandsAt c.args.self.order c.in-Ok.next) (further b piece l.at c.in-Ok.used l.invariant.within within)
+            subst (StandsAt c.args.self.dialect c.in-Ok.next)
+                (further b piece l.at c.in-Ok.used l.invariant.within within)
                 next.1,
           );
     }

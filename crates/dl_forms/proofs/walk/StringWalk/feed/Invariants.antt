@@ -6,5 +6,5 @@ abbrev pub invariant-loop : goal.invariant-loop
 invariant-loop l = record {
   within : l.at ≤ length l.piece;
   stands : (b : List ℕ) → StandsFor l.fn.self b
-      → (l.counter ≤ l.at) × StandsAt l.fn.self.order l.state (b ++ take l.at l.piece);
+      → (l.counter ≤ l.at) × StandsAt l.fn.self.dialect l.state (b ++ take l.at l.piece);
 }

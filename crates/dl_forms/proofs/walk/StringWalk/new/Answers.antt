@@ -4,4 +4,4 @@ use Rattle.dl_forms.proofs.walk.StringWalk.new.Goals as goal
 
 pub returns-clause-stands : goal.returns-clause-stands
 returns-clause-stands c =
-    ([], c.new.ensures.order, begins_none c.new.result c.new.ensures.stands, nil_onward c.args.order)
+    ([], c.new.ensures.dialect, begins_none c.new.result c.new.ensures.stands, nil_onward c.args.dialect)

@@ -9,7 +9,7 @@ returns c = record {
   phase = refl;
   header = ap (λ h. Some h) (c.of_parts.ensures
       ∙ header_parts c.replace-params.ensures.value c.replace-directories.ensures.value c.replace-files.ensures.value);
-  order = refl;
+  dialect = refl;
   taken = refl;
   unit = record {
     end = refl;

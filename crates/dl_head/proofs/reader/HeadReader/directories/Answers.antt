@@ -32,7 +32,7 @@ returns-in-Some c =
         made = λ items rest at.
             table_ends old _ mid d items rest bytes c.push_front-next.result.1 next
             (at_phase old _ items rest c.requires.phase at) p.follows some taken.0 (taken.2 next)
-            (record { order = refl; format = refl; unit_length = refl; end = refl; overrun = refl })
+            (record { dialect = refl; format = refl; unit_length = refl; end = refl; overrun = refl })
             (λ is tail. at_files _ is (next d) (from_end old.params d) refl taken.1 tail);
         cells = λ items rest at.
             let a = at_phase old _ items rest c.requires.phase at in
@@ -41,7 +41,7 @@ returns-in-Some c =
             table_adds old mid items rest bytes c.push_front-next.result.1 next (table_cells old.files) _ a
             p.follows (omega (arith, no_directories old c.requires.phase))
             (omega (arith, kept, fresh_cells c.take.new.self taken.1));
-        counts = record { order = refl; start = refl; taken = refl; header = refl };
+        counts = record { dialect = refl; start = refl; taken = refl; header = refl };
       };
       kept = keeps_same old _ c.push_front-next.result.1 (record { end = refl; unit_length = refl; format = refl });
     }
@@ -62,14 +62,14 @@ returns-in_default c =
         made = λ items rest at.
             table_goes_on old _ mid items rest bytes c.push_front-next.result.1 next
             (at_phase old _ items rest c.requires.phase at) p.follows none.0 none.1
-            (record { order = refl; format = refl; unit_length = refl; end = refl; overrun = refl })
+            (record { dialect = refl; format = refl; unit_length = refl; end = refl; overrun = refl })
             (λ is w now. phase_at _ phase.Directories is w c.requires.phase now);
         cells = λ items rest at.
             table_adds old mid items rest bytes c.push_front-next.result.1 next
             (table_cells old.directories + table_cells old.files) _ (at_phase old _ items rest c.requires.phase at)
             p.follows refl
             (ap (λ (t : TableReader). table_cells old.directories + table_cells old.files + reader_cells t) none.1);
-        counts = record { order = refl; start = refl; taken = refl; header = refl };
+        counts = record { dialect = refl; start = refl; taken = refl; header = refl };
       };
       kept = keeps_same old _ c.push_front-next.result.1 (record { end = refl; unit_length = refl; format = refl });
     }
@@ -77,22 +77,26 @@ returns-in_default c =
 pub take-requires : goal.take-requires
 take-requires c =
     let old = c.args.self.now in
-    let read = stands_at old.phase phase.Directories old.order old.params.format old.table c.requires.phase old.read in
-    makes_table_pushed old.order old.params.format old.table c.push_front-next.new.self _ c.push_front-next.result.1
+    let read = stands_at old.phase phase.Directories old.dialect.order old.params.format old.table
+    c.requires.phase old.read in
+    makes_table_pushed old.dialect.order old.params.format old.table c.push_front-next.new.self _
+    c.push_front-next.result.1
     (front_is_read c.push_front-next.result.0 c.args.bytes.now (λ i lt. omega (arith, c.type_inv.bytes i))) read
     c.push_front-next.ensures.follows
 
 pub invariant_of-self-clause-read : goal.invariant_of-self-clause-read
-invariant_of-self-clause-read c = fresh_reads c.args.self.now.order c.args.self.now.params.format c.take.new.self
+invariant_of-self-clause-read c = fresh_reads c.args.self.now.dialect.order c.args.self.now.params.format
+    c.take.new.self
     c.in-Some.ensures.1
 
 pub invariant_of-self-in_default-clause-read : goal.invariant_of-self-in_default-clause-read
 invariant_of-self-in_default-clause-read c =
     let old = c.args.self.now in
-    let read = stands_at old.phase phase.Directories old.order old.params.format old.table c.requires.phase old.read in
+    let read = stands_at old.phase phase.Directories old.dialect.order old.params.format old.table
+    c.requires.phase old.read in
     let same = c.in_default.ensures in
-    stands_at phase.Directories old.phase old.order old.params.format c.take.new.self (sym c.requires.phase)
-    (subst (λ (t : TableReader). ∥ TableReads old.order old.params.format t ∥₁) (sym same.1)
-    (reads_on old.order old.params.format old.table c.push_front-next.new.self _ c.push_front-next.result.1
+    stands_at phase.Directories old.phase old.dialect.order old.params.format c.take.new.self (sym c.requires.phase)
+    (subst (λ (t : TableReader). ∥ TableReads old.dialect.order old.params.format t ∥₁) (sym same.1)
+    (reads_on old.dialect.order old.params.format old.table c.push_front-next.new.self _ c.push_front-next.result.1
     (front_is_read c.push_front-next.result.0 c.args.bytes.now (λ i lt. omega (arith, c.type_inv.bytes i))) read
     c.push_front-next.ensures.follows same.0))

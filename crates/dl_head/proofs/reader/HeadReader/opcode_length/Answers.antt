@@ -14,12 +14,12 @@ returns-then-is_wrong_length-clause-follows c = record {
   made = λ items rest at.
       let a = at_phase c.args.self.now _ items rest c.requires at in
       let p = c.args.self.now.params in
-      length_judged c.args.self.now.order p items rest c.args.byte a.0.tail.follows
+      length_judged c.args.self.now.dialect p items rest c.args.byte a.0.tail.follows
       (some_left c.args.self.now c.requires) a.1
       ∙ ap (λ (n : ℕ). judged (objection (opcode_length (n + 1)) c.args.byte) c.args.byte)
       (sym c.len-opcode.ensures.value)
       ∙ ap (λ (o : Option FaultKind). judged o c.args.byte) c.if-is_wrong_length.ensures.value;
-  counts = record { order = refl; start = refl; taken = refl; header = refl };
+  counts = record { dialect = refl; start = refl; taken = refl; header = refl };
 }
 
 pub returns-clause-follows : goal.returns-clause-follows
@@ -28,7 +28,7 @@ returns-clause-follows c = record {
       let a = at_phase c.args.self.now _ items rest c.requires at in
       let p = c.args.self.now.params in (
         number_is c.args.byte,
-        length_judged c.args.self.now.order p items rest c.args.byte a.0.tail.follows
+        length_judged c.args.self.now.dialect p items rest c.args.byte a.0.tail.follows
             (some_left c.args.self.now c.requires) a.1
             ∙ ap (λ (n : ℕ). judged (objection (opcode_length (n + 1)) c.args.byte) c.args.byte)
             (sym c.len-opcode.ensures.value)
@@ -44,7 +44,7 @@ returns-clause-follows c = record {
               length-append p.lengths.items (c.args.byte ∷ []),
             ))),
       );
-  counts = record { order = refl; start = refl; taken = refl; header = refl };
+  counts = record { dialect = refl; start = refl; taken = refl; header = refl };
 }
 
 pub invariant_of-self-clause-standard : goal.invariant_of-self-clause-standard
@@ -61,7 +61,9 @@ invariant_of-self-clause-standard c =
 pub invariant_of-self-clause-read : goal.invariant_of-self-clause-read
 invariant_of-self-clause-read c =
     let old = c.args.self.now in
-    let read = stands_at old.phase phase.OpcodeLength old.order old.params.format old.table c.requires old.read in
-    stands_at _ _ old.order old.params.format old.table (sym c.length_or_table-self.ensures.next)
-    (length_or_table_stands (nat_lt (c.len-opcode.result + 1 + 1) old.params.opcode_base) old.order old.params.format
+    let read = stands_at old.phase phase.OpcodeLength old.dialect.order old.params.format old.table
+    c.requires old.read in
+    stands_at _ _ old.dialect.order old.params.format old.table (sym c.length_or_table-self.ensures.next)
+    (length_or_table_stands (nat_lt (c.len-opcode.result + 1 + 1) old.params.opcode_base) old.dialect.order
+    old.params.format
     old.table read)

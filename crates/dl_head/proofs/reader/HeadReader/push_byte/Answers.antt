@@ -8,34 +8,36 @@ pub returns-in-UnitLength-clause-follows : goal.returns-in-UnitLength-clause-fol
 returns-in-UnitLength-clause-follows c =
     field_pushed c.args.self.now c.unit_length.new.self c.args.byte c.unit_length.result c.unit_length.ensures.follows
     c.unit_length.ensures.cells
-    (λ items rest at. none_later items [] (at_phase c.args.self.now _ items rest c.in-UnitLength.is at).0.none refl)
+    (λ items rest at. none_later c.args.self.now.dialect items []
+    (at_phase c.args.self.now _ items rest c.in-UnitLength.is at).0.none refl)
 
 pub returns-in-LongUnitLength-clause-follows : goal.returns-in-LongUnitLength-clause-follows
 returns-in-LongUnitLength-clause-follows c =
     field_pushed c.args.self.now c.long_unit_length.new.self c.args.byte c.long_unit_length.result
     c.long_unit_length.ensures.follows c.long_unit_length.ensures.cells
-    (λ items rest at. none_later items [] (at_phase c.args.self.now _ items rest c.in-LongUnitLength.is at).0.none
+    (λ items rest at. none_later c.args.self.now.dialect items []
+    (at_phase c.args.self.now _ items rest c.in-LongUnitLength.is at).0.none
     refl)
 
 pub returns-in-Version-clause-follows : goal.returns-in-Version-clause-follows
 returns-in-Version-clause-follows c =
     field_pushed c.args.self.now c.version.new.self c.args.byte c.version.result c.version.ensures.follows
     c.version.ensures.cells
-    (λ items rest at. none_later items (length_item c.args.self.now ∷ [])
+    (λ items rest at. none_later c.args.self.now.dialect items (length_item c.args.self.now ∷ [])
     (at_phase c.args.self.now _ items rest c.in-Version.is at).0.items_are refl)
 
 pub returns-in-VersionEnd-clause-follows : goal.returns-in-VersionEnd-clause-follows
 returns-in-VersionEnd-clause-follows c =
     field_pushed c.args.self.now c.version_end.new.self c.args.byte c.version_end.result c.version_end.ensures.follows
     c.version_end.ensures.cells
-    (λ items rest at. none_later items (length_item c.args.self.now ∷ [])
+    (λ items rest at. none_later c.args.self.now.dialect items (length_item c.args.self.now ∷ [])
     (at_phase c.args.self.now _ items rest c.in-VersionEnd.is at).0.items_are refl)
 
 pub returns-in-HeaderLength-clause-follows : goal.returns-in-HeaderLength-clause-follows
 returns-in-HeaderLength-clause-follows c =
     field_pushed c.args.self.now c.header_length.new.self c.args.byte c.header_length.result
     c.header_length.ensures.follows c.header_length.ensures.cells
-    (λ items rest at. none_later items (before_header_length c.args.self.now)
+    (λ items rest at. none_later c.args.self.now.dialect items (before_header_length c.args.self.now)
     (at_phase c.args.self.now _ items rest c.in-HeaderLength.is at).0.items_are refl)
 
 pub returns-in-Byte-clause-follows : goal.returns-in-Byte-clause-follows

@@ -12,7 +12,7 @@ returns-clause-follows c = (
     refl,
     early.before.no_lengths,
   ),
-  record { order = refl; start = refl; taken = refl; header = refl },
+  record { dialect = refl; start = refl; taken = refl; header = refl },
 )
 
 pub invariant_of-self-clause-read : goal.invariant_of-self-clause-read

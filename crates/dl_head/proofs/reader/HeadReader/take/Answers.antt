@@ -7,8 +7,8 @@ use Rattle.dl_head.proofs.reader.HeadReader.take.Goals as goal
 pub loop-used-init : goal.loop-used-init
 loop-used-init c = record {
   within = omega arith;
-  order = refl;
-  goes = λ b s more. offering_none c.args.self.now.order b
+  dialect = refl;
+  goes = λ b s more. offering_none c.args.self.now.dialect b
       c.args.piece.now c.args.self.now s more;
 }
 
@@ -19,10 +19,10 @@ loop-used-preserved-then-whole-gt0 c =
     let rest = take_rest c.args.piece.now c.loop-used.used in
     record {
       within = omega (arith, w.ensures.within, ap length rest, length-drop c.loop-used.used c.args.piece.now, i.within);
-      order = w.ensures.order ∙ i.order;
+      dialect = w.ensures.dialect ∙ i.dialect;
       goes = λ b s more.
-          offering_tried c.args.self.now.order b c.args.piece.now _ c.loop-used.used w.result c.loop-used.self
-          w.new.self (i.goes b s more) i.order rest w.ensures.within w.ensures.takes;
+          offering_tried c.args.self.now.dialect b c.args.piece.now _ c.loop-used.used w.result c.loop-used.self
+          w.new.self (i.goes b s more) i.dialect rest w.ensures.within w.ensures.takes;
     }
 
 pub loop-used-preserved : goal.loop-used-preserved
@@ -30,20 +30,20 @@ loop-used-preserved c =
     let i = c.loop-used.invariant in
     let w = c.whole_values-whole in
     let a = c.advance-taken in
-    let order = w.ensures.order ∙ i.order in
+    let dialect = w.ensures.dialect ∙ i.dialect in
     let rest = take_rest c.args.piece.now c.loop-used.used in
     record {
       within = omega (arith, a.ensures.within, ap length rest, length-drop c.loop-used.used c.args.piece.now, i.within);
-      order = a.ensures.order ∙ order;
+      dialect = a.ensures.dialect ∙ dialect;
       goes = λ b s more.
-          let tried = offering_tried c.args.self.now.order b c.args.piece.now _ c.loop-used.used w.result
-          c.loop-used.self w.new.self (i.goes b s more) i.order rest w.ensures.within w.ensures.takes in
-          let o = offering_still c.args.self.now.order b c.args.piece.now c.loop-used.used w.result w.new.self
+          let tried = offering_tried c.args.self.now.dialect b c.args.piece.now _ c.loop-used.used w.result
+          c.loop-used.self w.new.self (i.goes b s more) i.dialect rest w.ensures.within w.ensures.takes in
+          let o = offering_still c.args.self.now.dialect b c.args.piece.now c.loop-used.used w.result w.new.self
           (omega (arith, c.if-whole-gt0.false)) tried in
-          offering_on c.args.self.now.order b c.args.piece.now c.loop-used.used a.result.0 w.new.self a.new.self
+          offering_on c.args.self.now.dialect b c.args.piece.now c.loop-used.used a.result.0 w.new.self a.new.self
           a.result.1 o c.in-More.is
-          (advanced c.args.self.now.order b c.args.piece.now _ c.loop-used.used a.result.0 w.new.self a.new.self
-          a.result.1 o order rest a.ensures.advances);
+          (advanced c.args.self.now.dialect b c.args.piece.now _ c.loop-used.used a.result.0 w.new.self a.new.self
+          a.result.1 o dialect rest a.ensures.advances);
     }
 
 pub returns-in_default : goal.returns-in_default
@@ -51,25 +51,25 @@ returns-in_default c =
     let i = c.loop-used.invariant in
     let w = c.whole_values-whole in
     let a = c.advance-taken in
-    let order = w.ensures.order ∙ i.order in
+    let dialect = w.ensures.dialect ∙ i.dialect in
     let rest = take_rest c.args.piece.now c.loop-used.used in
     record {
       offered = λ b s more.
-          let tried = offering_tried c.args.self.now.order b c.args.piece.now _ c.loop-used.used w.result
-          c.loop-used.self w.new.self (i.goes b s more) i.order rest w.ensures.within w.ensures.takes in
-          let o = offering_still c.args.self.now.order b c.args.piece.now c.loop-used.used w.result w.new.self
+          let tried = offering_tried c.args.self.now.dialect b c.args.piece.now _ c.loop-used.used w.result
+          c.loop-used.self w.new.self (i.goes b s more) i.dialect rest w.ensures.within w.ensures.takes in
+          let o = offering_still c.args.self.now.dialect b c.args.piece.now c.loop-used.used w.result w.new.self
           (omega (arith, c.if-whole-gt0.false)) tried in
-          offered_last c.args.self.now.order b c.args.piece.now c.loop-used.used a.result.0 w.new.self a.new.self
+          offered_last c.args.self.now.dialect b c.args.piece.now c.loop-used.used a.result.0 w.new.self a.new.self
           a.result.1 o i.within c.in_default.not-More
-          (advanced c.args.self.now.order b c.args.piece.now _ c.loop-used.used a.result.0 w.new.self a.new.self
-          a.result.1 o order rest a.ensures.advances);
+          (advanced c.args.self.now.dialect b c.args.piece.now _ c.loop-used.used a.result.0 w.new.self a.new.self
+          a.result.1 o dialect rest a.ensures.advances);
       within = omega (arith, a.ensures.within, ap length rest, length-drop c.loop-used.used c.args.piece.now, i.within);
       progress = λ goes fed. omega (arith, a.ensures.some fed);
-      order = a.ensures.order ∙ order;
+      dialect = a.ensures.dialect ∙ dialect;
     }
 
 pub returns-clause-offered : goal.returns-clause-offered
 returns-clause-offered c b s more =
     let i = c.loop-used.invariant in
-    offered_all c.args.self.now.order b c.args.piece.now c.loop-used.used c.loop-used.used c.loop-used.self
+    offered_all c.args.self.now.dialect b c.args.piece.now c.loop-used.used c.loop-used.used c.loop-used.self
     (i.goes b s more) i.within (omega (arith, c.loop-used-test.false)) refl

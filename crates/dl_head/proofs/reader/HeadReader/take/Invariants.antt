@@ -8,9 +8,9 @@ use Rattle.dl_head.proofs.reader.HeadReader.take.Given as goal
 abbrev pub invariant-loop-used : goal.invariant-loop-used
 invariant-loop-used l = record {
   within : l.used ≤ length l.piece;
-  order : l.self.order ≡ l.fn.self.order;
-  goes : (b : List ℕ) → StandsFor l.fn.self b → Answers l.fn.self.order b answer.More
-      → Offering l.fn.self.order b l.piece l.used l.self;
+  dialect : l.self.dialect ≡ l.fn.self.dialect;
+  goes : (b : List ℕ) → StandsFor l.fn.self b → Answers l.fn.self.dialect b answer.More
+      → Offering l.fn.self.dialect b l.piece l.used l.self;
 }
 
 abbrev pub decreases-loop-used : goal.decreases-loop-used

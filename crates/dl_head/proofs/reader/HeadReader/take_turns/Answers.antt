@@ -18,8 +18,8 @@ pub loop-turn-init : goal.loop-turn-init
 loop-turn-init c = record {
   within = omega arith;
   refusals = omega arith;
-  order = refl;
-  going = λ b s more. going_none c.args.self.now.order b c.args.bytes.now c.args.self.now s;
+  dialect = refl;
+  going = λ b s more. going_none c.args.self.now.dialect b c.args.bytes.now c.args.self.now s;
 }
 
 pub returns-in_default : goal.returns-in_default
@@ -28,25 +28,25 @@ returns-in_default c =
     let ends = ends_of c.take-used.result.1 c.in_default.not-More c.in_default.not-NoMemory in
     let refused = ap {B = ℕ} (λ v. cond v 1 0) ends.1 in
     let traced = λ (b : List ℕ) (s : StandsFor c.args.self.now b)
-    (more : Answers c.args.self.now.order b answer.More). traced_last c.args.self.now.order b c.args.bytes.now
+    (more : Answers c.args.self.now.dialect b answer.More). traced_last c.args.self.now.dialect b c.args.bytes.now
     c.args.turns.now c.loop-turn.turn-index c.loop-turn.run _ c.loop-turn.self c.take-used.new.self c.piece.result.now
     c.take-used.result.0
-    c.take-used.result.1 c.loop-turn-test.true (i.going b s more) i.order c.piece.ensures more
+    c.take-used.result.1 c.loop-turn-test.true (i.going b s more) i.dialect c.piece.ensures more
     c.take-used.ensures.offered
     (refused_on c.loop-turn.run c.take-used.result.0 c.take-used.result.1 c.loop-turn.run.refused
     (omega (arith, refused))) ends.0 in
     record {
       traced = traced;
-      runs = λ b s more. runs_of c.args.self.now.order b c.args.bytes.now c.args.turns.now _ c.take-used.new.self more
+      runs = λ b s more. runs_of c.args.self.now.dialect b c.args.bytes.now c.args.turns.now _ c.take-used.new.self more
           (traced b s more);
-      order = c.take-used.ensures.order ∙ i.order;
+      dialect = c.take-used.ensures.dialect ∙ i.dialect;
     }
 
 pub loop-turn-preserved : goal.loop-turn-preserved
 loop-turn-preserved c =
     let i = c.loop-turn.invariant in
     let size = i.within in
-    let order = c.take-used.ensures.order ∙ i.order in
+    let dialect = c.take-used.ensures.dialect ∙ i.dialect in
     let used = c.take-used.ensures.within in
     let piece_size : length c.piece.result.now ≡ _ = ap length c.piece.ensures
     ∙ length-take _ (drop c.loop-turn.run.taken c.args.bytes.now) in
@@ -61,10 +61,10 @@ loop-turn-preserved c =
           length-drop c.loop-turn.run.taken c.args.bytes.now,
         );
         refusals = omega (arith, ap (λ (r : HeadRun). r.refused) w.run-is, i.refusals);
-        order = order;
-        going = λ b s more. going_on c.args.self.now.order b c.args.bytes.now c.args.turns.now c.loop-turn.turn-index
+        dialect = dialect;
+        going = λ b s more. going_on c.args.self.now.dialect b c.args.bytes.now c.args.turns.now c.loop-turn.turn-index
             c.loop-turn.run _ c.loop-turn.self c.take-used.new.self c.piece.result.now c.take-used.result.0
-            c.take-used.result.1 c.loop-turn-test.true (i.going b s more) i.order c.piece.ensures more
+            c.take-used.result.1 c.loop-turn-test.true (i.going b s more) i.dialect c.piece.ensures more
             c.take-used.ensures.offered
             (w.run-is ∙ refused_on c.loop-turn.run c.take-used.result.0 c.take-used.result.1 c.loop-turn.run.refused
             (omega (arith, ap {B = ℕ} (λ s. cond (is_refusal s) 1 0) w.in-More.is)))
@@ -80,10 +80,10 @@ loop-turn-preserved c =
           length-drop c.loop-turn.run.taken c.args.bytes.now,
         );
         refusals = omega (arith, ap (λ (r : HeadRun). r.refused) w.run-is, i.refusals);
-        order = order;
-        going = λ b s more. going_on c.args.self.now.order b c.args.bytes.now c.args.turns.now c.loop-turn.turn-index
+        dialect = dialect;
+        going = λ b s more. going_on c.args.self.now.dialect b c.args.bytes.now c.args.turns.now c.loop-turn.turn-index
             c.loop-turn.run _ c.loop-turn.self c.take-used.new.self c.piece.result.now c.take-used.result.0
-            c.take-used.result.1 c.loop-turn-test.true (i.going b s more) i.order c.piece.ensures more
+            c.take-used.result.1 c.loop-turn-test.true (i.going b s more) i.dialect c.piece.ensures more
             c.take-used.ensures.offered
             (w.run-is ∙ refused_on c.loop-turn.run c.take-used.result.0 c.take-used.result.1
             (c.loop-turn.run.refused + 1) (omega (arith, ap {B = ℕ} (λ s. cond (is_refusal s) 1 0) w.in-NoMemory.is)))
@@ -93,11 +93,11 @@ loop-turn-preserved c =
 
 pub returns-clause-traced : goal.returns-clause-traced
 returns-clause-traced c b s more =
-    traced_all c.args.self.now.order b c.args.bytes.now c.args.turns.now c.loop-turn.turn-index c.loop-turn.run
+    traced_all c.args.self.now.dialect b c.args.bytes.now c.args.turns.now c.loop-turn.turn-index c.loop-turn.run
     c.loop-turn.self (omega (arith, c.loop-turn-test.false)) (c.loop-turn.invariant.going b s more)
 
 pub returns-clause-runs : goal.returns-clause-runs
 returns-clause-runs c b s more =
-    runs_of c.args.self.now.order b c.args.bytes.now c.args.turns.now c.loop-turn.run c.loop-turn.self more
-    (traced_all c.args.self.now.order b c.args.bytes.now c.args.turns.now c.loop-turn.turn-index c.loop-turn.run
+    runs_of c.args.self.now.dialect b c.args.bytes.now c.args.turns.now c.loop-turn.run c.loop-turn.self more
+    (traced_all c.args.self.now.dialect b c.args.bytes.now c.args.turns.now c.loop-turn.turn-index c.loop-turn.run
     c.loop-turn.self (omega (arith, c.loop-turn-test.false)) (c.loop-turn.invariant.going b s more))

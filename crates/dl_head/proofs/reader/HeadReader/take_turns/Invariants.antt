@@ -9,7 +9,7 @@ abbrev pub invariant-loop-turn : goal.invariant-loop-turn
 invariant-loop-turn l = record {
   within : l.run.taken ≤ length l.bytes;
   refusals : l.run.refused ≤ l.turn-index;
-  order : l.self.order ≡ l.fn.self.order;
-  going : (b : List ℕ) → StandsFor l.fn.self b → Answers l.fn.self.order b answer.More
-      → Going l.fn.self.order b l.bytes (take l.turn-index l.turns) l.run l.self;
+  dialect : l.self.dialect ≡ l.fn.self.dialect;
+  going : (b : List ℕ) → StandsFor l.fn.self b → Answers l.fn.self.dialect b answer.More
+      → Going l.fn.self.dialect b l.bytes (take l.turn-index l.turns) l.run l.self;
 }

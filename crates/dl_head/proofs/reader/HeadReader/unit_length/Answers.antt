@@ -12,7 +12,7 @@ returns-in-Ok-2-clause-follows c = record {
       let o = c.in-Ok.ensures in
       let w : rest ++ c.args.byte ∷ [] ≡ _ = ap (λ (l : List ℕ). l ++ c.args.byte ∷ []) (sym a.1) in
       started_short c.args.self.now _ c.in-Ok.length items (rest ++ c.args.byte ∷ []) _ a.0 (ap length w ∙ o.last ∙ a.2)
-      (o.whole ∙ ap (λ (l : List ℕ). fixed c.args.self.now.order l) (sym w))
+      (o.whole ∙ ap (λ (l : List ℕ). fixed c.args.self.now.dialect.order l) (sym w))
       (omega (arith, c.if-length-ge4294967280.false)) c.start_unit.ensures.follows;
   counts = starts_counts c.args.self.now _ Dwarf32 c.in-Ok.length _ c.start_unit.ensures.follows;
 }

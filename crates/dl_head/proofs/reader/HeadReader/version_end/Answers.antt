@@ -21,7 +21,7 @@ returns-then-version-eq5-clause-follows c = record {
           refl,
         ),
       );
-  counts = record { order = refl; start = refl; taken = refl; header = refl };
+  counts = record { dialect = refl; start = refl; taken = refl; header = refl };
 }
 
 pub returns-else-version-eq5-clause-follows : goal.returns-else-version-eq5-clause-follows
@@ -41,5 +41,5 @@ returns-else-version-eq5-clause-follows c = record {
           c.if-version-eq5.false,
         ),
       );
-  counts = record { order = refl; start = refl; taken = refl; header = refl };
+  counts = record { dialect = refl; start = refl; taken = refl; header = refl };
 }

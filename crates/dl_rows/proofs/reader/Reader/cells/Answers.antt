@@ -7,15 +7,15 @@ use Rattle.dl_rows.proofs.reader.Reader.cells.Goals as goal
 
 pub returns-in-Foreign : goal.returns-in-Foreign
 returns-in-Foreign c b s =
-    let order = c.args.self.now.order in
-    let at : StandsAt order (state.Foreign c.in-Foreign.field-0) b =
-    subst (λ (x : State). StandsAt order x b) c.in-Foreign.is s in
-    no_cells order at.0 b at.1.foreign
+    let dialect = c.args.self.now.dialect in
+    let at : StandsAt dialect (state.Foreign c.in-Foreign.field-0) b =
+    subst (λ (x : State). StandsAt dialect x b) c.in-Foreign.is s in
+    no_cells dialect at.0 b at.1.foreign
 
 pub returns-in-AfterHeader : goal.returns-in-AfterHeader
 returns-in-AfterHeader c b s =
-    let order = c.args.self.now.order in
+    let dialect = c.args.self.now.dialect in
     let same =
-    cells_here order c.in-AfterHeader.header c.in-AfterHeader.field-1 b
-    (subst (λ (x : State). StandsAt order x b) c.in-AfterHeader.is s) in
+    cells_here dialect c.in-AfterHeader.header c.in-AfterHeader.field-1 b
+    (subst (λ (x : State). StandsAt dialect x b) c.in-AfterHeader.is s) in
     c.cells-in-AfterHeader.ensures ∙ ap (λ (n : ℕ). min n (2 ^ 64 - 1)) (sym same)

@@ -1,5 +1,5 @@
 use Rattle.std.proofs.Common.{◌≡◌, ◌++◌, take, inr, refl, sym, ap, subst, ◌∙◌, arith}
-use Rattle.dl_num.specs.declared.fixed.Order.{Order}
+use Rattle.dl_head.specs.declared.dialect.Dialect.{Dialect}
 use Rattle.dl_head.specs.declared.reader.HeadReader.{HeadReader}
 use Rattle.dl_head.specs.declared.reader.HeadStep.TheVariants as answer
 use Rattle.dl_head.specs.Standing.{StandsFor as HeadStands}
@@ -17,98 +17,99 @@ pub invariant_of-self : goal.invariant_of-self
 invariant_of-self c = record {
   begun = goes_more c.in-InHeader.head c.offer-used.new.self c.args.piece.now c.offer-used.result.0
       c.offer-used.result.1 (begun_in c.args.self.now.state c.in-InHeader.head c.in-InHeader.is c.args.self.now.begun)
-      c.offer-used.ensures.offered c.offer-used.ensures.order c.in-More.is;
+      c.offer-used.ensures.offered c.offer-used.ensures.dialect c.in-More.is;
 }
 
 pub invariant_of-self-in-NoMemory : goal.invariant_of-self-in-NoMemory
 invariant_of-self-in-NoMemory c = record {
   begun = goes_refused c.in-InHeader.head c.offer-used.new.self c.args.piece.now c.offer-used.result.0
       c.offer-used.result.1 (begun_in c.args.self.now.state c.in-InHeader.head c.in-InHeader.is c.args.self.now.begun)
-      c.offer-used.ensures.offered c.offer-used.ensures.order c.in-NoMemory.is;
+      c.offer-used.ensures.offered c.offer-used.ensures.dialect c.in-NoMemory.is;
 }
 
 pub bytes_of-requires : goal.bytes_of-requires
 bytes_of-requires c =
     knows_foreign c.in-InHeader.head c.offer-used.new.self c.args.piece.now c.offer-used.result.0 c.offer-used.result.1
     (begun_in c.args.self.now.state c.in-InHeader.head c.in-InHeader.is c.args.self.now.begun)
-    c.offer-used.ensures.offered c.offer-used.ensures.order c.in-Foreign.version c.in-Foreign.is
+    c.offer-used.ensures.offered c.offer-used.ensures.dialect c.in-Foreign.version c.in-Foreign.is
 
 pub after_header-requires : goal.after_header-requires
 after_header-requires c =
     subst (λ (head : HeadReader). ∥ HasHeader head ∥₁) (sym c.replace-read.ensures.value)
     (has_header c.in-InHeader.head c.offer-used.new.self c.args.piece.now c.offer-used.result.0 c.offer-used.result.1
     (begun_in c.args.self.now.state c.in-InHeader.head c.in-InHeader.is c.args.self.now.begun)
-    c.offer-used.ensures.offered c.offer-used.ensures.order c.in-Done.is)
+    c.offer-used.ensures.offered c.offer-used.ensures.dialect c.in-Done.is)
 
 pub invariant_of-self-in-Done : goal.invariant_of-self-in-Done
 invariant_of-self-in-Done c = record { begun = c.after_header.ensures.begun }
 
 pub returns-in-Fault-clause-fed : goal.returns-in-Fault-clause-fed
 returns-in-Fault-clause-fed c b s =
-    let order = c.args.self.now.order in
-    let was : InHeader order c.in-InHeader.head b = subst (λ (x : State). StandsAt order x b) c.in-InHeader.is s in
+    let dialect = c.args.self.now.dialect in
+    let was : InHeader dialect c.in-InHeader.head b = subst (λ (x : State). StandsAt dialect x b) c.in-InHeader.is s in
     let w = b ++ take c.offer-used.result.0 c.args.piece.now in
-    let h = head_took order c.in-InHeader.head c.offer-used.new.self b c.args.piece.now c.offer-used.result.0
+    let h = head_took dialect c.in-InHeader.head c.offer-used.new.self b c.args.piece.now c.offer-used.result.0
     c.offer-used.result.1 was (all_bytes c.args.piece.now (λ i lt. omega (arith, c.type_inv.piece i)))
-    c.offer-used.ensures.offered c.offer-used.ensures.order in
+    c.offer-used.ensures.offered c.offer-used.ensures.dialect in
     let refused = come_to h _ c.in-Fault.is in (
       c.offer-used.result.0,
-      fails_head order c.in-InHeader.head c.offer-used.new.self b c.args.piece.now c.offer-used.result.0
+      fails_head dialect c.in-InHeader.head c.offer-used.new.self b c.args.piece.now c.offer-used.result.0
           c.offer-used.result.1 was h c.in-Fault.fault refused,
-      stopped_head order c.in-InHeader.head c.offer-used.new.self b c.args.piece.now c.offer-used.result.0
+      stopped_head dialect c.in-InHeader.head c.offer-used.new.self b c.args.piece.now c.offer-used.result.0
           c.offer-used.result.1 was h c.in-Fault.fault refused _ refl (c.taken.ensures w h.stands)
-          (cells_at order c.offer-used.new.self w c.cells.result h.same_order (c.cells.ensures w h.stands)),
+          (cells_at dialect c.offer-used.new.self w c.cells.result h.same_dialect (c.cells.ensures w h.stands)),
     )
 
 pub returns-in-More-clause-fed : goal.returns-in-More-clause-fed
 returns-in-More-clause-fed c b s =
-    let order = c.args.self.now.order in
-    let was : InHeader order c.in-InHeader.head b = subst (λ (x : State). StandsAt order x b) c.in-InHeader.is s in
-    let h = head_took order c.in-InHeader.head c.offer-used.new.self b c.args.piece.now c.offer-used.result.0
+    let dialect = c.args.self.now.dialect in
+    let was : InHeader dialect c.in-InHeader.head b = subst (λ (x : State). StandsAt dialect x b) c.in-InHeader.is s in
+    let h = head_took dialect c.in-InHeader.head c.offer-used.new.self b c.args.piece.now c.offer-used.result.0
     c.offer-used.result.1 was (all_bytes c.args.piece.now (λ i lt. omega (arith, c.type_inv.piece i)))
-    c.offer-used.ensures.offered c.offer-used.ensures.order in
+    c.offer-used.ensures.offered c.offer-used.ensures.dialect in
     let goes = come_to h answer.More c.in-More.is in
-    feeds_goes order c.in-InHeader.head c.offer-used.new.self b c.args.piece.now c.offer-used.result.0
+    feeds_goes dialect c.in-InHeader.head c.offer-used.new.self b c.args.piece.now c.offer-used.result.0
     c.offer-used.result.1 was h goes _ _
-    (goes_stands order c.in-InHeader.head c.offer-used.new.self b c.args.piece.now c.offer-used.result.0
+    (goes_stands dialect c.in-InHeader.head c.offer-used.new.self b c.args.piece.now c.offer-used.result.0
     c.offer-used.result.1 was h goes) refl refl
-    (holds_more order c.in-InHeader.head c.offer-used.new.self b c.args.piece.now c.offer-used.result.0
+    (holds_more dialect c.in-InHeader.head c.offer-used.new.self b c.args.piece.now c.offer-used.result.0
     c.offer-used.result.1 was h goes (h.whole c.in-More.is))
 
 pub returns-in-NoMemory-clause-fed : goal.returns-in-NoMemory-clause-fed
 returns-in-NoMemory-clause-fed c b s =
-    let order = c.args.self.now.order in
-    let was : InHeader order c.in-InHeader.head b = subst (λ (x : State). StandsAt order x b) c.in-InHeader.is s in
-    let h = head_took order c.in-InHeader.head c.offer-used.new.self b c.args.piece.now c.offer-used.result.0
+    let dialect = c.args.self.now.dialect in
+    let was : InHeader dialect c.in-InHeader.head b = subst (λ (x : State). StandsAt dialect x b) c.in-InHeader.is s in
+    let h = head_took dialect c.in-InHeader.head c.offer-used.new.self b c.args.piece.now c.offer-used.result.0
     c.offer-used.result.1 was (all_bytes c.args.piece.now (λ i lt. omega (arith, c.type_inv.piece i)))
-    c.offer-used.ensures.offered c.offer-used.ensures.order in
+    c.offer-used.ensures.offered c.offer-used.ensures.dialect in
     let goes = come_to h answer.NoMemory c.in-NoMemory.is in
-    feeds_goes order c.in-InHeader.head c.offer-used.new.self b c.args.piece.now c.offer-used.result.0
+    feeds_goes dialect c.in-InHeader.head c.offer-used.new.self b c.args.piece.now c.offer-used.result.0
     c.offer-used.result.1 was h goes _ _
-    (goes_stands order c.in-InHeader.head c.offer-used.new.self b c.args.piece.now c.offer-used.result.0
+    (goes_stands dialect c.in-InHeader.head c.offer-used.new.self b c.args.piece.now c.offer-used.result.0
     c.offer-used.result.1 was h goes) refl refl
-    (holds_refused order c.in-InHeader.head c.offer-used.new.self b c.args.piece.now c.offer-used.result.0
+    (holds_refused dialect c.in-InHeader.head c.offer-used.new.self b c.args.piece.now c.offer-used.result.0
     c.offer-used.result.1 was h goes c.in-NoMemory.is)
 
 pub returns-in-Foreign-clause-fed : goal.returns-in-Foreign-clause-fed
 returns-in-Foreign-clause-fed c b s =
-    let order = c.args.self.now.order in
-    let was : InHeader order c.in-InHeader.head b = subst (λ (x : State). StandsAt order x b) c.in-InHeader.is s in
+    let dialect = c.args.self.now.dialect in
+    let was : InHeader dialect c.in-InHeader.head b = subst (λ (x : State). StandsAt dialect x b) c.in-InHeader.is s in
     let w = b ++ take c.offer-used.result.0 c.args.piece.now in
-    let h = head_took order c.in-InHeader.head c.offer-used.new.self b c.args.piece.now c.offer-used.result.0
+    let h = head_took dialect c.in-InHeader.head c.offer-used.new.self b c.args.piece.now c.offer-used.result.0
     c.offer-used.result.1 was (all_bytes c.args.piece.now (λ i lt. omega (arith, c.type_inv.piece i)))
-    c.offer-used.ensures.offered c.offer-used.ensures.order in
+    c.offer-used.ensures.offered c.offer-used.ensures.dialect in
     let foreign = come_to h (answer.Foreign c.in-Foreign.version) c.in-Foreign.is in
     let some =
     begun_takes c.in-InHeader.head c.offer-used.result.0 c.offer-used.result.1
     (begun_in c.args.self.now.state c.in-InHeader.head c.in-InHeader.is c.args.self.now.begun)
-    c.offer-used.ensures.progress (λ e. no_more (sym c.in-Foreign.is ∙ e)) (λ e. no_refusal (sym c.in-Foreign.is ∙ e)) in
-    feeds_version order c.in-InHeader.head c.offer-used.new.self b c.args.piece.now c.offer-used.result.0
+    c.offer-used.ensures.progress (λ e. no_more (sym c.in-Foreign.is ∙ e))
+    (λ e. no_refusal (sym c.in-Foreign.is ∙ e)) in
+    feeds_version dialect c.in-InHeader.head c.offer-used.new.self b c.args.piece.now c.offer-used.result.0
     c.offer-used.result.1 was h _ c.in-Foreign.version foreign some (
       c.in-Foreign.version,
       record {
         counts =
-            subst (λ (o : Order). Counts o c.bytes_of.result w) h.same_order (c.bytes_of.ensures w h.stands);
+            subst (λ (d : Dialect). Counts d c.bytes_of.result w) h.same_dialect (c.bytes_of.ensures w h.stands);
         foreign =
             foreign;
       },
@@ -122,21 +123,22 @@ returns-in-Foreign-clause-fed c b s =
 
 pub returns-in-Done-clause-fed : goal.returns-in-Done-clause-fed
 returns-in-Done-clause-fed c b s =
-    let order = c.args.self.now.order in
-    let was : InHeader order c.in-InHeader.head b = subst (λ (x : State). StandsAt order x b) c.in-InHeader.is s in
+    let dialect = c.args.self.now.dialect in
+    let was : InHeader dialect c.in-InHeader.head b = subst (λ (x : State). StandsAt dialect x b) c.in-InHeader.is s in
     let w = b ++ take c.offer-used.result.0 c.args.piece.now in
-    let h = head_took order c.in-InHeader.head c.offer-used.new.self b c.args.piece.now c.offer-used.result.0
+    let h = head_took dialect c.in-InHeader.head c.offer-used.new.self b c.args.piece.now c.offer-used.result.0
     c.offer-used.result.1 was (all_bytes c.args.piece.now (λ i lt. omega (arith, c.type_inv.piece i)))
-    c.offer-used.ensures.offered c.offer-used.ensures.order in
+    c.offer-used.ensures.offered c.offer-used.ensures.dialect in
     let header = come_to h answer.Done c.in-Done.is in
     let some =
     begun_takes c.in-InHeader.head c.offer-used.result.0 c.offer-used.result.1
     (begun_in c.args.self.now.state c.in-InHeader.head c.in-InHeader.is c.args.self.now.begun)
     c.offer-used.ensures.progress (λ e. no_more (sym c.in-Done.is ∙ e)) (λ e. no_refusal (sym c.in-Done.is ∙ e)) in
     let read = c.replace-read.ensures.value in
-    feeds_header order c.in-InHeader.head c.offer-used.new.self b c.args.piece.now c.offer-used.result.0
+    feeds_header dialect c.in-InHeader.head c.offer-used.new.self b c.args.piece.now c.offer-used.result.0
     c.offer-used.result.1 was h _ header.0 header.1 some
-    (subst (λ (o : Order). StandsAt o c.after_header.result w) (ap (λ (r : HeadReader). r.order) read ∙ h.same_order)
+    (subst (λ (d : Dialect). StandsAt d c.after_header.result w)
+    (ap (λ (r : HeadReader). r.dialect) read ∙ h.same_dialect)
     (c.after_header.ensures.stands w (subst (λ (r : HeadReader). HeadStands r w) (sym read) h.stands)
     (taken_bytes b c.args.piece.now c.offer-used.result.0 was.bytes h.bytes)))
   where
@@ -150,7 +152,8 @@ pub returns-in-Foreign-clause-progress : goal.returns-in-Foreign-clause-progress
 returns-in-Foreign-clause-progress c =
     inr (begun_takes c.in-InHeader.head c.offer-used.result.0 c.offer-used.result.1
     (begun_in c.args.self.now.state c.in-InHeader.head c.in-InHeader.is c.args.self.now.begun)
-    c.offer-used.ensures.progress (λ e. absurd (cc (sym c.in-Foreign.is ∙ e))) (λ e. absurd (cc (sym c.in-Foreign.is ∙ e))))
+    c.offer-used.ensures.progress (λ e. absurd (cc (sym c.in-Foreign.is ∙ e)))
+    (λ e. absurd (cc (sym c.in-Foreign.is ∙ e))))
 
 pub returns-in-Done-clause-progress : goal.returns-in-Done-clause-progress
 returns-in-Done-clause-progress c =

@@ -4,7 +4,7 @@ use Rattle.dl_rows.proofs.reader.Reader.feed_rows.Goals as goal
 
 pub returns-in-InHeader-clause-fed : goal.returns-in-InHeader-clause-fed
 returns-in-InHeader-clause-fed g c b before first s hears =
-    no_rows (g.S.RowSink.story first) c.args.self.now.order b c.args.piece.now before c.feed_head.result
+    no_rows (g.S.RowSink.story first) c.args.self.now.dialect b c.args.piece.now before c.feed_head.result
     c.feed_head.new.self c.args.sink.now (c.feed_head.ensures.fed b s)
     (sink_after (g.S.RowSink.story first) c.args.sink.now before c.feed_head.result c.feed_head.ensures.no_row hears)
 
@@ -15,11 +15,11 @@ returns-in-StoppedInHeader-clause-fed g c b before first s hears =
 
 pub returns-in-Foreign-clause-fed : goal.returns-in-Foreign-clause-fed
 returns-in-Foreign-clause-fed g c b before first s hears =
-    no_rows (g.S.RowSink.story first) c.args.self.now.order b c.args.piece.now before (Ok c.pass_over.result) _
+    no_rows (g.S.RowSink.story first) c.args.self.now.dialect b c.args.piece.now before (Ok c.pass_over.result) _
     c.args.sink.now
     (feeds_foreign c.args.self.now _ c.in-Foreign.bytes c.pass_over.new.self b c.args.piece.now c.pass_over.result
     c.in-Foreign.is refl refl s
-    (λ version in_foreign. c.pass_over.ensures.fed c.args.self.now.order version b in_foreign))
+    (λ version in_foreign. c.pass_over.ensures.fed c.args.self.now.dialect version b in_foreign))
     (sink_after (g.S.RowSink.story first) c.args.sink.now before (Ok c.pass_over.result)
     (no_row_paused c.pass_over.result.event c.pass_over.ensures.pause) hears)
 

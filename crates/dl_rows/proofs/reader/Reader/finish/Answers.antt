@@ -7,8 +7,8 @@ use Rattle.dl_rows.proofs.reader.Reader.finish.Goals as goal
 
 pub returns-in-Foreign : goal.returns-in-Foreign
 returns-in-Foreign c b s =
-    let order = c.args.self.now.order in
-    let at : StandsAt order (state.Foreign c.in-Foreign.bytes) b =
-    subst (λ (x : State). StandsAt order x b) c.in-Foreign.is s in
-    finish_foreign order at.0 c.in-Foreign.bytes b c.finish.result at.1 c.finish.ensures.whole
+    let dialect = c.args.self.now.dialect in
+    let at : StandsAt dialect (state.Foreign c.in-Foreign.bytes) b =
+    subst (λ (x : State). StandsAt dialect x b) c.in-Foreign.is s in
+    finish_foreign dialect at.0 c.in-Foreign.bytes b c.finish.result at.1 c.finish.ensures.whole
     c.finish.ensures.truncated

@@ -6,6 +6,6 @@ use Rattle.dl_rows.proofs.reader.Reader.header.Goals as goal
 
 pub returns : goal.returns
 returns c b s =
-    let order = c.args.self.now.order in
-    header_here order c.in-AfterHeader.header c.in-AfterHeader.field-1 b
-    (subst (λ (x : State). StandsAt order x b) c.in-AfterHeader.is s)
+    let dialect = c.args.self.now.dialect in
+    header_here dialect c.in-AfterHeader.header c.in-AfterHeader.field-1 b
+    (subst (λ (x : State). StandsAt dialect x b) c.in-AfterHeader.is s)

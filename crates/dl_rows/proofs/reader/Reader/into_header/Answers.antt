@@ -6,6 +6,6 @@ use Rattle.dl_rows.proofs.reader.Reader.into_header.Goals as goal
 
 pub returns-in-AfterHeader : goal.returns-in-AfterHeader
 returns-in-AfterHeader c b s =
-    let order = c.args.self.order in
-    header_here order c.in-AfterHeader.header c.in-AfterHeader.field-1 b
-    (subst (λ (x : State). StandsAt order x b) c.in-AfterHeader.is s)
+    let dialect = c.args.self.dialect in
+    header_here dialect c.in-AfterHeader.header c.in-AfterHeader.field-1 b
+    (subst (λ (x : State). StandsAt dialect x b) c.in-AfterHeader.is s)

@@ -15,7 +15,7 @@ loop-turn-init g c = record {
   within = omega arith;
   refusals = omega arith;
   goes = refl;
-  order = refl;
+  dialect = refl;
   going = λ b s. going_none g.L.Listener.heard b c.args.bytes.now c.args.listener.now c.args.self.now s;
 }
 
@@ -27,10 +27,10 @@ returns-in_err-fed-clause-traced g c b s =
     let i = c.loop-turn.invariant in
     let p = err_from_is_err_and c.from_residual.result c.from_residual.ensures.1 in
     rw (p.1, p.2)
-    (traced_fault g.L.Listener.heard c.args.self.now.order b c.args.bytes.now c.args.turns.now c.loop-turn.turn-index
+    (traced_fault g.L.Listener.heard c.args.self.now.dialect b c.args.bytes.now c.args.turns.now c.loop-turn.turn-index
     c.loop-turn.run c.args.listener.now c.loop-turn.listener c.loop-turn.listener c.loop-turn.self c.feed.new.self
     c.piece.result.now
-    c.loop-turn-test.true (i.going b s) i.order c.piece.ensures c.in_err-fed.field-0.0
+    c.loop-turn-test.true (i.going b s) i.dialect c.piece.ensures c.in_err-fed.field-0.0
     (λ d at. c.in_err-fed.ensures.fed d at) (hears_none g.L.Listener.heard c.loop-turn.listener))
 
 pub returns-in_err-fed-clause-runs : goal.returns-in_err-fed-clause-runs
@@ -43,8 +43,8 @@ returns-in_err-fed-clause-unit g c b u rest s e unit =
     unit_of c.args.self.now b c.args.bytes.now c.args.turns.now s _ _ c.feed.new.self
     (returns-in_err-fed-clause-traced g c b s) u rest e unit
 
-pub returns-in_err-fed-clause-order : goal.returns-in_err-fed-clause-order
-returns-in_err-fed-clause-order g c = c.feed.ensures.order ∙ c.loop-turn.invariant.order
+pub returns-in_err-fed-clause-dialect : goal.returns-in_err-fed-clause-dialect
+returns-in_err-fed-clause-dialect g c = c.feed.ensures.dialect ∙ c.loop-turn.invariant.dialect
 
 pub overflow_add-run-in-NoMemory : goal.overflow_add-run-in-NoMemory
 overflow_add-run-in-NoMemory g c = omega (arith, c.loop-turn.invariant.refusals, c.loop-turn-test.true)
@@ -52,10 +52,10 @@ overflow_add-run-in-NoMemory g c = omega (arith, c.loop-turn.invariant.refusals,
 pub returns-in-End-clause-traced : goal.returns-in-End-clause-traced
 returns-in-End-clause-traced g c b s =
     let i = c.loop-turn.invariant in
-    traced_end g.L.Listener.heard c.args.self.now.order b c.args.bytes.now c.args.turns.now c.loop-turn.turn-index
+    traced_end g.L.Listener.heard c.args.self.now.dialect b c.args.bytes.now c.args.turns.now c.loop-turn.turn-index
     c.loop-turn.run c.args.listener.now c.loop-turn.listener c.hand_on.new.listener c.loop-turn.self c.feed.new.self
     c.piece.result.now
-    c.loop-turn-test.true (i.going b s) i.order c.piece.ensures c.in_ok-fed.fed (λ d at. c.in_ok-fed.ensures.fed d at)
+    c.loop-turn-test.true (i.going b s) i.dialect c.piece.ensures c.in_ok-fed.fed (λ d at. c.in_ok-fed.ensures.fed d at)
     c.hand_on.ensures c.in-End.is
 
 pub returns-in-End-clause-runs : goal.returns-in-End-clause-runs
@@ -68,8 +68,8 @@ returns-in-End-clause-unit g c b u rest s e unit =
     unit_of c.args.self.now b c.args.bytes.now c.args.turns.now s _ _ c.feed.new.self
     (returns-in-End-clause-traced g c b s) u rest e unit
 
-pub returns-in-End-clause-order : goal.returns-in-End-clause-order
-returns-in-End-clause-order g c = c.feed.ensures.order ∙ c.loop-turn.invariant.order
+pub returns-in-End-clause-dialect : goal.returns-in-End-clause-dialect
+returns-in-End-clause-dialect g c = c.feed.ensures.dialect ∙ c.loop-turn.invariant.dialect
 
 pub loop-turn-preserved : goal.loop-turn-preserved
 loop-turn-preserved g c =
@@ -84,12 +84,13 @@ loop-turn-preserved g c =
         within = within;
         refusals = omega (arith, i.refusals);
         goes = i.goes;
-        order = c.feed.ensures.order ∙ i.order;
+        dialect = c.feed.ensures.dialect ∙ i.dialect;
         going = λ b s.
-            going_on g.L.Listener.heard c.args.self.now.order b c.args.bytes.now c.args.turns.now c.loop-turn.turn-index
+            going_on g.L.Listener.heard c.args.self.now.dialect b c.args.bytes.now c.args.turns.now
+            c.loop-turn.turn-index
             c.loop-turn.run c.args.listener.now c.loop-turn.listener c.hand_on.new.listener c.loop-turn.self
             c.feed.new.self c.piece.result.now
-            c.loop-turn-test.true (i.going b s) i.order c.piece.ensures fed (λ d at. c.in_ok-fed.ensures.fed d at)
+            c.loop-turn-test.true (i.going b s) i.dialect c.piece.ensures fed (λ d at. c.in_ok-fed.ensures.fed d at)
             c.hand_on.ensures _ (c.loop-turn.run.refused + 1) (not_ended _ _ _ i.goes)
             (omega (arith, ap {B = ℕ} (λ e. cond (is_refusal (Ok e)) 1 0) w.in-NoMemory.is))
             (ap (λ (e : Event). goes_on (Ok e)) w.in-NoMemory.is);
@@ -98,13 +99,14 @@ loop-turn-preserved g c =
         within = within;
         refusals = omega (arith, i.refusals);
         goes = i.goes;
-        order = c.feed.ensures.order ∙ i.order;
+        dialect = c.feed.ensures.dialect ∙ i.dialect;
         going = λ b s.
             let other = other_event fed.event w.in_default.not-End w.in_default.not-NoMemory in
-            going_on g.L.Listener.heard c.args.self.now.order b c.args.bytes.now c.args.turns.now c.loop-turn.turn-index
+            going_on g.L.Listener.heard c.args.self.now.dialect b c.args.bytes.now c.args.turns.now
+            c.loop-turn.turn-index
             c.loop-turn.run c.args.listener.now c.loop-turn.listener c.hand_on.new.listener c.loop-turn.self
             c.feed.new.self c.piece.result.now
-            c.loop-turn-test.true (i.going b s) i.order c.piece.ensures fed (λ d at. c.in_ok-fed.ensures.fed d at)
+            c.loop-turn-test.true (i.going b s) i.dialect c.piece.ensures fed (λ d at. c.in_ok-fed.ensures.fed d at)
             c.hand_on.ensures _ c.loop-turn.run.refused (not_ended _ _ _ i.goes)
             (omega (arith, ap {B = ℕ} (λ v. cond v 1 0) other.1)) other.0;
       })
@@ -121,7 +123,7 @@ loop-turn-preserved g c =
 
 pub returns-clause-traced : goal.returns-clause-traced
 returns-clause-traced g c b s =
-    traced_all g.L.Listener.heard c.args.self.now.order b c.args.bytes.now c.args.turns.now c.loop-turn.turn-index
+    traced_all g.L.Listener.heard c.args.self.now.dialect b c.args.bytes.now c.args.turns.now c.loop-turn.turn-index
     c.loop-turn.run c.args.listener.now c.loop-turn.listener c.loop-turn.self
     (omega (arith, c.loop-turn-test.false)) (c.loop-turn.invariant.going b s)
 
@@ -134,5 +136,5 @@ returns-clause-unit g c b u rest s e unit =
     unit_of c.args.self.now b c.args.bytes.now c.args.turns.now s _ _ c.loop-turn.self (returns-clause-traced g c b s) u
     rest e unit
 
-pub returns-clause-order : goal.returns-clause-order
-returns-clause-order g c = c.loop-turn.invariant.order
+pub returns-clause-dialect : goal.returns-clause-dialect
+returns-clause-dialect g c = c.loop-turn.invariant.dialect

@@ -8,8 +8,8 @@ invariant-loop-turn g l = record {
   within : l.run.taken ≤ length l.bytes;
   refusals : l.run.refused ≤ l.turn-index;
   goes : l.run.ended ≡ false;
-  order : l.self.order ≡ l.fn.self.order;
+  dialect : l.self.dialect ≡ l.fn.self.dialect;
   going : (b : List ℕ) → StandsFor l.fn.self b
-      → Going g.L.Listener.heard l.fn.self.order b l.bytes (take l.turn-index l.turns) l.run l.fn.listener l.listener
+      → Going g.L.Listener.heard l.fn.self.dialect b l.bytes (take l.turn-index l.turns) l.run l.fn.listener l.listener
       l.self;
 }

@@ -5,7 +5,7 @@ use Rattle.dl_rows.proofs.ReaderLemmas.{finish_program}
 use Rattle.dl_rows.proofs.unit_body.BodyState.finish.Goals as goal
 
 pub returns-in-InProgram : goal.returns-in-InProgram
-returns-in-InProgram c order h b s =
-    finish_program order h c.in-InProgram.body b c.finish.result
-    (subst (λ (x : BodyState). BodyStands order h x b) c.in-InProgram.is s) c.finish.ensures.whole
+returns-in-InProgram c dialect h b s =
+    finish_program dialect h c.in-InProgram.body b c.finish.result
+    (subst (λ (x : BodyState). BodyStands dialect h x b) c.in-InProgram.is s) c.finish.ensures.whole
     c.finish.ensures.truncated

@@ -6,7 +6,8 @@ use Rattle.dl_rows.proofs.ReaderLemmas.{rows_here}
 use Rattle.dl_rows.proofs.unit_body.BodyState.in_sequence.Goals as goal
 
 pub returns-in-InProgram : goal.returns-in-InProgram
-returns-in-InProgram c order h b s =
+returns-in-InProgram c dialect h b s =
     let body = c.in-InProgram.body in
-    let is : InProgram order h body b = subst (λ (x : BodyState). BodyStands order h x b) c.in-InProgram.is s in
-    c.in_sequence.ensures.rows order h.params is.program is.stands ∙ ap ends_open (sym (rows_here order h body b is))
+    let is : InProgram dialect h body b = subst (λ (x : BodyState). BodyStands dialect h x b) c.in-InProgram.is s in
+    c.in_sequence.ensures.rows dialect.order h.params is.program is.stands
+    ∙ ap ends_open (sym (rows_here dialect h body b is))

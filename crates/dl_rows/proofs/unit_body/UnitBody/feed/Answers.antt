@@ -12,7 +12,7 @@ use Rattle.dl_rows.proofs.unit_body.UnitBody.feed.Goals as goal
 pub returns-in-Row-clause-fed : goal.returns-in-Row-clause-fed
 returns-in-Row-clause-fed g c h b before first e is hears =
     let all = all_bytes c.args.piece.now (λ i lt. omega (arith, c.type_inv.piece i)) in
-    let t = tells_in (g.S.RowSink.story first) c.args.order h c.args.params.now c.args.self.now (record {
+    let t = tells_in (g.S.RowSink.story first) c.args.dialect h c.args.params.now c.args.self.now (record {
       program =
           c.push.new.self;
       bytes =
@@ -22,13 +22,14 @@ returns-in-Row-clause-fed g c h b before first e is hears =
     refl (λ d fits bytes stands. c.in-Row.ensures.given d before first fits bytes stands hears) in
     record {
       rows = t.rows;
-      fed = feeds_row c.args.order h c.args.self.now (record {
+      fed = feeds_row c.args.dialect h c.args.self.now (record {
         program = c.push.new.self;
         bytes =
             c.count.new.self;
       }) b c.args.piece.now c.in-Row.tail.now t.rows c.in-Row.row
           (length c.front-bytes.result.now - length c.in-Row.tail.now) is
-          (flat_row c.args.order h is.program _ t.rows t.since c.in-Row.row c.in-Row.tail.now c.push.new.self t.told
+          (flat_row c.args.dialect.order h is.program _ t.rows t.since c.in-Row.row c.in-Row.tail.now
+          c.push.new.self t.told
           t.gives)
           (ap (λ (w : List ℕ). length w - length c.in-Row.tail.now) c.front-bytes.ensures) c.count.ensures.taken
           c.count.ensures.left;
@@ -38,7 +39,7 @@ returns-in-Row-clause-fed g c h b before first e is hears =
 pub returns-in-Refuses-clause-fed : goal.returns-in-Refuses-clause-fed
 returns-in-Refuses-clause-fed g c h b before first e is hears =
     let all = all_bytes c.args.piece.now (λ i lt. omega (arith, c.type_inv.piece i)) in
-    let t = tells_in (g.S.RowSink.story first) c.args.order h c.args.params.now c.args.self.now (record {
+    let t = tells_in (g.S.RowSink.story first) c.args.dialect h c.args.params.now c.args.self.now (record {
       program =
           c.push.new.self;
       bytes =
@@ -49,13 +50,14 @@ returns-in-Refuses-clause-fed g c h b before first e is hears =
     refl (λ d fits bytes stands. c.in-Refuses.ensures.given d before first fits bytes stands hears) in
     record {
       rows = t.rows;
-      fed = fails_bad c.args.order h c.args.self.now (record {
+      fed = fails_bad c.args.dialect h c.args.self.now (record {
         program = c.push.new.self;
         bytes =
             c.count-in-Refuses.new.self;
       }) b c.args.piece.now c.in-Refuses.tail.now t.rows c.in-Refuses.kind
           c.fault-in-Refuses.result (length c.front-bytes.result.now - length c.in-Refuses.tail.now) is
-          (flat_bad c.args.order h is.program _ t.rows t.since c.in-Refuses.kind c.in-Refuses.tail.now c.push.new.self
+          (flat_bad c.args.dialect.order h is.program _ t.rows t.since c.in-Refuses.kind c.in-Refuses.tail.now
+          c.push.new.self
           t.told t.gives)
           (ap (λ (w : List ℕ). length w - length c.in-Refuses.tail.now) c.front-bytes.ensures)
           c.count-in-Refuses.ensures.taken c.count-in-Refuses.ensures.left c.fault-in-Refuses.ensures;
@@ -65,7 +67,7 @@ returns-in-Refuses-clause-fed g c h b before first e is hears =
 pub returns-then-not-is_between-clause-fed : goal.returns-then-not-is_between-clause-fed
 returns-then-not-is_between-clause-fed g c h b before first e is hears =
     let all = all_bytes c.args.piece.now (λ i lt. omega (arith, c.type_inv.piece i)) in
-    let t = tells_in (g.S.RowSink.story first) c.args.order h c.args.params.now c.args.self.now (record {
+    let t = tells_in (g.S.RowSink.story first) c.args.dialect h c.args.params.now c.args.self.now (record {
       program =
           c.push.new.self;
       bytes =
@@ -73,7 +75,7 @@ returns-then-not-is_between-clause-fed g c h b before first e is hears =
     }) b c.args.piece.now c.front-bytes.result.now before given.Nothing c.push.new.self
     c.push.new.sink is e c.front-bytes.ensures all
     refl (λ d fits bytes stands. c.in-Nothing.ensures.given d before first fits bytes stands hears) in
-    let flat = flat_nothing c.args.order h is.program _ t.rows t.since c.push.new.self t.told t.gives in
+    let flat = flat_nothing c.args.dialect.order h is.program _ t.rows t.since c.push.new.self t.told t.gives in
     let new : UnitBody = record { program = c.push.new.self; bytes = c.count-in-Nothing.new.self } in
     let taken =
     c.count-in-Nothing.ensures.taken
@@ -83,9 +85,10 @@ returns-then-not-is_between-clause-fed g c h b before first e is hears =
     ∙ ap (λ (w : List ℕ). c.args.self.now.bytes.left - length w) c.front-bytes.ensures in
     record {
       rows = t.rows;
-      fed = fails_overrun c.args.order h c.args.self.now new b c.args.piece.now t.rows c.fault.result is flat taken left
+      fed = fails_overrun c.args.dialect h c.args.self.now new b c.args.piece.now t.rows c.fault.result is
+          flat taken left
           c.if-self-eq0.true
-          (λ none. true_false ((c.is_between.ensures.rest c.args.order h.params _ flat.0).1 none)
+          (λ none. true_false ((c.is_between.ensures.rest c.args.dialect.order h.params _ flat.0).1 none)
           c.if-not-is_between.true) c.fault.ensures;
       sink = t.sink;
     }
@@ -93,7 +96,7 @@ returns-then-not-is_between-clause-fed g c h b before first e is hears =
 pub returns-else-self-eq0-clause-fed : goal.returns-else-self-eq0-clause-fed
 returns-else-self-eq0-clause-fed g c h b before first e is hears =
     let all = all_bytes c.args.piece.now (λ i lt. omega (arith, c.type_inv.piece i)) in
-    let t = tells_in (g.S.RowSink.story first) c.args.order h c.args.params.now c.args.self.now (record {
+    let t = tells_in (g.S.RowSink.story first) c.args.dialect h c.args.params.now c.args.self.now (record {
       program =
           c.push.new.self;
       bytes =
@@ -101,7 +104,7 @@ returns-else-self-eq0-clause-fed g c h b before first e is hears =
     }) b c.args.piece.now c.front-bytes.result.now before given.Nothing c.push.new.self
     c.push.new.sink is e c.front-bytes.ensures all
     refl (λ d fits bytes stands. c.in-Nothing.ensures.given d before first fits bytes stands hears) in
-    let flat = flat_nothing c.args.order h is.program _ t.rows t.since c.push.new.self t.told t.gives in
+    let flat = flat_nothing c.args.dialect.order h is.program _ t.rows t.since c.push.new.self t.told t.gives in
     let new : UnitBody = record { program = c.push.new.self; bytes = c.count-in-Nothing.new.self } in
     let taken =
     c.count-in-Nothing.ensures.taken
@@ -111,14 +114,14 @@ returns-else-self-eq0-clause-fed g c h b before first e is hears =
     ∙ ap (λ (w : List ℕ). c.args.self.now.bytes.left - length w) c.front-bytes.ensures in
     record {
       rows = t.rows;
-      fed = feeds_nothing c.args.order h c.args.self.now new b c.args.piece.now t.rows c.pause.result is flat
+      fed = feeds_nothing c.args.dialect h c.args.self.now new b c.args.piece.now t.rows c.pause.result is flat
           (c.pause.ensures.used ∙ ap (λ (w : List ℕ). length w) c.front-bytes.ensures)
           (c.pause.ensures.event
           ∙ ap (λ (n : ℕ). paused new.bytes.taken new.bytes.left n (length c.args.piece.now))
           (sym c.pause.ensures.used)) taken left
           (λ none. elim c.else-self-eq0.branch [
             | else-self-eq0-via-then-self-eq0+else-not-is_between
-                w ↦ (w.is_between.ensures.rest c.args.order h.params _ flat.0).0 w.if-not-is_between.false
+                w ↦ (w.is_between.ensures.rest c.args.dialect.order h.params _ flat.0).0 w.if-not-is_between.false
             | else-self-eq0-via-else-self-eq0 w ↦ absurd (w.if-self-eq0.false none)
           ]);
       sink = sink_paused (g.S.RowSink.story first) c.push.new.sink (before ++ t.rows) c.pause.result.event

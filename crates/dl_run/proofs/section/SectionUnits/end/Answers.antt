@@ -12,25 +12,25 @@ use Rattle.dl_run.proofs.section.SectionUnits.end.Goals as goal
 pub returns-in_err-close-clause-heard : goal.returns-in_err-close-clause-heard
 returns-in_err-close-clause-heard g c b stands first start visits tells told =
     let p = err_from_is_err_and c.from_residual.result c.from_residual.ensures.1 in
-    let order = c.args.self.now.reader.order in
+    let dialect = c.args.self.now.reader.dialect in
     rw (
       p.1,
       p.2,
     ) (stops_before g.V.Visitor.story first c.close.new.visitor start (g.W.Write.contents c.close.new.output)
-    visits (open_visit (ends_open (unit_rows order b))) (of_end (header_of order b) ∷ []) _
+    visits (open_visit (ends_open (unit_rows dialect b))) (of_end (header_of dialect b) ∷ []) _
     (c.in_err-close.ensures b stands first start visits tells))
 
 pub returns-clause-heard : goal.returns-clause-heard
 returns-clause-heard g c b stands first start visits tells told =
     let story = g.V.Visitor.story in
-    let order = c.args.self.now.reader.order in
-    let more = open_visit (ends_open (unit_rows order b)) in
+    let dialect = c.args.self.now.reader.dialect in
+    let more = open_visit (ends_open (unit_rows dialect b)) in
     let now = g.W.Write.contents c.end.new.output in
     let header = c.next_unit.ensures.header b stands in
-    let same = header_told-open visits (ends_open (unit_rows order b)) ∙ told ∙ sym header in
+    let same = header_told-open visits (ends_open (unit_rows dialect b)) ∙ told ∙ sym header in
     let heard = subst (λ (h : Option HeaderData). MatchResult c.end.result
     (GoesOn story first c.end.new.self start now ((visits ++ more) ++ of_end h ∷ []))
     (StopsIn story first c.end.new.self start now (visits ++ more) (of_end h ∷ [])))
     header (c.end.ensures first start (visits ++ more) (c.in_ok-close.ensures b stands first start visits tells)
     same) in
-    ends_after story first c.end.new.self start now visits more (of_end (header_of order b) ∷ []) c.end.result heard
+    ends_after story first c.end.new.self start now visits more (of_end (header_of dialect b) ∷ []) c.end.result heard

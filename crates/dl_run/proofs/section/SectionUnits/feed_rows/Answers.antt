@@ -5,13 +5,13 @@ use Rattle.dl_run.proofs.section.SectionUnits.feed_rows.Goals as goal
 pub returns-in-Some-clause-told : goal.returns-in-Some-clause-told
 returns-in-Some-clause-told g c b stands =
     stopped_told g.V.Visitor.story g.W.Write.contents b c.args.piece.now c.args.self.now _ _ c.feed_rows-fed.new.sink _
-    _ c.in-Some.fault c.feed_rows-fed.result c.in-Some.is c.feed_rows-fed.ensures.order
+    _ c.in-Some.fault c.feed_rows-fed.result c.in-Some.is c.feed_rows-fed.ensures.dialect
     (c.feed_rows-fed.ensures.fed b [] _ stands (told_start g.V.Visitor.story g.W.Write.contents _ refl)) (search)
     (search)
 
 pub returns-in-None-clause-told : goal.returns-in-None-clause-told
 returns-in-None-clause-told g c b stands =
     all_told g.V.Visitor.story g.W.Write.contents b c.args.piece.now c.args.self.now c.feed_rows-fed.new.self _
-    c.feed_rows-fed.new.sink _ _ c.feed_rows-fed.result c.in-None.is c.feed_rows-fed.ensures.order refl refl
+    c.feed_rows-fed.new.sink _ _ c.feed_rows-fed.result c.in-None.is c.feed_rows-fed.ensures.dialect refl refl
     (c.feed_rows-fed.ensures.fed b [] _ stands (told_start g.V.Visitor.story g.W.Write.contents _ refl)) (search)
     (search)
