@@ -2,6 +2,7 @@
 ghost use Rattle.std.specs.Prelude.{◌≤◌};
 
 use dl_addr::{Asked, Form, Found, Question, Style, addr};
+use dl_head::Dialect;
 use dl_num::Order;
 use dl_run::{Options, RunFault, SECTION_LIMIT};
 use std::alloc::Global;
@@ -69,7 +70,7 @@ pub fn options() -> Options<'static>
     ensures { result.limit ≤ SECTION_LIMIT }
 {
     Options {
-        order: Order::Little,
+        dialect: Dialect::version_5(Order::Little),
         debug_line_str: None,
         debug_str: None,
         limit: SECTION_LIMIT,

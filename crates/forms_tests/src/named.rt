@@ -1,6 +1,7 @@
 //! Which sections name it, by the forms in their headers.
 
 use dl_forms::StringWalk;
+use dl_head::Dialect;
 use dl_num::Order;
 use std::alloc::Global;
 use std::test::Fail;
@@ -31,8 +32,8 @@ fn push(section: &mut Vec<u8>, changes: &[(usize, u8)]) -> Result<(), Fail> {
 
 /// What a walk says that takes all bytes at once, and one that takes them one at a time.
 fn named(alloc: Global, section: &[u8]) -> Result<(bool, bool), Fail> {
-    let whole = StringWalk::new(alloc, Order::Little).feed(section)?;
-    let mut walk = StringWalk::new(alloc, Order::Little);
+    let whole = StringWalk::new(alloc, Dialect::version_5(Order::Little)).feed(section)?;
+    let mut walk = StringWalk::new(alloc, Dialect::version_5(Order::Little));
     for byte in section {
         walk = walk.feed(&[*byte])?;
     }

@@ -4,7 +4,9 @@ use crate::building::{PAIRS, assert_pushed, why_refused};
 use crate::vectors::{
     DWARF64_WITH_MD5, EACH_FORM, HUGE_DIRECTORY_COUNT, TWO_THOUSAND_DIRECTORIES, is_header_of,
 };
-use dl_head::{BuildFault, Fault, FaultKind, Format, HeadReader, HeadStep, Table, ValueRef};
+use dl_head::{
+    BuildFault, Dialect, Fault, FaultKind, Format, HeadReader, HeadStep, Table, ValueRef,
+};
 use dl_num::Order;
 use std::alloc::{AllocError, Global};
 use std::process::Abort;
@@ -161,7 +163,7 @@ fn assert_claim(
 /// Asserts the same of new readers.
 fn assert_claims(rt: &impl Abort, alloc: Global, claims: &[Claim<'_>]) {
     for (header, spare, wanted) in claims {
-        let reader = &mut HeadReader::new(alloc, Order::Little);
+        let reader = &mut HeadReader::new(alloc, Dialect::version_5(Order::Little));
         assert_claim(rt, alloc, reader, header, *spare, *wanted);
     }
 }
@@ -308,8 +310,8 @@ fn assert_growths(
 /// In pieces the growths are refused that are refused byte by byte.
 #[test]
 fn each_growth_of_a_header_is_refused_once(rt: HostRuntime) {
-    let bytewise = &mut HeadReader::new(rt.alloc(), Order::Little);
-    let piecewise = &mut HeadReader::new(rt.alloc(), Order::Little);
+    let bytewise = &mut HeadReader::new(rt.alloc(), Dialect::version_5(Order::Little));
+    let piecewise = &mut HeadReader::new(rt.alloc(), Dialect::version_5(Order::Little));
     assert_growths(&rt, rt.alloc(), bytewise, piecewise);
 }
 
@@ -327,6 +329,6 @@ fn assert_entered_later(rt: &impl Abort, alloc: Global, reader: &mut HeadReader)
 
 #[test]
 fn a_value_that_is_refused_is_entered_later(rt: HostRuntime) {
-    let mut reader = HeadReader::new(rt.alloc(), Order::Little);
+    let mut reader = HeadReader::new(rt.alloc(), Dialect::version_5(Order::Little));
     assert_entered_later(&rt, rt.alloc(), &mut reader);
 }

@@ -1,7 +1,7 @@
 //! Headers that are read in turns.
 
 use crate::vectors::{EACH_FORM, EMPTY_PROGRAM};
-use dl_head::{Fault, FaultKind, HeadReader, HeadRun, HeadStep};
+use dl_head::{Dialect, Fault, FaultKind, HeadReader, HeadRun, HeadStep};
 use dl_num::Order;
 use std::alloc::Global;
 use std::process::Abort;
@@ -48,7 +48,11 @@ fn assert_run(rt: &impl Abort, reader: &mut HeadReader, run: &Run<'_>) {
 /// Asserts the same of each of these, which has a reader of its own.
 fn assert_runs(rt: &impl Abort, alloc: Global, runs: &[Run<'_>]) {
     for run in runs {
-        assert_run(rt, &mut HeadReader::new(alloc, Order::Little), run);
+        assert_run(
+            rt,
+            &mut HeadReader::new(alloc, Dialect::version_5(Order::Little)),
+            run,
+        );
     }
 }
 

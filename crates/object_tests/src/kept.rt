@@ -1,5 +1,6 @@
 //! Which sequences are left, by the relocations at their addresses.
 
+use dl_head::Dialect;
 use dl_num::Order;
 use dl_object::{NoMemory, keep_section};
 use dl_reloc::Placed;
@@ -29,7 +30,13 @@ fn places(alloc: Global, pairs: &[(u64, u64)]) -> Result<Vec<Placed>, Fail> {
 /// What is left of a section where section 5 is wanted.
 fn kept(alloc: Global, mut section: Vec<u8>, pairs: &[(u64, u64)]) -> Result<Vec<u8>, Fail> {
     let places = places(alloc, pairs)?;
-    keep_section(alloc, Order::Little, &mut section, &places, 5)?;
+    keep_section(
+        alloc,
+        Dialect::version_5(Order::Little),
+        &mut section,
+        &places,
+        5,
+    )?;
     Ok(section)
 }
 
@@ -121,7 +128,7 @@ fn keep_beside(
     section: &mut [u8],
     places: &[Placed],
 ) -> Result<(), NoMemory> {
-    let answer = keep_section(alloc, Order::Little, section, places, 5);
+    let answer = keep_section(alloc, Dialect::version_5(Order::Little), section, places, 5);
     drop(blocks);
     answer
 }

@@ -1,7 +1,7 @@
 //! The commands, and what they answer and write of three units.
 
 use crate::vectors::UNITS;
-use dl_head::FaultKind;
+use dl_head::{Dialect, FaultKind};
 use dl_look::Place;
 use dl_num::Order;
 use dl_run::{Options, RunFault, SECTION_LIMIT, Summary, check, copy, dump, find};
@@ -35,7 +35,7 @@ fn start<R: Read>(
     output: &mut Sink,
 ) -> Result<Summary, RunFault> {
     let options = Options {
-        order: Order::Little,
+        dialect: Dialect::version_5(Order::Little),
         debug_line_str: None,
         debug_str: None,
         limit: limit.min(SECTION_LIMIT),

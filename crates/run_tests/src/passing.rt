@@ -1,7 +1,7 @@
 //! Units of other versions, which are counted.
 
 use crate::vectors::{SMALLEST, VERSION_4, VERSION_4_THRICE, VERSIONS_4_TO_2, VERSIONS_5_AND_4};
-use dl_head::FaultKind;
+use dl_head::{Dialect, FaultKind};
 use dl_num::Order;
 use dl_run::{Options, PassedOver, RunFault, SECTION_LIMIT, passed_over};
 use std::alloc::Global;
@@ -45,7 +45,7 @@ const CASES: &[Case<'static>] = &[
 fn assert_passed_over(rt: &impl Abort, alloc: Global, cases: &[Case<'_>]) {
     for (section, limit, wanted) in cases {
         let options = Options {
-            order: Order::Little,
+            dialect: Dialect::version_5(Order::Little),
             debug_line_str: None,
             debug_str: None,
             limit: (*limit).min(SECTION_LIMIT),

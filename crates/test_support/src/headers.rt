@@ -1,6 +1,6 @@
 //! Headers.
 use arrayvec::ArrayVec;
-use dl_head::{Format, HeadReader, Header, Params};
+use dl_head::{Dialect, Format, HeadReader, Header, Params};
 use dl_num::Order;
 use std::alloc::Global;
 
@@ -29,7 +29,7 @@ pub fn opcode_lengths(of: &[u8]) -> ArrayVec<u8, 254> {
 
 /// The header that the bytes begin with, if it is whole, sound and of version 5.
 pub fn header_of(alloc: Global, order: Order, bytes: &[u8]) -> Option<Header> {
-    let mut reader = HeadReader::new(alloc, order);
+    let mut reader = HeadReader::new(alloc, Dialect::version_5(order));
     reader.offer(bytes);
     reader.into_header()
 }
