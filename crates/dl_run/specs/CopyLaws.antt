@@ -1,4 +1,4 @@
--- Law of what `copy` writes. It holds in either byte order, which is the same throughout. DWARF 5, sections 6.2 and
+-- Law of what `copy` writes. It holds in every dialect, which is the same throughout. DWARF 5, sections 6.2 and
 -- 6.2.4.
 use Rattle.std.specs.Prelude.{◌≡◌, ℕ, List, [], ◌∷◌, map, Some}
 use Rattle.std.specs.List.{AllByRecursion}

@@ -1,4 +1,4 @@
--- Laws of the definitions of sections. Each holds in either byte order, which is the same throughout a law. DWARF 5,
+-- Laws of the definitions of sections. Each holds in every dialect, which is the same throughout a law. DWARF 5,
 -- section 6.2.4.
 use Rattle.std.specs.Prelude.{◌≡◌, ◌≢◌, ℕ, List, Option, Result, Err, ◌++◌}
 use Rattle.std.specs.Io.KnownBytes.{Appends}
