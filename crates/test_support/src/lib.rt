@@ -15,8 +15,5 @@ pub use headers::{header_of, opcode_lengths, params};
 pub use memory::{hoard, hoard_but, hoard_most};
 pub use readers::{Endless, Hoarding, Repeated, Source};
 pub use rows::{end, row, rows_of};
-pub use units::{
-    BIG_SMALLEST, BIG_THREE_ROWS, DWARF64_WITH_MD5, SMALLEST, THREE_ROWS, bytes, unit, unit_of,
-    unit_with,
-};
+pub use units::{SMALLEST, THREE_ROWS, bytes, unit, unit_of};
 pub use writers::Sink;

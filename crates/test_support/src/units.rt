@@ -13,23 +13,6 @@ pub const SMALLEST: &str = "00 01 01";
 /// A program of three rows, the last an end row.
 pub const THREE_ROWS: &str = "00 09 02 00 10 40 00 00 00 00 00 13 4b 02 02 00 01 01";
 
-/// The unit of the header above and `SMALLEST`, in Big.
-pub const BIG_SMALLEST: &str = "00 00 00 21 00 05 08 00 00 00 00 16 01 01 01 fb 0e 0d \
-                                00 01 01 01 01 00 00 00 01 00 00 01 00 00 00 00 00 01 01";
-
-/// The unit of the header above and `THREE_ROWS`, in Big.
-pub const BIG_THREE_ROWS: &str = "00 00 00 30 00 05 08 00 00 00 00 16 01 01 01 fb 0e 0d \
-                                  00 01 01 01 01 00 00 00 01 00 00 01 00 00 00 00 \
-                                  00 09 02 00 00 00 00 00 40 10 00 13 4b 02 02 00 01 01";
-
-/// A unit of the 64-bit format with an empty program: the directory `/s`, and the file `a.c` in it
-/// with its MD5. Little.
-pub const DWARF64_WITH_MD5: &str = "ff ff ff ff 42 00 00 00 00 00 00 00 05 00 08 00 \
-                                    36 00 00 00 00 00 00 00 01 01 01 fb 0e 0d \
-                                    00 01 01 01 01 00 00 00 01 00 00 01 \
-                                    01 01 08 01 2f 73 00 03 01 08 02 0f 05 1e 01 61 2e 63 00 00 \
-                                    00 01 02 03 04 05 06 07 08 09 0a 0b 0c 0d 0e 0f";
-
 /// The bytes of hexadecimal words.
 pub fn bytes(alloc: Global, words: &str) -> Result<Vec<u8>, Fail> {
     let mut bytes = Vec::new(alloc);
@@ -52,15 +35,5 @@ pub fn unit_of(alloc: Global, program: &[u8]) -> Result<Vec<u8>, Fail> {
     unit.extend_from_slice(&len.to_le_bytes())?;
     unit.extend_from_slice(header.as_slice())?;
     unit.extend_from_slice(program)?;
-    Ok(unit)
-}
-
-/// The same with other bytes at some places.
-pub fn unit_with(alloc: Global, changes: &[(usize, u8)], program: &str) -> Result<Vec<u8>, Fail> {
-    let mut unit = unit(alloc, program)?;
-    for (place, byte) in changes {
-        let old = unit.get_mut(*place).ok_or("a place in the unit")?;
-        *old = *byte;
-    }
     Ok(unit)
 }
