@@ -60,7 +60,7 @@ started old new format n items w byte_makes.Ends o at spelt fine long s =
     let start : AtStart old [] = subst (λ (l : List Item). AtStart old l) at.none at in (
       length_is format n,
       ap (λ (l : List Item). field_spelt old.dialect.order (following_all (header_layout old.dialect) l) w) at.none
-      ∙ spelt ∙ fine s.0,
+          ∙ spelt ∙ fine s.0,
       subst (λ (l : List Item). At new (l ++ length_is format n ∷ []) []) (sym at.none) (s.1 start),
     )
 started old new format n items w (byte_makes.Refuses kind) o at spelt fine long s =
