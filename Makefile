@@ -81,8 +81,15 @@ uninstall:
 test:
 	rm -f crates/dwline/out/dwline crates/dl_c/out/libdl_c.a out/libboxantrel.a
 	rt ci
-	tools/wrong-bodies --of HEAD
 	test -x crates/dwline/out/dwline || $(MAKE) dwline
+	$(MAKE) --jobs --output-sync edits compare-proved
+
+# The wrong bodies that the commit chooses, over the libraries that are built.
+edits:
+	tools/wrong-bodies --of HEAD
+
+# What `compare` does, over the libraries that `rt ci` left.
+compare-proved:
 	bindings/c/archive
 	$(MAKE) library
 	$(MAKE) compare-built
@@ -104,5 +111,6 @@ compare-built:
 $(tries):
 	examples/$@
 
-.PHONY: dwline example lib library try install install-lib dist dist-built uninstall test wrong-bodies compare compare-built \
+.PHONY: dwline example lib library try install install-lib dist dist-built uninstall test edits wrong-bodies compare \
+	compare-proved compare-built \
 	$(tries)
