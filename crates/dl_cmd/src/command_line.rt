@@ -5,7 +5,7 @@ ghost use Rattle.dl_cmd.specs.CommandLine.{Excludes, IsApp, IsRule, IsWantedUnle
 ghost use Rattle.dl_cmd.specs.CommandLine.{address_rule, op_rule, addr_file_rule, addresses_rule, base_rule, exe_rule};
 ghost use Rattle.dl_cmd.specs.CommandLine.{Wants, json_rule, section_of_file_rule, section_rule, str_rule};
 ghost use Rattle.dl_cmd.specs.CommandLine.{switch_rule, letter_rule, addr_app, with_addresses, with_input};
-ghost use Rattle.dl_cmd.specs.CommandLine.{with_printing, with_strings, dump_app, check_app, find_app, copy_app};
+ghost use Rattle.dl_cmd.specs.CommandLine.{with_printing, with_settings, with_strings, dump_app, check_app, find_app, copy_app};
 ghost use Rattle.dl_cmd.specs.CommandLine.{command_line, top_app};
 
 use clap::{Arg, ArgAction, Command};
@@ -49,10 +49,11 @@ fn file_with_strings<'a>(alloc: Global) -> Result<Arg<'a>, AllocError>
 fn big<'a>(alloc: Global) -> Arg<'a>
     ensures { IsRule big_rule result }
 {
-    Arg::new(alloc, "big")
-        .long("big")
-        .action(ArgAction::SetTrue)
-        .help("Read the section on standard input as big-endian (it is little-endian else)")
+    switch(
+        alloc,
+        "big",
+        "Read the section on standard input as big-endian (it is little-endian else)",
+    )
 }
 
 fn line_str<'a>(alloc: Global) -> Arg<'a>
@@ -188,15 +189,26 @@ fn letter<'a>(alloc: Global, id: &'a str, short: char, help: &'a str) -> Arg<'a>
     switch(alloc, id, help).short(short)
 }
 
-/// The command with one argument more, where that could be made.
+/// The command with one argument more, where it could be made so far.
 fn with_arg<'a>(
-    command: Command<'a>,
-    arg: Result<Arg<'a>, AllocError>,
+    command: Result<Command<'a>, AllocError>,
+    arg: Arg<'a>,
 ) -> Result<Command<'a>, AllocError>
-    ensures { (a : App) (r : Rule) → IsApp a command.entry → IfOk arg.entry (IsRule r)
+    ensures { (a : App) (r : Rule) → IfOk command.entry (IsApp a) → IsRule r arg.entry
         → IfOk result (IsApp (with_rule a r)) }
 {
-    command.arg(arg?)
+    command?.arg(arg)
+}
+
+/// The command with one argument more, where both could be made.
+fn with_made_arg<'a>(
+    command: Result<Command<'a>, AllocError>,
+    arg: Result<Arg<'a>, AllocError>,
+) -> Result<Command<'a>, AllocError>
+    ensures { (a : App) (r : Rule) → IfOk command.entry (IsApp a) → IfOk arg.entry (IsRule r)
+        → IfOk result (IsApp (with_rule a r)) }
+{
+    with_arg(command, arg?)
 }
 
 /// The command line with one subcommand more, where that could be made.
@@ -210,20 +222,25 @@ fn with_command<'a>(
     line.subcommand(command?)
 }
 
-fn add_input<'a>(alloc: Global, command: Command<'a>) -> Result<Command<'a>, AllocError>
-    ensures { (a : App) → IsApp a command.entry → IfOk result (IsApp (with_input a)) }
+fn add_input<'a>(
+    alloc: Global,
+    command: Result<Command<'a>, AllocError>,
+) -> Result<Command<'a>, AllocError>
+    ensures { (a : App) → IfOk command.entry (IsApp a) → IfOk result (IsApp (with_input a)) }
 {
-    with_arg(command.arg(big(alloc))?, file(alloc))
+    with_made_arg(with_arg(command, big(alloc)), file(alloc))
 }
 
-fn add_strings<'a>(alloc: Global, command: Command<'a>) -> Result<Command<'a>, AllocError>
-    ensures { (a : App) → IsApp a command.entry → IfOk result (IsApp (with_strings a)) }
+fn add_strings<'a>(
+    alloc: Global,
+    command: Result<Command<'a>, AllocError>,
+) -> Result<Command<'a>, AllocError>
+    ensures { (a : App) → IfOk command.entry (IsApp a) → IfOk result (IsApp (with_strings a)) }
 {
-    let command = command
-        .arg(big(alloc))?
-        .arg(line_str(alloc))?
-        .arg(strings(alloc))?;
-    with_arg(command, file_with_strings(alloc))
+    let command = with_arg(command, big(alloc));
+    let command = with_arg(command, line_str(alloc));
+    let command = with_arg(command, strings(alloc));
+    with_made_arg(command, file_with_strings(alloc))
 }
 
 fn dump<'a>(alloc: Global) -> Result<Command<'a>, AllocError>
@@ -235,7 +252,7 @@ fn dump<'a>(alloc: Global) -> Result<Command<'a>, AllocError>
         .after_help(
             "Examples:\n  dwline dump program\n  dwline dump --line-str debug_line_str < debug_line",
         );
-    add_strings(alloc, command)
+    add_strings(alloc, Ok(command))
 }
 
 fn check<'a>(alloc: Global) -> Result<Command<'a>, AllocError>
@@ -245,7 +262,7 @@ fn check<'a>(alloc: Global) -> Result<Command<'a>, AllocError>
         .before_help(WITHOUT_FILE)
         .about("Read all units, and print how many units, sequences and rows there are")
         .after_help("Examples:\n  dwline check program\n  dwline check --big < debug_line");
-    add_input(alloc, command)
+    add_input(alloc, Ok(command))
 }
 
 fn find<'a>(alloc: Global) -> Result<Command<'a>, AllocError>
@@ -254,10 +271,12 @@ fn find<'a>(alloc: Global) -> Result<Command<'a>, AllocError>
     let command = Command::new(alloc, "find")
         .before_help(WITHOUT_FILE)
         .about("Print the source file and the row of an address")
-        .after_help("Examples:\n  dwline find 0x401136 program\n  dwline find 4198710 < debug_line")
-        .arg(address(alloc))?
-        .arg(op(alloc))?;
-    let command = with_arg(command, section_of_file(alloc))?;
+        .after_help(
+            "Examples:\n  dwline find 0x401136 program\n  dwline find 4198710 < debug_line",
+        );
+    let command = with_arg(Ok(command), address(alloc));
+    let command = with_arg(command, op(alloc));
+    let command = with_made_arg(command, section_of_file(alloc));
     add_strings(alloc, command)
 }
 
@@ -270,46 +289,65 @@ fn copy<'a>(alloc: Global) -> Result<Command<'a>, AllocError>
         .after_help(
             "Examples:\n  dwline copy program > debug_line\n  dwline copy < debug_line > copied",
         );
-    add_input(alloc, command)
+    add_input(alloc, Ok(command))
 }
 
 /// How answers are printed.
-fn add_printing<'a>(alloc: Global, command: Command<'a>) -> Result<Command<'a>, AllocError>
-    ensures { (a : App) → IsApp a command.entry → IfOk result (IsApp (with_printing a)) }
+fn add_printing<'a>(
+    alloc: Global,
+    command: Result<Command<'a>, AllocError>,
+) -> Result<Command<'a>, AllocError>
+    ensures { (a : App) → IfOk command.entry (IsApp a) → IfOk result (IsApp (with_printing a)) }
 {
-    let command = command
-        .arg(letter(
-            alloc,
-            "addresses",
-            'a',
-            "Print each address before its location",
-        ))?
-        .arg(letter(
-            alloc,
-            "basenames",
-            's',
-            "Print the last component of each path alone",
-        ))?;
-    with_arg(command, json(alloc))
+    let addresses = letter(
+        alloc,
+        "addresses",
+        'a',
+        "Print each address before its location",
+    );
+    let command = with_arg(command, addresses);
+    let basenames = letter(
+        alloc,
+        "basenames",
+        's',
+        "Print the last component of each path alone",
+    );
+    with_made_arg(with_arg(command, basenames), json(alloc))
 }
 
-fn add_addresses<'a>(alloc: Global, command: Command<'a>) -> Result<Command<'a>, AllocError>
-    ensures { (a : App) → IsApp a command.entry → IfOk result (IsApp (with_addresses a)) }
+/// How addresses are read and looked up, and how answers are printed.
+fn add_settings<'a>(
+    alloc: Global,
+    command: Result<Command<'a>, AllocError>,
+) -> Result<Command<'a>, AllocError>
+    ensures { (a : App) → IfOk command.entry (IsApp a) → IfOk result (IsApp (with_settings a)) }
 {
-    let command = add_printing(alloc, command)?
-        .arg(switch(alloc, "hex", "Read digits without 0x as hexadecimal too"))?
-        .arg(base(alloc))?
-        .arg(switch(
-            alloc,
-            "all",
-            "Look into sequences too that begin outside executable sections",
-        ))?
-        .arg(section(alloc))?
-        .arg(big(alloc))?
-        .arg(line_str(alloc))?
-        .arg(strings(alloc))?
-        .arg(exe(alloc))?;
-    with_arg(command, addr_file(alloc))?.arg(addresses(alloc))
+    let command = add_printing(alloc, command);
+    let hex = switch(alloc, "hex", "Read digits without 0x as hexadecimal too");
+    let command = with_arg(command, hex);
+    let command = with_arg(command, base(alloc));
+    let all = switch(
+        alloc,
+        "all",
+        "Look into sequences too that begin outside executable sections",
+    );
+    let command = with_arg(command, all);
+    with_arg(command, section(alloc))
+}
+
+fn add_addresses<'a>(
+    alloc: Global,
+    command: Result<Command<'a>, AllocError>,
+) -> Result<Command<'a>, AllocError>
+    ensures { (a : App) → IfOk command.entry (IsApp a) → IfOk result (IsApp (with_addresses a)) }
+{
+    let command = add_settings(alloc, command);
+    let command = with_arg(command, big(alloc));
+    let command = with_arg(command, line_str(alloc));
+    let command = with_arg(command, strings(alloc));
+    let command = with_arg(command, exe(alloc));
+    let command = with_made_arg(command, addr_file(alloc));
+    with_arg(command, addresses(alloc))
 }
 
 fn addr<'a>(alloc: Global) -> Result<Command<'a>, AllocError>
@@ -322,7 +360,7 @@ fn addr<'a>(alloc: Global) -> Result<Command<'a>, AllocError>
             "Examples:\n  dwline addr program 0x401136 0x40113a\n  dwline addr -e program 0x401136\n  \
              dwline addr program < addresses",
         );
-    add_addresses(alloc, command)
+    add_addresses(alloc, Ok(command))
 }
 
 /// The command line without its subcommands, of which one is wanted.

@@ -1,16 +1,9 @@
-use Rattle.std.proofs.lemmas.Result.{IfOk-weaker}
-use Rattle.dl_cmd.proofs.CommandLineLemmas.{IsApp-arg}
 use Rattle.dl_cmd.proofs.command_line.add_addresses.Goals as goal
 
 pub returns : goal.returns
-returns c = λ a none.
-    let one = IsApp-arg _ _ _ _ _ c.in_ok-arg.ensures (c.in_ok-add_printing.ensures a none) c.switch.ensures in
-    let two = IsApp-arg _ _ _ _ _ c.in_ok-arg-2.ensures one c.base.ensures in
-    let three = IsApp-arg _ _ _ _ _ c.in_ok-arg-3.ensures two c.switch-2.ensures in
-    let four = IsApp-arg _ _ _ _ _ c.in_ok-arg-4.ensures three c.section.ensures.rule in
-    let five = IsApp-arg _ _ _ _ _ c.in_ok-arg-5.ensures four c.big.ensures in
-    let six = IsApp-arg _ _ _ _ _ c.in_ok-arg-6.ensures five c.line_str.ensures in
-    let seven = IsApp-arg _ _ _ _ _ c.in_ok-arg-7.ensures six c.strings.ensures in
-    let eight = IsApp-arg _ _ _ _ _ c.in_ok-command.ensures seven c.exe.ensures in
-    let nine = c.in_ok-with_arg.ensures _ _ eight c.addr_file.ensures.rule in
-    IfOk-weaker _ _ _ (λ r added. IsApp-arg _ _ r _ _ added nine c.addresses.ensures) c.arg-9.ensures
+returns c = λ a made.
+    let one = c.with_arg-command.ensures _ _ (c.add_settings-command.ensures a made) c.big.ensures in
+    let two = c.with_arg-command-2.ensures _ _ one c.line_str.ensures in
+    let three = c.with_arg-command-3.ensures _ _ two c.strings.ensures in
+    let four = c.with_arg-command-4.ensures _ _ three c.exe.ensures in
+    c.with_arg.ensures _ _ (c.with_made_arg-command.ensures _ _ four c.addr_file.ensures.rule) c.addresses.ensures

@@ -1,8 +1,6 @@
-use Rattle.dl_cmd.proofs.CommandLineLemmas.{IsApp-arg}
 use Rattle.dl_cmd.proofs.command_line.add_printing.Goals as goal
 
 pub returns : goal.returns
-returns c = λ a none.
-    let one = IsApp-arg _ _ _ _ _ c.in_ok-arg.ensures none c.letter.ensures in
-    let two = IsApp-arg _ _ _ _ _ c.in_ok-command.ensures one c.letter-2.ensures in
-    c.with_arg.ensures _ _ two c.json.ensures.rule
+returns c = λ a made.
+    let one = c.with_arg-command.ensures a _ made c.letter-addresses.ensures in
+    c.with_made_arg.ensures _ _ (c.with_arg.ensures _ _ one c.letter-basenames.ensures) c.json.ensures.rule
