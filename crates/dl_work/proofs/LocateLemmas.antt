@@ -1,6 +1,6 @@
 -- What the program does for the words of `addr`.
 use Rattle.std.proofs.Common.{◌≡◌, ◌⊎◌, inl, inr, ℕ, ◌||◌, Bool, true, false, List, [], Option, Some, None, Result, Ok}
-use Rattle.std.proofs.Common.{Err, IfOk, IfErr, MatchResult, refl, sym, ap, ◌∙◌, subst}
+use Rattle.std.proofs.Common.{Err, refl, sym, ap, ◌∙◌, subst}
 use Rattle.std.specs.Prelude.{◌≢◌, is_some, option_map}
 use Rattle.std.specs.Borrow.{Bor}
 use Rattle.std.specs.Option.{option_copied}
@@ -16,31 +16,30 @@ use Rattle.dl_addr.specs.Code.{is_code}
 use Rattle.dl_look.specs.declared.asked.Asked.{Asked}
 use Rattle.dl_asked.specs.declared.asked_lines.AskedLines.{AskedLines}
 use Rattle.dl_addr.specs.declared.question.Question.{Question}
+use Rattle.dl_open.specs.declared.fault.FileFault.{FileFault}
+use Rattle.dl_open.specs.declared.stop.FileStop.{FileStop}
+use Rattle.dl_open.specs.Code.{AreLive, RefusesCode, live_by}
+use Rattle.dl_open.specs.Stops.{IsAt}
 use Rattle.dl_work.specs.declared.command.Command.TheVariants.{Addr}
 use Rattle.dl_work.specs.declared.located.Located.{Located}
-use Rattle.dl_work.specs.declared.stop.FileFault.{FileFault}
-use Rattle.dl_work.specs.declared.stop.FileFault.TheVariants.{NoMemory}
 use Rattle.dl_work.specs.declared.stop.Stop.{Stop}
 use Rattle.dl_work.specs.declared.stop.Stop.TheVariants.{NotUnderstood}
-use Rattle.dl_work.specs.Locate.{HasAsked, InputStops, IsNoQuestion, LocatesInFile, LocatesInSection, RefusesCode, WordsStop}
-use Rattle.dl_work.specs.Locate.{Asks, Unanswered, are_addresses, asked_in_words, base_in, form_in, live_by}
+use Rattle.dl_work.specs.Locate.{HasAsked, InputStops, IsNoQuestion, LocatesInFile, LocatesInSection, WordsStop}
+use Rattle.dl_work.specs.Locate.{Asks, Unanswered, are_addresses, asked_in_words, base_in, form_in}
 use Rattle.dl_work.specs.Locate.{says_section}
 use Rattle.dl_work.specs.Understood.{IsUnderstood}
 use Rattle.dl_work.specs.declared.addr_words.AskedWords.{AskedWords}
 use Rattle.dl_work.specs.Located.{located}
-use Rattle.dl_work.specs.Stops.{IsAt}
+use Rattle.dl_work.specs.Stops.{over_file, stop_of}
 use Rattle.dl_work.specs.Tables.{OnFile}
 
 -- ---- where a file has code
 
-pub code_told : (fails : Error → Type 0) (f : List ℕ) (code : Code) (result : Result (Option CodeRanges) FileFault)
-    → IsCode f (Ok code) → IfOk result (λ ranges. (a : ℕ) → is_code ranges a ≡ live_by false code a)
-    → IfErr result (λ fault. (fault ≡ NoMemory) × (code.ranges.items ≢ []))
-    → MatchResult result (λ ranges. (code : Code) × IsCode f (Ok code)
-    × ((a : ℕ) → is_code ranges a ≡ live_by false code a)) (RefusesCode fails f)
-code_told fails f code (Ok ranges) is live refused = (code, is, live)
-code_told fails f code (Err fault) is live refused =
-    subst (RefusesCode fails f) (sym refused.0) (inr (code, is, refused.1))
+-- by ranges that say where there is code
+is_code-live : (ranges : Option CodeRanges) (code : Code) → AreLive ranges code → (a : ℕ)
+    → is_code ranges a ≡ live_by false code a
+is_code-live None code live a = live a
+is_code-live (Some ranges) code live a = live a
 
 -- all count where all are asked for
 all_live : (all : Bool) (code : Code) (a : ℕ) → (all || live_by false code a) ≡ live_by all code a
@@ -87,8 +86,8 @@ module _ (held : Text → Option (List ℕ)) (fails : Text → Error → Type 0)
   file_stops left start result stop is why = λ f known short. inl (stop, why, (is, refl, Keeps-refl start))
 
   pub file_refused : (u : AskedWords) (bytes : List ℕ) (left start now : Option (List ℕ)) (result : Result Located Stop)
-      (stop : Stop) (fault : FileFault)
-      → says_section w ≡ false → IsUnderstood w u → result ≡ Err stop
+      (stop : FileStop) (fault : FileFault)
+      → says_section w ≡ false → IsUnderstood w u → result ≡ Err (stop_of stop)
       → ForBytes (held path) (λ f. RefusesCode (fails path) f fault) → IsAt path fault stop
       → (IsUnderstood w u → Unanswered w bytes left start now)
       → LocatesInFile held fails path w bytes left start now result
@@ -108,7 +107,7 @@ module _ (held : Text → Option (List ℕ)) (fails : Text → Error → Type 0)
       )))
 
   pub file_done : (ranges : Option CodeRanges) (given : List Asked) (slice : List Asked) (base : ℕ) (bytes : List ℕ)
-      (left start now : Option (List ℕ)) (lines : AskedLines) (q : Question) (answer : Result Summary Stop)
+      (left start now : Option (List ℕ)) (lines : AskedLines) (q : Question) (answer : Result Summary FileStop)
       (result : Result Located Stop)
       → says_section w ≡ false → given ≡ asked_in_words w → HasAsked w given bytes left lines → are_addresses w ≡ true
       → base_in w ≡ Some base
@@ -116,9 +115,9 @@ module _ (held : Text → Option (List ℕ)) (fails : Text → Error → Type 0)
       → ((a : ℕ) → is_code (option_copied q.code) a ≡ (w.all || is_code ranges a)) → q.style.form ≡ form_in w
       → q.style.basenames ≡ w.basenames → option_copied q.style.section ≡ w.section
       → ForBytes (held path) (λ f. (code : Code) × IsCode f (Ok code)
-      × ((a : ℕ) → is_code ranges a ≡ live_by false code a))
+      × AreLive ranges code)
       → ForBytes (held path) (λ f. OnFile (fails path) path w.section (Addr q) f start now answer)
-      → result ≡ located answer lines.no_address → LocatesInFile held fails path w bytes left start now result
+      → result ≡ located (over_file answer) lines.no_address → LocatesInFile held fails path w bytes left start now result
   file_done ranges given slice base bytes left start now lines q answer result says words has understood based asked
       sliced own live form basenames section codes does is = λ f known short.
       let k = codes f known short in
@@ -134,7 +133,7 @@ module _ (held : Text → Option (List ℕ)) (fails : Text → Error → Type 0)
           asked = asked ∙ sliced;
           understood = understood;
           base = based ∙ ap Some (sym own);
-          code = λ a. live a ∙ (ap (λ (b : Bool). w.all || b) (k.2 a) ∙ all_live w.all k.0 a);
+          code = λ a. live a ∙ (ap (λ (b : Bool). w.all || b) (is_code-live ranges k.0 k.2 a) ∙ all_live w.all k.0 a);
           form = form;
           basenames = basenames;
           section = section;

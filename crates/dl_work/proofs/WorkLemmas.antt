@@ -3,10 +3,12 @@ use Rattle.std.proofs.Common.{◌≡◌, ℕ, List, [], Option, Some, None, Resu
 use Rattle.std.specs.declared.io.Error.{Error}
 use Rattle.dl_print.specs.declared.summary.Summary.{Summary}
 use Rattle.dl_cmd.specs.Job.{Request, Text}
+use Rattle.dl_open.specs.declared.stop.FileStop.{FileStop}
 use Rattle.dl_work.specs.declared.command.Command.{Command}
 use Rattle.dl_work.specs.declared.stop.Stop.{Stop}
 use Rattle.dl_work.specs.Asked.{SectionWords, command_of, file_of, part_name_of, section_of}
 use Rattle.dl_elf.specs.Source.{ForBytes}
+use Rattle.dl_work.specs.Stops.{over_file}
 use Rattle.dl_work.specs.Tables.{OnFile}
 use Rattle.dl_work.specs.Work.{OnInput, Works}
 
@@ -20,13 +22,15 @@ works_on_input held fails request r command words bytes left start now result is
 
 pub works_on_named : (held : Text → Option (List ℕ)) (fails : Text → Error → Type 0) (request : Option Request)
     (r : Request) (command : Command) (path : Text) (name : Option Text) (left start now : Option (List ℕ))
-    (result : Result Summary Stop) → request ≡ Some r → command_of r ≡ Some command → file_of r ≡ Some path
-    → name ≡ part_name_of r
-    → ForBytes (held path) (λ f. OnFile (fails path) path name command f start now result)
+    (answer : Result Summary FileStop) (result : Result Summary Stop) → request ≡ Some r → command_of r ≡ Some command
+    → file_of r ≡ Some path → name ≡ part_name_of r → result ≡ over_file answer
+    → ForBytes (held path) (λ f. OnFile (fails path) path name command f start now answer)
     → Works held fails request [] left start now result
-works_on_named held fails request r command path name left start now result is asks named said does =
+works_on_named held fails request r command path name left start now answer result is asks named said told does =
     rw (is, asks, named) (
       refl,
-      subst (λ (n : Option Text). ForBytes (held path) (λ f. OnFile (fails path) path n command f start now result)) said
+      answer,
+      told,
+      subst (λ (n : Option Text). ForBytes (held path) (λ f. OnFile (fails path) path n command f start now answer)) said
           does,
     )

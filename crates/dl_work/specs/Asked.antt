@@ -1,14 +1,13 @@
 -- What a request asks: which command, of which file, or of which section on the input.
 use Rattle.std.specs.Prelude.{ℕ, Bool, true, false, List, [], Option, Some, None, option_map, option_and_then, Result}
 use Rattle.std.specs.Prelude.{Ok}
-use Rattle.std.specs.Prelude.{Err, ◌≡◌}
+use Rattle.std.specs.Prelude.{Err, ◌≡◌, codes, if◌then◌else◌}
 use Rattle.std.specs.Io.KnownBytes.{Consumes, Keeps}
+use Rattle.std.specs.Str.{bytes_eq}
 use Rattle.dl_num.specs.declared.fixed.Order.TheVariants.{Little, Big}
 use Rattle.dl_head.specs.declared.dialect.Dialect.{Dialect}
 use Rattle.dl_head.specs.Dialect.{version_5}
 use Rattle.dl_look.specs.declared.place.Place.{Place}
-use Rattle.dl_file.specs.declared.line_file.Wanted.{Wanted}
-use Rattle.dl_file.specs.declared.line_file.Wanted.TheVariants.{LineSection, LineAndLineStrings}
 use Rattle.dl_run.specs.declared.options.TheConstants.{SECTION_LIMIT}
 use Rattle.dl_run.specs.declared.fault.RunFault.{RunFault}
 use Rattle.dl_print.specs.declared.summary.Summary.{Summary}
@@ -16,6 +15,8 @@ use Rattle.dl_cmd.specs.Address.{address_in}
 use Rattle.dl_run.specs.Commands.{Checks, Copies, Dumps, Finds}
 use Rattle.dl_cmd.specs.Job.{Request, Text, addr, check, copy, dump, find}
 use Rattle.dl_print.specs.ValueText.{Strings}
+use Rattle.dl_open.specs.declared.named.Sections.{Sections}
+use Rattle.dl_open.specs.declared.named.Sections.TheVariants.{Lines, LinesAndTexts}
 use Rattle.dl_work.specs.declared.command.Command.{Command}
 use Rattle.dl_work.specs.declared.command.Command.TheVariants.{Addr, Dump, Check, Find, Copy}
 use Rattle.dl_work.specs.declared.command.TheConstants.{NOTHING}
@@ -46,6 +47,17 @@ file_of (find file big address op section line_str str) = file
 file_of (copy file big) = file
 file_of (addr words) = words.file
 
+-- `-` is no path of a file
+abbrev pub unless_input : Option Text → Option Text
+unless_input None = None
+unless_input (Some path) = if bytes_eq path (codes "-") then None else Some path
+
+-- the path of the ELF file in which addresses are looked up
+abbrev pub looked_into : Request → Option Text
+looked_into (find file big address op section line_str str) = file
+looked_into (addr words) = unless_input words.file
+looked_into other = None
+
 -- the section of an object file that is looked into
 abbrev pub part_name_of : Request → Option Text
 part_name_of (find file big address op section line_str str) = section
@@ -73,19 +85,17 @@ abbrev pub is_copy : Command → Bool
 is_copy Copy = true
 is_copy other = false
 
--- whether it prints texts of string sections
-abbrev pub prints_strings : Command → Bool
-prints_strings Check = false
-prints_strings Copy = false
-prints_strings other = true
+-- what a command looks into of a file: the string sections where it prints their texts
+abbrev pub sections_of : Command → Sections
+sections_of Check = Lines
+sections_of Copy = Lines
+sections_of other = LinesAndTexts
 
--- the sections of a file that a command looks into, but for .debug_str
-abbrev pub wanted_of : Command → Wanted
-wanted_of Dump = LineAndLineStrings
-wanted_of Check = LineSection
-wanted_of (Find place) = LineAndLineStrings
-wanted_of Copy = LineSection
-wanted_of (Addr question) = LineAndLineStrings
+-- it looks addresses up
+abbrev pub looks_up : Command → Bool
+looks_up (Find place) = true
+looks_up (Addr question) = true
+looks_up other = false
 
 -- what `addr` answered, as the other commands answer
 abbrev pub answered : Result Found RunFault → Result Summary RunFault

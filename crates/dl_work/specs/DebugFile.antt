@@ -1,21 +1,10 @@
--- The file in which the debug information of a stripped file is looked for.
-use Rattle.std.specs.Prelude.{◌≡◌, ℕ, if◌then◌else◌, List, ◌++◌, codes, Some}
-use Rattle.dl_elf.specs.FaultText.{build_id_text}
-use Rattle.dl_elf.specs.declared.build_id.BuildId.{BuildId}
+-- What is told of a stripped file: the file in which its debug information is looked for.
+use Rattle.std.specs.Prelude.{◌≡◌, Some}
 use Rattle.dl_elf.specs.declared.fault.ElfFault.TheVariants.{NoLineSection}
-use Rattle.dl_work.specs.declared.debug_file.DebugFile.{DebugFile}
-use Rattle.dl_work.specs.declared.stop.FileFault.TheVariants.{Elf, Stripped}
+use Rattle.dl_open.specs.declared.debug_file.DebugFile.{DebugFile}
+use Rattle.dl_open.specs.declared.fault.FileFault.TheVariants.{Elf, Stripped}
 use Rattle.dl_work.specs.declared.stop.Stop.{Stop}
 use Rattle.dl_work.specs.declared.stop.Stop.TheVariants.{File}
-
--- below the folder where distributions install it
-abbrev pub debug_path : BuildId → List ℕ
-debug_path id = codes "/usr/lib/debug/" ++ build_id_text id
-
-abbrev pub debug_file_text : DebugFile → List ℕ
-debug_file_text file =
-    if file.is_there then codes "its debug information is in " ++ debug_path file.build_id
-    else codes "its debug information may be in " ++ debug_path file.build_id ++ codes ", which isn't there"
 
 -- the same stop; of a file without a line section that has a build ID, with the file that this names
 abbrev pub NamesDebugFile : Stop → Stop → Type 0

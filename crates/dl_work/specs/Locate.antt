@@ -1,9 +1,9 @@
 -- What the program does for the words of `addr`. bytes: what was read of the input, which has `left` left. start, now:
 -- what the output held at first, and holds now. held: what the file of a path holds, where that is known; fails: the
 -- errors that opening and reading it may give.
-use Rattle.std.specs.Prelude.{◌≡◌, ◌≢◌, ◌⊎◌, ℕ, Bool, true, false, ◌||◌, not, List, [], ◌∷◌, ◌++◌, map, length, ◌==◌}
+use Rattle.std.specs.Prelude.{◌≡◌, ◌≢◌, ◌⊎◌, ℕ, Bool, true, false, ◌||◌, List, [], ◌∷◌, ◌++◌, map}
 use Rattle.std.specs.Prelude.{if◌then◌else◌, option_to_list, Option, Some, None, is_some, MatchOption, Result, Ok, Err, codes}
-use Rattle.std.specs.List.{list_all, list_any}
+use Rattle.std.specs.List.{list_all}
 use Rattle.std.specs.Option.{option_copied, option_map_or}
 use Rattle.std.specs.Str.{bytes_eq}
 use Rattle.std.specs.Io.KnownBytes.{IsAtEnd, Keeps}
@@ -11,11 +11,6 @@ use Rattle.std.specs.declared.io.Error.{Error}
 use Rattle.dl_elf.specs.Source.{ForBytes}
 use Rattle.dl_file.specs.Code.{IsCode}
 use Rattle.dl_file.specs.declared.code.Code.{Code}
-use Rattle.dl_file.specs.declared.code.CodeFault.TheVariants as code_fault
-use Rattle.dl_file.specs.declared.code.ExecutableRange.{ExecutableRange}
-use Rattle.dl_elf.specs.declared.fault.ElfFault.TheVariants.{Read}
-use Rattle.dl_look.specs.declared.code_ranges.AddressRange.{AddressRange}
-use Rattle.dl_look.specs.Ranges.{is_in}
 use Rattle.dl_cmd.specs.Job.{AddrTexts, Text, addr}
 use Rattle.dl_run.specs.declared.fault.RunFault.{RunFault}
 use Rattle.dl_run.specs.declared.fault.RunFault.TheVariants as fault
@@ -27,15 +22,17 @@ use Rattle.dl_asked.specs.declared.asked_lines.AskedLines.{AskedLines}
 use Rattle.dl_addr.specs.declared.question.Question.{Question}
 use Rattle.dl_addr.specs.declared.style.Form.{Form}
 use Rattle.dl_addr.specs.declared.style.Form.TheVariants.{Location, AddressAndLocation, Json}
+use Rattle.dl_open.specs.declared.fault.FileFault.{FileFault}
+use Rattle.dl_open.specs.declared.stop.FileStop.{FileStop}
+use Rattle.dl_open.specs.Code.{RefusesCode, live_by}
+use Rattle.dl_open.specs.Stops.{IsAt}
 use Rattle.dl_work.specs.declared.command.Command.TheVariants.{Addr}
 use Rattle.dl_work.specs.declared.located.Located.{Located}
-use Rattle.dl_work.specs.declared.stop.FileFault.{FileFault}
-use Rattle.dl_work.specs.declared.stop.FileFault.TheVariants.{Open, Elf, NoMemory}
 use Rattle.dl_work.specs.declared.stop.Stop.{Stop}
 use Rattle.dl_work.specs.declared.stop.Stop.TheVariants.{NotAddress, NotUnderstood, Run}
 use Rattle.dl_work.specs.Asked.{WithoutTable, section_of}
 use Rattle.dl_work.specs.Located.{located}
-use Rattle.dl_work.specs.Stops.{IsAt}
+use Rattle.dl_work.specs.Stops.{over_file, stop_of}
 use Rattle.dl_work.specs.Tables.{OnFile}
 use Rattle.dl_work.specs.Work.{OnInput, StopsBefore}
 
@@ -110,25 +107,6 @@ LocatesInSection held w bytes left start now result =
 abbrev pub says_section : AddrTexts → Bool
 says_section w = w.big || (is_some w.line_str || is_some w.strings)
 
-abbrev pub address_range : ExecutableRange → AddressRange
-address_range r = record { start = r.start; size = r.size }
-
--- where there is code: in a linked file that has executable sections in these; in others, or where all are asked for,
--- everywhere
-abbrev pub live_by : (all : Bool) → Code → ℕ → Bool
-live_by all code a =
-    if all || (not code.is_linked || (length code.ranges.items == 0)) then true
-    else list_any (is_in a) (map address_range code.ranges.items)
-
--- why it can't be told where the file has code
-abbrev pub RefusesCode : (fails : Error → Type 0) (f : List ℕ) → FileFault → Type 0
-RefusesCode fails f (Open error) = fails error
-RefusesCode fails f (Elf (Read error)) = fails error
-RefusesCode fails f (Elf other) = IsCode f (Err (code_fault.Elf other))
-RefusesCode fails f NoMemory =
-    IsCode f (Err code_fault.NoMemory) ⊎ ((code : Code) × IsCode f (Ok code) × (code.ranges.items ≢ []))
-RefusesCode fails f other = ⊥
-
 -- the addresses of the words; where there are none, those that the whole input says
 abbrev pub HasAsked : AddrTexts → List Asked → (bytes : List ℕ) (left : Option (List ℕ)) → AskedLines → Type 0
 HasAsked w [] bytes left lines = IsAsked w.hex bytes lines × IsAtEnd left
@@ -150,13 +128,13 @@ abbrev pub LocatesInFile : (held : Text → Option (List ℕ)) (fails : Text →
 LocatesInFile held fails path w bytes left start now result = ForBytes (held path) (λ f.
     ((stop : Stop) × (WordsStop w stop ⊎ ((says_section w ≡ true) × (stop ≡ NotUnderstood)))
     × StopsBefore bytes start now result stop)
-    ⊎ ((stop : Stop) × (fault : FileFault) × (says_section w ≡ false) × RefusesCode (fails path) f fault
-    × IsAt path fault stop × (result ≡ Err stop) × Unanswered w bytes left start now)
+    ⊎ ((stop : FileStop) × (fault : FileFault) × (says_section w ≡ false) × RefusesCode (fails path) f fault
+    × IsAt path fault stop × (result ≡ Err (stop_of stop)) × Unanswered w bytes left start now)
     ⊎ ((stop : Stop) × InputStops w (asked_in_words w) bytes stop × (result ≡ Err stop) × Keeps start now)
-    ⊎ ((code : Code) × (lines : AskedLines) × (q : Question) × (answer : Result Summary Stop)
+    ⊎ ((code : Code) × (lines : AskedLines) × (q : Question) × (answer : Result Summary FileStop)
     × (says_section w ≡ false) × IsCode f (Ok code) × HasAsked w (asked_in_words w) bytes left lines
     × Asks w lines.asked.items (live_by w.all code) q
-    × OnFile (fails path) path w.section (Addr q) f start now answer × (result ≡ located answer lines.no_address)))
+    × OnFile (fails path) path w.section (Addr q) f start now answer × (result ≡ located (over_file answer) lines.no_address)))
 
 -- ---- by the words; a path `-` stands for a section on the input
 

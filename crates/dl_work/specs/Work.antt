@@ -10,11 +10,13 @@ use Rattle.dl_run.specs.declared.fault.RunFault.{RunFault}
 use Rattle.dl_print.specs.declared.summary.Summary.{Summary}
 use Rattle.dl_cmd.specs.Job.{Request, Text}
 use Rattle.dl_print.specs.ValueText.{Strings}
+use Rattle.dl_open.specs.declared.stop.FileStop.{FileStop}
+use Rattle.dl_open.specs.Files.{FilesStop, StringsAre}
 use Rattle.dl_work.specs.declared.command.Command.{Command}
 use Rattle.dl_work.specs.declared.stop.Stop.{Stop}
 use Rattle.dl_work.specs.declared.stop.Stop.TheVariants.{NotUnderstood, Run}
 use Rattle.dl_work.specs.Asked.{Does, SectionWords, command_of, file_of, dialect_of, part_name_of, section_of}
-use Rattle.dl_work.specs.Files.{FilesStop, StringsAre}
+use Rattle.dl_work.specs.Stops.{over_file}
 use Rattle.dl_work.specs.Tables.{OnFile}
 
 -- the program stops before its command: nothing is read of the input, and nothing written
@@ -41,7 +43,8 @@ OnInput held section command bytes left start now result =
 abbrev pub OnNamed : (held : Text → Option (List ℕ)) (fails : Text → Error → Type 0) → Text → (name : Option Text)
     → Command → (bytes : List ℕ) (start now : Option (List ℕ)) → Result Summary Stop → Type 0
 OnNamed held fails path name command bytes start now result =
-    (bytes ≡ []) × ForBytes (held path) (λ f. OnFile (fails path) path name command f start now result)
+    (bytes ≡ []) × (answer : Result Summary FileStop) × (result ≡ over_file answer)
+    × ForBytes (held path) (λ f. OnFile (fails path) path name command f start now answer)
 
 -- what is done for a request
 abbrev pub Works : (held : Text → Option (List ℕ)) (fails : Text → Error → Type 0) → Option Request

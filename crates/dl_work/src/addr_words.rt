@@ -1,9 +1,10 @@
 //! What the words of `addr` ask for.
-ghost use Rattle.std.specs.Prelude.{◌≡◌, IfErr, IfOk, MatchResult, None, Some, is_some, map, option_to_list, true};
+ghost use Rattle.std.specs.Prelude.{◌≡◌, IfErr, IfOk, MatchResult, None, Some, is_some, map, option_map, option_to_list, true};
 ghost use Rattle.std.specs.List.{list_all};
 ghost use Rattle.std.specs.Option.{option_copied};
 ghost use Rattle.dl_cmd.specs.Job.{addr_words_made};
 ghost use Rattle.dl_asked.specs.AskedLines.{address_by};
+ghost use Rattle.dl_work.specs.Asked.{unless_input};
 ghost use Rattle.dl_work.specs.Locate.{AddressesStop, IsFirstOther, WordsStop, are_addresses, asked_in_words, base_in};
 ghost use Rattle.dl_work.specs.Locate.{form_in, says_section};
 
@@ -14,6 +15,17 @@ use dl_cmd::{AddrWords, read_address, read_hex_address};
 use dl_look::CodeRanges;
 use dl_run::RunFault;
 use std::alloc::Global;
+
+/// The path that stands for a section on the input.
+pub const INPUT: &str = "-";
+
+/// The path of the ELF file that they name.
+pub fn file_of_words<'a>(words: &AddrWords<'a>) -> Option<&'a str>
+    ensures { option_map (λ s. s.now) result ≡ unless_input (addr_words_made words.now).file }
+{
+    let path = words.file?;
+    if path == INPUT { None } else { Some(path) }
+}
 
 /// The address that a word says.
 fn address(hex: bool, word: &str) -> Option<u64>

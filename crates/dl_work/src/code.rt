@@ -1,74 +1,9 @@
-//! Where the code of an ELF file is, for the look-up.
-ghost use Rattle.std.specs.Prelude.{◌≡◌, ◌≢◌, ◌||◌, [], ℕ, None, false, IfErr, IfOk, MatchResult, Ok, map};
-ghost use Rattle.std.specs.List.{list_any};
+//! In which code sequences count.
+ghost use Rattle.std.specs.Prelude.{◌≡◌, ◌||◌, ℕ, None};
 ghost use Rattle.std.specs.Option.{option_copied};
-ghost use Rattle.dl_file.specs.Code.{IsCode};
-ghost use Rattle.dl_elf.specs.Source.{ForBytes};
-ghost use Rattle.dl_file.specs.declared.code.Code as file_code;
-ghost use Rattle.dl_look.specs.CodeRanges.{has_code};
-ghost use Rattle.dl_look.specs.Ranges.{is_in};
 ghost use Rattle.dl_addr.specs.Code.{is_code};
-ghost use Rattle.dl_work.specs.declared.stop.FileFault.TheVariants.{NoMemory};
-ghost use Rattle.dl_work.specs.Locate.{RefusesCode, address_range, live_by};
 
-use crate::stop::FileFault;
-use dl_elf::ReadAt;
-use dl_file::{Code, CodeFault, ExecutableRange, find_code};
-use dl_look::{AddressRange, CodeRanges};
-use std::alloc::Global;
-
-/// The ranges as the look-up takes them.
-fn address_ranges(alloc: Global, ranges: &[ExecutableRange]) -> Result<Vec<AddressRange>, FileFault>
-    ensures ranges { IfOk result (λ addresses. addresses.items ≡ map address_range ranges.now) }
-    ensures memory { IfErr result (λ fault. fault ≡ NoMemory) }
-{
-    let mut addresses = Vec::new(alloc);
-    for range in ranges {
-        let address = AddressRange {
-            start: range.start,
-            size: range.size,
-        };
-        if addresses.push(address).is_err() {
-            return Err(FileFault::NoMemory);
-        }
-    }
-    Ok(addresses)
-}
-
-fn ranges_of(alloc: Global, ranges: &[ExecutableRange]) -> Result<CodeRanges, FileFault>
-    ensures has { IfOk result (λ code. (a : ℕ) → has_code code a ≡ list_any (is_in a) (map address_range ranges.now)) }
-    ensures memory { IfErr result (λ fault. fault ≡ NoMemory) }
-{
-    let addresses = address_ranges(alloc, ranges)?;
-    match CodeRanges::build(alloc, addresses.as_slice()) {
-        Ok(code) => Ok(code),
-        Err(_) => Err(FileFault::NoMemory),
-    }
-}
-
-/// The ranges in which sequences are live: those of the code, where the file is linked and has any.
-fn live_ranges(alloc: Global, code: &Code) -> Result<Option<CodeRanges>, FileFault>
-    ensures live { IfOk result (λ ranges. (a : ℕ) → is_code ranges a ≡ live_by false code.now a) }
-    ensures memory { IfErr result (λ fault. (fault ≡ NoMemory) × (code.now.ranges.items ≢ [])) }
-{
-    if !code.is_linked || code.ranges.is_empty() {
-        return Ok(None);
-    }
-    Ok(Some(ranges_of(alloc, code.ranges.as_slice())?))
-}
-
-/// Where an open file has code, if it is linked and has any.
-pub fn code_of<S: ReadAt>(alloc: Global, file: &S) -> Result<Option<CodeRanges>, FileFault>
-    ensures { ForBytes (S.all_bytes file.now) (λ f. MatchResult result
-        (λ ranges. (code : file_code.Code) × IsCode f (Ok code) × ((a : ℕ) → is_code ranges a ≡ live_by false code a))
-        (RefusesCode (S.fails_with file.now) f)) }
-{
-    match find_code(alloc, file) {
-        Ok(code) => live_ranges(alloc, &code),
-        Err(CodeFault::Elf(fault)) => Err(FileFault::Elf(fault)),
-        Err(CodeFault::NoMemory) => Err(FileFault::NoMemory),
-    }
-}
+use dl_look::CodeRanges;
 
 /// No ranges, so that there is code everywhere.
 pub fn everywhere<'a>() -> Option<&'a CodeRanges>

@@ -4,16 +4,15 @@ ghost use Rattle.std.specs.Option.{option_copied};
 ghost use Rattle.std.specs.Io.KnownBytes.{Consumes};
 ghost use Rattle.dl_run.specs.Commands.{strings_in};
 ghost use Rattle.dl_cmd.specs.Job.{request_made};
-ghost use Rattle.dl_work.specs.Parts.{looks_up};
-ghost use Rattle.dl_work.specs.Asked.{Does, WithoutTable, answered, command_of, is_copy, place_of};
-ghost use Rattle.dl_work.specs.Asked.{prints_strings, wanted_of};
+ghost use Rattle.dl_work.specs.Asked.{Does, WithoutTable, answered, command_of, is_copy, looks_up, place_of};
+ghost use Rattle.dl_work.specs.Asked.{sections_of};
 
 use dl_addr::{Found, Question, addr};
 use dl_cmd::{Job, read_address};
-use dl_file::Wanted;
 use dl_head::Dialect;
 use dl_look::Place;
 use dl_num::Order;
+use dl_open::Sections;
 use dl_run::{Options, RunFault, SECTION_LIMIT, Summary, check, copy, dump, find};
 use std::alloc::Global;
 use std::io::{Read, Write};
@@ -92,21 +91,14 @@ impl<'a> Command<'a> {
         }
     }
 
-    /// The sections of a file that the command looks into, but for `.debug_str`.
-    pub fn wanted(self) -> Wanted
-        ensures { result ≡ wanted_of self.entry }
+    /// What it looks into of a file: the string sections where it prints their texts.
+    pub fn sections(self) -> Sections
+        ensures { result ≡ sections_of self.entry }
     {
         match self {
-            Command::Dump | Command::Find(_) | Command::Addr(_) => Wanted::LineAndLineStrings,
-            Command::Check | Command::Copy => Wanted::LineSection,
+            Command::Dump | Command::Find(_) | Command::Addr(_) => Sections::LinesAndTexts,
+            Command::Check | Command::Copy => Sections::Lines,
         }
-    }
-
-    /// Whether it prints texts of string sections.
-    pub fn prints_strings(self) -> bool
-        ensures { result ≡ prints_strings self.entry }
-    {
-        matches!(self, Command::Dump | Command::Find(_) | Command::Addr(_))
     }
 
     /// Whether it looks addresses up.

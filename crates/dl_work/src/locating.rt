@@ -1,32 +1,29 @@
 //! What the program does for `addr`: addresses, and where they are in the source.
-ghost use Rattle.std.specs.Prelude.{◌≡◌, ℕ, List, None, Ok, IfOk, MatchResult, false};
+ghost use Rattle.std.specs.Prelude.{◌≡◌, ℕ, List, None, Ok, IfOk, MatchResult};
 ghost use Rattle.std.specs.Io.KnownBytes.{Consumes};
 ghost use Rattle.std.specs.declared.io.Error.{Error};
 ghost use Rattle.dl_elf.specs.Source.{ForBytes};
 ghost use Rattle.dl_file.specs.Code.{IsCode};
 ghost use Rattle.dl_file.specs.declared.code.Code as file_code;
-ghost use Rattle.dl_addr.specs.Code.{is_code};
 ghost use Rattle.dl_cmd.specs.Job.{addr_words_made};
+ghost use Rattle.dl_open.specs.Code.{AreLive, RefusesCode};
 ghost use Rattle.dl_work.specs.Locate.{HasAsked, InputStops, LocatesFor, LocatesInFile, LocatesInSection};
-ghost use Rattle.dl_work.specs.Locate.{RefusesCode, Unanswered, live_by};
+ghost use Rattle.dl_work.specs.Locate.{Unanswered};
 ghost use Rattle.dl_work.specs.Understood.{IsUnderstood};
 
-use crate::addr_words::{AskedWords, asked_words, part_name, question, says_section};
-use crate::code::{code_of, everywhere, live_in};
+use crate::addr_words::{AskedWords, INPUT, asked_words, part_name, question, says_section};
+use crate::code::{everywhere, live_in};
 use crate::command::Command;
-use crate::files::{FileSource, open_file};
 use crate::located::Located;
 use crate::over_file::on_file;
 use crate::over_input::{Section, on_input};
-use crate::stop::{FileFault, Stop};
+use crate::stop::{Stop, over_file};
 use dl_asked::{AskedLines, read_asked};
 use dl_cmd::AddrWords;
 use dl_look::CodeRanges;
+use dl_open::{FileFault, FileSource, code_of, open_file};
 use std::alloc::Global;
 use std::io::{Read, Write};
-
-/// The path that stands for a section on the input.
-const INPUT: &str = "-";
 
 /// The addresses that were given among the words, or where there are none those on the input.
 fn given_or_read<'a, R: Read>(
@@ -88,7 +85,7 @@ fn open_with_code<F: FileSource>(
     ensures bytes { IfOk result (λ r. F.File.all_bytes r.0 ≡ F.held files.now path.now) }
     ensures reads { IfOk result (λ r. (e : Error) → F.File.fails_with r.0 e → F.fails_with files.now path.now e) }
     ensures code { ForBytes (F.held files.now path.now) (λ f. MatchResult result
-        (λ r. (code : file_code.Code) × IsCode f (Ok code) × ((a : ℕ) → is_code r.1 a ≡ live_by false code a))
+        (λ r. (code : file_code.Code) × IsCode f (Ok code) × AreLive r.1 code)
         (RefusesCode (F.fails_with files.now path.now) f)) }
 {
     let file = open_file(files, path)?;
@@ -157,7 +154,7 @@ fn in_file<'a, F: FileSource, R: Read, W: Write>(
         live,
     ));
     let answer = on_file(alloc, path, &file, words.section, command, output);
-    Located::by_answer(answer, lines.no_address)
+    Located::by_answer(over_file(answer), lines.no_address)
 }
 
 /// Prints where addresses are in the source, of the ELF file that the words name, or where that is `-`

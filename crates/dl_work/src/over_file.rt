@@ -1,22 +1,18 @@
 //! Commands over an ELF file.
-ghost use Rattle.std.specs.Prelude.{◌≡◌, MatchResult, option_map};
+ghost use Rattle.std.specs.Prelude.{◌≡◌, option_map};
 ghost use Rattle.std.specs.Option.{option_copied};
 ghost use Rattle.dl_elf.specs.Source.{ForBytes};
-ghost use Rattle.dl_file.specs.LineTable.{Content, GivesLine, GivesTable, LineTable, Plain};
+ghost use Rattle.dl_file.specs.LineTable.{GivesLine, GivesTable, LineTable, Plain};
 ghost use Rattle.dl_run.specs.Commands.{strings_in};
-ghost use Rattle.dl_work.specs.Tables.{IsKept, IsWhole, KeepingStops, OnFile, OnFound, OnLines, OnTable, RunsOn};
-ghost use Rattle.dl_work.specs.Tables.{file_dialect};
+ghost use Rattle.dl_open.specs.Tables.{IsWhole, file_dialect};
+ghost use Rattle.dl_work.specs.Tables.{OnFile, OnFound, OnLines, OnTable, RunsOn};
 
 use crate::command::Command;
-use crate::named::open_table;
-use crate::object_part::{Part, part_of};
-use crate::stop::{FileFault, Stop};
-use crate::strings::StringSections;
 use dl_elf::ReadAt;
 use dl_file::{LineFile, LineReader};
 use dl_head::Dialect;
-use dl_object::keep_section;
-use dl_run::{Options, SECTION_LIMIT, Summary, read_strings};
+use dl_open::{FileFault, FileStop, Part, StringSections, kept_bytes, open_table, part_of};
+use dl_run::{Options, SECTION_LIMIT, Summary};
 use std::alloc::Global;
 use std::io::Write;
 
@@ -28,7 +24,7 @@ fn on_section<'p, S: ReadAt, W: Write>(
     line: &mut LineReader<'_, S>,
     options: &Options<'_>,
     output: &mut W,
-) -> Result<Summary, Stop<'p>>
+) -> Result<Summary, FileStop<'p>>
     requires { options.now.limit ≡ SECTION_LIMIT }
     ensures { (t : LineTable) → GivesLine S.all_bytes line.old t.line → options.now.dialect ≡ file_dialect t
         → IsWhole t.line_str t.str (strings_in options.now) → RunsOn path.entry.now command.entry t
@@ -37,38 +33,7 @@ fn on_section<'p, S: ReadAt, W: Write>(
     let stream = line.stream_name();
     match command.run(alloc, line, output, options) {
         Ok(summary) => Ok(summary),
-        Err(fault) => Err(Stop::at(path, stream, fault, line.last_fault())),
-    }
-}
-
-/// The bytes of the line section of the object file at this path, of whose sequences those of a part are left.
-fn kept_bytes<'p, S: ReadAt>(
-    alloc: Global,
-    path: &'p str,
-    dialect: Dialect,
-    part: &Part,
-    line: &mut LineReader<'_, S>,
-) -> Result<Vec<u8>, Stop<'p>>
-    ensures { (content : Content) → GivesLine S.all_bytes line.old content → MatchResult result
-        (λ kept. IsKept dialect part.now content kept.items) (KeepingStops path.entry.now dialect part.now content) }
-{
-    let stream = line.stream_name();
-    let mut bytes = match read_strings(alloc, line, SECTION_LIMIT) {
-        Ok(bytes) => bytes,
-        Err(fault) => return Err(Stop::at(path, stream, fault, line.last_fault())),
-    };
-    match keep_section(
-        alloc,
-        dialect,
-        bytes.as_mut_slice(),
-        part.places.as_slice(),
-        part.section,
-    ) {
-        Ok(()) => Ok(bytes),
-        Err(_) => Err(Stop::File {
-            path,
-            fault: FileFault::NoMemory,
-        }),
+        Err(fault) => Err(FileStop::at(path, stream, fault, line.last_fault())),
     }
 }
 
@@ -80,7 +45,7 @@ fn on_kept<'p, W: Write>(
     bytes: &[u8],
     options: &Options<'_>,
     output: &mut W,
-) -> Result<Summary, Stop<'p>>
+) -> Result<Summary, FileStop<'p>>
     requires { options.now.limit ≡ SECTION_LIMIT }
     ensures { (t : LineTable) → t.line ≡ Plain bytes.now → options.now.dialect ≡ file_dialect t
         → IsWhole t.line_str t.str (strings_in options.now) → RunsOn path.entry.now command.entry t
@@ -89,7 +54,7 @@ fn on_kept<'p, W: Write>(
     let mut input = bytes;
     match command.run(alloc, &mut input, output, options) {
         Ok(summary) => Ok(summary),
-        Err(fault) => Err(Stop::at(path, None, fault, None)),
+        Err(fault) => Err(FileStop::at(path, None, fault, None)),
     }
 }
 
@@ -102,7 +67,7 @@ fn on_lines<'p, S: ReadAt, W: Write>(
     line: &mut LineReader<'_, S>,
     options: &Options<'_>,
     output: &mut W,
-) -> Result<Summary, Stop<'p>>
+) -> Result<Summary, FileStop<'p>>
     requires { options.now.limit ≡ SECTION_LIMIT }
     ensures { (t : LineTable) → GivesLine S.all_bytes line.old t.line → options.now.dialect ≡ file_dialect t
         → IsWhole t.line_str t.str (strings_in options.now) → OnLines path.entry.now command.entry t
@@ -128,7 +93,7 @@ fn on_table<'p, S: ReadAt, W: Write>(
     table: LineFile<'_, S>,
     part: Option<&Part>,
     output: &mut W,
-) -> Result<Summary, Stop<'p>>
+) -> Result<Summary, FileStop<'p>>
     ensures { (t : LineTable) → GivesTable S.all_bytes table.entry t → OnTable path.entry.now command.entry t
         (option_copied part.entry) (W.contents output.old) (W.contents output.new) result }
 {
@@ -142,7 +107,7 @@ fn on_table<'p, S: ReadAt, W: Write>(
     } = table;
     if command.loses(is_object) {
         command.without_table(alloc, output);
-        return Err(Stop::File {
+        return Err(FileStop::File {
             path,
             fault: FileFault::ObjectCopy,
         });
@@ -168,7 +133,7 @@ fn on_found<'p, S: ReadAt, W: Write>(
     command: Command<'_>,
     table: LineFile<'_, S>,
     output: &mut W,
-) -> Result<Summary, Stop<'p>>
+) -> Result<Summary, FileStop<'p>>
     ensures { ForBytes (S.all_bytes file.now) (λ f. (t : LineTable) → GivesTable S.all_bytes table.entry t
         → OnFound (S.fails_with file.now) path.entry.now (option_map (λ s. s.now) section.entry) command.entry f t
         (W.contents output.old) (W.contents output.new) result) }
@@ -195,12 +160,12 @@ pub fn on_file<'p, S: ReadAt, W: Write>(
     section: Option<&'p str>,
     command: Command<'_>,
     output: &mut W,
-) -> Result<Summary, Stop<'p>>
+) -> Result<Summary, FileStop<'p>>
     ensures { ForBytes (S.all_bytes file.now) (λ f. OnFile (S.fails_with file.now) path.entry.now
         (option_map (λ s. s.now) section.entry) command.entry f (W.contents output.old)
         (W.contents output.new) result) }
 {
-    match open_table(alloc, path, file, command) {
+    match open_table(alloc, path, file, command.sections()) {
         Ok(table) => on_found(alloc, path, file, section, command, table, output),
         Err(stop) => {
             command.without_table(alloc, output);

@@ -6,17 +6,16 @@ ghost use Rattle.dl_work.specs.Held.{section_seen};
 ghost use Rattle.dl_work.specs.Work.{OnInput, stopped};
 
 use crate::command::Command;
-use crate::files::FileSource;
 use crate::stop::Stop;
-use crate::strings::StringSections;
 use dl_head::Dialect;
 use dl_num::Order;
+use dl_open::{FileSource, StringSections};
 use dl_run::{RunFault, Summary};
 use std::alloc::Global;
 use std::io::{Read, Write};
 
 /// What the words say of a section on the input.
-#[derive(Clone, Copy, Debug, PartialEq, Eq)]
+#[derive(Clone, Copy)]
 pub struct Section<'a> {
     pub big: bool,
     pub line_str: Option<&'a str>,

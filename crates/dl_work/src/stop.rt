@@ -1,15 +1,12 @@
 //! Why the program stops before its work is done.
 ghost use Rattle.std.specs.Prelude.{◌≡◌, IfSome, OnOk};
 ghost use Rattle.std.specs.Io.KnownBytes.{Appends};
-ghost use Rattle.dl_work.specs.Stops.{IsReadFault, StopsAt, file_fault_status, file_fault_text};
-ghost use Rattle.dl_work.specs.Stops.{stop_line, stop_status, stop_text};
+ghost use Rattle.dl_open.specs.Stops.{stop_line};
+ghost use Rattle.dl_work.specs.Stops.{over_file, stop_of, stop_status, stop_text};
 
-use crate::debug_file::DebugFile;
-use crate::shown::{Shown, ShownBytes};
 use dl_asked::OtherLine;
-use dl_elf::{ElfFault, SectionName};
-use dl_file::ReadFault;
-use dl_run::RunFault;
+use dl_open::{FileFault, FileStop, Shown, ShownBytes};
+use dl_run::{RunFault, Summary};
 use std::io::Write;
 use std::{fmt, io};
 
@@ -30,94 +27,7 @@ pub enum Stop<'a> {
     NoAddress { line: OtherLine },
 }
 
-/// What is wrong with an ELF file, or with reading it.
-#[derive(Debug, Drop)]
-pub enum FileFault {
-    /// It can't be opened.
-    Open(io::Error),
-    /// It has no line table that is read, or a read of it failed.
-    Elf(ElfFault),
-    /// It has no line table, but a build ID, by which its debug information is looked for. Only `with_debug_file`
-    /// answers it.
-    Stripped(DebugFile),
-    /// It is an object file, which isn't copied.
-    ObjectCopy,
-    /// A section is named of it, but its addresses aren't relative to sections.
-    NotRelative,
-    /// A growth was refused.
-    NoMemory,
-}
-
-impl FileFault {
-    /// The program's status: 1 where the file is to blame, 3 for memory and reads.
-    fn status(&self) -> u8
-        ensures { result ≡ file_fault_status self.now }
-    {
-        match self {
-            FileFault::Open(_) | FileFault::NoMemory => 3,
-            FileFault::Elf(ElfFault::Read(_) | ElfFault::NoMemory) => 3,
-            FileFault::Elf(_)
-            | FileFault::Stripped(_)
-            | FileFault::ObjectCopy
-            | FileFault::NotRelative => 1,
-        }
-    }
-}
-
-impl fmt::Display for FileFault {
-    ghost output = { file_fault_text };
-
-    fn fmt<W: fmt::Write>(&self, f: &mut fmt::Formatter<W>) -> fmt::Result {
-        match self {
-            FileFault::Open(error) => write!(f, "cannot open: {error}"),
-            FileFault::Elf(fault) => write!(f, "{fault}"),
-            FileFault::Stripped(file) => write!(f, "no section .debug_line ({file})"),
-            FileFault::ObjectCopy => {
-                write!(f, "an object file; its copy would lose its relocations")
-            }
-            FileFault::NotRelative => write!(f, "its addresses are not relative to a section"),
-            FileFault::NoMemory => write!(f, "out of memory"),
-        }
-    }
-}
-
-/// What is told of a file where a read of a section failed so.
-fn read_fault(stream: Option<SectionName>, read: Option<ReadFault>) -> ElfFault
-    ensures { IsReadFault stream result }
-{
-    match (stream, read) {
-        (Some(name), Some(ReadFault::DamagedStream(at))) => ElfFault::DamagedStream(name, at),
-        (_, Some(ReadFault::Read(error))) => ElfFault::Read(error),
-        _ => ElfFault::Read(io::Error::from(io::ErrorKind::Other)),
-    }
-}
-
 impl<'a> Stop<'a> {
-    /// The stop of a run over a section of the file at this path. `stream` is the section's name where
-    /// it is inflated as it is read, and `read` tells why its last read failed, where it did.
-    ///
-    /// What is wrong with a section is told without the path, as of a section that isn't in a file.
-    pub(crate) fn at(
-        path: &'a str,
-        stream: Option<SectionName>,
-        fault: RunFault,
-        read: Option<ReadFault>,
-    ) -> Stop<'a>
-        ensures { StopsAt path.entry.now stream fault result }
-    {
-        match fault {
-            RunFault::Read => Stop::File {
-                path,
-                fault: FileFault::Elf(read_fault(stream, read)),
-            },
-            RunFault::NoMemory => Stop::File {
-                path,
-                fault: FileFault::NoMemory,
-            },
-            fault => Stop::Run(fault),
-        }
-    }
-
     /// The program's status: 2 where the words are to blame, 1 where a line is, else that of the fault.
     pub fn status(&self) -> u8
         ensures { result ≡ stop_status self.now }
@@ -136,6 +46,28 @@ impl<'a> Stop<'a> {
             Appends (W.contents errors.old) (W.contents errors.new) (stop_line text))) }
     {
         writeln!(errors, "dwline: {self}")
+    }
+}
+
+impl<'a> From<FileStop<'a>> for Stop<'a> {
+    ghost from_gives = { λ stop given. given ≡ stop_of stop };
+
+    fn from(stop: FileStop<'a>) -> Self {
+        match stop {
+            FileStop::Run(fault) => Stop::Run(fault),
+            FileStop::File { path, fault } => Stop::File { path, fault },
+            FileStop::NoSection { path, name } => Stop::NoSection { path, name },
+        }
+    }
+}
+
+/// What a command over a file answered, as the program answers.
+pub fn over_file<'a>(answer: Result<Summary, FileStop<'a>>) -> Result<Summary, Stop<'a>>
+    ensures { result ≡ over_file answer.entry }
+{
+    match answer {
+        Ok(summary) => Ok(summary),
+        Err(stop) => Err(Stop::from(stop)),
     }
 }
 

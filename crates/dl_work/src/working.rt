@@ -2,18 +2,19 @@
 ghost use Rattle.std.specs.Prelude.{◌≡◌, ℕ, List, option_map};
 ghost use Rattle.std.specs.Io.KnownBytes.{Consumes};
 ghost use Rattle.dl_cmd.specs.Job.{request_made};
-ghost use Rattle.dl_work.specs.Asked.{file_of, part_name_of, section_of};
+ghost use Rattle.dl_work.specs.Asked.{file_of, looked_into, part_name_of, section_of};
 ghost use Rattle.dl_elf.specs.Source.{ForBytes};
 ghost use Rattle.dl_work.specs.Held.{section_seen};
 ghost use Rattle.dl_work.specs.Tables.{OnFile};
 ghost use Rattle.dl_work.specs.Work.{Works};
 
+use crate::addr_words::file_of_words;
 use crate::command::Command;
-use crate::files::{FileSource, open_file};
 use crate::over_file::on_file;
 use crate::over_input::{Section, on_input};
-use crate::stop::Stop;
+use crate::stop::{Stop, over_file};
 use dl_cmd::Job;
+use dl_open::{FileSource, FileStop, open_file};
 use dl_run::Summary;
 use std::alloc::Global;
 use std::io::{Read, Write};
@@ -38,6 +39,17 @@ fn part_name<'a>(job: &Job<'a>) -> Option<&'a str>
     match job {
         Job::Find { section, .. } => *section,
         Job::Addr(words) => words.section,
+        Job::Dump { .. } | Job::Check { .. } | Job::Copy { .. } => None,
+    }
+}
+
+/// The path of the ELF file in which a job looks addresses up.
+pub fn looked_into<'a>(job: &Job<'a>) -> Option<&'a str>
+    ensures { option_map (λ s. s.now) result ≡ looked_into (request_made job.now) }
+{
+    match job {
+        Job::Find { file, .. } => *file,
+        Job::Addr(words) => file_of_words(words),
         Job::Dump { .. } | Job::Check { .. } | Job::Copy { .. } => None,
     }
 }
@@ -84,7 +96,7 @@ fn on_named<'p, F: FileSource, W: Write>(
     section: Option<&'p str>,
     command: Command<'_>,
     output: &mut W,
-) -> Result<Summary, Stop<'p>>
+) -> Result<Summary, FileStop<'p>>
     ensures { ForBytes (F.held files.now path.entry.now) (λ f. OnFile (F.fails_with files.now path.entry.now)
         path.entry.now (option_map (λ s. s.now) section.entry) command.entry f (W.contents output.old) (W.contents output.new) result) }
 {
@@ -92,7 +104,7 @@ fn on_named<'p, F: FileSource, W: Write>(
         Ok(file) => on_file(alloc, path, &file, section, command, output),
         Err(fault) => {
             command.without_table(alloc, output);
-            Err(Stop::File { path, fault })
+            Err(FileStop::File { path, fault })
         }
     }
 }
@@ -126,7 +138,7 @@ pub fn work<'a, F: FileSource, R: Read, W: Write>(
         return Err(Stop::NotUnderstood);
     };
     match file(&job) {
-        Some(path) => on_named(alloc, files, path, part_name(&job), command, output),
+        Some(path) => over_file(on_named(alloc, files, path, part_name(&job), command, output)),
         None => on_input(alloc, files, section(&job), command, input, output),
     }
 }

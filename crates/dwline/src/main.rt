@@ -4,8 +4,9 @@
 use dl_addr::Found;
 use dl_cmd::{Job, read_job, word_status};
 use dl_elf::ReadAt;
+use dl_open::{FileSource, units_not_read};
 use dl_run::{RunFault, read_strings};
-use dl_work::{FileSource, Stop, locate, looked_into, units_not_read, with_debug_file, work};
+use dl_work::{Stop, locate, looked_into, with_debug_file, work};
 use std::alloc::{AllocError, Global};
 use std::fs::File;
 use std::io::{ErrorKind, Write};

@@ -2,7 +2,8 @@
 use crate::files::{STRIPPED, TWO_UNITS, UNIT, UNITS, WITH_STRINGS};
 use crate::shelf::Shelf;
 use dl_cmd::Job;
-use dl_work::{FileFault, Stop, with_debug_file, work};
+use dl_open::FileFault;
+use dl_work::{Stop, with_debug_file, work};
 use std::alloc::Global;
 use std::process::Abort;
 use std::test::Fail;

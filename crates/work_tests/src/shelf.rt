@@ -1,7 +1,7 @@
 //! A file whose reads may fail, by its paths.
 use dl_elf::ReadAt;
+use dl_open::FileSource;
 use dl_run::RunFault;
-use dl_work::FileSource;
 use std::alloc::Global;
 use std::io;
 use std::io::ErrorKind;

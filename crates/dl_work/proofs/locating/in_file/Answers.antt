@@ -4,7 +4,9 @@ use Rattle.std.proofs.KnownBytes.{Consumes-nil}
 use Rattle.std.proofs.lemmas.Result.{err_from_is_err_and}
 use Rattle.dl_cmd.specs.Job.{addr_words_made}
 use Rattle.dl_addr.specs.Code.{is_code}
+use Rattle.dl_open.specs.declared.stop.FileStop.TheVariants as at
 use Rattle.dl_work.specs.declared.command.Command.TheVariants.{Addr}
+use Rattle.dl_work.specs.Located.{located}
 use Rattle.dl_work.proofs.LocateLemmas.{file_done, file_refused, file_stops, input_stops}
 use Rattle.dl_work.proofs.TableLemmas.{on_file_weaker}
 use Rattle.dl_work.proofs.locating.in_file.Goals as goal
@@ -37,7 +39,8 @@ returns-in-Err g c =
       e.0,
       e.1,
       file_refused (g.F.FileSource.held c.args.files.now) (g.F.FileSource.fails_with c.args.files.now) c.args.path.now
-          (addr_words_made c.args.words.now) c.in_ok-understood.understood e.0 _ _ _ _ _ c.in-Err.fault
+          (addr_words_made c.args.words.now) c.in_ok-understood.understood e.0 _ _ _ _
+          (at.File c.args.path c.in-Err.fault) c.in-Err.fault
           (sym c.says_section.ensures ∙ c.if-says_section.false)
           (record { base = told.base; asked = told.asked; understood = told.understood; no_lines = told.no_lines }) refl
           c.in-Err.ensures.code (refl, refl) e.2,
@@ -73,5 +76,5 @@ returns g c =
           c.in-Ok.ensures.code
           (λ f known short. on_file_weaker _ _ c.args.path.now _ (Addr c.question.result) f _ _ _ c.in-Ok.ensures.reads
           (c.on_file-answer.ensures f (c.in-Ok.ensures.bytes ∙ known) short))
-          c.by_answer.ensures,
+          (c.by_answer.ensures ∙ ap (λ answer. located answer c.in_ok-lines.lines.no_address) c.over_file.ensures),
     )

@@ -1,7 +1,7 @@
 use Rattle.std.proofs.Common.{Some, refl, subst, sym}
 use Rattle.dl_file.specs.LineTable.{Content}
-use Rattle.dl_work.specs.Stops.{StopsAt}
-use Rattle.dl_work.specs.Tables.{stream_of}
+use Rattle.dl_open.specs.Stops.{StopsAt}
+use Rattle.dl_open.specs.Tables.{stream_of}
 use Rattle.dl_work.proofs.TableLemmas.{plain_known, ran}
 use Rattle.dl_work.proofs.over_file.on_kept.Goals as goal
 

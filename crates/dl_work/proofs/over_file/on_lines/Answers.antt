@@ -2,7 +2,8 @@ use Rattle.std.proofs.Common.{ap, inr, subst, sym}
 use Rattle.std.specs.Option.{option_copied}
 use Rattle.dl_head.specs.declared.dialect.Dialect.{Dialect}
 use Rattle.dl_file.specs.LineTable.{Plain}
-use Rattle.dl_work.specs.Tables.{IsKept, with_bytes}
+use Rattle.dl_open.specs.Tables.{IsKept}
+use Rattle.dl_work.specs.Tables.{with_bytes}
 use Rattle.dl_work.proofs.TableLemmas.{of_part}
 use Rattle.dl_work.proofs.over_file.on_lines.Goals as goal
 

@@ -1,6 +1,7 @@
 use Rattle.std.proofs.Common.{◌∙◌, refl, subst}
-use Rattle.dl_work.specs.Stops.{StopsAt}
-use Rattle.dl_work.proofs.TableLemmas.{ran, reader_known, reader_stream}
+use Rattle.dl_open.specs.Stops.{StopsAt}
+use Rattle.dl_open.proofs.ReaderLemmas.{reader_known, reader_stream}
+use Rattle.dl_work.proofs.TableLemmas.{ran}
 use Rattle.dl_work.proofs.over_file.on_section.Goals as goal
 
 pub returns-in-Err : goal.returns-in-Err

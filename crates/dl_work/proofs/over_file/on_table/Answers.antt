@@ -1,6 +1,6 @@
 use Rattle.std.proofs.Common.{◌∙◌, ap, inr, subst, sym}
 use Rattle.dl_head.specs.Dialect.{version_5}
-use Rattle.dl_work.specs.Tables.{IsWhole}
+use Rattle.dl_open.specs.Tables.{IsWhole}
 use Rattle.dl_work.proofs.TableLemmas.{not_refused}
 use Rattle.dl_work.proofs.over_file.on_table.Goals as goal
 

@@ -21,7 +21,7 @@ returns-in-Some-file g c = (
   [],
   Consumes-nil _,
   works_on_named (g.F.FileSource.held c.args.files.now) (g.F.FileSource.fails_with c.args.files.now) _
-      (request_made c.in-Some.job) c.in-Some-of.command c.in-Some-file.path.now _ _ _ _ _
+      (request_made c.in-Some.job) c.in-Some-of.command c.in-Some-file.path.now _ _ _ _ _ _
       (ap (option_map request_made) c.in-Some.is) (sym c.of.ensures ∙ c.in-Some-of.is) (sym c.in-Some-file.ensures)
-      c.part_name.ensures c.on_named.ensures,
+      c.part_name.ensures c.over_file.ensures c.on_named.ensures,
 )

@@ -1,0 +1,5 @@
+pub mod NotReadLemmas
+pub mod ReaderLemmas
+pub mod NamedLemmas
+pub mod CodeLemmas
+pub mod WiderLemmas

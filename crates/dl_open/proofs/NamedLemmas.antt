@@ -1,0 +1,189 @@
+-- Whether a table of a line section names `.debug_str`.
+use Rattle.std.proofs.Common.{◌≡◌, ◌↔◌, inl, inr, ℕ, ◌+◌, ◌<◌, Bool, true, false, ◌==◌, IsTrue, List, [], ◌++◌, length}
+use Rattle.std.proofs.Common.{Option, Some, None, Result, Ok, Err}
+use Rattle.std.proofs.Common.{refl, sym, ap, subst, ◌∙◌, arith, append_assoc, append-nil, length-append}
+use Rattle.std.proofs.Common.{◌∷◌}
+use Rattle.std.proofs.lemmas.Bool.{eqb-true}
+use Rattle.std.specs.Prelude.{IfSome, MatchResult}
+use Rattle.std.specs.declared.io.Error.{Error}
+use Rattle.dl_file.specs.declared.line_file.LineFile.{LineFile}
+use Rattle.dl_file.specs.declared.line_file.Wanted.TheVariants.{LineAndLineStrings}
+use Rattle.dl_file.specs.declared.line_reader.LineReader.{LineReader}
+use Rattle.dl_file.specs.declared.line_reader.LineReader.TheVariants.{File, Held}
+use Rattle.dl_file.specs.LineReader.{line_held}
+use Rattle.dl_file.specs.LineTable.{Content, GivesLine, GivesTable, HasLineTable, Inflated, LineTable, Plain}
+use Rattle.dl_open.specs.declared.named.Sections.TheVariants.{LinesAndTexts}
+use Rattle.dl_open.specs.declared.stop.FileStop.{FileStop}
+use Rattle.dl_open.specs.Tables.{HasTable, IsNamed, NamedStops, NamingStops, OpeningStops, TableStops, file_dialect}
+use Rattle.dl_open.specs.Tables.{with_strings}
+use Rattle.std.specs.Io.KnownBytes.{Consumes, IsAtEnd}
+use Rattle.dl_head.specs.declared.dialect.Dialect.{Dialect}
+use Rattle.dl_run.specs.declared.options.TheConstants.{SECTION_LIMIT}
+use Rattle.dl_forms.specs.Names.{AddsCellFrom, Names}
+
+-- it is told of all bytes, where those that were read settle it
+settled : (dialect : Dialect) (known left : Option (List ℕ)) (bs : List ℕ) (names : Bool) → Consumes known left bs
+    → IsTrue names ↔ Names dialect bs → ((rest : List ℕ) → left ≡ Some rest → Names dialect (bs ++ rest)
+    ↔ Names dialect bs) → IfSome known (λ bytes. IsTrue names ↔ Names dialect bytes)
+settled dialect None left bs names consumes told same = tt
+settled dialect (Some bytes) None bs names consumes told same = absurd consumes
+settled dialect (Some bytes) (Some rest) bs names consumes told same = (
+  λ said. subst (Names dialect) (sym consumes) ((same rest refl).1 (told.0 said)),
+  λ named. told.1 ((same rest refl).0 (subst (Names dialect) consumes named)),
+)
+
+-- all bytes were read
+pub at_end : (dialect : Dialect) (known left : Option (List ℕ)) (bs : List ℕ) (names : Bool) → Consumes known left bs
+    → IsTrue names ↔ Names dialect bs → IsAtEnd left → IfSome known (λ bytes. IsTrue names ↔ Names dialect bytes)
+at_end dialect known left bs names consumes told ended =
+    settled dialect known left bs names consumes told (λ rest is. same rest is)
+  where
+    nothing : (left : Option (List ℕ)) (rest : List ℕ) → left ≡ Some rest → IsAtEnd left → rest ≡ []
+    nothing None rest is ended = absurd (cc is)
+    nothing (Some other) rest is ended = let e : other ≡ rest = cc is in sym e ∙ ended
+
+    same : (rest : List ℕ) → left ≡ Some rest → Names dialect (bs ++ rest) ↔ Names dialect bs
+    same rest is =
+        let e : bs ++ rest ≡ bs = ap (λ (z : List ℕ). bs ++ z) (nothing left rest is ended) ∙ append-nil bs in
+        (λ named. subst (Names dialect) e named, λ named. subst (Names dialect) (sym e) named)
+
+-- the walk is over
+pub over : (dialect : Dialect) (known left : Option (List ℕ)) (bs : List ℕ) (names : Bool) → Consumes known left bs
+    → IsTrue names ↔ Names dialect bs → ((rest : List ℕ) → Names dialect (bs ++ rest) ↔ Names dialect bs)
+    → IfSome known (λ bytes. IsTrue names ↔ Names dialect bytes)
+over dialect known left bs names consumes told same =
+    settled dialect known left bs names consumes told (λ rest is. same rest)
+
+-- memory was refused
+pub wants : (dialect : Dialect) (known left : Option (List ℕ)) (bs : List ℕ) (n : ℕ) → Consumes known left bs
+    → AddsCellFrom dialect n bs → IfSome known (AddsCellFrom dialect 0)
+wants dialect None left bs n consumes cell = tt
+wants dialect (Some bytes) None bs n consumes cell = absurd consumes
+wants dialect (Some bytes) (Some rest) bs n consumes (before, front, byte, back, split, past, adds) = (
+  before,
+  front,
+  byte,
+  back ++ rest,
+  consumes ∙ ap (λ (z : List ℕ). z ++ rest) split ∙ append_assoc before (front ++ byte ∷ back) rest
+      ∙ ap (λ (z : List ℕ). before ++ z) (append_assoc front (byte ∷ back) rest),
+  omega arith,
+  adds,
+)
+
+-- it is too long
+pub too_long : (known left : Option (List ℕ)) (bs piece : List ℕ) (room : ℕ) → Consumes known left (bs ++ piece)
+    → length bs + room ≡ SECTION_LIMIT → room < length piece → IfSome known (λ bytes. SECTION_LIMIT < length bytes)
+too_long None left bs piece room consumes limit past = tt
+too_long (Some bytes) None bs piece room consumes limit past = absurd consumes
+too_long (Some bytes) (Some rest) bs piece room consumes limit past =
+    let size = ap length consumes ∙ length-append (bs ++ piece) rest in
+    let read = length-append bs piece in
+    omega (arith, size, read, limit, past)
+
+pub empty_is : (xs : List ℕ) → (length xs == 0) ≡ true → xs ≡ []
+empty_is [] e = refl
+empty_is (x ∷ xs) e = let n = eqb-true (length (x ∷ xs)) 0 e in absurd (omega (arith, n))
+
+-- the same in the dialect of the section, of the same bytes
+pub told_in : (own dialect : Dialect) (bs all : List ℕ) (names : Bool) → own ≡ dialect → bs ≡ all
+    → IsTrue names ↔ Names own bs → IsTrue names ↔ Names dialect all
+told_in own dialect bs all names same alike told =
+    subst (λ (b : List ℕ). IsTrue names ↔ Names dialect b) alike
+    (subst (λ (d : Dialect). IsTrue names ↔ Names d bs) same told)
+
+pub same_over : (own dialect : Dialect) (bs : List ℕ) → own ≡ dialect
+    → ((rest : List ℕ) → Names own (bs ++ rest) ↔ Names own bs)
+    → (rest : List ℕ) → Names dialect (bs ++ rest) ↔ Names dialect bs
+same_over own dialect bs same settled rest =
+    subst (λ (d : Dialect). Names d (bs ++ rest) ↔ Names d bs) same (settled rest)
+
+-- ---- the line section of a file
+
+-- bytes that are held are those of the section
+pub held_plain : {S : Type 0} {g : _} (all_bytes : S → Option (List ℕ)) (reader : LineReader S g) (content : Content)
+    (bytes : List ℕ) → Some bytes ≡ line_held reader → GivesLine all_bytes reader content → content ≡ Plain bytes
+held_plain all_bytes (File reader) content bytes is gives = absurd (cc is)
+held_plain all_bytes (Held cursor) (Inflated name known damage) bytes is gives = let n = gives.3 in absurd (cc n)
+held_plain all_bytes (Held cursor) (Plain own) bytes is gives =
+    let same : Some bytes ≡ Some own = is ∙ gives.0 in
+    let e : bytes ≡ own = cc same in ap Plain (sym e)
+
+-- ---- the sections that a command looks into
+
+-- it is told whether its tables name .debug_str, or why it can't be
+abbrev pub IsTold : (path : List ℕ) → LineTable → Result Bool FileStop → Type 0
+IsTold path t answer = MatchResult answer (IsNamed (file_dialect t) t.line) (NamingStops path (file_dialect t) t.line)
+
+-- it is told of bytes that are held
+pub held_answer : {S : Type 0} {g : _} (all_bytes : S → Option (List ℕ)) (reader : LineReader S g) (t : LineTable)
+    (dialect : Dialect) (path : List ℕ) (bytes : List ℕ) (answer : Result Bool FileStop) → Some bytes ≡ line_held reader
+    → GivesLine all_bytes reader t.line → dialect ≡ file_dialect t
+    → MatchResult answer (λ names. IsTrue names ↔ Names dialect bytes) (NamingStops path dialect (Plain bytes))
+    → IsTold path t answer
+held_answer all_bytes reader t dialect path bytes answer is gives same told =
+    subst (λ (c : Content). MatchResult answer (IsNamed (file_dialect t) c) (NamingStops path (file_dialect t) c))
+    (sym (held_plain all_bytes reader t.line bytes is gives))
+    (subst (λ (d : Dialect). MatchResult answer (IsNamed d (Plain bytes)) (NamingStops path d (Plain bytes))) same told)
+
+-- the line table of a file, with .debug_str where its tables name it
+abbrev pub IsOpened : {S : Type 0} {g : _} (all_bytes : S → Option (List ℕ)) (fails : Error → Type 0) (path : List ℕ)
+    (f : List ℕ) (t : LineTable) (result : Result (LineFile S g) FileStop) → Type 0
+IsOpened all_bytes fails path f t result = MatchResult result
+    (λ table. (names : Bool) × IsNamed (file_dialect t) t.line names
+    × ((t2 : LineTable) × HasLineTable f (with_strings names) (Ok t2) × GivesTable all_bytes table t2))
+    (NamedStops fails path f t)
+
+pub answered : (answer : Result Bool FileStop) (names value : Bool) → answer ≡ Ok names → names ≡ value → answer ≡ Ok value
+answered answer names value is same = subst (λ (b : Bool). answer ≡ Ok b) same is
+
+-- the file is opened anew
+pub anew : {S : Type 0} {g : _} (all_bytes : S → Option (List ℕ)) (fails : Error → Type 0) (path : List ℕ) (f : List ℕ)
+    (t : LineTable) (names : Bool) (answer : Result Bool FileStop) (result own : Result (LineFile S g) FileStop)
+    → answer ≡ Ok names → IsTold path t answer → result ≡ own
+    → MatchResult own (λ table. (t2 : LineTable) × HasLineTable f (with_strings names) (Ok t2)
+    × GivesTable all_bytes table t2) (OpeningStops fails path f (with_strings names))
+    → IsOpened all_bytes fails path f t result
+anew {S = S} {g = g} all_bytes fails path f t names answer result own said told is opens =
+    subst (λ (r : Result (LineFile S g) FileStop). IsOpened all_bytes fails path f t r) (sym is) (by_own own opens)
+  where
+    by_own : (own : Result (LineFile S g) FileStop) → MatchResult own (λ table. (t2 : LineTable)
+        × HasLineTable f (with_strings names) (Ok t2) × GivesTable all_bytes table t2)
+        (OpeningStops fails path f (with_strings names)) → IsOpened all_bytes fails path f t own
+    by_own (Ok table) opens = (names, subst (IsTold path t) said told, opens)
+    by_own (Err stop) stops = inr (names, subst (IsTold path t) said told, stops)
+
+-- the file stays as it was opened
+pub as_opened : {S : Type 0} {g : _} (all_bytes : S → Option (List ℕ)) (fails : Error → Type 0) (path : List ℕ)
+    (f : List ℕ) (t : LineTable) (answer : Result Bool FileStop) (result : Result (LineFile S g) FileStop)
+    (table : LineFile S g) → answer ≡ Ok false
+    → IsTold path t answer → result ≡ Ok table
+    → HasLineTable f LineAndLineStrings (Ok t) → GivesTable all_bytes table t
+    → IsOpened all_bytes fails path f t result
+as_opened {S = S} {g = g} all_bytes fails path f t answer result table said told is has given =
+    let named = subst (IsTold path t) said told in
+    subst (λ (r : Result (LineFile S g) FileStop). IsOpened all_bytes fails path f t r) (sym is)
+    (false, named, (t, has, given))
+
+-- it can't be told what they name
+pub not_told : {S : Type 0} {g : _} (all_bytes : S → Option (List ℕ)) (fails : Error → Type 0) (path : List ℕ)
+    (f : List ℕ) (t : LineTable) (answer : Result Bool FileStop) (result : Result (LineFile S g) FileStop) (stop : FileStop)
+    → answer ≡ Err stop → IsTold path t answer
+    → result ≡ Err stop → IsOpened all_bytes fails path f t result
+not_told {S = S} {g = g} all_bytes fails path f t answer result stop said told is =
+    let stops = subst (IsTold path t) said told in
+    subst (λ (r : Result (LineFile S g) FileStop). IsOpened all_bytes fails path f t r) (sym is) (inl stops)
+
+-- texts are printed, and the file has no such section
+pub without_section : (f : List ℕ) (t : LineTable) → t.has_str ≡ false → HasLineTable f LineAndLineStrings (Ok t)
+    → HasTable LinesAndTexts f t
+without_section f t none has = (LineAndLineStrings, (t, has, inl (none, refl)), has)
+
+-- it has one, and it is told whether its tables name it
+pub with_section : {S : Type 0} {g : _} (all_bytes : S → Option (List ℕ)) (fails : Error → Type 0) (path : List ℕ)
+    (f : List ℕ) (t : LineTable) (result : Result (LineFile S g) FileStop) → t.has_str ≡ true
+    → HasLineTable f LineAndLineStrings (Ok t) → IsOpened all_bytes fails path f t result
+    → MatchResult result (λ table. (t : LineTable) × HasTable LinesAndTexts f t × GivesTable all_bytes table t)
+    (TableStops fails path LinesAndTexts f)
+with_section all_bytes fails path f t (Ok table) some has (names, named, (t2, has2, given)) =
+    (t2, (with_strings names, (t, has, inr (names, some, named, refl)), has2), given)
+with_section all_bytes fails path f t (Err stop) some has stops = inr (t, has, some, stops)

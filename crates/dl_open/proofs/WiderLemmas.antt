@@ -1,0 +1,66 @@
+-- The same stops, where more errors may come of opening and reading a file.
+use Rattle.std.proofs.Common.{ℕ, Bool, List, Option, inl, inr}
+use Rattle.std.specs.declared.io.Error.{Error}
+use Rattle.dl_elf.specs.declared.fault.ElfFault.TheVariants.{Read, NoMemory}
+use Rattle.dl_file.specs.declared.line_file.Wanted.{Wanted}
+use Rattle.dl_file.specs.declared.line_file.Wanted.TheVariants.{LineAndLineStrings, LineSection}
+use Rattle.dl_open.specs.declared.fault.FileFault.{FileFault}
+use Rattle.dl_open.specs.declared.fault.FileFault.TheVariants.{Open, Elf}
+use Rattle.dl_open.specs.declared.named.Sections.{Sections}
+use Rattle.dl_open.specs.declared.named.Sections.TheVariants.{Lines, LinesAndTexts}
+use Rattle.dl_open.specs.declared.stop.FileStop.{FileStop}
+use Rattle.dl_open.specs.Parts.{PartStops, RefusesPlaces, RefusesSection}
+use Rattle.dl_open.specs.Tables.{OpeningStops, Refuses, TableStops, with_strings}
+
+refuses_weaker : (fails wider : Error → Type 0) (f : List ℕ) (wanted : Wanted) (fault : FileFault)
+    → ((e : Error) → fails e → wider e) → Refuses fails f wanted fault → Refuses wider f wanted fault
+refuses_weaker fails wider f wanted (Open error) more refuses = more error refuses
+refuses_weaker fails wider f wanted (Elf (Read error)) more refuses = more error refuses
+refuses_weaker fails wider f wanted (Elf NoMemory) more refuses = refuses
+refuses_weaker fails wider f wanted (Elf fault) more refuses = refuses
+refuses_weaker fails wider f wanted fault more refuses = refuses
+
+places_weaker : (fails wider : Error → Type 0) (f : List ℕ) (is_object : Bool) (fault : FileFault)
+    → ((e : Error) → fails e → wider e) → RefusesPlaces fails f is_object fault → RefusesPlaces wider f is_object fault
+places_weaker fails wider f is_object (Elf (Read error)) more refuses = more error refuses
+places_weaker fails wider f is_object (Elf NoMemory) more refuses = refuses
+places_weaker fails wider f is_object (Elf fault) more refuses = refuses
+places_weaker fails wider f is_object fault more refuses = refuses
+
+section_weaker : (fails wider : Error → Type 0) (f : List ℕ) (fault : FileFault)
+    → ((e : Error) → fails e → wider e) → RefusesSection fails f fault → RefusesSection wider f fault
+section_weaker fails wider f (Elf (Read error)) more refuses = more error refuses
+section_weaker fails wider f (Elf fault) more refuses = refuses
+section_weaker fails wider f fault more refuses = refuses
+
+pub part_stops_weaker : (fails wider : Error → Type 0) (path : List ℕ) (f : List ℕ) (is_object : Bool) (name : Option (List ℕ))
+    (stop : FileStop) → ((e : Error) → fails e → wider e) → PartStops fails path f is_object name stop
+    → PartStops wider path f is_object name stop
+part_stops_weaker fails wider path f is_object name stop more (inl lacks) = inl lacks
+part_stops_weaker fails wider path f is_object name stop more (inr (fault, inl refuses, at)) =
+    inr (fault, inl (places_weaker fails wider f is_object fault more refuses), at)
+part_stops_weaker fails wider path f is_object name stop more (inr (fault, inr (inl refuses), at)) =
+    inr (fault, inr (inl (section_weaker fails wider f fault more refuses)), at)
+part_stops_weaker fails wider path f is_object name stop more (inr (fault, inr (inr refuses), at)) =
+    inr (fault, inr (inr refuses), at)
+
+opening_stops_weaker : (fails wider : Error → Type 0) (path : List ℕ) (f : List ℕ) (wanted : Wanted) (stop : FileStop)
+    → ((e : Error) → fails e → wider e) → OpeningStops fails path f wanted stop → OpeningStops wider path f wanted stop
+opening_stops_weaker fails wider path f wanted stop more (fault, refuses, at) =
+    (fault, refuses_weaker fails wider f wanted fault more refuses, at)
+
+pub table_stops_weaker : (fails wider : Error → Type 0) (path : List ℕ) (sections : Sections) (f : List ℕ) (stop : FileStop)
+    → ((e : Error) → fails e → wider e) → TableStops fails path sections f stop → TableStops wider path sections f stop
+table_stops_weaker fails wider path Lines f stop more first =
+    opening_stops_weaker fails wider path f LineSection stop more first
+table_stops_weaker fails wider path LinesAndTexts f stop more (inl first) =
+    inl (opening_stops_weaker fails wider path f LineAndLineStrings stop more first)
+table_stops_weaker fails wider path LinesAndTexts f stop more (inr (t, has, some, inl naming)) =
+    inr (t, has, some, inl naming)
+table_stops_weaker fails wider path LinesAndTexts f stop more (inr (t, has, some, inr (names, named, opening))) =
+    inr (
+      t,
+      has,
+      some,
+      inr (names, named, opening_stops_weaker fails wider path f (with_strings names) stop more opening),
+    )

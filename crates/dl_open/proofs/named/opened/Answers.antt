@@ -1,0 +1,14 @@
+use Rattle.std.proofs.Common.{refl}
+use Rattle.dl_open.specs.declared.fault.FileFault.TheVariants.{Elf}
+use Rattle.dl_open.proofs.NotReadLemmas.{refuses}
+use Rattle.dl_open.proofs.named.opened.Goals as goal
+
+pub returns-in-Err : goal.returns-in-Err
+returns-in-Err g c f known short =
+    let fault = c.in-Err.fault in
+    let opened = c.open_line_file in (
+      Elf fault,
+      refuses {S = g.row.S.Denot} g.S.ReadAt.all_bytes (g.S.ReadAt.fails_with c.args.file.now) f c.args.wanted
+          opened.result fault c.in-Err.is (opened.ensures.opens f known short) opened.ensures.read,
+      (refl, refl),
+    )

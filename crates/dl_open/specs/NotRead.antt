@@ -1,0 +1,51 @@
+-- What is said of the units of other versions, which aren't read, where an address has no answer.
+use Rattle.std.specs.Prelude.{◌≡◌, ◌⊎◌, ℕ, ◌==◌, if◌then◌else◌, List, ◌++◌, codes, decimal, Option, None, Result}
+use Rattle.std.specs.Prelude.{Ok, Err}
+use Rattle.std.specs.Io.KnownBytes.{Consumes}
+use Rattle.std.specs.declared.io.Error.{Error}
+use Rattle.dl_file.specs.declared.line_file.Wanted.TheVariants.{LineSection}
+use Rattle.dl_file.specs.LineTable.{HasLineTable, LineTable}
+use Rattle.dl_run.specs.declared.fault.RunFault.{RunFault}
+use Rattle.dl_run.specs.declared.options.TheConstants.{SECTION_LIMIT}
+use Rattle.dl_run.specs.declared.passing_over.PassedOver.{PassedOver}
+use Rattle.dl_run.specs.PassedOver.{PassesOver}
+use Rattle.dl_open.specs.declared.not_read.UnitsNotRead.{UnitsNotRead}
+use Rattle.dl_open.specs.declared.fault.FileFault.{FileFault}
+use Rattle.dl_open.specs.Shown.{shown_word}
+use Rattle.dl_open.specs.Tables.{Refuses, file_dialect, known_bytes}
+
+-- ---- the line on standard error
+
+abbrev pub versions_text : PassedOver → List ℕ
+versions_text units =
+    if units.least == units.greatest then codes "version " ++ decimal units.least
+    else codes "versions " ++ (decimal units.least ++ (codes " to " ++ decimal units.greatest))
+
+abbrev pub units_text : PassedOver → List ℕ
+units_text units =
+    if units.units == 1 then codes "1 unit of " ++ (versions_text units ++ codes " is not read")
+    else decimal units.units ++ (codes " units of " ++ (versions_text units ++ codes " are not read"))
+
+abbrev pub not_read_text : UnitsNotRead → List ℕ
+not_read_text units = shown_word units.path.now ++ codes ": " ++ units_text units.units
+
+-- ---- the units that it tells of
+
+-- nothing is told of a fault
+abbrev pub told_of : Result (Option PassedOver) RunFault → Option PassedOver
+told_of (Ok units) = units
+told_of (Err fault) = None
+
+-- what `passed_over` answers for the bytes of the line section, of which `left` are left
+abbrev pub PassesOverTable : LineTable → Result (Option PassedOver) RunFault → Type 0
+PassesOverTable t answer =
+    (read : List ℕ) × (left : Option (List ℕ)) × Consumes (known_bytes t.line) left read
+    × PassesOver (file_dialect t) SECTION_LIMIT read left answer
+
+-- what is told of a file with these bytes: nothing where its line section can't be had. fails: the errors that opening
+-- and reading it may give
+abbrev pub IsToldOfFile : (fails : Error → Type 0) (f : List ℕ) → Option PassedOver → Type 0
+IsToldOfFile fails f units =
+    ((fault : FileFault) × Refuses fails f LineSection fault × (units ≡ None))
+    ⊎ ((t : LineTable) × (answer : Result (Option PassedOver) RunFault) × HasLineTable f LineSection (Ok t)
+    × PassesOverTable t answer × (units ≡ told_of answer))

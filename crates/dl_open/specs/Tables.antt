@@ -1,0 +1,149 @@
+-- The line table of an ELF file as commands look into it. f: the bytes of the file; t: its line table as dl_file defines
+-- it.
+use Rattle.std.specs.Prelude.{⊤, ◌≡◌, ◌⊎◌, ◌↔◌, ◌<◌, ◌≤◌, ℕ, Bool, true, false, IsTrue, if◌then◌else◌, List, length}
+use Rattle.std.specs.Prelude.{Option, Some, None, IfSome, Ok, Err}
+use Rattle.std.specs.declared.io.Error.{Error}
+use Rattle.dl_file.specs.declared.line_file.Wanted.{Wanted}
+use Rattle.dl_file.specs.declared.line_file.Wanted.TheVariants.{LineSection, LineAndLineStrings, LineAndStringSections}
+use Rattle.dl_elf.specs.declared.fault.ElfFault.TheVariants.{Read, NoMemory}
+use Rattle.dl_elf.specs.declared.name.SectionName.{SectionName}
+use Rattle.dl_file.specs.LineTable.{Content, HasLineTable, Inflated, LineTable, Plain, TakesMemory}
+use Rattle.dl_head.specs.declared.dialect.Dialect.{Dialect}
+use Rattle.dl_head.specs.Dialect.{version_5}
+use Rattle.dl_forms.specs.Names.{AddsCellFrom, Names}
+use Rattle.dl_object.specs.Kept.{Rises}
+use Rattle.dl_object.specs.Section.{Keeps, WantsCell}
+use Rattle.dl_run.specs.declared.options.TheConstants.{SECTION_LIMIT}
+use Rattle.dl_run.specs.declared.fault.RunFault.{RunFault}
+use Rattle.dl_run.specs.declared.fault.RunFault.TheVariants as fault
+use Rattle.dl_print.specs.ValueText.{Strings}
+use Rattle.dl_open.specs.declared.strings.TheConstants.{STRINGS_LIMIT}
+use Rattle.dl_open.specs.declared.named.Sections.{Sections}
+use Rattle.dl_open.specs.declared.named.Sections.TheVariants.{Lines, LinesAndTexts}
+use Rattle.dl_open.specs.declared.object_part.Part.{Part}
+use Rattle.dl_open.specs.declared.fault.FileFault.{FileFault}
+use Rattle.dl_open.specs.declared.fault.FileFault.TheVariants.{Open, Elf, NoMemory as Refused}
+use Rattle.dl_open.specs.declared.stop.FileStop.{FileStop}
+use Rattle.dl_open.specs.Files.{FileStops}
+use Rattle.dl_open.specs.Stops.{IsAt, StopsAt}
+
+-- ---- string sections of the file
+
+-- one that is there has no more than 2^32 bytes
+abbrev pub Fits : Option (List ℕ) → Type 0
+Fits section = IfSome section (λ bytes. length bytes ≤ STRINGS_LIMIT)
+
+-- these are the bytes of a section, where it is there; of one that is inflated what its stream inflates to, where it
+-- is one
+abbrev pub IsHeldAs : Option Content → Option (List ℕ) → Type 0
+IsHeldAs None held = held ≡ None
+IsHeldAs (Some (Plain bytes)) held = held ≡ Some bytes
+IsHeldAs (Some (Inflated name known damage)) held =
+    (bytes : List ℕ) × (held ≡ Some bytes) × IfSome known (λ whole. bytes ≡ whole)
+
+abbrev pub IsHeld : Option Content → Option (List ℕ) → Type 0
+IsHeld content held = IsHeldAs content held × Fits held
+
+-- s is both sections, whole
+pub record IsWhole (line_str str : Option Content) (s : Strings) : Type 0 where
+  pub line_strings : IsHeld line_str s.line_strings
+  pub strings : IsHeld str s.strings
+
+-- the bytes of a section; of one that is inflated, where its stream is one
+abbrev pub known_bytes : Content → Option (List ℕ)
+known_bytes (Plain bytes) = Some bytes
+known_bytes (Inflated name bytes damage) = bytes
+
+-- the section's name where it is inflated
+abbrev pub stream_of : Content → Option SectionName
+stream_of (Plain bytes) = None
+stream_of (Inflated name bytes damage) = Some name
+
+-- a section stops the program: a read or a growth failed, or it is too long
+abbrev pub SectionStops : (path : List ℕ) → Content → FileStop → Type 0
+SectionStops path content stop =
+    (f : RunFault) × FileStops (known_bytes content) STRINGS_LIMIT f × StopsAt path (stream_of content) f stop
+
+-- one of both does
+abbrev pub StringsStop : (path : List ℕ) (line_str str : Option Content) → FileStop → Type 0
+StringsStop path line_str str stop =
+    (content : Content) × ((line_str ≡ Some content) ⊎ (str ≡ Some content)) × SectionStops path content stop
+
+-- units of version 5 alone are read, in the order of the file
+abbrev pub file_dialect : LineTable → Dialect
+file_dialect t = version_5 t.order
+
+-- ---- the sequences of one section of an object file
+
+-- what is left of the section's bytes
+abbrev pub IsKept : Dialect → Part → Content → (kept : List ℕ) → Type 0
+IsKept dialect part content kept = (whole : List ℕ) × IfSome (known_bytes content) (λ known. whole ≡ known)
+    × Keeps dialect part.places.items part.section 0 whole kept
+
+-- they can't be read whole, or memory is refused: for a header, or for places that don't rise
+abbrev pub KeepingStops : (path : List ℕ) → Dialect → Part → Content → FileStop → Type 0
+KeepingStops path dialect part content stop =
+    ((f : RunFault) × FileStops (known_bytes content) SECTION_LIMIT f × StopsAt path (stream_of content) f stop)
+    ⊎ ((whole : List ℕ) × IfSome (known_bytes content) (λ known. whole ≡ known)
+    × ((Rises part.places.items → ⊥) ⊎ WantsCell dialect whole) × IsAt path Refused stop)
+
+-- ---- the file. fails: the errors that opening and reading it may give
+
+-- why its line table can't be had; memory is refused only for a line section with relocations, and for streams
+abbrev pub Refuses : (fails : Error → Type 0) (f : List ℕ) → Wanted → FileFault → Type 0
+Refuses fails f wanted (Open error) = fails error
+Refuses fails f wanted (Elf (Read error)) = fails error
+Refuses fails f wanted (Elf NoMemory) = TakesMemory f wanted
+Refuses fails f wanted (Elf fault) = HasLineTable f wanted (Err fault)
+Refuses fails f wanted other = ⊥
+
+-- opening it for these sections does
+abbrev pub OpeningStops : (fails : Error → Type 0) (path : List ℕ) (f : List ℕ) → Wanted → FileStop → Type 0
+OpeningStops fails path f wanted stop = (fault : FileFault) × Refuses fails f wanted fault × IsAt path fault stop
+
+-- ---- .debug_str, which is looked into only where a table of the line section names it
+
+-- whether a table of a line section of these bytes names it. One that is inflated as it is read is taken to name it where
+-- a read of its stream fails
+abbrev pub IsNamed : Dialect → Content → (names : Bool) → Type 0
+IsNamed dialect (Plain bytes) names = IsTrue names ↔ Names dialect bytes
+IsNamed dialect (Inflated name known damage) names = IfSome known (λ bytes. Names dialect bytes → IsTrue names)
+
+-- it can't be told: a read failed, or memory was refused for a header, or the section is too long
+abbrev pub StopsNaming : Dialect → (known : Option (List ℕ)) → RunFault → Type 0
+StopsNaming dialect known fault.Read = ⊤
+StopsNaming dialect known fault.NoMemory = IfSome known (AddsCellFrom dialect 0)
+StopsNaming dialect known fault.SectionTooLong = IfSome known (λ bytes. SECTION_LIMIT < length bytes)
+StopsNaming dialect known other = ⊥
+
+abbrev pub NamingStops : (path : List ℕ) → Dialect → Content → FileStop → Type 0
+NamingStops path dialect content stop =
+    (f : RunFault) × StopsNaming dialect (known_bytes content) f × StopsAt path (stream_of content) f stop
+
+abbrev pub with_strings : (names : Bool) → Wanted
+with_strings names = if names then LineAndStringSections else LineAndLineStrings
+
+-- the sections that are looked into
+abbrev pub LooksInto : Sections → (f : List ℕ) → Wanted → Type 0
+LooksInto Lines f wanted = wanted ≡ LineSection
+LooksInto LinesAndTexts f wanted = (t : LineTable) × HasLineTable f LineAndLineStrings (Ok t)
+    × (((t.has_str ≡ false) × (wanted ≡ LineAndLineStrings))
+    ⊎ ((names : Bool) × (t.has_str ≡ true) × IsNamed (file_dialect t) t.line names × (wanted ≡ with_strings names)))
+
+-- the file has this line table, with the string sections that are looked into
+abbrev pub HasTable : Sections → (f : List ℕ) → LineTable → Type 0
+HasTable sections f t = (wanted : Wanted) × LooksInto sections f wanted × HasLineTable f wanted (Ok t)
+
+-- t, the line section and .debug_line_str, can be had: why no more, for the walk over the tables, or for what they name
+abbrev pub NamedStops : (fails : Error → Type 0) (path : List ℕ) (f : List ℕ) → LineTable → FileStop → Type 0
+NamedStops fails path f t stop =
+    NamingStops path (file_dialect t) t.line stop
+    ⊎ ((names : Bool) × IsNamed (file_dialect t) t.line names × OpeningStops fails path f (with_strings names) stop)
+
+-- why it can't be had: for the line section, or with texts for that and .debug_line_str, or where the file has .debug_str
+-- for more
+abbrev pub TableStops : (fails : Error → Type 0) (path : List ℕ) → Sections → (f : List ℕ) → FileStop → Type 0
+TableStops fails path Lines f stop = OpeningStops fails path f LineSection stop
+TableStops fails path LinesAndTexts f stop =
+    OpeningStops fails path f LineAndLineStrings stop
+    ⊎ ((t : LineTable) × HasLineTable f LineAndLineStrings (Ok t) × (t.has_str ≡ true) × NamedStops fails path f t stop)

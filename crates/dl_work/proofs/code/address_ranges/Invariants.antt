@@ -1,9 +1,0 @@
--- The ranges so far.
-use Rattle.std.proofs.Common.{◌≡◌, map, take}
-use Rattle.dl_work.specs.Locate.{address_range}
-use Rattle.dl_work.proofs.code.address_ranges.Given as goal
-
-abbrev pub invariant-loop-range : goal.invariant-loop-range
-invariant-loop-range l = record {
-  all : l.addresses.items ≡ map address_range (take l.range-index l.ranges);
-}

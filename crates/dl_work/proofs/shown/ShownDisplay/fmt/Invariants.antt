@@ -1,9 +1,0 @@
--- The characters so far were written.
-use Rattle.std.proofs.Common.{flat_map}
-use Rattle.std.specs.Fmt.{HasWritten, IsPlainFormatter}
-use Rattle.dl_work.specs.Shown.{shown_character}
-use Rattle.dl_work.proofs.shown.ShownDisplay.fmt.Given as goal
-
-abbrev pub invariant-loop-character : goal.invariant-loop-character
-invariant-loop-character g l = IsPlainFormatter l.initial.f
-    → HasWritten g.W.Write.write_str_gives l.initial.f (flat_map shown_character l.yielded) l.f
