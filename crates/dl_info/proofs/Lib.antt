@@ -1,5 +1,6 @@
 pub mod FrontLemmas
 pub mod SteadyLemmas
 pub mod SteadyUnits
+pub mod SpelledLemmas
 pub mod AbbreviationLemmas
 pub mod EntryLemmas
