@@ -3,7 +3,7 @@ use Rattle.std.proofs.Common.{◌≡◌, ℕ, suc, ◌+◌, ◌-◌, ◌<◌, �
 use Rattle.std.proofs.Common.{refl, sym, ◌∙◌, arith}
 use Rattle.std.specs.Prelude.{◌==◌}
 use Rattle.dl_info.specs.declared.front.Stop.{Stop}
-use Rattle.dl_info.specs.declared.front.Stop.TheVariants.{Short, Damaged}
+use Rattle.dl_info.specs.declared.front.Stop.TheVariants.{Short}
 use Rattle.dl_info.specs.declared.abbreviation.Attribute.{Attribute}
 use Rattle.dl_info.specs.Front.{◌>>=◌, seen}
 use Rattle.dl_info.specs.Abbreviations.{Abbreviation, attribute_at, attributes_at, declaration_at, declared_in}
@@ -94,9 +94,9 @@ declarations_go_on n i code b after d total less told other so_far =
     sym one ∙ so_far
 
 pub declarations_run_out : (n i code : ℕ) (b : List ℕ) (total : Result (List Attribute) Stop) → n ≤ i
-    → declared_in (n - i) code b ≡ total → Err Damaged ≡ total
+    → declared_in (n - i) code b ≡ total → Err (Short 1) ≡ total
 unfolding declared_in
 declarations_run_out n i code b total past so_far =
     let k : n - i ≡ 0 = omega (arith, past) in
-    let one : declared_in (n - i) code b ≡ Err Damaged = rw k refl in
+    let one : declared_in (n - i) code b ≡ Err (Short 1) = rw k refl in
     sym one ∙ so_far

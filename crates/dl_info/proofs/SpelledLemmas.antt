@@ -69,7 +69,7 @@ front_and_rest (a ∷ b) = elim (cases_lt a 128) [
   | inr more ↦ rw (le-ltb a 128 more) (ap (λ w. a ∷ w) (front_and_rest b))
 ]
 
-uleb_told : (n : ℕ) (b rest : List ℕ) → Reads (uleb_at b) n rest
+pub uleb_told : (n : ℕ) (b rest : List ℕ) → Reads (uleb_at b) n rest
     → (w : List ℕ) × (b ≡ w ++ rest) × IsUleb w n × (n < 2 ^ 64)
 unfolding uleb_at
 uleb_told n b rest is =

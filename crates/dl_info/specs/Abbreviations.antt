@@ -60,7 +60,7 @@ declaration_at b = do
 
 -- the attributes of the first abbreviation with this code, among at most n
 unfoldable pub declared_in : (n code : ℕ) → List ℕ → Result (List Attribute) Stop
-declared_in zero code b = Err Damaged
+declared_in zero code b = Err (Short 1)
 declared_in (suc n) code b = do
   d ← declaration_at b
   if d.0.code == code then Ok d.0.attributes else declared_in n code d.1

@@ -8,6 +8,7 @@ use Rattle.dl_info.specs.declared.head.UnitLength.{UnitLength}
 use Rattle.dl_info.specs.declared.unit.Answer.{Answer}
 use Rattle.dl_info.specs.declared.unit.Answer.TheVariants.{Found, More}
 use Rattle.dl_info.specs.Front.{fixed_at, text_at, uleb_at}
+use Rattle.dl_info.specs.Abbreviations.{attributes_at, declared_in}
 use Rattle.dl_info.specs.Units.{first_entry, unit_length}
 
 -- ---- fields
@@ -34,6 +35,17 @@ HasNoZero (b ∷ w) = (b ≢ 0) × HasNoZero w
 -- what is read as a text are the bytes up to the first zero byte
 abbrev pub TextIsSpelled : Type 0
 TextIsSpelled = (text b rest : List ℕ) → Reads (text_at b) text rest ↔ ((b ≡ text ++ 0 ∷ rest) × HasNoZero text)
+
+-- ---- abbreviations
+
+-- there are no more attributes than bytes, so a larger bound reads the same
+abbrev pub AttributesAreBounded : Type 0
+AttributesAreBounded = (n : ℕ) (b : List ℕ) → length b ≤ n → attributes_at n b ≡ attributes_at (length b) b
+
+-- nor more abbreviations
+abbrev pub AbbreviationsAreBounded : Type 0
+AbbreviationsAreBounded =
+    (n code : ℕ) (b : List ℕ) → length b ≤ n → declared_in n code b ≡ declared_in (length b) code b
 
 -- ---- units
 

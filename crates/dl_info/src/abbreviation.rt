@@ -54,6 +54,7 @@ fn after_attributes(bytes: &[u8]) -> Result<&[u8], Stop>
         ≡ seen (λ x. x.1) (attributes_at (length bytes.entry.now) bytes.entry.now) }
 {
     let mut rest = bytes;
+    // Each has a byte at least.
     for _ in 0..bytes.len() {
         let (attribute, after) = attribute_at(rest)?;
         if attribute.is_end() {
@@ -87,6 +88,7 @@ fn declared_in(code: u64, table: &[u8]) -> Result<&[u8], Stop>
     ensures whole { IfOk result (λ bytes. HasEnd bytes.now) }
 {
     let mut rest = table;
+    // Each has a byte at least.
     for _ in 0..table.len() {
         let (declaration, after) = declaration_at(rest)?;
         if declaration.code == code {
@@ -94,7 +96,7 @@ fn declared_in(code: u64, table: &[u8]) -> Result<&[u8], Stop>
         }
         rest = after;
     }
-    Err(Stop::Damaged)
+    Err(Stop::Short(1))
 }
 
 /// The bytes of the attributes of the first abbreviation with a code, of those from an offset of the section on.

@@ -132,6 +132,7 @@ fn values_at<'a>(
     let mut entry = Entry::new(encoding.format);
     let mut left = attributes;
     let mut rest = bytes;
+    // Each attribute has a byte at least.
     for _ in 0..attributes.len() {
         let (attribute, others) = attribute_at(left)?;
         if attribute.is_end() {
