@@ -13,7 +13,7 @@ use Rattle.dl_info.specs.Laws.{AbbreviationsAreBounded, AttributesAreBounded}
 use Rattle.dl_info.proofs.SpelledLemmas.{uleb_told}
 
 -- what is left, if anything is read, is shorter by k bytes at least
-abbrev Uses : {A : Type 0} → ℕ → List ℕ → Result (A × List ℕ) Stop → Type 0
+abbrev pub Uses : {A : Type 0} → ℕ → List ℕ → Result (A × List ℕ) Stop → Type 0
 Uses k b (Ok x) = k + length x.1 ≤ length b
 Uses k b (Err s) = Unit {0}
 
@@ -64,7 +64,7 @@ uses_bytes n b = uses_if 0 b (nat_lt (length b) n) (Err (Short (n - length b))) 
 
 -- ---- attributes
 
-uses_attribute : (b : List ℕ) → Uses 2 b (attribute_at b)
+pub uses_attribute : (b : List ℕ) → Uses 2 b (attribute_at b)
 unfolding attribute_at
 uses_attribute b =
     uses_then 1 1 b (uleb_at b) _ (uses_uleb b) (λ name. uses_then 1 0 name.1 (uleb_at name.1) _ (uses_uleb name.1)
@@ -119,7 +119,7 @@ attributes_are_bounded n b enough = same_attributes n (length b) b enough (omega
 
 -- ---- abbreviations
 
-uses_declaration : (b : List ℕ) → Uses 1 b (declaration_at b)
+pub uses_declaration : (b : List ℕ) → Uses 1 b (declaration_at b)
 unfolding declaration_at
 uses_declaration b =
     uses_then 1 0 b (uleb_at b) _ (uses_uleb b) (λ code. uses_if 0 code.1 (code.0 == 0) (Err Damaged) _ tt

@@ -15,20 +15,23 @@ use Rattle.dl_table.specs.Text.{text_in}
 use Rattle.dl_info.specs.declared.front.Stop.{Stop}
 use Rattle.dl_info.specs.declared.front.Stop.TheVariants.{Short, Damaged}
 use Rattle.dl_info.specs.Front.{fixed_at, text_and_rest, text_at, uleb_at}
-use Rattle.dl_info.specs.Laws.{FixedIsSpelled, HasNoZero, Reads, TextIsSpelled, UlebIsSpelled}
-use Rattle.dl_info.proofs.FrontLemmas.{number_here}
+use Rattle.dl_info.specs.Grammar.{HasNoZero}
 
 -- ---- what an answer is
+
+-- this is read, and then the rest
+abbrev pub Reads : {A : Type 0} → Result (A × List ℕ) Stop → A → List ℕ → Type 0
+Reads {A = A} read x rest = ◌≡◌ {A = Result (A × List ℕ) Stop} read (Ok (x, rest))
 
 abbrev told_or : {A : Type 0} → A × List ℕ → Result (A × List ℕ) Stop → A × List ℕ
 told_or other (Ok p) = p
 told_or other (Err s) = other
 
-value_is : {A : Type 0} (x y : A) (u v : List ℕ) → Reads (Ok (x, u)) y v → (x ≡ y) × (u ≡ v)
+pub value_is : {A : Type 0} (x y : A) (u v : List ℕ) → Reads (Ok (x, u)) y v → (x ≡ y) × (u ≡ v)
 value_is x y u v is =
     (ap (λ r. (told_or (x, u) r).0) is, ap (λ r. (told_or (x, u) r).1) is)
 
-not_read : {A : Type 0} (s : Stop) (y : A) (v : List ℕ) → Reads (Err s) y v → ⊥
+pub not_read : {A : Type 0} (s : Stop) (y : A) (v : List ℕ) → Reads (Err s) y v → ⊥
 not_read s y v is = absurd cc
 
 -- a test that has to hold
@@ -39,7 +42,7 @@ held false s x y u v is = absurd (not_read s y v is)
 
 -- ---- numbers of fixed size
 
-fixed_told : (order : Order) (k n : ℕ) (b rest : List ℕ) → Reads (fixed_at order k b) n rest
+pub fixed_told : (order : Order) (k n : ℕ) (b rest : List ℕ) → Reads (fixed_at order k b) n rest
     → (w : List ℕ) × (b ≡ w ++ rest) × (length w ≡ k) × (n ≡ fixed order w)
 unfolding fixed_at
 fixed_told order k n b rest is = elim (cases_lt (length b) k) [
@@ -49,20 +52,16 @@ fixed_told order k n b rest is = elim (cases_lt (length b) k) [
       (take k b, rw (← same.1) (sym (take-append-drop k b)), omega (arith, length-take k b, enough), sym same.0)
 ]
 
-fixed_read : (order : Order) (k n : ℕ) (b rest w : List ℕ) → b ≡ w ++ rest → length w ≡ k → n ≡ fixed order w
+pub fixed_read : (order : Order) (k n : ℕ) (b rest w : List ℕ) → b ≡ w ++ rest → length w ≡ k → n ≡ fixed order w
     → Reads (fixed_at order k b) n rest
 unfolding fixed_at
 fixed_read order k n b rest w parts size is =
     let enough : k ≤ length (w ++ rest) = omega (arith, length-append w rest, size) in
     rw (parts, is) (rw (le-ltb (length (w ++ rest)) k enough, take_at w rest k size, drop_at w rest k size) refl)
 
-pub fixed_is_spelled : FixedIsSpelled
-fixed_is_spelled order k n b rest =
-    (fixed_told order k n b rest, λ s. fixed_read order k n b rest s.0 s.1 s.2 s.3)
-
 -- ---- numbers in LEB128
 
-front_and_rest : (b : List ℕ) → b ≡ leb_front b ++ after_leb b
+pub front_and_rest : (b : List ℕ) → b ≡ leb_front b ++ after_leb b
 front_and_rest [] = refl
 front_and_rest (a ∷ b) = elim (cases_lt a 128) [
   | inl less ↦ rw (lt-ltb a 128 less) refl
@@ -82,10 +81,6 @@ uleb_told n b rest is =
           (w, rw (← same.2) (front_and_rest b), (leb.0, leb.1, leb.2, sym same.1), rw (← same.1) below)
       | inr none ↦ absurd (not_read (Short 1) n rest (rw none at is))
     ]
-
-pub uleb_is_spelled : UlebIsSpelled
-uleb_is_spelled n b rest =
-    (uleb_told n b rest, λ s. number_here b s.0 rest n s.1 s.2 s.3)
 
 -- ---- texts
 
@@ -110,12 +105,12 @@ text_is : (t rest : List ℕ) → HasNoZero t → text_in (t ++ 0 ∷ rest) ≡ 
 text_is [] rest none = refl
 text_is (x ∷ t) rest none = rw (ne_eqb x 0 none.0) (ap (option_map (λ w. x ∷ w)) (text_is t rest none.1))
 
-text_read : (t b rest : List ℕ) → b ≡ t ++ 0 ∷ rest → HasNoZero t → Reads (text_at b) t rest
+pub text_read : (t b rest : List ℕ) → b ≡ t ++ 0 ∷ rest → HasNoZero t → Reads (text_at b) t rest
 text_read t b rest parts none =
     let long : drop (length t + 1) (t ++ 0 ∷ rest) ≡ rest = drop-append-add t (0 ∷ rest) 1 in
     rw parts (ap (text_and_rest (t ++ 0 ∷ rest)) (text_is t rest none) ∙ ap (λ r. Ok (t, r)) long)
 
-text_told : (t b rest : List ℕ) → Reads (text_at b) t rest → (b ≡ t ++ 0 ∷ rest) × HasNoZero t
+pub text_told : (t b rest : List ℕ) → Reads (text_at b) t rest → (b ≡ t ++ 0 ∷ rest) × HasNoZero t
 text_told t b rest is = told b t rest (text_in b) (text_parts b) is where
   told : (b t rest : List ℕ) (now : Option (List ℕ)) → IfSome now (Parts b) → Reads (text_and_rest b now) t rest
       → (b ≡ t ++ 0 ∷ rest) × HasNoZero t
@@ -123,6 +118,3 @@ text_told t b rest is = told b t rest (text_in b) (text_parts b) is where
   told b t rest (Some u) h is =
       let same = value_is u t (drop (length u + 1) b) rest is in
       rw (← same.0, ← same.1) h
-
-pub text_is_spelled : TextIsSpelled
-text_is_spelled t b rest = (text_told t b rest, λ s. text_read t b rest s.0 s.1)

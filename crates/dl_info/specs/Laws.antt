@@ -1,40 +1,13 @@
--- Laws of the definitions of fields and units. b: bytes.
-use Rattle.std.specs.Prelude.{◌≡◌, ◌≢◌, ◌↔◌, ℕ, ◌^◌, ◌<◌, ◌≤◌, List, [], ◌∷◌, ◌++◌, length, Result, Ok}
+-- Laws of the definitions of units. b: bytes.
+use Rattle.std.specs.Prelude.{◌≡◌, ◌↔◌, ℕ, ◌≤◌, List, [], ◌++◌, length, take}
 use Rattle.dl_num.specs.declared.fixed.Order.{Order}
-use Rattle.dl_num.specs.Fixed.{fixed}
-use Rattle.dl_num.specs.Leb.{IsUleb}
-use Rattle.dl_info.specs.declared.front.Stop.{Stop}
 use Rattle.dl_info.specs.declared.head.UnitLength.{UnitLength}
 use Rattle.dl_info.specs.declared.unit.Answer.{Answer}
 use Rattle.dl_info.specs.declared.unit.Answer.TheVariants.{Found, More}
-use Rattle.dl_info.specs.Front.{fixed_at, text_at, uleb_at}
 use Rattle.dl_info.specs.Abbreviations.{attributes_at, declared_in}
+use Rattle.dl_info.specs.Entries.{EntryData}
+use Rattle.dl_info.specs.Grammar.{IsEntry, IsLength}
 use Rattle.dl_info.specs.Units.{first_entry, unit_length}
-
--- ---- fields
-
--- this is read of b, and then the rest
-abbrev pub Reads : {A : Type 0} → Result (A × List ℕ) Stop → A → List ℕ → Type 0
-Reads {A = A} read x rest = ◌≡◌ {A = Result (A × List ℕ) Stop} read (Ok (x, rest))
-
--- what is read as a number of k bytes is one, and each such number is read
-abbrev pub FixedIsSpelled : Type 0
-FixedIsSpelled = (order : Order) (k n : ℕ) (b rest : List ℕ)
-    → Reads (fixed_at order k b) n rest ↔ ((w : List ℕ) × (b ≡ w ++ rest) × (length w ≡ k) × (n ≡ fixed order w))
-
--- what is read as a number in LEB128 is one below 2^64, and each such number is read
-abbrev pub UlebIsSpelled : Type 0
-UlebIsSpelled = (n : ℕ) (b rest : List ℕ)
-    → Reads (uleb_at b) n rest ↔ ((w : List ℕ) × (b ≡ w ++ rest) × IsUleb w n × (n < 2 ^ 64))
-
--- no byte is zero
-abbrev pub HasNoZero : List ℕ → Type 0
-HasNoZero [] = Unit {0}
-HasNoZero (b ∷ w) = (b ≢ 0) × HasNoZero w
-
--- what is read as a text are the bytes up to the first zero byte
-abbrev pub TextIsSpelled : Type 0
-TextIsSpelled = (text b rest : List ℕ) → Reads (text_at b) text rest ↔ ((b ≡ text ++ 0 ∷ rest) × HasNoZero text)
 
 -- ---- abbreviations
 
@@ -48,6 +21,23 @@ AbbreviationsAreBounded =
     (n code : ℕ) (b : List ℕ) → length b ≤ n → declared_in n code b ≡ declared_in (length b) code b
 
 -- ---- units
+
+-- what is found as the length of a unit is spelled at the front of the bytes, and each one is found
+abbrev pub LengthIsSpelled : Type 0
+LengthIsSpelled = (order : Order) (b : List ℕ) (l : UnitLength)
+    → (unit_length order b ≡ Found l) ↔ ((w : List ℕ) × (rest : List ℕ) × (b ≡ w ++ rest) × IsLength order l w)
+
+-- what is found as the first entry of a unit is spelled at the front of the unit's bytes, and each one is found
+abbrev pub EntryIsSpelled : Type 0
+EntryIsSpelled = (order : Order) (abbreviations b : List ℕ) (l : UnitLength) (e : EntryData)
+    → unit_length order b ≡ Found l
+    → (first_entry order abbreviations b ≡ Found e)
+    ↔ ((w : List ℕ) × (rest : List ℕ) × (take l.size b ≡ w ++ rest) × IsEntry order abbreviations e w)
+
+-- bytes spell one entry, and begin no other spelling
+abbrev pub OneEntry : Type 0
+OneEntry = (order : Order) (abbreviations w v : List ℕ) (e f : EntryData) → IsEntry order abbreviations e w
+    → IsEntry order abbreviations f (w ++ v) → (v ≡ []) × (e ≡ f)
 
 -- it isn't that more bytes are wanted
 abbrev pub IsTold : {A : Type 0} → Answer A → Type 0

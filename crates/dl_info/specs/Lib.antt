@@ -5,4 +5,5 @@ pub mod Heads
 pub mod Abbreviations
 pub mod Entries
 pub mod Units
+pub mod Grammar
 pub mod Laws

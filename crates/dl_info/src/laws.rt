@@ -1,13 +1,14 @@
-//! Laws of the definitions of fields and units, each the contract of a function that does nothing.
+//! Laws of the definitions of units, each the contract of a function that does nothing.
 
-ghost use Rattle.dl_info.specs.Laws.{AbbreviationsAreBounded, AnswersStay, AttributesAreBounded, FixedIsSpelled};
-ghost use Rattle.dl_info.specs.Laws.{LengthsStay, TextIsSpelled, TwelveBytesTell, UlebIsSpelled, WholeUnitsTell};
+ghost use Rattle.dl_info.specs.Laws.{AbbreviationsAreBounded, AnswersStay, AttributesAreBounded, EntryIsSpelled};
+ghost use Rattle.dl_info.specs.Laws.{LengthIsSpelled, LengthsStay, OneEntry, TwelveBytesTell, WholeUnitsTell};
 
-/// What is read as a number or as a text is spelled as one, and each one is read. DWARF 5, sections 7.4, 7.5.5 and 7.6.
-pub fn fields_are_spelled()
-    ensures fixed { FixedIsSpelled }
-    ensures uleb { UlebIsSpelled }
-    ensures text { TextIsSpelled }
+/// What is read as the length or the first entry of a unit is spelled as one, each one is read, and bytes spell one entry.
+/// DWARF 5, sections 7.4 and 7.5.
+pub fn units_are_spelled()
+    ensures length { LengthIsSpelled }
+    ensures entry { EntryIsSpelled }
+    ensures one { OneEntry }
 {}
 
 /// The bounds of the definitions leave out no attribute and no abbreviation. DWARF 5, section 7.5.3.
