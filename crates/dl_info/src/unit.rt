@@ -34,7 +34,7 @@ pub fn unit_length(order: Order, bytes: &[u8]) -> Answer<UnitLength>
 }
 
 /// The first entry of a unit of `.debug_info`, from the first bytes of the unit, which more may follow, and all bytes of
-/// `.debug_abbrev`. DWARF 5, section 7.5.
+/// `.debug_abbrev`. Offsets of an object file are right only where its relocations are applied first. DWARF 5, section 7.5.
 pub fn first_entry<'a>(order: Order, bytes: &'a [u8], abbreviations: &[u8]) -> Answer<Entry<'a>>
     ensures { answer_map entry result ≡ first_entry order abbreviations.now bytes.entry.now }
 {
