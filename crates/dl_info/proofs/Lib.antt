@@ -1,0 +1,11 @@
+pub mod FrontLemmas
+pub mod SteadyLemmas
+pub mod SteadyUnits
+pub mod SpelledLemmas
+pub mod BoundLemmas
+pub mod GrammarLemmas
+pub mod GrammarUnits
+pub mod GrammarTables
+pub mod GrammarEntries
+pub mod AbbreviationLemmas
+pub mod EntryLemmas

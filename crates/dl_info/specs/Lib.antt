@@ -1,0 +1,9 @@
+-- What the public contracts say rests on these, in reading order.
+pub mod Front
+pub mod Forms
+pub mod Heads
+pub mod Abbreviations
+pub mod Entries
+pub mod Units
+pub mod Grammar
+pub mod Laws
