@@ -20,7 +20,7 @@ use Rattle.dl_emit.specs.Program.{special, special_or_copy, advance, line_advanc
 use Rattle.dl_emit.specs.WrittenUnit.{operations_bytes, program_bytes, program_len, is_in_range, out_of_range}
 use Rattle.dl_emit.specs.WrittenUnit.{rows_refusal}
 use Rattle.dl_emit.proofs.LengthLemmas.{length-program}
-use Rattle.dl_emit.proofs.ProgramLemmas.{program_cons, refused_rows}
+use Rattle.dl_emit.proofs.ProgramLemmas.{program_cons, refused_rows, accepted_version}
 use Rattle.std.specs.Prelude.{ℤ}
 
 -- ---- a row at the end
@@ -177,13 +177,14 @@ module _ (p : ProgramData) (order : Order) (h : Params) (rows : List Row) (r : R
 -- ---- a program that is written
 
 module _ (p : ProgramData) (h : Params) (rows : List Row) (g : IsGrown p p.order h rows) where
-  pub refuses_row : (i : ℕ) → p.refused ≡ Some i → rows_refusal h rows ≡ Some (fault.RowRange i)
-  refuses_row i is =
-      refused_rows h rows _ g.standard (sym (ap (option_map fault.RowRange) (sym is) ∙ g.refused))
+  pub refuses_row : (i : ℕ) → h.version ≡ 5 → p.refused ≡ Some i → rows_refusal h rows ≡ Some (fault.RowRange i)
+  refuses_row i own is =
+      refused_rows h rows _ own g.standard (sym (ap (option_map fault.RowRange) (sym is) ∙ g.refused))
 
   module _ (none : p.refused ≡ None) where
-    pub refuses_none : rows_refusal h rows ≡ None
-    refuses_none = refused_rows h rows _ g.standard (sym (ap (option_map fault.RowRange) (sym none) ∙ g.refused))
+    pub refuses_none : h.version ≡ 5 → rows_refusal h rows ≡ None
+    refuses_none own =
+        refused_rows h rows _ own g.standard (sym (ap (option_map fault.RowRange) (sym none) ∙ g.refused))
 
     pub bytes_are : p.first ++ p.last ≡ program_bytes p.order h rows
     bytes_are =
@@ -199,4 +200,5 @@ module _ (p : ProgramData) (h : Params) (rows : List Row) (g : IsGrown p p.order
   bytes_of_rows accepted = by p.refused refl where
     by : (o : Option ℕ) → p.refused ≡ o → p.first ++ p.last ≡ program_bytes p.order h rows
     by None e = bytes_are e
-    by (Some i) e = absurd (let no : None ≡ Some (fault.RowRange i) = sym accepted ∙ refuses_row i e in cc)
+    by (Some i) e = absurd (let no : None ≡ Some (fault.RowRange i) =
+        sym accepted ∙ refuses_row i (accepted_version h rows accepted) e in cc)

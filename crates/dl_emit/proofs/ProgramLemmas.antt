@@ -1,9 +1,11 @@
 -- The program of rows, one row at a time: their ranges, the count of their bytes, and the bytes.
-use Rattle.std.proofs.Common.{◌≡◌, ℕ, ◌+◌, ◌^◌, ◌-◌, ◌<◌, ◌≤◌, min, true, false, List, ◌∷◌, ◌++◌, length, drop, get_or}
+use Rattle.std.proofs.Common.{◌≡◌, ◌≢◌, ◌==◌, ℕ, ◌+◌, ◌^◌, ◌-◌, ◌<◌, ◌≤◌, min, Bool, true, false, List, ◌∷◌, ◌++◌}
+use Rattle.std.proofs.Common.{length, drop, get_or}
 use Rattle.std.proofs.Common.{Option, Some, None, refl, ap, ◌∙◌, arith, length-append, drop-cons, add-one}
 use Rattle.std.proofs.lemmas.Grind.{flat_map-append}
 use Rattle.std.proofs.lemmas.List.{drop_all}
-use Rattle.std.proofs.lemmas.Bool.{eq-eqb}
+use Rattle.std.proofs.lemmas.Bool.{eq-eqb, eqb-true, ne_eqb}
+use Rattle.std.specs.Option.{option_or}
 use Rattle.dl_num.specs.declared.fixed.Order.{Order}
 use Rattle.dl_num.specs.declared.fixed.Order.TheVariants.{Little}
 use Rattle.dl_field.specs.declared.params.Params.{Params}
@@ -12,7 +14,7 @@ use Rattle.dl_emit.specs.declared.fault.EmitFault.{EmitFault}
 use Rattle.dl_emit.specs.declared.fault.EmitFault.TheVariants as fault
 use Rattle.dl_emit.specs.OperationBytes.{operation_bytes}
 use Rattle.dl_emit.specs.Program.{row_operations, operations_from, kept}
-use Rattle.dl_emit.specs.WrittenUnit.{operations_bytes, program_len, is_in_range, out_of_range, rows_refusal}
+use Rattle.dl_emit.specs.WrittenUnit.{operations_bytes, program_len, is_in_range, out_of_range, rows_refusal, unless}
 
 -- the bytes of a row and of those after it
 pub program_cons : (order : Order) (h : Params) (before : Option Row) (r : Row) (rows : List Row)
@@ -36,8 +38,20 @@ module _ (h : Params) (rows : List Row) where
       → out_of_range h i (drop i rows) ≡ Some (fault.RowRange i)
   row_out_of_range i d lt f = rw (rows_from i d lt, f) refl
 
-  pub refused_rows : (o : Option EmitFault) → h.opcode_base ≡ 13 → out_of_range h 0 rows ≡ o → rows_refusal h rows ≡ o
-  refused_rows o base e = rw (eq-eqb h.opcode_base 13 base) e
+  pub refused_rows : (o : Option EmitFault) → h.version ≡ 5 → h.opcode_base ≡ 13 → out_of_range h 0 rows ≡ o
+      → rows_refusal h rows ≡ o
+  refused_rows o own base e = rw (eq-eqb h.version 5 own, eq-eqb h.opcode_base 13 base) e
+
+  pub refused_version : h.version ≢ 5 → rows_refusal h rows ≡ Some fault.Version
+  refused_version other = rw (ne_eqb h.version 5 other) refl
+
+  -- where nothing stands against them, the version is 5
+  pub accepted_version : rows_refusal h rows ≡ None → h.version ≡ 5
+  accepted_version e = eqb-true h.version 5 (first (h.version == 5) e) where
+    first : (b : Bool) → option_or (unless b fault.Version)
+        (option_or (unless (h.opcode_base == 13) fault.OpcodeBase) (out_of_range h 0 rows)) ≡ None → b ≡ true
+    first true none = refl
+    first false none = absurd cc
 
   pub no_row_left : (i : ℕ) → length rows ≤ i → out_of_range h i (drop i rows) ≡ None
   no_row_left i le = rw (drop_all i rows le) refl

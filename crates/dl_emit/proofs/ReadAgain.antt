@@ -37,6 +37,7 @@ use Rattle.dl_emit.specs.Program.{operations}
 use Rattle.dl_emit.specs.WrittenUnit.{unit_of, program_len, rows_refusal, program_bytes, is_in_range, out_of_range}
 use Rattle.dl_emit.specs.WrittenUnit.{unless}
 use Rattle.dl_emit.specs.Laws.{IsRow, IsParams, ProgramIsReadAgain, UnitIsReadAgain}
+use Rattle.dl_emit.proofs.ProgramLemmas.{accepted_version}
 use Rattle.dl_emit.proofs.RunLemmas.{matrix_is_run}
 use Rattle.dl_emit.proofs.RowRuns.{Fits, run_rows, starts_somewhere}
 use Rattle.dl_emit.proofs.UnitLemmas.{length-unit}
@@ -86,7 +87,9 @@ base_fits (negsuc n) fits = omega (arith, ints)
 
 pub program_is_read_again : ProgramIsReadAgain
 program_is_read_again order h rows params row none =
-    let t = none_first (h.opcode_base == 13) fault.OpcodeBase (out_of_range h 0 rows) none in
+    let own = none_first (h.version == 5) fault.Version
+    (option_or (unless (h.opcode_base == 13) fault.OpcodeBase) (out_of_range h 0 rows)) none in
+    let t = none_first (h.opcode_base == 13) fault.OpcodeBase (out_of_range h 0 rows) own.1 in
     let base = eqb-true h.opcode_base 13 t.0 in
     let fits = fits_rows h params 0 rows row t.1 in
     let os = operations h rows in
@@ -130,10 +133,12 @@ unit_is_read_again dialect h rows sound row none =
     let t = nothing_left (is_within_limit h count) fault.TooLong (rows_refusal h.params rows) none in
     let size = length-unit h rows dialect.order in
     let again = program_is_read_again dialect.order h.params rows (sound_params h sound) row t.0 in
+    let own = accepted_version h.params rows t.0 in
     let whole =
-    length_is_written dialect h count program sound t.1 ∙ ap (λ (n : ℕ). let o : Option ℕ = Some n in o) (sym size) in
-    let header = header_is_written dialect h count sound t.1 in
-    let own : IsOwnUnit dialect h (operations_in dialect.order h.params program).found
+    length_is_written dialect h count program sound own t.1 ∙ ap (λ (n : ℕ). let o : Option ℕ = Some n in o)
+    (sym size) in
+    let header = header_is_written dialect h count sound own t.1 in
+    let unit : IsOwnUnit dialect h (operations_in dialect.order h.params program).found
     (unit_of dialect.order h rows) = record {
       its_length = (length_is_computed dialect (unit_of dialect.order h rows)).1 whole;
       header = header_bytes dialect.order h count;
@@ -143,10 +148,10 @@ unit_is_read_again dialect h rows sound row none =
       spells_program = again.spells;
     } in
     record {
-      unit = own;
+      unit = unit;
       events_are =
           unit_comes_to dialect h (operations_in dialect.order h.params program).found
-          (unit_of dialect.order h rows) own ∙ ap (λ (l : List Row). event.Header ∷ map event.Row l) again.same;
+          (unit_of dialect.order h rows) unit ∙ ap (λ (l : List Row). event.Header ∷ map event.Row l) again.same;
       whole = whole;
       header = header_is_found dialect h (header_bytes dialect.order h count) program header;
       program = again;

@@ -43,7 +43,8 @@ in_range_all h i out (r ∷ rows) e =
 
 no_write : (h : Params) (out : ℕ) (rows : List Row) → rows_refusal h rows ≡ Some (fault.Write out) → ⊥
 no_write h out rows e =
-    in_range_all h 0 out rows (if_refused _ _ fault.OpcodeBase (fault.Write out) (λ same. absurd cc) e)
+    in_range_all h 0 out rows (if_refused _ _ fault.OpcodeBase (fault.Write out) (λ same. absurd cc)
+    (if_refused _ _ fault.Version (fault.Write out) (λ same. absurd cc) e))
 
 module _ (h : HeaderData) (rows : List Row) where
   abbrev count : ℕ
@@ -88,6 +89,7 @@ module _ (h : HeaderData) (rows : List Row) where
   module _ (order : Order) (old new : Option (List ℕ)) where
     pub refused_first : (f : EmitFault) → rows_refusal h.params rows ≡ Some f → Keeps old new
         → WritesUnit order h rows old new (Err f)
+    refused_first fault.Version e keeps = (rw e refl, keeps)
     refused_first fault.OpcodeBase e keeps = (rw e refl, keeps)
     refused_first (fault.RowRange i) e keeps = (rw e refl, keeps)
     refused_first fault.TooLong e keeps = (rw e refl, keeps)
@@ -95,6 +97,7 @@ module _ (h : HeaderData) (rows : List Row) where
 
     pub refuses_header : (f : EmitFault) → rows_refusal h.params rows ≡ Some f → Keeps old new
         → WritesUnitHeader order h rows old new (Err f)
+    refuses_header fault.Version e keeps = (rw e refl, keeps)
     refuses_header fault.OpcodeBase e keeps = (rw e refl, keeps)
     refuses_header (fault.RowRange i) e keeps = (rw e refl, keeps)
     refuses_header fault.TooLong e keeps = (rw e refl, keeps)

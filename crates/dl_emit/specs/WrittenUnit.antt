@@ -46,7 +46,9 @@ unless b fault = if b then None else Some fault
 
 -- the first reason against the params or the rows
 abbrev pub rows_refusal : Params → List Row → Option EmitFault
-rows_refusal h rows = option_or (unless (h.opcode_base == 13) fault.OpcodeBase) (out_of_range h 0 rows)
+rows_refusal h rows =
+    option_or (unless (h.version == 5) fault.Version)
+    (option_or (unless (h.opcode_base == 13) fault.OpcodeBase) (out_of_range h 0 rows))
 
 -- the first reason for which the unit isn't written
 abbrev pub refusal : HeaderData → List Row → Option EmitFault

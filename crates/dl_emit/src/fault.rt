@@ -6,6 +6,9 @@ use thiserror::Error;
 /// Why a unit wasn't written.
 #[derive(Clone, Copy, Debug, PartialEq, Eq, Error)]
 pub enum EmitFault {
+    /// The version of the header isn't 5; nothing was written.
+    #[error("version is not 5")]
+    Version,
     /// opcode_base isn't 13; nothing was written.
     #[error("opcode base is not 13")]
     OpcodeBase,

@@ -135,7 +135,11 @@ impl Program {
         ensures readable { (rows : List Row) → IsGrown self.now self.now.order header.now.params rows
             → OnOk result (IsUnitAgain (version_5 self.now.order) header.now rows) }
     {
-        if header.params().opcode_base != 13 {
+        let params = header.params();
+        if params.version != 5 {
+            return Err(EmitFault::Version);
+        }
+        if params.opcode_base != 13 {
             return Err(EmitFault::OpcodeBase);
         }
         if let Some(row) = self.refused {

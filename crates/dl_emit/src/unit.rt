@@ -34,12 +34,12 @@ pub fn measure(header: &Header, rows: &[Row]) -> Result<u64, EmitFault>
 
 /// Writes a unit of this header and these rows, and answers how many bytes they are.
 ///
-/// Before it writes anything it answers, in this order: `OpcodeBase` where opcode_base isn't 13,
-/// `RowRange` with the least place of a row whose op_index isn't below the maximum operations or
-/// whose address isn't below 2^(8 * address_size), and `TooLong` where unit_length would be above
-/// 0xffffffef in the 32-bit format or above 2^40 in the 64-bit format. After a write that failed
-/// exactly the first `out` bytes are out. What was written is read again as a unit of this header,
-/// which comes to exactly these rows.
+/// Before it writes anything it answers, in this order: `Version` where the header's version isn't 5,
+/// `OpcodeBase` where opcode_base isn't 13, `RowRange` with the least place of a row whose op_index
+/// isn't below the maximum operations or whose address isn't below 2^(8 * address_size), and
+/// `TooLong` where unit_length would be above 0xffffffef in the 32-bit format or above 2^40 in the
+/// 64-bit format. After a write that failed exactly the first `out` bytes are out. What was written
+/// is read again as a unit of this header, which comes to exactly these rows.
 pub fn write_unit<W: Write>(
     output: &mut W,
     order: Order,
@@ -74,6 +74,9 @@ fn program_len(params: &Params, rows: &[Row]) -> Result<u64, EmitFault>
     ensures len { IfOk result (λ n. n ≡ min (program_len_of params.now rows.now) (2 ^ 64 - 1)) }
     ensures err { IfErr result (λ fault. rows_refusal params.now rows.now ≡ Some fault) }
 {
+    if params.version != 5 {
+        return Err(EmitFault::Version);
+    }
     if params.opcode_base != 13 {
         return Err(EmitFault::OpcodeBase);
     }

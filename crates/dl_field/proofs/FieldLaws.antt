@@ -1,7 +1,7 @@
 -- The judgement of bytes as a field agrees with the standard's words: what is good is spelled, and what is spelled is
 -- good.
 use Rattle.std.proofs.Common.{◌≡◌, ◌≢◌, ℕ, suc, ◌+◌, ◌-◌, ◌^◌, ◌<◌, ◌≤◌, Bool, true, nat_le, ◌&&◌, ◌==◌, not}
-use Rattle.std.proofs.Common.{if◌then◌else◌, List, [], ◌∷◌, ◌++◌, length, take, drop, Option, Some, None, Ok, refl, sym}
+use Rattle.std.proofs.Common.{if◌then◌else◌, List, [], ◌∷◌, ◌++◌, length, take, drop, Option, Some, None, Ok, refl, sym, ◌⊎◌}
 use Rattle.std.proofs.Common.{ap, subst, ◌∙◌, arith, inl, inr, length-append}
 use Rattle.std.proofs.lemmas.Bool.{cases_lt, cases_eq, cases_Bool, lt-ltb, le-ltb, le-leb, lt-leb, eqb-true, eq-eqb}
 use Rattle.std.proofs.lemmas.Bool.{ne_eqb}
@@ -23,6 +23,7 @@ use Rattle.dl_table.specs.Value.{form_among, form_of_code, offset_size, Judgemen
 use Rattle.dl_table.specs.Value.{number_spelt, block_spelt, leb_spelt, leb_block_spelt, value_spelt}
 use Rattle.dl_field.specs.Layout.{NumberField, Layout, initial_length_then, number_then, form_then, value_then}
 use Rattle.dl_field.specs.Layout.{foreign_version, last_entry, Item, length_is, number_is, form_is, unit_length_limit}
+use Rattle.dl_field.specs.Layout.{path_or_end, value_is, end_is, path_judged}
 use Rattle.dl_field.specs.Layout.{short_length, long_length, initial_length_spelt, objection, judged, number_size}
 use Rattle.dl_field.specs.Layout.{sized_spelt, number_judged, form_judged, value_judged, field_spelt}
 use Rattle.dl_field.specs.Field.{IsFixed, IsUleb64, HasNoZero, IsText, IsBlock, IsValue, IsInitialLength, IsNumber}
@@ -358,6 +359,42 @@ length_is_good order w Dwarf64 n is =
     let made : long_length n ≡ good (length_is Dwarf64 n) = rw (le-leb n unit_length_limit is.5) refl in
     long ∙ ap long_length (ap (λ (l : List ℕ). fixed order l) tail ∙ sym is.4.1) ∙ made
 
+-- ---- the path of an entry of a table of versions 2 to 4, or the table's end
+
+-- such a field in the words of IsField
+abbrev IsPath : ℕ → Item → List ℕ → Type 0
+IsPath width i w = ((i ≡ end_is width) × (w ≡ 0 ∷ []))
+    ⊎ ((bytes : List ℕ) × (i ≡ value_is (text bytes)) × IsText bytes w × (1 ≤ length bytes))
+
+path_is_spelt : (width : ℕ) (i : Item) (w : List ℕ) → path_judged width w ≡ good i → IsPath width i w
+path_is_spelt width i [] e = absurd (none_some {a = Ok i} refl e)
+path_is_spelt width i (b ∷ []) e = elim (cases_Bool (b == 0)) [
+  | inl t ↦ inl (good_item (end_is width) i (rw t at e), ap (λ (x : ℕ). x ∷ []) (eqb-true b 0 t))
+  | inr n ↦ absurd (none_some {a = Ok i} refl (rw n at e))
+]
+path_is_spelt width i (b ∷ c ∷ w) e =
+    let v = value_item (text_spelt (b ∷ c ∷ w)) i e in
+    let t = text_is (b ∷ c ∷ w) v.0 v.1 in
+    inr (
+      t.0,
+      v.2 ∙ ap (λ (u : Value). value_is u) t.1,
+      t.2,
+      omega (arith, ap length t.2.0, length-append t.0 (0 ∷ [])),
+    )
+
+path_of : (width : ℕ) (w : List ℕ) → 2 ≤ length w → path_judged width w ≡ value_judged (text_spelt w)
+path_of width [] some = absurd (omega (arith, some))
+path_of width (b ∷ []) some = absurd (omega (arith, some))
+path_of width (b ∷ c ∷ w) some = refl
+
+path_is_good : (width : ℕ) (i : Item) (w : List ℕ) → IsPath width i w → path_judged width w ≡ good i
+path_is_good width i w (inl is) = ap (path_judged width) is.1
+    ∙ ap (λ (j : Item). let o : Judgement Item = good j in o) (sym is.0)
+path_is_good width i w (inr is) =
+    path_of width w (omega (arith, ap length is.2.0, length-append is.0 (0 ∷ []), is.3))
+    ∙ ap value_judged (text_good w (text is.0) (is.0, refl, is.2))
+    ∙ ap (λ (j : Item). let o : Judgement Item = good j in o) (sym is.1)
+
 -- ---- every field
 
 field_is_spelt : (order : Order) (layout : Layout) (i : Item) (w : List ℕ) → field_spelt order layout w ≡ good i
@@ -373,6 +410,7 @@ field_is_spelt order (form_then next) i w e = elim (cases_Bool (is_leb w)) [
 field_is_spelt order (value_then format f next) i w e =
     let v = value_item (value_spelt order format f w) i e in
     (v.0, v.2, value_is_spelt order format f w v.0 v.1)
+field_is_spelt order (path_or_end format pairs entries next) i w e = path_is_spelt (length pairs) i w e
 field_is_spelt order (foreign_version v) i w e = none_some {a = Ok i} refl e
 field_is_spelt order (last_entry h) i w e = none_some {a = Ok i} refl e
 
@@ -390,6 +428,7 @@ field_is_good order (form_then next) i w is =
 field_is_good order (value_then format f next) i w is =
     ap value_judged (value_is_good order format f w is.0 is.2)
     ∙ ap (λ (j : Item). let o : Judgement Item = good j in o) (sym is.1)
+field_is_good order (path_or_end format pairs entries next) i w is = path_is_good (length pairs) i w is
 field_is_good order (foreign_version v) i w is = absurd is
 field_is_good order (last_entry h) i w is = absurd is
 

@@ -18,6 +18,7 @@ use Rattle.dl_table.specs.declared.fault.FaultKind.{FaultKind}
 use Rattle.dl_table.specs.Value.{Value, Judgement, is_text, text_spelt, block_spelt, leb_block_spelt, offset_size}
 use Rattle.dl_table.specs.Value.{value_spelt}
 use Rattle.dl_field.specs.Layout.{Layout, NumberField, initial_length_then, number_then, form_then, value_then}
+use Rattle.dl_field.specs.Layout.{path_or_end, path_judged}
 use Rattle.dl_field.specs.Layout.{foreign_version, last_entry, Item, initial_length_spelt, number_judged, number_size}
 use Rattle.dl_field.specs.Layout.{sized_spelt, value_judged, field_spelt}
 use Rattle.dl_field.specs.Layout.{version, address_size, any_byte, header_length, maximum_operations, line_range}
@@ -198,6 +199,16 @@ value_some : (o : Judgement Value) (r : Result Item FaultKind) → value_judged 
 value_some None r e = absurd (none_some refl e)
 value_some (Some s) r e = (s, refl)
 
+path_once : (width : ℕ) → Once (path_judged width)
+path_once width [] x v r s e f = none_some refl e
+path_once width (b ∷ []) x v r s e f =
+    let zero : (b == 0) ≡ true = if_some (b == 0) _ r e in
+    none_some (rw zero refl) f
+path_once width (b ∷ c ∷ w) x v r s e f =
+    let a = value_some (text_spelt (b ∷ c ∷ w)) r e in
+    let d = value_some (text_spelt ((b ∷ c ∷ w) ++ x ∷ v)) s f in
+    text_once (b ∷ c ∷ w) x v a.0 d.0 a.1 d.1
+
 -- no spelling of a field, good or bad, begins another
 pub field_once : (order : Order) (layout : Layout) → Once (field_spelt order layout)
 field_once order (initial_length_then next) = length_once order
@@ -207,6 +218,7 @@ field_once order (value_then format f next) = λ w x v r s e h.
     let a = value_some (value_spelt order format f w) r e in
     let b = value_some (value_spelt order format f (w ++ x ∷ v)) s h in
     value_once order format f w x v a.0 b.0 a.1 b.1
+field_once order (path_or_end format pairs entries next) = path_once (length pairs)
 field_once order (foreign_version n) = λ w x v r s e h. none_some refl e
 field_once order (last_entry d) = λ w x v r s e h. none_some refl e
 
@@ -242,6 +254,7 @@ field_empty order (value_then format form.Block1 next) = refl
 field_empty order (value_then format form.Data1 next) = refl
 field_empty order (value_then format form.Udata next) = refl
 field_empty order (value_then format form.Data16 next) = refl
+field_empty order (path_or_end format pairs entries next) = refl
 field_empty order (foreign_version v) = refl
 field_empty order (last_entry h) = refl
 

@@ -6,7 +6,9 @@ pub mod FieldCells
 pub mod FieldLaws
 pub mod FieldLemmas
 pub mod GoodLemmas
+pub mod ListLemmas
 pub mod PairLemmas
+pub mod SameLists
 pub mod SameTables
 pub mod TakenLemmas
 pub mod ValueFields

@@ -39,7 +39,7 @@ pub record AreEntries (pairs : List Pair) (pool : List ℕ) (values : List Store
   pub whole : AreRows (length values) (length pairs)
   pub rows_are : rows (length values / length pairs) (length pairs) (map (value_held pool) values) ≡ entries
 
-rows_held : (pairs : List Pair) (pool : List ℕ) (values : List StoredValue) (entries : List (List Value))
+pub rows_held : (pairs : List Pair) (pool : List ℕ) (values : List StoredValue) (entries : List (List Value))
     (height : length values / length pairs ≡ length entries) → Holds pairs pool values entries []
     → AreEntries pairs pool values entries
 rows_held pairs pool values entries height holds =
@@ -59,7 +59,7 @@ rows_held pairs pool values entries height holds =
           ∙ rows_joined (length pairs) entries holds.wide;
     }
 
-count_held : (pairs : List Pair) (pool : List ℕ) (values : List StoredValue) (entries : List (List Value))
+pub count_held : (pairs : List Pair) (pool : List ℕ) (values : List StoredValue) (entries : List (List Value))
     → Holds pairs pool values entries [] → length values ≡ length entries * length pairs
 count_held pairs pool values entries holds =
     omega (
@@ -70,7 +70,7 @@ count_held pairs pool values entries holds =
       length-joined (length pairs) entries holds.wide,
     )
 
-height_held : (values width entries : ℕ) → values ≡ entries * width → (width ≡ 0 → entries ≡ 0)
+pub height_held : (values width entries : ℕ) → values ≡ entries * width → (width ≡ 0 → entries ≡ 0)
     → values / width ≡ entries
 height_held values width entries count none = elim (cases_lt 0 width) [
   | inl some ↦ ap (λ (n : ℕ). n / width) count ∙ mul-div_cancel entries some

@@ -33,7 +33,7 @@ drop_after [] (suc i) x more e = absurd cc
 drop_after (y ∷ xs) zero x more e = let f : xs ≡ more = cc in f
 drop_after (y ∷ xs) (suc i) x more e = drop_after xs i x more e
 
-drop_none : {A : Type 0} (xs : List A) (i : ℕ) → length xs ≤ i → drop i xs ≡ []
+pub drop_none : {A : Type 0} (xs : List A) (i : ℕ) → length xs ≤ i → drop i xs ≡ []
 drop_none [] zero h = refl
 drop_none [] (suc i) h = refl
 drop_none (x ∷ xs) zero h = absurd (omega arith)

@@ -5,14 +5,16 @@ use Rattle.dl_num.specs.LebFront.{is_leb, leb_front, after_leb}
 use Rattle.dl_table.specs.declared.form.Form.{Form}
 use Rattle.dl_table.specs.declared.form.Form.TheVariants as form
 use Rattle.dl_table.specs.TableCells.{value_cells}
-use Rattle.dl_field.specs.Layout.{Layout, value_then, Item, length_is, number_is, form_is, value_is}
+use Rattle.dl_field.specs.Layout.{Layout, value_then, path_or_end, Item, length_is, number_is, form_is}
+use Rattle.dl_field.specs.Layout.{value_is, end_is}
 
--- a pair counts with its form code
+-- a pair counts with its form code, those of a table of versions 2 to 4 with its end
 abbrev pub item_cells : Item → ℕ
 item_cells (length_is format n) = 0
 item_cells (number_is n) = 0
 item_cells (form_is f) = 1
 item_cells (value_is v) = value_cells v
+item_cells (end_is n) = n
 
 -- a block counts from its length on, which is k bytes
 abbrev pub begun_block : ℕ → List ℕ → ℕ
@@ -35,4 +37,5 @@ begun_cells other w = 0
 -- what the bytes of a field that isn't complete hold
 abbrev pub rest_cells : Layout → List ℕ → ℕ
 rest_cells (value_then format f next) w = begun_cells f w
+rest_cells (path_or_end format pairs entries next) w = length w
 rest_cells layout w = 0

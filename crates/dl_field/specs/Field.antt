@@ -1,5 +1,5 @@
 -- Good fields in the standard's words: which bytes spell which value. DWARF 5, sections 6.2.4, 7.4, 7.5.4 to 7.5.6.
-use Rattle.std.specs.Prelude.{◌≡◌, ◌≢◌, ℕ, ◌^◌, ◌<◌, ◌≤◌, List, [], ◌∷◌, ◌++◌, length, Option, Some, None}
+use Rattle.std.specs.Prelude.{◌≡◌, ◌≢◌, ℕ, ◌^◌, ◌<◌, ◌≤◌, List, [], ◌∷◌, ◌++◌, length, Option, Some, None, ◌⊎◌}
 use Rattle.dl_num.specs.declared.fixed.Order.{Order}
 use Rattle.dl_num.specs.Fixed.{fixed}
 use Rattle.dl_num.specs.Leb.{IsUleb}
@@ -9,8 +9,8 @@ use Rattle.dl_table.specs.declared.form.Form.{Form}
 use Rattle.dl_table.specs.declared.form.Form.TheVariants as form
 use Rattle.dl_table.specs.Value.{Value, text, line_str, str, str_sup, number, block, data16, form_code, offset_size}
 use Rattle.dl_field.specs.Layout.{number_size, objection, unit_length_limit, Layout, initial_length_then, number_then}
-use Rattle.dl_field.specs.Layout.{form_then, value_then, foreign_version, last_entry, Item, length_is, number_is}
-use Rattle.dl_field.specs.Layout.{form_is, value_is}
+use Rattle.dl_field.specs.Layout.{form_then, value_then, path_or_end, foreign_version, last_entry, Item, length_is, number_is}
+use Rattle.dl_field.specs.Layout.{form_is, value_is, end_is}
 
 -- w is a number of k bytes
 abbrev pub IsFixed : Order → ℕ → ℕ → List ℕ → Type 0
@@ -70,5 +70,7 @@ IsField order (number_then field next) i w = (n : ℕ) × (i ≡ number_is n) ×
     × (objection field n ≡ None)
 IsField order (form_then next) i w = (f : Form) × (i ≡ form_is f) × IsUleb w (form_code f)
 IsField order (value_then format f next) i w = (v : Value) × (i ≡ value_is v) × IsValue order format f v w
+IsField order (path_or_end format pairs entries next) i w = ((i ≡ end_is (length pairs)) × (w ≡ 0 ∷ []))
+    ⊎ ((bytes : List ℕ) × (i ≡ value_is (text bytes)) × IsText bytes w × (1 ≤ length bytes))
 IsField order (foreign_version v) i w = ⊥
 IsField order (last_entry h) i w = ⊥

@@ -8,13 +8,14 @@ use Rattle.dl_num.specs.LebFront.{is_leb}
 use Rattle.dl_table.specs.declared.form.Format.{Format}
 use Rattle.dl_table.specs.declared.form.Format.TheVariants.{Dwarf32, Dwarf64}
 use Rattle.dl_table.specs.declared.form.Form.{Form}
+use Rattle.dl_table.specs.declared.form.Form.TheVariants as form
 use Rattle.dl_table.specs.declared.table.Pair.{Pair}
 use Rattle.dl_table.specs.declared.fault.FaultKind.{FaultKind}
 use Rattle.dl_table.specs.declared.fault.FaultKind.TheVariants as fault
 use Rattle.dl_table.specs.TableData.{TableData}
 use Rattle.dl_field.specs.declared.params.Params.{Params}
 use Rattle.dl_field.specs.HeaderData.{HeaderData}
-use Rattle.dl_table.specs.Value.{Value, Judgement, good, bad, form_of_code, offset_size, value_spelt}
+use Rattle.dl_table.specs.Value.{Value, Judgement, good, bad, form_of_code, offset_size, text_spelt, value_spelt}
 
 -- the greatest unit_length that is accepted
 abbrev pub unit_length_limit : ℕ
@@ -43,6 +44,9 @@ pub data Layout : Type 0 where
   number_then : NumberField → (ℕ → Layout) → Layout
   form_then : (Form → Layout) → Layout
   value_then : Format → Form → (Value → Layout) → Layout
+  -- of a table of versions 2 to 4, after these entries: the path that the next entry begins with, or the zero byte after
+  -- the last one
+  path_or_end : Format → List Pair → List (List Value) → (TableData → Layout) → Layout
   foreign_version : ℕ → Layout
   last_entry : HeaderData → Layout
 
@@ -82,12 +86,28 @@ table_layout format next =
     entries_layout format pairs count [] λ entries.
     next (record { format = format; pairs = pairs; entries = entries })
 
+-- what each entry of a table of versions 2 to 4 says, DWARF 4, section 6.2.4: a path; of a file also its directory, its
+-- time and its size
+abbrev pub listed_directory : List Pair
+listed_directory = record { content = 1; form = form.String } ∷ []
+
+abbrev pub listed_file : List Pair
+listed_file = record { content = 1; form = form.String } ∷ record { content = 2; form = form.Udata }
+    ∷ record { content = 3; form = form.Udata } ∷ record { content = 4; form = form.Udata } ∷ []
+
+-- the rest of an entry of a table of versions 2 to 4, after these values of it, and the entries after it
+abbrev pub listed_from : Format → List Pair → List (List Value) → List Value → (TableData → Layout) → Layout
+listed_from format pairs entries before next =
+    entry_layout format (drop (length before) pairs) before λ entry. path_or_end format pairs (entries ++ entry ∷ []) next
+
 -- the value of a field
 pub data Item : Type 0 where
   length_is : Format → ℕ → Item
   number_is : ℕ → Item
   form_is : Form → Item
   value_is : Value → Item
+  -- a table of versions 2 to 4 ends, whose entries have so many values
+  end_is : ℕ → Item
 
 -- what follows a field of this value
 abbrev pub following : Layout → Item → Layout
@@ -95,6 +115,9 @@ following (initial_length_then next) (length_is format n) = next format n
 following (number_then field next) (number_is n) = next n
 following (form_then next) (form_is f) = next f
 following (value_then format f next) (value_is v) = next v
+following (path_or_end format pairs entries next) (value_is v) = listed_from format pairs entries (v ∷ []) next
+following (path_or_end format pairs entries next) (end_is n) =
+    next (record { format = format; pairs = pairs; entries = entries })
 following layout item = layout
 
 -- what follows fields of these values
@@ -162,11 +185,18 @@ value_judged None = None
 value_judged (Some (Ok v)) = good (value_is v)
 value_judged (Some (Err kind)) = bad kind
 
+-- a path, which has a byte; or the zero byte alone, where the entries have so many values
+abbrev pub path_judged : ℕ → List ℕ → Judgement Item
+path_judged width [] = None
+path_judged width (b ∷ []) = if b == 0 then good (end_is width) else None
+path_judged width (b ∷ c ∷ w) = value_judged (text_spelt (b ∷ c ∷ w))
+
 -- what w is as the field at the front of a layout
 abbrev pub field_spelt : Order → Layout → List ℕ → Judgement Item
 field_spelt order (initial_length_then next) w = initial_length_spelt order w
 field_spelt order (number_then field next) w = number_judged field (sized_spelt order (number_size field) w)
 field_spelt order (form_then next) w = if is_leb w then form_judged (groups w) (form_of_code (groups w)) else None
 field_spelt order (value_then format f next) w = value_judged (value_spelt order format f w)
+field_spelt order (path_or_end format pairs entries next) w = path_judged (length pairs) w
 field_spelt order (foreign_version v) w = None
 field_spelt order (last_entry h) w = None

@@ -8,4 +8,6 @@ pub mod Laws
 -- For what a value stands; public contracts name this, and don't rest on how it is said.
 pub mod TableStep
 pub mod TablePlace
+pub mod ListStep
 pub mod TableMoves
+pub mod ListPlace

@@ -2,6 +2,7 @@
 #![tactic(auto)]
 
 pub mod field_step;
+pub mod list_reader;
 pub mod params;
 mod sixteen;
 pub mod table_reader;
@@ -10,5 +11,6 @@ mod value_reader;
 mod whole_value;
 
 pub use field_step::FieldStep;
+pub use list_reader::{ListKind, ListReader};
 pub use params::Params;
 pub use table_reader::TableReader;

@@ -13,6 +13,8 @@ use dl_table::Format;
 pub struct Params {
     /// Whether offsets and lengths have four bytes or eight. Section 7.4.
     pub format: Format,
+    /// The version of the unit: 5, or 2 to 4 where those are read.
+    pub version: u16,
     /// The size of an address in bytes: 1, 2, 4 or 8 in a header.
     pub address_size: u8,
     /// The size of a segment selector in bytes.
@@ -44,9 +46,13 @@ impl Params {
         ensures usable { IsUsable result }
         ensures no_lengths { result.lengths.items ≡ [] }
         ensures format { result.format ≡ format }
+        ensures version { result.version ≡ 5 }
+        ensures segments { result.segment_selector_size ≡ 0 }
+        ensures operations { result.maximum_operations_per_instruction ≡ 1 }
     {
         Params {
             format,
+            version: 5,
             address_size: 1,
             segment_selector_size: 0,
             minimum_instruction_length: 0,
@@ -66,6 +72,7 @@ impl Params {
     {
         Params {
             format: self.format,
+            version: self.version,
             address_size: self.address_size,
             segment_selector_size: self.segment_selector_size,
             minimum_instruction_length: self.minimum_instruction_length,

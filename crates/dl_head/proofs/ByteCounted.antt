@@ -1,8 +1,10 @@
 -- What the bytes come to once the last one is counted.
 use Rattle.std.proofs.Common.{◌≤◌, ◌≡◌, ◌≢◌, ℕ, ◌+◌, ◌⊎◌, inl, inr, List, [], length, Option, Some, None, refl, sym, ap}
+use Rattle.std.proofs.Common.{Bool, true, false, not, eqb, ◌==◌}
 use Rattle.std.proofs.Common.{subst, ◌∙◌, arith}
-use Rattle.std.proofs.lemmas.Bool.{cases_eq}
+use Rattle.std.proofs.lemmas.Bool.{cases_eq, eq-eqb}
 use Rattle.dl_head.specs.declared.dialect.Dialect.{Dialect}
+use Rattle.std.specs.Option.{option_eq}
 use Rattle.dl_head.specs.declared.reader.Phase.{Phase}
 use Rattle.dl_head.specs.declared.reader.Phase.TheVariants as phase
 use Rattle.dl_head.specs.declared.reader.HeadReader.{HeadReader}
@@ -209,6 +211,8 @@ settles_field r fin result (phase.Byte n) goes out s = s
 settles_field r fin result phase.OpcodeLength goes out s = s
 settles_field r fin result phase.Directories goes out s = s
 settles_field r fin result phase.Files goes out s = s
+settles_field r fin result phase.OlderDirectories goes out s = s
+settles_field r fin result phase.OlderFiles goes out s = s
 settles_field r fin result phase.Padding goes out s = absurd (out refl)
 settles_field r fin result phase.Done goes out s = absurd (none_some goes refl)
 settles_field r fin result (phase.Foreign v) goes out s = absurd (none_some goes refl)
@@ -239,3 +243,28 @@ settled r fin b m result s = on (place_of r r.phase m.items m.rest refl m.at) (a
       ((subst (λ (p : Phase). SettlesAt r p result fin) is s).0 other)
   on (in_foreign v is follows) at = foreign r fin b m result v is follows
       (subst (λ (p : Phase). SettlesAt r p result fin) is s)
+
+-- `settle`, where the bytes don't end
+pub settles_more : (r new : HeadReader) (p : Phase) → ((v : ℕ) → p ≡ phase.Foreign v → ⊥) → r.end ≢ Some r.taken
+    → new ≡ r → SettlesAt r p answer.More new
+settles_more r new (phase.Foreign v) none other same = absurd (none v refl)
+settles_more r new (phase.UnitLength n) none other same = (λ e. (refl, same), λ e. absurd (other e))
+settles_more r new (phase.LongUnitLength n) none other same = (λ e. (refl, same), λ e. absurd (other e))
+settles_more r new phase.Version none other same = (λ e. (refl, same), λ e. absurd (other e))
+settles_more r new (phase.VersionEnd n) none other same = (λ e. (refl, same), λ e. absurd (other e))
+settles_more r new (phase.HeaderLength n) none other same = (λ e. (refl, same), λ e. absurd (other e))
+settles_more r new (phase.Byte f) none other same = (λ e. (refl, same), λ e. absurd (other e))
+settles_more r new phase.OpcodeLength none other same = (λ e. (refl, same), λ e. absurd (other e))
+settles_more r new phase.Directories none other same = (λ e. (refl, same), λ e. absurd (other e))
+settles_more r new phase.Files none other same = (λ e. (refl, same), λ e. absurd (other e))
+settles_more r new phase.OlderDirectories none other same = (λ e. (refl, same), λ e. absurd (other e))
+settles_more r new phase.OlderFiles none other same = (λ e. (refl, same), λ e. absurd (other e))
+settles_more r new phase.Padding none other same = (λ e. (refl, same), λ e. absurd (other e))
+settles_more r new phase.Done none other same = (λ e. (refl, same), λ e. absurd (other e))
+settles_more r new (phase.Failed f) none other same = (λ e. (refl, same), λ e. absurd (other e))
+
+pub not_ended : (o : Option ℕ) (n : ℕ) (b : Bool) → b ≡ true → b ≡ not (option_eq eqb o (Some n)) → o ≢ Some n
+not_ended o n b t e same =
+    let f : true ≡ not (n == n) = sym t ∙ e ∙ ap (λ (p : Option ℕ). not (option_eq eqb p (Some n))) same in
+    let g : true ≡ false = f ∙ ap not (eq-eqb n n refl) in
+    absurd cc

@@ -5,6 +5,7 @@ use Rattle.dl_num.specs.declared.fixed.Order.{Order}
 use Rattle.dl_head.specs.declared.dialect.Dialect.{Dialect}
 use Rattle.dl_table.specs.declared.form.Format.{Format}
 use Rattle.dl_field.specs.declared.params.Params.{Params}
+use Rattle.dl_field.specs.Layout.{path_or_end}
 use Rattle.dl_head.specs.declared.reader.byte_field.ByteField.{ByteField}
 use Rattle.dl_head.specs.declared.reader.byte_field.ByteField.TheVariants as field
 use Rattle.dl_head.specs.declared.reader.HeadReader.{HeadReader}
@@ -27,6 +28,7 @@ use Rattle.dl_head.proofs.OneFieldMore.{byte_follows, lengths_open, some_left}
 abbrev pub is_no_cell : Layout → Bool
 is_no_cell (form_then next) = false
 is_no_cell (value_then format f next) = false
+is_no_cell (path_or_end format pairs entries next) = false
 is_no_cell layout = true
 
 false_is_true : {A : Type 0} → false ≡ true → A
@@ -45,6 +47,7 @@ no_cells order (initial_length_then next) rest w e = length_cells order next w (
 no_cells order (number_then field next) rest w e = number_cells order field next w
 no_cells order (form_then next) rest w e = false_is_true e
 no_cells order (value_then format f next) rest w e = false_is_true e
+no_cells order (path_or_end format pairs entries next) rest w e = false_is_true e
 no_cells order (foreign_version v) rest w e = refl
 no_cells order (last_entry h) rest w e = refl
 

@@ -1,10 +1,24 @@
 -- A header holds no more cells than it has bytes, and in the end those of its tables.
 use Rattle.std.proofs.Common.{◌≡◌, ℕ, ◌+◌, ◌-◌, ◌^◌, ◌≤◌, true, nat_lt, nat_le, ◌&&◌, ◌==◌, if◌then◌else◌, List, []}
-use Rattle.std.proofs.Common.{◌∷◌, length, take, drop, None, Ok, refl, ap, arith, inl, inr, length-append, sum_by}
-use Rattle.std.proofs.lemmas.Bool.{cases_lt, cases_Bool, lt-ltb, le-ltb, le-leb, lt-leb, eqb-true}
+use Rattle.std.proofs.Common.{zero, suc, Bool, false, Option, Some, ◌++◌, subst, sym, ◌∙◌, ◌⊎◌, ◌∷◌, length, take, drop}
+use Rattle.std.proofs.Common.{None, Ok, refl, ap, arith, inl, inr, length-append, sum_by}
+use Rattle.std.proofs.lemmas.Bool.{cases_lt, cases_Bool, lt-ltb, le-ltb, le-leb, lt-leb, eqb-true, cases_eq, eq-eqb}
+use Rattle.std.proofs.lemmas.Bool.{ne_eqb}
 use Rattle.std.proofs.lemmas.List.{length-take-le, length-drop}
 use Rattle.std.proofs.lemmas.List.Sums.{sum_by-cons}
 use Rattle.dl_num.specs.declared.fixed.Order.{Order}
+use Rattle.dl_field.specs.Layout.{path_or_end}
+use Rattle.dl_field.specs.Layout.{listed_from, end_is, value_is, path_judged, pairs_layout, entry_layout}
+use Rattle.dl_field.specs.Layout.{entries_layout, table_layout}
+use Rattle.dl_field.specs.declared.params.Params.{Params}
+use Rattle.dl_table.specs.declared.table.Pair.{Pair}
+use Rattle.dl_table.specs.TableData.{TableData}
+use Rattle.dl_field.proofs.GoodLemmas.{good_item}
+use Rattle.dl_head.specs.HeaderLayout.{tables_layout, lengths_layout, from_files, from_end, from_default_is_stmt}
+use Rattle.dl_head.specs.HeaderLayout.{initial_size}
+use Rattle.dl_head.specs.HeaderLayout.{from_minimum_length, from_older_version, older_params, format_alone}
+use Rattle.dl_head.specs.Dialect.{older_size}
+use Rattle.dl_head.specs.declared.dialect.Dialect.{Dialect}
 use Rattle.dl_num.specs.Fixed.{fixed}
 use Rattle.dl_num.specs.Leb.{groups}
 use Rattle.dl_num.specs.LebFront.{is_leb, leb_front, after_leb}
@@ -115,27 +129,220 @@ value_few order format form.Data16 w v e = one_cell 16 (data16 w) v w (omega ari
 value_few order format form.LineStrp w v e = one_cell (offset_size format) (line_str (fixed order w)) v w
     (offset_some format) refl e
 
+pub path_cases : (width : ℕ) (w : List ℕ) (i : Item) → path_judged width w ≡ good i
+    → (i ≡ end_is width) ⊎ ((v : Value) × (i ≡ value_is v))
+path_cases width [] i e = absurd (none_some {a = Ok i} refl e)
+path_cases width (b ∷ []) i e = elim (cases_Bool (b == 0)) [
+  | inl t ↦ inl (good_item (end_is width) i (rw t at e))
+  | inr n ↦ absurd (none_some {a = Ok i} refl (rw n at e))
+]
+path_cases width (b ∷ c ∷ w) i e = let v = value_item (text_spelt (b ∷ c ∷ w)) i e in inr (v.0, v.2)
+
+-- by how many cells a field may have more than bytes: the end of a table of versions 2 to 4, which is one byte
+abbrev item_excess : Item → ℕ
+item_excess (end_is n) = n - 1
+item_excess i = 0
+
+path_few : (width : ℕ) (w : List ℕ) (i : Item) → path_judged width w ≡ good i → item_cells i ≤ length w + item_excess i
+path_few width [] i e = absurd (none_some {a = Ok i} refl e)
+path_few width (b ∷ []) i e = elim (path_cases width (b ∷ []) i e) [
+  | inl end ↦ rw end (omega arith)
+  | inr path ↦ absurd (no_value (b == 0) e path.1)
+] where
+  no_value : (z : Bool) {v : Value} → (if z then good (end_is width) else None) ≡ good i → i ≡ value_is v → ⊥
+  no_value true e same = let f : end_is width ≡ i = sym (good_item (end_is width) i e) in
+      let g = f ∙ same in absurd cc
+  no_value false e same = none_some {a = Ok i} refl e
+path_few width (b ∷ c ∷ w) i e =
+    let v = value_item (text_spelt (b ∷ c ∷ w)) i e in
+    let few = text_cells (b ∷ c ∷ w) v.0 v.1 in
+    rw v.2 (omega (arith, few))
+
 item_few : (order : Order) (layout : Layout) (w : List ℕ) (i : Item) → field_spelt order layout w ≡ good i
-    → item_cells i ≤ length w
+    → item_cells i ≤ length w + item_excess i
 item_few order (initial_length_then next) w i e = rw (is_length order w i e).item (omega arith)
 item_few order (number_then field next) w i e = rw (is_number order field next w i e).item (omega arith)
-item_few order (form_then next) w i e = let f = is_form w i e in rw f.1 f.2
+item_few order (form_then next) w i e = let f = is_form w i e in let some = f.2 in rw f.1 (omega (arith, some))
 item_few order (value_then format f next) w i e =
     let v = value_item (value_spelt order format f w) i e in
-    rw v.2 (value_few order format f w v.0 v.1)
+    let few = value_few order format f w v.0 v.1 in
+    rw v.2 (omega (arith, few))
+item_few order (path_or_end format pairs entries next) w i e = path_few (length pairs) w i e
 item_few order (foreign_version n) w i e = absurd (none_some {a = Ok i} refl e)
 item_few order (last_entry h) w i e = absurd (none_some {a = Ok i} refl e)
 
--- good fields hold no more cells than they have bytes
-pub items_few : (order : Order) (layout : Layout) (items : List Item) (w : List ℕ) → SpellsFields order layout items w
-    → sum_by item_cells items ≤ length w
+-- good fields hold no more cells than they have bytes, but for the ends of tables of versions 2 to 4
+items_few : (order : Order) (layout : Layout) (items : List Item) (w : List ℕ) → SpellsFields order layout items w
+    → sum_by item_cells items ≤ length w + sum_by item_excess items
 items_few order layout [] w s = omega arith
 items_few order layout (i ∷ items) w s =
     omega (
       arith,
       sum_by-cons item_cells i items,
+      sum_by-cons item_excess i items,
       item_few order layout s.0 i s.3,
       items_few order (following layout i) items s.1 s.4,
+      ap length s.2,
+      length-append s.0 s.1,
+    )
+
+-- ---- in a header those are three
+
+-- the fields from the layout on have at most n more cells than bytes
+abbrev AtMost : ℕ → Layout → Type 0
+AtMost n (initial_length_then next) = (f : Format) (m : ℕ) → AtMost n (next f m)
+AtMost n (number_then field next) = (m : ℕ) → AtMost n (next m)
+AtMost n (form_then next) = (f : Form) → AtMost n (next f)
+AtMost n (value_then format f next) = (v : Value) → AtMost n (next v)
+AtMost n (path_or_end format pairs entries next) =
+    (k : ℕ) × (length pairs - 1 + k ≤ n) × ((t : TableData) → AtMost k (next t))
+AtMost n (foreign_version v) = Unit {0}
+AtMost n (last_entry h) = Unit {0}
+
+most_entry : (n : ℕ) (format : Format) (pairs : List Pair) (before : List Value) (next : List Value → Layout)
+    → ((entry : List Value) → AtMost n (next entry)) → AtMost n (entry_layout format pairs before next)
+most_entry n format [] before next most = most before
+most_entry n format (p ∷ pairs) before next most = λ v. most_entry n format pairs (before ++ v ∷ []) next most
+
+most_pairs : (n count : ℕ) (before : List Pair) (next : List Pair → Layout)
+    → ((pairs : List Pair) → AtMost n (next pairs))
+    → AtMost n (pairs_layout count before next)
+most_pairs n zero before next most = most before
+most_pairs n (suc count) before next most = λ code f. most_pairs n count
+    (before ++ record { content = code; form = f } ∷ []) next most
+
+most_entries : (n : ℕ) (format : Format) (pairs : List Pair) (count : ℕ) (before : List (List Value))
+    (next : List (List Value) → Layout) → ((entries : List (List Value)) → AtMost n (next entries))
+    → AtMost n (entries_layout format pairs count before next)
+most_entries n format pairs zero before next most = most before
+most_entries n format pairs (suc count) before next most =
+    most_entry n format pairs [] (λ entry. entries_layout format pairs count (before ++ entry ∷ []) next)
+    (λ entry. most_entries n format pairs count (before ++ entry ∷ []) next most)
+
+most_table : (n : ℕ) (format : Format) (next : TableData → Layout) → ((t : TableData) → AtMost n (next t))
+    → AtMost n (table_layout format next)
+most_table n format next most = λ pair_count. most_pairs n pair_count [] _
+    (λ pairs. λ count. most_entries n format pairs count [] _ (λ entries. most _))
+
+most_lengths : (n opcode count : ℕ) (before : List ℕ) (next : List ℕ → Layout)
+    → ((lengths : List ℕ) → AtMost n (next lengths)) → AtMost n (lengths_layout opcode count before next)
+most_lengths n opcode zero before next most = most before
+most_lengths n opcode (suc count) before next most = λ m. most_lengths n (opcode + 1) count (before ++ m ∷ []) next most
+
+most_tables : (p : Params) → AtMost 3 (tables_layout p)
+most_tables p = elim (cases_eq p.version 5) [
+  | inl five ↦ rw (eq-eqb p.version 5 five) (most_table 3 p.format (from_files p)
+      (λ directories. most_table 3 p.format (from_end p directories) (λ files. tt)))
+  | inr other ↦ rw (ne_eqb p.version 5 other) (3, omega arith, λ directories. (0, omega arith, λ files. tt))
+]
+
+most_default : (p : Params) → AtMost 3 (from_default_is_stmt p)
+most_default p = λ is_stmt base range opcodes. most_lengths 3 1 (opcodes - 1) [] _ (λ lengths. most_tables _)
+
+most_late : (p : Params) → AtMost 3 (from_minimum_length p)
+most_late p minimum = elim (cases_lt p.version 4) [
+  | inl old ↦ rw (lt-ltb p.version 4 old) (most_default (record p { minimum_instruction_length = minimum }))
+  | inr new ↦ rw (le-ltb p.version 4 new) (λ maximum. most_default
+      (record p { minimum_instruction_length = minimum; maximum_operations_per_instruction = maximum }))
+]
+
+most_older : (format : Format) (n v : ℕ) (o : Option ℕ) → AtMost 3 (from_older_version format n v o)
+most_older format n v None = tt
+most_older format n v (Some size) = λ header. most_late (older_params format v size)
+
+most_header : (dialect : Dialect) → AtMost 3 (header_layout dialect)
+most_header dialect format n v = elim (cases_eq v 5) [
+  | inl five ↦ rw (eq-eqb v 5 five) (λ address segment header. most_late
+      (record (format_alone format) { address_size = address; segment_selector_size = segment }))
+  | inr other ↦ rw (ne_eqb v 5 other) (most_older format n v (older_size dialect v))
+]
+
+excess_few : (order : Order) (n : ℕ) (layout : Layout) (items : List Item) (w : List ℕ) → AtMost n layout
+    → SpellsFields order layout items w → sum_by item_excess items ≤ n
+excess_few order n layout [] w most s = omega arith
+excess_few order n (initial_length_then next) (i ∷ items) w most s =
+    let a = is_length order s.0 i s.3 in
+    let t = subst (λ (j : Item). SpellsFields order (following (initial_length_then next) j) items s.1) a.item s.4 in
+    omega (
+      arith,
+      sum_by-cons item_excess i items,
+      ap item_excess a.item,
+      excess_few order n (next a.format a.number) items s.1 (most a.format a.number) t,
+    )
+excess_few order n (number_then field next) (i ∷ items) w most s =
+    let a = is_number order field next s.0 i s.3 in
+    let t = subst (λ (j : Item). SpellsFields order (following (number_then field next) j) items s.1) a.item s.4 in
+    omega (
+      arith,
+      sum_by-cons item_excess i items,
+      ap item_excess a.item,
+      excess_few order n (next a.number) items s.1 (most a.number) t,
+    )
+excess_few order n (form_then next) (i ∷ items) w most s =
+    let a = is_form s.0 i s.3 in
+    let t = subst (λ (j : Item). SpellsFields order (following (form_then next) j) items s.1) a.1 s.4 in
+    omega (
+      arith,
+      sum_by-cons item_excess i items,
+      ap item_excess a.1,
+      excess_few order n (next a.0) items s.1 (most a.0) t,
+    )
+excess_few order n (value_then format f next) (i ∷ items) w most s =
+    let a = value_item (value_spelt order format f s.0) i s.3 in
+    let t = subst (λ (j : Item). SpellsFields order (following (value_then format f next) j) items s.1) a.2 s.4 in
+    omega (
+      arith,
+      sum_by-cons item_excess i items,
+      ap item_excess a.2,
+      excess_few order n (next a.0) items s.1 (most a.0) t,
+    )
+excess_few order n (path_or_end format pairs entries next) (i ∷ items) w most s =
+    let layout = path_or_end format pairs entries next in
+    elim (path_cases (length pairs) s.0 i s.3) [
+      | inl end ↦
+          let t = subst (λ (j : Item). SpellsFields order (following layout j) items s.1) end s.4 in
+          omega (
+            arith,
+            sum_by-cons item_excess i items,
+            ap item_excess end,
+            most.1,
+            excess_few order most.0 (next (record { format = format; pairs = pairs; entries = entries })) items s.1
+                (most.2 _) t,
+          )
+      | inr path ↦
+          let t = subst (λ (j : Item). SpellsFields order (following layout j) items s.1) path.1 s.4 in
+          omega (
+            arith,
+            sum_by-cons item_excess i items,
+            ap item_excess path.1,
+            excess_few order n (listed_from format pairs entries (path.0 ∷ []) next) items s.1
+                (most_entry n format (drop 1 pairs) (path.0 ∷ []) _ (λ entry. most)) t,
+          )
+    ]
+excess_few order n (foreign_version v) (i ∷ items) w most s = absurd (none_some {a = Ok i} refl s.3)
+excess_few order n (last_entry h) (i ∷ items) w most s = absurd (none_some {a = Ok i} refl s.3)
+
+some_initial : (format : Format) → 4 ≤ initial_size format
+some_initial Dwarf32 = omega arith
+some_initial Dwarf64 = omega arith
+
+-- the initial length is no cell, and has more bytes than that
+pub header_few : (dialect : Dialect) (items : List Item) (w : List ℕ) → SpellsFields dialect.order
+    (header_layout dialect) items w
+    → sum_by item_cells items ≤ length w
+header_few dialect [] w s = omega arith
+header_few dialect (i ∷ items) w s =
+    let a = is_length dialect.order s.0 i s.3 in
+    omega (
+      arith,
+      sum_by-cons item_cells i items,
+      sum_by-cons item_excess i items,
+      ap item_cells a.item,
+      ap item_excess a.item,
+      a.size,
+      some_initial a.format,
+      items_few dialect.order (following (header_layout dialect) i) items s.1 s.4,
+      excess_few dialect.order 3 (header_layout dialect) (i ∷ items) w (most_header dialect) s,
       ap length s.2,
       length-append s.0 s.1,
     )
@@ -176,6 +383,7 @@ rest_few (value_then format f next) w = begun_value_few f w
 rest_few (initial_length_then next) w = omega arith
 rest_few (number_then field next) w = omega arith
 rest_few (form_then next) w = omega arith
+rest_few (path_or_end format pairs entries next) w = omega arith
 rest_few (foreign_version v) w = omega arith
 rest_few (last_entry h) w = omega arith
 
@@ -185,7 +393,7 @@ few_cells dialect b =
     let s : Sound dialect.order (header_layout dialect) b c = cut_sound dialect.order (header_layout dialect) [] b in
     omega (
       arith,
-      items_few dialect.order (header_layout dialect) c.items s.front s.spelt,
+      header_few dialect c.items s.front s.spelt,
       rest_few (following_all (header_layout dialect) c.items) c.rest,
       ap length s.whole,
       length-append s.front c.rest,

@@ -1,6 +1,7 @@
 -- The header reader in the fields up to header_length.
 use Rattle.std.proofs.Common.{◌≡◌, ◌≢◌, append_assoc, ℕ, ◌+◌, ◌-◌, ◌<◌, ◌≤◌, List, [], ◌∷◌, ◌++◌, length, take, drop}
-use Rattle.std.proofs.Common.{Some, refl, sym, ap, subst, ◌∙◌, arith, length-append}
+use Rattle.std.proofs.Common.{Bool, if◌then◌else◌, Option, inl, inr, Some, None, refl, sym, ap, subst, ◌∙◌, arith}
+use Rattle.std.proofs.Common.{length-append}
 use Rattle.std.proofs.lemmas.Bool.{lt-ltb, le-leb, lt-leb, eq-eqb, ne_eqb}
 use Rattle.std.proofs.lemmas.List.{take_at, drop_at}
 use Rattle.dl_num.specs.declared.fixed.Order.{Order}
@@ -9,6 +10,17 @@ use Rattle.dl_table.specs.declared.form.Format.{Format}
 use Rattle.dl_table.specs.declared.form.Format.TheVariants.{Dwarf32, Dwarf64}
 use Rattle.dl_field.specs.declared.field_step.FieldStep.{FieldStep}
 use Rattle.dl_field.specs.declared.field_step.FieldStep.TheVariants as byte_makes
+use Rattle.dl_head.specs.HeaderLayout.{older_params, from_older_version, from_header_length, from_address_size}
+use Rattle.dl_head.specs.Dialect.{older_size}
+use Rattle.dl_head.specs.HeaderLayout.{format_alone}
+use Rattle.dl_head.specs.Place.{IsOlder, IsOfVersion, IsBefore}
+use Rattle.dl_field.specs.declared.params.Params.{Params}
+use Rattle.dl_field.specs.Layout.{Layout, following}
+use Rattle.dl_field.specs.ListPlace.{IsFreshList}
+use Rattle.dl_field.specs.declared.list_reader.ListKind.TheVariants as kind
+use Rattle.dl_head.proofs.HeaderEnds.{before_own, before_older}
+use Rattle.dl_head.proofs.CutLemmas.{following_all-append}
+use Rattle.dl_head.specs.declared.dialect.Dialect.{Dialect}
 use Rattle.dl_head.specs.declared.reader.HeadReader.{HeadReader}
 use Rattle.dl_table.specs.declared.fault.FaultKind.{FaultKind}
 use Rattle.dl_table.specs.declared.fault.FaultKind.TheVariants as fault
@@ -111,69 +123,166 @@ version_spelt r items rest first byte n is one e =
     (w ++ byte ∷ [])) one ∙ ap (λ (k : ℕ). good (number_is k)) (sym e)
 
 pub foreign_follows : (r : HeadReader) (items : List Item) (n : ℕ) → items ≡ length_item r ∷ [] → n ≢ 5
-    → following_all (header_layout r.dialect) (items ++ number_is n ∷ []) ≡ foreign_version n
-foreign_follows r items n is other =
+    → older_size r.dialect n ≡ None → following_all (header_layout r.dialect) (items ++ number_is n ∷ [])
+    ≡ foreign_version n
+foreign_follows r items n is other none =
     ap (λ (l : List Item). following_all (header_layout r.dialect) (l ++ number_is n ∷ [])) is
-    ∙ rw (ne_eqb n 5 other) refl
+    ∙ rw (ne_eqb n 5 other, none) refl
 
 pub items_on : (items is : List Item) (i j : Item) → items ≡ is → i ≡ j → items ++ i ∷ [] ≡ is ++ j ∷ []
 items_on items is i j e f = ap (λ (l : List Item). l ++ i ∷ []) e ∙ ap (λ (k : Item). is ++ k ∷ []) f
 
+-- after an older version that is read
+pub older_early : (new : HeadReader) (items : List Item) → new.params.version ≢ 5
+    → items ≡ length_item new ∷ number_is new.params.version ∷ [] → new.end ≡ Some (end_of_unit new)
+    → new.overrun ≡ fault.UnitOverrun → IsBefore new → Early new items (before_header_length new)
+older_early new items other is end overrun before = record {
+  items_are = is ∙ sym (before_older new other);
+  end = end;
+  overrun = overrun;
+  before = before;
+}
+
 -- ---- header_length
 
+-- what is read next after the fields before header_length, by the version
+
+pub record AtLength (r : HeadReader) : Type 0 where
+  pub q : Params
+  pub follows : following_all (header_layout r.dialect) (before_header_length r) ≡ from_header_length r.unit_length q
+  pub format : q.format ≡ r.params.format
+  pub number : q.version ≡ r.params.version
+  pub late : from_minimum_length q ≡ from_minimum_length r.params
+
+older_follows : (r : HeadReader) → (is : IsOlder r)
+    → following_all (header_layout r.dialect) (length_item r ∷ number_is r.params.version ∷ [])
+    ≡ from_header_length r.unit_length (older_params r.params.format r.params.version r.params.address_size)
+older_follows r is =
+    ap (λ (own : Bool). if own then from_address_size r.unit_length (format_alone r.params.format)
+    else from_older_version r.params.format r.unit_length r.params.version (older_size r.dialect r.params.version))
+    (ne_eqb r.params.version 5 is.other)
+    ∙ ap (λ (o : Option ℕ). from_older_version r.params.format r.unit_length r.params.version o) is.size
+
+pub at_length : (r : HeadReader) → IsOfVersion r → AtLength r
+at_length r (inl five) = record {
+  q = record (format_alone r.params.format) {
+    address_size = r.params.address_size;
+    segment_selector_size = r.params.segment_selector_size;
+  };
+  follows = ap (λ (l : List Item). following_all (header_layout r.dialect) l) (before_own r five);
+  format = refl;
+  number = sym five;
+  late = ap (λ (v : ℕ). from_minimum_length (record r.params { version = v })) (sym five);
+}
+at_length r (inr older) = record {
+  q = older_params r.params.format r.params.version r.params.address_size;
+  follows = ap (λ (l : List Item). following_all (header_layout r.dialect) l) (before_older r older.other)
+      ∙ older_follows r older;
+  format = refl;
+  number = refl;
+  late = ap (λ (s : ℕ). from_minimum_length (record r.params {
+    segment_selector_size = s;
+    maximum_operations_per_instruction = 1;
+  })) (sym older.segments)
+      ∙ ap (λ (m : ℕ). from_minimum_length (record r.params { maximum_operations_per_instruction = m }))
+      (sym older.operations);
+}
+
+length_spelt : (order : Order) (unit n : ℕ) (q : Params) (w : List ℕ)
+    → length w ≡ offset_size q.format → n ≡ fixed order w
+    → field_spelt order (from_header_length unit q) w
+    ≡ judged (objection (header_length q.format (unit - fixed_part q.format q.version)) n) n
+length_spelt order unit n q w size e = rw (eq-eqb _ _ size, ← e) refl
+
 pub header_length_spelt : (r : HeadReader) (items : List Item) (w : List ℕ) (n : ℕ) → items ≡ before_header_length r
-    → length w ≡ offset_size r.params.format → n ≡ fixed r.dialect.order w
+    → IsOfVersion r → length w ≡ offset_size r.params.format → n ≡ fixed r.dialect.order w
     → field_spelt r.dialect.order (following_all (header_layout r.dialect) items) w
-    ≡ judged (objection (header_length r.params.format (r.unit_length - fixed_part r.params.format)) n) n
-header_length_spelt r items w n is size e =
+    ≡ judged (objection (header_length r.params.format (r.unit_length - fixed_part r.params.format r.params.version))
+    n) n
+header_length_spelt r items w n is of size e =
+    let a = at_length r of in
     ap (λ (l : List Item). field_spelt r.dialect.order (following_all (header_layout r.dialect) l) w) is
-    ∙ rw (eq-eqb _ _ size, ← e) refl
+    ∙ ap (λ (l : Layout). field_spelt r.dialect.order l w) a.follows
+    ∙ length_spelt r.dialect.order r.unit_length n a.q w (size ∙ ap offset_size (sym a.format)) e
+    ∙ ap (λ (f : Format). judged (objection (header_length f (r.unit_length - fixed_part f a.q.version)) n) n) a.format
+    ∙ ap (λ (v : ℕ). judged (objection (header_length r.params.format (r.unit_length - fixed_part r.params.format v))
+    n) n)
+    a.number
 
 pub header_length_good : (r : HeadReader) (items : List Item) (w : List ℕ) (n : ℕ) → items ≡ before_header_length r
-    → length w ≡ offset_size r.params.format → n ≡ fixed r.dialect.order w
-    → n ≤ r.unit_length - fixed_part r.params.format
+    → IsOfVersion r → length w ≡ offset_size r.params.format → n ≡ fixed r.dialect.order w
+    → n ≤ r.unit_length - fixed_part r.params.format r.params.version
     → field_spelt r.dialect.order (following_all (header_layout r.dialect) items) w ≡ good (number_is n)
-header_length_good r items w n is size e le = header_length_spelt r items w n is size e
-    ∙ rw (le-leb n (r.unit_length - fixed_part r.params.format) le) refl
+header_length_good r items w n is of size e le = header_length_spelt r items w n is of size e
+    ∙ rw (le-leb n (r.unit_length - fixed_part r.params.format r.params.version) le) refl
 
 pub header_length_bad : (r : HeadReader) (items : List Item) (w : List ℕ) (n : ℕ) → items ≡ before_header_length r
-    → length w ≡ offset_size r.params.format → n ≡ fixed r.dialect.order w
-    → r.unit_length - fixed_part r.params.format + 1 ≤ n
+    → IsOfVersion r → length w ≡ offset_size r.params.format → n ≡ fixed r.dialect.order w
+    → r.unit_length - fixed_part r.params.format r.params.version + 1 ≤ n
     → field_spelt r.dialect.order (following_all (header_layout r.dialect) items) w ≡ bad fault.HeaderBeyondUnit
-header_length_bad r items w n is size e lt = header_length_spelt r items w n is size e
-    ∙ rw (lt-leb n (r.unit_length - fixed_part r.params.format) (omega (arith, lt))) refl
+header_length_bad r items w n is of size e lt = header_length_spelt r items w n is of size e
+    ∙ rw (lt-leb n (r.unit_length - fixed_part r.params.format r.params.version) (omega (arith, lt))) refl
 
--- header_length is the fifth value
+-- where the header ends by its header_length
+before_ends : (r : HeadReader) (n : ℕ) → IsOfVersion r
+    → header_end (before_header_length r ++ number_is n ∷ [])
+    ≡ Some (initial_size r.params.format + fixed_part r.params.format r.params.version + n)
+before_ends r n (inl five) =
+    ap (λ (l : List Item). header_end (l ++ number_is n ∷ [])) (before_own r five)
+    ∙ ap (λ (v : ℕ). let o : Option ℕ = Some (initial_size r.params.format + fixed_part r.params.format v + n) in o)
+    (sym five)
+before_ends r n (inr older) =
+    ap (λ (l : List Item). header_end (l ++ number_is n ∷ [])) (before_older r older.other)
+    ∙ ends r.params.version older.other
+  where
+    ends : (v : ℕ) → v ≢ 5 → header_end (length_item r ∷ number_is v ∷ number_is n ∷ [])
+        ≡ Some (initial_size r.params.format + fixed_part r.params.format v + n)
+    ends v other = rw (ne_eqb v 5 other) refl
+
+before_unit : (r : HeadReader) (n : ℕ) → IsOfVersion r
+    → unit_end (before_header_length r ++ number_is n ∷ []) ≡ Some (end_of_unit r)
+before_unit r n (inl five) = ap (λ (l : List Item). unit_end (l ++ number_is n ∷ [])) (before_own r five)
+before_unit r n (inr older) = ap (λ (l : List Item). unit_end (l ++ number_is n ∷ [])) (before_older r older.other)
+
+-- after header_length
 pub header_length_late : (r new : HeadReader) (items : List Item) (n : ℕ) → Early r items (before_header_length r)
-    → following_all (header_layout r.dialect) (before_header_length r ++ number_is n ∷ [])
-    ≡ from_minimum_length new.params → end_of_unit new ≡ end_of_unit r
-    → new.end ≡ Some (initial_size r.params.format + fixed_part r.params.format + n) → new.overrun ≡ fault.HeaderOverrun
+    → IsOfVersion r → new.dialect
+    ≡ r.dialect → new.params ≡ r.params → end_of_unit new ≡ end_of_unit r
+    → new.end ≡ Some (initial_size r.params.format + fixed_part r.params.format r.params.version + n) → new.overrun
+    ≡ fault.HeaderOverrun
     → IsFresh new.table
+    → IsFreshList kind.Directories new.list
     → Late new (items ++ number_is n ∷ []) (from_minimum_length new.params)
-header_length_late r new items n early follows unit end overrun fresh = record {
+header_length_late r new items n early of order params unit end overrun fresh unlisted = record {
   tail = record {
-    follows = ap (λ (k : List Item). following_all (header_layout r.dialect) (k ++ number_is n ∷ []))
-        early.items_are ∙ follows;
-    unit = ap (λ (k : List Item). unit_end (k ++ number_is n ∷ [])) early.items_are ∙ ap (λ (k : ℕ). Some k) (sym unit);
-    header = initial_size r.params.format + fixed_part r.params.format + n;
-    header_ends = ap (λ (k : List Item). header_end (k ++ number_is n ∷ [])) early.items_are;
+    follows = ap (λ (d : Dialect). following_all (header_layout d) (items ++ number_is n ∷ [])) order
+        ∙ ap (λ (k : List Item). following_all (header_layout r.dialect) (k ++ number_is n ∷ []))
+        early.items_are ∙ following_all-append (header_layout r.dialect) (before_header_length r) (number_is n ∷ [])
+        ∙ ap (λ (l : Layout). following l (number_is n)) (at_length r of).follows ∙ (at_length r of).late
+        ∙ ap from_minimum_length (sym params);
+    unit = ap (λ (k : List Item). unit_end (k ++ number_is n ∷ [])) early.items_are ∙ before_unit r n of
+        ∙ ap (λ (k : ℕ). Some k) (sym unit);
+    header = initial_size r.params.format + fixed_part r.params.format r.params.version + n;
+    header_ends = ap (λ (k : List Item). header_end (k ++ number_is n ∷ [])) early.items_are ∙ before_ends r n of;
     end = end;
     overrun = overrun;
   };
   fresh = fresh;
+  unlisted = unlisted;
 }
 
 -- header_length is whole
 pub started_header : (old new : HeadReader) (n : ℕ) (items : List Item) (w : List ℕ) (result : FieldStep)
     → Early old items (before_header_length old)
+    → IsOfVersion old
     → length w ≡ offset_size old.params.format → n ≡ fixed old.dialect.order w → StartsHeader old n result new
     → Made old.dialect items w result new
-started_header old new n items w byte_makes.Ends early size is s =
-    (number_is n, header_length_good old items w n early.items_are size is s.0, s.1 items early)
-started_header old new n items w (byte_makes.Refuses kind) early size is s =
-    header_length_bad old items w n early.items_are size is s.0 ∙ ap (λ (k : FaultKind). bad k) (sym s.1)
-started_header old new n items w byte_makes.Within early size is s = absurd s
-started_header old new n items w byte_makes.NoMemory early size is s = absurd s
+started_header old new n items w byte_makes.Ends early of size is s =
+    (number_is n, header_length_good old items w n early.items_are of size is s.0, s.1 items early of)
+started_header old new n items w (byte_makes.Refuses kind) early of size is s =
+    header_length_bad old items w n early.items_are of size is s.0 ∙ ap (λ (k : FaultKind). bad k) (sym s.1)
+started_header old new n items w byte_makes.Within early of size is s = absurd s
+started_header old new n items w byte_makes.NoMemory early of size is s = absurd s
 
 pub header_counts : (old new : HeadReader) (n : ℕ) (result : FieldStep) → StartsHeader old n result new
     → SameCounts old new

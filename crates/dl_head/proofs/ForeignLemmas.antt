@@ -1,7 +1,7 @@
 -- A foreign version stays that of its unit.
-use Rattle.dl_head.specs.declared.dialect.Dialect.{Dialect}
 use Rattle.std.proofs.Common.{◌≡◌, ℕ, List, [], ◌∷◌, ◌++◌, Some, refl, ap, ◌∙◌, append-nil}
 use Rattle.dl_num.specs.declared.fixed.Order.{Order}
+use Rattle.dl_head.specs.declared.dialect.Dialect.{Dialect}
 use Rattle.dl_field.specs.Layout.{Layout, foreign_version, Item, following_all}
 use Rattle.dl_head.specs.HeaderLayout.{header_layout}
 use Rattle.dl_head.specs.Header.{Cut, cut_after, cut, foreign_in, foreign_made}

@@ -1,9 +1,9 @@
 -- The header reader in its tables: from a byte of the current table to the header's.
-use Rattle.dl_head.specs.declared.dialect.Dialect.{Dialect}
 use Rattle.std.proofs.Common.{◌≡◌, ℕ, ◌+◌, ◌≤◌, List, [], ◌∷◌, ◌++◌, length, Some, refl, sym, ap, subst}
 use Rattle.std.proofs.Common.{◌∙◌, arith, length-append}
 use Rattle.std.proofs.lemmas.Bool.{eqb-true}
 use Rattle.dl_num.specs.declared.fixed.Order.{Order}
+use Rattle.dl_head.specs.declared.dialect.Dialect.{Dialect}
 use Rattle.dl_table.specs.declared.form.Format.{Format}
 use Rattle.dl_head.specs.declared.reader.HeadReader.{HeadReader}
 use Rattle.dl_head.specs.declared.reader.Phase.{Phase}
@@ -45,7 +45,7 @@ keeps_same old new byte_makes.Ends s = tt
 keeps_same old new (byte_makes.Refuses kind) s = s
 keeps_same old new byte_makes.NoMemory s = tt
 
-same_end : (old new : HeadReader) → SameFields old new → end_of_unit new ≡ end_of_unit old
+pub same_end : (old new : HeadReader) → SameFields old new → end_of_unit new ≡ end_of_unit old
 same_end old new s = ap (λ (f : Format). initial_size f + new.unit_length) s.format
     ∙ ap (λ (n : ℕ). initial_size old.params.format + n) s.unit_length
 
@@ -53,7 +53,7 @@ same_end old new s = ap (λ (f : Format). initial_size f + new.unit_length) s.fo
 pub after_same : (old new : HeadReader) (items : List Item) (layout : Layout) → SameFields old new
     → Past old items layout → Past new items layout
 after_same old new items layout s b = record {
-  follows = b.follows;
+  follows = ap (λ (o : Dialect). following_all (header_layout o) items) s.dialect ∙ b.follows;
   unit = b.unit ∙ ap (λ (n : ℕ). Some n) (sym (same_end old new s));
   header = b.header;
   header_ends = b.header_ends;
@@ -96,7 +96,8 @@ table_goes_on old new mid items rest bytes byte_makes.Ends next in_old push goin
       ap (λ (l : Layout). field_spelt old.dialect.order l (rest ++ bytes)) in_old.tail.follows ∙ made.1,
       to (items ++ made.0 ∷ []) []
           (table_in old new mid (items ++ made.0 ∷ []) (following in_old.layout made.0) [] next s e going
-          (after_on old new items in_old.layout (following in_old.layout made.0) made.0 in_old.tail refl s.end
+          (after_on old new items in_old.layout (following in_old.layout made.0) made.0 in_old.tail refl s.dialect
+          s.end
           s.overrun (same_end old new s)) made.2),
     )
 table_goes_on old new mid items rest bytes (byte_makes.Refuses kind) next in_old push going e s to =
@@ -119,7 +120,7 @@ table_stays old new mid items rest next in_old same e s =
     (after_same old new items in_old.layout s in_old.tail)
     (table_same old.dialect.order old.table mid old.params.format next in_old.layout rest same in_old.at)
 
-no_rest : (rest bytes : List ℕ) → 1 ≤ length bytes → rest ++ bytes ≡ [] → ⊥
+pub no_rest : (rest bytes : List ℕ) → 1 ≤ length bytes → rest ++ bytes ≡ [] → ⊥
 no_rest rest bytes some e = omega (arith, some, ap length e, length-append rest bytes)
 
 -- where the table is whole, the bytes end its last field
@@ -164,13 +165,13 @@ table_ends old new mid d items rest bytes result next is push some whole taken s
       e.0,
       ap (λ (l : Layout). field_spelt old.dialect.order l (rest ++ bytes)) is.tail.follows ∙ e.2,
       to (items ++ e.0 ∷ []) (after_on old new items is.layout (next d) e.0 is.tail
-          (taken (following is.layout e.0) e.3).0 s.end s.overrun (same_end old new s)),
+          (taken (following is.layout e.0) e.3).0 s.dialect s.end s.overrun (same_end old new s)),
     )
 
 -- ---- the cells
 
 -- cells beside those that a byte adds
-adds_beside : (order : Order) (layout : Layout) (rest w : List ℕ) (result : FieldStep) (n before after old new : ℕ)
+pub adds_beside : (order : Order) (layout : Layout) (rest w : List ℕ) (result : FieldStep) (n before after old new : ℕ)
     → old ≡ n + before → new ≡ n + after → Adds order layout rest w result before after
     → Adds order layout rest w result old new
 adds_beside order layout rest w byte_makes.Within n before after old new e f adds = omega (arith, e, f, adds)

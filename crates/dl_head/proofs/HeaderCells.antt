@@ -1,10 +1,15 @@
 -- The fields of a header hold the cells of its tables.
-use Rattle.dl_head.specs.declared.dialect.Dialect.{Dialect}
 use Rattle.std.proofs.Common.{◌≡◌, ℕ, zero, suc, ◌+◌, ◌-◌, ◌≤◌, List, [], ◌∷◌, ◌++◌, length, Option, Some, None, Ok}
-use Rattle.std.proofs.Common.{refl, ap, subst, ◌∙◌, arith, inl, inr, length-append, sum_by}
-use Rattle.std.proofs.lemmas.Bool.{cases_eq, ne_eqb}
+use Rattle.std.proofs.Common.{refl, ap, subst, ◌∙◌, arith, inl, inr, length-append, sum_by, drop}
+use Rattle.std.proofs.lemmas.Bool.{cases_eq, ne_eqb, eq-eqb, cases_lt, lt-ltb, le-ltb}
 use Rattle.std.proofs.lemmas.List.Sums.{sum_by-cons, sum_by_push}
 use Rattle.dl_num.specs.declared.fixed.Order.{Order}
+use Rattle.dl_field.specs.Layout.{path_or_end, listed_from, listed_directory, listed_file}
+use Rattle.dl_head.specs.HeaderLayout.{from_older_version, from_older_directories, from_older_files, from_files}
+use Rattle.dl_head.specs.HeaderLayout.{from_end}
+use Rattle.dl_head.specs.HeaderLayout.{after_minimum_length, older_params, from_default_is_stmt}
+use Rattle.dl_head.specs.Dialect.{older_size}
+use Rattle.dl_head.specs.declared.dialect.Dialect.{Dialect}
 use Rattle.dl_table.specs.declared.form.Format.{Format}
 use Rattle.dl_table.specs.declared.form.Form.{Form}
 use Rattle.dl_field.specs.declared.params.Params.{Params}
@@ -12,7 +17,7 @@ use Rattle.dl_table.specs.declared.table.Pair.{Pair}
 use Rattle.dl_table.specs.TableData.{TableData}
 use Rattle.dl_field.specs.HeaderData.{HeaderData}
 use Rattle.dl_table.specs.Value.{Value, value_spelt}
-use Rattle.dl_field.specs.Layout.{NumberField, version, Layout, number_then, form_then, value_then, foreign_version}
+use Rattle.dl_field.specs.Layout.{NumberField, version, Layout, number_then, form_then, value_then}
 use Rattle.dl_field.specs.Layout.{last_entry, Item, following, following_all, pairs_layout, entry_layout}
 use Rattle.dl_field.specs.Layout.{entries_layout, table_layout}
 use Rattle.dl_head.specs.HeaderLayout.{header_layout, lengths_layout, tables_layout, signed_byte, from_address_size}
@@ -25,9 +30,10 @@ use Rattle.dl_head.specs.Cells.{cut_cells}
 use Rattle.dl_head.specs.Laws.{HeaderHoldsItsCells}
 use Rattle.dl_field.proofs.FieldLemmas.{none_some}
 use Rattle.dl_head.proofs.HeaderLaws.{made_last, header_cut}
-use Rattle.dl_head.proofs.FirstFields.{is_length, is_number, after_length}
+use Rattle.dl_head.proofs.FirstFields.{is_length, is_number}
+use Rattle.dl_head.proofs.Openings.{after_length}
 use Rattle.dl_field.proofs.GoodLemmas.{value_item, is_form}
-use Rattle.dl_head.proofs.CellLemmas.{items_few}
+use Rattle.dl_head.proofs.CellLemmas.{header_few, path_cases}
 
 -- the fields of these values, from a layout on, make a header
 record Makes (order : Order) (h : HeaderData) (layout : Layout) (items : List Item) : Type 0 where
@@ -40,6 +46,7 @@ record Then (order : Order) (h : HeaderData) (layout : Layout) (held : ℕ) (ite
   later : List Item
   makes : Makes order h layout later
   sum : sum_by item_cells items ≡ held + sum_by item_cells later
+  fewer : length later ≤ length items
 
 none_made : {h : HeaderData} → ◌≡◌ {A = Option HeaderData} None (Some h) → ⊥
 none_made {h = h} e = none_some {a = h} refl e
@@ -56,6 +63,7 @@ after_number order h field next (i ∷ items) m =
         later = items;
         makes = subst (λ (j : Item). Makes order h (following (number_then field next) j) items) n.item rest;
         sum = omega (arith, sum_by-cons item_cells i items, ap item_cells n.item);
+        fewer = omega arith;
       },
     )
 
@@ -71,6 +79,7 @@ after_form order h next (i ∷ items) m =
         later = items;
         makes = subst (λ (j : Item). Makes order h (following (form_then next) j) items) f.1 rest;
         sum = omega (arith, sum_by-cons item_cells i items, ap item_cells f.1);
+        fewer = omega arith;
       },
     )
 
@@ -87,6 +96,7 @@ after_value order h format f next (i ∷ items) m =
         later = items;
         makes = subst (λ (j : Item). Makes order h (following (value_then format f next) j) items) v.2 rest;
         sum = omega (arith, sum_by-cons item_cells i items, ap item_cells v.2);
+        fewer = omega arith;
       },
     )
 
@@ -95,7 +105,7 @@ after_pairs : (order : Order) (h : HeaderData) (count : ℕ) (before : List Pair
     → (pairs : List Pair) × Then order h (next pairs) (length pairs - length before) items
     × (length before ≤ length pairs)
 after_pairs order h zero before next items m =
-    (before, record { later = items; makes = m; sum = omega arith }, omega arith)
+    (before, record { later = items; makes = m; sum = omega arith; fewer = omega arith }, omega arith)
 after_pairs order h (suc count) before next items m =
     let code = after_number order h _ _ items m in
     let f = after_form order h _ code.1.later code.1.makes in
@@ -108,6 +118,7 @@ after_pairs order h (suc count) before next items m =
         makes = more.1.makes;
         sum = omega
             (arith, code.1.sum, f.1.sum, more.1.sum, more.2, size);
+        fewer = omega (arith, code.1.fewer, f.1.fewer, more.1.fewer);
       },
       omega (arith, more.2, size),
     )
@@ -115,13 +126,17 @@ after_pairs order h (suc count) before next items m =
 after_entry : (order : Order) (h : HeaderData) (format : Format) (pairs : List Pair) (before : List Value)
     (next : List Value → Layout) (items : List Item)
     → Makes order h (entry_layout format pairs before next) items
-    → (entry : List Value) × (later : List Item) × Makes order h (next entry) later
-    × (sum_by item_cells items + sum_by value_cells before ≡ sum_by value_cells entry + sum_by item_cells later)
-after_entry order h format [] before next items m = (before, items, m, omega arith)
+    → (entry : List Value) × (later : (l : List Item) × (length l ≤ length items)) × Makes order h (next entry) later.0
+    × (sum_by item_cells items + sum_by value_cells before ≡ sum_by value_cells entry + sum_by item_cells later.0)
+after_entry order h format [] before next items m = (before, (items, omega arith), m, omega arith)
 after_entry order h format (p ∷ pairs) before next items m =
     let v = after_value order h format p.form _ items m in
-    let more = after_entry order h format pairs (before ++ v.0 ∷ []) next v.1.later v.1.makes in
-    (more.0, more.1, more.2, omega (arith, v.1.sum, more.3, sum_by_push value_cells before v.0))
+    let more = after_entry order h format pairs (before ++ v.0 ∷ []) next v.1.later v.1.makes in (
+      more.0,
+      (more.1.0, omega (arith, more.1.1, v.1.fewer)),
+      more.2,
+      omega (arith, v.1.sum, more.3, sum_by_push value_cells before v.0),
+    )
 
 abbrev entry_cells : List Value → ℕ
 entry_cells entry = sum_by value_cells entry
@@ -129,15 +144,21 @@ entry_cells entry = sum_by value_cells entry
 after_entries : (order : Order) (h : HeaderData) (format : Format) (pairs : List Pair) (count : ℕ)
     (before : List (List Value)) (next : List (List Value) → Layout) (items : List Item)
     → Makes order h (entries_layout format pairs count before next) items
-    → (entries : List (List Value)) × (later : List Item) × Makes order h (next entries) later
-    × (sum_by item_cells items + sum_by entry_cells before ≡ sum_by entry_cells entries + sum_by item_cells later)
-after_entries order h format pairs zero before next items m = (before, items, m, omega arith)
+    → (entries : List (List Value)) × (later : (l : List Item) × (length l ≤ length items))
+    × Makes order h (next entries) later.0
+    × (sum_by item_cells items + sum_by entry_cells before ≡ sum_by entry_cells entries + sum_by item_cells later.0)
+after_entries order h format pairs zero before next items m = (before, (items, omega arith), m, omega arith)
 after_entries order h format pairs (suc count) before next items m =
     let e = after_entry order h format pairs [] (λ entry. entries_layout format pairs count (before ++ entry ∷ []) next)
     items m in
-    let more = after_entries order h format pairs count (before ++ e.0 ∷ []) next e.1 e.2 in
-    let none : sum_by value_cells [] ≡ 0 = refl in
-    (more.0, more.1, more.2, omega (arith, e.3, more.3, none, sum_by_push entry_cells before e.0))
+    let more = after_entries order h format pairs count (before ++ e.0 ∷ []) next e.1.0 e.2 in
+    let none : sum_by value_cells [] ≡ 0 = refl in (
+      more.0,
+      (more.1.0, omega (arith, more.1.1, e.1.1)),
+      more.2,
+      omega
+          (arith, e.3, more.3, none, sum_by_push entry_cells before e.0),
+    )
 
 after_table : (order : Order) (h : HeaderData) (format : Format) (next : TableData → Layout) (items : List Item)
     → Makes order h (table_layout format next) items
@@ -150,20 +171,29 @@ after_table order h format next items m =
     let none : sum_by entry_cells [] ≡ 0 = refl in (
       record { format = format; pairs = pairs.0; entries = all.0 },
       record {
-        later = all.1;
+        later = all.1.0;
         makes = all.2;
         sum = omega (arith, count.1.sum, pairs.1.sum, entries.1.sum, all.3, none);
+        fewer = omega (arith, count.1.fewer, pairs.1.fewer, entries.1.fewer, all.1.1);
       },
     )
 
 after_lengths : (order : Order) (h : HeaderData) (opcode count : ℕ) (before : List ℕ) (next : List ℕ → Layout)
     (items : List Item) → Makes order h (lengths_layout opcode count before next) items
     → (lengths : List ℕ) × Then order h (next lengths) 0 items
-after_lengths order h opcode zero before next items m = (before, record { later = items; makes = m; sum = omega arith })
+after_lengths order h opcode zero before next items m
+    = (before, record { later = items; makes = m; sum = omega arith; fewer = omega arith })
 after_lengths order h opcode (suc count) before next items m =
     let n = after_number order h _ _ items m in
-    let more = after_lengths order h (opcode + 1) count (before ++ n.0 ∷ []) next n.1.later n.1.makes in
-    (more.0, record { later = more.1.later; makes = more.1.makes; sum = omega (arith, n.1.sum, more.1.sum) })
+    let more = after_lengths order h (opcode + 1) count (before ++ n.0 ∷ []) next n.1.later n.1.makes in (
+      more.0,
+      record {
+        later = more.1.later;
+        makes = more.1.makes;
+        sum = omega (arith, n.1.sum, more.1.sum);
+        fewer = omega (arith, n.1.fewer, more.1.fewer);
+      },
+    )
 
 header_is : (g h : HeaderData) → ◌≡◌ {A = Option HeaderData} (Some g) (Some h) → g ≡ h
 header_is g h e = cc
@@ -173,9 +203,10 @@ last_items : (order : Order) (g h : HeaderData) (items : List Item) → Makes or
 last_items order g h [] m = (header_is g h m.made, refl)
 last_items order g h (i ∷ items) m = absurd (none_some {a = Ok i} refl m.spelt.3)
 
-tables_hold : (order : Order) (h : HeaderData) (p : Params) (items : List Item) → Makes order h (tables_layout p) items
+own_tables_hold : (order : Order) (h : HeaderData) (p : Params) (items : List Item)
+    → Makes order h (table_layout p.format (from_files p)) items
     → sum_by item_cells items ≡ header_cells h
-tables_hold order h p items m =
+own_tables_hold order h p items m =
     let d = after_table order h p.format
     (λ directories. table_layout p.format λ files. last_entry
     (record { params = p; directories = directories; files = files })) items m in
@@ -184,15 +215,63 @@ tables_hold order h p items m =
     let end = last_items order (record { params = p; directories = d.0; files = f.0 }) h f.1.later f.1.makes in
     omega (arith, d.1.sum, f.1.sum, end.1) ∙ ap header_cells end.0
 
-own : (order : Order) (h : HeaderData) (format : Format) (n v : ℕ) (items : List Item)
-    → Makes order h (after_length format n v) items → v ≡ 5
-own order h format n v items m = elim (cases_eq v 5) [
-  | inl same ↦ same
-  | inr other ↦ absurd (none_foreign items (rw (ne_eqb v 5 other) at m))
-] where
-  none_foreign : (items : List Item) → Makes order h (foreign_version v) items → ⊥
-  none_foreign [] m = none_made m.made
-  none_foreign (i ∷ items) m = none_some {a = Ok i} refl m.spelt.3
+-- the entries of such a table, by the length of what is left
+after_list : (order : Order) (h : HeaderData) (format : Format) (pairs : List Pair) (next : TableData → Layout)
+    (n : ℕ) (entries : List (List Value)) (items : List Item)
+    → length items ≤ n
+    → Makes order h (path_or_end format pairs entries next) items → (t : TableData) × (later : List Item)
+    × Makes order h (next t) later
+    × (sum_by item_cells items + sum_by entry_cells entries ≡ table_cells t + sum_by item_cells later)
+after_list order h format pairs next n entries [] le m = absurd (none_made m.made)
+after_list order h format pairs next zero entries (i ∷ items) le m = absurd (omega (arith, le))
+after_list order h format pairs next (suc n) entries (i ∷ items) le m =
+    let layout = path_or_end format pairs entries next in
+    let rest : Makes order h (following layout i) items =
+    record { bytes = m.spelt.1; spelt = m.spelt.4; made = m.made } in
+    elim (path_cases (length pairs) m.spelt.0 i m.spelt.3) [
+      | inl end ↦
+          let t : TableData = record { format = format; pairs = pairs; entries = entries } in (
+            t,
+            items,
+            subst (λ (j : Item). Makes order h (following layout j) items) end rest,
+            omega (arith, sum_by-cons item_cells i items, ap item_cells end),
+          )
+      | inr path ↦
+          let first : Makes order h (listed_from format pairs entries (path.0 ∷ []) next) items =
+          subst (λ (j : Item). Makes order h (following layout j) items) path.1 rest in
+          let e = after_entry order h format (drop 1 pairs) (path.0 ∷ [])
+          (λ entry. path_or_end format pairs (entries ++ entry ∷ []) next) items first in
+          let more = after_list order h format pairs next n (entries ++ e.0 ∷ []) e.1.0 (omega (arith, e.1.1, le))
+          e.2 in (
+            more.0,
+            more.1,
+            more.2,
+            omega (
+              arith,
+              sum_by-cons item_cells i items,
+              ap item_cells path.1,
+              e.3,
+              more.3,
+              sum_by_push entry_cells entries e.0,
+            ),
+          )
+    ]
+
+older_tables_hold : (order : Order) (h : HeaderData) (p : Params) (items : List Item)
+    → Makes order h (from_older_directories p) items → sum_by item_cells items ≡ header_cells h
+older_tables_hold order h p items m =
+    let none : sum_by entry_cells [] ≡ 0 = refl in
+    let d = after_list order h p.format listed_directory (from_older_files p) (length items) [] items (omega arith) m in
+    let f = after_list order h p.format listed_file (from_end p d.0) (length d.1) [] d.1 (omega arith) d.2 in
+    let end = last_items order (record { params = p; directories = d.0; files = f.0 }) h f.1 f.2 in
+    omega (arith, d.3, f.3, end.1, none) ∙ ap header_cells end.0
+
+tables_hold : (order : Order) (h : HeaderData) (p : Params) (items : List Item) → Makes order h (tables_layout p) items
+    → sum_by item_cells items ≡ header_cells h
+tables_hold order h p items m = elim (cases_eq p.version 5) [
+  | inl five ↦ own_tables_hold order h p items (rw (eq-eqb p.version 5 five) at m)
+  | inr other ↦ older_tables_hold order h p items (rw (ne_eqb p.version 5 other) at m)
+]
 
 -- from this layout on a header holds its cells
 abbrev Holds : Order → HeaderData → Layout → Type 0
@@ -211,25 +290,49 @@ lengths_hold order h p items m =
     lengths.1.makes in
     omega (arith, lengths.1.sum, tables)
 
-late_hold : (order : Order) (h : HeaderData) (p : Params) → Holds order h (from_minimum_length p)
-late_hold order h p =
-    number_holds order h _ _ λ minimum. number_holds order h _ _ λ maximum. number_holds order h _ _
-    λ is_stmt. number_holds order h _ _ λ base.
+default_hold : (order : Order) (h : HeaderData) (p : Params) → Holds order h (from_default_is_stmt p)
+default_hold order h p =
+    number_holds order h _ _ λ is_stmt. number_holds order h _ _ λ base.
     number_holds order h _ _ λ range. number_holds order h _ _ λ opcodes.
     lengths_hold order h (record p {
-      minimum_instruction_length = minimum;
-      maximum_operations_per_instruction = maximum;
       default_is_stmt = is_stmt;
       line_base = signed_byte base;
       line_range = range;
       opcode_base = opcodes;
     })
 
+after_minimum_hold : (order : Order) (h : HeaderData) (p : Params) → Holds order h (after_minimum_length p)
+after_minimum_hold order h p items m = elim (cases_lt p.version 4) [
+  | inl old ↦ default_hold order h p items (rw (lt-ltb p.version 4 old) at m)
+  | inr new ↦ number_holds order h _ _
+      (λ maximum. default_hold order h (record p { maximum_operations_per_instruction = maximum })) items
+      (rw (le-ltb p.version 4 new) at m)
+]
+
+late_hold : (order : Order) (h : HeaderData) (p : Params) → Holds order h (from_minimum_length p)
+late_hold order h p =
+    number_holds order h _ _ λ minimum. after_minimum_hold order h (record p { minimum_instruction_length = minimum })
+
 fields_hold : (order : Order) (h : HeaderData) (unit_length : ℕ) (p : Params)
     → Holds order h (from_address_size unit_length p)
 fields_hold order h unit_length p =
     number_holds order h _ _ λ address. number_holds order h _ _ λ segment. number_holds order h _ _ λ header.
     late_hold order h (record p { address_size = address; segment_selector_size = segment })
+
+-- of an older version that is read
+older_hold : (order : Order) (h : HeaderData) (format : Format) (n v : ℕ) (o : Option ℕ)
+    → Holds order h (from_older_version format n v o)
+older_hold order h format n v None [] m = absurd (none_made m.made)
+older_hold order h format n v None (i ∷ items) m = absurd (none_some {a = Ok i} refl m.spelt.3)
+older_hold order h format n v (Some size) items m =
+    number_holds order h _ _ (λ header. late_hold order h (older_params format v size)) items m
+
+version_hold : (dialect : Dialect) (h : HeaderData) (format : Format) (n v : ℕ)
+    → Holds dialect.order h (after_length dialect format n v)
+version_hold dialect h format n v items m = elim (cases_eq v 5) [
+  | inl five ↦ fields_hold dialect.order h n (format_alone format) items (rw (eq-eqb v 5 five) at m)
+  | inr other ↦ older_hold dialect.order h format n v (older_size dialect v) items (rw (ne_eqb v 5 other) at m)
+]
 
 header_holds : (dialect : Dialect) (h : HeaderData) (items : List Item)
     → Makes dialect.order h (header_layout dialect) items → sum_by item_cells items ≡ header_cells h
@@ -238,18 +341,15 @@ header_holds dialect h (i ∷ items) m =
     let a = is_length dialect.order m.spelt.0 i m.spelt.3 in
     let rest : Makes dialect.order h (following (header_layout dialect) i) items =
     record { bytes = m.spelt.1; spelt = m.spelt.4; made = m.made } in
-    let next : Makes dialect.order h (number_then version (after_length a.format a.number)) items =
+    let next : Makes dialect.order h (number_then version (after_length dialect a.format a.number)) items =
     subst (λ (j : Item). Makes dialect.order h (following (header_layout dialect) j) items) a.item rest in
-    let v = after_number dialect.order h version (after_length a.format a.number) items next in
-    let five : v.0 ≡ 5 = own dialect.order h a.format a.number v.0 v.1.later v.1.makes in
-    let fields : Makes dialect.order h (from_address_size a.number (format_alone a.format)) v.1.later =
-    subst (λ (n : ℕ). Makes dialect.order h (after_length a.format a.number n) v.1.later) five v.1.makes in
     omega (
       arith,
       sum_by-cons item_cells i items,
       ap item_cells a.item,
-      v.1.sum,
-      fields_hold dialect.order h a.number (format_alone a.format) v.1.later fields,
+      number_holds dialect.order h version (after_length dialect a.format a.number)
+          (version_hold dialect h a.format a.number)
+          items next,
     )
 
 pub header_holds_its_cells : HeaderHoldsItsCells
@@ -258,7 +358,7 @@ header_holds_its_cells dialect h w v is =
     header_holds dialect h is.items (record { bytes = is.fields; spelt = is.spelt; made = is.made }) in
     let rest : rest_cells (following_all (header_layout dialect) is.items) (is.padding ++ v) ≡ 0 =
     ap (λ (l : Layout). rest_cells l (is.padding ++ v)) (made_last _ h is.made) in
-    let few = items_few dialect.order (header_layout dialect) is.items is.fields is.spelt in (
+    let few = header_few dialect is.items is.fields is.spelt in (
       ap (cut_cells dialect) (header_cut dialect h w v is) ∙ omega (arith, sum, rest),
       omega (arith, sum, few, ap length is.whole, length-append is.fields is.padding),
     )

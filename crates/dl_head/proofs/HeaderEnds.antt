@@ -1,8 +1,9 @@
 -- Where a unit or its header ends, by the fields that were read.
 use Rattle.std.proofs.Common.{◌<◌, ◌≡◌, ℕ, ◌+◌, ◌≤◌, List, [], ◌∷◌, ◌++◌, length, Option, Some, None, refl, sym, ap}
-use Rattle.std.proofs.Common.{subst, ◌∙◌, arith, length-append, append-nil}
+use Rattle.std.proofs.Common.{inl, inr, ◌≢◌, subst, ◌∙◌, arith, length-append, append-nil}
 use Rattle.std.proofs.lemmas.Bool.{ne_eqb, eq-eqb}
 use Rattle.dl_head.specs.declared.dialect.Dialect.{Dialect}
+use Rattle.dl_field.specs.Layout.{end_is as list_end}
 use Rattle.dl_head.specs.declared.reader.byte_field.ByteField.TheVariants as field
 use Rattle.dl_head.specs.declared.reader.Phase.{Phase}
 use Rattle.dl_head.specs.declared.reader.Phase.TheVariants as phase
@@ -14,11 +15,11 @@ use Rattle.dl_field.specs.Layout.{Layout, Item, length_is, number_is, form_is, v
 use Rattle.dl_head.specs.HeaderLayout.{header_layout, initial_size, fixed_part}
 use Rattle.dl_head.specs.Header.{SpellsFields, cut, unit_end, header_end}
 use Rattle.dl_head.specs.Refusal.{at_end, field_overrun}
-use Rattle.dl_head.specs.Place.{Early, Past, AtPhase, end_of_unit}
+use Rattle.dl_head.specs.Place.{Early, Past, AtPhase, end_of_unit, before_header_length, IsOfVersion, length_item}
 use Rattle.dl_head.specs.Standing.{Below, unit_known}
 use Rattle.dl_head.proofs.CutLemmas.{cut_of, cut_good, cut_sound, Sound}
-use Rattle.dl_head.proofs.FirstFields.{Opening, opening_of}
-use Rattle.dl_head.proofs.QuietLemmas.{header_end-append, unit_end-append, length_first, early}
+use Rattle.dl_head.proofs.Openings.{Opening, opening_of}
+use Rattle.dl_head.proofs.EarlyEnds.{header_end-append, unit_end-append, length_first, early_of}
 use Rattle.dl_field.proofs.FieldLemmas.{none_some}
 
 -- the header's end, or else the unit's, as far as they are known
@@ -84,12 +85,35 @@ start_end r items none end overrun = record {
   unit = ap (λ (o : Option ℕ). unit_known (end_of_unit r) o) end ∙ sym (ap unit_end none);
 }
 
+-- the fields before header_length, by the version
+pub before_own : (r : HeadReader) → r.params.version ≡ 5
+    → before_header_length r ≡ length_item r ∷ number_is 5 ∷ number_is r.params.address_size
+    ∷ number_is r.params.segment_selector_size ∷ []
+before_own r five = rw (eq-eqb r.params.version 5 five) refl
+
+pub before_older : (r : HeadReader) → r.params.version ≢ 5
+    → before_header_length r ≡ length_item r ∷ number_is r.params.version ∷ []
+before_older r other = rw (ne_eqb r.params.version 5 other) refl
+
+older_none : (r : HeadReader) → r.params.version ≢ 5
+    → header_end (length_item r ∷ number_is r.params.version ∷ []) ≡ None
+older_none r other = rw (ne_eqb r.params.version 5 other) refl
+
+before_end : (r : HeadReader) (items : List Item) → Early r items (before_header_length r) → IsOfVersion r
+    → EndIs r items
+before_end r items e (inl own) =
+    early_end r items (before_header_length r) e (ap header_end (before_own r own)) (ap unit_end (before_own r own))
+before_end r items e (inr older) =
+    early_end r items (before_header_length r) e
+    (ap header_end (before_older r older.other) ∙ older_none r older.other)
+    (ap unit_end (before_older r older.other))
+
 pub end_is : (r : HeadReader) (p : Phase) (items : List Item) (rest : List ℕ) → AtPhase r p items rest → EndIs r items
 end_is r (phase.UnitLength n) items rest at = start_end r items at.0.none at.0.end at.0.overrun
 end_is r (phase.LongUnitLength n) items rest at = start_end r items at.0.none at.0.end at.0.overrun
 end_is r phase.Version items rest at = early_end r items _ at.0 refl refl
 end_is r (phase.VersionEnd first) items rest at = early_end r items _ at.0 refl refl
-end_is r (phase.HeaderLength n) items rest at = early_end r items _ at.0 refl refl
+end_is r (phase.HeaderLength n) items rest at = before_end r items at.0 at.1
 end_is r (phase.Byte field.AddressSize) items rest at = early_end r items _ at.0 refl refl
 end_is r (phase.Byte field.SegmentSelectorSize) items rest at = early_end r items _ at.0 refl refl
 end_is r (phase.Byte field.MinimumInstructionLength) items rest at = after_end r items _ at.0.tail
@@ -101,8 +125,10 @@ end_is r (phase.Byte field.OpcodeBase) items rest at = after_end r items _ at.0.
 end_is r phase.OpcodeLength items rest at = after_end r items _ at.0.tail
 end_is r phase.Directories items rest at = after_end r items at.layout at.tail
 end_is r phase.Files items rest at = after_end r items at.layout at.tail
+end_is r phase.OlderDirectories items rest at = after_end r items at.layout at.tail
+end_is r phase.OlderFiles items rest at = after_end r items at.layout at.tail
 end_is r phase.Padding items rest at = after_end r items _ at
-end_is r (phase.Foreign v) items rest at = early_end r items _ at.0 refl refl
+end_is r (phase.Foreign v) items rest at = early_end r items _ at.0 (rw (ne_eqb v 5 at.1) refl) refl
 end_is r phase.Done items rest at = absurd at
 end_is r (phase.Failed f) items rest at = absurd at
 
@@ -121,12 +147,12 @@ header_room : (dialect : Dialect) (items : List Item) (i : Item) (w : List ℕ) 
     → SpellsFields dialect.order (header_layout dialect) (items ++ i ∷ []) w
     → header_end items ≡ None → header_end (items ++ i ∷ []) ≡ Some e → length w ≤ e
 header_room dialect items i w e s none h =
-    let o : Opening dialect.order (items ++ i ∷ []) w = opening_of dialect (items ++ i ∷ []) w e s h in
-    let small = early dialect o.format o.unit_length o.address o.segment o.header o.more items [] i w (sym o.items_are)
+    let o : Opening dialect (items ++ i ∷ []) w = opening_of dialect (items ++ i ∷ []) w e s h in
+    let small = early_of dialect (items ++ i ∷ []) w o items [] i w refl
     none s in
-    let same : Some (initial_size o.format + fixed_part o.format + o.header) ≡ Some e = sym (ap header_end o.items_are)
+    let same : Some (initial_size o.format + fixed_part o.format o.of_version + o.header) ≡ Some e = sym o.end
     ∙ h in
-    let is : initial_size o.format + fixed_part o.format + o.header ≡ e = cc in
+    let is : initial_size o.format + fixed_part o.format o.of_version + o.header ≡ e = cc in
     omega (arith, small, is)
 
 unit_room : (dialect : Dialect) (items : List Item) (i : Item) (w : List ℕ) (n : ℕ) → length w ≡ n + 1
@@ -138,10 +164,12 @@ unit_room dialect [] (length_is f m) w n size s lt =
 unit_room dialect [] (number_is m) w n size s lt = tt
 unit_room dialect [] (form_is f) w n size s lt = tt
 unit_room dialect [] (value_is v) w n size s lt = tt
+unit_room dialect [] (list_end m) w n size s lt = tt
 unit_room dialect (length_is f m ∷ items) i w n size s lt = omega (arith, size)
 unit_room dialect (number_is m ∷ items) i w n size s lt = tt
 unit_room dialect (form_is f ∷ items) i w n size s lt = tt
 unit_room dialect (value_is v ∷ items) i w n size s lt = tt
+unit_room dialect (list_end m ∷ items) i w n size s lt = tt
 
 -- the good fields up to a field's last byte
 spells_on : (dialect : Dialect) (b : List ℕ) (x : ℕ) (items : List Item) (rest : List ℕ) (i : Item)
@@ -197,11 +225,13 @@ unit_known_of (length_is f n ∷ items) more e h few = (initial_size f + n, refl
 unit_known_of (number_is n ∷ items) more e h few = absurd (none_some refl h)
 unit_known_of (form_is f ∷ items) more e h few = absurd (none_some refl h)
 unit_known_of (value_is v ∷ items) more e h few = absurd (none_some refl h)
+unit_known_of (list_end n ∷ items) more e h few = absurd (none_some refl h)
 unit_known_of [] [] e h few = absurd (none_some refl h)
 unit_known_of [] (length_is f n ∷ []) e h few = absurd (none_some refl h)
 unit_known_of [] (number_is n ∷ []) e h few = absurd (none_some refl h)
 unit_known_of [] (form_is f ∷ []) e h few = absurd (none_some refl h)
 unit_known_of [] (value_is v ∷ []) e h few = absurd (none_some refl h)
+unit_known_of [] (list_end n ∷ []) e h few = absurd (none_some refl h)
 unit_known_of [] (i ∷ j ∷ more) e h few = absurd (omega (arith, few))
 
 pub ends_on : (dialect : Dialect) (b : List ℕ) (x : ℕ) (items : List Item) (rest : List ℕ) (i : Item)
@@ -226,12 +256,12 @@ ends_on dialect b x items rest i e spelt below ends n stop unit header = on (hea
       let kept : before ≡ stop = some_same before stop (sym (header_end-append items (i ∷ []) before h) ∙ header) in
       omega (arith, ends known.0 before known.1 h, kept, same)
   on None h lt =
-      let o : Opening dialect.order (items ++ i ∷ []) w = opening_of dialect (items ++ i ∷ []) w stop s header in
+      let o : Opening dialect (items ++ i ∷ []) w = opening_of dialect (items ++ i ∷ []) w stop s header in
       let size : length w ≡ length b + 1 = length-append b (x ∷ []) in
       let lt' : length b < known.0 = subst (λ (m : Option ℕ). Below (length b) m) known.1 lt in
-      let whole : initial_size o.format + o.unit_length ≡ n = some_same _ n (sym (ap unit_end o.items_are) ∙ unit) in
-      let end : initial_size o.format + fixed_part o.format + o.header ≡ stop =
-      some_same _ stop (sym (ap header_end o.items_are) ∙ header) in
+      let whole : initial_size o.format + o.unit_length ≡ n = some_same _ n (sym o.unit ∙ unit) in
+      let end : initial_size o.format + fixed_part o.format o.of_version + o.header ≡ stop =
+      some_same _ stop (sym o.end ∙ header) in
       omega (arith, o.fits, o.size, size, lt', same, whole, end)
 
 -- bytes up to the end are bytes of the unit

@@ -1,5 +1,4 @@
 -- A header is what is cut off the front of bytes: the laws of headers.
-use Rattle.dl_head.specs.declared.dialect.Dialect.{Dialect}
 use Rattle.std.proofs.Common.{◌≡◌, ℕ, ◌+◌, ◌-◌, ◌≤◌, Bool, true, false, nat_le, ◌&&◌, if◌then◌else◌, List, [], ◌∷◌}
 use Rattle.std.proofs.Common.{◌++◌, length, take, drop, Option, Some, None, Ok, Err, refl, sym, ap, subst, ◌∙◌, arith}
 use Rattle.std.proofs.Common.{inl, inr, length-append, append_assoc, append-nil}
@@ -7,6 +6,8 @@ use Rattle.std.proofs.lemmas.Bool.{cases_lt, le-leb, lt-leb}
 use Rattle.std.proofs.lemmas.List.{take-append-drop, length-take-le}
 use Rattle.std.proofs.Math.Seq.{drop-append_seam, take-append-add}
 use Rattle.dl_num.specs.declared.fixed.Order.{Order}
+use Rattle.dl_field.specs.Layout.{path_or_end}
+use Rattle.dl_head.specs.declared.dialect.Dialect.{Dialect}
 use Rattle.dl_num.proofs.FrontLemmas.{front_before}
 use Rattle.dl_num.proofs.LebFrontLemmas.{true_false, and_left, and_right}
 use Rattle.dl_field.specs.HeaderData.{HeaderData}
@@ -27,6 +28,7 @@ made_last (initial_length_then n) h e = absurd (none_some refl e)
 made_last (number_then f n) h e = absurd (none_some refl e)
 made_last (form_then n) h e = absurd (none_some refl e)
 made_last (value_then f g n) h e = absurd (none_some refl e)
+made_last (path_or_end f p t n) h e = absurd (none_some refl e)
 made_last (foreign_version v) h e = absurd (none_some refl e)
 
 -- what is cut off bytes that begin with a header

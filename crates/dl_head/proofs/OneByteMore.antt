@@ -158,7 +158,8 @@ kept_stands r new b goes stands l at counts same_cells = record {
   ends_not (in_padding is tail) = ap ending is
   ends_not (in_foreign v is follows) = absurd
       (none_some (not_foreign r r.phase items goes (place_of r r.phase items rest refl l.0.at))
-      (ap foreign_made follows))
+      (ap (λ (d : Dialect). foreign_made (following_all (header_layout d) items)) (sym counts.dialect)
+      ∙ ap foreign_made follows))
 
   end_same : new.end ≡ r.end
   end_same = (end_is new new.phase items rest at).end ∙ sym (end_is r r.phase items rest l.0.at).end
@@ -220,8 +221,17 @@ new_stands r n is none size at taken start header directories files = record {
     },
     record {
       header = header;
-      cells_are = omega
-          (arith, directories, files, ap length fresh.pairs, ap length fresh.values, ap length fresh.pool);
+      cells_are = omega (
+        arith,
+        directories,
+        files,
+        ap length fresh.pairs,
+        ap length fresh.values,
+        ap length fresh.pool,
+        ap length at.before.unlisted.pairs,
+        ap length at.before.unlisted.values,
+        ap length at.before.unlisted.pool,
+      );
     },
   );
   taken = taken;

@@ -1,11 +1,29 @@
 -- One field more of the header reader: from where it is to where it goes.
-use Rattle.dl_head.specs.declared.dialect.Dialect.{Dialect}
 use Rattle.std.proofs.Common.{◌≡◌, ℕ, zero, suc, ◌+◌, ◌-◌, ◌<◌, ◌≤◌, Bool, true, nat_lt, if◌then◌else◌, ℤ, inl, inr, w8}
+use Rattle.std.proofs.Common.{◌≢◌, map}
 use Rattle.std.proofs.Common.{to_z, of_z, SFits, List, [], ◌∷◌, ◌++◌, length, Some, refl, sym, ap, subst, ◌∙◌, arith}
 use Rattle.std.proofs.Common.{length-append}
 use Rattle.std.proofs.lemmas.Int.{ints, to_z-of_z}
-use Rattle.std.proofs.lemmas.Bool.{cases_lt, lt-ltb, le-ltb, ltb-true}
+use Rattle.std.proofs.lemmas.Bool.{cases_lt, lt-ltb, le-ltb, ltb-true, cases_eq, eq-eqb, ne_eqb}
 use Rattle.dl_num.specs.declared.fixed.Order.{Order}
+use Rattle.dl_field.specs.Layout.{path_or_end}
+use Rattle.dl_field.specs.ListStep.{listed}
+use Rattle.dl_field.specs.ListPlace.{InPath, ListAt}
+use Rattle.dl_field.specs.TablePlace.{Summed}
+use Rattle.dl_field.specs.declared.list_reader.ListKind.{ListKind}
+use Rattle.dl_field.specs.declared.list_reader.ListPhase.{ListPhase}
+use Rattle.dl_field.specs.declared.list_reader.ListPhase.TheVariants as list
+use Rattle.dl_field.specs.declared.list_reader.ListReader.{ListReader}
+use Rattle.dl_table.specs.declared.form.Format.{Format}
+use Rattle.dl_table.specs.declared.table.held.StoredValue.{StoredValue}
+use Rattle.dl_table.specs.Held.{value_held, values_end}
+use Rattle.dl_table.specs.TableData.{TableData}
+use Rattle.dl_field.specs.Layout.{table_layout}
+use Rattle.dl_head.specs.HeaderLayout.{from_older_directories, from_older_files, after_minimum_length}
+use Rattle.dl_head.specs.HeaderLayout.{from_default_is_stmt}
+use Rattle.dl_head.specs.HeaderLayout.{from_maximum_operations, from_address_size, from_segment_selector_size}
+use Rattle.dl_head.specs.HeadStep.{first_table, field_after_minimum}
+use Rattle.dl_head.specs.declared.dialect.Dialect.{Dialect}
 use Rattle.dl_num.specs.Fixed.{fixed}
 use Rattle.dl_head.specs.declared.reader.byte_field.ByteField.{ByteField}
 use Rattle.dl_head.specs.declared.reader.byte_field.ByteField.TheVariants as field
@@ -25,7 +43,9 @@ use Rattle.dl_field.specs.declared.table_reader.TablePhase.{TablePhase}
 use Rattle.dl_field.specs.declared.table_reader.TablePhase.TheVariants as table
 use Rattle.dl_field.proofs.FieldLemmas.{fixed-one}
 use Rattle.dl_head.proofs.CutLemmas.{following_all-append}
-use Rattle.dl_head.proofs.QuietLemmas.{header_end-append, unit_end-append}
+use Rattle.dl_head.proofs.EarlyEnds.{header_end-append, unit_end-append}
+use Rattle.dl_field.specs.ListPlace.{IsFreshList}
+use Rattle.dl_field.specs.declared.list_reader.ListKind.TheVariants as kind
 
 pub at_phase : (r : HeadReader) (p : Phase) (items : List Item) (rest : List ℕ) → r.phase ≡ p → At r items rest
     → AtPhase r p items rest
@@ -42,9 +62,11 @@ at_field r f g items rest is e at = at_phase r (phase.Byte g) items rest
 
 pub after_on : (r new : HeadReader) (items : List Item) (layout next : Layout) (i : Item) → Past r items layout
     → following layout i ≡ next
+    → new.dialect ≡ r.dialect
     → new.end ≡ r.end → new.overrun ≡ r.overrun → end_of_unit new ≡ end_of_unit r → Past new (items ++ i ∷ []) next
-after_on r new items layout next i tail e end overrun unit = record {
-  follows = following_all-append (header_layout r.dialect) items (i ∷ [])
+after_on r new items layout next i tail e order end overrun unit = record {
+  follows = ap (λ (o : Dialect). following_all (header_layout o) (items ++ i ∷ [])) order
+      ∙ following_all-append (header_layout r.dialect) items (i ∷ [])
       ∙ ap (λ (l : Layout). following l i) tail.follows ∙ e;
   unit = unit_end-append items (i ∷ []) (end_of_unit r) tail.unit ∙ ap (λ (n : ℕ). Some n) (sym unit);
   header = tail.header;
@@ -55,10 +77,16 @@ after_on r new items layout next i tail e end overrun unit = record {
 
 pub late_on : (r new : HeadReader) (items : List Item) (layout next : Layout) (i : Item) → Late r items layout
     → following layout i ≡ next
+    → new.dialect ≡ r.dialect
     → new.end ≡ r.end → new.overrun ≡ r.overrun → end_of_unit new ≡ end_of_unit r → IsFresh new.table
-    → Late new (items ++ i ∷ []) next
-late_on r new items layout next i late e end overrun unit fresh =
-    record { tail = after_on r new items layout next i late.tail e end overrun unit; fresh = fresh }
+    → IsFreshList kind.Directories new.list → Late new (items ++ i ∷ []) next
+late_on r new items layout next i late e order end overrun unit fresh unlisted =
+    record {
+      tail = after_on r new items layout next i late.tail e order end overrun unit;
+      fresh = fresh;
+      unlisted
+          = unlisted;
+    }
 
 -- ---- fields of one byte
 
@@ -66,10 +94,16 @@ late_on r new items layout next i late e end overrun unit fresh =
 pub byte_follows : (r : HeadReader) (f : ByteField) (items : List Item) (rest : List ℕ)
     → AtPhase r (phase.Byte f) items rest
     → (following_all (header_layout r.dialect) items ≡ from_byte f r.unit_length r.params) × (rest ≡ [])
-byte_follows r field.AddressSize items rest at =
-    (ap (λ (l : List Item). following_all (header_layout r.dialect) l) at.0.items_are, at.1)
-byte_follows r field.SegmentSelectorSize items rest at =
-    (ap (λ (l : List Item). following_all (header_layout r.dialect) l) at.0.items_are, at.1)
+byte_follows r field.AddressSize items rest at = (
+  ap (λ (l : List Item). following_all (header_layout r.dialect) l) at.0.items_are
+      ∙ ap (λ (v : ℕ). from_address_size r.unit_length (record r.params { version = v })) (sym at.2),
+  at.1,
+)
+byte_follows r field.SegmentSelectorSize items rest at = (
+  ap (λ (l : List Item). following_all (header_layout r.dialect) l) at.0.items_are
+      ∙ ap (λ (v : ℕ). from_segment_selector_size r.unit_length (record r.params { version = v })) (sym at.2),
+  at.1,
+)
 byte_follows r field.MinimumInstructionLength items rest at = (at.0.tail.follows, at.1)
 byte_follows r field.MaximumOperations items rest at = (at.0.tail.follows, at.1)
 byte_follows r field.DefaultIsStmt items rest at = (at.0.tail.follows, at.1)
@@ -89,16 +123,16 @@ byte_is order field.LineBase unit_length p x = refl
 byte_is order field.LineRange unit_length p x = refl
 byte_is order field.OpcodeBase unit_length p x = refl
 
-pub byte_spelt : (dialect : Dialect) (r : HeadReader) (f : ByteField) (items : List Item) (rest : List ℕ) (x : ℕ)
+pub byte_spelt : (r : HeadReader) (f : ByteField) (items : List Item) (rest : List ℕ) (x : ℕ)
     → AtPhase r (phase.Byte f) items rest
-    → field_spelt dialect.order (following_all (header_layout dialect) items) (rest ++ x ∷ [])
+    → field_spelt r.dialect.order (following_all (header_layout r.dialect) items) (rest ++ x ∷ [])
     ≡ judged (objection (byte_kind f) x) x
-byte_spelt dialect r f items rest x at =
+byte_spelt r f items rest x at =
     let b = byte_follows r f items rest at in
-    ap (λ (l : Layout). field_spelt dialect.order l (rest ++ x ∷ [])) b.0
-    ∙ ap (λ (w : List ℕ). field_spelt dialect.order (from_byte f r.unit_length r.params) (w ++ x ∷ [])) b.1
-    ∙ byte_is dialect.order f r.unit_length r.params x
-    ∙ ap (λ (n : ℕ). judged (objection (byte_kind f) n) n) (fixed-one dialect.order x)
+    ap (λ (l : Layout). field_spelt r.dialect.order l (rest ++ x ∷ [])) b.0
+    ∙ ap (λ (w : List ℕ). field_spelt r.dialect.order (from_byte f r.unit_length r.params) (w ++ x ∷ [])) b.1
+    ∙ byte_is r.dialect.order f r.unit_length r.params x
+    ∙ ap (λ (n : ℕ). judged (objection (byte_kind f) n) n) (fixed-one r.dialect.order x)
 
 -- ---- line_base
 
@@ -185,37 +219,103 @@ late_as : (r : HeadReader) (items : List Item) (layout next : Layout) → layout
     → Late r items next
 late_as r items layout next e late = subst (λ (l : Layout). Late r items l) e late
 
+own_tables : (p : Params) → p.version ≡ 5 → tables_layout p ≡ table_layout p.format (from_files p)
+own_tables p five = rw (eq-eqb p.version 5 five) refl
+
+older_tables : (p : Params) → p.version ≢ 5 → tables_layout p ≡ from_older_directories p
+older_tables p other = rw (ne_eqb p.version 5 other) refl
+
 -- the tables follow
-before_tables : (r : HeadReader) (items : List Item) → Late r items (tables_layout r.params)
+before_tables : (r : HeadReader) (items : List Item) → r.params.version ≡ 5 → Late r items (tables_layout r.params)
     → AtPhase r phase.Directories items []
-before_tables r items late = record {
+before_tables r items five late = record {
   layout = tables_layout r.params;
   tail = late.tail;
   at = subst (λ (p : TablePhase). TableAt r.dialect.order r.table p r.params.format (from_files r.params)
-      (tables_layout r.params) []) (sym late.fresh.phase) (late.fresh, refl, refl);
+      (tables_layout r.params) []) (sym late.fresh.phase) (late.fresh, own_tables r.params five, refl);
   going = λ whole. fresh_whole (sym late.fresh.phase ∙ whole);
 } where
   fresh_whole : table.PairCount ≡ table.Whole → ⊥
   fresh_whole e = absurd cc
 
+-- the reader of a table of versions 2 to 4 before its first byte
+pub fresh_path : (t : ListReader) (k : ListKind) (format : Format) (next : TableData → Layout) (layout : Layout)
+    → IsFreshList k t → layout ≡ path_or_end format (listed k) [] next → InPath t 0 format next layout []
+fresh_path t k format next layout is e = record {
+  none = is.pairs;
+  entries = [];
+  holds = record {
+    held = ap (λ (hs : List StoredValue). map (value_held t.pool.items) hs) (sym is.values);
+    wide = tt;
+    within = omega (arith, ap values_end is.values);
+  };
+  summed = subst (λ (hs : List StoredValue). Summed hs 0) (sym is.values) refl;
+  layout_is = e ∙ ap (λ (q : ListKind). path_or_end format (listed q) [] next) (sym is.kind);
+  start_is = omega arith;
+  rest_is = is.pool;
+  no_zero = tt;
+}
+
+before_lists : (r : HeadReader) (items : List Item) → r.params.version ≢ 5 → Late r items (tables_layout r.params)
+    → AtPhase r phase.OlderDirectories items []
+before_lists r items other late = record {
+  layout = tables_layout r.params;
+  tail = late.tail;
+  at = subst (λ (p : ListPhase). ListAt r.list p r.params.format (from_older_files r.params) (tables_layout r.params)
+      [])
+      (sym late.unlisted.phase)
+      (fresh_path r.list kind.Directories r.params.format (from_older_files r.params) (tables_layout r.params)
+      late.unlisted (older_tables r.params other));
+  going = λ whole. fresh_whole (sym late.unlisted.phase ∙ whole);
+  fresh = late.fresh;
+} where
+  fresh_whole : list.Path 0 ≡ list.Whole → ⊥
+  fresh_whole e = absurd cc
+
+at_first_table : (r : HeadReader) (items : List Item) → Late r items (tables_layout r.params)
+    → AtPhase r (first_table r.params.version) items []
+at_first_table r items late = elim (cases_eq r.params.version 5) [
+  | inl five ↦ rw (eq-eqb r.params.version 5 five) (before_tables r items five late)
+  | inr other ↦ rw (ne_eqb r.params.version 5 other) (before_lists r items other late)
+]
+
 -- the next length of an opcode follows, or the tables
 pub at_lengths : (r : HeadReader) (items : List Item) (p : Phase) → Late r items (from_length r.params)
     → p ≡ (if nat_lt (length r.params.lengths.items + 1) r.params.opcode_base then phase.OpcodeLength
-    else phase.Directories) → AtPhase r p items []
+    else first_table r.params.version) → AtPhase r p items []
 at_lengths r items p late is = elim (cases_lt (length r.params.lengths.items + 1) r.params.opcode_base) [
   | inl lt ↦ subst (λ (q : Phase). AtPhase r q items [])
-      (sym (is ∙ ap (λ (b : Bool). if b then phase.OpcodeLength else phase.Directories) (lt-ltb _ _ lt))) (late, refl)
+      (sym (is ∙ ap (λ (b : Bool). if b then phase.OpcodeLength else first_table r.params.version) (lt-ltb _ _ lt)))
+      (late, refl)
   | inr le ↦ subst (λ (q : Phase). AtPhase r q items [])
-      (sym (is ∙ ap (λ (b : Bool). if b then phase.OpcodeLength else phase.Directories) (le-ltb _ _ le)))
-      (before_tables r items (late_as r items (from_length r.params) (tables_layout r.params)
+      (sym (is ∙ ap (λ (b : Bool). if b then phase.OpcodeLength else first_table r.params.version) (le-ltb _ _ le)))
+      (at_first_table r items (late_as r items (from_length r.params) (tables_layout r.params)
       (lengths_whole r.params (omega (arith, le))) late))
 ]
 
+minimum_at : (r : HeadReader) (items : List Item) → Late r items (after_minimum_length r.params)
+    → r.params.lengths.items ≡ [] → AtPhase r (phase.Byte (field_after_minimum r.params.version)) items []
+minimum_at r items late none = elim (cases_lt r.params.version 4) [
+  | inl old ↦ rw (lt-ltb r.params.version 4 old) (late_as r items _ _ (before r.params old) late, refl, none)
+  | inr new ↦ rw (le-ltb r.params.version 4 new) (late_as r items _ _ (from r.params new) late, refl, none)
+] where
+  before : (p : Params) → p.version < 4 → after_minimum_length p ≡ from_default_is_stmt p
+  before p old = rw (lt-ltb p.version 4 old) refl
+
+  from : (p : Params) → 4 ≤ p.version → after_minimum_length p ≡ from_maximum_operations p
+  from p new = rw (le-ltb p.version 4 new) refl
+
+-- the field after minimum_instruction_length
+pub at_minimum : (r : HeadReader) (items : List Item) (f : ByteField) → Late r items (after_minimum_length r.params)
+    → r.params.lengths.items ≡ [] → f ≡ field_after_minimum r.params.version → AtPhase r (phase.Byte f) items []
+at_minimum r items f late none is = subst (λ (g : ByteField). AtPhase r (phase.Byte g) items []) (sym is)
+    (minimum_at r items late none)
+
 -- the next phase, by how many lengths there are
-pub next_at : (n m base : ℕ) → m ≡ n
-    → (if nat_lt (n + 1) base then phase.OpcodeLength else phase.Directories)
-    ≡ (if nat_lt (m + 1) base then phase.OpcodeLength else phase.Directories)
-next_at n m base e = ap (λ (k : ℕ). if nat_lt (k + 1) base then phase.OpcodeLength else phase.Directories) (sym e)
+pub next_at : (n m base v : ℕ) → m ≡ n
+    → (if nat_lt (n + 1) base then phase.OpcodeLength else first_table v)
+    ≡ (if nat_lt (m + 1) base then phase.OpcodeLength else first_table v)
+next_at n m base v e = ap (λ (k : ℕ). if nat_lt (k + 1) base then phase.OpcodeLength else first_table v) (sym e)
 
 -- at the length of an opcode, one is left
 pub some_left : (r : HeadReader) → r.phase ≡ phase.OpcodeLength

@@ -122,7 +122,7 @@ length-fields a b c d e p q r s t =
 
 pub length-header : (order : Order) (h : HeaderData) (program_len : ℕ)
     → length (header_bytes order h program_len) ≡ initial_size h.params.format
-    + (fixed_part h.params.format + header_length_of h)
+    + (fixed_part h.params.format 5 + header_length_of h)
 length-header order h program_len =
     length-fields (initial_length_bytes order h.params.format (unit_length_of h program_len)) (fixed_bytes order 2 5)
     (h.params.address_size ∷ h.params.segment_selector_size ∷ [])

@@ -1,8 +1,9 @@
 -- The laws of refusals: one at most, and none of a header or a foreign unit.
-use Rattle.dl_head.specs.declared.dialect.Dialect.{Dialect}
 use Rattle.std.proofs.Common.{◌≡◌, ℕ, ◌-◌, inl, inr, List, [], ◌∷◌, ◌++◌, length, Option, Some, None, refl, sym, ap}
 use Rattle.std.proofs.Common.{subst, ◌∙◌, arith, length-append, append_assoc, append-nil}
 use Rattle.dl_num.specs.declared.fixed.Order.{Order}
+use Rattle.dl_field.specs.Layout.{path_or_end}
+use Rattle.dl_head.specs.declared.dialect.Dialect.{Dialect}
 use Rattle.dl_num.proofs.FrontLemmas.{front_before}
 use Rattle.dl_table.specs.declared.fault.FaultKind.{FaultKind}
 use Rattle.dl_table.specs.Value.{Judgement}
@@ -29,6 +30,7 @@ overrun_none n items (initial_length_then next) e = e
 overrun_none n items (number_then field next) e = e
 overrun_none n items (form_then next) e = e
 overrun_none n items (value_then format f next) e = e
+overrun_none n items (path_or_end format pairs entries next) e = e
 overrun_none n items (foreign_version v) e = refl
 overrun_none n items (last_entry h) e = refl
 
@@ -44,6 +46,7 @@ quiet dialect b items rest e none over =
 
 pub foreign_last : (layout : Layout) (v : ℕ) → foreign_made layout ≡ Some v → layout ≡ foreign_version v
 foreign_last (foreign_version u) v e = let f : u ≡ v = cc in ap (λ (n : ℕ). foreign_version n) f
+foreign_last (path_or_end f p t n) v e = absurd (none_some refl e)
 foreign_last (last_entry g) v e = absurd (none_some refl e)
 foreign_last (initial_length_then n) v e = absurd (none_some refl e)
 foreign_last (number_then f n) v e = absurd (none_some refl e)

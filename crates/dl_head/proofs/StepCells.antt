@@ -2,6 +2,7 @@
 use Rattle.std.proofs.Common.{◌≡◌, ℕ, ◌+◌, List, [], ◌∷◌, ◌++◌, Some, None, Ok, Err, refl, ap, arith, sum_by}
 use Rattle.std.proofs.lemmas.List.Sums.{sum_by_push}
 use Rattle.dl_head.specs.declared.dialect.Dialect.{Dialect}
+use Rattle.dl_field.specs.Layout.{path_or_end}
 use Rattle.dl_table.specs.declared.form.Form.TheVariants as form
 use Rattle.dl_table.specs.Value.{Judgement, good, bad}
 use Rattle.dl_field.specs.Layout.{Layout, initial_length_then, number_then, form_then, value_then, foreign_version}
@@ -31,6 +32,7 @@ none_held (value_then format form.LineStrp next) = refl
 none_held (initial_length_then next) = refl
 none_held (number_then field next) = refl
 none_held (form_then next) = refl
+none_held (path_or_end format pairs entries next) = refl
 none_held (foreign_version v) = refl
 none_held (last_entry h) = refl
 

@@ -1,5 +1,6 @@
 -- The fields that the reader of a table has taken, and the table that they are.
 use Rattle.std.proofs.Common.{◌≡◌, ℕ, suc, ◌<◌, Bool, true, false, if◌then◌else◌, List, [], ◌∷◌, ◌++◌, refl, sym, ap}
+use Rattle.std.proofs.Common.{inl, inr, ◌==◌}
 use Rattle.std.proofs.Common.{subst, ◌∙◌, arith, length, take, drop, get_or, append_assoc, append-nil}
 use Rattle.std.proofs.lemmas.List.{take-append-drop}
 use Rattle.std.proofs.Props.{props}
@@ -7,6 +8,8 @@ use Rattle.std.proofs.Math.Logic.{∥∥₁_elim, ∥∥₁_prop}
 use Rattle.dl_num.specs.declared.fixed.Order.{Order}
 use Rattle.dl_num.specs.Laws.{AllBytes}
 use Rattle.dl_table.specs.declared.form.Format.{Format}
+use Rattle.std.proofs.lemmas.Bool.{cases_Bool}
+use Rattle.dl_head.specs.HeadStep.{first_table}
 use Rattle.dl_head.specs.declared.reader.Phase.{Phase}
 use Rattle.dl_head.specs.declared.reader.Phase.TheVariants as phase
 use Rattle.dl_field.specs.declared.field_step.FieldStep.{FieldStep}
@@ -26,12 +29,13 @@ use Rattle.dl_field.proofs.SameTables.{table_same}
 use Rattle.dl_table.specs.Held.{table_of}
 use Rattle.dl_table.specs.Sound.{IsSoundTable}
 use Rattle.dl_field.proofs.PairLemmas.{table_at}
-use Rattle.dl_head.proofs.ReadSound.{front_bytes, table_is_sound}
+use Rattle.dl_head.proofs.ReadTables.{table_is_sound}
+use Rattle.dl_head.proofs.ReadValues.{front_bytes}
 use Rattle.dl_table.proofs.SoundLemmas.{sound_prop}
 use Rattle.dl_field.proofs.TakenLemmas.{whole_held}
 
 -- a field more
-fields_push : (order : Order) (layout : Layout) (items : List Item) (fields w : List ℕ) (i : Item)
+pub fields_push : (order : Order) (layout : Layout) (items : List Item) (fields w : List ℕ) (i : Item)
     → SpellsFields order layout items fields → field_spelt order (following_all layout items) w ≡ good i
     → SpellsFields order layout (items ++ i ∷ []) (fields ++ w)
 fields_push order layout [] fields w i none is =
@@ -45,7 +49,7 @@ fields_push order layout (j ∷ items) fields w i s is = (
   fields_push order _ items s.1 w i s.4 is,
 )
 
-bytes_join : (v w : List ℕ) → AllBytes v → AllBytes w → AllBytes (v ++ w)
+pub bytes_join : (v w : List ℕ) → AllBytes v → AllBytes w → AllBytes (v ++ w)
 bytes_join [] w front back = back
 bytes_join (b ∷ v) w front back = (front.0, bytes_join v w front.1 back)
 
@@ -178,8 +182,15 @@ pub stands_at : (p q : Phase) (order : Order) (format : Format) (t : TableReader
     → ∥ TableStands p order format t ∥₁ → ∥ TableStands q order format t ∥₁
 stands_at p q order format t e stands = subst (λ (x : Phase). ∥ TableStands x order format t ∥₁) e stands
 
-pub length_or_table_stands : (b : Bool) (order : Order) (format : Format) (t : TableReader)
-    → ∥ TableReads order format t ∥₁ → ∥ TableStands (if b then phase.OpcodeLength else phase.Directories) order format
+first_stands : (v : ℕ) (order : Order) (format : Format) (t : TableReader) → ∥ TableReads order format t ∥₁
+    → ∥ TableStands (first_table v) order format t ∥₁
+first_stands v order format t reads = elim (cases_Bool (v == 5)) [
+  | inl own ↦ rw own reads
+  | inr older ↦ rw older reads
+]
+
+pub length_or_table_stands : (b : Bool) (v : ℕ) (order : Order) (format : Format) (t : TableReader)
+    → ∥ TableReads order format t ∥₁ → ∥ TableStands (if b then phase.OpcodeLength else first_table v) order format
     t ∥₁
-length_or_table_stands true order format t reads = reads
-length_or_table_stands false order format t reads = reads
+length_or_table_stands true v order format t reads = reads
+length_or_table_stands false v order format t reads = first_stands v order format t reads

@@ -1,9 +1,15 @@
 -- What the bytes come to that a header reader has taken.
-use Rattle.dl_head.specs.declared.dialect.Dialect.{Dialect}
 use Rattle.std.proofs.Common.{◌≡◌, ℕ, ◌-◌, ◌<◌, ◌≤◌, ◌^◌, true, List, [], ◌∷◌, ◌++◌, length, Option, Some, None, refl}
 use Rattle.std.proofs.Common.{sym, ap, subst, ◌∙◌, arith, length-append, append-nil}
 use Rattle.std.proofs.lemmas.Bool.{leb-true}
 use Rattle.dl_num.specs.declared.fixed.Order.{Order}
+use Rattle.dl_field.specs.Layout.{path_or_end}
+use Rattle.dl_field.specs.ListPlace.{ListAt}
+use Rattle.dl_field.specs.declared.list_reader.ListPhase.{ListPhase}
+use Rattle.dl_field.specs.declared.list_reader.ListPhase.TheVariants as list
+use Rattle.dl_field.specs.declared.list_reader.ListReader.{ListReader}
+use Rattle.dl_field.proofs.ListLemmas.{number_layout}
+use Rattle.dl_head.specs.declared.dialect.Dialect.{Dialect}
 use Rattle.dl_head.specs.declared.reader.byte_field.ByteField.{ByteField}
 use Rattle.dl_head.specs.declared.reader.byte_field.ByteField.TheVariants as field
 use Rattle.dl_field.specs.declared.value_phase.ValuePhase.{ValuePhase}
@@ -37,7 +43,7 @@ use Rattle.dl_field.proofs.FieldLemmas.{none_some}
 use Rattle.dl_head.proofs.CutLemmas.{cut_of, cut_sound, Sound}
 use Rattle.dl_head.proofs.HeaderLaws.{header_cut}
 use Rattle.dl_head.proofs.RefusalLaws.{quiet}
-use Rattle.dl_head.proofs.EarlyFields.{foreign_follows}
+use Rattle.dl_head.proofs.EarlyFields.{foreign_follows, at_length}
 use Rattle.dl_head.proofs.OneFieldMore.{byte_follows, lengths_open, some_left}
 use Rattle.dl_head.proofs.HeaderEnds.{first_end, end_from, overrun_from, overrun_at, not_at_end, just_at_end, EndIs}
 use Rattle.dl_head.proofs.HeaderEnds.{end_is}
@@ -56,6 +62,7 @@ next_overrun n items (initial_length_then next) is = refl
 next_overrun n items (number_then field next) is = refl
 next_overrun n items (form_then next) is = refl
 next_overrun n items (value_then format f next) is = refl
+next_overrun n items (path_or_end format pairs entries next) is = refl
 next_overrun n items (foreign_version v) is = absurd is
 next_overrun n items (last_entry h) is = absurd is
 
@@ -64,6 +71,7 @@ next_not_foreign (initial_length_then next) is = refl
 next_not_foreign (number_then field next) is = refl
 next_not_foreign (form_then next) is = refl
 next_not_foreign (value_then format f next) is = refl
+next_not_foreign (path_or_end format pairs entries next) is = refl
 next_not_foreign (foreign_version v) is = absurd is
 next_not_foreign (last_entry h) is = refl
 
@@ -109,6 +117,14 @@ table_next order t table.Whole format next layout rest at going = absurd (going 
 
 -- ---- where the reader is: in a field, in the padding, or after the version of a foreign unit
 
+-- a table of versions 2 to 4 that isn't whole goes on
+list_next : (t : ListReader) (p : ListPhase) (format : Format) (next : TableData → Layout) (layout : Layout)
+    (rest : List ℕ) → ListAt t p format next layout rest → (p ≡ list.Whole → ⊥) → IsNext layout
+list_next t (list.Path start) format next layout rest at going = subst IsNext (sym at.layout_is) tt
+list_next t (list.Number left n) format next layout rest at going =
+    subst IsNext (sym (number_layout t left n format next layout rest at).1) tt
+list_next t list.Whole format next layout rest at going = absurd (going refl)
+
 pub data Place (r : HeadReader) (p : Phase) (items : List Item) : Type 0 where
   in_field : ending p ≡ None → (p ≡ phase.Padding → ⊥) → IsNext (following_all (header_layout r.dialect) items)
       → Place r p items
@@ -146,7 +162,8 @@ place_of r phase.Version items rest e at = in_field refl (λ q. absurd cc) (next
 place_of r (phase.VersionEnd first) items rest e at =
     in_field refl (λ q. absurd cc) (next_of r.dialect items _ at.0.items_are tt)
 place_of r (phase.HeaderLength n) items rest e at =
-    in_field refl (λ q. absurd cc) (next_of r.dialect items _ at.0.items_are tt)
+    in_field refl (λ q. absurd cc) (next_of r.dialect items _ at.0.items_are
+    (subst IsNext (sym (at_length r at.1).follows) tt))
 place_of r (phase.Byte f) items rest e at = in_field refl (λ q. absurd cc)
     (subst IsNext (sym (byte_follows r f items rest at).0) (byte_next f r.unit_length r.params))
 place_of r phase.OpcodeLength items rest e at =
@@ -159,10 +176,16 @@ place_of r phase.Files items rest e at =
     in_field refl (λ q. absurd cc)
     (subst IsNext (sym at.tail.follows)
     (table_next r.dialect.order r.table r.table.phase r.params.format _ at.layout rest at.at at.going))
+place_of r phase.OlderDirectories items rest e at =
+    in_field refl (λ q. absurd cc)
+    (subst IsNext (sym at.tail.follows) (list_next r.list r.list.phase r.params.format _ at.layout rest at.at at.going))
+place_of r phase.OlderFiles items rest e at =
+    in_field refl (λ q. absurd cc)
+    (subst IsNext (sym at.tail.follows) (list_next r.list r.list.phase r.params.format _ at.layout rest at.at at.going))
 place_of r phase.Padding items rest e at = in_padding refl at
 place_of r (phase.Foreign v) items rest e at =
     in_foreign v refl (ap (λ (l : List Item). following_all (header_layout r.dialect) l) at.0.items_are
-    ∙ foreign_follows r (length_item r ∷ []) v refl at.1)
+    ∙ foreign_follows r (length_item r ∷ []) v refl at.1 at.2)
 place_of r phase.Done items rest e at = absurd at
 place_of r (phase.Failed f) items rest e at = absurd at
 
@@ -202,6 +225,8 @@ initial_of r (phase.Byte field.OpcodeBase) items rest at none = known r.end _ at
 initial_of r phase.OpcodeLength items rest at none = known r.end _ at.0.tail.end none
 initial_of r phase.Directories items rest at none = known r.end _ at.tail.end none
 initial_of r phase.Files items rest at none = known r.end _ at.tail.end none
+initial_of r phase.OlderDirectories items rest at none = known r.end _ at.tail.end none
+initial_of r phase.OlderFiles items rest at none = known r.end _ at.tail.end none
 initial_of r phase.Padding items rest at none = known r.end _ at.end none
 initial_of r (phase.Foreign v) items rest at none = known r.end _ at.0.end none
 initial_of r phase.Done items rest at none = absurd at

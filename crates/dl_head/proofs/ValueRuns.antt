@@ -1,4 +1,5 @@
 -- The header reader takes values of a table, one after the other.
+use Rattle.dl_field.specs.ListPlace.{list_cells}
 use Rattle.dl_head.specs.declared.dialect.Dialect.{Dialect}
 use Rattle.std.proofs.Common.{◌≡◌, ◌≢◌, ℕ, ◌+◌, ◌-◌, ◌^◌, ◌<◌, ◌≤◌, min, inl, inr, true, List, [], ◌∷◌, ◌++◌, length}
 use Rattle.std.proofs.Common.{take, get_or, Option, Some, None, refl, sym, ap, subst, ◌∙◌, arith, append_assoc}
@@ -41,7 +42,7 @@ use Rattle.dl_head.proofs.HeadTables.{SameFields, after_same, table_in}
 use Rattle.dl_head.proofs.MovedReader.{Moved}
 use Rattle.dl_head.proofs.OneByteMore.{live_of}
 use Rattle.dl_head.proofs.OneFieldMore.{after_on}
-use Rattle.dl_head.proofs.ReadSound.{front_bytes, back_bytes}
+use Rattle.dl_head.proofs.ReadValues.{front_bytes, back_bytes}
 use Rattle.dl_head.proofs.StepCells.{cells_good_on}
 use Rattle.dl_head.proofs.TableSpellings.{reads_same, reads_on, front_is_read}
 use Rattle.dl_head.proofs.TakenBytes.{IsNext, table_next}
@@ -81,7 +82,8 @@ module _ (r : HeadReader) (next : TableData → Layout) where
     pub nothing_before : NothingBefore (header_decided r.dialect) b
     pub below : Below (length b) r.end
     pub ends_within : EndsWithin items
-    pub cells_are : table_cells r.directories + table_cells r.files + reader_cells t ≡ cells r.dialect b
+    pub cells_are : table_cells r.directories + table_cells r.files + reader_cells t + list_cells r.list
+        ≡ cells r.dialect b
 
   -- and no front of the bytes w after b comes to anything
   pub record Run (b w rest : List ℕ) (t : TableReader) : Type 0 where
@@ -96,7 +98,7 @@ module _ (r : HeadReader) (next : TableData → Layout) where
     among = record {
       items = a.items ++ made.0 ∷ [];
       layout = following a.layout made.0;
-      past = after_on r r a.items a.layout (following a.layout made.0) made.0 a.past refl refl refl refl;
+      past = after_on r r a.items a.layout (following a.layout made.0) made.0 a.past refl refl refl refl refl;
       at = made.2;
       going = going;
       cut_is = passed.cut_is;
@@ -198,7 +200,8 @@ pub values_whole : (r new : HeadReader) (b piece bytes : List ℕ) (used : ℕ) 
     → SameFields r new → ((is : List Item) (w : List ℕ) → InTable new is w
     (after_the_table r.phase r.params r.directories)
     → At new is w)
-    → held_cells new ≡ table_cells r.directories + table_cells r.files + reader_cells new.table → new.header ≡ r.header
+    → held_cells new ≡ table_cells r.directories + table_cells r.files + reader_cells new.table + list_cells r.list
+    → new.header ≡ r.header
     → new.start ≡ new.taken → new.taken ≡ min (r.taken + used) (2 ^ 64 - 1) → StandsFor r b
     → TakesAll r.dialect b (take used piece) new
 values_whole r new b piece bytes used table on inside some le v fields to held header start taken s =
@@ -271,7 +274,7 @@ values_whole r new b piece bytes used table on inside some le v fields to held h
       at = to among.items []
           (table_in r new new.table among.items among.layout [] (after_the_table r.phase r.params r.directories) fields
           refl among.going (after_same r new among.items among.layout fields among.past) among.at);
-      unjudged = field_empty new.dialect.order (following_all (header_layout r.dialect) among.items);
+      unjudged = field_empty new.dialect.order (following_all (header_layout new.dialect) among.items);
       start_is = omega (arith, start, counted);
       up_to = up_to_of (length (b ++ concat v.values)) new.end
           (subst (λ (o : Option ℕ). Below (length (b ++ concat v.values)) o) (sym fields.end) among.below);

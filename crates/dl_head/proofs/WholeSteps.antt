@@ -1,12 +1,13 @@
 -- The header reader takes a value of a table at once: what it answers on the way, and the bytes that it stands for
 -- then.
-use Rattle.dl_head.specs.declared.dialect.Dialect.{Dialect}
 use Rattle.std.proofs.Common.{◌≡◌, ℕ, zero, suc, ◌+◌, ◌-◌, ◌<◌, ◌≤◌, inl, inr, true, List, [], ◌∷◌, ◌++◌}
 use Rattle.std.proofs.Common.{length, take, drop, Option, Some, None, Ok, refl, sym, ap, subst, ◌∙◌, arith}
 use Rattle.std.proofs.Common.{append_assoc, append-nil, length-append}
 use Rattle.std.proofs.lemmas.Bool.{cases_lt}
 use Rattle.std.proofs.lemmas.List.{length-take-le, take-take}
 use Rattle.dl_num.specs.declared.fixed.Order.{Order}
+use Rattle.dl_field.specs.ListPlace.{list_cells}
+use Rattle.dl_head.specs.declared.dialect.Dialect.{Dialect}
 use Rattle.dl_table.specs.declared.form.Format.{Format}
 use Rattle.dl_field.specs.declared.params.Params.{Params}
 use Rattle.dl_head.specs.declared.reader.Phase.{Phase}
@@ -225,6 +226,8 @@ by_table P directories files (phase.VersionEnd n) is = absurd cc
 by_table P directories files (phase.HeaderLength n) is = absurd cc
 by_table P directories files (phase.Byte f) is = absurd cc
 by_table P directories files phase.OpcodeLength is = absurd cc
+by_table P directories files phase.OlderDirectories is = absurd cc
+by_table P directories files phase.OlderFiles is = absurd cc
 by_table P directories files phase.Padding is = absurd cc
 by_table P directories files phase.Done is = absurd cc
 by_table P directories files (phase.Foreign v) is = absurd cc
@@ -252,7 +255,7 @@ table_goes p is = by_table (λ q. ending q ≡ None) refl refl p is
 pub value_refused : (r new : HeadReader) (b : List ℕ) → in_table r.phase ≡ true → SameTable r.table new.table
     → SameFields r new → SameCounts r new
     → ((is : List Item) (w : List ℕ) → InTable new is w (after_the_table r.phase r.params r.directories) → At new is w)
-    → held_cells new ≡ table_cells r.directories + table_cells r.files + reader_cells new.table
+    → held_cells new ≡ table_cells r.directories + table_cells r.files + reader_cells new.table + list_cells r.list
     → StandsFor r b → Answers r.dialect b answer.More → TakesAll r.dialect b [] new
 value_refused r new b table same fields counts to held s more =
     let goes = table_goes r.phase table in

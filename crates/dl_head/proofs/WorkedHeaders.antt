@@ -30,6 +30,7 @@ abbrev empty_header : HeaderData
 empty_header = record {
   params = record {
     format = Dwarf32;
+    version = 5;
     address_size = 8;
     segment_selector_size = 0;
     minimum_instruction_length = 1;

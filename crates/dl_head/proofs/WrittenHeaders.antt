@@ -1,5 +1,4 @@
 -- The bytes that are written of a header are that header. DWARF 5, section 6.2.4.
-use Rattle.dl_head.specs.declared.dialect.Dialect.{Dialect}
 use Rattle.std.proofs.Common.{◌≡◌, ℕ, lit<, suc, ◌+◌, ◌-◌, ◌%◌, ◌^◌, ◌<◌, ◌≤◌, Bool, true, false, if◌then◌else◌, ℤ, pos}
 use Rattle.std.proofs.Common.{negsuc, ◌-ℤ◌, List, [], ◌∷◌, ◌++◌, length, Option, Some, None, refl, sym, ap, subst, ◌∙◌}
 use Rattle.std.proofs.Common.{arith, append_assoc}
@@ -8,8 +7,9 @@ use Rattle.std.specs.Int.{w8}
 use Rattle.std.specs.Int.RustNames.{FitsSigned}
 use Rattle.std.proofs.lemmas.List.{append-nil}
 use Rattle.std.proofs.lemmas.Int.{ints}
-use Rattle.std.proofs.lemmas.Bool.{leb-true, le-leb, lt-ltb, le-ltb, ne_eqb}
+use Rattle.std.proofs.lemmas.Bool.{leb-true, le-leb, lt-ltb, le-ltb, ne_eqb, eq-eqb}
 use Rattle.dl_num.specs.declared.fixed.Order.{Order}
+use Rattle.dl_head.specs.declared.dialect.Dialect.{Dialect}
 use Rattle.dl_num.specs.Fixed.{fixed_bytes, is_number_size}
 use Rattle.dl_num.proofs.LebFrontLemmas.{true_false}
 use Rattle.dl_table.specs.declared.form.Format.{Format}
@@ -23,6 +23,7 @@ use Rattle.dl_field.specs.Layout.{address_size, maximum_operations, line_range, 
 use Rattle.dl_field.specs.Layout.{header_length, objection, NumberField, number_size, table_layout}
 use Rattle.dl_head.specs.HeaderLayout.{signed_byte, lengths_layout, tables_layout, from_lengths, from_opcode_base}
 use Rattle.dl_head.specs.HeaderLayout.{from_line_range, from_line_base, from_default_is_stmt, from_maximum_operations}
+use Rattle.dl_head.specs.HeaderLayout.{from_files}
 use Rattle.dl_head.specs.HeaderLayout.{from_minimum_length, from_header_length, from_segment_selector_size}
 use Rattle.dl_head.specs.HeaderLayout.{from_address_size, format_alone, header_layout, fixed_part, initial_size}
 use Rattle.dl_head.specs.Header.{Cut, header_made, unit_end, IsHeader}
@@ -36,7 +37,7 @@ use Rattle.dl_head.specs.Sound.{IsSoundHeader}
 use Rattle.dl_head.specs.WrittenLaws.{WrittenIsHeader, WrittenHasItsLength}
 use Rattle.dl_field.proofs.FieldLaws.{field_is_judged}
 use Rattle.dl_head.proofs.HeaderLaws.{header_cut}
-use Rattle.dl_head.proofs.HeaderSound.{Good, all_good}
+use Rattle.dl_head.proofs.HeaderSound.{Good, all_good, one_operation}
 use Rattle.dl_head.proofs.OrderLemmas.{length-header}
 use Rattle.dl_head.proofs.WrittenTables.{Reaches, reach_one, reach_table, fixed_byte, fixed_written}
 
@@ -80,10 +81,14 @@ module _ (order : Order) (h : HeaderData) where
       reach_one order end (lengths_layout opcode (length (n ∷ ns)) before next) (number_is n) (n ∷ []) (ns ++ v)
       (n, refl, (refl, fixed_byte order end n), is_nothing (objection (opcode_length opcode) n) t.0) again
 
-  reach_tables : (p : Params) → (record { params = p; directories = h.directories; files = h.files }) ≡ h
+  own_tables : (p : Params) → p.version ≡ 5 → table_layout p.format (from_files p) ≡ tables_layout p
+  own_tables p five = rw (eq-eqb p.version 5 five) refl
+
+  reach_tables : (p : Params) → p.version ≡ 5
+      → (record { params = p; directories = h.directories; files = h.files }) ≡ h
       → h.directories.format ≡ p.format → h.files.format ≡ p.format → IsSoundTable h.directories → IsSoundTable h.files
       → Reaches order (tables_layout p) (table_bytes order h.directories ++ (table_bytes order h.files ++ [])) end
-  reach_tables p same d f directories files =
+  reach_tables p five same d f directories files =
       let files_layout : TableData → Layout = λ g. last_entry
       (record { params = p; directories = h.directories; files = g }) in
       let last : Reaches order (files_layout h.files) [] end =
@@ -92,9 +97,11 @@ module _ (order : Order) (h : HeaderData) where
       end) f (reach_table order end h.files files_layout [] files last) in
       let directories_layout : TableData → Layout =
       λ t. table_layout p.format λ g. last_entry (record { params = p; directories = t; files = g }) in
-      subst (λ (g : Format). Reaches order (table_layout g directories_layout)
+      subst (λ (l : Layout). Reaches order l (table_bytes order h.directories ++ (table_bytes order h.files ++ [])) end)
+      (own_tables p five)
+      (subst (λ (g : Format). Reaches order (table_layout g directories_layout)
       (table_bytes order h.directories ++ (table_bytes order h.files ++ [])) end) d
-      (reach_table order end h.directories directories_layout (table_bytes order h.files ++ []) directories second)
+      (reach_table order end h.directories directories_layout (table_bytes order h.files ++ []) directories second))
 
   -- a field of one byte
   reach_byte : (field : NumberField) (next : ℕ → Layout) (n : ℕ) (v : List ℕ) → number_size field ≡ Some 1
@@ -112,12 +119,13 @@ module _ (order : Order) (h : HeaderData) where
   some_opcodes : (n : ℕ) → (n ≡ 0 → ⊥) → objection opcode_base n ≡ None
   some_opcodes n some = rw (ne_eqb n 0 some) refl
 
-  reach_from_lengths : (p : Params) → h.params.opcode_base ≡ p.opcode_base → Good h.params h.directories h.files
+  reach_from_lengths : (p : Params) → p.version ≡ 5 → h.params.opcode_base ≡ p.opcode_base
+      → Good h.params h.directories h.files
       → IsSoundTable h.directories → IsSoundTable h.files → p.format ≡ h.params.format
       → (record p { lengths = h.params.lengths }) ≡ h.params
       → Reaches order (from_lengths p)
       (h.params.lengths.items ++ (table_bytes order h.directories ++ (table_bytes order h.files ++ []))) end
-  reach_from_lengths p base good directories files format same =
+  reach_from_lengths p five base good directories files format same =
       let count : length h.params.lengths.items ≡ p.opcode_base - 1 = (let sum = good.opcodes in omega arith) in
       let next : List ℕ → Layout = λ lengths. tables_layout (record p { lengths = record { items = lengths } }) in
       let whole : (record {
@@ -130,7 +138,7 @@ module _ (order : Order) (h : HeaderData) where
             h.directories;
         files = h.files;
       } in g) same in
-      let tables = reach_tables (record p { lengths = h.params.lengths }) whole (good.directories ∙ sym format)
+      let tables = reach_tables (record p { lengths = h.params.lengths }) five whole (good.directories ∙ sym format)
       (good.files ∙ sym format) directories files in
       subst (λ (n : ℕ). Reaches order (lengths_layout 1 n [] next)
       (h.params.lengths.items ++ (table_bytes order h.directories ++ (table_bytes order h.files ++ []))) end) count
@@ -138,13 +146,13 @@ module _ (order : Order) (h : HeaderData) where
       (table_bytes order h.directories ++ (table_bytes order h.files ++ [])) good.lengths tables)
 
   -- the fields after header_length, of params whose fields before it are those of the header
-  reach_fields : IsSoundHeader h → Good h.params h.directories h.files
+  reach_fields : IsSoundHeader h → h.params.version ≡ 5 → Good h.params h.directories h.files
       → Reaches order (from_minimum_length
       (record (format_alone h.params.format) {
         address_size = h.params.address_size;
         segment_selector_size = h.params.segment_selector_size;
       })) (after_header_length order h) end
-  reach_fields sound good =
+  reach_fields sound five good =
       let p = h.params in
       let tables = table_bytes order h.directories ++ (table_bytes order h.files ++ []) in
       let base = byte_of p.line_base in
@@ -159,8 +167,10 @@ module _ (order : Order) (h : HeaderData) where
       let p6 : Params = record p5 { line_range = p.line_range } in
       let p7 : Params = record p6 { opcode_base = p.opcode_base } in
       let same : (record p7 { lengths = p.lengths }) ≡ p =
-      ap (λ (z : ℤ). let q : Params = record p { line_base = z } in q) (signed_again p.line_base sound.line_base) in
-      let a = reach_from_lengths p7 refl good sound.directories sound.files refl same in
+      ap (λ (z : ℤ). let q : Params = record p { line_base = z; version = 5 } in q)
+      (signed_again p.line_base sound.line_base)
+      ∙ ap (λ (v : ℕ). let q : Params = record p { version = v } in q) (sym five) in
+      let a = reach_from_lengths p7 refl refl good sound.directories sound.files refl same in
       let b = reach_byte opcode_base (λ n. from_lengths (record p6 { opcode_base = n })) p.opcode_base
       (p.lengths.items ++ tables) refl (some_opcodes p.opcode_base (λ z. let sum = good.opcodes in omega arith)) a in
       let c = reach_byte line_range (λ n. from_opcode_base (record p5 { line_range = n })) p.line_range
@@ -173,7 +183,8 @@ module _ (order : Order) (h : HeaderData) where
       (λ n. from_default_is_stmt (record p2 { maximum_operations_per_instruction = n }))
       p.maximum_operations_per_instruction
       (p.default_is_stmt ∷ base ∷ p.line_range ∷ p.opcode_base ∷ (p.lengths.items ++ tables)) refl
-      (some_operations p.maximum_operations_per_instruction good.operations) e in
+      (some_operations p.maximum_operations_per_instruction
+      (λ z. omega (arith, z, one_operation p.version p.maximum_operations_per_instruction good.operations))) e in
       let g = reach_byte any_byte (λ n. from_maximum_operations (record p1 { minimum_instruction_length = n }))
       p.minimum_instruction_length (p.maximum_operations_per_instruction ∷ p.default_is_stmt ∷ base ∷ p.line_range
       ∷ p.opcode_base ∷ (p.lengths.items ++ tables)) refl refl f in
@@ -214,16 +225,17 @@ regroup i v l w a s = rw append-nil (simp append_assoc)
 
 -- the header, and the length that its first field tells
 written : (dialect : Dialect) (h : HeaderData) (program_len : ℕ) → IsSoundHeader h
+    → h.params.version ≡ 5
     → is_within_limit h program_len ≡ true → (is : IsHeader dialect h (header_bytes dialect.order h program_len))
     × (unit_end is.items ≡ Some (initial_size h.params.format + unit_length_of h program_len))
-written dialect h program_len sound limit =
+written dialect h program_len sound five limit =
     let p = h.params in
     let good = all_good p h.directories h.files sound.params in
     let unit = unit_length_of h program_len in
     let size = header_length_of h in
     let after = after_header_length dialect.order h in
     let short = leb-true unit (written_limit p.format) limit in
-    let tail = reach_fields dialect.order h sound good in
+    let tail = reach_fields dialect.order h sound five good in
     let initial = initial_length_bytes dialect.order p.format unit in
     let version_bytes = fixed_bytes dialect.order 2 5 in
     let size_bytes = fixed_bytes dialect.order (offset_size p.format) size in
@@ -250,7 +262,7 @@ written dialect h program_len sound limit =
       size,
       refl,
       fixed_written dialect.order (offset_size p.format) size (offset_fits p.format size (omega arith)),
-      fits_unit p.format size (unit - fixed_part p.format) (omega arith),
+      fits_unit p.format size (unit - fixed_part p.format 5) (omega arith),
     ) in (
       record {
         items = length_is p.format unit ∷ number_is 5 ∷ number_is p.address_size ∷ number_is p.segment_selector_size
@@ -285,11 +297,11 @@ written dialect h program_len sound limit =
     )
 
 pub header_is_written : WrittenIsHeader
-header_is_written dialect h program_len sound limit = (written dialect h program_len sound limit).0
+header_is_written dialect h program_len sound five limit = (written dialect h program_len sound five limit).0
 
 pub length_is_written : WrittenHasItsLength
-length_is_written dialect h program_len rest sound limit =
-    let w = written dialect h program_len sound limit in
+length_is_written dialect h program_len rest sound five limit =
+    let w = written dialect h program_len sound five limit in
     let bytes = header_bytes dialect.order h program_len in
     let size = length-header dialect.order h program_len in
     let cut_is = ap (λ (c : Cut). unit_end c.items) (header_cut dialect h bytes rest w.0) in

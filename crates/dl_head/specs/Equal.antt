@@ -9,12 +9,12 @@ use Rattle.dl_table.specs.Equal.{same_table}
 
 abbrev pub same_params : Params → Params → Bool
 same_params p q =
-    same_format p.format q.format && ((p.address_size == q.address_size)
+    same_format p.format q.format && ((p.version == q.version) && ((p.address_size == q.address_size)
     && ((p.segment_selector_size == q.segment_selector_size)
     && ((p.minimum_instruction_length == q.minimum_instruction_length)
     && ((p.maximum_operations_per_instruction == q.maximum_operations_per_instruction)
     && ((p.default_is_stmt == q.default_is_stmt) && (int_eq p.line_base q.line_base && ((p.line_range == q.line_range)
-    && ((p.opcode_base == q.opcode_base) && pointwise nat_eq p.lengths.items q.lengths.items))))))))
+    && ((p.opcode_base == q.opcode_base) && pointwise nat_eq p.lengths.items q.lengths.items)))))))))
 
 abbrev pub same_header : HeaderData → HeaderData → Bool
 same_header g h =

@@ -20,41 +20,45 @@ same_params-Decides p q =
     let lengths = bytes_eq-Decides p.lengths.items q.lengths.items in
     let base = number_and p.line_range q.line_range _ _ (number_and p.opcode_base q.opcode_base _ _ lengths) in
     let line_base = Decides-and (int_eq p.line_base q.line_base) _ (Decides-int_eq p.line_base q.line_base) base in
-    let sizes = number_and p.address_size q.address_size _ _
+    let sizes = number_and p.version q.version _ _ (number_and p.address_size q.address_size _ _
     (number_and p.segment_selector_size q.segment_selector_size _ _
     (number_and p.minimum_instruction_length q.minimum_instruction_length _ _
     (number_and p.maximum_operations_per_instruction q.maximum_operations_per_instruction _ _
-    (number_and p.default_is_stmt q.default_is_stmt _ _ line_base)))) in
+    (number_and p.default_is_stmt q.default_is_stmt _ _ line_base))))) in
     Decides-like (same_params p q)
     (λ h. λ i. record {
       format = h.0 i;
-      address_size = h.1.0 i;
-      segment_selector_size = h.1.1.0 i;
-      minimum_instruction_length = h.1.1.1.0 i;
-      maximum_operations_per_instruction = h.1.1.1.1.0 i;
-      default_is_stmt = h.1.1.1.1.1.0 i;
-      line_base = h.1.1.1.1.1.1.0 i;
-      line_range = h.1.1.1.1.1.1.1.0 i;
-      opcode_base = h.1.1.1.1.1.1.1.1.0 i;
-      lengths = record { items = h.1.1.1.1.1.1.1.1.1 i };
+      version = h.1.0 i;
+      address_size = h.1.1.0 i;
+      segment_selector_size = h.1.1.1.0 i;
+      minimum_instruction_length = h.1.1.1.1.0 i;
+      maximum_operations_per_instruction = h.1.1.1.1.1.0 i;
+      default_is_stmt = h.1.1.1.1.1.1.0 i;
+      line_base = h.1.1.1.1.1.1.1.0 i;
+      line_range = h.1.1.1.1.1.1.1.1.0 i;
+      opcode_base = h.1.1.1.1.1.1.1.1.1.0 i;
+      lengths = record { items = h.1.1.1.1.1.1.1.1.1.1 i };
     })
     (λ e. (
       λ i. (e i).format,
       (
-        λ i. (e i).address_size,
+        λ i. (e i).version,
         (
-          λ i. (e i).segment_selector_size,
+          λ i. (e i).address_size,
           (
-            λ i. (e i).minimum_instruction_length,
+            λ i. (e i).segment_selector_size,
             (
-              λ i. (e i).maximum_operations_per_instruction,
+              λ i. (e i).minimum_instruction_length,
               (
-                λ i. (e i).default_is_stmt,
+                λ i. (e i).maximum_operations_per_instruction,
                 (
-                  λ i. (e i).line_base,
+                  λ i. (e i).default_is_stmt,
                   (
-                    λ i. (e i).line_range,
-                    (λ i. (e i).opcode_base, λ i. (e i).lengths.items),
+                    λ i. (e i).line_base,
+                    (
+                      λ i. (e i).line_range,
+                      (λ i. (e i).opcode_base, λ i. (e i).lengths.items),
+                    ),
                   ),
                 ),
               ),

@@ -1,8 +1,9 @@
 -- The spelling of a header, and the header that bytes begin with. DWARF 5, sections 6.2.4 and 7.4.
-use Rattle.dl_head.specs.declared.dialect.Dialect.{Dialect}
 use Rattle.std.specs.Prelude.{◌≡◌, ℕ, ◌+◌, ◌-◌, ◌&&◌, List, [], ◌∷◌, ◌++◌, length, drop, Option, Some, None, Ok, Err}
-use Rattle.std.specs.Prelude.{nat_le, if◌then◌else◌}
+use Rattle.std.specs.Prelude.{nat_le, ◌==◌, if◌then◌else◌}
 use Rattle.dl_num.specs.declared.fixed.Order.{Order}
+use Rattle.dl_head.specs.declared.dialect.Dialect.{Dialect}
+use Rattle.dl_table.specs.declared.form.Format.{Format}
 use Rattle.dl_field.specs.HeaderData.{HeaderData}
 use Rattle.dl_table.specs.Value.{good}
 use Rattle.dl_field.specs.Layout.{Layout, last_entry, foreign_version, Item, length_is, number_is, following}
@@ -22,9 +23,19 @@ unit_end (length_is format n ∷ items) = Some (initial_size format + n)
 unit_end items = None
 
 -- where the header ends by its header_length, the fifth field
+abbrev pub own_end : Format → List Item → Option ℕ
+own_end format (address ∷ segment ∷ number_is header ∷ items) =
+    Some (initial_size format + fixed_part format 5 + header)
+own_end format items = None
+
+-- of the older versions the third
+abbrev pub older_end : Format → ℕ → List Item → Option ℕ
+older_end format v (number_is header ∷ items) = Some (initial_size format + fixed_part format v + header)
+older_end format v items = None
+
 abbrev pub header_end : List Item → Option ℕ
-header_end (length_is format n ∷ version ∷ address ∷ segment ∷ number_is header ∷ items) =
-    Some (initial_size format + fixed_part format + header)
+header_end (length_is format n ∷ number_is v ∷ items) = if v == 5 then own_end format items else older_end format v
+    items
 header_end items = None
 
 -- the header, where the last entry is complete
@@ -32,7 +43,7 @@ abbrev pub header_made : Layout → Option HeaderData
 header_made (last_entry h) = Some h
 header_made layout = None
 
--- the version, where it isn't 5
+-- the version, where it isn't read
 abbrev pub foreign_made : Layout → Option ℕ
 foreign_made (foreign_version v) = Some v
 foreign_made layout = None
@@ -84,7 +95,7 @@ layout_after dialect b = following_all (header_layout dialect) (cut dialect b).i
 abbrev pub unit_len : Dialect → List ℕ → Option ℕ
 unit_len dialect b = unit_end (cut dialect b).items
 
--- the version in b, where it isn't 5
+-- the version in b, where it isn't read
 abbrev pub foreign_in : Dialect → List ℕ → Option ℕ
 foreign_in dialect b = foreign_made (layout_after dialect b)
 

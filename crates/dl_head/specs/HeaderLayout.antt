@@ -1,6 +1,9 @@
--- The fields of a line number program header in their order. DWARF 5, sections 6.2.4 and 7.4.
-use Rattle.std.specs.Prelude.{ℕ, zero, suc, ◌+◌, ◌-◌, List, [], ◌∷◌, ◌++◌, ℤ, pos, ◌-ℤ◌, nat_lt, ◌==◌, if◌then◌else◌}
+-- The fields of a line number program header in their order. DWARF 5, sections 6.2.4 and 7.4; DWARF 2 to 4, section
+-- 6.2.4.
+use Rattle.std.specs.Prelude.{ℕ, zero, suc, ◌+◌, ◌-◌, List, [], ◌∷◌, ◌++◌, ℤ, pos, ◌-ℤ◌, nat_lt, ◌==◌}
+use Rattle.std.specs.Prelude.{Option, Some, None, if◌then◌else◌}
 use Rattle.dl_head.specs.declared.dialect.Dialect.{Dialect}
+use Rattle.dl_head.specs.Dialect.{older_size}
 use Rattle.dl_table.specs.declared.form.Format.{Format}
 use Rattle.dl_table.specs.declared.form.Format.TheVariants.{Dwarf32, Dwarf64}
 use Rattle.dl_field.specs.declared.params.Params.{Params}
@@ -8,7 +11,7 @@ use Rattle.dl_table.specs.TableData.{TableData}
 use Rattle.dl_table.specs.Value.{offset_size}
 use Rattle.dl_field.specs.Layout.{version, address_size, any_byte, header_length, maximum_operations, line_range}
 use Rattle.dl_field.specs.Layout.{opcode_base, opcode_length, Layout, initial_length_then, number_then, foreign_version}
-use Rattle.dl_field.specs.Layout.{last_entry, table_layout}
+use Rattle.dl_field.specs.Layout.{last_entry, table_layout, path_or_end, listed_directory, listed_file}
 
 -- the size of the initial length, section 7.4
 abbrev pub initial_size : Format → ℕ
@@ -33,13 +36,21 @@ from_end p directories files = last_entry (record { params = p; directories = di
 abbrev pub from_files : Params → TableData → Layout
 from_files p directories = table_layout p.format (from_end p directories)
 
+-- those of versions 2 to 4
+abbrev pub from_older_files : Params → TableData → Layout
+from_older_files p directories = path_or_end p.format listed_file [] (from_end p directories)
+
+abbrev pub from_older_directories : Params → Layout
+from_older_directories p = path_or_end p.format listed_directory [] (from_older_files p)
+
 -- the two tables
 abbrev pub tables_layout : Params → Layout
-tables_layout p = table_layout p.format (from_files p)
+tables_layout p = if p.version == 5 then table_layout p.format (from_files p) else from_older_directories p
 
--- the size of the fields from version to header_length
-abbrev pub fixed_part : Format → ℕ
-fixed_part format = 4 + offset_size format
+-- the size of the fields from version to header_length: older versions have no address_size and no
+-- segment_selector_size
+abbrev pub fixed_part : Format → ℕ → ℕ
+fixed_part format v = (if v == 5 then 4 else 2) + offset_size format
 
 -- The fields from one on, the values of those before it being in p. They stand here from the last to the first.
 abbrev pub from_lengths : Params → Layout
@@ -62,12 +73,16 @@ abbrev pub from_maximum_operations : Params → Layout
 from_maximum_operations p = number_then maximum_operations λ n. from_default_is_stmt
     (record p { maximum_operations_per_instruction = n })
 
+-- versions 2 and 3 have no maximum_operations_per_instruction
+abbrev pub after_minimum_length : Params → Layout
+after_minimum_length p = if nat_lt p.version 4 then from_default_is_stmt p else from_maximum_operations p
+
 abbrev pub from_minimum_length : Params → Layout
-from_minimum_length p = number_then any_byte λ n. from_maximum_operations (record p { minimum_instruction_length = n })
+from_minimum_length p = number_then any_byte λ n. after_minimum_length (record p { minimum_instruction_length = n })
 
 -- unit_length is that of the unit
 abbrev pub from_header_length : ℕ → Params → Layout
-from_header_length unit_length p = number_then (header_length p.format (unit_length - fixed_part p.format))
+from_header_length unit_length p = number_then (header_length p.format (unit_length - fixed_part p.format p.version))
     λ n. from_minimum_length p
 
 abbrev pub from_segment_selector_size : ℕ → Params → Layout
@@ -82,6 +97,7 @@ from_address_size unit_length p = number_then address_size λ n. from_segment_se
 abbrev pub format_alone : Format → Params
 format_alone format = record {
   format = format;
+  version = 5;
   address_size = 0;
   segment_selector_size = 0;
   minimum_instruction_length = 0;
@@ -93,9 +109,20 @@ format_alone format = record {
   lengths = record { items = [] };
 }
 
--- the fields of a header; in each dialect those of version 5 alone
+-- what is known of a header of an older version before header_length: an instruction has one operation unless it says
+-- another number
+abbrev pub older_params : Format → ℕ → ℕ → Params
+older_params format v size =
+    record (format_alone format) { version = v; address_size = size; maximum_operations_per_instruction = 1 }
+
+abbrev pub from_older_version : Format → ℕ → ℕ → Option ℕ → Layout
+from_older_version format unit_length v None = foreign_version v
+from_older_version format unit_length v (Some size) = from_header_length unit_length (older_params format v size)
+
+-- the fields of a header
 abbrev pub header_layout : Dialect → Layout
 header_layout dialect =
     initial_length_then λ format unit_length.
     number_then version λ v.
-    if v == 5 then from_address_size unit_length (format_alone format) else foreign_version v
+    if v == 5 then from_address_size unit_length (format_alone format)
+    else from_older_version format unit_length v (older_size dialect v)

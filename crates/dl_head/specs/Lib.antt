@@ -3,6 +3,7 @@ pub mod Turns
 pub mod Dialect
 pub mod HeaderLayout
 pub mod Header
+pub mod Numbers
 pub mod Refusal
 pub mod Cells
 pub mod Written
@@ -24,3 +25,4 @@ pub mod HeadStep
 pub mod Spelled
 pub mod Whole
 pub mod TableSpelt
+pub mod ListSpelt

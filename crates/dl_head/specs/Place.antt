@@ -1,7 +1,8 @@
 -- Where the header reader is: after which fields, and in which bytes of one. No promise rests on how this is said.
-use Rattle.dl_head.specs.declared.dialect.Dialect.{Dialect}
-use Rattle.std.specs.Prelude.{◌≡◌, ◌≢◌, ℕ, ◌+◌, ◌-◌, ◌≤◌, List, [], ◌∷◌, ◌++◌, length, Some, None}
+use Rattle.std.specs.Prelude.{◌≡◌, ◌≢◌, ℕ, ◌+◌, ◌-◌, ◌≤◌, List, [], ◌∷◌, ◌++◌, length, Some, None, ◌==◌, ◌⊎◌}
+use Rattle.std.specs.Prelude.{if◌then◌else◌}
 use Rattle.dl_num.specs.declared.fixed.Order.{Order}
+use Rattle.dl_head.specs.declared.dialect.Dialect.{Dialect}
 use Rattle.dl_num.specs.Fixed.{fixed}
 use Rattle.dl_num.specs.NumberBytes.{number_size, number_bytes}
 use Rattle.dl_head.specs.declared.reader.byte_field.ByteField.{ByteField}
@@ -18,6 +19,9 @@ use Rattle.dl_field.specs.declared.params.Params.{Params}
 use Rattle.dl_table.specs.TableData.{TableData}
 use Rattle.dl_table.specs.TableCells.{table_cells}
 use Rattle.dl_field.specs.TablePlace.{IsFresh, TableAt, reader_cells}
+use Rattle.dl_field.specs.ListPlace.{IsFreshList, ListAt, list_cells}
+use Rattle.dl_field.specs.declared.list_reader.ListKind.TheVariants as kind
+use Rattle.dl_field.specs.declared.list_reader.ListPhase.TheVariants as list
 use Rattle.dl_field.specs.TableMoves.{Adds}
 use Rattle.dl_table.specs.Value.{good, bad, offset_size}
 use Rattle.dl_field.specs.Layout.{Layout, Item, length_is, number_is, following_all, field_spelt, unit_length_limit}
@@ -25,7 +29,8 @@ use Rattle.dl_head.specs.HeaderLayout.{header_layout, lengths_layout, tables_lay
 use Rattle.dl_head.specs.HeaderLayout.{fixed_part}
 use Rattle.dl_head.specs.HeaderLayout.{from_address_size, from_segment_selector_size, from_minimum_length}
 use Rattle.dl_head.specs.HeaderLayout.{from_maximum_operations, from_default_is_stmt, from_line_base, from_line_range}
-use Rattle.dl_head.specs.HeaderLayout.{from_opcode_base}
+use Rattle.dl_head.specs.HeaderLayout.{from_opcode_base, from_older_files}
+use Rattle.dl_head.specs.Dialect.{older_size}
 use Rattle.dl_head.specs.Header.{unit_end, header_end}
 
 -- the fields from one of one byte on
@@ -58,6 +63,7 @@ end_of_unit r = initial_size r.params.format + r.unit_length
 pub record IsBefore (r : HeadReader) : Type 0 where
   pub no_lengths : r.params.lengths.items ≡ []
   pub fresh : IsFresh r.table
+  pub unlisted : IsFreshList kind.Directories r.list
 
 -- the values before header_length
 pub record Early (r : HeadReader) (items is : List Item) : Type 0 where
@@ -79,6 +85,7 @@ pub record Past (r : HeadReader) (items : List Item) (layout : Layout) : Type 0 
 pub record Late (r : HeadReader) (items : List Item) (layout : Layout) : Type 0 where
   pub tail : Past r items layout
   pub fresh : IsFresh r.table
+  pub unlisted : IsFreshList kind.Directories r.list
 
 -- the reader is in the bytes rest of a field of the current table, which next follows
 pub record InTable (r : HeadReader) (items : List Item) (rest : List ℕ) (next : TableData → Layout) : Type 0 where
@@ -87,10 +94,36 @@ pub record InTable (r : HeadReader) (items : List Item) (rest : List ℕ) (next 
   pub at : TableAt r.dialect.order r.table r.table.phase r.params.format next layout rest
   pub going : r.table.phase ≡ table.Whole → ⊥
 
+-- the same of a table of versions 2 to 4
+pub record InList (r : HeadReader) (items : List Item) (rest : List ℕ) (next : TableData → Layout) : Type 0 where
+  pub layout : Layout
+  pub tail : Past r items layout
+  pub at : ListAt r.list r.list.phase r.params.format next layout rest
+  pub going : r.list.phase ≡ list.Whole → ⊥
+  pub fresh : IsFresh r.table
+
 -- the values of the fields before header_length
 abbrev pub before_header_length : HeadReader → List Item
-before_header_length r = length_item r ∷ number_is 5 ∷ number_is r.params.address_size
+before_header_length r = if r.params.version == 5 then length_item r ∷ number_is 5 ∷ number_is r.params.address_size
     ∷ number_is r.params.segment_selector_size ∷ []
+    else length_item r ∷ number_is r.params.version ∷ []
+
+-- what the params are by an older version
+pub record IsOlder (r : HeadReader) : Type 0 where
+  pub other : r.params.version ≢ 5
+  pub size : older_size r.dialect r.params.version ≡ Some r.params.address_size
+  pub segments : r.params.segment_selector_size ≡ 0
+  pub operations : r.params.maximum_operations_per_instruction ≡ 1
+
+-- the version is 5, or an older one that is read
+abbrev pub IsOfVersion : HeadReader → Type 0
+IsOfVersion r = (r.params.version ≡ 5) ⊎ IsOlder r
+
+-- nothing after the initial length is read
+pub record IsUnread (r : HeadReader) : Type 0 where
+  pub version : r.params.version ≡ 5
+  pub segments : r.params.segment_selector_size ≡ 0
+  pub operations : r.params.maximum_operations_per_instruction ≡ 1
 
 -- no field is after
 pub record AtStart (r : HeadReader) (items : List Item) : Type 0 where
@@ -98,6 +131,7 @@ pub record AtStart (r : HeadReader) (items : List Item) : Type 0 where
   pub end : r.end ≡ None
   pub overrun : r.overrun ≡ fault.UnitOverrun
   pub before : IsBefore r
+  pub unread : IsUnread r
 
 -- the bytes of the long initial length
 pub record InLong (order : Order) (rest : List ℕ) (number : List ℕ) : Type 0 where
@@ -111,20 +145,26 @@ abbrev pub AtPhase : HeadReader → Phase → List Item → List ℕ → Type 0
 AtPhase r (phase.UnitLength n) items rest = AtStart r items × (number_bytes n ≡ rest) × (number_size n ≡ 4)
 AtPhase r (phase.LongUnitLength n) items rest = AtStart r items × InLong r.dialect.order rest (number_bytes n)
     × (number_size n ≡ 8)
-AtPhase r phase.Version items rest = Early r items (length_item r ∷ []) × (rest ≡ [])
-AtPhase r (phase.VersionEnd first) items rest = Early r items (length_item r ∷ []) × (rest ≡ first ∷ [])
+AtPhase r phase.Version items rest = Early r items (length_item r ∷ []) × (rest ≡ []) × IsUnread r
+AtPhase r (phase.VersionEnd first) items rest = Early r items (length_item r ∷ []) × (rest ≡ first ∷ []) × IsUnread r
 AtPhase r (phase.HeaderLength n) items rest =
-    Early r items (before_header_length r) × (number_bytes n ≡ rest) × (number_size n ≡ offset_size r.params.format)
+    Early r items (before_header_length r) × IsOfVersion r × (number_bytes n ≡ rest)
+    × (number_size n ≡ offset_size r.params.format)
 AtPhase r (phase.Byte field.AddressSize) items rest = Early r items (length_item r ∷ number_is 5 ∷ []) × (rest ≡ [])
+    × (r.params.version ≡ 5)
 AtPhase r (phase.Byte field.SegmentSelectorSize) items rest =
     Early r items (length_item r ∷ number_is 5 ∷ number_is r.params.address_size ∷ []) × (rest ≡ [])
+    × (r.params.version ≡ 5)
 AtPhase r (phase.Byte f) items rest = Late r items (from_byte f r.unit_length r.params) × (rest ≡ [])
     × (r.params.lengths.items ≡ [])
 AtPhase r phase.OpcodeLength items rest = Late r items (from_length r.params) × (rest ≡ [])
 AtPhase r phase.Directories items rest = InTable r items rest (from_files r.params)
 AtPhase r phase.Files items rest = InTable r items rest (from_end r.params r.directories)
+AtPhase r phase.OlderDirectories items rest = InList r items rest (from_older_files r.params)
+AtPhase r phase.OlderFiles items rest = InList r items rest (from_end r.params r.directories)
 AtPhase r phase.Padding items rest = Past r items (from_end r.params r.directories r.files)
 AtPhase r (phase.Foreign v) items rest = Early r items (length_item r ∷ number_is v ∷ []) × (v ≢ 5)
+    × (older_size r.dialect v ≡ None)
 AtPhase r p items rest = ⊥
 
 abbrev pub At : HeadReader → List Item → List ℕ → Type 0
@@ -164,11 +204,13 @@ Starts old format length result new = ⊥
 -- `start_header`: header_length is good, and the reader is after it, or it is above the bytes left in the unit
 abbrev pub StartsHeader : HeadReader → ℕ → FieldStep → HeadReader → Type 0
 StartsHeader old header byte_makes.Ends new =
-    (header ≤ old.unit_length - fixed_part old.params.format)
-    × ((items : List Item) → Early old items (before_header_length old) → At new (items ++ number_is header ∷ []) [])
+    (header ≤ old.unit_length - fixed_part old.params.format old.params.version)
+    × ((items : List Item) → Early old items (before_header_length old) → IsOfVersion old
+    → At new (items ++ number_is header ∷ []) [])
     × SameCounts old new
 StartsHeader old header (byte_makes.Refuses kind) new =
-    (old.unit_length - fixed_part old.params.format + 1 ≤ header) × (kind ≡ fault.HeaderBeyondUnit) × SameCounts old new
+    (old.unit_length - fixed_part old.params.format old.params.version + 1 ≤ header) × (kind ≡ fault.HeaderBeyondUnit)
+    × SameCounts old new
 StartsHeader old header result new = ⊥
 
 -- what is known of the unit's length is kept
@@ -184,7 +226,7 @@ Keeps old result new = Unit {0}
 
 -- how many cells the reader holds
 abbrev pub held_cells : HeadReader → ℕ
-held_cells r = table_cells r.directories + table_cells r.files + reader_cells r.table
+held_cells r = table_cells r.directories + table_cells r.files + reader_cells r.table + list_cells r.list
 
 -- what bytes make of the field, or of the padding, that they fall in
 abbrev pub BytesMade : HeadReader → List Item → List ℕ → List ℕ → FieldStep → HeadReader → Type 0

@@ -29,7 +29,7 @@ header_length_of h = length (after_header_length Little h)
 
 -- unit_length of a unit with a program of `program_len` bytes
 abbrev pub unit_length_of : HeaderData → ℕ → ℕ
-unit_length_of h program_len = fixed_part h.params.format + header_length_of h + program_len
+unit_length_of h program_len = fixed_part h.params.format 5 + header_length_of h + program_len
 
 -- unit_length in its format, section 7.4
 abbrev pub initial_length_bytes : Order → Format → ℕ → List ℕ

@@ -13,11 +13,14 @@ pub struct Fault {
 /// Why the parts of a header were refused, the first reason in this order.
 #[derive(Clone, Copy, Debug, PartialEq, Eq, Error)]
 pub enum ParamFault {
+    /// version isn't 2, 3, 4 or 5.
+    #[error("bad version")]
+    Version,
     /// address_size isn't 1, 2, 4 or 8.
     #[error("bad address size")]
     AddressSize,
-    /// maximum_operations_per_instruction is 0.
-    #[error("maximum operations is 0")]
+    /// maximum_operations_per_instruction is 0, or isn't 1 in version 2 or 3, which have no such field.
+    #[error("bad maximum operations")]
     MaxOps,
     /// line_range is 0.
     #[error("line range is 0")]

@@ -1,18 +1,20 @@
 //! Headers. Section 6.2.4.
 
-ghost use Rattle.std.specs.Prelude.{◌≡◌, ◌↔◌, IsTrue, ◌-◌, ◌^◌, None, Some, IfErr, IfOk, IfNone, OnOk, min};
+ghost use Rattle.std.specs.Prelude.{◌≡◌, ◌≤◌, ◌↔◌, IsTrue, ◌-◌, ◌^◌, None, Some, IfErr, IfOk, IfNone, OnOk, min, nat_lt, if◌then◌else◌};
 ghost use Rattle.std.specs.Option.{option_map};
 ghost use Rattle.dl_field.specs.Usable.{IsUsable};
 ghost use Rattle.dl_head.specs.Built.{param_fault as param_fault_of, with_standard_opcodes as standard};
-ghost use Rattle.dl_head.specs.Built.{wrong_length as wrong_length_of};
+ghost use Rattle.dl_head.specs.Built.{are_operations as are_operations_of, wrong_length as wrong_length_of};
 ghost use Rattle.dl_table.specs.Sound.{IsSoundTable};
 ghost use Rattle.dl_head.specs.Sound.{IsSoundHeader};
 ghost use Rattle.dl_field.specs.HeaderData.{header_cells};
+ghost use Rattle.dl_head.specs.Numbers.{directory_numbered, file_numbered, first_number};
+ghost use Rattle.dl_table.specs.EntryHeld.{entry_items};
 
 use crate::fault::ParamFault;
 use dl_field::Params;
 use dl_field::params::{is_wrong_length, standard_lengths};
-use dl_table::Table;
+use dl_table::{Entry, Table};
 use std::marker::Model;
 use thiserror::Error;
 
@@ -104,7 +106,6 @@ impl Header {
         ensures { result
             ≡ record { params = params; directories = directories; files = files } }
     {
-        prove!(directories.format() == params.format && files.format() == params.format);
         Header {
             params,
             directories,
@@ -133,6 +134,37 @@ impl Header {
         ensures { result.now ≡ self.now.files }
     {
         &self.files
+    }
+
+    /// The number of the first entry of each table: 0 in version 5, and 1 before.
+    pub fn first_number(&self) -> u64
+        ensures value { result ≡ first_number self.now.params }
+        ensures least { result ≤ 1 }
+    {
+        if self.params.version == 5 { 0 } else { 1 }
+    }
+
+    /// The directory of this number. None where the table has none of this number.
+    pub fn directory(&self, number: u64) -> Option<Entry<'_>>
+        ensures { option_map entry_items result ≡ directory_numbered self.now number }
+    {
+        self.directories.entry(self.place_of(number)?)
+    }
+
+    /// The file of this number, as rows name it. None where the table has none of this number.
+    pub fn file(&self, number: u64) -> Option<Entry<'_>>
+        ensures { option_map entry_items result ≡ file_numbered self.now number }
+    {
+        self.files.entry(self.place_of(number)?)
+    }
+
+    /// Which entry of its table has this number, counted from 0. None where a number comes before those of the entries.
+    fn place_of(&self, number: u64) -> Option<usize>
+        ensures { result ≡ (if nat_lt number (first_number self.now.params) then None
+            else Some (number - first_number self.now.params)) }
+    {
+        let place = number.checked_sub(self.first_number())?;
+        Some(place as usize)
     }
 
     /// How many pairs, values, and bytes of texts and blocks the tables hold; 2^64 - 1 where there
@@ -168,10 +200,13 @@ fn param_fault(params: &Params, directories: &Table, files: &Table) -> Option<Pa
     ensures sound_directories { IfNone result (IsSoundTable directories.now) }
     ensures sound_files { IfNone result (IsSoundTable files.now) }
 {
+    if !matches!(params.version, 2 | 3 | 4 | 5) {
+        return Some(ParamFault::Version);
+    }
     if !matches!(params.address_size, 1 | 2 | 4 | 8) {
         return Some(ParamFault::AddressSize);
     }
-    if params.maximum_operations_per_instruction == 0 {
+    if !are_operations(params.version, params.maximum_operations_per_instruction) {
         return Some(ParamFault::MaxOps);
     }
     if params.line_range == 0 {
@@ -187,6 +222,17 @@ fn param_fault(params: &Params, directories: &Table, files: &Table) -> Option<Pa
         return Some(ParamFault::TableFormat);
     }
     None
+}
+
+/// Whether an instruction of this version may have so many operations at most.
+fn are_operations(version: u16, operations: u8) -> bool
+    ensures { result ≡ are_operations_of version operations }
+{
+    if version < 4 {
+        operations == 1
+    } else {
+        operations > 0
+    }
 }
 
 /// The least standard opcode whose length isn't that of section 6.2.5.2.

@@ -9,7 +9,7 @@ pub mod reader;
 mod sizes;
 pub mod write;
 
-pub use dialect::Dialect;
+pub use dialect::{AddressSize, Dialect, Older};
 pub use dl_field::{Params, params};
 pub use dl_table::{
     BuildFault, Entry, FaultKind, Form, Format, HeadWrite, Pair, Table, ValueRef, Values, counted,

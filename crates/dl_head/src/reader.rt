@@ -1,13 +1,15 @@
 //! The header of a unit, byte by byte. Section 6.2.4.
 
-ghost use Rattle.std.specs.Prelude.{◌≡◌, ◌≢◌, ◌-◌, ◌≤◌, ◌^◌, ℕ, List, [], true, false, length, min, IfSome};
+ghost use Rattle.std.specs.Prelude.{◌≡◌, ◌≢◌, ◌-◌, ◌≤◌, ◌^◌, ℕ, List, [], true, false, length, min, IfSome, IsTrue, Some};
 ghost use Rattle.dl_head.specs.Header.{unit_len};
 ghost use Rattle.dl_head.specs.Cells.{cells};
 ghost use Rattle.std.specs.Option.{option_copied};
 ghost use Rattle.dl_num.specs.Fixed.{is_number_size};
-ghost use Rattle.dl_head.specs.HeadStep.{AreStandard, end_near, formats_fit, lengths_fit, tables_fit};
+ghost use Rattle.dl_head.specs.Built.{is_version};
+ghost use Rattle.dl_head.specs.HeadStep.{AreStandard, end_near, formats_fit, lengths_fit, operations_fit, tables_fit};
 ghost use Rattle.dl_table.specs.TableCells.{table_cells};
 ghost use Rattle.dl_head.specs.TableSpelt.{TableStands};
+ghost use Rattle.dl_head.specs.ListSpelt.{ListReads};
 ghost use Rattle.std.proofs.Props.{props};
 
 mod byte_field;
@@ -20,7 +22,7 @@ use crate::fault::Fault;
 use crate::header::Header;
 use crate::sizes::initial_size;
 use byte_field::ByteField;
-use dl_field::{FieldStep, Params, TableReader};
+use dl_field::{FieldStep, ListKind, ListReader, Params, TableReader};
 use dl_num::PartialNumber;
 use dl_table::{FaultKind, Format, Table};
 pub use run::HeadRun;
@@ -32,7 +34,7 @@ use std::mem;
 pub enum HeadStep {
     /// The byte is taken, and the header goes on.
     More,
-    /// With the version's second byte: the unit is of this version, which isn't 5.
+    /// With the version's second byte: the unit is of this version, which isn't read.
     Foreign(u16),
     /// With the header's last byte by header_length.
     Done,
@@ -57,6 +59,9 @@ enum Phase {
     OpcodeLength,
     Directories,
     Files,
+    /// The tables of versions 2 to 4.
+    OlderDirectories,
+    OlderFiles,
     /// Bytes between the last entry and the header's end.
     Padding,
     Done,
@@ -92,6 +97,8 @@ pub struct HeadReader {
     taken: u64,
     /// The current table.
     table: TableReader,
+    /// The current table of versions 2 to 4.
+    list: ListReader,
     directories: Table,
     files: Table,
     /// The header, once it is complete.
@@ -99,13 +106,15 @@ pub struct HeadReader {
     ghost short: { unit_length ≤ 2 ^ 40 },
     ghost near: { end_near end ≡ true },
     ghost address_size: { is_number_size params.address_size ≡ true },
-    ghost operations: { 1 ≤ params.maximum_operations_per_instruction },
+    ghost version: { is_version params.version ≡ true },
+    ghost operations: { operations_fit phase params.version params.maximum_operations_per_instruction ≡ true },
     ghost lines: { 1 ≤ params.line_range },
     ghost lengths: { lengths_fit phase (length params.lengths.items) params.opcode_base ≡ true },
     ghost tables: { tables_fit phase (table_cells directories) (table_cells files) ≡ true },
     ghost formats: { formats_fit phase params.format directories.format files.format ≡ true },
     ghost standard: { AreStandard params.lengths.items } by { Prim.hlevel props },
     ghost read: { ∥ TableStands phase dialect.order params.format table ∥₁ },
+    ghost listed: { ∥ ListReads list ∥₁ },
 }
 
 impl HeadReader {
@@ -132,6 +141,7 @@ impl HeadReader {
             start: 0,
             taken: 0,
             table: TableReader::new(alloc),
+            list: ListReader::new(alloc, ListKind::Directories),
             directories: Table::without_pairs(alloc, Format::Dwarf32),
             files: Table::without_pairs(alloc, Format::Dwarf32),
             header: None,
@@ -191,7 +201,8 @@ impl HeadReader {
                 .directories
                 .cells()
                 .saturating_add(self.files.cells())
-                .saturating_add(self.table.cells()),
+                .saturating_add(self.table.cells())
+                .saturating_add(self.list.cells()),
         }
     }
 
@@ -216,13 +227,21 @@ impl HeadReader {
     {
         match self.phase {
             Phase::Foreign(version) => HeadStep::Foreign(version),
-            _ if self.end != Some(self.taken) => HeadStep::More,
+            _ if !self.is_at_end() => HeadStep::More,
             Phase::Padding => {
                 self.complete();
                 HeadStep::Done
             }
             _ => self.fail(self.overrun),
         }
+    }
+
+    /// Whether the bytes taken go up to the end that is known.
+    fn is_at_end(&self) -> bool
+        ensures ended { IsTrue result → self.now.end ≡ Some self.now.taken }
+        ensures before { result ≡ false → self.now.end ≢ Some self.now.taken }
+    {
+        self.end == Some(self.taken)
     }
 
     fn fail(&mut self, kind: FaultKind) -> HeadStep
@@ -322,6 +341,8 @@ impl HeadReader {
             Phase::HeaderLength(number) => self.header_length(number, byte),
             Phase::Byte(field) => self.byte_field(field, byte),
             Phase::OpcodeLength => self.opcode_length(byte),
+            Phase::OlderDirectories => self.older_directories(byte),
+            Phase::OlderFiles => self.older_files(byte),
             Phase::Directories
             | Phase::Files
             | Phase::Padding
@@ -353,6 +374,32 @@ impl HeadReader {
         let format = self.params.format;
         let next = self.table.push_front(self.dialect.order, format, bytes);
         if let Some(table) = self.table.take(self.alloc, format) {
+            self.files = table;
+            self.phase = Phase::Padding;
+        }
+        next
+    }
+
+    fn older_directories(&mut self, byte: u8) -> FieldStep
+        requires { self.old.phase ≡ phase.OlderDirectories }
+        ensures follows { PushFollows self.old byte result self.new }
+        ensures kept { Keeps self.old result self.new }
+    {
+        let next = self.list.push(byte);
+        if let Some(table) = self.list.take(self.alloc, self.params.format) {
+            self.directories = table;
+            self.phase = Phase::OlderFiles;
+        }
+        next
+    }
+
+    fn older_files(&mut self, byte: u8) -> FieldStep
+        requires { self.old.phase ≡ phase.OlderFiles }
+        ensures follows { PushFollows self.old byte result self.new }
+        ensures kept { Keeps self.old result self.new }
+    {
+        let next = self.list.push(byte);
+        if let Some(table) = self.list.take(self.alloc, self.params.format) {
             self.files = table;
             self.phase = Phase::Padding;
         }

@@ -16,11 +16,9 @@ pub fn initial_size(format: Format) -> u64
 }
 
 /// The size in bytes of the fields from version to header_length.
-pub fn fixed_part(format: Format) -> u64
-    ensures { result ≡ fixed_part_of format }
+pub fn fixed_part(format: Format, version: u16) -> u64
+    ensures { result ≡ fixed_part_of format version }
 {
-    match format {
-        Format::Dwarf32 => 8,
-        Format::Dwarf64 => 12,
-    }
+    let sizes = if version == 5 { 2 } else { 0 };
+    2 + sizes + format.offset_size() as u64
 }

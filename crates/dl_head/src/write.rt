@@ -210,10 +210,10 @@ fn signed_byte(number: i8) -> u8
 
 /// How many bytes there are from the version on; 2^64 - 1 where there are more.
 fn fields_len(header: &Header) -> u64
-    ensures { result ≡ min (fixed_part_of header.now.params.format + header_length_of header.now)
+    ensures { result ≡ min (fixed_part_of header.now.params.format 5 + header_length_of header.now)
         (2 ^ 64 - 1) }
 {
-    fixed_part(header.params().format).saturating_add(header_length(header))
+    fixed_part(header.params().format, 5).saturating_add(header_length(header))
 }
 
 /// header_length; 2^64 - 1 where it is more.

@@ -1,7 +1,8 @@
 -- The params of a header are usable, and line_base is a byte.
 use Rattle.dl_head.specs.declared.dialect.Dialect.{Dialect}
 use Rattle.std.proofs.Common.{◌≡◌, ℕ, zero, suc, ◌+◌, ◌-◌, ◌≤◌, Bool, true, false, if◌then◌else◌, ◌==◌, List, [], ◌∷◌}
-use Rattle.std.proofs.Common.{◌++◌, length, Some, None, refl, sym, subst, arith, inl, inr, length-append, ◌∙◌, ◌<◌, ◌^◌}
+use Rattle.std.proofs.Common.{◌++◌, length, drop, Some, None, refl, sym, subst, arith, inl, inr, length-append, ◌∙◌}
+use Rattle.std.proofs.Common.{◌<◌, ◌^◌}
 use Rattle.std.proofs.Common.{pos, negsuc, ◌-ℤ◌, Option, ap}
 use Rattle.std.proofs.lemmas.Bool.{cases_lt, lt-ltb, le-ltb, cases_eq, eq-eqb, ne_eqb}
 use Rattle.std.specs.Prelude.{unsigned_abs}
@@ -22,30 +23,37 @@ use Rattle.dl_field.specs.HeaderData.{HeaderData}
 use Rattle.dl_table.specs.Value.{Value, good}
 use Rattle.dl_field.specs.Field.{IsNumber}
 use Rattle.dl_field.specs.Layout.{Layout, initial_length_then, number_then, form_then, value_then, foreign_version}
-use Rattle.dl_field.specs.Layout.{last_entry, Item, length_is, number_is, form_is, value_is, following, following_all}
+use Rattle.dl_field.specs.Layout.{path_or_end, last_entry, Item, length_is, number_is, form_is, value_is, end_is}
+use Rattle.dl_field.specs.Layout.{following}
+use Rattle.dl_field.specs.Layout.{following_all}
 use Rattle.dl_field.specs.Layout.{objection, number_size, field_spelt, pairs_layout, entry_layout, entries_layout}
 use Rattle.dl_field.specs.Layout.{table_layout, NumberField}
-use Rattle.dl_head.specs.HeaderLayout.{header_layout, lengths_layout, tables_layout, from_address_size, format_alone}
-use Rattle.dl_head.specs.HeaderLayout.{signed_byte}
+use Rattle.dl_head.specs.Dialect.{older_size}
+use Rattle.dl_head.specs.HeaderLayout.{header_layout, lengths_layout, tables_layout, from_files, from_end}
+use Rattle.dl_head.specs.HeaderLayout.{from_default_is_stmt, after_minimum_length, from_address_size}
+use Rattle.dl_head.specs.HeaderLayout.{from_older_version, older_params, format_alone, signed_byte}
 use Rattle.dl_head.specs.Header.{SpellsFields, IsHeader}
 use Rattle.dl_field.proofs.FieldLemmas.{none_some}
 use Rattle.dl_field.proofs.FieldLaws.{field_is_judged}
 use Rattle.dl_head.proofs.HeaderLaws.{made_last}
 use Rattle.dl_head.proofs.FirstFields.{is_number}
+use Rattle.dl_head.proofs.Openings.{after_length}
+use Rattle.dl_head.proofs.ReadSound.{older_fits}
 use Rattle.dl_rows.specs.UnitLaws.{HeaderFits}
 use Rattle.dl_rows.proofs.OperandRanges.{bytes_front, bytes_back}
 
 -- a number of one byte is below 256
-abbrev IsSmall : NumberField → ℕ → Type 0
+abbrev pub IsSmall : NumberField → ℕ → Type 0
 IsSmall field n = number_size field ≡ Some 1 → n < 256
 
 -- Each header to which good fields of the layout lead is so; where Bytes holds, what is read are bytes.
-abbrev LeadsTo : Type 0 → (HeaderData → Type 0) → Layout → Type 0
+abbrev pub LeadsTo : Type 0 → (HeaderData → Type 0) → Layout → Type 0
 LeadsTo Bytes P (initial_length_then next) = (f : Format) (n : ℕ) → LeadsTo Bytes P (next f n)
 LeadsTo Bytes P (number_then field next) =
     (n : ℕ) → objection field n ≡ None → (Bytes → IsSmall field n) → LeadsTo Bytes P (next n)
 LeadsTo Bytes P (form_then next) = (f : Form) → LeadsTo Bytes P (next f)
 LeadsTo Bytes P (value_then format f next) = (v : Value) → LeadsTo Bytes P (next v)
+LeadsTo Bytes P (path_or_end format pairs entries next) = (t : TableData) → LeadsTo Bytes P (next t)
 LeadsTo Bytes P (foreign_version v) = Unit {0}
 LeadsTo Bytes P (last_entry h) = P h
 
@@ -63,6 +71,13 @@ small order field next n w all e one =
     let same : n ≡ is.0 = number_same n is.0 is.1 in
     omega (arith, below, power, same, fixed_is.1)
 
+leads_entry : (Bytes : Type 0) (P : HeaderData → Type 0) (format : Format) (pairs : List Pair) (before : List Value)
+    (next : List Value → Layout) → ((values : List Value) → LeadsTo Bytes P (next values))
+    → LeadsTo Bytes P (entry_layout format pairs before next)
+leads_entry Bytes P format [] before next all = all before
+leads_entry Bytes P format (p ∷ pairs) before next all =
+    λ v. leads_entry Bytes P format pairs (before ++ v ∷ []) next all
+
 leads_on : (Bytes : Type 0) (P : HeaderData → Type 0) (order : Order) (layout : Layout) (i : Item) (items : List Item)
     (w : List ℕ) → (Bytes → AllBytes w) → SpellsFields order layout (i ∷ items) w → LeadsTo Bytes P layout
     → LeadsTo Bytes P (following layout i)
@@ -70,6 +85,7 @@ leads_on Bytes P order (initial_length_then next) (length_is f n) items w all s 
 leads_on Bytes P order (initial_length_then next) (number_is n) items w all s leads = leads
 leads_on Bytes P order (initial_length_then next) (form_is f) items w all s leads = leads
 leads_on Bytes P order (initial_length_then next) (value_is v) items w all s leads = leads
+leads_on Bytes P order (initial_length_then next) (end_is n) items w all s leads = leads
 leads_on Bytes P order (number_then field next) i items w all s leads =
     let n = is_number order field next s.0 i s.3 in
     let front = λ (h : Bytes). bytes_front s.0 s.1 (subst (λ (z : List ℕ). AllBytes z) s.2 (all h)) in
@@ -80,14 +96,24 @@ leads_on Bytes P order (form_then next) (form_is f) items w all s leads = leads 
 leads_on Bytes P order (form_then next) (length_is f n) items w all s leads = leads
 leads_on Bytes P order (form_then next) (number_is n) items w all s leads = leads
 leads_on Bytes P order (form_then next) (value_is v) items w all s leads = leads
+leads_on Bytes P order (form_then next) (end_is n) items w all s leads = leads
 leads_on Bytes P order (value_then format f next) (value_is v) items w all s leads = leads v
 leads_on Bytes P order (value_then format f next) (length_is g n) items w all s leads = leads
 leads_on Bytes P order (value_then format f next) (number_is n) items w all s leads = leads
 leads_on Bytes P order (value_then format f next) (form_is g) items w all s leads = leads
+leads_on Bytes P order (value_then format f next) (end_is n) items w all s leads = leads
+leads_on Bytes P order (path_or_end format pairs entries next) (value_is v) items w all s leads =
+    leads_entry Bytes P format (drop 1 pairs) (v ∷ [])
+    (λ entry. path_or_end format pairs (entries ++ entry ∷ []) next) (λ entry. leads)
+leads_on Bytes P order (path_or_end format pairs entries next) (end_is n) items w all s leads =
+    leads (record { format = format; pairs = pairs; entries = entries })
+leads_on Bytes P order (path_or_end format pairs entries next) (length_is g n) items w all s leads = leads
+leads_on Bytes P order (path_or_end format pairs entries next) (number_is n) items w all s leads = leads
+leads_on Bytes P order (path_or_end format pairs entries next) (form_is g) items w all s leads = leads
 leads_on Bytes P order (foreign_version v) i items w all s leads = absurd (none_some refl s.3)
 leads_on Bytes P order (last_entry h) i items w all s leads = absurd (none_some refl s.3)
 
-leads_all : (Bytes : Type 0) (P : HeaderData → Type 0) (order : Order) (layout : Layout) (items : List Item)
+pub leads_all : (Bytes : Type 0) (P : HeaderData → Type 0) (order : Order) (layout : Layout) (items : List Item)
     (w : List ℕ) → (Bytes → AllBytes w) → SpellsFields order layout items w → LeadsTo Bytes P layout
     → LeadsTo Bytes P (following_all layout items)
 leads_all Bytes P order layout [] w all s leads = leads
@@ -104,13 +130,6 @@ leads_pairs Bytes P zero before next all = all before
 leads_pairs Bytes P (suc count) before next all =
     λ code fits few f. leads_pairs Bytes P count (before ++ record { content = code; form = f } ∷ []) next all
 
-leads_entry : (Bytes : Type 0) (P : HeaderData → Type 0) (format : Format) (pairs : List Pair) (before : List Value)
-    (next : List Value → Layout) → ((values : List Value) → LeadsTo Bytes P (next values))
-    → LeadsTo Bytes P (entry_layout format pairs before next)
-leads_entry Bytes P format [] before next all = all before
-leads_entry Bytes P format (p ∷ pairs) before next all =
-    λ v. leads_entry Bytes P format pairs (before ++ v ∷ []) next all
-
 leads_entries : (Bytes : Type 0) (P : HeaderData → Type 0) (format : Format) (pairs : List Pair) (count : ℕ)
     (before : List (List Value)) (next : List (List Value) → Layout)
     → ((entries : List (List Value)) → LeadsTo Bytes P (next entries))
@@ -120,7 +139,7 @@ leads_entries Bytes P format pairs (suc count) before next all =
     leads_entry Bytes P format pairs [] (λ entry. entries_layout format pairs count (before ++ entry ∷ []) next)
     (λ entry. leads_entries Bytes P format pairs count (before ++ entry ∷ []) next all)
 
-leads_table : (Bytes : Type 0) (P : HeaderData → Type 0) (format : Format) (next : TableData → Layout)
+pub leads_table : (Bytes : Type 0) (P : HeaderData → Type 0) (format : Format) (next : TableData → Layout)
     → ((t : TableData) → LeadsTo Bytes P (next t)) → LeadsTo Bytes P (table_layout format next)
 leads_table Bytes P format next all =
     λ pair_count fits few. leads_pairs Bytes P pair_count [] _
@@ -133,24 +152,22 @@ IsFit Bytes p = IsUsable p × (Bytes → unsigned_abs p.line_base < 2 ^ 62)
 abbrev Fit : Type 0 → HeaderData → Type 0
 Fit Bytes h = IsFit Bytes h.params
 
+leads_own : (Bytes : Type 0) (p : Params) → IsFit Bytes p
+    → LeadsTo Bytes (Fit Bytes) (table_layout p.format (from_files p))
+leads_own Bytes p fit =
+    leads_table Bytes (Fit Bytes) p.format (from_files p)
+    (λ directories. leads_table Bytes (Fit Bytes) p.format (from_end p directories) (λ files. fit))
+
 leads_tables : (Bytes : Type 0) (p : Params) → IsFit Bytes p → LeadsTo Bytes (Fit Bytes) (tables_layout p)
-leads_tables Bytes p fit =
-    leads_table Bytes (Fit Bytes) p.format (λ directories. table_layout p.format λ files. last_entry (record {
-      params =
-          p;
-      directories = directories;
-      files = files;
-    }))
-    (λ directories. leads_table Bytes (Fit Bytes) p.format (λ files. last_entry (record {
-      params = p;
-      directories =
-          directories;
-      files = files;
-    })) (λ files. fit))
+leads_tables Bytes p fit = elim (cases_eq p.version 5) [
+  | inl own ↦ rw (eq-eqb p.version 5 own) (leads_own Bytes p fit)
+  | inr older ↦ rw (ne_eqb p.version 5 older) (λ directories files. fit)
+]
 
 -- ---- the fields that the params hold
 
-leads_lengths : (Bytes : Type 0) (P : HeaderData → Type 0) (opcode count : ℕ) (before : List ℕ) (next : List ℕ → Layout)
+pub leads_lengths : (Bytes : Type 0) (P : HeaderData → Type 0) (opcode count : ℕ) (before : List ℕ) (next : List ℕ
+    → Layout)
     → ((lengths : List ℕ) → length lengths ≡ length before + count → LeadsTo Bytes P (next lengths))
     → LeadsTo Bytes P (lengths_layout opcode count before next)
 leads_lengths Bytes P opcode zero before next all = all before (omega arith)
@@ -177,26 +194,56 @@ signed_small n lt = elim (cases_lt n 128) [
   ) in rw e (omega arith))
 ]
 
-leads_fields : (Bytes : Type 0) (unit_length : ℕ) (p : Params)
-    → LeadsTo Bytes (Fit Bytes) (from_address_size unit_length p)
-leads_fields Bytes unit_length p =
-    λ address size a segment s b header h c minimum m d maximum operations e is_stmt i f base j g range
-    lines k opcodes some l.
+leads_default : (Bytes : Type 0) (p : Params) → is_number_size p.address_size ≡ true
+    → 1 ≤ p.maximum_operations_per_instruction → LeadsTo Bytes (Fit Bytes) (from_default_is_stmt p)
+leads_default Bytes p size operations =
+    λ is_stmt i f base j g range lines k opcodes some l.
     leads_lengths Bytes (Fit Bytes) 1 (opcodes - 1) [] _ (λ lengths count. leads_tables Bytes _ (
       record {
-        address_size = fits_true (is_number_size address) fault.AddressSize size;
-        operations = not_zero maximum fault.MaxOps operations;
+        address_size = size;
+        operations = operations;
         lines = not_zero range fault.LineRange lines;
         opcodes = (let n = not_zero opcodes fault.OpcodeBase some in omega (arith, count, n));
       },
       λ bytes. signed_small base (g bytes refl),
     ))
 
-leads_version : (Bytes : Type 0) (format : Format) (n v : ℕ)
-    → LeadsTo Bytes (Fit Bytes) (if v == 5 then from_address_size n (format_alone format) else foreign_version v)
-leads_version Bytes format n v = elim (cases_eq v 5) [
-  | inl same ↦ rw (eq-eqb v 5 same) (leads_fields Bytes n (format_alone format))
-  | inr other ↦ rw (ne_eqb v 5 other) tt
+-- versions 2 and 3 have no maximum operations, which is known of them
+leads_minimum : (Bytes : Type 0) (p : Params) → is_number_size p.address_size ≡ true
+    → (p.version < 4 → 1 ≤ p.maximum_operations_per_instruction)
+    → LeadsTo Bytes (Fit Bytes) (after_minimum_length p)
+leads_minimum Bytes p size one = elim (cases_lt p.version 4) [
+  | inl old ↦ rw (lt-ltb p.version 4 old) (leads_default Bytes p size (one old))
+  | inr new ↦ rw (le-ltb p.version 4 new)
+      (λ maximum operations e. leads_default Bytes (record p { maximum_operations_per_instruction = maximum }) size
+      (not_zero maximum fault.MaxOps operations))
+]
+
+leads_fields : (Bytes : Type 0) (format : Format) (unit_length : ℕ)
+    → LeadsTo Bytes (Fit Bytes) (from_address_size unit_length (format_alone format))
+leads_fields Bytes format unit_length =
+    λ address size a segment s b header h c minimum m d.
+    leads_minimum Bytes (record (format_alone format) {
+      address_size = address;
+      segment_selector_size = segment;
+      minimum_instruction_length = minimum;
+    }) (fits_true (is_number_size address) fault.AddressSize size) (λ lt. absurd (omega (arith, lt)))
+
+leads_older : (Bytes : Type 0) (format : Format) (n v : ℕ) (o : Option ℕ)
+    → ((size : ℕ) → o ≡ Some size → is_number_size size ≡ true)
+    → LeadsTo Bytes (Fit Bytes) (from_older_version format n v o)
+leads_older Bytes format n v None fits = tt
+leads_older Bytes format n v (Some size) fits =
+    λ header h c minimum m d.
+    leads_minimum Bytes (record (older_params format v size) { minimum_instruction_length = minimum }) (fits size refl)
+    (λ lt. omega arith)
+
+leads_version : (Bytes : Type 0) (dialect : Dialect) (format : Format) (n v : ℕ)
+    → LeadsTo Bytes (Fit Bytes) (after_length dialect format n v)
+leads_version Bytes dialect format n v = elim (cases_eq v 5) [
+  | inl same ↦ rw (eq-eqb v 5 same) (leads_fields Bytes format n)
+  | inr other ↦ rw (ne_eqb v 5 other)
+      (leads_older Bytes format n v (older_size dialect v) (older_fits dialect v))
 ]
 
 fit_of : (Bytes : Type 0) (dialect : Dialect) (h : HeaderData) (w : List ℕ) (is : IsHeader dialect h w)
@@ -205,7 +252,7 @@ fit_of Bytes dialect h w is all =
     subst (λ (l : Layout). LeadsTo Bytes (Fit Bytes) l)
     (made_last (following_all (header_layout dialect) is.items) h is.made)
     (leads_all Bytes (Fit Bytes) dialect.order (header_layout dialect) is.items is.fields all is.spelt
-    (λ format n v fits few. leads_version Bytes format n v))
+    (λ format n v fits few. leads_version Bytes dialect format n v))
 
 pub header_is_usable : (dialect : Dialect) (h : HeaderData) (w : List ℕ) → IsHeader dialect h w → IsUsable h.params
 header_is_usable dialect h w is = (fit_of ⊥ dialect h w is (λ never. absurd never)).0

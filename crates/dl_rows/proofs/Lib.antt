@@ -16,6 +16,7 @@ pub mod OperandLemmas
 pub mod OperandRanges
 pub mod OperationFront
 pub mod OperationLaws
+pub mod OwnVersions
 pub mod PhaseLemmas
 pub mod PlaceLemmas
 pub mod ProgramEnds
@@ -44,6 +45,7 @@ pub mod UnitLaws
 pub mod UnitLemmas
 pub mod UnitLengths
 pub mod UnitQuiet
+pub mod UnfinishedHeaders
 pub mod UnitWhole
 pub mod WorkedRows
 pub mod WorkedUnits

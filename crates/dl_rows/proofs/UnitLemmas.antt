@@ -10,7 +10,7 @@ use Rattle.dl_head.specs.Refusal.{header_decided}
 use Rattle.dl_head.proofs.CutLemmas.{cut-append}
 use Rattle.dl_field.proofs.FieldLemmas.{none_some}
 use Rattle.dl_head.proofs.HeaderLaws.{found_is_header, header_is_found}
-use Rattle.dl_head.proofs.QuietLemmas.{unit_end-append}
+use Rattle.dl_head.proofs.EarlyEnds.{unit_end-append}
 use Rattle.dl_rows.specs.Refusal.{left_after, decided_after, unit_decided}
 use Rattle.dl_rows.specs.UnitLaws.{RefusedInHeader}
 

@@ -1,6 +1,7 @@
 -- The length of a unit, and the version of a foreign one, as they are computed.
 use Rattle.dl_head.specs.declared.dialect.Dialect.{Dialect}
-use Rattle.std.proofs.Common.{◌≡◌, ◌≢◌, ℕ, ◌≤◌, ◌^◌, ◌+◌, List, [], ◌∷◌, ◌++◌, length, Option, Some, refl, sym, ap}
+use Rattle.std.proofs.Common.{◌≡◌, ◌≢◌, ℕ, ◌≤◌, ◌^◌, ◌+◌, List, [], ◌∷◌, ◌++◌, length, Option, Some, None, refl, sym}
+use Rattle.std.proofs.Common.{ap}
 use Rattle.std.proofs.Common.{subst, ◌∙◌, arith, inl, inr, length-append, append_assoc, append-nil}
 use Rattle.std.proofs.lemmas.Bool.{cases_eq, eq-eqb, ne_eqb}
 use Rattle.dl_num.specs.declared.fixed.Order.{Order}
@@ -9,15 +10,18 @@ use Rattle.dl_table.specs.declared.form.Format.TheVariants.{Dwarf32, Dwarf64}
 use Rattle.dl_table.specs.Value.{good}
 use Rattle.dl_field.specs.Field.{IsFixed, IsInitialLength}
 use Rattle.dl_field.specs.Layout.{version, Layout, number_then, foreign_version, Item, length_is, number_is, form_is}
-use Rattle.dl_field.specs.Layout.{value_is, following, following_all, field_spelt}
-use Rattle.dl_head.specs.HeaderLayout.{header_layout, initial_size, from_address_size, format_alone}
+use Rattle.dl_field.specs.Layout.{value_is, end_is, following, following_all, field_spelt}
+use Rattle.dl_head.specs.Dialect.{older_size}
+use Rattle.dl_head.specs.HeaderLayout.{header_layout, initial_size, from_address_size, format_alone, older_params}
+use Rattle.dl_head.specs.HeaderLayout.{from_older_version}
 use Rattle.dl_head.specs.Header.{SpellsFields, Cut, cut, unit_end, unit_len, foreign_made, foreign_in}
 use Rattle.dl_field.proofs.FieldLemmas.{none_some}
 use Rattle.dl_field.proofs.FieldLaws.{field_is_judged}
 use Rattle.dl_head.proofs.CutLemmas.{cut_front, cut_sound, Sound}
 use Rattle.dl_head.proofs.HeaderLaws.{cut_is_computed}
 use Rattle.dl_head.proofs.RefusalLaws.{foreign_last}
-use Rattle.dl_head.proofs.FirstFields.{after_length, not_foreign, is_number, is_length}
+use Rattle.dl_head.proofs.FirstFields.{not_foreign, older_not_foreign, is_number, is_length}
+use Rattle.dl_head.proofs.Openings.{after_length}
 use Rattle.dl_rows.specs.LineUnit.{HasItsLength, IsForeignUnit, IsUnit}
 use Rattle.dl_rows.specs.UnitLaws.{LengthIsComputed, NoUnitBeginsAnother}
 use Rattle.dl_rows.proofs.UnitLemmas.{unit_len_on}
@@ -66,6 +70,7 @@ length_first dialect u format n front rest whole e size =
       | number_is m ↦ 0
       | form_is g ↦ 0
       | value_is v ↦ 0
+      | end_is m ↦ 0
     ]) (sym is.2) in
     record {
       format = is.0;
@@ -91,6 +96,7 @@ length_in dialect u fields rest [] whole s e = absurd (none_some refl e)
 length_in dialect u fields rest (number_is n ∷ items) whole s e = absurd (none_some refl e)
 length_in dialect u fields rest (form_is f ∷ items) whole s e = absurd (none_some refl e)
 length_in dialect u fields rest (value_is v ∷ items) whole s e = absurd (none_some refl e)
+length_in dialect u fields rest (end_is n ∷ items) whole s e = absurd (none_some refl e)
 length_in dialect u fields rest (length_is format n ∷ items) whole s e =
     length_first dialect u format n s.0 (s.1 ++ rest) (whole ∙ ap (λ (w : List ℕ). w ++ rest) s.2
     ∙ append_assoc s.0 s.1 rest) s.3 (some_same _ _ e)
@@ -123,9 +129,10 @@ no_unit_begins_another dialect u v one two =
 pub foreign_of : (dialect : Dialect) (v : ℕ) (u : List ℕ) → IsForeignUnit dialect v u → foreign_in dialect u ≡ Some v
 foreign_of dialect v u is =
     let l = is.its_length in
-    let next : after_length l.format l.unit_length v ≡ foreign_version v = rw (ne_eqb v 5 is.other) refl in
+    let next : after_length dialect l.format l.unit_length v ≡ foreign_version v = rw (ne_eqb v 5 is.other)
+    (rw is.unread refl) in
     let judged =
-    (field_is_judged dialect.order (number_then version (after_length l.format l.unit_length))
+    (field_is_judged dialect.order (number_then version (after_length dialect l.format l.unit_length))
     (number_is v) is.front).0 (
       v,
       refl,
@@ -156,20 +163,31 @@ none_foreign order v w (i ∷ items) b s e = absurd (none_some refl s.3)
 number_same : (m n : ℕ) → number_is m ≡ number_is n → m ≡ n
 number_same m n e = cc
 
--- the version, where no version 5 was read
-version_of : (order : Order) (format : Format) (n m v : ℕ) (items : List Item) (b : List ℕ)
-    → SpellsFields order (after_length format n m) items b
-    → following_all (after_length format n m) items ≡ foreign_version v → (m ≡ v) × (v ≢ 5)
-version_of order format n m v items b s e = elim (cases_eq m 5) [
+-- what follows a version other than 5 leads to a foreign version only where it isn't read
+unread_of : (order : Order) (format : Format) (n m v : ℕ) (o : Option ℕ) (items : List Item) (b : List ℕ)
+    → SpellsFields order (from_older_version format n m o) items b
+    → following_all (from_older_version format n m o) items ≡ foreign_version v → (m ≡ v) × (o ≡ None)
+unread_of order format n m v None items b s e = (none_foreign order m v items b s e, refl)
+unread_of order format n m v (Some size) items b s e =
+    absurd (older_not_foreign n (older_params format m size) items v e)
+
+-- the version, where none that is read was
+version_of : (dialect : Dialect) (format : Format) (n m v : ℕ) (items : List Item) (b : List ℕ)
+    → SpellsFields dialect.order (after_length dialect format n m) items b
+    → following_all (after_length dialect format n m) items ≡ foreign_version v
+    → (m ≡ v) × (v ≢ 5) × (older_size dialect v ≡ None)
+version_of dialect format n m v items b s e = elim (cases_eq m 5) [
   | inl same ↦
       let f : following_all (from_address_size n (format_alone format)) items ≡ foreign_version v =
       rw (eq-eqb m 5 same) at e in
       absurd (not_foreign n (format_alone format) items v f)
   | inr other ↦
-      let t : SpellsFields order (foreign_version m) items b = rw (ne_eqb m 5 other) at s in
-      let f : following_all (foreign_version m) items ≡ foreign_version v = rw (ne_eqb m 5 other) at e in
-      let same = none_foreign order m v items b t f in
-      (same, λ five. other (same ∙ five))
+      let t : SpellsFields dialect.order (from_older_version format n m (older_size dialect m)) items b =
+      rw (ne_eqb m 5 other) at s in
+      let f : following_all (from_older_version format n m (older_size dialect m)) items ≡ foreign_version v =
+      rw (ne_eqb m 5 other) at e in
+      let found = unread_of dialect.order format n m v (older_size dialect m) items b t f in
+      (found.0, λ five. other (found.0 ∙ five), ap (older_size dialect) (sym found.0) ∙ found.1)
 ]
 
 foreign_in_fields : (dialect : Dialect) (v : ℕ) (u fields rest : List ℕ) (items : List Item) → u ≡ fields ++ rest
@@ -185,20 +203,22 @@ foreign_in_fields dialect v u fields rest (i ∷ j ∷ items) whole s e f =
     let a = is_length dialect.order s.0 i s.3 in
     let first : field_spelt dialect.order (header_layout dialect) s.0 ≡ good (length_is a.format a.number) =
     s.3 ∙ ap (λ (k : Item). good k) a.item in
-    let next : SpellsFields dialect.order (number_then version (after_length a.format a.number)) (j ∷ items) s.1 =
+    let next : SpellsFields dialect.order (number_then version (after_length dialect a.format a.number))
+    (j ∷ items) s.1 =
     subst (λ (k : Item). SpellsFields dialect.order (following (header_layout dialect) k) (j ∷ items) s.1) a.item s.4 in
-    let n = is_number dialect.order version (after_length a.format a.number) next.0 j next.3 in
-    let tail : following_all (after_length a.format a.number n.number) items ≡ foreign_version v =
-    ap (λ (k : Item). following_all (following (number_then version (after_length a.format a.number)) k) items)
+    let n = is_number dialect.order version (after_length dialect a.format a.number) next.0 j next.3 in
+    let tail : following_all (after_length dialect a.format a.number n.number) items ≡ foreign_version v =
+    ap (λ (k : Item). following_all (following (number_then version (after_length dialect a.format a.number)) k) items)
     (sym n.item)
     ∙ ap (λ (k : Item). following_all (following (header_layout dialect) k) (j ∷ items)) (sym a.item) ∙ f in
     let found =
-    version_of dialect.order a.format a.number n.number v items next.1
+    version_of dialect a.format a.number n.number v items next.1
     (subst (λ (k : Item). SpellsFields dialect.order
-    (following (number_then version (after_length a.format a.number)) k)
+    (following (number_then version (after_length dialect a.format a.number)) k)
     items next.1) n.item next.4) tail in
     let judged =
-    (field_is_judged dialect.order (number_then version (after_length a.format a.number)) (number_is n.number) next.0).1
+    (field_is_judged dialect.order (number_then version (after_length dialect a.format a.number))
+    (number_is n.number) next.0).1
     (next.3 ∙ ap (λ (k : Item). good k) n.item) in
     record {
       its_length =
@@ -212,6 +232,7 @@ foreign_in_fields dialect v u fields rest (i ∷ j ∷ items) whole s e f =
           subst (λ (m : ℕ). IsFixed dialect.order 2 m next.0)
           (sym (number_same n.number judged.0 judged.1) ∙ found.0) judged.2;
       other = found.1;
+      unread = found.2;
     }
 
 pub foreign_unit : (dialect : Dialect) (v : ℕ) (u : List ℕ) → unit_len dialect u ≡ Some (length u)
@@ -240,6 +261,7 @@ unit_len_small dialect b n e =
     on (number_is m ∷ items) w s e = absurd (none_some refl e)
     on (form_is f ∷ items) w s e = absurd (none_some refl e)
     on (value_is v ∷ items) w s e = absurd (none_some refl e)
+    on (end_is m ∷ items) w s e = absurd (none_some refl e)
     on (length_is format m ∷ items) w s e =
         let is = (field_is_judged dialect.order (header_layout dialect) (length_is format m) s.0).1 s.3 in
         let sizes : initial_size is.0 + is.1 ≡ initial_size format + m =
@@ -249,5 +271,6 @@ unit_len_small dialect b n e =
           | number_is k ↦ 0
           | form_is g ↦ 0
           | value_is v ↦ 0
+          | end_is k ↦ 0
         ]) (sym is.2) in
         omega (arith, some_same _ _ e, sizes, small_length dialect.order is.0 is.1 s.0 is.3)

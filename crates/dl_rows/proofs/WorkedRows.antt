@@ -19,6 +19,7 @@ use Rattle.dl_rows.specs.Matrix.{matrix}
 abbrev plain : Params
 plain = record {
   format = Dwarf32;
+  version = 5;
   address_size = 8;
   segment_selector_size = 0;
   minimum_instruction_length = 1;

@@ -6,6 +6,7 @@ use Rattle.dl_table.specs.declared.form.Format.{Format}
 use Rattle.dl_field.specs.declared.params.Params.{Params}
 use Rattle.dl_field.specs.HeaderData.{HeaderData}
 use Rattle.dl_field.specs.Field.{IsFixed, IsInitialLength}
+use Rattle.dl_head.specs.Dialect.{older_size}
 use Rattle.dl_head.specs.Header.{IsHeader, foreign_in, header_in}
 use Rattle.dl_rows.specs.declared.row.Row.{Row}
 use Rattle.dl_rows.specs.declared.reader.Event.{Event}
@@ -25,7 +26,7 @@ pub record HasItsLength (order : Order) (u : List ℕ) : Type 0 where
   pub spells : IsInitialLength order format unit_length front
   pub size : length rest ≡ unit_length
 
--- after its initial length stand a version other than 5 and any bytes
+-- after its initial length stand a version that isn't read and any bytes
 pub record IsForeignUnit (dialect : Dialect) (version : ℕ) (u : List ℕ) : Type 0 where
   pub its_length : HasItsLength dialect.order u
   pub front : List ℕ
@@ -33,6 +34,7 @@ pub record IsForeignUnit (dialect : Dialect) (version : ℕ) (u : List ℕ) : Ty
   pub whole : its_length.rest ≡ front ++ back
   pub spells : IsFixed dialect.order 2 version front
   pub other : version ≢ 5
+  pub unread : older_size dialect version ≡ None
 
 -- u is a header and a program
 pub record IsOwnUnit (dialect : Dialect) (h : HeaderData) (p : List Operation) (u : List ℕ) : Type 0 where

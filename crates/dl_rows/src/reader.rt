@@ -70,11 +70,11 @@ struct HeaderStop {
 /// Where a reader is in its unit.
 #[derive(Drop)]
 enum State {
-    /// The header isn't complete, and no version other than 5 is.
+    /// The header isn't complete, and no version that isn't read is.
     InHeader(HeadReader),
     /// A fault was answered in the header.
     StoppedInHeader(HeaderStop),
-    /// The version is complete, and isn't 5.
+    /// The version is complete, and isn't read.
     Foreign(UnitBytes),
     /// The header is complete.
     AfterHeader(Header, BodyState),

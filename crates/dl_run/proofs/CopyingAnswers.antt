@@ -27,7 +27,7 @@ use Rattle.dl_run.specs.Section.{Visit, of_header, of_version, of_row, of_open, 
 use Rattle.dl_run.specs.Section.{section_visits}
 use Rattle.dl_run.specs.Visiting.{Ran, Settled, VisitorStops}
 use Rattle.dl_run.proofs.Fronts.{none_is_some}
-use Rattle.dl_run.proofs.RangeLemmas.{too_long}
+use Rattle.dl_run.proofs.RangeLemmas.{OwnAlone, too_long}
 use Rattle.dl_run.proofs.SectionLemmas.{has_front}
 use Rattle.dl_run.proofs.CopyingVisits.{stop_after-append, written, text_after-append}
 use Rattle.dl_run.proofs.CopyingSections.{Heard, StopIs, same_last, heard_of}
@@ -46,8 +46,8 @@ stop_is_last order n rows (of_end (Some h)) f e =
       by None unit e = absurd (none_is_some e)
       by (Some g) unit e = refl
 
-module _ (dialect : Dialect) (limit : ℕ) (bytes : List ℕ) (left : Option (List ℕ)) (first new : Copier)
-    (start now : Option (List ℕ)) (own : first.program.order ≡ dialect.order) where
+module _ (dialect : Dialect) (alone : OwnAlone dialect) (limit : ℕ) (bytes : List ℕ) (left : Option (List ℕ))
+    (first new : Copier) (start now : Option (List ℕ)) (own : first.program.order ≡ dialect.order) where
   abbrev pub s : List ℕ
   s = take limit bytes
 
@@ -191,7 +191,7 @@ module _ (dialect : Dialect) (limit : ℕ) (bytes : List ℕ) (left : Option (Li
             at ∙ omega arith,
             header,
             refused,
-            too_long dialect u h g header refused,
+            too_long dialect alone u h g header refused,
             copied_before,
           )
       by_stop (fault.Damage at kind) stop = absurd stop

@@ -3,13 +3,13 @@ use Rattle.std.proofs.Common.{◌≡◌, ℕ, ◌+◌, ◌*◌, ◌^◌, ◌%◌
 use Rattle.std.proofs.Common.{Some, None, refl, sym, ap, ◌∙◌, arith}
 use Rattle.std.specs.Prelude.{option_map, ◌&&◌, if◌then◌else◌}
 use Rattle.std.specs.Option.{option_or}
-use Rattle.std.proofs.lemmas.Bool.{lt-ltb}
+use Rattle.std.proofs.lemmas.Bool.{lt-ltb, eq-eqb}
 use Rattle.std.proofs.lemmas.Nat.{pow_pos}
 use Rattle.std.proofs.Math.Nat.{mod-lt}
 use Rattle.dl_head.specs.declared.dialect.Dialect.{Dialect}
 use Rattle.dl_head.specs.Built.{with_standard_opcodes}
 use Rattle.dl_field.specs.HeaderData.{HeaderData}
-use Rattle.dl_head.specs.Header.{header_in}
+use Rattle.dl_head.specs.Header.{header_in, IsHeader}
 use Rattle.dl_head.specs.Written.{is_within_limit}
 use Rattle.dl_field.specs.declared.params.Params.{Params}
 use Rattle.dl_head.proofs.HeaderLaws.{found_is_header}
@@ -22,7 +22,7 @@ use Rattle.dl_rows.specs.OperationSpelt.{operations_in}
 use Rattle.dl_rows.proofs.HeaderParams.{header_is_usable}
 use Rattle.dl_emit.specs.declared.fault.EmitFault.{EmitFault}
 use Rattle.dl_emit.specs.declared.fault.EmitFault.TheVariants as emit
-use Rattle.dl_emit.specs.WrittenUnit.{refusal, is_in_range, out_of_range, program_len, unless}
+use Rattle.dl_emit.specs.WrittenUnit.{refusal, rows_refusal, is_in_range, out_of_range, program_len, unless}
 use Rattle.dl_run.specs.Section.{header_of}
 use Rattle.dl_run.proofs.Fronts.{none_is_some, value_same}
 
@@ -68,18 +68,24 @@ length_alone : (b : Bool) (f : EmitFault) → unless b emit.TooLong ≡ Some f �
 length_alone true f e = absurd (none_is_some e)
 length_alone false f e = value_same f emit.TooLong (sym e)
 
-refused_rows : (h : HeaderData) (rows : List Row) (f : EmitFault)
+refused_rows : (h : HeaderData) (rows : List Row) (f : EmitFault) → h.params.version ≡ 5
     → out_of_range (with_standard_opcodes h).params 0 rows ≡ None → refusal (with_standard_opcodes h) rows ≡ Some f
     → f ≡ emit.TooLong
-refused_rows h rows f none e =
+refused_rows h rows f own none e =
     let std = with_standard_opcodes h in
     let within = is_within_limit std (program_len std.params rows) in
-    length_alone within f (sym (ap (λ (o : Option EmitFault). option_or o (unless within emit.TooLong)) none) ∙ e)
+    let all : rows_refusal std.params rows ≡ None = rw (eq-eqb h.params.version 5 own) none in
+    length_alone within f (sym (ap (λ (o : Option EmitFault). option_or o (unless within emit.TooLong)) all) ∙ e)
+
+-- each header that is read is of version 5
+abbrev pub OwnAlone : Dialect → Type 0
+OwnAlone dialect = (h : HeaderData) (w : List ℕ) → IsHeader dialect h w → h.params.version ≡ 5
 
 -- a unit that was read is refused for its length alone
-pub too_long : (dialect : Dialect) (u : List ℕ) (h : HeaderData) (f : EmitFault) → header_of dialect u ≡ Some h
+pub too_long : (dialect : Dialect) → OwnAlone dialect → (u : List ℕ) (h : HeaderData) (f : EmitFault)
+    → header_of dialect u ≡ Some h
     → refusal (with_standard_opcodes h) (unit_rows dialect u) ≡ Some f → f ≡ emit.TooLong
-too_long dialect u h f is refused = by (header_in dialect u) refl where
+too_long dialect alone u h f is refused = by (header_in dialect u) refl where
   by : (parts : Option (HeaderData × List ℕ)) → header_in dialect u ≡ parts → f ≡ emit.TooLong
   by None e = absurd (none_is_some (sym (ap (λ (p : Option (HeaderData × List ℕ)). option_map (λ q. q.0) p) e) ∙ is))
   by (Some (own, program)) e =
@@ -92,5 +98,5 @@ too_long dialect u h f is refused = by (header_in dialect u) refl where
       let refused_own = ap
       (λ (d : HeaderData). refusal (with_standard_opcodes d) (rows_later dialect.order (Some (own, program)))) same
       ∙ ap (refusal (with_standard_opcodes h)) (sym rows) ∙ refused in
-      refused_rows own (rows_later dialect.order (Some (own, program))) f
+      refused_rows own (rows_later dialect.order (Some (own, program))) f (alone own w.0 w.2)
       (none_out own usable.operations 0 [] (operations_in dialect.order own.params program).found) refused_own

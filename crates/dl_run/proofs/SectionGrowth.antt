@@ -13,7 +13,7 @@ use Rattle.dl_table.specs.declared.form.Format.{Format}
 use Rattle.dl_table.specs.declared.form.Format.TheVariants.{Dwarf32, Dwarf64}
 use Rattle.dl_table.specs.declared.fault.FaultKind.{FaultKind}
 use Rattle.dl_field.specs.Field.{IsInitialLength}
-use Rattle.dl_field.specs.Layout.{Item, length_is, number_is, form_is, value_is}
+use Rattle.dl_field.specs.Layout.{Item, length_is, number_is, form_is, value_is, end_is}
 use Rattle.dl_head.specs.HeaderLayout.{header_layout}
 use Rattle.dl_head.specs.HeaderLayout.{initial_size}
 use Rattle.dl_head.specs.Header.{SpellsFields, cut, unit_end}
@@ -60,6 +60,7 @@ unit_len_front dialect b n e le =
     on (number_is m ∷ items) w rest whole s e = absurd (none_some refl e)
     on (form_is f ∷ items) w rest whole s e = absurd (none_some refl e)
     on (value_is v ∷ items) w rest whole s e = absurd (none_some refl e)
+    on (end_is k ∷ items) w rest whole s e = absurd (none_some refl e)
     on (length_is format m ∷ items) w rest whole s e =
         let is = (field_is_judged dialect.order (header_layout dialect) (length_is format m) s.0).1 s.3 in
         let sizes : initial_size is.0 + is.1 ≡ initial_size format + m =
@@ -69,6 +70,7 @@ unit_len_front dialect b n e le =
           | number_is k ↦ 0
           | form_is g ↦ 0
           | value_is v ↦ 0
+          | end_is k ↦ 0
         ]) (sym is.2) in
         let size = initial_length dialect.order is.0 is.1 s.0 is.3 in
         let n_is : n ≡ length s.0 + is.1 = omega (arith, some_same _ _ e, sizes, size) in

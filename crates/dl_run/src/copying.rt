@@ -5,6 +5,7 @@ ghost use Rattle.std.specs.Io.KnownBytes.{Consumes};
 ghost use Rattle.dl_rows.specs.declared.row.Row.{Row};
 ghost use Rattle.dl_emit.specs.Grown.{IsGrown};
 ghost use Rattle.dl_emit.specs.WrittenUnit.{program_len, refusal, unit_of};
+ghost use Rattle.dl_head.specs.Dialect.{version_5};
 ghost use Rattle.dl_head.specs.Written.{header_bytes};
 ghost use Rattle.dl_print.specs.Output.{Prints};
 ghost use Rattle.dl_run.specs.Commands.{Copies};
@@ -14,7 +15,7 @@ use crate::fault::RunFault;
 use crate::options::{Options, SECTION_LIMIT};
 use crate::section::{Visitor, read_units};
 use dl_emit::{EmitFault, Program};
-use dl_head::Header;
+use dl_head::{Dialect, Header};
 use dl_print::{Printer, Summary, WriteFault};
 use dl_rows::{Flow, Row};
 use std::alloc::Global;
@@ -189,7 +190,7 @@ fn print_parts<W: Write>(
 }
 
 /// Writes all units of the input anew: each under its header with opcode_base 13, with the same
-/// rows, its numbers shortest.
+/// rows, its numbers shortest. Units of version 5 alone are read, whatever the dialect is.
 ///
 /// What comes before a fault is written. The faults are those of `RunFault`. What is written for the rows of a unit is
 /// held in memory until the unit ends, and up to 1 MiB of what stands before it; each growth of these, and those of
@@ -202,7 +203,7 @@ pub fn copy<R: Read, W: Write>(
 ) -> Result<Summary, RunFault>
     requires { options.now.limit ≤ SECTION_LIMIT }
     ensures { (bs : List ℕ) × Consumes (R.remaining input.old) (R.remaining input.new) bs
-        × Copies options.now.dialect options.now.limit bs (R.remaining input.new)
+        × Copies (version_5 options.now.dialect.order) options.now.limit bs (R.remaining input.new)
         (W.contents output.old) (W.contents output.new) result }
 {
     let mut copier = Copier {
@@ -214,5 +215,9 @@ pub fn copy<R: Read, W: Write>(
             is_full: false,
         },
     };
-    read_units(alloc, input, output, options, &mut copier)
+    let own = Options {
+        dialect: Dialect::version_5(options.dialect.order),
+        ..*options
+    };
+    read_units(alloc, input, output, &own, &mut copier)
 }

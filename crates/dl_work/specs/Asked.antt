@@ -29,7 +29,8 @@ use Rattle.dl_run.specs.declared.fault.RunFault.TheVariants.{NotFound}
 abbrev pub place_of : (address : Option Text) (op : ℕ) → Option Place
 place_of address op = option_map (λ n. record { address = n; op_index = op }) (option_and_then address_in address)
 
--- the command; none where ADDRESS is no address, where a section of an object file is named without FILE, and of `addr`,
+-- the command; none where ADDRESS is no address, where a section of an object file is named without FILE, and of
+-- `addr`,
 -- which asks for many
 abbrev pub command_of : Request → Option Command
 command_of (dump file big line_str str) = Some Dump
@@ -109,7 +110,9 @@ abbrev pub Does : Command → Dialect → Strings → (limit : ℕ) (bytes : Lis
 Does Dump dialect s limit bytes left start now answer = Dumps dialect s limit bytes left start now answer
 Does Check dialect s limit bytes left start now answer = Checks dialect limit bytes left start now answer
 Does (Find place) dialect s limit bytes left start now answer = Finds dialect s place limit bytes left start now answer
-Does Copy dialect s limit bytes left start now answer = Copies dialect limit bytes left start now answer
+-- units of version 5 alone are copied
+Does Copy dialect s limit bytes left start now answer =
+    Copies (version_5 dialect.order) limit bytes left start now answer
 Does (Addr question) dialect s limit bytes left start now answer =
     (found : Result Found RunFault) × (answer ≡ answered found)
     × Locates dialect s question limit bytes left start now found

@@ -9,7 +9,7 @@ ghost use Rattle.dl_work.specs.Asked.{sections_of};
 
 use dl_addr::{Found, Question, addr};
 use dl_cmd::{Job, read_address};
-use dl_head::Dialect;
+use dl_head::{Dialect, Older};
 use dl_look::Place;
 use dl_num::Order;
 use dl_open::Sections;
@@ -29,6 +29,7 @@ pub const NOTHING: Summary = Summary {
 const NO_STRINGS: Options<'static> = Options {
     dialect: Dialect {
         order: Order::Little,
+        older: Older::Foreign,
     },
     debug_line_str: None,
     debug_str: None,

@@ -189,50 +189,80 @@ fn made(params: Params, directories: Table, files: Table) -> Made {
     }
 }
 
-/// address_size, maximum_operations_per_instruction, line_range and opcode_base; the lengths of opcodes; the formats of
-/// the directories and of the files; and how many cells the header has, or why it is refused.
-type Parts<'a> = ([u8; 4], &'a [u8], [Format; 2], Result<u64, ParamFault>);
+/// version, address_size, maximum_operations_per_instruction, line_range and opcode_base; the lengths of opcodes; the
+/// formats of the directories and of the files; and how many cells the header has, or why it is refused.
+type Parts<'a> = ([u8; 5], &'a [u8], [Format; 2], Result<u64, ParamFault>);
 
 const DWARF32: [Format; 2] = [Format::Dwarf32, Format::Dwarf32];
 
 const STANDARD: &[u8] = &[0, 1, 1, 1, 1, 0, 0, 0, 1, 0, 0, 1];
 
 const PARTS: &[Parts<'static>] = &[
-    ([8, 1, 14, 13], STANDARD, DWARF32, Ok(10)),
+    ([5, 8, 1, 14, 13], STANDARD, DWARF32, Ok(10)),
     (
-        [3, 1, 14, 13],
+        [5, 3, 1, 14, 13],
         STANDARD,
         DWARF32,
         Err(ParamFault::AddressSize),
     ),
-    ([8, 0, 14, 13], STANDARD, DWARF32, Err(ParamFault::MaxOps)),
-    ([8, 1, 0, 13], STANDARD, DWARF32, Err(ParamFault::LineRange)),
+    ([2, 8, 1, 14, 13], STANDARD, DWARF32, Ok(10)),
     (
-        [8, 1, 14, 0],
+        [1, 8, 1, 14, 13],
+        STANDARD,
+        DWARF32,
+        Err(ParamFault::Version),
+    ),
+    (
+        [6, 3, 1, 14, 13],
+        STANDARD,
+        DWARF32,
+        Err(ParamFault::Version),
+    ),
+    (
+        [3, 8, 2, 14, 13],
+        STANDARD,
+        DWARF32,
+        Err(ParamFault::MaxOps),
+    ),
+    ([4, 8, 2, 14, 13], STANDARD, DWARF32, Ok(10)),
+    (
+        [5, 8, 0, 14, 13],
+        STANDARD,
+        DWARF32,
+        Err(ParamFault::MaxOps),
+    ),
+    (
+        [5, 8, 1, 0, 13],
+        STANDARD,
+        DWARF32,
+        Err(ParamFault::LineRange),
+    ),
+    (
+        [5, 8, 1, 14, 0],
         STANDARD,
         DWARF32,
         Err(ParamFault::OpcodeBase),
     ),
     (
-        [8, 1, 14, 13],
+        [5, 8, 1, 14, 13],
         &[0, 1, 1, 1, 1, 0, 0, 0, 1, 0, 0],
         DWARF32,
         Err(ParamFault::OpcodeBase),
     ),
     (
-        [8, 1, 14, 13],
+        [5, 8, 1, 14, 13],
         &[0, 0, 1, 1, 1, 0, 0, 0, 1, 0, 0, 1],
         DWARF32,
         Err(ParamFault::StandardLength(2)),
     ),
     (
-        [8, 1, 14, 13],
+        [5, 8, 1, 14, 13],
         STANDARD,
         [Format::Dwarf32, Format::Dwarf64],
         Err(ParamFault::TableFormat),
     ),
     (
-        [8, 1, 14, 13],
+        [5, 8, 1, 14, 13],
         STANDARD,
         [Format::Dwarf64, Format::Dwarf32],
         Err(ParamFault::TableFormat),
@@ -240,9 +270,10 @@ const PARTS: &[Parts<'static>] = &[
 ];
 
 /// The params of most compilers in the 32-bit format, with these numbers and lengths of opcodes.
-fn params_of(numbers: [u8; 4], lengths: &[u8]) -> Params {
-    let [address_size, operations, line_range, opcode_base] = numbers;
+fn params_of(numbers: [u8; 5], lengths: &[u8]) -> Params {
+    let [version, address_size, operations, line_range, opcode_base] = numbers;
     Params {
+        version: u16::from(version),
         address_size,
         maximum_operations_per_instruction: operations,
         line_range,
@@ -258,7 +289,7 @@ fn assert_made(rt: &impl Abort, alloc: Global, parts: &Parts<'_>) -> Result<(), 
     let directories = table_of(alloc, format, PAIRS, TEXTS_AND_BLOCKS)?;
     let files = Table::without_pairs(alloc, of_files);
     let made = made(params_of(numbers, lengths), directories, files);
-    let [_, _, _, opcode_base] = numbers;
+    let [_, _, _, _, opcode_base] = numbers;
     let wanted = match wanted {
         Ok(cells) => Ok(cells),
         Err(fault) => Err((fault, (opcode_base, lengths.len(), [2, 0]))),

@@ -1,13 +1,21 @@
 //! Headers that are read in turns.
 
 use crate::vectors::{EACH_FORM, EMPTY_PROGRAM};
-use dl_head::{Dialect, Fault, FaultKind, HeadReader, HeadRun, HeadStep};
+use dl_head::{AddressSize, Dialect, Fault, FaultKind, HeadReader, HeadRun, HeadStep, Older};
 use dl_num::Order;
 use std::alloc::Global;
 use std::process::Abort;
 
 /// The first bytes of a unit of version 4.
 const FOREIGN: &[u8] = &[0x21, 0x00, 0x00, 0x00, 0x04, 0x00];
+
+/// A header of version 2 with two directories and three files, as clang 14 writes it.
+const VERSION_2: &[u8] = &[
+    0x78, 0x00, 0x00, 0x00, 0x02, 0x00, 0x30, 0x00, 0x00, 0x00, 0x01, 0x01, 0xfb, 0x0e, 0x0d, 0x00,
+    0x01, 0x01, 0x01, 0x01, 0x00, 0x00, 0x00, 0x01, 0x00, 0x00, 0x01, 0x2e, 0x00, 0x2e, 0x2f, 0x73,
+    0x75, 0x62, 0x00, 0x00, 0x74, 0x2e, 0x63, 0x00, 0x00, 0x00, 0x00, 0x61, 0x2e, 0x68, 0x00, 0x01,
+    0x00, 0x00, 0x62, 0x2e, 0x68, 0x00, 0x02, 0x00, 0x00, 0x00,
+];
 
 const RESERVED: &[u8] = &[0xf0, 0xff, 0xff, 0xff];
 
@@ -26,7 +34,16 @@ const RUNS: &[Run<'static>] = &[
     (EACH_FORM, &[156], 156, HeadStep::More),
     (EACH_FORM, &[156, 4], 160, HeadStep::Done),
     (FOREIGN, &[100], 6, HeadStep::Foreign(4)),
+    (VERSION_2, &[100], 6, HeadStep::Foreign(2)),
     (RESERVED, &[1, 1, 1, 1, 1], 4, RESERVED_LENGTH),
+];
+
+/// Those of a dialect that reads versions 2 to 4.
+const OLDER_RUNS: &[Run<'static>] = &[
+    (EMPTY_PROGRAM, &[100], 34, HeadStep::Done),
+    (FOREIGN, &[100], 6, HeadStep::More),
+    (VERSION_2, &[57], 57, HeadStep::More),
+    (VERSION_2, &[57, 1], 58, HeadStep::Done),
 ];
 
 /// A run that takes `taken` bytes, of which none is refused, and ends with this answer.
@@ -46,17 +63,18 @@ fn assert_run(rt: &impl Abort, reader: &mut HeadReader, run: &Run<'_>) {
 }
 
 /// Asserts the same of each of these, which has a reader of its own.
-fn assert_runs(rt: &impl Abort, alloc: Global, runs: &[Run<'_>]) {
+fn assert_runs(rt: &impl Abort, alloc: Global, dialect: Dialect, runs: &[Run<'_>]) {
     for run in runs {
-        assert_run(
-            rt,
-            &mut HeadReader::new(alloc, Dialect::version_5(Order::Little)),
-            run,
-        );
+        assert_run(rt, &mut HeadReader::new(alloc, dialect), run);
     }
 }
 
 #[test]
 fn a_run_takes_what_its_turns_offer(rt: HostRuntime) {
-    assert_runs(&rt, rt.alloc(), RUNS);
+    assert_runs(&rt, rt.alloc(), Dialect::version_5(Order::Little), RUNS);
+    let dialect = Dialect {
+        order: Order::Little,
+        older: Older::Read(AddressSize::Eight),
+    };
+    assert_runs(&rt, rt.alloc(), dialect, OLDER_RUNS);
 }

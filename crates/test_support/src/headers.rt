@@ -8,6 +8,7 @@ use std::alloc::Global;
 pub fn params(format: Format) -> Params {
     Params {
         format,
+        version: 5,
         address_size: 8,
         segment_selector_size: 0,
         minimum_instruction_length: 1,

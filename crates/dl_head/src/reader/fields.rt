@@ -3,7 +3,7 @@
 ghost use Rattle.std.specs.Prelude.{◌≡◌, ◌+◌, ◌≤◌, ◌++◌, ◌∷◌, [], ℕ, nat_lt, if◌then◌else◌, List, true, None, length};
 ghost use Rattle.dl_field.specs.Layout.{Item, number_is, objection, opcode_length};
 ghost use Rattle.dl_head.specs.HeaderLayout.{signed_byte};
-ghost use Rattle.dl_head.specs.HeadStep.{lengths_fit};
+ghost use Rattle.dl_head.specs.HeadStep.{lengths_fit, first_table, field_after_minimum};
 ghost use Rattle.dl_head.specs.Bytes.{byte_kind};
 ghost use Rattle.dl_head.specs.declared.reader.Phase.TheVariants as phase;
 
@@ -52,7 +52,7 @@ impl HeadReader {
             }
             ByteField::MinimumInstructionLength => {
                 self.params.minimum_instruction_length = byte;
-                self.phase = Phase::Byte(ByteField::MaximumOperations);
+                self.phase = Phase::Byte(after_minimum_length(self.params.version));
             }
             ByteField::MaximumOperations => {
                 self.params.maximum_operations_per_instruction = byte;
@@ -72,7 +72,7 @@ impl HeadReader {
             }
             ByteField::OpcodeBase => {
                 self.params.opcode_base = byte;
-                self.phase = length_or_table(0, byte);
+                self.phase = length_or_table(0, byte, self.params.version);
             }
         }
     }
@@ -89,21 +89,34 @@ impl HeadReader {
             return FieldStep::Refuses(FaultKind::StandardLength(opcode as u8));
         }
         self.params.lengths.push(byte);
-        self.phase = length_or_table(opcode, opcode_base);
+        self.phase = length_or_table(opcode, opcode_base, self.params.version);
         FieldStep::Ends
     }
 }
 
+/// The field after minimum_instruction_length: versions 2 and 3 have no maximum operations.
+fn after_minimum_length(version: u16) -> ByteField
+    ensures { result ≡ field_after_minimum version }
+{
+    if version < 4 {
+        ByteField::DefaultIsStmt
+    } else {
+        ByteField::MaximumOperations
+    }
+}
+
 /// What follows the first `lengths` lengths of opcodes below this opcode_base: the next one, or the tables.
-fn length_or_table(lengths: usize, opcode_base: u8) -> Phase
+fn length_or_table(lengths: usize, opcode_base: u8, version: u16) -> Phase
     requires { lengths + 1 ≤ opcode_base }
     ensures fit { lengths_fit result lengths opcode_base ≡ true }
-    ensures next { result ≡ (if nat_lt (lengths + 1) opcode_base then phase.OpcodeLength else phase.Directories) }
+    ensures next { result ≡ (if nat_lt (lengths + 1) opcode_base then phase.OpcodeLength else first_table version) }
 {
     if lengths + 1 < usize::from(opcode_base) {
         Phase::OpcodeLength
-    } else {
+    } else if version == 5 {
         Phase::Directories
+    } else {
+        Phase::OlderDirectories
     }
 }
 

@@ -1,6 +1,7 @@
 //! The lengths and the version of a unit: its fields up to header_length. Sections 6.2.4 and 7.4.
 
-ghost use Rattle.std.specs.Prelude.{◌≡◌, ◌+◌, ◌≤◌, ◌∷◌, []};
+ghost use Rattle.std.specs.Prelude.{◌≡◌, ◌+◌, ◌≤◌, ◌∷◌, [], true};
+ghost use Rattle.dl_head.specs.Built.{are_operations};
 ghost use Rattle.dl_num.specs.Fixed.{fixed};
 ghost use Rattle.dl_table.specs.TableCells.{table_cells};
 
@@ -58,6 +59,8 @@ impl HeadReader {
     fn start_unit(&mut self, format: Format, length: u64) -> FieldStep
         requires no_lengths { self.old.params.lengths.items ≡ [] }
         requires no_tables { table_cells self.old.directories + table_cells self.old.files ≡ 0 }
+        requires operations { are_operations self.old.params.version self.old.params.maximum_operations_per_instruction
+            ≡ true }
         requires fresh { ∥ IsFresh self.old.table ∥₁ }
         ensures follows { Starts self.old format length result self.new }
         ensures kept { Keeps self.old result self.new }
@@ -92,6 +95,11 @@ impl HeadReader {
         let version = version_of(self.dialect.order, first, byte);
         if version == 5 {
             self.phase = Phase::Byte(ByteField::AddressSize);
+        } else if let Some(size) = self.dialect.older_size(version) {
+            self.params.version = version;
+            self.params.address_size = size;
+            self.params.maximum_operations_per_instruction = 1;
+            self.phase = Phase::HeaderLength(PartialNumber::new(self.params.format.offset_size()));
         } else {
             self.phase = Phase::Foreign(version);
         }
@@ -116,16 +124,19 @@ impl HeadReader {
     fn start_header(&mut self, length: u64) -> FieldStep
         requires no_lengths { self.old.params.lengths.items ≡ [] }
         requires no_tables { table_cells self.old.directories + table_cells self.old.files ≡ 0 }
+        requires operations { are_operations self.old.params.version self.old.params.maximum_operations_per_instruction
+            ≡ true }
         requires read { ∥ TableReads self.old.dialect.order self.old.params.format self.old.table ∥₁ }
         ensures follows { StartsHeader self.old length result self.new }
         ensures kept { Keeps self.old result self.new }
         ensures cells { held_cells self.new ≡ held_cells self.old }
     {
         let format = self.params.format;
-        if length > self.unit_length.saturating_sub(fixed_part(format)) {
+        let fixed = fixed_part(format, self.params.version);
+        if length > self.unit_length.saturating_sub(fixed) {
             return FieldStep::Refuses(FaultKind::HeaderBeyondUnit);
         }
-        self.end = Some(initial_size(format) + fixed_part(format) + length);
+        self.end = Some(initial_size(format) + fixed + length);
         self.overrun = FaultKind::HeaderOverrun;
         self.phase = Phase::Byte(ByteField::MinimumInstructionLength);
         FieldStep::Ends

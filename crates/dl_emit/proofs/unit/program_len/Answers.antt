@@ -15,7 +15,8 @@ returns-then-not-is_in_range-clause-err c =
     let out =
     row_out_of_range c.args.params.now c.args.rows.now c.loop-i.i _ c.loop-i-test.true
     (sym c.is_in_range.ensures.value ∙ c.if-not-is_in_range.true) in
-    refused_rows c.args.params.now c.args.rows.now _ c.if-params-ne13.false (sym c.loop-i.invariant.in_range ∙ out)
+    refused_rows c.args.params.now c.args.rows.now _ c.if-params-ne5.false c.if-params-ne13.false
+    (sym c.loop-i.invariant.in_range ∙ out)
 
 pub loop-i-preserved : goal.loop-i-preserved
 loop-i-preserved c =
@@ -40,7 +41,8 @@ loop-i-preserved c =
 
 pub returns-clause-ok : goal.returns-clause-ok
 returns-clause-ok c =
-    refused_rows c.args.params.now c.args.rows.now None c.if-params-ne13.false (sym c.loop-i.invariant.in_range
+    refused_rows c.args.params.now c.args.rows.now None c.if-params-ne5.false c.if-params-ne13.false
+    (sym c.loop-i.invariant.in_range
     ∙ no_row_left c.args.params.now c.args.rows.now c.loop-i.i c.loop-i-test.false)
 
 pub returns-clause-len : goal.returns-clause-len

@@ -16,6 +16,7 @@ returns-in-Within-clause-advances c b s more =
       short = _;
       near = _;
       address_size = _;
+      version = _;
       operations = _;
       lines = _;
       lengths = _;
@@ -23,6 +24,7 @@ returns-in-Within-clause-advances c b s more =
       formats = _;
       standard = _;
       read = _;
+      listed = _;
     }) c.saturating_add-self.result c.settle.result c.settle.new.self c.in-Within.is
     c.saturating_add-self.ensures c.settle.ensures.settles
 
@@ -35,6 +37,7 @@ returns-in-Ends-clause-advances c b s more =
       short = _;
       near = _;
       address_size = _;
+      version = _;
       operations = _;
       lines = _;
       lengths = _;
@@ -42,6 +45,7 @@ returns-in-Ends-clause-advances c b s more =
       formats = _;
       standard = _;
       read = _;
+      listed = _;
     }) c.saturating_add-self-in-Ends.result c.settle-in-Ends.result c.settle-in-Ends.new.self c.in-Ends.is
     c.saturating_add-self-in-Ends.ensures c.settle-in-Ends.ensures.settles
 
@@ -54,6 +58,7 @@ returns-in-Refuses-clause-advances c b s more =
       short = _;
       near = _;
       address_size = _;
+      version = _;
       operations = _;
       lines = _;
       lengths = _;
@@ -61,5 +66,6 @@ returns-in-Refuses-clause-advances c b s more =
       formats = _;
       standard = _;
       read = _;
+      listed = _;
     }) c.saturating_add-self-in-Refuses.result c.in-Refuses.kind c.fail.result c.fail.new.self c.in-Refuses.is
     c.saturating_add-self-in-Refuses.ensures c.fail.ensures

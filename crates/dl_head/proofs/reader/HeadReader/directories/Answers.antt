@@ -1,3 +1,4 @@
+use Rattle.dl_field.specs.ListPlace.{list_cells}
 use Rattle.std.proofs.Common.{◌≤◌, sym, subst, ◌+◌, take, length, refl, ap, arith}
 use Rattle.std.proofs.lemmas.List.{length-take-le}
 use Rattle.dl_head.specs.declared.reader.Phase.TheVariants as phase
@@ -38,7 +39,8 @@ returns-in-Some c =
             let a = at_phase old _ items rest c.requires.phase at in
             let kept = table_kept old mid d items rest bytes c.push_front-next.result.1 next a p.follows some taken.0
             (taken.2 next) in
-            table_adds old mid items rest bytes c.push_front-next.result.1 next (table_cells old.files) _ a
+            table_adds old mid items rest bytes c.push_front-next.result.1 next (table_cells old.files
+            + list_cells old.list) _ a
             p.follows (omega (arith, no_directories old c.requires.phase))
             (omega (arith, kept, fresh_cells c.take.new.self taken.1));
         counts = record { dialect = refl; start = refl; taken = refl; header = refl };
@@ -66,9 +68,11 @@ returns-in_default c =
             (λ is w now. phase_at _ phase.Directories is w c.requires.phase now);
         cells = λ items rest at.
             table_adds old mid items rest bytes c.push_front-next.result.1 next
-            (table_cells old.directories + table_cells old.files) _ (at_phase old _ items rest c.requires.phase at)
-            p.follows refl
-            (ap (λ (t : TableReader). table_cells old.directories + table_cells old.files + reader_cells t) none.1);
+            (table_cells old.directories + table_cells old.files + list_cells old.list) _
+            (at_phase old _ items rest c.requires.phase at)
+            p.follows
+            (omega arith)
+            (omega (arith, ap reader_cells none.1));
         counts = record { dialect = refl; start = refl; taken = refl; header = refl };
       };
       kept = keeps_same old _ c.push_front-next.result.1 (record { end = refl; unit_length = refl; format = refl });

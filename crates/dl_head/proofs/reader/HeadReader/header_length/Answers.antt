@@ -9,9 +9,9 @@ returns-in-Ok-clause-follows c = record {
   made = λ items rest at.
       let a = at_phase c.args.self.now _ items rest c.requires at in
       let o = c.in-Ok.ensures in
-      let w : rest ++ c.args.byte ∷ [] ≡ _ = ap (λ (l : List ℕ). l ++ c.args.byte ∷ []) (sym a.1) in
-      started_header c.args.self.now _ c.in-Ok.length items (rest ++ c.args.byte ∷ []) _ a.0
-      (ap length w ∙ o.last ∙ a.2) (o.whole ∙ ap (λ (l : List ℕ). fixed c.args.self.now.dialect.order l) (sym w))
+      let w : rest ++ c.args.byte ∷ [] ≡ _ = ap (λ (l : List ℕ). l ++ c.args.byte ∷ []) (sym a.2) in
+      started_header c.args.self.now _ c.in-Ok.length items (rest ++ c.args.byte ∷ []) _ a.0 a.1
+      (ap length w ∙ o.last ∙ a.3) (o.whole ∙ ap (λ (l : List ℕ). fixed c.args.self.now.dialect.order l) (sym w))
       c.start_header.ensures.follows;
   counts = header_counts c.args.self.now _ c.in-Ok.length _ c.start_header.ensures.follows;
 }

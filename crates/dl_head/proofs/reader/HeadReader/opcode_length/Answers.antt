@@ -35,9 +35,10 @@ returns-clause-follows c = record {
             ∙ ap (λ (o : Option FaultKind). judged o c.args.byte) c.if-is_wrong_length.ensures.value,
         at_lengths _ _ _ (late_on c.args.self.now _ items _ _ _ a.0
             (next_length p c.args.byte _ (some_left c.args.self.now c.requires) c.push.ensures.items) refl refl refl
-            a.0.fresh)
+            refl
+            a.0.fresh a.0.unlisted)
             (c.length_or_table-self.ensures.next ∙ next_at (c.len-opcode.result + 1) (length c.push.new.self.items)
-            p.opcode_base (omega (
+            p.opcode_base p.version (omega (
               arith,
               c.len-opcode.ensures.value,
               ap length c.push.ensures.items,
@@ -64,6 +65,7 @@ invariant_of-self-clause-read c =
     let read = stands_at old.phase phase.OpcodeLength old.dialect.order old.params.format old.table
     c.requires old.read in
     stands_at _ _ old.dialect.order old.params.format old.table (sym c.length_or_table-self.ensures.next)
-    (length_or_table_stands (nat_lt (c.len-opcode.result + 1 + 1) old.params.opcode_base) old.dialect.order
+    (length_or_table_stands (nat_lt (c.len-opcode.result + 1 + 1) old.params.opcode_base) old.params.version
+    old.dialect.order
     old.params.format
     old.table read)

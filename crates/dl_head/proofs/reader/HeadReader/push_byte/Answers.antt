@@ -1,7 +1,8 @@
-use Rattle.std.proofs.Common.{◌∷◌, [], refl}
+use Rattle.std.proofs.Common.{◌∷◌, [], refl, ap}
+use Rattle.dl_head.proofs.EarlyFields.{at_length}
 use Rattle.dl_head.specs.Place.{length_item, before_header_length}
 use Rattle.dl_head.proofs.OneFieldMore.{at_phase}
-use Rattle.dl_head.proofs.BytesBeforeTables.{none_later, field_no_cell, length_no_cell, field_pushed}
+use Rattle.dl_head.proofs.BytesBeforeTables.{is_no_cell, none_later, field_no_cell, length_no_cell, field_pushed}
 use Rattle.dl_head.proofs.reader.HeadReader.push_byte.Goals as goal
 
 pub returns-in-UnitLength-clause-follows : goal.returns-in-UnitLength-clause-follows
@@ -37,8 +38,10 @@ pub returns-in-HeaderLength-clause-follows : goal.returns-in-HeaderLength-clause
 returns-in-HeaderLength-clause-follows c =
     field_pushed c.args.self.now c.header_length.new.self c.args.byte c.header_length.result
     c.header_length.ensures.follows c.header_length.ensures.cells
-    (λ items rest at. none_later c.args.self.now.dialect items (before_header_length c.args.self.now)
-    (at_phase c.args.self.now _ items rest c.in-HeaderLength.is at).0.items_are refl)
+    (λ items rest at.
+    let a = at_phase c.args.self.now _ items rest c.in-HeaderLength.is at in
+    none_later c.args.self.now.dialect items (before_header_length c.args.self.now) a.0.items_are
+    (ap is_no_cell (at_length c.args.self.now a.1).follows))
 
 pub returns-in-Byte-clause-follows : goal.returns-in-Byte-clause-follows
 returns-in-Byte-clause-follows c =

@@ -1,0 +1,23 @@
+-- What a table of versions 2 to 4 has by its kind, and what the phases of its reader say. No promise rests on this file.
+use Rattle.std.specs.Prelude.{ℕ, List}
+use Rattle.dl_table.specs.declared.table.Pair.{Pair}
+use Rattle.dl_field.specs.Layout.{listed_directory, listed_file}
+use Rattle.dl_field.specs.declared.list_reader.ListKind.{ListKind}
+use Rattle.dl_field.specs.declared.list_reader.ListKind.TheVariants as kind
+use Rattle.dl_field.specs.declared.list_reader.ListPhase.{ListPhase}
+use Rattle.dl_field.specs.declared.list_reader.ListPhase.TheVariants as phase
+
+-- what each entry says
+abbrev pub listed : ListKind → List Pair
+listed kind.Directories = listed_directory
+listed kind.Files = listed_file
+
+-- where the current path begins in the pool
+abbrev pub path_start : ListPhase → ℕ
+path_start (phase.Path start) = start
+path_start p = 0
+
+-- the pairs come with the last byte
+abbrev pub most_pairs : ListPhase → ℕ
+most_pairs phase.Whole = 4
+most_pairs p = 0

@@ -1,0 +1,325 @@
+-- Where a header isn't complete at its end or at that of its unit, something is decided there.
+use Rattle.dl_head.specs.declared.dialect.Dialect.{Dialect}
+use Rattle.std.proofs.Common.{◌≡◌, ◌≢◌, ℕ, ◌+◌, ◌-◌, ◌≤◌, Bool, true, nat_le, ◌&&◌, if◌then◌else◌, List, [], ◌∷◌, ◌++◌}
+use Rattle.std.proofs.Common.{length, take, drop, Option, Some, None, refl, sym, ap, subst, ◌∙◌, arith, inl, inr}
+use Rattle.std.proofs.Common.{length-append, append_assoc}
+use Rattle.std.proofs.lemmas.Bool.{cases_eq, eq-eqb, ne_eqb, le-leb}
+use Rattle.std.proofs.lemmas.List.{take-append-drop, length-take-le}
+use Rattle.dl_num.specs.declared.fixed.Order.{Order}
+use Rattle.dl_table.specs.declared.fault.FaultKind.{FaultKind}
+use Rattle.dl_table.specs.declared.fault.FaultKind.TheVariants as fault
+use Rattle.dl_table.specs.declared.form.Format.{Format}
+use Rattle.dl_field.specs.Layout.{any_byte, address_size, header_length, version, Layout, initial_length_then}
+use Rattle.dl_field.specs.Layout.{number_then}
+use Rattle.dl_field.specs.Layout.{form_then, path_or_end}
+use Rattle.dl_field.specs.Layout.{value_then, foreign_version, last_entry, Item, length_is, number_is, following}
+use Rattle.dl_field.specs.Layout.{following_all, field_spelt}
+use Rattle.dl_head.specs.HeaderLayout.{header_layout, initial_size, fixed_part, from_minimum_length}
+use Rattle.dl_head.specs.HeaderLayout.{from_address_size, format_alone, from_older_version, older_params}
+use Rattle.dl_head.specs.Dialect.{older_size}
+use Rattle.dl_head.specs.Header.{SpellsFields, Cut, cut, unit_end, unit_len, header_end, header_made, header_up_to}
+use Rattle.dl_head.specs.Header.{foreign_made, foreign_in, header_in, own_end, older_end}
+use Rattle.dl_head.specs.Refusal.{or_else, bad_kind, at_end, field_overrun, header_decided}
+use Rattle.dl_field.proofs.FieldLemmas.{none_some}
+use Rattle.dl_head.proofs.CutLemmas.{cut_fields, cut_sound, Sound}
+use Rattle.dl_head.proofs.FirstFields.{is_length, is_number, late_not_foreign}
+use Rattle.dl_head.proofs.Openings.{Opening, opening_of, after_length, after_address, after_segment, after_header}
+use Rattle.dl_head.proofs.EarlyEnds.{header_end-append}
+use Rattle.dl_head.proofs.RefusalLaws.{decided_on}
+
+-- ---- where a header ends without being complete
+
+pub decides : (o : Option FaultKind) (kind : FaultKind) (n : ℕ) → or_else o (at_end kind n (Some n)) ≡ None → ⊥
+decides (Some k) kind n e = none_some e refl
+decides None kind n e =
+    none_some {a = kind} (sym (ap (λ (b : Bool). if b then Some kind else None) (eq-eqb n n refl)) ∙ e) refl
+
+-- all fields that header_length and what follows it leave decide something at the header's last byte
+pub end_decides : (dialect : Dialect) (b : List ℕ) → header_end (cut dialect b).items ≡ Some (length b)
+    → header_in dialect b ≡ None → header_decided dialect b ≡ None → ⊥
+end_decides dialect b end none quiet = on (following_all (header_layout dialect) (cut dialect b).items) refl where
+  s : Sound dialect.order (header_layout dialect) b (cut dialect b)
+  s = cut_sound dialect.order (header_layout dialect) [] b
+
+  -- a field is incomplete
+  incomplete : (l : Layout) → following_all (header_layout dialect) (cut dialect b).items ≡ l
+      → decided_on dialect.order (length b) (cut dialect b).items (cut dialect b).rest l
+      ≡ or_else (bad_kind (field_spelt dialect.order l (cut dialect b).rest))
+      (field_overrun (length b) (cut dialect b).items (header_end (cut dialect b).items))
+      → ⊥
+  incomplete l e same =
+      let bad = bad_kind (field_spelt dialect.order l (cut dialect b).rest) in
+      decides bad fault.HeaderOverrun (length b)
+      (sym (ap (λ (o : Option ℕ). or_else bad (field_overrun (length b) (cut dialect b).items o)) end) ∙ sym same
+      ∙ sym (ap (decided_on dialect.order (length b) (cut dialect b).items (cut dialect b).rest) e) ∙ quiet)
+
+  on : (l : Layout) → following_all (header_layout dialect) (cut dialect b).items ≡ l → ⊥
+  on (last_entry h) e =
+      let fields = length b - length (cut dialect b).rest in
+      let within : (nat_le fields (length b) && nat_le (length b) (length b)) ≡ true =
+      rw (le-leb fields (length b) (omega arith)) (le-leb (length b) (length b) (omega arith)) in
+      let found : header_in dialect b ≡ Some (h, drop (length b) b) =
+      ap (λ (l : Layout). header_up_to b fields (header_made l) (header_end (cut dialect b).items)) e
+      ∙ ap (λ (o : Option ℕ). header_up_to b fields (Some h) o) end
+      ∙ ap (λ (t : Bool). if t then Some (h, drop (length b) b) else None) within in
+      none_some none found
+  on (foreign_version v) e =
+      let o = opening_of dialect (cut dialect b).items s.front (length b) s.spelt end in
+      late_not_foreign o.p o.more v (sym o.after ∙ e)
+  on (initial_length_then next) e = incomplete (initial_length_then next) e refl
+  on (number_then field next) e = incomplete (number_then field next) e refl
+  on (form_then next) e = incomplete (form_then next) e refl
+  on (value_then format f next) e = incomplete (value_then format f next) e refl
+  on (path_or_end format pairs entries next) e = incomplete (path_or_end format pairs entries next) e refl
+
+spells_split : (order : Order) (layout : Layout) (items more : List Item) (w : List ℕ)
+    → SpellsFields order layout (items ++ more) w
+    → (u : List ℕ) × (v : List ℕ) × (w ≡ u ++ v) × SpellsFields order layout items u
+spells_split order layout [] more w s = ([], w, refl, refl)
+spells_split order layout (i ∷ items) more w s =
+    let r = spells_split order (following layout i) items more s.1 s.4 in (
+      s.0 ++ r.0,
+      r.1,
+      s.2 ∙ ap (λ (z : List ℕ). s.0 ++ z) r.2 ∙ sym (append_assoc s.0 r.0 r.1),
+      (s.0, r.0, refl, s.3, r.3),
+    )
+
+format_same : (f g : Format) (m n : ℕ) → length_is f m ≡ length_is g n → f ≡ g
+format_same f g m n e = cc
+
+some_same : (m n : ℕ) → ◌≡◌ {A = Option ℕ} (Some m) (Some n) → m ≡ n
+some_same m n e = cc
+
+-- the bytes of a unit up to the end of its header
+pub record UpToHeader (dialect : Dialect) (b : List ℕ) : Type 0 where
+  pub front : List ℕ
+  pub back : List ℕ
+  pub whole : b ≡ front ++ back
+  pub ends : header_end (cut dialect front).items ≡ Some (length front)
+
+-- the values of the fields up to header_length, and the size of these
+record FirstItems (dialect : Dialect) (items : List Item) (f : Format) (v header : ℕ) : Type 0 where
+  first : List Item
+  more : List Item
+  all : items ≡ first ++ more
+  end : header_end first ≡ Some (initial_size f + fixed_part f v + header)
+  size : (u : List ℕ) → SpellsFields dialect.order (header_layout dialect) first u
+      → length u ≡ initial_size f + fixed_part f v
+
+-- where no field follows these, no byte does
+nothing_more : (dialect : Dialect) (items : List Item) (u : List ℕ) (o : Opening dialect items u) → o.more ≡ []
+    → length u ≡ initial_size o.format + fixed_part o.format o.of_version
+nothing_more dialect items u o none =
+    let zero : length o.rest ≡ 0 =
+    ap length (subst (λ (l : List Item). SpellsFields dialect.order (from_minimum_length o.p) l o.rest) none o.spelt) in
+    omega (arith, o.size, zero)
+
+number_same : (m n : ℕ) → number_is m ≡ number_is n → m ≡ n
+number_same m n e = cc
+
+abbrev sizes : Format → ℕ → ℕ
+sizes f v = initial_size f + fixed_part f v
+
+own_size : (dialect : Dialect) (f : Format) (n address segment header : ℕ) (u : List ℕ)
+    → SpellsFields dialect.order (header_layout dialect)
+    (length_is f n ∷ number_is 5 ∷ number_is address ∷ number_is segment ∷ number_is header ∷ []) u
+    → length u ≡ initial_size f + fixed_part f 5
+own_size dialect f n address segment header u s =
+    sized (opening_of dialect first u (initial_size f + fixed_part f 5 + header) s refl)
+  where
+    first : List Item
+    first = length_is f n ∷ number_is 5 ∷ number_is address ∷ number_is segment ∷ number_is header ∷ []
+
+    sized : Opening dialect first u → length u ≡ initial_size f + fixed_part f 5
+    sized o = elim o.shape [
+      | inl own ↦
+          let same : o.format ≡ f = format_same o.format f o.unit_length n (cc) in
+          let none : o.more ≡ [] = cc in
+          nothing_more dialect first u o none ∙ ap (sizes o.format) own.2 ∙ ap (λ (g : Format). sizes g 5) same
+      | inr older ↦ (let five : o.of_version ≡ 5 = number_same o.of_version 5 (cc) in absurd (older.1 five))
+    ]
+
+older_size_is : (dialect : Dialect) (f : Format) (n v header : ℕ) (u : List ℕ) → v ≢ 5
+    → SpellsFields dialect.order (header_layout dialect) (length_is f n ∷ number_is v ∷ number_is header ∷ []) u
+    → length u ≡ initial_size f + fixed_part f v
+older_size_is dialect f n v header u other s =
+    sized (opening_of dialect first u (initial_size f + fixed_part f v + header) s (rw (ne_eqb v 5 other) refl))
+  where
+    first : List Item
+    first = length_is f n ∷ number_is v ∷ number_is header ∷ []
+
+    sized : Opening dialect first u → length u ≡ initial_size f + fixed_part f v
+    sized o = elim o.shape [
+      | inl own ↦ (let five : v ≡ 5 = number_same v 5 (cc) in absurd (other five))
+      | inr older ↦
+          let same : o.format ≡ f = format_same o.format f o.unit_length n (cc) in
+          let none : o.more ≡ [] = cc in
+          let version : o.of_version ≡ v = number_same o.of_version v (cc) in
+          nothing_more dialect first u o none ∙ ap (sizes o.format) version ∙ ap (λ (g : Format). sizes g v) same
+    ]
+
+first_of : (dialect : Dialect) (items : List Item) (w : List ℕ) (o : Opening dialect items w)
+    → FirstItems dialect items o.format o.of_version o.header
+first_of dialect items w o = elim o.shape [
+  | inl own ↦ record {
+    first = length_is o.format o.unit_length ∷ number_is 5 ∷ number_is own.0 ∷ number_is own.1 ∷ number_is o.header
+        ∷ [];
+    more = o.more;
+    all = own.3;
+    end = ap (λ (v : ℕ). Some (initial_size o.format + fixed_part o.format v + o.header)) (sym own.2);
+    size = λ u s.
+        own_size dialect o.format o.unit_length own.0 own.1 o.header u s ∙ ap (sizes o.format) (sym own.2);
+  }
+  | inr older ↦ record {
+    first = length_is o.format o.unit_length ∷ number_is o.of_version ∷ number_is o.header ∷ [];
+    more = o.more;
+    all = older.3;
+    end = rw (ne_eqb o.of_version 5 older.1) refl;
+    size = λ u s. older_size_is dialect o.format o.unit_length o.of_version o.header u older.1 s;
+  }
+]
+
+pub up_to_header : (dialect : Dialect) (b : List ℕ) (end : ℕ) → unit_len dialect b ≡ Some (length b)
+    → header_end (cut dialect b).items ≡ Some end → UpToHeader dialect b
+up_to_header dialect b end len e =
+    let s : Sound dialect.order (header_layout dialect) b (cut dialect b) =
+    cut_sound dialect.order (header_layout dialect) [] b in
+    opened (cut dialect b).items s.front (cut dialect b).rest s.whole s.spelt len
+    (opening_of dialect (cut dialect b).items s.front end s.spelt e)
+  where
+    opened : (items : List Item) (fields rest : List ℕ) → b ≡ fields ++ rest
+        → SpellsFields dialect.order (header_layout dialect) items fields → unit_end items ≡ Some (length b)
+        → Opening dialect items fields → UpToHeader dialect b
+    opened items fields rest whole s unit o =
+        let i = first_of dialect items fields o in
+        let u = spells_split dialect.order (header_layout dialect) i.first i.more fields
+        (subst (λ (l : List Item). SpellsFields dialect.order (header_layout dialect) l fields) i.all s) in
+        let tail = u.1 ++ rest in
+        let all : b ≡ u.0 ++ tail = whole ∙ ap (λ (w : List ℕ). w ++ rest) u.2 ∙ append_assoc u.0 u.1 rest in
+        let size = i.size u.0 u.3 in
+        let long : initial_size o.format + o.unit_length ≡ length b = some_same _ _ (sym o.unit ∙ unit) in
+        let le : o.header ≤ length tail =
+        omega (arith, o.fits, size, long, ap length all, length-append u.0 tail) in
+        record {
+          front = u.0 ++ take o.header tail;
+          back = drop o.header tail;
+          whole = all ∙ ap (λ (w : List ℕ). u.0 ++ w) (sym (take-append-drop o.header tail))
+              ∙ sym (append_assoc u.0 (take o.header tail) (drop o.header tail));
+          ends =
+              ap (λ (c : Cut). header_end c.items)
+              (cut_fields dialect.order (header_layout dialect) i.first u.0 (take o.header tail) u.3)
+              ∙ header_end-append i.first _ _ i.end
+              ∙ ap (λ (m : ℕ). Some m) (omega (
+                arith,
+                size,
+                length-append u.0 (take o.header tail),
+                length-take-le o.header tail le,
+              ));
+        }
+
+-- ---- where header_length isn't complete
+
+made_own : (order : Order) (f : Format) (n : ℕ) (items : List Item) (w : List ℕ) → own_end f items ≡ None
+    → SpellsFields order (from_address_size n (format_alone f)) items w
+    → header_made (following_all (from_address_size n (format_alone f)) items) ≡ None
+made_own order f n [] w e s = refl
+made_own order f n (i ∷ []) w e s =
+    let a = is_number order address_size (after_address f n) s.0 i s.3 in
+    ap (λ (x : Item). header_made (following (from_address_size n (format_alone f)) x)) a.item
+made_own order f n (i ∷ j ∷ []) w e s =
+    let a = is_number order address_size (after_address f n) s.0 i s.3 in
+    let t : SpellsFields order (after_address f n a.number) (j ∷ []) s.1 =
+    subst (λ (x : Item). SpellsFields order (following (from_address_size n (format_alone f)) x) (j ∷ []) s.1) a.item
+    s.4
+    in
+    let b = is_number order any_byte (after_segment f n a.number) t.0 j t.3 in
+    ap (λ (x : Item). header_made (following (following (from_address_size n (format_alone f)) x) j)) a.item
+    ∙ ap (λ (x : Item). header_made (following (after_address f n a.number) x)) b.item
+made_own order f n (i ∷ j ∷ k ∷ items) w e s =
+    let a = is_number order address_size (after_address f n) s.0 i s.3 in
+    let t : SpellsFields order (after_address f n a.number) (j ∷ k ∷ items) s.1 =
+    subst (λ (x : Item). SpellsFields order (following (from_address_size n (format_alone f)) x) (j ∷ k ∷ items) s.1)
+    a.item s.4 in
+    let b = is_number order any_byte (after_segment f n a.number) t.0 j t.3 in
+    let u : SpellsFields order (after_segment f n a.number b.number) (k ∷ items) t.1 =
+    subst (λ (x : Item). SpellsFields order (following (after_address f n a.number) x) (k ∷ items) t.1) b.item t.4 in
+    let c = is_number order (header_length f (n - fixed_part f 5)) (after_header f a.number b.number) u.0 k u.3 in
+    absurd (none_some e (ap (λ (x : Item). own_end f (i ∷ j ∷ x ∷ items)) c.item))
+
+made_foreign : (order : Order) (v : ℕ) (items : List Item) (w : List ℕ) → SpellsFields order (foreign_version v) items w
+    → header_made (following_all (foreign_version v) items) ≡ None
+made_foreign order v [] w s = refl
+made_foreign order v (i ∷ items) w s = absurd (none_some refl s.3)
+
+made_older : (order : Order) (f : Format) (n v : ℕ) (o : Option ℕ) (items : List Item) (w : List ℕ)
+    → older_end f v items ≡ None → SpellsFields order (from_older_version f n v o) items w
+    → header_made (following_all (from_older_version f n v o) items) ≡ None
+made_older order f n v None items w e s = made_foreign order v items w s
+made_older order f n v (Some size) [] w e s = refl
+made_older order f n v (Some size) (k ∷ items) w e s =
+    let c = is_number order (header_length f (n - fixed_part f v)) (λ m. from_minimum_length (older_params f v size))
+    s.0
+    k s.3 in
+    absurd (none_some e (ap (λ (x : Item). older_end f v (x ∷ items)) c.item))
+
+made_version : (dialect : Dialect) (f : Format) (n v : ℕ) (items : List Item) (w : List ℕ)
+    → header_end (length_is f n ∷ number_is v ∷ items) ≡ None
+    → SpellsFields dialect.order (after_length dialect f n v) items w
+    → header_made (following_all (after_length dialect f n v) items) ≡ None
+made_version dialect f n v items w e s = elim (cases_eq v 5) [
+  | inl same ↦ rw (eq-eqb v 5 same) (made_own dialect.order f n items w (rw (eq-eqb v 5 same) at e)
+      (rw (eq-eqb v 5 same) at s))
+  | inr other ↦ rw (ne_eqb v 5 other) (made_older dialect.order f n v (older_size dialect v) items w
+      (rw (ne_eqb v 5 other) at e) (rw (ne_eqb v 5 other) at s))
+]
+
+-- a complete header has its header_length
+made_ends : (dialect : Dialect) (items : List Item) (w : List ℕ)
+    → SpellsFields dialect.order (header_layout dialect) items w
+    → header_end items ≡ None → header_made (following_all (header_layout dialect) items) ≡ None
+made_ends dialect [] w s e = refl
+made_ends dialect (i ∷ []) w s e =
+    ap (λ (x : Item). header_made (following (header_layout dialect) x)) (is_length dialect.order s.0 i s.3).item
+made_ends dialect (i ∷ j ∷ items) w s e =
+    let a = is_length dialect.order s.0 i s.3 in
+    let t : SpellsFields dialect.order (number_then version (after_length dialect a.format a.number)) (j ∷ items) s.1 =
+    subst (λ (x : Item). SpellsFields dialect.order (following (header_layout dialect) x) (j ∷ items) s.1) a.item s.4 in
+    let b = is_number dialect.order version (after_length dialect a.format a.number) t.0 j t.3 in
+    let none : header_end (length_is a.format a.number ∷ number_is b.number ∷ items) ≡ None =
+    sym (ap (λ (x : Item). header_end (x ∷ j ∷ items)) a.item
+    ∙ ap (λ (x : Item). header_end (length_is a.format a.number ∷ x ∷ items)) b.item) ∙ e in
+    ap (λ (x : Item). header_made (following_all (following (header_layout dialect) x) (j ∷ items))) a.item
+    ∙ ap (λ (x : Item). header_made (following_all
+    (following (number_then version (after_length dialect a.format a.number)) x) items)) b.item
+    ∙ made_version dialect a.format a.number b.number items t.1 none
+    (subst (λ (x : Item). SpellsFields dialect.order
+    (following (number_then version (after_length dialect a.format a.number)) x) items t.1) b.item t.4)
+
+-- the unit's last byte decides something
+pub unit_decides : (dialect : Dialect) (b : List ℕ) → unit_len dialect b ≡ Some (length b)
+    → header_end (cut dialect b).items ≡ None → foreign_in dialect b ≡ None → header_decided dialect b ≡ None → ⊥
+unit_decides dialect b len end foreign quiet =
+    on (following_all (header_layout dialect) (cut dialect b).items) refl where
+      incomplete : (l : Layout) → following_all (header_layout dialect) (cut dialect b).items ≡ l
+          → decided_on dialect.order (length b) (cut dialect b).items (cut dialect b).rest l
+          ≡ or_else (bad_kind (field_spelt dialect.order l (cut dialect b).rest))
+          (field_overrun (length b) (cut dialect b).items (header_end (cut dialect b).items))
+          → ⊥
+      incomplete l e same =
+          let bad = bad_kind (field_spelt dialect.order l (cut dialect b).rest) in
+          decides bad fault.UnitOverrun (length b)
+          (sym (ap (λ (o : Option ℕ). or_else bad (field_overrun (length b) (cut dialect b).items o)) end
+          ∙ ap (λ (o : Option ℕ). or_else bad (at_end fault.UnitOverrun (length b) o)) len) ∙ sym same
+          ∙ sym (ap (decided_on dialect.order (length b) (cut dialect b).items (cut dialect b).rest) e) ∙ quiet)
+
+      on : (l : Layout) → following_all (header_layout dialect) (cut dialect b).items ≡ l → ⊥
+      on (last_entry h) e =
+          let s : Sound dialect.order (header_layout dialect) b (cut dialect b) =
+          cut_sound dialect.order (header_layout dialect) [] b in
+          none_some {a = h} (made_ends dialect (cut dialect b).items s.front s.spelt end) (ap header_made e)
+      on (foreign_version v) e = none_some {a = v} foreign (ap foreign_made e)
+      on (initial_length_then next) e = incomplete (initial_length_then next) e refl
+      on (number_then field next) e = incomplete (number_then field next) e refl
+      on (form_then next) e = incomplete (form_then next) e refl
+      on (value_then format f next) e = incomplete (value_then format f next) e refl
+      on (path_or_end format pairs entries next) e = incomplete (path_or_end format pairs entries next) e refl
