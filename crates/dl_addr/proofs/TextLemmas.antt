@@ -1,7 +1,8 @@
 -- Paths that are kept stay, and a file's path is that of its entry.
 use Rattle.std.proofs.Common.{◌≡◌, ◌⊎◌, inl, inr, ℕ, zero, suc, Bool, true, false, List, [], ◌∷◌, ◌++◌, length, min}
 use Rattle.std.proofs.Common.{slice_get, Option, Some, None, refl, sym, ap, ap₂, ◌∙◌, arith, append_assoc, append-nil}
-use Rattle.std.proofs.Common.{subst, ⊎_elim}
+use Rattle.std.proofs.Common.{subst, ⊎_elim, ◌+◌, ◌-◌, ◌<◌, ◌≤◌}
+use Rattle.std.specs.Prelude.{◌^◌, if◌then◌else◌, nat_lt}
 use Rattle.std.specs.Prelude.{cond, option_map, unwrap_or}
 use Rattle.std.specs.BTreeMap.{BTreeMap, Updates, get, is_at}
 use Rattle.std.specs.Option.{option_and_then, option_copied, option_map_or}
@@ -14,14 +15,15 @@ use Rattle.std.proofs.lemmas.Map.Lookups.{exact_unsigned}
 use Rattle.std.proofs.lemmas.Option.{slice_get_past}
 use Rattle.dl_table.specs.EntryData.{with_content}
 use Rattle.dl_field.specs.HeaderData.{HeaderData}
-use Rattle.dl_table.specs.Value.{Value}
+use Rattle.dl_table.specs.TableData.{TableData}
+use Rattle.dl_head.specs.Numbers.{entry_numbered, first_number}
 use Rattle.dl_print.specs.ValueText.{Strings, strings_of}
 use Rattle.dl_addr.specs.declared.kept.FilePath.{FilePath}
 use Rattle.dl_addr.specs.declared.kept.Paths.{Paths}
 use Rattle.dl_addr.specs.declared.texts.UnitFiles.{UnitFiles}
 use Rattle.dl_addr.specs.declared.texts.UnitNumbers.{UnitNumbers}
 use Rattle.dl_path.specs.Paths.{file_path, path_of, under}
-use Rattle.dl_addr.specs.Texts.{AreSeen, AreTexts, Grows, HasPath, IsKept, IsPath, TextsGrow, directory_text, named}
+use Rattle.dl_addr.specs.Texts.{AreSeen, AreTexts, Grows, HasPath, IsKept, IsPath, TextsGrow, directory_text, files_end, named}
 use Rattle.dl_addr.specs.Texts.{part_at, path_at, path_of_file, text_at, text_or_none}
 
 pub none_is_some : {A : Type 0} {x : A} → ◌≡◌ {A = Option A} None (Some x) → ⊥
@@ -195,25 +197,33 @@ last_seen u m paths file number has are = record {
 pub none_seen : (m : BTreeMap ℕ ℕ) → m.entries ≡ [] → (q k : ℕ) → get nat_cmp m q ≡ Some k → ⊥
 none_seen m none q k at = none_is_some (sym (ap (lookup (is_at (nat_cmp q))) none) ∙ at)
 
--- the path under a header of the entry, which may lack
-abbrev under_entry : Strings → HeaderData → Option (List Value) → Option (List ℕ)
-under_entry s h entry = option_and_then (file_path s h) (option_map (with_content h.files.pairs) entry)
+-- from the end of the numbers on there are no entries
+numbered_past : (first : ℕ) (t : TableData) (n : ℕ) → first + length t.entries ≤ n → entry_numbered first t n ≡ None
+numbered_past first t n past = by (nat_lt n first) where
+  by : (is : Bool)
+      → (if is then None else option_map (with_content t.pairs) (slice_get t.entries (n - first))) ≡ None
+  by true = refl
+  by false = ap (option_map (with_content t.pairs)) (slice_get_past t.entries (n - first) (omega (arith, past)))
 
-clamped : (s : Strings) (header : Option HeaderData) (file : ℕ)
-    → path_of s header (min file (option_map_or (λ h. length h.files.entries) header 0)) ≡ path_of s header file
-clamped s None file = refl
-clamped s (Some h) file =
-    let n = length h.files.entries in
+clamped : (s : Strings) (header : Option HeaderData) (file : ℕ) → file < 2 ^ 64
+    → path_of s header (min file (option_map_or files_end header 0)) ≡ path_of s header file
+clamped s None file within = refl
+clamped s (Some h) file within =
+    let first = first_number h.params in
+    let n = first + length h.files.entries in
     ⊎_elim
-    (λ lt. let e : min file n ≡ file = omega arith in ap (path_of s (Some h)) e)
-    (λ le. ap (under_entry s h) (slice_get_past h.files.entries (min file n) (omega arith)
-    ∙ sym (slice_get_past h.files.entries file le)))
+    (λ lt. let e : min file (min n (2 ^ 64 - 1)) ≡ file = omega (arith, within, lt) in ap (path_of s (Some h)) e)
+    (λ le. ⊎_elim
+    (λ few. ap (option_and_then (file_path s h)) (numbered_past first h.files (min file (min n (2 ^ 64 - 1)))
+    (omega (arith, le, few)) ∙ sym (numbered_past first h.files file le)))
+    (λ many. let e : min file (min n (2 ^ 64 - 1)) ≡ file = omega (arith, within, many) in ap (path_of s (Some h)) e)
+    (cases_lt n (2 ^ 64)))
     (cases_lt file n)
 
-pub path_clamped : (u : UnitFiles) (file files : ℕ)
-    → files ≡ option_map_or (λ (h : HeaderData). length h.files.entries) (option_copied u.header) 0
-    → path_of_file u (min file files) ≡ path_of_file u file
-path_clamped u file files e =
+pub path_clamped : (u : UnitFiles) (file end : ℕ) → file < 2 ^ 64
+    → end ≡ option_map_or files_end (option_copied u.header) 0
+    → path_of_file u (min file end) ≡ path_of_file u file
+path_clamped u file end within e =
     ap (λ (path : Option (List ℕ)). (named u.style path, u.offset))
     (ap (λ (n : ℕ). path_of (strings_of u.strings.now) (option_copied u.header) (min file n)) e
-    ∙ clamped (strings_of u.strings.now) (option_copied u.header) file)
+    ∙ clamped (strings_of u.strings.now) (option_copied u.header) file within)

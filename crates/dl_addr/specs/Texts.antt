@@ -1,9 +1,11 @@
 -- The paths that are kept. No promise rests on this file.
-use Rattle.std.specs.Prelude.{◌≡◌, ◌≢◌, ℕ, ◌<◌, List, [], ◌++◌, length, slice_get, slice_index_or, if◌then◌else◌}
+use Rattle.std.specs.Prelude.{◌≡◌, ◌≢◌, ℕ, ◌<◌, ◌+◌, ◌-◌, ◌^◌, min, List, [], ◌++◌, length, slice_get, slice_index_or, if◌then◌else◌}
 use Rattle.std.specs.Prelude.{Option, Some, None, option_map, unwrap_or}
 use Rattle.std.specs.BTreeMap.{BTreeMap, get}
 use Rattle.std.specs.Option.{option_and_then, option_copied}
 use Rattle.std.specs.Ordering.{nat_cmp}
+use Rattle.dl_field.specs.HeaderData.{HeaderData}
+use Rattle.dl_head.specs.Numbers.{first_number}
 use Rattle.dl_look.specs.declared.ledger.Answered.{Answered}
 use Rattle.dl_look.specs.Ledgers.{no_answer}
 use Rattle.dl_print.specs.ValueText.{strings_of}
@@ -85,6 +87,10 @@ pub record Grows (old new : Paths) : Type 0 where
 -- the path of a file of the unit as far as it is printed, with the unit's offset
 abbrev pub path_of_file : UnitFiles → ℕ → Option (List ℕ) × ℕ
 path_of_file u file = (named u.style (path_of (strings_of u.strings.now) (option_copied u.header) file), u.offset)
+
+-- a number from which on a unit has no files
+abbrev pub files_end : HeaderData → ℕ
+files_end h = min (first_number h.params + length h.files.entries) (2 ^ 64 - 1)
 
 abbrev pub directory_text : UnitFiles → ℕ → Option (List ℕ)
 directory_text u n = text_of_directory (strings_of u.strings.now) (option_copied u.header) n

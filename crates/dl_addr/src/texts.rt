@@ -6,7 +6,7 @@ ghost use Rattle.std.specs.Option.{option_copied, option_map, option_map_or};
 ghost use Rattle.dl_look.specs.Ledgers.{no_answer};
 ghost use Rattle.dl_path.specs.PathParts.{FromDirectories, IsDirectory, directory_seen, parts_seen, text_seen};
 ghost use Rattle.dl_addr.specs.Texts.{AreNumbers, AreSeen, AreTexts, Grows, HasPath, IsKept, IsOther, IsPath};
-ghost use Rattle.dl_addr.specs.Texts.{TextsGrow, directory_text, named, part_at, path_of_file, text_at};
+ghost use Rattle.dl_addr.specs.Texts.{TextsGrow, directory_text, files_end, named, part_at, path_of_file, text_at};
 ghost use Rattle.dl_print.specs.ValueText.{strings_of};
 ghost use Rattle.dl_path.specs.Paths.{path_of};
 
@@ -93,12 +93,14 @@ fn keep<'s>(
     Ok(())
 }
 
-/// How many files the unit's table has.
-fn files(unit: &UnitFiles<'_, '_, '_>) -> usize
-    ensures { result ≡ option_map_or (λ h. length h.files.entries) (option_copied unit.now.header) 0 }
+/// A number from which on the unit's table has no files.
+fn files_end(unit: &UnitFiles<'_, '_, '_>) -> u64
+    ensures { result ≡ option_map_or files_end (option_copied unit.now.header) 0 }
 {
     match unit.header {
-        Some(header) => header.files().len(),
+        Some(header) => header
+            .first_number()
+            .saturating_add(header.files().len() as u64),
         None => 0,
     }
 }
@@ -120,7 +122,7 @@ fn number_of<'s>(
         return Ok(number);
     }
     // Files that the table lacks have one path.
-    let entry = file.min(files(unit) as u64);
+    let entry = file.min(files_end(unit));
     if let Some(number) = numbers.files.get(&entry) {
         return Ok(*number);
     }

@@ -7,7 +7,7 @@ use Rattle.dl_path.specs.declared.parts.Directory.{Directory}
 use Rattle.dl_path.specs.declared.parts.Parts.{Parts}
 use Rattle.dl_path.specs.declared.parts.Text.{Text}
 use Rattle.dl_path.specs.declared.parts.Text.TheVariants.{Section, Header}
-use Rattle.dl_path.specs.Paths.{path_in, under}
+use Rattle.dl_path.specs.Paths.{directory_text, under}
 
 abbrev pub text_seen : Text → List ℕ
 text_seen (Section w) = w.now
@@ -30,4 +30,4 @@ pub record FromDirectories (text : ℕ → Option (List ℕ)) (p : Parts) : Type
 
 -- the text of the directory of this number
 abbrev pub text_of_directory : Strings → Option HeaderData → ℕ → Option (List ℕ)
-text_of_directory s header n = option_and_then (λ (h : HeaderData). path_in s h.directories n) header
+text_of_directory s header n = option_and_then (λ (h : HeaderData). directory_text s h n) header

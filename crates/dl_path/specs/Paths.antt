@@ -1,10 +1,10 @@
 -- The path of a file under the header of its unit. DWARF 5, sections 6.2.4 and 6.2.4.1.
 use Rattle.std.specs.Prelude.{ℕ, Bool, false, ◌||◌, ◌&&◌, nat_le, ◌==◌, if◌then◌else◌, List, [], ◌∷◌, ◌++◌, Option}
-use Rattle.std.specs.Prelude.{Some, None, slice_get, option_map, unwrap_or}
+use Rattle.std.specs.Prelude.{Some, None, option_map, unwrap_or}
 use Rattle.std.specs.Option.{option_and_then}
-use Rattle.dl_table.specs.EntryData.{value_of, with_content}
-use Rattle.dl_table.specs.TableData.{TableData}
+use Rattle.dl_table.specs.EntryData.{value_of}
 use Rattle.dl_field.specs.HeaderData.{HeaderData}
+use Rattle.dl_head.specs.Numbers.{directory_numbered, file_numbered}
 use Rattle.dl_table.specs.Value.{Value, text, line_str, str, number}
 use Rattle.dl_print.specs.ValueText.{Strings, text_in_section}
 
@@ -14,10 +14,6 @@ text_of s (text w) = Some w
 text_of s (line_str n) = text_in_section s.line_strings n
 text_of s (str n) = text_in_section s.strings n
 text_of s other = None
-
--- the values of an entry with their content codes
-abbrev pub entry_of : TableData → ℕ → Option (List (ℕ × Value))
-entry_of t n = option_map (with_content t.pairs) (slice_get t.entries n)
 
 -- content 1 (DW_LNCT_path)
 abbrev pub own_path : Strings → List (ℕ × Value) → Option (List ℕ)
@@ -69,22 +65,22 @@ slash_after (b ∷ c ∷ directory) = slash_after (c ∷ directory)
 abbrev pub under : (directory path : List ℕ) → List ℕ
 under directory path = directory ++ slash_after directory ++ path
 
--- content 1 of entry n
-abbrev pub path_in : Strings → TableData → ℕ → Option (List ℕ)
-path_in s t n = option_and_then (own_path s) (entry_of t n)
+-- content 1 of directory n
+abbrev pub directory_text : Strings → HeaderData → ℕ → Option (List ℕ)
+directory_text s h n = option_and_then (own_path s) (directory_numbered h n)
 
 -- directory n; one that isn't whole is under directory 0, if that is there
-abbrev pub directory_path : Strings → TableData → ℕ → Option (List ℕ)
-directory_path s directories n =
+abbrev pub directory_path : Strings → HeaderData → ℕ → Option (List ℕ)
+directory_path s h n =
     option_map (λ path. if is_whole path || (n == 0) then path
-    else under (unwrap_or (path_in s directories 0) []) path) (path_in s directories n)
+    else under (unwrap_or (directory_text s h 0) []) path) (directory_text s h n)
 
 -- a file that isn't whole is under its directory, if that is there
 abbrev pub file_path : Strings → HeaderData → List (ℕ × Value) → Option (List ℕ)
 file_path s h entry =
     option_map (λ path. if is_whole path then path
-    else under (unwrap_or (directory_path s h.directories (directory_of entry)) []) path) (own_path s entry)
+    else under (unwrap_or (directory_path s h (directory_of entry)) []) path) (own_path s entry)
 
 -- None where the file isn't there, or the text of its own path
 abbrev pub path_of : Strings → Option HeaderData → (file : ℕ) → Option (List ℕ)
-path_of s header file = option_and_then (λ h. option_and_then (file_path s h) (entry_of h.files file)) header
+path_of s header file = option_and_then (λ h. option_and_then (file_path s h) (file_numbered h file)) header

@@ -8,11 +8,11 @@ ghost use Rattle.dl_print.specs.ValueText.{strings_of};
 ghost use Rattle.dl_path.specs.Parts.{path_seen};
 ghost use Rattle.dl_path.specs.PathParts.{FromDirectories, IsDirectory, directory_seen, parts_seen};
 ghost use Rattle.dl_path.specs.PathParts.{text_of_directory, text_seen};
-ghost use Rattle.dl_path.specs.Paths.{text_of, own_path, directory_of, directory_path, number_or_zero};
-ghost use Rattle.dl_path.specs.Paths.{is_whole, path_in, path_of, under};
+ghost use Rattle.dl_path.specs.Paths.{text_of, own_path, directory_of, directory_path, directory_text, number_or_zero};
+ghost use Rattle.dl_path.specs.Paths.{is_whole, path_of, under};
 
 use crate::path::{Path, is_whole};
-use dl_head::{Entry, Header, Table, ValueRef};
+use dl_head::{Entry, Header, ValueRef};
 use dl_print::{StringSections, text_in_section};
 
 /// The content code of a path. Section 6.2.4.1.
@@ -65,32 +65,32 @@ fn parts_under<'s, 'h>(
     file: u64,
 ) -> Option<Parts<'s, 'h>>
     ensures seen { option_map parts_seen result ≡ path_of (strings_of strings.now) (Some header.now) file }
-    ensures numbered { IfSome result (FromDirectories (path_in (strings_of strings.now) header.now.directories)) }
+    ensures numbered { IfSome result (FromDirectories (directory_text (strings_of strings.now) header.now)) }
 {
-    let entry = header.files().entry(file as usize)?;
+    let entry = header.file(file)?;
     let name = own_path(strings, entry)?;
     if is_whole(bytes(name)) {
         return Some(alone(name));
     }
-    Some(parts_within(strings, header.directories(), directory_of(entry), name))
+    Some(parts_within(strings, header, directory_of(entry), name))
 }
 
 /// A file's own path in the directory of this number.
 fn parts_within<'s, 'h>(
     strings: &'s StringSections<'_>,
-    directories: &'h Table,
+    header: &'h Header,
     number: u64,
     name: Text<'s, 'h>,
 ) -> Parts<'s, 'h>
     ensures seen { parts_seen result
-        ≡ under (unwrap_or (directory_path (strings_of strings.now) directories.now number) []) (text_seen name.entry) }
-    ensures numbered { FromDirectories (path_in (strings_of strings.now) directories.now) result }
+        ≡ under (unwrap_or (directory_path (strings_of strings.now) header.now number) []) (text_seen name.entry) }
+    ensures numbered { FromDirectories (directory_text (strings_of strings.now) header.now) result }
 {
-    let Some(text) = path_in(strings, directories, number) else {
+    let Some(text) = directory_text(strings, header, number) else {
         return alone(name);
     };
     Parts {
-        base: base_of(strings, directories, number, bytes(text)),
+        base: base_of(strings, header, number, bytes(text)),
         directory: Some(Directory { number, text }),
         name,
     }
@@ -99,18 +99,18 @@ fn parts_within<'s, 'h>(
 /// What comes before a directory of this number and this path.
 fn base_of<'s, 'h>(
     strings: &'s StringSections<'_>,
-    directories: &'h Table,
+    header: &'h Header,
     number: u64,
     directory: &[u8],
 ) -> Option<Directory<'s, 'h>>
     ensures seen { directory_seen result ≡ (if is_whole directory.now || (number == 0) then []
-        else unwrap_or (path_in (strings_of strings.now) directories.now 0) []) }
-    ensures numbered { IsDirectory (path_in (strings_of strings.now) directories.now) result }
+        else unwrap_or (directory_text (strings_of strings.now) header.now 0) []) }
+    ensures numbered { IsDirectory (directory_text (strings_of strings.now) header.now) result }
 {
     if is_whole(directory) || number == 0 {
         return None;
     }
-    let text = path_in(strings, directories, 0)?;
+    let text = directory_text(strings, header, 0)?;
     Some(Directory { number: 0, text })
 }
 
@@ -171,15 +171,15 @@ pub fn text_from<'s, 'h>(text: Text<'s, 'h>, start: usize) -> Text<'s, 'h>
     }
 }
 
-/// The path of the entry of this number.
-fn path_in<'s, 'h>(
+/// The path of the directory of this number, as its entry has it.
+fn directory_text<'s, 'h>(
     strings: &'s StringSections<'_>,
-    table: &'h Table,
+    header: &'h Header,
     number: u64,
 ) -> Option<Text<'s, 'h>>
-    ensures { option_map text_seen result ≡ path_in (strings_of strings.now) table.now number }
+    ensures { option_map text_seen result ≡ directory_text (strings_of strings.now) header.now number }
 {
-    own_path(strings, table.entry(number as usize)?)
+    own_path(strings, header.directory(number)?)
 }
 
 /// The path of an entry, in its table or in a string section.

@@ -37,25 +37,26 @@ module _ (s : Strings) (name : List ℕ) (pairs : List Pair) where
       (entry_lines s name pairs (first + suc (length xs)) ys))
 
   -- an entry after those that are done, and those that are left
-  module _ (entries : List (List Value)) (i : ℕ) (d : List Value) (turn : i < length entries) where
-    pub lines_more : entry_lines s name pairs 0 (take (i + 1) entries) ≡ entry_lines s name pairs 0 (take i entries)
-        ++ entry_line s name i (with_content pairs (get_or entries i d))
+  module _ (first : ℕ) (entries : List (List Value)) (i : ℕ) (d : List Value) (turn : i < length entries) where
+    pub lines_more : entry_lines s name pairs first (take (i + 1) entries)
+        ≡ entry_lines s name pairs first (take i entries)
+        ++ entry_line s name (first + i) (with_content pairs (get_or entries i d))
     lines_more =
-        let e : 0 + length (take i entries) ≡ i = omega (arith, length-take i entries) in
-        ap (entry_lines s name pairs 0) (take_more entries i d turn)
-        ∙ entry_lines-append 0 (take i entries) (get_or entries i d ∷ [])
-        ∙ ap (λ (l : List ℕ). entry_lines s name pairs 0 (take i entries) ++ l)
-        (append-nil (entry_line s name (0 + length (take i entries)) (with_content pairs (get_or entries i d)))
+        let e : first + length (take i entries) ≡ first + i = omega (arith, length-take i entries) in
+        ap (entry_lines s name pairs first) (take_more entries i d turn)
+        ∙ entry_lines-append first (take i entries) (get_or entries i d ∷ [])
+        ∙ ap (λ (l : List ℕ). entry_lines s name pairs first (take i entries) ++ l)
+        (append-nil (entry_line s name (first + length (take i entries)) (with_content pairs (get_or entries i d)))
         ∙ ap (λ n. entry_line s name n (with_content pairs (get_or entries i d))) e)
 
-    pub lines_split : entry_lines s name pairs 0 entries ≡ entry_lines s name pairs 0 (take i entries)
-        ++ entry_line s name i (with_content pairs (get_or entries i d))
-        ++ entry_lines s name pairs (0 + length (take (i + 1) entries)) (drop (i + 1) entries)
+    pub lines_split : entry_lines s name pairs first entries ≡ entry_lines s name pairs first (take i entries)
+        ++ entry_line s name (first + i) (with_content pairs (get_or entries i d))
+        ++ entry_lines s name pairs (first + length (take (i + 1) entries)) (drop (i + 1) entries)
     lines_split =
-        ap (entry_lines s name pairs 0) (sym (take-append-drop (i + 1) entries))
-        ∙ entry_lines-append 0 (take (i + 1) entries) (drop (i + 1) entries)
-        ∙ ap (λ (l : List ℕ). l ++ entry_lines s name pairs (0 + length (take (i + 1) entries)) (drop (i + 1) entries))
-        lines_more
+        ap (entry_lines s name pairs first) (sym (take-append-drop (i + 1) entries))
+        ∙ entry_lines-append first (take (i + 1) entries) (drop (i + 1) entries)
+        ∙ ap (λ (l : List ℕ). l
+        ++ entry_lines s name pairs (first + length (take (i + 1) entries)) (drop (i + 1) entries)) lines_more
 
 -- an entry that is lent, by its number
 module _ (pairs : List Pair) (entries : List (List Value)) (i : ℕ) (turn : i < length entries) where

@@ -5,6 +5,7 @@ use Rattle.dl_table.specs.FaultText.{fault_text}
 use Rattle.dl_table.specs.declared.fault.FaultKind.{FaultKind}
 use Rattle.dl_table.specs.declared.form.Format.{Format}
 use Rattle.dl_table.specs.declared.form.Format.TheVariants.{Dwarf32, Dwarf64}
+use Rattle.dl_field.specs.declared.params.Params.{Params}
 use Rattle.dl_rows.specs.declared.row.Row.{Row}
 use Rattle.dl_print.specs.declared.summary.Summary.{Summary}
 
@@ -43,13 +44,13 @@ abbrev pub format_name : Format → List ℕ
 format_name Dwarf32 = codes "dwarf32"
 format_name Dwarf64 = codes "dwarf64"
 
--- a unit of version 5 at that offset of the section
-abbrev pub unit_line : ℕ → Format → ℕ → List ℕ
-unit_line offset format address_size =
-    line (codes "unit 0x" ++ hexadecimal offset ++ codes " " ++ format_name format ++ codes " version 5 address_size "
-    ++ decimal address_size)
+-- a unit that is read, at that offset of the section
+abbrev pub unit_line : ℕ → Params → List ℕ
+unit_line offset p =
+    line (codes "unit 0x" ++ hexadecimal offset ++ codes " " ++ format_name p.format ++ codes " version "
+    ++ decimal p.version ++ codes " address_size " ++ decimal p.address_size)
 
--- a unit of another version
+-- a unit that is passed over, for its version
 abbrev pub foreign_line : ℕ → ℕ → List ℕ
 foreign_line offset version =
     line (codes "unit 0x" ++ hexadecimal offset ++ codes " version " ++ decimal version ++ codes " skipped")

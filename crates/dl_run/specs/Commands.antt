@@ -71,7 +71,7 @@ pub record IsFound (dialect : Dialect) (x : Place) (bytes : List ℕ) (units : L
 
 -- the line of the row's file, which the header's table may lack, and the line of the row
 abbrev pub found_text : Strings → HeaderData → Row → List ℕ
-found_text strings h r = file_text strings h.files r.file ++ row_line r
+found_text strings h r = file_text strings h r.file ++ row_line r
 
 -- `find`: the two lines of the first unit that has an answer for x; nothing where none has, or where a fault comes
 -- before

@@ -54,8 +54,7 @@ impl<W: Write> Visitor<W> for Seeker<'_> {
         let (Some(row), Some(header)) = (answer, header) else {
             return Ok(Flow::On);
         };
-        self.printer
-            .file(output, &self.strings, header.files(), row.file)?;
+        self.printer.file(output, &self.strings, &header, row.file)?;
         self.printer.row(output, &row)?;
         self.found = true;
         Ok(Flow::Stop)

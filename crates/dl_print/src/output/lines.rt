@@ -9,7 +9,7 @@ use crate::summary::Summary;
 use crate::text::{
     write_foreign_line, write_missing_line, write_row, write_summary_line, write_unit_line,
 };
-use dl_head::Format;
+use dl_head::Params;
 use dl_rows::Row;
 use std::io::Write;
 
@@ -25,23 +25,22 @@ impl Printer {
         Ok(())
     }
 
-    /// Prints the line of a unit of version 5, which begins at `offset` of its section.
+    /// Prints the line of a unit that is read, which begins at `offset` of its section.
     pub fn unit<W: Write>(
         &mut self,
         output: &mut W,
         offset: u64,
-        format: Format,
-        address_size: u8,
+        params: &Params,
     ) -> Result<(), WriteFault>
         ensures printed { Prints (W.contents output.old) (W.contents output.new)
-            self.old self.new (unit_line offset format address_size) result }
+            self.old self.new (unit_line offset params.now) result }
     {
         self.make_room(output)?;
-        self.held = write_unit_line(&mut self.buffer, self.held, offset, format, address_size);
+        self.held = write_unit_line(&mut self.buffer, self.held, offset, params);
         Ok(())
     }
 
-    /// Prints the line of a unit of another version, which begins at `offset` of its section.
+    /// Prints the line of a unit that is passed over for its version, and begins at `offset` of its section.
     pub fn foreign_unit<W: Write>(
         &mut self,
         output: &mut W,

@@ -31,21 +31,23 @@ impl Printer {
         self.put(output, b"\n")
     }
 
-    /// Prints a line for each entry of a table.
+    /// Prints a line for each entry of a table, whose numbers begin with `first`.
     fn table<W: Write>(
         &mut self,
         output: &mut W,
         strings: &StringSections<'_>,
         name: &[u8],
+        first: u64,
         table: &Table,
     ) -> Result<(), WriteFault>
         requires short { length name.now ≤ 16 }
+        requires least { first ≤ 1 }
         ensures printed { Prints (W.contents output.old) (W.contents output.new) self.old self.new
-            (table_text (strings_of strings.now) name.now table.now) result }
+            (table_text (strings_of strings.now) name.now first table.now) result }
     {
         for i in 0..table.len() {
             if let Some(entry) = table.entry(i) {
-                self.entry(output, strings, name, i as u64, entry)?;
+                self.entry(output, strings, name, first + i as u64, entry)?;
             }
         }
         Ok(())
@@ -63,23 +65,24 @@ impl Printer {
             (header_text (strings_of strings.now) offset header.now) result }
     {
         let params = header.params();
-        self.unit(output, offset, params.format, params.address_size)?;
-        self.table(output, strings, b"dir ", header.directories())?;
-        self.table(output, strings, b"file ", header.files())
+        let first = header.first_number();
+        self.unit(output, offset, params)?;
+        self.table(output, strings, b"dir ", first, header.directories())?;
+        self.table(output, strings, b"file ", first, header.files())
     }
 
-    /// Prints the line of a file of the table, or that the table has no entry of this number.
+    /// Prints the line of the file of this number, or that there is none.
     pub fn file<W: Write>(
         &mut self,
         output: &mut W,
         strings: &StringSections<'_>,
-        files: &Table,
+        header: &Header,
         file: u64,
     ) -> Result<(), WriteFault>
         ensures printed { Prints (W.contents output.old) (W.contents output.new) self.old self.new
-            (file_text (strings_of strings.now) files.now file) result }
+            (file_text (strings_of strings.now) header.now file) result }
     {
-        match files.entry(file as usize) {
+        match header.file(file) {
             Some(entry) => self.entry(output, strings, b"file ", file, entry),
             None => self.missing_file(output, file),
         }

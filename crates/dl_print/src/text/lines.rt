@@ -5,7 +5,7 @@ ghost use Rattle.dl_print.specs.Text.{format_name, unit_line, foreign_line, miss
 
 use crate::summary::Summary;
 use crate::text::digits::{write_byte, write_bytes, write_hexadecimal, write_number};
-use dl_head::Format;
+use dl_head::{Format, Params};
 
 /// Writes `unit` and the offset of its first byte, and answers where they end.
 #[tactic(auto, using(crate::proofs::HexadecimalLemmas::hexadecimal_room))]
@@ -31,27 +31,22 @@ fn write_format(buffer: &mut [u8], at: usize, format: Format) -> usize
     }
 }
 
-/// Writes the line of a unit of version 5, and answers where it ends.
-pub fn write_unit_line(
-    buffer: &mut [u8],
-    at: usize,
-    offset: u64,
-    format: Format,
-    address_size: u8,
-) -> usize
+/// Writes the line of a unit that is read, and answers where it ends.
+pub fn write_unit_line(buffer: &mut [u8], at: usize, offset: u64, params: &Params) -> usize
     requires { at + 128 ≤ length buffer.old }
     ensures written { take result buffer.new
-        ≡ take at buffer.old ++ unit_line offset format address_size }
+        ≡ take at buffer.old ++ unit_line offset params.now }
     ensures room { result ≤ at + 128 }
 {
     let at = write_unit(buffer, at, offset);
     let at = write_byte(buffer, at, b' ');
-    let at = write_format(buffer, at, format);
-    let at = write_number(buffer, at, b" version 5 address_size ", address_size as u64);
+    let at = write_format(buffer, at, params.format);
+    let at = write_number(buffer, at, b" version ", params.version as u64);
+    let at = write_number(buffer, at, b" address_size ", params.address_size as u64);
     write_byte(buffer, at, b'\n')
 }
 
-/// Writes the line of a unit of another version, and answers where it ends.
+/// Writes the line of a unit that is passed over for its version, and answers where it ends.
 pub fn write_foreign_line(buffer: &mut [u8], at: usize, offset: u64, version: u16) -> usize
     requires { at + 128 ≤ length buffer.old }
     ensures written { take result buffer.new ≡ take at buffer.old ++ foreign_line offset version }

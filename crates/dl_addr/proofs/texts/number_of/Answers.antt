@@ -1,4 +1,4 @@
-use Rattle.std.proofs.Common.{ap, ◌∙◌, sym, subst, refl}
+use Rattle.std.proofs.Common.{ap, ◌∙◌, sym, subst, refl, arith}
 use Rattle.dl_addr.specs.Texts.{HasPath, path_of_file}
 use Rattle.dl_addr.proofs.TextLemmas.{file_added, path_clamped}
 use Rattle.dl_addr.proofs.texts.number_of.Goals as goal
@@ -10,7 +10,7 @@ pub returns-in-Some-get-clause-right : goal.returns-in-Some-get-clause-right
 returns-in-Some-get-clause-right c are =
     let u = c.args.unit.now in
     subst (HasPath c.args.paths.now c.in-Some-get.number.now)
-    (ap (path_of_file u) c.min-entry.ensures ∙ path_clamped u c.args.file c.files.result c.files.ensures)
+    (ap (path_of_file u) c.min-entry.ensures ∙ path_clamped u c.args.file c.files_end.result (omega (arith, c.ranges.file.fits)) c.files_end.ensures)
     (are.files c.min-entry.result c.in-Some-get.number.now (sym c.in-Some-get.ensures.value))
 
 pub returns-in-Ok-clause-seen : goal.returns-in-Ok-clause-seen
@@ -27,5 +27,5 @@ pub returns-in-Ok-clause-right : goal.returns-in-Ok-clause-right
 returns-in-Ok-clause-right c are =
     let u = c.args.unit.now in
     subst (HasPath c.add_file.new.paths c.in_ok-number.number)
-    (ap (path_of_file u) c.min-entry.ensures ∙ path_clamped u c.args.file c.files.result c.files.ensures)
+    (ap (path_of_file u) c.min-entry.ensures ∙ path_clamped u c.args.file c.files_end.result (omega (arith, c.ranges.file.fits)) c.files_end.ensures)
     (c.in_ok-number.ensures.right are.directories)

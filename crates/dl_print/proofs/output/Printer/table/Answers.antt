@@ -16,6 +16,7 @@ returns-in_err-entry g c = record {
       let i = c.loop-i.i in
       let s = strings_of c.args.strings.now in
       let name = c.args.name.now in
+      let first = c.args.first in
       let pairs = c.args.table.now.pairs in
       let entries = c.args.table.now.entries in
       let turn : i < length entries = omega (arith, c.loop-i-test.true, c.len-i-end.ensures) in
@@ -26,10 +27,10 @@ returns-in_err-entry g c = record {
       rw (
         p.1,
         p.2,
-      ) (TellsOut-part start _ text (entry_lines s name pairs 0 (take i entries)) (entry_line s name i items)
-      (entry_lines s name pairs (0 + length (take (i + 1) entries)) (drop (i + 1) entries))
-      (entry_lines s name pairs 0 entries) _
-      (lines_split s name pairs entries i [] turn) (rw held at tells));
+      ) (TellsOut-part start _ text (entry_lines s name pairs first (take i entries)) (entry_line s name (first + i) items)
+      (entry_lines s name pairs (first + length (take (i + 1) entries)) (drop (i + 1) entries))
+      (entry_lines s name pairs first entries) _
+      (lines_split s name pairs first entries i [] turn) (rw held at tells));
 }
 
 pub loop-i-preserved : goal.loop-i-preserved
@@ -37,6 +38,7 @@ loop-i-preserved g c =
     let i = c.loop-i.i in
     let s = strings_of c.args.strings.now in
     let name = c.args.name.now in
+    let first = c.args.first in
     let pairs = c.args.table.now.pairs in
     let entries = c.args.table.now.entries in
     let turn : i < length entries = omega (arith, c.loop-i-test.true, c.len-i-end.ensures) in
@@ -45,8 +47,8 @@ loop-i-preserved g c =
       | in-Some+in_ok-entry w ↦
           let held : entry_items w.in-Some.entry ≡ items =
           items_at pairs entries i turn (entry_items w.in-Some.entry) w.in-Some.ensures in
-          rw (w.self-is, w.output-is) (PrintsMore-then _ _ _ _ _ _ (entry_lines s name pairs 0 (take i entries))
-          (entry_line s name i items) (entry_lines s name pairs 0 (take (i + 1) entries))
-          (lines_more s name pairs entries i [] turn) c.loop-i.invariant (rw held at w.in_ok-entry.ensures.printed))
+          rw (w.self-is, w.output-is) (PrintsMore-then _ _ _ _ _ _ (entry_lines s name pairs first (take i entries))
+          (entry_line s name (first + i) items) (entry_lines s name pairs first (take (i + 1) entries))
+          (lines_more s name pairs first entries i [] turn) c.loop-i.invariant (rw held at w.in_ok-entry.ensures.printed))
       | in_default w ↦ absurd (never_none pairs entries i turn w.in_default.ensures)
     ]

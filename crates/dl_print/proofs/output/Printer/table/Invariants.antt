@@ -8,4 +8,4 @@ use Rattle.dl_print.proofs.output.Printer.table.Given as goal
 abbrev pub invariant-loop-i : goal.invariant-loop-i
 invariant-loop-i g l =
     PrintsMore (g.W.Write.contents l.initial.output) (g.W.Write.contents l.output) l.initial.self l.self
-    (entry_lines (strings_of l.strings) l.name l.table.pairs 0 (take l.i l.table.entries))
+    (entry_lines (strings_of l.strings) l.name l.table.pairs l.first (take l.i l.table.entries))

@@ -28,8 +28,8 @@ returns-in_err-file g c first start visits s told =
     let p = err_from_is_err_and c.from_residual.result c.from_residual.ensures.1 in
     let own = c.in-Some-Some in
     let answers = c.answer-answer.ensures first.place (rows_after [] visits) s.stands in
-    let text = file_text (strings_of c.args.self.now.strings) own.header.files own.row.file in
-    let tells = rw c.files.ensures at (c.in_err-file.ensures.printed start [] s.printed) in
+    let text = file_text (strings_of c.args.self.now.strings) own.header own.row.file in
+    let tells = c.in_err-file.ensures.printed start [] s.printed in
     let stops = stops_printing first c.args.self.now start (g.W.Write.contents c.args.output.now) visits c.args.header
     own.header own.row s own.is-1 (sym answers ∙ own.is-0)
     (record c.args.self.now {
@@ -45,8 +45,8 @@ returns-in_err-row g c first start visits s told =
     let p = err_from_is_err_and c.from_residual-in_err-row.result c.from_residual-in_err-row.ensures.1 in
     let own = c.in-Some-Some in
     let answers = c.answer-answer.ensures first.place (rows_after [] visits) s.stands in
-    let text = file_text (strings_of c.args.self.now.strings) own.header.files own.row.file in
-    let printed = rw c.files.ensures at (c.in_ok-file.ensures.printed start [] s.printed) in
+    let text = file_text (strings_of c.args.self.now.strings) own.header own.row.file in
+    let printed = c.in_ok-file.ensures.printed start [] s.printed in
     let tells = c.in_err-row.ensures.printed start text printed in
     let stops = stops_printing first c.args.self.now start (g.W.Write.contents c.args.output.now) visits c.args.header
     own.header own.row s own.is-1 (sym answers ∙ own.is-0)
@@ -61,8 +61,8 @@ pub returns : goal.returns
 returns g c first start visits s told =
     let own = c.in-Some-Some in
     let answers = c.answer-answer.ensures first.place (rows_after [] visits) s.stands in
-    let text = file_text (strings_of c.args.self.now.strings) own.header.files own.row.file in
-    let printed = rw c.files.ensures at (c.in_ok-file.ensures.printed start [] s.printed) in
+    let text = file_text (strings_of c.args.self.now.strings) own.header own.row.file in
+    let printed = c.in_ok-file.ensures.printed start [] s.printed in
     has_found first c.args.self.now start (g.W.Write.contents c.args.output.now) visits c.args.header own.header own.row
     s own.is-1 (sym answers ∙ own.is-0)
     (record c.args.self.now {
