@@ -1,5 +1,5 @@
 /*
- * Boxantrel: line tables of DWARF 5 (the section .debug_line), read out of memory.
+ * Boxantrel: line tables of DWARF 5, and of versions 2 to 4 (the section .debug_line), read out of memory.
  *
  * Each call is a function of the bytes that it is given: it keeps nothing between calls, and may be called from several
  * threads at once. What it answers is proved of the code of the library, for whatever bytes come.
@@ -7,13 +7,12 @@
  * The caller owes that
  * - the pointer to bytes or elements is valid for their number, a pointer to a room for as many elements as the room is
  *   said to have, and each is aligned for its type. Where the number is 0 the pointer isn't looked at, and may be null;
- * - each pointer to one struct or number is valid and aligned for its type, and `big` is false or true;
+ * - each pointer to one struct or number is valid and aligned for its type;
  * - what a call writes overlaps nothing else that the same call is given;
  * - malloc, realloc and free are those of one allocator, and no call comes from a signal handler, nor from the child
  *   of a process with several threads before it runs another program.
  *
- * `section`, `len`: the bytes of a section .debug_line. `big`: whether its numbers stand with the highest byte first.
- * An offset counts from the section's first byte. At each status, what isn't said to be written stays as it was.
+ * `section`, `len`: the bytes of a section .debug_line. `how`: what these don't say, as below. An offset counts from the section's first byte. At each status, what isn't said to be written stays as it was.
  */
 #ifndef BOXANTREL_H
 #define BOXANTREL_H
@@ -26,20 +25,33 @@
 extern "C" {
 #endif
 
+/*
+ * What the bytes of a section don't say: the sum of DL_BIG, where its numbers stand with the highest byte first, and of one
+ * of the others, where units of versions 2 to 4 are read too, whose headers don't have the size of an address. Of 0 numbers
+ * stand with the lowest byte first, and version 5 alone is read; of another number its lowest bit counts alone.
+ */
+enum {
+    DL_BIG = 1,
+    DL_OLDER_1 = 2, /* versions 2 to 4 with addresses of one byte */
+    DL_OLDER_2 = 4, /* of two */
+    DL_OLDER_4 = 8, /* of four */
+    DL_OLDER_8 = 16 /* of eight */
+};
+
 /* How a call ends. */
 enum {
     DL_DONE = 0,          /* what was asked for is written */
     DL_FAULT = 1,         /* the bytes are at fault, and the fault is written */
     DL_NO_ANSWER = 2,     /* no row answers, or the section has no byte at the offset */
     DL_NO_MEMORY = 3,     /* malloc or realloc refused memory; the same call may succeed later */
-    DL_OTHER_VERSION = 4, /* a unit isn't of version 5 where it has to be */
+    DL_OTHER_VERSION = 4, /* a unit is of a version that isn't read, or isn't copied */
     DL_NO_ROOM = 5        /* there isn't room for the answer */
 };
 
 /* What the units of a section come to. */
 typedef struct {
-    uint64_t units;     /* units of version 5 */
-    uint64_t skipped;   /* units of another version, which are passed over */
+    uint64_t units;     /* units that are read */
+    uint64_t skipped;   /* units that are passed over, for their version */
     uint64_t sequences; /* rows that end a sequence (section 6.2.5.3) */
     uint64_t rows;      /* rows, those among them */
 } dl_counts;
@@ -83,7 +95,7 @@ size_t dl_fault_text(const dl_fault *fault, uint8_t *text, size_t room);
  * Reads all units, and counts them, their sequences and their rows.
  * DL_DONE: the section is units to its end, and *counts is written. DL_FAULT: *fault is the first fault.
  */
-uint32_t dl_check(const uint8_t *section, size_t len, bool big, dl_counts *counts, dl_fault *fault);
+uint32_t dl_check(const uint8_t *section, size_t len, uint8_t how, dl_counts *counts, dl_fault *fault);
 
 /* A row of the matrix (section 6.2.2). */
 typedef struct {
@@ -109,11 +121,11 @@ enum {
 typedef struct {
     uint64_t offset;      /* of its first byte; the next unit, where there is one, begins at offset + length */
     uint64_t length;      /* how many bytes it has, its initial length included */
-    uint64_t rows;        /* how many rows it has; of a version other than 5 none, nor directories and files */
+    uint64_t rows;        /* how many rows it has; where it is passed over none, nor directories and files */
     uint64_t directories; /* how many entries its table of directories has */
     uint64_t files;       /* how many entries its table of files has */
     uint16_t version;
-    uint8_t address_size; /* of an address, in bytes; 0 of a version other than 5 */
+    uint8_t address_size; /* of an address, in bytes; 0 where it is passed over */
     uint8_t is_dwarf64;   /* 1 where it is of the 64-bit DWARF format (section 7.4), else 0 */
 } dl_unit;
 
@@ -123,15 +135,15 @@ typedef struct {
  * DL_DONE: *unit is the unit. DL_NO_ANSWER: the offset is the section's end, or beyond it. DL_FAULT: *fault is the
  * first fault from the offset on.
  */
-uint32_t dl_unit_at(const uint8_t *section, size_t len, bool big, uint64_t offset, dl_unit *unit, dl_fault *fault);
+uint32_t dl_unit_at(const uint8_t *section, size_t len, uint8_t how, uint64_t offset, dl_unit *unit, dl_fault *fault);
 
 /*
  * Lists the rows of the unit that begins at an offset, read as by dl_unit_at, as many as there is room for.
  * DL_DONE: *count is how many rows the unit has, be there room for them or not, and the first of them are written; a
- * unit of a version other than 5 has none. DL_NO_ANSWER: as of dl_unit_at. DL_FAULT: *fault is the first fault, and
+ * unit that is passed over has none. DL_NO_ANSWER: as of dl_unit_at. DL_FAULT: *fault is the first fault, and
  * *count and the rows are those before it.
  */
-uint32_t dl_rows_at(const uint8_t *section, size_t len, bool big, uint64_t offset, dl_row *rows, size_t room,
+uint32_t dl_rows_at(const uint8_t *section, size_t len, uint8_t how, uint64_t offset, dl_row *rows, size_t room,
                     size_t *count, dl_fault *fault);
 
 /*
@@ -143,10 +155,10 @@ uint32_t dl_rows_at(const uint8_t *section, size_t len, bool big, uint64_t offse
  * .debug_line_str and .debug_str; where there is no such section its length is 0.
  * DL_DONE: *length is how many bytes the path has, be there room for them or not (2^64 - 1 where there are more), and
  * the first of them are written; the path is `??` where the unit has no file of this number, or the file's own name
- * isn't there. DL_NO_ANSWER: as of dl_unit_at. DL_OTHER_VERSION: the unit isn't of version 5. DL_FAULT: *fault is the
+ * isn't there. DL_NO_ANSWER: as of dl_unit_at. DL_OTHER_VERSION: the unit is passed over. DL_FAULT: *fault is the
  * first fault from the offset on.
  */
-uint32_t dl_path_at(const uint8_t *section, size_t len, bool big, uint64_t offset, uint64_t file,
+uint32_t dl_path_at(const uint8_t *section, size_t len, uint8_t how, uint64_t offset, uint64_t file,
                     const uint8_t *line_str, size_t line_str_len, const uint8_t *str, size_t str_len, uint8_t *path,
                     size_t room, size_t *length, dl_fault *fault);
 
@@ -160,7 +172,7 @@ uint32_t dl_path_at(const uint8_t *section, size_t len, bool big, uint64_t offse
  * there are.
  * DL_NO_ANSWER, DL_OTHER_VERSION, DL_FAULT: as of dl_path_at.
  */
-uint32_t dl_paths_at(const uint8_t *section, size_t len, bool big, uint64_t offset, const uint64_t *files, size_t count,
+uint32_t dl_paths_at(const uint8_t *section, size_t len, uint8_t how, uint64_t offset, const uint64_t *files, size_t count,
                      const uint8_t *line_str, size_t line_str_len, const uint8_t *str, size_t str_len, uint8_t *paths,
                      size_t room, size_t *ends, dl_fault *fault);
 
@@ -171,7 +183,7 @@ uint32_t dl_paths_at(const uint8_t *section, size_t len, bool big, uint64_t offs
  * DL_DONE: *row is the row, and *unit the offset of its unit. DL_NO_ANSWER: no unit has one. DL_FAULT: a unit is at
  * fault before any has one, and *fault tells it.
  */
-uint32_t dl_find(const uint8_t *section, size_t len, bool big, uint64_t address, uint8_t op_index, dl_row *row,
+uint32_t dl_find(const uint8_t *section, size_t len, uint8_t how, uint64_t address, uint8_t op_index, dl_row *row,
                  uint64_t *unit, dl_fault *fault);
 
 /*
@@ -183,7 +195,7 @@ uint32_t dl_find(const uint8_t *section, size_t len, bool big, uint64_t address,
  * units before it answer, as if the section ended there. DL_NO_MEMORY: the same of the units before one whose header
  * wants memory; or, where memory is refused for the addresses, nothing is written.
  */
-uint32_t dl_find_all(const uint8_t *section, size_t len, bool big, const uint64_t *addresses, size_t count,
+uint32_t dl_find_all(const uint8_t *section, size_t len, uint8_t how, const uint64_t *addresses, size_t count,
                      dl_row *rows, uint64_t *units, dl_fault *fault);
 
 /*
@@ -191,10 +203,10 @@ uint32_t dl_find_all(const uint8_t *section, size_t len, bool big, const uint64_
  * copy is held in memory of the library until it is whole.
  * DL_DONE: *copied is how many bytes the copy has, and out begins with it. DL_NO_ROOM: *copied is the same, more than
  * the room is; nothing else is written. DL_FAULT: *fault is the first fault; DL_UNIT_TOO_LONG is also that of a unit
- * whose copy would be too long, at the unit's offset. DL_OTHER_VERSION: a unit is of another version, and no fault
+ * whose copy would be too long, at the unit's offset. DL_OTHER_VERSION: a unit isn't of version 5, and no fault
  * comes before it. DL_NO_MEMORY: also where the section has more than 2^44 bytes.
  */
-uint32_t dl_copy(const uint8_t *section, size_t len, bool big, uint8_t *out, size_t room, size_t *copied,
+uint32_t dl_copy(const uint8_t *section, size_t len, uint8_t how, uint8_t *out, size_t room, size_t *copied,
                  dl_fault *fault);
 
 #ifdef __cplusplus

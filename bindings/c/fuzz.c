@@ -75,7 +75,7 @@ static uint8_t *text_end;
 static uint64_t *addresses_end, *units_end;
 static size_t *ends_end;
 static size_t len;
-static bool big;
+static uint8_t how;
 
 /* Fills what the calls write. */
 static void fill(void)
@@ -122,7 +122,7 @@ static void check_text(dl_fault told, size_t room)
 static uint32_t check_counts(void)
 {
     fill();
-    uint32_t status = dl_check(section, len, big, counts, fault);
+    uint32_t status = dl_check(section, len, how, counts, fault);
     check_fault(status);
     wanted(status == DL_DONE || status == DL_FAULT || status == DL_NO_MEMORY, "a status of no count");
     if (status == DL_DONE)
@@ -136,7 +136,7 @@ static uint32_t check_counts(void)
 static void check_find(uint32_t counted, uint64_t address)
 {
     fill();
-    uint32_t status = dl_find(section, len, big, address, 0, row, unit, fault);
+    uint32_t status = dl_find(section, len, how, address, 0, row, unit, fault);
     check_fault(status);
     wanted(status <= DL_NO_MEMORY, "a status of no look-up");
     if (status == DL_DONE)
@@ -157,7 +157,7 @@ static void check_find_all(uint32_t counted, size_t asked)
     dl_row *rows = rows_end - asked;
     uint64_t *units = units_end - asked;
     const uint64_t *addresses = addresses_end - asked;
-    uint32_t status = dl_find_all(section, len, big, or_null(addresses_end - asked, asked), asked, or_null(rows, asked),
+    uint32_t status = dl_find_all(section, len, how, or_null(addresses_end - asked, asked), asked, or_null(rows, asked),
                                   or_null(units, asked), fault);
     check_fault(status);
     wanted(status == counted, "another end than that of the count");
@@ -167,7 +167,7 @@ static void check_find_all(uint32_t counted, size_t asked)
         dl_row found;
         uint64_t at;
         dl_fault other;
-        uint32_t alone = dl_find(section, len, big, addresses[i], 0, &found, &at, &other);
+        uint32_t alone = dl_find(section, len, how, addresses[i], 0, &found, &at, &other);
         wanted((units[i] != UINT64_MAX) == (alone == DL_DONE), "an answer that isn't that of one look-up");
         if (alone == DL_DONE)
             wanted(units[i] == at && rows[i].address == found.address && rows[i].line == found.line
@@ -181,7 +181,7 @@ static void check_find_all(uint32_t counted, size_t asked)
 static uint32_t check_unit(uint64_t offset)
 {
     fill();
-    uint32_t status = dl_unit_at(section, len, big, offset, described, fault);
+    uint32_t status = dl_unit_at(section, len, how, offset, described, fault);
     check_fault(status);
     wanted(status <= DL_NO_MEMORY, "a status of no unit");
     wanted((status == DL_NO_ANSWER) == (offset >= len), "a unit where there is no byte, or none where there is one");
@@ -201,7 +201,7 @@ static void check_rows(uint32_t described_as, uint64_t offset, size_t room)
     uint64_t wanted_rows = described->rows;
     fill();
     dl_row *rows = rows_end - room;
-    uint32_t status = dl_rows_at(section, len, big, offset, or_null(rows, room), room, count, fault);
+    uint32_t status = dl_rows_at(section, len, how, offset, or_null(rows, room), room, count, fault);
     check_fault(status);
     wanted(status == described_as, "rows with another end than that of the unit");
     size_t kept = 0;
@@ -239,14 +239,14 @@ static uint64_t random_file(void)
 static uint32_t path_at(const struct strings *strings, uint64_t offset, uint64_t file, uint8_t *path, size_t room,
                         size_t *length, dl_fault *told)
 {
-    return dl_path_at(section, len, big, offset, file, strings->line_str, strings->line_str_len, strings->str,
+    return dl_path_at(section, len, how, offset, file, strings->line_str, strings->line_str_len, strings->str,
                       strings->str_len, path, room, length, told);
 }
 
 /* Tells the path of a file of the unit at an offset, whose status is this one, into a room. */
 static void check_path(uint32_t described_as, uint64_t offset, size_t room)
 {
-    bool is_foreign = described_as == DL_DONE && described->version != 5;
+    bool is_foreign = described_as == DL_DONE && described->address_size == 0;
     fill();
     memset(copy_end - MOST_COPY, FILL, MOST_COPY);
     uint8_t *path = copy_end - room;
@@ -279,7 +279,7 @@ static void check_same(const struct strings *strings, uint64_t offset, uint64_t 
 /* Tells the paths of files of the unit at an offset, whose status is this one, into a room. */
 static void check_paths(uint32_t described_as, uint64_t offset, size_t asked, size_t room)
 {
-    bool is_foreign = described_as == DL_DONE && described->version != 5;
+    bool is_foreign = described_as == DL_DONE && described->address_size == 0;
     fill();
     memset(copy_end - MOST_COPY, FILL, MOST_COPY);
     memset(ends_end - MOST_ASKED, FILL, MOST_ASKED * sizeof *ends_end);
@@ -289,7 +289,7 @@ static void check_paths(uint32_t described_as, uint64_t offset, size_t asked, si
     for (size_t i = 0; i < asked; i++)
         files[i] = random_file();
     struct strings strings = random_strings();
-    uint32_t status = dl_paths_at(section, len, big, offset, or_null(files, asked), asked, strings.line_str,
+    uint32_t status = dl_paths_at(section, len, how, offset, or_null(files, asked), asked, strings.line_str,
                                   strings.line_str_len, strings.str, strings.str_len, or_null(paths, room), room,
                                   or_null(ends, asked), fault);
     check_fault(status);
@@ -320,7 +320,7 @@ static void check_copy(uint32_t counted, size_t room)
     fill();
     memset(copy_end - MOST_COPY, FILL, MOST_COPY);
     uint8_t *out = copy_end - room;
-    uint32_t status = dl_copy(section, len, big, or_null(out, room), room, count, fault);
+    uint32_t status = dl_copy(section, len, how, or_null(out, room), room, count, fault);
     check_fault(status);
     wanted(status <= DL_NO_ROOM && status != DL_NO_ANSWER, "a status of no copy");
     size_t written = 0;
@@ -349,7 +349,9 @@ static void take(const char *path)
         bytes[below(len)] = (uint8_t)(below(2) ? next() : below(20));
     memcpy(section_end - len, bytes, len);
     section = or_null(section_end - len, len);
-    big = below(8) == 0;
+    how = (uint8_t)((below(8) == 0 ? DL_BIG : 0) | (below(2) == 0 ? DL_OLDER_8 : 0));
+    if (below(16) == 0)
+        how = (uint8_t)next();
 }
 
 int main(int words_count, char **words)

@@ -1,4 +1,4 @@
-"""Line tables of DWARF 5 (the section .debug_line), read by the library Boxantrel, whose answers are proved.
+"""Line tables of DWARF 5, and of versions 2 to 4 (the section .debug_line), read by the library Boxantrel, whose answers are proved.
 
     >>> section = Section(open("examples/gcc-O2/debug_line", "rb").read())
     >>> section.check()
@@ -151,7 +151,7 @@ def _library() -> ctypes.CDLL:
         raise OSError("libboxantrel.so isn't found")
     library = ctypes.CDLL(path)
     held = [ctypes.c_void_p, ctypes.c_size_t]
-    section = held + [ctypes.c_bool]
+    section = held + [ctypes.c_uint8]
     fault = ctypes.POINTER(_Fault)
     row = ctypes.POINTER(_Row)
     place = [ctypes.c_uint64, ctypes.c_uint8]
@@ -228,7 +228,9 @@ def _refuse(status: int, fault: _Fault) -> NoReturn:
 
 
 class Section:
-    """The bytes of a section .debug_line, whose numbers stand with the lowest byte first, or with `big` the highest.
+    """The bytes of a section .debug_line, whose numbers stand with the lowest byte first, or with `big` the highest. With
+    `older`, the size of an address in bytes (1, 2, 4 or 8), units of versions 2 to 4 are read too, whose headers don't
+    say that size; another size is a ValueError.
 
     `data` is any object with the buffer protocol whose bytes stand one after the other, as bytes, bytearray, array or
     mmap; so are `line_str` and `text` below, the bytes of .debug_line_str and .debug_str. They are read where they
@@ -236,9 +238,11 @@ class Section:
     a file have 64 bits, an operation 8) is an OverflowError.
     """
 
-    def __init__(self, data: Any, big: bool = False) -> None:
+    def __init__(self, data: Any, big: bool = False, older: int = 0) -> None:
+        if older not in (0, 1, 2, 4, 8):
+            raise ValueError(f"no address has {older} bytes")
         self._held = _Bytes(data)
-        self._bytes = (*self._held.pointer, bool(big))
+        self._bytes = (*self._held.pointer, 2 * older + bool(big))
 
     def check(self) -> Counts:
         """Reads all units, and counts them, their sequences and their rows."""

@@ -1,5 +1,5 @@
-"""look.py [--big] [--rows | --copy | --addr LINE_STR STR ADDRESS.. | ADDRESS..]: of the section on standard input, what
-`dwline check` prints of it; with --rows the rows that `dwline dump` prints, with --copy what `dwline copy` writes, with
+"""look.py [--big] [--older SIZE] [--rows | --copy | --addr LINE_STR STR ADDRESS.. | ADDRESS..]: of the section on standard
+input, what `dwline check` prints of it; with --rows the rows that `dwline dump` prints, with --copy what `dwline copy` writes, with
 --addr and the files of both string sections what `dwline addr` prints; or with addresses the row that answers for each
 as `dwline find` prints it."""
 
@@ -72,20 +72,23 @@ def locate_each(section: Section, line_str: bytes, text: bytes, words: List[str]
 
 def main(words: List[str]) -> int:
     big = words[:1] == ["--big"]
-    section = Section(sys.stdin.buffer.read(), big)
+    words = words[big:]
+    older = int(words[1]) if words[:1] == ["--older"] else 0
+    words = words[2 * (older > 0) :]
+    section = Section(sys.stdin.buffer.read(), big, older)
     try:
-        if not words[big:]:
+        if not words:
             counts = section.check()
             print(" ".join(f"{name} {number}" for name, number in counts._asdict().items()))
-        elif words[big] == "--rows":
+        elif words[0] == "--rows":
             list_rows(section)
-        elif words[big] == "--copy":
+        elif words[0] == "--copy":
             sys.stdout.buffer.write(section.copy())
-        elif words[big] == "--addr":
-            files = [pathlib.Path(name).read_bytes() for name in words[big + 1 : big + 3]]
-            locate_each(section, *files, words[big + 3 :])
+        elif words[0] == "--addr":
+            files = [pathlib.Path(name).read_bytes() for name in words[1:3]]
+            locate_each(section, *files, words[3:])
         else:
-            find_each(section, words[big:])
+            find_each(section, words)
     except (Damage, OtherVersion) as refusal:
         sys.stdout.flush()
         print(f"look: {refusal}", file=sys.stderr)

@@ -1,6 +1,6 @@
 /*
- * look [--big] [--rows | --copy | --addr LINE_STR STR ADDRESS.. | ADDRESS..]: of the section on standard input, what
- * `dwline check` prints of it; with --rows the rows that `dwline dump` prints, with --copy what `dwline copy` writes,
+ * look [--big] [--older SIZE] [--rows | --copy | --addr LINE_STR STR ADDRESS.. | ADDRESS..]: of the section on standard
+ * input, what `dwline check` prints of it; with --rows the rows that `dwline dump` prints, with --copy what `dwline copy` writes,
  * with --addr and the files of both string sections what `dwline addr` prints; or with addresses the row that answers
  * for each as `dwline find` prints it.
  */
@@ -13,7 +13,7 @@
 /* The section. */
 static uint8_t *bytes;
 static size_t len;
-static bool big;
+static uint8_t how;
 
 /* The string sections .debug_line_str and .debug_str. */
 static uint8_t *texts[2];
@@ -70,7 +70,7 @@ static int check(void)
 {
     dl_counts counts;
     dl_fault fault;
-    uint32_t status = dl_check(bytes, len, big, &counts, &fault);
+    uint32_t status = dl_check(bytes, len, how, &counts, &fault);
     if (status != DL_DONE)
         return refused(status, &fault);
     printf("units %" PRIu64 " skipped %" PRIu64 " sequences %" PRIu64 " rows %" PRIu64 "\n", counts.units, counts.skipped,
@@ -83,7 +83,7 @@ static int find(const char *word)
     dl_row row;
     dl_fault fault;
     uint64_t unit;
-    uint32_t status = dl_find(bytes, len, big, strtoull(word, NULL, 16), 0, &row, &unit, &fault);
+    uint32_t status = dl_find(bytes, len, how, strtoull(word, NULL, 16), 0, &row, &unit, &fault);
     if (status == DL_DONE)
         print_row(&row);
     else if (status == DL_NO_ANSWER)
@@ -126,7 +126,7 @@ static uint32_t add_paths(struct located *all, uint64_t unit, size_t count, dl_f
 {
     for (;;) {
         uint8_t *paths = all->paths + all->used;
-        uint32_t status = dl_paths_at(bytes, len, big, unit, all->files, count, texts[0], texts_len[0], texts[1],
+        uint32_t status = dl_paths_at(bytes, len, how, unit, all->files, count, texts[0], texts_len[0], texts[1],
                                       texts_len[1], paths, all->room - all->used, all->unit_ends, fault);
         if (status != DL_NO_ROOM)
             return status;
@@ -185,7 +185,7 @@ static uint32_t locate_all(struct located *all, char **words, size_t count, dl_f
         all->units[i] = UINT64_MAX;
     }
     dl_fault other;
-    uint32_t status = dl_find_all(bytes, len, big, all->addresses, count, all->rows, all->units, fault);
+    uint32_t status = dl_find_all(bytes, len, how, all->addresses, count, all->rows, all->units, fault);
     uint32_t told = find_paths(all, count, &other);
     if (told == DL_DONE)
         print_locations(all, count);
@@ -224,13 +224,13 @@ static int locate(char **words, size_t count)
 static uint32_t print_rows(uint64_t offset, dl_fault *fault)
 {
     size_t count = 0;
-    uint32_t status = dl_rows_at(bytes, len, big, offset, NULL, 0, &count, fault);
+    uint32_t status = dl_rows_at(bytes, len, how, offset, NULL, 0, &count, fault);
     if (count == 0)
         return status;
     dl_row *rows = malloc(count * sizeof *rows);
     if (rows == NULL)
         return DL_NO_MEMORY;
-    status = dl_rows_at(bytes, len, big, offset, rows, count, &count, fault);
+    status = dl_rows_at(bytes, len, how, offset, rows, count, &count, fault);
     if (status == DL_DONE || status == DL_FAULT)
         for (size_t i = 0; i < count; i++)
             print_row(&rows[i]);
@@ -245,7 +245,7 @@ static int list(void)
     for (;;) {
         uint32_t status = print_rows(unit.offset + unit.length, &fault);
         if (status == DL_DONE)
-            status = dl_unit_at(bytes, len, big, unit.offset + unit.length, &unit, &fault);
+            status = dl_unit_at(bytes, len, how, unit.offset + unit.length, &unit, &fault);
         if (status == DL_NO_ANSWER)
             return 0;
         if (status != DL_DONE)
@@ -261,7 +261,7 @@ static int copy(void)
         uint8_t *out = malloc(room + 1);
         if (out == NULL)
             return refused(DL_NO_MEMORY, &fault);
-        uint32_t status = dl_copy(bytes, len, big, out, room, &room, &fault);
+        uint32_t status = dl_copy(bytes, len, how, out, room, &room, &fault);
         if (status == DL_DONE)
             fwrite(out, 1, room, stdout);
         free(out);
@@ -273,9 +273,13 @@ static int copy(void)
 int main(int count, char **words)
 {
     int at = 1;
-    if (count > 1 && strcmp(words[1], "--big") == 0) {
-        big = true;
-        at = 2;
+    if (at < count && strcmp(words[at], "--big") == 0) {
+        how |= DL_BIG;
+        at++;
+    }
+    if (at + 1 < count && strcmp(words[at], "--older") == 0) {
+        how |= (uint8_t)(2 * atoi(words[at + 1]));
+        at += 2;
     }
     bytes = read_all(stdin, &len);
     bool has_all = bytes != NULL;

@@ -1,9 +1,9 @@
-//! look [--big] [--rows | --copy | --addr LINE_STR STR ADDRESS.. | ADDRESS..]: of the section on standard input, what
-//! `dwline check` prints of it; with --rows the rows that `dwline dump` prints, with --copy what `dwline copy` writes,
+//! look [--big] [--older SIZE] [--rows | --copy | --addr LINE_STR STR ADDRESS.. | ADDRESS..]: of the section on standard
+//! input, what `dwline check` prints of it; with --rows the rows that `dwline dump` prints, with --copy what `dwline copy` writes,
 //! with --addr and the files of both string sections what `dwline addr` prints; or with addresses the row that answers
 //! for each as `dwline find` prints it.
 
-use boxantrel::{Error, Found, Order, Row, Section};
+use boxantrel::{AddressSize, Error, Found, Order, Row, Section};
 use std::collections::{HashMap, HashSet};
 use std::io::{self, BufWriter, Read, Write};
 use std::process::ExitCode;
@@ -130,6 +130,16 @@ fn locate_each(output: &mut impl Write, section: &Section, words: &[String]) -> 
     Ok(all.error.map_or(Ok(()), Err))
 }
 
+fn address_size(text: &str) -> Option<AddressSize> {
+    match text {
+        "1" => Some(AddressSize::One),
+        "2" => Some(AddressSize::Two),
+        "4" => Some(AddressSize::Four),
+        "8" => Some(AddressSize::Eight),
+        _ => None,
+    }
+}
+
 fn main() -> io::Result<ExitCode> {
     let mut words: Vec<String> = std::env::args().skip(1).collect();
     let mut order = Order::Little;
@@ -137,9 +147,17 @@ fn main() -> io::Result<ExitCode> {
         words.remove(0);
         order = Order::Big;
     }
+    let mut older = None;
+    if words.first().is_some_and(|word| word == "--older") {
+        let size = words.drain(..2).nth(1);
+        older = size.and_then(|size| address_size(&size));
+    }
     let mut bytes = Vec::new();
     io::stdin().read_to_end(&mut bytes)?;
-    let section = Section::new(&bytes, order);
+    let mut section = Section::new(&bytes, order);
+    if let Some(size) = older {
+        section = section.with_older(size);
+    }
     let mut output = BufWriter::new(io::stdout());
     let end = if words.is_empty() {
         print_counts(&mut output, &section)?

@@ -1,4 +1,4 @@
-//! Line tables of DWARF 5 (the section `.debug_line`), read out of memory by the library Boxantrel, whose answers are
+//! Line tables of DWARF 5, and of versions 2 to 4 (the section `.debug_line`), read out of memory by the library Boxantrel, whose answers are
 //! proved. This crate hands its bytes over and gives names to what comes back.
 //!
 //! ```
@@ -37,19 +37,30 @@ pub enum Order {
     Big,
 }
 
+/// The size of an address.
+#[derive(Clone, Copy, Debug, PartialEq, Eq)]
+pub enum AddressSize {
+    One = 1,
+    Two = 2,
+    Four = 4,
+    Eight = 8,
+}
+
 /// The bytes of a section `.debug_line`.
 #[derive(Clone, Copy, Debug)]
 pub struct Section<'a> {
     bytes: &'a [u8],
     order: Order,
+    /// The size of an address in units of versions 2 to 4, where they are read.
+    older: Option<AddressSize>,
 }
 
 /// What the units of a section come to.
 #[derive(Clone, Copy, Debug, PartialEq, Eq)]
 pub struct Counts {
-    /// Units of version 5.
+    /// Units that are read.
     pub units: u64,
-    /// Units of another version, which are passed over.
+    /// Units that are passed over, for their version.
     pub skipped: u64,
     /// Rows that end a sequence.
     pub sequences: u64,
@@ -91,14 +102,14 @@ pub struct Unit {
     pub offset: u64,
     /// How many bytes it has.
     pub length: u64,
-    /// How many rows it has; of a version other than 5 none, nor directories and files.
+    /// How many rows it has; where it is passed over none, nor directories and files.
     pub rows: u64,
     /// How many entries its table of directories has.
     pub directories: u64,
     /// How many entries its table of files has.
     pub files: u64,
     pub version: u16,
-    /// Of an address, in bytes; 0 of a version other than 5.
+    /// Of an address, in bytes; 0 where it is passed over.
     pub address_size: u8,
     /// Whether it is of the 64-bit DWARF format.
     pub is_dwarf64: bool,
@@ -127,7 +138,7 @@ pub enum Error {
     Damage { offset: u64, kind: u32, detail: u64 },
     /// Memory was refused.
     NoMemory,
-    /// A unit isn't of version 5 where it has to be.
+    /// A unit is of a version that isn't read, or isn't copied.
     OtherVersion,
 }
 
@@ -144,12 +155,20 @@ impl fmt::Display for Error {
 impl std::error::Error for Error {}
 
 impl<'a> Section<'a> {
+    /// A section of which units of version 5 are read.
     pub fn new(bytes: &'a [u8], order: Order) -> Section<'a> {
-        Section { bytes, order }
+        Section { bytes, order, older: None }
     }
 
-    fn is_big(&self) -> bool {
-        self.order == Order::Big
+    /// The same section, of which units of versions 2 to 4 are read too. Their headers don't say the size of an address.
+    pub fn with_older(self, size: AddressSize) -> Section<'a> {
+        Section { older: Some(size), ..self }
+    }
+
+    /// What the calls are told besides the bytes.
+    fn how(&self) -> u8 {
+        let order = u8::from(self.order == Order::Big);
+        order + 2 * self.older.map_or(0, |size| size as u8)
     }
 
     /// Reads all units, and counts them, their sequences and their rows.
@@ -158,7 +177,7 @@ impl<'a> Section<'a> {
         let mut fault = raw::Fault::default();
         // SAFETY: the bytes are a slice's, and the other pointers are to locals.
         let status = unsafe {
-            raw::dl_check(self.bytes.as_ptr(), self.bytes.len(), self.is_big(), &mut counts, &mut fault)
+            raw::dl_check(self.bytes.as_ptr(), self.bytes.len(), self.how(), &mut counts, &mut fault)
         };
         match status {
             raw::DONE => Ok(Counts {
@@ -178,7 +197,7 @@ impl<'a> Section<'a> {
         let mut fault = raw::Fault::default();
         // SAFETY: as in `check`.
         let status = unsafe {
-            raw::dl_unit_at(self.bytes.as_ptr(), self.bytes.len(), self.is_big(), offset, &mut unit, &mut fault)
+            raw::dl_unit_at(self.bytes.as_ptr(), self.bytes.len(), self.how(), offset, &mut unit, &mut fault)
         };
         match status {
             raw::DONE => Ok(Some(unit.into())),
@@ -224,7 +243,7 @@ impl<'a> Section<'a> {
             raw::dl_rows_at(
                 self.bytes.as_ptr(),
                 self.bytes.len(),
-                self.is_big(),
+                self.how(),
                 offset,
                 rows.as_mut_ptr(),
                 rows.len(),
@@ -247,7 +266,7 @@ impl<'a> Section<'a> {
                 raw::dl_copy(
                     self.bytes.as_ptr(),
                     self.bytes.len(),
-                    self.is_big(),
+                    self.how(),
                     copy.as_mut_ptr(),
                     copy.len(),
                     &mut len,
@@ -277,7 +296,7 @@ impl<'a> Section<'a> {
                 raw::dl_path_at(
                     self.bytes.as_ptr(),
                     self.bytes.len(),
-                    self.is_big(),
+                    self.how(),
                     offset,
                     file,
                     line_str.as_ptr(),
@@ -321,7 +340,7 @@ impl<'a> Section<'a> {
                 raw::dl_paths_at(
                     self.bytes.as_ptr(),
                     self.bytes.len(),
-                    self.is_big(),
+                    self.how(),
                     offset,
                     files.as_ptr(),
                     files.len(),
@@ -355,7 +374,7 @@ impl<'a> Section<'a> {
             raw::dl_find_all(
                 self.bytes.as_ptr(),
                 self.bytes.len(),
-                self.is_big(),
+                self.how(),
                 addresses.as_ptr(),
                 addresses.len(),
                 rows.as_mut_ptr(),
@@ -382,7 +401,7 @@ impl<'a> Section<'a> {
             raw::dl_find(
                 self.bytes.as_ptr(),
                 self.bytes.len(),
-                self.is_big(),
+                self.how(),
                 address,
                 op_index,
                 &mut row,

@@ -55,11 +55,11 @@ pub struct Unit {
 
 extern "C" {
     pub fn dl_fault_text(fault: *const Fault, text: *mut u8, room: usize) -> usize;
-    pub fn dl_check(section: *const u8, len: usize, big: bool, counts: *mut Counts, fault: *mut Fault) -> u32;
+    pub fn dl_check(section: *const u8, len: usize, how: u8, counts: *mut Counts, fault: *mut Fault) -> u32;
     pub fn dl_unit_at(
         section: *const u8,
         len: usize,
-        big: bool,
+        how: u8,
         offset: u64,
         unit: *mut Unit,
         fault: *mut Fault,
@@ -67,7 +67,7 @@ extern "C" {
     pub fn dl_rows_at(
         section: *const u8,
         len: usize,
-        big: bool,
+        how: u8,
         offset: u64,
         rows: *mut Row,
         room: usize,
@@ -77,7 +77,7 @@ extern "C" {
     pub fn dl_path_at(
         section: *const u8,
         len: usize,
-        big: bool,
+        how: u8,
         offset: u64,
         file: u64,
         line_str: *const u8,
@@ -92,7 +92,7 @@ extern "C" {
     pub fn dl_paths_at(
         section: *const u8,
         len: usize,
-        big: bool,
+        how: u8,
         offset: u64,
         files: *const u64,
         count: usize,
@@ -108,7 +108,7 @@ extern "C" {
     pub fn dl_find(
         section: *const u8,
         len: usize,
-        big: bool,
+        how: u8,
         address: u64,
         op_index: u8,
         row: *mut Row,
@@ -118,7 +118,7 @@ extern "C" {
     pub fn dl_find_all(
         section: *const u8,
         len: usize,
-        big: bool,
+        how: u8,
         addresses: *const u64,
         count: usize,
         rows: *mut Row,
@@ -128,7 +128,7 @@ extern "C" {
     pub fn dl_copy(
         section: *const u8,
         len: usize,
-        big: bool,
+        how: u8,
         out: *mut u8,
         room: usize,
         copied: *mut usize,

@@ -23,14 +23,14 @@ use std::alloc::Global;
 pub extern "C" fn boxantrel_check(
     alloc: Global,
     section: &[u8],
-    big: bool,
+    how: u8,
     counts: &mut Counts,
     fault: &mut FaultRecord,
 ) -> u32
     ensures { (status : Status) × (result ≡ status_code status)
-        × Checks (dialect_of big) section.now counts.old counts.new fault.old fault.new status }
+        × Checks (dialect_of how) section.now counts.old counts.new fault.old fault.new status }
 {
-    dl_calls::check(alloc, section, big, counts, fault).code()
+    dl_calls::check(alloc, section, how, counts, fault).code()
 }
 
 /// As `dl_calls::unit_at`.
@@ -38,15 +38,15 @@ pub extern "C" fn boxantrel_check(
 pub extern "C" fn boxantrel_unit_at(
     alloc: Global,
     section: &[u8],
-    big: bool,
+    how: u8,
     offset: u64,
     unit: &mut UnitRecord,
     fault: &mut FaultRecord,
 ) -> u32
     ensures { (status : Status) × (result ≡ status_code status)
-        × Describes (dialect_of big) (drop offset section.now) offset unit.old unit.new fault.old fault.new status }
+        × Describes (dialect_of how) (drop offset section.now) offset unit.old unit.new fault.old fault.new status }
 {
-    dl_calls::unit_at(alloc, section, big, offset, unit, fault).code()
+    dl_calls::unit_at(alloc, section, how, offset, unit, fault).code()
 }
 
 /// As `dl_calls::rows_at`.
@@ -54,17 +54,17 @@ pub extern "C" fn boxantrel_unit_at(
 pub extern "C" fn boxantrel_rows_at(
     alloc: Global,
     section: &[u8],
-    big: bool,
+    how: u8,
     offset: u64,
     rows: &mut [RowRecord],
     count: &mut usize,
     fault: &mut FaultRecord,
 ) -> u32
     ensures { (status : Status) × (result ≡ status_code status)
-        × Lists (dialect_of big) (drop offset section.now) offset rows.old rows.new count.old count.new fault.old
+        × Lists (dialect_of how) (drop offset section.now) offset rows.old rows.new count.old count.new fault.old
         fault.new status }
 {
-    dl_calls::rows_at(alloc, section, big, offset, rows, count, fault).code()
+    dl_calls::rows_at(alloc, section, how, offset, rows, count, fault).code()
 }
 
 /// As `dl_calls::find`.
@@ -72,7 +72,7 @@ pub extern "C" fn boxantrel_rows_at(
 pub extern "C" fn boxantrel_find(
     alloc: Global,
     section: &[u8],
-    big: bool,
+    how: u8,
     address: u64,
     op_index: u8,
     row: &mut RowRecord,
@@ -80,11 +80,11 @@ pub extern "C" fn boxantrel_find(
     fault: &mut FaultRecord,
 ) -> u32
     ensures { (status : Status) × (result ≡ status_code status)
-        × Finds (dialect_of big) section.now (place_at address op_index) row.old row.new unit.old unit.new fault.old
+        × Finds (dialect_of how) section.now (place_at address op_index) row.old row.new unit.old unit.new fault.old
         fault.new status }
 {
     let place = Place { address, op_index };
-    dl_calls::find(alloc, section, big, place, row, unit, fault).code()
+    dl_calls::find(alloc, section, how, place, row, unit, fault).code()
 }
 
 /// As `dl_calls::find_all`. `dl_find_all` hands in one number of addresses, rows and offsets.
@@ -92,17 +92,17 @@ pub extern "C" fn boxantrel_find(
 pub extern "C" fn boxantrel_find_all(
     alloc: Global,
     section: &[u8],
-    big: bool,
+    how: u8,
     addresses: &[u64],
     rows: &mut [RowRecord],
     units: &mut [u64],
     fault: &mut FaultRecord,
 ) -> u32
     ensures { (status : Status) × (result ≡ status_code status)
-        × FindsAll (dialect_of big) section.now addresses.now rows.old rows.new units.old units.new fault.old fault.new
+        × FindsAll (dialect_of how) section.now addresses.now rows.old rows.new units.old units.new fault.old fault.new
         status }
 {
-    dl_calls::find_all(alloc, section, big, addresses, rows, units, fault).code()
+    dl_calls::find_all(alloc, section, how, addresses, rows, units, fault).code()
 }
 
 /// As `dl_calls::copy`.
@@ -110,15 +110,15 @@ pub extern "C" fn boxantrel_find_all(
 pub extern "C" fn boxantrel_copy(
     alloc: Global,
     section: &[u8],
-    big: bool,
+    how: u8,
     room: &mut [u8],
     len: &mut usize,
     fault: &mut FaultRecord,
 ) -> u32
     ensures { (status : Status) × (result ≡ status_code status)
-        × Copies (dialect_of big) section.now room.old room.new len.old len.new fault.old fault.new status }
+        × Copies (dialect_of how) section.now room.old room.new len.old len.new fault.old fault.new status }
 {
-    dl_calls::copy(alloc, section, big, room, len, fault).code()
+    dl_calls::copy(alloc, section, how, room, len, fault).code()
 }
 
 /// As `dl_calls::path_at`.
@@ -126,7 +126,7 @@ pub extern "C" fn boxantrel_copy(
 pub extern "C" fn boxantrel_path_at(
     alloc: Global,
     section: &[u8],
-    big: bool,
+    how: u8,
     offset: u64,
     file: u64,
     line_str: &[u8],
@@ -136,11 +136,11 @@ pub extern "C" fn boxantrel_path_at(
     fault: &mut FaultRecord,
 ) -> u32
     ensures { (status : Status) × (result ≡ status_code status)
-        × TellsPath (dialect_of big) (drop offset section.now) offset (both_strings line_str.now str.now) file path.old
+        × TellsPath (dialect_of how) (drop offset section.now) offset (both_strings line_str.now str.now) file path.old
         path.new len.old len.new fault.old fault.new status }
 {
     dl_calls::path_at(
-        alloc, section, big, offset, file, line_str, str, path, len, fault,
+        alloc, section, how, offset, file, line_str, str, path, len, fault,
     )
     .code()
 }
@@ -150,7 +150,7 @@ pub extern "C" fn boxantrel_path_at(
 pub extern "C" fn boxantrel_paths_at(
     alloc: Global,
     section: &[u8],
-    big: bool,
+    how: u8,
     offset: u64,
     files: &[u64],
     line_str: &[u8],
@@ -160,11 +160,11 @@ pub extern "C" fn boxantrel_paths_at(
     fault: &mut FaultRecord,
 ) -> u32
     ensures { (status : Status) × (result ≡ status_code status)
-        × TellsPaths (dialect_of big) (drop offset section.now) offset (both_strings line_str.now str.now) files.now
+        × TellsPaths (dialect_of how) (drop offset section.now) offset (both_strings line_str.now str.now) files.now
         paths.old paths.new ends.old ends.new fault.old fault.new status }
 {
     dl_calls::paths_at(
-        alloc, section, big, offset, files, line_str, str, paths, ends, fault,
+        alloc, section, how, offset, files, line_str, str, paths, ends, fault,
     )
     .code()
 }

@@ -2,6 +2,7 @@
 use Rattle.std.proofs.Common.{◌≡◌, ◌^◌, ℕ, List, [], Option, Some, Result, Ok, refl, subst}
 use Rattle.std.specs.Io.KnownBytes.{Consumes}
 use Rattle.dl_head.specs.declared.dialect.Dialect.{Dialect}
+use Rattle.dl_head.specs.Dialect.{version_5}
 use Rattle.dl_print.specs.declared.summary.Summary.{Summary}
 use Rattle.dl_run.specs.declared.fault.RunFault.{RunFault}
 use Rattle.dl_run.specs.Commands as commands
@@ -14,14 +15,14 @@ use Rattle.dl_calls.specs.CopyCalls.{Copies, Puts, Runs}
 pub runs : (dialect d : Dialect) → dialect ≡ d → (s v start : List ℕ) → start ≡ [] → (left : Option (List ℕ))
     (result : Result Summary RunFault)
     → ((bytes : List ℕ) × Consumes (Some s) left bytes
-    × commands.Copies dialect (2 ^ 44) bytes left (Some start) (Some v) result)
+    × commands.Copies (version_5 dialect.order) (2 ^ 44) bytes left (Some start) (Some v) result)
     → Runs d s v result
 runs dialect d is s v start none left result ran =
     subst (λ (x : Dialect). Runs x s v result) is (
       ran.0,
       left,
       ran.1,
-      subst (λ (l : List ℕ). commands.Copies dialect (2 ^ 44) ran.0 left (Some l) (Some v) result) none ran.2,
+      subst (λ (l : List ℕ). commands.Copies (version_5 dialect.order) (2 ^ 44) ran.0 left (Some l) (Some v) result) none ran.2,
     )
 
 -- a copy that was made is put into the room, or isn't

@@ -1,8 +1,8 @@
 -- What the calls answer, and what they write where. s: the bytes of a section.
-use Rattle.std.specs.Prelude.{◌≡◌, ℕ, Bool, List, Ok, Err, if◌then◌else◌}
+use Rattle.std.specs.Prelude.{◌≡◌, ◌==◌, ◌%◌, ◌/◌, ℕ, List, Ok, Err, if◌then◌else◌}
 use Rattle.dl_num.specs.declared.fixed.Order.TheVariants.{Little, Big}
 use Rattle.dl_head.specs.declared.dialect.Dialect.{Dialect}
-use Rattle.dl_head.specs.Dialect.{version_5}
+use Rattle.dl_head.specs.Dialect.{older_of}
 use Rattle.dl_table.specs.declared.fault.FaultKind.{FaultKind}
 use Rattle.dl_print.specs.declared.summary.Summary.{Summary}
 use Rattle.dl_calls.specs.declared.record.Counts.{Counts}
@@ -13,8 +13,10 @@ use Rattle.dl_calls.specs.declared.stop.Stop.TheVariants as stop
 use Rattle.dl_calls.specs.Records.{counts_of, record_of}
 use Rattle.dl_calls.specs.Sections.{EndsFor}
 
-abbrev pub dialect_of : Bool → Dialect
-dialect_of big = version_5 (if big then Big else Little)
+-- what `how` says: an odd number, that the highest byte of a number stands first; the half of it, that units of versions 2
+-- to 4 are read, where it is a size that addresses may have
+abbrev pub dialect_of : ℕ → Dialect
+dialect_of how = record { order = if how % 2 == 1 then Big else Little; older = older_of (how / 2) }
 
 -- `check`: of c and f, the counts and the fault before it, and d and g, those after it, only what the status says
 -- is written

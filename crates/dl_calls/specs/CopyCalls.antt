@@ -2,6 +2,7 @@
 use Rattle.std.specs.Prelude.{◌≡◌, ◌<◌, ◌≤◌, ◌^◌, ⊤, ℕ, List, [], length, Option, Some, Result, Ok, Err}
 use Rattle.std.specs.Io.KnownBytes.{Consumes}
 use Rattle.dl_head.specs.declared.dialect.Dialect.{Dialect}
+use Rattle.dl_head.specs.Dialect.{version_5}
 use Rattle.dl_table.specs.declared.fault.FaultKind.TheVariants.{UnitTooLong}
 use Rattle.dl_print.specs.declared.summary.Summary.{Summary}
 use Rattle.dl_run.specs.declared.fault.RunFault.{RunFault}
@@ -17,7 +18,7 @@ use Rattle.dl_calls.specs.UnitCalls.{written_over}
 abbrev pub Runs : Dialect → (s v : List ℕ) → Result Summary RunFault → Type 0
 Runs dialect s v result =
     (bytes : List ℕ) × (left : Option (List ℕ)) × Consumes (Some s) left bytes
-    × commands.Copies dialect (2 ^ 44) bytes left (Some []) (Some v) result
+    × commands.Copies (version_5 dialect.order) (2 ^ 44) bytes left (Some []) (Some v) result
 
 -- `put`: of a room and a length, p before it, and q and n after it; v is the copy
 abbrev pub Puts : (v p q : List ℕ) (n : ℕ) → Status → Type 0

@@ -38,7 +38,7 @@ unit_record dialect offset u = record {
   rows = length (unit_rows dialect u);
   directories = option_map_or (λ h. length h.directories.entries) (header_of dialect u) 0;
   files = option_map_or (λ h. length h.files.entries) (header_of dialect u) 0;
-  version = unwrap_or (foreign_in dialect u) 5;
+  version = option_map_or (λ h. h.params.version) (header_of dialect u) (unwrap_or (foreign_in dialect u) 0);
   address_size = option_map_or (λ h. h.params.address_size) (header_of dialect u) 0;
   is_dwarf64 = cond (is_dwarf64 u) 1 0;
 }

@@ -9,7 +9,7 @@ use crate::record::{Counts, FaultRecord};
 use crate::status::Status;
 use crate::stop::Stop;
 use crate::unit::{UnitRead, WholeUnit, offset_of, read_unit};
-use dl_head::Dialect;
+use dl_head::{Dialect, Older};
 use dl_num::Order;
 use dl_print::Summary;
 use dl_rows::{Flow, Row, RowSink};
@@ -35,12 +35,20 @@ impl RowSink for Tally {
     }
 }
 
-/// What is read of a section: units of version 5 alone, in the order of its numbers.
-pub fn dialect_of(big: bool) -> Dialect
-    ensures { result ≡ dialect_of big }
+/// What is read of a section. An odd number says that the highest byte of a number stands first; the half of it, that units
+/// of versions 2 to 4 are read too, where it is the size of an address in bytes: 1, 2, 4 or 8.
+pub fn dialect_of(how: u8) -> Dialect
+    ensures { result ≡ dialect_of how }
 {
-    let order = if big { Order::Big } else { Order::Little };
-    Dialect::version_5(order)
+    let order = if how % 2 == 1 {
+        Order::Big
+    } else {
+        Order::Little
+    };
+    Dialect {
+        order,
+        older: Older::of_size(how / 2),
+    }
 }
 
 /// Reads all units of a section, and counts them, their sequences and their rows.
@@ -50,13 +58,13 @@ pub fn dialect_of(big: bool) -> Dialect
 pub fn check(
     alloc: Global,
     section: &[u8],
-    big: bool,
+    how: u8,
     counts: &mut Counts,
     fault: &mut FaultRecord,
 ) -> Status
-    ensures { Checks (dialect_of big) section.now counts.old counts.new fault.old fault.new result }
+    ensures { Checks (dialect_of how) section.now counts.old counts.new fault.old fault.new result }
 {
-    match count(alloc, dialect_of(big), section) {
+    match count(alloc, dialect_of(how), section) {
         Ok(summary) => {
             *counts = Counts::of(&summary);
             Status::Done

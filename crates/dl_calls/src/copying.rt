@@ -20,15 +20,15 @@ use std::alloc::Global;
 pub fn copy(
     alloc: Global,
     section: &[u8],
-    big: bool,
+    how: u8,
     room: &mut [u8],
     len: &mut usize,
     fault: &mut FaultRecord,
 ) -> Status
-    ensures { Copies (dialect_of big) section.now room.old room.new len.old len.new fault.old fault.new result }
+    ensures { Copies (dialect_of how) section.now room.old room.new len.old len.new fault.old fault.new result }
 {
     let options = Options {
-        dialect: dialect_of(big),
+        dialect: dialect_of(how),
         debug_line_str: None,
         debug_str: None,
         limit: SECTION_LIMIT,

@@ -23,19 +23,19 @@ const DWARF64_MARK: [u8; 4] = [0xff; 4];
 pub fn unit_at(
     alloc: Global,
     section: &[u8],
-    big: bool,
+    how: u8,
     offset: u64,
     unit: &mut UnitRecord,
     fault: &mut FaultRecord,
 ) -> Status
-    ensures { Describes (dialect_of big) (drop offset section.now) offset unit.old unit.new fault.old fault.new result }
+    ensures { Describes (dialect_of how) (drop offset section.now) offset unit.old unit.new fault.old fault.new result }
 {
     let bytes = rest_from(section, offset);
     let mut tally = Tally {
         sequences: 0,
         rows: 0,
     };
-    match read_unit(alloc, dialect_of(big), bytes, &mut tally) {
+    match read_unit(alloc, dialect_of(how), bytes, &mut tally) {
         UnitRead::Whole(whole) => {
             *unit = describe(offset, bytes, &whole, tally.rows);
             Status::Done
@@ -63,11 +63,12 @@ fn describe(offset: u64, bytes: &[u8], whole: &WholeUnit, rows: u64) -> UnitReco
         rows,
         directories: 0,
         files: 0,
-        version: whole.version.unwrap_or(5),
+        version: whole.version.unwrap_or(0),
         address_size: 0,
         is_dwarf64: u8::from(bytes[..whole.len].starts_with(&DWARF64_MARK)),
     };
     if let Some(header) = whole.reader.header() {
+        unit.version = header.params().version;
         unit.directories = header.directories().len() as u64;
         unit.files = header.files().len() as u64;
         unit.address_size = header.params().address_size;

@@ -48,15 +48,15 @@ pub struct Found {
 pub fn find(
     alloc: Global,
     section: &[u8],
-    big: bool,
+    how: u8,
     place: Place,
     row: &mut RowRecord,
     unit: &mut u64,
     fault: &mut FaultRecord,
 ) -> Status
-    ensures { Finds (dialect_of big) section.now place row.old row.new unit.old unit.new fault.old fault.new result }
+    ensures { Finds (dialect_of how) section.now place row.old row.new unit.old unit.new fault.old fault.new result }
 {
-    match seek(alloc, dialect_of(big), section, place) {
+    match seek(alloc, dialect_of(how), section, place) {
         Ok(Some(found)) => {
             *row = RowRecord::of(&found.row);
             *unit = found.unit;

@@ -48,13 +48,13 @@ impl RowSink for Gatherer {
 pub fn find_all(
     alloc: Global,
     section: &[u8],
-    big: bool,
+    how: u8,
     addresses: &[u64],
     rows: &mut [RowRecord],
     units: &mut [u64],
     fault: &mut FaultRecord,
 ) -> Status
-    ensures { FindsAll (dialect_of big) section.now addresses.now rows.old rows.new units.old units.new fault.old
+    ensures { FindsAll (dialect_of how) section.now addresses.now rows.old rows.new units.old units.new fault.old
         fault.new result }
 {
     if rows.len() != addresses.len() || units.len() != addresses.len() {
@@ -64,7 +64,7 @@ pub fn find_all(
         return Status::NoMemory;
     };
     forget(units);
-    match gather(alloc, dialect_of(big), section, finders, rows, units) {
+    match gather(alloc, dialect_of(how), section, finders, rows, units) {
         Ok(()) => Status::Done,
         Err(Stop::Damaged { offset, kind }) => {
             *fault = FaultRecord::of(offset, kind);

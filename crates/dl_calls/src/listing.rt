@@ -44,19 +44,19 @@ impl RowSink for RowRoom<'_> {
 pub fn rows_at(
     alloc: Global,
     section: &[u8],
-    big: bool,
+    how: u8,
     offset: u64,
     rows: &mut [RowRecord],
     count: &mut usize,
     fault: &mut FaultRecord,
 ) -> Status
-    ensures { Lists (dialect_of big) (drop offset section.now) offset rows.old rows.new count.old count.new fault.old
+    ensures { Lists (dialect_of how) (drop offset section.now) offset rows.old rows.new count.old count.new fault.old
         fault.new result }
 {
     let mut room = RowRoom { rows, count: 0 };
     let read = read_unit(
         alloc,
-        dialect_of(big),
+        dialect_of(how),
         rest_from(section, offset),
         &mut room,
     );

@@ -31,7 +31,7 @@ use std::alloc::Global;
 pub fn path_at(
     alloc: Global,
     section: &[u8],
-    big: bool,
+    how: u8,
     offset: u64,
     file: u64,
     line_str: &[u8],
@@ -40,7 +40,7 @@ pub fn path_at(
     len: &mut usize,
     fault: &mut FaultRecord,
 ) -> Status
-    ensures { TellsPath (dialect_of big) (drop offset section.now) offset (both_strings line_str.now str.now) file
+    ensures { TellsPath (dialect_of how) (drop offset section.now) offset (both_strings line_str.now str.now) file
         path.old path.new len.old len.new fault.old fault.new result }
 {
     let strings = StringSections::new(Some(line_str), Some(str));
@@ -50,7 +50,7 @@ pub fn path_at(
     };
     match read_unit(
         alloc,
-        dialect_of(big),
+        dialect_of(how),
         rest_from(section, offset),
         &mut tally,
     ) {

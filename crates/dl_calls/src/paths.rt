@@ -33,7 +33,7 @@ use std::alloc::Global;
 pub fn paths_at(
     alloc: Global,
     section: &[u8],
-    big: bool,
+    how: u8,
     offset: u64,
     files: &[u64],
     line_str: &[u8],
@@ -42,7 +42,7 @@ pub fn paths_at(
     ends: &mut [usize],
     fault: &mut FaultRecord,
 ) -> Status
-    ensures { TellsPaths (dialect_of big) (drop offset section.now) offset (both_strings line_str.now str.now) files.now
+    ensures { TellsPaths (dialect_of how) (drop offset section.now) offset (both_strings line_str.now str.now) files.now
         paths.old paths.new ends.old ends.new fault.old fault.new result }
 {
     let strings = StringSections::new(Some(line_str), Some(str));
@@ -52,7 +52,7 @@ pub fn paths_at(
     };
     match read_unit(
         alloc,
-        dialect_of(big),
+        dialect_of(how),
         rest_from(section, offset),
         &mut tally,
     ) {

@@ -7,11 +7,11 @@ use Rattle.dl_calls.proofs.copying.copy.Goals as goal
 
 pub returns-in-Ok : goal.returns-in-Ok
 returns-in-Ok c =
-    let ran = runs c.dialect_of.result (dialect_of c.args.big) c.dialect_of.ensures c.args.section.now
+    let ran = runs c.dialect_of.result (dialect_of c.args.how) c.dialect_of.ensures c.args.section.now
     c.copy.new.output.items
     c.new-copied.result.items c.new-copied.ensures.items (Some c.copy.new.input.now)
     (Ok c.in-Ok.field-0) c.in-Ok.ensures in
-    put_is (dialect_of c.args.big) c.args.section.now c.copy.new.output.items c.args.room.now c.put.new.room
+    put_is (dialect_of c.args.how) c.args.section.now c.copy.new.output.items c.args.room.now c.put.new.room
     c.args.len.now c.put.new.len c.args.fault.now c.in-Ok.field-0 c.put.result ran
     (subst (λ (v : List ℕ). Puts v c.args.room.now c.put.new.room c.put.new.len c.put.result) c.as_slice.ensures.value
     c.put.ensures)
@@ -20,7 +20,7 @@ pub returns-in-Err-Damage : goal.returns-in-Err-Damage
 returns-in-Err-Damage c = (
   c.copy.new.output.items,
   c.in-Err-Damage.field-0,
-  runs c.dialect_of.result (dialect_of c.args.big) c.dialect_of.ensures c.args.section.now c.copy.new.output.items
+  runs c.dialect_of.result (dialect_of c.args.how) c.dialect_of.ensures c.args.section.now c.copy.new.output.items
       c.new-copied.result.items c.new-copied.ensures.items (Some c.copy.new.input.now)
       (Err c.in-Err-Damage.field-0) c.in-Err-Damage.ensures,
   subst (λ (x : RunFault). TellsFault x c.of.result) (sym c.in-Err-Damage.field-0-is) c.of.ensures,
@@ -32,7 +32,7 @@ pub returns-in-Err-Emit : goal.returns-in-Err-Emit
 returns-in-Err-Emit c = (
   c.copy.new.output.items,
   c.in-Err-Emit.field-0,
-  runs c.dialect_of.result (dialect_of c.args.big) c.dialect_of.ensures c.args.section.now c.copy.new.output.items
+  runs c.dialect_of.result (dialect_of c.args.how) c.dialect_of.ensures c.args.section.now c.copy.new.output.items
       c.new-copied.result.items c.new-copied.ensures.items (Some c.copy.new.input.now)
       (Err c.in-Err-Emit.field-0) c.in-Err-Emit.ensures,
   subst (λ (x : RunFault). TellsFault x c.of-in-Err-Emit.result) (sym c.in-Err-Emit.field-0-is)
@@ -45,8 +45,8 @@ pub returns-in-Err-ForeignUnit : goal.returns-in-Err-ForeignUnit
 returns-in-Err-ForeignUnit c = (
   c.copy.new.output.items,
   c.in-Err-ForeignUnit.field-0-0,
-  subst (λ (x : RunFault). Runs (dialect_of c.args.big) c.args.section.now c.copy.new.output.items (Err x))
-      c.in-Err-ForeignUnit.field-0-is (runs c.dialect_of.result (dialect_of c.args.big) c.dialect_of.ensures
+  subst (λ (x : RunFault). Runs (dialect_of c.args.how) c.args.section.now c.copy.new.output.items (Err x))
+      c.in-Err-ForeignUnit.field-0-is (runs c.dialect_of.result (dialect_of c.args.how) c.dialect_of.ensures
       c.args.section.now c.copy.new.output.items
       c.new-copied.result.items c.new-copied.ensures.items (Some c.copy.new.input.now)
       (Err c.in-Err-ForeignUnit.field-0) c.in-Err-ForeignUnit.ensures),
@@ -59,7 +59,7 @@ pub returns-in-Err-NoMemory : goal.returns-in-Err-NoMemory
 returns-in-Err-NoMemory c = (
   c.copy.new.output.items,
   c.in-Err-NoMemory.field-0,
-  runs c.dialect_of.result (dialect_of c.args.big) c.dialect_of.ensures c.args.section.now c.copy.new.output.items
+  runs c.dialect_of.result (dialect_of c.args.how) c.dialect_of.ensures c.args.section.now c.copy.new.output.items
       c.new-copied.result.items c.new-copied.ensures.items (Some c.copy.new.input.now) (Err c.in-Err-NoMemory.field-0)
       c.in-Err-NoMemory.ensures,
   subst (λ (x : RunFault). IsWant x) (sym c.in-Err-NoMemory.field-0-is) tt,
@@ -72,7 +72,7 @@ pub returns-in-Err-Read : goal.returns-in-Err-Read
 returns-in-Err-Read c = (
   c.copy.new.output.items,
   c.in-Err-Read.field-0,
-  runs c.dialect_of.result (dialect_of c.args.big) c.dialect_of.ensures c.args.section.now c.copy.new.output.items
+  runs c.dialect_of.result (dialect_of c.args.how) c.dialect_of.ensures c.args.section.now c.copy.new.output.items
       c.new-copied.result.items c.new-copied.ensures.items (Some c.copy.new.input.now) (Err c.in-Err-Read.field-0)
       c.in-Err-Read.ensures,
   subst (λ (x : RunFault). IsWant x) (sym c.in-Err-Read.field-0-is) tt,
@@ -85,7 +85,7 @@ pub returns-in-Err-Write : goal.returns-in-Err-Write
 returns-in-Err-Write c = (
   c.copy.new.output.items,
   c.in-Err-Write.field-0,
-  runs c.dialect_of.result (dialect_of c.args.big) c.dialect_of.ensures c.args.section.now c.copy.new.output.items
+  runs c.dialect_of.result (dialect_of c.args.how) c.dialect_of.ensures c.args.section.now c.copy.new.output.items
       c.new-copied.result.items c.new-copied.ensures.items (Some c.copy.new.input.now) (Err c.in-Err-Write.field-0)
       c.in-Err-Write.ensures,
   subst (λ (x : RunFault). IsWant x) (sym c.in-Err-Write.field-0-is) tt,
@@ -98,7 +98,7 @@ pub returns-in-Err-SectionTooLong : goal.returns-in-Err-SectionTooLong
 returns-in-Err-SectionTooLong c = (
   c.copy.new.output.items,
   c.in-Err-SectionTooLong.field-0,
-  runs c.dialect_of.result (dialect_of c.args.big) c.dialect_of.ensures c.args.section.now c.copy.new.output.items
+  runs c.dialect_of.result (dialect_of c.args.how) c.dialect_of.ensures c.args.section.now c.copy.new.output.items
       c.new-copied.result.items c.new-copied.ensures.items (Some c.copy.new.input.now)
       (Err c.in-Err-SectionTooLong.field-0) c.in-Err-SectionTooLong.ensures,
   subst (λ (x : RunFault). IsWant x) (sym c.in-Err-SectionTooLong.field-0-is) tt,
@@ -111,7 +111,7 @@ pub returns : goal.returns
 returns c = (
   c.copy.new.output.items,
   c.in-Err-NotFound.field-0,
-  runs c.dialect_of.result (dialect_of c.args.big) c.dialect_of.ensures c.args.section.now c.copy.new.output.items
+  runs c.dialect_of.result (dialect_of c.args.how) c.dialect_of.ensures c.args.section.now c.copy.new.output.items
       c.new-copied.result.items c.new-copied.ensures.items (Some c.copy.new.input.now) (Err c.in-Err-NotFound.field-0)
       c.in-Err-NotFound.ensures,
   subst (λ (x : RunFault). IsWant x) (sym c.in-Err-NotFound.field-0-is) tt,

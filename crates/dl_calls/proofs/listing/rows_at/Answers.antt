@@ -6,7 +6,7 @@ use Rattle.dl_calls.proofs.listing.rows_at.Goals as goal
 
 pub returns-in-Whole : goal.returns-in-Whole
 returns-in-Whole c =
-    lists_whole c.dialect_of.result (dialect_of c.args.big) c.dialect_of.ensures c.args.section.now
+    lists_whole c.dialect_of.result (dialect_of c.args.how) c.dialect_of.ensures c.args.section.now
     c.rest_from.result.now
     c.args.offset c.rest_from.ensures.bytes c.rest_from.ensures.small _ c.read_unit-read.new.sink _ (search)
     c.args.count.now c.args.fault.now c.in-Whole.whole
@@ -14,7 +14,7 @@ returns-in-Whole c =
 
 pub returns-in-Empty : goal.returns-in-Empty
 returns-in-Empty c =
-    lists_none c.dialect_of.result (dialect_of c.args.big) c.dialect_of.ensures c.args.section.now
+    lists_none c.dialect_of.result (dialect_of c.args.how) c.dialect_of.ensures c.args.section.now
     c.rest_from.result.now
     c.args.offset c.rest_from.ensures.bytes c.rest_from.ensures.small _ c.read_unit-read.new.sink _ (search)
     c.args.count.now c.args.fault.now (c.in-Empty.ensures.read _ [] (none_heard _ refl))
@@ -26,7 +26,7 @@ returns-in-Stopped c =
 
 pub returns-in-Damaged : goal.returns-in-Damaged
 returns-in-Damaged c =
-    lists_damaged c.dialect_of.result (dialect_of c.args.big) c.dialect_of.ensures c.args.section.now
+    lists_damaged c.dialect_of.result (dialect_of c.args.how) c.dialect_of.ensures c.args.section.now
     c.rest_from.result.now
     c.args.offset c.rest_from.ensures.bytes c.rest_from.ensures.small _ c.read_unit-read.new.sink _ (search)
     c.args.count.now c.args.fault.now c.in-Damaged.damage c.of.result c.ranges.offset.fits
@@ -35,7 +35,7 @@ returns-in-Damaged c =
 
 pub returns-in-NoMemory : goal.returns-in-NoMemory
 returns-in-NoMemory c =
-    lists_unmet c.dialect_of.result (dialect_of c.args.big) c.dialect_of.ensures c.args.section.now
+    lists_unmet c.dialect_of.result (dialect_of c.args.how) c.dialect_of.ensures c.args.section.now
     c.rest_from.result.now
     c.args.offset c.rest_from.ensures.bytes c.rest_from.ensures.small _ c.read_unit-read.new.sink _ (search)
     c.args.count.now c.args.fault.now (c.in-NoMemory.ensures.read _ [] (none_heard _ refl))
