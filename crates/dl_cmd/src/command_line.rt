@@ -369,7 +369,7 @@ fn program<'a>(alloc: Global) -> Command<'a>
 {
     Command::new(alloc, "dwline")
         .about(
-            "Read line tables of DWARF 5: those of FILE, an ELF file. Without FILE the bytes of a \
+            "Read line tables of DWARF 2 to 5: those of FILE, an ELF file. Without FILE the bytes of a \
              section .debug_line are read from standard input, not an ELF file. What is asked for \
              goes to standard output.",
         )

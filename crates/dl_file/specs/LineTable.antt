@@ -3,6 +3,7 @@ use Rattle.std.specs.Prelude.{◌≡◌, ◌⊎◌, ℕ, zero, Bool, List, Optio
 use Rattle.std.specs.Prelude.{Result, Ok, Err, MatchResult, MatchOption, is_some}
 use Rattle.dl_num.specs.declared.fixed.Order.{Order}
 use Rattle.dl_elf.specs.declared.file.Elf.{Elf}
+use Rattle.dl_elf.specs.declared.header.Class.{Class}
 use Rattle.dl_elf.specs.declared.name.SectionName.{SectionName}
 use Rattle.dl_elf.specs.declared.name.SectionName.TheVariants.{DebugLine, ZdebugLine, DebugLineDwo, DebugLineStr}
 use Rattle.dl_elf.specs.declared.name.SectionName.TheVariants.{ZdebugLineStr, DebugLineStrDwo, DebugStr, ZdebugStr}
@@ -136,6 +137,7 @@ IsLine e f line result = IsLineBy (compression_header e f line) e f line result
 -- what a file has of its line table
 pub record LineTable : Type 0 where
   pub order : Order
+  pub class : Class
   pub is_object_file : Bool
   pub line : Content
   pub line_str : Option Content
@@ -146,6 +148,7 @@ pub record LineTable : Type 0 where
 abbrev pub line_table : Elf → List ℕ → Chosen → (line : Content) → LineTable
 line_table e f c line = record {
   order = e.header.order;
+  class = e.header.class;
   is_object_file = is_object e.header;
   line = line;
   line_str = option_map (content e f) c.debug_line_str;
@@ -226,6 +229,7 @@ GivesLine all_bytes reader (Inflated name bytes damage) = (line_remaining all_by
 pub record GivesTable {S : Type 0} {g : _} (all_bytes : S
     → Option (List ℕ)) (file : LineFile S g) (t : LineTable) : Type 0 where
   pub order : file.order ≡ t.order
+  pub class : file.class ≡ t.class
   pub object : file.is_object ≡ t.is_object_file
   pub line : GivesLine all_bytes file.line t.line
   pub line_str : GivesOption all_bytes file.debug_line_str t.line_str

@@ -20,8 +20,9 @@ use crate::read_fault::ReadFault;
 use crate::relocating::{find_relocations, relocate_line};
 use crate::section_bytes::read_bytes;
 use dl_elf::{
-    Compression, CompressionHeader, Elf, ElfFault, NamedSection, Part, Range, ReadAt, SectionName,
-    Sections, compression_header, find_sections, open_elf, read_build_id, section_damage,
+    Class, Compression, CompressionHeader, Elf, ElfFault, NamedSection, Part, Range, ReadAt,
+    SectionName, Sections, compression_header, find_sections, open_elf, read_build_id,
+    section_damage,
 };
 use dl_num::Order;
 use std::alloc::Global;
@@ -51,6 +52,8 @@ pub enum Wanted {
 pub struct LineFile<'a, S: ReadAt> {
     /// The order in which the bytes of numbers stand, in the sections as well.
     pub order: Order,
+    /// Whether its addresses have four bytes or eight.
+    pub class: Class,
     /// Whether it is an object file, which a linker reads (e_type is ET_REL).
     pub is_object: bool,
     /// The line table. DWARF 5, section 6.2.
@@ -348,6 +351,7 @@ fn open_chosen<'a, S: ReadAt>(
     }
     Ok(LineFile {
         order: elf.header.order,
+        class: elf.header.class,
         is_object: elf.header.is_object(),
         line: line_reader(alloc, source, elf, sections, &chosen.line)?,
         debug_line_str: optional_reader(alloc, source, elf, chosen.debug_line_str)?,

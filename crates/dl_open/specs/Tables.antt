@@ -8,8 +8,13 @@ use Rattle.dl_file.specs.declared.line_file.Wanted.TheVariants.{LineSection, Lin
 use Rattle.dl_elf.specs.declared.fault.ElfFault.TheVariants.{Read, NoMemory}
 use Rattle.dl_elf.specs.declared.name.SectionName.{SectionName}
 use Rattle.dl_file.specs.LineTable.{Content, HasLineTable, Inflated, LineTable, Plain, TakesMemory}
+use Rattle.dl_elf.specs.declared.header.Class.{Class}
+use Rattle.dl_elf.specs.declared.header.Class.TheVariants as class
+use Rattle.dl_num.specs.declared.fixed.Order.{Order}
+use Rattle.dl_head.specs.declared.dialect.AddressSize.{AddressSize}
+use Rattle.dl_head.specs.declared.dialect.AddressSize.TheVariants as size
 use Rattle.dl_head.specs.declared.dialect.Dialect.{Dialect}
-use Rattle.dl_head.specs.Dialect.{version_5}
+use Rattle.dl_head.specs.declared.dialect.Older.TheVariants as older
 use Rattle.dl_forms.specs.Names.{AddsCellFrom, Names}
 use Rattle.dl_object.specs.Kept.{Rises}
 use Rattle.dl_object.specs.Section.{Keeps, WantsCell}
@@ -69,9 +74,17 @@ abbrev pub StringsStop : (path : List ℕ) (line_str str : Option Content) → F
 StringsStop path line_str str stop =
     (content : Content) × ((line_str ≡ Some content) ⊎ (str ≡ Some content)) × SectionStops path content stop
 
--- units of version 5 alone are read, in the order of the file
+-- the size of an address in a file of this class
+abbrev pub address_size : Class → AddressSize
+address_size class.Bits32 = size.Four
+address_size class.Bits64 = size.Eight
+
+-- units of versions 2 to 5 are read, in this order, and before version 5 with addresses of this class
+abbrev pub class_dialect : Order → Class → Dialect
+class_dialect order class = record { order = order; older = older.Read (address_size class) }
+
 abbrev pub file_dialect : LineTable → Dialect
-file_dialect t = version_5 t.order
+file_dialect t = class_dialect t.order t.class
 
 -- ---- the sequences of one section of an object file
 

@@ -7,6 +7,7 @@
 
 mod code;
 mod debug_file;
+mod dialect;
 mod fault;
 mod files;
 mod named;
@@ -18,6 +19,7 @@ mod strings;
 
 pub use code::code_of;
 pub use debug_file::DebugFile;
+pub use dialect::file_dialect;
 pub use fault::FileFault;
 pub use files::{FileSource, open_file};
 pub use named::{Sections, open_table};

@@ -8,6 +8,7 @@ ghost use Rattle.dl_open.specs.Tables.{TableStops, file_dialect, with_strings};
 ghost use Rattle.dl_file.specs.declared.line_file.Wanted.TheVariants.{LineAndLineStrings};
 ghost use Rattle.dl_open.specs.declared.named.Sections.TheVariants.{LinesAndTexts};
 
+use crate::dialect::file_dialect;
 use crate::fault::FileFault;
 use crate::stop::FileStop;
 use dl_elf::ReadAt;
@@ -138,7 +139,7 @@ fn with_named<'p, 'a, S: ReadAt>(
         (NamedStops (S.fails_with file.entry.now) path.entry.now f t)) }
 {
     let mut table = table;
-    let dialect = Dialect::version_5(table.order);
+    let dialect = file_dialect(table.order, table.class);
     if let Some(bytes) = table.line.held() {
         return match is_named_in(alloc, path, dialect, bytes) {
             Ok(true) => opened(alloc, path, file, Wanted::LineAndStringSections),

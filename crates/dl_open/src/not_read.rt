@@ -6,11 +6,11 @@ ghost use Rattle.dl_file.specs.LineTable.{GivesTable, LineTable};
 ghost use Rattle.dl_open.specs.NotRead.{IsToldOfFile, PassesOverTable, not_read_text, told_of};
 ghost use Rattle.dl_open.specs.Stops.{stop_line};
 
+use crate::dialect::file_dialect;
 use crate::files::{FileSource, open_file};
 use crate::shown::Shown;
 use dl_elf::ReadAt;
 use dl_file::{LineFile, Wanted, open_line_file};
-use dl_head::Dialect;
 use dl_run::{Options, PassedOver, RunFault, SECTION_LIMIT, passed_over};
 use std::alloc::Global;
 use std::io::Write;
@@ -94,11 +94,12 @@ fn in_table<S: ReadAt>(
 {
     let LineFile {
         order,
+        class,
         mut line,
         ..
     } = table;
     let options = Options {
-        dialect: Dialect::version_5(order),
+        dialect: file_dialect(order, class),
         debug_line_str: None,
         debug_str: None,
         limit: SECTION_LIMIT,

@@ -10,8 +10,9 @@ ghost use Rattle.dl_work.specs.Tables.{OnFile, OnFound, OnLines, OnTable, RunsOn
 use crate::command::Command;
 use dl_elf::ReadAt;
 use dl_file::{LineFile, LineReader};
-use dl_head::Dialect;
-use dl_open::{FileFault, FileStop, Part, StringSections, kept_bytes, open_table, part_of};
+use dl_open::{
+    FileFault, FileStop, Part, StringSections, file_dialect, kept_bytes, open_table, part_of,
+};
 use dl_run::{Options, SECTION_LIMIT, Summary};
 use std::alloc::Global;
 use std::io::Write;
@@ -99,6 +100,7 @@ fn on_table<'p, S: ReadAt, W: Write>(
 {
     let LineFile {
         order,
+        class,
         is_object,
         mut line,
         debug_line_str,
@@ -119,7 +121,7 @@ fn on_table<'p, S: ReadAt, W: Write>(
             return Err(stop);
         }
     };
-    let options = strings.options(Dialect::version_5(order));
+    let options = strings.options(file_dialect(order, class));
     on_lines(alloc, path, command, part, &mut line, &options, output)
 }
 

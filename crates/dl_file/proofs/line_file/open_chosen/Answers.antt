@@ -14,6 +14,7 @@ returns-clause-opens g c = λ f is short.
           (sym (c.in_ok-name.ensures.refused f is short) ∙ c.in_default-2.is) line.1 refl,
       record {
         order = refl;
+        class = refl;
         object = c.is_object.ensures;
         line = line.2;
         line_str = c.in_ok-optional_reader.ensures.opens f is short;

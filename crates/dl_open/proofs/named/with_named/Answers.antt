@@ -1,5 +1,5 @@
-use Rattle.std.proofs.Common.{false, true, ap, ◌∙◌}
-use Rattle.dl_head.specs.Dialect.{version_5}
+use Rattle.std.proofs.Common.{false, true, ap₂, ◌∙◌}
+use Rattle.dl_open.specs.Tables.{class_dialect}
 use Rattle.dl_open.proofs.NamedLemmas.{anew, answered, as_opened, held_answer, not_told}
 use Rattle.dl_open.proofs.named.with_named.Goals.{in-Ok-true, in-Ok-false, in-Err}
 use Rattle.dl_open.proofs.named.with_named.Goals as goal
@@ -10,9 +10,9 @@ returns-in-Some g c f known short t given has =
     let fails = g.S.ReadAt.fails_with c.args.file.now in
     let answer = c.is_named_in.result in
     let result = c.match-is_named_in.result in
-    let told = held_answer {S = g.row.S.Denot} all_bytes c.args.table.line t c.version_5-dialect.result c.args.path.now
+    let told = held_answer {S = g.row.S.Denot} all_bytes c.args.table.line t c.file_dialect-dialect.result c.args.path.now
     c.in-Some.bytes.now answer c.in-Some.ensures given.line
-    (c.version_5-dialect.ensures ∙ ap version_5 given.order) c.is_named_in.ensures in
+    (c.file_dialect-dialect.ensures ∙ ap₂ class_dialect given.order given.class) c.is_named_in.ensures in
     elim c.match-is_named_in.branch [
       | in-Ok-true w ↦ anew {S = g.row.S.Denot} all_bytes fails c.args.path.now f t true answer result w.opened.result
           (answered answer _ true w.in-Ok-true.is w.in-Ok-true.field-0-test) told w.result-is

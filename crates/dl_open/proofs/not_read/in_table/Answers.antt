@@ -1,9 +1,9 @@
-use Rattle.std.proofs.Common.{ap, subst, ◌∙◌}
+use Rattle.std.proofs.Common.{ap₂, subst, ◌∙◌}
 use Rattle.dl_head.specs.declared.dialect.Dialect.{Dialect}
-use Rattle.dl_head.specs.Dialect.{version_5}
 use Rattle.dl_file.specs.LineReader.{line_remaining}
 use Rattle.dl_run.specs.declared.options.TheConstants.{SECTION_LIMIT}
 use Rattle.dl_run.specs.PassedOver.{PassesOver}
+use Rattle.dl_open.specs.Tables.{class_dialect}
 use Rattle.dl_open.proofs.ReaderLemmas.{reader_known}
 use Rattle.dl_open.proofs.not_read.in_table.Goals as goal
 
@@ -15,5 +15,5 @@ returns g c t given =
       left,
       reader_known {S = g.row.S.Denot} g.S.ReadAt.all_bytes c.args.table.line t.line left read given.line consumes,
       subst (λ (d : Dialect). PassesOver d SECTION_LIMIT read left c.passed_over.result)
-          (c.version_5.ensures ∙ ap version_5 given.order) passes,
+          (c.file_dialect.ensures ∙ ap₂ class_dialect given.order given.class) passes,
     )

@@ -1,6 +1,5 @@
-use Rattle.std.proofs.Common.{◌∙◌, ap, inr, subst, sym}
-use Rattle.dl_head.specs.Dialect.{version_5}
-use Rattle.dl_open.specs.Tables.{IsWhole}
+use Rattle.std.proofs.Common.{◌∙◌, ap₂, inr, subst, sym}
+use Rattle.dl_open.specs.Tables.{IsWhole, class_dialect}
 use Rattle.dl_work.proofs.TableLemmas.{not_refused}
 use Rattle.dl_work.proofs.over_file.on_table.Goals as goal
 
@@ -8,6 +7,6 @@ pub returns : goal.returns
 returns g c t given =
     let whole = c.in-Ok.ensures t.line_str t.str given.line_str given.str in
     not_refused _ _ t _ _ _ _ _ (sym c.loses.ensures ∙ c.if-loses.false) given.object
-    (inr (c.on_lines.ensures t given.line (c.options-options.ensures.dialect ∙ c.version_5.ensures
-    ∙ ap version_5 given.order)
+    (inr (c.on_lines.ensures t given.line (c.options-options.ensures.dialect ∙ c.file_dialect.ensures
+    ∙ ap₂ class_dialect given.order given.class)
     (subst (IsWhole t.line_str t.str) (sym c.options-options.ensures.strings) whole)))
