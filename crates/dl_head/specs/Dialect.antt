@@ -1,6 +1,4 @@
--- What the bytes of a unit don't say of it. DWARF 2 to 4, section 6.2.4: the headers of those versions don't say the
--- size
--- of an address.
+-- What the bytes of a unit don't say of it. DWARF 2 to 4, section 6.2.4: their headers don't say the size of an address.
 use Rattle.std.specs.Prelude.{ℕ, ◌||◌, ◌==◌, Option, Some, None, if◌then◌else◌}
 use Rattle.dl_num.specs.declared.fixed.Order.{Order}
 use Rattle.dl_head.specs.declared.dialect.AddressSize.{AddressSize}

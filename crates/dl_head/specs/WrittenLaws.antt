@@ -7,8 +7,7 @@ use Rattle.dl_head.specs.Sound.{IsSoundHeader}
 use Rattle.dl_head.specs.Header.{IsHeader, unit_len}
 use Rattle.dl_head.specs.Written.{header_bytes, is_within_limit}
 
--- the bytes that are written of a header of version 5, with a program of any length that isn't too long, are this
--- header
+-- the bytes that are written of a header of version 5, with a program of any length that isn't too long, are it
 abbrev pub WrittenIsHeader : Type 0
 WrittenIsHeader = (dialect : Dialect) (h : HeaderData) (program_len : ℕ) → IsSoundHeader h
     → h.params.version ≡ 5
