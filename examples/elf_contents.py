@@ -48,7 +48,7 @@ def streams():
     more = compressed(".debug_line", len(LINE.data), zlib.compress(LINE.data, 9) + b"more")
     yield dumps("more bytes after the stream", image(LITTLE_64, [more]), text_of(2))
     yield dumps("no bytes", image(LITTLE_64, [deflated(".debug_line", b"")]), "")
-    file = image(LITTLE_64, [deflated(".debug_line", b"\2\0\0\0\4\0" * 20_000)])
+    file = image(LITTLE_64, [deflated(".debug_line", b"\2\0\0\0\6\0" * 20_000)])
     counts = "units 0 skipped 20000 sequences 0 rows 0\n"
     yield Case("more bytes than a stream may point back to", file, CHECK, 0, counts)
 

@@ -12,7 +12,8 @@
  * - malloc, realloc and free are those of one allocator, and no call comes from a signal handler, nor from the child
  *   of a process with several threads before it runs another program.
  *
- * `section`, `len`: the bytes of a section .debug_line. `how`: what these don't say, as below. An offset counts from the section's first byte. At each status, what isn't said to be written stays as it was.
+ * `section`, `len`: the bytes of a section .debug_line. `how`: what these don't say, as below. An offset counts from the
+ * section's first byte. At each status, what isn't said to be written stays as it was.
  */
 #ifndef BOXANTREL_H
 #define BOXANTREL_H

@@ -1,8 +1,9 @@
 /*
  * look [--big] [--older SIZE] [--rows | --copy | --addr LINE_STR STR ADDRESS.. | ADDRESS..]: of the section on standard
- * input, what `dwline check` prints of it; with --rows the rows that `dwline dump` prints, with --copy what `dwline copy` writes,
- * with --addr and the files of both string sections what `dwline addr` prints; or with addresses the row that answers
- * for each as `dwline find` prints it.
+ * input, what `dwline check` prints of it; with --rows the rows that `dwline dump` prints, with --copy what `dwline copy`
+ * writes, with --addr and the files of both string sections what `dwline addr` prints; or with addresses the row that
+ * answers for each as `dwline find` prints it. With --older units of versions 2 to 4 are read too, with addresses of this
+ * size.
  */
 #include <boxantrel.h>
 #include <inttypes.h>

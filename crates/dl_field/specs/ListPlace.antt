@@ -1,5 +1,4 @@
--- Where the reader of a table of versions 2 to 4 is in its fields; `next` is what follows the table. No promise rests on
--- how this is said.
+-- Where the reader of an older table is in its fields; `next` is what follows. No promise rests on how this is said.
 use Rattle.std.specs.Prelude.{◌≡◌, ℕ, ◌+◌, ◌≤◌, List, [], ◌∷◌, ◌++◌, length, drop, Some, None, Option}
 use Rattle.dl_num.specs.declared.fixed.Order.{Order}
 use Rattle.dl_num.specs.LebReader.{UlebTook}

@@ -1,4 +1,4 @@
--- What a table of versions 2 to 4 has by its kind, and what the phases of its reader say. No promise rests on this file.
+-- What an older table has by its kind, and what its reader's phases say. No promise rests on how this is said.
 use Rattle.std.specs.Prelude.{ℕ, List}
 use Rattle.dl_table.specs.declared.table.Pair.{Pair}
 use Rattle.dl_field.specs.Layout.{listed_directory, listed_file}

@@ -1,5 +1,4 @@
--- What the reader of a table of versions 2 to 4 has taken: good fields, and bytes of the next one. No promise rests on
--- this file.
+-- What the reader of an older table has taken: fields, and bytes of the next one. No promise rests on this file.
 use Rattle.std.specs.Prelude.{◌≡◌, ℕ, List, [], ◌++◌}
 use Rattle.dl_num.specs.declared.fixed.Order.TheVariants.{Little}
 use Rattle.dl_num.specs.Laws.{AllBytes}
