@@ -20,7 +20,7 @@ use Rattle.dl_field.specs.Field.{IsFixed, IsUleb64}
 use Rattle.dl_table.specs.Value.{block, good, bad, block_spelt, leb_block_spelt, value_spelt}
 use Rattle.dl_field.specs.TablePlace.{length_bytes_of, IsLengthOf}
 use Rattle.dl_field.proofs.FieldLemmas.{none_some, some_same}
-use Rattle.dl_field.proofs.FieldLaws.{value_is_good}
+use Rattle.dl_field.proofs.ValueLaws.{value_is_good}
 
 -- ---- a block whose bytes are on their way
 

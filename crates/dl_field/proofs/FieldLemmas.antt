@@ -20,7 +20,7 @@ use Rattle.dl_table.specs.Value.{value_spelt}
 use Rattle.dl_field.specs.Layout.{Layout, NumberField, initial_length_then, number_then, form_then, value_then}
 use Rattle.dl_field.specs.Layout.{path_or_end, path_judged}
 use Rattle.dl_field.specs.Layout.{foreign_version, last_entry, Item, initial_length_spelt, number_judged, number_size}
-use Rattle.dl_field.specs.Layout.{sized_spelt, value_judged, field_spelt}
+use Rattle.dl_field.specs.Layout.{sized_spelt, value_judged, field_spelt, following, following_all}
 use Rattle.dl_field.specs.Layout.{version, address_size, any_byte, header_length, maximum_operations, line_range}
 use Rattle.dl_field.specs.Layout.{opcode_base, opcode_length, content_code, entry_count}
 
@@ -262,3 +262,10 @@ field_empty order (last_entry h) = refl
 pub fixed-one : (order : Order) (x : ℕ) → fixed order (x ∷ []) ≡ x
 fixed-one Little x = omega arith
 fixed-one Big x = omega arith
+
+-- ---- what follows fields
+
+pub following_all-append : (layout : Layout) (items more : List Item)
+    → following_all layout (items ++ more) ≡ following_all (following_all layout items) more
+following_all-append layout [] more = refl
+following_all-append layout (i ∷ items) more = following_all-append (following layout i) items more

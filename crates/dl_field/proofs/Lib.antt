@@ -12,7 +12,9 @@ pub mod SameLists
 pub mod SameTables
 pub mod TakenLemmas
 pub mod ValueFields
+pub mod ValueLaws
 pub mod ValueLemmas
 pub mod WholeBlocks
+pub mod WholeListed
 pub mod WholeRuns
 pub mod WholeValues

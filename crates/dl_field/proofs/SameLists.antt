@@ -1,6 +1,7 @@
 -- The reader of a table of versions 2 to 4 that is as it was.
-use Rattle.std.proofs.Common.{◌≡◌, ℕ, ◌+◌, ◌≤◌, List, [], length, drop, sym, ap, subst, ◌∙◌, arith}
+use Rattle.std.proofs.Common.{◌≡◌, ℕ, List, [], ◌++◌, length, drop, sym, ap, subst, ◌∙◌, arith}
 use Rattle.dl_num.specs.declared.leb.Uleb.{Uleb}
+use Rattle.dl_num.specs.declared.fixed.Order.{Order}
 use Rattle.dl_table.specs.declared.form.Format.{Format}
 use Rattle.dl_table.specs.declared.table.Pair.{Pair}
 use Rattle.dl_table.specs.declared.table.held.StoredValue.{StoredValue}
@@ -8,12 +9,15 @@ use Rattle.dl_table.specs.TableData.{TableData}
 use Rattle.dl_table.specs.Value.{Value}
 use Rattle.dl_field.specs.Layout.{Layout, path_or_end, listed_from}
 use Rattle.dl_field.specs.TablePlace.{Holds, Summed}
+use Rattle.dl_field.specs.declared.field_step.FieldStep.{FieldStep}
+use Rattle.dl_field.specs.declared.field_step.FieldStep.TheVariants as byte_makes
 use Rattle.dl_field.specs.declared.list_reader.ListKind.{ListKind}
 use Rattle.dl_field.specs.declared.list_reader.ListPhase.{ListPhase}
 use Rattle.dl_field.specs.declared.list_reader.ListPhase.TheVariants as phase
 use Rattle.dl_field.specs.declared.list_reader.ListReader.{ListReader}
 use Rattle.dl_field.specs.ListStep.{listed}
-use Rattle.dl_field.specs.ListPlace.{InPath, InNumber, IsList, ListAt, SameList}
+use Rattle.dl_field.specs.ListPlace.{InPath, InNumber, IsList, ListAt, SameList, list_cells, ListMade, ListTakes}
+use Rattle.dl_field.specs.TableMoves.{Adds}
 use Rattle.dl_field.proofs.ListLemmas.{list_at}
 
 module _ (old new : ListReader) (s : SameList old new) where
@@ -93,3 +97,41 @@ pub list_same : (old new : ListReader) (format : Format) (next : TableData → L
 list_same old new format next layout rest s at =
     same_at old new s new.phase format next layout rest
     (list_at old new.phase format next layout rest (sym s.phase) at)
+
+pub same_list_cells : (old new : ListReader) → SameList old new → list_cells new ≡ list_cells old
+same_list_cells old new s = omega (arith, ap length s.pairs, ap length s.values, ap length s.pool)
+
+-- ---- bytes that come after
+
+both_same : (old mid new : ListReader) → SameList old mid → SameList mid new → SameList old new
+both_same old mid new s t = record {
+  kind = t.kind ∙ s.kind;
+  phase = t.phase ∙ s.phase;
+  pairs = t.pairs ∙ s.pairs;
+  values = t.values ∙ s.values;
+  pool = t.pool ∙ s.pool;
+}
+
+made_same : (order : Order) (old mid new : ListReader) (format : Format) (next : TableData → Layout) (layout : Layout)
+    (w : List ℕ) (result : FieldStep) → SameList old mid
+    → ListMade order mid format next layout w result new → ListMade order old format next layout w result new
+made_same order old mid new format next layout w byte_makes.Within s made = made
+made_same order old mid new format next layout w byte_makes.Ends s made = made
+made_same order old mid new format next layout w (byte_makes.Refuses k) s made =
+    (made.0, both_same old mid new s made.1)
+made_same order old mid new format next layout w byte_makes.NoMemory s made =
+    (both_same old mid new s made.0, made.1)
+
+-- what bytes make of a reader that is as it was, they make of it before
+pub takes_same : (old mid new : ListReader) (bytes : List ℕ) (result : FieldStep) → SameList old mid
+    → ListTakes mid bytes result new → ListTakes old bytes result new
+takes_same old mid new bytes result s f = record {
+  made = λ going order format next layout rest at.
+      made_same order old mid new format next layout (rest ++ bytes) result s
+      (f.made (λ whole. going (sym s.phase ∙ whole)) order format next layout rest
+      (list_same old mid format next layout rest s at));
+  cells = λ going order format next layout rest at.
+      subst (λ (n : ℕ). Adds order layout rest (rest ++ bytes) result n (list_cells new)) (same_list_cells old mid s)
+      (f.cells (λ whole. going (sym s.phase ∙ whole)) order format next layout rest
+      (list_same old mid format next layout rest s at));
+}

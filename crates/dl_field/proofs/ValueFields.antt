@@ -32,7 +32,7 @@ use Rattle.dl_field.specs.TablePlace.{number_bytes_of, number_value, InValue}
 use Rattle.dl_field.specs.TableMoves.{TableMade, Enters}
 use Rattle.dl_field.proofs.FieldLemmas.{none_some, some_same}
 use Rattle.dl_field.proofs.FieldCells.{cells_good, some_cell}
-use Rattle.dl_field.proofs.FieldLaws.{text_good}
+use Rattle.dl_field.proofs.ValueLaws.{text_good}
 use Rattle.dl_field.proofs.ValueLemmas.{at_value}
 
 -- the field is a value of the pair's form

@@ -1,76 +1,149 @@
--- Values of a table that come at once, one after the other.
-use Rattle.std.proofs.Common.{◌≡◌, ℕ, ◌-◌, ◌≤◌, List, [], ◌∷◌, ◌++◌, length, take, refl, sym, ap, ◌∙◌, arith}
-use Rattle.std.proofs.Common.{append_assoc, append-nil, length-append}
+-- Fields of a table that are taken at once, one after the other.
+use Rattle.std.proofs.Common.{◌≡◌, ℕ, ◌+◌, ◌-◌, ◌≤◌, List, [], ◌∷◌, ◌++◌, length, take, refl, sym, ap, subst, ◌∙◌}
+use Rattle.std.proofs.Common.{arith, append_assoc, append-nil, length-append}
 use Rattle.std.specs.List.{concat}
 use Rattle.std.proofs.lemmas.List.Folds.{concat-append}
 use Rattle.std.proofs.Math.Seq.{take-append_seam}
 use Rattle.dl_num.specs.declared.fixed.Order.{Order}
 use Rattle.dl_table.specs.declared.form.Format.{Format}
-use Rattle.dl_field.specs.declared.field_step.FieldStep.TheVariants as byte_makes
+use Rattle.dl_table.specs.TableData.{TableData}
+use Rattle.dl_table.specs.Value.{good}
+use Rattle.dl_field.specs.declared.list_reader.ListReader.{ListReader}
 use Rattle.dl_field.specs.declared.table_reader.TableReader.{TableReader}
-use Rattle.dl_field.specs.declared.table_reader.TablePhase.TheVariants as phase
-use Rattle.dl_field.specs.TableMoves.{SameTable, BytesFollow, TakesValue, TakesEach, TakesValues}
-use Rattle.dl_field.proofs.PairLemmas.{same_table}
-use Rattle.dl_field.proofs.SameTables.{both_same, follows_same}
+use Rattle.dl_field.specs.Cells.{rest_cells}
+use Rattle.dl_field.specs.FieldRuns.{EndEach, TakesFields}
+use Rattle.dl_field.specs.Layout.{Layout, Item, following, following_all, field_spelt}
+use Rattle.dl_field.specs.ListPlace.{AmongList, TakesListed, SameList, list_cells}
+use Rattle.dl_field.specs.TableMoves.{AmongTable, TakesValue, SameTable}
+use Rattle.dl_field.specs.TablePlace.{field_cells, reader_cells}
+use Rattle.dl_field.proofs.FieldLemmas.{following_all-append}
+use Rattle.dl_field.proofs.SameLists.{list_same}
+use Rattle.dl_field.proofs.SameTables.{table_same}
 
--- a value more
-each_push : (order : Order) (format : Format) (values : List (List ℕ)) (w : List ℕ) (old mid new : TableReader)
-    → TakesEach order format old values mid → 1 ≤ length w → BytesFollow order format mid w byte_makes.Ends new
-    → (new.phase ≡ phase.Whole → ⊥) → TakesEach order format old (values ++ w ∷ []) new
-each_push order format [] w old mid new same some f going =
-    (new, some, follows_same order format old mid new w byte_makes.Ends same f, going, same_table new)
-each_push order format (v ∷ values) w old mid new t some f going =
-    (t.0, t.1, t.2, t.3, each_push order format values w t.0 mid new t.4 some f going)
-
--- no value more
-each_same : (order : Order) (format : Format) (values : List (List ℕ)) (old mid new : TableReader)
-    → TakesEach order format old values mid → SameTable mid new → TakesEach order format old values new
-each_same order format [] old mid new same s = both_same old mid new same s
-each_same order format (v ∷ values) old mid new t s =
-    (t.0, t.1, t.2, t.3, each_same order format values t.0 mid new t.4 s)
+-- a field more
+each_push : (order : Order) (values : List (List ℕ)) (items : List Item) (layout : Layout) (rest w left : List ℕ)
+    (i : Item) (before mid after : ℕ) → EndEach order layout rest values items before mid left → 1 ≤ length w
+    → field_spelt order (following_all layout items) (left ++ w) ≡ good i
+    → after + rest_cells (following_all layout items) left
+    ≡ mid + field_cells order (following_all layout items) (left ++ w)
+    → EndEach order layout rest (values ++ w ∷ []) (items ++ i ∷ []) before after []
+each_push order [] [] layout rest w left i before mid after e some spelt adds = (
+  after,
+  some,
+  ap (λ (l : List ℕ). field_spelt order layout (l ++ w)) (sym e.0) ∙ spelt,
+  (let k : after + rest_cells layout rest ≡ before + field_cells order layout (rest ++ w) = omega (
+    arith,
+    adds,
+    e.1,
+    ap (λ (l : List ℕ). rest_cells layout l) e.0,
+    ap (λ (l : List ℕ). field_cells order layout (l ++ w)) e.0,
+  ) in k),
+  (refl, refl),
+)
+each_push order (v ∷ values) (j ∷ items) layout rest w left i before mid after e some spelt adds = (
+  e.0,
+  e.1,
+  e.2,
+  e.3,
+  each_push order values items (following layout j) [] w left i e.0 mid after e.4 some spelt adds,
+)
+each_push order [] (j ∷ items) layout rest w left i before mid after e some spelt adds = absurd e
+each_push order (v ∷ values) [] layout rest w left i before mid after e some spelt adds = absurd e
 
 -- ---- a run of values over some bytes, of which rest are left
 
-pub record TakenUpTo (order : Order) (format : Format) (old : TableReader) (bytes rest : List ℕ)
-    (new : TableReader) : Type 0 where
-  pub front : List ℕ
-  pub bytes_are : bytes ≡ front ++ rest
-  pub takes : TakesValues order format old front new
+module _ {T : Type 0} (order : Order) (Among : T → (TableData → Layout) → Layout → List ℕ → Type 0)
+    (cells_of : T → ℕ)
+  where
+    pub record TakenUpTo (old : T) (bytes rest : List ℕ) (new : T) : Type 0 where
+      pub front : List ℕ
+      pub bytes_are : bytes ≡ front ++ rest
+      pub takes : TakesFields order Among cells_of old front new
 
-pub run_none : (order : Order) (format : Format) (old : TableReader) (bytes : List ℕ)
-    → TakenUpTo order format old bytes bytes old
-run_none order format old bytes = record {
-  front = [];
-  bytes_are = refl;
-  takes = record { values = []; bytes_are = refl; each = same_table old };
-}
+    -- the bytes w end the field that the reader is in
+    abbrev pub EndsField : T → List ℕ → T → Type 0
+    EndsField old w new = (next : TableData → Layout) (layout : Layout) (rest : List ℕ) → Among old next layout rest
+        → (i : Item) × (field_spelt order layout (rest ++ w) ≡ good i)
+        × (cells_of new + rest_cells layout rest ≡ cells_of old + field_cells order layout (rest ++ w))
+        × Among new next (following layout i) []
 
-pub run_on : (order : Order) (format : Format) (old mid new : TableReader) (bytes rest tail : List ℕ)
-    → TakenUpTo order format old bytes rest mid → TakesValue order format mid rest tail new
-    → TakenUpTo order format old bytes tail new
-run_on order format old mid new bytes rest tail t v = record {
-  front = t.front ++ v.0.front;
-  bytes_are = t.bytes_are ∙ ap (λ (l : List ℕ). t.front ++ l) v.0.bytes_are
-      ∙ sym (append_assoc t.front v.0.front tail);
-  takes = record {
-    values = t.takes.values ++ v.0.front ∷ [];
-    bytes_are = ap (λ (l : List ℕ). l ++ v.0.front) t.takes.bytes_are
-        ∙ ap (λ (l : List ℕ). concat t.takes.values ++ l) (sym (append-nil v.0.front))
-        ∙ sym (concat-append t.takes.values (v.0.front ∷ []));
-    each = each_push order format t.takes.values v.0.front old mid new t.takes.each v.0.some v.0.follows v.1;
-  };
-}
+    pub run_none : (old : T) (bytes : List ℕ) → TakenUpTo old bytes bytes old
+    run_none old bytes = record {
+      front = [];
+      bytes_are = refl;
+      takes = record {
+        values = [];
+        bytes_are = refl;
+        each = λ next layout rest among. ([], rest, (refl, refl), among);
+      };
+    }
 
-pub run_ends : (order : Order) (format : Format) (old mid new : TableReader) (bytes rest : List ℕ)
-    → TakenUpTo order format old bytes rest mid → SameTable mid new
-    → TakesValues order format old (take (length bytes - length rest) bytes) new
-run_ends order format old mid new bytes rest t same = record {
-  values = t.takes.values;
-  bytes_are =
-      ap (λ (l : List ℕ). take (length bytes - length rest) l) t.bytes_are
-      ∙ ap (λ (n : ℕ). take n (t.front ++ rest))
-      (let e : length bytes - length rest ≡ length t.front = omega
-      (arith, ap length t.bytes_are, length-append t.front rest) in e)
-      ∙ take-append_seam t.front rest ∙ t.takes.bytes_are;
-  each = each_same order format t.takes.values old mid new t.takes.each same;
-}
+    pub run_on : (old mid new : T) (bytes rest w tail : List ℕ) → TakenUpTo old bytes rest mid → rest ≡ w ++ tail
+        → 1 ≤ length w → EndsField mid w new → TakenUpTo old bytes tail new
+    run_on old mid new bytes rest w tail t is some ends = record {
+      front = t.front ++ w;
+      bytes_are = t.bytes_are ∙ ap (λ (l : List ℕ). t.front ++ l) is ∙ sym (append_assoc t.front w tail);
+      takes = record {
+        values = t.takes.values ++ w ∷ [];
+        bytes_are = ap (λ (l : List ℕ). l ++ w) t.takes.bytes_are
+            ∙ ap (λ (l : List ℕ). concat t.takes.values ++ l) (sym (append-nil w))
+            ∙ sym (concat-append t.takes.values (w ∷ []));
+        each = λ next layout rest among.
+            let s = t.takes.each next layout rest among in
+            let f = ends next (following_all layout s.0) s.1 s.3 in (
+              s.0 ++ f.0 ∷ [],
+              [],
+              each_push order t.takes.values s.0 layout rest w s.1 f.0 (cells_of old) (cells_of mid) (cells_of new) s.2
+                  some f.1 f.2,
+              subst (λ (l : Layout). Among new next l []) (sym (following_all-append layout s.0 (f.0 ∷ []))) f.3,
+            );
+      };
+    }
+
+    pub run_ends : (old mid new : T) (bytes rest : List ℕ) → TakenUpTo old bytes rest mid
+        → ((next : TableData → Layout) (layout : Layout) (w : List ℕ) → Among mid next layout w
+        → Among new next layout w)
+        → cells_of new ≡ cells_of mid
+        → TakesFields order Among cells_of old (take (length bytes - length rest) bytes) new
+    run_ends old mid new bytes rest t same cells = record {
+      values = t.takes.values;
+      bytes_are =
+          ap (λ (l : List ℕ). take (length bytes - length rest) l) t.bytes_are
+          ∙ ap (λ (n : ℕ). take n (t.front ++ rest))
+          (let e : length bytes - length rest ≡ length t.front = omega
+          (arith, ap length t.bytes_are, length-append t.front rest) in e)
+          ∙ take-append_seam t.front rest ∙ t.takes.bytes_are;
+      each = λ next layout w among.
+          let s = t.takes.each next layout w among in (
+            s.0,
+            s.1,
+            subst (λ (n : ℕ). EndEach order layout w t.takes.values s.0 (cells_of old) n s.1) (sym cells) s.2,
+            same next (following_all layout s.0) s.1 s.3,
+          );
+    }
+
+-- ---- the two readers
+
+pub table_value : (order : Order) (format : Format) (old new : TableReader) (bytes tail : List ℕ)
+    → (v : TakesValue order format old bytes tail new)
+    → EndsField order (AmongTable order format) reader_cells old v.0.front new
+table_value order format old new bytes tail v = λ next layout rest among.
+    let made = v.0.follows.made among.1 next layout rest among.0 in
+    (made.0, made.1, v.0.follows.cells among.1 next layout rest among.0, (made.2, v.1))
+
+pub table_kept : (order : Order) (format : Format) (old new : TableReader) → SameTable old new
+    → (next : TableData → Layout) (layout : Layout) (rest : List ℕ) → AmongTable order format old next layout rest
+    → AmongTable order format new next layout rest
+table_kept order format old new same next layout rest among =
+    (table_same order old new format next layout rest same among.0, λ whole. among.1 (sym same.phase ∙ whole))
+
+pub listed_value : (order : Order) (format : Format) (old new : ListReader) (bytes tail : List ℕ)
+    → (v : TakesListed old bytes tail new) → EndsField order (AmongList format) list_cells old v.front new
+listed_value order format old new bytes tail v = λ next layout rest among.
+    let made = v.takes.made among.1 order format next layout rest among.0 in
+    (made.0, made.1, v.takes.cells among.1 order format next layout rest among.0, (made.2, v.going))
+
+pub list_kept : (format : Format) (old new : ListReader) → SameList old new → (next : TableData → Layout)
+    (layout : Layout) (rest : List ℕ) → AmongList format old next layout rest → AmongList format new next layout rest
+list_kept format old new same next layout rest among =
+    (list_same old new format next layout rest same among.0, λ whole. among.1 (sym same.phase ∙ whole))

@@ -163,7 +163,7 @@ text_entered order old new at format bytes o more = answer-map o (λ same. same)
 -- ---- texts
 
 -- the bytes up to the first zero byte, and that byte
-zero_front : (w t : List ℕ) → text_in w ≡ Some t → HasNoZero t × (w ≡ (t ++ 0 ∷ []) ++ drop (length t + 1) w)
+pub zero_front : (w t : List ℕ) → text_in w ≡ Some t → HasNoZero t × (w ≡ (t ++ 0 ∷ []) ++ drop (length t + 1) w)
 zero_front [] t e = absurd (none_some {a = t} refl e)
 zero_front (b ∷ w) t e = elim (cases_eq b 0) [
   | inl zero ↦ at_zero zero (rw (eq-eqb b 0 zero) at e)
@@ -190,7 +190,7 @@ zero_front (b ∷ w) t e = elim (cases_eq b 0) [
             (let e : suc (length u + 1) ≡ suc (length u) + 1 = omega arith in e),
       )
 
-no_zero_join : (v w : List ℕ) → HasNoZero v → HasNoZero w → HasNoZero (v ++ w)
+pub no_zero_join : (v w : List ℕ) → HasNoZero v → HasNoZero w → HasNoZero (v ++ w)
 no_zero_join [] w front back = back
 no_zero_join (b ∷ v) w front back = (front.0, no_zero_join v w front.1 back)
 

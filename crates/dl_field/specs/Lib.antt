@@ -8,6 +8,7 @@ pub mod Laws
 -- For what a value stands; public contracts name this, and don't rest on how it is said.
 pub mod TableStep
 pub mod TablePlace
+pub mod FieldRuns
 pub mod ListStep
 pub mod TableMoves
 pub mod ListPlace

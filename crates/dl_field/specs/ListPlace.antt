@@ -17,6 +17,7 @@ use Rattle.dl_field.specs.Layout.{Layout, path_or_end, listed_from, Item, follow
 use Rattle.dl_field.specs.Layout.{field_spelt}
 use Rattle.dl_field.specs.TablePlace.{Holds, Summed, field_cells}
 use Rattle.dl_field.specs.TableMoves.{Adds}
+use Rattle.dl_field.specs.FieldRuns.{TakesFields}
 use Rattle.dl_field.specs.declared.field_step.FieldStep.{FieldStep}
 use Rattle.dl_field.specs.declared.field_step.FieldStep.TheVariants as byte_makes
 use Rattle.dl_field.specs.declared.list_reader.ListKind.{ListKind}
@@ -96,34 +97,58 @@ ListMade order old format next layout w (byte_makes.Refuses k) new = (field_spel
     × SameList old new
 ListMade order old format next layout w byte_makes.NoMemory new = SameList old new × (1 ≤ field_cells order layout w)
 
--- `push`, of a table that isn't whole
-abbrev pub ListFollows : ListReader → ℕ → FieldStep → ListReader → Type 0
-ListFollows old byte result new =
+-- what bytes make of the field that they fall in, of a table that isn't whole
+abbrev pub ListFollows : ListReader → List ℕ → FieldStep → ListReader → Type 0
+ListFollows old bytes result new =
     (old.phase ≡ phase.Whole → ⊥) → (order : Order) (format : Format) (next : TableData → Layout) (layout : Layout)
     (rest : List ℕ) → ListAt old old.phase format next layout rest
-    → ListMade order old format next layout (rest ++ byte ∷ []) result new
+    → ListMade order old format next layout (rest ++ bytes) result new
 
--- how many cells the byte adds
-abbrev pub ListAdds : ListReader → ℕ → FieldStep → ListReader → Type 0
-ListAdds old byte result new =
+-- how many cells the bytes add
+abbrev pub ListAdds : ListReader → List ℕ → FieldStep → ListReader → Type 0
+ListAdds old bytes result new =
     (old.phase ≡ phase.Whole → ⊥) → (order : Order) (format : Format) (next : TableData → Layout) (layout : Layout)
     (rest : List ℕ) → ListAt old old.phase format next layout rest
-    → Adds order layout rest (rest ++ byte ∷ []) result (list_cells old) (list_cells new)
+    → Adds order layout rest (rest ++ bytes) result (list_cells old) (list_cells new)
+
+-- `push_front`: both
+pub record ListTakes (old : ListReader) (bytes : List ℕ) (result : FieldStep) (new : ListReader) : Type 0 where
+  pub made : ListFollows old bytes result new
+  pub cells : ListAdds old bytes result new
+
+-- `whole_value`: the bytes in front of tail are a path or a number, and the table goes on after it
+pub record TakesListed (old : ListReader) (bytes tail : List ℕ) (new : ListReader) : Type 0 where
+  pub front : List ℕ
+  pub bytes_are : bytes ≡ front ++ tail
+  pub some : 1 ≤ length front
+  pub takes : ListTakes old front byte_makes.Ends new
+  pub going : new.phase ≡ phase.Whole → ⊥
+
+-- the reader is in the bytes rest of a field of a table that isn't whole
+abbrev pub AmongList : Format → ListReader → (TableData → Layout) → Layout → List ℕ → Type 0
+AmongList format t next layout rest = ListAt t t.phase format next layout rest × (t.phase ≡ phase.Whole → ⊥)
+
+-- `whole_values`: these bytes are paths and numbers, and the table goes on after each
+abbrev pub TakesEachListed : ListReader → List ℕ → ListReader → Type 0
+TakesEachListed old bytes new = (order : Order) (format : Format)
+    → TakesFields order (AmongList format) list_cells old bytes new
 
 -- a byte of a field that is one cell, once it is whole
 abbrev pub OneListCell : ListReader → FieldStep → ListReader → Type 0
 OneListCell old byte_makes.Ends new = list_cells new ≡ list_cells old + 1
 OneListCell old result new = list_cells new ≡ list_cells old
 
+-- values of an entry are complete, and `left` numbers of it are left
+abbrev pub GoesOnList : ListKind → List ℕ → List StoredValue → ℕ → ListReader → Type 0
+GoesOnList k pool values left new =
+    (format : Format) (next : TableData → Layout) (layout : Layout) (entries : List (List Value)) (before : List Value)
+    → Holds (listed k) pool values entries before → Summed values (length pool) → 1 ≤ length before
+    → length before + left ≡ length (listed k) → layout ≡ listed_from format (listed k) entries before next
+    → ListAt new new.phase format next layout []
+
 -- `enter`: the value is complete, and `left` numbers of its entry are left, or memory was refused
 abbrev pub EntersList : ListReader → StoredValue → ℕ → FieldStep → ListReader → Type 0
-EntersList old h left byte_makes.Ends new =
-    (format : Format) (next : TableData → Layout) (layout : Layout) (entries : List (List Value)) (before : List Value)
-    → Holds (listed old.kind) old.pool.items (old.values.items ++ h ∷ []) entries before
-    → Summed (old.values.items ++ h ∷ []) (length old.pool.items) → 1 ≤ length before
-    → length before + left ≡ length (listed old.kind)
-    → layout ≡ listed_from format (listed old.kind) entries before next
-    → ListAt new new.phase format next layout []
+EntersList old h left byte_makes.Ends new = GoesOnList old.kind old.pool.items (old.values.items ++ h ∷ []) left new
 EntersList old h left byte_makes.NoMemory new = SameList old new
 EntersList old h left result new = ⊥
 

@@ -1,7 +1,6 @@
 -- What a byte, or a value, makes of the reader of a table. No promise rests on how this is said.
 use Rattle.std.specs.Prelude.{◌≡◌, ℕ, ◌+◌, ◌-◌, ◌^◌, ◌<◌, ◌≤◌, Bool, true, false, not, ◌==◌, List, [], ◌∷◌, ◌++◌}
 use Rattle.std.specs.Prelude.{length, Some, None, Option, ◌⊎◌, Result}
-use Rattle.std.specs.List.{concat}
 use Rattle.dl_num.specs.declared.fixed.Order.{Order}
 use Rattle.dl_num.specs.LebReader.{UlebIs, UlebTook}
 use Rattle.dl_num.specs.declared.leb.LebRange.{LebRange}
@@ -34,6 +33,7 @@ use Rattle.dl_field.specs.Layout.{field_spelt, pairs_layout}
 use Rattle.dl_field.specs.TablePlace.{IsFresh, reader_cells, field_cells, after_pairs, pairs_left, form_left}
 use Rattle.dl_field.specs.TablePlace.{NoValues, IsLengthOf, ValueAt, Holds, Summed, values_left, InValue, IsWhole}
 use Rattle.dl_field.specs.TablePlace.{TableAt}
+use Rattle.dl_field.specs.FieldRuns.{TakesFields}
 
 -- the last byte of w, after rest, adds to the cells before what it adds to those of the field; memory is refused only
 -- where that is some
@@ -257,19 +257,14 @@ pub record TakesFront (order : Order) (format : Format) (old : TableReader) (byt
 abbrev pub TakesValue : Order → Format → TableReader → List ℕ → List ℕ → TableReader → Type 0
 TakesValue order format old bytes tail new = TakesFront order format old bytes tail new × (new.phase ≡ phase.Whole → ⊥)
 
--- values that these bytes spell are taken, one after the other, and another value follows each
-abbrev pub TakesEach : Order → Format → TableReader → List (List ℕ) → TableReader → Type 0
-TakesEach order format old [] new = SameTable old new
-TakesEach order format old (w ∷ values) new =
-    (mid : TableReader) × (1 ≤ length w) × BytesFollow order format old w byte_makes.Ends mid
-    × (mid.phase ≡ phase.Whole → ⊥) × TakesEach order format mid values new
+-- the reader is in the bytes rest of a field of a table that isn't whole
+abbrev pub AmongTable : Order → Format → TableReader → (TableData → Layout) → Layout → List ℕ → Type 0
+AmongTable order format t next layout rest = TableAt order t t.phase format next layout rest
+    × (t.phase ≡ phase.Whole → ⊥)
 
 -- `whole_values`: these bytes are values, and another value follows each
-pub record TakesValues (order : Order) (format : Format) (old : TableReader) (bytes : List ℕ)
-    (new : TableReader) : Type 0 where
-  pub values : List (List ℕ)
-  pub bytes_are : bytes ≡ concat values
-  pub each : TakesEach order format old values new
+abbrev pub TakesValues : Order → Format → TableReader → List ℕ → TableReader → Type 0
+TakesValues order format old bytes new = TakesFields order (AmongTable order format) reader_cells old bytes new
 
 -- what is held makes a table
 pub record MakesTable (t : TableReader) (format : Format) : Type 0 where

@@ -1,6 +1,7 @@
 //! A table of versions 2 to 4, byte by byte: its entries one after the other, and a zero byte. DWARF 4, section 6.2.4.
 
-ghost use Rattle.std.specs.Prelude.{◌≡◌, ◌+◌, ◌-◌, ◌^◌, ◌<◌, ◌≤◌, ◌++◌, ◌∷◌, [], length, min};
+ghost use Rattle.std.specs.Prelude.{◌≡◌, ◌≢◌, ◌+◌, ◌-◌, ◌^◌, ◌<◌, ◌≤◌, ◌++◌, ◌∷◌, [], length, min};
+ghost use Rattle.std.specs.Prelude.{vec_len, vec_capacity};
 ghost use Rattle.dl_num.specs.declared.fixed.Order.{Order};
 ghost use Rattle.dl_table.specs.Held.{cells_held, held_end, value_held, values_end};
 ghost use Rattle.dl_table.specs.Value.{Value};
@@ -59,7 +60,7 @@ impl ListKind {
     }
 
     /// How many numbers follow a path.
-    fn numbers(self) -> usize
+    pub(crate) fn numbers(self) -> usize
         ensures { result + 1 ≡ length (listed self) }
     {
         match self {
@@ -84,7 +85,7 @@ pub(crate) enum ListPhase {
 /// among the values. The pairs come with the last byte.
 #[derive(Drop)]
 pub struct ListReader {
-    kind: ListKind,
+    pub(crate) kind: ListKind,
     pub(crate) phase: ListPhase,
     pub(crate) pairs: Vec<Pair>,
     pub(crate) values: Vec<StoredValue>,
@@ -96,6 +97,7 @@ pub struct ListReader {
 
 impl ListReader {
     ghost use Rattle.dl_field.specs.declared.list_reader.ListPhase.TheVariants as phase;
+    ghost use Rattle.dl_field.specs.declared.field_step.FieldStep.TheVariants as byte_makes;
     ghost use Rattle.dl_field.specs.ListPlace.{IsFreshList, list_cells, MakesList, TakesList, ListFollows, ListAdds};
     ghost use Rattle.dl_field.specs.ListPlace.{EntersList, OneListCell};
 
@@ -141,8 +143,8 @@ impl ListReader {
 
     /// Takes the next byte, save where memory is refused; the reader is then unchanged.
     pub fn push(&mut self, byte: u8) -> FieldStep
-        ensures made { ListFollows self.old byte result self.new }
-        ensures cells { ListAdds self.old byte result self.new }
+        ensures made { ListFollows self.old (byte ∷ []) result self.new }
+        ensures cells { ListAdds self.old (byte ∷ []) result self.new }
     {
         match self.phase {
             ListPhase::Path(start) => self.path(start, byte),
@@ -154,8 +156,8 @@ impl ListReader {
     #[tactic(auto, using(dl_table::proofs::HeldLemmas::pushes))]
     fn path(&mut self, start: usize, byte: u8) -> FieldStep
         requires { self.old.phase ≡ phase.Path start }
-        ensures made { ListFollows self.old byte result self.new }
-        ensures cells { ListAdds self.old byte result self.new }
+        ensures made { ListFollows self.old (byte ∷ []) result self.new }
+        ensures cells { ListAdds self.old (byte ∷ []) result self.new }
     {
         if byte != 0 {
             if self.pool.push(byte).is_err() {
@@ -174,8 +176,8 @@ impl ListReader {
     /// The zero byte after the last entry.
     fn end(&mut self) -> FieldStep
         requires { self.old.phase ≡ phase.Path (length self.old.pool.items) }
-        ensures made { ListFollows self.old 0 result self.new }
-        ensures cells { ListAdds self.old 0 result self.new }
+        ensures made { ListFollows self.old (0 ∷ []) result self.new }
+        ensures cells { ListAdds self.old (0 ∷ []) result self.new }
     {
         if self.pairs.extend_from_slice(self.kind.pairs()).is_err() {
             return FieldStep::NoMemory;
@@ -186,8 +188,8 @@ impl ListReader {
 
     fn number(&mut self, left: usize, mut number: Uleb, byte: u8) -> FieldStep
         requires { self.old.phase ≡ phase.Number left number }
-        ensures made { ListFollows self.old byte result self.new }
-        ensures cells { ListAdds self.old byte result self.new }
+        ensures made { ListFollows self.old (byte ∷ []) result self.new }
+        ensures cells { ListAdds self.old (byte ∷ []) result self.new }
     {
         match number.push(byte) {
             None => {
@@ -204,13 +206,16 @@ impl ListReader {
 
     /// Enters a value that is complete, and goes on to the next number of the entry, of which so many are left, or to
     /// the next entry where none is.
+    #[inline(always)]
     #[tactic(auto, using(dl_table::proofs::HeldLemmas::pushes))]
-    fn enter(&mut self, held: StoredValue, left: usize) -> FieldStep
+    pub(crate) fn enter(&mut self, held: StoredValue, left: usize) -> FieldStep
         requires within { values_end self.old.values.items ≤ length self.old.pool.items }
         requires held { held_end held ≤ length self.old.pool.items }
         requires few { length self.old.pairs.items ≤ 0 }
         ensures made { EntersList self.old held left result self.new }
         ensures cells { OneListCell self.old result self.new }
+        ensures room { vec_len self.old.values < vec_capacity self.old.values → result ≡ byte_makes.Ends }
+        ensures going { result ≡ byte_makes.Ends → self.new.phase ≢ phase.Whole }
     {
         if self.values.push(held).is_err() {
             return FieldStep::NoMemory;

@@ -63,7 +63,7 @@ fn sixteen_at_front(sixteen: Sixteen, bytes: &[u8]) -> Option<(StoredValue, &[u8
 
 /// The number in LEB128 that the bytes begin with, and the bytes after it, where none of its bytes has come.
 /// None where the bytes end before it does, and where it is 2^64 or more.
-fn leb_at_front(number: Uleb, bytes: &[u8]) -> Option<(u64, &[u8])>
+pub(crate) fn leb_at_front(number: Uleb, bytes: &[u8]) -> Option<(u64, &[u8])>
     ensures { IfSome result (λ found. LebInFront number bytes.entry.now found.0 found.1.now) }
 {
     if !number.is_new() {
@@ -148,7 +148,7 @@ impl TableReader {
     }
 
     /// Takes values that the bytes begin with, up to one that `push_front` takes: how many bytes they have.
-    #[inline(always)]
+    #[inline(never)]
     pub fn whole_values(&mut self, order: Order, format: Format, bytes: &[u8]) -> usize
         ensures within { result ≤ length bytes.now }
         ensures values { TakesValues order format self.old (take result bytes.now) self.new }

@@ -48,11 +48,6 @@ pub cut-append : (dialect : Dialect) (b c : List ℕ)
     (cut_after dialect.order (following_all (header_layout dialect) (cut dialect b).items) (cut dialect b).rest c)
 cut-append dialect b c = cut_after-append dialect.order (header_layout dialect) [] b c
 
-pub following_all-append : (layout : Layout) (items more : List Item)
-    → following_all layout (items ++ more) ≡ following_all (following_all layout items) more
-following_all-append layout [] more = refl
-following_all-append layout (i ∷ items) more = following_all-append (following layout i) items more
-
 -- ---- one byte more
 
 cut_step : (dialect : Dialect) (b : List ℕ) (x : ℕ) (items : List Item) (rest : List ℕ) (o : Judgement Item)

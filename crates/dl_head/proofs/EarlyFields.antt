@@ -19,7 +19,7 @@ use Rattle.dl_field.specs.Layout.{Layout, following}
 use Rattle.dl_field.specs.ListPlace.{IsFreshList}
 use Rattle.dl_field.specs.declared.list_reader.ListKind.TheVariants as kind
 use Rattle.dl_head.proofs.HeaderEnds.{before_own, before_older}
-use Rattle.dl_head.proofs.CutLemmas.{following_all-append}
+use Rattle.dl_field.proofs.FieldLemmas.{following_all-append}
 use Rattle.dl_head.specs.declared.dialect.Dialect.{Dialect}
 use Rattle.dl_head.specs.declared.reader.HeadReader.{HeadReader}
 use Rattle.dl_table.specs.declared.fault.FaultKind.{FaultKind}

@@ -32,6 +32,7 @@ pub mod RunLemmas
 pub mod SamePlace
 pub mod StepCells
 pub mod TableSpellings
+pub mod TableValues
 pub mod TakenBytes
 pub mod TurnLemmas
 pub mod ValueRuns

@@ -42,7 +42,7 @@ use Rattle.dl_field.specs.TablePlace.{IsFresh, TableAt}
 use Rattle.dl_field.specs.declared.table_reader.TablePhase.{TablePhase}
 use Rattle.dl_field.specs.declared.table_reader.TablePhase.TheVariants as table
 use Rattle.dl_field.proofs.FieldLemmas.{fixed-one}
-use Rattle.dl_head.proofs.CutLemmas.{following_all-append}
+use Rattle.dl_field.proofs.FieldLemmas.{following_all-append}
 use Rattle.dl_head.proofs.EarlyEnds.{header_end-append, unit_end-append}
 use Rattle.dl_field.specs.ListPlace.{IsFreshList}
 use Rattle.dl_field.specs.declared.list_reader.ListKind.TheVariants as kind

@@ -1,7 +1,8 @@
 -- The fields that the reader of a table has taken, and the table that they are.
 use Rattle.std.proofs.Common.{◌≡◌, ℕ, suc, ◌<◌, Bool, true, false, if◌then◌else◌, List, [], ◌∷◌, ◌++◌, refl, sym, ap}
-use Rattle.std.proofs.Common.{inl, inr, ◌==◌}
+use Rattle.std.proofs.Common.{◌⊎◌, inl, inr, ◌==◌}
 use Rattle.std.proofs.Common.{subst, ◌∙◌, arith, length, take, drop, get_or, append_assoc, append-nil}
+use Rattle.std.specs.List.{concat}
 use Rattle.std.proofs.lemmas.List.{take-append-drop}
 use Rattle.std.proofs.Props.{props}
 use Rattle.std.proofs.Math.Logic.{∥∥₁_elim, ∥∥₁_prop}
@@ -22,15 +23,16 @@ use Rattle.dl_table.specs.Value.{Value, good}
 use Rattle.dl_field.specs.Layout.{Layout, Item, following_all, field_spelt, table_layout}
 use Rattle.dl_head.specs.Header.{SpellsFields}
 use Rattle.dl_field.specs.TablePlace.{IsFresh, TableAt}
-use Rattle.dl_field.specs.TableMoves.{SameTable, MakesTable, BytesFollow}
+use Rattle.dl_field.specs.FieldRuns.{EndEach}
+use Rattle.dl_field.specs.TableMoves.{SameTable, MakesTable, BytesFollow, TakesValues}
 use Rattle.dl_head.specs.TableSpelt.{alone, TableSpelt, TableReads, TableStands}
-use Rattle.dl_head.proofs.CutLemmas.{following_all-append}
+use Rattle.dl_field.proofs.FieldLemmas.{following_all-append}
 use Rattle.dl_field.proofs.SameTables.{table_same}
 use Rattle.dl_table.specs.Held.{table_of}
 use Rattle.dl_table.specs.Sound.{IsSoundTable}
 use Rattle.dl_field.proofs.PairLemmas.{table_at}
 use Rattle.dl_head.proofs.ReadTables.{table_is_sound}
-use Rattle.dl_head.proofs.ReadValues.{front_bytes}
+use Rattle.dl_head.proofs.ReadValues.{front_bytes, back_bytes}
 use Rattle.dl_table.proofs.SoundLemmas.{sound_prop}
 use Rattle.dl_field.proofs.TakenLemmas.{whole_held}
 
@@ -52,6 +54,29 @@ fields_push order layout (j ∷ items) fields w i s is = (
 pub bytes_join : (v w : List ℕ) → AllBytes v → AllBytes w → AllBytes (v ++ w)
 bytes_join [] w front back = back
 bytes_join (b ∷ v) w front back = (front.0, bytes_join v w front.1 back)
+
+-- more fields, whose bytes come one after the other
+pub spells_each : (order : Order) (layout : Layout) (items : List Item) (fields rest left : List ℕ)
+    (values : List (List ℕ)) (more : List Item) (m n : ℕ) → SpellsFields order layout items fields
+    → AllBytes (fields ++ rest) → AllBytes (concat values)
+    → EndEach order (following_all layout items) rest values more m n left
+    → (all : List ℕ) × AllBytes (all ++ left) × SpellsFields order layout (items ++ more) all
+spells_each order layout items fields rest left [] [] m n s small later e =
+    (fields, subst (λ (l : List ℕ). AllBytes (fields ++ l)) (sym e.0) small, rw (append-nil items) s)
+spells_each order layout items fields rest left (w ∷ values) (i ∷ more) m n s small later e =
+    let all : AllBytes (fields ++ (rest ++ w)) = subst AllBytes (append_assoc fields rest w)
+    (bytes_join (fields ++ rest) w small (front_bytes w (concat values) later)) in
+    let on = spells_each order layout (items ++ i ∷ []) (fields ++ (rest ++ w)) [] left values more e.0 n
+    (fields_push order layout items fields (rest ++ w) i s e.2)
+    (subst AllBytes (sym (append-nil (fields ++ (rest ++ w)))) all) (back_bytes w (concat values) later)
+    (subst (λ (l : Layout). EndEach order l [] values more e.0 n left)
+    (sym (following_all-append layout items (i ∷ []))) e.4) in (
+      on.0,
+      on.1,
+      subst (λ (is : List Item). SpellsFields order layout is on.0) (append_assoc items (i ∷ []) more) on.2,
+    )
+spells_each order layout items fields rest left [] (i ∷ more) m n s small later e = absurd e
+spells_each order layout items fields rest left (w ∷ values) [] m n s small later e = absurd e
 
 pub fresh_spelt : (order : Order) (format : Format) (t : TableReader) → IsFresh t → TableSpelt order format t
 fresh_spelt order format t is = record {
@@ -152,21 +177,26 @@ pub reads_on : (order : Order) (format : Format) (old new : TableReader) (bytes 
 reads_on order format old new bytes result small read follows going =
     ∥∥₁_elim read ∥∥₁_prop (λ s. ∣ (spelt_push order format old bytes new small s.0 result s.1 follows, going) ∣₁)
 
--- it is as it was
-pub reads_same : (order : Order) (format : Format) (old new : TableReader) → SameTable old new
-    → ∥ TableReads order format old ∥₁ → ∥ TableReads order format new ∥₁
-reads_same order format old new same read =
-    ∥∥₁_elim read ∥∥₁_prop (λ s. ∣ (
+-- its values are taken
+pub reads_each : (order : Order) (format : Format) (old new : TableReader) (bytes : List ℕ) → AllBytes bytes
+    → TakesValues order format old bytes new → ∥ TableReads order format old ∥₁ → ∥ TableReads order format new ∥₁
+reads_each order format old new bytes small v read = ∥∥₁_elim read ∥∥₁_prop λ s.
+    let first = table_layout format (alone format) in
+    let e = v.each (alone format) (following_all first s.0.items) s.0.rest (s.0.at, s.1) in
+    let all = spells_each order first s.0.items s.0.fields s.0.rest e.1 v.values e.0 _ _ s.0.spelt s.0.bytes
+    (subst AllBytes v.bytes_are small) e.2 in
+    ∣ (
       record {
-        items = s.0.items;
-        fields = s.0.fields;
-        rest = s.0.rest;
-        bytes = s.0.bytes;
-        spelt = s.0.spelt;
-        at = table_same order old new format (alone format) _ s.0.rest same s.0.at;
+        items = s.0.items ++ e.0;
+        fields = all.0;
+        rest = e.1;
+        bytes = all.1;
+        spelt = all.2;
+        at = subst (λ (l : Layout). TableAt order new new.phase format (alone format) l e.1)
+            (sym (following_all-append first s.0.items e.0)) e.3.0;
       },
-      λ whole. s.1 (sym same.phase ∙ whole),
-    ) ∣₁)
+      e.3.1,
+    ) ∣₁
 
 pub fresh_reads : (order : Order) (format : Format) (t : TableReader) → IsFresh t → ∥ TableReads order format t ∥₁
 fresh_reads order format t is = ∣ (fresh_spelt order format t is, λ e. other (sym is.phase ∙ e)) ∣₁ where
@@ -194,3 +224,14 @@ pub length_or_table_stands : (b : Bool) (v : ℕ) (order : Order) (format : Form
     t ∥₁
 length_or_table_stands true v order format t reads = reads
 length_or_table_stands false v order format t reads = first_stands v order format t reads
+
+-- values of the current table are taken
+pub stands_each : (p : Phase) (order : Order) (format : Format) (old new : TableReader) (bytes : List ℕ)
+    → (p ≡ phase.Directories) ⊎ (p ≡ phase.Files) → AllBytes bytes → TakesValues order format old bytes new
+    → ∥ TableStands p order format old ∥₁ → ∥ TableStands p order format new ∥₁
+stands_each p order format old new bytes (inl is) small v stands =
+    stands_at phase.Directories p order format new (sym is)
+    (reads_each order format old new bytes small v (stands_at p phase.Directories order format old is stands))
+stands_each p order format old new bytes (inr is) small v stands =
+    stands_at phase.Files p order format new (sym is)
+    (reads_each order format old new bytes small v (stands_at p phase.Files order format old is stands))

@@ -1,46 +1,35 @@
 -- The header reader takes a value of a table at once: what it answers on the way, and the bytes that it stands for
 -- then.
-use Rattle.std.proofs.Common.{◌≡◌, ℕ, zero, suc, ◌+◌, ◌-◌, ◌<◌, ◌≤◌, inl, inr, true, List, [], ◌∷◌, ◌++◌}
+use Rattle.std.proofs.Common.{◌≡◌, ℕ, zero, suc, ◌+◌, ◌-◌, ◌<◌, ◌≤◌, inl, inr, List, [], ◌∷◌, ◌++◌}
 use Rattle.std.proofs.Common.{length, take, drop, Option, Some, None, Ok, refl, sym, ap, subst, ◌∙◌, arith}
 use Rattle.std.proofs.Common.{append_assoc, append-nil, length-append}
 use Rattle.std.proofs.lemmas.Bool.{cases_lt}
 use Rattle.std.proofs.lemmas.List.{length-take-le, take-take}
 use Rattle.dl_num.specs.declared.fixed.Order.{Order}
-use Rattle.dl_field.specs.ListPlace.{list_cells}
 use Rattle.dl_head.specs.declared.dialect.Dialect.{Dialect}
-use Rattle.dl_table.specs.declared.form.Format.{Format}
-use Rattle.dl_field.specs.declared.params.Params.{Params}
-use Rattle.dl_head.specs.declared.reader.Phase.{Phase}
-use Rattle.dl_head.specs.declared.reader.Phase.TheVariants as phase
 use Rattle.dl_field.specs.declared.field_step.FieldStep.TheVariants as byte_makes
 use Rattle.dl_head.specs.declared.reader.HeadReader.{HeadReader}
 use Rattle.dl_head.specs.declared.reader.HeadStep.TheVariants as answer
-use Rattle.dl_field.specs.declared.table_reader.TableReader.{TableReader}
-use Rattle.dl_table.specs.TableData.{TableData}
-use Rattle.dl_table.specs.TableCells.{table_cells}
 use Rattle.dl_table.specs.Value.{good}
-use Rattle.dl_field.specs.Layout.{Layout, Item, following_all, field_spelt}
-use Rattle.dl_head.specs.HeaderLayout.{header_layout, from_files, from_end}
+use Rattle.dl_field.specs.Layout.{Layout, initial_length_then, number_then, form_then, value_then, path_or_end}
+use Rattle.dl_field.specs.Layout.{foreign_version, last_entry, Item, following_all, field_spelt}
+use Rattle.dl_head.specs.HeaderLayout.{header_layout}
 use Rattle.dl_head.specs.Header.{cut}
 use Rattle.dl_head.specs.Refusal.{header_decided, NothingBefore}
 use Rattle.dl_head.specs.Cells.{cells}
-use Rattle.dl_field.specs.TablePlace.{reader_cells}
-use Rattle.dl_field.specs.TableMoves.{Adds, SameTable}
-use Rattle.dl_head.specs.TableSpelt.{TableReads, TableStands}
-use Rattle.dl_head.specs.Place.{InTable, AtPhase, At, SameCounts, Made, held_cells}
-use Rattle.dl_head.specs.Standing.{Below, Live, Unmade, ending, StandsFor}
+use Rattle.dl_field.specs.TableMoves.{Adds}
+use Rattle.dl_head.specs.Place.{Made, held_cells}
+use Rattle.dl_head.specs.Standing.{Below, Live, Unmade, StandsFor}
 use Rattle.dl_head.specs.Reading.{Answers}
-use Rattle.dl_head.specs.Whole.{in_table, TakesAll}
+use Rattle.dl_head.specs.Whole.{TakesAll}
 use Rattle.dl_field.proofs.FieldLemmas.{none_some, field_empty}
 use Rattle.dl_head.proofs.CutLemmas.{cut_of, cut_within, cut_good, before_none}
 use Rattle.dl_head.proofs.HeaderEnds.{end_from, UpTo, EndIs, EndsWithin, end_is, room_on, ends_on}
-use Rattle.dl_head.proofs.TakenBytes.{IsNext, Place, in_field, in_padding, in_foreign, place_of, quiet_at, field_more}
+use Rattle.dl_head.proofs.TakenBytes.{IsNext, quiet_at, field_more}
 use Rattle.dl_head.proofs.StepCells.{cells_good_on}
 use Rattle.dl_head.proofs.MovedReader.{Moved, nothing_on}
-use Rattle.dl_head.proofs.OneByteMore.{live_of, kept_stands}
 use Rattle.dl_head.proofs.TurnLemmas.{joined}
 use Rattle.dl_head.proofs.OfferLemmas.{Offering}
-use Rattle.dl_head.proofs.HeadTables.{SameFields, table_stays}
 
 -- ---- nothing is taken
 
@@ -140,15 +129,15 @@ module _ (r : HeadReader) (items : List Item) (end : EndIs r items)
 -- ---- a field is whole
 
 -- what ends well is a field
-next_of_good : (r : HeadReader) (items : List Item) (rest w : List ℕ) (i : Item)
-    → At r items rest → field_spelt r.dialect.order (following_all (header_layout r.dialect) items) w ≡ good i
-    → IsNext (following_all (header_layout r.dialect) items)
-next_of_good r items rest w i at spelt = on (place_of r r.phase items rest refl at) where
-  on : Place r r.phase items → IsNext (following_all (header_layout r.dialect) items)
-  on (in_field goes out next) = next
-  on (in_padding is tail) = absurd
-      (none_some (ap (λ (l : Layout). field_spelt r.dialect.order l w) tail.follows) spelt)
-  on (in_foreign v is follows) = absurd (none_some (ap (λ (l : Layout). field_spelt r.dialect.order l w) follows) spelt)
+pub good_next : (order : Order) (layout : Layout) (w : List ℕ) (i : Item) → field_spelt order layout w ≡ good i
+    → IsNext layout
+good_next order (initial_length_then next) w i spelt = tt
+good_next order (number_then field next) w i spelt = tt
+good_next order (form_then next) w i spelt = tt
+good_next order (value_then format f next) w i spelt = tt
+good_next order (path_or_end format pairs entries next) w i spelt = tt
+good_next order (foreign_version v) w i spelt = absurd (none_some {a = Ok i} refl spelt)
+good_next order (last_entry h) w i spelt = absurd (none_some {a = Ok i} refl spelt)
 
 -- the reader has the bytes w more, which end the field
 pub record Whole (r fin : HeadReader) (b w : List ℕ) : Type 0 where
@@ -198,7 +187,7 @@ whole_moved r fin b w l made adds dialect header start taken below = record {
   here = end_is r r.phase items l.0.rest l.0.at
 
   next : IsNext (following_all (header_layout r.dialect) items)
-  next = next_of_good r items l.0.rest (l.0.rest ++ w) made.0 l.0.at made.1
+  next = good_next r.dialect.order (following_all (header_layout r.dialect) items) (l.0.rest ++ w) made.0 made.1
 
   passed : Passed r items here next b l.0.rest w made.0
   passed = passes r items here next w b l.0.rest made.0
@@ -207,72 +196,6 @@ whole_moved r fin b w l made adds dialect header start taken below = record {
 
   size : length (b ++ w) ≡ length b + length w
   size = length-append b w
-
--- ---- in a table
-
--- what follows the current table
-abbrev pub after_the_table : Phase → Params → TableData → (TableData → Layout)
-after_the_table phase.Directories p directories = from_files p
-after_the_table other p directories = from_end p directories
-
--- what holds in both tables
-by_table : (P : Phase → Type 0) → P phase.Directories → P phase.Files → (p : Phase) → in_table p ≡ true → P p
-by_table P directories files phase.Directories is = directories
-by_table P directories files phase.Files is = files
-by_table P directories files (phase.UnitLength n) is = absurd cc
-by_table P directories files (phase.LongUnitLength n) is = absurd cc
-by_table P directories files phase.Version is = absurd cc
-by_table P directories files (phase.VersionEnd n) is = absurd cc
-by_table P directories files (phase.HeaderLength n) is = absurd cc
-by_table P directories files (phase.Byte f) is = absurd cc
-by_table P directories files phase.OpcodeLength is = absurd cc
-by_table P directories files phase.OlderDirectories is = absurd cc
-by_table P directories files phase.OlderFiles is = absurd cc
-by_table P directories files phase.Padding is = absurd cc
-by_table P directories files phase.Done is = absurd cc
-by_table P directories files (phase.Foreign v) is = absurd cc
-by_table P directories files (phase.Failed f) is = absurd cc
-
--- where the reader is in the table, by the phase, and back
-pub table_of_phase : (r : HeadReader) (p : Phase) (items : List Item) (rest : List ℕ) → in_table p ≡ true
-    → AtPhase r p items rest → InTable r items rest (after_the_table p r.params r.directories)
-table_of_phase r p items rest is = by_table
-    (λ q. AtPhase r q items rest → InTable r items rest (after_the_table q r.params r.directories)) (λ at. at)
-    (λ at. at) p
-    is
-
-pub phase_of_table : (r : HeadReader) (p : Phase) (items : List Item) (rest : List ℕ) → in_table p ≡ true
-    → InTable r items rest (after_the_table p r.params r.directories) → AtPhase r p items rest
-phase_of_table r p items rest is = by_table
-    (λ q. InTable r items rest (after_the_table q r.params r.directories) → AtPhase r q items rest) (λ at. at)
-    (λ at. at) p
-    is
-
-pub table_goes : (p : Phase) → in_table p ≡ true → ending p ≡ None
-table_goes p is = by_table (λ q. ending q ≡ None) refl refl p is
-
--- nothing of a value is taken
-pub value_refused : (r new : HeadReader) (b : List ℕ) → in_table r.phase ≡ true → SameTable r.table new.table
-    → SameFields r new → SameCounts r new
-    → ((is : List Item) (w : List ℕ) → InTable new is w (after_the_table r.phase r.params r.directories) → At new is w)
-    → held_cells new ≡ table_cells r.directories + table_cells r.files + reader_cells new.table + list_cells r.list
-    → StandsFor r b → Answers r.dialect b answer.More → TakesAll r.dialect b [] new
-value_refused r new b table same fields counts to held s more =
-    let goes = table_goes r.phase table in
-    let l = live_of r b goes s in
-    let at = table_of_phase r r.phase l.0.items l.0.rest table l.0.at in
-    takes_none r.dialect b new
-    (kept_stands r new b goes s l (to l.0.items l.0.rest
-    (table_stays r new new.table l.0.items l.0.rest _ at same refl fields)) counts
-    (omega (arith, held, ap length same.pairs, ap length same.values, ap length same.pool))) more
-
--- ---- the fields that the table's reader has taken
-
-pub stands_on : (p : Phase) (order : Order) (format : Format) (old new : TableReader) → in_table p ≡ true
-    → (∥ TableReads order format old ∥₁ → ∥ TableReads order format new ∥₁)
-    → ∥ TableStands p order format old ∥₁ → ∥ TableStands p order format new ∥₁
-stands_on p order format old new is on = by_table
-    (λ q. ∥ TableStands q order format old ∥₁ → ∥ TableStands q order format new ∥₁) on on p is
 
 -- ---- a piece
 

@@ -16,6 +16,7 @@ mod byte_field;
 mod fields;
 mod lengths;
 mod run;
+mod tables;
 
 use crate::dialect::Dialect;
 use crate::fault::Fault;
@@ -76,7 +77,10 @@ impl Phase {
     fn is_table(&self) -> bool
         ensures { result ≡ in_table self.now }
     {
-        matches!(self, Phase::Directories | Phase::Files)
+        matches!(
+            self,
+            Phase::Directories | Phase::Files | Phase::OlderDirectories | Phase::OlderFiles
+        )
     }
 }
 
@@ -323,6 +327,8 @@ impl HeadReader {
         match self.phase {
             Phase::Directories => self.directories(bytes),
             Phase::Files => self.files(bytes),
+            Phase::OlderDirectories => self.older_directories(bytes),
+            Phase::OlderFiles => self.older_files(bytes),
             _ => (1, self.push_byte(bytes[0])),
         }
     }
@@ -341,68 +347,14 @@ impl HeadReader {
             Phase::HeaderLength(number) => self.header_length(number, byte),
             Phase::Byte(field) => self.byte_field(field, byte),
             Phase::OpcodeLength => self.opcode_length(byte),
-            Phase::OlderDirectories => self.older_directories(byte),
-            Phase::OlderFiles => self.older_files(byte),
             Phase::Directories
             | Phase::Files
+            | Phase::OlderDirectories
+            | Phase::OlderFiles
             | Phase::Padding
             | Phase::Done
             | Phase::Foreign(_)
             | Phase::Failed(_) => FieldStep::Within,
         }
-    }
-
-    fn directories(&mut self, bytes: &[u8]) -> (usize, FieldStep)
-        requires phase { self.old.phase ≡ phase.Directories }
-        requires some { 1 ≤ length bytes.now }
-        ensures { Pushed self.old bytes.now result.0 result.1 self.new }
-    {
-        let format = self.params.format;
-        let next = self.table.push_front(self.dialect.order, format, bytes);
-        if let Some(table) = self.table.take(self.alloc, format) {
-            self.directories = table;
-            self.phase = Phase::Files;
-        }
-        next
-    }
-
-    fn files(&mut self, bytes: &[u8]) -> (usize, FieldStep)
-        requires phase { self.old.phase ≡ phase.Files }
-        requires some { 1 ≤ length bytes.now }
-        ensures { Pushed self.old bytes.now result.0 result.1 self.new }
-    {
-        let format = self.params.format;
-        let next = self.table.push_front(self.dialect.order, format, bytes);
-        if let Some(table) = self.table.take(self.alloc, format) {
-            self.files = table;
-            self.phase = Phase::Padding;
-        }
-        next
-    }
-
-    fn older_directories(&mut self, byte: u8) -> FieldStep
-        requires { self.old.phase ≡ phase.OlderDirectories }
-        ensures follows { PushFollows self.old byte result self.new }
-        ensures kept { Keeps self.old result self.new }
-    {
-        let next = self.list.push(byte);
-        if let Some(table) = self.list.take(self.alloc, self.params.format) {
-            self.directories = table;
-            self.phase = Phase::OlderFiles;
-        }
-        next
-    }
-
-    fn older_files(&mut self, byte: u8) -> FieldStep
-        requires { self.old.phase ≡ phase.OlderFiles }
-        ensures follows { PushFollows self.old byte result self.new }
-        ensures kept { Keeps self.old result self.new }
-    {
-        let next = self.list.push(byte);
-        if let Some(table) = self.list.take(self.alloc, self.params.format) {
-            self.files = table;
-            self.phase = Phase::Padding;
-        }
-        next
     }
 }

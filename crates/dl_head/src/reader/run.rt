@@ -115,8 +115,8 @@ impl HeadReader {
     }
 
     /// Takes values of the current table that the piece begins with, as long as they are of common kinds, and the
-    /// header and the table go on after them: how many bytes they have. 0 where the piece is of one byte, which
-    /// `advance` takes sooner.
+    /// header and the table go on after them: how many bytes they have. 0 within a field, and where the piece is of one
+    /// byte: `advance` takes it sooner.
     #[inline(always)]
     fn whole_values(&mut self, piece: &[u8]) -> usize
         ensures within { result ≤ length piece.now }
@@ -124,13 +124,10 @@ impl HeadReader {
         ensures takes { (b : List ℕ) → StandsFor self.old b → Answers self.old.dialect b answer.More
             → TakesAll self.old.dialect b (take result piece.now) self.new }
     {
-        if piece.len() < 2 || !self.phase.is_table() {
+        if piece.len() < 2 || self.start != self.taken || !self.phase.is_table() {
             return 0;
         }
-        let bytes = self.inside(piece);
-        let used = self
-            .table
-            .whole_values(self.dialect.order, self.params.format, bytes);
+        let used = self.table_values(self.inside(piece));
         if used == 0 {
             return 0;
         }
