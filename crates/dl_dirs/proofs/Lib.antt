@@ -1,0 +1,4 @@
+pub mod UnitLemmas
+pub mod WalkLemmas
+pub mod HoldLemmas
+pub mod FoundLemmas

@@ -1,0 +1,70 @@
+use Rattle.std.proofs.Common.{◌≡◌, ◌-◌, ◌∙◌, List, ℕ, ap, length, refl, rules, subst, sym}
+use Rattle.dl_num.specs.declared.fixed.Order.{Order}
+use Rattle.dl_info.specs.declared.head.UnitLength.{UnitLength}
+use Rattle.dl_info.specs.declared.unit.Answer.{Answer}
+use Rattle.dl_info.specs.declared.unit.Answer.TheVariants.{Found, More, Unreadable}
+use Rattle.dl_dirs.specs.declared.walk.State.{State}
+use Rattle.dl_dirs.specs.declared.walk.State.TheVariants as state
+use Rattle.dl_dirs.specs.declared.walk.Walk.{Walk}
+use Rattle.dl_dirs.specs.Standing.{Awaits, StandsAt, told_length}
+use Rattle.dl_dirs.proofs.UnitLemmas.{told_found, wants_more}
+use Rattle.dl_dirs.proofs.WalkLemmas.{after_more, after_unit, begun, ends_front, ends_over, more_in, moved, read_of}
+use Rattle.dl_dirs.proofs.walk.Walk.read_front.Goals as goal
+use Rattle.dl_dirs.proofs.walk.Walk.read_front.Goals.{in-Found, in-More, in-Unreadable}
+
+pub awaited-requires : goal.awaited-requires
+awaited-requires c l is =
+    let walk = c.args.self.now in
+    let told : told_length walk.places.order walk.abbreviations.now walk.front.items ≡ More =
+    ap (told_length walk.places.order walk.abbreviations.now) (sym c.deref.ensures.value)
+    ∙ (sym c.in_ok-unit.ensures.length ∙ c.in-More.is) in
+    rw c.deref-in-More.ensures.value
+    (wants_more walk.places.order walk.abbreviations.now walk.front.items told l
+    (rw (← c.read.ensures.order, ← c.deref-in-More.ensures.value) is))
+
+pub returns : goal.returns
+returns c order abbreviations b g fits =
+    let walk = c.args.self.now in
+    let front = walk.front.items in
+    let places = c.read.new.places in
+    let new : Walk = record {
+      abbreviations = walk.abbreviations;
+      state = c.match-branch-2.self;
+      front = walk.front;
+      places = places;
+    } in
+    let read = λ (answer : Answer UnitLength) (is : c.in_ok-unit.field-0 ≡ answer).
+    read_of walk places c.deref.result.now front c.in_ok-unit.field-0 answer c.deref.ensures.value is
+    c.read.ensures.order c.in_ok-unit.ensures.length c.in_ok-unit.ensures.holds in
+    elim c.match-branch-2.branch [
+      | in-Found w ↦
+          let l = w.in-Found.unit in
+          let m = moved walk order abbreviations b front g places front (Found l) (read (Found l) w.in-Found.is) in
+          let within = fits l (told_found order abbreviations front (Found l) (λ more. absurd cc) m.told).length in
+          let left : w.saturating_sub.result ≡ l.size - length front = search rules in
+          after_unit walk order abbreviations b front g new refl front b (Found l) m
+          (subst
+          (λ (x : State). StandsAt order abbreviations x front b (more_in walk order abbreviations b front g front))
+          (sym (w.self-is ∙ ap state.Body left))
+          (ends_front order abbreviations b g.es front front l g.onward m.told within))
+      | in-More w ↦
+          let m = moved walk order abbreviations b front g places front More (read More w.in-More.is) in
+          let before : Walk = record {
+            abbreviations = walk.abbreviations;
+            state = walk.state;
+            front = walk.front;
+            places = places;
+          } in
+          let awaits = subst (λ (v : List ℕ). Awaits places.order v w.awaited.result) w.deref-in-More.ensures.value
+          w.awaited.ensures in
+          begun before new order abbreviations b w.awaited.result refl refl w.self-is
+          (subst (λ (o : Order). Awaits o front w.awaited.result) m.order_is awaits)
+          (after_more walk order abbreviations b front g before refl front b More m front refl g.onward)
+      | in-Unreadable w ↦
+          let m = moved walk order abbreviations b front g places front Unreadable
+          (read Unreadable w.in-Unreadable.is) in
+          after_unit walk order abbreviations b front g new refl front b Unreadable m
+          (subst
+          (λ (x : State). StandsAt order abbreviations x front b (more_in walk order abbreviations b front g front))
+          (sym w.self-is) (ends_over order abbreviations b g.es front front g.onward m.told))
+    ]

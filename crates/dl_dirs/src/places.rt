@@ -1,0 +1,260 @@
+//! Where the texts of compilation directories stand, by the offsets of line tables. DWARF 2, 3, 4 and 5, section 3.1.1.
+ghost use Rattle.std.specs.Prelude.{◌≡◌, ◌≤◌, ◌↔◌, ◌++◌, ◌∷◌, [], ℕ, List, IsTrue, IfErr, IfOk, OnOk, length};
+ghost use Rattle.std.specs.Option.{option_copied};
+ghost use Rattle.std.specs.BTreeMap.{get};
+ghost use Rattle.std.specs.List.{list_any};
+ghost use Rattle.std.specs.Ordering.{nat_cmp};
+ghost use Rattle.dl_num.specs.declared.fixed.Order.{Order};
+ghost use Rattle.dl_info.specs.Entries.{EntryData, entry, text};
+ghost use Rattle.dl_dirs.specs.Texts.{directory_text, texts_of};
+ghost use Rattle.dl_dirs.specs.Units.{HasDirectory, directory, entries, has_index, has_line_str, has_str, Stands};
+ghost use Rattle.dl_dirs.specs.Directories.{directory_at};
+ghost use Rattle.dl_dirs.specs.Holding.{AreOf, Found, Grows, HasPlace, Holds, IsPlaced, IsText, kept_entry};
+ghost use Rattle.dl_dirs.specs.Holding.{is_in, text_elsewhere};
+
+use crate::directories::{Directories, Extent, NoMemory, put};
+use crate::texts::{Texts, index_text, section_text};
+use dl_info::{Entry, Text};
+use dl_num::Order;
+use dl_table::Format;
+use std::alloc::Global;
+use std::collections::BTreeMap;
+
+/// Where the text of a directory stands.
+#[derive(Clone, Copy)]
+pub(crate) enum Place {
+    /// In the bytes that are kept.
+    Here(Extent),
+    /// At this offset of `.debug_str`.
+    Str(u64),
+    /// At this offset of `.debug_line_str`.
+    LineStr(u64),
+    /// At the offset of `.debug_str` that `.debug_str_offsets` has for this index.
+    Index(u64),
+}
+
+/// A section in which texts stand, or their offsets.
+#[derive(Clone, Copy)]
+enum Section {
+    /// `.debug_str`
+    Str,
+    /// `.debug_line_str`
+    LineStr,
+    /// `.debug_str_offsets`
+    StrOffsets,
+}
+
+/// What is kept of the entry of a unit that says a directory.
+#[derive(Clone, Copy)]
+pub(crate) struct Kept {
+    /// The offset of its line table.
+    pub offset: u64,
+    /// The format of the unit.
+    pub format: Format,
+    /// Where its directory stands.
+    pub place: Place,
+    /// Its DW_AT_str_offsets_base.
+    pub base: Option<u64>,
+}
+
+/// Where the texts of the directories of line tables stand, as the units of `.debug_info` say it.
+#[derive(Drop)]
+pub struct Places {
+    alloc: Global,
+    pub(crate) order: Order,
+    /// The number of the entry that says the directory of each line table.
+    numbers: BTreeMap<u64, usize>,
+    entries: Vec<Kept>,
+    /// The texts that stand in entries.
+    bytes: Vec<u8>,
+}
+
+/// Keeps where a text stands, and its bytes where they are in the entry.
+fn place_of(bytes: &mut Vec<u8>, said: Text<'_>) -> Result<Place, NoMemory>
+    ensures grows { Grows bytes.old.items bytes.new.items }
+    ensures placed { IfOk result (λ p. IsPlaced bytes.new.items p (text said.entry)) }
+{
+    match said {
+        Text::Here(text) => Ok(Place::Here(put(bytes, text)?)),
+        Text::Str(offset) => Ok(Place::Str(offset)),
+        Text::LineStr(offset) => Ok(Place::LineStr(offset)),
+        Text::Index(index) => Ok(Place::Index(index)),
+    }
+}
+
+/// The text of a directory that doesn't stand in its entry.
+fn text_elsewhere<'t>(order: Order, texts: &Texts<'t>, kept: &Kept) -> Option<&'t [u8]>
+    ensures { option_copied result ≡ text_elsewhere order (texts_of texts.now) kept.now }
+{
+    match kept.place {
+        Place::Here(_) => None,
+        Place::Str(offset) => section_text(texts.debug_str, offset),
+        Place::LineStr(offset) => section_text(texts.debug_line_str, offset),
+        Place::Index(index) => index_text(order, texts, kept.format, kept.base, index),
+    }
+}
+
+/// Where the text of a directory stands in the bytes, to which it is added from its section; None where it isn't known.
+fn extent_of(
+    order: Order,
+    texts: &Texts<'_>,
+    bytes: &mut Vec<u8>,
+    kept: &Kept,
+) -> Result<Option<Extent>, NoMemory>
+    ensures grows { Grows bytes.old.items bytes.new.items }
+    ensures text { IfOk result (λ e. (b : List ℕ) → Grows b bytes.old.items → HasPlace b kept.now.place
+        → IsText bytes.new.items e (directory_text order (texts_of texts.now) (kept_entry b kept.now))) }
+{
+    if let Place::Here(extent) = kept.place {
+        return Ok(Some(extent));
+    }
+    match text_elsewhere(order, texts, kept) {
+        Some(text) => Ok(Some(put(bytes, text)?)),
+        None => Ok(None),
+    }
+}
+
+/// The same of each that is kept.
+fn extents_of(
+    alloc: Global,
+    order: Order,
+    texts: &Texts<'_>,
+    bytes: &mut Vec<u8>,
+    entries: &[Kept],
+) -> Result<Vec<Option<Extent>>, NoMemory>
+    ensures grows { Grows bytes.old.items bytes.new.items }
+    ensures found { IfOk result (λ extents. Found order (texts_of texts.now) bytes.old.items entries.now
+        (length entries.now) bytes.new.items extents.items) }
+    ensures memory { IfErr result (λ error. 1 ≤ length entries.now) }
+{
+    let mut extents = Vec::new(alloc);
+    for kept in entries {
+        let extent = extent_of(order, texts, bytes, kept)?;
+        let Ok(()) = extents.push(extent) else {
+            return Err(NoMemory);
+        };
+    }
+    Ok(extents)
+}
+
+impl Place {
+    /// Whether the text, or its offset, stands in the section.
+    fn is_in(self, section: Section) -> bool
+        ensures { result ≡ is_in section self }
+    {
+        match section {
+            Section::Str => matches!(self, Place::Str(_) | Place::Index(_)),
+            Section::LineStr => matches!(self, Place::LineStr(_)),
+            Section::StrOffsets => matches!(self, Place::Index(_)),
+        }
+    }
+}
+
+/// Whether one of the directories stands in the section, or its offset.
+fn is_wanted(entries: &[Kept], section: Section) -> bool
+    ensures { result ≡ list_any (λ k. is_in section k.place) entries.now }
+{
+    entries.iter().any(|kept| kept.place.is_in(section))
+}
+
+impl Places {
+    /// No directory yet. It takes no memory.
+    pub(crate) fn new(alloc: Global, order: Order) -> Places
+        ensures order { result.order ≡ order }
+        ensures holds { Holds result [] }
+    {
+        Places {
+            alloc,
+            order,
+            numbers: BTreeMap::new(alloc),
+            entries: Vec::new(alloc),
+            bytes: Vec::new(alloc),
+        }
+    }
+
+    /// Takes the first entry of the next unit: keeps it where it says the directory of a line table, and none did before.
+    pub(crate) fn add(&mut self, unit: &Entry<'_>) -> Result<(), NoMemory>
+        ensures order { self.new.order ≡ self.old.order }
+        ensures holds { OnOk result ((es : List EntryData) → Holds self.old es
+            → Holds self.new (es ++ entry unit.now ∷ [])) }
+        ensures memory { IfErr result (λ error. HasDirectory (entry unit.now ∷ [])) }
+    {
+        let (Some(offset), Some(text)) = (unit.stmt_list, unit.comp_dir) else {
+            return Ok(());
+        };
+        if self.numbers.contains_key(&offset) {
+            return Ok(());
+        }
+        let place = place_of(&mut self.bytes, text)?;
+        self.keep(Kept {
+            offset,
+            format: unit.format,
+            place,
+            base: unit.str_offsets_base,
+        })
+    }
+
+    /// Keeps an entry of a line table of which none is kept.
+    fn keep(&mut self, kept: Kept) -> Result<(), NoMemory>
+        ensures order { self.new.order ≡ self.old.order }
+        ensures holds { OnOk result ((es : List EntryData) → Holds self.old es
+            → HasPlace self.old.bytes.items kept.place → get nat_cmp self.old.numbers kept.offset ≡ None
+            → Holds self.new (es ++ kept_entry self.old.bytes.items kept ∷ [])) }
+    {
+        let number = self.entries.len();
+        let Ok(()) = self.entries.push(kept) else {
+            return Err(NoMemory);
+        };
+        let Ok(_) = self.numbers.insert(kept.offset, number) else {
+            return Err(NoMemory);
+        };
+        Ok(())
+    }
+
+    /// Whether a directory stands in `.debug_str`.
+    pub fn wants_str(&self) -> bool
+        ensures { (order : Order) (abbreviations b : List ℕ) → AreOf self.now order abbreviations b
+            → IsTrue result ↔ Stands has_str (entries order abbreviations b) }
+    {
+        is_wanted(&self.entries, Section::Str)
+    }
+
+    /// Whether a directory stands in `.debug_line_str`.
+    pub fn wants_line_str(&self) -> bool
+        ensures { (order : Order) (abbreviations b : List ℕ) → AreOf self.now order abbreviations b
+            → IsTrue result ↔ Stands has_line_str (entries order abbreviations b) }
+    {
+        is_wanted(&self.entries, Section::LineStr)
+    }
+
+    /// Whether the offset of a directory stands in `.debug_str_offsets`.
+    pub fn wants_str_offsets(&self) -> bool
+        ensures { (order : Order) (abbreviations b : List ℕ) → AreOf self.now order abbreviations b
+            → IsTrue result ↔ Stands has_index (entries order abbreviations b) }
+    {
+        is_wanted(&self.entries, Section::StrOffsets)
+    }
+
+    /// The directories, with the bytes of the sections in which they stand.
+    pub fn directories(self, texts: &Texts<'_>) -> Result<Directories, NoMemory>
+        ensures found { (order : Order) (abbreviations b : List ℕ) → AreOf self order abbreviations b
+            → IfOk result (λ d. (n : ℕ)
+            → directory_at d n ≡ directory order abbreviations (texts_of texts.now) b n) }
+        ensures memory { (order : Order) (abbreviations b : List ℕ) → AreOf self order abbreviations b
+            → IfErr result (λ error. HasDirectory (entries order abbreviations b)) }
+    {
+        let Places {
+            alloc,
+            order,
+            numbers,
+            entries,
+            mut bytes,
+        } = self;
+        let extents = extents_of(alloc, order, texts, &mut bytes, &entries)?;
+        Ok(Directories {
+            numbers,
+            extents,
+            bytes,
+        })
+    }
+}

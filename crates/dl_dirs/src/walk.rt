@@ -1,0 +1,242 @@
+//! A walk over the units of `.debug_info`, whose bytes come in pieces. DWARF 2, 3, 4 and 5, section 7.5.
+ghost use Rattle.std.specs.Prelude.{◌≡◌, ◌+◌, ◌≤◌, ◌<◌, ◌++◌, [], ℕ, List, IsTrue, IfErr, IfOk, OnOk, length, take};
+ghost use Rattle.dl_num.specs.declared.fixed.Order.{Order};
+ghost use Rattle.dl_info.specs.declared.head.UnitLength.{UnitLength};
+ghost use Rattle.dl_info.specs.declared.unit.Answer.TheVariants.{Found};
+ghost use Rattle.dl_info.specs.Entries.{EntryData};
+ghost use Rattle.dl_info.specs.Units.{first_entry, unit_length};
+ghost use Rattle.dl_dirs.specs.Texts.{TextsData};
+ghost use Rattle.dl_dirs.specs.Units.{HasDirectory, directory, entries, found_in};
+ghost use Rattle.dl_dirs.specs.Holding.{AreOf, Holds};
+ghost use Rattle.dl_dirs.specs.Standing.{Awaits, GoesOn, StandsFor, Took, told_length};
+ghost use Rattle.dl_dirs.specs.declared.walk.State.TheVariants as state;
+
+use crate::directories::NoMemory;
+use crate::places::Places;
+use dl_info::{Answer, UnitLength, first_entry, unit_length};
+use dl_num::Order;
+use std::alloc::Global;
+
+/// As many bytes at least are awaited of a unit before its front is read again, where it has as many.
+const AWAITED: usize = 32;
+
+/// Where a walk is.
+#[derive(Clone, Copy)]
+pub(crate) enum State {
+    /// In a unit of which the first bytes are kept. After so many more they are read again.
+    Begun(usize),
+    /// So many bytes before the end of a unit whose first entry is passed.
+    Body(u64),
+    /// Where no unit begins. Nothing after it is read.
+    Ended,
+}
+
+/// A walk over the units of `.debug_info`.
+///
+/// Of each unit it reads the first entry, and passes over the rest of it by its length. The bytes of one unit are kept
+/// at a time, and only where a piece ends inside its first entry.
+#[derive(Drop)]
+pub struct Walk<'a> {
+    abbreviations: &'a [u8],
+    state: State,
+    /// The first bytes of a unit.
+    front: Vec<u8>,
+    places: Places,
+}
+
+/// Reads a unit from its first bytes, and takes its entry: its length, More where they don't tell the entry.
+fn read(
+    places: &mut Places,
+    abbreviations: &[u8],
+    front: &[u8],
+) -> Result<Answer<UnitLength>, NoMemory>
+    ensures order { places.new.order ≡ places.old.order }
+    ensures length { IfOk result (λ length.
+        length ≡ told_length places.old.order abbreviations.now front.now) }
+    ensures holds { OnOk result ((es : List EntryData) → Holds places.old es
+        → Holds places.new (es ++ found_in (first_entry places.old.order abbreviations.now front.now))) }
+    ensures memory { IfErr result (λ error.
+        HasDirectory (found_in (first_entry places.old.order abbreviations.now front.now))) }
+{
+    match first_entry(places.order, front, abbreviations) {
+        Answer::Found(entry) => places.add(&entry)?,
+        Answer::More => return Ok(Answer::More),
+        Answer::Unreadable => {}
+    }
+    Ok(unit_length(places.order, front))
+}
+
+/// How many bytes are awaited after the first ones of a unit, which don't tell its entry: as many again, so that all
+/// readings of them together take no longer than a few of the last one.
+fn awaited(order: Order, front: &[u8]) -> usize
+    requires { (l : UnitLength) → unit_length order front.now ≡ Found l → length front.now < l.size }
+    ensures { Awaits order front.now result }
+{
+    match unit_length(order, front) {
+        Answer::Found(unit) => {
+            let left = unit.size - front.len() as u64;
+            left.min(front.len().max(AWAITED) as u64) as usize
+        }
+        _ => 1,
+    }
+}
+
+impl<'a> Walk<'a> {
+    /// No byte yet of a section of this order, whose abbreviations these are. It takes no memory.
+    pub fn new(alloc: Global, order: Order, abbreviations: &'a [u8]) -> Walk<'a>
+        ensures { StandsFor result order abbreviations.entry.now [] }
+    {
+        Walk {
+            abbreviations,
+            state: State::Body(0),
+            front: Vec::new(alloc),
+            places: Places::new(alloc, order),
+        }
+    }
+
+    /// Takes the next bytes of the section. Where memory is refused, for a directory or for the first bytes of a unit, the
+    /// walk is used up.
+    pub fn feed(self, piece: &[u8]) -> Result<Walk<'a>, NoMemory>
+        ensures stands { (order : Order) (abbreviations b : List ℕ) → StandsFor self.entry order abbreviations b
+            → IfOk result (λ walk. StandsFor walk order abbreviations (b ++ piece.now)) }
+        ensures memory { IfErr result (λ error. 1 ≤ length piece.now) }
+    {
+        let mut walk = self;
+        let mut at = 0;
+        for _ in 0..piece.len() {
+            if at == piece.len() {
+                break;
+            }
+            at += walk.advance(&piece[at..])?;
+        }
+        Ok(walk)
+    }
+
+    /// Takes bytes of the section, of which there are some: how many.
+    fn advance(&mut self, piece: &[u8]) -> Result<usize, NoMemory>
+        requires { 1 ≤ length piece.now }
+        ensures within { IfOk result (λ used. used ≤ length piece.now) }
+        ensures stands { (order : Order) (abbreviations b : List ℕ) → StandsFor self.old order abbreviations b
+            → IfOk result (Took self.new order abbreviations b piece.now) }
+    {
+        match self.state {
+            State::Begun(awaited) => self.grow(awaited, piece),
+            State::Body(left) => self.pass(left, piece),
+            State::Ended => Ok(piece.len()),
+        }
+    }
+
+    /// The same in a unit of which the first bytes are kept.
+    fn grow(&mut self, awaited: usize, piece: &[u8]) -> Result<usize, NoMemory>
+        requires { 1 ≤ length piece.now }
+        ensures within { IfOk result (λ used. used ≤ length piece.now) }
+        ensures stands { (order : Order) (abbreviations b : List ℕ) → self.old.state ≡ state.Begun awaited
+            → StandsFor self.old order abbreviations b
+            → IfOk result (Took self.new order abbreviations b piece.now) }
+    {
+        let used = awaited.min(piece.len());
+        let Ok(()) = self.front.extend_from_slice(&piece[..used]) else {
+            return Err(NoMemory);
+        };
+        if used < awaited {
+            self.state = State::Begun(awaited - used);
+        } else {
+            self.read_front()?;
+        }
+        Ok(used)
+    }
+
+    /// Reads a unit from its first bytes, which are kept.
+    fn read_front(&mut self) -> Result<(), NoMemory>
+        ensures { (order : Order) (abbreviations b : List ℕ)
+            → GoesOn self.old order abbreviations b self.old.front.items
+            → ((l : UnitLength) → unit_length order self.old.front.items ≡ Found l
+            → length self.old.front.items ≤ l.size)
+            → OnOk result (StandsFor self.new order abbreviations b) }
+    {
+        self.state = match read(&mut self.places, self.abbreviations, &self.front)? {
+            Answer::Found(unit) => State::Body(unit.size.saturating_sub(self.front.len() as u64)),
+            Answer::More => State::Begun(awaited(self.places.order, &self.front)),
+            Answer::Unreadable => State::Ended,
+        };
+        Ok(())
+    }
+
+    /// The same so many bytes before the end of a unit.
+    fn pass(&mut self, left: u64, piece: &[u8]) -> Result<usize, NoMemory>
+        requires { 1 ≤ length piece.now }
+        ensures within { IfOk result (λ used. used ≤ length piece.now) }
+        ensures stands { (order : Order) (abbreviations b : List ℕ) → self.old.state ≡ state.Body left
+            → StandsFor self.old order abbreviations b
+            → IfOk result (Took self.new order abbreviations b piece.now) }
+    {
+        if left >= piece.len() as u64 {
+            self.state = State::Body(left - piece.len() as u64);
+            return Ok(piece.len());
+        }
+        let left = left as usize;
+        Ok(left + self.begin(&piece[left..])?)
+    }
+
+    /// The same where a unit begins.
+    fn begin(&mut self, piece: &[u8]) -> Result<usize, NoMemory>
+        requires { 1 ≤ length piece.now }
+        ensures within { IfOk result (λ used. used ≤ length piece.now) }
+        ensures stands { (order : Order) (abbreviations b : List ℕ) → GoesOn self.old order abbreviations b []
+            → IfOk result (Took self.new order abbreviations b piece.now) }
+    {
+        match read(&mut self.places, self.abbreviations, piece)? {
+            Answer::Found(unit) => {
+                let used = unit.size.min(piece.len() as u64);
+                self.state = State::Body(unit.size - used);
+                return Ok(used as usize);
+            }
+            Answer::More => self.keep(piece)?,
+            Answer::Unreadable => self.state = State::Ended,
+        }
+        Ok(piece.len())
+    }
+
+    /// Keeps the first bytes of a unit, which don't tell its entry.
+    fn keep(&mut self, front: &[u8]) -> Result<(), NoMemory>
+        requires { (l : UnitLength) → unit_length self.old.places.order front.now ≡ Found l
+            → length front.now < l.size }
+        ensures { (order : Order) (abbreviations b : List ℕ) → GoesOn self.old order abbreviations b front.now
+            → OnOk result (StandsFor self.new order abbreviations b) }
+    {
+        self.front.clear();
+        let Ok(()) = self.front.extend_from_slice(front) else {
+            return Err(NoMemory);
+        };
+        self.state = State::Begun(awaited(self.places.order, front));
+        Ok(())
+    }
+
+    /// Whether no unit begins any more, whatever bytes follow.
+    pub fn is_over(&self) -> bool
+        ensures { (order : Order) (abbreviations b rest : List ℕ) (t : TextsData) (n : ℕ)
+            → StandsFor self.now order abbreviations b → IsTrue result
+            → directory order abbreviations t (b ++ rest) n ≡ directory order abbreviations t b n }
+    {
+        matches!(self.state, State::Ended)
+    }
+
+    /// Ends the walk where the section ends: the places of the directories that its units say.
+    pub fn end(self) -> Result<Places, NoMemory>
+        ensures places { (order : Order) (abbreviations b : List ℕ) → StandsFor self.entry order abbreviations b
+            → IfOk result (λ places. AreOf places order abbreviations b) }
+        ensures memory { (order : Order) (abbreviations b : List ℕ) → StandsFor self.entry order abbreviations b
+            → IfErr result (λ error. HasDirectory (entries order abbreviations b)) }
+    {
+        let Walk {
+            abbreviations,
+            state,
+            front,
+            mut places,
+        } = self;
+        if let State::Begun(_) = state {
+            let _ = read(&mut places, abbreviations, &front)?;
+        }
+        Ok(places)
+    }
+}
