@@ -1,9 +1,13 @@
+pub mod ConversionLaws
+pub mod ConversionLemmas
+pub mod ConversionSound
 pub mod GatherLemmas
 pub mod GrownLemmas
 pub mod LengthLemmas
 pub mod ProgramLemmas
 pub mod PutLemmas
 pub mod ReadAgain
+pub mod ReadOlder
 pub mod RowRuns
 pub mod RunLemmas
 pub mod SignedLemmas

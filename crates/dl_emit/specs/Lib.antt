@@ -5,7 +5,10 @@ pub mod WrittenUnit
 pub mod Laws
 pub mod Writing
 pub mod Grown
+pub mod Conversion
+pub mod ConversionLaws
 -- Of contracts inside the crate, and of proofs; no public contract reaches these.
 pub mod Gathered
 pub mod HeadFault
 pub mod Room
+pub mod Texts

@@ -5,12 +5,14 @@ ghost use Rattle.dl_field.specs.declared.params.Params.{Params};
 ghost use Rattle.dl_field.specs.Layout.{standard_params};
 ghost use Rattle.dl_field.specs.Usable.{IsUsable};
 ghost use Rattle.dl_rows.specs.declared.row.Row.{Row};
+ghost use Rattle.dl_emit.specs.Conversion.{version_5_params};
 ghost use Rattle.dl_emit.specs.Grown.{IsGrown};
 ghost use Rattle.dl_head.specs.Dialect.{version_5};
 ghost use Rattle.dl_emit.specs.Laws.{IsUnitAgain};
 ghost use Rattle.dl_emit.specs.Writing.{WritesUnitHeader};
 
 use crate::bytes::BUFFER_LEN;
+use crate::conversion::params_of_version_5;
 use crate::fault::EmitFault;
 use crate::program::{ROW, keep, put_row};
 use crate::unit::is_in_range;
@@ -87,7 +89,22 @@ impl Program {
     pub fn begin(&mut self, header: &Header)
         ensures grown { IsGrown self.new self.old.order (standard_params header.now.params) [] }
     {
-        self.params = header.params().with_standard_opcodes();
+        self.begin_under(header.params().with_standard_opcodes());
+    }
+
+    /// The same where the header becomes one of version 5, as `into_version_5` makes it.
+    pub fn begin_in_version_5(&mut self, header: &Header)
+        ensures grown { IsGrown self.new self.old.order (standard_params (version_5_params header.now.params)) [] }
+    {
+        self.begin_under(params_of_version_5(header.params()).with_standard_opcodes());
+    }
+
+    fn begin_under(&mut self, params: Params)
+        requires usable { IsUsable params }
+        requires standard { params.opcode_base ≡ 13 }
+        ensures grown { IsGrown self.new self.old.order params [] }
+    {
+        self.params = params;
         self.before = None;
         self.rows = 0;
         self.refused = None;

@@ -1,5 +1,6 @@
 //! Laws of the definitions of what is written, each the contract of a function that does nothing.
 
+ghost use Rattle.dl_emit.specs.ConversionLaws.{NumbersMeanTheSame, ReadIsOlder};
 ghost use Rattle.dl_emit.specs.Laws.{ProgramIsReadAgain, UnitIsReadAgain};
 
 /// The program that is written for rows is read again as a program of the same rows, in either byte
@@ -12,4 +13,11 @@ pub fn program_is_read_again()
 /// rows, in every dialect. Section 6.2.
 pub fn unit_is_read_again()
     ensures { UnitIsReadAgain }
+{}
+
+/// Each number of a directory or a file of versions 2 to 4 means the same in version 5: the same path, directory, time
+/// and size. It is of all headers of these versions that bytes spell. Sections 6.2.4 and 6.2.4.1.
+pub fn numbers_mean_the_same()
+    ensures same { NumbersMeanTheSame }
+    ensures read { ReadIsOlder }
 {}

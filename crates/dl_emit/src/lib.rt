@@ -2,12 +2,14 @@
 #![tactic(auto)]
 
 mod bytes;
+mod conversion;
 mod fault;
 mod growing;
 pub mod laws;
 mod program;
 mod unit;
 
+pub use conversion::into_version_5;
 pub use fault::EmitFault;
 pub use growing::Program;
 pub use unit::{measure, write_unit};
