@@ -9,8 +9,12 @@ _dwline() {
         return
     fi
     case $before in
-        --line-str | --str | -e | --exe)
+        --line-str | --str | -e | --exe | --comp-dir)
             mapfile -t COMPREPLY < <(compgen -f -- "$current")
+            return
+            ;;
+        --older | --address-size)
+            mapfile -t COMPREPLY < <(compgen -W "1 2 4 8" -- "$current")
             return
             ;;
         --op | --base | -j | --section)
@@ -19,10 +23,11 @@ _dwline() {
     esac
     local options
     case ${COMP_WORDS[1]} in
-        addr) options="-a --addresses -s --basenames --json --hex --base --all -j --section -e --exe --big --line-str --str -h --help" ;;
-        dump) options="--big --line-str --str -h --help" ;;
-        check | copy) options="--big -h --help" ;;
-        find) options="--op -j --section --big --line-str --str -h --help" ;;
+        addr) options="-a --addresses -s --basenames --json --hex --base --all -j --section -e --exe --older --address-size --version-5 --comp-dir --big --line-str --str -h --help" ;;
+        dump) options="--older --address-size --version-5 --big --line-str --str -h --help" ;;
+        check) options="--older --address-size --version-5 --big -h --help" ;;
+        copy) options="--to-5 --older --address-size --comp-dir --big -h --help" ;;
+        find) options="--op -j --section --older --address-size --version-5 --big --line-str --str -h --help" ;;
         help)
             mapfile -t COMPREPLY < <(compgen -W "addr dump check find copy help" -- "$current")
             return

@@ -1,7 +1,7 @@
 //! Worked sections for `addr`.
 ghost use Rattle.std.specs.Prelude.{◌≤◌};
 
-use dl_addr::{Asked, Form, Found, Question, Style, addr};
+use dl_addr::{Asked, CompilationDirectories, Form, Found, Question, Style, addr};
 use dl_head::Dialect;
 use dl_num::Order;
 use dl_run::{Options, RunFault, SECTION_LIMIT};
@@ -102,6 +102,7 @@ pub fn plain<'a>(asked: &'a [Asked]) -> Question<'a> {
         asked,
         base: 0,
         code: None,
+        directories: CompilationDirectories::Unknown,
         style: PLAIN,
     }
 }

@@ -1,11 +1,11 @@
 -- What `addr` answers and writes.
-use Rattle.std.proofs.Common.{◌≡◌, inl, inr, ℕ, Bool, List, [], ◌∷◌, ◌++◌, length, flat_map, map, take, slice_get}
+use Rattle.std.proofs.Common.{◌≡◌, inl, inr, ℕ, Bool, true, false, List, [], ◌∷◌, ◌++◌, length, flat_map, map, take, slice_get}
 use Rattle.std.proofs.Common.{Option, Some, None, Result, Ok, Err, arith, refl, sym, ap, ap₂, ◌∙◌, subst, append_assoc}
 use Rattle.std.proofs.Common.{length-append}
 use Rattle.std.specs.Prelude.{if◌then◌else◌, ◌&&◌, is_some, option_map}
 use Rattle.std.specs.Io.KnownBytes.{Appends}
 use Rattle.std.specs.List.{concat, list_all}
-use Rattle.std.specs.Option.{option_and_then, option_copied}
+use Rattle.std.specs.Option.{option_and_then, option_copied, option_map_or}
 use Rattle.std.proofs.KnownBytes.{Appends-trans}
 use Rattle.std.proofs.lemmas.Option.{slice_get-map}
 use Rattle.dl_head.specs.declared.dialect.Dialect.{Dialect}
@@ -24,18 +24,22 @@ use Rattle.dl_addr.specs.declared.locating.Locator.{Locator}
 use Rattle.dl_addr.specs.declared.question.Found.{Found}
 use Rattle.dl_addr.specs.declared.question.Found.TheVariants as found
 use Rattle.dl_addr.specs.declared.question.Question.{Question}
+use Rattle.dl_dirs.specs.declared.compilation.CompilationDirectories.{CompilationDirectories}
+use Rattle.dl_addr.specs.declared.style.Form.{Form}
 use Rattle.dl_addr.specs.declared.style.Style.{Style}
 use Rattle.dl_addr.specs.Answers.{located_seen}
 use Rattle.dl_look.specs.Asked.{looked_up, place_of}
 use Rattle.dl_addr.specs.Code.{is_code}
+use Rattle.dl_dirs.specs.Compilation.{directory_by}
 use Rattle.dl_addr.specs.Commands.{Ends, Locates, answer_in, answer_lines, found_in, is_answered}
 use Rattle.dl_addr.specs.Knowing.{Knows}
 use Rattle.dl_addr.specs.Locating.{IsMadeFor, Locating, StopsAt, code_of, locate_story, located_by}
-use Rattle.dl_addr.specs.Locations.{Located, answer_text, asked_text, located, row_text}
-use Rattle.dl_path.specs.Paths.{path_of}
+use Rattle.dl_addr.specs.Locations.{Located, answer_text, asked_text, compilation_directory, located, row_text}
+use Rattle.dl_path.specs.Paths.{compiled_in, path_of}
+use Rattle.dl_path.specs.Shown.{basename}
 use Rattle.dl_addr.specs.Printing.{PrintsAll, answer_for, found_by, named_text, seen_lines, seen_text, told}
-use Rattle.dl_addr.specs.Shown.{path_text}
-use Rattle.dl_addr.specs.Texts.{named}
+use Rattle.dl_addr.specs.Shown.{no_path_text, path_text, text_in}
+use Rattle.dl_addr.specs.Texts.{named, printed}
 use Rattle.dl_addr.proofs.EndLemmas.{splits_section}
 use Rattle.dl_addr.proofs.LocatedLemmas.{located_of_section}
 
@@ -57,6 +61,22 @@ ends_same (a ∷ xs) (b ∷ ys) x y e = let same = ends_same xs ys x y cc in (cc
 
 -- ---- the answers of a locator are those of the units
 
+-- a path as it is kept, printed
+text_by : (form : Form) (basenames : Bool) (directory path : Option (List ℕ))
+    → named_text form (if basenames then option_map (λ p. if basenames then basename p else p) path
+    else option_map (compiled_in directory) (option_map (λ p. if basenames then basename p else p) path))
+    ≡ option_map_or (λ p. text_in form (if basenames then basename p else compiled_in directory p)) path (no_path_text form)
+text_by form true directory None = refl
+text_by form true directory (Some path) = refl
+text_by form false directory None = refl
+text_by form false directory (Some path) = refl
+
+path_text_is : (style : Style) (directory path : Option (List ℕ))
+    → option_map_or (λ p. text_in style.form (if style.basenames then basename p else compiled_in directory p)) path
+    (no_path_text style.form) ≡ path_text style directory path
+path_text_is style directory None = refl
+path_text_is style directory (Some path) = refl
+
 module _ (dialect : Dialect) (q : Question) (s : Strings) (first : Locator) (knows : Knows first q s) where
   abbrev live : ℕ → Bool
   live = is_code (option_copied q.code)
@@ -68,21 +88,24 @@ module _ (dialect : Dialect) (q : Question) (s : Strings) (first : Locator) (kno
   live_is x visits units is =
       is (code_of first) ∙ ap (λ code. located dialect (is_code (option_copied code)) units x) knows.code
 
-  text_named : (path : Option (List ℕ)) → named_text q.style.form (named q.style path) ≡ path_text q.style path
-  text_named None = refl
-  text_named (Some path) = refl
+  text_named : (directory path : Option (List ℕ))
+      → named_text q.style.form (printed q.style directory (named q.style path)) ≡ path_text q.style directory path
+  text_named directory path =
+      text_by q.style.form q.style.basenames directory path ∙ path_text_is q.style directory path
 
   text_seen : (o : Option Located)
-      → seen_text q.style.form (option_map (located_seen first) o) ≡ answer_text q.style s o
+      → seen_text q.style.form (option_map (located_seen first) o)
+      ≡ answer_text q.style (directory_by q.directories) s o
   text_seen None = refl
   text_seen (Some l) =
-      ap (λ (st : Style). row_text q.style.form
-      (named_text q.style.form (named st (path_of (strings_of first.strings.now) l.header l.row.file))) l.row l.unit)
-      knows.style
-      ∙ ap (λ (w : List ℕ). row_text q.style.form w l.row l.unit)
-      (text_named (path_of (strings_of first.strings.now) l.header l.row.file))
-      ∙ ap (λ (ss : Strings). row_text q.style.form (path_text q.style (path_of ss l.header l.row.file)) l.row l.unit)
-      knows.strings
+      let path = path_of (strings_of first.strings.now) l.header l.row.file in
+      let directory = compilation_directory (directory_by q.directories) l in
+      ap₂ (λ (st : Style) (d : CompilationDirectories). row_text q.style.form
+      (named_text q.style.form (printed st (compilation_directory (directory_by d) l) (named st path))) l.row l.unit)
+      knows.style knows.directories
+      ∙ ap (λ (w : List ℕ). row_text q.style.form w l.row l.unit) (text_named directory path)
+      ∙ ap (λ (ss : Strings). row_text q.style.form (path_text q.style directory (path_of ss l.header l.row.file)) l.row
+      l.unit) knows.strings
 
   module _ (visits : List Visit) (units : List (List ℕ))
       (is : (x : Place) → located_by first x visits ≡ located dialect live units x) where

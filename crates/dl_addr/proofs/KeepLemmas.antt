@@ -8,6 +8,7 @@ use Rattle.dl_look.specs.declared.ledger.Answered.{Answered}
 use Rattle.dl_look.specs.declared.place.Place.{Place}
 use Rattle.dl_look.specs.Ledgers.{no_answer}
 use Rattle.dl_look.specs.Units.{AreFirstAnswers, FirstAnswer}
+use Rattle.dl_addr.specs.declared.kept.PathUnit.{PathUnit}
 use Rattle.dl_addr.specs.declared.kept.Paths.{Paths}
 use Rattle.dl_addr.specs.Texts.{AreNumbers, IsKept, IsOther}
 
@@ -37,7 +38,7 @@ module _ (places : List Place) (units : List (List Row)) (rows : List Row) (answ
   }
 
   -- each that has one is kept
-  pub is_kept : (paths : Paths) (kept : List ℕ) (path : Row → Option (List ℕ) × ℕ)
+  pub is_kept : (paths : Paths) (kept : List ℕ) (path : Row → Option (List ℕ) × PathUnit)
       → ((j : ℕ) → j < length answered
       → IsKept paths kept (slice_index_or answered j no_answer).number (path (slice_index_or answered j no_answer).row))
       → (i : ℕ) (r : Row) → FirstAnswer places units rows i r → IsKept paths kept i (path r)

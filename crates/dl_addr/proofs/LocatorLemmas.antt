@@ -26,14 +26,16 @@ use Rattle.dl_run.proofs.VisitLemmas.{rows_after-append}
 use Rattle.dl_run.proofs.Fronts.{map_none, or_none}
 use Rattle.dl_addr.specs.declared.locating.Locator.{Locator}
 use Rattle.dl_addr.specs.declared.kept.FilePath.{FilePath}
+use Rattle.dl_addr.specs.declared.kept.PathUnit.{PathUnit}
 use Rattle.dl_addr.specs.declared.kept.Paths.{Paths}
 use Rattle.dl_addr.specs.Answers.{SeenRow, located_seen}
 use Rattle.dl_addr.specs.Keeping.{Keeps, path_under}
 use Rattle.dl_addr.specs.Locating.{IsMadeFor, Locating, LooksFor, code_of, ended_rows, locate_story, located_after}
-use Rattle.dl_addr.specs.Locating.{located_by, located_under, path_of_located}
+use Rattle.dl_addr.specs.Locating.{located_by, located_under, path_of_located, printed_by}
 use Rattle.dl_addr.specs.Locations.{Located}
-use Rattle.dl_path.specs.Paths.{path_of}
-use Rattle.dl_addr.specs.Texts.{HasPath, IsKept, named, path_at}
+use Rattle.dl_path.specs.Paths.{beside_table, path_of}
+use Rattle.dl_dirs.specs.Compilation.{directory_by}
+use Rattle.dl_addr.specs.Texts.{HasPath, IsKept, named, path_at, printed, unit_place}
 use Rattle.dl_addr.proofs.LocatedLemmas.{ended_rows-append, located_after-append, no_live_rows, offset_after-append}
 use Rattle.dl_addr.proofs.LocatedLemmas.{rows_located}
 use Rattle.dl_addr.proofs.TextLemmas.{kept_stays, none_is_some, path_found, some_same}
@@ -55,14 +57,15 @@ module _ (first old new : Locator) (start held : Option (List ℕ)) (visits more
 
   -- it goes on with visits that end no unit
   pub goes_on : (none : (x : Place) (n : ℕ) → located_after live x rows n more ≡ None) → ended_rows live rows more ≡ []
-      → new.code ≡ old.code → new.style ≡ old.style → new.strings.now ≡ old.strings.now
+      → new.code ≡ old.code → new.directories ≡ old.directories → new.style ≡ old.style → new.strings.now ≡ old.strings.now
       → new.unit ≡ offset_after old.unit more → Tells new.live live (rows_after rows more)
       → new.kept.items ≡ old.kept.items → new.paths ≡ old.paths
       → ((places : List Place) (units : List (List Row)) → Stand old.finders places units (live_rows live rows)
       → Stand new.finders places units (live_rows live (rows_after rows more)))
       → Locating first new start held (visits ++ more)
-  goes_on none no_end code style strings unit tells kept paths stands = record {
+  goes_on none no_end code directories style strings unit tells kept paths stands = record {
     code = code ∙ s.code;
+    directories = directories ∙ s.directories;
     style = style ∙ s.style;
     strings = strings ∙ s.strings;
     unit = unit ∙ ap (λ (n : ℕ). offset_after n more) s.unit ∙ sym (offset_after-append first.unit visits more);
@@ -142,6 +145,7 @@ module _ (first old mid : Locator) (start held : Option (List ℕ)) (visits : Li
   pub still : Locating first mid start held visits
   still = record {
     code = keeps.code ∙ s.code;
+    directories = keeps.directories ∙ s.directories;
     style = keeps.style ∙ s.style;
     strings = keeps.strings ∙ s.strings;
     unit = keeps.unit ∙ s.unit;
@@ -202,9 +206,9 @@ module _ (first old mid : Locator) (start held : Option (List ℕ)) (visits : Li
   path_same : (x : Place) (r : Row)
       → path_under old h r ≡ path_of_located first (record { row = r; header = h; unit = offset })
   path_same x r =
-      ap (λ st. (named st (path_of (strings_of old.strings.now) h r.file), old.unit)) s.style
-      ∙ ap (λ ss. (named first.style (path_of (strings_of ss) h r.file), old.unit)) s.strings
-      ∙ ap (λ (n : ℕ). (named first.style (path_of (strings_of first.strings.now) h r.file), n)) s.unit
+      ap (λ st. (named st (path_of (strings_of old.strings.now) h r.file), unit_place h old.unit)) s.style
+      ∙ ap (λ ss. (named first.style (path_of (strings_of ss) h r.file), unit_place h old.unit)) s.strings
+      ∙ ap (λ (n : ℕ). (named first.style (path_of (strings_of first.strings.now) h r.file), unit_place h n)) s.unit
 
   -- it goes on after the unit
   pub tail : (is : result ≡ Ok tt) (finders : Finders) (told : LiveRows)
@@ -214,6 +218,7 @@ module _ (first old mid : Locator) (start held : Option (List ℕ)) (visits : Li
       → Locating first (record mid { finders = finders; live = told }) start held all
   tail is finders told ended tells = record {
     code = keeps.code ∙ s.code;
+    directories = keeps.directories ∙ s.directories;
     style = keeps.style ∙ s.style;
     strings = keeps.strings ∙ s.strings;
     unit = keeps.unit ∙ s.unit ∙ sym (offset_after-append first.unit visits (of_end h ∷ []));
@@ -268,6 +273,7 @@ pub begins : (first : Locator) (start : Option (List ℕ)) → first.unit ≡ 0
     → ((live : ℕ → Bool) → Tells first.live live []) → Appends start start [] → Locating first first start start []
 begins first start unit tells nothing = record {
   code = refl;
+  directories = refl;
   style = refl;
   strings = refl;
   unit = refl;
@@ -288,8 +294,8 @@ pub settles : (first now : Locator) (start held : Option (List ℕ)) (visits : L
 settles first now start held visits flow.On s = (s, s.nothing)
 settles first now start held visits flow.Stop s = absurd s
 
-abbrev row_with : Row → Option (List ℕ) × ℕ → Option SeenRow
-row_with r path = Some (r, path)
+abbrev row_with : Locator → Row → Option (List ℕ) × PathUnit → Option SeenRow
+row_with l r path = Some (r, (printed_by l path.1 path.0, path.1.offset))
 
 -- what a place is answered
 module _ (first now : Locator) (start held : Option (List ℕ)) (visits : List Visit) (places : List Place)
@@ -325,16 +331,25 @@ module _ (first now : Locator) (start held : Option (List ℕ)) (visits : List V
 
   -- what is found of a file
   abbrev found : Row → Option FilePath → Option SeenRow
-  found row file = option_map (λ (f : FilePath). (row, (path_at now.paths.texts.items f, f.unit))) file
+  found row file =
+      option_map (λ (f : FilePath). (row, (printed_by now f.unit (path_at now.paths.texts.items f), f.unit.offset))) file
+
+  printed_same : (p : Option (List ℕ) × PathUnit) → {r : Row} → row_with now r p ≡ row_with first r p
+  printed_same p {r} =
+      ap₂ (λ style directories. Some (
+        r,
+        (printed style (beside_table p.1.has_directory_0 (directory_by directories p.1.offset)) p.0, p.1.offset),
+      )) s.style s.directories
 
   found_is : (row : Row) (d : Located) (file : Option FilePath) (k : ℕ) → row ≡ d.row
       → file ≡ slice_get now.paths.files.items k → HasPath now.paths k (path_of_located first d)
       → found row file ≡ Some (located_seen first d)
   found_is row d file k e is h =
       ap (found row) (is ∙ h.at)
-      ∙ ap₂ (λ (r : Row) (p : Option (List ℕ) × ℕ). row_with r p) e
-      (ap₂ (λ (p : Option (List ℕ)) (n : ℕ). (p, n))
+      ∙ ap₂ (λ (r : Row) (p : Option (List ℕ) × PathUnit). row_with now r p) e
+      (ap₂ (λ (p : Option (List ℕ)) (u : PathUnit). (p, u))
       (path_found now.paths.texts.items h.file (path_of_located first d).0 h.is_path) h.unit)
+      ∙ printed_same (path_of_located first d)
 
   pub something_seen : (row : Row) (file : Option FilePath) → answered ≡ Some row
       → file ≡ option_and_then (slice_get now.paths.files.items) (slice_get now.kept.items n)

@@ -19,12 +19,13 @@ use Rattle.dl_table.specs.TableData.{TableData}
 use Rattle.dl_head.specs.Numbers.{entry_numbered, first_number}
 use Rattle.dl_print.specs.ValueText.{Strings, strings_of}
 use Rattle.dl_addr.specs.declared.kept.FilePath.{FilePath}
+use Rattle.dl_addr.specs.declared.kept.PathUnit.{PathUnit}
 use Rattle.dl_addr.specs.declared.kept.Paths.{Paths}
 use Rattle.dl_addr.specs.declared.texts.UnitFiles.{UnitFiles}
 use Rattle.dl_addr.specs.declared.texts.UnitNumbers.{UnitNumbers}
 use Rattle.dl_path.specs.Paths.{file_path, path_of, under}
 use Rattle.dl_addr.specs.Texts.{AreSeen, AreTexts, Grows, HasPath, IsKept, IsPath, TextsGrow, directory_text, files_end, named}
-use Rattle.dl_addr.specs.Texts.{part_at, path_at, path_of_file, text_at, text_or_none}
+use Rattle.dl_addr.specs.Texts.{part_at, path_at, path_of_file, place_of, text_at, text_or_none}
 
 pub none_is_some : {A : Type 0} {x : A} → ◌≡◌ {A = Option A} None (Some x) → ⊥
 none_is_some e = cc
@@ -93,7 +94,7 @@ path_stays old new f path grows p = record {
   is = p.is;
 }
 
-pub has_stays : (old new : Paths) (k : ℕ) (path : Option (List ℕ) × ℕ) → Grows old new → HasPath old k path
+pub has_stays : (old new : Paths) (k : ℕ) (path : Option (List ℕ) × PathUnit) → Grows old new → HasPath old k path
     → HasPath new k path
 has_stays old new k path grows h = record {
   file = h.file;
@@ -104,7 +105,7 @@ has_stays old new k path grows h = record {
   unit = h.unit;
 }
 
-pub kept_stays : (old new : Paths) (kept kept' : List ℕ) (i : ℕ) (path : Option (List ℕ) × ℕ) → Grows old new
+pub kept_stays : (old new : Paths) (kept kept' : List ℕ) (i : ℕ) (path : Option (List ℕ) × PathUnit) → Grows old new
     → slice_get kept' i ≡ slice_get kept i → IsKept old kept i path → IsKept new kept' i path
 kept_stays old new kept kept' i path grows same k = record {
   number = k.number;
@@ -224,6 +225,6 @@ pub path_clamped : (u : UnitFiles) (file end : ℕ) → file < 2 ^ 64
     → end ≡ option_map_or files_end (option_copied u.header) 0
     → path_of_file u (min file end) ≡ path_of_file u file
 path_clamped u file end within e =
-    ap (λ (path : Option (List ℕ)). (named u.style path, u.offset))
+    ap (λ (path : Option (List ℕ)). (named u.style path, place_of u))
     (ap (λ (n : ℕ). path_of (strings_of u.strings.now) (option_copied u.header) (min file n)) e
     ∙ clamped (strings_of u.strings.now) (option_copied u.header) file within)

@@ -20,6 +20,7 @@ use Rattle.dl_addr.specs.declared.question.Found.TheVariants as found
 use Rattle.dl_addr.specs.declared.question.Question.{Question}
 use Rattle.dl_look.specs.Asked.{looked_up, place_of}
 use Rattle.dl_addr.specs.Code.{is_code}
+use Rattle.dl_dirs.specs.Compilation.{directory_by}
 use Rattle.dl_addr.specs.Locations.{Located, located, asked_line}
 
 -- what the units answer for what is asked
@@ -29,7 +30,8 @@ answer_in dialect q units a = option_and_then (located dialect (is_code (option_
 
 -- a line for each address, in the order in which they are asked
 abbrev pub answer_lines : Dialect → Strings → Question → List (List ℕ) → List ℕ
-answer_lines dialect s q units = flat_map (λ a. asked_line q.style s a (answer_in dialect q units a)) q.asked.now
+answer_lines dialect s q units =
+    flat_map (λ a. asked_line q.style (directory_by q.directories) s a (answer_in dialect q units a)) q.asked.now
 
 -- whether it has an answer, where it is an address
 abbrev pub is_answered : Asked → (is_found : Bool) → Bool

@@ -7,16 +7,18 @@ use Rattle.dl_look.specs.declared.place.Place.{Place}
 use Rattle.dl_look.specs.FindersRows.{Stand}
 use Rattle.dl_look.specs.Units.{FirstAnswer}
 use Rattle.dl_print.specs.ValueText.{strings_of}
+use Rattle.dl_addr.specs.declared.kept.PathUnit.{PathUnit}
 use Rattle.dl_addr.specs.declared.locating.Locator.{Locator}
 use Rattle.dl_path.specs.Paths.{path_of}
-use Rattle.dl_addr.specs.Texts.{Grows, IsKept, named}
+use Rattle.dl_addr.specs.Texts.{Grows, IsKept, named, unit_place}
 
-abbrev pub path_under : Locator → Option HeaderData → Row → Option (List ℕ) × ℕ
-path_under l h r = (named l.style (path_of (strings_of l.strings.now) h r.file), l.unit)
+abbrev pub path_under : Locator → Option HeaderData → Row → Option (List ℕ) × PathUnit
+path_under l h r = (named l.style (path_of (strings_of l.strings.now) h r.file), unit_place h l.unit)
 
 -- of the places that the current unit is the first to answer the paths are kept, and of the others what was
 pub record Keeps (old new : Locator) (h : Option HeaderData) (result : Result ⊤ NoMemory) : Type 0 where
   pub code : new.code ≡ old.code
+  pub directories : new.directories ≡ old.directories
   pub style : new.style ≡ old.style
   pub strings : new.strings.now ≡ old.strings.now
   pub unit : new.unit ≡ old.unit

@@ -6,5 +6,6 @@ use Rattle.dl_addr.specs.declared.question.Question.{Question}
 
 pub record Knows (l : Locator) (q : Question) (s : Strings) : Type 0 where
   pub code : l.code ≡ q.code
+  pub directories : l.directories ≡ q.directories
   pub style : l.style ≡ q.style
   pub strings : strings_of l.strings.now ≡ s

@@ -16,11 +16,13 @@ use Rattle.dl_run.specs.Copying.{offset_after}
 use Rattle.dl_run.specs.RowsTold.{rows_after}
 use Rattle.dl_run.specs.Section.{Visit, of_header, of_row, of_end}
 use Rattle.dl_run.specs.Visiting.{Story}
+use Rattle.dl_addr.specs.declared.kept.PathUnit.{PathUnit}
 use Rattle.dl_addr.specs.declared.locating.Locator.{Locator}
 use Rattle.dl_addr.specs.Code.{is_code}
+use Rattle.dl_dirs.specs.Compilation.{directory_by}
 use Rattle.dl_addr.specs.Locations.{Located}
-use Rattle.dl_path.specs.Paths.{path_of}
-use Rattle.dl_addr.specs.Texts.{IsKept, named}
+use Rattle.dl_path.specs.Paths.{beside_table, path_of}
+use Rattle.dl_addr.specs.Texts.{IsKept, named, printed, unit_place}
 
 -- ---- what visits give; rows, offset: of the current unit before the visits
 
@@ -53,9 +55,15 @@ code_of l = is_code (option_copied l.code)
 abbrev pub located_by : Locator → Place → List Visit → Option Located
 located_by first x visits = located_after (code_of first) x [] first.unit visits
 
--- the path as far as it is printed, with the offset of its unit
-abbrev pub path_of_located : Locator → Located → Option (List ℕ) × ℕ
-path_of_located first l = (named first.style (path_of (strings_of first.strings.now) l.header l.row.file), l.unit)
+-- the path as far as it is kept, with its unit
+abbrev pub path_of_located : Locator → Located → Option (List ℕ) × PathUnit
+path_of_located first l =
+    (named first.style (path_of (strings_of first.strings.now) l.header l.row.file), unit_place l.header l.unit)
+
+-- it as it is printed
+abbrev pub printed_by : Locator → PathUnit → Option (List ℕ) → Option (List ℕ)
+printed_by l unit path =
+    printed l.style (beside_table unit.has_directory_0 (directory_by l.directories unit.offset)) path
 
 -- it looks for these places
 pub record LooksFor (first now : Locator) (places : List Place) (visits : List Visit) : Type 0 where
@@ -72,6 +80,7 @@ pub record IsMadeFor (first : Locator) (places : List Place) : Type 0 where
 
 pub record Locating (first now : Locator) (start held : Option (List ℕ)) (visits : List Visit) : Type 0 where
   pub code : now.code ≡ first.code
+  pub directories : now.directories ≡ first.directories
   pub style : now.style ≡ first.style
   pub strings : now.strings.now ≡ first.strings.now
   pub unit : now.unit ≡ offset_after first.unit visits

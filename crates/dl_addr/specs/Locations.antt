@@ -17,7 +17,7 @@ use Rattle.dl_addr.specs.declared.style.Form.{Form}
 use Rattle.dl_addr.specs.declared.style.Form.TheVariants.{Location, AddressAndLocation, Json}
 use Rattle.dl_addr.specs.declared.style.Style.{Style}
 use Rattle.dl_addr.specs.Json.{json_asked, json_row}
-use Rattle.dl_path.specs.Paths.{path_of}
+use Rattle.dl_path.specs.Paths.{beside_table, has_directory_0, path_of}
 use Rattle.dl_addr.specs.Shown.{path_text}
 
 -- ---- answers
@@ -70,11 +70,18 @@ no_row_text Location = codes "??:0"
 no_row_text AddressAndLocation = codes "??:0"
 no_row_text Json = codes "}"
 
-abbrev pub located_text : Style → Strings → Located → List ℕ
-located_text style s l = row_text style.form (path_text style (path_of s l.header l.row.file)) l.row l.unit
+-- the compilation directory of the unit; directories: that of the unit at each offset
+abbrev pub compilation_directory : (directories : ℕ → Option (List ℕ)) → Located → Option (List ℕ)
+compilation_directory directories l = beside_table (has_directory_0 l.header) (directories l.unit)
 
-abbrev pub answer_text : Style → Strings → Option Located → List ℕ
-answer_text style s answer = option_map_or (located_text style s) answer (no_row_text style.form)
+abbrev pub located_text : Style → (directories : ℕ → Option (List ℕ)) → Strings → Located → List ℕ
+located_text style directories s l =
+    row_text style.form
+    (path_text style (compilation_directory directories l) (path_of s l.header l.row.file)) l.row l.unit
+
+abbrev pub answer_text : Style → (directories : ℕ → Option (List ℕ)) → Strings → Option Located → List ℕ
+answer_text style directories s answer =
+    option_map_or (located_text style directories s) answer (no_row_text style.form)
 
 -- the address as it was given; nothing of a line that is no address
 abbrev pub address_text : Option ℕ → List ℕ
@@ -87,5 +94,6 @@ asked_text AddressAndLocation section a = address_text a.address
 asked_text Json section a = json_asked a.address section
 
 -- the line of what is asked, where this is its answer
-abbrev pub asked_line : Style → Strings → Asked → Option Located → List ℕ
-asked_line style s a answer = line (asked_text style.form (option_copied style.section) a ++ answer_text style s answer)
+abbrev pub asked_line : Style → (directories : ℕ → Option (List ℕ)) → Strings → Asked → Option Located → List ℕ
+asked_line style directories s a answer =
+    line (asked_text style.form (option_copied style.section) a ++ answer_text style directories s answer)

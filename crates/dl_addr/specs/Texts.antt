@@ -12,11 +12,12 @@ use Rattle.dl_print.specs.ValueText.{strings_of}
 use Rattle.dl_addr.specs.declared.style.Style.{Style}
 use Rattle.dl_addr.specs.declared.kept.FilePath.{FilePath}
 use Rattle.dl_addr.specs.declared.kept.KeptPath.{KeptPath}
+use Rattle.dl_addr.specs.declared.kept.PathUnit.{PathUnit}
 use Rattle.dl_addr.specs.declared.kept.Paths.{Paths}
 use Rattle.dl_addr.specs.declared.texts.UnitFiles.{UnitFiles}
 use Rattle.dl_addr.specs.declared.texts.UnitNumbers.{UnitNumbers}
 use Rattle.dl_path.specs.PathParts.{text_of_directory}
-use Rattle.dl_path.specs.Paths.{path_of, under}
+use Rattle.dl_path.specs.Paths.{compiled_in, has_directory_0, path_of, under}
 use Rattle.dl_path.specs.Shown.{basename}
 
 -- ---- texts
@@ -52,13 +53,29 @@ path_at texts f =
     option_map (under (under (text_or_none texts f.base) (text_or_none texts f.directory)))
     (option_and_then (text_at texts) f.name)
 
--- of a file whose own path is this one
-abbrev pub path_named : KeptPath → List ℕ → List ℕ
-path_named p name =
+-- what is kept of a unit with this header at this offset
+abbrev pub unit_place : Option HeaderData → (offset : ℕ) → PathUnit
+unit_place h offset = record { offset = offset; has_directory_0 = has_directory_0 h }
+
+-- a path as far as it is kept, as it is printed: under the compilation directory, but where its last component alone is
+-- asked for
+abbrev pub printed : Style → (directory : Option (List ℕ)) → Option (List ℕ) → Option (List ℕ)
+printed style directory path = if style.basenames then path else option_map (compiled_in directory) path
+
+-- under a compilation directory, where there is one
+abbrev pub rooted : Option (List ℕ) → List ℕ → List ℕ
+rooted root path = under (unwrap_or root []) path
+
+-- of a file whose own path is this one: as the unit's table has it, and as it is printed
+abbrev pub path_in_table : KeptPath → List ℕ → List ℕ
+path_in_table p name =
     under (under (text_or_none p.texts.now p.file.now.base) (text_or_none p.texts.now p.file.now.directory)) name
 
+abbrev pub path_named : KeptPath → List ℕ → List ℕ
+path_named p name = rooted (option_copied p.root) (path_in_table p name)
+
 unfoldable pub path_kept : KeptPath → Option (List ℕ)
-path_kept p = path_at p.texts.now p.file.now
+path_kept p = option_map (rooted (option_copied p.root)) (path_at p.texts.now p.file.now)
 
 -- the texts make up the path
 pub record IsPath (texts : List (List ℕ)) (f : FilePath) (path : Option (List ℕ)) : Type 0 where
@@ -70,8 +87,8 @@ pub record IsPath (texts : List (List ℕ)) (f : FilePath) (path : Option (List 
   pub has_name : option_map (text_at texts) f.name ≡ option_map Some name
   pub is : path ≡ option_map (under (under base directory)) name
 
--- the path of this number, with the offset of its unit
-pub record HasPath (paths : Paths) (number : ℕ) (path : Option (List ℕ) × ℕ) : Type 0 where
+-- the path of this number, with its unit
+pub record HasPath (paths : Paths) (number : ℕ) (path : Option (List ℕ) × PathUnit) : Type 0 where
   pub file : FilePath
   pub at : slice_get paths.files.items number ≡ Some file
   pub is_path : IsPath paths.texts.items file path.0
@@ -84,9 +101,13 @@ pub record Grows (old new : Paths) : Type 0 where
 
 -- ---- a unit
 
--- the path of a file of the unit as far as it is printed, with the unit's offset
-abbrev pub path_of_file : UnitFiles → ℕ → Option (List ℕ) × ℕ
-path_of_file u file = (named u.style (path_of (strings_of u.strings.now) (option_copied u.header) file), u.offset)
+-- what is kept of the unit itself
+abbrev pub place_of : UnitFiles → PathUnit
+place_of u = unit_place (option_copied u.header) u.offset
+
+-- the path of a file of the unit as far as it is kept, with the unit
+abbrev pub path_of_file : UnitFiles → ℕ → Option (List ℕ) × PathUnit
+path_of_file u file = (named u.style (path_of (strings_of u.strings.now) (option_copied u.header) file), place_of u)
 
 -- a number from which on a unit has no files
 abbrev pub files_end : HeaderData → ℕ
@@ -102,7 +123,7 @@ pub record AreSeen (u : UnitFiles) (numbers : UnitNumbers) (paths : Paths) : Typ
   pub last : (file k : ℕ) → numbers.last ≡ Some (file, k) → HasPath paths k (path_of_file u file)
 
 -- the path of the place of number i is kept
-pub record IsKept (paths : Paths) (kept : List ℕ) (i : ℕ) (path : Option (List ℕ) × ℕ) : Type 0 where
+pub record IsKept (paths : Paths) (kept : List ℕ) (i : ℕ) (path : Option (List ℕ) × PathUnit) : Type 0 where
   pub number : ℕ
   pub entry : slice_get kept i ≡ Some number
   pub is : HasPath paths number path

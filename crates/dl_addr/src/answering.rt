@@ -84,6 +84,7 @@ fn locator_of<'s, 'o, 'q>(
         alloc,
         strings,
         question.code,
+        question.directories,
         question.style,
         places.as_slice(),
     )

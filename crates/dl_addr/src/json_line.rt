@@ -105,11 +105,11 @@ pub fn print_json_row<W: Write>(
     row: &Row,
 ) -> Result<(), WriteFault>
     ensures { Prints (W.contents output.old) (W.contents output.new) printer.old printer.new
-        (json_row (named_text all_forms.Json (path_kept path.entry)) row.now path.entry.file.now.unit) result }
+        (json_row (named_text all_forms.Json (path_kept path.entry)) row.now path.entry.file.now.unit.offset) result }
 {
     print_path_member(printer, output, path)?;
     print_position(printer, output, row)?;
-    print_end(printer, output, row.is_stmt, path.file.unit)
+    print_end(printer, output, row.is_stmt, path.file.unit.offset)
 }
 
 fn print_path_member<W: Write>(

@@ -5,7 +5,7 @@ ghost use Rattle.std.specs.List.{list_all};
 ghost use Rattle.dl_path.specs.Shown.{is_plain};
 ghost use Rattle.dl_addr.specs.Kept.{bytes_seen};
 
-use dl_path::is_all_plain;
+use dl_path::{Path, is_all_plain};
 use std::marker::Model;
 
 /// The bytes of a text that is kept. The string sections are held as long as the texts, those of headers aren't.
@@ -36,11 +36,19 @@ impl<'s> Model for KeptText<'s> {
     ghost invariant = { λ t. t.all_plain ≡ list_all is_plain (bytes_seen t.bytes) };
 }
 
+/// The unit of a file.
+#[derive(Clone, Copy)]
+pub struct PathUnit {
+    /// Its offset in the section.
+    pub offset: u64,
+    /// Whether directory 0 of its table is that of the compilation.
+    pub has_directory_0: bool,
+}
+
 /// The path of a file, in the numbers of its texts.
 #[derive(Clone, Copy)]
 pub struct FilePath {
-    /// The offset of the file's unit in its section.
-    pub unit: u64,
+    pub unit: PathUnit,
     pub base: Option<usize>,
     pub directory: Option<usize>,
     /// None where the path isn't known.
@@ -59,6 +67,8 @@ pub struct Paths<'s> {
 pub struct KeptPath<'a, 's> {
     pub texts: &'a [KeptText<'s>],
     pub file: &'a FilePath,
+    /// The compilation directory, where the path is printed under it.
+    pub root: Option<&'a [u8]>,
 }
 
 /// The bytes of a text.
@@ -101,8 +111,32 @@ impl<'s> KeptText<'s> {
 }
 
 impl<'a, 's> KeptPath<'a, 's> {
-    ghost use Rattle.std.specs.Prelude.{◌≡◌, slice_get};
+    ghost use Rattle.std.specs.Prelude.{◌≡◌, option_map, slice_get};
     ghost use Rattle.std.specs.Option.{option_and_then, option_copied};
+    ghost use Rattle.dl_path.specs.Parts.{path_seen};
+    ghost use Rattle.dl_addr.specs.Texts.{path_at, text_or_none};
+
+    /// The path as the unit's table has it, in slices.
+    pub fn parts(self) -> Option<Path<'a>>
+        ensures { option_map path_seen result ≡ path_at self.entry.texts.now self.entry.file.now }
+    {
+        let name = self.text(self.file.name)?;
+        Some(Path {
+            base: self.bytes_or_none(self.file.base),
+            directory: self.bytes_or_none(self.file.directory),
+            name: name.bytes(),
+        })
+    }
+
+    /// The bytes of the text of this number, or none where there is no such text.
+    fn bytes_or_none(self, number: Option<usize>) -> &'a [u8]
+        ensures { result.now ≡ text_or_none self.entry.texts.now number }
+    {
+        match self.text(number) {
+            Some(text) => text.bytes(),
+            None => b"",
+        }
+    }
 
     /// The text of this number.
     pub fn text(self, number: Option<usize>) -> Option<&'a KeptText<'s>>

@@ -12,6 +12,7 @@ mod style;
 mod texts;
 
 pub use answering::addr;
+pub use dl_dirs::CompilationDirectories;
 pub use dl_look::Asked;
 pub use question::{Found, Question};
 pub use style::{Form, Style};

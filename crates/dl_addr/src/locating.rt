@@ -7,8 +7,10 @@ ghost use Rattle.dl_addr.specs.Code.{is_code};
 use crate::kept::{FilePath, KeptPath, Paths};
 use crate::style::Style;
 use crate::texts::{UnitFiles, keep_all};
+use dl_dirs::CompilationDirectories;
 use dl_head::Header;
 use dl_look::{CodeRanges, Finders, LiveRows, NoMemory, Place};
+use dl_path::{beside_table, is_whole_path};
 use dl_print::StringSections;
 use dl_rows::{Flow, Row};
 use dl_run::{RunFault, Visitor};
@@ -21,6 +23,7 @@ pub struct Locator<'s, 'o, 'q> {
     alloc: Global,
     strings: &'s StringSections<'o>,
     code: Option<&'q CodeRanges>,
+    directories: CompilationDirectories<'q>,
     style: Style<'q>,
     /// Was given the live rows of the units.
     finders: Finders,
@@ -103,7 +106,7 @@ impl<'s, 'o, 'q> Locator<'s, 'o, 'q> {
     ghost use Rattle.dl_run.specs.Section.{Visit};
     ghost use Rattle.dl_look.specs.FinderRows.{unended};
     ghost use Rattle.dl_addr.specs.Code.{is_code};
-    ghost use Rattle.dl_addr.specs.Locating.{Locating, located_by};
+    ghost use Rattle.dl_addr.specs.Locating.{Locating, located_by, printed_by};
     ghost use Rattle.dl_addr.specs.Answers.{answer_seen, located_seen};
     ghost use Rattle.dl_rows.specs.declared.row.Row.{Row};
     ghost use Rattle.dl_look.specs.declared.place.Place.{Place};
@@ -112,13 +115,14 @@ impl<'s, 'o, 'q> Locator<'s, 'o, 'q> {
     ghost use Rattle.dl_look.specs.LiveRows.{Tells};
     ghost use Rattle.dl_addr.specs.Keeping.{Keeps};
     ghost use Rattle.dl_addr.specs.Locating.{IsMadeFor};
-    ghost use Rattle.dl_addr.specs.Texts.{path_at};
+    ghost use Rattle.dl_addr.specs.Texts.{path_at, rooted};
 
     /// A locator of these places.
     pub fn build(
         alloc: Global,
         strings: &'s StringSections<'o>,
         code: Option<&'q CodeRanges>,
+        directories: CompilationDirectories<'q>,
         style: Style<'q>,
         places: &[Place],
     ) -> Result<Locator<'s, 'o, 'q>, NoMemory>
@@ -127,6 +131,7 @@ impl<'s, 'o, 'q> Locator<'s, 'o, 'q> {
         ensures unit { IfOk result (λ l. l.unit ≡ 0) }
         ensures strings { IfOk result (λ l. l.strings.now ≡ strings.now) }
         ensures code { IfOk result (λ l. l.code ≡ code.entry) }
+        ensures directories { IfOk result (λ l. l.directories ≡ directories.entry) }
         ensures style { IfOk result (λ l. l.style ≡ style.entry) }
     {
         let finders = Finders::build(alloc, places)?;
@@ -134,6 +139,7 @@ impl<'s, 'o, 'q> Locator<'s, 'o, 'q> {
             alloc,
             strings,
             code,
+            directories,
             style,
             finders,
             live: LiveRows::new(),
@@ -175,17 +181,39 @@ impl<'s, 'o, 'q> Locator<'s, 'o, 'q> {
     /// The row, with the path that is kept for the place of this number.
     fn answer_of(&self, row: Row, number: usize) -> Option<Answer<'_, 's>>
         ensures { option_map answer_seen result ≡ option_map
-            (λ f. (row, (path_at self.now.paths.texts.items f, f.unit)))
+            (λ f. (row, (printed_by self.now f.unit (path_at self.now.paths.texts.items f), f.unit.offset)))
             (option_and_then (slice_get self.now.paths.files.items) (slice_get self.now.kept.items number)) }
     {
         let file = self.file(number)?;
+        let path = KeptPath {
+            texts: self.paths.texts.as_slice(),
+            file,
+            root: None,
+        };
         Some(Answer {
             row,
             path: KeptPath {
-                texts: self.paths.texts.as_slice(),
-                file,
+                root: self.root(path),
+                ..path
             },
         })
+    }
+
+    /// The compilation directory under which a path is printed: none where the path is whole, or its last component
+    /// alone is asked for.
+    fn root(&self, path: KeptPath<'_, '_>) -> Option<&'q [u8]>
+        ensures { option_map (rooted (option_copied result)) (path_at path.entry.texts.now path.entry.file.now)
+            ≡ printed_by self.now path.entry.file.now.unit (path_at path.entry.texts.now path.entry.file.now) }
+    {
+        if self.style.basenames {
+            return None;
+        }
+        let parts = path.parts()?;
+        if is_whole_path(parts) {
+            return None;
+        }
+        let unit = path.file.unit;
+        beside_table(unit.has_directory_0, self.directories.of(unit.offset))
     }
 
     /// The path that is kept for the place of this number.

@@ -7,9 +7,9 @@ ghost use Rattle.dl_addr.specs.declared.style.Form.TheVariants as all_forms;
 ghost use Rattle.dl_path.specs.Paths.{slash_after};
 ghost use Rattle.dl_addr.specs.Printing.{inner_text, named_text};
 ghost use Rattle.dl_addr.specs.Shown.{no_path_text, text_in};
-ghost use Rattle.dl_addr.specs.Texts.{path_kept, path_named};
+ghost use Rattle.dl_addr.specs.Texts.{path_in_table, path_kept, path_named};
 
-use crate::kept::{KeptPath, KeptText};
+use crate::kept::{KeptBytes, KeptPath, KeptText};
 use crate::style::Form;
 use dl_path::{print_json_text, print_shown, wants_slash};
 use dl_print::{Printer, WriteFault};
@@ -43,7 +43,9 @@ fn print_known<W: Write>(
         (text_in form (path_named path.entry name.now)) result }
 {
     match form {
-        Form::Location | Form::AddressAndLocation => print_parts(printer, output, form, path, name),
+        Form::Location | Form::AddressAndLocation => {
+            print_rooted(printer, output, form, path, name)
+        }
         Form::Json => print_quoted(printer, output, path, name),
     }
 }
@@ -74,8 +76,27 @@ fn print_quoted<W: Write>(
         (text_in all_forms.Json (path_named path.entry name.now)) result }
 {
     printer.put(output, b"\"")?;
-    print_parts(printer, output, Form::Json, path, name)?;
+    print_rooted(printer, output, Form::Json, path, name)?;
     printer.put(output, b"\"")
+}
+
+/// Prints a path under its compilation directory, where there is one.
+fn print_rooted<W: Write>(
+    printer: &mut Printer,
+    output: &mut W,
+    form: Form,
+    path: KeptPath<'_, '_>,
+    name: &KeptText<'_>,
+) -> Result<(), WriteFault>
+    ensures { Prints (W.contents output.old) (W.contents output.new) printer.old printer.new
+        (inner_text form (path_named path.entry name.now)) result }
+{
+    let Some(root) = path.root else {
+        return print_parts(printer, output, form, path, name);
+    };
+    let root = KeptText::new(KeptBytes::Lent(root));
+    print_folder(printer, output, form, &root)?;
+    print_parts(printer, output, form, path, name)
 }
 
 /// Prints the parts of a path, one after the other.
@@ -87,7 +108,7 @@ fn print_parts<W: Write>(
     name: &KeptText<'_>,
 ) -> Result<(), WriteFault>
     ensures { Prints (W.contents output.old) (W.contents output.new) printer.old printer.new
-        (inner_text form (path_named path.entry name.now)) result }
+        (inner_text form (path_in_table path.entry name.now)) result }
 {
     print_directory(printer, output, form, path.text(path.file.base))?;
     print_directory(printer, output, form, path.text(path.file.directory))?;

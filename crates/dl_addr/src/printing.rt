@@ -93,7 +93,7 @@ fn print_row<W: Write>(
     row: &Row,
 ) -> Result<(), WriteFault>
     ensures { Prints (W.contents output.old) (W.contents output.new) printer.old printer.new
-        (row_text form (named_text form (path_kept path.entry)) row.now path.entry.file.now.unit) result }
+        (row_text form (named_text form (path_kept path.entry)) row.now path.entry.file.now.unit.offset) result }
 {
     match form {
         Form::Location | Form::AddressAndLocation => print_place(printer, output, form, path, row),

@@ -1,6 +1,7 @@
 //! What is asked of a section.
 
 use crate::style::Style;
+use dl_dirs::CompilationDirectories;
 use dl_look::{Asked, CodeRanges};
 
 /// What is asked of a section.
@@ -13,6 +14,8 @@ pub struct Question<'a> {
     /// Where there is code: a sequence answers where its first address is one of these. None: each
     /// sequence answers.
     pub code: Option<&'a CodeRanges>,
+    /// Where paths stand that aren't whole.
+    pub directories: CompilationDirectories<'a>,
     /// How the answers are printed.
     pub style: Style<'a>,
 }

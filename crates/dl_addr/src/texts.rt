@@ -10,11 +10,11 @@ ghost use Rattle.dl_addr.specs.Texts.{TextsGrow, directory_text, files_end, name
 ghost use Rattle.dl_print.specs.ValueText.{strings_of};
 ghost use Rattle.dl_path.specs.Paths.{path_of};
 
-use crate::kept::{FilePath, KeptBytes, KeptText, Paths};
+use crate::kept::{FilePath, KeptBytes, KeptText, PathUnit, Paths};
 use crate::style::Style;
 use dl_head::Header;
 use dl_look::{Answered, NoMemory};
-use dl_path::{Directory, Parts, Text, basename, parts_of};
+use dl_path::{Directory, Parts, Text, basename, has_directory_0, parts_of};
 use dl_print::StringSections;
 use std::alloc::Global;
 use std::collections::BTreeMap;
@@ -27,6 +27,21 @@ pub struct UnitFiles<'s, 'o, 'h> {
     pub style: Style<'h>,
     /// The offset of the unit in its section.
     pub offset: u64,
+}
+
+impl UnitFiles<'_, '_, '_> {
+    ghost use Rattle.std.specs.Prelude.{◌≡◌};
+    ghost use Rattle.dl_addr.specs.Texts.{place_of};
+
+    /// What is kept of the unit itself.
+    fn place(&self) -> PathUnit
+        ensures { result ≡ place_of self.now }
+    {
+        PathUnit {
+            offset: self.offset,
+            has_directory_0: has_directory_0(self.header),
+        }
+    }
 }
 
 /// What is kept of the current unit, by its numbers.
@@ -156,7 +171,7 @@ fn add_file<'s>(
         → HasPath paths.new k (path_of_file unit.now file)) }
 {
     let parts = file_parts(unit, file);
-    let path = keep_parts(alloc, &mut paths.texts, directories, unit.offset, parts)?;
+    let path = keep_parts(alloc, &mut paths.texts, directories, unit.place(), parts)?;
     let number = paths.files.len();
     match paths.files.push(path) {
         Ok(()) => Ok(number),
@@ -177,12 +192,12 @@ fn file_parts<'s, 'h>(unit: &UnitFiles<'s, '_, 'h>, file: u64) -> Option<Parts<'
     Some(parts)
 }
 
-/// Keeps the texts of a path of the unit at this offset.
+/// Keeps the texts of a path of this unit.
 fn keep_parts<'s>(
     alloc: Global,
     texts: &mut Vec<KeptText<'s>>,
     directories: &mut BTreeMap<u64, usize>,
-    unit: u64,
+    unit: PathUnit,
     parts: Option<Parts<'s, '_>>,
 ) -> Result<FilePath, NoMemory>
     ensures grows { TextsGrow texts.old.items texts.new.items }

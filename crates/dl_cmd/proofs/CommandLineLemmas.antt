@@ -19,7 +19,7 @@ use Rattle.clap.specs.Walk.{Text, is_empty, rule_of, texts}
 use Rattle.clap.specs.Words.{App, Rule, AddsArg, AddsSubcommand, with_rule, with_subcommand}
 use Rattle.clap.specs.declared.builder.arg.Arg.{Arg}
 use Rattle.clap.specs.declared.builder.command.Command.{Command}
-use Rattle.dl_cmd.specs.CommandLine.{Excludes, IsApp, IsRule, Wants, command_line, need_text}
+use Rattle.dl_cmd.specs.CommandLine.{Excludes, IsApp, IsRule, Wants, command_line, need_text, present}
 
 pub IsApp-arg : (old : Command) (a : Arg) (new : Command) (A : App) (r : Rule) → AddsArg old a new → IsApp A old
     → IsRule r a → IsApp (with_rule A r) new
@@ -63,14 +63,15 @@ IsRule-wanting r old new id added i = (
   ap (λ (a : Arg). a.global) added.0 ∙ i.1,
 )
 
--- one that wanted nothing wants the one
-pub Wants-one : (old : Arg) (id : Bor (List ℕ)) (new : Result Arg AllocError)
-    → IfOk new (λ r. AddsRequirements old r ((IsPresent, id) ∷ [])) → Wants [] old → IfOk new (Wants (id.now ∷ []))
-Wants-one old id (Ok new) added none =
+-- one that wanted these wants one more
+pub Wants-more : (old : Arg) (id : Bor (List ℕ)) (ids : List Text) (new : Result Arg AllocError)
+    → IfOk new (λ r. AddsRequirements old r ((IsPresent, id) ∷ [])) → Wants ids old → IfOk new (Wants (ids ++ id.now ∷ []))
+Wants-more old id ids (Ok new) added these =
     ap (map need_text) added.1
     ∙ map-append _ old.needs.items ((IsPresent, id) ∷ [])
-    ∙ ap (λ (l : List (ArgPredicate × Text)). l ++ (IsPresent, id.now) ∷ []) none
-Wants-one old id (Err error) added none = tt
+    ∙ ap (λ (l : List (ArgPredicate × Text)). l ++ (IsPresent, id.now) ∷ []) these
+    ∙ sym (map-append present ids (id.now ∷ []))
+Wants-more old id ids (Err error) added these = tt
 
 pub excludes_more : (old new : Arg) (id : Bor (List ℕ)) (ids : List Text) → AddsConflicts old new (id ∷ [])
     → Excludes ids old → Excludes (ids ++ id.now ∷ []) new

@@ -76,7 +76,35 @@ letter_rule id letter = record (switch_rule id) { short = Some letter }
 abbrev pub json_rule : Rule
 json_rule = record (switch_rule (codes "json")) { is_free = false }
 
--- where the section comes from
+-- `--id`, with a value
+abbrev pub value_rule : Text → Rule
+value_rule id = record (new_rule id) { long = Some id; value_names = 1 }
+
+-- the same, beside which others have to be there
+abbrev pub wanting_rule : Text → Rule
+wanting_rule id = record (value_rule id) { is_free = false }
+
+-- `--version-5`, which excludes `--address-size`, and may want FILE
+abbrev pub version_5_rule : Rule
+version_5_rule = record (switch_rule (codes "version-5")) { is_free = false }
+
+-- which units of versions 2 to 4 are read
+abbrev pub with_units : App → App
+with_units a =
+    with_rule (with_rule (with_rule a (value_rule (codes "older"))) (wanting_rule (codes "address-size"))) version_5_rule
+
+-- the same of `addr`, whose FILE may be named by a letter
+abbrev pub with_units_of_addr : App → App
+with_units_of_addr a =
+    with_rule (with_rule (with_rule a (value_rule (codes "older"))) (value_rule (codes "address-size"))) version_5_rule
+
+-- units of versions 2 to 4 are copied as those of version 5
+abbrev pub with_to_5 : App → App
+with_to_5 a =
+    with_rule (with_rule (with_rule (with_rule a (switch_rule (codes "to-5"))) (wanting_rule (codes "older")))
+    (wanting_rule (codes "address-size"))) (wanting_rule (codes "comp-dir"))
+
+-- where the section comes from, in its order
 abbrev pub with_input : App → App
 with_input a = with_rule (with_rule a big_rule) file_rule
 
@@ -98,30 +126,33 @@ with_settings a =
 
 abbrev pub with_addresses : App → App
 with_addresses a =
-    with_rule (with_rule (with_rule (with_rule (with_rule (with_rule (with_settings a) big_rule) line_str_rule) str_rule)
+    with_rule (with_rule (with_rule (with_rule (with_rule (with_rule
+    (with_rule (with_units_of_addr (with_settings a)) (value_rule (codes "comp-dir"))) big_rule) line_str_rule) str_rule)
     exe_rule) addr_file_rule) addresses_rule
 
--- `addr [-a] [-s] [--json] [--hex] [--base ADDRESS] [--all] [-j NAME] [--big] [--line-str PATH] [--str PATH] FILE
--- [ADDRESS]..`, or with `-e FILE` in place of `FILE`
+-- `addr [-a] [-s] [--json] [--hex] [--base ADDRESS] [--all] [-j NAME] [--older SIZE] [--address-size SIZE] [--version-5]
+-- [--comp-dir DIR] [--big] [--line-str PATH] [--str PATH] FILE [ADDRESS]..`, or with `-e FILE` in place of `FILE`
 abbrev pub addr_app : App
 addr_app = with_addresses (new_app (codes "addr"))
 
--- `dump [--big] [--line-str PATH] [--str PATH] [FILE]`
+-- `dump [--older SIZE] [--address-size SIZE] [--version-5] [--big] [--line-str PATH] [--str PATH] [FILE]`
 abbrev pub dump_app : App
-dump_app = with_strings (new_app (codes "dump"))
+dump_app = with_strings (with_units (new_app (codes "dump")))
 
--- `check [--big] [FILE]`
+-- `check [--older SIZE] [--address-size SIZE] [--version-5] [--big] [FILE]`
 abbrev pub check_app : App
-check_app = with_input (new_app (codes "check"))
+check_app = with_input (with_units (new_app (codes "check")))
 
--- `find ADDRESS [--op N] [-j NAME] [--big] [--line-str PATH] [--str PATH] [FILE]`
+-- `find ADDRESS [--op N] [-j NAME] [--older SIZE] [--address-size SIZE] [--version-5] [--big] [--line-str PATH]
+-- [--str PATH] [FILE]`
 abbrev pub find_app : App
 find_app =
-    with_strings (with_rule (with_rule (with_rule (new_app (codes "find")) address_rule) op_rule) section_of_file_rule)
+    with_strings (with_units (with_rule (with_rule (with_rule (new_app (codes "find")) address_rule) op_rule)
+    section_of_file_rule))
 
--- `copy [--big] [FILE]`
+-- `copy [--to-5] [--older SIZE] [--address-size SIZE] [--comp-dir DIR] [--big] [FILE]`
 abbrev pub copy_app : App
-copy_app = with_input (new_app (codes "copy"))
+copy_app = with_input (with_to_5 (new_app (codes "copy")))
 
 -- `dwline`, which has a version and wants a subcommand
 abbrev pub top_app : App

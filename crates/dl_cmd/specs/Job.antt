@@ -3,10 +3,17 @@ use Rattle.std.specs.Prelude.{ℕ, Bool, List, Option, map, option_map}
 use Rattle.dl_cmd.specs.declared.job.Job.{Job}
 use Rattle.dl_cmd.specs.declared.job.Job.TheVariants.{Addr, Dump, Check, Find, Copy}
 use Rattle.dl_cmd.specs.declared.job.AddrWords.{AddrWords}
+use Rattle.dl_cmd.specs.declared.job.UnitWords.{UnitWords}
 
 -- the text of a word, by its bytes
 abbrev pub Text : Type 0
 Text = List ℕ
+
+-- what is said of units of versions 2 to 4, by the texts of its words
+pub record UnitTexts : Type 0 where
+  pub older : Option Text
+  pub address_size : Option Text
+  pub version_5 : Bool
 
 -- the words of `addr`, by their texts
 pub record AddrTexts : Type 0 where
@@ -20,17 +27,26 @@ pub record AddrTexts : Type 0 where
   pub all : Bool
   pub section : Option Text
   pub big : Bool
+  pub units : UnitTexts
+  pub comp_dir : Option Text
   pub line_str : Option Text
   pub strings : Option Text
 
 -- a job, by the texts of its words
 pub data Request : Type 0 where
-  dump : (file : Option Text) (big : Bool) (line_str strings : Option Text) → Request
-  check : (file : Option Text) (big : Bool) → Request
-  find : (file : Option Text) (big : Bool) (address : Option Text) (op : ℕ) (section line_str strings : Option Text)
-      → Request
-  copy : (file : Option Text) (big : Bool) → Request
+  dump : (file : Option Text) (big : Bool) (units : UnitTexts) (line_str strings : Option Text) → Request
+  check : (file : Option Text) (big : Bool) (units : UnitTexts) → Request
+  find : (file : Option Text) (big : Bool) (units : UnitTexts) (address : Option Text) (op : ℕ)
+      (section line_str strings : Option Text) → Request
+  copy : (file : Option Text) (big : Bool) (units : UnitTexts) (to_5 : Bool) (comp_dir : Option Text) → Request
   addr : AddrTexts → Request
+
+abbrev pub unit_words_made : UnitWords → UnitTexts
+unit_words_made w = record {
+  older = option_map (λ s. s.now) w.older;
+  address_size = option_map (λ s. s.now) w.address_size;
+  version_5 = w.version_5;
+}
 
 abbrev pub addr_words_made : AddrWords → AddrTexts
 addr_words_made w = record {
@@ -44,16 +60,20 @@ addr_words_made w = record {
   all = w.all;
   section = option_map (λ s. s.now) w.section;
   big = w.big;
+  units = unit_words_made w.units;
+  comp_dir = option_map (λ s. s.now) w.comp_dir;
   line_str = option_map (λ s. s.now) w.line_str;
   strings = option_map (λ s. s.now) w.strings;
 }
 
 abbrev pub request_made : Job → Request
-request_made (Dump file big line_str strings) =
-    dump (option_map (λ s. s.now) file) big (option_map (λ s. s.now) line_str) (option_map (λ s. s.now) strings)
-request_made (Check file big) = check (option_map (λ s. s.now) file) big
-request_made (Find file big address op section line_str strings) =
-    find (option_map (λ s. s.now) file) big (option_map (λ s. s.now) address) op (option_map (λ s. s.now) section)
-    (option_map (λ s. s.now) line_str) (option_map (λ s. s.now) strings)
-request_made (Copy file big) = copy (option_map (λ s. s.now) file) big
+request_made (Dump file big units line_str strings) =
+    dump (option_map (λ s. s.now) file) big (unit_words_made units) (option_map (λ s. s.now) line_str)
+    (option_map (λ s. s.now) strings)
+request_made (Check file big units) = check (option_map (λ s. s.now) file) big (unit_words_made units)
+request_made (Find file big units address op section line_str strings) =
+    find (option_map (λ s. s.now) file) big (unit_words_made units) (option_map (λ s. s.now) address) op
+    (option_map (λ s. s.now) section) (option_map (λ s. s.now) line_str) (option_map (λ s. s.now) strings)
+request_made (Copy file big units to_5 comp_dir) =
+    copy (option_map (λ s. s.now) file) big (unit_words_made units) to_5 (option_map (λ s. s.now) comp_dir)
 request_made (Addr w) = addr (addr_words_made w)

@@ -6,7 +6,7 @@ use Rattle.clap.specs.Words.{Row, all_of, first_of, one_of}
 use Rattle.clap.specs.Walk.{byte_or_zero}
 use Rattle.clap.specs.declared.error.kind.ErrorKind.{ErrorKind}
 use Rattle.clap.specs.declared.error.kind.ErrorKind.TheVariants.{DisplayHelp, DisplayVersion, OutOfMemory}
-use Rattle.dl_cmd.specs.Job.{AddrTexts, Request, Text, addr, check, copy, dump, find}
+use Rattle.dl_cmd.specs.Job.{AddrTexts, Request, Text, UnitTexts, addr, check, copy, dump, find}
 
 -- the value of an argument that is a text, texts, a byte or a flag, in the matches of a subcommand
 abbrev pub text_of : Text → List Row → Option Text
@@ -27,6 +27,13 @@ file_and_addresses None first others = (first, others)
 file_and_addresses (Some exe) None others = (Some exe, others)
 file_and_addresses (Some exe) (Some first) others = (Some exe, first ∷ others)
 
+abbrev pub unit_words_of : List Row → UnitTexts
+unit_words_of rows = record {
+  older = text_of (codes "older") rows;
+  address_size = text_of (codes "address-size") rows;
+  version_5 = flag_of (codes "version-5") rows;
+}
+
 abbrev pub addr_words_of : List Row → AddrTexts
 addr_words_of rows = record {
   file = (file_and_addresses (text_of (codes "exe") rows) (text_of (codes "file") rows)
@@ -41,6 +48,8 @@ addr_words_of rows = record {
   all = flag_of (codes "all") rows;
   section = text_of (codes "section") rows;
   big = flag_of (codes "big") rows;
+  units = unit_words_of rows;
+  comp_dir = text_of (codes "comp-dir") rows;
   line_str = text_of (codes "line-str") rows;
   strings = text_of (codes "str") rows;
 }
@@ -50,15 +59,16 @@ abbrev pub request_of : Text → List Row → Option Request
 request_of name rows =
     let file = text_of (codes "file") rows in
     let big = flag_of (codes "big") rows in
+    let units = unit_words_of rows in
     let line_str = text_of (codes "line-str") rows in
     let strings = text_of (codes "str") rows in
     if bytes_eq name (codes "addr") then Some (addr (addr_words_of rows)) else
-    if bytes_eq name (codes "dump") then Some (dump file big line_str strings) else
-    if bytes_eq name (codes "check") then Some (check file big) else
+    if bytes_eq name (codes "dump") then Some (dump file big units line_str strings) else
+    if bytes_eq name (codes "check") then Some (check file big units) else
     if bytes_eq name (codes "find")
-    then Some (find file big (text_of (codes "address") rows) (byte_of (codes "op") rows)
+    then Some (find file big units (text_of (codes "address") rows) (byte_of (codes "op") rows)
     (text_of (codes "section") rows) line_str strings) else
-    if bytes_eq name (codes "copy") then Some (copy file big) else None
+    if bytes_eq name (codes "copy") then Some (copy file big units (flag_of (codes "to-5") rows) (text_of (codes "comp-dir") rows)) else None
 
 -- the same of a reading of the words, which may hold no subcommand
 abbrev pub requested : Option (Text × List Row) → Option Request

@@ -1,11 +1,12 @@
 //! The command line: its subcommands and arguments, with their help.
-ghost use Rattle.std.specs.Prelude.{IfOk, [], ◌∷◌, codes};
-ghost use Rattle.clap.specs.Words.{App, Rule, with_rule, with_subcommand};
+ghost use Rattle.std.specs.Prelude.{IfOk, List, false, [], ◌∷◌, ◌++◌, codes};
+ghost use Rattle.clap.specs.Words.{App, Rule, Text, with_rule, with_subcommand};
 ghost use Rattle.dl_cmd.specs.CommandLine.{Excludes, IsApp, IsRule, IsWantedUnless, big_rule, file_rule, line_str_rule};
 ghost use Rattle.dl_cmd.specs.CommandLine.{address_rule, op_rule, addr_file_rule, addresses_rule, base_rule, exe_rule};
 ghost use Rattle.dl_cmd.specs.CommandLine.{Wants, json_rule, section_of_file_rule, section_rule, str_rule};
 ghost use Rattle.dl_cmd.specs.CommandLine.{switch_rule, letter_rule, addr_app, with_addresses, with_input};
 ghost use Rattle.dl_cmd.specs.CommandLine.{with_printing, with_settings, with_strings, dump_app, check_app, find_app, copy_app};
+ghost use Rattle.dl_cmd.specs.CommandLine.{value_rule, version_5_rule, wanting_rule, with_to_5, with_units, with_units_of_addr};
 ghost use Rattle.dl_cmd.specs.CommandLine.{command_line, top_app};
 
 use clap::{Arg, ArgAction, Command};
@@ -22,10 +23,11 @@ const WITHOUT_FILE: &str =
 const WITHOUT_ELF_FILE: &str =
     "Where FILE is - the bytes of a section .debug_line are read from standard input, not an ELF file.";
 
-/// The ELF file that is read. It says its order, so `--big` may not be used with it.
+/// The ELF file that is read. It says its order and the size of addresses, so `--big` and `--older` may not be used with
+/// it.
 fn file<'a>(alloc: Global) -> Result<Arg<'a>, AllocError>
     ensures rule { IfOk result (IsRule file_rule) }
-    ensures excludes { IfOk result (Excludes (codes "big" ∷ [])) }
+    ensures excludes { IfOk result (Excludes (codes "big" ∷ codes "older" ∷ [])) }
 {
     Arg::new(alloc, "file")
         .value_name("FILE")
@@ -33,13 +35,14 @@ fn file<'a>(alloc: Global) -> Result<Arg<'a>, AllocError>
             "ELF file to read; without it the bytes of a section .debug_line are read from \
              standard input",
         )
-        .conflicts_with("big")
+        .conflicts_with("big")?
+        .conflicts_with("older")
 }
 
 /// The same of a command that looks into string sections. It has these too.
 fn file_with_strings<'a>(alloc: Global) -> Result<Arg<'a>, AllocError>
     ensures rule { IfOk result (IsRule file_rule) }
-    ensures excludes { IfOk result (Excludes (codes "big" ∷ codes "line-str" ∷ codes "str" ∷ [])) }
+    ensures excludes { IfOk result (Excludes (codes "big" ∷ codes "older" ∷ codes "line-str" ∷ codes "str" ∷ [])) }
 {
     file(alloc)?
         .conflicts_with("line-str")?
@@ -114,7 +117,7 @@ fn section_of_file<'a>(alloc: Global) -> Result<Arg<'a>, AllocError>
     ensures rule { IfOk result (IsRule section_of_file_rule) }
     ensures wants { IfOk result (Wants (codes "file" ∷ [])) }
 {
-    section(alloc).requires_arg("file")
+    wanting(section(alloc), "file")
 }
 
 /// The file of `addr`, which may be `-` beside `--big`, `--line-str` and `--str`. It is wanted unless `-e` names it.
@@ -189,6 +192,92 @@ fn letter<'a>(alloc: Global, id: &'a str, short: char, help: &'a str) -> Arg<'a>
     switch(alloc, id, help).short(short)
 }
 
+/// An option `--id` with a value.
+fn valued<'a>(alloc: Global, id: &'a str, value_name: &'a str, help: &'a str) -> Arg<'a>
+    ensures rule { IsRule (value_rule id.entry.now) result }
+    ensures wants { Wants [] result }
+{
+    Arg::new(alloc, id)
+        .long(id)
+        .value_name(value_name)
+        .help(help)
+}
+
+/// The same argument, beside which one more has to be there.
+fn wanting<'a>(arg: Arg<'a>, id: &'a str) -> Result<Arg<'a>, AllocError>
+    ensures rule { (r : Rule) → IsRule r arg.entry → IfOk result (IsRule (record r { is_free = false })) }
+    ensures wants { (ids : List Text) → Wants ids arg.entry → IfOk result (Wants (ids ++ id.entry.now ∷ [])) }
+{
+    arg.requires_arg(id)
+}
+
+fn older<'a>(alloc: Global) -> Arg<'a>
+    ensures rule { IsRule (value_rule (codes "older")) result }
+    ensures wants { Wants [] result }
+{
+    valued(
+        alloc,
+        "older",
+        "SIZE",
+        "Read units of versions 2 to 4 on standard input too, whose addresses have SIZE bytes: 1, 2, 4 \
+         or 8",
+    )
+}
+
+fn address_size<'a>(alloc: Global) -> Arg<'a>
+    ensures rule { IsRule (value_rule (codes "address-size")) result }
+    ensures wants { Wants [] result }
+{
+    valued(
+        alloc,
+        "address-size",
+        "SIZE",
+        "Size of an address in units of versions 2 to 4 of FILE, in place of that of its class: 1, 2, 4 \
+         or 8",
+    )
+}
+
+/// The same of a command whose FILE may be left out: FILE has to be there.
+fn address_size_of_file<'a>(alloc: Global) -> Result<Arg<'a>, AllocError>
+    ensures rule { IfOk result (IsRule (wanting_rule (codes "address-size"))) }
+    ensures wants { IfOk result (Wants (codes "file" ∷ [])) }
+{
+    wanting(address_size(alloc), "file")
+}
+
+/// `--version-5`, beside which the size of other addresses means nothing.
+fn version_5<'a>(alloc: Global) -> Result<Arg<'a>, AllocError>
+    ensures rule { IfOk result (IsRule version_5_rule) }
+    ensures excludes { IfOk result (Excludes (codes "address-size" ∷ [])) }
+    ensures wants { IfOk result (Wants []) }
+{
+    Arg::new(alloc, "version-5")
+        .long("version-5")
+        .action(ArgAction::SetTrue)
+        .help("Read units of version 5 alone of FILE")
+        .conflicts_with("address-size")
+}
+
+/// The same of a command whose FILE may be left out: FILE has to be there.
+fn version_5_of_file<'a>(alloc: Global) -> Result<Arg<'a>, AllocError>
+    ensures rule { IfOk result (IsRule version_5_rule) }
+    ensures wants { IfOk result (Wants (codes "file" ∷ [])) }
+{
+    wanting(version_5(alloc)?, "file")
+}
+
+fn comp_dir<'a>(alloc: Global) -> Arg<'a>
+    ensures rule { IsRule (value_rule (codes "comp-dir")) result }
+    ensures wants { Wants [] result }
+{
+    valued(
+        alloc,
+        "comp-dir",
+        "DIR",
+        "Compilation directory of all units, in place of the one that .debug_info says",
+    )
+}
+
 /// The command with one argument more, where it could be made so far.
 fn with_arg<'a>(
     command: Result<Command<'a>, AllocError>,
@@ -222,6 +311,56 @@ fn with_command<'a>(
     line.subcommand(command?)
 }
 
+/// Which units of versions 2 to 4 are read.
+fn add_units<'a>(
+    alloc: Global,
+    command: Result<Command<'a>, AllocError>,
+) -> Result<Command<'a>, AllocError>
+    ensures { (a : App) → IfOk command.entry (IsApp a) → IfOk result (IsApp (with_units a)) }
+{
+    let command = with_arg(command, older(alloc));
+    let command = with_made_arg(command, address_size_of_file(alloc));
+    with_made_arg(command, version_5_of_file(alloc))
+}
+
+/// The same of `addr`, whose FILE may be named by a letter.
+fn add_units_of_addr<'a>(
+    alloc: Global,
+    command: Result<Command<'a>, AllocError>,
+) -> Result<Command<'a>, AllocError>
+    ensures { (a : App) → IfOk command.entry (IsApp a) → IfOk result (IsApp (with_units_of_addr a)) }
+{
+    let command = with_arg(command, older(alloc));
+    let command = with_arg(command, address_size(alloc));
+    with_made_arg(command, version_5(alloc))
+}
+
+/// `--to-5`, and what is said of the units that it copies.
+fn add_to_5<'a>(
+    alloc: Global,
+    command: Result<Command<'a>, AllocError>,
+) -> Result<Command<'a>, AllocError>
+    ensures { (a : App) → IfOk command.entry (IsApp a) → IfOk result (IsApp (with_to_5 a)) }
+{
+    let to_5 = switch(
+        alloc,
+        "to-5",
+        "Copy units of versions 2 to 4 too, as units of version 5",
+    );
+    let command = with_arg(command, to_5);
+    let command = with_made_arg(command, wanting(older(alloc), "to-5"));
+    let command = with_made_arg(command, size_of_copied(alloc));
+    with_made_arg(command, wanting(comp_dir(alloc), "to-5"))
+}
+
+/// `--address-size` of `copy`: FILE has to be there, and `--to-5`.
+fn size_of_copied<'a>(alloc: Global) -> Result<Arg<'a>, AllocError>
+    ensures rule { IfOk result (IsRule (wanting_rule (codes "address-size"))) }
+    ensures wants { IfOk result (Wants (codes "file" ∷ codes "to-5" ∷ [])) }
+{
+    wanting(address_size_of_file(alloc)?, "to-5")
+}
+
 fn add_input<'a>(
     alloc: Global,
     command: Result<Command<'a>, AllocError>,
@@ -252,7 +391,7 @@ fn dump<'a>(alloc: Global) -> Result<Command<'a>, AllocError>
         .after_help(
             "Examples:\n  dwline dump program\n  dwline dump --line-str debug_line_str < debug_line",
         );
-    add_strings(alloc, Ok(command))
+    add_strings(alloc, add_units(alloc, Ok(command)))
 }
 
 fn check<'a>(alloc: Global) -> Result<Command<'a>, AllocError>
@@ -262,7 +401,7 @@ fn check<'a>(alloc: Global) -> Result<Command<'a>, AllocError>
         .before_help(WITHOUT_FILE)
         .about("Read all units, and print how many units, sequences and rows there are")
         .after_help("Examples:\n  dwline check program\n  dwline check --big < debug_line");
-    add_input(alloc, Ok(command))
+    add_input(alloc, add_units(alloc, Ok(command)))
 }
 
 fn find<'a>(alloc: Global) -> Result<Command<'a>, AllocError>
@@ -277,7 +416,7 @@ fn find<'a>(alloc: Global) -> Result<Command<'a>, AllocError>
     let command = with_arg(Ok(command), address(alloc));
     let command = with_arg(command, op(alloc));
     let command = with_made_arg(command, section_of_file(alloc));
-    add_strings(alloc, command)
+    add_strings(alloc, add_units(alloc, command))
 }
 
 fn copy<'a>(alloc: Global) -> Result<Command<'a>, AllocError>
@@ -287,9 +426,10 @@ fn copy<'a>(alloc: Global) -> Result<Command<'a>, AllocError>
         .before_help(WITHOUT_FILE)
         .about("Write each unit anew, with the same header and rows, as the bytes of a section")
         .after_help(
-            "Examples:\n  dwline copy program > debug_line\n  dwline copy < debug_line > copied",
+            "Examples:\n  dwline copy program > debug_line\n  dwline copy < debug_line > copied\n  \
+             dwline copy --to-5 program > debug_line",
         );
-    add_input(alloc, Ok(command))
+    add_input(alloc, add_to_5(alloc, Ok(command)))
 }
 
 /// How answers are printed.
@@ -341,7 +481,8 @@ fn add_addresses<'a>(
 ) -> Result<Command<'a>, AllocError>
     ensures { (a : App) → IfOk command.entry (IsApp a) → IfOk result (IsApp (with_addresses a)) }
 {
-    let command = add_settings(alloc, command);
+    let command = add_units_of_addr(alloc, add_settings(alloc, command));
+    let command = with_arg(command, comp_dir(alloc));
     let command = with_arg(command, big(alloc));
     let command = with_arg(command, line_str(alloc));
     let command = with_arg(command, strings(alloc));

@@ -1,6 +1,18 @@
 //! What the words of the command line ask for.
 
-/// What the program is to do. Paths and addresses are the words as they stand.
+/// What the words say of units of versions 2 to 4, whose headers don't have the size of an address. The sizes are the
+/// words as they stand.
+#[derive(Clone, Copy, Debug, PartialEq, Eq)]
+pub struct UnitWords<'a> {
+    /// The size of an address in those of a section on standard input; without it they aren't read.
+    pub older: Option<&'a str>,
+    /// The size of an address in those of an ELF file, where it isn't that of the file's class.
+    pub address_size: Option<&'a str>,
+    /// Units of version 5 alone are read of an ELF file.
+    pub version_5: bool,
+}
+
+/// What the program is to do. Paths, addresses and sizes are the words as they stand.
 ///
 /// Where the path of an ELF file is given, its words say neither an order nor the path of a string section.
 #[derive(Debug, Drop, PartialEq, Eq)]
@@ -11,6 +23,8 @@ pub enum Job<'a> {
         file: Option<&'a str>,
         /// The section is big-endian.
         big: bool,
+        /// Which units of versions 2 to 4 are read.
+        units: UnitWords<'a>,
         /// The path of the section `.debug_line_str`.
         line_str: Option<&'a str>,
         /// The path of the section `.debug_str`.
@@ -20,11 +34,13 @@ pub enum Job<'a> {
     Check {
         file: Option<&'a str>,
         big: bool,
+        units: UnitWords<'a>,
     },
     /// Look up an address.
     Find {
         file: Option<&'a str>,
         big: bool,
+        units: UnitWords<'a>,
         address: Option<&'a str>,
         /// The operation index.
         op: u8,
@@ -37,6 +53,11 @@ pub enum Job<'a> {
     Copy {
         file: Option<&'a str>,
         big: bool,
+        units: UnitWords<'a>,
+        /// Units of versions 2 to 4 are copied too, as units of version 5.
+        to_5: bool,
+        /// The compilation directory of those, in place of the one that the file says.
+        comp_dir: Option<&'a str>,
     },
     /// Print where addresses are in the source.
     Addr(AddrWords<'a>),
@@ -63,6 +84,9 @@ pub struct AddrWords<'a> {
     /// The name of the section of an object file that is looked into.
     pub section: Option<&'a str>,
     pub big: bool,
+    pub units: UnitWords<'a>,
+    /// The compilation directory, in place of the one that the file says.
+    pub comp_dir: Option<&'a str>,
     pub line_str: Option<&'a str>,
     pub strings: Option<&'a str>,
 }

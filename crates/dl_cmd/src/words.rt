@@ -3,12 +3,12 @@
 ghost use Rattle.std.specs.Prelude.{◌≡◌, Option, IfOk, map, option_map};
 ghost use Rattle.clap.specs.Words.{found_of, kind_of, rows_of, subcommand_of};
 ghost use Rattle.dl_cmd.specs.CommandLine.{command_line};
-ghost use Rattle.dl_cmd.specs.Job.{addr_words_made, request_made};
+ghost use Rattle.dl_cmd.specs.Job.{addr_words_made, request_made, unit_words_made};
 ghost use Rattle.dl_cmd.specs.Words.{addr_words_of, byte_of, file_and_addresses, flag_of, request_of, requested};
-ghost use Rattle.dl_cmd.specs.Words.{text_of, texts_of, word_status_of};
+ghost use Rattle.dl_cmd.specs.Words.{text_of, texts_of, unit_words_of, word_status_of};
 
 use crate::command_line::make_command_line;
-use crate::job::{AddrWords, Job};
+use crate::job::{AddrWords, Job, UnitWords};
 use clap::error::ErrorKind;
 use clap::{ArgMatches, Error};
 use std::alloc::{AllocError, Global};
@@ -61,6 +61,16 @@ fn file_and_addresses<'a>(
     Ok((Some(exe), addresses))
 }
 
+fn unit_words<'a>(matches: &ArgMatches<'a>) -> UnitWords<'a>
+    ensures { unit_words_made result ≡ unit_words_of (rows_of (found_of matches.now)) }
+{
+    UnitWords {
+        older: text(matches, "older"),
+        address_size: text(matches, "address-size"),
+        version_5: flag(matches, "version-5"),
+    }
+}
+
 fn addr_words<'a>(alloc: Global, matches: &ArgMatches<'a>) -> Result<AddrWords<'a>, AllocError>
     ensures { IfOk result (λ w. addr_words_made w ≡ addr_words_of (rows_of (found_of matches.now))) }
 {
@@ -81,6 +91,8 @@ fn addr_words<'a>(alloc: Global, matches: &ArgMatches<'a>) -> Result<AddrWords<'
         all: flag(matches, "all"),
         section: text(matches, "section"),
         big: flag(matches, "big"),
+        units: unit_words(matches),
+        comp_dir: text(matches, "comp-dir"),
         line_str: text(matches, "line-str"),
         strings: text(matches, "str"),
     })
@@ -99,16 +111,19 @@ fn job_of<'a>(
         "dump" => Job::Dump {
             file: text(matches, "file"),
             big: flag(matches, "big"),
+            units: unit_words(matches),
             line_str: text(matches, "line-str"),
             strings: text(matches, "str"),
         },
         "check" => Job::Check {
             file: text(matches, "file"),
             big: flag(matches, "big"),
+            units: unit_words(matches),
         },
         "find" => Job::Find {
             file: text(matches, "file"),
             big: flag(matches, "big"),
+            units: unit_words(matches),
             address: text(matches, "address"),
             op: byte(matches, "op"),
             section: text(matches, "section"),
@@ -118,6 +133,9 @@ fn job_of<'a>(
         "copy" => Job::Copy {
             file: text(matches, "file"),
             big: flag(matches, "big"),
+            units: unit_words(matches),
+            to_5: flag(matches, "to-5"),
+            comp_dir: text(matches, "comp-dir"),
         },
         _ => return Ok(None),
     };

@@ -94,11 +94,11 @@ none_before_one : (e : Elf) (f : List ℕ) (name : SectionName) (slot : Option N
 none_before_one e f name None is = λ k from below. absurd (omega (arith, from, below))
 none_before_one e f name (Some s) is = absurd cc
 
-pub empty_found : (e : Elf) (f : List ℕ) (slots : List (Option NamedSection)) → slots ≡ replicate 10 None
+pub empty_found : (e : Elf) (f : List ℕ) (slots : List (Option NamedSection)) → slots ≡ replicate 16 None
     → AreFoundBefore e f 1 slots
 empty_found e f slots is =
     λ k less. none_before_one e f (name_at k) (slot_at slots k) (ap (λ xs. slot_at xs k) is
-    ∙ get_or-replicate 10 k None None less)
+    ∙ get_or-replicate 16 k None None less)
 
 -- before number 0 there is none either
 none_before_zero : (e : Elf) (f : List ℕ) (name : SectionName) (slot : Option NamedSection)

@@ -13,7 +13,9 @@ use Rattle.dl_elf.specs.declared.section.SectionHeader.{SectionHeader}
 use Rattle.dl_elf.specs.declared.name.SectionName.{SectionName}
 use Rattle.dl_elf.specs.declared.name.SectionName.TheVariants.{DebugLine, ZdebugLine, DebugLineDwo, DebugLineStr}
 use Rattle.dl_elf.specs.declared.name.SectionName.TheVariants.{ZdebugLineStr, DebugLineStrDwo, DebugStr, ZdebugStr}
-use Rattle.dl_elf.specs.declared.name.SectionName.TheVariants.{DebugStrDwo, BuildIdNote}
+use Rattle.dl_elf.specs.declared.name.SectionName.TheVariants.{DebugStrDwo, BuildIdNote, DebugInfo, ZdebugInfo}
+use Rattle.dl_elf.specs.declared.name.SectionName.TheVariants.{DebugAbbrev, ZdebugAbbrev, DebugStrOffsets}
+use Rattle.dl_elf.specs.declared.name.SectionName.TheVariants.{ZdebugStrOffsets}
 use Rattle.dl_elf.specs.Names.{name_bytes}
 use Rattle.dl_elf.specs.Found.{IsNamed, index_of}
 use Rattle.dl_elf.specs.Slots.{begins_with_name, name_front, name_at}
@@ -30,6 +32,12 @@ name-short DebugStr = lit< tt
 name-short ZdebugStr = lit< tt
 name-short DebugStrDwo = lit< tt
 name-short BuildIdNote = lit< tt
+name-short DebugInfo = lit< tt
+name-short ZdebugInfo = lit< tt
+name-short DebugAbbrev = lit< tt
+name-short ZdebugAbbrev = lit< tt
+name-short DebugStrOffsets = lit< tt
+name-short ZdebugStrOffsets = lit< tt
 
 pub name_at-index_of : (name : SectionName) → name_at (index_of name) ≡ name
 name_at-index_of DebugLine = refl
@@ -42,8 +50,14 @@ name_at-index_of DebugStr = refl
 name_at-index_of ZdebugStr = refl
 name_at-index_of DebugStrDwo = refl
 name_at-index_of BuildIdNote = refl
+name_at-index_of DebugInfo = refl
+name_at-index_of ZdebugInfo = refl
+name_at-index_of DebugAbbrev = refl
+name_at-index_of ZdebugAbbrev = refl
+name_at-index_of DebugStrOffsets = refl
+name_at-index_of ZdebugStrOffsets = refl
 
-pub index_of-small : (name : SectionName) → index_of name < 10
+pub index_of-small : (name : SectionName) → index_of name < 16
 index_of-small DebugLine = lit< tt
 index_of-small ZdebugLine = lit< tt
 index_of-small DebugLineDwo = lit< tt
@@ -54,6 +68,12 @@ index_of-small DebugStr = lit< tt
 index_of-small ZdebugStr = lit< tt
 index_of-small DebugStrDwo = lit< tt
 index_of-small BuildIdNote = lit< tt
+index_of-small DebugInfo = lit< tt
+index_of-small ZdebugInfo = lit< tt
+index_of-small DebugAbbrev = lit< tt
+index_of-small ZdebugAbbrev = lit< tt
+index_of-small DebugStrOffsets = lit< tt
+index_of-small ZdebugStrOffsets = lit< tt
 
 -- a text that stands at the front of the first room items, and an item after it
 after_front : (t b xs : List ℕ) (room x : ℕ) → b ≡ take room xs → length t < length b → take (length t) b ≡ t

@@ -5,7 +5,9 @@ use Rattle.dl_elf.specs.declared.file.Elf.{Elf}
 use Rattle.dl_elf.specs.declared.name.SectionName.{SectionName}
 use Rattle.dl_elf.specs.declared.name.SectionName.TheVariants.{DebugLine, ZdebugLine, DebugLineDwo, DebugLineStr}
 use Rattle.dl_elf.specs.declared.name.SectionName.TheVariants.{ZdebugLineStr, DebugLineStrDwo, DebugStr, ZdebugStr}
-use Rattle.dl_elf.specs.declared.name.SectionName.TheVariants.{DebugStrDwo, BuildIdNote}
+use Rattle.dl_elf.specs.declared.name.SectionName.TheVariants.{DebugStrDwo, BuildIdNote, DebugInfo, ZdebugInfo}
+use Rattle.dl_elf.specs.declared.name.SectionName.TheVariants.{DebugAbbrev, ZdebugAbbrev, DebugStrOffsets}
+use Rattle.dl_elf.specs.declared.name.SectionName.TheVariants.{ZdebugStrOffsets}
 use Rattle.dl_elf.specs.declared.named.NamedSection.{NamedSection}
 use Rattle.dl_elf.specs.Elf.{bytes_at}
 use Rattle.dl_elf.specs.Sections.{section_in}
@@ -59,7 +61,8 @@ AreFound e f at = (name : SectionName) → Found e f name (at name)
 -- the names in the order in which they are kept
 abbrev pub names : List SectionName
 names = DebugLine ∷ ZdebugLine ∷ DebugLineDwo ∷ DebugLineStr ∷ ZdebugLineStr ∷ DebugLineStrDwo ∷ DebugStr ∷ ZdebugStr
-    ∷ DebugStrDwo ∷ BuildIdNote ∷ []
+    ∷ DebugStrDwo ∷ BuildIdNote ∷ DebugInfo ∷ ZdebugInfo ∷ DebugAbbrev ∷ ZdebugAbbrev ∷ DebugStrOffsets ∷ ZdebugStrOffsets
+    ∷ []
 
 abbrev pub index_of : SectionName → ℕ
 index_of DebugLine = 0
@@ -72,3 +75,9 @@ index_of DebugStr = 6
 index_of ZdebugStr = 7
 index_of DebugStrDwo = 8
 index_of BuildIdNote = 9
+index_of DebugInfo = 10
+index_of ZdebugInfo = 11
+index_of DebugAbbrev = 12
+index_of ZdebugAbbrev = 13
+index_of DebugStrOffsets = 14
+index_of ZdebugStrOffsets = 15

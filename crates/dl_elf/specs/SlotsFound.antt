@@ -7,4 +7,4 @@ use Rattle.dl_elf.specs.Slots.{slot_at, name_at}
 
 -- each slot has the first section of its name, of those before number n
 abbrev pub AreFoundBefore : Elf → List ℕ → ℕ → List (Option NamedSection) → Type 0
-AreFoundBefore e f n slots = (k : ℕ) → k < 10 → FoundBefore e f (name_at k) n (slot_at slots k)
+AreFoundBefore e f n slots = (k : ℕ) → k < 16 → FoundBefore e f (name_at k) n (slot_at slots k)

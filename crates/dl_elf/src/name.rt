@@ -26,6 +26,18 @@ pub enum SectionName {
     DebugStrDwo,
     /// `.note.gnu.build-id`: what the linker says the file is.
     BuildIdNote,
+    /// `.debug_info`: the entries of units, by which the directory of a compilation is found. DWARF 5, section 7.5.
+    DebugInfo,
+    /// `.zdebug_info`
+    ZdebugInfo,
+    /// `.debug_abbrev`: which attributes entries have. DWARF 5, section 7.5.3.
+    DebugAbbrev,
+    /// `.zdebug_abbrev`
+    ZdebugAbbrev,
+    /// `.debug_str_offsets`: where the text of an index stands. DWARF 5, section 7.26.
+    DebugStrOffsets,
+    /// `.zdebug_str_offsets`
+    ZdebugStrOffsets,
 }
 
 impl SectionName {
@@ -33,7 +45,7 @@ impl SectionName {
     ghost use Rattle.dl_elf.specs.Found.{index_of};
 
     /// All names, in the order of the variants.
-    pub(crate) const ALL: [SectionName; 10] = [
+    pub(crate) const ALL: [SectionName; 16] = [
         SectionName::DebugLine,
         SectionName::ZdebugLine,
         SectionName::DebugLineDwo,
@@ -44,6 +56,12 @@ impl SectionName {
         SectionName::ZdebugStr,
         SectionName::DebugStrDwo,
         SectionName::BuildIdNote,
+        SectionName::DebugInfo,
+        SectionName::ZdebugInfo,
+        SectionName::DebugAbbrev,
+        SectionName::ZdebugAbbrev,
+        SectionName::DebugStrOffsets,
+        SectionName::ZdebugStrOffsets,
     ];
 
     /// Its place among them.
@@ -59,7 +77,12 @@ impl SectionName {
     {
         matches!(
             self,
-            SectionName::ZdebugLine | SectionName::ZdebugLineStr | SectionName::ZdebugStr
+            SectionName::ZdebugLine
+                | SectionName::ZdebugLineStr
+                | SectionName::ZdebugStr
+                | SectionName::ZdebugInfo
+                | SectionName::ZdebugAbbrev
+                | SectionName::ZdebugStrOffsets
         )
     }
 
@@ -78,6 +101,12 @@ impl SectionName {
             SectionName::ZdebugStr => ".zdebug_str",
             SectionName::DebugStrDwo => ".debug_str.dwo",
             SectionName::BuildIdNote => ".note.gnu.build-id",
+            SectionName::DebugInfo => ".debug_info",
+            SectionName::ZdebugInfo => ".zdebug_info",
+            SectionName::DebugAbbrev => ".debug_abbrev",
+            SectionName::ZdebugAbbrev => ".zdebug_abbrev",
+            SectionName::DebugStrOffsets => ".debug_str_offsets",
+            SectionName::ZdebugStrOffsets => ".zdebug_str_offsets",
         }
     }
 }

@@ -48,7 +48,7 @@ impl Sections {
 
     /// None found yet.
     fn new() -> Sections
-        ensures slots { slots result ≡ replicate 10 None }
+        ensures slots { slots result ≡ replicate 16 None }
         ensures forward { forward_of result ≡ 1 }
     {
         Sections {
@@ -87,7 +87,7 @@ impl Sections {
     /// Keeps the section under each name that `bytes` begin with and that has no section yet.
     #[inline(always)]
     fn note(&mut self, number: u64, header: &SectionHeader, bytes: &[u8])
-        ensures slots { (k : ℕ) → k < 10 → slot_at (slots self.new) k
+        ensures slots { (k : ℕ) → k < 16 → slot_at (slots self.new) k
             ≡ noted bytes.now number header.now (name_at k) (slot_at (slots self.old) k) }
         ensures forward { forward_of self.new ≡ forward_of self.old }
     {
@@ -100,7 +100,7 @@ impl Sections {
     // Apart from the loop over all sections, few of which come here, so that it needs no header in memory.
     #[inline(never)]
     fn note_each(&mut self, number: u64, header: SectionHeader, bytes: &[u8])
-        ensures slots { (k : ℕ) → k < 10 → slot_at (slots self.new) k
+        ensures slots { (k : ℕ) → k < 16 → slot_at (slots self.new) k
             ≡ noted bytes.now number header (name_at k) (slot_at (slots self.old) k) }
         ensures forward { forward_of self.new ≡ forward_of self.old }
     {

@@ -7,3 +7,4 @@ pub mod PieceLemmas
 pub mod StreamLemmas
 pub mod InflatedLemmas
 pub mod PlaceLemmas
+pub mod InfoLemmas

@@ -5,6 +5,7 @@ pub mod Faults
 pub mod ContentReader
 pub mod LineReader
 pub mod LineTable
+pub mod InfoTable
 pub mod Places
 pub mod Code
 -- For what a value stands; public contracts name this, and don't rest on how it is said.

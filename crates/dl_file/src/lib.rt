@@ -12,6 +12,7 @@
 mod code;
 mod content_reader;
 mod inflated_reader;
+mod info_file;
 mod line_file;
 mod line_reader;
 mod places;
@@ -23,6 +24,7 @@ mod stream_reader;
 pub use code::{Code, CodeFault, ExecutableRange, find_code};
 pub use content_reader::ContentReader;
 pub use inflated_reader::InflatedReader;
+pub use info_file::{InfoFile, open_info};
 pub use line_file::{LineFile, Wanted, open_line_file};
 pub use line_reader::LineReader;
 pub use places::find_places;

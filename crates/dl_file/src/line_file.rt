@@ -140,7 +140,7 @@ fn string_sections(
 }
 
 /// What of a section lies outside, where there is one.
-fn damage_of<S: ReadAt>(
+pub fn damage_of<S: ReadAt>(
     source: &S,
     elf: &Elf,
     section: Option<NamedSection>,
@@ -171,7 +171,7 @@ fn first_damage<S: ReadAt>(source: &S, elf: &Elf, chosen: &Chosen) -> io::Result
 }
 
 /// The section's name and how it is compressed, where there is one that is, and otherwise than with zlib.
-fn refused_compression<S: ReadAt>(
+pub fn refused_compression<S: ReadAt>(
     source: &S,
     elf: &Elf,
     section: Option<NamedSection>,
@@ -212,7 +212,7 @@ fn first_refused<S: ReadAt>(
 }
 
 /// A reader of a section's bytes where there is a section.
-fn optional_reader<'a, S: ReadAt>(
+pub fn optional_reader<'a, S: ReadAt>(
     alloc: Global,
     source: &'a S,
     elf: &Elf,
@@ -292,7 +292,7 @@ fn whole_bytes<S: ReadAt>(
 
 /// A reader of the line section's bytes. Those of an object file are held in memory where it has
 /// relocations of the section, and these are applied.
-fn line_reader<'a, S: ReadAt>(
+pub fn line_reader<'a, S: ReadAt>(
     alloc: Global,
     source: &'a S,
     elf: &Elf,

@@ -3,3 +3,4 @@ pub mod ReaderLemmas
 pub mod NamedLemmas
 pub mod CodeLemmas
 pub mod WiderLemmas
+pub mod DirectoriesLemmas

@@ -12,6 +12,7 @@ use Rattle.dl_file.specs.declared.line_reader.LineReader.{LineReader}
 use Rattle.dl_file.specs.declared.line_reader.LineReader.TheVariants.{File, Held}
 use Rattle.dl_file.specs.LineReader.{line_held}
 use Rattle.dl_file.specs.LineTable.{Content, GivesLine, GivesTable, HasLineTable, Inflated, LineTable, Plain}
+use Rattle.dl_open.specs.declared.dialect.FileUnits.{FileUnits}
 use Rattle.dl_open.specs.declared.named.Sections.TheVariants.{LinesAndTexts}
 use Rattle.dl_open.specs.declared.stop.FileStop.{FileStop}
 use Rattle.dl_open.specs.Tables.{HasTable, IsNamed, NamedStops, NamingStops, OpeningStops, TableStops, file_dialect}
@@ -111,79 +112,79 @@ held_plain all_bytes (Held cursor) (Plain own) bytes is gives =
 -- ---- the sections that a command looks into
 
 -- it is told whether its tables name .debug_str, or why it can't be
-abbrev pub IsTold : (path : List ℕ) → LineTable → Result Bool FileStop → Type 0
-IsTold path t answer = MatchResult answer (IsNamed (file_dialect t) t.line) (NamingStops path (file_dialect t) t.line)
+abbrev pub IsTold : FileUnits → (path : List ℕ) → LineTable → Result Bool FileStop → Type 0
+IsTold read path t answer = MatchResult answer (IsNamed (file_dialect read t) t.line) (NamingStops path (file_dialect read t) t.line)
 
 -- it is told of bytes that are held
-pub held_answer : {S : Type 0} {g : _} (all_bytes : S → Option (List ℕ)) (reader : LineReader S g) (t : LineTable)
+pub held_answer : (read : FileUnits) {S : Type 0} {g : _} (all_bytes : S → Option (List ℕ)) (reader : LineReader S g) (t : LineTable)
     (dialect : Dialect) (path : List ℕ) (bytes : List ℕ) (answer : Result Bool FileStop) → Some bytes ≡ line_held reader
-    → GivesLine all_bytes reader t.line → dialect ≡ file_dialect t
+    → GivesLine all_bytes reader t.line → dialect ≡ file_dialect read t
     → MatchResult answer (λ names. IsTrue names ↔ Names dialect bytes) (NamingStops path dialect (Plain bytes))
-    → IsTold path t answer
-held_answer all_bytes reader t dialect path bytes answer is gives same told =
-    subst (λ (c : Content). MatchResult answer (IsNamed (file_dialect t) c) (NamingStops path (file_dialect t) c))
+    → IsTold read path t answer
+held_answer read all_bytes reader t dialect path bytes answer is gives same told =
+    subst (λ (c : Content). MatchResult answer (IsNamed (file_dialect read t) c) (NamingStops path (file_dialect read t) c))
     (sym (held_plain all_bytes reader t.line bytes is gives))
     (subst (λ (d : Dialect). MatchResult answer (IsNamed d (Plain bytes)) (NamingStops path d (Plain bytes))) same told)
 
 -- the line table of a file, with .debug_str where its tables name it
-abbrev pub IsOpened : {S : Type 0} {g : _} (all_bytes : S → Option (List ℕ)) (fails : Error → Type 0) (path : List ℕ)
+abbrev pub IsOpened : FileUnits → {S : Type 0} {g : _} (all_bytes : S → Option (List ℕ)) (fails : Error → Type 0) (path : List ℕ)
     (f : List ℕ) (t : LineTable) (result : Result (LineFile S g) FileStop) → Type 0
-IsOpened all_bytes fails path f t result = MatchResult result
-    (λ table. (names : Bool) × IsNamed (file_dialect t) t.line names
+IsOpened read all_bytes fails path f t result = MatchResult result
+    (λ table. (names : Bool) × IsNamed (file_dialect read t) t.line names
     × ((t2 : LineTable) × HasLineTable f (with_strings names) (Ok t2) × GivesTable all_bytes table t2))
-    (NamedStops fails path f t)
+    (NamedStops read fails path f t)
 
 pub answered : (answer : Result Bool FileStop) (names value : Bool) → answer ≡ Ok names → names ≡ value → answer ≡ Ok value
 answered answer names value is same = subst (λ (b : Bool). answer ≡ Ok b) same is
 
 -- the file is opened anew
-pub anew : {S : Type 0} {g : _} (all_bytes : S → Option (List ℕ)) (fails : Error → Type 0) (path : List ℕ) (f : List ℕ)
+pub anew : (read : FileUnits) {S : Type 0} {g : _} (all_bytes : S → Option (List ℕ)) (fails : Error → Type 0) (path : List ℕ) (f : List ℕ)
     (t : LineTable) (names : Bool) (answer : Result Bool FileStop) (result own : Result (LineFile S g) FileStop)
-    → answer ≡ Ok names → IsTold path t answer → result ≡ own
+    → answer ≡ Ok names → IsTold read path t answer → result ≡ own
     → MatchResult own (λ table. (t2 : LineTable) × HasLineTable f (with_strings names) (Ok t2)
     × GivesTable all_bytes table t2) (OpeningStops fails path f (with_strings names))
-    → IsOpened all_bytes fails path f t result
-anew {S = S} {g = g} all_bytes fails path f t names answer result own said told is opens =
-    subst (λ (r : Result (LineFile S g) FileStop). IsOpened all_bytes fails path f t r) (sym is) (by_own own opens)
+    → IsOpened read all_bytes fails path f t result
+anew read {S = S} {g = g} all_bytes fails path f t names answer result own said told is opens =
+    subst (λ (r : Result (LineFile S g) FileStop). IsOpened read all_bytes fails path f t r) (sym is) (by_own own opens)
   where
     by_own : (own : Result (LineFile S g) FileStop) → MatchResult own (λ table. (t2 : LineTable)
         × HasLineTable f (with_strings names) (Ok t2) × GivesTable all_bytes table t2)
-        (OpeningStops fails path f (with_strings names)) → IsOpened all_bytes fails path f t own
-    by_own (Ok table) opens = (names, subst (IsTold path t) said told, opens)
-    by_own (Err stop) stops = inr (names, subst (IsTold path t) said told, stops)
+        (OpeningStops fails path f (with_strings names)) → IsOpened read all_bytes fails path f t own
+    by_own (Ok table) opens = (names, subst (IsTold read path t) said told, opens)
+    by_own (Err stop) stops = inr (names, subst (IsTold read path t) said told, stops)
 
 -- the file stays as it was opened
-pub as_opened : {S : Type 0} {g : _} (all_bytes : S → Option (List ℕ)) (fails : Error → Type 0) (path : List ℕ)
+pub as_opened : (read : FileUnits) {S : Type 0} {g : _} (all_bytes : S → Option (List ℕ)) (fails : Error → Type 0) (path : List ℕ)
     (f : List ℕ) (t : LineTable) (answer : Result Bool FileStop) (result : Result (LineFile S g) FileStop)
     (table : LineFile S g) → answer ≡ Ok false
-    → IsTold path t answer → result ≡ Ok table
+    → IsTold read path t answer → result ≡ Ok table
     → HasLineTable f LineAndLineStrings (Ok t) → GivesTable all_bytes table t
-    → IsOpened all_bytes fails path f t result
-as_opened {S = S} {g = g} all_bytes fails path f t answer result table said told is has given =
-    let named = subst (IsTold path t) said told in
-    subst (λ (r : Result (LineFile S g) FileStop). IsOpened all_bytes fails path f t r) (sym is)
+    → IsOpened read all_bytes fails path f t result
+as_opened read {S = S} {g = g} all_bytes fails path f t answer result table said told is has given =
+    let named = subst (IsTold read path t) said told in
+    subst (λ (r : Result (LineFile S g) FileStop). IsOpened read all_bytes fails path f t r) (sym is)
     (false, named, (t, has, given))
 
 -- it can't be told what they name
-pub not_told : {S : Type 0} {g : _} (all_bytes : S → Option (List ℕ)) (fails : Error → Type 0) (path : List ℕ)
+pub not_told : (read : FileUnits) {S : Type 0} {g : _} (all_bytes : S → Option (List ℕ)) (fails : Error → Type 0) (path : List ℕ)
     (f : List ℕ) (t : LineTable) (answer : Result Bool FileStop) (result : Result (LineFile S g) FileStop) (stop : FileStop)
-    → answer ≡ Err stop → IsTold path t answer
-    → result ≡ Err stop → IsOpened all_bytes fails path f t result
-not_told {S = S} {g = g} all_bytes fails path f t answer result stop said told is =
-    let stops = subst (IsTold path t) said told in
-    subst (λ (r : Result (LineFile S g) FileStop). IsOpened all_bytes fails path f t r) (sym is) (inl stops)
+    → answer ≡ Err stop → IsTold read path t answer
+    → result ≡ Err stop → IsOpened read all_bytes fails path f t result
+not_told read {S = S} {g = g} all_bytes fails path f t answer result stop said told is =
+    let stops = subst (IsTold read path t) said told in
+    subst (λ (r : Result (LineFile S g) FileStop). IsOpened read all_bytes fails path f t r) (sym is) (inl stops)
 
 -- texts are printed, and the file has no such section
-pub without_section : (f : List ℕ) (t : LineTable) → t.has_str ≡ false → HasLineTable f LineAndLineStrings (Ok t)
-    → HasTable LinesAndTexts f t
-without_section f t none has = (LineAndLineStrings, (t, has, inl (none, refl)), has)
+pub without_section : (read : FileUnits) (f : List ℕ) (t : LineTable) → t.has_str ≡ false → HasLineTable f LineAndLineStrings (Ok t)
+    → HasTable read LinesAndTexts f t
+without_section read f t none has = (LineAndLineStrings, (t, has, inl (none, refl)), has)
 
 -- it has one, and it is told whether its tables name it
-pub with_section : {S : Type 0} {g : _} (all_bytes : S → Option (List ℕ)) (fails : Error → Type 0) (path : List ℕ)
+pub with_section : (read : FileUnits) {S : Type 0} {g : _} (all_bytes : S → Option (List ℕ)) (fails : Error → Type 0) (path : List ℕ)
     (f : List ℕ) (t : LineTable) (result : Result (LineFile S g) FileStop) → t.has_str ≡ true
-    → HasLineTable f LineAndLineStrings (Ok t) → IsOpened all_bytes fails path f t result
-    → MatchResult result (λ table. (t : LineTable) × HasTable LinesAndTexts f t × GivesTable all_bytes table t)
-    (TableStops fails path LinesAndTexts f)
-with_section all_bytes fails path f t (Ok table) some has (names, named, (t2, has2, given)) =
+    → HasLineTable f LineAndLineStrings (Ok t) → IsOpened read all_bytes fails path f t result
+    → MatchResult result (λ table. (t : LineTable) × HasTable read LinesAndTexts f t × GivesTable all_bytes table t)
+    (TableStops read fails path LinesAndTexts f)
+with_section read all_bytes fails path f t (Ok table) some has (names, named, (t2, has2, given)) =
     (t2, (with_strings names, (t, has, inr (names, some, named, refl)), has2), given)
-with_section all_bytes fails path f t (Err stop) some has stops = inr (t, has, some, stops)
+with_section read all_bytes fails path f t (Err stop) some has stops = inr (t, has, some, stops)

@@ -4,6 +4,7 @@ use Rattle.std.specs.declared.io.Error.{Error}
 use Rattle.dl_elf.specs.declared.fault.ElfFault.TheVariants.{Read, NoMemory}
 use Rattle.dl_file.specs.declared.line_file.Wanted.{Wanted}
 use Rattle.dl_file.specs.declared.line_file.Wanted.TheVariants.{LineAndLineStrings, LineSection}
+use Rattle.dl_open.specs.declared.dialect.FileUnits.{FileUnits}
 use Rattle.dl_open.specs.declared.fault.FileFault.{FileFault}
 use Rattle.dl_open.specs.declared.fault.FileFault.TheVariants.{Open, Elf}
 use Rattle.dl_open.specs.declared.named.Sections.{Sections}
@@ -49,15 +50,15 @@ opening_stops_weaker : (fails wider : Error → Type 0) (path : List ℕ) (f : L
 opening_stops_weaker fails wider path f wanted stop more (fault, refuses, at) =
     (fault, refuses_weaker fails wider f wanted fault more refuses, at)
 
-pub table_stops_weaker : (fails wider : Error → Type 0) (path : List ℕ) (sections : Sections) (f : List ℕ) (stop : FileStop)
-    → ((e : Error) → fails e → wider e) → TableStops fails path sections f stop → TableStops wider path sections f stop
-table_stops_weaker fails wider path Lines f stop more first =
+pub table_stops_weaker : (read : FileUnits) (fails wider : Error → Type 0) (path : List ℕ) (sections : Sections) (f : List ℕ) (stop : FileStop)
+    → ((e : Error) → fails e → wider e) → TableStops read fails path sections f stop → TableStops read wider path sections f stop
+table_stops_weaker read fails wider path Lines f stop more first =
     opening_stops_weaker fails wider path f LineSection stop more first
-table_stops_weaker fails wider path LinesAndTexts f stop more (inl first) =
+table_stops_weaker read fails wider path LinesAndTexts f stop more (inl first) =
     inl (opening_stops_weaker fails wider path f LineAndLineStrings stop more first)
-table_stops_weaker fails wider path LinesAndTexts f stop more (inr (t, has, some, inl naming)) =
+table_stops_weaker read fails wider path LinesAndTexts f stop more (inr (t, has, some, inl naming)) =
     inr (t, has, some, inl naming)
-table_stops_weaker fails wider path LinesAndTexts f stop more (inr (t, has, some, inr (names, named, opening))) =
+table_stops_weaker read fails wider path LinesAndTexts f stop more (inr (t, has, some, inr (names, named, opening))) =
     inr (
       t,
       has,

@@ -6,6 +6,8 @@ pub mod Files
 pub mod Parts
 pub mod Tables
 pub mod Code
+pub mod Directories
 pub mod NotRead
--- For what a value stands; public contracts name this, and don't rest on how it is said.
+-- For what a value stands, or what was read; no promise rests on how these are said.
 pub mod Held
+pub mod Walked

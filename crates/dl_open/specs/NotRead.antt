@@ -9,6 +9,7 @@ use Rattle.dl_run.specs.declared.fault.RunFault.{RunFault}
 use Rattle.dl_run.specs.declared.options.TheConstants.{SECTION_LIMIT}
 use Rattle.dl_run.specs.declared.passing_over.PassedOver.{PassedOver}
 use Rattle.dl_run.specs.PassedOver.{PassesOver}
+use Rattle.dl_open.specs.declared.dialect.FileUnits.{FileUnits}
 use Rattle.dl_open.specs.declared.not_read.UnitsNotRead.{UnitsNotRead}
 use Rattle.dl_open.specs.declared.fault.FileFault.{FileFault}
 use Rattle.dl_open.specs.Shown.{shown_word}
@@ -36,16 +37,16 @@ abbrev pub told_of : Result (Option PassedOver) RunFault → Option PassedOver
 told_of (Ok units) = units
 told_of (Err fault) = None
 
--- what `passed_over` answers for the bytes of the line section, of which `left` are left
-abbrev pub PassesOverTable : LineTable → Result (Option PassedOver) RunFault → Type 0
-PassesOverTable t answer =
-    (read : List ℕ) × (left : Option (List ℕ)) × Consumes (known_bytes t.line) left read
-    × PassesOver (file_dialect t) SECTION_LIMIT read left answer
+-- what `passed_over` answers for the bytes of the line section, of which `left` are left; read: which units are read
+abbrev pub PassesOverTable : (read : FileUnits) → LineTable → Result (Option PassedOver) RunFault → Type 0
+PassesOverTable read t answer =
+    (bytes : List ℕ) × (left : Option (List ℕ)) × Consumes (known_bytes t.line) left bytes
+    × PassesOver (file_dialect read t) SECTION_LIMIT bytes left answer
 
 -- what is told of a file with these bytes: nothing where its line section can't be had. fails: the errors that opening
 -- and reading it may give
-abbrev pub IsToldOfFile : (fails : Error → Type 0) (f : List ℕ) → Option PassedOver → Type 0
-IsToldOfFile fails f units =
+abbrev pub IsToldOfFile : (read : FileUnits) (fails : Error → Type 0) (f : List ℕ) → Option PassedOver → Type 0
+IsToldOfFile read fails f units =
     ((fault : FileFault) × Refuses fails f LineSection fault × (units ≡ None))
     ⊎ ((t : LineTable) × (answer : Result (Option PassedOver) RunFault) × HasLineTable f LineSection (Ok t)
-    × PassesOverTable t answer × (units ≡ told_of answer))
+    × PassesOverTable read t answer × (units ≡ told_of answer))

@@ -14,6 +14,7 @@ use Rattle.dl_num.specs.declared.fixed.Order.{Order}
 use Rattle.dl_head.specs.declared.dialect.AddressSize.{AddressSize}
 use Rattle.dl_head.specs.declared.dialect.AddressSize.TheVariants as size
 use Rattle.dl_head.specs.declared.dialect.Dialect.{Dialect}
+use Rattle.dl_head.specs.declared.dialect.Older.{Older}
 use Rattle.dl_head.specs.declared.dialect.Older.TheVariants as older
 use Rattle.dl_forms.specs.Names.{AddsCellFrom, Names}
 use Rattle.dl_object.specs.Kept.{Rises}
@@ -22,6 +23,8 @@ use Rattle.dl_run.specs.declared.options.TheConstants.{SECTION_LIMIT}
 use Rattle.dl_run.specs.declared.fault.RunFault.{RunFault}
 use Rattle.dl_run.specs.declared.fault.RunFault.TheVariants as fault
 use Rattle.dl_print.specs.ValueText.{Strings}
+use Rattle.dl_open.specs.declared.dialect.FileUnits.{FileUnits}
+use Rattle.dl_open.specs.declared.dialect.FileUnits.TheVariants as units
 use Rattle.dl_open.specs.declared.strings.TheConstants.{STRINGS_LIMIT}
 use Rattle.dl_open.specs.declared.named.Sections.{Sections}
 use Rattle.dl_open.specs.declared.named.Sections.TheVariants.{Lines, LinesAndTexts}
@@ -79,12 +82,18 @@ abbrev pub address_size : Class → AddressSize
 address_size class.Bits32 = size.Four
 address_size class.Bits64 = size.Eight
 
--- units of versions 2 to 5 are read, in this order, and before version 5 with addresses of this class
-abbrev pub class_dialect : Order → Class → Dialect
-class_dialect order class = record { order = order; older = older.Read (address_size class) }
+-- which units before version 5 are read of a file of this class
+abbrev pub older_in : FileUnits → Class → Older
+older_in units.ByClass class = older.Read (address_size class)
+older_in (units.Sized size) class = older.Read size
+older_in units.Version5 class = older.Foreign
 
-abbrev pub file_dialect : LineTable → Dialect
-file_dialect t = class_dialect t.order t.class
+-- units of version 5 are read, in this order, and these of the others
+abbrev pub class_dialect : FileUnits → Order → Class → Dialect
+class_dialect units order class = record { order = order; older = older_in units class }
+
+abbrev pub file_dialect : FileUnits → LineTable → Dialect
+file_dialect units t = class_dialect units t.order t.class
 
 -- ---- the sequences of one section of an object file
 
@@ -136,27 +145,27 @@ NamingStops path dialect content stop =
 abbrev pub with_strings : (names : Bool) → Wanted
 with_strings names = if names then LineAndStringSections else LineAndLineStrings
 
--- the sections that are looked into
-abbrev pub LooksInto : Sections → (f : List ℕ) → Wanted → Type 0
-LooksInto Lines f wanted = wanted ≡ LineSection
-LooksInto LinesAndTexts f wanted = (t : LineTable) × HasLineTable f LineAndLineStrings (Ok t)
+-- the sections that are looked into, of a file of which these units are read
+abbrev pub LooksInto : FileUnits → Sections → (f : List ℕ) → Wanted → Type 0
+LooksInto read Lines f wanted = wanted ≡ LineSection
+LooksInto read LinesAndTexts f wanted = (t : LineTable) × HasLineTable f LineAndLineStrings (Ok t)
     × (((t.has_str ≡ false) × (wanted ≡ LineAndLineStrings))
-    ⊎ ((names : Bool) × (t.has_str ≡ true) × IsNamed (file_dialect t) t.line names × (wanted ≡ with_strings names)))
+    ⊎ ((names : Bool) × (t.has_str ≡ true) × IsNamed (file_dialect read t) t.line names × (wanted ≡ with_strings names)))
 
 -- the file has this line table, with the string sections that are looked into
-abbrev pub HasTable : Sections → (f : List ℕ) → LineTable → Type 0
-HasTable sections f t = (wanted : Wanted) × LooksInto sections f wanted × HasLineTable f wanted (Ok t)
+abbrev pub HasTable : FileUnits → Sections → (f : List ℕ) → LineTable → Type 0
+HasTable read sections f t = (wanted : Wanted) × LooksInto read sections f wanted × HasLineTable f wanted (Ok t)
 
 -- t, the line section and .debug_line_str, can be had: why no more, for the walk over the tables, or for what they name
-abbrev pub NamedStops : (fails : Error → Type 0) (path : List ℕ) (f : List ℕ) → LineTable → FileStop → Type 0
-NamedStops fails path f t stop =
-    NamingStops path (file_dialect t) t.line stop
-    ⊎ ((names : Bool) × IsNamed (file_dialect t) t.line names × OpeningStops fails path f (with_strings names) stop)
+abbrev pub NamedStops : FileUnits → (fails : Error → Type 0) (path : List ℕ) (f : List ℕ) → LineTable → FileStop → Type 0
+NamedStops read fails path f t stop =
+    NamingStops path (file_dialect read t) t.line stop
+    ⊎ ((names : Bool) × IsNamed (file_dialect read t) t.line names × OpeningStops fails path f (with_strings names) stop)
 
 -- why it can't be had: for the line section, or with texts for that and .debug_line_str, or where the file has .debug_str
 -- for more
-abbrev pub TableStops : (fails : Error → Type 0) (path : List ℕ) → Sections → (f : List ℕ) → FileStop → Type 0
-TableStops fails path Lines f stop = OpeningStops fails path f LineSection stop
-TableStops fails path LinesAndTexts f stop =
+abbrev pub TableStops : FileUnits → (fails : Error → Type 0) (path : List ℕ) → Sections → (f : List ℕ) → FileStop → Type 0
+TableStops read fails path Lines f stop = OpeningStops fails path f LineSection stop
+TableStops read fails path LinesAndTexts f stop =
     OpeningStops fails path f LineAndLineStrings stop
-    ⊎ ((t : LineTable) × HasLineTable f LineAndLineStrings (Ok t) × (t.has_str ≡ true) × NamedStops fails path f t stop)
+    ⊎ ((t : LineTable) × HasLineTable f LineAndLineStrings (Ok t) × (t.has_str ≡ true) × NamedStops read fails path f t stop)

@@ -8,6 +8,7 @@
 mod code;
 mod debug_file;
 mod dialect;
+mod directories;
 mod fault;
 mod files;
 mod named;
@@ -19,7 +20,8 @@ mod strings;
 
 pub use code::code_of;
 pub use debug_file::DebugFile;
-pub use dialect::file_dialect;
+pub use dialect::{FileUnits, file_dialect};
+pub use directories::directories_of;
 pub use fault::FileFault;
 pub use files::{FileSource, open_file};
 pub use named::{Sections, open_table};

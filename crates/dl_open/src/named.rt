@@ -8,7 +8,7 @@ ghost use Rattle.dl_open.specs.Tables.{TableStops, file_dialect, with_strings};
 ghost use Rattle.dl_file.specs.declared.line_file.Wanted.TheVariants.{LineAndLineStrings};
 ghost use Rattle.dl_open.specs.declared.named.Sections.TheVariants.{LinesAndTexts};
 
-use crate::dialect::file_dialect;
+use crate::dialect::{FileUnits, file_dialect};
 use crate::fault::FileFault;
 use crate::stop::FileStop;
 use dl_elf::ReadAt;
@@ -130,16 +130,17 @@ fn with_named<'p, 'a, S: ReadAt>(
     alloc: Global,
     path: &'p str,
     file: &'a S,
+    units: FileUnits,
     table: LineFile<'a, S>,
 ) -> Result<LineFile<'a, S>, FileStop<'p>>
     ensures { ForBytes (S.all_bytes file.entry.now) (λ f. (t : LineTable) → GivesTable S.all_bytes table.entry t
         → HasLineTable f LineAndLineStrings (Ok t) → MatchResult result
-        (λ opened. (names : Bool) × IsNamed (file_dialect t) t.line names × ((t2 : LineTable)
+        (λ opened. (names : Bool) × IsNamed (file_dialect units t) t.line names × ((t2 : LineTable)
         × HasLineTable f (with_strings names) (Ok t2) × GivesTable S.all_bytes opened t2))
-        (NamedStops (S.fails_with file.entry.now) path.entry.now f t)) }
+        (NamedStops units (S.fails_with file.entry.now) path.entry.now f t)) }
 {
     let mut table = table;
-    let dialect = file_dialect(table.order, table.class);
+    let dialect = file_dialect(table.order, table.class, units);
     if let Some(bytes) = table.line.held() {
         return match is_named_in(alloc, path, dialect, bytes) {
             Ok(true) => opened(alloc, path, file, Wanted::LineAndStringSections),
@@ -159,10 +160,11 @@ fn with_texts<'p, 'a, S: ReadAt>(
     alloc: Global,
     path: &'p str,
     file: &'a S,
+    units: FileUnits,
 ) -> Result<LineFile<'a, S>, FileStop<'p>>
     ensures { ForBytes (S.all_bytes file.entry.now) (λ f. MatchResult result
-        (λ table. (t : LineTable) × HasTable LinesAndTexts f t × GivesTable S.all_bytes table t)
-        (TableStops (S.fails_with file.entry.now) path.entry.now LinesAndTexts f)) }
+        (λ table. (t : LineTable) × HasTable units LinesAndTexts f t × GivesTable S.all_bytes table t)
+        (TableStops units (S.fails_with file.entry.now) path.entry.now LinesAndTexts f)) }
 {
     let table = match opened(alloc, path, file, Wanted::LineAndLineStrings) {
         Ok(table) => table,
@@ -171,23 +173,24 @@ fn with_texts<'p, 'a, S: ReadAt>(
     if !table.has_debug_str {
         return Ok(table);
     }
-    with_named(alloc, path, file, table)
+    with_named(alloc, path, file, units, table)
 }
 
 /// The line table of the file at this path, with the sections that are looked into. `.debug_str` is one of them only
-/// where a table of the line section names it.
+/// where a table of the line section names it, of the units that are read.
 pub fn open_table<'p, 'a, S: ReadAt>(
     alloc: Global,
     path: &'p str,
     file: &'a S,
+    units: FileUnits,
     sections: Sections,
 ) -> Result<LineFile<'a, S>, FileStop<'p>>
     ensures { ForBytes (S.all_bytes file.entry.now) (λ f. MatchResult result
-        (λ table. (t : LineTable) × HasTable sections f t × GivesTable S.all_bytes table t)
-        (TableStops (S.fails_with file.entry.now) path.entry.now sections f)) }
+        (λ table. (t : LineTable) × HasTable units sections f t × GivesTable S.all_bytes table t)
+        (TableStops units (S.fails_with file.entry.now) path.entry.now sections f)) }
 {
     match sections {
         Sections::Lines => opened(alloc, path, file, Wanted::LineSection),
-        Sections::LinesAndTexts => with_texts(alloc, path, file),
+        Sections::LinesAndTexts => with_texts(alloc, path, file, units),
     }
 }

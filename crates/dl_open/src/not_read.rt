@@ -6,7 +6,7 @@ ghost use Rattle.dl_file.specs.LineTable.{GivesTable, LineTable};
 ghost use Rattle.dl_open.specs.NotRead.{IsToldOfFile, PassesOverTable, not_read_text, told_of};
 ghost use Rattle.dl_open.specs.Stops.{stop_line};
 
-use crate::dialect::file_dialect;
+use crate::dialect::{FileUnits, file_dialect};
 use crate::files::{FileSource, open_file};
 use crate::shown::Shown;
 use dl_elf::ReadAt;
@@ -88,9 +88,10 @@ impl fmt::Display for Versions {
 /// The units of other versions in a line table, which is read.
 fn in_table<S: ReadAt>(
     alloc: Global,
+    units: FileUnits,
     table: LineFile<'_, S>,
 ) -> Result<Option<PassedOver>, RunFault>
-    ensures { (t : LineTable) → GivesTable S.all_bytes table.entry t → PassesOverTable t result }
+    ensures { (t : LineTable) → GivesTable S.all_bytes table.entry t → PassesOverTable units t result }
 {
     let LineFile {
         order,
@@ -99,7 +100,7 @@ fn in_table<S: ReadAt>(
         ..
     } = table;
     let options = Options {
-        dialect: file_dialect(order, class),
+        dialect: file_dialect(order, class, units),
         debug_line_str: None,
         debug_str: None,
         limit: SECTION_LIMIT,
@@ -118,29 +119,30 @@ fn told(answer: Result<Option<PassedOver>, RunFault>) -> Option<PassedOver>
 }
 
 /// The units of other versions in the line table of an open file. None where there is none, or at a fault.
-fn in_file<S: ReadAt>(alloc: Global, file: &S) -> Option<PassedOver>
-    ensures { ForBytes (S.all_bytes file.now) (λ f. IsToldOfFile (S.fails_with file.now) f result) }
+fn in_file<S: ReadAt>(alloc: Global, units: FileUnits, file: &S) -> Option<PassedOver>
+    ensures { ForBytes (S.all_bytes file.now) (λ f. IsToldOfFile units (S.fails_with file.now) f result) }
 {
     match open_line_file(alloc, file, Wanted::LineSection) {
-        Ok(table) => told(in_table(alloc, table)),
+        Ok(table) => told(in_table(alloc, units, table)),
         Err(_) => None,
     }
 }
 
-/// The units of other versions in the line table of the file at this path, which is opened and read anew. None where
+/// The units that aren't read in the line table of the file at this path, which is opened and read anew. None where
 /// there is none; also at a fault, of which nothing is told.
 pub fn units_not_read<'a, F: FileSource>(
     alloc: Global,
     files: &F,
     path: &'a str,
+    read: FileUnits,
 ) -> Option<UnitsNotRead<'a>>
     ensures path { IfSome result (λ units. units.path ≡ path.entry) }
-    ensures units { ForBytes (F.held files.now path.entry.now) (λ f. IsToldOfFile
+    ensures units { ForBytes (F.held files.now path.entry.now) (λ f. IsToldOfFile read
         (F.fails_with files.now path.entry.now) f (option_map (λ units. units.units) result)) }
 {
     match open_file(files, path) {
         Ok(file) => {
-            let units = in_file(alloc, &file)?;
+            let units = in_file(alloc, read, &file)?;
             Some(UnitsNotRead { path, units })
         }
         Err(_) => None,

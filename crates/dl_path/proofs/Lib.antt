@@ -1,4 +1,5 @@
 pub mod PathLemmas
+pub mod NewerPaths
 pub mod BasenameLemmas
 pub mod WindowsLemmas
 pub mod LossyLemmas

@@ -1,5 +1,6 @@
 -- What the public contracts say rests on these, in reading order.
 pub mod Paths
+pub mod PathLaws
 pub mod Parts
 pub mod Shown
 pub mod PathParts

@@ -1,7 +1,7 @@
 -- The path of a file under the header of its unit. DWARF 5, sections 6.2.4 and 6.2.4.1.
-use Rattle.std.specs.Prelude.{ℕ, Bool, false, ◌||◌, ◌&&◌, nat_le, ◌==◌, if◌then◌else◌, List, [], ◌∷◌, ◌++◌, Option}
+use Rattle.std.specs.Prelude.{ℕ, Bool, false, not, ◌||◌, ◌&&◌, nat_le, ◌==◌, if◌then◌else◌, List, [], ◌∷◌, ◌++◌, Option}
 use Rattle.std.specs.Prelude.{Some, None, option_map, unwrap_or}
-use Rattle.std.specs.Option.{option_and_then}
+use Rattle.std.specs.Option.{option_and_then, option_map_or}
 use Rattle.dl_table.specs.EntryData.{value_of}
 use Rattle.dl_field.specs.HeaderData.{HeaderData}
 use Rattle.dl_head.specs.Numbers.{directory_numbered, file_numbered}
@@ -80,6 +80,19 @@ abbrev pub file_path : Strings → HeaderData → List (ℕ × Value) → Option
 file_path s h entry =
     option_map (λ path. if is_whole path then path
     else under (unwrap_or (directory_path s h (directory_of entry)) []) path) (own_path s entry)
+
+-- from version 5 on directory 0 is that of the compilation
+abbrev pub has_directory_0 : Option HeaderData → Bool
+has_directory_0 header = option_map_or (λ (h : HeaderData). h.params.version == 5) header false
+
+-- the compilation directory that counts for a unit, of which this one is said: where the unit's table has one too, one
+-- that isn't whole adds nothing
+abbrev pub beside_table : (has : Bool) → Option (List ℕ) → Option (List ℕ)
+beside_table has directory = option_and_then (λ d. if has && not (is_whole d) then None else Some d) directory
+
+-- a path that isn't whole is under the compilation directory, if that is known
+abbrev pub compiled_in : Option (List ℕ) → List ℕ → List ℕ
+compiled_in directory path = if is_whole path then path else under (unwrap_or directory []) path
 
 -- None where the file isn't there, or the text of its own path
 abbrev pub path_of : Strings → Option HeaderData → (file : ℕ) → Option (List ℕ)

@@ -23,7 +23,7 @@ pub fn basename<'s, 'h>(parts: Parts<'s, 'h>) -> Parts<'s, 'h>
 }
 
 /// Whether the parts of a path make up a whole path of Windows.
-fn lies_in_windows(path: Path<'_>) -> bool
+pub fn lies_in_windows(path: Path<'_>) -> bool
     ensures { result ≡ is_of_windows (path_seen path.entry) }
 {
     if !path.base.is_empty() {

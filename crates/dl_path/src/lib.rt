@@ -1,12 +1,15 @@
 //! The paths of files under the headers of their units, and texts of paths as they are printed.
 #![tactic(auto)]
 
+mod compiled;
 mod component;
 mod json_text;
+pub mod laws;
 mod parts;
 mod path;
 mod shown;
 
+pub use compiled::{beside_table, has_directory_0, is_whole_path};
 pub use component::basename;
 pub use json_text::print_json_text;
 pub use parts::{Directory, Parts, Text, parts_of};

@@ -146,7 +146,7 @@ module _ (h : Params) (some : 1 ≤ h.maximum_operations_per_instruction)
 
 -- ---- one unit
 
-standard_sound : (h : HeaderData) → IsSoundHeader h → IsSoundHeader (with_standard_opcodes h)
+pub standard_sound : (h : HeaderData) → IsSoundHeader h → IsSoundHeader (with_standard_opcodes h)
 standard_sound h sound =
     record {
       params = standard_fault h sound.params;
@@ -158,11 +158,11 @@ standard_sound h sound =
     }
 
 -- the header of bytes, and the rows after it
-record HasHeader (dialect : Dialect) (u : List ℕ) (h : HeaderData) : Type 0 where
-  sound : IsSoundHeader h
-  rows : AllByRecursion IsRow (unit_rows dialect u)
+pub record HasHeader (dialect : Dialect) (u : List ℕ) (h : HeaderData) : Type 0 where
+  pub sound : IsSoundHeader h
+  pub rows : AllByRecursion IsRow (unit_rows dialect u)
 
-header_read : (dialect : Dialect) (u : List ℕ) (h : HeaderData) → AllBytes u → header_of dialect u ≡ Some h
+pub header_read : (dialect : Dialect) (u : List ℕ) (h : HeaderData) → AllBytes u → header_of dialect u ≡ Some h
     → HasHeader dialect u h
 header_read dialect u h all is = by (header_in dialect u) refl where
   by : (parts : Option (HeaderData × List ℕ)) → header_in dialect u ≡ parts → HasHeader dialect u h

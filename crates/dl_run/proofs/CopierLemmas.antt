@@ -6,22 +6,22 @@ use Rattle.std.specs.Prelude.{⊤, option_map}
 use Rattle.std.proofs.KnownBytes.{Appends-nil}
 use Rattle.std.specs.Option.{option_or}
 use Rattle.dl_num.specs.declared.fixed.Order.{Order}
-use Rattle.dl_head.specs.Built.{with_standard_opcodes}
 use Rattle.dl_head.specs.Written.{header_bytes}
 use Rattle.dl_field.specs.declared.params.Params.{Params}
 use Rattle.dl_field.specs.HeaderData.{HeaderData}
-use Rattle.dl_field.specs.Layout.{standard_params}
 use Rattle.dl_rows.specs.declared.row.Row.{Row}
 use Rattle.dl_emit.specs.declared.fault.EmitFault.{EmitFault}
 use Rattle.dl_emit.specs.Grown.{ProgramData, IsGrown}
 use Rattle.dl_emit.specs.WrittenUnit.{program_len, rows_refusal, unit_of, refusal}
 use Rattle.dl_emit.proofs.GrownLemmas.{bytes_of_rows}
+use Rattle.dl_run.specs.declared.copying.Becomes.{Becomes}
 use Rattle.dl_run.specs.declared.copying.Copier.{Copier}
 use Rattle.dl_run.specs.declared.fault.RunFault.{RunFault}
 use Rattle.dl_run.specs.declared.fault.RunFault.TheVariants as fault
 use Rattle.dl_run.specs.UnitPrinted.{PrintsPart}
-use Rattle.dl_run.specs.Copying.{Copying, IsGrowth, offset_after, rows_since, end_stop, stop_after, end_text}
-use Rattle.dl_run.specs.Copying.{text_after, copy_story}
+use Rattle.dl_run.specs.Commands.{Made}
+use Rattle.dl_run.specs.Copying.{Copying, IsGrowth, made_by, offset_after, rows_since, stop_after, text_after, stops}
+use Rattle.dl_run.specs.Copying.{prints, copy_story}
 use Rattle.dl_print.specs.Output.{HasPrinted}
 use Rattle.dl_run.specs.RunOutput.{TellsOut}
 use Rattle.dl_print.specs.Printed.{Printed}
@@ -30,16 +30,16 @@ use Rattle.dl_run.specs.Visiting.{StopsIn, header_told}
 use Rattle.dl_print.proofs.Outs.{HasPrinted-nothing, TellsOut-front}
 use Rattle.dl_run.proofs.Fronts.{neither, none_is_some, value_same}
 use Rattle.dl_run.proofs.HeadersTold.{header_told-append}
-use Rattle.dl_run.proofs.CopyingVisits.{offset_after-append, rows_since-append, stop_after-append, written}
+use Rattle.dl_run.proofs.CopyingVisits.{offset_after-append, rows_since-append, stop_after-append}
 use Rattle.dl_run.proofs.CopyingVisits.{text_after-append}
 
 -- ---- the program of the current unit
 
-module _ (p : ProgramData) (visits : List Visit) where
+module _ (c : Copier) (visits : List Visit) where
   -- it grew by the rows since the header of the current unit
   abbrev pub Grows : Type 0
   Grows = (h : HeaderData) → header_told None visits ≡ Some h
-      → IsGrown p p.order (standard_params h.params) (rows_since [] visits)
+      → IsGrown c.program c.program.order (made_by c.becomes c.unit h).params (rows_since [] visits)
 
 own_order : (p : ProgramData) (order : Order) (h : Params) (rows : List Row) → IsGrown p order h rows
     → IsGrown p p.order h rows
@@ -52,37 +52,36 @@ own_order p order h rows g = record {
 }
 
 -- a header was told
-pub grows_from : (visits : List Visit) (offset : ℕ) (g : HeaderData) (p : ProgramData) (order : Order)
-    → IsGrown p order (standard_params g.params) [] → Grows p (visits ++ of_header offset g ∷ [])
-grows_from visits offset g p order grown h told =
+pub grows_from : (visits : List Visit) (offset : ℕ) (g : HeaderData) (c : Copier) (order : Order)
+    → IsGrown c.program order (made_by c.becomes c.unit g).params [] → Grows c (visits ++ of_header offset g ∷ [])
+grows_from visits offset g c order grown h told =
     let same : g ≡ h = value_same g h (sym (header_told-append None visits (of_header offset g ∷ [])) ∙ told) in
-    subst (λ (l : List Row). IsGrown p p.order (standard_params h.params) l)
+    subst (λ (l : List Row). IsGrown c.program c.program.order (made_by c.becomes c.unit h).params l)
     (sym (rows_since-append [] visits (of_header offset g ∷ [])))
-    (subst (λ (d : HeaderData). IsGrown p p.order (standard_params d.params) []) same
-    (own_order p order (standard_params g.params) [] grown))
+    (subst (λ (d : HeaderData). IsGrown c.program c.program.order (made_by c.becomes c.unit d).params []) same
+    (own_order c.program order (made_by c.becomes c.unit g).params [] grown))
 
 -- a row was told
-pub grows_by : (visits : List Visit) (r : Row) (old new : ProgramData) → Grows old visits
-    → ((h : Params) (rows : List Row) → IsGrown old old.order h rows → IsGrown new old.order h (rows ++ r ∷ []))
+pub grows_by : (visits : List Visit) (r : Row) (old new : Copier) → new.becomes ≡ old.becomes → new.unit ≡ old.unit
+    → Grows old visits
+    → ((h : Params) (rows : List Row) → IsGrown old.program old.program.order h rows
+    → IsGrown new.program old.program.order h (rows ++ r ∷ []))
     → Grows new (visits ++ of_row r ∷ [])
-grows_by visits r old new before grows h told =
-    subst (λ (l : List Row). IsGrown new new.order (standard_params h.params) l)
-    (sym (rows_since-append [] visits (of_row r ∷ [])))
-    (own_order new old.order (standard_params h.params) (rows_since [] visits ++ r ∷ [])
-    (grows (standard_params h.params) (rows_since [] visits)
-    (before h (sym (header_told-append None visits (of_row r ∷ [])) ∙ told))))
+grows_by visits r old new becomes unit before grows h told =
+    let params = (made_by old.becomes old.unit h).params in
+    rw (becomes, unit, rows_since-append [] visits (of_row r ∷ []))
+    (own_order new.program old.program.order params (rows_since [] visits ++ r ∷ [])
+    (grows params (rows_since [] visits) (before h (sym (header_told-append None visits (of_row r ∷ [])) ∙ told))))
 
 -- an open sequence was told
-pub grows_past_open : (visits : List Visit) (p : ProgramData) → Grows p visits → Grows p (visits ++ of_open ∷ [])
-grows_past_open visits p before h told =
-    subst (λ (l : List Row). IsGrown p p.order (standard_params h.params) l)
-    (sym (rows_since-append [] visits (of_open ∷ [])))
+pub grows_past_open : (visits : List Visit) (c : Copier) → Grows c visits → Grows c (visits ++ of_open ∷ [])
+grows_past_open visits c before h told =
+    rw (rows_since-append [] visits (of_open ∷ []))
     (before h (sym (header_told-append None visits (of_open ∷ [])) ∙ told))
 
 -- after an end there is no current unit
-pub grows_no_more : (visits : List Visit) (g : Option HeaderData) (p : ProgramData)
-    → Grows p (visits ++ of_end g ∷ [])
-grows_no_more visits g p h told =
+pub grows_no_more : (visits : List Visit) (g : Option HeaderData) (c : Copier) → Grows c (visits ++ of_end g ∷ [])
+grows_no_more visits g c h told =
     absurd (none_is_some (sym (header_told-append None visits (of_end g ∷ [])) ∙ told))
 
 -- the program stands after the header
@@ -118,64 +117,57 @@ module _ (old new : Option (List ℕ)) (before after : Printed) (refused : Optio
 
 -- it was told more visits, at which it doesn't stop
 pub copies_on : (first old new : Copier) (start held after : Option (List ℕ)) (visits more : List Visit)
-    → Copying first old start held visits → new.program.order ≡ old.program.order
-    → new.unit ≡ offset_after old.unit more → Grows new.program (visits ++ more)
-    → stop_after old.unit (rows_since [] visits) more ≡ None
-    → HasPrinted start after (text_after first.program.order [] visits
-    ++ text_after first.program.order (rows_since [] visits) more) new.printer
+    → Copying first old start held visits → new.becomes ≡ old.becomes → new.program.order ≡ old.program.order
+    → new.unit ≡ offset_after old.unit more → Grows new (visits ++ more)
+    → stop_after (made_by first.becomes) old.unit (rows_since [] visits) more ≡ None
+    → HasPrinted start after (prints first visits
+    ++ text_after (made_by first.becomes) first.program.order old.unit (rows_since [] visits) more) new.printer
     → Copying first new start after (visits ++ more)
-copies_on first old new start held after visits more s order unit grown none printed = record {
-  order = order ∙ s.order;
-  offset = unit ∙ ap (λ (n : ℕ). offset_after n more) s.offset ∙ sym (offset_after-append first.unit visits more);
-  grown = grown;
-  goes_on =
-      stop_after-append first.unit [] visits more
-      ∙ ap (λ (o : Option RunFault). option_or o
-      (stop_after (offset_after first.unit visits) (rows_since [] visits) more)) s.goes_on
-      ∙ ap (λ (n : ℕ). stop_after n (rows_since [] visits) more) (sym s.offset)
-      ∙ none;
-  printed = subst (λ (l : List ℕ). HasPrinted start after l new.printer)
-      (sym (text_after-append first.program.order first.unit [] visits more s.goes_on)) printed;
-}
+copies_on first old new start held after visits more s becomes order unit grown none printed =
+    let made = made_by first.becomes in
+    record {
+      becomes = becomes ∙ s.becomes;
+      order = order ∙ s.order;
+      offset = unit ∙ ap (λ (n : ℕ). offset_after n more) s.offset ∙ sym (offset_after-append first.unit visits more);
+      grown = grown;
+      goes_on =
+          rw (stop_after-append made first.unit [] visits more, s.goes_on, sym s.offset) none;
+      printed =
+          rw (text_after-append made first.program.order first.unit [] visits more s.goes_on, sym s.offset) printed;
+    }
 
 -- it was told a visit of which it prints nothing
 pub copies_past : (first old new : Copier) (start held : Option (List ℕ)) (visits : List Visit) (visit : Visit)
-    → Copying first old start held visits → new.program.order ≡ old.program.order → new.printer ≡ old.printer
-    → new.unit ≡ offset_after old.unit (visit ∷ []) → Grows new.program (visits ++ visit ∷ [])
-    → stop_after old.unit (rows_since [] visits) (visit ∷ []) ≡ None
-    → text_after first.program.order (rows_since [] visits) (visit ∷ []) ≡ []
+    → Copying first old start held visits → new.becomes ≡ old.becomes → new.program.order ≡ old.program.order
+    → new.printer ≡ old.printer
+    → new.unit ≡ offset_after old.unit (visit ∷ []) → Grows new (visits ++ visit ∷ [])
+    → stop_after (made_by first.becomes) old.unit (rows_since [] visits) (visit ∷ []) ≡ None
+    → text_after (made_by first.becomes) first.program.order old.unit (rows_since [] visits) (visit ∷ []) ≡ []
     → Copying first new start held (visits ++ visit ∷ [])
-copies_past first old new start held visits visit s order printer unit grown none nothing =
-    let text = text_after first.program.order [] visits in
-    let same : text ≡ text ++ text_after first.program.order (rows_since [] visits) (visit ∷ []) =
-    sym (append-nil text) ∙ ap (λ (l : List ℕ). text ++ l) (sym nothing) in
-    copies_on first old new start held held visits (visit ∷ []) s order unit grown none
-    (subst (λ (l : List ℕ). HasPrinted start held l new.printer) same
-    (subst (λ (p : Printed). HasPrinted start held text p) (sym printer) s.printed))
+copies_past first old new start held visits visit s becomes order printer unit grown none nothing =
+    copies_on first old new start held held visits (visit ∷ []) s becomes order unit grown none
+    (rw (nothing, append-nil (prints first visits), printer) s.printed)
 
 -- the copier stands as before
 pub still : (first old new : Copier) (start held : Option (List ℕ)) (visits : List Visit)
-    → Copying first old start held visits → new.program ≡ old.program → new.unit ≡ old.unit
-    → new.printer ≡ old.printer → Copying first new start held visits
-still first old new start held visits s program unit printer = record {
+    → Copying first old start held visits → new.becomes ≡ old.becomes → new.program ≡ old.program
+    → new.unit ≡ old.unit → new.printer ≡ old.printer → Copying first new start held visits
+still first old new start held visits s becomes program unit printer = record {
+  becomes = becomes ∙ s.becomes;
   order = ap (λ (p : ProgramData). p.order) program ∙ s.order;
   offset = unit ∙ s.offset;
-  grown = subst (λ (p : ProgramData). Grows p visits) (sym program) s.grown;
+  grown = rw (becomes, program, unit) s.grown;
   goes_on = s.goes_on;
-  printed = subst (λ (p : Printed). HasPrinted start held (text_after first.program.order [] visits) p)
-      (sym printer) s.printed;
+  printed = rw printer s.printed;
 }
 
 -- it stops at a visit
 module _ (first old new : Copier) (start held after : Option (List ℕ)) (visits : List Visit)
     (s : Copying first old start held visits) where
-  stop_here : (visit : Visit)
-      → stop_after first.unit [] (visits ++ visit ∷ []) ≡ stop_after old.unit (rows_since [] visits) (visit ∷ [])
+  stop_here : (visit : Visit) → stops first (visits ++ visit ∷ [])
+      ≡ stop_after (made_by first.becomes) old.unit (rows_since [] visits) (visit ∷ [])
   stop_here visit =
-      stop_after-append first.unit [] visits (visit ∷ [])
-      ∙ ap (λ (o : Option RunFault). option_or o (stop_after (offset_after first.unit visits) (rows_since [] visits)
-      (visit ∷ []))) s.goes_on
-      ∙ ap (λ (n : ℕ). stop_after n (rows_since [] visits) (visit ∷ [])) (sym s.offset)
+      rw (stop_after-append (made_by first.becomes) first.unit [] visits (visit ∷ []), s.goes_on, sym s.offset) refl
 
   pub stops_at_version : (offset version : ℕ) → Copying first new start after visits
       → StopsIn copy_story first new start after visits (of_version offset version ∷ []) (fault.ForeignUnit offset)
@@ -191,13 +183,13 @@ module _ (first old new : Copier) (start held after : Option (List ℕ)) (visits
   stops_for_memory visit growth t = (visit ∷ [], [], refl, (visits, visit, refl, t, (visits, visit, refl, growth)))
 
 -- a unit ended that has no header
-pub no_header_stop : (n : ℕ) (rows : List Row) (header : Option HeaderData) → header ≡ None
-    → stop_after n rows (of_end header ∷ []) ≡ None
-no_header_stop n rows header none = ap (λ (h : Option HeaderData). stop_after n rows (of_end h ∷ [])) none
+pub no_header_stop : (made : Made) (n : ℕ) (rows : List Row) (header : Option HeaderData) → header ≡ None
+    → stop_after made n rows (of_end header ∷ []) ≡ None
+no_header_stop made n rows header none = rw none refl
 
-pub no_header_text : (order : Order) (rows : List Row) (header : Option HeaderData) → header ≡ None
-    → text_after order rows (of_end header ∷ []) ≡ []
-no_header_text order rows header none = ap (λ (h : Option HeaderData). text_after order rows (of_end h ∷ [])) none
+pub no_header_text : (made : Made) (order : Order) (n : ℕ) (rows : List Row) (header : Option HeaderData)
+    → header ≡ None → text_after made order n rows (of_end header ∷ []) ≡ []
+no_header_text made order n rows header none = rw none refl
 
 -- a unit ended that has a header
 module _ (first old : Copier) (start held : Option (List ℕ)) (visits : List Visit)
@@ -206,15 +198,16 @@ module _ (first old : Copier) (start held : Option (List ℕ)) (visits : List Vi
   abbrev pub rows : List Row
   rows = rows_since [] visits
 
-  -- its program grew by them, under the params of its header with standard opcodes
-  pub its_program : header_told None visits ≡ header → (std : HeaderData) → std ≡ with_standard_opcodes h
+  -- its program grew by them, under the params of the header that is made
+  pub its_program : header_told None visits ≡ header → (std : HeaderData) → std ≡ made_by old.becomes old.unit h
       → IsGrown old.program old.program.order std.params rows
-  its_program told std same =
-      subst (λ (d : HeaderData). IsGrown old.program old.program.order d.params rows) (sym same)
-      (s.grown h (told ∙ is))
+  its_program told std same = rw same (s.grown h (told ∙ is))
+
+  abbrev its_header : HeaderData
+  its_header = made_by first.becomes old.unit h
 
   abbrev unit : List ℕ
-  unit = unit_of first.program.order (with_standard_opcodes h) rows
+  unit = unit_of first.program.order its_header rows
 
   abbrev Printing : {A : Type 0} → Order → HeaderData → (new : Copier) (after : Option (List ℕ)) → Result A RunFault
       → Type 0
@@ -222,59 +215,57 @@ module _ (first old : Copier) (start held : Option (List ℕ)) (visits : List Vi
       PrintsPart held after old.printer new.printer (unit_of order std rows) (refusal std rows) old.unit result
 
   in_its_order : {A : Type 0} (std : HeaderData) (new : Copier) (after : Option (List ℕ)) (result : Result A RunFault)
-      → std ≡ with_standard_opcodes h → Printing old.program.order std new after result
-      → Printing first.program.order (with_standard_opcodes h) new after result
-  in_its_order std new after result same prints =
-      subst (λ (o : Order). Printing o (with_standard_opcodes h) new after result) s.order
-      (subst (λ (d : HeaderData). Printing old.program.order d new after result) same prints)
+      → std ≡ made_by old.becomes old.unit h → Printing old.program.order std new after result
+      → Printing first.program.order its_header new after result
+  in_its_order std new after result same printed =
+      let std_is : std ≡ its_header = same ∙ ap (λ (b : Becomes). made_by b old.unit h) s.becomes in
+      subst (λ (o : Order). Printing o its_header new after result) s.order
+      (subst (λ (d : HeaderData). Printing old.program.order d new after result) std_is printed)
 
-  refusal_is : (o : Option EmitFault) → refusal (with_standard_opcodes h) rows ≡ o
-      → stop_after old.unit rows (of_end header ∷ []) ≡ option_or (option_map (fault.Emit old.unit) o) None
-  refusal_is o r =
-      ap (λ (g : Option HeaderData). option_or (end_stop old.unit rows g) None) is
-      ∙ ap (λ (q : Option EmitFault). option_or (option_map (fault.Emit old.unit) q) None) r
+  refusal_is : (o : Option EmitFault) → refusal its_header rows ≡ o
+      → stop_after (made_by first.becomes) old.unit rows (of_end header ∷ [])
+      ≡ option_or (option_map (fault.Emit old.unit) o) None
+  refusal_is o r = rw (is, r) refl
 
-  text_is_unit : refusal (with_standard_opcodes h) rows ≡ None
-      → text_after first.program.order rows (of_end header ∷ []) ≡ unit
-  text_is_unit r =
-      ap (λ (g : Option HeaderData). end_text first.program.order rows g []) is
-      ∙ ap (λ (q : Option EmitFault). written q (unit ++ [])) r
-      ∙ append-nil unit
+  text_is_unit : refusal its_header rows ≡ None
+      → text_after (made_by first.becomes) first.program.order old.unit rows (of_end header ∷ []) ≡ unit
+  text_is_unit r = rw (is, r) (append-nil unit)
 
-  pub copies_unit : (std : HeaderData) → std ≡ with_standard_opcodes h → (new : Copier) (after : Option (List ℕ))
+  pub copies_unit : (std : HeaderData) → std ≡ made_by old.becomes old.unit h
+      → (new : Copier) (after : Option (List ℕ))
       → Printing {A = ⊤} old.program.order std new after (Ok tt)
-      → new.program ≡ old.program → new.unit ≡ old.unit
+      → new.becomes ≡ old.becomes → new.program ≡ old.program → new.unit ≡ old.unit
       → Copying first new start after (visits ++ of_end header ∷ [])
-  copies_unit std same new after prints program unit_is =
-      let printed = in_its_order {A = ⊤} std new after (Ok tt) same prints in
-      copies_on first old new start held after visits (of_end header ∷ []) s
+  copies_unit std same new after unit_printed becomes program unit_is =
+      let printed = in_its_order {A = ⊤} std new after (Ok tt) same unit_printed in
+      copies_on first old new start held after visits (of_end header ∷ []) s becomes
       (ap (λ (p : ProgramData). p.order) program) unit_is
-      (grows_no_more visits header new.program) (refusal_is None printed.0)
-      (subst (λ (l : List ℕ). HasPrinted start after (text_after first.program.order [] visits ++ l) new.printer)
-      (sym (text_is_unit printed.0)) (printed.1 start (text_after first.program.order [] visits) s.printed))
+      (grows_no_more visits header new) (refusal_is None printed.0)
+      (rw (text_is_unit printed.0) (printed.1 start (prints first visits) s.printed))
 
   stops_by : (new : Copier) (after : Option (List ℕ)) (f : RunFault)
-      → Printing {A = ⊤} first.program.order (with_standard_opcodes h) new after (Err f)
-      → new.program ≡ old.program → new.unit ≡ old.unit
+      → Printing {A = ⊤} first.program.order its_header new after (Err f)
+      → new.becomes ≡ old.becomes → new.program ≡ old.program → new.unit ≡ old.unit
       → StopsIn copy_story first new start after visits (of_end header ∷ []) f
-  stops_by new after (fault.Write out) printed program unit_is = (
+  stops_by new after (fault.Write out) printed becomes program unit_is = (
     of_end header ∷ [],
     [],
     refl,
     subst (λ (l : List ℕ). TellsOut start after l (fault.Write out)) all
-        (printed.1 start (text_after first.program.order [] visits) s.printed),
+        (printed.1 start (prints first visits) s.printed),
   ) where
-    all : text_after first.program.order [] visits ++ unit
-        ≡ text_after first.program.order [] (visits ++ of_end header ∷ [])
+    all : prints first visits ++ unit ≡ prints first (visits ++ of_end header ∷ [])
     all =
-        ap (λ (l : List ℕ). text_after first.program.order [] visits ++ l) (sym (text_is_unit printed.0))
-        ∙ sym (text_after-append first.program.order first.unit [] visits (of_end header ∷ []) s.goes_on)
-  stops_by new after fault.NoMemory printed program unit_is =
-      stops_for_memory first old new start held after visits s (of_end header)
-      (subst (λ (g : Option HeaderData). IsGrowth (of_end g)) (sym is) tt)
-      (subst (λ (w : Option (List ℕ)). Copying first new start w visits) (sym printed.1.0)
-      (still first old new start held visits s program unit_is printed.1.1))
-  stops_by new after (fault.Emit offset f) printed program unit_is = (
+        rw (
+          text_after-append (made_by first.becomes) first.program.order first.unit [] visits (of_end header ∷ [])
+              s.goes_on,
+          sym s.offset,
+          text_is_unit printed.0,
+        ) refl
+  stops_by new after fault.NoMemory printed becomes program unit_is =
+      stops_for_memory first old new start held after visits s (of_end header) (rw is tt)
+      (rw printed.1.0 (still first old new start held visits s becomes program unit_is printed.1.1))
+  stops_by new after (fault.Emit offset f) printed becomes program unit_is = (
     of_end header ∷ [],
     [],
     refl,
@@ -282,30 +273,34 @@ module _ (first old : Copier) (start held : Option (List ℕ)) (visits : List Vi
       visits,
       of_end header,
       refl,
-      subst (λ (w : Option (List ℕ)). Copying first new start w visits) (sym printed.2.0)
-          (still first old new start held visits s program unit_is printed.2.1),
+      rw printed.2.0 (still first old new start held visits s becomes program unit_is printed.2.1),
       stop_here first old new start held after visits s (of_end header) ∙ refusal_is (Some f) printed.1
           ∙ ap (λ (n : ℕ). Some (fault.Emit n f)) (sym printed.0),
     ),
   )
-  stops_by new after (fault.Damage at kind) printed program unit_is = absurd printed
-  stops_by new after fault.Read printed program unit_is = absurd printed
-  stops_by new after fault.SectionTooLong printed program unit_is = absurd printed
-  stops_by new after fault.NotFound printed program unit_is = absurd printed
-  stops_by new after (fault.ForeignUnit offset) printed program unit_is = absurd printed
+  stops_by new after (fault.Damage at kind) printed becomes program unit_is = absurd printed
+  stops_by new after fault.Read printed becomes program unit_is = absurd printed
+  stops_by new after fault.SectionTooLong printed becomes program unit_is = absurd printed
+  stops_by new after fault.NotFound printed becomes program unit_is = absurd printed
+  stops_by new after (fault.ForeignUnit offset) printed becomes program unit_is = absurd printed
 
-  pub stops_at_unit : (std : HeaderData) → std ≡ with_standard_opcodes h
+  pub stops_at_unit : (std : HeaderData) → std ≡ made_by old.becomes old.unit h
       → (new : Copier) (after : Option (List ℕ)) (f : RunFault)
       → Printing {A = ⊤} old.program.order std new after (Err f)
-      → new.program ≡ old.program → new.unit ≡ old.unit
+      → new.becomes ≡ old.becomes → new.program ≡ old.program → new.unit ≡ old.unit
       → StopsIn copy_story first new start after visits (of_end header ∷ []) f
-  stops_at_unit std same new after f prints program unit_is =
-      stops_by new after f (in_its_order {A = ⊤} std new after (Err f) same prints) program unit_is
+  stops_at_unit std same new after f unit_printed becomes program unit_is =
+      stops_by new after f (in_its_order {A = ⊤} std new after (Err f) same unit_printed) becomes program unit_is
+
+  -- memory was refused before anything of it was printed
+  pub stops_unmade : StopsIn copy_story first old start held visits (of_end header ∷ []) fault.NoMemory
+  stops_unmade = stops_for_memory first old old start held held visits s (of_end header) (rw is tt) s
 
 -- no visit was told yet
 pub begins : (first : Copier) (start : Option (List ℕ)) → first.printer.pending ≡ [] → first.printer.out ≡ 0
     → Copying first first start start []
 begins first start pending out = record {
+  becomes = refl;
   order = refl;
   offset = refl;
   grown = λ h told. absurd (none_is_some told);

@@ -8,7 +8,6 @@ use Rattle.std.specs.Io.KnownBytes.{Appends}
 use Rattle.std.specs.List.{AllByRecursion, concat}
 use Rattle.std.specs.Option.{option_or}
 use Rattle.dl_num.specs.declared.fixed.Order.{Order}
-use Rattle.dl_head.specs.Built.{with_standard_opcodes}
 use Rattle.dl_head.specs.Header.{foreign_in}
 use Rattle.dl_rows.specs.declared.row.Row.{Row}
 use Rattle.dl_rows.specs.LineUnit.{IsUnit}
@@ -19,55 +18,67 @@ use Rattle.dl_run.specs.declared.copying.Copier.{Copier}
 use Rattle.dl_run.specs.declared.fault.RunFault.{RunFault}
 use Rattle.dl_run.specs.declared.fault.RunFault.TheVariants as fault
 use Rattle.dl_print.specs.declared.summary.Summary.{Summary}
-use Rattle.dl_run.specs.Commands.{Copies, HasCopied, copied_units}
-use Rattle.dl_run.specs.Copying.{Copying, IsGrowth, StopsAt, offset_after, rows_since, stop_after, text_after}
-use Rattle.dl_run.specs.Copying.{copy_story}
+use Rattle.dl_run.specs.Commands.{Made, AreMade, CopiesAs, units_as}
+use Rattle.dl_run.specs.Copying.{Copying, IsGrowth, StopsAt, made_by, offset_after, rows_since, stop_after, text_after}
+use Rattle.dl_run.specs.Copying.{prints, copy_story}
+use Rattle.dl_run.specs.Copying.{stops as stops_at}
 use Rattle.dl_run.specs.RunOutput.{TellsOut}
 use Rattle.dl_run.specs.Section.{Visit, of_header, of_version, of_row, of_open, of_end, HasUnits, HasBegun}
 use Rattle.dl_run.specs.Section.{section_visits}
 use Rattle.dl_run.specs.Visiting.{Ran, Settled, VisitorStops}
 use Rattle.dl_run.proofs.Fronts.{none_is_some}
-use Rattle.dl_run.proofs.RangeLemmas.{OwnAlone, too_long}
+use Rattle.dl_run.proofs.RangeLemmas.{KeepsRanges, too_long}
 use Rattle.dl_run.proofs.SectionLemmas.{has_front}
 use Rattle.dl_run.proofs.CopyingVisits.{stop_after-append, written, text_after-append}
 use Rattle.dl_run.proofs.CopyingSections.{Heard, StopIs, same_last, heard_of}
 
-stop_is_last : (order : Order) (n : ℕ) (rows : List Row) (visit : Visit) (f : RunFault)
-    → stop_after n rows (visit ∷ []) ≡ Some f → text_after order rows (visit ∷ []) ≡ []
-stop_is_last order n rows (of_header m h) f e = absurd (none_is_some e)
-stop_is_last order n rows (of_version m v) f e = refl
-stop_is_last order n rows (of_row r) f e = absurd (none_is_some e)
-stop_is_last order n rows of_open f e = absurd (none_is_some e)
-stop_is_last order n rows (of_end None) f e = refl
-stop_is_last order n rows (of_end (Some h)) f e =
-    by (refusal (with_standard_opcodes h) rows) (unit_of order (with_standard_opcodes h) rows) e where
+stop_is_last : (made : Made) (order : Order) (n : ℕ) (rows : List Row) (visit : Visit) (f : RunFault)
+    → stop_after made n rows (visit ∷ []) ≡ Some f → text_after made order n rows (visit ∷ []) ≡ []
+stop_is_last made order n rows (of_header m h) f e = absurd (none_is_some e)
+stop_is_last made order n rows (of_version m v) f e = refl
+stop_is_last made order n rows (of_row r) f e = absurd (none_is_some e)
+stop_is_last made order n rows of_open f e = absurd (none_is_some e)
+stop_is_last made order n rows (of_end None) f e = refl
+stop_is_last made order n rows (of_end (Some h)) f e =
+    by (refusal (made n h) rows) (unit_of order (made n h) rows) e where
       by : (o : Option EmitFault) (unit : List ℕ) → option_or (option_map (fault.Emit n) o) None ≡ Some f
           → written o (unit ++ []) ≡ []
       by None unit e = absurd (none_is_some e)
       by (Some g) unit e = refl
 
-module _ (dialect : Dialect) (alone : OwnAlone dialect) (limit : ℕ) (bytes : List ℕ) (left : Option (List ℕ))
-    (first new : Copier) (start now : Option (List ℕ)) (own : first.program.order ≡ dialect.order) where
+module _ (dialect : Dialect) (limit : ℕ) (bytes : List ℕ) (left : Option (List ℕ))
+    (first new : Copier) (start now : Option (List ℕ)) (own : first.program.order ≡ dialect.order)
+    (ranges : KeepsRanges dialect (made_by first.becomes)) where
+  abbrev made : Made
+  made = made_by first.becomes
+
+  abbrev Copied : Result Summary RunFault → Type 0
+  Copied result = CopiesAs made dialect limit bytes left start now result
+
   abbrev pub s : List ℕ
   s = take limit bytes
 
   heard_in : (units : List (List ℕ)) (b : List ℕ) (heard more : List Visit) → AllByRecursion (IsUnit dialect) units
-      → section_visits dialect units b ≡ heard ++ more → Heard dialect first.unit 0 units b heard more
+      → section_visits dialect units b ≡ heard ++ more → Heard made dialect first.unit 0 units b heard more
   heard_in units b heard more each e =
-      heard_of dialect first.unit 0 (length (concat units)) units b heard more each (omega arith) e
+      heard_of made dialect first.unit 0 (length (concat units)) units b heard more each (omega arith) e
+
+  -- these units are copied, and their copies are out
+  abbrev HasMade : List (List ℕ) → Type 0
+  HasMade units = AreMade made dialect 0 units × Appends start now (units_as made dialect 0 units)
 
   -- without a fault all units are copied
   all_copied : (units : List (List ℕ)) (b : List ℕ) → AllByRecursion (IsUnit dialect) units
       → Settled copy_story first start now (section_visits dialect units b) (Copying first new start now)
-      → HasCopied dialect units start now
+      → HasMade units
   all_copied units b each settled =
       let visits = section_visits dialect units b in
       let f = heard_in units b visits [] each (sym (append-nil visits)) in
       let same : units ≡ f.done =
       f.whole ∙ ap (λ (l : List (List ℕ)). f.done ++ l) (f.all refl settled.tells.goes_on).0 ∙ append-nil f.done in
-      let out : Appends start now (text_after dialect.order [] visits) =
-      subst (λ (o : Order). Appends start now (text_after o [] visits)) own settled.out in
-      subst (λ (l : List (List ℕ)). HasCopied dialect l start now) (sym same) (
+      let out : Appends start now (text_after made dialect.order first.unit [] visits) =
+      subst (λ (o : Order). Appends start now (text_after made o first.unit [] visits)) own settled.out in
+      subst HasMade (sym same) (
         f.copied,
         subst (Appends start now) f.text out,
       )
@@ -82,12 +93,12 @@ module _ (dialect : Dialect) (alone : OwnAlone dialect) (limit : ℕ) (bytes : L
 
   failed_write : (units : List (List ℕ)) (b back : List ℕ) (heard more : List Visit) (out : ℕ)
       → HasUnits dialect s units (b ++ back) → section_visits dialect units b ≡ heard ++ more
-      → TellsOut start now (text_after first.program.order [] heard) (fault.Write out)
-      → Copies dialect limit bytes left start now (Err (fault.Write out))
+      → TellsOut start now (prints first heard) (fault.Write out)
+      → Copied (Err (fault.Write out))
   failed_write units b back heard more out has whole tells =
       let f = heard_in units b heard more has.each whole in
-      let tells_own : TellsOut start now (text_after dialect.order [] heard) (fault.Write out) =
-      subst (λ (o : Order). TellsOut start now (text_after o [] heard) (fault.Write out)) own tells in (
+      let tells_own : TellsOut start now (text_after made dialect.order first.unit [] heard) (fault.Write out) =
+      subst (λ (o : Order). TellsOut start now (text_after made o first.unit [] heard) (fault.Write out)) own tells in (
         f.done,
         concat f.after ++ (b ++ back),
         has_front dialect s units f.done f.after (b ++ back) f.whole has,
@@ -100,11 +111,15 @@ module _ (dialect : Dialect) (alone : OwnAlone dialect) (limit : ℕ) (bytes : L
     has : HasUnits dialect s units (b ++ back)
     has = begun.has
 
-    out_before : Appends start now (text_after dialect.order [] stops.before)
-    out_before = subst (λ (o : Order). Appends start now (text_after o [] stops.before)) own stops.out
+    abbrev text_of : List Visit → List ℕ
+    text_of visits = text_after made dialect.order first.unit [] visits
+
+    out_before : Appends start now (text_of stops.before)
+    out_before =
+        subst (λ (o : Order). Appends start now (text_after made o first.unit [] stops.before)) own stops.out
 
     no_memory : Sound dialect b → StopsAt first (stops.before ++ stops.visit ∷ []) fault.NoMemory
-        → Copies dialect limit bytes left start now (Err fault.NoMemory)
+        → Copied (Err fault.NoMemory)
     no_memory sound (before, visit, same, growth) =
         let h = heard_in units b stops.before (stops.visit ∷ stops.more) has.each stops.whole in
         let a = h.current stops.visit stops.more refl
@@ -131,38 +146,37 @@ module _ (dialect : Dialect) (alone : OwnAlone dialect) (limit : ℕ) (bytes : L
     abbrev heard : List Visit
     heard = stops.before ++ stops.visit ∷ []
 
-    told : Heard dialect first.unit 0 units b heard stops.more
+    told : Heard made dialect first.unit 0 units b heard stops.more
     told = heard_in units b heard stops.more has.each (stops.whole
         ∙ sym (append_assoc stops.before (stops.visit ∷ []) stops.more))
 
-    module _ (reason : stop_after first.unit [] heard ≡ Some f) where
-      at_last : stop_after (offset_after first.unit stops.before) (rows_since [] stops.before) (stops.visit ∷ [])
+    module _ (reason : stops_at first heard ≡ Some f) where
+      at_last : stop_after made (offset_after first.unit stops.before) (rows_since [] stops.before) (stops.visit ∷ [])
           ≡ Some f
       at_last =
           ap (λ (o : Option RunFault). option_or o
-          (stop_after (offset_after first.unit stops.before) (rows_since [] stops.before) (stops.visit ∷ [])))
+          (stop_after made (offset_after first.unit stops.before) (rows_since [] stops.before) (stops.visit ∷ [])))
           (sym stops.tells.goes_on)
-          ∙ sym (stop_after-append first.unit [] stops.before (stops.visit ∷ []))
+          ∙ sym (stop_after-append made first.unit [] stops.before (stops.visit ∷ []))
           ∙ reason
 
-      text_before : text_after dialect.order [] stops.before ≡ copied_units dialect told.done
+      text_before : text_of stops.before ≡ units_as made dialect 0 told.done
       text_before =
-          sym (append-nil (text_after dialect.order [] stops.before))
-          ∙ ap (λ (l : List ℕ). text_after dialect.order [] stops.before ++ l)
-          (sym (stop_is_last dialect.order (offset_after first.unit stops.before)
+          sym (append-nil (text_of stops.before))
+          ∙ ap (λ (l : List ℕ). text_of stops.before ++ l)
+          (sym (stop_is_last made dialect.order (offset_after first.unit stops.before)
           (rows_since [] stops.before) stops.visit f
           at_last))
-          ∙ sym (text_after-append dialect.order first.unit [] stops.before (stops.visit ∷ []) stops.tells.goes_on)
+          ∙ sym (text_after-append made dialect.order first.unit [] stops.before (stops.visit ∷ []) stops.tells.goes_on)
           ∙ told.text
 
-      copied_before : HasCopied dialect told.done start now
+      copied_before : HasMade told.done
       copied_before = (told.copied, subst (Appends start now) text_before out_before)
 
       done_in : HasUnits dialect s told.done (concat told.after ++ (b ++ back))
       done_in = has_front dialect s units told.done told.after (b ++ back) told.whole has
 
-      by_stop : (g : RunFault) → StopIs dialect 0 told.done told.after b g
-          → Copies dialect limit bytes left start now (Err g)
+      by_stop : (g : RunFault) → StopIs made dialect 0 told.done told.after b g → Copied (Err g)
       by_stop (fault.ForeignUnit offset) (c, more, version, whole, at, within, foreign) =
           let rest : concat told.after ++ (b ++ back) ≡ c ++ (more ++ back) =
           sym (append_assoc (concat told.after) b back) ∙ ap (λ (l : List ℕ). l ++ back) whole
@@ -191,7 +205,7 @@ module _ (dialect : Dialect) (alone : OwnAlone dialect) (limit : ℕ) (bytes : L
             at ∙ omega arith,
             header,
             refused,
-            too_long dialect alone u h g header refused,
+            too_long dialect made ranges offset u h g header refused,
             copied_before,
           )
       by_stop (fault.Damage at kind) stop = absurd stop
@@ -201,15 +215,15 @@ module _ (dialect : Dialect) (alone : OwnAlone dialect) (limit : ℕ) (bytes : L
       by_stop fault.SectionTooLong stop = absurd stop
       by_stop fault.NotFound stop = absurd stop
 
-      stopped : Copies dialect limit bytes left start now (Err f)
+      stopped : Copied (Err f)
       stopped = by_stop f (told.stop begun.in_unit f reason)
 
   pub copies : (result : Result Summary RunFault) → Ran copy_story dialect limit bytes left first new start now result
-      → Copies dialect limit bytes left start now result
+      → Copied result
   copies (Ok summary) (inl (units, ends, settled)) = (units, ends, all_copied units [] ends.0.each settled)
   copies (Ok summary) (inr (_, _, _, _, settled)) = absurd settled.tells
-  copies (Err (fault.Write out)) (units, b, back, has, (heard, more, whole, tells)) =
-      failed_write units b back heard more out has.has whole tells
+  copies (Err (fault.Write out)) (units, b, back, begun, (before, more, whole, tells)) =
+      failed_write units b back before more out begun.has whole tells
   copies (Err fault.NoMemory) (units, b, back, inl (ends, settled)) = (
     units,
     b,

@@ -6,7 +6,6 @@ use Rattle.std.specs.Prelude.{◌≢◌, option_map}
 use Rattle.std.specs.List.{AllByRecursion, concat}
 use Rattle.std.specs.Option.{option_or, option_map_or}
 use Rattle.dl_head.specs.declared.dialect.Dialect.{Dialect}
-use Rattle.dl_head.specs.Built.{with_standard_opcodes}
 use Rattle.dl_field.specs.HeaderData.{HeaderData}
 use Rattle.dl_head.specs.Header.{foreign_in, header_in}
 use Rattle.dl_head.proofs.HeaderLaws.{header_is_found}
@@ -20,7 +19,7 @@ use Rattle.dl_emit.specs.declared.fault.EmitFault.{EmitFault}
 use Rattle.dl_emit.specs.WrittenUnit.{unit_of, refusal}
 use Rattle.dl_run.specs.declared.fault.RunFault.{RunFault}
 use Rattle.dl_run.specs.declared.fault.RunFault.TheVariants as fault
-use Rattle.dl_run.specs.Commands.{AreCopied, copied_unit, copied_units}
+use Rattle.dl_run.specs.Commands.{Made, AreMade, unit_as, units_as}
 use Rattle.dl_run.specs.Copying.{IsGrowth, end_stop, stop_after, end_text, text_after}
 use Rattle.dl_run.specs.Section.{Visit, of_header, of_version, of_row, of_end, header_of}
 use Rattle.dl_run.specs.Section.{visits, open_visit, units_visits}
@@ -32,29 +31,29 @@ use Rattle.dl_run.proofs.CopyingVisits.{stop_of_foreign, stop_of_own, text_of_fo
 -- ---- the visits of a section, or some of the first of them
 
 -- the fault is that of what stands after the units that are done, the first of which is at n
-abbrev pub StopIs : Dialect → (n : ℕ) (done after : List (List ℕ)) (b : List ℕ) → RunFault → Type 0
-StopIs dialect n done after b (fault.ForeignUnit offset) =
+abbrev pub StopIs : Made → Dialect → (n : ℕ) (done after : List (List ℕ)) (b : List ℕ) → RunFault → Type 0
+StopIs made dialect n done after b (fault.ForeignUnit offset) =
     (c : List ℕ) × (back : List ℕ) × (version : ℕ) × (concat after ++ b ≡ c ++ back)
     × (offset ≡ n + length (concat done)) × WithinUnit dialect c × (foreign_in dialect c ≡ Some version)
-StopIs dialect n done after b (fault.Emit offset f) =
+StopIs made dialect n done after b (fault.Emit offset f) =
     (u : List ℕ) × (later : List (List ℕ)) × (h : HeaderData) × (after ≡ u ∷ later)
     × (offset ≡ n + length (concat done)) × (header_of dialect u ≡ Some h)
-    × (refusal (with_standard_opcodes h) (unit_rows dialect u) ≡ Some f)
-StopIs dialect n done after b other = ⊥
+    × (refusal (made offset h) (unit_rows dialect u) ≡ Some f)
+StopIs made dialect n done after b other = ⊥
 
 -- one unit more is done
-stop_later : (dialect : Dialect) (n : ℕ) (u : List ℕ) (done after : List (List ℕ)) (b : List ℕ) (f : RunFault)
-    → StopIs dialect (n + length u) done after b f → StopIs dialect n (u ∷ done) after b f
-stop_later dialect n u done after b (fault.ForeignUnit offset) (c, back, version, whole, at, within, foreign) =
+stop_later : (made : Made) (dialect : Dialect) (n : ℕ) (u : List ℕ) (done after : List (List ℕ)) (b : List ℕ) (f : RunFault)
+    → StopIs made dialect (n + length u) done after b f → StopIs made dialect n (u ∷ done) after b f
+stop_later made dialect n u done after b (fault.ForeignUnit offset) (c, back, version, whole, at, within, foreign) =
     (c, back, version, whole, omega (arith, at, length-append u (concat done)), within, foreign)
-stop_later dialect n u done after b (fault.Emit offset f) (v, later, h, whole, at, header, refused) =
+stop_later made dialect n u done after b (fault.Emit offset f) (v, later, h, whole, at, header, refused) =
     (v, later, h, whole, omega (arith, at, length-append u (concat done)), header, refused)
-stop_later dialect n u done after b (fault.Damage at kind) s = absurd s
-stop_later dialect n u done after b fault.NoMemory s = absurd s
-stop_later dialect n u done after b fault.Read s = absurd s
-stop_later dialect n u done after b (fault.Write out) s = absurd s
-stop_later dialect n u done after b fault.SectionTooLong s = absurd s
-stop_later dialect n u done after b fault.NotFound s = absurd s
+stop_later made dialect n u done after b (fault.Damage at kind) s = absurd s
+stop_later made dialect n u done after b fault.NoMemory s = absurd s
+stop_later made dialect n u done after b fault.Read s = absurd s
+stop_later made dialect n u done after b (fault.Write out) s = absurd s
+stop_later made dialect n u done after b fault.SectionTooLong s = absurd s
+stop_later made dialect n u done after b fault.NotFound s = absurd s
 
 -- of the units that aren't copied, or of b after them, the current bytes are at fault in no way, and memory grows for
 -- them
@@ -69,17 +68,18 @@ pub record CurrentUnit (dialect : Dialect) (after : List (List ℕ)) (b : List �
 
 -- of the units some first ones are copied, all where all is told and there is no fault, and then b isn't of another
 -- version; m: the offset before the visits
-pub record Heard (dialect : Dialect) (m n : ℕ) (units : List (List ℕ)) (b : List ℕ)
+pub record Heard (made : Made) (dialect : Dialect) (m n : ℕ) (units : List (List ℕ)) (b : List ℕ)
     (heard more : List Visit) : Type 0 where
   pub done : List (List ℕ)
   pub after : List (List ℕ)
   pub whole : units ≡ done ++ after
-  pub copied : AreCopied dialect done
-  pub text : text_after dialect.order [] heard ≡ copied_units dialect done
-  pub stop : WithinUnit dialect b → (f : RunFault) → stop_after m [] heard ≡ Some f → StopIs dialect n done after b f
-  pub all : more ≡ [] → stop_after m [] heard ≡ None → (after ≡ []) × (foreign_in dialect b ≡ None)
+  pub copied : AreMade made dialect n done
+  pub text : text_after made dialect.order m [] heard ≡ units_as made dialect n done
+  pub stop : WithinUnit dialect b → (f : RunFault) → stop_after made m [] heard ≡ Some f
+      → StopIs made dialect n done after b f
+  pub all : more ≡ [] → stop_after made m [] heard ≡ None → (after ≡ []) × (foreign_in dialect b ≡ None)
   pub current : (visit : Visit) (others : List Visit) → more ≡ visit ∷ others → IsGrowth visit → WithinUnit dialect b
-      → Sound dialect b → stop_after m [] heard ≡ None → CurrentUnit dialect after b
+      → Sound dialect b → stop_after made m [] heard ≡ None → CurrentUnit dialect after b
 
 no_middle : {A : Type 0} (xs : List A) (x : A) (ys : List A) → xs ++ x ∷ ys ≡ [] → ⊥
 no_middle xs x ys e = omega (arith, ap length e, length-append xs (x ∷ ys))
@@ -96,13 +96,13 @@ same_last (z ∷ xs) [] x y e = absurd (no_middle xs x [] cc)
 same_last (z ∷ xs) (w ∷ ys) x y e = same_last xs ys x y cc
 
 -- where the first of visits is that of a version, and those heard are no reason to stop, the next one is no growth
-not_at_version : (m n version : ℕ) (own heard : List Visit) (visit : Visit) (others : List Visit)
-    → of_version n version ∷ own ≡ heard ++ visit ∷ others → stop_after m [] heard ≡ None → IsGrowth visit → ⊥
-not_at_version m n version own [] visit others e quiet growth =
+not_at_version : (made : Made) (m n version : ℕ) (own heard : List Visit) (visit : Visit) (others : List Visit)
+    → of_version n version ∷ own ≡ heard ++ visit ∷ others → stop_after made m [] heard ≡ None → IsGrowth visit → ⊥
+not_at_version made m n version own [] visit others e quiet growth =
     let same : visit ≡ of_version n version = cc in subst IsGrowth same growth
-not_at_version m n version own (v ∷ heard) visit others e quiet growth =
+not_at_version made m n version own (v ∷ heard) visit others e quiet growth =
     let same : v ≡ of_version n version = cc in
-    none_is_some (sym quiet ∙ ap (λ (w : Visit). stop_after m [] (w ∷ heard)) same)
+    none_is_some (sym quiet ∙ ap (λ (w : Visit). stop_after made m [] (w ∷ heard)) same)
 
 -- the end of a unit apart
 regroup : {A : Type 0} (v o : List A) (e : A) (u b : List A)
@@ -111,7 +111,7 @@ regroup {A} v o e u b =
     append_assoc (v ++ (o ++ e ∷ [])) u b ∙ ap (λ (l : List A). l ++ (u ++ b)) (sym (append_assoc v o (e ∷ [])))
     ∙ append_assoc (v ++ o) (e ∷ []) (u ++ b)
 
-module _ (dialect : Dialect) where
+module _ (made : Made) (dialect : Dialect) where
   -- what a unit is
   unit_kind : (u : List ℕ) → IsUnit dialect u → Foreign dialect 0 u ⊎ Own dialect 0 u
   unit_kind u (inl (version, is)) = inl (version, foreign_of dialect version u is)
@@ -130,16 +130,16 @@ module _ (dialect : Dialect) where
   -- where the first unit is of another version
   stops_foreign : (m n : ℕ) (u : List ℕ) (units : List (List ℕ)) (b : List ℕ) (heard more : List Visit)
       → IsUnit dialect u → (v : Foreign dialect 0 u)
-      → text_after dialect.order [] heard ≡ []
-      → ((f : RunFault) → stop_after m [] heard ≡ Some f → f ≡ fault.ForeignUnit n)
-      → (stop_after m [] heard ≡ None → ⊥) → Heard dialect m n (u ∷ units) b heard more
+      → text_after made dialect.order m [] heard ≡ []
+      → ((f : RunFault) → stop_after made m [] heard ≡ Some f → f ≡ fault.ForeignUnit n)
+      → (stop_after made m [] heard ≡ None → ⊥) → Heard made dialect m n (u ∷ units) b heard more
   stops_foreign m n u units b heard more unit v text stop loud = record {
     done = [];
     after = u ∷ units;
     whole = refl;
     copied = tt;
     text = text;
-    stop = λ within f is. subst (StopIs dialect n [] (u ∷ units) b) (sym (stop f is)) (
+    stop = λ within f is. subst (StopIs made dialect n [] (u ∷ units) b) (sym (stop f is)) (
       u,
       concat units ++ b,
       v.0,
@@ -161,39 +161,39 @@ module _ (dialect : Dialect) where
     its_rows = unit_rows dialect u
 
     abbrev its_header : HeaderData
-    its_header = with_standard_opcodes own.0
+    its_header = made n own.0
 
     abbrev its_end : Visit
     its_end = of_end (header_of dialect u)
 
     stop_is : (o : Option EmitFault) → refusal its_header its_rows ≡ o
-        → stop_after m [] heard ≡ option_or (option_map (fault.Emit n) o) (stop_after n [] x)
+        → stop_after made m [] heard ≡ option_or (option_map (fault.Emit n) o) (stop_after made n [] x)
     stop_is o r =
-        ap (stop_after m []) cut
-        ∙ stop_of_own dialect n u (ends_open its_rows) m own (its_end ∷ x)
-        ∙ ap (λ (h : Option HeaderData). option_or (end_stop n its_rows h) (stop_after n [] x))
+        ap (stop_after made m []) cut
+        ∙ stop_of_own dialect n u made (ends_open its_rows) m own (its_end ∷ x)
+        ∙ ap (λ (h : Option HeaderData). option_or (end_stop made n its_rows h) (stop_after made n [] x))
         (header_is dialect n u own)
-        ∙ ap (λ (q : Option EmitFault). option_or (option_map (fault.Emit n) q) (stop_after n [] x)) r
+        ∙ ap (λ (q : Option EmitFault). option_or (option_map (fault.Emit n) q) (stop_after made n [] x)) r
 
     text_is : (o : Option EmitFault) → refusal its_header its_rows ≡ o
-        → text_after dialect.order [] heard ≡ written o
-        (unit_of dialect.order its_header its_rows ++ text_after dialect.order [] x)
+        → text_after made dialect.order m [] heard ≡ written o
+        (unit_of dialect.order its_header its_rows ++ text_after made dialect.order n [] x)
     text_is o r =
-        ap (text_after dialect.order []) cut
-        ∙ text_of_own dialect n u (ends_open its_rows) own (its_end ∷ x)
-        ∙ ap (λ (h : Option HeaderData). end_text dialect.order its_rows h (text_after dialect.order [] x))
+        ap (text_after made dialect.order m []) cut
+        ∙ text_of_own dialect n u made (ends_open its_rows) m own (its_end ∷ x)
+        ∙ ap (λ (h : Option HeaderData). end_text made dialect.order n its_rows h (text_after made dialect.order n [] x))
         (header_is dialect n u own)
         ∙ ap (λ (q : Option EmitFault). written q
-        (unit_of dialect.order its_header its_rows ++ text_after dialect.order [] x)) r
+        (unit_of dialect.order its_header its_rows ++ text_after made dialect.order n [] x)) r
 
-    stops_refused : (f : EmitFault) → refusal its_header its_rows ≡ Some f → Heard dialect m n (u ∷ units) b heard more
+    stops_refused : (f : EmitFault) → refusal its_header its_rows ≡ Some f → Heard made dialect m n (u ∷ units) b heard more
     stops_refused f r = record {
       done = [];
       after = u ∷ units;
       whole = refl;
       copied = tt;
       text = text_is (Some f) r;
-      stop = λ within g is. subst (StopIs dialect n [] (u ∷ units) b)
+      stop = λ within g is. subst (StopIs made dialect n [] (u ∷ units) b)
           (value_same (fault.Emit n f) g (sym (stop_is (Some f) r) ∙ is)) (
             u,
             units,
@@ -207,21 +207,20 @@ module _ (dialect : Dialect) where
       current = λ visit others next growth within sound quiet. absurd (none_is_some (sym quiet ∙ stop_is (Some f) r));
     }
 
-    its_copy : unit_of dialect.order its_header its_rows ≡ copied_unit dialect u
+    its_copy : unit_of dialect.order its_header its_rows ≡ unit_as made dialect n u
     its_copy =
-        ap (λ (o : Option HeaderData). option_map_or
-        (λ h. unit_of dialect.order (with_standard_opcodes h) its_rows) o [])
+        ap (λ (o : Option HeaderData). option_map_or (λ h. unit_of dialect.order (made n h) its_rows) o [])
         (sym (header_is dialect n u own))
 
-    goes_after : refusal its_header its_rows ≡ None → Heard dialect n (n + length u) units b x more
-        → Heard dialect m n (u ∷ units) b heard more
+    goes_after : refusal its_header its_rows ≡ None → Heard made dialect n (n + length u) units b x more
+        → Heard made dialect m n (u ∷ units) b heard more
     goes_after r later = record {
       done = u ∷ later.done;
       after = later.after;
       whole = ap (λ (l : List (List ℕ)). u ∷ l) later.whole;
       copied = ((own.0, header_is dialect n u own, r), later.copied);
       text = text_is None r ∙ ap₂ (λ (v w : List ℕ). v ++ w) its_copy later.text;
-      stop = λ within f is. stop_later dialect n u later.done later.after b f (later.stop within f (sym (stop_is None r)
+      stop = λ within f is. stop_later made dialect n u later.done later.after b f (later.stop within f (sym (stop_is None r)
           ∙ is));
       all = λ none quiet. later.all none (sym (stop_is None r) ∙ quiet);
       current =
@@ -230,14 +229,14 @@ module _ (dialect : Dialect) where
     }
 
     by_refusal : (o : Option EmitFault) → refusal its_header its_rows ≡ o
-        → Heard dialect n (n + length u) units b x more → Heard dialect m n (u ∷ units) b heard more
+        → Heard made dialect n (n + length u) units b x more → Heard made dialect m n (u ∷ units) b heard more
     by_refusal None r later = goes_after r later
     by_refusal (Some f) r later = stops_refused f r
 
   -- of each front of the visits of units and of bytes after them
   pub heard_of : (m n k : ℕ) (units : List (List ℕ)) (b : List ℕ) (heard more : List Visit)
       → AllByRecursion (IsUnit dialect) units → k ≡ n + length (concat units)
-      → units_visits dialect n units ++ visits dialect k b ≡ heard ++ more → Heard dialect m n units b heard more
+      → units_visits dialect n units ++ visits dialect k b ≡ heard ++ more → Heard made dialect m n units b heard more
   heard_of m n k [] b heard more all at e =
       let cut : visits dialect k b ++ open_visit false ≡ heard ++ more = append-nil (visits dialect k b) ∙ e in
       record {
@@ -245,12 +244,12 @@ module _ (dialect : Dialect) where
         after = [];
         whole = refl;
         copied = tt;
-        text = nothing_before dialect k b false heard more cut;
-        stop = λ within f is. by within f (foreign_before dialect k b false m heard more f cut is);
+        text = nothing_before dialect k b made false m heard more cut;
+        stop = λ within f is. by within f (foreign_before dialect k b made false m heard more f cut is);
         all = λ none quiet. (
           refl,
           not_version (foreign_in dialect b) refl
-              (ap (stop_after m []) (append-nil (visits dialect k b ++ open_visit false) ∙ cut
+              (ap (stop_after made m []) (append-nil (visits dialect k b ++ open_visit false) ∙ cut
               ∙ ap (λ (l : List Visit). heard ++ l) none ∙ append-nil heard) ∙ quiet),
         );
         current =
@@ -260,9 +259,9 @@ module _ (dialect : Dialect) where
       } where
         last_current : Foreign dialect k b ⊎ (Own dialect k b ⊎ Neither dialect k b)
             → (visit : Visit) (others : List Visit) → visits dialect k b ≡ heard ++ visit ∷ others → IsGrowth visit
-            → WithinUnit dialect b → Sound dialect b → stop_after m [] heard ≡ None → CurrentUnit dialect [] b
+            → WithinUnit dialect b → Sound dialect b → stop_after made m [] heard ≡ None → CurrentUnit dialect [] b
         last_current (inl v) visit others at growth within sound quiet =
-            absurd (not_at_version m k v.0 [] heard visit others (sym (foreign_visits dialect k b v) ∙ at) quiet growth)
+            absurd (not_at_version made m k v.0 [] heard visit others (sym (foreign_visits dialect k b v) ∙ at) quiet growth)
         last_current (inr (inl own)) visit others at growth within sound quiet = record {
           c = b;
           tail = [];
@@ -279,15 +278,16 @@ module _ (dialect : Dialect) where
             absurd (no_middle heard visit others (sym at ∙ no_visits dialect k b none))
 
         not_version : (v : Option ℕ) → foreign_in dialect b ≡ v
-            → stop_after m [] ((visits dialect k b ++ open_visit false) ++ []) ≡ None → foreign_in dialect b ≡ None
+            → stop_after made m [] ((visits dialect k b ++ open_visit false) ++ []) ≡ None
+            → foreign_in dialect b ≡ None
         not_version None is quiet = is
         not_version (Some v) is quiet = absurd
-            (none_is_some (sym quiet ∙ stop_of_foreign dialect k b false m (v, is) []))
+            (none_is_some (sym quiet ∙ stop_of_foreign dialect k b made false m (v, is) []))
 
         by : WithinUnit dialect b → (f : RunFault) → (v : Foreign dialect k b) × (f ≡ fault.ForeignUnit k)
-            → StopIs dialect n [] [] b f
+            → StopIs made dialect n [] [] b f
         by within f (v, same) =
-            subst (StopIs dialect n [] [] b) (sym same) (b, [], v.0, sym (append-nil b), at, within, v.1)
+            subst (StopIs made dialect n [] [] b) (sym same) (b, [], v.0, sym (append-nil b), at, within, v.1)
   heard_of m n k (u ∷ units) b heard more all at e =
       on_half (fronts_of own_front end_is rest heard more
       (sym (regroup (visits dialect n u) (open_visit is_open) end_is (units_visits dialect (n + length u) units)
@@ -308,17 +308,17 @@ module _ (dialect : Dialect) where
             ⊎ ((x : List Visit) × (own_front ≡ heard ++ x) × (more ≡ x ++ end_is ∷ rest))
             → ((x y : List Visit) → AllByRecursion (IsUnit dialect) units → k ≡ n + length u + length (concat units)
             → units_visits dialect (n + length u) units ++ visits dialect k b ≡ x ++ y
-            → Heard dialect n (n + length u) units b x y)
-            → Heard dialect m n (u ∷ units) b heard more
+            → Heard made dialect n (n + length u) units b x y)
+            → Heard made dialect m n (u ∷ units) b heard more
         on_half (inr (x, half, left)) later = stops_within (unit_kind u all.0) where
-          stops_within : Foreign dialect 0 u ⊎ Own dialect 0 u → Heard dialect m n (u ∷ units) b heard more
+          stops_within : Foreign dialect 0 u ⊎ Own dialect 0 u → Heard made dialect m n (u ∷ units) b heard more
           stops_within kind = record {
             done = [];
             after = u ∷ units;
             whole = refl;
             copied = tt;
-            text = nothing_before dialect n u is_open heard x half;
-            stop = λ in_unit f is. within f (foreign_before dialect n u is_open m heard x f half is);
+            text = nothing_before dialect n u made is_open m heard x half;
+            stop = λ in_unit f is. within f (foreign_before dialect n u made is_open m heard x f half is);
             all = λ none quiet. absurd (no_middle x end_is rest (sym left ∙ none));
             current =
                 λ visit others next growth in_unit sound quiet. unit_current kind visit others
@@ -326,10 +326,10 @@ module _ (dialect : Dialect) where
                 ∙ ap (λ (l : List Visit). heard ++ l) (sym left ∙ next)) growth quiet;
           } where
             unit_current : Foreign dialect 0 u ⊎ Own dialect 0 u → (visit : Visit) (others : List Visit)
-                → own_front ++ end_is ∷ rest ≡ heard ++ visit ∷ others → IsGrowth visit → stop_after m [] heard ≡ None
-                → CurrentUnit dialect (u ∷ units) b
+                → own_front ++ end_is ∷ rest ≡ heard ++ visit ∷ others → IsGrowth visit
+                → stop_after made m [] heard ≡ None → CurrentUnit dialect (u ∷ units) b
             unit_current (inl v) visit others at growth quiet =
-                absurd (not_at_version m n v.0 (open_visit is_open ++ end_is ∷ rest) heard visit others
+                absurd (not_at_version made m n v.0 (open_visit is_open ++ end_is ∷ rest) heard visit others
                 (ap (λ (l : List Visit). (l ++ open_visit is_open) ++ end_is ∷ rest)
                 (sym (foreign_visits dialect n u v)) ∙ at) quiet growth)
             unit_current (inr own) visit others at growth quiet = record {
@@ -343,9 +343,9 @@ module _ (dialect : Dialect) where
             }
 
             within : (f : RunFault) → (v : Foreign dialect n u) × (f ≡ fault.ForeignUnit n)
-                → StopIs dialect n [] (u ∷ units) b f
+                → StopIs made dialect n [] (u ∷ units) b f
             within f (v, same) =
-                subst (StopIs dialect n [] (u ∷ units) b) (sym same) (
+                subst (StopIs made dialect n [] (u ∷ units) b) (sym same) (
                   u,
                   concat units ++ b,
                   v.0,
@@ -355,15 +355,15 @@ module _ (dialect : Dialect) where
                   v.1,
                 )
         on_half (inl (x, half, left)) later = by (unit_kind u all.0) where
-          by : Foreign dialect 0 u ⊎ Own dialect 0 u → Heard dialect m n (u ∷ units) b heard more
+          by : Foreign dialect 0 u ⊎ Own dialect 0 u → Heard made dialect m n (u ∷ units) b heard more
           by (inl v) =
-              let stop : stop_after m [] heard ≡ Some (fault.ForeignUnit n) =
-              ap (stop_after m []) half ∙ stop_of_foreign dialect n u is_open m v (end_is ∷ x) in
-              stops_foreign m n u units b heard more all.0 v (ap (text_after dialect.order []) half
-              ∙ text_of_foreign dialect n u is_open v (end_is ∷ x))
+              let stop : stop_after made m [] heard ≡ Some (fault.ForeignUnit n) =
+              ap (stop_after made m []) half ∙ stop_of_foreign dialect n u made is_open m v (end_is ∷ x) in
+              stops_foreign m n u units b heard more all.0 v (ap (text_after made dialect.order m []) half
+              ∙ text_of_foreign dialect n u made is_open m v (end_is ∷ x))
               (λ f is. value_same f (fault.ForeignUnit n) (sym is ∙ stop)) (λ quiet. none_is_some (sym quiet ∙ stop))
           by (inr own) =
               by_refusal m n u units b heard more x own half
-              (refusal (with_standard_opcodes own.0) (unit_rows dialect u))
+              (refusal (made n own.0) (unit_rows dialect u))
               refl
               (later x more all.1 (omega (arith, at, length-append u (concat units))) left)

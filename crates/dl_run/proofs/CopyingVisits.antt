@@ -6,7 +6,6 @@ use Rattle.std.proofs.Common.{append_assoc, append-nil}
 use Rattle.std.specs.Prelude.{option_map}
 use Rattle.std.specs.Option.{option_or, option_map_or}
 use Rattle.dl_num.specs.declared.fixed.Order.{Order}
-use Rattle.dl_head.specs.Built.{with_standard_opcodes}
 use Rattle.dl_field.specs.HeaderData.{HeaderData}
 use Rattle.dl_head.specs.Header.{foreign_in, header_in}
 use Rattle.dl_rows.specs.declared.row.Row.{Row}
@@ -17,6 +16,7 @@ use Rattle.dl_emit.specs.declared.fault.EmitFault.{EmitFault}
 use Rattle.dl_emit.specs.WrittenUnit.{unit_of, refusal}
 use Rattle.dl_run.specs.declared.fault.RunFault.{RunFault}
 use Rattle.dl_run.specs.declared.fault.RunFault.TheVariants as fault
+use Rattle.dl_run.specs.Commands.{Made}
 use Rattle.dl_run.specs.Copying.{rows_since, offset_after, end_stop, stop_after, end_text, text_after}
 use Rattle.dl_run.specs.Section.{Visit, of_header, of_version, of_row, of_open, of_end, header_of}
 use Rattle.dl_run.specs.Section.{event_visits, visits, open_visit}
@@ -43,25 +43,6 @@ rows_since-append rows (of_row r ∷ a) b = rows_since-append (rows ++ r ∷ [])
 rows_since-append rows (of_open ∷ a) b = rows_since-append rows a b
 rows_since-append rows (of_end h ∷ a) b = rows_since-append [] a b
 
--- the first fault of visits of two lists
-pub stop_after-append : (n : ℕ) (rows : List Row) (a b : List Visit)
-    → stop_after n rows (a ++ b) ≡ option_or (stop_after n rows a) (stop_after (offset_after n a) (rows_since rows a) b)
-stop_after-append n rows [] b = refl
-stop_after-append n rows (of_header m h ∷ a) b = stop_after-append m [] a b
-stop_after-append n rows (of_version m v ∷ a) b = refl
-stop_after-append n rows (of_row r ∷ a) b = stop_after-append n (rows ++ r ∷ []) a b
-stop_after-append n rows (of_open ∷ a) b = stop_after-append n rows a b
-stop_after-append n rows (of_end h ∷ a) b =
-    ap (option_or (end_stop n rows h)) (stop_after-append n [] a b)
-    ∙ sym (or_assoc (end_stop n rows h) (stop_after n [] a) (stop_after (offset_after n a) (rows_since [] a) b))
-
--- the first fault of the front is that of the whole
-stop_front : (n : ℕ) (rows : List Row) (a b : List Visit) (f : RunFault) → stop_after n rows a ≡ Some f
-    → stop_after n rows (a ++ b) ≡ Some f
-stop_front n rows a b f is =
-    stop_after-append n rows a b
-    ∙ ap (λ (o : Option RunFault). option_or o (stop_after (offset_after n a) (rows_since rows a) b)) is
-
 -- what is written where the refusal is known
 abbrev pub written : Option EmitFault → List ℕ → List ℕ
 written o text = option_map_or (λ f. []) o text
@@ -76,39 +57,88 @@ written_empty : (o : Option EmitFault) (unit a b : List ℕ) → (a ≡ [] → b
 written_empty None unit a b so e = let both = empty_both unit a e in ap₂ (λ (x y : List ℕ). x ++ y) both.0 (so both.1)
 written_empty (Some f) unit a b so e = refl
 
-end_text-append : (order : Order) (n : ℕ) (rows : List Row) (h : Option HeaderData) (a b : List ℕ)
-    → end_stop n rows h ≡ None → end_text order rows h (a ++ b) ≡ end_text order rows h a ++ b
-end_text-append order n rows None a b e = refl
-end_text-append order n rows (Some h) a b e =
-    let std = with_standard_opcodes h in
-    written-append (refusal std rows) (unit_of order std rows) a b (map_none (fault.Emit n) (refusal std rows) e)
+module _ (made : Made) where
+  -- the first fault of visits of two lists
+  pub stop_after-append : (n : ℕ) (rows : List Row) (a b : List Visit)
+      → stop_after made n rows (a ++ b)
+      ≡ option_or (stop_after made n rows a) (stop_after made (offset_after n a) (rows_since rows a) b)
+  stop_after-append n rows [] b = refl
+  stop_after-append n rows (of_header m h ∷ a) b = stop_after-append m [] a b
+  stop_after-append n rows (of_version m v ∷ a) b = refl
+  stop_after-append n rows (of_row r ∷ a) b = stop_after-append n (rows ++ r ∷ []) a b
+  stop_after-append n rows (of_open ∷ a) b = stop_after-append n rows a b
+  stop_after-append n rows (of_end h ∷ a) b =
+      ap (option_or (end_stop made n rows h)) (stop_after-append n [] a b)
+      ∙ sym (or_assoc (end_stop made n rows h) (stop_after made n [] a)
+      (stop_after made (offset_after n a) (rows_since [] a) b))
 
--- what is written of visits of two lists
-pub text_after-append : (order : Order) (n : ℕ) (rows : List Row) (a b : List Visit) → stop_after n rows a ≡ None
-    → text_after order rows (a ++ b) ≡ text_after order rows a ++ text_after order (rows_since rows a) b
-text_after-append order n rows [] b e = refl
-text_after-append order n rows (of_header m h ∷ a) b e = text_after-append order m [] a b e
-text_after-append order n rows (of_version m v ∷ a) b e = absurd (none_is_some (sym e))
-text_after-append order n rows (of_row r ∷ a) b e = text_after-append order n (rows ++ r ∷ []) a b e
-text_after-append order n rows (of_open ∷ a) b e = text_after-append order n rows a b e
-text_after-append order n rows (of_end h ∷ a) b e =
-    let none = neither (end_stop n rows h) (stop_after n [] a) e in
-    ap (end_text order rows h) (text_after-append order n [] a b none.1)
-    ∙ end_text-append order n rows h (text_after order [] a) (text_after order (rows_since [] a) b) none.0
+  -- the first fault of the front is that of the whole
+  pub stop_front : (n : ℕ) (rows : List Row) (a b : List Visit) (f : RunFault) → stop_after made n rows a ≡ Some f
+      → stop_after made n rows (a ++ b) ≡ Some f
+  stop_front n rows a b f is =
+      stop_after-append n rows a b
+      ∙ ap (λ (o : Option RunFault). option_or o (stop_after made (offset_after n a) (rows_since rows a) b)) is
 
--- where nothing is written, nothing is of the front
-text_front : (order : Order) (rows : List Row) (a b : List Visit) → text_after order rows (a ++ b) ≡ []
-    → text_after order rows a ≡ []
-text_front order rows [] b e = refl
-text_front order rows (of_header m h ∷ a) b e = text_front order [] a b e
-text_front order rows (of_version m v ∷ a) b e = refl
-text_front order rows (of_row r ∷ a) b e = text_front order (rows ++ r ∷ []) a b e
-text_front order rows (of_open ∷ a) b e = text_front order rows a b e
-text_front order rows (of_end None ∷ a) b e = text_front order [] a b e
-text_front order rows (of_end (Some h) ∷ a) b e =
-    let std = with_standard_opcodes h in
-    written_empty (refusal std rows) (unit_of order std rows) (text_after order [] (a ++ b)) (text_after order [] a)
-    (text_front order [] a b) e
+  end_text-append : (order : Order) (n : ℕ) (rows : List Row) (h : Option HeaderData) (a b : List ℕ)
+      → end_stop made n rows h ≡ None → end_text made order n rows h (a ++ b) ≡ end_text made order n rows h a ++ b
+  end_text-append order n rows None a b e = refl
+  end_text-append order n rows (Some h) a b e =
+      written-append (refusal (made n h) rows) (unit_of order (made n h) rows) a b
+      (map_none (fault.Emit n) (refusal (made n h) rows) e)
+
+  -- what is written of visits of two lists
+  pub text_after-append : (order : Order) (n : ℕ) (rows : List Row) (a b : List Visit)
+      → stop_after made n rows a ≡ None
+      → text_after made order n rows (a ++ b)
+      ≡ text_after made order n rows a ++ text_after made order (offset_after n a) (rows_since rows a) b
+  text_after-append order n rows [] b e = refl
+  text_after-append order n rows (of_header m h ∷ a) b e = text_after-append order m [] a b e
+  text_after-append order n rows (of_version m v ∷ a) b e = absurd (none_is_some (sym e))
+  text_after-append order n rows (of_row r ∷ a) b e = text_after-append order n (rows ++ r ∷ []) a b e
+  text_after-append order n rows (of_open ∷ a) b e = text_after-append order n rows a b e
+  text_after-append order n rows (of_end h ∷ a) b e =
+      let none = neither (end_stop made n rows h) (stop_after made n [] a) e in
+      ap (end_text made order n rows h) (text_after-append order n [] a b none.1)
+      ∙ end_text-append order n rows h (text_after made order n [] a)
+      (text_after made order (offset_after n a) (rows_since [] a) b) none.0
+
+  -- where nothing is written, nothing is of the front
+  pub text_front : (order : Order) (n : ℕ) (rows : List Row) (a b : List Visit)
+      → text_after made order n rows (a ++ b) ≡ [] → text_after made order n rows a ≡ []
+  text_front order n rows [] b e = refl
+  text_front order n rows (of_header m h ∷ a) b e = text_front order m [] a b e
+  text_front order n rows (of_version m v ∷ a) b e = refl
+  text_front order n rows (of_row r ∷ a) b e = text_front order n (rows ++ r ∷ []) a b e
+  text_front order n rows (of_open ∷ a) b e = text_front order n rows a b e
+  text_front order n rows (of_end None ∷ a) b e = text_front order n [] a b e
+  text_front order n rows (of_end (Some h) ∷ a) b e =
+      written_empty (refusal (made n h) rows) (unit_of order (made n h) rows) (text_after made order n [] (a ++ b))
+      (text_after made order n [] a) (text_front order n [] a b) e
+
+  -- rows, and then other visits
+  pub stop_of_rows : (n : ℕ) (before rows : List Row) (more : List Visit)
+      → stop_after made n before (map of_row rows ++ more) ≡ stop_after made n (before ++ rows) more
+  stop_of_rows n before [] more = ap (λ (l : List Row). stop_after made n l more) (sym (append-nil before))
+  stop_of_rows n before (r ∷ rows) more =
+      stop_of_rows n (before ++ r ∷ []) rows more
+      ∙ ap (λ (l : List Row). stop_after made n l more) (append_assoc before (r ∷ []) rows)
+
+  pub text_of_rows : (order : Order) (n : ℕ) (before rows : List Row) (more : List Visit)
+      → text_after made order n before (map of_row rows ++ more) ≡ text_after made order n (before ++ rows) more
+  text_of_rows order n before [] more = ap (λ (l : List Row). text_after made order n l more) (sym (append-nil before))
+  text_of_rows order n before (r ∷ rows) more =
+      text_of_rows order n (before ++ r ∷ []) rows more
+      ∙ ap (λ (l : List Row). text_after made order n l more) (append_assoc before (r ∷ []) rows)
+
+  pub stop_of_open : (n : ℕ) (rows : List Row) (is_open : Bool) (more : List Visit)
+      → stop_after made n rows (open_visit is_open ++ more) ≡ stop_after made n rows more
+  stop_of_open n rows true more = refl
+  stop_of_open n rows false more = refl
+
+  pub text_of_open : (order : Order) (n : ℕ) (rows : List Row) (is_open : Bool) (more : List Visit)
+      → text_after made order n rows (open_visit is_open ++ more) ≡ text_after made order n rows more
+  text_of_open order n rows true more = refl
+  text_of_open order n rows false more = refl
 
 -- ---- the visits of a unit, or of the front of one
 
@@ -116,30 +146,6 @@ row_visits : (n : ℕ) (h : Option HeaderData) (rows : List Row)
     → flat_map (event_visits n h) (map event.Row rows) ≡ map of_row rows
 row_visits n h [] = refl
 row_visits n h (r ∷ rows) = ap (λ (l : List Visit). of_row r ∷ l) (row_visits n h rows)
-
-stop_of_rows : (n : ℕ) (before rows : List Row) (more : List Visit)
-    → stop_after n before (map of_row rows ++ more) ≡ stop_after n (before ++ rows) more
-stop_of_rows n before [] more = ap (λ (l : List Row). stop_after n l more) (sym (append-nil before))
-stop_of_rows n before (r ∷ rows) more =
-    stop_of_rows n (before ++ r ∷ []) rows more
-    ∙ ap (λ (l : List Row). stop_after n l more) (append_assoc before (r ∷ []) rows)
-
-text_of_rows : (order : Order) (before rows : List Row) (more : List Visit)
-    → text_after order before (map of_row rows ++ more) ≡ text_after order (before ++ rows) more
-text_of_rows order before [] more = ap (λ (l : List Row). text_after order l more) (sym (append-nil before))
-text_of_rows order before (r ∷ rows) more =
-    text_of_rows order (before ++ r ∷ []) rows more
-    ∙ ap (λ (l : List Row). text_after order l more) (append_assoc before (r ∷ []) rows)
-
-stop_of_open : (n : ℕ) (rows : List Row) (is_open : Bool) (more : List Visit)
-    → stop_after n rows (open_visit is_open ++ more) ≡ stop_after n rows more
-stop_of_open n rows true more = refl
-stop_of_open n rows false more = refl
-
-text_of_open : (order : Order) (rows : List Row) (is_open : Bool) (more : List Visit)
-    → text_after order rows (open_visit is_open ++ more) ≡ text_after order rows more
-text_of_open order rows true more = refl
-text_of_open order rows false more = refl
 
 module _ (dialect : Dialect) (n : ℕ) (c : List ℕ) where
   -- c says its version, which isn't 5
@@ -196,63 +202,62 @@ module _ (dialect : Dialect) (n : ℕ) (c : List ℕ) where
 
   -- ---- up to its end
 
-  module _ (is_open : Bool) where
+  module _ (made : Made) (is_open : Bool) where
     abbrev pub front : List Visit
     front = visits dialect n c ++ open_visit is_open
 
     -- its rows come before the first fault of what follows
     pub stop_of_own : (m : ℕ) (own : Own) (more : List Visit)
-        → stop_after m [] (front ++ more) ≡ stop_after n (unit_rows dialect c) more
+        → stop_after made m [] (front ++ more) ≡ stop_after made n (unit_rows dialect c) more
     stop_of_own m own more =
-        ap (stop_after m []) (append_assoc (visits dialect n c) (open_visit is_open) more)
-        ∙ ap (λ (l : List Visit). stop_after m [] (l ++ (open_visit is_open ++ more))) (own_visits own)
-        ∙ stop_of_rows n [] (unit_rows dialect c) (open_visit is_open ++ more)
-        ∙ stop_of_open n (unit_rows dialect c) is_open more
+        ap (stop_after made m []) (append_assoc (visits dialect n c) (open_visit is_open) more)
+        ∙ ap (λ (l : List Visit). stop_after made m [] (l ++ (open_visit is_open ++ more))) (own_visits own)
+        ∙ stop_of_rows made n [] (unit_rows dialect c) (open_visit is_open ++ more)
+        ∙ stop_of_open made n (unit_rows dialect c) is_open more
 
     -- what is written of its rows and of what follows
-    pub text_of_own : (own : Own) (more : List Visit)
-        → text_after dialect.order [] (front ++ more) ≡ text_after dialect.order (unit_rows dialect c) more
-    text_of_own own more =
-        ap (text_after dialect.order []) (append_assoc (visits dialect n c) (open_visit is_open) more)
-        ∙ ap (λ (l : List Visit). text_after dialect.order [] (l ++ (open_visit is_open ++ more))) (own_visits own)
-        ∙ text_of_rows dialect.order [] (unit_rows dialect c) (open_visit is_open ++ more)
-        ∙ text_of_open dialect.order (unit_rows dialect c) is_open more
+    pub text_of_own : (m : ℕ) (own : Own) (more : List Visit)
+        → text_after made dialect.order m [] (front ++ more) ≡ text_after made dialect.order n (unit_rows dialect c) more
+    text_of_own m own more =
+        ap (text_after made dialect.order m []) (append_assoc (visits dialect n c) (open_visit is_open) more)
+        ∙ ap (λ (l : List Visit). text_after made dialect.order m [] (l ++ (open_visit is_open ++ more))) (own_visits own)
+        ∙ text_of_rows made dialect.order n [] (unit_rows dialect c) (open_visit is_open ++ more)
+        ∙ text_of_open made dialect.order n (unit_rows dialect c) is_open more
 
     -- another version is the first fault, and nothing is written
     pub stop_of_foreign : (m : ℕ) (f : Foreign) (more : List Visit)
-        → stop_after m [] (front ++ more) ≡ Some (fault.ForeignUnit n)
+        → stop_after made m [] (front ++ more) ≡ Some (fault.ForeignUnit n)
     stop_of_foreign m f more =
-        ap (λ (l : List Visit). stop_after m [] ((l ++ open_visit is_open) ++ more)) (foreign_visits f)
+        ap (λ (l : List Visit). stop_after made m [] ((l ++ open_visit is_open) ++ more)) (foreign_visits f)
 
-    pub text_of_foreign : (f : Foreign) (more : List Visit) → text_after dialect.order [] (front ++ more) ≡ []
-    text_of_foreign f more =
-        ap (λ (l : List Visit). text_after dialect.order [] ((l ++ open_visit is_open) ++ more)) (foreign_visits f)
+    pub text_of_foreign : (m : ℕ) (f : Foreign) (more : List Visit)
+        → text_after made dialect.order m [] (front ++ more) ≡ []
+    text_of_foreign m f more =
+        ap (λ (l : List Visit). text_after made dialect.order m [] ((l ++ open_visit is_open) ++ more)) (foreign_visits f)
 
-    stop_of_neither : (m : ℕ) → Neither → stop_after m [] (front ++ []) ≡ None
+    stop_of_neither : (m : ℕ) → Neither → stop_after made m [] (front ++ []) ≡ None
     stop_of_neither m none =
-        ap (λ (l : List Visit). stop_after m [] ((l ++ open_visit is_open) ++ [])) (no_visits none)
-        ∙ stop_open is_open where
-          stop_open : (o : Bool) → stop_after m [] (open_visit o ++ []) ≡ None
-          stop_open true = refl
-          stop_open false = refl
+        ap (λ (l : List Visit). stop_after made m [] ((l ++ open_visit is_open) ++ [])) (no_visits none)
+        ∙ stop_of_open made m [] is_open []
 
-    text_of_neither : Neither → text_after dialect.order [] (front ++ []) ≡ []
-    text_of_neither none =
-        ap (λ (l : List Visit). text_after dialect.order [] ((l ++ open_visit is_open) ++ [])) (no_visits none)
-        ∙ text_of_open dialect.order [] is_open []
+    text_of_neither : (m : ℕ) → Neither → text_after made dialect.order m [] (front ++ []) ≡ []
+    text_of_neither m none =
+        ap (λ (l : List Visit). text_after made dialect.order m [] ((l ++ open_visit is_open) ++ [])) (no_visits none)
+        ∙ text_of_open made dialect.order m [] is_open []
 
-    nothing_by : Foreign ⊎ (Own ⊎ Neither) → text_after dialect.order [] (front ++ []) ≡ []
-    nothing_by (inl f) = text_of_foreign f []
-    nothing_by (inr (inl own)) = text_of_own own []
-    nothing_by (inr (inr none)) = text_of_neither none
+    nothing_by : (m : ℕ) → Foreign ⊎ (Own ⊎ Neither) → text_after made dialect.order m [] (front ++ []) ≡ []
+    nothing_by m (inl f) = text_of_foreign m f []
+    nothing_by m (inr (inl own)) = text_of_own m own []
+    nothing_by m (inr (inr none)) = text_of_neither m none
 
     -- nothing is written before the end
-    pub nothing_before : (heard x : List Visit) → front ≡ heard ++ x → text_after dialect.order [] heard ≡ []
-    nothing_before heard x e =
-        text_front dialect.order [] heard x (ap (text_after dialect.order []) (sym e ∙ sym (append-nil front))
-        ∙ nothing_by one_of)
+    pub nothing_before : (m : ℕ) (heard x : List Visit) → front ≡ heard ++ x
+        → text_after made dialect.order m [] heard ≡ []
+    nothing_before m heard x e =
+        text_front made dialect.order m [] heard x
+        (ap (text_after made dialect.order m []) (sym e ∙ sym (append-nil front)) ∙ nothing_by m one_of)
 
-    foreign_by : (m : ℕ) (f : RunFault) → stop_after m [] (front ++ []) ≡ Some f → Foreign ⊎ (Own ⊎ Neither)
+    foreign_by : (m : ℕ) (f : RunFault) → stop_after made m [] (front ++ []) ≡ Some f → Foreign ⊎ (Own ⊎ Neither)
         → (v : Foreign) × (f ≡ fault.ForeignUnit n)
     foreign_by m f is (inl v) = (v, value_same f (fault.ForeignUnit n) (sym is ∙ stop_of_foreign m v []))
     foreign_by m f is (inr (inl own)) = absurd (none_is_some (sym (stop_of_own m own []) ∙ is))
@@ -260,7 +265,7 @@ module _ (dialect : Dialect) (n : ℕ) (c : List ℕ) where
 
     -- the one fault before the end is that of another version
     pub foreign_before : (m : ℕ) (heard x : List Visit) (f : RunFault) → front ≡ heard ++ x
-        → stop_after m [] heard ≡ Some f
+        → stop_after made m [] heard ≡ Some f
         → (v : Foreign) × (f ≡ fault.ForeignUnit n)
     foreign_before m heard x f e is =
-        foreign_by m f (ap (stop_after m []) (append-nil front ∙ e) ∙ stop_front m [] heard x f is) one_of
+        foreign_by m f (ap (stop_after made m []) (append-nil front ∙ e) ∙ stop_front made m [] heard x f is) one_of

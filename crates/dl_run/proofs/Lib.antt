@@ -7,6 +7,7 @@ pub mod VisitsGrowth
 pub mod SectionGrowth
 pub mod OneAnswers
 pub mod OnePassing
+pub mod PlainCopies
 pub mod OneCopying
 pub mod DumpFronts
 pub mod UnitsLemmas
@@ -31,3 +32,4 @@ pub mod CopyingSections
 pub mod CopyingAnswers
 pub mod CopierLemmas
 pub mod CopiedUnits
+pub mod NewerUnits

@@ -1,11 +1,11 @@
--- What `copy` answers and writes of bytes is one thing alone.
-use Rattle.std.proofs.Common.{◌≡◌, inl, inr, ℕ, List, [], ◌∷◌, ◌++◌, length, take, Option, Some, None, Result, Ok, Err}
+-- What `copy` and `copy_to_5` answer and write of bytes is one thing alone.
+use Rattle.std.proofs.Common.{◌≡◌, inl, inr, ℕ, ◌+◌, List, [], ◌∷◌, ◌++◌, length, take, Option, Some, None, Result, Ok, Err}
 use Rattle.std.proofs.Common.{arith, refl, sym, ap, ap₂, ◌∙◌, subst, append_assoc, length-append}
 use Rattle.std.specs.Prelude.{option_map}
 use Rattle.std.specs.Io.KnownBytes.{Appends}
 use Rattle.std.specs.List.{AllByRecursion, concat}
 use Rattle.dl_head.specs.declared.dialect.Dialect.{Dialect}
-use Rattle.dl_head.specs.Built.{with_standard_opcodes}
+use Rattle.dl_dirs.specs.Compilation.{directory_by}
 use Rattle.dl_table.specs.declared.fault.FaultKind.{FaultKind}
 use Rattle.dl_head.specs.Header.{foreign_in, header_in}
 use Rattle.dl_field.specs.HeaderData.{HeaderData}
@@ -23,49 +23,70 @@ use Rattle.dl_emit.specs.WrittenUnit.{refusal}
 use Rattle.dl_run.specs.declared.fault.RunFault.{RunFault}
 use Rattle.dl_run.specs.declared.fault.RunFault.TheVariants as fault
 use Rattle.dl_print.specs.declared.summary.Summary.{Summary}
-use Rattle.dl_run.specs.Commands.{IsCopied, AreCopied, Copies, copied_unit, copied_units}
+use Rattle.dl_run.specs.Commands.{Made, IsMade, AreMade, CopiesAs, to_5, unit_as, units_as}
 use Rattle.dl_run.specs.RunOutput.{TellsOut}
 use Rattle.dl_run.specs.Section.{HasUnits, EndsAs, header_of}
-use Rattle.dl_run.specs.SectionLaws.{IsOfBytes, OneCopying, OneCopy, CopyIsFront}
+use Rattle.dl_run.specs.SectionLaws.{IsOfBytes, OneCopying, OneCopy, CopyIsFront, OneCopyingTo5, OneCopyTo5}
+use Rattle.dl_run.specs.SectionLaws.{CopyTo5IsFront}
 use Rattle.dl_run.proofs.Fronts.{none_is_some, value_same}
 use Rattle.dl_run.proofs.OutLemmas.{TellsOut-more}
+use Rattle.dl_run.proofs.PlainCopies.{copies_as, standard}
 use Rattle.dl_run.proofs.SectionCuts.{one_front, one_end, Ending, is_whole, is_refused, is_short, is_long, ended}
 use Rattle.dl_run.proofs.VisitsGrowth.{foreign_on}
 use Rattle.dl_run.proofs.SectionLemmas.{has_front}
 
-module _ (dialect : Dialect) where
+module _ (made : Made) (dialect : Dialect) where
   -- ---- units that are copied
 
-  -- no unit that is copied stands at the front of w
-  abbrev NoCopyBegins : List ℕ → Type 0
-  NoCopyBegins w = (u back : List ℕ) → w ≡ u ++ back → IsUnit dialect u → IsCopied dialect u → ⊥
+  -- no unit that is copied stands at the front of w, which stands at n
+  abbrev NoCopyBegins : ℕ → List ℕ → Type 0
+  NoCopyBegins n w = (u back : List ℕ) → w ≡ u ++ back → IsUnit dialect u → IsMade made dialect n u → ⊥
+
+  -- u is the first of units at n, which end at k
+  one_on : (n k : ℕ) (u : List ℕ) (units : List (List ℕ)) → k ≡ n + length (concat (u ∷ units))
+      → k ≡ n + length u + length (concat units)
+  one_on n k u units e = omega (arith, e, length-append u (concat units))
 
   -- those of the first that are copied up to some one are the first of those that are copied as far as can be
-  fewer_copies : (units units2 : List (List ℕ)) (w w2 : List ℕ) → AllByRecursion (IsUnit dialect) units
-      → AllByRecursion (IsUnit dialect) units2 → AreCopied dialect units
-      → NoCopyBegins w2 → concat units ++ w ≡ concat units2 ++ w2
+  fewer_copies : (n k2 : ℕ) (units units2 : List (List ℕ)) (w w2 : List ℕ) → AllByRecursion (IsUnit dialect) units
+      → AllByRecursion (IsUnit dialect) units2 → AreMade made dialect n units
+      → k2 ≡ n + length (concat units2) → NoCopyBegins k2 w2 → concat units ++ w ≡ concat units2 ++ w2
       → (others : List (List ℕ)) × (units2 ≡ units ++ others)
-  fewer_copies [] units2 w w2 all all2 copied none2 e = (units2, refl)
-  fewer_copies (u ∷ units) [] w w2 all all2 copied none2 e =
-      absurd (none2 u (concat units ++ w) (sym e ∙ append_assoc u (concat units) w) all.0 copied.0)
-  fewer_copies (u ∷ units) (v ∷ units2) w w2 all all2 copied none2 e =
+  fewer_copies n k2 [] units2 w w2 all all2 copied at2 none2 e = (units2, refl)
+  fewer_copies n k2 (u ∷ units) [] w w2 all all2 copied at2 none2 e =
+      let here : n ≡ k2 = omega (arith, at2) in
+      absurd (none2 u (concat units ++ w) (sym e ∙ append_assoc u (concat units) w) all.0
+      (subst (λ (m : ℕ). IsMade made dialect m u) here copied.0))
+  fewer_copies n k2 (u ∷ units) (v ∷ units2) w w2 all all2 copied at2 none2 e =
       let front = one_front dialect u v (concat units ++ w) (concat units2 ++ w2) all.0 all2.0
       (sym (append_assoc u (concat units) w) ∙ e ∙ append_assoc v (concat units2) w2) in
-      let more = fewer_copies units units2 w w2 all.1 all2.1 copied.1 none2 front.1 in
+      let on : k2 ≡ n + length u + length (concat units2) =
+      subst (λ (x : List ℕ). k2 ≡ n + length x + length (concat units2)) (sym front.0) (one_on n k2 v units2 at2) in
+      let more = fewer_copies (n + length u) k2 units units2 w w2 all.1 all2.1 copied.1 on none2 front.1 in
       (more.0, ap₂ (λ (x : List ℕ) (xs : List (List ℕ)). x ∷ xs) (sym front.0) more.1)
 
-  same_copies : (units units2 : List (List ℕ)) (w w2 : List ℕ) → AllByRecursion (IsUnit dialect) units
-      → AllByRecursion (IsUnit dialect) units2 → AreCopied dialect units → AreCopied dialect units2
-      → NoCopyBegins w → NoCopyBegins w2 → concat units ++ w ≡ concat units2 ++ w2 → (units ≡ units2) × (w ≡ w2)
-  same_copies [] [] w w2 all all2 copied copied2 none none2 e = (refl, e)
-  same_copies [] (v ∷ units2) w w2 all all2 copied copied2 none none2 e =
-      absurd (none v (concat units2 ++ w2) (e ∙ append_assoc v (concat units2) w2) all2.0 copied2.0)
-  same_copies (u ∷ units) [] w w2 all all2 copied copied2 none none2 e =
-      absurd (none2 u (concat units ++ w) (sym e ∙ append_assoc u (concat units) w) all.0 copied.0)
-  same_copies (u ∷ units) (v ∷ units2) w w2 all all2 copied copied2 none none2 e =
+  -- two lists of units that are copied as far as can be are one
+  same_copies : (n k k2 : ℕ) (units units2 : List (List ℕ)) (w w2 : List ℕ) → AllByRecursion (IsUnit dialect) units
+      → AllByRecursion (IsUnit dialect) units2 → AreMade made dialect n units → AreMade made dialect n units2
+      → k ≡ n + length (concat units) → k2 ≡ n + length (concat units2) → NoCopyBegins k w → NoCopyBegins k2 w2
+      → concat units ++ w ≡ concat units2 ++ w2 → (units ≡ units2) × (w ≡ w2)
+  same_copies n k k2 [] [] w w2 all all2 copied copied2 at at2 none none2 e = (refl, e)
+  same_copies n k k2 [] (v ∷ units2) w w2 all all2 copied copied2 at at2 none none2 e =
+      let here : n ≡ k = omega (arith, at) in
+      absurd (none v (concat units2 ++ w2) (e ∙ append_assoc v (concat units2) w2) all2.0
+      (subst (λ (m : ℕ). IsMade made dialect m v) here copied2.0))
+  same_copies n k k2 (u ∷ units) [] w w2 all all2 copied copied2 at at2 none none2 e =
+      let here : n ≡ k2 = omega (arith, at2) in
+      absurd (none2 u (concat units ++ w) (sym e ∙ append_assoc u (concat units) w) all.0
+      (subst (λ (m : ℕ). IsMade made dialect m u) here copied.0))
+  same_copies n k k2 (u ∷ units) (v ∷ units2) w w2 all all2 copied copied2 at at2 none none2 e =
       let front = one_front dialect u v (concat units ++ w) (concat units2 ++ w2) all.0 all2.0
       (sym (append_assoc u (concat units) w) ∙ e ∙ append_assoc v (concat units2) w2) in
-      let more = same_copies units units2 w w2 all.1 all2.1 copied.1 copied2.1 none none2 front.1 in
+      let on2 : k2 ≡ n + length u + length (concat units2) =
+      subst (λ (x : List ℕ). k2 ≡ n + length x + length (concat units2)) (sym front.0) (one_on n k2 v units2 at2) in
+      let later2 = subst (λ (x : List ℕ). AreMade made dialect (n + length x) units2) (sym front.0) copied2.1 in
+      let more = same_copies (n + length u) k k2 units units2 w w2 all.1 all2.1 copied.1 later2 (one_on n k u units at)
+      on2 none none2 front.1 in
       (ap₂ (λ (x : List ℕ) (xs : List (List ℕ)). x ∷ xs) front.0 more.0, more.1)
 
   -- ---- units that aren't copied
@@ -80,38 +101,37 @@ module _ (dialect : Dialect) where
         none_is_some (sym (foreign_no_header dialect (b ++ m) version (foreign_on dialect b m version foreign))
         ∙ ap (header_in dialect) e ∙ header_on dialect u back g program is)
 
-  not_both : (u v : List ℕ) (h g : HeaderData) (f : EmitFault) → u ≡ v → header_of dialect u ≡ Some h
-      → header_of dialect v ≡ Some g
-      → refusal (with_standard_opcodes h) (unit_rows dialect u) ≡ Some f
-      → refusal (with_standard_opcodes g) (unit_rows dialect v) ≡ None → ⊥
-  not_both u v h g f same header header2 some none =
+  not_both : (n : ℕ) (u v : List ℕ) (h g : HeaderData) (f : EmitFault) → u ≡ v → header_of dialect u ≡ Some h
+      → header_of dialect v ≡ Some g → refusal (made n h) (unit_rows dialect u) ≡ Some f
+      → refusal (made n g) (unit_rows dialect v) ≡ None → ⊥
+  not_both n u v h g f same header header2 some none =
       let headers : g ≡ h = value_same g h (sym header2 ∙ ap (header_of dialect) (sym same) ∙ header) in
       none_is_some (sym none
-      ∙ ap₂ (λ (d : HeaderData) (l : List ℕ). refusal (with_standard_opcodes d) (unit_rows dialect l)) headers
+      ∙ ap₂ (λ (d : HeaderData) (l : List ℕ). refusal (made n d) (unit_rows dialect l)) headers
       (sym same) ∙ some)
 
 -- ---- how copying ends
 
 -- w, after the units: no unit begins it, or another version does, or a unit whose copy would be too long
-data How (dialect : Dialect) (limit : ℕ) (bytes : List ℕ) (left : Option (List ℕ)) (units : List (List ℕ)) (w : List ℕ)
+data How (made : Made) (dialect : Dialect) (limit : ℕ) (bytes : List ℕ) (left : Option (List ℕ)) (units : List (List ℕ)) (w : List ℕ)
     (result : Result Summary RunFault) : Type 0 where
   at_end : (b back : List ℕ) → w ≡ b ++ back → IsOfBytes result → EndsAs dialect limit bytes left units b back result
-      → foreign_in dialect b ≡ None → How dialect limit bytes left units w result
+      → foreign_in dialect b ≡ None → How made dialect limit bytes left units w result
   at_version : (b back : List ℕ) (version : ℕ) → w ≡ b ++ back → WithinUnit dialect b
       → foreign_in dialect b ≡ Some version → result ≡ Err (fault.ForeignUnit (length (concat units)))
-      → How dialect limit bytes left units w result
+      → How made dialect limit bytes left units w result
   at_unit : (u back : List ℕ) (h : HeaderData) (f : EmitFault) → w ≡ u ++ back → IsUnit dialect u
-      → header_of dialect u ≡ Some h → refusal (with_standard_opcodes h) (unit_rows dialect u) ≡ Some f
-      → result ≡ Err (fault.Emit (length (concat units)) TooLong) → How dialect limit bytes left units w result
+      → header_of dialect u ≡ Some h → refusal (made (length (concat units)) h) (unit_rows dialect u) ≡ Some f
+      → result ≡ Err (fault.Emit (length (concat units)) TooLong) → How made dialect limit bytes left units w result
 
-record Copied (dialect : Dialect) (limit : ℕ) (bytes : List ℕ) (left start now : Option (List ℕ))
+record Copied (made : Made) (dialect : Dialect) (limit : ℕ) (bytes : List ℕ) (left start now : Option (List ℕ))
     (result : Result Summary RunFault) : Type 0 where
   units : List (List ℕ)
   w : List ℕ
   has : HasUnits dialect (take limit bytes) units w
-  copied : AreCopied dialect units
-  out : Appends start now (copied_units dialect units)
-  how : How dialect limit bytes left units w result
+  copied : AreMade made dialect 0 units
+  out : Appends start now (units_as made dialect 0 units)
+  how : How made dialect limit bytes left units w result
 
 last_of : {A : Type 0} (P : A → Type 0) (xs : List A) (x : A) → AllByRecursion P (xs ++ x ∷ []) → P x
 last_of P [] x all = all.0
@@ -125,11 +145,11 @@ version_is : (n m : ℕ) → n ≡ m
     → ◌≡◌ {A = Result Summary RunFault} (Err (fault.ForeignUnit n)) (Err (fault.ForeignUnit m))
 version_is n m e = rw e refl
 
-module _ (dialect : Dialect) (limit : ℕ) (bytes : List ℕ) (left start now : Option (List ℕ)) where
+module _ (made : Made) (dialect : Dialect) (limit : ℕ) (bytes : List ℕ) (left start now : Option (List ℕ)) where
   ends_so : (result : Result Summary RunFault) → IsOfBytes result → (units : List (List ℕ)) (b back : List ℕ)
       → EndsAs dialect limit bytes left units b back result → foreign_in dialect b ≡ None
-      → AreCopied dialect units → Appends start now (copied_units dialect units)
-      → Copied dialect limit bytes left start now result
+      → AreMade made dialect 0 units → Appends start now (units_as made dialect 0 units)
+      → Copied made dialect limit bytes left start now result
   ends_so result of units b back ends none copied out = record {
     units = units;
     w = b ++ back;
@@ -139,8 +159,9 @@ module _ (dialect : Dialect) (limit : ℕ) (bytes : List ℕ) (left start now : 
     how = at_end b back refl of ends none;
   }
 
-  copied_of : (result : Result Summary RunFault) → IsOfBytes result → Copies dialect limit bytes left start now result
-      → Copied dialect limit bytes left start now result
+  copied_of : (result : Result Summary RunFault) → IsOfBytes result
+      → CopiesAs made dialect limit bytes left start now result
+      → Copied made dialect limit bytes left start now result
   copied_of (Ok summary) of (units, ends, (copied, out)) = ends_so (Ok summary) of units [] [] ends refl copied out
   copied_of (Err (fault.ForeignUnit offset)) of (units, b, back, version, has, place, foreign, (copied, out)) = record {
     units = units;
@@ -157,7 +178,8 @@ module _ (dialect : Dialect) (limit : ℕ) (bytes : List ℕ) (left start now : 
         has = has_front dialect (take limit bytes) (units ++ u ∷ []) units (u ∷ []) back refl has;
         copied = copied;
         out = out;
-        how = at_unit u back h f (append_assoc u [] back) (last_of (IsUnit dialect) units u has.each) header refused
+        how = at_unit u back h f (append_assoc u [] back) (last_of (IsUnit dialect) units u has.each) header
+            (subst (λ (n : ℕ). refusal (made n h) (unit_rows dialect u) ≡ Some f) place refused)
             (emit_is offset (length (concat units)) f place long);
       }
   copied_of (Err (fault.Damage offset kind)) of (units, b, back, ends, none, (copied, out)) =
@@ -169,15 +191,16 @@ module _ (dialect : Dialect) (limit : ℕ) (bytes : List ℕ) (left start now : 
   copied_of (Err fault.Read) of copies = absurd of
   copied_of (Err (fault.Write n)) of copies = absurd of
 
-module _ (dialect : Dialect) (limit : ℕ) (bytes : List ℕ) where
+module _ (made : Made) (dialect : Dialect) (limit : ℕ) (bytes : List ℕ) where
   no_copy : (left : Option (List ℕ)) (units : List (List ℕ)) (w : List ℕ) (result : Result Summary RunFault)
-      → How dialect limit bytes left units w result → NoCopyBegins dialect w
+      → How made dialect limit bytes left units w result
+      → NoCopyBegins made dialect (length (concat units)) w
   no_copy left units w result (at_end b back is of ends none) u more e unit copied =
       (ended dialect limit bytes left units b back result of ends).none u more (sym is ∙ e) unit
   no_copy left units w result (at_version b back version is within foreign answer) u more e unit copied =
-      no_header_begins dialect b back u more version copied.0 foreign (sym is ∙ e) copied.1
+      no_header_begins made dialect b back u more version copied.0 foreign (sym is ∙ e) copied.1
   no_copy left units w result (at_unit v back h f is unit2 header refused answer) u more e unit copied =
-      not_both dialect v u h copied.0 f (one_front dialect v u back more unit2 unit (sym is ∙ e)).0 header
+      not_both made dialect (length (concat units)) v u h copied.0 f (one_front dialect v u back more unit2 unit (sym is ∙ e)).0 header
       copied.1 refused
       copied.2
 
@@ -240,7 +263,7 @@ module _ (dialect : Dialect) (limit : ℕ) (bytes : List ℕ) where
         (ended dialect limit bytes left units b back result of ends).none u more (sym is ∙ is2) unit
 
     same_answer : (left left2 : Option (List ℕ)) (result result2 : Result Summary RunFault)
-        → How dialect limit bytes left units w result → How dialect limit bytes left2 units w result2 → result ≡ result2
+        → How made dialect limit bytes left units w result → How made dialect limit bytes left2 units w result2 → result ≡ result2
     same_answer left left2 result result2 (at_end b back is of ends none) (at_end b2 back2 is2 of2 ends2 none2) =
         (one_end dialect limit bytes left left2 units units b b2 back back2 result result2 of of2 ends ends2).3
     same_answer left left2 result result2 (at_end b back is of ends none)
@@ -256,64 +279,106 @@ module _ (dialect : Dialect) (limit : ℕ) (bytes : List ℕ) where
         (at_version b2 back2 version2 is2 within2 foreign2 answer2) = answer ∙ sym answer2
     same_answer left left2 result result2 (at_version b back version is within foreign answer)
         (at_unit u more h f is2 unit header refused answer2) =
-        absurd (no_header_begins dialect b back u more version h foreign (sym is ∙ is2) header)
+        absurd (no_header_begins made dialect b back u more version h foreign (sym is ∙ is2) header)
     same_answer left left2 result result2 (at_unit u more h f is unit header refused answer)
         (at_end b2 back2 is2 of2 ends2 none2) = absurd (no_unit left2 result2 b2 back2 u more is2 is of2 ends2 unit)
     same_answer left left2 result result2 (at_unit u more h f is unit header refused answer)
         (at_version b2 back2 version is2 within foreign answer2) =
-        absurd (no_header_begins dialect b2 back2 u more version h foreign (sym is2 ∙ is) header)
+        absurd (no_header_begins made dialect b2 back2 u more version h foreign (sym is2 ∙ is) header)
     same_answer left left2 result result2 (at_unit u more h f is unit header refused answer)
         (at_unit u2 more2 h2 f2 is2 unit2 header2 refused2 answer2) = answer ∙ sym answer2
 
   same_units : (left left2 start start2 now now2 : Option (List ℕ)) (result result2 : Result Summary RunFault)
-      (c : Copied dialect limit bytes left start now result) (c2 : Copied dialect limit bytes left2 start2 now2 result2)
+      (c : Copied made dialect limit bytes left start now result)
+      (c2 : Copied made dialect limit bytes left2 start2 now2 result2)
       → (c.units ≡ c2.units) × (c.w ≡ c2.w)
   same_units left left2 start start2 now now2 result result2 c c2 =
-      same_copies dialect c.units c2.units c.w c2.w c.has.each c2.has.each c.copied c2.copied
-      (no_copy left c.units c.w result c.how) (no_copy left2 c2.units c2.w result2 c2.how) (sym c.has.whole
+      same_copies made dialect 0 _ _ c.units c2.units c.w c2.w c.has.each c2.has.each c.copied c2.copied (omega arith)
+      (omega arith) (no_copy left c.units c.w result c.how) (no_copy left2 c2.units c2.w result2 c2.how) (sym c.has.whole
       ∙ c2.has.whole)
+
+units_as-append : (made : Made) (dialect : Dialect) (n : ℕ) (units others : List (List ℕ))
+    → units_as made dialect n (units ++ others)
+    ≡ units_as made dialect n units ++ units_as made dialect (n + length (concat units)) others
+units_as-append made dialect n [] others = ap (λ (k : ℕ). units_as made dialect k others) (omega arith)
+units_as-append made dialect n (u ∷ units) others =
+    let on : n + length u + length (concat units) ≡ n + length (concat (u ∷ units)) =
+    omega (arith, length-append u (concat units)) in
+    ap (λ (l : List ℕ). unit_as made dialect n u ++ l)
+    (units_as-append made dialect (n + length u) units others
+    ∙ ap (λ (k : ℕ). units_as made dialect (n + length u) units ++ units_as made dialect k others) on)
+    ∙ sym (append_assoc (unit_as made dialect n u) (units_as made dialect (n + length u) units)
+    (units_as made dialect (n + length (concat (u ∷ units))) others))
+
+-- where what becomes of headers is known
+module _ (made : Made) (dialect : Dialect) (limit : ℕ) (bytes : List ℕ) (left left2 start start2 now now2 : Option
+    (List ℕ)) where
+  pub one_answer : (result result2 : Result Summary RunFault) → IsOfBytes result → IsOfBytes result2
+      → CopiesAs made dialect limit bytes left start now result
+      → CopiesAs made dialect limit bytes left2 start2 now2 result2 → result ≡ result2
+  one_answer result result2 of of2 copies copies2 =
+      let c = copied_of made dialect limit bytes left start now result of copies in
+      let c2 = copied_of made dialect limit bytes left2 start2 now2 result2 of2 copies2 in
+      let same = same_units made dialect limit bytes left left2 start start2 now now2 result result2 c c2 in
+      let how2 = subst (λ (us : List (List ℕ)). How made dialect limit bytes left2 us c.w result2) (sym same.0)
+      (subst (λ (v : List ℕ). How made dialect limit bytes left2 c2.units v result2) (sym same.1) c2.how) in
+      same_answer made dialect limit bytes c.units c.w left left2 result result2 c.how how2
+
+  pub one_text : (result result2 : Result Summary RunFault) → IsOfBytes result → IsOfBytes result2
+      → CopiesAs made dialect limit bytes left start now result
+      → CopiesAs made dialect limit bytes left2 start2 now2 result2
+      → (text : List ℕ) × Appends start now text × Appends start2 now2 text
+  one_text result result2 of of2 copies copies2 =
+      let c = copied_of made dialect limit bytes left start now result of copies in
+      let c2 = copied_of made dialect limit bytes left2 start2 now2 result2 of2 copies2 in
+      let same = same_units made dialect limit bytes left left2 start start2 now now2 result result2 c c2 in (
+        units_as made dialect 0 c.units,
+        c.out,
+        subst (λ (us : List (List ℕ)). Appends start2 now2 (units_as made dialect 0 us)) (sym same.0) c2.out,
+      )
+
+  pub text_is_front : (out : ℕ) (result2 : Result Summary RunFault) → IsOfBytes result2
+      → CopiesAs made dialect limit bytes left start now (Err (fault.Write out))
+      → CopiesAs made dialect limit bytes left2 start2 now2 result2
+      → (text : List ℕ) × TellsOut start now text (fault.Write out) × Appends start2 now2 text
+  text_is_front out result2 of2 (units, back, has, copied, tells) copies2 =
+      let c2 = copied_of made dialect limit bytes left2 start2 now2 result2 of2 copies2 in
+      let fewer = fewer_copies made dialect 0 _ units c2.units back c2.w has.each c2.has.each copied (omega arith)
+      (no_copy made dialect limit bytes left2 c2.units c2.w result2 c2.how) (sym has.whole ∙ c2.has.whole) in
+      let text : units_as made dialect 0 c2.units
+      ≡ units_as made dialect 0 units ++ units_as made dialect (0 + length (concat units)) fewer.0 =
+      ap (units_as made dialect 0) fewer.1 ∙ units_as-append made dialect 0 units fewer.0 in (
+        units_as made dialect 0 c2.units,
+        subst (λ (l : List ℕ). TellsOut start now l (fault.Write out)) (sym text)
+            (TellsOut-more start now (units_as made dialect 0 units)
+            (units_as made dialect (0 + length (concat units)) fewer.0) (fault.Write out) tells),
+        c2.out,
+      )
 
 pub one_copying : OneCopying
 one_copying dialect limit bytes left left2 start start2 now now2 result result2 of of2 copies copies2 =
-    let c = copied_of dialect limit bytes left start now result of copies in
-    let c2 = copied_of dialect limit bytes left2 start2 now2 result2 of2 copies2 in
-    let same = same_units dialect limit bytes left left2 start start2 now now2 result result2 c c2 in
-    let how2 = subst (λ (us : List (List ℕ)). How dialect limit bytes left2 us c.w result2) (sym same.0)
-    (subst (λ (v : List ℕ). How dialect limit bytes left2 c2.units v result2) (sym same.1) c2.how) in
-    same_answer dialect limit bytes c.units c.w left left2 result result2 c.how how2
+    one_answer standard dialect limit bytes left left2 start start2 now now2 result result2 of of2
+    (copies_as dialect limit bytes left start now result copies)
+    (copies_as dialect limit bytes left2 start2 now2 result2 copies2)
 
 pub one_copy : OneCopy
 one_copy dialect limit bytes left left2 start start2 now now2 result result2 of of2 copies copies2 =
-    let c = copied_of dialect limit bytes left start now result of copies in
-    let c2 = copied_of dialect limit bytes left2 start2 now2 result2 of2 copies2 in
-    let same = same_units dialect limit bytes left left2 start start2 now now2 result result2 c c2 in (
-      copied_units dialect c.units,
-      c.out,
-      subst (λ (us : List (List ℕ)). Appends start2 now2 (copied_units dialect us)) (sym same.0) c2.out,
-    )
-
-copied_units-append : (dialect : Dialect) (units others : List (List ℕ))
-    → copied_units dialect (units ++ others) ≡ copied_units dialect units ++ copied_units dialect others
-copied_units-append dialect [] others = refl
-copied_units-append dialect (u ∷ units) others =
-    ap (λ (l : List ℕ). copied_unit dialect u ++ l) (copied_units-append dialect units others)
-    ∙ sym (append_assoc (copied_unit dialect u) (copied_units dialect units) (copied_units dialect others))
+    one_text standard dialect limit bytes left left2 start start2 now now2 result result2 of of2
+    (copies_as dialect limit bytes left start now result copies)
+    (copies_as dialect limit bytes left2 start2 now2 result2 copies2)
 
 pub copy_is_front : CopyIsFront
-copy_is_front dialect limit bytes left left2 start start2 now now2 out result2 of2 (
-  units,
-  back,
-  has,
-  copied,
-  tells,
-) copies2 =
-    let c2 = copied_of dialect limit bytes left2 start2 now2 result2 of2 copies2 in
-    let fewer = fewer_copies dialect units c2.units back c2.w has.each c2.has.each copied
-    (no_copy dialect limit bytes left2 c2.units c2.w result2 c2.how) (sym has.whole ∙ c2.has.whole) in
-    let text : copied_units dialect c2.units ≡ copied_units dialect units ++ copied_units dialect fewer.0 =
-    ap (copied_units dialect) fewer.1 ∙ copied_units-append dialect units fewer.0 in (
-      copied_units dialect c2.units,
-      subst (λ (l : List ℕ). TellsOut start now l (fault.Write out)) (sym text)
-          (TellsOut-more start now (copied_units dialect units) (copied_units dialect fewer.0) (fault.Write out) tells),
-      c2.out,
-    )
+copy_is_front dialect limit bytes left left2 start start2 now now2 out result2 of2 copies copies2 =
+    text_is_front standard dialect limit bytes left left2 start start2 now now2 out result2 of2
+    (copies_as dialect limit bytes left start now (Err (fault.Write out)) copies)
+    (copies_as dialect limit bytes left2 start2 now2 result2 copies2)
+
+pub one_copying_to_5 : OneCopyingTo5
+one_copying_to_5 directories = one_answer (to_5 (directory_by directories))
+
+pub one_copy_to_5 : OneCopyTo5
+one_copy_to_5 directories = one_text (to_5 (directory_by directories))
+
+pub copy_to_5_is_front : CopyTo5IsFront
+copy_to_5_is_front directories dialect limit bytes left left2 start start2 now now2 out result2 of2 copies copies2 =
+    text_is_front (to_5 (directory_by directories)) dialect limit bytes left left2 start start2 now now2 out result2 of2 copies copies2

@@ -23,6 +23,8 @@ use Rattle.dl_rows.proofs.HeaderParams.{header_is_usable}
 use Rattle.dl_emit.specs.declared.fault.EmitFault.{EmitFault}
 use Rattle.dl_emit.specs.declared.fault.EmitFault.TheVariants as emit
 use Rattle.dl_emit.specs.WrittenUnit.{refusal, rows_refusal, is_in_range, out_of_range, program_len, unless}
+use Rattle.dl_emit.proofs.ConversionLemmas.{params_are}
+use Rattle.dl_run.specs.Commands.{Made, to_5}
 use Rattle.dl_run.specs.Section.{header_of}
 use Rattle.dl_run.proofs.Fronts.{none_is_some, value_same}
 
@@ -31,61 +33,86 @@ both true true p q = refl
 both true false p q = q
 both false b p q = p
 
-module _ (h : HeaderData) (some : 1 ≤ h.params.maximum_operations_per_instruction) where
-  abbrev its_params : Params
-  its_params = (with_standard_opcodes h).params
+-- what is made of a header of a unit is of version 5 with standard opcodes, and has the ranges of the unit's rows
+pub record KeepsRange (h made : Params) : Type 0 where
+  pub version : made.version ≡ 5
+  pub opcodes : made.opcode_base ≡ 13
+  pub operations : made.maximum_operations_per_instruction ≡ h.maximum_operations_per_instruction
+  pub address_size : made.address_size ≡ h.address_size
 
-  row_in_range : (s f : List Operation) (end : Bool) → is_in_range its_params (row_from h.params s f end) ≡ true
+module _ (h its_params : Params) (keeps : KeepsRange h its_params)
+    (some : 1 ≤ h.maximum_operations_per_instruction) where
+  row_in_range : (s f : List Operation) (end : Bool) → is_in_range its_params (row_from h s f end) ≡ true
   row_in_range s f end =
-      let most = h.params.maximum_operations_per_instruction in
-      let size = 2 ^ (8 * h.params.address_size) in
-      both (nat_lt (op_index h.params s) most) (nat_lt (address h.params s % size) size)
-      (lt-ltb (op_index h.params s) most (mod-lt (last_part (parts h.params (moves s))) (omega (arith, some))))
-      (lt-ltb (address h.params s % size) size (mod-lt (address h.params s) (pow_pos (8 * h.params.address_size))))
+      let most = h.maximum_operations_per_instruction in
+      let size = 2 ^ (8 * h.address_size) in
+      rw (keeps.operations, keeps.address_size)
+      (both (nat_lt (op_index h s) most) (nat_lt (address h s % size) size)
+      (lt-ltb (op_index h s) most (mod-lt (last_part (parts h (moves s))) (omega (arith, some))))
+      (lt-ltb (address h s % size) size (mod-lt (address h s) (pow_pos (8 * h.address_size)))))
 
   if_true : (b : Bool) (o : Option EmitFault) (f : EmitFault) → b ≡ true → o ≡ None → (if b then o else Some f) ≡ None
   if_true true o f is none = none
   if_true false o f is none = absurd cc
 
-  none_out : (i : ℕ) (front os : List Operation) → out_of_range its_params i (rows_after h.params front os) ≡ None
+  none_out : (i : ℕ) (front os : List Operation) → out_of_range its_params i (rows_after h front os) ≡ None
   none_out i front [] = refl
   none_out i front (o ∷ os) =
       by (appends_row o) refl (none_out (i + 1) (front ++ o ∷ []) os) (none_out i (front ++ o ∷ []) os) where
         tail : List Row
-        tail = rows_after h.params (front ++ o ∷ []) os
+        tail = rows_after h (front ++ o ∷ []) os
 
         by : (b : Bool) → appends_row o ≡ b → out_of_range its_params (i + 1) tail ≡ None
             → out_of_range its_params i tail ≡ None
-            → out_of_range its_params i (if appends_row o then row h.params front o ∷ tail else tail) ≡ None
+            → out_of_range its_params i (if appends_row o then row h front o ∷ tail else tail) ≡ None
         by true is next same =
-            ap (λ (c : Bool). out_of_range its_params i (if c then row h.params front o ∷ tail else tail)) is
-            ∙ if_true (is_in_range its_params (row h.params front o)) (out_of_range its_params (i + 1) tail)
+            ap (λ (c : Bool). out_of_range its_params i (if c then row h front o ∷ tail else tail)) is
+            ∙ if_true (is_in_range its_params (row h front o)) (out_of_range its_params (i + 1) tail)
             (emit.RowRange i) (row_in_range (sequence front o) (fresh front o) (is_end o)) next
         by false is next same =
-            ap (λ (c : Bool). out_of_range its_params i (if c then row h.params front o ∷ tail else tail)) is ∙ same
+            ap (λ (c : Bool). out_of_range its_params i (if c then row h front o ∷ tail else tail)) is ∙ same
 
 length_alone : (b : Bool) (f : EmitFault) → unless b emit.TooLong ≡ Some f → f ≡ emit.TooLong
 length_alone true f e = absurd (none_is_some e)
 length_alone false f e = value_same f emit.TooLong (sym e)
 
-refused_rows : (h : HeaderData) (rows : List Row) (f : EmitFault) → h.params.version ≡ 5
-    → out_of_range (with_standard_opcodes h).params 0 rows ≡ None → refusal (with_standard_opcodes h) rows ≡ Some f
+refused_rows : (std : HeaderData) (rows : List Row) (f : EmitFault) → std.params.version ≡ 5
+    → std.params.opcode_base ≡ 13 → out_of_range std.params 0 rows ≡ None → refusal std rows ≡ Some f
     → f ≡ emit.TooLong
-refused_rows h rows f own none e =
-    let std = with_standard_opcodes h in
+refused_rows std rows f own opcodes none e =
     let within = is_within_limit std (program_len std.params rows) in
-    let all : rows_refusal std.params rows ≡ None = rw (eq-eqb h.params.version 5 own) none in
+    let all : rows_refusal std.params rows ≡ None =
+    rw (eq-eqb std.params.version 5 own, eq-eqb std.params.opcode_base 13 opcodes) none in
     length_alone within f (sym (ap (λ (o : Option EmitFault). option_or o (unless within emit.TooLong)) all) ∙ e)
 
--- each header that is read is of version 5
-abbrev pub OwnAlone : Dialect → Type 0
-OwnAlone dialect = (h : HeaderData) (w : List ℕ) → IsHeader dialect h w → h.params.version ≡ 5
+-- so it is of each header that is read, wherever its unit stands
+abbrev pub KeepsRanges : Dialect → Made → Type 0
+KeepsRanges dialect made =
+    (offset : ℕ) (h : HeaderData) (w : List ℕ) → IsHeader dialect h w → KeepsRange h.params (made offset h).params
+
+-- where each header that is read is of version 5, its standard opcodes alone are changed
+pub standard_keeps : (dialect : Dialect)
+    → ((h : HeaderData) (w : List ℕ) → IsHeader dialect h w → h.params.version ≡ 5)
+    → KeepsRanges dialect (λ offset h. with_standard_opcodes h)
+standard_keeps dialect alone offset h w is =
+    record { version = alone h w is; opcodes = refl; operations = refl; address_size = refl }
+
+-- so it is in version 5
+pub to_5_keeps : (dialect : Dialect) (directories : ℕ → Option (List ℕ)) → KeepsRanges dialect (to_5 directories)
+to_5_keeps dialect directories offset h w is =
+    let same = params_are h (directories offset) in
+    record {
+      version = ap (λ (p : Params). p.version) same;
+      opcodes = refl;
+      operations = ap (λ (p : Params). p.maximum_operations_per_instruction) same;
+      address_size = ap (λ (p : Params). p.address_size) same;
+    }
 
 -- a unit that was read is refused for its length alone
-pub too_long : (dialect : Dialect) → OwnAlone dialect → (u : List ℕ) (h : HeaderData) (f : EmitFault)
-    → header_of dialect u ≡ Some h
-    → refusal (with_standard_opcodes h) (unit_rows dialect u) ≡ Some f → f ≡ emit.TooLong
-too_long dialect alone u h f is refused = by (header_in dialect u) refl where
+pub too_long : (dialect : Dialect) (made : Made) → KeepsRanges dialect made → (offset : ℕ)
+    (u : List ℕ) (h : HeaderData) (f : EmitFault) → header_of dialect u ≡ Some h
+    → refusal (made offset h) (unit_rows dialect u) ≡ Some f → f ≡ emit.TooLong
+too_long dialect made keeps offset u h f is refused = by (header_in dialect u) refl where
   by : (parts : Option (HeaderData × List ℕ)) → header_in dialect u ≡ parts → f ≡ emit.TooLong
   by None e = absurd (none_is_some (sym (ap (λ (p : Option (HeaderData × List ℕ)). option_map (λ q. q.0) p) e) ∙ is))
   by (Some (own, program)) e =
@@ -96,7 +123,9 @@ too_long dialect alone u h f is refused = by (header_in dialect u) refl where
       let rows : unit_rows dialect u ≡ rows_later dialect.order (Some (own, program)) =
       ap (rows_later dialect.order) e in
       let refused_own = ap
-      (λ (d : HeaderData). refusal (with_standard_opcodes d) (rows_later dialect.order (Some (own, program)))) same
-      ∙ ap (refusal (with_standard_opcodes h)) (sym rows) ∙ refused in
-      refused_rows own (rows_later dialect.order (Some (own, program))) f (alone own w.0 w.2)
-      (none_out own usable.operations 0 [] (operations_in dialect.order own.params program).found) refused_own
+      (λ (d : HeaderData). refusal (made offset d) (rows_later dialect.order (Some (own, program)))) same
+      ∙ ap (refusal (made offset h)) (sym rows) ∙ refused in
+      let range = keeps offset own w.0 w.2 in
+      refused_rows (made offset own) (rows_later dialect.order (Some (own, program))) f range.version range.opcodes
+      (none_out own.params (made offset own).params range usable.operations 0 []
+      (operations_in dialect.order own.params program).found) refused_own

@@ -1,7 +1,7 @@
 -- What the commands answer and write. bytes: what was read from a reader, which has `left` left. start, now: what the
 -- writer held at first, and holds now. None: it isn't known.
-use Rattle.std.specs.Prelude.{◌≡◌, ◌≢◌, ◌⊎◌, ℕ, List, [], ◌∷◌, ◌++◌, length, take, flat_map, Option, Some, None, Result}
-use Rattle.std.specs.Prelude.{Ok, Err}
+use Rattle.std.specs.Prelude.{⊤, ◌≡◌, ◌≢◌, ◌⊎◌, ℕ, ◌+◌, List, [], ◌∷◌, ◌++◌, length, take, flat_map, Option, Some, None}
+use Rattle.std.specs.Prelude.{Result, Ok, Err}
 use Rattle.std.specs.List.{AllByRecursion, concat}
 use Rattle.std.specs.Option.{option_copied, option_map_or}
 use Rattle.std.specs.Io.KnownBytes.{Appends, Keeps}
@@ -15,6 +15,7 @@ use Rattle.dl_rows.specs.Runs.{Sound}
 use Rattle.dl_look.specs.declared.place.Place.{Place}
 use Rattle.dl_look.specs.Answer.{answer}
 use Rattle.dl_emit.specs.declared.fault.EmitFault.TheVariants.{TooLong}
+use Rattle.dl_emit.specs.Conversion.{to_version_5}
 use Rattle.dl_emit.specs.WrittenUnit.{unit_of, refusal}
 use Rattle.dl_run.specs.declared.fault.RunFault.{RunFault}
 use Rattle.dl_run.specs.declared.fault.RunFault.TheVariants as fault
@@ -94,6 +95,10 @@ Finds dialect strings x limit bytes left start now (Err f) =
 
 -- ---- `copy`
 
+-- what becomes of the header of the unit at an offset
+abbrev pub Made : Type 0
+Made = (offset : ℕ) → HeaderData → HeaderData
+
 -- the unit of the same rows, under the header with standard opcodes; nothing for a unit of another version, which has
 -- no header
 abbrev pub copied_unit : Dialect → List ℕ → List ℕ
@@ -111,42 +116,84 @@ IsCopied dialect u =
 abbrev pub AreCopied : Dialect → List (List ℕ) → Type 0
 AreCopied dialect units = AllByRecursion (IsCopied dialect) units
 
--- these units are copied, and their copies are out
-abbrev pub HasCopied : Dialect → List (List ℕ) → (start now : Option (List ℕ)) → Type 0
-HasCopied dialect units start now = AreCopied dialect units × Appends start now (copied_units dialect units)
-
 -- memory grows: for a cell of b's header, which the byte after b adds; for a row; or for the copy of a unit that is
 -- whole
 abbrev pub Grows : Dialect → (b back : List ℕ) → Type 0
 Grows dialect b back = AddsCell dialect b back ⊎ ((unit_rows dialect b ≢ []) ⊎ IsUnit dialect b)
 
--- `copy`: the copies of all units, or of those before the fault. A unit of another version is a fault, also where it is
+-- these units are copied, and their copies are out
+abbrev pub HasCopied : (are : List (List ℕ) → Type 0) (text : List (List ℕ) → List ℕ) → List (List ℕ)
+    → (start now : Option (List ℕ)) → Type 0
+HasCopied are text units start now = are units × Appends start now (text units)
+
+-- Copies of all units, or of those before the fault. A unit of a version that isn't read is a fault, also where it is
 -- cut off, and so is a whole unit whose copy would be too long. The fault's offset is that of the unit.
-abbrev pub Copies : Dialect → (limit : ℕ) (bytes : List ℕ) (left start now : Option (List ℕ)) → Result Summary RunFault
-    → Type 0
-Copies dialect limit bytes left start now (Ok summary) =
+-- are: these units have copies; text: the copies; made: what becomes of a unit's header
+abbrev pub CopiesBy : (are : List (List ℕ) → Type 0) (text : List (List ℕ) → List ℕ) → Made → Dialect
+    → (limit : ℕ) (bytes : List ℕ) (left start now : Option (List ℕ)) → Result Summary RunFault → Type 0
+CopiesBy are text made dialect limit bytes left start now (Ok summary) =
     (units : List (List ℕ)) × EndsAs dialect limit bytes left units [] [] (Ok summary)
-    × HasCopied dialect units start now
-Copies dialect limit bytes left start now (Err (fault.ForeignUnit offset)) =
+    × HasCopied are text units start now
+CopiesBy are text made dialect limit bytes left start now (Err (fault.ForeignUnit offset)) =
     (units : List (List ℕ)) × (b : List ℕ) × (back : List ℕ) × (version : ℕ)
     × HasBegun dialect (take limit bytes) units b back
-    × (offset ≡ length (concat units)) × (foreign_in dialect b ≡ Some version) × HasCopied dialect units start now
-Copies dialect limit bytes left start now (Err (fault.Emit offset f)) =
+    × (offset ≡ length (concat units)) × (foreign_in dialect b ≡ Some version) × HasCopied are text units start now
+CopiesBy are text made dialect limit bytes left start now (Err (fault.Emit offset f)) =
     (units : List (List ℕ)) × (u : List ℕ) × (back : List ℕ) × (h : HeaderData)
     × HasUnits dialect (take limit bytes) (units ++ u ∷ []) back
     × (offset ≡ length (concat units)) × (header_of dialect u ≡ Some h)
-    × (refusal (with_standard_opcodes h) (unit_rows dialect u) ≡ Some f) × (f ≡ TooLong)
-    × HasCopied dialect units start now
+    × (refusal (made offset h) (unit_rows dialect u) ≡ Some f) × (f ≡ TooLong)
+    × HasCopied are text units start now
 -- a growth was refused for b, which is in no other way at fault
-Copies dialect limit bytes left start now (Err fault.NoMemory) =
+CopiesBy are text made dialect limit bytes left start now (Err fault.NoMemory) =
     (units : List (List ℕ)) × (b : List ℕ) × (back : List ℕ) × HasBegun dialect (take limit bytes) units b back
     × Sound dialect b × (foreign_in dialect b ≡ None)
-    × Grows dialect b back × HasCopied dialect units start now
-Copies dialect limit bytes left start now (Err (fault.Write out)) =
-    (units : List (List ℕ)) × (back : List ℕ) × HasUnits dialect (take limit bytes) units back × AreCopied dialect units
-    × TellsOut start now (copied_units dialect units) (fault.Write out)
+    × Grows dialect b back × HasCopied are text units start now
+CopiesBy are text made dialect limit bytes left start now (Err (fault.Write out)) =
+    (units : List (List ℕ)) × (back : List ℕ) × HasUnits dialect (take limit bytes) units back × are units
+    × TellsOut start now (text units) (fault.Write out)
 -- b isn't the front of a unit of another version
-Copies dialect limit bytes left start now (Err f) =
+CopiesBy are text made dialect limit bytes left start now (Err f) =
     (units : List (List ℕ)) × (b : List ℕ) × (back : List ℕ) × EndsAs dialect limit bytes left units b back (Err f)
     × (foreign_in dialect b ≡ None)
-    × HasCopied dialect units start now
+    × HasCopied are text units start now
+
+-- `copy`: each unit under its header with standard opcodes
+abbrev pub Copies : Dialect → (limit : ℕ) (bytes : List ℕ) (left start now : Option (List ℕ)) → Result Summary RunFault
+    → Type 0
+Copies dialect limit bytes left start now result =
+    CopiesBy (AreCopied dialect) (copied_units dialect) (λ offset h. with_standard_opcodes h) dialect limit bytes left
+    start now result
+
+-- ---- copies under headers that are made by the offsets of their units
+
+-- the unit of the same rows, under the header that is made of its own; offset: that of the unit
+abbrev pub unit_as : Made → Dialect → (offset : ℕ) → List ℕ → List ℕ
+unit_as made dialect offset u =
+    option_map_or (λ h. unit_of dialect.order (made offset h) (unit_rows dialect u)) (header_of dialect u) []
+
+-- of units one after the other, the first at that offset
+abbrev pub units_as : Made → Dialect → (offset : ℕ) → List (List ℕ) → List ℕ
+units_as made dialect offset [] = []
+units_as made dialect offset (u ∷ units) = unit_as made dialect offset u ++ units_as made dialect (offset + length u) units
+
+-- u has a header, and the unit under the one that is made of it can be written
+abbrev pub IsMade : Made → Dialect → (offset : ℕ) → List ℕ → Type 0
+IsMade made dialect offset u =
+    (h : HeaderData) × (header_of dialect u ≡ Some h) × (refusal (made offset h) (unit_rows dialect u) ≡ None)
+
+abbrev pub AreMade : Made → Dialect → (offset : ℕ) → List (List ℕ) → Type 0
+AreMade made dialect offset [] = ⊤
+AreMade made dialect offset (u ∷ units) = IsMade made dialect offset u × AreMade made dialect (offset + length u) units
+
+-- the units of a section, each under the header that is made of its own
+abbrev pub CopiesAs : Made → Dialect → (limit : ℕ) (bytes : List ℕ) (left start now : Option (List ℕ))
+    → Result Summary RunFault → Type 0
+CopiesAs made dialect limit bytes left start now result =
+    CopiesBy (AreMade made dialect 0) (units_as made dialect 0) made dialect limit bytes left start now result
+
+-- ---- `copy_to_5`
+
+-- the header in version 5, with the compilation directory of the unit at the offset, and standard opcodes
+abbrev pub to_5 : (directories : ℕ → Option (List ℕ)) → Made
+to_5 directories offset h = with_standard_opcodes (to_version_5 h (directories offset))

@@ -10,7 +10,9 @@ use Rattle.dl_run.specs.declared.fault.RunFault.{RunFault}
 use Rattle.dl_run.specs.declared.fault.RunFault.TheVariants as fault
 use Rattle.dl_run.specs.declared.passing_over.PassedOver.{PassedOver}
 use Rattle.dl_print.specs.declared.summary.Summary.{Summary}
-use Rattle.dl_run.specs.Commands.{Checks, Dumps, IsFound, Finds, Copies}
+use Rattle.dl_dirs.specs.declared.compilation.CompilationDirectories.{CompilationDirectories}
+use Rattle.dl_dirs.specs.Compilation.{directory_by}
+use Rattle.dl_run.specs.Commands.{Checks, Dumps, IsFound, Finds, Copies, CopiesAs, to_5}
 use Rattle.dl_run.specs.PassedOver.{PassesOver}
 use Rattle.dl_run.specs.RunOutput.{TellsOut}
 use Rattle.dl_print.specs.ValueText.{Strings}
@@ -131,4 +133,30 @@ CopyIsFront =
     (result2 : Result Summary RunFault) → IsOfBytes result2
     → Copies dialect limit bytes left start now (Err (fault.Write out))
     → Copies dialect limit bytes left2 start2 now2 result2
+    → (text : List ℕ) × TellsOut start now text (fault.Write out) × Appends start2 now2 text
+
+-- what `copy_to_5` answers is settled by the bytes, the limit and the directories
+abbrev pub OneCopyingTo5 : Type 0
+OneCopyingTo5 =
+    (directories : CompilationDirectories) (dialect : Dialect) (limit : ℕ) (bytes : List ℕ)
+    (left left2 start start2 now now2 : Option (List ℕ)) (result result2 : Result Summary RunFault) → IsOfBytes result
+    → IsOfBytes result2 → CopiesAs (to_5 (directory_by directories)) dialect limit bytes left start now result
+    → CopiesAs (to_5 (directory_by directories)) dialect limit bytes left2 start2 now2 result2 → result ≡ result2
+
+-- and so are the bytes that it writes
+abbrev pub OneCopyTo5 : Type 0
+OneCopyTo5 =
+    (directories : CompilationDirectories) (dialect : Dialect) (limit : ℕ) (bytes : List ℕ)
+    (left left2 start start2 now now2 : Option (List ℕ)) (result result2 : Result Summary RunFault) → IsOfBytes result
+    → IsOfBytes result2 → CopiesAs (to_5 (directory_by directories)) dialect limit bytes left start now result
+    → CopiesAs (to_5 (directory_by directories)) dialect limit bytes left2 start2 now2 result2
+    → (text : List ℕ) × Appends start now text × Appends start2 now2 text
+
+-- what a failed write leaves of them is the first `out` bytes, not all
+abbrev pub CopyTo5IsFront : Type 0
+CopyTo5IsFront =
+    (directories : CompilationDirectories) (dialect : Dialect) (limit : ℕ) (bytes : List ℕ)
+    (left left2 start start2 now now2 : Option (List ℕ)) (out : ℕ) (result2 : Result Summary RunFault)
+    → IsOfBytes result2 → CopiesAs (to_5 (directory_by directories)) dialect limit bytes left start now (Err (fault.Write out))
+    → CopiesAs (to_5 (directory_by directories)) dialect limit bytes left2 start2 now2 result2
     → (text : List ℕ) × TellsOut start now text (fault.Write out) × Appends start2 now2 text

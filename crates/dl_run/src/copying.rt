@@ -1,6 +1,6 @@
-//! The command that writes all units anew.
+//! The commands that write all units anew.
 
-ghost use Rattle.std.specs.Prelude.{◌≡◌, ◌≤◌, ◌++◌, ℕ, List, None};
+ghost use Rattle.std.specs.Prelude.{◌≡◌, ◌≤◌, ◌++◌, ℕ, List, [], None, IfOk};
 ghost use Rattle.std.specs.Io.KnownBytes.{Consumes};
 ghost use Rattle.dl_rows.specs.declared.row.Row.{Row};
 ghost use Rattle.dl_emit.specs.Grown.{IsGrown};
@@ -8,17 +8,21 @@ ghost use Rattle.dl_emit.specs.WrittenUnit.{program_len, refusal, unit_of};
 ghost use Rattle.dl_head.specs.Dialect.{version_5};
 ghost use Rattle.dl_head.specs.Written.{header_bytes};
 ghost use Rattle.dl_print.specs.Output.{Prints};
-ghost use Rattle.dl_run.specs.Commands.{Copies};
+ghost use Rattle.dl_dirs.specs.Compilation.{directory_by};
+ghost use Rattle.dl_run.specs.Commands.{Copies, CopiesAs, to_5};
+ghost use Rattle.dl_run.specs.Copying.{made_by};
 ghost use Rattle.dl_run.specs.UnitPrinted.{PrintsPart};
 
 use crate::fault::RunFault;
 use crate::options::{Options, SECTION_LIMIT};
 use crate::section::{Visitor, read_units};
-use dl_emit::{EmitFault, Program};
+use dl_dirs::CompilationDirectories;
+use dl_emit::{EmitFault, Program, into_version_5};
 use dl_head::{Dialect, Header};
+use dl_num::Order;
 use dl_print::{Printer, Summary, WriteFault};
 use dl_rows::{Flow, Row};
-use std::alloc::Global;
+use std::alloc::{AllocError, Global};
 use std::io;
 use std::io::{Read, Write};
 
@@ -51,9 +55,46 @@ impl Write for HeldHeader {
     }
 }
 
+/// What becomes of the header of a unit.
+#[derive(Clone, Copy)]
+enum Becomes<'a> {
+    /// It is the same but for its opcodes, which are the standard ones.
+    Itself,
+    /// So it is once it is one of version 5, with the compilation directory of its unit.
+    Version5(CompilationDirectories<'a>),
+}
+
+impl Becomes<'_> {
+    /// Begins the program of a unit, whose header becomes another.
+    fn begin(&self, program: &mut Program, header: &Header)
+        ensures { (offset : ℕ)
+            → IsGrown program.new program.old.order (made_by self.now offset header.now).params [] }
+    {
+        match self {
+            Becomes::Itself => program.begin(header),
+            Becomes::Version5(_) => program.begin_in_version_5(header),
+        }
+    }
+
+    /// What becomes of the header of the unit at this offset.
+    fn make(&self, alloc: Global, offset: u64, header: Header) -> Result<Header, AllocError>
+        ensures { IfOk result (λ made. made ≡ made_by self.now offset header) }
+    {
+        match self {
+            Becomes::Itself => Ok(header.with_standard_opcodes()),
+            Becomes::Version5(directories) => {
+                let header = into_version_5(alloc, header, directories.of(offset))?;
+                Ok(header.with_standard_opcodes())
+            }
+        }
+    }
+}
+
 /// Writes each unit where it ends.
 #[derive(Drop)]
-struct Copier {
+struct Copier<'a> {
+    alloc: Global,
+    becomes: Becomes<'a>,
     printer: Printer,
     /// The offset of the current unit.
     unit: u64,
@@ -63,14 +104,14 @@ struct Copier {
     header: HeldHeader,
 }
 
-impl<W: Write> Visitor<W> for Copier {
+impl<W: Write> Visitor<W> for Copier<'_> {
     ghost use Rattle.dl_run.specs.Copying.{copy_story};
 
     ghost story = { copy_story };
 
     fn header(&mut self, _output: &mut W, offset: u64, header: &Header) -> Result<(), RunFault> {
         self.unit = offset;
-        self.program.begin(header);
+        self.becomes.begin(&mut self.program, header);
         Ok(())
     }
 
@@ -94,7 +135,10 @@ impl<W: Write> Visitor<W> for Copier {
         let Some(header) = header else {
             return Ok(Flow::On);
         };
-        self.write(output, &header.with_standard_opcodes())?;
+        let Ok(made) = self.becomes.make(self.alloc, self.unit, header) else {
+            return Err(RunFault::NoMemory);
+        };
+        self.write(output, &made)?;
         Ok(Flow::On)
     }
 
@@ -103,7 +147,27 @@ impl<W: Write> Visitor<W> for Copier {
     }
 }
 
-impl Copier {
+impl<'a> Copier<'a> {
+    /// No unit yet, in a section whose numbers stand in this order.
+    fn new(alloc: Global, order: Order, becomes: Becomes<'a>) -> Copier<'a>
+        ensures becomes { result.becomes ≡ becomes.entry }
+        ensures order { result.program.order ≡ order }
+        ensures nothing_pending { result.printer.pending ≡ [] }
+        ensures nothing_out { result.printer.out ≡ 0 }
+    {
+        Copier {
+            alloc,
+            becomes,
+            printer: Printer::new(),
+            unit: 0,
+            program: Program::new(alloc, order),
+            header: HeldHeader {
+                bytes: Vec::new(alloc),
+                is_full: false,
+            },
+        }
+    }
+
     /// Writes the current unit under this header.
     fn write<W: Write>(&mut self, output: &mut W, header: &Header) -> Result<(), RunFault>
         ensures printed { (rows : List Row)
@@ -112,6 +176,7 @@ impl Copier {
             (unit_of self.old.program.order header.now rows) (refusal header.now rows) self.old.unit result }
         ensures program { self.new.program ≡ self.old.program }
         ensures unit { self.new.unit ≡ self.old.unit }
+        ensures becomes { self.new.becomes ≡ self.old.becomes }
     {
         self.write_header(output, header)?;
         let first = self.program.first_bytes();
@@ -129,6 +194,7 @@ impl Copier {
             (refusal header.now rows) self.old.unit result }
         ensures program { self.new.program ≡ self.old.program }
         ensures unit { self.new.unit ≡ self.old.unit }
+        ensures becomes { self.new.becomes ≡ self.old.becomes }
     {
         self.header.bytes.clear();
         self.header.is_full = false;
@@ -153,6 +219,7 @@ impl Copier {
             (refusal header.now rows) self.old.unit result }
         ensures program { self.new.program ≡ self.old.program }
         ensures unit { self.new.unit ≡ self.old.unit }
+        ensures becomes { self.new.becomes ≡ self.old.becomes }
     {
         self.printer.flush(output)?;
         let out = self.printer.out();
@@ -206,18 +273,33 @@ pub fn copy<R: Read, W: Write>(
         × Copies (version_5 options.now.dialect.order) options.now.limit bs (R.remaining input.new)
         (W.contents output.old) (W.contents output.new) result }
 {
-    let mut copier = Copier {
-        printer: Printer::new(),
-        unit: 0,
-        program: Program::new(alloc, options.dialect.order),
-        header: HeldHeader {
-            bytes: Vec::new(alloc),
-            is_full: false,
-        },
-    };
+    let mut copier = Copier::new(alloc, options.dialect.order, Becomes::Itself);
     let own = Options {
         dialect: Dialect::version_5(options.dialect.order),
         ..*options
     };
     read_units(alloc, input, output, &own, &mut copier)
+}
+
+/// Writes all units of the input anew as units of version 5, with the same rows. Each file number of a row means the same
+/// file (`numbers_mean_the_same` of dl_emit). Units of the versions that the dialect reads are read.
+///
+/// The header of a unit is made one of version 5 by `into_version_5`, with the compilation directory of the unit, by its
+/// offset, and then has opcode_base 13; all else is as in `copy`. Memory grows for the tables of that header too, before
+/// the unit is written.
+pub fn copy_to_5<R: Read, W: Write>(
+    alloc: Global,
+    input: &mut R,
+    output: &mut W,
+    directories: CompilationDirectories<'_>,
+    options: &Options<'_>,
+) -> Result<Summary, RunFault>
+    requires { options.now.limit ≤ SECTION_LIMIT }
+    ensures { (bs : List ℕ) × Consumes (R.remaining input.old) (R.remaining input.new) bs
+        × CopiesAs (to_5 (directory_by directories.entry)) options.now.dialect options.now.limit bs (R.remaining input.new)
+        (W.contents output.old) (W.contents output.new) result }
+{
+    let becomes = Becomes::Version5(directories);
+    let mut copier = Copier::new(alloc, options.dialect.order, becomes);
+    read_units(alloc, input, output, options, &mut copier)
 }

@@ -20,8 +20,8 @@ pub enum RunFault {
     SectionTooLong,
     /// No row answers for the address. Only `find` answers it.
     NotFound,
-    /// A unit isn't of version 5. Its offset counts from the section's first byte. Only `copy` answers
-    /// it, and the next one.
+    /// A unit isn't of version 5, or, of `copy_to_5`, of a version that is read. Its offset counts from the section's
+    /// first byte. Only `copy` and `copy_to_5` answer it, and the next one.
     ForeignUnit { unit: u64 },
     /// A unit isn't written, since it would be too long. Its offset counts from the section's first
     /// byte.

@@ -1,8 +1,9 @@
 //! Laws of the definitions of sections, each the contract of a function that does nothing.
 
-ghost use Rattle.dl_run.specs.CopyLaws.{CopiesAreUnits};
+ghost use Rattle.dl_run.specs.CopyLaws.{CopiesAreNewer, CopiesAreUnits};
 ghost use Rattle.dl_run.specs.SectionLaws.{OneCut, OneEnd, MoreIsTold, OneChecking, OneFound, OneFinding, OneDumping};
 ghost use Rattle.dl_run.specs.SectionLaws.{OneDump, DumpIsFront, OneCopying, OneCopy, CopyIsFront, OnePassingOver};
+ghost use Rattle.dl_run.specs.SectionLaws.{OneCopyingTo5, OneCopyTo5, CopyTo5IsFront};
 
 /// Bytes are cut into units, up to bytes that no unit begins, in one way alone. Section 6.2.4.
 pub fn one_cut()
@@ -55,10 +56,24 @@ pub fn copies_are_units()
     ensures { CopiesAreUnits }
 {}
 
+/// What `copy_to_5` writes for units that were read is a section of as many units of version 5: each has the header that
+/// becomes of that of its unit, and comes to the same rows. Sections 6.2 and 6.2.4.
+pub fn copies_are_newer()
+    ensures { CopiesAreNewer }
+{}
+
 /// What `copy` answers and writes is settled by the bytes and the limit, but where memory, input or
 /// output is the reason. What a failed write leaves is a front of those bytes.
 pub fn one_copying()
     ensures answer { OneCopying }
     ensures text { OneCopy }
     ensures front { CopyIsFront }
+{}
+
+/// What `copy_to_5` answers and writes is settled by the bytes, the limit and the directories, but where memory, input or
+/// output is the reason. What a failed write leaves is a front of those bytes.
+pub fn one_copying_to_5()
+    ensures answer { OneCopyingTo5 }
+    ensures text { OneCopyTo5 }
+    ensures front { CopyTo5IsFront }
 {}

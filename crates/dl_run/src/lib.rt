@@ -15,7 +15,7 @@ mod section;
 mod strings;
 
 pub use checking::check;
-pub use copying::copy;
+pub use copying::{copy, copy_to_5};
 pub use dl_print::Summary;
 pub use dl_rows::Flow;
 pub use dumping::dump;

@@ -1,9 +1,7 @@
 -- What the program does for the words of `addr`.
 use Rattle.std.proofs.Common.{◌≡◌, ◌⊎◌, inl, inr, ℕ, ◌||◌, Bool, true, false, List, [], Option, Some, None, Result, Ok}
 use Rattle.std.proofs.Common.{Err, refl, sym, ap, ◌∙◌, subst}
-use Rattle.std.specs.Prelude.{◌≢◌, is_some, option_map}
-use Rattle.std.specs.Borrow.{Bor}
-use Rattle.std.specs.Option.{option_copied}
+use Rattle.std.specs.Option.{option_copied, option_or}
 use Rattle.std.specs.declared.io.Error.{Error}
 use Rattle.std.proofs.KnownBytes.{Keeps-refl}
 use Rattle.dl_elf.specs.Source.{ForBytes}
@@ -13,12 +11,16 @@ use Rattle.dl_look.specs.declared.code_ranges.CodeRanges.{CodeRanges}
 use Rattle.dl_cmd.specs.Job.{AddrTexts, Text}
 use Rattle.dl_print.specs.declared.summary.Summary.{Summary}
 use Rattle.dl_addr.specs.Code.{is_code}
+use Rattle.dl_dirs.specs.Compilation.{directory_by}
+use Rattle.dl_dirs.specs.Directories.{directory_at}
+use Rattle.dl_dirs.specs.declared.directories.Directories.{Directories}
+use Rattle.dl_dirs.specs.declared.compilation.CompilationDirectories.{CompilationDirectories}
 use Rattle.dl_look.specs.declared.asked.Asked.{Asked}
 use Rattle.dl_asked.specs.declared.asked_lines.AskedLines.{AskedLines}
 use Rattle.dl_addr.specs.declared.question.Question.{Question}
 use Rattle.dl_open.specs.declared.fault.FileFault.{FileFault}
 use Rattle.dl_open.specs.declared.stop.FileStop.{FileStop}
-use Rattle.dl_open.specs.Code.{AreLive, RefusesCode, live_by}
+use Rattle.dl_open.specs.Code.{AreLive, live_by}
 use Rattle.dl_open.specs.Stops.{IsAt}
 use Rattle.dl_work.specs.declared.command.Command.TheVariants.{Addr}
 use Rattle.dl_work.specs.declared.located.Located.{Located}
@@ -26,12 +28,14 @@ use Rattle.dl_work.specs.declared.stop.Stop.{Stop}
 use Rattle.dl_work.specs.declared.stop.Stop.TheVariants.{NotUnderstood}
 use Rattle.dl_work.specs.Locate.{HasAsked, InputStops, IsNoQuestion, LocatesInFile, LocatesInSection, WordsStop}
 use Rattle.dl_work.specs.Locate.{Asks, Unanswered, are_addresses, asked_in_words, base_in, form_in}
-use Rattle.dl_work.specs.Locate.{says_section}
+use Rattle.dl_work.specs.Locate.{RefusesOpening, said_directory, suits_file}
+use Rattle.dl_work.specs.Compiled.{AreFound}
 use Rattle.dl_work.specs.Understood.{IsUnderstood}
 use Rattle.dl_work.specs.declared.addr_words.AskedWords.{AskedWords}
 use Rattle.dl_work.specs.Located.{located}
 use Rattle.dl_work.specs.Stops.{over_file, stop_of}
 use Rattle.dl_work.specs.Tables.{OnFile}
+use Rattle.dl_work.specs.Units.{file_units}
 
 -- ---- where a file has code
 
@@ -54,26 +58,21 @@ pub section_stops : (held : Text → Option (List ℕ)) (w : AddrTexts) (left st
     → LocatesInSection held w [] left start start result
 section_stops held w left start result stop is why = inl (stop, why, (is, refl, Keeps-refl start))
 
--- a section of an object file is named
-pub section_named : (o : Option (Bor (List ℕ))) → is_some o ≡ true → option_map (λ s. s.now) o ≢ None
-section_named None is none = absurd (cc is)
-section_named (Some s) is none = absurd (cc none)
-
-pub section_unnamed : (o : Option (Bor (List ℕ))) → is_some o ≡ false → option_map (λ s. s.now) o ≡ None
-section_unnamed None is = refl
-section_unnamed (Some s) is = absurd (cc is)
-
 -- ---- a file
 
 -- what is asked of each address, wherever there is code
-pub asks_all : (w : AddrTexts) (u : AskedWords) (these slice : List Asked) (q : Question) → IsUnderstood w u
-    → q.asked.now ≡ slice → slice ≡ these → q.base ≡ u.base → q.code ≡ None → q.style.form ≡ form_in w
-    → q.style.basenames ≡ w.basenames → option_copied q.style.section ≡ w.section → Asks w these (λ a. true) q
-asks_all w u these slice q i asked sliced own code form basenames section = record {
+pub asks_all : (w : AddrTexts) (u : AskedWords) (these slice : List Asked) (said : CompilationDirectories) (q : Question)
+    → IsUnderstood w u
+    → q.asked.now ≡ slice → slice ≡ these → q.base ≡ u.base → q.code ≡ None → q.directories ≡ said
+    → ((n : ℕ) → directory_by said n ≡ w.comp_dir) → q.style.form ≡ form_in w
+    → q.style.basenames ≡ w.basenames → option_copied q.style.section ≡ w.section
+    → Asks w these (λ a. true) (said_directory w) q
+asks_all w u these slice said q i asked sliced own code directories comp_dir form basenames section = record {
   asked = asked ∙ sliced;
   understood = i.understood;
   base = i.base ∙ ap Some (sym own);
   code = λ a. ap (λ (c : Option _). is_code (option_copied c) a) code;
+  directories = λ n. ap (λ (d : CompilationDirectories). directory_by d n) directories ∙ comp_dir n;
   form = form;
   basenames = basenames;
   section = section;
@@ -81,14 +80,14 @@ asks_all w u these slice q i asked sliced own code form basenames section = reco
 
 module _ (held : Text → Option (List ℕ)) (fails : Text → Error → Type 0) (path : Text) (w : AddrTexts) where
   pub file_stops : (left start : Option (List ℕ)) (result : Result Located Stop) (stop : Stop) → result ≡ Err stop
-      → WordsStop w stop ⊎ ((says_section w ≡ true) × (stop ≡ NotUnderstood))
+      → WordsStop w stop ⊎ ((suits_file w ≡ false) × (stop ≡ NotUnderstood))
       → LocatesInFile held fails path w [] left start start result
   file_stops left start result stop is why = λ f known short. inl (stop, why, (is, refl, Keeps-refl start))
 
   pub file_refused : (u : AskedWords) (bytes : List ℕ) (left start now : Option (List ℕ)) (result : Result Located Stop)
       (stop : FileStop) (fault : FileFault)
-      → says_section w ≡ false → IsUnderstood w u → result ≡ Err (stop_of stop)
-      → ForBytes (held path) (λ f. RefusesCode (fails path) f fault) → IsAt path fault stop
+      → suits_file w ≡ true → IsUnderstood w u → result ≡ Err (stop_of stop)
+      → ForBytes (held path) (λ f. RefusesOpening w (fails path) f fault) → IsAt path fault stop
       → (IsUnderstood w u → Unanswered w bytes left start now)
       → LocatesInFile held fails path w bytes left start now result
   file_refused u bytes left start now result stop fault says understood is refuses at unanswered =
@@ -107,19 +106,21 @@ module _ (held : Text → Option (List ℕ)) (fails : Text → Error → Type 0)
       )))
 
   pub file_done : (ranges : Option CodeRanges) (given : List Asked) (slice : List Asked) (base : ℕ) (bytes : List ℕ)
-      (left start now : Option (List ℕ)) (lines : AskedLines) (q : Question) (answer : Result Summary FileStop)
-      (result : Result Located Stop)
-      → says_section w ≡ false → given ≡ asked_in_words w → HasAsked w given bytes left lines → are_addresses w ≡ true
+      (left start now : Option (List ℕ)) (lines : AskedLines) (said : CompilationDirectories) (q : Question)
+      (answer : Result Summary FileStop) (result : Result Located Stop)
+      → suits_file w ≡ true → given ≡ asked_in_words w → HasAsked w given bytes left lines → are_addresses w ≡ true
       → base_in w ≡ Some base
       → q.asked.now ≡ slice → slice ≡ lines.asked.items → q.base ≡ base
-      → ((a : ℕ) → is_code (option_copied q.code) a ≡ (w.all || is_code ranges a)) → q.style.form ≡ form_in w
+      → ((a : ℕ) → is_code (option_copied q.code) a ≡ (w.all || is_code ranges a)) → q.directories ≡ said
+      → (found : Directories) → ((n : ℕ) → directory_by said n ≡ option_or w.comp_dir (directory_at found n))
+      → ForBytes (held path) (λ f. AreFound w f (directory_at found)) → q.style.form ≡ form_in w
       → q.style.basenames ≡ w.basenames → option_copied q.style.section ≡ w.section
       → ForBytes (held path) (λ f. (code : Code) × IsCode f (Ok code)
       × AreLive ranges code)
-      → ForBytes (held path) (λ f. OnFile (fails path) path w.section (Addr q) f start now answer)
+      → ForBytes (held path) (λ f. OnFile (file_units w.units) (fails path) path w.section (Addr q) f start now answer)
       → result ≡ located (over_file answer) lines.no_address → LocatesInFile held fails path w bytes left start now result
-  file_done ranges given slice base bytes left start now lines q answer result says words has understood based asked
-      sliced own live form basenames section codes does is = λ f known short.
+  file_done ranges given slice base bytes left start now lines said q answer result says words has understood based asked
+      sliced own live directories found comp_dir are_found form basenames section codes does is = λ f known short.
       let k = codes f known short in
       inr (inr (inr (
         k.0,
@@ -129,11 +130,14 @@ module _ (held : Text → Option (List ℕ)) (fails : Text → Error → Type 0)
         says,
         k.1,
         subst (λ (g : List Asked). HasAsked w g bytes left lines) words has,
+        directory_at found,
+        are_found f known short,
         record {
           asked = asked ∙ sliced;
           understood = understood;
           base = based ∙ ap Some (sym own);
           code = λ a. live a ∙ (ap (λ (b : Bool). w.all || b) (is_code-live ranges k.0 k.2 a) ∙ all_live w.all k.0 a);
+          directories = λ n. ap (λ (d : CompilationDirectories). directory_by d n) directories ∙ comp_dir n;
           form = form;
           basenames = basenames;
           section = section;

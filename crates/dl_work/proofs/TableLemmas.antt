@@ -10,6 +10,7 @@ use Rattle.dl_run.specs.declared.options.TheConstants.{SECTION_LIMIT}
 use Rattle.dl_run.specs.declared.fault.RunFault.{RunFault}
 use Rattle.dl_print.specs.declared.summary.Summary.{Summary}
 use Rattle.dl_print.specs.ValueText.{Strings}
+use Rattle.dl_open.specs.declared.dialect.FileUnits.{FileUnits}
 use Rattle.dl_open.specs.declared.object_part.Part.{Part}
 use Rattle.dl_open.specs.declared.stop.FileStop.{FileStop}
 use Rattle.dl_open.specs.Parts.{PartStops}
@@ -20,24 +21,24 @@ use Rattle.dl_work.specs.Asked.{Does, WithoutTable, is_copy, looks_up, sections_
 use Rattle.dl_work.specs.Tables.{EndsAt, OnFile, OnFound, OnFoundWhere, OnLines, OnTable, OnTableWhere, RunsOn}
 
 -- it isn't the copy of an object file
-pub not_refused : (path : Text) (command : Command) (t : LineTable) (part : Option Part) (start now : Option (List ℕ))
+pub not_refused : (units : FileUnits) (path : Text) (command : Command) (t : LineTable) (part : Option Part) (start now : Option (List ℕ))
     (result : Result Summary FileStop) (is_object : Bool) → (is_copy command && is_object) ≡ false
-    → is_object ≡ t.is_object_file → OnTableWhere false path command t part start now result
-    → OnTable path command t part start now result
-not_refused path command t part start now result is_object not_copy object does =
+    → is_object ≡ t.is_object_file → OnTableWhere false units path command t part start now result
+    → OnTable units path command t part start now result
+not_refused units path command t part start now result is_object not_copy object does =
     let e : (is_copy command && t.is_object_file) ≡ false =
     ap (λ (b : Bool). is_copy command && b) (sym object) ∙ not_copy in
     rw e does
 
 -- the command ran with these options, over a reader of the line section
-pub ran : (path : Text) (command : Command) (t : LineTable) (start now left remaining : Option (List ℕ))
+pub ran : (units : FileUnits) (path : Text) (command : Command) (t : LineTable) (start now left remaining : Option (List ℕ))
     (s strings : Strings) (dialect : Dialect) (limit : ℕ) (answer : Result Summary RunFault)
     (result : Result Summary FileStop)
     → ((read : List ℕ) → Consumes remaining left read → Consumes (known_bytes t.line) left read)
-    → IsWhole t.line_str t.str s → dialect ≡ file_dialect t → strings ≡ s → limit ≡ SECTION_LIMIT
+    → IsWhole t.line_str t.str s → dialect ≡ file_dialect units t → strings ≡ s → limit ≡ SECTION_LIMIT
     → (read : List ℕ) × Consumes remaining left read × Does command dialect strings limit read left start now answer
-    → EndsAt path (stream_of t.line) answer result → RunsOn path command t start now result
-ran path command t start now left remaining s strings dialect limit answer result known whole ordered in_options limited
+    → EndsAt path (stream_of t.line) answer result → RunsOn units path command t start now result
+ran units path command t start now left remaining s strings dialect limit answer result known whole ordered in_options limited
     (read, consumes, does) ends =
     record {
       strings = s;
@@ -59,37 +60,46 @@ plain_known content bytes left read is consumes =
     subst (λ (c : Content). Consumes (known_bytes c) left read) (sym is) consumes
 
 -- the command is done over the sequences of a part
-pub of_part : (path : Text) (command : Command) (t : LineTable) (part : Part) (chosen : Option Part)
+pub of_part : (units : FileUnits) (path : Text) (command : Command) (t : LineTable) (part : Part) (chosen : Option Part)
     (start now : Option (List ℕ)) (result : Result Summary FileStop) → chosen ≡ Some part
-    → OnLines path command t (Some part) start now result → OnLines path command t chosen start now result
-of_part path command t part chosen start now result is done =
-    subst (λ (p : Option Part). OnLines path command t p start now result) (sym is) done
+    → OnLines units path command t (Some part) start now result → OnLines units path command t chosen start now result
+of_part units path command t part chosen start now result is done =
+    subst (λ (p : Option Part). OnLines units path command t p start now result) (sym is) done
 
 -- it can't be told among which sequences a command looks
-pub found_stops : (fails : Error → Type 0) (path : Text) (name : Option Text) (command : Command) (f : List ℕ)
+pub found_stops : (units : FileUnits) (fails : Error → Type 0) (path : Text) (name : Option Text) (command : Command) (f : List ℕ)
     (t : LineTable) (start now : Option (List ℕ)) (stop : FileStop) (looks is_object : Bool) → looks ≡ true
     → looks ≡ looks_up command → is_object ≡ t.is_object_file → PartStops fails path f is_object name stop
-    → WithoutTable command start now → OnFound fails path name command f t start now (Err stop)
-found_stops fails path name command f t start now stop looks is_object said own object why written =
-    subst (λ (looks : Bool). OnFoundWhere looks fails path name command f t start now (Err stop)) (sym said ∙ own)
+    → WithoutTable command start now → OnFound units fails path name command f t start now (Err stop)
+found_stops units fails path name command f t start now stop looks is_object said own object why written =
+    subst (λ (looks : Bool). OnFoundWhere looks units fails path name command f t start now (Err stop)) (sym said ∙ own)
     (inl (stop, refl, subst (λ (b : Bool). PartStops fails path f b name stop) object why, written))
 
 -- ---- the errors that opening and reading may give
 
-on_found_weaker : (looks : Bool) (fails wider : Error → Type 0) (path : Text) (name : Option Text) (command : Command)
+on_found_weaker : (looks : Bool) (units : FileUnits) (fails wider : Error → Type 0) (path : Text) (name : Option Text) (command : Command)
     (f : List ℕ) (t : LineTable) (start now : Option (List ℕ)) (result : Result Summary FileStop)
-    → ((e : Error) → fails e → wider e) → OnFoundWhere looks fails path name command f t start now result
-    → OnFoundWhere looks wider path name command f t start now result
-on_found_weaker false fails wider path name command f t start now result more found = found
-on_found_weaker true fails wider path name command f t start now result more (inl (stop, is, why, written)) =
+    → ((e : Error) → fails e → wider e) → OnFoundWhere looks units fails path name command f t start now result
+    → OnFoundWhere looks units wider path name command f t start now result
+on_found_weaker false units fails wider path name command f t start now result more found = found
+on_found_weaker true units fails wider path name command f t start now result more (inl (stop, is, why, written)) =
     inl (stop, is, part_stops_weaker fails wider path f t.is_object_file name stop more why, written)
-on_found_weaker true fails wider path name command f t start now result more (inr found) = inr found
+on_found_weaker true units fails wider path name command f t start now result more (inr found) = inr found
 
 -- what is done for an open file, by the errors of its source
-pub on_file_weaker : (fails wider : Error → Type 0) (path : Text) (name : Option Text) (command : Command) (f : List ℕ)
+pub on_file_weaker : (units : FileUnits) (fails wider : Error → Type 0) (path : Text) (name : Option Text) (command : Command) (f : List ℕ)
     (start now : Option (List ℕ)) (result : Result Summary FileStop) → ((e : Error) → fails e → wider e)
-    → OnFile fails path name command f start now result → OnFile wider path name command f start now result
-on_file_weaker fails wider path name command f start now result more (inl (stop, is, why, written)) =
-    inl (stop, is, table_stops_weaker fails wider path (sections_of command) f stop more why, written)
-on_file_weaker fails wider path name command f start now result more (inr (t, has, found)) =
-    inr (t, has, on_found_weaker (looks_up command) fails wider path name command f t start now result more found)
+    → OnFile units fails path name command f start now result → OnFile units wider path name command f start now result
+on_file_weaker units fails wider path name command f start now result more (inl (stop, is, why, written)) =
+    inl (stop, is, table_stops_weaker units fails wider path (sections_of command) f stop more why, written)
+on_file_weaker units fails wider path name command f start now result more (inr (t, has, found)) =
+    inr (t, has, on_found_weaker (looks_up command) units fails wider path name command f t start now result more found)
+
+-- and by what the words say of its units
+pub on_file_as : (units said : FileUnits) (fails wider : Error → Type 0) (path : Text) (name : Option Text) (command : Command)
+    (f : List ℕ) (start now : Option (List ℕ)) (result : Result Summary FileStop) → units ≡ said
+    → ((e : Error) → fails e → wider e) → OnFile units fails path name command f start now result
+    → OnFile said wider path name command f start now result
+on_file_as units said fails wider path name command f start now result is more does =
+    subst (λ (u : FileUnits). OnFile u wider path name command f start now result) is
+    (on_file_weaker units fails wider path name command f start now result more does)

@@ -3,34 +3,47 @@ use Rattle.std.proofs.Common.{◌≡◌, ℕ, List, [], Option, Some, None, Resu
 use Rattle.std.specs.declared.io.Error.{Error}
 use Rattle.dl_print.specs.declared.summary.Summary.{Summary}
 use Rattle.dl_cmd.specs.Job.{Request, Text}
+use Rattle.dl_open.specs.declared.dialect.FileUnits.{FileUnits}
 use Rattle.dl_open.specs.declared.stop.FileStop.{FileStop}
 use Rattle.dl_work.specs.declared.command.Command.{Command}
 use Rattle.dl_work.specs.declared.stop.Stop.{Stop}
-use Rattle.dl_work.specs.Asked.{SectionWords, command_of, file_of, part_name_of, section_of}
+use Rattle.dl_work.specs.Asked.{SectionWords, command_of, command_seen, file_of, part_name_of, section_of}
 use Rattle.dl_elf.specs.Source.{ForBytes}
 use Rattle.dl_work.specs.Stops.{over_file}
 use Rattle.dl_work.specs.Tables.{OnFile}
+use Rattle.dl_work.specs.Units.{file_units, units_of}
 use Rattle.dl_work.specs.Work.{OnInput, Works}
 
 pub works_on_input : (held : Text → Option (List ℕ)) (fails : Text → Error → Type 0) (request : Option Request)
     (r : Request) (command : Command) (words : SectionWords) (bytes : List ℕ)
-    (left start now : Option (List ℕ)) (result : Result Summary Stop) → request ≡ Some r → command_of r ≡ Some command
+    (left start now : Option (List ℕ)) (result : Result Summary Stop) → request ≡ Some r → command_of r ≡ Some (command_seen command)
     → file_of r ≡ None → words ≡ section_of r
     → OnInput held words command bytes left start now result → Works held fails request bytes left start now result
 works_on_input held fails request r command words bytes left start now result is asks no_file said does =
-    rw (is, asks, no_file) (subst (λ (w : SectionWords). OnInput held w command bytes left start now result) said does)
+    rw (is, asks) (
+      command,
+      refl,
+      rw no_file (subst (λ (w : SectionWords). OnInput held w command bytes left start now result) said does),
+    )
 
 pub works_on_named : (held : Text → Option (List ℕ)) (fails : Text → Error → Type 0) (request : Option Request)
-    (r : Request) (command : Command) (path : Text) (name : Option Text) (left start now : Option (List ℕ))
-    (answer : Result Summary FileStop) (result : Result Summary Stop) → request ≡ Some r → command_of r ≡ Some command
-    → file_of r ≡ Some path → name ≡ part_name_of r → result ≡ over_file answer
-    → ForBytes (held path) (λ f. OnFile (fails path) path name command f start now answer)
+    (r : Request) (command : Command) (units : FileUnits) (path : Text) (name : Option Text) (left start now : Option (List ℕ))
+    (answer : Result Summary FileStop) (result : Result Summary Stop) → request ≡ Some r → command_of r ≡ Some (command_seen command)
+    → file_of r ≡ Some path → units ≡ file_units (units_of r) → name ≡ part_name_of r → result ≡ over_file answer
+    → ForBytes (held path) (λ f. OnFile units (fails path) path name command f start now answer)
     → Works held fails request [] left start now result
-works_on_named held fails request r command path name left start now answer result is asks named said told does =
-    rw (is, asks, named) (
+works_on_named held fails request r command units path name left start now answer result is asks named reads said told
+    does =
+    rw (is, asks) (
+      command,
       refl,
-      answer,
-      told,
-      subst (λ (n : Option Text). ForBytes (held path) (λ f. OnFile (fails path) path n command f start now answer)) said
-          does,
+      rw named (
+        refl,
+        answer,
+        told,
+        subst (λ (u : FileUnits). ForBytes (held path) (λ f. OnFile u (fails path) path (part_name_of r) command f start now
+            answer)) reads
+            (subst (λ (n : Option Text). ForBytes (held path) (λ f. OnFile units (fails path) path n command f start now
+            answer)) said does),
+      ),
     )

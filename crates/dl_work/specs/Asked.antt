@@ -3,24 +3,30 @@ use Rattle.std.specs.Prelude.{ℕ, Bool, true, false, List, [], Option, Some, No
 use Rattle.std.specs.Prelude.{Ok}
 use Rattle.std.specs.Prelude.{Err, ◌≡◌, codes, if◌then◌else◌}
 use Rattle.std.specs.Io.KnownBytes.{Consumes, Keeps}
+use Rattle.std.specs.Option.{option_copied}
 use Rattle.std.specs.Str.{bytes_eq}
+use Rattle.dl_num.specs.declared.fixed.Order.{Order}
 use Rattle.dl_num.specs.declared.fixed.Order.TheVariants.{Little, Big}
 use Rattle.dl_head.specs.declared.dialect.Dialect.{Dialect}
 use Rattle.dl_head.specs.Dialect.{version_5}
+use Rattle.dl_dirs.specs.declared.compilation.CompilationDirectories.{CompilationDirectories}
+use Rattle.dl_dirs.specs.Compilation.{directory_by}
 use Rattle.dl_look.specs.declared.place.Place.{Place}
 use Rattle.dl_run.specs.declared.options.TheConstants.{SECTION_LIMIT}
 use Rattle.dl_run.specs.declared.fault.RunFault.{RunFault}
 use Rattle.dl_print.specs.declared.summary.Summary.{Summary}
 use Rattle.dl_cmd.specs.Address.{address_in}
-use Rattle.dl_run.specs.Commands.{Checks, Copies, Dumps, Finds}
+use Rattle.dl_run.specs.Commands.{Checks, Copies, CopiesAs, Dumps, Finds, to_5}
 use Rattle.dl_cmd.specs.Job.{Request, Text, addr, check, copy, dump, find}
 use Rattle.dl_print.specs.ValueText.{Strings}
 use Rattle.dl_open.specs.declared.named.Sections.{Sections}
 use Rattle.dl_open.specs.declared.named.Sections.TheVariants.{Lines, LinesAndTexts}
+use Rattle.dl_work.specs.Units.{are_sizes, older_by, units_of}
 use Rattle.dl_work.specs.declared.command.Command.{Command}
-use Rattle.dl_work.specs.declared.command.Command.TheVariants.{Addr, Dump, Check, Find, Copy}
+use Rattle.dl_work.specs.declared.command.Command.TheVariants.{Addr, Dump, Check, Find, Copy, CopyTo5}
 use Rattle.dl_work.specs.declared.command.TheConstants.{NOTHING}
 use Rattle.dl_addr.specs.declared.question.Found.{Found}
+use Rattle.dl_addr.specs.declared.question.Question.{Question}
 use Rattle.dl_addr.specs.declared.question.Found.TheVariants as found
 use Rattle.dl_addr.specs.Commands.{Locates}
 use Rattle.dl_run.specs.declared.fault.RunFault.TheVariants.{NotFound}
@@ -29,23 +35,44 @@ use Rattle.dl_run.specs.declared.fault.RunFault.TheVariants.{NotFound}
 abbrev pub place_of : (address : Option Text) (op : ℕ) → Option Place
 place_of address op = option_map (λ n. record { address = n; op_index = op }) (option_and_then address_in address)
 
+-- a command, by the text of its word
+pub data CommandData : Type 0 where
+  dumps : CommandData
+  checks : CommandData
+  finds : Place → CommandData
+  copies : CommandData
+  copies_to_5 : (comp_dir : Option Text) → CommandData
+  answers : Question → CommandData
+
+abbrev pub command_seen : Command → CommandData
+command_seen Dump = dumps
+command_seen Check = checks
+command_seen (Find place) = finds place
+command_seen Copy = copies
+command_seen (CopyTo5 comp_dir) = copies_to_5 (option_map (λ s. s.now) comp_dir)
+command_seen (Addr question) = answers question
+
 -- the command; none where ADDRESS is no address, where a section of an object file is named without FILE, and of
--- `addr`,
--- which asks for many
-abbrev pub command_of : Request → Option Command
-command_of (dump file big line_str str) = Some Dump
-command_of (check file big) = Some Check
-command_of (find None big address op (Some section) line_str str) = None
-command_of (find file big address op section line_str str) = option_map Find (place_of address op)
-command_of (copy file big) = Some Copy
-command_of (addr words) = None
+-- `addr`, which asks for many
+abbrev pub command_asked : Request → Option CommandData
+command_asked (dump file big units line_str str) = Some dumps
+command_asked (check file big units) = Some checks
+command_asked (find None big units address op (Some section) line_str str) = None
+command_asked (find file big units address op section line_str str) = option_map finds (place_of address op)
+command_asked (copy file big units true comp_dir) = Some (copies_to_5 comp_dir)
+command_asked (copy file big units false comp_dir) = Some copies
+command_asked (addr words) = None
+
+-- the same; none also where a size is no size
+abbrev pub command_of : Request → Option CommandData
+command_of request = if are_sizes (units_of request) then command_asked request else None
 
 -- the path of the ELF file
 abbrev pub file_of : Request → Option Text
-file_of (dump file big line_str str) = file
-file_of (check file big) = file
-file_of (find file big address op section line_str str) = file
-file_of (copy file big) = file
+file_of (dump file big units line_str str) = file
+file_of (check file big units) = file
+file_of (find file big units address op section line_str str) = file
+file_of (copy file big units to_5 comp_dir) = file
 file_of (addr words) = words.file
 
 -- `-` is no path of a file
@@ -55,41 +82,50 @@ unless_input (Some path) = if bytes_eq path (codes "-") then None else Some path
 
 -- the path of the ELF file in which addresses are looked up
 abbrev pub looked_into : Request → Option Text
-looked_into (find file big address op section line_str str) = file
+looked_into (find file big units address op section line_str str) = file
 looked_into (addr words) = unless_input words.file
 looked_into other = None
 
 -- the section of an object file that is looked into
 abbrev pub part_name_of : Request → Option Text
-part_name_of (find file big address op section line_str str) = section
+part_name_of (find file big units address op section line_str str) = section
 part_name_of (addr words) = words.section
 part_name_of other = None
 
--- what is said of a section on the input
+-- what is said of a section on the input; older: the size of an address in units before version 5
 pub record SectionWords : Type 0 where
   pub big : Bool
+  pub older : Option Text
   pub line_str : Option Text
   pub strings : Option Text
 
 abbrev pub section_of : Request → SectionWords
-section_of (dump file big line_str str) = record { big = big; line_str = line_str; strings = str }
-section_of (check file big) = record { big = big; line_str = None; strings = None }
-section_of (find file big address op section line_str str) = record { big = big; line_str = line_str; strings = str }
-section_of (copy file big) = record { big = big; line_str = None; strings = None }
-section_of (addr words) = record { big = words.big; line_str = words.line_str; strings = words.strings }
+section_of (dump file big units line_str str) =
+    record { big = big; older = units.older; line_str = line_str; strings = str }
+section_of (check file big units) = record { big = big; older = units.older; line_str = None; strings = None }
+section_of (find file big units address op section line_str str) =
+    record { big = big; older = units.older; line_str = line_str; strings = str }
+section_of (copy file big units to_5 comp_dir) =
+    record { big = big; older = units.older; line_str = None; strings = None }
+section_of (addr words) =
+    record { big = words.big; older = words.units.older; line_str = words.line_str; strings = words.strings }
 
-abbrev pub dialect_of : (big : Bool) → Dialect
-dialect_of true = version_5 Big
-dialect_of false = version_5 Little
+abbrev pub order_of : (big : Bool) → Order
+order_of big = if big then Big else Little
+
+abbrev pub dialect_of : SectionWords → Dialect
+dialect_of w = record { order = order_of w.big; older = older_by w.older }
 
 abbrev pub is_copy : Command → Bool
 is_copy Copy = true
+is_copy (CopyTo5 comp_dir) = true
 is_copy other = false
 
 -- what a command looks into of a file: the string sections where it prints their texts
 abbrev pub sections_of : Command → Sections
 sections_of Check = Lines
 sections_of Copy = Lines
+sections_of (CopyTo5 comp_dir) = Lines
 sections_of other = LinesAndTexts
 
 -- it looks addresses up
@@ -113,6 +149,10 @@ Does (Find place) dialect s limit bytes left start now answer = Finds dialect s 
 -- units of version 5 alone are copied
 Does Copy dialect s limit bytes left start now answer =
     Copies (version_5 dialect.order) limit bytes left start now answer
+-- under headers of version 5, with the directory that is said
+Does (CopyTo5 comp_dir) dialect s limit bytes left start now answer =
+    (d : CompilationDirectories) × ((unit : ℕ) → directory_by d unit ≡ option_copied comp_dir)
+    × CopiesAs (to_5 (directory_by d)) dialect limit bytes left start now answer
 Does (Addr question) dialect s limit bytes left start now answer =
     (found : Result Found RunFault) × (answer ≡ answered found)
     × Locates dialect s question limit bytes left start now found

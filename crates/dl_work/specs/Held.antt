@@ -4,4 +4,5 @@ use Rattle.dl_work.specs.declared.over_input.Section.{Section}
 use Rattle.dl_work.specs.Asked.{SectionWords}
 
 abbrev pub section_seen : Section → SectionWords
-section_seen s = record { big = s.big; line_str = option_copied s.line_str; strings = option_copied s.strings }
+section_seen s =
+    record { big = s.big; older = option_copied s.older; line_str = option_copied s.line_str; strings = option_copied s.strings }

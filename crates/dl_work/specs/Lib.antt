@@ -1,10 +1,12 @@
 -- What the public contracts say rests on these, in reading order.
 pub mod Stops
+pub mod Units
 pub mod DebugFile
 pub mod Asked
 pub mod Tables
 pub mod Work
 pub mod Located
+pub mod Compiled
 pub mod Locate
 -- Of contracts inside the crate, and of proofs; no public contract reaches these.
 pub mod Held

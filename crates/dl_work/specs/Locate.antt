@@ -1,10 +1,10 @@
 -- What the program does for the words of `addr`. bytes: what was read of the input, which has `left` left. start, now:
 -- what the output held at first, and holds now. held: what the file of a path holds, where that is known; fails: the
 -- errors that opening and reading it may give.
-use Rattle.std.specs.Prelude.{◌≡◌, ◌≢◌, ◌⊎◌, ℕ, Bool, true, false, ◌||◌, List, [], ◌∷◌, ◌++◌, map}
-use Rattle.std.specs.Prelude.{if◌then◌else◌, option_to_list, Option, Some, None, is_some, MatchOption, Result, Ok, Err, codes}
+use Rattle.std.specs.Prelude.{◌≡◌, ◌≢◌, ◌⊎◌, ℕ, Bool, true, false, not, ◌&&◌, List, [], ◌∷◌, ◌++◌, map}
+use Rattle.std.specs.Prelude.{if◌then◌else◌, option_to_list, Option, Some, None, is_none, is_some, MatchOption, Result, Ok, Err, codes}
 use Rattle.std.specs.List.{list_all}
-use Rattle.std.specs.Option.{option_copied, option_map_or}
+use Rattle.std.specs.Option.{option_copied, option_map_or, option_or}
 use Rattle.std.specs.Str.{bytes_eq}
 use Rattle.std.specs.Io.KnownBytes.{IsAtEnd, Keeps}
 use Rattle.std.specs.declared.io.Error.{Error}
@@ -17,12 +17,14 @@ use Rattle.dl_run.specs.declared.fault.RunFault.TheVariants as fault
 use Rattle.dl_print.specs.declared.summary.Summary.{Summary}
 use Rattle.dl_asked.specs.AskedLines.{IsAsked, StopsAsking, address_by}
 use Rattle.dl_addr.specs.Code.{is_code}
+use Rattle.dl_dirs.specs.Compilation.{directory_by}
 use Rattle.dl_look.specs.declared.asked.Asked.{Asked}
 use Rattle.dl_asked.specs.declared.asked_lines.AskedLines.{AskedLines}
 use Rattle.dl_addr.specs.declared.question.Question.{Question}
 use Rattle.dl_addr.specs.declared.style.Form.{Form}
 use Rattle.dl_addr.specs.declared.style.Form.TheVariants.{Location, AddressAndLocation, Json}
 use Rattle.dl_open.specs.declared.fault.FileFault.{FileFault}
+use Rattle.dl_open.specs.declared.fault.FileFault.TheVariants.{NoMemory}
 use Rattle.dl_open.specs.declared.stop.FileStop.{FileStop}
 use Rattle.dl_open.specs.Code.{RefusesCode, live_by}
 use Rattle.dl_open.specs.Stops.{IsAt}
@@ -34,6 +36,8 @@ use Rattle.dl_work.specs.Asked.{WithoutTable, section_of}
 use Rattle.dl_work.specs.Located.{located}
 use Rattle.dl_work.specs.Stops.{over_file, stop_of}
 use Rattle.dl_work.specs.Tables.{OnFile}
+use Rattle.dl_work.specs.Compiled.{AreFound, wants_directories}
+use Rattle.dl_work.specs.Units.{file_units, is_size}
 use Rattle.dl_work.specs.Work.{OnInput, StopsBefore}
 
 -- ---- the words
@@ -54,12 +58,18 @@ are_addresses w = list_all (λ text. is_some (address_by w.hex text)) w.addresse
 abbrev pub form_in : AddrTexts → Form
 form_in w = if w.json then Json else if w.with_addresses then AddressAndLocation else Location
 
--- these addresses are asked for, where there is code as `live` says
-pub record Asks (w : AddrTexts) (these : List Asked) (live : ℕ → Bool) (q : Question) : Type 0 where
+-- the compilation directory that they say, of each unit
+abbrev pub said_directory : AddrTexts → (unit : ℕ) → Option (List ℕ)
+said_directory w unit = w.comp_dir
+
+-- these addresses are asked for, where there is code as `live` says, of units that were compiled where `compiled` says
+pub record Asks (w : AddrTexts) (these : List Asked) (live : ℕ → Bool) (compiled : ℕ → Option (List ℕ)) (q : Question)
+    : Type 0 where
   pub asked : q.asked.now ≡ these
   pub understood : are_addresses w ≡ true
   pub base : base_in w ≡ Some q.base
   pub code : (a : ℕ) → is_code (option_copied q.code) a ≡ live a
+  pub directories : (n : ℕ) → directory_by q.directories n ≡ compiled n
   pub form : q.style.form ≡ form_in w
   pub basenames : q.style.basenames ≡ w.basenames
   pub section : option_copied q.style.section ≡ w.section
@@ -88,24 +98,29 @@ WordsStop w (NotAddress word) = first_other w.hex (address_words w) ≡ Some wor
 WordsStop w (Run fault.NoMemory) = w.addresses ≢ []
 WordsStop w other = ⊥
 
--- ---- the section on the input, which wants an address among the words, and no section of an object file
+-- ---- the section on the input, which wants an address among the words
+
+-- of a section on the input no section of an object file is named, and nothing said of the units of a file
+abbrev pub suits_input : AddrTexts → Bool
+suits_input w = is_none w.section && (not w.units.version_5 && (is_none w.units.address_size && is_size w.units.older))
 
 abbrev pub IsNoQuestion : AddrTexts → Type 0
-IsNoQuestion w = (w.section ≢ None) ⊎ (w.addresses ≡ [])
+IsNoQuestion w = (suits_input w ≡ false) ⊎ (w.addresses ≡ [])
 
 abbrev pub LocatesInSection : (held : Text → Option (List ℕ)) → AddrTexts
     → (bytes : List ℕ) (left start now : Option (List ℕ)) → Result Located Stop → Type 0
 LocatesInSection held w bytes left start now result =
     ((stop : Stop) × (WordsStop w stop ⊎ (IsNoQuestion w × (stop ≡ NotUnderstood)))
     × StopsBefore bytes start now result stop)
-    ⊎ ((q : Question) × (answer : Result Summary Stop) × (IsNoQuestion w → ⊥) × Asks w (asked_in_words w) (λ a. true) q
+    ⊎ ((q : Question) × (answer : Result Summary Stop) × (IsNoQuestion w → ⊥) × Asks w (asked_in_words w) (λ a. true) (said_directory w) q
     × OnInput held (section_of (addr w)) (Addr q) bytes left start now answer × (result ≡ located answer None))
 
 -- ---- the ELF file of a path. f: its bytes
 
 -- beside a file nothing is said of a section on the input
-abbrev pub says_section : AddrTexts → Bool
-says_section w = w.big || (is_some w.line_str || is_some w.strings)
+abbrev pub suits_file : AddrTexts → Bool
+suits_file w =
+    not w.big && (is_none w.line_str && (is_none w.strings && (is_none w.units.older && is_size w.units.address_size)))
 
 -- the addresses of the words; where there are none, those that the whole input says
 abbrev pub HasAsked : AddrTexts → List Asked → (bytes : List ℕ) (left : Option (List ℕ)) → AskedLines → Type 0
@@ -121,20 +136,30 @@ abbrev pub Unanswered : AddrTexts → (bytes : List ℕ) (left start now : Optio
 Unanswered w bytes left start now =
     ((stop : Stop) × InputStops w (asked_in_words w) bytes stop × Keeps start now)
     ⊎ ((lines : AskedLines) × (q : Question) × HasAsked w (asked_in_words w) bytes left lines
-    × Asks w lines.asked.items (λ a. true) q × WithoutTable (Addr q) start now)
+    × Asks w lines.asked.items (λ a. true) (said_directory w) q × WithoutTable (Addr q) start now)
+
+-- it can't be told where the file has code, or memory was refused for the directories in which its units were compiled
+abbrev pub RefusesOpening : AddrTexts → (fails : Error → Type 0) (f : List ℕ) → FileFault → Type 0
+RefusesOpening w fails f fault =
+    RefusesCode fails f fault ⊎ ((fault ≡ NoMemory) × (wants_directories w ≡ true))
+
+-- the directory that the words say of all units, or else those that were found
+abbrev pub compiled_by : AddrTexts → (found : ℕ → Option (List ℕ)) → (unit : ℕ) → Option (List ℕ)
+compiled_by w found unit = option_or w.comp_dir (found unit)
 
 abbrev pub LocatesInFile : (held : Text → Option (List ℕ)) (fails : Text → Error → Type 0) → Text → AddrTexts
     → (bytes : List ℕ) (left start now : Option (List ℕ)) → Result Located Stop → Type 0
 LocatesInFile held fails path w bytes left start now result = ForBytes (held path) (λ f.
-    ((stop : Stop) × (WordsStop w stop ⊎ ((says_section w ≡ true) × (stop ≡ NotUnderstood)))
+    ((stop : Stop) × (WordsStop w stop ⊎ ((suits_file w ≡ false) × (stop ≡ NotUnderstood)))
     × StopsBefore bytes start now result stop)
-    ⊎ ((stop : FileStop) × (fault : FileFault) × (says_section w ≡ false) × RefusesCode (fails path) f fault
+    ⊎ ((stop : FileStop) × (fault : FileFault) × (suits_file w ≡ true) × RefusesOpening w (fails path) f fault
     × IsAt path fault stop × (result ≡ Err (stop_of stop)) × Unanswered w bytes left start now)
     ⊎ ((stop : Stop) × InputStops w (asked_in_words w) bytes stop × (result ≡ Err stop) × Keeps start now)
     ⊎ ((code : Code) × (lines : AskedLines) × (q : Question) × (answer : Result Summary FileStop)
-    × (says_section w ≡ false) × IsCode f (Ok code) × HasAsked w (asked_in_words w) bytes left lines
-    × Asks w lines.asked.items (live_by w.all code) q
-    × OnFile (fails path) path w.section (Addr q) f start now answer × (result ≡ located (over_file answer) lines.no_address)))
+    × (suits_file w ≡ true) × IsCode f (Ok code) × HasAsked w (asked_in_words w) bytes left lines
+    × (found : ℕ → Option (List ℕ)) × AreFound w f found
+    × Asks w lines.asked.items (live_by w.all code) (compiled_by w found) q
+    × OnFile (file_units w.units) (fails path) path w.section (Addr q) f start now answer × (result ≡ located (over_file answer) lines.no_address)))
 
 -- ---- by the words; a path `-` stands for a section on the input
 

@@ -1,5 +1,5 @@
 -- What the program does with the ELF file of a path. f: its bytes; t: its line table as dl_file defines it. start, now:
--- what the output held at first, and holds now.
+-- what the output held at first, and holds now. units: which units of the file are read.
 use Rattle.std.specs.Prelude.{◌≡◌, ◌⊎◌, ℕ, Bool, true, false, ◌&&◌, List, Option, Some, None, Result, Ok, Err, MatchResult}
 use Rattle.std.specs.Io.KnownBytes.{Consumes}
 use Rattle.std.specs.declared.io.Error.{Error}
@@ -10,6 +10,7 @@ use Rattle.dl_run.specs.declared.options.TheConstants.{SECTION_LIMIT}
 use Rattle.dl_run.specs.declared.fault.RunFault.{RunFault}
 use Rattle.dl_print.specs.declared.summary.Summary.{Summary}
 use Rattle.dl_print.specs.ValueText.{Strings}
+use Rattle.dl_open.specs.declared.dialect.FileUnits.{FileUnits}
 use Rattle.dl_open.specs.declared.fault.FileFault.TheVariants.{ObjectCopy}
 use Rattle.dl_open.specs.declared.object_part.Part.{Part}
 use Rattle.dl_open.specs.declared.stop.FileStop.{FileStop}
@@ -29,7 +30,7 @@ EndsAt path stream answer result = MatchResult answer (λ summary. result ≡ Ok
 
 -- the command is done, over the bytes of the line section in the file's order, with the file's string sections. read:
 -- the bytes that it read, of which `left` are left
-pub record RunsOn (path : Text) (command : Command) (t : LineTable) (start now : Option (List ℕ))
+pub record RunsOn (units : FileUnits) (path : Text) (command : Command) (t : LineTable) (start now : Option (List ℕ))
     (result : Result Summary FileStop) : Type 0 where
   pub strings : Strings
   pub whole : IsWhole t.line_str t.str strings
@@ -37,7 +38,7 @@ pub record RunsOn (path : Text) (command : Command) (t : LineTable) (start now :
   pub left : Option (List ℕ)
   pub bytes : Consumes (known_bytes t.line) left read
   pub answer : Result Summary RunFault
-  pub done : Does command (file_dialect t) strings SECTION_LIMIT read left start now answer
+  pub done : Does command (file_dialect units t) strings SECTION_LIMIT read left start now answer
   pub ends : EndsAt path (stream_of t.line) answer result
 
 -- the table with these bytes of its line section
@@ -51,44 +52,44 @@ abbrev pub StopsEarly : Command → (FileStop → Type 0) → (start now : Optio
 StopsEarly command Reason start now result =
     (stop : FileStop) × (result ≡ Err stop) × Reason stop × WithoutTable command start now
 
-abbrev pub OnLines : (path : Text) → Command → LineTable → Option Part → (start now : Option (List ℕ))
+abbrev pub OnLines : FileUnits → (path : Text) → Command → LineTable → Option Part → (start now : Option (List ℕ))
     → Result Summary FileStop → Type 0
-OnLines path command t None start now result = RunsOn path command t start now result
-OnLines path command t (Some part) start now result =
-    StopsEarly command (KeepingStops path (file_dialect t) part t.line) start now result
-    ⊎ ((kept : List ℕ) × IsKept (file_dialect t) part t.line kept
-    × RunsOn path command (with_bytes t kept) start now result)
+OnLines units path command t None start now result = RunsOn units path command t start now result
+OnLines units path command t (Some part) start now result =
+    StopsEarly command (KeepingStops path (file_dialect units t) part t.line) start now result
+    ⊎ ((kept : List ℕ) × IsKept (file_dialect units t) part t.line kept
+    × RunsOn units path command (with_bytes t kept) start now result)
 
 -- an object file isn't copied
-abbrev pub OnTableWhere : (is_object_copy : Bool) → (path : Text) → Command → LineTable → Option Part
+abbrev pub OnTableWhere : (is_object_copy : Bool) → FileUnits → (path : Text) → Command → LineTable → Option Part
     → (start now : Option (List ℕ)) → Result Summary FileStop → Type 0
-OnTableWhere true path command t part start now result = StopsEarly command (IsAt path ObjectCopy) start now result
-OnTableWhere false path command t part start now result =
+OnTableWhere true units path command t part start now result = StopsEarly command (IsAt path ObjectCopy) start now result
+OnTableWhere false units path command t part start now result =
     StopsEarly command (StringsStop path t.line_str t.str) start now result
-    ⊎ OnLines path command t part start now result
+    ⊎ OnLines units path command t part start now result
 
-abbrev pub OnTable : (path : Text) → Command → LineTable → Option Part → (start now : Option (List ℕ))
+abbrev pub OnTable : FileUnits → (path : Text) → Command → LineTable → Option Part → (start now : Option (List ℕ))
     → Result Summary FileStop → Type 0
-OnTable path command t part = OnTableWhere (is_copy command && t.is_object_file) path command t part
+OnTable units path command t part = OnTableWhere (is_copy command && t.is_object_file) units path command t part
 
 -- ---- the file. fails: the errors that opening and reading it may give; name: the section that is looked into
 
 -- all sequences answer, but where addresses are looked up: then those of a part
-abbrev pub OnFoundWhere : (looks_up : Bool) (fails : Error → Type 0) (path : Text) (name : Option Text) → Command
+abbrev pub OnFoundWhere : (looks_up : Bool) → FileUnits → (fails : Error → Type 0) (path : Text) (name : Option Text) → Command
     → (f : List ℕ) → LineTable → (start now : Option (List ℕ)) → Result Summary FileStop → Type 0
-OnFoundWhere false fails path name command f t start now result = OnTable path command t None start now result
-OnFoundWhere true fails path name command f t start now result =
+OnFoundWhere false units fails path name command f t start now result = OnTable units path command t None start now result
+OnFoundWhere true units fails path name command f t start now result =
     StopsEarly command (PartStops fails path f t.is_object_file name) start now result
-    ⊎ ((part : Option Part) × IsPart f t.is_object_file name part × OnTable path command t part start now result)
+    ⊎ ((part : Option Part) × IsPart f t.is_object_file name part × OnTable units path command t part start now result)
 
-abbrev pub OnFound : (fails : Error → Type 0) (path : Text) (name : Option Text) → Command → (f : List ℕ) → LineTable
+abbrev pub OnFound : FileUnits → (fails : Error → Type 0) (path : Text) (name : Option Text) → Command → (f : List ℕ) → LineTable
     → (start now : Option (List ℕ)) → Result Summary FileStop → Type 0
-OnFound fails path name command f t = OnFoundWhere (looks_up command) fails path name command f t
+OnFound units fails path name command f t = OnFoundWhere (looks_up command) units fails path name command f t
 
 -- ---- what is done
 
-abbrev pub OnFile : (fails : Error → Type 0) (path : Text) (name : Option Text) → Command
+abbrev pub OnFile : FileUnits → (fails : Error → Type 0) (path : Text) (name : Option Text) → Command
     → (f : List ℕ) (start now : Option (List ℕ)) → Result Summary FileStop → Type 0
-OnFile fails path name command f start now result =
-    StopsEarly command (TableStops fails path (sections_of command) f) start now result
-    ⊎ ((t : LineTable) × HasTable (sections_of command) f t × OnFound fails path name command f t start now result)
+OnFile units fails path name command f start now result =
+    StopsEarly command (TableStops units fails path (sections_of command) f) start now result
+    ⊎ ((t : LineTable) × HasTable units (sections_of command) f t × OnFound units fails path name command f t start now result)

@@ -15,9 +15,11 @@ use Rattle.dl_open.specs.Files.{FilesStop, StringsAre}
 use Rattle.dl_work.specs.declared.command.Command.{Command}
 use Rattle.dl_work.specs.declared.stop.Stop.{Stop}
 use Rattle.dl_work.specs.declared.stop.Stop.TheVariants.{NotUnderstood, Run}
-use Rattle.dl_work.specs.Asked.{Does, SectionWords, command_of, file_of, dialect_of, part_name_of, section_of}
+use Rattle.dl_work.specs.Asked.{Does, SectionWords, command_of, command_seen, file_of, dialect_of, part_name_of, section_of}
 use Rattle.dl_work.specs.Stops.{over_file}
 use Rattle.dl_work.specs.Tables.{OnFile}
+use Rattle.dl_open.specs.declared.dialect.FileUnits.{FileUnits}
+use Rattle.dl_work.specs.Units.{file_units, units_of}
 
 -- the program stops before its command: nothing is read of the input, and nothing written
 abbrev pub StopsBefore : {A : Type 0} → (bytes : List ℕ) (start now : Option (List ℕ)) (result : Result A Stop) → Stop
@@ -36,15 +38,16 @@ abbrev pub OnInput : (held : Text → Option (List ℕ)) → SectionWords → Co
 OnInput held section command bytes left start now result =
     ((s : Strings) × StringsAre held section.line_str section.strings s
     × (answer : Result Summary RunFault) × (result ≡ stopped answer)
-    × Does command (dialect_of section.big) s SECTION_LIMIT bytes left start now answer)
+    × Does command (dialect_of section) s SECTION_LIMIT bytes left start now answer)
     ⊎ ((f : RunFault) × FilesStop held section.line_str section.strings f × StopsBefore bytes start now result (Run f))
 
--- over the ELF file of a path: nothing is read of the input. name: the section that is looked into
-abbrev pub OnNamed : (held : Text → Option (List ℕ)) (fails : Text → Error → Type 0) → Text → (name : Option Text)
-    → Command → (bytes : List ℕ) (start now : Option (List ℕ)) → Result Summary Stop → Type 0
-OnNamed held fails path name command bytes start now result =
+-- over the ELF file of a path: nothing is read of the input. units: which units are read; name: the section that is
+-- looked into
+abbrev pub OnNamed : (held : Text → Option (List ℕ)) (fails : Text → Error → Type 0) → FileUnits → Text
+    → (name : Option Text) → Command → (bytes : List ℕ) (start now : Option (List ℕ)) → Result Summary Stop → Type 0
+OnNamed held fails units path name command bytes start now result =
     (bytes ≡ []) × (answer : Result Summary FileStop) × (result ≡ over_file answer)
-    × ForBytes (held path) (λ f. OnFile (fails path) path name command f start now answer)
+    × ForBytes (held path) (λ f. OnFile units (fails path) path name command f start now answer)
 
 -- what is done for a request
 abbrev pub Works : (held : Text → Option (List ℕ)) (fails : Text → Error → Type 0) → Option Request
@@ -52,5 +55,6 @@ abbrev pub Works : (held : Text → Option (List ℕ)) (fails : Text → Error �
 Works held fails None bytes left start now result = StopsBefore bytes start now result NotUnderstood
 Works held fails (Some request) bytes left start now result =
     MatchOption (command_of request) (StopsBefore bytes start now result NotUnderstood)
-    (λ command. MatchOption (file_of request) (OnInput held (section_of request) command bytes left start now result)
-    (λ path. OnNamed held fails path (part_name_of request) command bytes start now result))
+    (λ seen. (command : Command) × (command_seen command ≡ seen)
+    × MatchOption (file_of request) (OnInput held (section_of request) command bytes left start now result)
+    (λ path. OnNamed held fails (file_units (units_of request)) path (part_name_of request) command bytes start now result))

@@ -1,15 +1,18 @@
 //! What the words of `addr` ask for.
-ghost use Rattle.std.specs.Prelude.{◌≡◌, IfErr, IfOk, MatchResult, None, Some, is_some, map, option_map, option_to_list, true};
+ghost use Rattle.std.specs.Prelude.{◌≡◌, ℕ, IfErr, IfOk, MatchResult, None, Some, is_some, map, option_map, option_to_list, true};
 ghost use Rattle.std.specs.List.{list_all};
 ghost use Rattle.std.specs.Option.{option_copied};
 ghost use Rattle.dl_cmd.specs.Job.{addr_words_made};
+ghost use Rattle.dl_dirs.specs.Compilation.{directory_by};
 ghost use Rattle.dl_asked.specs.AskedLines.{address_by};
 ghost use Rattle.dl_work.specs.Asked.{unless_input};
 ghost use Rattle.dl_work.specs.Locate.{AddressesStop, IsFirstOther, WordsStop, are_addresses, asked_in_words, base_in};
-ghost use Rattle.dl_work.specs.Locate.{form_in, says_section};
+ghost use Rattle.dl_work.specs.Locate.{form_in, suits_file, suits_input};
 
+use crate::command::directory_said;
 use crate::stop::Stop;
-use dl_addr::{Asked, Form, Question, Style};
+use crate::unit_words::is_size;
+use dl_addr::{Asked, CompilationDirectories, Form, Question, Style};
 use dl_asked::AskedLines;
 use dl_cmd::{AddrWords, read_address, read_hex_address};
 use dl_look::CodeRanges;
@@ -94,11 +97,25 @@ pub fn asked_words<'a>(alloc: Global, words: &AddrWords<'a>) -> Result<AskedWord
     })
 }
 
-/// Whether they say something of a section on the input.
-pub fn says_section(words: &AddrWords<'_>) -> bool
-    ensures { result ≡ says_section (addr_words_made words.now) }
+/// Whether what they say beside the addresses suits a section on the input.
+pub fn suits_input(words: &AddrWords<'_>) -> bool
+    ensures { result ≡ suits_input (addr_words_made words.now) }
 {
-    words.big || words.line_str.is_some() || words.strings.is_some()
+    words.section.is_none()
+        && !words.units.version_5
+        && words.units.address_size.is_none()
+        && is_size(words.units.older)
+}
+
+/// Whether it suits an ELF file.
+pub fn suits_file(words: &AddrWords<'_>) -> bool
+    ensures { result ≡ suits_file (addr_words_made words.now) }
+{
+    !words.big
+        && words.line_str.is_none()
+        && words.strings.is_none()
+        && words.units.older.is_none()
+        && is_size(words.units.address_size)
 }
 
 /// What the line of an address says. A JSON object has the address, whether or not it is asked for.
@@ -122,6 +139,13 @@ pub fn part_name<'q>(words: &'q AddrWords<'_>) -> Option<&'q str>
     }
 }
 
+/// The compilation directory that they say.
+pub fn said_directory<'q>(words: &'q AddrWords<'_>) -> CompilationDirectories<'q>
+    ensures { (n : ℕ) → directory_by result n ≡ (addr_words_made words.entry.now).comp_dir }
+{
+    directory_said(words.comp_dir)
+}
+
 /// What is asked of a section, which is of an object file where it is named.
 pub fn question<'q>(
     words: &AddrWords<'_>,
@@ -129,10 +153,12 @@ pub fn question<'q>(
     base: u64,
     asked: &'q [Asked],
     code: Option<&'q CodeRanges>,
+    directories: CompilationDirectories<'q>,
 ) -> Question<'q>
     ensures asked { result.asked.now ≡ asked.entry.now }
     ensures base { result.base ≡ base }
     ensures code { result.code ≡ code.entry }
+    ensures directories { result.directories ≡ directories.entry }
     ensures form { result.style.form ≡ form_in (addr_words_made words.now) }
     ensures basenames { result.style.basenames ≡ words.now.basenames }
     ensures section { result.style.section ≡ section.entry }
@@ -141,6 +167,7 @@ pub fn question<'q>(
         asked,
         base,
         code,
+        directories,
         style: Style {
             form: form(words),
             basenames: words.basenames,

@@ -1,19 +1,22 @@
 //! What is asked of a line table.
-ghost use Rattle.std.specs.Prelude.{◌≡◌, ◌≤◌, ◌&&◌, ℕ, List};
+ghost use Rattle.std.specs.Prelude.{◌≡◌, ◌≤◌, ◌&&◌, ℕ, List, option_map};
 ghost use Rattle.std.specs.Option.{option_copied};
 ghost use Rattle.std.specs.Io.KnownBytes.{Consumes};
 ghost use Rattle.dl_run.specs.Commands.{strings_in};
 ghost use Rattle.dl_cmd.specs.Job.{request_made};
-ghost use Rattle.dl_work.specs.Asked.{Does, WithoutTable, answered, command_of, is_copy, looks_up, place_of};
+ghost use Rattle.dl_dirs.specs.Compilation.{directory_by};
+ghost use Rattle.dl_work.specs.Asked.{Does, WithoutTable, answered, command_asked, command_seen, command_of, is_copy, looks_up, place_of};
 ghost use Rattle.dl_work.specs.Asked.{sections_of};
 
+use crate::unit_words::{are_sizes, units_of};
 use dl_addr::{Found, Question, addr};
 use dl_cmd::{Job, read_address};
+use dl_dirs::CompilationDirectories;
 use dl_head::{Dialect, Older};
 use dl_look::Place;
 use dl_num::Order;
 use dl_open::Sections;
-use dl_run::{Options, RunFault, SECTION_LIMIT, Summary, check, copy, dump, find};
+use dl_run::{Options, RunFault, SECTION_LIMIT, Summary, check, copy, copy_to_5, dump, find};
 use std::alloc::Global;
 use std::io::{Read, Write};
 
@@ -47,6 +50,8 @@ pub enum Command<'a> {
     Find(Place),
     /// Write all units anew.
     Copy,
+    /// Write all units anew as units of version 5, which were compiled in this directory.
+    CopyTo5(Option<&'a str>),
     /// Print where addresses are in the source.
     Addr(Question<'a>),
 }
@@ -61,6 +66,16 @@ fn place(address: Option<&str>, op: u8) -> Option<Place>
     })
 }
 
+/// The compilation directory of all units, where it is said.
+pub fn directory_said(directory: Option<&str>) -> CompilationDirectories<'_>
+    ensures { (n : ℕ) → directory_by result n ≡ option_copied directory.entry }
+{
+    match directory {
+        Some(directory) => CompilationDirectories::Said(directory.as_bytes()),
+        None => CompilationDirectories::Unknown,
+    }
+}
+
 /// What `addr` answered, as the other commands answer.
 fn answered(found: Result<Found, RunFault>) -> Result<Summary, RunFault>
     ensures { result ≡ answered found }
@@ -73,10 +88,20 @@ fn answered(found: Result<Found, RunFault>) -> Result<Summary, RunFault>
 }
 
 impl<'a> Command<'a> {
-    /// What a job asks; None where its ADDRESS is no address, where it names a section of an object file without a
-    /// file, and of `addr`, which asks for many.
-    pub fn of(job: &Job<'_>) -> Option<Command<'a>>
-        ensures { result ≡ command_of (request_made job.now) }
+    /// What a job asks; None where its ADDRESS is no address or a size no size, where it names a section of an object
+    /// file without a file, and of `addr`, which asks for many.
+    pub fn of(job: &Job<'a>) -> Option<Command<'a>>
+        ensures { option_map command_seen result ≡ command_of (request_made job.now) }
+    {
+        if !are_sizes(units_of(job)) {
+            return None;
+        }
+        Command::asked(job)
+    }
+
+    /// The same, whatever the sizes are.
+    fn asked(job: &Job<'a>) -> Option<Command<'a>>
+        ensures { option_map command_seen result ≡ command_asked (request_made job.now) }
     {
         match job {
             Job::Dump { .. } => Some(Command::Dump),
@@ -87,6 +112,11 @@ impl<'a> Command<'a> {
                 ..
             } => None,
             Job::Find { address, op, .. } => Some(Command::Find(place(*address, *op)?)),
+            Job::Copy {
+                to_5: true,
+                comp_dir,
+                ..
+            } => Some(Command::CopyTo5(*comp_dir)),
             Job::Copy { .. } => Some(Command::Copy),
             Job::Addr(_) => None,
         }
@@ -98,7 +128,7 @@ impl<'a> Command<'a> {
     {
         match self {
             Command::Dump | Command::Find(_) | Command::Addr(_) => Sections::LinesAndTexts,
-            Command::Check | Command::Copy => Sections::Lines,
+            Command::Check | Command::Copy | Command::CopyTo5(_) => Sections::Lines,
         }
     }
 
@@ -114,7 +144,7 @@ impl<'a> Command<'a> {
     pub fn loses(self, is_object: bool) -> bool
         ensures { result ≡ (is_copy self.entry && is_object) }
     {
-        matches!(self, Command::Copy) && is_object
+        matches!(self, Command::Copy | Command::CopyTo5(_)) && is_object
     }
 
     /// Says what there is to say where there is no line table: of `addr`, that each address has no answer, as over a
@@ -147,6 +177,9 @@ impl<'a> Command<'a> {
             Command::Check => check(alloc, input, output, options),
             Command::Find(place) => find(alloc, input, output, place, options),
             Command::Copy => copy(alloc, input, output, options),
+            Command::CopyTo5(directory) => {
+                copy_to_5(alloc, input, output, directory_said(directory), options)
+            }
             Command::Addr(question) => answered(addr(alloc, input, output, &question, options)),
         }
     }

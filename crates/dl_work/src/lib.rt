@@ -4,16 +4,19 @@
 mod addr_words;
 mod code;
 mod command;
+mod compiled;
 mod debug_file;
 mod located;
 mod locating;
 mod over_file;
 mod over_input;
 mod stop;
+mod unit_words;
 mod working;
 
 pub use debug_file::with_debug_file;
 pub use located::Located;
 pub use locating::locate;
 pub use stop::Stop;
+pub use unit_words::file_units;
 pub use working::{looked_into, work};

@@ -6,20 +6,27 @@ ghost use Rattle.dl_elf.specs.Source.{ForBytes};
 ghost use Rattle.dl_file.specs.Code.{IsCode};
 ghost use Rattle.dl_file.specs.declared.code.Code as file_code;
 ghost use Rattle.dl_cmd.specs.Job.{addr_words_made};
-ghost use Rattle.dl_open.specs.Code.{AreLive, RefusesCode};
+ghost use Rattle.dl_dirs.specs.Directories.{directory_at};
+ghost use Rattle.dl_open.specs.Code.{AreLive};
 ghost use Rattle.dl_work.specs.Locate.{HasAsked, InputStops, LocatesFor, LocatesInFile, LocatesInSection};
-ghost use Rattle.dl_work.specs.Locate.{Unanswered};
+ghost use Rattle.dl_work.specs.Compiled.{AreFound};
+ghost use Rattle.dl_work.specs.Locate.{RefusesOpening, Unanswered};
 ghost use Rattle.dl_work.specs.Understood.{IsUnderstood};
 
-use crate::addr_words::{AskedWords, INPUT, asked_words, part_name, question, says_section};
+use crate::addr_words::{
+    AskedWords, INPUT, asked_words, part_name, question, said_directory, suits_file, suits_input,
+};
 use crate::code::{everywhere, live_in};
 use crate::command::Command;
+use crate::compiled::{compiled_in, directories_for};
 use crate::located::Located;
 use crate::over_file::on_file;
 use crate::over_input::{Section, on_input};
 use crate::stop::{Stop, over_file};
+use crate::unit_words::units_of_file;
 use dl_asked::{AskedLines, read_asked};
 use dl_cmd::AddrWords;
+use dl_dirs::Directories;
 use dl_look::CodeRanges;
 use dl_open::{FileFault, FileSource, code_of, open_file};
 use std::alloc::Global;
@@ -58,7 +65,7 @@ fn in_section<'a, F: FileSource, R: Read, W: Write>(
         × LocatesInSection (F.held files.now) (addr_words_made words.now) bytes (R.remaining input.new)
         (W.contents output.old) (W.contents output.new) result }
 {
-    if words.section.is_some() {
+    if !suits_input(words) {
         return Err(Stop::NotUnderstood);
     }
     let AskedWords { base, lines } = asked_words(alloc, words)?;
@@ -67,30 +74,42 @@ fn in_section<'a, F: FileSource, R: Read, W: Write>(
     }
     let section = Section {
         big: words.big,
+        older: words.units.older,
         line_str: words.line_str,
         strings: words.strings,
     };
     let part = part_name(words);
-    let command = Command::Addr(question(words, part, base, lines.asked.as_slice(), everywhere()));
+    let command = Command::Addr(question(
+        words,
+        part,
+        base,
+        lines.asked.as_slice(),
+        everywhere(),
+        said_directory(words),
+    ));
     let answer = on_input(alloc, files, section, command, input, output);
     Located::by_answer(answer, None)
 }
 
-/// The file at a path, open, and where it has code.
+/// The file at a path, open, where it has code, and the directories in which its units were compiled.
 fn open_with_code<F: FileSource>(
     alloc: Global,
+    words: &AddrWords<'_>,
     files: &F,
     path: &str,
-) -> Result<(F::File, Option<CodeRanges>), FileFault>
+) -> Result<(F::File, Option<CodeRanges>, Directories), FileFault>
     ensures bytes { IfOk result (λ r. F.File.all_bytes r.0 ≡ F.held files.now path.now) }
     ensures reads { IfOk result (λ r. (e : Error) → F.File.fails_with r.0 e → F.fails_with files.now path.now e) }
     ensures code { ForBytes (F.held files.now path.now) (λ f. MatchResult result
         (λ r. (code : file_code.Code) × IsCode f (Ok code) × AreLive r.1 code)
-        (RefusesCode (F.fails_with files.now path.now) f)) }
+        (RefusesOpening (addr_words_made words.now) (F.fails_with files.now path.now) f)) }
+    ensures directories { ForBytes (F.held files.now path.now) (λ f. IfOk result
+        (λ r. AreFound (addr_words_made words.now) f (directory_at r.2))) }
 {
     let file = open_file(files, path)?;
     let code = code_of(alloc, &file)?;
-    Ok((file, code))
+    let directories = directories_for(alloc, words, &file)?;
+    Ok((file, code, directories))
 }
 
 /// Says of each address that it has no answer, where the addresses can be had.
@@ -114,6 +133,7 @@ fn unanswered<'a, R: Read, W: Write>(
             base,
             lines.asked.as_slice(),
             everywhere(),
+            said_directory(words),
         ));
         command.without_table(alloc, output);
     }
@@ -132,11 +152,11 @@ fn in_file<'a, F: FileSource, R: Read, W: Write>(
         × LocatesInFile (F.held files.now) (F.fails_with files.now) path.entry.now (addr_words_made words.now) bytes
         (R.remaining input.new) (W.contents output.old) (W.contents output.new) result }
 {
-    if says_section(words) {
+    if !suits_file(words) {
         return Err(Stop::NotUnderstood);
     }
     let understood = asked_words(alloc, words)?;
-    let (file, code) = match open_with_code(alloc, files, path) {
+    let (file, code, directories) = match open_with_code(alloc, words, files, path) {
         Ok(opened) => opened,
         Err(fault) => {
             unanswered(alloc, words, understood, input, output);
@@ -152,8 +172,10 @@ fn in_file<'a, F: FileSource, R: Read, W: Write>(
         base,
         lines.asked.as_slice(),
         live,
+        compiled_in(words, &directories),
     ));
-    let answer = on_file(alloc, path, &file, words.section, command, output);
+    let units = units_of_file(words.units);
+    let answer = on_file(alloc, path, &file, units, words.section, command, output);
     Located::by_answer(over_file(answer), lines.no_address)
 }
 
@@ -162,7 +184,7 @@ fn in_file<'a, F: FileSource, R: Read, W: Write>(
 ///
 /// The addresses are among the words. Where there are none, they are read from the input, once the file has
 /// shown where it has code; a section on the input wants one among the words, and no section of an object file. Beside
-/// an ELF file the words say neither an order nor string sections. In a linked file that has code the sequences count that begin in it,
+/// an ELF file the words say neither an order nor string sections, nor the size of an address on the input. In a linked file that has code the sequences count that begin in it,
 /// unless all are asked for. Where the file can't be read for its line table, each address has no answer, and its
 /// fault is told.
 ///

@@ -5,13 +5,15 @@ ghost use Rattle.dl_elf.specs.Source.{ForBytes};
 ghost use Rattle.dl_file.specs.LineTable.{GivesLine, GivesTable, LineTable, Plain};
 ghost use Rattle.dl_run.specs.Commands.{strings_in};
 ghost use Rattle.dl_open.specs.Tables.{IsWhole, file_dialect};
+ghost use Rattle.dl_open.specs.declared.dialect.FileUnits.{FileUnits};
 ghost use Rattle.dl_work.specs.Tables.{OnFile, OnFound, OnLines, OnTable, RunsOn};
 
 use crate::command::Command;
 use dl_elf::ReadAt;
 use dl_file::{LineFile, LineReader};
 use dl_open::{
-    FileFault, FileStop, Part, StringSections, file_dialect, kept_bytes, open_table, part_of,
+    FileFault, FileStop, FileUnits, Part, StringSections, file_dialect, kept_bytes, open_table,
+    part_of,
 };
 use dl_run::{Options, SECTION_LIMIT, Summary};
 use std::alloc::Global;
@@ -27,8 +29,8 @@ fn on_section<'p, S: ReadAt, W: Write>(
     output: &mut W,
 ) -> Result<Summary, FileStop<'p>>
     requires { options.now.limit ≡ SECTION_LIMIT }
-    ensures { (t : LineTable) → GivesLine S.all_bytes line.old t.line → options.now.dialect ≡ file_dialect t
-        → IsWhole t.line_str t.str (strings_in options.now) → RunsOn path.entry.now command.entry t
+    ensures { (units : FileUnits) (t : LineTable) → GivesLine S.all_bytes line.old t.line → options.now.dialect ≡ file_dialect units t
+        → IsWhole t.line_str t.str (strings_in options.now) → RunsOn units path.entry.now command.entry t
         (W.contents output.old) (W.contents output.new) result }
 {
     let stream = line.stream_name();
@@ -48,8 +50,8 @@ fn on_kept<'p, W: Write>(
     output: &mut W,
 ) -> Result<Summary, FileStop<'p>>
     requires { options.now.limit ≡ SECTION_LIMIT }
-    ensures { (t : LineTable) → t.line ≡ Plain bytes.now → options.now.dialect ≡ file_dialect t
-        → IsWhole t.line_str t.str (strings_in options.now) → RunsOn path.entry.now command.entry t
+    ensures { (units : FileUnits) (t : LineTable) → t.line ≡ Plain bytes.now → options.now.dialect ≡ file_dialect units t
+        → IsWhole t.line_str t.str (strings_in options.now) → RunsOn units path.entry.now command.entry t
         (W.contents output.old) (W.contents output.new) result }
 {
     let mut input = bytes;
@@ -70,8 +72,8 @@ fn on_lines<'p, S: ReadAt, W: Write>(
     output: &mut W,
 ) -> Result<Summary, FileStop<'p>>
     requires { options.now.limit ≡ SECTION_LIMIT }
-    ensures { (t : LineTable) → GivesLine S.all_bytes line.old t.line → options.now.dialect ≡ file_dialect t
-        → IsWhole t.line_str t.str (strings_in options.now) → OnLines path.entry.now command.entry t
+    ensures { (units : FileUnits) (t : LineTable) → GivesLine S.all_bytes line.old t.line → options.now.dialect ≡ file_dialect units t
+        → IsWhole t.line_str t.str (strings_in options.now) → OnLines units path.entry.now command.entry t
         (option_copied part.entry) (W.contents output.old) (W.contents output.new) result }
 {
     let Some(part) = part else {
@@ -91,11 +93,12 @@ fn on_table<'p, S: ReadAt, W: Write>(
     alloc: Global,
     path: &'p str,
     command: Command<'_>,
+    units: FileUnits,
     table: LineFile<'_, S>,
     part: Option<&Part>,
     output: &mut W,
 ) -> Result<Summary, FileStop<'p>>
-    ensures { (t : LineTable) → GivesTable S.all_bytes table.entry t → OnTable path.entry.now command.entry t
+    ensures { (t : LineTable) → GivesTable S.all_bytes table.entry t → OnTable units path.entry.now command.entry t
         (option_copied part.entry) (W.contents output.old) (W.contents output.new) result }
 {
     let LineFile {
@@ -121,7 +124,7 @@ fn on_table<'p, S: ReadAt, W: Write>(
             return Err(stop);
         }
     };
-    let options = strings.options(file_dialect(order, class));
+    let options = strings.options(file_dialect(order, class, units));
     on_lines(alloc, path, command, part, &mut line, &options, output)
 }
 
@@ -131,20 +134,21 @@ fn on_found<'p, S: ReadAt, W: Write>(
     alloc: Global,
     path: &'p str,
     file: &S,
+    units: FileUnits,
     section: Option<&'p str>,
     command: Command<'_>,
     table: LineFile<'_, S>,
     output: &mut W,
 ) -> Result<Summary, FileStop<'p>>
     ensures { ForBytes (S.all_bytes file.now) (λ f. (t : LineTable) → GivesTable S.all_bytes table.entry t
-        → OnFound (S.fails_with file.now) path.entry.now (option_map (λ s. s.now) section.entry) command.entry f t
+        → OnFound units (S.fails_with file.now) path.entry.now (option_map (λ s. s.now) section.entry) command.entry f t
         (W.contents output.old) (W.contents output.new) result) }
 {
     if !command.looks_up() {
-        return on_table(alloc, path, command, table, None, output);
+        return on_table(alloc, path, command, units, table, None, output);
     }
     match part_of(alloc, path, file, table.is_object, section) {
-        Ok(part) => on_table(alloc, path, command, table, part.as_ref(), output),
+        Ok(part) => on_table(alloc, path, command, units, table, part.as_ref(), output),
         Err(stop) => {
             command.without_table(alloc, output);
             Err(stop)
@@ -159,16 +163,17 @@ pub fn on_file<'p, S: ReadAt, W: Write>(
     alloc: Global,
     path: &'p str,
     file: &S,
+    units: FileUnits,
     section: Option<&'p str>,
     command: Command<'_>,
     output: &mut W,
 ) -> Result<Summary, FileStop<'p>>
-    ensures { ForBytes (S.all_bytes file.now) (λ f. OnFile (S.fails_with file.now) path.entry.now
+    ensures { ForBytes (S.all_bytes file.now) (λ f. OnFile units (S.fails_with file.now) path.entry.now
         (option_map (λ s. s.now) section.entry) command.entry f (W.contents output.old)
         (W.contents output.new) result) }
 {
-    match open_table(alloc, path, file, command.sections()) {
-        Ok(table) => on_found(alloc, path, file, section, command, table, output),
+    match open_table(alloc, path, file, units, command.sections()) {
+        Ok(table) => on_found(alloc, path, file, units, section, command, table, output),
         Err(stop) => {
             command.without_table(alloc, output);
             Err(stop)

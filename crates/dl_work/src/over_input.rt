@@ -1,12 +1,12 @@
 //! Commands over a section that comes on the input.
 ghost use Rattle.std.specs.Prelude.{◌≡◌, ℕ, List};
 ghost use Rattle.std.specs.Io.KnownBytes.{Consumes};
-ghost use Rattle.dl_work.specs.Asked.{dialect_of};
 ghost use Rattle.dl_work.specs.Held.{section_seen};
 ghost use Rattle.dl_work.specs.Work.{OnInput, stopped};
 
 use crate::command::Command;
 use crate::stop::Stop;
+use crate::unit_words::older_by;
 use dl_head::Dialect;
 use dl_num::Order;
 use dl_open::{FileSource, StringSections};
@@ -18,16 +18,27 @@ use std::io::{Read, Write};
 #[derive(Clone, Copy)]
 pub struct Section<'a> {
     pub big: bool,
+    /// The size of an address in units of versions 2 to 4; without it they aren't read.
+    pub older: Option<&'a str>,
     pub line_str: Option<&'a str>,
     pub strings: Option<&'a str>,
 }
 
-/// What is read of the section: units of version 5 alone, in the order that the words say.
-fn dialect(big: bool) -> Dialect
-    ensures { result ≡ dialect_of big }
-{
-    let order = if big { Order::Big } else { Order::Little };
-    Dialect::version_5(order)
+impl Section<'_> {
+    ghost use Rattle.std.specs.Prelude.{◌≡◌};
+    ghost use Rattle.dl_work.specs.Asked.{dialect_of};
+    ghost use Rattle.dl_work.specs.Held.{section_seen};
+
+    /// What is read of the section: units of version 5, in the order that the words say, and those of versions 2 to 4
+    /// where they say the size of their addresses.
+    fn dialect(self) -> Dialect
+        ensures { result ≡ dialect_of (section_seen self.entry) }
+    {
+        Dialect {
+            order: if self.big { Order::Big } else { Order::Little },
+            older: older_by(self.older),
+        }
+    }
 }
 
 /// A command's answer, its fault being the reason to stop.
@@ -55,7 +66,7 @@ pub fn on_input<'p, F: FileSource, R: Read, W: Write>(
 {
     match StringSections::of_files(alloc, files, section.line_str, section.strings) {
         Ok(strings) => {
-            let options = strings.options(dialect(section.big));
+            let options = strings.options(section.dialect());
             stopped(command.run(alloc, input, output, &options))
         }
         Err(fault) => Err(Stop::Run(fault)),

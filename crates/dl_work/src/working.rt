@@ -13,8 +13,9 @@ use crate::command::Command;
 use crate::over_file::on_file;
 use crate::over_input::{Section, on_input};
 use crate::stop::{Stop, over_file};
+use crate::unit_words::file_units;
 use dl_cmd::Job;
-use dl_open::{FileSource, FileStop, open_file};
+use dl_open::{FileSource, FileStop, FileUnits, open_file};
 use dl_run::Summary;
 use std::alloc::Global;
 use std::io::{Read, Write};
@@ -61,27 +62,32 @@ fn section<'a>(job: &Job<'a>) -> Section<'a>
     match job {
         Job::Dump {
             big,
+            units,
             line_str,
             strings,
             ..
         }
         | Job::Find {
             big,
+            units,
             line_str,
             strings,
             ..
         } => Section {
             big: *big,
+            older: units.older,
             line_str: *line_str,
             strings: *strings,
         },
-        Job::Check { big, .. } | Job::Copy { big, .. } => Section {
+        Job::Check { big, units, .. } | Job::Copy { big, units, .. } => Section {
             big: *big,
+            older: units.older,
             line_str: None,
             strings: None,
         },
         Job::Addr(words) => Section {
             big: words.big,
+            older: words.units.older,
             line_str: words.line_str,
             strings: words.strings,
         },
@@ -93,15 +99,16 @@ fn on_named<'p, F: FileSource, W: Write>(
     alloc: Global,
     files: &F,
     path: &'p str,
+    units: FileUnits,
     section: Option<&'p str>,
     command: Command<'_>,
     output: &mut W,
 ) -> Result<Summary, FileStop<'p>>
-    ensures { ForBytes (F.held files.now path.entry.now) (λ f. OnFile (F.fails_with files.now path.entry.now)
+    ensures { ForBytes (F.held files.now path.entry.now) (λ f. OnFile units (F.fails_with files.now path.entry.now)
         path.entry.now (option_map (λ s. s.now) section.entry) command.entry f (W.contents output.old) (W.contents output.new) result) }
 {
     match open_file(files, path) {
-        Ok(file) => on_file(alloc, path, &file, section, command, output),
+        Ok(file) => on_file(alloc, path, &file, units, section, command, output),
         Err(fault) => {
             command.without_table(alloc, output);
             Err(FileStop::File { path, fault })
@@ -116,7 +123,7 @@ fn on_named<'p, F: FileSource, W: Write>(
 /// by the commands that look into them; else the files of `--line-str` and `--str` are read, in this
 /// order. Then the command works through the section.
 ///
-/// `NotUnderstood` where there is no job, ADDRESS is no address, a section of an object file is named without a file,
+/// `NotUnderstood` where there is no job, ADDRESS is no address, a size is no size, a section of an object file is named without a file,
 /// or the job is `addr`, which is that of `locate`; then, and at each fault before the command, nothing is written. Of the input nothing is read
 /// then, nor where a file is named.
 pub fn work<'a, F: FileSource, R: Read, W: Write>(
@@ -138,7 +145,15 @@ pub fn work<'a, F: FileSource, R: Read, W: Write>(
         return Err(Stop::NotUnderstood);
     };
     match file(&job) {
-        Some(path) => over_file(on_named(alloc, files, path, part_name(&job), command, output)),
+        Some(path) => over_file(on_named(
+            alloc,
+            files,
+            path,
+            file_units(&job),
+            part_name(&job),
+            command,
+            output,
+        )),
         None => on_input(alloc, files, section(&job), command, input, output),
     }
 }

@@ -4,9 +4,9 @@
 use dl_addr::Found;
 use dl_cmd::{Job, read_job, word_status};
 use dl_elf::ReadAt;
-use dl_open::{FileSource, units_not_read};
+use dl_open::{FileSource, FileUnits, units_not_read};
 use dl_run::{RunFault, read_strings};
-use dl_work::{Stop, locate, looked_into, with_debug_file, work};
+use dl_work::{Stop, file_units, locate, looked_into, with_debug_file, work};
 use std::alloc::{AllocError, Global};
 use std::fs::File;
 use std::io::{ErrorKind, Write};
@@ -124,11 +124,11 @@ fn read_words(rt: &HostRuntime) -> Result<Vec<String>, Ending<'static>> {
 }
 
 /// Says of the file at this path which units aren't read, where there is one.
-fn tell_not_read(rt: &HostRuntime, path: Option<&str>) {
+fn tell_not_read(rt: &HostRuntime, path: Option<&str>, read: FileUnits) {
     let Some(path) = path else {
         return;
     };
-    if let Some(units) = units_not_read(rt.alloc(), &System { rt }, path) {
+    if let Some(units) = units_not_read(rt.alloc(), &System { rt }, path, read) {
         let _ = units.write_line(&mut rt.stderr());
     }
 }
@@ -140,10 +140,13 @@ fn run_words<'a>(rt: &HostRuntime, words: &'a [&'a str]) -> Result<u8, Ending<'a
     let files = System { rt };
     let (alloc, input, output) = (rt.alloc(), &mut rt.stdin(), &mut rt.stdout());
     let path = job.as_ref().and_then(|job| looked_into(job));
+    let read = job
+        .as_ref()
+        .map_or(FileUnits::ByClass, |job| file_units(job));
     if let Some(Job::Addr(words)) = &job {
         let located = locate(alloc, words, &files, input, output)?;
         if located.found == Found::NotAll {
-            tell_not_read(rt, path);
+            tell_not_read(rt, path, read);
         }
         return match located.told()? {
             Found::All => Ok(0),
@@ -154,7 +157,7 @@ fn run_words<'a>(rt: &HostRuntime, words: &'a [&'a str]) -> Result<u8, Ending<'a
         Ok(_) => Ok(0),
         Err(stop) => {
             if matches!(stop, Stop::Run(RunFault::NotFound)) {
-                tell_not_read(rt, path);
+                tell_not_read(rt, path, read);
             }
             Err(Ending::Stop(stop))
         }

@@ -12,6 +12,8 @@ mod growths;
 #[cfg(test)]
 mod limits;
 #[cfg(test)]
+mod newer;
+#[cfg(test)]
 mod passing;
 #[cfg(test)]
 mod reading;

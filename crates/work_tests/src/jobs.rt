@@ -1,7 +1,7 @@
 //! What stops jobs over a file whose reads fail.
 use crate::files::{STRIPPED, TWO_UNITS, UNIT, UNITS, WITH_STRINGS};
 use crate::shelf::Shelf;
-use dl_cmd::Job;
+use dl_cmd::{Job, UnitWords};
 use dl_open::FileFault;
 use dl_work::{Stop, with_debug_file, work};
 use std::alloc::Global;
@@ -17,6 +17,13 @@ pub enum Command {
     Copy,
 }
 
+/// Nothing is said of units of versions 2 to 4.
+pub const NOTHING_OF_UNITS: UnitWords<'static> = UnitWords {
+    older: None,
+    address_size: None,
+    version_5: false,
+};
+
 /// A command's job over the file `elf`.
 fn job_of(command: Command) -> Job<'static> {
     let file = Some("elf");
@@ -24,20 +31,32 @@ fn job_of(command: Command) -> Job<'static> {
         Command::Dump => Job::Dump {
             file,
             big: false,
+            units: NOTHING_OF_UNITS,
             line_str: None,
             strings: None,
         },
-        Command::Check => Job::Check { file, big: false },
+        Command::Check => Job::Check {
+            file,
+            big: false,
+            units: NOTHING_OF_UNITS,
+        },
         Command::Find => Job::Find {
             file,
             big: false,
+            units: NOTHING_OF_UNITS,
             address: Some("4096"),
             op: 1,
             section: None,
             line_str: None,
             strings: None,
         },
-        Command::Copy => Job::Copy { file, big: false },
+        Command::Copy => Job::Copy {
+            file,
+            big: false,
+            units: NOTHING_OF_UNITS,
+            to_5: false,
+            comp_dir: None,
+        },
     }
 }
 

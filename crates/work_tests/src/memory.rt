@@ -1,6 +1,6 @@
 //! Jobs and addresses for which there is no memory.
 use crate::files::WITH_STRINGS;
-use crate::jobs::{Command, told, told_of_stop};
+use crate::jobs::{Command, NOTHING_OF_UNITS, told, told_of_stop};
 use crate::shelf::Shelf;
 use dl_cmd::AddrWords;
 use dl_work::locate;
@@ -66,6 +66,8 @@ fn words(alloc: Global, addresses: &[&'static str]) -> Result<AddrWords<'static>
         all: false,
         section: None,
         big: false,
+        units: NOTHING_OF_UNITS,
+        comp_dir: None,
         line_str: None,
         strings: None,
     })

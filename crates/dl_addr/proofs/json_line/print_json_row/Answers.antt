@@ -13,7 +13,7 @@ returns-in_err-print_path_member g c start text h =
     let p = err_from_is_err_and c.from_residual.result c.from_residual.ensures.1 in
     let row = c.args.row.now in
     let path = codes ",\"path\":" ++ named_text Json (path_kept c.args.path) in
-    let rest = json_is_stmt row.is_stmt ++ ((codes ",\"unit\":\"0x" ++ hexadecimal c.args.path.file.now.unit) ++ codes "\"") in
+    let rest = json_is_stmt row.is_stmt ++ ((codes ",\"unit\":\"0x" ++ hexadecimal c.args.path.file.now.unit.offset) ++ codes "\"") in
     let old = g.W.Write.contents c.args.output.now in
     let new = g.W.Write.contents c.print_path_member.new.output in
     rw (
@@ -28,7 +28,7 @@ returns-in_err-print_position g c start text h =
     c.from_residual-in_err-print_position.ensures.1 in
     let row = c.args.row.now in
     let path = codes ",\"path\":" ++ named_text Json (path_kept c.args.path) in
-    let rest = json_is_stmt row.is_stmt ++ ((codes ",\"unit\":\"0x" ++ hexadecimal c.args.path.file.now.unit) ++ codes "\"") in
+    let rest = json_is_stmt row.is_stmt ++ ((codes ",\"unit\":\"0x" ++ hexadecimal c.args.path.file.now.unit.offset) ++ codes "\"") in
     let old = g.W.Write.contents c.args.output.now in
     let mid = g.W.Write.contents c.print_path_member.new.output in
     let new = g.W.Write.contents c.print_position.new.output in

@@ -10,7 +10,7 @@ use Rattle.dl_addr.specs.declared.style.Form.TheVariants.{Location, AddressAndLo
 use Rattle.dl_path.specs.Paths.{slash_after}
 use Rattle.dl_addr.specs.Printing.{inner_text}
 use Rattle.dl_path.specs.Shown.{shown}
-use Rattle.dl_addr.specs.Texts.{path_named, text_at, text_or_none}
+use Rattle.dl_addr.specs.Texts.{path_in_table, text_at, text_or_none}
 use Rattle.dl_path.proofs.FrontLemmas.{json_at_slash, json_nothing}
 use Rattle.dl_path.proofs.PathLemmas.{parts_apart}
 use Rattle.dl_path.proofs.PrintLemmas.{loses_front, loses_same, loses_then, more_then, prints_same, prints_then}
@@ -27,7 +27,7 @@ abbrev directory_of : KeptPath → List ℕ
 directory_of p = text_or_none p.texts.now p.file.now.directory
 
 apart : (form : Form) (p : KeptPath) (name : List ℕ)
-    → inner_text form (path_named p name)
+    → inner_text form (path_in_table p name)
     ≡ (folder form (base_of p) ++ folder form (directory_of p)) ++ inner_text form name
 apart Location p name = parts_apart shown refl shown_at_slash (base_of p) (directory_of p) name
 apart AddressAndLocation p name = parts_apart shown refl shown_at_slash (base_of p) (directory_of p) name
@@ -39,7 +39,7 @@ apart_by : (form : Form) (p : KeptPath) (name : List ℕ) (base directory : Opti
     → base ≡ option_and_then (text_at p.texts.now) p.file.now.base
     → directory ≡ option_and_then (text_at p.texts.now) p.file.now.directory
     → (folder form (unwrap_or base []) ++ folder form (unwrap_or directory [])) ++ inner_text form name
-    ≡ inner_text form (path_named p name)
+    ≡ inner_text form (path_in_table p name)
 apart_by form p name base directory e e' =
     ap₂ (λ (x y : Option (List ℕ)). (folder form (unwrap_or x []) ++ folder form (unwrap_or y [])) ++ inner_text form name)
     e e'
@@ -58,7 +58,7 @@ returns-in_err-print_directory g c start text h =
     let n = inner_text form name in
     let old = g.W.Write.contents c.args.output.now in
     let new = g.W.Write.contents c.print_directory.new.output in
-    rw (e.1, e.2) (loses_same old new c.args.printer.now ((a ++ b) ++ n) (inner_text form (path_named p name)) _
+    rw (e.1, e.2) (loses_same old new c.args.printer.now ((a ++ b) ++ n) (inner_text form (path_in_table p name)) _
     (apart_by form p name base directory c.text.ensures refl)
     (loses_front old new c.args.printer.now (a ++ b) n _
     (loses_front old new c.args.printer.now a b _ c.in_err-print_directory.ensures)) start text h)
@@ -78,7 +78,7 @@ returns-in_err-print_directory-2 g c start text h =
     let old = g.W.Write.contents c.args.output.now in
     let mid = g.W.Write.contents c.print_directory.new.output in
     let new = g.W.Write.contents c.print_directory-2.new.output in
-    rw (e.1, e.2) (loses_same old new c.args.printer.now ((a ++ b) ++ n) (inner_text form (path_named p name)) _
+    rw (e.1, e.2) (loses_same old new c.args.printer.now ((a ++ b) ++ n) (inner_text form (path_in_table p name)) _
     (apart_by form p name base directory c.text.ensures c.text-2.ensures)
     (loses_front old new c.args.printer.now (a ++ b) n _
     (loses_then old mid new c.args.printer.now c.print_directory.new.printer a b _ c.in_ok-print_directory.ensures
@@ -98,7 +98,7 @@ returns g c =
     let mid = g.W.Write.contents c.print_directory.new.output in
     let between = g.W.Write.contents c.print_directory-2.new.output in
     let new = g.W.Write.contents c.print_text.new.output in
-    prints_same old new c.args.printer.now c.print_text.new.printer ((a ++ b) ++ n) (inner_text form (path_named p name))
+    prints_same old new c.args.printer.now c.print_text.new.printer ((a ++ b) ++ n) (inner_text form (path_in_table p name))
     c.print_text.result (apart_by form p name base directory c.text.ensures c.text-2.ensures)
     (prints_then old between new c.args.printer.now c.print_directory-2.new.printer c.print_text.new.printer (a ++ b) n
     c.print_text.result

@@ -14,7 +14,7 @@ pub returns-in_err-print_json_row-in-Json : goal.returns-in_err-print_json_row-i
 returns-in_err-print_json_row-in-Json g c =
     let p = err_from_is_err_and c.from_residual.result c.from_residual.ensures.1 in
     let path = path_kept c.args.path in
-    let unit = c.args.path.file.now.unit in
+    let unit = c.args.path.file.now.unit.offset in
     let row = c.args.row.now in
     let old = g.W.Write.contents c.args.output.now in
     let new = g.W.Write.contents c.print_json_row.new.output in
@@ -26,7 +26,7 @@ returns-in_err-print_json_row-in-Json g c =
 pub returns-in_ok-print_json_row-in-Json : goal.returns-in_ok-print_json_row-in-Json
 returns-in_ok-print_json_row-in-Json g c =
     let path = path_kept c.args.path in
-    let unit = c.args.path.file.now.unit in
+    let unit = c.args.path.file.now.unit.offset in
     let row = c.args.row.now in
     let old = g.W.Write.contents c.args.output.now in
     let mid = g.W.Write.contents c.print_json_row.new.output in

@@ -14,6 +14,6 @@ returns-clause-rule c =
 pub returns-clause-excludes : goal.returns-clause-excludes
 returns-clause-excludes c =
     let one = excludes_more c.in_ok-file.field-0 c.in_ok-conflicts_with.field-0 _ (codes "big"
-    ∷ []) c.in_ok-conflicts_with.ensures c.in_ok-file.ensures.excludes in
-    Excludes-one c.in_ok-conflicts_with.field-0 _ (codes "big" ∷ codes "line-str" ∷ []) c.conflicts_with-2.result
+    ∷ codes "older" ∷ []) c.in_ok-conflicts_with.ensures c.in_ok-file.ensures.excludes in
+    Excludes-one c.in_ok-conflicts_with.field-0 _ (codes "big" ∷ codes "older" ∷ codes "line-str" ∷ []) c.conflicts_with-2.result
     c.conflicts_with-2.ensures one

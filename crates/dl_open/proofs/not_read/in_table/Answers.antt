@@ -15,5 +15,5 @@ returns g c t given =
       left,
       reader_known {S = g.row.S.Denot} g.S.ReadAt.all_bytes c.args.table.line t.line left read given.line consumes,
       subst (λ (d : Dialect). PassesOver d SECTION_LIMIT read left c.passed_over.result)
-          (c.file_dialect.ensures ∙ ap₂ class_dialect given.order given.class) passes,
+          (c.file_dialect.ensures ∙ ap₂ (class_dialect c.args.units) given.order given.class) passes,
     )

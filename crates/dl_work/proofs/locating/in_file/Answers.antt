@@ -8,16 +8,16 @@ use Rattle.dl_open.specs.declared.stop.FileStop.TheVariants as at
 use Rattle.dl_work.specs.declared.command.Command.TheVariants.{Addr}
 use Rattle.dl_work.specs.Located.{located}
 use Rattle.dl_work.proofs.LocateLemmas.{file_done, file_refused, file_stops, input_stops}
-use Rattle.dl_work.proofs.TableLemmas.{on_file_weaker}
+use Rattle.dl_work.proofs.TableLemmas.{on_file_as}
 use Rattle.dl_work.proofs.locating.in_file.Goals as goal
 
-pub returns-then-says_section : goal.returns-then-says_section
-returns-then-says_section g c = (
+pub returns-then-not-suits_file : goal.returns-then-not-suits_file
+returns-then-not-suits_file g c = (
   [],
   Consumes-nil _,
   file_stops (g.F.FileSource.held c.args.files.now) (g.F.FileSource.fails_with c.args.files.now) c.args.path.now
       (addr_words_made c.args.words.now) _ _ _ _ refl (inr (
-        sym c.says_section.ensures ∙ c.if-says_section.true,
+        sym c.suits_file.ensures ∙ c.if-not-suits_file.true,
         refl,
       )),
 )
@@ -41,7 +41,7 @@ returns-in-Err g c =
       file_refused (g.F.FileSource.held c.args.files.now) (g.F.FileSource.fails_with c.args.files.now) c.args.path.now
           (addr_words_made c.args.words.now) c.in_ok-understood.understood e.0 _ _ _ _
           (at.File c.args.path c.in-Err.fault) c.in-Err.fault
-          (sym c.says_section.ensures ∙ c.if-says_section.false)
+          (sym c.suits_file.ensures ∙ c.if-not-suits_file.false)
           (record { base = told.base; asked = told.asked; understood = told.understood; no_lines = told.no_lines }) refl
           c.in-Err.ensures.code (refl, refl) e.2,
     )
@@ -66,15 +66,16 @@ returns g c =
       e.0,
       e.1,
       file_done (g.F.FileSource.held c.args.files.now) (g.F.FileSource.fails_with c.args.files.now) c.args.path.now
-          (addr_words_made c.args.words.now) c.in-Ok.opened.1 _ _ _ e.0 _ _ _ c.in_ok-lines.lines c.question.result
-          c.on_file-answer.result _ (sym c.says_section.ensures ∙ c.if-says_section.false) told.asked
+          (addr_words_made c.args.words.now) c.in-Ok.opened.1 _ _ _ e.0 _ _ _ c.in_ok-lines.lines c.compiled_in.result c.question.result
+          c.on_file-answer.result _ (sym c.suits_file.ensures ∙ c.if-not-suits_file.false) told.asked
           (e.2 told.no_lines) told.understood told.base q.asked
           c.as_slice.ensures.value q.base
           (λ a. ap (λ code. is_code (option_copied code) a) q.code
           ∙ (c.live_in-live.ensures a ∙ ap (λ code. c.args.words.now.all || is_code code a) c.as_ref.ensures.value))
-          q.form q.basenames (ap option_copied q.section ∙ c.part_name.ensures)
+          q.directories c.in-Ok.opened.2 c.compiled_in.ensures c.in-Ok.ensures.directories q.form q.basenames (ap option_copied q.section ∙ c.part_name.ensures)
           c.in-Ok.ensures.code
-          (λ f known short. on_file_weaker _ _ c.args.path.now _ (Addr c.question.result) f _ _ _ c.in-Ok.ensures.reads
+          (λ f known short. on_file_as c.units_of_file-units.result _ _ _ c.args.path.now _ (Addr c.question.result) f _ _ _
+          c.units_of_file-units.ensures c.in-Ok.ensures.reads
           (c.on_file-answer.ensures f (c.in-Ok.ensures.bytes ∙ known) short))
           (c.by_answer.ensures ∙ ap (λ answer. located answer c.in_ok-lines.lines.no_address) c.over_file.ensures),
     )

@@ -3,15 +3,15 @@ use Rattle.std.proofs.lemmas.Bool.{eqb-true}
 use Rattle.std.proofs.lemmas.Grind.{common_steps}
 use Rattle.std.proofs.KnownBytes.{Consumes-nil}
 use Rattle.std.proofs.lemmas.Result.{err_from_is_err_and}
-use Rattle.dl_work.proofs.LocateLemmas.{section_named, section_stops}
+use Rattle.dl_work.proofs.LocateLemmas.{section_stops}
 use Rattle.dl_work.proofs.WordsLemmas.{map_none}
 use Rattle.dl_work.proofs.locating.in_section.Goals as goal
 
-pub returns-then-is_some : goal.returns-then-is_some
-returns-then-is_some g c = (
+pub returns-then-not-suits_input : goal.returns-then-not-suits_input
+returns-then-not-suits_input g c = (
   [],
   Consumes-nil _,
-  section_stops _ _ _ _ _ _ refl (inr (inl (section_named _ (sym c.is_some.ensures ∙ c.if-is_some.true)), refl)),
+  section_stops _ _ _ _ _ _ refl (inr (inl (sym c.suits_input.ensures ∙ c.if-not-suits_input.true), refl)),
 )
 
 pub returns-in_err-base : goal.returns-in_err-base

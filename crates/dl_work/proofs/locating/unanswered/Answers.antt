@@ -18,8 +18,8 @@ returns-in-Ok g c =
         c.question.result,
         subst (λ (these : List Asked). HasAsked w these e.0 (g.R.Read.remaining c.given_or_read.new.input) c.in-Ok.lines)
             i.asked (e.2 i.no_lines),
-        asks_all w c.args.understood c.in-Ok.lines.asked.items _ c.question.result i q.asked c.as_slice.ensures.value
-            q.base (q.code ∙ c.everywhere.ensures) q.form q.basenames (ap option_copied q.section ∙ c.part_name-section.ensures),
+        asks_all w c.args.understood c.in-Ok.lines.asked.items _ c.said_directory.result c.question.result i q.asked c.as_slice.ensures.value
+            q.base (q.code ∙ c.everywhere.ensures) q.directories c.said_directory.ensures q.form q.basenames (ap option_copied q.section ∙ c.part_name-section.ensures),
         c.without_table.ensures,
       ),
     )

@@ -6,8 +6,8 @@ use Rattle.dl_work.proofs.TableLemmas.{plain_known, ran}
 use Rattle.dl_work.proofs.over_file.on_kept.Goals as goal
 
 pub returns-in-Err : goal.returns-in-Err
-returns-in-Err g c t line ordered whole =
-    ran _ _ t _ _ _ (Some c.args.bytes.now) _ _ _ _ _ _ (λ read.
+returns-in-Err g c units t line ordered whole =
+    ran _ _ _ t _ _ _ (Some c.args.bytes.now) _ _ _ _ _ _ (λ read.
     plain_known t.line c.args.bytes.now _ read line) whole ordered refl
     c.requires c.in-Err.ensures (
       c.at.result,

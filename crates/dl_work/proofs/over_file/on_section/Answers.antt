@@ -5,10 +5,10 @@ use Rattle.dl_work.proofs.TableLemmas.{ran}
 use Rattle.dl_work.proofs.over_file.on_section.Goals as goal
 
 pub returns-in-Err : goal.returns-in-Err
-returns-in-Err g c t gives ordered whole =
+returns-in-Err g c units t gives ordered whole =
     let named = c.stream_name-stream.ensures
     ∙ reader_stream {S = g.row.S.Denot} g.S.ReadAt.all_bytes c.args.line.now t.line gives in
-    ran _ _ t _ _ _ _ _ _ _ _ _ _ (λ read.
+    ran _ _ _ t _ _ _ _ _ _ _ _ _ _ (λ read.
     reader_known {S = g.row.S.Denot} g.S.ReadAt.all_bytes c.args.line.now t.line _ read gives) whole ordered refl
     c.requires c.in-Err.ensures (
       c.at.result,

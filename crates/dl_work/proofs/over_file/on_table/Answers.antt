@@ -6,7 +6,7 @@ use Rattle.dl_work.proofs.over_file.on_table.Goals as goal
 pub returns : goal.returns
 returns g c t given =
     let whole = c.in-Ok.ensures t.line_str t.str given.line_str given.str in
-    not_refused _ _ t _ _ _ _ _ (sym c.loses.ensures ∙ c.if-loses.false) given.object
-    (inr (c.on_lines.ensures t given.line (c.options-options.ensures.dialect ∙ c.file_dialect.ensures
-    ∙ ap₂ class_dialect given.order given.class)
+    not_refused _ _ _ t _ _ _ _ _ (sym c.loses.ensures ∙ c.if-loses.false) given.object
+    (inr (c.on_lines.ensures c.args.units t given.line (c.options-options.ensures.dialect ∙ c.file_dialect.ensures
+    ∙ ap₂ (class_dialect c.args.units) given.order given.class)
     (subst (IsWhole t.line_str t.str) (sym c.options-options.ensures.strings) whole)))

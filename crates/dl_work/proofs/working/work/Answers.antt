@@ -1,6 +1,7 @@
 use Rattle.std.proofs.Common.{◌∙◌, [], ap, sym, option_map}
 use Rattle.std.proofs.KnownBytes.{Consumes-nil}
 use Rattle.dl_cmd.specs.Job.{request_made}
+use Rattle.dl_work.specs.Asked.{command_seen}
 use Rattle.dl_work.specs.Held.{section_seen}
 use Rattle.dl_work.proofs.WorkLemmas.{works_on_input, works_on_named}
 use Rattle.dl_work.proofs.working.work.Goals as goal
@@ -13,7 +14,7 @@ returns g c =
       works_on_input (g.F.FileSource.held c.args.files.now) (g.F.FileSource.fails_with c.args.files.now) _
           (request_made c.in-Some.job) c.in-Some-of.command (section_seen c.section.result) done.0 _ _ _ _
           (ap (option_map request_made) c.in-Some.is) (sym c.of.ensures
-          ∙ c.in-Some-of.is) (sym c.in-None.ensures) c.section.ensures done.2,
+          ∙ ap (option_map command_seen) c.in-Some-of.is) (sym c.in-None.ensures) c.section.ensures done.2,
     )
 
 pub returns-in-Some-file : goal.returns-in-Some-file
@@ -21,7 +22,7 @@ returns-in-Some-file g c = (
   [],
   Consumes-nil _,
   works_on_named (g.F.FileSource.held c.args.files.now) (g.F.FileSource.fails_with c.args.files.now) _
-      (request_made c.in-Some.job) c.in-Some-of.command c.in-Some-file.path.now _ _ _ _ _ _
-      (ap (option_map request_made) c.in-Some.is) (sym c.of.ensures ∙ c.in-Some-of.is) (sym c.in-Some-file.ensures)
-      c.part_name.ensures c.over_file.ensures c.on_named.ensures,
+      (request_made c.in-Some.job) c.in-Some-of.command c.file_units.result c.in-Some-file.path.now _ _ _ _ _ _
+      (ap (option_map request_made) c.in-Some.is) (sym c.of.ensures ∙ ap (option_map command_seen) c.in-Some-of.is) (sym c.in-Some-file.ensures)
+      c.file_units.ensures c.part_name.ensures c.over_file.ensures c.on_named.ensures,
 )

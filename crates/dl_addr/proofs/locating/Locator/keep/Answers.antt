@@ -12,6 +12,7 @@ returns-then-is_empty c =
     let empty : length answered ≡ 0 = eqb-true (length answered) 0 (sym c.is_empty.ensures ∙ c.if-is_empty.true) in
     record {
       code = refl;
+      directories = refl;
       style = refl;
       strings = refl;
       unit = refl;
@@ -36,6 +37,7 @@ returns c =
     omega (arith, not_zero) in
     record {
       code = refl;
+      directories = refl;
       style = refl;
       strings = refl;
       unit = refl;

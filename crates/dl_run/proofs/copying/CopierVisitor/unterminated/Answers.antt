@@ -7,4 +7,4 @@ pub returns : goal.returns
 returns g c first start visits s =
     let copier = c.args.self.now in
     copies_past first copier copier start (g.W.Write.contents c.args._output.now) visits of_open s refl refl refl
-    (grows_past_open visits copier.program s.grown) refl refl
+    refl (grows_past_open visits copier s.grown) refl refl

@@ -1,0 +1,113 @@
+-- What open_info answers. f: the bytes of a file; e: the file as it is opened. DWARF 5, sections 7.5, 7.5.3 and 7.26.
+use Rattle.std.specs.Prelude.{◌≡◌, ℕ, ◌||◌, if◌then◌else◌, List, Option, Some, None, is_some, option_map, option_and_then}
+use Rattle.std.specs.Prelude.{Result, Ok, Err, MatchResult, MatchOption}
+use Rattle.dl_num.specs.declared.fixed.Order.{Order}
+use Rattle.dl_elf.specs.declared.fault.ElfFault.{ElfFault}
+use Rattle.dl_elf.specs.declared.fault.ElfFault.TheVariants as fault
+use Rattle.dl_elf.specs.declared.file.Elf.{Elf}
+use Rattle.dl_elf.specs.declared.name.SectionName.{SectionName}
+use Rattle.dl_elf.specs.declared.name.SectionName.TheVariants.{DebugInfo, ZdebugInfo, DebugAbbrev, ZdebugAbbrev}
+use Rattle.dl_elf.specs.declared.name.SectionName.TheVariants.{DebugStrOffsets, ZdebugStrOffsets, DebugStr, ZdebugStr}
+use Rattle.dl_elf.specs.declared.name.SectionName.TheVariants.{DebugLineStr, ZdebugLineStr}
+use Rattle.dl_elf.specs.declared.named.NamedSection.{NamedSection}
+use Rattle.dl_elf.specs.Compressed.{section_damage}
+use Rattle.dl_elf.specs.Found.{AreFound, Sections}
+use Rattle.dl_elf.specs.Sections.{opened}
+use Rattle.dl_file.specs.declared.info_file.InfoFile.{InfoFile}
+use Rattle.dl_file.specs.declared.info_file.InfoSections.{InfoSections}
+use Rattle.dl_file.specs.declared.line_reader.LineReader.{LineReader}
+use Rattle.dl_file.specs.LineTable.{Content, Gives, GivesLine, GivesOption, IsLine, content, option_or, refused}
+
+-- ---- which sections
+
+-- a section that lies in the file, and isn't compressed otherwise than with zlib
+abbrev pub readable : Elf → List ℕ → NamedSection → Option NamedSection
+readable e f s = if is_some (section_damage e f s) || is_some (refused e f s) then None else Some s
+
+-- the section of one of two names, the first before the other, where it can be read
+abbrev pub named_section : Elf → List ℕ → Sections → (name compressed : SectionName) → Option NamedSection
+named_section e f at name compressed = option_and_then (readable e f) (option_or (at name) (at compressed))
+
+-- the sections; None where .debug_info or .debug_abbrev isn't among them
+abbrev pub info_sections : Elf → List ℕ → Sections → Option InfoSections
+info_sections e f at =
+    option_and_then (λ info. option_map (λ abbreviations. record {
+      info = info;
+      abbreviations = abbreviations;
+      str_offsets = named_section e f at DebugStrOffsets ZdebugStrOffsets;
+      debug_str = named_section e f at DebugStr ZdebugStr;
+      debug_line_str = named_section e f at DebugLineStr ZdebugLineStr;
+    }) (named_section e f at DebugAbbrev ZdebugAbbrev)) (named_section e f at DebugInfo ZdebugInfo)
+
+-- ---- their bytes
+
+-- what a file has of its units of .debug_info
+pub record InfoTable : Type 0 where
+  pub order : Order
+  pub info : Content
+  pub abbreviations : Content
+  pub str_offsets : Option Content
+  pub str : Option Content
+  pub line_str : Option Content
+
+-- with this .debug_info; None where its relocations can't be applied
+abbrev pub info_table : Elf → List ℕ → InfoSections → Result Content ElfFault → Option InfoTable
+info_table e f c (Ok info) = Some (record {
+  order = e.header.order;
+  info = info;
+  abbreviations = content e f c.abbreviations;
+  str_offsets = option_map (content e f) c.str_offsets;
+  str = option_map (content e f) c.debug_str;
+  line_str = option_map (content e f) c.debug_line_str;
+})
+info_table e f c (Err first) = None
+
+-- the bytes of .debug_info have the form of those of a line section: in an object file with its relocations applied
+abbrev pub IsInfoOf : Elf → List ℕ → InfoSections → Option InfoTable → Type 0
+IsInfoOf e f c t = (info : Result Content ElfFault) × IsLine e f c.info info × (t ≡ info_table e f c info)
+
+-- a file with these bytes has these units, or none that can be read
+abbrev pub HasInfo : List ℕ → Option InfoTable → Type 0
+HasInfo f t = MatchResult (opened f) (λ e. (at : Sections) × AreFound e f at
+    × MatchOption (info_sections e f at) (t ≡ None) (λ c. IsInfoOf e f c t))
+    (λ first. t ≡ None)
+
+-- ---- readers
+
+-- the readers of a file give these bytes
+pub record GivesInfo {S : Type 0} {g : _} (all_bytes : S → Option (List ℕ)) (file : InfoFile S g) (t : InfoTable)
+    : Type 0 where
+  pub order : file.order ≡ t.order
+  pub info : GivesLine all_bytes file.info t.info
+  pub abbreviations : Gives all_bytes file.abbreviations t.abbreviations
+  pub str_offsets : GivesOption all_bytes file.str_offsets t.str_offsets
+  pub str : GivesOption all_bytes file.debug_str t.str
+  pub line_str : GivesOption all_bytes file.debug_line_str t.line_str
+
+abbrev pub GivesInfoOption : {S : Type 0} {g : _} → (S → Option (List ℕ)) → Option (InfoFile S g) → Option InfoTable
+    → Type 0
+GivesInfoOption all_bytes None t = t ≡ None
+GivesInfoOption all_bytes (Some file) None = ⊥
+GivesInfoOption all_bytes (Some file) (Some t) = GivesInfo all_bytes file t
+
+-- a reader of .debug_info, or none where its relocations can't be applied
+abbrev pub OpensUnits : {S : Type 0} {g : _} → (S → Option (List ℕ)) → (IsAnswer : Result Content ElfFault → Type 0)
+    → Result (Option (LineReader S g)) ElfFault → Type 0
+OpensUnits all_bytes IsAnswer (Ok (Some reader)) =
+    (content : Content) × IsAnswer (Ok content) × GivesLine all_bytes reader content
+OpensUnits all_bytes IsAnswer (Ok None) = (first : ElfFault) × IsAnswer (Err first)
+OpensUnits all_bytes IsAnswer (Err (fault.Read error)) = Unit {0}
+OpensUnits all_bytes IsAnswer (Err fault.NoMemory) = Unit {0}
+OpensUnits all_bytes IsAnswer (Err other) = ⊥
+
+-- what comes of units of which `Is` tells: their readers, or a read failed, or memory was refused
+abbrev pub OpensInfoOf : {S : Type 0} {g : _} → (S → Option (List ℕ)) → (Is : Option InfoTable → Type 0)
+    → Result (Option (InfoFile S g)) ElfFault → Type 0
+OpensInfoOf all_bytes Is (Ok file) = (t : Option InfoTable) × Is t × GivesInfoOption all_bytes file t
+OpensInfoOf all_bytes Is (Err (fault.Read error)) = Unit {0}
+OpensInfoOf all_bytes Is (Err fault.NoMemory) = Unit {0}
+OpensInfoOf all_bytes Is (Err other) = ⊥
+
+abbrev pub OpensInfo : {S : Type 0} {g : _} → (S → Option (List ℕ)) → List ℕ → Result (Option (InfoFile S g)) ElfFault
+    → Type 0
+OpensInfo all_bytes f result = OpensInfoOf all_bytes (HasInfo f) result
