@@ -2,8 +2,7 @@
 use crate::compiled::{CLANG_5, GCC_4, GCC_5};
 use crate::made::{CUT_SHORT, FIRST_UNIT, NO_BASE, NO_LENGTH, TEXT_LACKS};
 use crate::row::{Row, is_found};
-use dl_dirs::{Directories, NoMemory, Walk};
-use dl_num::Order;
+use dl_dirs::Directories;
 use std::test::*;
 
 const ROWS: &[&Row<'static>] = &[
@@ -37,15 +36,4 @@ fn directories_are_found(rt: HostRuntime) {
 fn none_has_none(rt: HostRuntime) {
     let none = Directories::none(rt.alloc());
     assert_eq!(rt; none.of(0), None);
-}
-
-#[test]
-fn walk_is_over(rt: HostRuntime) {
-    let walk = Walk::new(rt.alloc(), Order::Little, b"");
-    assert!(rt; !walk.is_over());
-    assert!(rt; is_over_after(walk, NO_LENGTH.info) == Ok(true));
-}
-
-fn is_over_after(walk: Walk<'_>, info: &[u8]) -> Result<bool, NoMemory> {
-    Ok(walk.feed(info)?.is_over())
 }

@@ -1,12 +1,11 @@
 //! A walk over the units of `.debug_info`, whose bytes come in pieces. DWARF 2, 3, 4 and 5, section 7.5.
-ghost use Rattle.std.specs.Prelude.{◌≡◌, ◌+◌, ◌≤◌, ◌<◌, ◌++◌, [], ℕ, List, IsTrue, IfErr, IfOk, OnOk, length, take};
+ghost use Rattle.std.specs.Prelude.{◌≡◌, ◌+◌, ◌≤◌, ◌<◌, ◌++◌, [], ℕ, List, IfErr, IfOk, OnOk, length, take};
 ghost use Rattle.dl_num.specs.declared.fixed.Order.{Order};
 ghost use Rattle.dl_info.specs.declared.head.UnitLength.{UnitLength};
 ghost use Rattle.dl_info.specs.declared.unit.Answer.TheVariants.{Found};
 ghost use Rattle.dl_info.specs.Entries.{EntryData};
 ghost use Rattle.dl_info.specs.Units.{first_entry, unit_length};
-ghost use Rattle.dl_dirs.specs.Texts.{TextsData};
-ghost use Rattle.dl_dirs.specs.Units.{HasDirectory, directory, entries, found_in};
+ghost use Rattle.dl_dirs.specs.Units.{HasDirectory, entries, found_in};
 ghost use Rattle.dl_dirs.specs.Holding.{AreOf, Holds};
 ghost use Rattle.dl_dirs.specs.Standing.{Awaits, GoesOn, StandsFor, Took, told_length};
 ghost use Rattle.dl_dirs.specs.declared.walk.State.TheVariants as state;
@@ -210,15 +209,6 @@ impl<'a> Walk<'a> {
         };
         self.state = State::Begun(awaited(self.places.order, front));
         Ok(())
-    }
-
-    /// Whether no unit begins any more, whatever bytes follow.
-    pub fn is_over(&self) -> bool
-        ensures { (order : Order) (abbreviations b rest : List ℕ) (t : TextsData) (n : ℕ)
-            → StandsFor self.now order abbreviations b → IsTrue result
-            → directory order abbreviations t (b ++ rest) n ≡ directory order abbreviations t b n }
-    {
-        matches!(self.state, State::Ended)
     }
 
     /// Ends the walk where the section ends: the places of the directories that its units say.

@@ -1,5 +1,5 @@
 -- The sections of units of .debug_info.
-use Rattle.std.proofs.Common.{◌≡◌, ℕ, Bool, true, false, List, Option, Some, None, Result, Ok, Err, MatchOption}
+use Rattle.std.proofs.Common.{◌≡◌, ◌⊎◌, ℕ, Bool, true, false, List, Option, Some, None, Result, Ok, Err, MatchOption}
 use Rattle.std.proofs.Common.{MatchResult, refl, sym, ap, subst, option_map}
 use Rattle.std.specs.Prelude.{if◌then◌else◌, ◌||◌, is_some}
 use Rattle.std.specs.Option.{option_and_then}
@@ -17,12 +17,18 @@ use Rattle.dl_file.specs.declared.info_file.InfoFile.{InfoFile}
 use Rattle.dl_file.specs.declared.info_file.InfoSections.{InfoSections}
 use Rattle.dl_file.specs.declared.line_reader.LineReader.{LineReader}
 use Rattle.dl_file.specs.InfoTable.{HasInfo, InfoTable, IsInfoOf, OpensUnits, info_sections, named_section}
-use Rattle.dl_file.specs.InfoTable.{OpensInfo, OpensInfoOf, readable}
-use Rattle.dl_file.specs.LineTable.{Content, GivesLine, IsLine, option_or, refused}
+use Rattle.dl_file.specs.InfoTable.{OpensInfo, OpensInfoOf, TakesMemoryForInfo, readable}
+use Rattle.dl_file.specs.LineTable.{Content, GivesLine, HasStream, IsLine, option_or, refused}
+use Rattle.dl_file.specs.Relocations.{HasRelocations}
+
+-- memory may be refused for them
+abbrev UnitsMemory : Elf → List ℕ → InfoSections → Type 0
+UnitsMemory e f c = HasRelocations e f c.info.number ⊎ HasStream e f (Some c.info)
 
 -- its relocations can't be applied
 pub no_units : {S : Type 0} {g : _} (all_bytes : S → Option (List ℕ)) (e : Elf) (f : List ℕ) (c : InfoSections)
-    (found : Option (LineReader S g)) → found ≡ None → OpensUnits all_bytes (IsLine e f c.info) (Ok found)
+    (found : Option (LineReader S g)) → found ≡ None
+    → OpensUnits all_bytes (IsLine e f c.info) (UnitsMemory e f c) (Ok found)
     → (t : Option InfoTable) × IsInfoOf e f c t × (t ≡ None)
 no_units all_bytes e f c None is (first, answer) = (None, (Err first, answer, refl), refl)
 no_units all_bytes e f c (Some reader) is opens = absurd (cc is)
@@ -30,10 +36,10 @@ no_units all_bytes e f c (Some reader) is opens = absurd (cc is)
 -- there is a reader of its bytes
 pub some_units : {S : Type 0} {g : _} (all_bytes : S → Option (List ℕ)) (e : Elf) (f : List ℕ) (c : InfoSections)
     (found : Option (LineReader S g)) (reader : LineReader S g) → found ≡ Some reader
-    → OpensUnits all_bytes (IsLine e f c.info) (Ok found)
+    → OpensUnits all_bytes (IsLine e f c.info) (UnitsMemory e f c) (Ok found)
     → (info : Content) × IsLine e f c.info (Ok info) × GivesLine all_bytes reader info
 some_units {S = S} {g = g} all_bytes e f c found reader is opens =
-    subst (λ (o : Option (LineReader S g)). OpensUnits all_bytes (IsLine e f c.info) (Ok o)) is opens
+    subst (λ (o : Option (LineReader S g)). OpensUnits all_bytes (IsLine e f c.info) (UnitsMemory e f c) (Ok o)) is opens
 
 -- what the sections come to is what the file comes to
 pub has_info : (f : List ℕ) (e : Elf) (at : Sections) (t : Option InfoTable) → Ok e ≡ opened f → AreFound e f at
@@ -98,9 +104,10 @@ info_within e f at c is =
 -- what opening the sections that were found answers is what opening the file does
 pub opens_info : {S : Type 0} {g : _} (all_bytes : S → Option (List ℕ)) (f : List ℕ) (e : Elf) (at : Sections)
     (c : InfoSections) (result : Result (Option (InfoFile S g)) ElfFault) → Ok e ≡ opened f → AreFound e f at
-    → Some c ≡ info_sections e f at → OpensInfoOf all_bytes (IsInfoOf e f c) result → OpensInfo all_bytes f result
+    → Some c ≡ info_sections e f at → OpensInfoOf all_bytes (IsInfoOf e f c) (TakesMemoryForInfo e f c) result
+    → OpensInfo all_bytes f result
 opens_info all_bytes f e at c (Ok file) is found these (t, has, gives) =
     (t, has_info f e at t is found (of_sections e f at (Some c) t these has), gives)
 opens_info all_bytes f e at c (Err (fault.Read error)) is found these opens = opens
-opens_info all_bytes f e at c (Err fault.NoMemory) is found these opens = opens
+opens_info all_bytes f e at c (Err fault.NoMemory) is found these opens = (e, sym is, at, found, c, sym these, opens)
 opens_info all_bytes f e at c (Err other) is found these opens = opens

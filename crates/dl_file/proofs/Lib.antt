@@ -6,5 +6,6 @@ pub mod SectionBytesLemmas
 pub mod PieceLemmas
 pub mod StreamLemmas
 pub mod InflatedLemmas
+pub mod DamageLemmas
 pub mod PlaceLemmas
 pub mod InfoLemmas

@@ -1,5 +1,6 @@
 -- What open_info answers. f: the bytes of a file; e: the file as it is opened. DWARF 5, sections 7.5, 7.5.3 and 7.26.
-use Rattle.std.specs.Prelude.{◌≡◌, ℕ, ◌||◌, if◌then◌else◌, List, Option, Some, None, is_some, option_map, option_and_then}
+use Rattle.std.specs.Prelude.{◌≡◌, ◌⊎◌, ℕ, ◌||◌, if◌then◌else◌, List, Option, Some, None, is_some, option_map}
+use Rattle.std.specs.Prelude.{option_and_then}
 use Rattle.std.specs.Prelude.{Result, Ok, Err, MatchResult, MatchOption}
 use Rattle.dl_num.specs.declared.fixed.Order.{Order}
 use Rattle.dl_elf.specs.declared.fault.ElfFault.{ElfFault}
@@ -16,7 +17,8 @@ use Rattle.dl_elf.specs.Sections.{opened}
 use Rattle.dl_file.specs.declared.info_file.InfoFile.{InfoFile}
 use Rattle.dl_file.specs.declared.info_file.InfoSections.{InfoSections}
 use Rattle.dl_file.specs.declared.line_reader.LineReader.{LineReader}
-use Rattle.dl_file.specs.LineTable.{Content, Gives, GivesLine, GivesOption, IsLine, content, option_or, refused}
+use Rattle.dl_file.specs.LineTable.{Content, Gives, GivesLine, GivesOption, HasStream, IsLine, content, option_or, refused}
+use Rattle.dl_file.specs.Relocations.{HasRelocations}
 
 -- ---- which sections
 
@@ -72,6 +74,17 @@ HasInfo f t = MatchResult (opened f) (λ e. (at : Sections) × AreFound e f at
     × MatchOption (info_sections e f at) (t ≡ None) (λ c. IsInfoOf e f c t))
     (λ first. t ≡ None)
 
+-- memory is taken for these sections: one is compressed, or .debug_info has relocations and is held
+abbrev pub TakesMemoryForInfo : Elf → List ℕ → InfoSections → Type 0
+TakesMemoryForInfo e f c = HasRelocations e f c.info.number ⊎ (HasStream e f (Some c.info)
+    ⊎ (HasStream e f (Some c.abbreviations) ⊎ (HasStream e f c.str_offsets
+    ⊎ (HasStream e f c.debug_str ⊎ HasStream e f c.debug_line_str))))
+
+-- and for those of a file with these bytes
+abbrev pub TakesInfoMemory : List ℕ → Type 0
+TakesInfoMemory f = (e : Elf) × (opened f ≡ Ok e) × (at : Sections) × AreFound e f at
+    × (c : InfoSections) × (info_sections e f at ≡ Some c) × TakesMemoryForInfo e f c
+
 -- ---- readers
 
 -- the readers of a file give these bytes
@@ -90,24 +103,24 @@ GivesInfoOption all_bytes None t = t ≡ None
 GivesInfoOption all_bytes (Some file) None = ⊥
 GivesInfoOption all_bytes (Some file) (Some t) = GivesInfo all_bytes file t
 
--- a reader of .debug_info, or none where its relocations can't be applied
+-- a reader of .debug_info, or none where its relocations can't be applied; memory is refused only where `Memory` says so
 abbrev pub OpensUnits : {S : Type 0} {g : _} → (S → Option (List ℕ)) → (IsAnswer : Result Content ElfFault → Type 0)
-    → Result (Option (LineReader S g)) ElfFault → Type 0
-OpensUnits all_bytes IsAnswer (Ok (Some reader)) =
+    (Memory : Type 0) → Result (Option (LineReader S g)) ElfFault → Type 0
+OpensUnits all_bytes IsAnswer Memory (Ok (Some reader)) =
     (content : Content) × IsAnswer (Ok content) × GivesLine all_bytes reader content
-OpensUnits all_bytes IsAnswer (Ok None) = (first : ElfFault) × IsAnswer (Err first)
-OpensUnits all_bytes IsAnswer (Err (fault.Read error)) = Unit {0}
-OpensUnits all_bytes IsAnswer (Err fault.NoMemory) = Unit {0}
-OpensUnits all_bytes IsAnswer (Err other) = ⊥
+OpensUnits all_bytes IsAnswer Memory (Ok None) = (first : ElfFault) × IsAnswer (Err first)
+OpensUnits all_bytes IsAnswer Memory (Err (fault.Read error)) = Unit {0}
+OpensUnits all_bytes IsAnswer Memory (Err fault.NoMemory) = Memory
+OpensUnits all_bytes IsAnswer Memory (Err other) = ⊥
 
 -- what comes of units of which `Is` tells: their readers, or a read failed, or memory was refused
 abbrev pub OpensInfoOf : {S : Type 0} {g : _} → (S → Option (List ℕ)) → (Is : Option InfoTable → Type 0)
-    → Result (Option (InfoFile S g)) ElfFault → Type 0
-OpensInfoOf all_bytes Is (Ok file) = (t : Option InfoTable) × Is t × GivesInfoOption all_bytes file t
-OpensInfoOf all_bytes Is (Err (fault.Read error)) = Unit {0}
-OpensInfoOf all_bytes Is (Err fault.NoMemory) = Unit {0}
-OpensInfoOf all_bytes Is (Err other) = ⊥
+    (Memory : Type 0) → Result (Option (InfoFile S g)) ElfFault → Type 0
+OpensInfoOf all_bytes Is Memory (Ok file) = (t : Option InfoTable) × Is t × GivesInfoOption all_bytes file t
+OpensInfoOf all_bytes Is Memory (Err (fault.Read error)) = Unit {0}
+OpensInfoOf all_bytes Is Memory (Err fault.NoMemory) = Memory
+OpensInfoOf all_bytes Is Memory (Err other) = ⊥
 
 abbrev pub OpensInfo : {S : Type 0} {g : _} → (S → Option (List ℕ)) → List ℕ → Result (Option (InfoFile S g)) ElfFault
     → Type 0
-OpensInfo all_bytes f result = OpensInfoOf all_bytes (HasInfo f) result
+OpensInfo all_bytes f result = OpensInfoOf all_bytes (HasInfo f) (TakesInfoMemory f) result

@@ -1,13 +1,15 @@
 //! The sections of a file by which the directories of compilations are found.
-ghost use Rattle.std.specs.Prelude.{◌≡◌, ◌≤◌, ◌-◌, true, option_and_then, IfOk, IfErr};
+ghost use Rattle.std.specs.Prelude.{◌≡◌, ◌⊎◌, ◌≤◌, ◌-◌, true, Some, option_and_then, IfOk, IfErr};
 ghost use Rattle.dl_elf.specs.Source.{ForBytes};
 ghost use Rattle.dl_elf.specs.Answers.{IfRead};
 ghost use Rattle.dl_elf.specs.Forward.{NoneForward};
 ghost use Rattle.dl_elf.specs.SectionsHeld.{slots, forward_of};
 ghost use Rattle.dl_elf.specs.Slots.{slot_of};
 ghost use Rattle.dl_elf.specs.Sections.{range_within, section_range};
-ghost use Rattle.dl_file.specs.InfoTable.{IsInfoOf, OpensInfo, OpensInfoOf, OpensUnits, info_sections, named_section, readable};
-ghost use Rattle.dl_file.specs.LineTable.{IsLine};
+ghost use Rattle.dl_file.specs.InfoTable.{IsInfoOf, OpensInfo, OpensInfoOf, OpensUnits, TakesMemoryForInfo, info_sections};
+ghost use Rattle.dl_file.specs.InfoTable.{named_section, readable};
+ghost use Rattle.dl_file.specs.LineTable.{HasStream, IsLine};
+ghost use Rattle.dl_file.specs.Relocations.{HasRelocations};
 
 use crate::content_reader::ContentReader;
 use crate::line_file::{damage_of, line_reader, optional_reader, refused_compression};
@@ -148,8 +150,8 @@ fn info_reader<'a, S: ReadAt>(
     requires forward { ForBytes (S.all_bytes source.now)
         (λ f. NoneForward elf.now f (forward_of sections.now)) }
     requires passed { forward_of sections.now - 1 ≤ elf.now.count - 1 }
-    ensures opens { ForBytes (S.all_bytes source.entry.now) (λ f. OpensUnits S.all_bytes
-        (IsLine elf.now f info.now) result) }
+    ensures opens { ForBytes (S.all_bytes source.entry.now) (λ f. OpensUnits S.all_bytes (IsLine elf.now f info.now)
+        (HasRelocations elf.now f info.now.number ⊎ HasStream elf.now f (Some info.now)) result) }
     ensures read { IfRead (S.fails_with source.entry.now) result }
 {
     match line_reader(alloc, source, elf, sections, info) {
@@ -174,7 +176,7 @@ fn open_found<'a, S: ReadAt>(
         (λ f. NoneForward elf.now f (forward_of sections.now)) }
     requires passed { forward_of sections.now - 1 ≤ elf.now.count - 1 }
     ensures opens { ForBytes (S.all_bytes source.entry.now) (λ f. OpensInfoOf S.all_bytes
-        (IsInfoOf elf.now f found.now) result) }
+        (IsInfoOf elf.now f found.now) (TakesMemoryForInfo elf.now f found.now) result) }
     ensures read { IfRead (S.fails_with source.entry.now) result }
 {
     let Some(info) = info_reader(alloc, source, elf, sections, &found.info)? else {

@@ -1,93 +1,52 @@
 -- The directories that the units of a file say.
-use Rattle.std.proofs.Common.{◌≡◌, inr, ℕ, Bool, true, false, IsTrue, List, [], ◌++◌, Option, Some, None}
-use Rattle.std.proofs.Common.{refl, sym, ap, subst, ◌∙◌, append-nil}
-use Rattle.std.specs.Io.KnownBytes.{Consumes, IsAtEnd}
-use Rattle.std.specs.Prelude.{IfSome}
+use Rattle.std.proofs.Common.{◌≡◌, ℕ, Bool, true, false, IsTrue, List, Option, Some, None}
+use Rattle.std.proofs.Common.{Result, Ok, Err, IfOk, Vec, Global, option_map, refl, sym, ap, subst, ◌∙◌}
 use Rattle.std.specs.Option.{option_and_then, option_map_or}
+use Rattle.std.specs.Prelude.{MatchOption}
 use Rattle.dl_num.specs.declared.fixed.Order.{Order}
 use Rattle.dl_info.specs.Entries.{EntryData, TextData, here, str, line_str, index}
+use Rattle.dl_dirs.specs.declared.places.Places.{Places}
+use Rattle.dl_dirs.specs.Holding.{AreOf}
 use Rattle.dl_dirs.specs.Texts.{TextsData, directory_text, index_text, text_of}
 use Rattle.dl_dirs.specs.Units.{directory, entries, has_index, has_line_str, has_str, saying, Stands}
 use Rattle.dl_file.specs.InfoTable.{GivesInfo, GivesInfoOption, HasInfo, InfoTable}
-use Rattle.dl_file.specs.LineReader.{line_remaining}
-use Rattle.dl_file.specs.LineTable.{Content, Gives, GivesLine, GivesOption, Inflated, Plain}
+use Rattle.dl_file.specs.LineTable.{Content, Gives, GivesOption}
 use Rattle.dl_file.specs.declared.content_reader.ContentReader.{ContentReader}
 use Rattle.dl_file.specs.declared.info_file.InfoFile.{InfoFile}
-use Rattle.dl_file.specs.declared.line_reader.LineReader.{LineReader}
-use Rattle.dl_open.specs.Directories.{AreDirectories, AreSaid, AreTexts}
-use Rattle.dl_open.specs.Tables.{IsHeldAs, known_bytes}
-use Rattle.dl_open.specs.Walked.{AreHeld, IsHeldWhere, Settles}
-
--- ---- the walk
-
--- the bytes that were read settle what is said in all
-pub settled_by : (order : Order) (abbreviations b : List ℕ) (known left : Option (List ℕ)) → Consumes known left b
-    → ((rest : List ℕ) → left ≡ Some rest → (t : TextsData) (n : ℕ)
-    → directory order abbreviations t (b ++ rest) n ≡ directory order abbreviations t b n)
-    → Settles order abbreviations b known
-settled_by order abbreviations b None left consumes same = tt
-settled_by order abbreviations b (Some bytes) None consumes same = absurd consumes
-settled_by order abbreviations b (Some bytes) (Some rest) consumes same =
-    λ t n. subst (λ (z : List ℕ). directory order abbreviations t z n ≡ directory order abbreviations t b n) (sym consumes)
-    (same rest refl t n)
-
--- they are all
-pub settled_at_end : (order : Order) (abbreviations b piece : List ℕ) (known left : Option (List ℕ))
-    → Consumes known left (b ++ piece) → piece ≡ [] → IsAtEnd left → Settles order abbreviations b known
-settled_at_end order abbreviations b piece known left consumes empty ended =
-    settled_by order abbreviations b known left
-    (subst (Consumes known left) (ap (λ (z : List ℕ). b ++ z) empty ∙ append-nil b) consumes)
-    (λ rest is t n. ap (λ (z : List ℕ). directory order abbreviations t z n)
-    (ap (λ (z : List ℕ). b ++ z) (nothing left rest is ended) ∙ append-nil b))
-  where
-    nothing : (left : Option (List ℕ)) (rest : List ℕ) → left ≡ Some rest → IsAtEnd left → rest ≡ []
-    nothing None rest is ended = absurd (cc is)
-    nothing (Some other) rest is ended = let e : other ≡ rest = cc is in sym e ∙ ended
+use Rattle.dl_run.specs.declared.options.TheConstants.{SECTION_LIMIT}
+use Rattle.dl_open.specs.declared.section.Unread.{Unread}
+use Rattle.dl_open.specs.declared.strings.TheConstants.{STRINGS_LIMIT}
+use Rattle.dl_open.specs.Directories.{AreDirectories, HasUnits, bytes_had, said_in, texts_had}
+use Rattle.dl_open.specs.Walked.{AreFound, AreHad, ArePlaces, IsHadWhere}
 
 -- ---- sections
 
--- a section has bytes
-some_held : (content : Option Content) → (bytes : Option (List ℕ)) × IsHeldAs content bytes
-some_held None = (None, refl)
-some_held (Some (Plain bytes)) = (Some bytes, refl)
-some_held (Some (Inflated name None damage)) = (Some [], ([], refl, tt))
-some_held (Some (Inflated name (Some whole) damage)) = (Some whole, (whole, refl, refl))
-
--- one that isn't wanted needn't be held
-pub not_wanted : (wanted : Bool) (content : Option Content) → wanted ≡ false
-    → IsHeldWhere (IsTrue wanted) content None
-not_wanted true content is = absurd (cc is)
-not_wanted false content is = let held = some_held content in (held.0, held.1, λ wanted. absurd (cc wanted))
-
--- one that the file has is held
-pub held_where : {S : Type 0} {g : _} (all_bytes : S → Option (List ℕ)) (wanted : Bool)
-    (section : Option (ContentReader S g)) (reader : ContentReader S g) (content : Option Content) (bytes : List ℕ)
+-- one that the file has is held, where it can be had
+had_where : {S : Type 0} {g : _} (all_bytes : S → Option (List ℕ)) (wanted : Bool)
+    (section : Option (ContentReader S g)) (reader : ContentReader S g) (content : Option Content) (held : Option (List ℕ))
     → section ≡ Some reader → GivesOption all_bytes section content
-    → ((c : Content) → Gives all_bytes reader c → IsHeldAs (Some c) (Some bytes))
-    → IsHeldWhere (IsTrue wanted) content (Some bytes)
-held_where all_bytes wanted None reader content bytes is gives held = absurd (cc is)
-held_where all_bytes wanted (Some other) reader None bytes is gives held = absurd gives
-held_where {S = S} {g = g} all_bytes wanted (Some other) reader (Some c) bytes is gives held =
+    → ((c : Content) → Gives all_bytes reader c → held ≡ bytes_had STRINGS_LIMIT c)
+    → IsHadWhere (IsTrue wanted) content held
+had_where all_bytes wanted None reader content held is gives had = absurd (cc is)
+had_where all_bytes wanted (Some other) reader None held is gives had = absurd gives
+had_where {S = S} {g = g} all_bytes wanted (Some other) reader (Some c) held is gives had =
     let same : other ≡ reader = cc is in
-    (Some bytes, held c (subst (λ (r : ContentReader S g). Gives all_bytes r c) same gives), λ wanted. refl)
+    λ wanted. had c (subst (λ (r : ContentReader S g). Gives all_bytes r c) same gives)
+
+pub had_where_read : {S : Type 0} {g : _} (all_bytes : S → Option (List ℕ)) (wanted : Bool)
+    (section : Option (ContentReader S g)) (reader : ContentReader S g) (content : Option Content)
+    (result : Result (Option (Vec ℕ Global)) Unread) → section ≡ Some reader → GivesOption all_bytes section content
+    → ((c : Content) → Gives all_bytes reader c
+    → IfOk result (λ held. option_map (λ v. v.items) held ≡ bytes_had STRINGS_LIMIT c))
+    → IfOk result (λ held. IsHadWhere (IsTrue wanted) content (option_map (λ v. v.items) held))
+had_where_read all_bytes wanted section reader content (Err why) is gives had = tt
+had_where_read all_bytes wanted section reader content (Ok held) is gives had =
+    had_where all_bytes wanted section reader content (option_map (λ v. v.items) held) is gives had
 
 -- one that is wanted where another fact holds
-pub held_for : (Wanted Other : Type 0) (content : Option Content) (held : Option (List ℕ)) → (Other → Wanted)
-    → IsHeldWhere Wanted content held → IsHeldWhere Other content held
-held_for Wanted Other content held so (bytes, is, same) = (bytes, is, λ other. same (so other))
-
--- bytes of a section that are known are those that are held
-held_known : (content : Content) (bytes : List ℕ) → IsHeldAs (Some content) (Some bytes)
-    → IfSome (known_bytes content) (λ whole. bytes ≡ whole)
-held_known (Plain own) bytes is = let e : bytes ≡ own = cc is in e
-held_known (Inflated name None damage) bytes is = tt
-held_known (Inflated name (Some whole) damage) bytes (own, is, same) = let e : bytes ≡ own = cc is in e ∙ same
-
--- the bytes that a reader of a line section has are those that are known
-line_known : {S : Type 0} {g : _} (all_bytes : S → Option (List ℕ)) (reader : LineReader S g) (content : Content)
-    → GivesLine all_bytes reader content → line_remaining all_bytes reader ≡ known_bytes content
-line_known all_bytes reader (Plain bytes) gives = gives.0
-line_known all_bytes reader (Inflated name bytes damage) gives = gives.0
+pub had_for : (Wanted Other : Type 0) (content : Option Content) (held : Option (List ℕ)) → (Other → Wanted)
+    → IsHadWhere Wanted content held → IsHadWhere Other content held
+had_for Wanted Other content held so is = λ other. is (so other)
 
 -- ---- texts
 
@@ -138,75 +97,88 @@ same_directory order own t es n (Some e) is strings lines offsets = by_text e.co
 
 -- ---- the directories
 
--- those of the bytes that settle it, by the sections that are held, are those of the file
-said : (t : InfoTable) (abbreviations b : List ℕ) (own : TextsData) (f : ℕ → Option (List ℕ))
-    → IsHeldAs (Some t.abbreviations) (Some abbreviations)
-    → Settles t.order abbreviations b (known_bytes t.info) → AreHeld t.order abbreviations b t own
-    → ((n : ℕ) → f n ≡ directory t.order abbreviations own b n) → AreSaid t f
-said t abbreviations b own f held settles sections is =
-    by_info (known_bytes t.info) (known_bytes t.abbreviations) settles (held_known t.abbreviations abbreviations held)
+-- no directory is known where .debug_abbrev can't be had
+pub without_abbreviations : (t : InfoTable) (n : ℕ) → None ≡ bytes_had STRINGS_LIMIT t.abbreviations → said_in t n ≡ None
+without_abbreviations t n lost = by (bytes_had SECTION_LIMIT t.info) (bytes_had STRINGS_LIMIT t.abbreviations) (sym lost)
   where
-    texts : TextsData
-    texts = record {
-      str_offsets = sections.str_offsets.0;
-      debug_str = sections.str.0;
-      debug_line_str = sections.line_str.0;
-    }
+    by : (info abbreviations : Option (List ℕ)) → abbreviations ≡ None
+        → option_and_then (λ info. option_and_then (λ a. directory t.order a (texts_had t) info n) abbreviations) info ≡ None
+    by None abbreviations is = refl
+    by (Some info) None is = refl
+    by (Some info) (Some a) is = absurd (cc is)
 
-    same : (n : ℕ) → directory t.order abbreviations own b n ≡ directory t.order abbreviations texts b n
-    same n =
-        let es = entries t.order abbreviations b in
-        same_directory t.order own texts es n (saying n es) refl sections.str.2 sections.line_str.2 sections.str_offsets.2
+-- nor where .debug_info can't be
+pub without_info : (t : InfoTable) (n : ℕ) → bytes_had SECTION_LIMIT t.info ≡ None → said_in t n ≡ None
+without_info t n lost = ap (option_and_then (λ info. option_and_then
+    (λ a. directory t.order a (texts_had t) info n) (bytes_had STRINGS_LIMIT t.abbreviations))) lost
 
-    by_abbreviations : (info : List ℕ) (known : Option (List ℕ))
-        → ((t2 : TextsData) (n : ℕ) → directory t.order abbreviations t2 info n ≡ directory t.order abbreviations t2 b n)
-        → IfSome known (λ whole. abbreviations ≡ whole)
-        → IfSome known (λ whole. (texts : TextsData) × AreTexts t texts
-        × ((n : ℕ) → f n ≡ directory t.order whole texts info n))
-    by_abbreviations info None settles known = tt
-    by_abbreviations info (Some whole) settles known = (
-      texts,
-      record {
-        str_offsets = sections.str_offsets.1;
-        str = sections.str.1;
-        line_str = sections.line_str.1;
-      },
-      λ n. subst (λ (a : List ℕ). f n ≡ directory t.order a texts info n) known
-          (is n ∙ same n ∙ sym (settles texts n)),
-    )
+-- those of both, by the sections that are held
+pub with_both : (t : InfoTable) (order : Order) (a b : List ℕ) (own : TextsData) (n : ℕ) → order ≡ t.order
+    → Some a ≡ bytes_had STRINGS_LIMIT t.abbreviations → bytes_had SECTION_LIMIT t.info ≡ Some b
+    → AreHad order a b t own → directory order a own b n ≡ said_in t n
+with_both t order a b own n ordered abbreviations info held =
+    same_directory order own (texts_had t) (entries order a b) n (saying n (entries order a b)) refl
+    held.str held.line_str held.str_offsets
+    ∙ ap (λ (o : Order). directory o a (texts_had t) b n) ordered
+    ∙ ap (option_and_then (λ (a : List ℕ). directory t.order a (texts_had t) b n)) abbreviations
+    ∙ sym (ap (option_and_then (λ (info : List ℕ). option_and_then
+    (λ (a : List ℕ). directory t.order a (texts_had t) info n) (bytes_had STRINGS_LIMIT t.abbreviations))) info)
 
-    by_info : (info known : Option (List ℕ)) → Settles t.order abbreviations b info
-        → IfSome known (λ whole. abbreviations ≡ whole)
-        → IfSome info (λ info. IfSome known (λ whole. (texts : TextsData) × AreTexts t texts
-        × ((n : ℕ) → f n ≡ directory t.order whole texts info n)))
-    by_info None known settles same = tt
-    by_info (Some info) known settles same = by_abbreviations info known settles same
+-- none, where the places can't be had
+pub none_found : (t : InfoTable) (order : Order) (found : Option Places) (n : ℕ) → found ≡ None
+    → AreFound order t.abbreviations t.info found → said_in t n ≡ None
+none_found t order (Some places) n is found = absurd (cc is)
+none_found t order None n is found = by (bytes_had STRINGS_LIMIT t.abbreviations) refl found
+  where
+    by : (a : Option (List ℕ)) → bytes_had STRINGS_LIMIT t.abbreviations ≡ a
+        → MatchOption a (◌≡◌ {A = Option Places} None None) (λ a. ArePlaces order a t.info None) → said_in t n ≡ None
+    by None is found = without_abbreviations t n (sym is)
+    by (Some a) is found = without_info t n found
 
--- those that were read
-pub read_said : {S : Type 0} {g : _} (all_bytes : S → Option (List ℕ)) (file : InfoFile S g) (t : InfoTable)
-    (items abbreviations b : List ℕ) (held texts : TextsData) (f : ℕ → Option (List ℕ))
-    → GivesInfo all_bytes file t
-    → IsHeldAs (Some t.abbreviations) (Some items) → abbreviations ≡ items
-    → Settles file.order abbreviations b (line_remaining all_bytes file.info)
-    → AreHeld file.order abbreviations b t held → texts ≡ held
-    → ((n : ℕ) → f n ≡ directory file.order abbreviations texts b n) → AreSaid t f
-read_said all_bytes file t items abbreviations b held texts f gives whole viewed settles sections read is =
-    said t abbreviations b held f
-    (subst (λ (a : List ℕ). IsHeldAs (Some t.abbreviations) (Some a)) (sym viewed) whole)
-    (subst (λ (k : Option (List ℕ)). Settles t.order abbreviations b k)
-    (line_known all_bytes file.info t.info gives.info)
-    (subst (λ (o : Order). Settles o abbreviations b (line_remaining all_bytes file.info)) gives.order settles))
-    (subst (λ (o : Order). AreHeld o abbreviations b t held) gives.order sections)
-    (λ n. is n ∙ ap (λ (s : TextsData). directory file.order abbreviations s b n) read
-    ∙ ap (λ (o : Order). directory o abbreviations held b n) gives.order)
+-- those with the places that were found
+pub some_found : (t : InfoTable) (order : Order) (found : Option Places) (places : Places) (held texts : TextsData)
+    (f : ℕ → Option (List ℕ)) → found ≡ Some places → AreFound order t.abbreviations t.info found → order ≡ t.order
+    → ((a b : List ℕ) → AreOf places order a b → AreHad order a b t held) → texts ≡ held
+    → ((a b : List ℕ) → AreOf places order a b → (n : ℕ) → f n ≡ directory order a texts b n)
+    → (n : ℕ) → f n ≡ said_in t n
+some_found t order None places held texts f is found ordered had same directories = absurd (cc is)
+some_found t order (Some own) places held texts f is found ordered had same directories =
+    by (bytes_had STRINGS_LIMIT t.abbreviations) refl found
+  where
+    by : (a : Option (List ℕ)) → bytes_had STRINGS_LIMIT t.abbreviations ≡ a
+        → MatchOption a (◌≡◌ {A = Option Places} (Some own) None) (λ a. ArePlaces order a t.info (Some own))
+        → (n : ℕ) → f n ≡ said_in t n
+    by None with_none found = absurd (cc found)
+    by (Some a) with_some (b, info, own_are) =
+        let one : own ≡ places = cc is in
+        let are = subst (λ (p : Places). AreOf p order a b) one own_are in
+        λ n. directories a b are n ∙ ap (λ (s : TextsData). directory order a s b n) same
+        ∙ with_both t order a b held n ordered (sym with_some) info (had a b are)
 
 -- those of a file that was opened
 pub of_file : {S : Type 0} {g : _} (all_bytes : S → Option (List ℕ)) (bytes : List ℕ) (opened : Option (InfoFile S g))
     (file : InfoFile S g) (f : ℕ → Option (List ℕ)) → opened ≡ Some file
     → (t : Option InfoTable) × HasInfo bytes t × GivesInfoOption all_bytes opened t
-    → ((t : InfoTable) → GivesInfo all_bytes file t → AreSaid t f) → AreDirectories bytes f
+    → ((t : InfoTable) → GivesInfo all_bytes file t → (n : ℕ) → f n ≡ said_in t n) → AreDirectories bytes f
 of_file all_bytes bytes None file f is given said = absurd (cc is)
 of_file all_bytes bytes (Some other) file f is (None, has, gives) said = absurd gives
 of_file {S = S} {g = g} all_bytes bytes (Some other) file f is (Some t, has, gives) said =
     let same : other ≡ file = cc is in
-    inr (t, has, said t (subst (λ (x : InfoFile S g). GivesInfo all_bytes x t) same gives))
+    (Some t, has, said t (subst (λ (x : InfoFile S g). GivesInfo all_bytes x t) same gives))
+
+-- a file that was opened has units
+pub has_units : {S : Type 0} {g : _} (all_bytes : S → Option (List ℕ)) (bytes : List ℕ) (opened : Option (InfoFile S g))
+    (file : InfoFile S g) → opened ≡ Some file
+    → (t : Option InfoTable) × HasInfo bytes t × GivesInfoOption all_bytes opened t → HasUnits bytes
+has_units all_bytes bytes None file is given = absurd (cc is)
+has_units all_bytes bytes (Some other) file is (None, has, gives) = absurd gives
+has_units all_bytes bytes (Some other) file is (Some t, has, gives) = (t, has)
+
+-- one without units
+pub of_none : {S : Type 0} {g : _} (all_bytes : S → Option (List ℕ)) (bytes : List ℕ) (opened : Option (InfoFile S g))
+    (f : ℕ → Option (List ℕ)) → opened ≡ None
+    → (t : Option InfoTable) × HasInfo bytes t × GivesInfoOption all_bytes opened t
+    → ((n : ℕ) → f n ≡ None) → AreDirectories bytes f
+of_none all_bytes bytes (Some other) f is given none = absurd (cc is)
+of_none all_bytes bytes None f is (None, has, gives) none = (None, has, none)
+of_none all_bytes bytes None f is (Some t, has, gives) none = absurd (cc gives)

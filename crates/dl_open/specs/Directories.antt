@@ -1,26 +1,54 @@
 -- The directories in which the units of a file were compiled. f: the bytes of the file; g: the directory of the line table at
 -- an offset, where it is known. DWARF 5, section 3.1.1.
-use Rattle.std.specs.Prelude.{◌≡◌, ◌⊎◌, ℕ, List, Option, Some, None, IfSome}
+use Rattle.std.specs.Prelude.{◌≡◌, ◌⊎◌, ℕ, if◌then◌else◌, nat_le, List, length, Option, Some, None, option_and_then}
+use Rattle.std.specs.declared.io.Error.{Error}
+use Rattle.dl_elf.specs.declared.fault.ElfFault.{ElfFault}
+use Rattle.dl_elf.specs.declared.fault.ElfFault.TheVariants.{Read, NoMemory}
 use Rattle.dl_dirs.specs.Texts.{TextsData}
 use Rattle.dl_dirs.specs.Units.{directory}
-use Rattle.dl_file.specs.InfoTable.{HasInfo, InfoTable}
-use Rattle.dl_open.specs.Tables.{IsHeldAs, known_bytes}
+use Rattle.dl_file.specs.InfoTable.{HasInfo, InfoTable, TakesInfoMemory}
+use Rattle.dl_file.specs.LineTable.{Content, Inflated, Plain}
+use Rattle.dl_run.specs.declared.options.TheConstants.{SECTION_LIMIT}
+use Rattle.dl_open.specs.declared.strings.TheConstants.{STRINGS_LIMIT}
 
--- no directory is known
-abbrev pub AreNone : (ℕ → Option (List ℕ)) → Type 0
-AreNone g = (n : ℕ) → g n ≡ None
+-- ---- the bytes of a section, where they can be had: its stream isn't damaged, and there are no more than the limit
 
--- these are the bytes of the sections in which texts stand, each where the file has it
-pub record AreTexts (t : InfoTable) (texts : TextsData) : Type 0 where
-  pub str_offsets : IsHeldAs t.str_offsets texts.str_offsets
-  pub str : IsHeldAs t.str texts.debug_str
-  pub line_str : IsHeldAs t.line_str texts.debug_line_str
+abbrev pub within : (limit : ℕ) → List ℕ → Option (List ℕ)
+within limit bytes = if nat_le (length bytes) limit then Some bytes else None
 
--- the directories are those that .debug_info says, where its bytes and those of .debug_abbrev are known
-abbrev pub AreSaid : InfoTable → (ℕ → Option (List ℕ)) → Type 0
-AreSaid t g = IfSome (known_bytes t.info) (λ info. IfSome (known_bytes t.abbreviations) (λ abbreviations.
-    (texts : TextsData) × AreTexts t texts × ((n : ℕ) → g n ≡ directory t.order abbreviations texts info n)))
+abbrev pub bytes_had : (limit : ℕ) → Content → Option (List ℕ)
+bytes_had limit (Plain bytes) = within limit bytes
+bytes_had limit (Inflated name known None) = option_and_then (within limit) known
+bytes_had limit (Inflated name known (Some at)) = None
 
--- these of a file; none, where it has no such units, or a section of them can't be read
+-- ---- the directories
+
+-- the sections in which texts stand; one that can't be had is as one that the file lacks
+abbrev pub texts_had : InfoTable → TextsData
+texts_had t = record {
+  str_offsets = option_and_then (bytes_had STRINGS_LIMIT) t.str_offsets;
+  debug_str = option_and_then (bytes_had STRINGS_LIMIT) t.str;
+  debug_line_str = option_and_then (bytes_had STRINGS_LIMIT) t.line_str;
+}
+
+-- the directory of the line table at an offset, as .debug_info says it; None where that or .debug_abbrev can't be had
+abbrev pub said_in : InfoTable → (offset : ℕ) → Option (List ℕ)
+said_in t offset = option_and_then (λ info. option_and_then (λ abbreviations.
+    directory t.order abbreviations (texts_had t) info offset) (bytes_had STRINGS_LIMIT t.abbreviations))
+    (bytes_had SECTION_LIMIT t.info)
+
+-- these of a file; none, where it has no such units
 abbrev pub AreDirectories : List ℕ → (ℕ → Option (List ℕ)) → Type 0
-AreDirectories f g = AreNone g ⊎ ((t : InfoTable) × HasInfo f (Some t) × AreSaid t g)
+AreDirectories f g = (t : Option InfoTable) × HasInfo f t × ((n : ℕ) → g n ≡ option_and_then (λ t. said_in t n) t)
+
+-- ---- why they aren't known. fails: the errors that reading the file may give
+
+-- the file has such units
+abbrev pub HasUnits : List ℕ → Type 0
+HasUnits f = (t : InfoTable) × HasInfo f (Some t)
+
+-- a read failed, or memory was refused: for a stream or for relocations, or for what is kept of the units
+abbrev pub RefusesDirectories : (fails : Error → Type 0) (f : List ℕ) → ElfFault → Type 0
+RefusesDirectories fails f (Read error) = fails error ⊎ HasUnits f
+RefusesDirectories fails f NoMemory = TakesInfoMemory f ⊎ HasUnits f
+RefusesDirectories fails f other = ⊥

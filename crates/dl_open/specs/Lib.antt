@@ -4,6 +4,7 @@ pub mod DebugFile
 pub mod Stops
 pub mod Files
 pub mod Parts
+pub mod Pieces
 pub mod Tables
 pub mod Code
 pub mod Directories

@@ -1,37 +1,26 @@
 //! The directories in which the units of a file were compiled, as its `.debug_info` says them. DWARF 5, section 3.1.1.
-ghost use Rattle.std.specs.Prelude.{◌≡◌, ℕ, List, Option, Some, IfOk, IsTrue};
+ghost use Rattle.std.specs.Prelude.{◌≡◌, ℕ, List, Option, IfOk, IsTrue, MatchResult};
 ghost use Rattle.std.specs.Option.{option_map};
-ghost use Rattle.dl_num.specs.declared.fixed.Order.{Order};
 ghost use Rattle.dl_elf.specs.Source.{ForBytes};
 ghost use Rattle.dl_dirs.specs.Directories.{directory_at};
 ghost use Rattle.dl_dirs.specs.Holding.{AreOf};
 ghost use Rattle.dl_dirs.specs.Texts.{texts_of};
+ghost use Rattle.dl_num.specs.declared.fixed.Order.{Order};
 ghost use Rattle.dl_file.specs.InfoTable.{GivesInfo, InfoTable};
-ghost use Rattle.dl_file.specs.LineTable.{Content, Gives, GivesOption};
-ghost use Rattle.dl_open.specs.Directories.{AreDirectories, AreSaid};
-ghost use Rattle.dl_open.specs.Tables.{IsHeldAs};
-ghost use Rattle.dl_open.specs.Walked.{AreHeld, ArePlaces, IsHeldWhere, IsWalked, sections_held};
+ghost use Rattle.dl_file.specs.LineTable.{Content, Gives, GivesLine, GivesOption};
+ghost use Rattle.dl_open.specs.Directories.{AreDirectories, RefusesDirectories, said_in};
+ghost use Rattle.dl_open.specs.Walked.{AreFound, AreHad, ArePlaces, IsHadWhere, IsWalked, sections_held};
 
-use crate::strings::STRINGS_LIMIT;
+use crate::section::{PIECE, Piece, Unread, next_piece, whole};
 use dl_dirs::{Directories, NoMemory, Places, Texts, Walk};
 use dl_elf::{ElfFault, ReadAt};
-use dl_file::{ContentReader, InfoFile, open_info};
+use dl_file::{ContentReader, InfoFile, LineReader, open_info};
 use dl_num::Order;
-use dl_run::{Input, RunFault, SECTION_LIMIT, read_strings};
+use dl_run::SECTION_LIMIT;
 use std::alloc::Global;
-use std::io::Read;
 
-/// Why the bytes of a section can't be had.
-#[derive(Clone, Copy)]
-enum Missing {
-    /// A read failed, or there are too many.
-    Unreadable,
-    /// A growth was refused.
-    NoMemory,
-}
-
-/// The bytes of the sections in which the texts of directories stand; None of one in which none stands, or that the file
-/// lacks.
+/// The bytes of the sections in which the texts of directories stand; None of one in which none stands, that the file
+/// lacks, or that can't be had.
 #[derive(Drop)]
 struct TextSections {
     str_offsets: Option<Vec<u8>>,
@@ -39,80 +28,83 @@ struct TextSections {
     debug_line_str: Option<Vec<u8>>,
 }
 
-/// All bytes of a section, of which there may be 2^32.
-fn whole<S: ReadAt>(alloc: Global, section: ContentReader<'_, S>) -> Result<Vec<u8>, Missing>
-    ensures { (content : Content) → Gives S.all_bytes section.entry content
-        → IfOk result (λ bytes. IsHeldAs (Some content) (Some bytes.items)) }
-{
-    let mut section = section;
-    match read_strings(alloc, &mut section, STRINGS_LIMIT) {
-        Ok(bytes) => Ok(bytes),
-        Err(RunFault::NoMemory) => Err(Missing::NoMemory),
-        Err(_) => Err(Missing::Unreadable),
-    }
-}
-
-/// The same of a section that the file may lack; None of one that isn't wanted, which isn't read.
+/// All bytes of a section that the file may lack; None of one that isn't wanted, which isn't read.
 fn whole_where<S: ReadAt>(
     alloc: Global,
     wanted: bool,
     section: Option<ContentReader<'_, S>>,
-) -> Result<Option<Vec<u8>>, Missing>
+) -> Result<Option<Vec<u8>>, Unread>
     ensures { (content : Option Content) → GivesOption S.all_bytes section.entry content
-        → IfOk result (λ held. IsHeldWhere (IsTrue wanted) content (option_map (λ v. v.items) held)) }
+        → IfOk result (λ held. IsHadWhere (IsTrue wanted) content (option_map (λ v. v.items) held)) }
 {
     if !wanted {
         return Ok(None);
     }
     match section {
-        Some(section) => Ok(Some(whole(alloc, section)?)),
+        Some(section) => whole(alloc, &mut LineReader::File(section)),
         None => Ok(None),
     }
 }
 
-/// A walk over the units of `.debug_info`, up to its end or to where no unit begins any more.
-fn walk_over<'a, R: Read>(
+/// A walk over the units of `.debug_info`; None where its bytes can't be had.
+fn walk_over<'a, S: ReadAt>(
     alloc: Global,
     order: Order,
     abbreviations: &'a [u8],
-    info: &mut R,
-) -> Result<Walk<'a>, Missing>
-    ensures { IfOk result (IsWalked order abbreviations.entry.now (R.remaining info.old)) }
+    info: &mut LineReader<'_, S>,
+) -> Result<Option<Walk<'a>>, Unread>
+    ensures { (content : Content) → GivesLine S.all_bytes info.old content
+        → IfOk result (IsWalked order abbreviations.entry.now content) }
 {
-    let mut walk = Walk::new(alloc, order, abbreviations);
-    let mut buffer = Input::new();
     let mut left = SECTION_LIMIT;
-    while !walk.is_over() {
-        let Ok(piece) = buffer.next_piece(info) else {
-            return Err(Missing::Unreadable);
-        };
-        if piece.is_empty() {
-            return Ok(walk);
+    let mut buffer = [0; PIECE];
+    let mut walk = Walk::new(alloc, order, abbreviations);
+    loop {
+        match next_piece(info, &mut left, &mut buffer)? {
+            Piece::Bytes(piece) => {
+                walk = match walk.feed(piece) {
+                    Ok(walk) => walk,
+                    Err(NoMemory) => return Err(Unread::NoMemory),
+                };
+            }
+            Piece::End => return Ok(Some(walk)),
+            Piece::Lost => return Ok(None),
         }
-        if left < piece.len() as u64 {
-            return Err(Missing::Unreadable);
-        }
-        left -= piece.len() as u64;
-        walk = match walk.feed(piece) {
-            Ok(walk) => walk,
-            Err(_) => return Err(Missing::NoMemory),
-        };
     }
-    Ok(walk)
 }
 
-/// The places of the directories that the units of `.debug_info` say.
-fn walk_through<R: Read>(
+/// The places of the directories that the units of `.debug_info` say; None where its bytes can't be had.
+fn walk_through<S: ReadAt>(
     alloc: Global,
     order: Order,
     abbreviations: &[u8],
-    info: &mut R,
-) -> Result<Places, Missing>
-    ensures { IfOk result (ArePlaces order abbreviations.now (R.remaining info.old)) }
+    info: &mut LineReader<'_, S>,
+) -> Result<Option<Places>, Unread>
+    ensures { (content : Content) → GivesLine S.all_bytes info.old content
+        → IfOk result (ArePlaces order abbreviations.now content) }
 {
-    match walk_over(alloc, order, abbreviations, info)?.end() {
-        Ok(places) => Ok(places),
-        Err(_) => Err(Missing::NoMemory),
+    let Some(walk) = walk_over(alloc, order, abbreviations, info)? else {
+        return Ok(None);
+    };
+    match walk.end() {
+        Ok(places) => Ok(Some(places)),
+        Err(NoMemory) => Err(Unread::NoMemory),
+    }
+}
+
+/// The same by `.debug_abbrev`; None where the bytes of one of both can't be had.
+fn places_of<S: ReadAt>(
+    alloc: Global,
+    order: Order,
+    abbreviations: ContentReader<'_, S>,
+    info: &mut LineReader<'_, S>,
+) -> Result<Option<Places>, Unread>
+    ensures { (a i : Content) → Gives S.all_bytes abbreviations.entry a → GivesLine S.all_bytes info.old i
+        → IfOk result (AreFound order a i) }
+{
+    match whole(alloc, &mut LineReader::File(abbreviations))? {
+        Some(abbreviations) => walk_through(alloc, order, &abbreviations, info),
+        None => Ok(None),
     }
 }
 
@@ -124,12 +116,12 @@ impl TextSections {
         str_offsets: Option<ContentReader<'_, S>>,
         debug_str: Option<ContentReader<'_, S>>,
         debug_line_str: Option<ContentReader<'_, S>>,
-    ) -> Result<TextSections, Missing>
+    ) -> Result<TextSections, Unread>
         ensures { (order : Order) (abbreviations b : List ℕ) (t : InfoTable) → AreOf places.now order abbreviations b
             → GivesOption S.all_bytes str_offsets.entry t.str_offsets
             → GivesOption S.all_bytes debug_str.entry t.str
             → GivesOption S.all_bytes debug_line_str.entry t.line_str
-            → IfOk result (λ s. AreHeld order abbreviations b t (sections_held s)) }
+            → IfOk result (λ s. AreHad order abbreviations b t (sections_held s)) }
     {
         Ok(TextSections {
             str_offsets: whole_where(alloc, places.wants_str_offsets(), str_offsets)?,
@@ -150,10 +142,10 @@ impl TextSections {
     }
 }
 
-/// The directories that the units of a file say.
-fn read_directories<S: ReadAt>(alloc: Global, file: InfoFile<'_, S>) -> Result<Directories, Missing>
+/// The directories that the units of a file say; none, where its `.debug_info` or `.debug_abbrev` can't be had.
+fn read_directories<S: ReadAt>(alloc: Global, file: InfoFile<'_, S>) -> Result<Directories, Unread>
     ensures { (t : InfoTable) → GivesInfo S.all_bytes file.entry t
-        → IfOk result (λ d. AreSaid t (directory_at d)) }
+        → IfOk result (λ d. (n : ℕ) → directory_at d n ≡ said_in t n) }
 {
     let InfoFile {
         order,
@@ -164,28 +156,30 @@ fn read_directories<S: ReadAt>(alloc: Global, file: InfoFile<'_, S>) -> Result<D
         debug_line_str,
     } = file;
     let mut info = info;
-    let abbreviations = whole(alloc, abbreviations)?;
-    let places = walk_through(alloc, order, &abbreviations, &mut info)?;
+    let Some(places) = places_of(alloc, order, abbreviations, &mut info)? else {
+        return Ok(Directories::none(alloc));
+    };
     let sections = TextSections::read(alloc, &places, str_offsets, debug_str, debug_line_str)?;
     match places.directories(&sections.texts()) {
         Ok(directories) => Ok(directories),
-        Err(_) => Err(Missing::NoMemory),
+        Err(NoMemory) => Err(Unread::NoMemory),
     }
 }
 
 /// The directories that `.debug_info` of an open file says, by the offsets of line tables: none where the file has no such
-/// section, or it can't be read, which is no fault.
-pub fn directories_of<S: ReadAt>(alloc: Global, file: &S) -> Result<Directories, NoMemory>
-    ensures { ForBytes (S.all_bytes file.now) (λ f. IfOk result (λ d. AreDirectories f (directory_at d))) }
+/// section, or it is damaged, which is no fault.
+///
+/// `Read` where a read failed, `NoMemory` where a growth was refused.
+pub fn directories_of<S: ReadAt>(alloc: Global, file: &S) -> Result<Directories, ElfFault>
+    ensures { ForBytes (S.all_bytes file.now) (λ f. MatchResult result
+        (λ d. AreDirectories f (directory_at d)) (RefusesDirectories (S.fails_with file.now) f)) }
 {
-    let info = match open_info(alloc, file) {
-        Ok(Some(info)) => info,
-        Err(ElfFault::NoMemory) => return Err(NoMemory),
-        _ => return Ok(Directories::none(alloc)),
+    let Some(info) = open_info(alloc, file)? else {
+        return Ok(Directories::none(alloc));
     };
     match read_directories(alloc, info) {
         Ok(directories) => Ok(directories),
-        Err(Missing::NoMemory) => Err(NoMemory),
-        Err(Missing::Unreadable) => Ok(Directories::none(alloc)),
+        Err(Unread::Read(error)) => Err(ElfFault::Read(error)),
+        Err(Unread::NoMemory) => Err(ElfFault::NoMemory),
     }
 }

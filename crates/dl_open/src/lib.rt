@@ -14,6 +14,7 @@ mod files;
 mod named;
 mod not_read;
 mod object_part;
+mod section;
 mod shown;
 mod stop;
 mod strings;

@@ -4,8 +4,8 @@ ghost use Rattle.std.specs.Io.KnownBytes.{Consumes, Keeps, IsAtEnd};
 
 use std::io::{ErrorKind, Read};
 
-/// How many interruptions in a row are borne; the next one is a failure.
-const INTERRUPTIONS: u32 = 1000;
+/// How many interruptions of a read in a row are borne; the next one is a failure.
+pub const INTERRUPTIONS: u32 = 1000;
 
 /// How many bytes one read gives at most.
 const READ: usize = 4096;

@@ -21,7 +21,7 @@ pub use dl_rows::Flow;
 pub use dumping::dump;
 pub use fault::RunFault;
 pub use finding::find;
-pub use input::{Input, ReadFailed};
+pub use input::{INTERRUPTIONS, Input, ReadFailed};
 pub use options::{Options, SECTION_LIMIT};
 pub use passing_over::{PassedOver, passed_over};
 pub use section::{Visitor, read_units};

@@ -24,7 +24,6 @@ use Rattle.dl_addr.specs.declared.question.Question.{Question}
 use Rattle.dl_addr.specs.declared.style.Form.{Form}
 use Rattle.dl_addr.specs.declared.style.Form.TheVariants.{Location, AddressAndLocation, Json}
 use Rattle.dl_open.specs.declared.fault.FileFault.{FileFault}
-use Rattle.dl_open.specs.declared.fault.FileFault.TheVariants.{NoMemory}
 use Rattle.dl_open.specs.declared.stop.FileStop.{FileStop}
 use Rattle.dl_open.specs.Code.{RefusesCode, live_by}
 use Rattle.dl_open.specs.Stops.{IsAt}
@@ -36,7 +35,7 @@ use Rattle.dl_work.specs.Asked.{WithoutTable, section_of}
 use Rattle.dl_work.specs.Located.{located}
 use Rattle.dl_work.specs.Stops.{over_file, stop_of}
 use Rattle.dl_work.specs.Tables.{OnFile}
-use Rattle.dl_work.specs.Compiled.{AreFound, wants_directories}
+use Rattle.dl_work.specs.Compiled.{AreFound, RefusesFinding}
 use Rattle.dl_work.specs.Units.{file_units, is_size}
 use Rattle.dl_work.specs.Work.{OnInput, StopsBefore}
 
@@ -138,10 +137,9 @@ Unanswered w bytes left start now =
     ⊎ ((lines : AskedLines) × (q : Question) × HasAsked w (asked_in_words w) bytes left lines
     × Asks w lines.asked.items (λ a. true) (said_directory w) q × WithoutTable (Addr q) start now)
 
--- it can't be told where the file has code, or memory was refused for the directories in which its units were compiled
+-- it can't be told where the file has code, or in which directories its units were compiled
 abbrev pub RefusesOpening : AddrTexts → (fails : Error → Type 0) (f : List ℕ) → FileFault → Type 0
-RefusesOpening w fails f fault =
-    RefusesCode fails f fault ⊎ ((fault ≡ NoMemory) × (wants_directories w ≡ true))
+RefusesOpening w fails f fault = RefusesCode fails f fault ⊎ RefusesFinding w fails f fault
 
 -- the directory that the words say of all units, or else those that were found
 abbrev pub compiled_by : AddrTexts → (found : ℕ → Option (List ℕ)) → (unit : ℕ) → Option (List ℕ)

@@ -1,12 +1,11 @@
 //! In which directories the units were compiled whose addresses are looked up.
-ghost use Rattle.std.specs.Prelude.{◌≡◌, ℕ, true, MatchResult};
+ghost use Rattle.std.specs.Prelude.{◌≡◌, ℕ, MatchResult};
 ghost use Rattle.std.specs.Option.{option_or};
 ghost use Rattle.dl_cmd.specs.Job.{addr_words_made};
 ghost use Rattle.dl_dirs.specs.Compilation.{directory_by};
 ghost use Rattle.dl_dirs.specs.Directories.{directory_at};
 ghost use Rattle.dl_elf.specs.Source.{ForBytes};
-ghost use Rattle.dl_open.specs.declared.fault.FileFault.TheVariants.{NoMemory};
-ghost use Rattle.dl_work.specs.Compiled.{AreFound, wants_directories};
+ghost use Rattle.dl_work.specs.Compiled.{AreFound, RefusesFinding, wants_directories};
 
 use crate::command::directory_said;
 use dl_cmd::AddrWords;
@@ -30,14 +29,14 @@ pub fn directories_for<S: ReadAt>(
 ) -> Result<Directories, FileFault>
     ensures { ForBytes (S.all_bytes file.now) (λ f. MatchResult result
         (λ found. AreFound (addr_words_made words.now) f (directory_at found))
-        (λ fault. (fault ≡ NoMemory) × (wants_directories (addr_words_made words.now) ≡ true))) }
+        (RefusesFinding (addr_words_made words.now) (S.fails_with file.now) f)) }
 {
     if !wants_directories(words) {
         return Ok(Directories::none(alloc));
     }
     match directories_of(alloc, file) {
         Ok(found) => Ok(found),
-        Err(_) => Err(FileFault::NoMemory),
+        Err(fault) => Err(FileFault::Elf(fault)),
     }
 }
 

@@ -1,12 +1,16 @@
+use Rattle.std.proofs.Common.{sym, ◌∙◌}
 use Rattle.dl_dirs.specs.Directories.{directory_at}
-use Rattle.dl_open.proofs.DirectoriesLemmas.{read_said}
+use Rattle.dl_open.proofs.DirectoriesLemmas.{none_found, some_found}
 use Rattle.dl_open.proofs.directories.read_directories.Goals as goal
 
+pub returns-in_default : goal.returns-in_default
+returns-in_default g c t gives n =
+    c.none.ensures n ∙ sym (none_found t c.args.file.order c.in_ok-places.field-0 n c.in_default.is
+    (c.in_ok-places.ensures t.abbreviations t.info gives.abbreviations gives.info))
+
 pub returns-in-Ok : goal.returns-in-Ok
-returns-in-Ok g c t gives =
-    let placed = c.in_ok-places.ensures in
-    read_said {S = g.row.S.Denot} g.S.ReadAt.all_bytes c.args.file t c.in_ok-abbreviations.abbreviations.items
-    c.deref.result.now placed.0 _ _ (directory_at c.in-Ok.directories) gives
-    (c.in_ok-abbreviations.ensures t.abbreviations gives.abbreviations) c.deref.ensures.value placed.2
-    (c.in_ok-sections.ensures _ _ placed.0 t placed.1 gives.str_offsets gives.str gives.line_str)
-    c.texts.ensures (c.in-Ok.ensures.found _ _ placed.0 placed.1)
+returns-in-Ok g c t gives = some_found t c.args.file.order c.in_ok-places.field-0 c.in-Some.places _ _
+    (directory_at c.in-Ok.directories) c.in-Some.is
+    (c.in_ok-places.ensures t.abbreviations t.info gives.abbreviations gives.info) gives.order
+    (λ a b are. c.in_ok-sections.ensures _ a b t are gives.str_offsets gives.str gives.line_str)
+    c.texts.ensures (λ a b are. c.in-Ok.ensures.found _ a b are)

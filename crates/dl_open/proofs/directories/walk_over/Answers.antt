@@ -1,44 +1,20 @@
-use Rattle.std.proofs.Common.{◌++◌, [], sym, ◌∙◌}
-use Rattle.std.proofs.KnownBytes.{Consumes-nil, Consumes-trans}
-use Rattle.dl_open.proofs.NamedLemmas.{empty_is}
-use Rattle.dl_open.proofs.DirectoriesLemmas.{settled_at_end, settled_by}
+use Rattle.std.proofs.Common.{◌++◌, sym, ◌∙◌}
+use Rattle.dl_open.proofs.SectionLemmas.{had_all, lost, taken}
 use Rattle.dl_open.proofs.directories.walk_over.Goals as goal
 
-pub loop-buffer-init : goal.loop-buffer-init
-loop-buffer-init g c = record {
-  read = ([], Consumes-nil _, c.new-walk.ensures);
-}
-
-pub returns-then-is_empty : goal.returns-then-is_empty
-returns-then-is_empty g c =
-    let l = c.loop-buffer in
+pub loop-walk-preserved : goal.loop-walk-preserved
+loop-walk-preserved g c =
+    let l = c.loop-walk in
     let read = l.invariant.read in
-    let nothing = empty_is c.in-Ok.piece.now (sym c.is_empty.ensures ∙ c.if-is_empty.true) in (
-      read.0,
-      read.2,
-      settled_at_end c.args.order c.args.abbreviations.now read.0 c.in-Ok.piece.now _ _
-          (Consumes-trans _ _ _ read.0 c.in-Ok.piece.now read.1 c.in-Ok.ensures.ok) nothing (c.in-Ok.ensures.end nothing),
-    )
-
-pub loop-buffer-preserved : goal.loop-buffer-preserved
-loop-buffer-preserved g c =
-    let l = c.loop-buffer in
-    let read = l.invariant.read in
-    let piece = c.in-Ok.piece.now in
+    let more = taken _ _ _ _ _ _ _ read.0 c.in_ok-piece.field-0 c.in-Bytes.is read.1 read.3 c.in_ok-piece.ensures.piece in
     record {
-      read = (
-        read.0 ++ piece,
-        Consumes-trans _ _ _ read.0 piece read.1 c.in-Ok.ensures.ok,
-        c.in-Ok-feed.ensures.stands _ _ read.0 read.2,
-      );
+      damage = c.next_piece.ensures.damage ∙ l.invariant.damage;
+      read = (read.0 ++ c.in-Bytes.piece.now, more.0, c.in-Ok.ensures.stands _ _ read.0 read.2, more.1);
     }
 
-pub returns : goal.returns
-returns g c =
-    let l = c.loop-buffer in
-    let read = l.invariant.read in (
-      read.0,
-      read.2,
-      settled_by c.args.order c.args.abbreviations.now read.0 _ _ read.1
-          (λ rest is t n. c.is_over.ensures _ _ read.0 rest t n read.2 c.loop-buffer-test.false),
-    )
+pub returns-in-Lost : goal.returns-in-Lost
+returns-in-Lost g c content gives =
+    let read = c.loop-walk.invariant.read in
+    sym (lost {S = g.row.S.Denot} g.S.ReadAt.all_bytes c.args.info.now c.loop-walk.info c.next_piece.new.section
+    content _ _ _ read.0 c.in_ok-piece.field-0 c.in-Lost.is gives read.1 read.3 c.loop-walk.invariant.damage
+    c.in_ok-piece.ensures.piece)

@@ -1,6 +1,9 @@
+use Rattle.std.proofs.Common.{subst}
+use Rattle.dl_open.specs.Walked.{IsWalked}
 use Rattle.dl_open.proofs.directories.walk_through.Goals as goal
 
 pub returns-in-Ok : goal.returns-in-Ok
-returns-in-Ok g c =
-    let walked = c.in_ok-walk_over.ensures in
-    (walked.0, c.in-Ok.ensures.places _ _ walked.0 walked.1, walked.2)
+returns-in-Ok g c content gives =
+    let walked = subst (IsWalked c.args.order c.args.abbreviations.now content) c.in-Some.is
+    (c.in_ok-walk.ensures content gives) in
+    (walked.0, walked.1, c.in-Ok.ensures.places _ _ walked.0 walked.2)

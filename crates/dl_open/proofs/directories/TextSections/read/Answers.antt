@@ -1,12 +1,12 @@
-use Rattle.dl_open.proofs.DirectoriesLemmas.{held_for}
+use Rattle.dl_open.proofs.DirectoriesLemmas.{had_for}
 use Rattle.dl_open.proofs.directories.TextSections.read.Goals as goal
 
 pub returns : goal.returns
 returns g c order abbreviations b t placed offsets str line = record {
-  str_offsets = held_for _ _ t.str_offsets _ (c.wants_str_offsets.ensures order abbreviations b placed).1
+  str_offsets = had_for _ _ t.str_offsets _ (c.wants_str_offsets.ensures order abbreviations b placed).1
       (c.in_ok-whole_where.ensures t.str_offsets offsets);
-  str = held_for _ _ t.str _ (c.wants_str.ensures order abbreviations b placed).1
+  str = had_for _ _ t.str _ (c.wants_str.ensures order abbreviations b placed).1
       (c.in_ok-whole_where-2.ensures t.str str);
-  line_str = held_for _ _ t.line_str _ (c.wants_line_str.ensures order abbreviations b placed).1
+  line_str = had_for _ _ t.line_str _ (c.wants_line_str.ensures order abbreviations b placed).1
       (c.in_ok-whole_where-3.ensures t.line_str line);
 }
