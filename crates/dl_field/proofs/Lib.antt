@@ -10,6 +10,7 @@ pub mod ListLemmas
 pub mod PairLemmas
 pub mod SameLists
 pub mod SameTables
+pub mod TableRuns
 pub mod TakenLemmas
 pub mod ValueFields
 pub mod ValueLaws

@@ -9,16 +9,13 @@ use Rattle.dl_table.specs.declared.form.Format.{Format}
 use Rattle.dl_table.specs.TableData.{TableData}
 use Rattle.dl_table.specs.Value.{good}
 use Rattle.dl_field.specs.declared.list_reader.ListReader.{ListReader}
-use Rattle.dl_field.specs.declared.table_reader.TableReader.{TableReader}
 use Rattle.dl_field.specs.Cells.{rest_cells}
 use Rattle.dl_field.specs.FieldRuns.{EndEach, TakesFields}
 use Rattle.dl_field.specs.Layout.{Layout, Item, following, following_all, field_spelt}
 use Rattle.dl_field.specs.ListPlace.{AmongList, TakesListed, SameList, list_cells}
-use Rattle.dl_field.specs.TableMoves.{AmongTable, TakesValue, SameTable}
-use Rattle.dl_field.specs.TablePlace.{field_cells, reader_cells}
+use Rattle.dl_field.specs.TablePlace.{field_cells}
 use Rattle.dl_field.proofs.FieldLemmas.{following_all-append}
 use Rattle.dl_field.proofs.SameLists.{list_same}
-use Rattle.dl_field.proofs.SameTables.{table_same}
 
 -- a field more
 each_push : (order : Order) (values : List (List ℕ)) (items : List Item) (layout : Layout) (rest w left : List ℕ)
@@ -122,20 +119,32 @@ module _ {T : Type 0} (order : Order) (Among : T → (TableData → Layout) → 
           );
     }
 
--- ---- the two readers
+-- a run of values, of readers that stand for others where it begins and where it ends
+pub run_between : {T U : Type 0} (order : Order) (Among : T → (TableData → Layout) → Layout → List ℕ → Type 0)
+    (Stands : U → (TableData → Layout) → Layout → List ℕ → Type 0) (cells_of : T → ℕ) (cells_in : U → ℕ)
+    (old mid : T) (first new : U) (bytes rest : List ℕ) → TakenUpTo order Among cells_of old bytes rest mid
+    → ((next : TableData → Layout) (layout : Layout) (w : List ℕ) → Stands first next layout w
+    → Among old next layout w)
+    → cells_in first ≡ cells_of old
+    → ((next : TableData → Layout) (layout : Layout) (w : List ℕ) → Among mid next layout w → Stands new next layout w)
+    → cells_in new ≡ cells_of mid
+    → TakesFields order Stands cells_in first (take (length bytes - length rest) bytes) new
+run_between order Among Stands cells_of cells_in old mid first new bytes rest t begins cells ends more =
+    let run = run_ends order Among cells_of old mid mid bytes rest t (λ next layout w among. among) refl in
+    record {
+      values = run.values;
+      bytes_are = run.bytes_are;
+      each = λ next layout w stands.
+          let s = run.each next layout w (begins next layout w stands) in (
+            s.0,
+            s.1,
+            subst (λ (n : ℕ). EndEach order layout w run.values s.0 n (cells_in new) s.1) (sym cells)
+                (subst (λ (n : ℕ). EndEach order layout w run.values s.0 (cells_of old) n s.1) (sym more) s.2),
+            ends next (following_all layout s.0) s.1 s.3,
+          );
+    }
 
-pub table_value : (order : Order) (format : Format) (old new : TableReader) (bytes tail : List ℕ)
-    → (v : TakesValue order format old bytes tail new)
-    → EndsField order (AmongTable order format) reader_cells old v.0.front new
-table_value order format old new bytes tail v = λ next layout rest among.
-    let made = v.0.follows.made among.1 next layout rest among.0 in
-    (made.0, made.1, v.0.follows.cells among.1 next layout rest among.0, (made.2, v.1))
-
-pub table_kept : (order : Order) (format : Format) (old new : TableReader) → SameTable old new
-    → (next : TableData → Layout) (layout : Layout) (rest : List ℕ) → AmongTable order format old next layout rest
-    → AmongTable order format new next layout rest
-table_kept order format old new same next layout rest among =
-    (table_same order old new format next layout rest same among.0, λ whole. among.1 (sym same.phase ∙ whole))
+-- ---- the reader of a table of versions 2 to 4
 
 pub listed_value : (order : Order) (format : Format) (old new : ListReader) (bytes tail : List ℕ)
     → (v : TakesListed old bytes tail new) → EndsField order (AmongList format) list_cells old v.front new

@@ -28,8 +28,8 @@ use Rattle.dl_table.specs.Text.{text_in}
 use Rattle.dl_field.specs.TableStep.{value_due}
 use Rattle.dl_field.specs.Layout.{Layout}
 use Rattle.dl_field.specs.TablePlace.{InValue, TableAt}
-use Rattle.dl_field.specs.TableMoves.{OneCell, TableMade, Enters, EntersAt, InFront, LebInFront, IsLast}
-use Rattle.dl_field.specs.TableMoves.{SameTable, TakesFront, TakesValue, has_bytes}
+use Rattle.dl_field.specs.TableMoves.{OneCell, TableMade, Enters, EntersAt, InFront, LebInFront}
+use Rattle.dl_field.specs.TableMoves.{SameTable, TakesFront, has_bytes}
 use Rattle.dl_field.proofs.FieldLemmas.{none_some}
 use Rattle.dl_table.proofs.TextLemmas.{text_in-position}
 use Rattle.dl_field.proofs.PairLemmas.{table_at}
@@ -83,10 +83,6 @@ sixteen_in_front order s bytes sixteen tail new first later long = record {
 
 -- ---- the value is entered
 
--- a place among the values isn't the table's end
-pub among_values : (t : TableReader) (at : Cursor) (v : ValuePhase) → t.phase ≡ phase.Value at v → t.phase ≢ phase.Whole
-among_values t at v is whole = let e : phase.Value at v ≡ phase.Whole = sym is ∙ whole in absurd cc
-
 -- the reader isn't in a block
 pub in_value : (order : Order) (t : TableReader) (at : Cursor) (v : ValuePhase) (format : Format)
     (next : TableData → Layout) (layout : Layout) (rest : List ℕ) → value_due v ≡ 0
@@ -137,28 +133,6 @@ pub front_entered : (order : Order) (old new : TableReader) (at : Cursor) (v : V
 front_entered order old new at v h format bytes tail o is front = answer-map o (λ same. same) λ rest made.
     subst (λ (l : List ℕ). TakesFront order format old bytes l new) (sym made.0)
     (value_taken order old new at v h format bytes tail is front made.1.0 made.1.1)
-
--- the same, of a value that another one follows
-pub value_entered : (order : Order) (old new : TableReader) (at : Cursor) (v : ValuePhase) (h : StoredValue)
-    (format : Format)
-    (bytes tail : List ℕ) (o : Option (Bor (List ℕ))) → old.phase ≡ phase.Value at v
-    → (IsLast at (length old.pairs.items) → ⊥) → InFront order v bytes h tail
-    → MatchOption o (SameTable old new) (λ rest. (rest.now ≡ tail) × EntersAt old at h format new)
-    → MatchOption o (SameTable old new) (λ rest. TakesValue order format old bytes rest.now new)
-value_entered order old new at v h format bytes tail o is more front = answer-map o (λ same. same) λ rest made. (
-  subst (λ (l : List ℕ). TakesFront order format old bytes l new) (sym made.0)
-      (value_taken order old new at v h format bytes tail is front made.1.0 made.1.1),
-  λ whole. more (made.1.2 whole (among_values old at v is)),
-)
-
--- the same, of a text
-pub text_entered : (order : Order) (old new : TableReader) (at : Cursor) (format : Format) (bytes : List ℕ)
-    (o : Option (Bor (List ℕ))) → (IsLast at (length old.pairs.items) → ⊥)
-    → MatchOption o (SameTable old new) (λ tail. ((p : Order) → TakesFront p format old bytes tail.now new)
-    × (new.phase ≡ phase.Whole → IsLast at (length old.pairs.items)))
-    → MatchOption o (SameTable old new) (λ tail. TakesValue order format old bytes tail.now new)
-text_entered order old new at format bytes o more = answer-map o (λ same. same) λ rest made.
-    (made.0 order, λ whole. more (made.1 whole))
 
 -- ---- texts
 

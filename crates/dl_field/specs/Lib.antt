@@ -11,4 +11,5 @@ pub mod TablePlace
 pub mod FieldRuns
 pub mod ListStep
 pub mod TableMoves
+pub mod TableRuns
 pub mod ListPlace

@@ -117,10 +117,6 @@ Moves old width (Some new) =
     ((old.column + 1 < width) × (new.column ≡ old.column + 1) × (new.left ≡ old.left))
     ⊎ ((width ≤ old.column + 1) × (2 ≤ old.left) × (new.column ≡ 0) × (new.left ≡ old.left - 1))
 
--- no value follows the one at the place, where an entry has `width`
-abbrev pub IsLast : Cursor → ℕ → Type 0
-IsLast at width = (width ≤ at.column + 1) × (at.left ≤ 1)
-
 -- `begin_value`, `end_value`: the values before the place are complete
 abbrev pub GoesOn : List Pair → List ℕ → List StoredValue → ℕ → ℕ → Format → TableReader → Type 0
 GoesOn pairs pool values column left format new =
@@ -139,11 +135,9 @@ Enters old at h format byte_makes.Ends new =
 Enters old at h format byte_makes.NoMemory new = SameTable old new
 Enters old at h format result new = ⊥
 
--- `enter_front`: the value is complete, and unless it is the last one another one follows it
+-- `enter_front`: the value is complete
 abbrev pub EntersAt : TableReader → Cursor → StoredValue → Format → TableReader → Type 0
-EntersAt old at h format new =
-    Enters old at h format byte_makes.Ends new × OneCell old byte_makes.Ends new
-    × (new.phase ≡ phase.Whole → (old.phase ≡ phase.Whole → ⊥) → IsLast at (length old.pairs.items))
+EntersAt old at h format new = Enters old at h format byte_makes.Ends new × OneCell old byte_makes.Ends new
 
 -- `begin_block`: a block of this size, whose length is read; its bytes follow, or it is complete, or memory was refused
 abbrev pub BeginsBlock : TableReader → Cursor → ℕ → Format → FieldStep → TableReader → Type 0
@@ -252,10 +246,6 @@ pub record TakesFront (order : Order) (format : Format) (old : TableReader) (byt
   pub bytes_are : bytes ≡ front ++ tail
   pub some : 1 ≤ length front
   pub follows : BytesFollow order format old front byte_makes.Ends new
-
--- `whole_value`: and another value follows it
-abbrev pub TakesValue : Order → Format → TableReader → List ℕ → List ℕ → TableReader → Type 0
-TakesValue order format old bytes tail new = TakesFront order format old bytes tail new × (new.phase ≡ phase.Whole → ⊥)
 
 -- the reader is in the bytes rest of a field of a table that isn't whole
 abbrev pub AmongTable : Order → Format → TableReader → (TableData → Layout) → Layout → List ℕ → Type 0

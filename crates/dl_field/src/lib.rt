@@ -8,6 +8,7 @@ mod sixteen;
 pub mod table_reader;
 mod value_phase;
 mod value_reader;
+mod value_run;
 mod whole_listed;
 mod whole_value;
 

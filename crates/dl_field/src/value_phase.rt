@@ -1,6 +1,6 @@
 //! Where the reader of a table is among its values.
 
-ghost use Rattle.std.specs.Prelude.{◌≡◌, ◌<◌, ◌≤◌, ◌↔◌, ℕ, IsTrue, List, [], length, IfSome};
+ghost use Rattle.std.specs.Prelude.{◌≡◌, ◌<◌, ◌≤◌, ℕ, IsTrue, List, [], length, IfSome};
 
 use crate::sixteen::Sixteen;
 use dl_num::{PartialNumber, Uleb};
@@ -17,16 +17,7 @@ pub(crate) struct Cursor {
 }
 
 impl Cursor {
-    ghost use Rattle.dl_field.specs.TableMoves.{IsLast, Moves};
-
-    /// Whether no value follows, where an entry has `width` values.
-    #[inline(always)]
-    pub fn is_last(self, width: usize) -> bool
-        requires { self.column < width }
-        ensures { IsTrue result ↔ IsLast self width }
-    {
-        self.left <= 1 && self.column + 1 >= width
-    }
+    ghost use Rattle.dl_field.specs.TableMoves.{Moves};
 
     /// The place after this one, where an entry has `width` values; None after the last one.
     #[inline(always)]
@@ -69,6 +60,7 @@ pub(crate) enum ValuePhase {
 
 impl ValuePhase {
     ghost use Rattle.dl_field.specs.TablePlace.{ValueAt};
+    ghost use Rattle.dl_field.specs.TableRuns.{IsNewValue};
     ghost use Rattle.dl_field.specs.TableStep.{value_start, value_due, value_filled};
 
     /// No byte yet of a value of the form, where the next byte of the pool has this place.
@@ -94,6 +86,21 @@ impl ValuePhase {
             Form::Block2 => ValuePhase::BlockLength(PartialNumber::new(2)),
             Form::Block4 => ValuePhase::BlockLength(PartialNumber::new(4)),
             Form::Block => ValuePhase::LebBlockLength(Uleb::new()),
+        }
+    }
+
+    /// Whether it is of a common kind, no block, and no byte of it has come, where the next byte of the pool has this
+    /// place.
+    #[inline(always)]
+    pub fn is_new(self, pool_len: usize) -> bool
+        ensures { IsTrue result → IsNewValue self pool_len }
+    {
+        match self {
+            ValuePhase::Number(_, number) => number.is_new(),
+            ValuePhase::Leb(number) => number.is_new(),
+            ValuePhase::Text(start) => start == pool_len,
+            ValuePhase::Data16(sixteen) => sixteen.is_new(),
+            _ => false,
         }
     }
 }

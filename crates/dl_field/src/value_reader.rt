@@ -18,7 +18,7 @@ impl TableReader {
     ghost use Rattle.dl_field.specs.declared.value_phase.ValuePhase.TheVariants as value;
     ghost use Rattle.dl_field.specs.declared.field_step.FieldStep.TheVariants as byte_makes;
     ghost use Rattle.dl_field.specs.TablePlace.{reader_cells};
-    ghost use Rattle.dl_field.specs.TableMoves.{GoesOn, Enters, IsLast, BeginsBlock, OneCell, EachCell, ValueFollows};
+    ghost use Rattle.dl_field.specs.TableMoves.{GoesOn, Enters, BeginsBlock, OneCell, EachCell, ValueFollows};
     ghost use Rattle.dl_field.specs.TableMoves.{ValueAdds};
 
     /// Takes the next byte of a value.
@@ -207,8 +207,6 @@ impl TableReader {
         ensures goes { result ≡ byte_makes.Ends → GoesOn self.old.pairs.items self.old.pool.items
             (self.old.values.items ++ held ∷ []) (at.column + 1) at.left format self.new }
         ensures room { vec_len self.old.values < vec_capacity self.old.values → result ≡ byte_makes.Ends }
-        ensures last { self.new.phase ≡ phase.Whole → self.old.phase ≢ phase.Whole
-            → IsLast at (length self.old.pairs.items) }
     {
         if self.values.push(held).is_err() {
             return FieldStep::NoMemory;
@@ -225,7 +223,6 @@ impl TableReader {
         ensures goes { GoesOn self.old.pairs.items self.old.pool.items self.old.values.items
             (at.column + 1) at.left format self.new }
         ensures cells { reader_cells self.new ≡ reader_cells self.old }
-        ensures last { self.new.phase ≡ phase.Whole → IsLast at (length self.old.pairs.items) }
     {
         match at.next(self.pairs.len()) {
             Some(at) => self.begin_value(at, format),

@@ -18,7 +18,7 @@ use dl_table::{Extent, Form, Format, StoredValue, Word};
 /// The number or offset of this form that the bytes begin with, and the bytes after it, where none of its
 /// bytes has come. None where the bytes end before it does.
 #[inline(always)]
-fn number_at_front(
+pub(crate) fn number_at_front(
     form: Form,
     number: PartialNumber,
     order: Order,
@@ -36,7 +36,7 @@ fn number_at_front(
 /// The number in LEB128 that the bytes begin with, and the bytes after it, where none of its bytes has come.
 /// None where the bytes end before it does, and where it has more than two bytes.
 #[inline(always)]
-fn short_leb_at_front(number: Uleb, bytes: &[u8]) -> Option<(StoredValue, &[u8])>
+pub(crate) fn short_leb_at_front(number: Uleb, bytes: &[u8]) -> Option<(StoredValue, &[u8])>
     ensures { IfSome result (λ found. (order : Order)
         → InFront order (value.Leb number) bytes.entry.now found.0 found.1.now) }
 {
@@ -50,7 +50,7 @@ fn short_leb_at_front(number: Uleb, bytes: &[u8]) -> Option<(StoredValue, &[u8])
 /// The sixteen bytes that the bytes begin with, and the bytes after them, where none of them has come. None
 /// where there are fewer.
 #[inline(always)]
-fn sixteen_at_front(sixteen: Sixteen, bytes: &[u8]) -> Option<(StoredValue, &[u8])>
+pub(crate) fn sixteen_at_front(sixteen: Sixteen, bytes: &[u8]) -> Option<(StoredValue, &[u8])>
     ensures { IfSome result (λ found. (order : Order)
         → InFront order (value.Data16 sixteen) bytes.entry.now found.0 found.1.now) }
 {
@@ -109,8 +109,7 @@ fn length_at_front(value: ValuePhase, order: Order, bytes: &[u8]) -> Option<(u64
 impl TableReader {
     ghost use Rattle.dl_field.specs.declared.table_reader.TablePhase.TheVariants as phase;
     ghost use Rattle.dl_field.specs.declared.field_step.FieldStep.TheVariants as byte_makes;
-    ghost use Rattle.dl_field.specs.TableMoves.{EntersAt, EntersBlock, SameTable, TakesFront, TakesValue, IsLast};
-    ghost use Rattle.dl_field.specs.TableMoves.{BytesFollow, TakesValues};
+    ghost use Rattle.dl_field.specs.TableMoves.{BytesFollow, EntersAt, EntersBlock, SameTable, TakesFront};
 
     /// Takes a value that the bytes begin with, or else the first byte, save where memory is refused for that; the
     /// reader is then unchanged. How many bytes that is, and what they make of the field.
@@ -147,52 +146,6 @@ impl TableReader {
         self.enter_front(at, held, format, tail)
     }
 
-    /// Takes values that the bytes begin with, up to one that `push_front` takes: how many bytes they have.
-    #[inline(never)]
-    pub fn whole_values(&mut self, order: Order, format: Format, bytes: &[u8]) -> usize
-        ensures within { result ≤ length bytes.now }
-        ensures values { TakesValues order format self.old (take result bytes.now) self.new }
-    {
-        let mut rest = bytes;
-        while let Some(tail) = self.whole_value(order, format, rest) {
-            rest = tail;
-        }
-        bytes.len() - rest.len()
-    }
-
-    /// Takes a value that the bytes begin with, and gives the bytes after it, where it is of a common kind: no
-    /// block, no number in LEB128 of more than two bytes, and not the table's last value. None, and nothing is
-    /// taken, where it isn't, where the bytes end before the value does, and where memory is refused:
-    /// `push_front` takes its bytes then.
-    #[inline(always)]
-    fn whole_value<'a>(&mut self, order: Order, format: Format, bytes: &'a [u8]) -> Option<&'a [u8]>
-        ensures { MatchOption result (SameTable self.old self.new)
-            (λ tail. TakesValue order format self.old bytes.entry.now tail.now self.new) }
-    {
-        let TablePhase::Value(at, value) = self.phase else {
-            return None;
-        };
-        if at.is_last(self.pairs.len()) {
-            return None;
-        }
-        match value {
-            ValuePhase::Number(form, number) => {
-                let (held, tail) = number_at_front(form, number, order, bytes)?;
-                self.enter_front(at, held, format, tail)
-            }
-            ValuePhase::Leb(number) => {
-                let (held, tail) = short_leb_at_front(number, bytes)?;
-                self.enter_front(at, held, format, tail)
-            }
-            ValuePhase::Data16(sixteen) => {
-                let (held, tail) = sixteen_at_front(sixteen, bytes)?;
-                self.enter_front(at, held, format, tail)
-            }
-            ValuePhase::Text(start) => self.whole_text(at, start, format, bytes),
-            _ => None,
-        }
-    }
-
     /// Enters a value that is complete, after whose bytes come those that are given back. None, and nothing is
     /// entered, where memory is refused.
     #[inline(always)]
@@ -227,8 +180,7 @@ impl TableReader {
     ) -> Option<&'a [u8]>
         requires { self.old.phase ≡ phase.Value at (value.Text start) }
         ensures { MatchOption result (SameTable self.old self.new)
-            (λ tail. ((order : Order) → TakesFront order format self.old bytes.entry.now tail.now self.new)
-            × (self.new.phase ≡ phase.Whole → IsLast at (length self.old.pairs.items))) }
+            (λ tail. (order : Order) → TakesFront order format self.old bytes.entry.now tail.now self.new) }
     {
         if start != self.pool.len() {
             return None;
