@@ -1,7 +1,8 @@
 -- Paths that are kept stay, and a file's path is that of its entry.
 use Rattle.std.proofs.Common.{◌≡◌, ◌⊎◌, inl, inr, ℕ, zero, suc, Bool, true, false, List, [], ◌∷◌, ◌++◌, length, min}
 use Rattle.std.proofs.Common.{slice_get, Option, Some, None, refl, sym, ap, ap₂, ◌∙◌, arith, append_assoc, append-nil}
-use Rattle.std.proofs.Common.{subst, ⊎_elim, ◌+◌, ◌-◌, ◌<◌, ◌≤◌}
+use Rattle.std.proofs.Common.{subst, ⊎_elim, ◌+◌, ◌-◌, ◌<◌, ◌≤◌, slice_set}
+use Rattle.std.proofs.lemmas.List.{get_or-set_same, length-set}
 use Rattle.std.specs.Prelude.{◌^◌, if◌then◌else◌, nat_lt}
 use Rattle.std.specs.Prelude.{cond, option_map, unwrap_or}
 use Rattle.std.specs.BTreeMap.{BTreeMap, Updates, get, is_at}
@@ -12,7 +13,7 @@ use Rattle.std.specs.declared.cmp.Ordering.TheVariants.{Less, Equal, Greater}
 use Rattle.std.specs.Ordering.{is_eq, nat_cmp}
 use Rattle.std.proofs.lemmas.Bool.{cases_lt, true≢false}
 use Rattle.std.proofs.lemmas.Map.Lookups.{exact_unsigned}
-use Rattle.std.proofs.lemmas.Option.{slice_get_past}
+use Rattle.std.proofs.lemmas.Option.{slice_get-get_or, slice_get_past}
 use Rattle.dl_table.specs.EntryData.{with_content}
 use Rattle.dl_field.specs.HeaderData.{HeaderData}
 use Rattle.dl_table.specs.TableData.{TableData}
@@ -228,3 +229,14 @@ path_clamped u file end within e =
     ap (λ (path : Option (List ℕ)). (named u.style path, place_of u))
     (ap (λ (n : ℕ). path_of (strings_of u.strings.now) (option_copied u.header) (min file n)) e
     ∙ clamped (strings_of u.strings.now) (option_copied u.header) file within)
+
+-- the number of a place's path
+pub kept_at : (paths : Paths) (kept : List ℕ) (i k : ℕ) (path : Option (List ℕ) × PathUnit) → i < length kept
+    → HasPath paths k path → IsKept paths (slice_set kept i k) i path
+kept_at paths kept i k path within has = record {
+  number = k;
+  entry =
+      slice_get-get_or (slice_set kept i k) i 0 (let e = length-set kept i k in omega arith)
+      ∙ ap Some (get_or-set_same kept i k 0 within);
+  is = has;
+}

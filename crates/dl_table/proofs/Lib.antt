@@ -1,6 +1,7 @@
 pub mod BuildLemmas
 pub mod EqualLemmas
 pub mod HeldLemmas
+pub mod OtherForms
 pub mod RowLemmas
 pub mod SoundLemmas
 pub mod SpelledLemmas

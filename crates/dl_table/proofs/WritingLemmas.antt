@@ -21,7 +21,7 @@ use Rattle.dl_table.proofs.HeldLemmas.{length-rows, value_at}
 use Rattle.dl_table.proofs.BuildLemmas.{no_pair}
 use Rattle.dl_table.specs.declared.counted.HeadWrite.{HeadWrite}
 use Rattle.dl_table.specs.declared.counted.HeadWrite.TheVariants.{TooLong, Write}
-use Rattle.dl_table.specs.Writing.{IsOut, TellsOut}
+use Rattle.dl_table.specs.Writing.{IsOut, TellsOut, Writes, WroteMore}
 
 -- k more bytes of a slice went out
 pub Appends-slice : (start a b : Option (List ℕ)) (bytes : List ℕ) (out k : ℕ) → Appends start a (take out bytes)
@@ -71,11 +71,23 @@ module _ (start now : Option (List ℕ)) where
   pub IsOut-same : (text a b : List ℕ) (n : ℕ) → a ≡ b → IsOut start now (text ++ a) n → IsOut start now (text ++ b) n
   IsOut-same text a b n is h = subst (λ l. IsOut start now (text ++ l) n) is h
 
+  pub IsOut-nothing : (text more : List ℕ) (n : ℕ) → more ≡ [] → IsOut start now text n
+      → IsOut start now (text ++ more) n
+  IsOut-nothing text more n is h =
+      subst (λ l. IsOut start now l n) (sym (ap (λ l. text ++ l) is ∙ append-nil text)) h
+
   pub Written-same : (text a b : List ℕ) (result : Result ℕ HeadWrite) → a ≡ b
       → MatchResult result (λ n. IsOut start now (text ++ a) n) (λ f. TellsOut start now (text ++ a) f)
       → MatchResult result (λ n. IsOut start now (text ++ b) n) (λ f. TellsOut start now (text ++ b) f)
   Written-same text a b result is h =
       subst (λ l. MatchResult result (λ n. IsOut start now (text ++ l) n) (λ f. TellsOut start now (text ++ l) f)) is h
+
+-- a part, and one more on top of it
+pub both_written : (old mid new : Option (List ℕ)) (before n : ℕ) (a b : List ℕ) (result : Result ℕ HeadWrite)
+    → WroteMore old mid before n a → Writes mid new n b result → Writes old new before (a ++ b) result
+both_written old mid new before n a b result first second = λ start text h.
+    subst (λ l. MatchResult result (λ m. IsOut start new l m) (λ f. TellsOut start new l f)) (append_assoc text a b)
+    (second start (text ++ a) (first start text h))
 
 -- one part more, and the parts before it, of it and after it
 pub parts_more : {A : Type 0} (f : A → List ℕ) (xs : List A) (i : ℕ) (d : A) → i < length xs

@@ -46,3 +46,20 @@ loop-answer-preserved c =
           omega (arith, l.invariant.len))))
           (cases_lt j at);
     }
+
+pub returns-in_err-keep-clause-grows : goal.returns-in_err-keep-clause-grows
+returns-in_err-keep-clause-grows c =
+    grows_on c.args.paths.now c.loop-answer.paths c.keep.new.paths c.loop-answer.invariant.grows c.keep.ensures.grows
+
+pub returns-in_err-keep-clause-others : goal.returns-in_err-keep-clause-others
+returns-in_err-keep-clause-others c i other =
+    let at = c.loop-answer.answer-index in
+    let lt = c.loop-answer-test.true in
+    c.keep.ensures.others i (other at (omega arith))
+    ∙ c.loop-answer.invariant.others i (λ j less. other j (omega arith))
+
+pub returns-clause-others : goal.returns-clause-others
+returns-clause-others c i other = c.loop-answer.invariant.others i (λ j less. other j (omega arith))
+
+pub returns-clause-right : goal.returns-clause-right
+returns-clause-right c numbers j less = c.loop-answer.invariant.right numbers j (omega arith)
