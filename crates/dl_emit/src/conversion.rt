@@ -18,75 +18,41 @@ use arrayvec::ArrayVec;
 use dl_head::{BuildFault, Entry, Form, Format, Header, Pair, Params, Table, ValueRef, text_at};
 use std::alloc::{AllocError, Global};
 
-/// The path of a directory.
-const DIRECTORY: [Pair; 1] = [Pair {
+/// DW_LNCT_path, a text that stands in the table.
+const PATH: Pair = Pair {
     content: 1,
     form: Form::String,
-}];
+};
 
-/// The path of a file, the number of its directory, and its time and size.
-const TIMED_AND_SIZED: [Pair; 4] = [
-    Pair {
-        content: 1,
-        form: Form::String,
-    },
-    Pair {
-        content: 2,
-        form: Form::Udata,
-    },
-    Pair {
-        content: 3,
-        form: Form::Udata,
-    },
-    Pair {
-        content: 4,
-        form: Form::Udata,
-    },
-];
+/// DW_LNCT_directory_index.
+const DIRECTORY_INDEX: Pair = Pair {
+    content: 2,
+    form: Form::Udata,
+};
 
-/// The same without a time.
-const SIZED: [Pair; 3] = [
-    Pair {
-        content: 1,
-        form: Form::String,
-    },
-    Pair {
-        content: 2,
-        form: Form::Udata,
-    },
-    Pair {
-        content: 4,
-        form: Form::Udata,
-    },
-];
+/// DW_LNCT_timestamp.
+const TIMESTAMP: Pair = Pair {
+    content: 3,
+    form: Form::Udata,
+};
 
-/// The same without a size.
-const TIMED: [Pair; 3] = [
-    Pair {
-        content: 1,
-        form: Form::String,
-    },
-    Pair {
-        content: 2,
-        form: Form::Udata,
-    },
-    Pair {
-        content: 3,
-        form: Form::Udata,
-    },
-];
+/// DW_LNCT_size.
+const SIZE: Pair = Pair {
+    content: 4,
+    form: Form::Udata,
+};
 
-/// The same without either.
-const PLAIN: [Pair; 2] = [
-    Pair {
-        content: 1,
-        form: Form::String,
-    },
-    Pair {
-        content: 2,
-        form: Form::Udata,
-    },
-];
+/// What is told of a directory.
+const DIRECTORY: [Pair; 1] = [PATH];
+
+/// What is told of a file where the table has neither times nor sizes, one of both, or both.
+const PLAIN: [Pair; 2] = [PATH, DIRECTORY_INDEX];
+
+const TIMED: [Pair; 3] = [PATH, DIRECTORY_INDEX, TIMESTAMP];
+
+const SIZED: [Pair; 3] = [PATH, DIRECTORY_INDEX, SIZE];
+
+const TIMED_AND_SIZED: [Pair; 4] = [PATH, DIRECTORY_INDEX, TIMESTAMP, SIZE];
 
 /// The header in version 5, with the compilation directory where that is known. It is unchanged where its version is 5.
 ///
