@@ -4,7 +4,6 @@ pub mod DebugFile
 pub mod Stops
 pub mod Files
 pub mod Parts
-pub mod Pieces
 pub mod Tables
 pub mod Code
 pub mod Directories
@@ -12,3 +11,4 @@ pub mod NotRead
 -- For what a value stands, or what was read; no promise rests on how these are said.
 pub mod Held
 pub mod Walked
+pub mod Pieces

@@ -17,7 +17,6 @@ pub mod HeadersTold
 pub mod ToldLemmas
 pub mod CountLemmas
 pub mod FeedLemmas
-pub mod UnitEnds
 pub mod WorkLemmas
 pub mod ReadLemmas
 pub mod FindingVisits

@@ -1,4 +1,4 @@
-use Rattle.std.proofs.Common.{◌+◌, ◌<◌, ◌*◌, ◌^◌, length, min, ℕ, List, Option}
+use Rattle.std.proofs.Common.{◌+◌, ◌<◌, ◌++◌, ◌*◌, ◌^◌, length, min, ℕ, List, Option}
 use Rattle.dl_head.specs.declared.dialect.Dialect.{Dialect}
 use Rattle.dl_rows.specs.Progress.{taken_of}
 use Rattle.dl_run.specs.Section.{section_visits}
@@ -16,5 +16,5 @@ invariant-events g l = record {
       (start : Option (List ℕ)) → UnitsAre dialect l.initial.self t units b → length t + length l.piece < 2 ^ 64
       → g.V.Visitor.story.tells first l.initial.visitor start (g.W.Write.contents l.initial.output)
       (section_visits dialect units b)
-      → FedUpTo g.V.Visitor.story dialect t l.piece first start l.self l.visitor (g.W.Write.contents l.output) l.rest;
+      → FedUpTo g.V.Visitor.story dialect (t ++ l.piece) first start l.self l.visitor (g.W.Write.contents l.output) l.rest;
 }
