@@ -1,5 +1,6 @@
--- What reads of a section give. damage: the byte that shows the damage of its stream, if it has some, where that is known;
--- old, new: its bytes that are left before and after, where they are known. No promise rests on how this is said.
+-- What reads of a section give, one piece after the other. No promise rests on how this is said.
+-- damage: the byte that shows the damage of its stream, if it has some, where that is known; old, new: its bytes that are
+-- left before and after, where they are known.
 use Rattle.std.specs.Prelude.{◌≡◌, ◌≢◌, ◌⊎◌, ℕ, ◌+◌, ◌<◌, ◌≤◌, List, [], length, take, Option, Some, None, IfSome}
 use Rattle.std.specs.Io.KnownBytes.{Consumes, IsAtEnd}
 use Rattle.dl_open.specs.declared.section.Piece.{Piece}
