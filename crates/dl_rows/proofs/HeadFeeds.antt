@@ -27,11 +27,13 @@ use Rattle.dl_rows.specs.declared.reader.Event.TheVariants as event
 use Rattle.dl_rows.specs.declared.reader.Fed.{Fed}
 use Rattle.dl_rows.specs.declared.reader.HeaderStop.{HeaderStop}
 use Rattle.dl_rows.specs.declared.reader.Reader.{Reader}
+use Rattle.dl_rows.specs.declared.reader.State.{State}
+use Rattle.dl_rows.specs.declared.reader.State.TheVariants as state
 use Rattle.dl_rows.specs.LineUnit.{IsUnit, events_of, events}
 use Rattle.dl_rows.specs.Reading.{WithinUnit, told, EventHolds, Feeds, Fails}
 use Rattle.dl_rows.specs.Refusal.{Refused}
 use Rattle.dl_rows.specs.ReaderStands.{StandsFor}
-use Rattle.dl_rows.specs.ReaderStates.{InHeader, StoppedInHeader}
+use Rattle.dl_rows.specs.ReaderStates.{InHeader, StandsAt, StoppedInHeader}
 use Rattle.dl_rows.proofs.JoinLemmas.{no_header_on, header_sound_on, no_events, header_sound, header_event}
 use Rattle.dl_rows.proofs.OperandRanges.{bytes_front, bytes_joined}
 use Rattle.dl_rows.proofs.ReaderLemmas.{foreign_no_header}
@@ -85,8 +87,9 @@ sound_up_to dialect b piece (suc n) le none sound not quiet =
 -- ---- the reader has offered the piece to that of the header
 
 -- the first `used` bytes of the piece are taken
-pub record HeadTook (dialect : Dialect) (new : HeadReader) (b piece : List ℕ) (used : ℕ)
+pub record HeadTook (dialect : Dialect) (old new : HeadReader) (b piece : List ℕ) (used : ℕ)
     (step : HeadStep) : Type 0 where
+  pub was : InHeader dialect old b
   pub took : Took dialect b piece used step
   pub stands : HeadStands new (b ++ take used piece)
   pub whole : step ≡ answer.More → used ≡ length piece
@@ -103,8 +106,7 @@ goes_to dialect b piece used before here i le = elim (cases_eq i used) [
   | inr other ↦ before i (omega (arith, le, other))
 ]
 
--- all that was taken is bytes
-pub taken_bytes : (b piece : List ℕ) (used : ℕ) → AllBytes b → AllBytes piece → AllBytes (b ++ take used piece)
+taken_bytes : (b piece : List ℕ) (used : ℕ) → AllBytes b → AllBytes piece → AllBytes (b ++ take used piece)
 taken_bytes b piece used all more =
     bytes_joined b (take used piece) all
     (bytes_front (take used piece) (drop used piece) (subst AllBytes (sym (take-append-drop used piece)) more))
@@ -123,13 +125,13 @@ byte_at [] (suc i) byte later e = absurd cc
 byte_at (x ∷ piece) zero byte later e = let same : x ≡ byte = cc in ap (λ (n : ℕ). Some n) same
 byte_at (x ∷ piece) (suc i) byte later e = byte_at piece i byte later e
 
-module _ (dialect : Dialect) (old new : HeadReader) (b piece : List ℕ) (used : ℕ) (step : HeadStep)
-    (was : InHeader dialect old b) (h : HeadTook dialect new b piece used step) where
+module _ {dialect : Dialect} {old new : HeadReader} {b piece : List ℕ} {used : ℕ} {step : HeadStep}
+    (h : HeadTook dialect old new b piece used step) where
   w : List ℕ
   w = b ++ take used piece
 
   no_event_before : events dialect b ≡ []
-  no_event_before = no_events dialect b was.incomplete was.more.1
+  no_event_before = no_events dialect b h.was.incomplete h.was.more.1
 
   le : used ≤ length piece
   le = h.took.within
@@ -144,10 +146,10 @@ module _ (dialect : Dialect) (old new : HeadReader) (b piece : List ℕ) (used :
     all_go = goes_to dialect b piece used h.took.before goes
 
     incomplete : header_in dialect (b ++ take used piece) ≡ None
-    incomplete = no_header_up_to dialect b piece used h.took.within was.incomplete (λ i lt. (all_go i lt).0)
+    incomplete = no_header_up_to dialect b piece used h.took.within h.was.incomplete (λ i lt. (all_go i lt).0)
 
     sound : NoneRefused dialect (b ++ take used piece)
-    sound = sound_up_to dialect b piece used h.took.within was.incomplete was.sound (λ i lt. (all_go i lt).0)
+    sound = sound_up_to dialect b piece used h.took.within h.was.incomplete h.was.sound (λ i lt. (all_go i lt).0)
         (λ i lt. (all_go i lt).2)
 
     pub goes_stands : InHeader dialect new (b ++ take used piece)
@@ -155,7 +157,7 @@ module _ (dialect : Dialect) (old new : HeadReader) (b piece : List ℕ) (used :
       same_dialect = h.same_dialect;
       stands = h.stands;
       more = goes;
-      bytes = taken_bytes b piece used was.bytes h.bytes;
+      bytes = taken_bytes b piece used h.was.bytes h.bytes;
       incomplete = incomplete;
       sound = sound;
     }
@@ -194,14 +196,14 @@ module _ (dialect : Dialect) (old new : HeadReader) (b piece : List ℕ) (used :
   last_event some =
       let one : used - 1 < used = omega (arith, some) in
       let none =
-      no_header_up_to dialect b piece (used - 1) (omega (arith, h.took.within)) was.incomplete
+      no_header_up_to dialect b piece (used - 1) (omega (arith, h.took.within)) h.was.incomplete
       (λ i lt. (fronts_go i (omega (arith, lt, one))).0) in
       no_events dialect (b ++ take (used - 1) piece) none (fronts_go (used - 1) one).1 ∙ sym no_event_before
 
   -- what isn't a header has none after it
   none_here : ((g : HeaderData) → IsHeader dialect g (b ++ take used piece) → ⊥)
       → header_in dialect (b ++ take used piece) ≡ None
-  none_here not = no_header_up_to dialect b piece used h.took.within was.incomplete headers where
+  none_here not = no_header_up_to dialect b piece used h.took.within h.was.incomplete headers where
     headers : NoHeaders dialect b piece used
     headers i le g is = elim (cases_eq i used) [
       | inl same ↦ not g (subst (λ (n : ℕ). IsHeader dialect g (b ++ take n piece)) same is)
@@ -268,7 +270,7 @@ module _ (dialect : Dialect) (old new : HeadReader) (b piece : List ℕ) (used :
             grows = ap (λ (o : Option ℕ). events_of dialect.order o (header_in dialect (b ++ take used piece))) foreign
                 ∙ sym (ap (λ (l : List Event). l ++ event.Foreign v ∷ []) no_event_before);
             holds = (some, last_event some);
-            sound = sound_up_to dialect b piece used h.took.within was.incomplete was.sound headers refusals;
+            sound = sound_up_to dialect b piece used h.took.within h.was.incomplete h.was.sound headers refusals;
           };
           stands = stands;
         }
@@ -308,15 +310,16 @@ module _ (dialect : Dialect) (old new : HeadReader) (b piece : List ℕ) (used :
     }
 
 -- by what the reader of the header answers
-pub head_took : (dialect : Dialect) (old new : HeadReader) (b piece : List ℕ) (used : ℕ) (step : HeadStep)
-    → InHeader dialect old b → AllBytes piece
+pub head_took : {dialect : Dialect} {x : State} {old new : HeadReader} {b piece : List ℕ} {used : ℕ} {step : HeadStep}
+    → x ≡ state.InHeader old → StandsAt dialect x b → AllBytes piece
     → ((d : List ℕ) → HeadStands old d → Answers old.dialect d answer.More → Offered old.dialect d piece used step new)
-    → new.dialect ≡ old.dialect → HeadTook dialect new b piece used step
-head_took dialect old new b piece used step was all offered same =
+    → new.dialect ≡ old.dialect → HeadTook dialect old new b piece used step
+head_took {dialect} {x} {old} {new} {b} {piece} {used} {step} is stands all offered same =
+    let was : InHeader dialect old b = rw is at stands in
     let o : Offered dialect b piece used step new =
-    subst (λ (p : Dialect). Offered p b piece used step new) was.same_dialect
-    (offered b was.stands (subst (λ (p : Dialect). Answers p b answer.More) (sym was.same_dialect) was.more)) in
+    rw was.same_dialect at (offered b was.stands (rw was.same_dialect was.more)) in
     record {
+      was = was;
       took = o.answered.took;
       stands = o.stands;
       whole = o.answered.whole;
@@ -325,8 +328,12 @@ head_took dialect old new b piece used step was all offered same =
     }
 
 -- what the bytes come to, by the step
-pub come_to : {dialect : Dialect} {new : HeadReader} {b piece : List ℕ} {used : ℕ} {step : HeadStep}
-    (h : HeadTook dialect new b piece used step) (a : HeadStep) → step ≡ a
+pub come_to : {dialect : Dialect} {old new : HeadReader} {b piece : List ℕ} {used : ℕ} {step : HeadStep}
+    (h : HeadTook dialect old new b piece used step) (a : HeadStep) → step ≡ a
     → Answers dialect (b ++ take used piece) (so_far a)
-come_to {dialect} {new} {b} {piece} {used} {step} h a is =
-    subst (λ (s : HeadStep). Answers dialect (b ++ take used piece) (so_far s)) is h.took.answers
+come_to h a is = rw is at h.took.answers
+
+-- all that was taken is bytes
+pub bytes_taken : {dialect : Dialect} {old new : HeadReader} {b piece : List ℕ} {used : ℕ} {step : HeadStep}
+    → HeadTook dialect old new b piece used step → AllBytes (b ++ take used piece)
+bytes_taken {b = b} {piece = piece} {used = used} h = taken_bytes b piece used h.was.bytes h.bytes

@@ -18,8 +18,8 @@ use Rattle.dl_rows.specs.ReaderStates.{GoesOn, IsBegun, KnowsLength, HasHeader}
 use Rattle.dl_rows.proofs.UnitKnown.{foreign_known, header_known}
 
 -- a header that is begun
-pub begun_in : (s : State) (head : HeadReader) → s ≡ state.InHeader head → ∥ IsBegun s ∥₁ → ∥ GoesOn head ∥₁
-begun_in s head is begun = subst (λ (x : State). ∥ IsBegun x ∥₁) is begun
+pub begun_in : {s : State} {head : HeadReader} → s ≡ state.InHeader head → ∥ IsBegun s ∥₁ → ∥ GoesOn head ∥₁
+begun_in is begun = rw is at begun
 
 -- how many bytes were taken
 pub taken_is : (head : HeadReader) (n : ℕ) → ∥ GoesOn head ∥₁ → ((b : List ℕ) → HeadStands head b → n ≡ length b)
@@ -27,10 +27,10 @@ pub taken_is : (head : HeadReader) (n : ℕ) → ∥ GoesOn head ∥₁ → ((b 
 taken_is head n begun counts = ∥∥₁_elim begun (hlevel props) (λ g. counts g.0 g.1 ∙ sym g.1.taken)
 
 -- one that comes to something takes a byte
-pub begun_takes : (head : HeadReader) (used : ℕ) (step : HeadStep) → ∥ GoesOn head ∥₁
+pub begun_takes : {head : HeadReader} {used : ℕ} {step : HeadStep} → ∥ GoesOn head ∥₁
     → ((b : List ℕ) → HeadStands head b → Answers head.dialect b answer.More → step ≢ answer.More
     → step ≢ answer.NoMemory → 1 ≤ used) → step ≢ answer.More → step ≢ answer.NoMemory → 1 ≤ used
-begun_takes head used step begun takes ends fed =
+begun_takes begun takes ends fed =
     ∥∥₁_elim begun (hlevel props) (λ g. takes g.0 g.1 g.2 ends fed)
 
 -- a reader that knows how long the unit is answers that
@@ -51,7 +51,7 @@ header_given head o has gives none =
     p) none gives in n k.0 k.1 k.2.0 k.2.1))
 
 -- a piece was offered to the reader of a header
-module _ (old new : HeadReader) (piece : List ℕ) (used : ℕ) (step : HeadStep) (begun : ∥ GoesOn old ∥₁)
+module _ {old new : HeadReader} {piece : List ℕ} {used : ℕ} {step : HeadStep} (begun : ∥ GoesOn old ∥₁)
     (offered : (b : List ℕ) → HeadStands old b → Answers old.dialect b answer.More
     → Offered old.dialect b piece used step new)
     (same : new.dialect ≡ old.dialect) where
