@@ -9,14 +9,14 @@ use Rattle.dl_dirs.specs.declared.places.Places.{Places}
 use Rattle.dl_dirs.specs.Holding.{AreOf}
 use Rattle.dl_dirs.specs.Texts.{TextsData, directory_text, index_text, text_of}
 use Rattle.dl_dirs.specs.Units.{directory, entries, has_index, has_line_str, has_str, saying, Stands}
-use Rattle.dl_file.specs.InfoTable.{GivesInfo, GivesInfoOption, HasInfo, InfoTable}
+use Rattle.dl_file.specs.InfoTable.{GivesInfoOption, HasInfo, InfoTable}
 use Rattle.dl_file.specs.LineTable.{Content, Gives, GivesOption}
 use Rattle.dl_file.specs.declared.content_reader.ContentReader.{ContentReader}
 use Rattle.dl_file.specs.declared.info_file.InfoFile.{InfoFile}
 use Rattle.dl_run.specs.declared.options.TheConstants.{SECTION_LIMIT}
 use Rattle.dl_open.specs.declared.section.Unread.{Unread}
 use Rattle.dl_open.specs.declared.strings.TheConstants.{STRINGS_LIMIT}
-use Rattle.dl_open.specs.Directories.{AreDirectories, HasUnits, bytes_had, said_in, texts_had}
+use Rattle.dl_open.specs.Directories.{HasUnits, bytes_had, said_in, texts_had}
 use Rattle.dl_open.specs.Walked.{AreFound, AreHad, ArePlaces, IsHadWhere}
 
 -- ---- sections
@@ -155,17 +155,6 @@ some_found t order (Some own) places held texts f is found ordered had same dire
         λ n. directories a b are n ∙ ap (λ (s : TextsData). directory order a s b n) same
         ∙ with_both t order a b held n ordered (sym with_some) info (had a b are)
 
--- those of a file that was opened
-pub of_file : {S : Type 0} {g : _} (all_bytes : S → Option (List ℕ)) (bytes : List ℕ) (opened : Option (InfoFile S g))
-    (file : InfoFile S g) (f : ℕ → Option (List ℕ)) → opened ≡ Some file
-    → (t : Option InfoTable) × HasInfo bytes t × GivesInfoOption all_bytes opened t
-    → ((t : InfoTable) → GivesInfo all_bytes file t → (n : ℕ) → f n ≡ said_in t n) → AreDirectories bytes f
-of_file all_bytes bytes None file f is given said = absurd (cc is)
-of_file all_bytes bytes (Some other) file f is (None, has, gives) said = absurd gives
-of_file {S = S} {g = g} all_bytes bytes (Some other) file f is (Some t, has, gives) said =
-    let same : other ≡ file = cc is in
-    (Some t, has, said t (subst (λ (x : InfoFile S g). GivesInfo all_bytes x t) same gives))
-
 -- a file that was opened has units
 pub has_units : {S : Type 0} {g : _} (all_bytes : S → Option (List ℕ)) (bytes : List ℕ) (opened : Option (InfoFile S g))
     (file : InfoFile S g) → opened ≡ Some file
@@ -173,12 +162,3 @@ pub has_units : {S : Type 0} {g : _} (all_bytes : S → Option (List ℕ)) (byte
 has_units all_bytes bytes None file is given = absurd (cc is)
 has_units all_bytes bytes (Some other) file is (None, has, gives) = absurd gives
 has_units all_bytes bytes (Some other) file is (Some t, has, gives) = (t, has)
-
--- one without units
-pub of_none : {S : Type 0} {g : _} (all_bytes : S → Option (List ℕ)) (bytes : List ℕ) (opened : Option (InfoFile S g))
-    (f : ℕ → Option (List ℕ)) → opened ≡ None
-    → (t : Option InfoTable) × HasInfo bytes t × GivesInfoOption all_bytes opened t
-    → ((n : ℕ) → f n ≡ None) → AreDirectories bytes f
-of_none all_bytes bytes (Some other) f is given none = absurd (cc is)
-of_none all_bytes bytes None f is (None, has, gives) none = (None, has, none)
-of_none all_bytes bytes None f is (Some t, has, gives) none = absurd (cc gives)

@@ -1,6 +1,6 @@
 -- The bytes of a section, read one piece after the other.
 use Rattle.std.proofs.Common.{◌≡◌, ◌≢◌, ◌⊎◌, inl, inr, ℕ, ◌+◌, ◌<◌, ◌≤◌, List, [], ◌++◌, length, take, Option, Some, None}
-use Rattle.std.proofs.Common.{Result, Ok, Err, refl, sym, ap, subst, ◌∙◌, arith, append-nil, append_assoc}
+use Rattle.std.proofs.Common.{refl, sym, ap, subst, ◌∙◌, arith, append-nil}
 use Rattle.std.proofs.Common.{Bor, length-append, le-leb, Bool, true, false, if◌then◌else◌, nat_le}
 use Rattle.std.proofs.lemmas.Bool.{lt-leb}
 use Rattle.std.proofs.KnownBytes.{Consumes-trans}
@@ -29,7 +29,7 @@ pub read_some : (damage other : Option (Option ℕ)) (old now new : Option (List
     → (n ≡ 0 → 0 < length buffer → IsWhole other) → IsRead damage old new buffer (Some n)
 read_some damage other old now new n buffer same kept bound (consumes, ended) whole = (
   bound,
-  subst (Consumes old new) refl (Consumes-trans old now new [] (take n buffer) (nothing old now kept) consumes),
+  Consumes-trans old now new [] (take n buffer) (nothing old now kept) consumes,
   λ zero room. (ended zero room, subst IsWhole same (whole zero room)),
 )
   where
