@@ -1,10 +1,9 @@
 -- The look-up of many addresses in units, one after the other.
 use Rattle.std.proofs.Common.{◌≡◌, ◌<◌, ◌≤◌, ⊎_elim, ℕ, zero, suc, ◌+◌, List, [], ◌∷◌, ◌++◌, length, map, Option}
-use Rattle.std.proofs.Common.{Some, None, arith, refl, sym, ap, ◌∙◌, subst, length-append, slice_get}
+use Rattle.std.proofs.Common.{inl, inr, Some, None, arith, refl, sym, ap, ◌∙◌, subst, slice_get}
 use Rattle.std.proofs.Common.{slice_index_or, Bool, true, false, eqb}
 use Rattle.std.specs.Prelude.{if◌then◌else◌, ◌==◌}
 use Rattle.std.specs.Prelude.{⊤, ◌-◌, ◌^◌, option_map, Result, Ok, Err}
-use Rattle.std.specs.List.{concat}
 use Rattle.std.specs.Option.{option_map_or, option_or}
 use Rattle.std.proofs.lemmas.Bool.{cases_lt, eqb-false, eqb-true}
 use Rattle.std.proofs.lemmas.Option.{slice_get-map, slice_get_within}
@@ -12,17 +11,25 @@ use Rattle.dl_head.specs.declared.dialect.Dialect.{Dialect}
 use Rattle.dl_rows.specs.LineUnit.{unit_rows}
 use Rattle.dl_rows.specs.declared.row.Row.{Row}
 use Rattle.dl_look.specs.Answer.{answer}
+use Rattle.dl_look.specs.FindersRows.{Stand}
 use Rattle.dl_look.specs.declared.ledger.Answered.{Answered}
 use Rattle.dl_look.specs.declared.place.Place.{Place}
 use Rattle.dl_look.specs.Ledgers.{no_answer}
 use Rattle.dl_look.specs.Units.{AreFirstAnswers, answer_of_units}
 use Rattle.dl_calls.specs.declared.finding.Found.{Found}
 use Rattle.dl_calls.specs.declared.record.RowRecord.{RowRecord}
-use Rattle.dl_calls.specs.declared.stop.Stop.{Stop}
-use Rattle.dl_calls.specs.declared.stop.Stop.TheVariants as stop
-use Rattle.dl_calls.specs.AllCalls.{Answers, EndsWith, found_from, found_in, place_of_address, placed}
-use Rattle.dl_calls.specs.Gatherers.{Placed, row_after, told_upto, unit_after}
-use Rattle.dl_calls.specs.Records.{row_record}
+use Rattle.dl_run.specs.declared.in_memory.SectionRead.{SectionRead}
+use Rattle.dl_run.specs.declared.in_memory.SectionStop.{SectionStop}
+use Rattle.dl_run.specs.declared.in_memory.SectionStop.TheVariants as stop
+use Rattle.dl_run.specs.Section.{HasUnits}
+use Rattle.dl_run.specs.InMemory.{ReadsSection, UnitTold, unit_told, units_told}
+use Rattle.dl_calls.specs.declared.gathering.Gatherer.{Gatherer}
+use Rattle.dl_calls.specs.AllCalls.{Answers, EndsWith, FindsAll, Fit, found_from, place_of_address, placed}
+use Rattle.dl_calls.specs.Gatherers.{Gathers, Placed, found_told, gatherer_story, row_after, told_upto, unit_after}
+use Rattle.dl_calls.specs.declared.record.FaultRecord.{FaultRecord}
+use Rattle.dl_calls.specs.Records.{record_of, row_record}
+use Rattle.dl_calls.specs.Stops.{fault_told, status_of}
+use Rattle.dl_calls.proofs.ToldUnits.{offset_of_fault}
 
 -- ---- what stands at a place
 
@@ -45,38 +52,34 @@ or_assoc : {A : Type 0} (a b c : Option A) → option_or (option_or a b) c ≡ o
 or_assoc None b c = refl
 or_assoc (Some a) b c = refl
 
-module _ (dialect : Dialect) where
-  -- of one unit at that offset
-  abbrev at : ℕ → List ℕ → Place → Option Found
-  at offset u x = option_map (λ (r : Row). record { row = r; unit = offset }) (answer (unit_rows dialect u) x)
+-- of one unit
+abbrev at : UnitTold → Place → Option Found
+at t x = option_map (λ (r : Row). record { row = r; unit = t.unit.offset }) (answer t.rows x)
 
-  found_push : (offset : ℕ) (units : List (List ℕ)) (u : List ℕ) (x : Place)
-      → found_from dialect offset (units ++ u ∷ []) x
-      ≡ option_or (found_from dialect offset units x) (at (offset + length (concat units)) u x)
-  found_push offset [] u x =
-      let none : offset ≡ offset + 0 = omega arith in
-      or_none (at offset u x) ∙ ap (λ (n : ℕ). at n u x) none
-  found_push offset (v ∷ units) u x =
-      ap (option_or (at offset v x)) (found_push (offset + length v) units u x)
-      ∙ sym (or_assoc (at offset v x) (found_from dialect (offset + length v) units x)
-      (at ((offset + length v) + length (concat units)) u x))
-      ∙ ap (λ (n : ℕ). option_or (option_or (at offset v x)
-      (found_from dialect (offset + length v) units x)) (at n u x))
-      (omega (arith, length-append v (concat units)))
+found_push : (units : List UnitTold) (t : UnitTold) (x : Place)
+    → found_told (units ++ t ∷ []) x ≡ option_or (found_told units x) (at t x)
+found_push [] t x = or_none (at t x)
+found_push (u ∷ units) t x =
+    ap (option_or (at u x)) (found_push units t x) ∙ sym (or_assoc (at u x) (found_told units x) (at t x))
 
-  found_row : (offset : ℕ) (units : List (List ℕ)) (x : Place)
-      → answer_of_units (map (unit_rows dialect) units) x
-      ≡ option_map (λ (f : Found). f.row) (found_from dialect offset units x)
-  found_row offset [] x = refl
-  found_row offset (u ∷ units) x = by (answer (unit_rows dialect u) x) (found_row (offset + length u) units x) where
-    by : (o : Option Row)
-        → answer_of_units (map (unit_rows dialect) units) x
-        ≡ option_map (λ (f : Found). f.row) (found_from dialect (offset + length u) units x)
-        → option_or o (answer_of_units (map (unit_rows dialect) units) x)
-        ≡ option_map (λ (f : Found). f.row) (option_or (option_map (λ (r : Row). record { row = r; unit = offset }) o)
-        (found_from dialect (offset + length u) units x))
-    by None so = so
-    by (Some r) so = refl
+found_row : (units : List UnitTold) (x : Place)
+    → answer_of_units (map (λ t. t.rows) units) x ≡ option_map (λ (f : Found). f.row) (found_told units x)
+found_row [] x = refl
+found_row (u ∷ units) x = by (answer u.rows x) (found_row units x) where
+  by : (o : Option Row)
+      → answer_of_units (map (λ t. t.rows) units) x ≡ option_map (λ (f : Found). f.row) (found_told units x)
+      → option_or o (answer_of_units (map (λ t. t.rows) units) x)
+      ≡ option_map (λ (f : Found). f.row)
+      (option_or (option_map (λ (r : Row). record { row = r; unit = u.unit.offset }) o) (found_told units x))
+  by None so = so
+  by (Some r) so = refl
+
+-- what the units of a section answer is what is told of them
+pub found_of_units : (dialect : Dialect) (offset : ℕ) (units : List (List ℕ)) (x : Place)
+    → found_from dialect offset units x ≡ found_told (units_told dialect offset units) x
+found_of_units dialect offset [] x = refl
+found_of_units dialect offset (u ∷ units) x =
+    ap (option_or (at (unit_told dialect offset u) x)) (found_of_units dialect (offset + length u) units x)
 
 -- ---- the answers of a unit
 
@@ -125,13 +128,9 @@ none_told answered (suc k) i none j lt is =
 
 -- ---- what is told after one more unit
 
-module _ (dialect : Dialect) (addresses : List ℕ) (units : List (List ℕ)) (u : List ℕ) (answered : List Answered)
-    (first : AreFirstAnswers (map place_of_address addresses) (map (unit_rows dialect) units) (unit_rows dialect u)
-    answered)
+module _ (addresses : List ℕ) (units : List UnitTold) (t : UnitTold) (answered : List Answered)
+    (first : AreFirstAnswers (map place_of_address addresses) (map (λ t. t.rows) units) t.rows answered)
     (i a : ℕ) (asked : slice_get addresses i ≡ Some a) where
-  abbrev rows_before : List (List Row)
-  rows_before = map (unit_rows dialect) units
-
   abbrev places : List Place
   places = map place_of_address addresses
 
@@ -139,10 +138,7 @@ module _ (dialect : Dialect) (addresses : List ℕ) (units : List (List ℕ)) (u
   x = place_of_address a
 
   abbrev before : Option Found
-  before = found_in dialect units a
-
-  abbrev here : Option Found
-  here = at dialect (length (concat units)) u x
+  before = found_told units x
 
   abbrev told : Option Row
   told = told_upto answered (length answered) i
@@ -150,21 +146,16 @@ module _ (dialect : Dialect) (addresses : List ℕ) (units : List (List ℕ)) (u
   place_is : slice_get places i ≡ Some x
   place_is = slice_get-map place_of_address addresses i ∙ ap (option_map place_of_address) asked
 
-  after : found_in dialect (units ++ u ∷ []) a ≡ option_or before here
-  after =
-      let same : 0 + length (concat units) ≡ length (concat units) = omega arith in
-      found_push dialect 0 units u x ∙ ap (λ (n : ℕ). option_or before (at dialect n u x)) same
-
   -- where one is told, no unit before answers, and this one does
-  is_first : (r : Row) → told ≡ Some r → (before ≡ None) × (answer (unit_rows dialect u) x ≡ Some r)
+  is_first : (r : Row) → told ≡ Some r → (before ≡ None) × (answer t.rows x ≡ Some r)
   is_first r is =
       let k = told_is answered (length answered) i r is in
       let right = first.right k.0 no_answer k.1 in
       let same : right.0 ≡ x = some_same (sym right.1
       ∙ ap (slice_get places) k.2 ∙ place_is) in (
-        none_row before (sym (found_row dialect 0 units x)
-            ∙ ap (answer_of_units rows_before) (sym same) ∙ right.2),
-        ap (answer (unit_rows dialect u)) (sym same) ∙ right.3 ∙ ap Some k.3,
+        none_row before (sym (found_row units x) ∙ ap (answer_of_units (map (λ t. t.rows) units)) (sym same)
+            ∙ right.2),
+        ap (answer t.rows) (sym same) ∙ right.3 ∙ ap Some k.3,
       ) where
         some_same : {p q : Place} → Some p ≡ Some q → p ≡ q
         some_same e = cc
@@ -174,71 +165,66 @@ module _ (dialect : Dialect) (addresses : List ℕ) (units : List (List ℕ)) (u
         none_row (Some f) e = cc
 
   -- where none is told, a unit before answers, or this one doesn't
-  no_first : told ≡ None → before ≡ None → answer (unit_rows dialect u) x ≡ None
-  no_first none unanswered = by (answer (unit_rows dialect u) x) refl where
-    by : (o : Option Row) → answer (unit_rows dialect u) x ≡ o → o ≡ None
+  no_first : told ≡ None → before ≡ None → answer t.rows x ≡ None
+  no_first none unanswered = by (answer t.rows x) refl where
+    by : (o : Option Row) → answer t.rows x ≡ o → o ≡ None
     by None is = refl
     by (Some r) is =
         let k = first.all i r (
           x,
           place_is,
-          found_row dialect 0 units x
-              ∙ ap (option_map (λ (f : Found). f.row)) unanswered,
+          found_row units x ∙ ap (option_map (λ (f : Found). f.row)) unanswered,
           is,
         ) in
         absurd (none_told answered (length answered) i none k.0 k.1 (ap (λ (d : Answered). d.number) (k.2 no_answer)))
 
   -- what was told, and then is told of this unit
   more : {A : Type 0} (of_found : Found → A) (of_row : Row → A)
-      → ((r : Row) → of_row r ≡ of_found (record { row = r; unit = length (concat units) })) → (o : Option A)
+      → ((r : Row) → of_row r ≡ of_found (record { row = r; unit = t.unit.offset })) → (o : Option A)
       → placed (option_map of_row told) (placed (option_map of_found before) o)
-      ≡ placed (option_map of_found (found_in dialect (units ++ u ∷ []) a)) o
+      ≡ placed (option_map of_found (found_told (units ++ t ∷ []) x)) o
   more {A} of_found of_row same o = by told refl where
-    stays : told ≡ None → option_or before here ≡ before
+    stays : told ≡ None → option_or before (at t x) ≡ before
     stays none = same_before before refl where
-      same_before : (f : Option Found) → before ≡ f → option_or f here ≡ f
+      same_before : (f : Option Found) → before ≡ f → option_or f (at t x) ≡ f
       same_before (Some f) is = refl
       same_before None is =
-          ap (option_map (λ (r : Row). record { row = r; unit = length (concat units) })) (no_first none is)
+          ap (option_map (λ (r : Row). record { row = r; unit = t.unit.offset })) (no_first none is)
 
-    by : (t : Option Row) → told ≡ t → placed (option_map of_row t) (placed (option_map of_found before) o)
-        ≡ placed (option_map of_found (found_in dialect (units ++ u ∷ []) a)) o
+    by : (r : Option Row) → told ≡ r → placed (option_map of_row r) (placed (option_map of_found before) o)
+        ≡ placed (option_map of_found (found_told (units ++ t ∷ []) x)) o
     by (Some r) is =
         let e = is_first r is in
         placed_twice (of_row r) (option_map of_found before) o ∙ ap (λ (v : A). placed (Some v) o) (same r)
-        ∙ sym (ap (λ (f : Option Found). placed (option_map of_found f) o) (after
-        ∙ ap (λ (f : Option Found). option_or f here) e.0
-        ∙ ap (option_map (λ (r : Row). record { row = r; unit = length (concat units) })) e.1))
+        ∙ sym (ap (λ (f : Option Found). placed (option_map of_found f) o) (found_push units t x
+        ∙ ap (λ (f : Option Found). option_or f (at t x)) e.0
+        ∙ ap (option_map (λ (r : Row). record { row = r; unit = t.unit.offset })) e.1))
     by None is =
         placed_none (placed (option_map of_found before) o)
-        ∙ sym (ap (λ (f : Option Found). placed (option_map of_found f) o) (after ∙ stays is))
+        ∙ sym (ap (λ (f : Option Found). placed (option_map of_found f) o) (found_push units t x ∙ stays is))
 
 -- the rows and the offsets of all addresses
-pub placed_more : (dialect : Dialect) (addresses : List ℕ) (units : List (List ℕ)) (u : List ℕ)
-    (answered : List Answered)
-    → AreFirstAnswers (map place_of_address addresses) (map (unit_rows dialect) units) (unit_rows dialect u) answered
-    → (unit : ℕ) → unit ≡ length (concat units) → (p q q2 : List RowRecord) (m n n2 : List ℕ)
-    → Placed dialect units addresses p q m n
+pub placed_more : (addresses : List ℕ) (units : List UnitTold) (t : UnitTold) (answered : List Answered)
+    → AreFirstAnswers (map place_of_address addresses) (map (λ t. t.rows) units) t.rows answered
+    → (p q q2 : List RowRecord) (m n n2 : List ℕ) → Placed units addresses p q m n
     → ((i : ℕ) → slice_get q2 i ≡ row_after answered (length answered) q i)
-    → ((i : ℕ) → slice_get n2 i ≡ unit_after answered unit (length answered) n i)
-    → Placed dialect (units ++ u ∷ []) addresses p q2 m n2
-placed_more dialect addresses units u answered first unit unit_is p q q2 m n n2 so rows offsets = record {
+    → ((i : ℕ) → slice_get n2 i ≡ unit_after answered t.unit.offset (length answered) n i)
+    → Placed (units ++ t ∷ []) addresses p q2 m n2
+placed_more addresses units t answered first p q q2 m n n2 so rows offsets = record {
   rows = λ i a asked.
       rows i ∙ ap (placed (option_map row_record (told_upto answered (length answered) i))) (so.rows i a asked)
-      ∙ more dialect addresses units u answered first i a asked (λ (f : Found). row_record f.row) row_record (λ r. refl)
+      ∙ more addresses units t answered first i a asked (λ (f : Found). row_record f.row) row_record (λ r. refl)
       (slice_get p i);
   offsets = λ i a asked.
-      offsets i ∙ ap (placed (option_map (λ (r : Row). unit) (told_upto answered (length answered) i)))
+      offsets i ∙ ap (placed (option_map (λ (r : Row). t.unit.offset) (told_upto answered (length answered) i)))
       (so.offsets i a asked)
-      ∙ more dialect addresses units u answered first i a asked (λ (f : Found). f.unit) (λ (r : Row). unit)
-      (λ r. unit_is)
+      ∙ more addresses units t answered first i a asked (λ (f : Found). f.unit) (λ (r : Row). t.unit.offset) (λ r. refl)
       (slice_get m i);
 }
 
 -- before any unit
-pub none_placed : (dialect : Dialect) (addresses : List ℕ) (p : List RowRecord) (m : List ℕ)
-    → Placed dialect [] addresses p p m m
-none_placed dialect addresses p m = record {
+pub none_placed : (addresses : List ℕ) (p : List RowRecord) (m : List ℕ) → Placed [] addresses p p m m
+none_placed addresses p m = record {
   rows = λ i a asked. sym (placed_none (slice_get p i));
   offsets = λ i a asked. sym (placed_none (slice_get m i));
 }
@@ -262,26 +248,68 @@ module _ {A : Type 0} (v : Row → A) (answered : List Answered) (k : ℕ) (old 
 
 -- ---- how the reading ends
 
-pub ends_with : (dialect : Dialect) (s : List ℕ) (P Q : List (List ℕ) → Type 0)
-    → ((units : List (List ℕ)) → P units → Q units)
-    → (ends : Result ⊤ Stop) → EndsWith dialect s P ends → EndsWith dialect s Q ends
-ends_with dialect s P Q to (Ok done) e = (e.0, e.1, to e.0 e.2)
-ends_with dialect s P Q to (Err (stop.Damaged offset kind)) e = (e.0, e.1, e.2, e.3, to e.0 e.4)
-ends_with dialect s P Q to (Err stop.NoMemory) e = (e.0, e.1, e.2, e.3, to e.0 e.4)
+unit_told_is : (o : Option Found) → placed (option_map (λ (f : Found). f.unit) o) (Some (2 ^ 64 - 1))
+    ≡ Some (option_map_or (λ (f : Found). f.unit) o (2 ^ 64 - 1))
+unit_told_is None = refl
+unit_told_is (Some f) = refl
 
--- where the offsets stand for no unit before
-pub answers_of : (dialect : Dialect) (units : List (List ℕ)) (addresses : List ℕ) (p q : List RowRecord) (m n : List ℕ)
-    → ((i : ℕ) → i < length addresses → slice_get m i ≡ Some (2 ^ 64 - 1)) → Placed dialect units addresses p q m n
-    → Answers dialect units addresses p q n
-answers_of dialect units addresses p q m n none so = record {
-  rows = so.rows;
-  units_are = λ i a asked.
-      so.offsets i a asked
-      ∙ ap (placed (option_map (λ (f : Found). f.unit) (found_in dialect units a)))
-      (none i (slice_get_within addresses i a asked))
-      ∙ by (found_in dialect units a);
-} where
-  by : (o : Option Found) → placed (option_map (λ (f : Found). f.unit) o) (Some (2 ^ 64 - 1))
-      ≡ Some (option_map_or (λ (f : Found). f.unit) o (2 ^ 64 - 1))
-  by None = refl
-  by (Some f) = refl
+-- q, n: what the rows and offsets are where the sink is given back
+module _ (dialect : Dialect) (s addresses : List ℕ) (first now : Gatherer) (q : List RowRecord) (n : List ℕ)
+    (q_is : first.rows.ghost_name ≡ now.rows.ghost_name → q ≡ now.rows.now)
+    (n_is : first.units.ghost_name ≡ now.units.ghost_name → n ≡ now.units.now)
+    (stands : Stand first.finders.now (map place_of_address addresses) [] [])
+    (none : (i : ℕ) → i < length addresses → slice_get first.units.now i ≡ Some (2 ^ 64 - 1)) where
+  -- where the offsets stand for no unit before
+  answers_of : (units : List (List ℕ)) (rows : List Row) → Gathers first now (units_told dialect 0 units) rows
+      → Answers dialect units addresses first.rows.now q n
+  answers_of units rows so =
+      let told = so.told addresses stands in
+      rw (q_is (sym so.same_rows), n_is (sym so.same_units)) (record {
+        rows = λ i a asked.
+            told.rows i a asked
+            ∙ ap (λ (o : Option Found). placed (option_map (λ (f : Found). row_record f.row) o)
+            (slice_get first.rows.now i)) (sym (found_of_units dialect 0 units (place_of_address a)));
+        units_are = λ i a asked.
+            let found = found_told (units_told dialect 0 units) (place_of_address a) in
+            told.offsets i a asked
+            ∙ ap (placed (option_map (λ (f : Found). f.unit) found)) (none i (slice_get_within addresses i a asked))
+            ∙ unit_told_is found
+            ∙ ap (λ (o : Option Found). Some (option_map_or (λ (f : Found). f.unit) o (2 ^ 64 - 1)))
+            (sym (found_of_units dialect 0 units (place_of_address a)));
+      })
+
+  abbrev Ends : Result ⊤ SectionStop → Type 0
+  Ends end = EndsWith dialect s (λ units. Answers dialect units addresses first.rows.now q n) end
+
+  pub ends_well : (read : SectionRead) → ReadsSection gatherer_story dialect s first now (Ok read) → Ends (Ok tt)
+  ends_well read (units, back, has, is, inl (end, so)) =
+      (units, subst (HasUnits dialect s units) end has, answers_of units [] so)
+  ends_well read (units, back, has, is, inr done) = absurd done
+
+  pub ends_so : (f : SectionStop) → ReadsSection gatherer_story dialect s first now (Err f) → Ends (Err f)
+  ends_so (stop.Damaged offset kind) (units, b, back, ends, so) =
+      (units, b, back, ends, answers_of units (unit_rows dialect b) so)
+  ends_so stop.NoMemory (units, b, back, ends, so) = (units, b, back, ends, answers_of units (unit_rows dialect b) so)
+
+-- nothing is told yet
+pub begins : (first : Gatherer) → Gathers first first [] []
+begins first = record {
+  same_rows = refl;
+  same_units = refl;
+  stand = λ addresses stands. stands;
+  told = λ addresses stands. none_placed addresses first.rows.now first.units.now;
+}
+
+-- what is told of a stop
+pub finds_all_stopped : (dialect : Dialect) (s addresses : List ℕ) (p q : List RowRecord) (m n : List ℕ)
+    (f : FaultRecord) → length s < 2 ^ 64 → Fit addresses p m → (stop : SectionStop)
+    → EndsWith dialect s (λ units. Answers dialect units addresses p q n) (Err stop)
+    → FindsAll dialect s addresses p q m n f (fault_told stop 0 f) (status_of stop)
+finds_all_stopped dialect s addresses p q m n f few fit (stop.Damaged at kind) ends = (
+  at,
+  kind,
+  fit,
+  ends,
+  ap (λ (n : ℕ). record_of n kind) (offset_of_fault dialect s ends.0 ends.1 ends.2 at kind ends.3 few),
+)
+finds_all_stopped dialect s addresses p q m n f few fit stop.NoMemory ends = (fit, inr ends, refl)

@@ -1,10 +1,10 @@
 pub mod AllLemmas
+pub mod CheckLemmas
 pub mod CopyLemmas
 pub mod FaultLemmas
 pub mod FindLemmas
 pub mod PathLemmas
 pub mod PathsLemmas
 pub mod RoomLemmas
-pub mod SectionLemmas
+pub mod ToldUnits
 pub mod UnitCallLemmas
-pub mod UnitLemmas

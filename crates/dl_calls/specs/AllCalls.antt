@@ -14,8 +14,8 @@ use Rattle.dl_calls.specs.declared.record.FaultRecord.{FaultRecord}
 use Rattle.dl_calls.specs.declared.record.RowRecord.{RowRecord}
 use Rattle.dl_calls.specs.declared.status.Status.{Status}
 use Rattle.dl_calls.specs.declared.status.Status.TheVariants as status
-use Rattle.dl_calls.specs.declared.stop.Stop.{Stop}
-use Rattle.dl_calls.specs.declared.stop.Stop.TheVariants as stop
+use Rattle.dl_run.specs.declared.in_memory.SectionStop.{SectionStop}
+use Rattle.dl_run.specs.declared.in_memory.SectionStop.TheVariants as stop
 use Rattle.dl_calls.specs.FindCalls.{place_at}
 use Rattle.dl_calls.specs.Records.{record_of, row_record}
 
@@ -48,7 +48,7 @@ pub record Answers (dialect : Dialect) (units : List (List ℕ)) (addresses : Li
       → slice_get n i ≡ Some (option_map_or (λ f. f.unit) (found_in dialect units a) (2 ^ 64 - 1))
 
 -- the reading of s ends after units of which P holds, with all of it read or so
-abbrev pub EndsWith : Dialect → (s : List ℕ) → (P : List (List ℕ) → Type 0) → Result ⊤ Stop → Type 0
+abbrev pub EndsWith : Dialect → (s : List ℕ) → (P : List (List ℕ) → Type 0) → Result ⊤ SectionStop → Type 0
 EndsWith dialect s P (Ok done) = (units : List (List ℕ)) × HasUnits dialect s units [] × P units
 EndsWith dialect s P (Err (stop.Damaged offset kind)) =
     (units : List (List ℕ)) × (b : List ℕ) × (back : List ℕ)

@@ -9,7 +9,7 @@ use Rattle.dl_calls.specs.declared.record.Counts.{Counts}
 use Rattle.dl_calls.specs.declared.record.FaultRecord.{FaultRecord}
 use Rattle.dl_calls.specs.declared.status.Status.{Status}
 use Rattle.dl_calls.specs.declared.status.Status.TheVariants as status
-use Rattle.dl_calls.specs.declared.stop.Stop.TheVariants as stop
+use Rattle.dl_run.specs.declared.in_memory.SectionStop.TheVariants as stop
 use Rattle.dl_calls.specs.Records.{counts_of, record_of}
 use Rattle.dl_calls.specs.Sections.{EndsFor}
 

@@ -15,8 +15,8 @@ use Rattle.dl_calls.specs.declared.record.FaultRecord.{FaultRecord}
 use Rattle.dl_calls.specs.declared.record.RowRecord.{RowRecord}
 use Rattle.dl_calls.specs.declared.status.Status.{Status}
 use Rattle.dl_calls.specs.declared.status.Status.TheVariants as status
-use Rattle.dl_calls.specs.declared.stop.Stop.{Stop}
-use Rattle.dl_calls.specs.declared.stop.Stop.TheVariants as stop
+use Rattle.dl_run.specs.declared.in_memory.SectionStop.{SectionStop}
+use Rattle.dl_run.specs.declared.in_memory.SectionStop.TheVariants as stop
 use Rattle.dl_calls.specs.Records.{record_of, row_record}
 
 abbrev pub place_at : (address op_index : ℕ) → Place
@@ -33,7 +33,7 @@ abbrev pub NoneIs : Dialect → (s : List ℕ) → Place → Type 0
 NoneIs dialect s x = (units : List (List ℕ)) × HasUnits dialect s units [] × NoneAnswers dialect x units
 
 -- a fault comes, or memory is refused, before any unit has an answer
-abbrev pub StopsSeeking : Dialect → (s : List ℕ) → Place → Stop → Type 0
+abbrev pub StopsSeeking : Dialect → (s : List ℕ) → Place → SectionStop → Type 0
 StopsSeeking dialect s x (stop.Damaged offset kind) =
     (units : List (List ℕ)) × (b : List ℕ) × (back : List ℕ)
     × EndsAs dialect (length s) s (Some []) units b back (Err (run.Damage offset kind)) × NoneAnswers dialect x units
@@ -42,7 +42,7 @@ StopsSeeking dialect s x stop.NoMemory =
     × EndsAs dialect (length s) s (Some []) units b back (Err run.NoMemory) × NoneAnswers dialect x units
 
 -- what is found of s
-abbrev pub Seeks : Dialect → (s : List ℕ) → Place → Result (Option Found) Stop → Type 0
+abbrev pub Seeks : Dialect → (s : List ℕ) → Place → Result (Option Found) SectionStop → Type 0
 Seeks dialect s x (Ok (Some found)) = IsFirst dialect s x found.row found.unit
 Seeks dialect s x (Ok None) = NoneIs dialect s x
 Seeks dialect s x (Err f) = StopsSeeking dialect s x f

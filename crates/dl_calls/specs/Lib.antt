@@ -11,7 +11,8 @@ pub mod PathsCalls
 pub mod FaultCalls
 -- Of contracts inside the crate, and of proofs; no public contract reaches these.
 pub mod UnitReading
-pub mod Tallies
+pub mod Stops
+pub mod Unkept
 pub mod Seekers
 pub mod Gatherers
 pub mod RowRooms

@@ -1,7 +1,7 @@
--- The sink that keeps rows, as many as there is room for. No promise rests on this file.
-use Rattle.std.specs.Prelude.{◌≡◌, ◌<◌, ◌^◌, List, length, map}
-use Rattle.dl_rows.specs.Sinks.{Story}
+-- The sink that keeps the rows of a unit, as many as there is room for. No promise rests on this file.
+use Rattle.std.specs.Prelude.{◌≡◌, ◌<◌, ◌^◌, true, false, List, [], ◌∷◌, length, map}
 use Rattle.dl_rows.specs.declared.row.Row.{Row}
+use Rattle.dl_run.specs.InMemory.{UnitStory, UnitTold}
 use Rattle.dl_calls.specs.declared.listing.RowRoom.{RowRoom}
 use Rattle.dl_calls.specs.Records.{row_record}
 use Rattle.dl_calls.specs.UnitCalls.{written_over}
@@ -12,5 +12,9 @@ pub record RoomHeard (first now : RowRoom) (rows : List Row) : Type 0 where
   pub kept : length rows < 2 ^ 64 → now.rows.now ≡ written_over first.rows.now (map row_record rows)
   pub count : length rows < 2 ^ 64 → now.count ≡ length rows
 
-abbrev pub room_story : RowRoom → Story RowRoom
-room_story first = record { hears = λ now rows. RoomHeard first now rows; stops = λ now rows. ⊥ }
+-- of the first unit; no other is read
+abbrev pub room_story : UnitStory RowRoom
+room_story = record {
+  hears = λ first now units rows. (units ≡ []) × (now.is_whole ≡ false) × RoomHeard first now rows;
+  is_done = λ first now units. (t : UnitTold) × (units ≡ t ∷ []) × (now.is_whole ≡ true) × RoomHeard first now t.rows;
+}

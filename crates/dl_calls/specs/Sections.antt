@@ -4,11 +4,11 @@ use Rattle.dl_head.specs.declared.dialect.Dialect.{Dialect}
 use Rattle.dl_print.specs.declared.summary.Summary.{Summary}
 use Rattle.dl_run.specs.declared.fault.RunFault.TheVariants as run
 use Rattle.dl_run.specs.Section.{EndsAs}
-use Rattle.dl_calls.specs.declared.stop.Stop.{Stop}
-use Rattle.dl_calls.specs.declared.stop.Stop.TheVariants as stop
+use Rattle.dl_run.specs.declared.in_memory.SectionStop.{SectionStop}
+use Rattle.dl_run.specs.declared.in_memory.SectionStop.TheVariants as stop
 
 -- as that of a reader that gave the bytes s, and then its end, with no limit below their number
-abbrev pub EndsFor : Dialect → (s : List ℕ) → Result Summary Stop → Type 0
+abbrev pub EndsFor : Dialect → (s : List ℕ) → Result Summary SectionStop → Type 0
 EndsFor dialect s (Ok summary) = (units : List (List ℕ))
     × EndsAs dialect (length s) s (Some []) units [] [] (Ok summary)
 EndsFor dialect s (Err (stop.Damaged offset kind)) =

@@ -1,12 +1,34 @@
 -- The sink that looks a place up. No promise rests on this file.
-use Rattle.std.specs.Prelude.{[]}
-use Rattle.dl_rows.specs.Sinks.{Story}
+use Rattle.std.specs.Prelude.{◌≡◌, List, [], ◌∷◌, ◌++◌, Option, Some, None}
+use Rattle.std.specs.List.{AllByRecursion}
+use Rattle.dl_rows.specs.declared.row.Row.{Row}
+use Rattle.dl_look.specs.Answer.{answer}
 use Rattle.dl_look.specs.declared.place.Place.{Place}
 use Rattle.dl_look.specs.FinderRows.{StandsFor}
+use Rattle.dl_run.specs.InMemory.{UnitStory, UnitTold}
+use Rattle.dl_calls.specs.declared.finding.Found.{Found}
 use Rattle.dl_calls.specs.declared.finding.Seeker.{Seeker}
 
-abbrev pub seeker_story : Seeker → Story Seeker
-seeker_story first = record {
-  hears = λ now rows. (x : Place) → StandsFor first.finder x [] → StandsFor now.finder x rows;
-  stops = λ now rows. ⊥;
-}
+-- none of the units has an answer
+abbrev pub NoneTold : Place → List UnitTold → Type 0
+NoneTold x units = AllByRecursion (λ t. answer t.rows x ≡ None) units
+
+-- none of the units has an answer, and it looks on
+pub record LooksOn (first now : Seeker) (units : List UnitTold) (rows : List Row) : Type 0 where
+  pub place : now.place ≡ first.place
+  pub found : now.found ≡ None
+  pub none : NoneTold first.place units
+  pub stands : StandsFor now.finder first.place rows
+
+-- the last of the units is the first that has an answer
+pub record HasFound (first now : Seeker) (units : List UnitTold) : Type 0 where
+  pub before : List UnitTold
+  pub last : UnitTold
+  pub whole : units ≡ before ++ last ∷ []
+  pub none : NoneTold first.place before
+  pub row : Row
+  pub answers : answer last.rows first.place ≡ Some row
+  pub found : now.found ≡ Some (record { row = row; unit = last.unit.offset })
+
+abbrev pub seeker_story : UnitStory Seeker
+seeker_story = record { hears = LooksOn; is_done = HasFound }

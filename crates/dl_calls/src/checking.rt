@@ -1,36 +1,30 @@
 //! The call that counts units, sequences and rows.
 
-ghost use Rattle.std.specs.Prelude.{◌≡◌, ℕ, List, is_some};
-ghost use Rattle.dl_print.specs.Counts.{with_unit};
-ghost use Rattle.dl_calls.specs.Sections.{EndsFor};
+ghost use Rattle.std.specs.Prelude.{◌≡◌};
 ghost use Rattle.dl_calls.specs.Calls.{Checks, dialect_of};
 
 use crate::record::{Counts, FaultRecord};
 use crate::status::Status;
-use crate::stop::Stop;
-use crate::unit::{UnitRead, WholeUnit, offset_of, read_unit};
+use crate::stop::tell_stop;
 use dl_head::{Dialect, Older};
 use dl_num::Order;
-use dl_print::Summary;
-use dl_rows::{Flow, Row, RowSink};
+use dl_rows::{Flow, Row};
+use dl_run::{UnitSink, WholeUnit, read_section};
 use std::alloc::Global;
 
-/// Counts rows and end rows.
+/// Keeps nothing of the units.
 #[derive(Drop)]
-pub struct Tally {
-    pub sequences: u64,
-    pub rows: u64,
-}
+struct Unkept;
 
-impl RowSink for Tally {
-    ghost use Rattle.dl_calls.specs.Tallies.{tally_story};
+impl UnitSink for Unkept {
+    ghost use Rattle.dl_calls.specs.Unkept.{unkept_story};
 
-    ghost story = { tally_story };
+    ghost story = { unkept_story };
 
     #[inline(always)]
-    fn row(&mut self, row: &Row) -> Flow {
-        self.rows = self.rows.saturating_add(1);
-        self.sequences = self.sequences.saturating_add(u64::from(row.end_sequence));
+    fn row(&mut self, _row: &Row) {}
+
+    fn end(&mut self, _unit: WholeUnit) -> Flow {
         Flow::On
     }
 }
@@ -64,59 +58,11 @@ pub fn check(
 ) -> Status
     ensures { Checks (dialect_of how) section.now counts.old counts.new fault.old fault.new result }
 {
-    match count(alloc, dialect_of(how), section) {
-        Ok(summary) => {
-            *counts = Counts::of(&summary);
+    match read_section(alloc, dialect_of(how), section, &mut Unkept) {
+        Ok(read) => {
+            *counts = Counts::of(&read.summary);
             Status::Done
         }
-        Err(Stop::Damaged { offset, kind }) => {
-            *fault = FaultRecord::of(offset, kind);
-            Status::Fault
-        }
-        Err(Stop::NoMemory) => Status::NoMemory,
+        Err(stop) => tell_stop(stop, 0, fault),
     }
-}
-
-/// What the units of a section come to.
-fn count(alloc: Global, dialect: Dialect, section: &[u8]) -> Result<Summary, Stop>
-    ensures { EndsFor dialect section.now result }
-{
-    let mut rest = section;
-    let mut summary = Summary {
-        units: 0,
-        skipped: 0,
-        sequences: 0,
-        rows: 0,
-    };
-    'units: loop {
-        let offset = offset_of(section, rest);
-        let mut tally = Tally {
-            sequences: 0,
-            rows: 0,
-        };
-        match read_unit(alloc, dialect, rest, &mut tally) {
-            UnitRead::Whole(unit) => {
-                let len = unit.len;
-                add_unit(&mut summary, unit, &tally);
-                rest = &rest[len..];
-            }
-            UnitRead::Empty => return Ok(summary),
-            UnitRead::Stopped => return Ok(summary),
-            UnitRead::Damaged(fault) => {
-                let at = offset.saturating_add(fault.offset);
-                return Err(Stop::Damaged {
-                    offset: at,
-                    kind: fault.kind,
-                });
-            }
-            UnitRead::NoMemory => return Err(Stop::NoMemory),
-        }
-    }
-}
-
-/// Counts a unit with its end rows and rows.
-fn add_unit(summary: &mut Summary, unit: WholeUnit, tally: &Tally)
-    ensures { summary.new ≡ with_unit (is_some unit.version) tally.now.sequences tally.now.rows summary.old }
-{
-    summary.add_unit(unit.version.is_some(), tally.sequences, tally.rows);
 }

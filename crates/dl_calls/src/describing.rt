@@ -1,16 +1,16 @@
 //! The call that describes the unit at an offset.
 
-ghost use Rattle.std.specs.Prelude.{◌≡◌, ◌≤◌, ℕ, List, drop, length};
+ghost use Rattle.std.specs.Prelude.{◌≡◌, ◌≤◌, ◌++◌, ℕ, List, drop, length};
 ghost use Rattle.dl_head.specs.declared.dialect.Dialect.{Dialect};
-ghost use Rattle.dl_rows.specs.LineUnit.{unit_rows};
 ghost use Rattle.dl_calls.specs.Calls.{dialect_of};
 ghost use Rattle.dl_calls.specs.UnitCalls.{Describes, unit_record};
-ghost use Rattle.dl_calls.specs.UnitReading.{WholeAt};
+ghost use Rattle.dl_calls.specs.UnitReading.{IsAtFront};
 
-use crate::checking::{Tally, dialect_of};
+use crate::checking::dialect_of;
 use crate::record::{FaultRecord, UnitRecord};
 use crate::status::Status;
-use crate::unit::{UnitRead, WholeUnit, read_unit, rest_from};
+use crate::stop::tell_stop;
+use crate::unit::{UnitAtFront, rest_from, unit_at_front};
 use std::alloc::Global;
 
 /// What the first four bytes of a unit of the 64-bit DWARF format are. Section 7.4.
@@ -31,43 +31,34 @@ pub fn unit_at(
     ensures { Describes (dialect_of how) (drop offset section.now) offset unit.old unit.new fault.old fault.new result }
 {
     let bytes = rest_from(section, offset);
-    let mut tally = Tally {
-        sequences: 0,
-        rows: 0,
-    };
-    match read_unit(alloc, dialect_of(how), bytes, &mut tally) {
-        UnitRead::Whole(whole) => {
-            *unit = describe(offset, bytes, &whole, tally.rows);
+    match unit_at_front(alloc, dialect_of(how), bytes) {
+        Ok(Some(front)) => {
+            *unit = describe(offset, bytes, &front);
             Status::Done
         }
-        UnitRead::Empty => Status::NoAnswer,
-        UnitRead::Stopped => Status::NoAnswer,
-        UnitRead::Damaged(found) => {
-            let at = offset.saturating_add(found.offset);
-            *fault = FaultRecord::of(at, found.kind);
-            Status::Fault
-        }
-        UnitRead::NoMemory => Status::NoMemory,
+        Ok(None) => Status::NoAnswer,
+        Err(stop) => tell_stop(stop, offset, fault),
     }
 }
 
-/// The unit that the bytes begin with, which was read whole and has as many rows.
-fn describe(offset: u64, bytes: &[u8], whole: &WholeUnit, rows: u64) -> UnitRecord
-    requires { whole.now.len ≤ length bytes.now }
-    ensures { (dialect : Dialect) (u : List ℕ) → WholeAt dialect bytes.now whole.now u
-        → rows ≡ length (unit_rows dialect u) → result ≡ unit_record dialect offset u }
+/// The unit that the bytes begin with.
+fn describe(offset: u64, bytes: &[u8], front: &UnitAtFront) -> UnitRecord
+    requires { front.now.read.end ≤ length bytes.now }
+    ensures { (dialect : Dialect) (u back : List ℕ) → bytes.now ≡ u ++ back → IsAtFront dialect u front.now
+        → result ≡ unit_record dialect offset u }
 {
+    let len = front.read.end;
     let mut unit = UnitRecord {
         offset,
-        length: whole.len as u64,
-        rows,
+        length: len,
+        rows: front.read.summary.rows,
         directories: 0,
         files: 0,
-        version: whole.version.unwrap_or(0),
+        version: front.unit.version.unwrap_or(0),
         address_size: 0,
-        is_dwarf64: u8::from(bytes[..whole.len].starts_with(&DWARF64_MARK)),
+        is_dwarf64: u8::from(bytes[..len as usize].starts_with(&DWARF64_MARK)),
     };
-    if let Some(header) = whole.reader.header() {
+    if let Some(header) = &front.unit.header {
         unit.version = header.params().version;
         unit.directories = header.directories().len() as u64;
         unit.files = header.files().len() as u64;

@@ -7,37 +7,50 @@ ghost use Rattle.dl_calls.specs.FindCalls.{Finds, Seeks};
 use crate::checking::dialect_of;
 use crate::record::{FaultRecord, RowRecord};
 use crate::status::Status;
-use crate::stop::Stop;
-use crate::unit::{UnitRead, offset_of, read_unit};
+use crate::stop::tell_stop;
 use dl_head::Dialect;
 use dl_look::{Finder, Place};
-use dl_rows::{Flow, Row, RowSink};
+use dl_rows::{Flow, Row};
+use dl_run::{SectionStop, UnitSink, WholeUnit, read_section};
 use std::alloc::Global;
-use std::mem;
-
-/// Gives rows to a finder.
-#[derive(Drop)]
-pub struct Seeker {
-    finder: Finder,
-}
-
-impl RowSink for Seeker {
-    ghost use Rattle.dl_calls.specs.Seekers.{seeker_story};
-
-    ghost story = { seeker_story };
-
-    #[inline(always)]
-    fn row(&mut self, row: &Row) -> Flow {
-        self.finder.row(row);
-        Flow::On
-    }
-}
 
 /// The row that answers for a place, and the offset of its unit.
 #[derive(Clone, Copy)]
 pub struct Found {
     pub row: Row,
     pub unit: u64,
+}
+
+/// Looks a place up in the units of a section.
+#[derive(Drop)]
+struct Seeker {
+    place: Place,
+    /// Was given the rows of the current unit.
+    finder: Finder,
+    found: Option<Found>,
+}
+
+impl UnitSink for Seeker {
+    ghost use Rattle.dl_calls.specs.Seekers.{seeker_story};
+
+    ghost story = { seeker_story };
+
+    #[inline(always)]
+    fn row(&mut self, row: &Row) {
+        self.finder.row(row);
+    }
+
+    fn end(&mut self, unit: WholeUnit) -> Flow {
+        let Some(row) = self.finder.answer() else {
+            self.finder = Finder::new(self.place);
+            return Flow::On;
+        };
+        self.found = Some(Found {
+            row,
+            unit: unit.offset,
+        });
+        Flow::Stop
+    }
 }
 
 /// Looks up the row that answers for an address and an operation of its instruction: that of the first
@@ -63,11 +76,7 @@ pub fn find(
             Status::Done
         }
         Ok(None) => Status::NoAnswer,
-        Err(Stop::Damaged { offset, kind }) => {
-            *fault = FaultRecord::of(offset, kind);
-            Status::Fault
-        }
-        Err(Stop::NoMemory) => Status::NoMemory,
+        Err(stop) => tell_stop(stop, 0, fault),
     }
 }
 
@@ -77,33 +86,14 @@ fn seek(
     dialect: Dialect,
     section: &[u8],
     place: Place,
-) -> Result<Option<Found>, Stop>
+) -> Result<Option<Found>, SectionStop>
     ensures { Seeks dialect section.now place result }
 {
-    let mut rest = section;
-    'units: loop {
-        let unit = offset_of(section, rest);
-        let finder = Finder::new(place);
-        let mut seeker = Seeker { finder };
-        match read_unit(alloc, dialect, rest, &mut seeker) {
-            UnitRead::Whole(whole) => {
-                let len = whole.len;
-                mem::drop(whole);
-                if let Some(row) = seeker.finder.answer() {
-                    return Ok(Some(Found { row, unit }));
-                }
-                rest = &rest[len..];
-            }
-            UnitRead::Empty => return Ok(None),
-            UnitRead::Stopped => return Ok(None),
-            UnitRead::Damaged(fault) => {
-                let at = unit.saturating_add(fault.offset);
-                return Err(Stop::Damaged {
-                    offset: at,
-                    kind: fault.kind,
-                });
-            }
-            UnitRead::NoMemory => return Err(Stop::NoMemory),
-        }
-    }
+    let mut seeker = Seeker {
+        place,
+        finder: Finder::new(place),
+        found: None,
+    };
+    read_section(alloc, dialect, section, &mut seeker)?;
+    Ok(seeker.found)
 }

@@ -3,38 +3,47 @@
 ghost use Rattle.std.specs.Prelude.{◌≡◌, ◌==◌, ◌<◌, ◌-◌, ◌^◌, ℕ, List, IfOk, [], length, map, slice_get};
 ghost use Rattle.std.specs.Prelude.{Some, None, if◌then◌else◌};
 ghost use Rattle.dl_look.specs.FindersRows.{Stand};
-ghost use Rattle.dl_calls.specs.AllCalls.{EndsWith, FindsAll, place_of_address, placed};
+ghost use Rattle.dl_calls.specs.AllCalls.{Answers, EndsWith, FindsAll, place_of_address, placed};
 ghost use Rattle.dl_calls.specs.Calls.{dialect_of};
-ghost use Rattle.dl_calls.specs.Gatherers.{Placed, row_after, unit_after};
+ghost use Rattle.dl_calls.specs.Gatherers.{row_after, unit_after};
 
 use crate::checking::dialect_of;
 use crate::record::{FaultRecord, RowRecord};
 use crate::status::Status;
-use crate::stop::Stop;
-use crate::unit::{UnitRead, offset_of, read_unit};
+use crate::stop::tell_stop;
 use dl_head::Dialect;
 use dl_look::{Answered, Finders, NoMemory, Place};
-use dl_rows::{Flow, Row, RowSink};
+use dl_rows::{Flow, Row};
+use dl_run::{SectionStop, UnitSink, WholeUnit, read_section};
 use std::alloc::Global;
-use std::mem;
 
 /// The offset that stands for no unit.
 const NO_UNIT: u64 = u64::MAX;
 
-/// Gives rows to finders.
+/// Looks addresses up in the units of a section, and tells what each unit is the first to answer.
 #[derive(Drop)]
-pub struct Gatherer {
-    finders: Finders,
+struct Gatherer<'a> {
+    /// Was given the rows of the units.
+    finders: &'a mut Finders,
+    rows: &'a mut [RowRecord],
+    units: &'a mut [u64],
 }
 
-impl RowSink for Gatherer {
+impl UnitSink for Gatherer<'_> {
     ghost use Rattle.dl_calls.specs.Gatherers.{gatherer_story};
 
     ghost story = { gatherer_story };
 
     #[inline(always)]
-    fn row(&mut self, row: &Row) -> Flow {
+    fn row(&mut self, row: &Row) {
         self.finders.row(row);
+    }
+
+    fn end(&mut self, unit: WholeUnit) -> Flow {
+        self.finders.end_unit();
+        let rows = &mut *self.rows;
+        let units = &mut *self.units;
+        tell(self.finders.answered(), unit.offset, rows, units);
         Flow::On
     }
 }
@@ -60,17 +69,13 @@ pub fn find_all(
     if rows.len() != addresses.len() || units.len() != addresses.len() {
         return Status::NoRoom;
     }
-    let Ok(finders) = finders_of(alloc, addresses) else {
+    let Ok(mut finders) = finders_of(alloc, addresses) else {
         return Status::NoMemory;
     };
     forget(units);
-    match gather(alloc, dialect_of(how), section, finders, rows, units) {
+    match gather(alloc, dialect_of(how), section, &mut finders, rows, units) {
         Ok(()) => Status::Done,
-        Err(Stop::Damaged { offset, kind }) => {
-            *fault = FaultRecord::of(offset, kind);
-            Status::Fault
-        }
-        Err(Stop::NoMemory) => Status::NoMemory,
+        Err(stop) => tell_stop(stop, 0, fault),
     }
 }
 
@@ -95,37 +100,29 @@ fn gather(
     alloc: Global,
     dialect: Dialect,
     section: &[u8],
-    finders: Finders,
+    finders: &mut Finders,
     rows: &mut [RowRecord],
     units: &mut [u64],
-) -> Result<(), Stop>
-    ensures { (addresses : List ℕ) → Stand finders (map place_of_address addresses) [] []
-        → EndsWith dialect section.now (λ found. Placed dialect found addresses rows.old rows.new units.old units.new)
+) -> Result<(), SectionStop>
+    ensures { (addresses : List ℕ) → Stand finders.old (map place_of_address addresses) [] []
+        → ((i : ℕ) → i < length addresses → slice_get units.old i ≡ Some (2 ^ 64 - 1))
+        → EndsWith dialect section.now (λ found. Answers dialect found addresses rows.old rows.new units.new)
         result }
 {
-    let mut rest = section;
-    let mut gatherer = Gatherer { finders };
-    'units: loop {
-        let unit = offset_of(section, rest);
-        match read_unit(alloc, dialect, rest, &mut gatherer) {
-            UnitRead::Whole(whole) => {
-                let len = whole.len;
-                mem::drop(whole);
-                gatherer.finders.end_unit();
-                tell(gatherer.finders.answered(), unit, rows, units);
-                rest = &rest[len..];
-            }
-            UnitRead::Empty => return Ok(()),
-            UnitRead::Stopped => return Ok(()),
-            UnitRead::Damaged(fault) => {
-                let at = unit.saturating_add(fault.offset);
-                return Err(Stop::Damaged {
-                    offset: at,
-                    kind: fault.kind,
-                });
-            }
-            UnitRead::NoMemory => return Err(Stop::NoMemory),
-        }
+    let mut gatherer = Gatherer {
+        finders,
+        rows,
+        units,
+    };
+    let read = read_section(alloc, dialect, section, &mut gatherer);
+    let Gatherer {
+        finders: _,
+        rows: _,
+        units: _,
+    } = gatherer;
+    match read {
+        Ok(_) => Ok(()),
+        Err(stop) => Err(stop),
     }
 }
 

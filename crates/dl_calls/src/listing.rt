@@ -1,38 +1,45 @@
 //! The call that lists the rows of the unit at an offset.
 
-ghost use Rattle.std.specs.Prelude.{drop};
+ghost use Rattle.std.specs.Prelude.{◌≡◌, drop};
 ghost use Rattle.dl_calls.specs.Calls.{dialect_of};
+ghost use Rattle.dl_calls.specs.Stops.{count_told};
 ghost use Rattle.dl_calls.specs.UnitCalls.{Lists};
 
 use crate::checking::dialect_of;
 use crate::record::{FaultRecord, RowRecord};
 use crate::status::Status;
-use crate::unit::{UnitRead, read_unit, rest_from};
-use dl_rows::{Flow, Row, RowSink};
+use crate::stop::tell_stop;
+use crate::unit::rest_from;
+use dl_rows::{Flow, Row};
+use dl_run::{SectionStop, UnitSink, WholeUnit, read_section};
 use std::alloc::Global;
-use std::mem;
 
-/// Keeps rows, as many as there is room for, and counts all.
+/// Keeps the rows of the first unit, as many as there is room for, and counts all.
 #[derive(Drop)]
-pub struct RowRoom<'a> {
+struct RowRoom<'a> {
     rows: &'a mut [RowRecord],
     count: usize,
+    /// The unit is whole.
+    is_whole: bool,
 }
 
-impl RowSink for RowRoom<'_> {
+impl UnitSink for RowRoom<'_> {
     ghost use Rattle.dl_calls.specs.RowRooms.{room_story};
 
     ghost story = { room_story };
 
     #[inline(always)]
-    fn row(&mut self, row: &Row) -> Flow {
+    fn row(&mut self, row: &Row) {
         let place = self.count;
         self.count = place.saturating_add(1);
-        if place >= self.rows.len() {
-            return Flow::On;
+        if place < self.rows.len() {
+            self.rows[place] = RowRecord::of(row);
         }
-        self.rows[place] = RowRecord::of(row);
-        Flow::On
+    }
+
+    fn end(&mut self, _unit: WholeUnit) -> Flow {
+        self.is_whole = true;
+        Flow::Stop
     }
 }
 
@@ -53,31 +60,37 @@ pub fn rows_at(
     ensures { Lists (dialect_of how) (drop offset section.now) offset rows.old rows.new count.old count.new fault.old
         fault.new result }
 {
-    let mut room = RowRoom { rows, count: 0 };
-    let read = read_unit(
-        alloc,
-        dialect_of(how),
-        rest_from(section, offset),
-        &mut room,
-    );
+    let mut room = RowRoom {
+        rows,
+        count: 0,
+        is_whole: false,
+    };
+    let bytes = rest_from(section, offset);
+    let read = read_section(alloc, dialect_of(how), bytes, &mut room);
     let RowRoom {
         rows: _,
         count: found,
+        is_whole,
     } = room;
     match read {
-        UnitRead::Whole(whole) => {
-            mem::drop(whole);
+        Ok(_) if is_whole => {
             *count = found;
-            return Status::Done;
+            Status::Done
         }
-        UnitRead::Empty => return Status::NoAnswer,
-        UnitRead::Stopped => return Status::NoAnswer,
-        UnitRead::Damaged(damage) => {
-            *count = found;
-            let at = offset.saturating_add(damage.offset);
-            *fault = FaultRecord::of(at, damage.kind);
-            return Status::Fault;
+        Ok(_) => Status::NoAnswer,
+        Err(stop) => {
+            *count = count_told(stop, found, *count);
+            tell_stop(stop, offset, fault)
         }
-        UnitRead::NoMemory => return Status::NoMemory,
+    }
+}
+
+/// How many rows are told where the reading stops: those that were found before damage; else it stays as it was.
+fn count_told(stop: SectionStop, found: usize, count: usize) -> usize
+    ensures { result ≡ count_told stop found count }
+{
+    match stop {
+        SectionStop::Damaged { .. } => found,
+        SectionStop::NoMemory => count,
     }
 }

@@ -3,22 +3,20 @@
 ghost use Rattle.std.specs.Prelude.{◌≡◌, ◌++◌, ℕ, List, drop, option_map};
 ghost use Rattle.dl_path.specs.Parts.{path_seen};
 ghost use Rattle.dl_path.specs.Paths.{path_of};
-ghost use Rattle.dl_head.specs.declared.dialect.Dialect.{Dialect};
 ghost use Rattle.dl_print.specs.ValueText.{strings_of};
-ghost use Rattle.dl_head.specs.Header.{foreign_in};
-ghost use Rattle.dl_run.specs.Section.{header_of};
 ghost use Rattle.dl_calls.specs.Calls.{dialect_of};
 ghost use Rattle.dl_calls.specs.PathCalls.{Names, TellsPath, both_strings, path_or_missing};
 ghost use Rattle.dl_calls.specs.UnitCalls.{length_told, written_over};
-ghost use Rattle.dl_calls.specs.UnitReading.{WholeAt};
 
-use crate::checking::{Tally, dialect_of};
+use crate::checking::dialect_of;
 use crate::record::FaultRecord;
 use crate::room::add;
 use crate::status::Status;
-use crate::unit::{UnitRead, WholeUnit, read_unit, rest_from};
+use crate::stop::tell_stop;
+use crate::unit::{rest_from, unit_at_front};
 use dl_path::{Path, path_of, slash_after};
 use dl_print::StringSections;
+use dl_run::WholeUnit;
 use std::alloc::Global;
 
 /// Tells the path of the file of this number in the unit that begins at an offset of a section, as `dl_path::path_of`
@@ -44,44 +42,28 @@ pub fn path_at(
         path.old path.new len.old len.new fault.old fault.new result }
 {
     let strings = StringSections::new(Some(line_str), Some(str));
-    let mut tally = Tally {
-        sequences: 0,
-        rows: 0,
-    };
-    match read_unit(
-        alloc,
-        dialect_of(how),
-        rest_from(section, offset),
-        &mut tally,
-    ) {
-        UnitRead::Whole(whole) => name(&strings, &whole, file, path, len),
-        UnitRead::Empty => Status::NoAnswer,
-        UnitRead::Stopped => Status::NoAnswer,
-        UnitRead::Damaged(found) => {
-            let at = offset.saturating_add(found.offset);
-            *fault = FaultRecord::of(at, found.kind);
-            Status::Fault
-        }
-        UnitRead::NoMemory => Status::NoMemory,
+    match unit_at_front(alloc, dialect_of(how), rest_from(section, offset)) {
+        Ok(Some(front)) => name(&strings, &front.unit, file, path, len),
+        Ok(None) => Status::NoAnswer,
+        Err(stop) => tell_stop(stop, offset, fault),
     }
 }
 
 /// Tells the path of a file of a unit that was read whole.
 fn name(
     strings: &StringSections<'_>,
-    whole: &WholeUnit,
+    unit: &WholeUnit,
     file: u64,
     path: &mut [u8],
     len: &mut usize,
 ) -> Status
-    ensures { (dialect : Dialect) (t u : List ℕ) → WholeAt dialect t whole.now u
-        → Names (foreign_in dialect u) (path_or_missing (path_of (strings_of strings.now) (header_of dialect u) file))
+    ensures { Names unit.now.version (path_or_missing (path_of (strings_of strings.now) unit.now.header file))
         path.old path.new len.old len.new result }
 {
-    if whole.version.is_some() {
+    if unit.version.is_some() {
         return Status::OtherVersion;
     }
-    *len = join(path_of(strings, whole.reader.header(), file), path);
+    *len = join(path_of(strings, unit.header.as_ref(), file), path);
     Status::Done
 }
 

@@ -1,27 +1,25 @@
 //! The call that tells the paths of many files.
 
-ghost use Rattle.std.specs.Prelude.{◌≡◌, ℕ, List, drop};
+ghost use Rattle.std.specs.Prelude.{◌≡◌, drop};
 ghost use Rattle.std.specs.List.{concat};
 ghost use Rattle.std.specs.Option.{option_copied};
-ghost use Rattle.dl_head.specs.declared.dialect.Dialect.{Dialect};
 ghost use Rattle.dl_print.specs.ValueText.{strings_of};
-ghost use Rattle.dl_head.specs.Header.{foreign_in};
-ghost use Rattle.dl_run.specs.Section.{header_of};
 ghost use Rattle.dl_calls.specs.Calls.{dialect_of};
 ghost use Rattle.dl_calls.specs.PathCalls.{both_strings};
 ghost use Rattle.dl_calls.specs.PathsCalls.{NamesAll, TellsPaths, ends_from, paths_of};
 ghost use Rattle.dl_calls.specs.UnitCalls.{length_told, written_over};
-ghost use Rattle.dl_calls.specs.UnitReading.{WholeAt};
 
-use crate::checking::{Tally, dialect_of};
+use crate::checking::dialect_of;
 use crate::naming::join_after;
 use crate::record::FaultRecord;
 use crate::room::put;
 use crate::status::Status;
-use crate::unit::{UnitRead, WholeUnit, read_unit, rest_from};
+use crate::stop::tell_stop;
+use crate::unit::{rest_from, unit_at_front};
 use dl_head::Header;
 use dl_path::path_of;
 use dl_print::StringSections;
+use dl_run::WholeUnit;
 use std::alloc::Global;
 
 /// Tells the paths of files of the unit that begins at an offset of a section, one after the other, each as `path_at`
@@ -46,44 +44,28 @@ pub fn paths_at(
         paths.old paths.new ends.old ends.new fault.old fault.new result }
 {
     let strings = StringSections::new(Some(line_str), Some(str));
-    let mut tally = Tally {
-        sequences: 0,
-        rows: 0,
-    };
-    match read_unit(
-        alloc,
-        dialect_of(how),
-        rest_from(section, offset),
-        &mut tally,
-    ) {
-        UnitRead::Whole(whole) => name_all(&strings, &whole, files, paths, ends),
-        UnitRead::Empty => Status::NoAnswer,
-        UnitRead::Stopped => Status::NoAnswer,
-        UnitRead::Damaged(found) => {
-            let at = offset.saturating_add(found.offset);
-            *fault = FaultRecord::of(at, found.kind);
-            Status::Fault
-        }
-        UnitRead::NoMemory => Status::NoMemory,
+    match unit_at_front(alloc, dialect_of(how), rest_from(section, offset)) {
+        Ok(Some(front)) => name_all(&strings, &front.unit, files, paths, ends),
+        Ok(None) => Status::NoAnswer,
+        Err(stop) => tell_stop(stop, offset, fault),
     }
 }
 
 /// Tells the paths of files of a unit that was read whole.
 fn name_all(
     strings: &StringSections<'_>,
-    whole: &WholeUnit,
+    unit: &WholeUnit,
     files: &[u64],
     paths: &mut [u8],
     ends: &mut [usize],
 ) -> Status
-    ensures { (dialect : Dialect) (t u : List ℕ) → WholeAt dialect t whole.now u
-        → NamesAll (foreign_in dialect u) (paths_of (strings_of strings.now) (header_of dialect u) files.now) paths.old
+    ensures { NamesAll unit.now.version (paths_of (strings_of strings.now) unit.now.header files.now) paths.old
         paths.new ends.old ends.new result }
 {
-    if whole.version.is_some() {
+    if unit.version.is_some() {
         return Status::OtherVersion;
     }
-    let len = join_all(strings, whole.reader.header(), files, paths, ends);
+    let len = join_all(strings, unit.header.as_ref(), files, paths, ends);
     if paths.len() < len {
         return Status::NoRoom;
     }

@@ -1,12 +1,22 @@
-//! Why a section isn't read to its end.
+//! Why a section isn't read to its end, as a call tells it.
 
-use dl_head::FaultKind;
+ghost use Rattle.std.specs.Prelude.{◌≡◌};
+ghost use Rattle.dl_calls.specs.Stops.{fault_told, status_of};
 
-/// Why a section isn't read to its end.
-#[derive(Clone, Copy)]
-pub enum Stop {
-    /// A unit is damaged. The offset counts from the section's first byte.
-    Damaged { offset: u64, kind: FaultKind },
-    /// A growth was refused.
-    NoMemory,
+use crate::record::FaultRecord;
+use crate::status::Status;
+use dl_run::SectionStop;
+
+/// Tells the fault by which the bytes from an offset of a section on aren't read to their end.
+pub fn tell_stop(stop: SectionStop, offset: u64, fault: &mut FaultRecord) -> Status
+    ensures told { fault.new ≡ fault_told stop offset fault.old }
+    ensures status { result ≡ status_of stop }
+{
+    match stop {
+        SectionStop::Damaged { offset: at, kind } => {
+            *fault = FaultRecord::of(offset.saturating_add(at), kind);
+            Status::Fault
+        }
+        SectionStop::NoMemory => Status::NoMemory,
+    }
 }

@@ -301,7 +301,8 @@ module _ {S : Type 0} {story : Story S} {dialect : Dialect} {s : List ℕ} {firs
         → UnitsAre dialect x t.read units_after []
         → GoesOn story first new start now (t.visits ++ end_visits v.reader.dialect bytes) n
         → UnitsFed story dialect s first new start now x (Ok flow.Stop)
-    no_more is are goes = (units_after, drop fed.used rest, all_units, are.summary, rw e.visited (rw is at goes))
+    no_more is are goes =
+        (units_after, drop fed.used rest, all_units, are.summary, are.offset, rw e.visited (rw is at goes))
 
     -- it stopped at the end
     pub stops_at_end : {new : S} {now : Option (List ℕ)} (f : RunFault)

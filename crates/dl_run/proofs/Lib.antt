@@ -19,6 +19,8 @@ pub mod CountLemmas
 pub mod FeedLemmas
 pub mod WorkLemmas
 pub mod ReadLemmas
+pub mod TellingLemmas
+pub mod TellingVisits
 pub mod FindingVisits
 pub mod FindingAnswers
 pub mod SeekerLemmas

@@ -193,7 +193,7 @@ module _ {S : Type 0} (story : Story S) (dialect : Dialect) (limit : ℕ) (old i
             let done = subst (λ (m : Flow). Worked story dialect (so.t ++ take left piece) first new2 start now2 u2
             (Ok m))
             nothing (works_cut known (Ok n) is w (so.told tells out)) in
-            inr (done.0, done.1, has_cut done.0 done.1 done.2, done.3, done.4),
+            inr (done.0, done.1, has_cut done.0 done.1 done.2, done.3, done.5),
       )
 
       pub too_long : (n : Flow) (known : List ℕ) → n ≡ flow.On → known ≡ take left piece → Works known (Ok n)

@@ -94,9 +94,9 @@ module _ {S : Type 0} (story : Story S) (dialect : Dialect) (s : List ℕ) (firs
         → Worked story dialect s first new start after u answer
     all_out (Ok flow.On) kept (units, b, are, none, sound, tells) =
         (units, b, are, none, sound, settled (section_visits dialect units b) tells)
-    all_out (Ok flow.Stop) kept (units, back, has, summary, done) =
+    all_out (Ok flow.Stop) kept (units, back, has, summary, offset, done) =
         let p = settles flow.Stop (section_visits dialect units []) done in
-        (units, back, has, summary, record { tells = p.0; out = p.1 })
+        (units, back, has, summary, offset, record { tells = p.0; out = p.1 })
     all_out (Err (fault.Write out)) kept fed = absurd (true_false kept)
     all_out (Err (fault.Damage offset kind)) kept fed = stopped (fault.Damage offset kind) fed
     all_out (Err fault.NoMemory) kept fed = stopped fault.NoMemory fed
@@ -126,7 +126,7 @@ module _ {S : Type 0} (story : Story S) (dialect : Dialect) (s : List ℕ) (firs
           in_unit =
               within_unit dialect u s units b are;
         }) f (fails flow.On (section_visits dialect units b) tells)
-    not_out (Ok flow.Stop) kept (units, back, has, summary, done) =
+    not_out (Ok flow.Stop) kept (units, back, has, summary, offset, done) =
         lost_all units [] back (record {
           has = has;
           in_unit =

@@ -4,6 +4,7 @@ pub mod RunOutput
 pub mod Strings
 pub mod Section
 pub mod Visiting
+pub mod InMemory
 pub mod SectionText
 pub mod Commands
 pub mod PassedOver
@@ -13,6 +14,7 @@ pub mod CopyLaws
 pub mod UnitPrinted
 pub mod UnitsRead
 pub mod Told
+pub mod Telling
 pub mod Checking
 pub mod PassingOver
 pub mod Dumping

@@ -66,7 +66,7 @@ UnitsFed story dialect s first new start now u (Ok flow.On) =
     × story.tells first new start now (section_visits dialect units b)
 UnitsFed story dialect s first new start now u (Ok flow.Stop) =
     (units : List (List ℕ)) × (back : List ℕ) × HasUnits dialect s units back × (u.summary ≡ summary_of dialect units)
-    × story.is_done first new start now (section_visits dialect units [])
+    × (u.offset ≡ length (concat units)) × story.is_done first new start now (section_visits dialect units [])
 UnitsFed story dialect s first new start now u (Err f) =
     (units : List (List ℕ)) × (b : List ℕ) × (back : List ℕ) × HasBegun dialect s units b back
     × ((ReaderStops dialect units b back f × story.tells first new start now (section_visits dialect units b))
@@ -85,7 +85,7 @@ Worked story dialect s first new start now u (Ok flow.On) =
     × Settled story first start now (section_visits dialect units b) (story.tells first new start now)
 Worked story dialect s first new start now u (Ok flow.Stop) =
     (units : List (List ℕ)) × (back : List ℕ) × HasUnits dialect s units back × (u.summary ≡ summary_of dialect units)
-    × Settled story first start now (section_visits dialect units []) (story.is_done first new start now)
+    × (u.offset ≡ length (concat units)) × Settled story first start now (section_visits dialect units []) (story.is_done first new start now)
 Worked story dialect s first new start now u (Err (fault.Write out)) =
     (units : List (List ℕ)) × (b : List ℕ) × (back : List ℕ) × HasBegun dialect s units b back
     × WritesFront story first start now (section_visits dialect units b) (fault.Write out)

@@ -104,22 +104,22 @@ impl<W: Write, V: Visitor<W>> RowSink for Told<'_, W, V> {
 
 /// Where a reader is in a section.
 #[derive(Drop)]
-struct SectionUnits {
+pub(crate) struct SectionUnits {
     alloc: Global,
     dialect: Dialect,
     reader: Reader,
     /// The offset of the current unit.
-    offset: u64,
+    pub offset: u64,
     is_foreign: bool,
     /// End rows and rows of the current unit.
     sequences: u64,
     rows: u64,
     /// What the units before it come to.
-    summary: Summary,
+    pub summary: Summary,
 }
 
 impl SectionUnits {
-    fn new(alloc: Global, dialect: Dialect) -> SectionUnits
+    pub fn new(alloc: Global, dialect: Dialect) -> SectionUnits
         ensures units { UnitsAre dialect result [] [] [] }
     {
         SectionUnits {
@@ -292,7 +292,7 @@ impl SectionUnits {
     }
 
     /// What the section comes to where its bytes are over.
-    fn finish(&self) -> Result<Summary, RunFault>
+    pub fn finish(&self) -> Result<Summary, RunFault>
         ensures { (dialect : Dialect) (t : List ℕ) (units : List (List ℕ)) (b : List ℕ)
             → UnitsAre dialect self.now t units b
             → NoUnitBegins dialect b → Sound dialect b → length t < 2 ^ 64 → Finishes dialect t units b result }
@@ -377,7 +377,7 @@ fn read_pieces<R: Read, W: Write, V: Visitor<W>>(
 }
 
 /// Works through a piece and settles what came of it, also where the piece is refused.
-fn work_through<W: Write, V: Visitor<W>>(
+pub(crate) fn work_through<W: Write, V: Visitor<W>>(
     units: &mut SectionUnits,
     output: &mut W,
     visitor: &mut V,

@@ -1,26 +1,18 @@
-use Rattle.std.proofs.Common.{Err, refl, subst}
+use Rattle.std.proofs.Common.{arith, subst}
 use Rattle.dl_head.specs.declared.dialect.Dialect.{Dialect}
-use Rattle.dl_calls.specs.declared.stop.Stop.{Stop}
-use Rattle.dl_calls.specs.Calls.{dialect_of}
-use Rattle.dl_calls.specs.Sections.{EndsFor}
+use Rattle.dl_calls.specs.declared.status.Status.TheVariants as status
+use Rattle.dl_calls.specs.Calls.{Checks}
+use Rattle.dl_calls.proofs.CheckLemmas.{checks, checks_stopped}
 use Rattle.dl_calls.proofs.checking.check.Goals as goal
 
-pub returns-in-Err-Damaged : goal.returns-in-Err-Damaged
-returns-in-Err-Damaged c = (
-  c.in-Err-Damaged.offset,
-  c.in-Err-Damaged.kind,
-  subst (λ (x : Stop). EndsFor (dialect_of c.args.how) c.args.section.now (Err x)) c.in-Err-Damaged.field-0-is
-      (subst (λ (d : Dialect). EndsFor d c.args.section.now (Err c.in-Err-Damaged.field-0)) c.dialect_of.ensures
-      c.in-Err-Damaged.ensures),
-  refl,
-  c.of-in-Err-Damaged.ensures,
-)
+pub returns-in-Ok : goal.returns-in-Ok
+returns-in-Ok c =
+    subst (λ (d : Dialect). Checks d c.args.section.now c.args.counts.now c.of.result c.args.fault.now c.args.fault.now
+    status.Done) c.dialect_of.ensures (checks c.dialect_of.result c.args.section.now _ c.read_section.new.sink c.args.counts.now
+    c.args.fault.now c.in-Ok.read (c.in-Ok.ensures tt) c.of.result c.of.ensures)
 
-pub returns-in-Err-NoMemory : goal.returns-in-Err-NoMemory
-returns-in-Err-NoMemory c = (
-  subst (λ (x : Stop). EndsFor (dialect_of c.args.how) c.args.section.now (Err x)) c.in-Err-NoMemory.field-0-is
-      (subst (λ (d : Dialect). EndsFor d c.args.section.now (Err c.in-Err-NoMemory.field-0)) c.dialect_of.ensures
-      c.in-Err-NoMemory.ensures),
-  refl,
-  refl,
-)
+pub returns-in-Err : goal.returns-in-Err
+returns-in-Err c =
+    rw (c.tell_stop.ensures.told, c.tell_stop.ensures.status, ← c.dialect_of.ensures) (checks_stopped
+    c.dialect_of.result c.args.section.now _ c.read_section.new.sink c.args.counts.now c.args.fault.now (omega arith)
+    c.in-Err.stop (c.in-Err.ensures tt))

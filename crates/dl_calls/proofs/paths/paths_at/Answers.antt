@@ -1,77 +1,33 @@
-use Rattle.std.proofs.Common.{List, [], ℕ, drop, refl, sym, ap, ◌∙◌, subst}
-use Rattle.dl_head.specs.declared.dialect.Dialect.{Dialect}
-use Rattle.dl_head.specs.Header.{foreign_in}
+use Rattle.std.proofs.Common.{Option, Ok, subst}
 use Rattle.dl_print.specs.ValueText.{Strings}
-use Rattle.dl_run.specs.Section.{header_of}
-use Rattle.dl_calls.specs.declared.status.Status.TheVariants as status
-use Rattle.dl_calls.specs.Records.{record_of}
+use Rattle.dl_run.specs.declared.in_memory.WholeUnit.{WholeUnit}
+use Rattle.dl_calls.specs.declared.unit.UnitAtFront.{UnitAtFront}
 use Rattle.dl_calls.specs.PathCalls.{both_strings}
-use Rattle.dl_calls.specs.PathsCalls.{NamesAll, TellsPaths, paths_of}
+use Rattle.dl_calls.specs.PathsCalls.{NamesAll, paths_of}
+use Rattle.dl_calls.specs.UnitReading.{ReadsUnit}
 use Rattle.dl_calls.proofs.PathsLemmas.{named_all}
-use Rattle.dl_calls.proofs.SectionLemmas.{none_counted}
-use Rattle.dl_calls.proofs.UnitCallLemmas.{begins, offset_is, short_rest, stops_damaged, stops_unmet}
+use Rattle.dl_calls.proofs.UnitCallLemmas.{paths_stop}
 use Rattle.dl_calls.proofs.paths.paths_at.Goals as goal
 
-pub returns-in-Whole : goal.returns-in-Whole
-returns-in-Whole c =
-    let r = c.in-Whole.ensures.read (record { sequences = 0; rows = 0 }) [] none_counted in
+pub returns-in-Ok-Some : goal.returns-in-Ok-Some
+returns-in-Ok-Some c =
     let d = c.dialect_of.result in
     let t = c.rest_from.result.now in
     let s = both_strings c.args.line_str.now c.args.str.now in
-    subst (λ (d : Dialect). TellsPaths d (drop c.args.offset c.args.section.now) c.args.offset s c.args.files.now
-    c.args.paths.now c.name_all.new.paths c.args.ends.now c.name_all.new.ends c.args.fault.now c.args.fault.now
-    c.name_all.result) c.dialect_of.ensures
-    (subst (λ (l : List ℕ). TellsPaths d l c.args.offset s c.args.files.now c.args.paths.now c.name_all.new.paths
-    c.args.ends.now c.name_all.new.ends c.args.fault.now c.args.fault.now c.name_all.result)
-    c.rest_from.ensures.bytes
-    (named_all d t c.args.offset s c.args.files.now c.args.paths.now c.name_all.new.paths c.args.ends.now
-    c.name_all.new.ends c.args.fault.now r.0 (begins d t c.in-Whole.whole r.0 r.1) c.name_all.result
-    (subst (λ (x : Strings). NamesAll (foreign_in d r.0) (paths_of x (header_of d r.0) c.args.files.now)
-    c.args.paths.now c.name_all.new.paths c.args.ends.now c.name_all.new.ends c.name_all.result) c.new-strings.ensures
-    (c.name_all.ensures d t r.0 r.1))))
+    let r = subst (λ (o : Option UnitAtFront). ReadsUnit d t (Ok o)) c.in-Ok-Some.field-0-is c.in-Ok-Some.ensures in
+    let names = subst (λ (x : Strings). NamesAll c.in-Ok-Some.front.unit.version
+    (paths_of x c.in-Ok-Some.front.unit.header c.args.files.now) c.args.paths.now c.name_all.new.paths c.args.ends.now
+    c.name_all.new.ends c.name_all.result) c.new-strings.ensures c.name_all.ensures in
+    rw (← c.dialect_of.ensures, ← c.rest_from.ensures.bytes) (named_all d t c.args.offset s c.args.files.now
+    c.args.paths.now c.name_all.new.paths c.args.ends.now c.name_all.new.ends c.args.fault.now r.0 r.1
+    c.name_all.result (subst (λ (u : WholeUnit). NamesAll u.version (paths_of s u.header c.args.files.now)
+    c.args.paths.now c.name_all.new.paths c.args.ends.now c.name_all.new.ends c.name_all.result) r.2.unit names))
 
-pub returns-in-Empty : goal.returns-in-Empty
-returns-in-Empty c =
-    let r = c.in-Empty.ensures.read (record { sequences = 0; rows = 0 }) [] none_counted in
-    (sym c.rest_from.ensures.bytes ∙ r.0, refl, refl, refl)
-
-pub returns-in-Stopped : goal.returns-in-Stopped
-returns-in-Stopped c =
-    let r = c.in-Stopped.ensures.read (record { sequences = 0; rows = 0 }) [] none_counted in
-    absurd r.4
-
-pub returns-in-Damaged : goal.returns-in-Damaged
-returns-in-Damaged c =
-    let r = c.in-Damaged.ensures.read (record { sequences = 0; rows = 0 }) [] none_counted in
-    let d = c.dialect_of.result in
-    let t = c.rest_from.result.now in
-    let short = short_rest c.args.section.now t c.args.offset c.rest_from.ensures.bytes c.rest_from.ensures.small in
-    subst (λ (d : Dialect). TellsPaths d (drop c.args.offset c.args.section.now) c.args.offset
-    (both_strings c.args.line_str.now c.args.str.now) c.args.files.now c.args.paths.now c.args.paths.now
-    c.args.ends.now c.args.ends.now c.args.fault.now c.of.result status.Fault) c.dialect_of.ensures
-    (subst (λ (l : List ℕ). TellsPaths d l c.args.offset (both_strings c.args.line_str.now c.args.str.now)
-    c.args.files.now c.args.paths.now c.args.paths.now c.args.ends.now c.args.ends.now c.args.fault.now c.of.result
-    status.Fault) c.rest_from.ensures.bytes (
-      r.0,
-      c.in-Damaged.found.offset,
-      c.in-Damaged.found.kind,
-      stops_damaged d t r.0 r.1 c.in-Damaged.found r.2 r.3 short,
-      refl,
-      refl,
-      c.of.ensures ∙ ap (λ (n : ℕ). record_of n c.in-Damaged.found.kind) (c.saturating_add-at.ensures
-          ∙ offset_is d t r.0 r.1 c.in-Damaged.found r.2 r.3 c.args.section.now c.args.offset
-          c.rest_from.ensures.bytes c.rest_from.ensures.small c.ranges.offset.fits),
-    ))
-
-pub returns-in-NoMemory : goal.returns-in-NoMemory
-returns-in-NoMemory c =
-    let r = c.in-NoMemory.ensures.read (record { sequences = 0; rows = 0 }) [] none_counted in
-    let d = c.dialect_of.result in
-    let t = c.rest_from.result.now in
-    subst (λ (d : Dialect). TellsPaths d (drop c.args.offset c.args.section.now) c.args.offset
-    (both_strings c.args.line_str.now c.args.str.now) c.args.files.now c.args.paths.now c.args.paths.now
-    c.args.ends.now c.args.ends.now c.args.fault.now c.args.fault.now status.NoMemory) c.dialect_of.ensures
-    (subst (λ (l : List ℕ). TellsPaths d l c.args.offset (both_strings c.args.line_str.now c.args.str.now)
-    c.args.files.now c.args.paths.now c.args.paths.now c.args.ends.now c.args.ends.now c.args.fault.now
-    c.args.fault.now status.NoMemory)
-    c.rest_from.ensures.bytes (r.0, stops_unmet d t r.0 r.1 r.2 r.3 r.4, refl, refl, refl))
+pub returns-in-Err : goal.returns-in-Err
+returns-in-Err c =
+    let is = c.rest_from.ensures in
+    rw (c.tell_stop.ensures.told, c.tell_stop.ensures.status, ← c.dialect_of.ensures, ← is.bytes) (paths_stop
+    c.dialect_of.result c.rest_from.result.now c.args.section.now c.args.offset is.bytes is.small
+    c.ranges.offset.fits c.args.fault.now (both_strings c.args.line_str.now c.args.str.now)
+    c.args.files.now c.args.paths.now c.args.ends.now c.in-Err.stop
+    c.in-Err.ensures)

@@ -1,0 +1,51 @@
+-- The counts of a section in memory, and where its reading stops.
+use Rattle.std.proofs.Common.{◌≡◌, ◌<◌, ◌^◌, inl, inr, ℕ, List, [], length, Ok, Err, arith, refl, ap, subst}
+use Rattle.dl_head.specs.declared.dialect.Dialect.{Dialect}
+use Rattle.dl_print.specs.declared.summary.Summary.{Summary}
+use Rattle.dl_run.specs.declared.in_memory.SectionRead.{SectionRead}
+use Rattle.dl_run.specs.declared.in_memory.SectionStop.{SectionStop}
+use Rattle.dl_run.specs.declared.in_memory.SectionStop.TheVariants as stop
+use Rattle.dl_run.specs.InMemory.{ReadsSection}
+use Rattle.dl_run.specs.Section.{HasUnits}
+use Rattle.dl_calls.specs.declared.checking.Unkept.{Unkept}
+use Rattle.dl_calls.specs.declared.record.Counts.{Counts}
+use Rattle.dl_calls.specs.declared.record.FaultRecord.{FaultRecord}
+use Rattle.dl_calls.specs.declared.status.Status.TheVariants as status
+use Rattle.dl_calls.specs.Calls.{Checks}
+use Rattle.dl_calls.specs.Records.{counts_of, record_of}
+use Rattle.dl_calls.specs.Stops.{fault_told, status_of}
+use Rattle.dl_calls.specs.Unkept.{unkept_story}
+use Rattle.dl_calls.proofs.ToldUnits.{offset_of_fault}
+
+module _ (dialect : Dialect) (s : List ℕ) (first now : Unkept) (c : Counts) (f : FaultRecord) where
+  pub checks : (read : SectionRead) → ReadsSection unkept_story dialect s first now (Ok read) → (d : Counts)
+      → d ≡ counts_of read.summary → Checks dialect s c d f f status.Done
+  checks read (units, back, has, is, inl (end, heard)) d counts = (
+    read.summary,
+    (
+      units,
+      (
+        subst (HasUnits dialect s units) end has,
+        refl,
+        refl,
+        omega arith,
+        refl,
+        ap (λ (r : SectionRead). r.summary) is,
+      ),
+    ),
+    counts,
+    refl,
+  )
+  checks read (units, back, has, is, inr done) d counts = absurd done
+
+  pub checks_stopped : length s < 2 ^ 64 → (stop : SectionStop)
+      → ReadsSection unkept_story dialect s first now (Err stop)
+      → Checks dialect s c c f (fault_told stop 0 f) (status_of stop)
+  checks_stopped few (stop.Damaged at kind) (units, b, back, ends, heard) = (
+    at,
+    kind,
+    (units, b, back, ends),
+    refl,
+    ap (λ (n : ℕ). record_of n kind) (offset_of_fault dialect s units b back at kind ends few),
+  )
+  checks_stopped few stop.NoMemory (units, b, back, ends, heard) = ((units, b, back, ends), refl, refl)
