@@ -10,6 +10,8 @@ mod faults;
 #[cfg(test)]
 mod growths;
 #[cfg(test)]
+mod in_memory;
+#[cfg(test)]
 mod limits;
 #[cfg(test)]
 mod newer;
