@@ -28,7 +28,6 @@ pub mod ReadSound
 pub mod ReadTables
 pub mod ReadValues
 pub mod RefusalLaws
-pub mod RunLemmas
 pub mod SamePlace
 pub mod StepCells
 pub mod TableSpellings
