@@ -20,7 +20,7 @@ use Rattle.dl_head.proofs.ByteCounted.{settled}
 use Rattle.dl_head.proofs.OfferLemmas.{so_far_same}
 use Rattle.dl_head.proofs.OneAnswer.{one_answer}
 use Rattle.dl_head.proofs.OneByteMore.{by_dialect, live_of, goes_more, within_step, refused_step, unfed_step}
-use Rattle.dl_head.proofs.SamePlace.{Guards, counted, at_counted}
+use Rattle.dl_head.proofs.SamePlace.{Guards, counted}
 use Rattle.dl_head.proofs.TakenBytes.{countable, live_more}
 use Rattle.dl_head.proofs.TurnLemmas.{front_taken}
 use Rattle.dl_head.proofs.WholeSteps.{whole_moved}
@@ -147,7 +147,7 @@ module _ (r new : HeadReader) (b piece bytes : List ℕ) (n : ℕ) (result : Fie
       let mid = counted new g t t in
       let total : t ≡ length b + length (take n piece) = counts_on t count ∙ ap (λ (k : ℕ). length b + k) (sym size) in
       let whole = whole_moved r mid b (take n piece) live
-      (made.0, made.1, at_counted new g t t new.phase (live.0.items ++ made.0 ∷ []) [] made.2)
+      made
       (follows.cells live.0.items live.0.rest live.0.at) follows.counts.dialect follows.counts.header total total
       (subst (λ (k : ℕ). Below (length b + (k - 1)) r.end) (sym size) (room r.end refl live.0.below)) in
       taken_bytes r.dialect b piece n last fin within

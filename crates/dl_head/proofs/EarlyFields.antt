@@ -16,11 +16,8 @@ use Rattle.dl_head.specs.HeaderLayout.{format_alone}
 use Rattle.dl_head.specs.Place.{IsOlder, IsOfVersion, IsBefore}
 use Rattle.dl_field.specs.declared.params.Params.{Params}
 use Rattle.dl_field.specs.Layout.{Layout, following}
-use Rattle.dl_field.specs.ListPlace.{IsFreshList}
-use Rattle.dl_field.specs.declared.list_reader.ListKind.TheVariants as kind
 use Rattle.dl_head.proofs.HeaderEnds.{before_own, before_older}
 use Rattle.dl_field.proofs.FieldLemmas.{following_all-append}
-use Rattle.dl_head.specs.declared.dialect.Dialect.{Dialect}
 use Rattle.dl_head.specs.declared.reader.HeadReader.{HeadReader}
 use Rattle.dl_table.specs.declared.fault.FaultKind.{FaultKind}
 use Rattle.dl_table.specs.declared.fault.FaultKind.TheVariants as fault
@@ -30,9 +27,8 @@ use Rattle.dl_field.specs.Layout.{field_spelt, objection, judged, short_length, 
 use Rattle.dl_field.specs.Layout.{unit_length_limit}
 use Rattle.dl_head.specs.HeaderLayout.{header_layout, initial_size, fixed_part, from_minimum_length}
 use Rattle.dl_head.specs.Header.{header_end, unit_end}
-use Rattle.dl_head.specs.Place.{AtStart, InLong, Early, Late, At, Made, SameCounts, Starts, StartsHeader, length_item}
-use Rattle.dl_head.specs.Place.{before_header_length, end_of_unit}
-use Rattle.dl_field.specs.TablePlace.{IsFresh}
+use Rattle.dl_head.specs.Place.{AtStart, InLong, Early, LateIn, At, Made, SameCounts, Starts, StartsHeader, length_item}
+use Rattle.dl_head.specs.Place.{Parts, parts, EarlyIn, before_length, before_header_length, end_of_unit}
 
 -- ---- the initial length
 
@@ -133,9 +129,10 @@ pub items_on : (items is : List Item) (i j : Item) → items ≡ is → i ≡ j 
 items_on items is i j e f = ap (λ (l : List Item). l ++ i ∷ []) e ∙ ap (λ (k : Item). is ++ k ∷ []) f
 
 -- after an older version that is read
-pub older_early : (new : HeadReader) (items : List Item) → new.params.version ≢ 5
-    → items ≡ length_item new ∷ number_is new.params.version ∷ [] → new.end ≡ Some (end_of_unit new)
-    → new.overrun ≡ fault.UnitOverrun → IsBefore new → Early new items (before_header_length new)
+pub older_early : (new : Parts) (items : List Item) → new.params.version ≢ 5
+    → items ≡ length_is new.params.format new.unit_length ∷ number_is new.params.version ∷ []
+    → new.end ≡ Some (initial_size new.params.format + new.unit_length) → new.overrun ≡ fault.UnitOverrun
+    → IsBefore new.params.lengths.items new.table new.list → EarlyIn new items (before_length new)
 older_early new items other is end overrun before = record {
   items_are = is ∙ sym (before_older new other);
   end = end;
@@ -154,7 +151,7 @@ pub record AtLength (r : HeadReader) : Type 0 where
   pub number : q.version ≡ r.params.version
   pub late : from_minimum_length q ≡ from_minimum_length r.params
 
-older_follows : (r : HeadReader) → (is : IsOlder r)
+older_follows : (r : HeadReader) → (is : IsOlder r.dialect r.params)
     → following_all (header_layout r.dialect) (length_item r ∷ number_is r.params.version ∷ [])
     ≡ from_header_length r.unit_length (older_params r.params.format r.params.version r.params.address_size)
 older_follows r is =
@@ -169,14 +166,14 @@ at_length r (inl five) = record {
     address_size = r.params.address_size;
     segment_selector_size = r.params.segment_selector_size;
   };
-  follows = ap (λ (l : List Item). following_all (header_layout r.dialect) l) (before_own r five);
+  follows = ap (λ (l : List Item). following_all (header_layout r.dialect) l) (before_own (parts r) five);
   format = refl;
   number = sym five;
   late = ap (λ (v : ℕ). from_minimum_length (record r.params { version = v })) (sym five);
 }
 at_length r (inr older) = record {
   q = older_params r.params.format r.params.version r.params.address_size;
-  follows = ap (λ (l : List Item). following_all (header_layout r.dialect) l) (before_older r older.other)
+  follows = ap (λ (l : List Item). following_all (header_layout r.dialect) l) (before_older (parts r) older.other)
       ∙ older_follows r older;
   format = refl;
   number = refl;
@@ -228,11 +225,11 @@ before_ends : (r : HeadReader) (n : ℕ) → IsOfVersion r
     → header_end (before_header_length r ++ number_is n ∷ [])
     ≡ Some (initial_size r.params.format + fixed_part r.params.format r.params.version + n)
 before_ends r n (inl five) =
-    ap (λ (l : List Item). header_end (l ++ number_is n ∷ [])) (before_own r five)
+    ap (λ (l : List Item). header_end (l ++ number_is n ∷ [])) (before_own (parts r) five)
     ∙ ap (λ (v : ℕ). let o : Option ℕ = Some (initial_size r.params.format + fixed_part r.params.format v + n) in o)
     (sym five)
 before_ends r n (inr older) =
-    ap (λ (l : List Item). header_end (l ++ number_is n ∷ [])) (before_older r older.other)
+    ap (λ (l : List Item). header_end (l ++ number_is n ∷ [])) (before_older (parts r) older.other)
     ∙ ends r.params.version older.other
   where
     ends : (v : ℕ) → v ≢ 5 → header_end (length_item r ∷ number_is v ∷ number_is n ∷ [])
@@ -241,34 +238,28 @@ before_ends r n (inr older) =
 
 before_unit : (r : HeadReader) (n : ℕ) → IsOfVersion r
     → unit_end (before_header_length r ++ number_is n ∷ []) ≡ Some (end_of_unit r)
-before_unit r n (inl five) = ap (λ (l : List Item). unit_end (l ++ number_is n ∷ [])) (before_own r five)
-before_unit r n (inr older) = ap (λ (l : List Item). unit_end (l ++ number_is n ∷ [])) (before_older r older.other)
+before_unit r n (inl five) = ap (λ (l : List Item). unit_end (l ++ number_is n ∷ [])) (before_own (parts r) five)
+before_unit r n (inr older) = ap (λ (l : List Item). unit_end (l ++ number_is n ∷ [])) (before_older (parts r) older.other)
 
 -- after header_length
-pub header_length_late : (r new : HeadReader) (items : List Item) (n : ℕ) → Early r items (before_header_length r)
-    → IsOfVersion r → new.dialect
-    ≡ r.dialect → new.params ≡ r.params → end_of_unit new ≡ end_of_unit r
-    → new.end ≡ Some (initial_size r.params.format + fixed_part r.params.format r.params.version + n) → new.overrun
-    ≡ fault.HeaderOverrun
-    → IsFresh new.table
-    → IsFreshList kind.Directories new.list
-    → Late new (items ++ number_is n ∷ []) (from_minimum_length new.params)
-header_length_late r new items n early of order params unit end overrun fresh unlisted = record {
+pub header_length_late : (r : HeadReader) (end : Option ℕ) (items : List Item) (n : ℕ)
+    → Early r items (before_header_length r) → IsOfVersion r
+    → end ≡ Some (initial_size r.params.format + fixed_part r.params.format r.params.version + n)
+    → LateIn (record { dialect = r.dialect; unit = end_of_unit r; end = end; overrun = fault.HeaderOverrun }) r.table
+    r.list (items ++ number_is n ∷ []) (from_minimum_length r.params)
+header_length_late r end items n early of is = record {
   tail = record {
-    follows = ap (λ (d : Dialect). following_all (header_layout d) (items ++ number_is n ∷ [])) order
-        ∙ ap (λ (k : List Item). following_all (header_layout r.dialect) (k ++ number_is n ∷ []))
-        early.items_are ∙ following_all-append (header_layout r.dialect) (before_header_length r) (number_is n ∷ [])
-        ∙ ap (λ (l : Layout). following l (number_is n)) (at_length r of).follows ∙ (at_length r of).late
-        ∙ ap from_minimum_length (sym params);
-    unit = ap (λ (k : List Item). unit_end (k ++ number_is n ∷ [])) early.items_are ∙ before_unit r n of
-        ∙ ap (λ (k : ℕ). Some k) (sym unit);
+    follows = ap (λ (k : List Item). following_all (header_layout r.dialect) (k ++ number_is n ∷ [])) early.items_are
+        ∙ following_all-append (header_layout r.dialect) (before_header_length r) (number_is n ∷ [])
+        ∙ ap (λ (l : Layout). following l (number_is n)) (at_length r of).follows ∙ (at_length r of).late;
+    unit = ap (λ (k : List Item). unit_end (k ++ number_is n ∷ [])) early.items_are ∙ before_unit r n of;
     header = initial_size r.params.format + fixed_part r.params.format r.params.version + n;
     header_ends = ap (λ (k : List Item). header_end (k ++ number_is n ∷ [])) early.items_are ∙ before_ends r n of;
-    end = end;
-    overrun = overrun;
+    end = is;
+    overrun = refl;
   };
-  fresh = fresh;
-  unlisted = unlisted;
+  fresh = early.before.fresh;
+  unlisted = early.before.unlisted;
 }
 
 -- header_length is whole

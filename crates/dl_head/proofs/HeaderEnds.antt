@@ -15,7 +15,8 @@ use Rattle.dl_field.specs.Layout.{Layout, Item, length_is, number_is, form_is, v
 use Rattle.dl_head.specs.HeaderLayout.{header_layout, initial_size, fixed_part}
 use Rattle.dl_head.specs.Header.{SpellsFields, cut, unit_end, header_end}
 use Rattle.dl_head.specs.Refusal.{at_end, field_overrun}
-use Rattle.dl_head.specs.Place.{Early, Past, AtPhase, end_of_unit, before_header_length, IsOfVersion, length_item}
+use Rattle.dl_head.specs.Place.{Parts, parts, Early, Past, AtPhase, end_of_unit, before_length, before_header_length}
+use Rattle.dl_head.specs.Place.{IsOfVersion, length_item}
 use Rattle.dl_head.specs.Standing.{Below, unit_known}
 use Rattle.dl_head.proofs.CutLemmas.{cut_of, cut_good, cut_sound, Sound}
 use Rattle.dl_head.proofs.Openings.{Opening, opening_of}
@@ -86,13 +87,13 @@ start_end r items none end overrun = record {
 }
 
 -- the fields before header_length, by the version
-pub before_own : (r : HeadReader) → r.params.version ≡ 5
-    → before_header_length r ≡ length_item r ∷ number_is 5 ∷ number_is r.params.address_size
+pub before_own : (r : Parts) → r.params.version ≡ 5
+    → before_length r ≡ length_is r.params.format r.unit_length ∷ number_is 5 ∷ number_is r.params.address_size
     ∷ number_is r.params.segment_selector_size ∷ []
 before_own r five = rw (eq-eqb r.params.version 5 five) refl
 
-pub before_older : (r : HeadReader) → r.params.version ≢ 5
-    → before_header_length r ≡ length_item r ∷ number_is r.params.version ∷ []
+pub before_older : (r : Parts) → r.params.version ≢ 5
+    → before_length r ≡ length_is r.params.format r.unit_length ∷ number_is r.params.version ∷ []
 before_older r other = rw (ne_eqb r.params.version 5 other) refl
 
 older_none : (r : HeadReader) → r.params.version ≢ 5
@@ -102,11 +103,11 @@ older_none r other = rw (ne_eqb r.params.version 5 other) refl
 before_end : (r : HeadReader) (items : List Item) → Early r items (before_header_length r) → IsOfVersion r
     → EndIs r items
 before_end r items e (inl own) =
-    early_end r items (before_header_length r) e (ap header_end (before_own r own)) (ap unit_end (before_own r own))
+    early_end r items (before_header_length r) e (ap header_end (before_own (parts r) own)) (ap unit_end (before_own (parts r) own))
 before_end r items e (inr older) =
     early_end r items (before_header_length r) e
-    (ap header_end (before_older r older.other) ∙ older_none r older.other)
-    (ap unit_end (before_older r older.other))
+    (ap header_end (before_older (parts r) older.other) ∙ older_none r older.other)
+    (ap unit_end (before_older (parts r) older.other))
 
 pub end_is : (r : HeadReader) (p : Phase) (items : List Item) (rest : List ℕ) → AtPhase r p items rest → EndIs r items
 end_is r (phase.UnitLength n) items rest at = start_end r items at.0.none at.0.end at.0.overrun

@@ -8,7 +8,6 @@ pub mod EarlyFields
 pub mod FirstFields
 pub mod ForeignLemmas
 pub mod FrontLemmas
-pub mod HeadLists
 pub mod HeadTables
 pub mod HeaderCells
 pub mod HeaderEnds
@@ -30,6 +29,7 @@ pub mod ReadValues
 pub mod RefusalLaws
 pub mod SamePlace
 pub mod StepCells
+pub mod TableBytes
 pub mod TableSpellings
 pub mod TableValues
 pub mod TakenBytes

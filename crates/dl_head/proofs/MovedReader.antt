@@ -18,7 +18,7 @@ use Rattle.dl_head.proofs.CutLemmas.{cut_of, cut_within}
 use Rattle.dl_head.proofs.HeaderEnds.{end_is, UpTo, below_next, EndsWithin}
 use Rattle.dl_head.proofs.TakenBytes.{live_quiet}
 use Rattle.dl_head.proofs.StepCells.{cells_on}
-use Rattle.dl_head.proofs.SamePlace.{Guards, counted, at_counted}
+use Rattle.dl_head.proofs.SamePlace.{Guards, counted}
 
 -- ---- nothing shorter decides anything
 
@@ -67,7 +67,7 @@ moved_within r new g b x t l u f count =
       rest = l.rest ++ x ∷ [];
       cut_is = subst (λ (d : Dialect). cut d (b ++ x ∷ []) ≡ cut_of l.items (l.rest ++ x ∷ [])) (sym f.counts.dialect)
           (cut_within r.dialect b x l.items l.rest l.cut_is made.0);
-      at = at_counted new g new.start t new.phase l.items (l.rest ++ x ∷ []) made.1;
+      at = made.1;
       unjudged = subst (λ (d : Dialect). field_spelt d.order (following_all (header_layout d) l.items)
           (l.rest ++ x ∷ []) ≡ None)
           (sym f.counts.dialect) made.0;

@@ -171,17 +171,17 @@ place_of r phase.OpcodeLength items rest e at =
 place_of r phase.Directories items rest e at =
     in_field refl (λ q. absurd cc)
     (subst IsNext (sym at.tail.follows)
-    (table_next r.dialect.order r.table r.table.phase r.params.format _ at.layout rest at.at at.going))
+    (table_next r.dialect.order r.table r.table.phase r.params.format _ at.layout rest at.at.0 at.at.1))
 place_of r phase.Files items rest e at =
     in_field refl (λ q. absurd cc)
     (subst IsNext (sym at.tail.follows)
-    (table_next r.dialect.order r.table r.table.phase r.params.format _ at.layout rest at.at at.going))
+    (table_next r.dialect.order r.table r.table.phase r.params.format _ at.layout rest at.at.0 at.at.1))
 place_of r phase.OlderDirectories items rest e at =
     in_field refl (λ q. absurd cc)
-    (subst IsNext (sym at.tail.follows) (list_next r.list r.list.phase r.params.format _ at.layout rest at.at at.going))
+    (subst IsNext (sym at.tail.follows) (list_next r.list r.list.phase r.params.format _ at.layout rest at.at.0.0 at.at.0.1))
 place_of r phase.OlderFiles items rest e at =
     in_field refl (λ q. absurd cc)
-    (subst IsNext (sym at.tail.follows) (list_next r.list r.list.phase r.params.format _ at.layout rest at.at at.going))
+    (subst IsNext (sym at.tail.follows) (list_next r.list r.list.phase r.params.format _ at.layout rest at.at.0.0 at.at.0.1))
 place_of r phase.Padding items rest e at = in_padding refl at
 place_of r (phase.Foreign v) items rest e at =
     in_foreign v refl (ap (λ (l : List Item). following_all (header_layout r.dialect) l) at.0.items_are

@@ -29,8 +29,8 @@ use Rattle.dl_head.proofs.CutLemmas.{cut_of}
 use Rattle.dl_head.proofs.HeaderEnds.{UpTo, EndsWithin, after_end}
 use Rattle.dl_head.proofs.MovedReader.{Moved}
 use Rattle.dl_head.proofs.OneByteMore.{goes_more, live_of, kept_stands}
-use Rattle.dl_head.proofs.OneFieldMore.{after_on}
-use Rattle.dl_head.proofs.SamePlace.{Guards, counted, at_counted}
+use Rattle.dl_head.proofs.OneFieldMore.{past_more}
+use Rattle.dl_head.proofs.SamePlace.{Guards, counted}
 use Rattle.dl_head.proofs.StepCells.{cells_good_on}
 use Rattle.dl_head.proofs.TurnLemmas.{front_taken}
 use Rattle.dl_head.proofs.WholeSteps.{takes_none, Passed, passes, good_next}
@@ -69,7 +69,7 @@ module _ (r : HeadReader) where
   value_on b rest w items i m n a spelt adds below = record {
     among = record {
       layout = following a.layout i;
-      past = after_on r r items a.layout (following a.layout i) i a.past refl refl refl refl refl;
+      past = past_more i a.past;
       cut_is = passed.cut_is;
       unjudged = field_empty r.dialect.order (layout_of (items ++ i ∷ []));
       nothing_before = passed.nothing_before;
@@ -268,8 +268,7 @@ values_whole r mid g b piece bytes used t inside some le v counts count s more =
       rest = [];
       cut_is = subst (λ (d : Dialect). cut d (b ++ w) ≡ cut_of (l.0.items ++ f.more) []) (sym counts.dialect)
           among.cut_is;
-      at = at_counted mid g t t mid.phase (l.0.items ++ f.more) []
-          (subst (λ (x : List ℕ). At mid (l.0.items ++ f.more) x) ended.1 f.at);
+      at = subst (λ (x : List ℕ). At mid (l.0.items ++ f.more) x) ended.1 f.at;
       unjudged = field_empty new.dialect.order (following_all (header_layout new.dialect) (l.0.items ++ f.more));
       start_is = omega (arith, taken);
       up_to = up_to_of (length (b ++ w)) new.end
