@@ -39,7 +39,7 @@ use Rattle.dl_field.specs.Cells.{item_cells, begun_block, begun_leb_block, begun
 use Rattle.dl_head.specs.Laws.{FewCells}
 use Rattle.dl_field.proofs.FieldLemmas.{none_some}
 use Rattle.dl_head.proofs.CutLemmas.{cut_sound, Sound}
-use Rattle.dl_head.proofs.FirstFields.{is_length, is_number}
+use Rattle.dl_head.proofs.FirstFields.{Leads, leads_entry, leads_late, is_length, is_number}
 use Rattle.dl_field.proofs.GoodLemmas.{good_value, good_if, leb_some, bad_good, is_form, value_item}
 
 -- ---- a field holds no more cells than it has bytes
@@ -188,136 +188,68 @@ items_few order layout (i ∷ items) w s =
 
 -- ---- in a header those are three
 
--- the fields from the layout on have at most n more cells than bytes
-abbrev AtMost : ℕ → Layout → Type 0
-AtMost n (initial_length_then next) = (f : Format) (m : ℕ) → AtMost n (next f m)
-AtMost n (number_then field next) = (m : ℕ) → AtMost n (next m)
-AtMost n (form_then next) = (f : Form) → AtMost n (next f)
-AtMost n (value_then format f next) = (v : Value) → AtMost n (next v)
-AtMost n (path_or_end format pairs entries next) =
-    (k : ℕ) × (length pairs - 1 + k ≤ n) × ((t : TableData) → AtMost k (next t))
-AtMost n (foreign_version v) = Unit {0}
-AtMost n (last_entry h) = Unit {0}
-
-most_entry : (n : ℕ) (format : Format) (pairs : List Pair) (before : List Value) (next : List Value → Layout)
-    → ((entry : List Value) → AtMost n (next entry)) → AtMost n (entry_layout format pairs before next)
-most_entry n format [] before next most = most before
-most_entry n format (p ∷ pairs) before next most = λ v. most_entry n format pairs (before ++ v ∷ []) next most
-
-most_pairs : (n count : ℕ) (before : List Pair) (next : List Pair → Layout)
-    → ((pairs : List Pair) → AtMost n (next pairs))
-    → AtMost n (pairs_layout count before next)
-most_pairs n zero before next most = most before
-most_pairs n (suc count) before next most = λ code f. most_pairs n count
-    (before ++ record { content = code; form = f } ∷ []) next most
-
-most_entries : (n : ℕ) (format : Format) (pairs : List Pair) (count : ℕ) (before : List (List Value))
-    (next : List (List Value) → Layout) → ((entries : List (List Value)) → AtMost n (next entries))
-    → AtMost n (entries_layout format pairs count before next)
-most_entries n format pairs zero before next most = most before
-most_entries n format pairs (suc count) before next most =
-    most_entry n format pairs [] (λ entry. entries_layout format pairs count (before ++ entry ∷ []) next)
-    (λ entry. most_entries n format pairs count (before ++ entry ∷ []) next most)
-
-most_table : (n : ℕ) (format : Format) (next : TableData → Layout) → ((t : TableData) → AtMost n (next t))
-    → AtMost n (table_layout format next)
-most_table n format next most = λ pair_count. most_pairs n pair_count [] _
-    (λ pairs. λ count. most_entries n format pairs count [] _ (λ entries. most _))
-
-most_lengths : (n opcode count : ℕ) (before : List ℕ) (next : List ℕ → Layout)
-    → ((lengths : List ℕ) → AtMost n (next lengths)) → AtMost n (lengths_layout opcode count before next)
-most_lengths n opcode zero before next most = most before
-most_lengths n opcode (suc count) before next most = λ m. most_lengths n (opcode + 1) count (before ++ m ∷ []) next most
-
-most_tables : (p : Params) → AtMost 3 (tables_layout p)
-most_tables p = elim (cases_eq p.version 5) [
-  | inl five ↦ rw (eq-eqb p.version 5 five) (most_table 3 p.format (from_files p)
-      (λ directories. most_table 3 p.format (from_end p directories) (λ files. tt)))
-  | inr other ↦ rw (ne_eqb p.version 5 other) (3, omega arith, λ directories. (0, omega arith, λ files. tt))
-]
-
-most_default : (p : Params) → AtMost 3 (from_default_is_stmt p)
-most_default p = λ is_stmt base range opcodes. most_lengths 3 1 (opcodes - 1) [] _ (λ lengths. most_tables _)
-
-most_late : (p : Params) → AtMost 3 (from_minimum_length p)
-most_late p minimum = elim (cases_lt p.version 4) [
-  | inl old ↦ rw (lt-ltb p.version 4 old) (most_default (record p { minimum_instruction_length = minimum }))
-  | inr new ↦ rw (le-ltb p.version 4 new) (λ maximum. most_default
-      (record p { minimum_instruction_length = minimum; maximum_operations_per_instruction = maximum }))
-]
-
-most_older : (format : Format) (n v : ℕ) (o : Option ℕ) → AtMost 3 (from_older_version format n v o)
-most_older format n v None = tt
-most_older format n v (Some size) = λ header. most_late (older_params format v size)
-
-most_header : (dialect : Dialect) → AtMost 3 (header_layout dialect)
-most_header dialect format n v = elim (cases_eq v 5) [
-  | inl five ↦ rw (eq-eqb v 5 five) (λ address segment header. most_late
+leads_header : (dialect : Dialect) → Leads (Unit {0}) 3 (header_layout dialect)
+leads_header dialect format n v = elim (cases_eq v 5) [
+  | inl five ↦ rw (eq-eqb v 5 five) (λ address segment header. leads_late (Unit {0})
       (record (format_alone format) { address_size = address; segment_selector_size = segment }))
-  | inr other ↦ rw (ne_eqb v 5 other) (most_older format n v (older_size dialect v))
-]
+  | inr other ↦ rw (ne_eqb v 5 other) (older (older_size dialect v))
+] where
+  older : (o : Option ℕ) → Leads (Unit {0}) 3 (from_older_version format n v o)
+  older None = tt
+  older (Some size) = λ header. leads_late (Unit {0}) (older_params format v size)
 
-excess_few : (order : Order) (n : ℕ) (layout : Layout) (items : List Item) (w : List ℕ) → AtMost n layout
+excess_few : (order : Order) (n : ℕ) (layout : Layout) (items : List Item) (w : List ℕ) → Leads (Unit {0}) n layout
     → SpellsFields order layout items w → sum_by item_excess items ≤ n
 excess_few order n layout [] w most s = omega arith
 excess_few order n (initial_length_then next) (i ∷ items) w most s =
     let a = is_length order s.0 i s.3 in
-    let t = subst (λ (j : Item). SpellsFields order (following (initial_length_then next) j) items s.1) a.item s.4 in
     omega (
       arith,
       sum_by-cons item_excess i items,
       ap item_excess a.item,
-      excess_few order n (next a.format a.number) items s.1 (most a.format a.number) t,
+      excess_few order n (next a.format a.number) items s.1 (most a.format a.number) (rw a.item at s.4),
     )
 excess_few order n (number_then field next) (i ∷ items) w most s =
     let a = is_number order field next s.0 i s.3 in
-    let t = subst (λ (j : Item). SpellsFields order (following (number_then field next) j) items s.1) a.item s.4 in
     omega (
       arith,
       sum_by-cons item_excess i items,
       ap item_excess a.item,
-      excess_few order n (next a.number) items s.1 (most a.number) t,
+      excess_few order n (next a.number) items s.1 (most a.number) (rw a.item at s.4),
     )
 excess_few order n (form_then next) (i ∷ items) w most s =
     let a = is_form s.0 i s.3 in
-    let t = subst (λ (j : Item). SpellsFields order (following (form_then next) j) items s.1) a.1 s.4 in
     omega (
       arith,
       sum_by-cons item_excess i items,
       ap item_excess a.1,
-      excess_few order n (next a.0) items s.1 (most a.0) t,
+      excess_few order n (next a.0) items s.1 (most a.0) (rw a.1 at s.4),
     )
 excess_few order n (value_then format f next) (i ∷ items) w most s =
     let a = value_item (value_spelt order format f s.0) i s.3 in
-    let t = subst (λ (j : Item). SpellsFields order (following (value_then format f next) j) items s.1) a.2 s.4 in
     omega (
       arith,
       sum_by-cons item_excess i items,
       ap item_excess a.2,
-      excess_few order n (next a.0) items s.1 (most a.0) t,
+      excess_few order n (next a.0) items s.1 (most a.0) (rw a.2 at s.4),
     )
 excess_few order n (path_or_end format pairs entries next) (i ∷ items) w most s =
-    let layout = path_or_end format pairs entries next in
     elim (path_cases (length pairs) s.0 i s.3) [
-      | inl end ↦
-          let t = subst (λ (j : Item). SpellsFields order (following layout j) items s.1) end s.4 in
-          omega (
-            arith,
-            sum_by-cons item_excess i items,
-            ap item_excess end,
-            most.1,
-            excess_few order most.0 (next (record { format = format; pairs = pairs; entries = entries })) items s.1
-                (most.2 _) t,
-          )
-      | inr path ↦
-          let t = subst (λ (j : Item). SpellsFields order (following layout j) items s.1) path.1 s.4 in
-          omega (
-            arith,
-            sum_by-cons item_excess i items,
-            ap item_excess path.1,
-            excess_few order n (listed_from format pairs entries (path.0 ∷ []) next) items s.1
-                (most_entry n format (drop 1 pairs) (path.0 ∷ []) _ (λ entry. most)) t,
-          )
+      | inl end ↦ omega (
+        arith,
+        sum_by-cons item_excess i items,
+        ap item_excess end,
+        most.1,
+        excess_few order most.0 (next (record { format = format; pairs = pairs; entries = entries })) items s.1
+            (most.2 _) (rw end at s.4),
+      )
+      | inr path ↦ omega (
+        arith,
+        sum_by-cons item_excess i items,
+        ap item_excess path.1,
+        excess_few order n (listed_from format pairs entries (path.0 ∷ []) next) items s.1
+            (leads_entry (Unit {0}) n format (drop 1 pairs) (path.0 ∷ []) _ (λ entry. most)) (rw path.1 at s.4),
+      )
     ]
 excess_few order n (foreign_version v) (i ∷ items) w most s = absurd (none_some {a = Ok i} refl s.3)
 excess_few order n (last_entry h) (i ∷ items) w most s = absurd (none_some {a = Ok i} refl s.3)
@@ -342,7 +274,7 @@ header_few dialect (i ∷ items) w s =
       a.size,
       some_initial a.format,
       items_few dialect.order (following (header_layout dialect) i) items s.1 s.4,
-      excess_few dialect.order 3 (header_layout dialect) (i ∷ items) w (most_header dialect) s,
+      excess_few dialect.order 3 (header_layout dialect) (i ∷ items) w (leads_header dialect) s,
       ap length s.2,
       length-append s.0 s.1,
     )

@@ -20,7 +20,7 @@ use Rattle.dl_field.proofs.FieldLemmas.{none_some, sized_length}
 use Rattle.dl_head.specs.HeaderLayout.{older_params, from_header_length}
 use Rattle.dl_head.specs.Dialect.{older_size}
 use Rattle.dl_head.specs.Header.{own_end, older_end}
-use Rattle.dl_head.proofs.Openings.{Opening, after_length, after_address, OwnItems, OlderItems, after_segment}
+use Rattle.dl_head.proofs.Openings.{Opening, numbered, after_length, after_address, after_segment}
 use Rattle.dl_head.proofs.Openings.{after_header}
 use Rattle.dl_head.proofs.FirstFields.{is_length}
 
@@ -129,143 +129,123 @@ number_first order field next k n sized items w s =
     (ap (λ o. number_judged field (sized_spelt order o s.0)) (sym sized) ∙ s.3) in
     (s.1, ap length s.2 ∙ length-append s.0 s.1 ∙ ap (λ (m : ℕ). m + length s.1) size, s.4)
 
-none_left : (w : List ℕ) → w ≡ [] → length w ≡ 0
-none_left w e = ap length e
+-- numbers of these sizes follow
+abbrev IsSized : Layout → List ℕ → Type 0
+IsSized layout [] = Unit {0}
+IsSized layout (k ∷ sizes) = (field : NumberField) × (next : ℕ → Layout) × (layout ≡ number_then field next)
+    × (number_size field ≡ Some k) × ((n : ℕ) → IsSized (next n) sizes)
 
--- as many bytes as the fields up to header_length, or less
-abbrev IsEarly : Format → List ℕ → Type 0
-IsEarly f w = length w ≤ initial_size f + fixed_part f 5
+abbrev total : List ℕ → ℕ
+total [] = 0
+total (k ∷ sizes) = k + total sizes
 
-early_one : (dialect : Dialect) (f : Format) (n : ℕ) (w : List ℕ)
-    → SpellsFields dialect.order (header_layout dialect) (length_is f n ∷ []) w → IsEarly f w
-early_one dialect f n w s = let a = length_first dialect f n [] w s in let z : length a.0 ≡ 0 = ap length a.2 in
-    omega (arith, a.1)
+sized_few : (order : Order) (layout : Layout) (sizes : List ℕ) (items : List Item) (w : List ℕ) → IsSized layout sizes
+    → length items ≤ length sizes → SpellsFields order layout items w → length w ≤ total sizes
+sized_few order layout sizes [] w is few s = omega (arith, ap length s)
+sized_few order layout [] (i ∷ items) w is few s = absurd (omega (arith, few))
+sized_few order layout (k ∷ sizes) (i ∷ items) w is few s =
+    let first = subst (λ (l : Layout). SpellsFields order l (i ∷ items) w) is.2 s in
+    let n = numbered order is.0 is.1 k is.3 i items w first in
+    omega (arith, n.size, sized_few order (is.1 n.number) sizes items n.rest (is.4 n.number) (omega (arith, few)) n.spelt)
 
-early_two : (dialect : Dialect) (f : Format) (n : ℕ) (w : List ℕ)
-    → SpellsFields dialect.order (header_layout dialect) (length_is f n ∷ number_is 5 ∷ []) w → IsEarly f w
-early_two dialect f n w s =
-    let a = length_first dialect f n (number_is 5 ∷ []) w s in
-    let b = number_first dialect.order version (after_length dialect f n) 2 5 refl [] a.0 a.2 in
-    let z : length b.0 ≡ 0 = ap length b.2 in omega (arith, a.1, b.1)
+-- as many fields as an initial length, a version and numbers of these sizes, or fewer
+head_few : (dialect : Dialect) (f : Format) (n v : ℕ) (sizes : List ℕ) (tail items more : List Item) (w : List ℕ)
+    → IsSized (after_length dialect f n v) sizes → (length_is f n ∷ number_is v ∷ tail) ≡ items ++ more
+    → length items ≤ 2 + length sizes → SpellsFields dialect.order (header_layout dialect) items w
+    → length w ≤ initial_size f + 2 + total sizes
+head_few dialect f n v sizes tail [] more w is e few s = omega (arith, ap length s)
+head_few dialect f n v sizes tail (a ∷ []) more w is e few s =
+    let same : a ≡ length_is f n = cc in
+    let b = length_first dialect f n [] w (rw same at s) in
+    omega (arith, b.1, ap length b.2)
+head_few dialect f n v sizes tail (a ∷ b ∷ items) more w is e few s =
+    let same : (a ∷ b ∷ items) ≡ (length_is f n ∷ number_is v ∷ items) = cc in
+    let c = length_first dialect f n (number_is v ∷ items) w
+    (subst (λ (l : List Item). SpellsFields dialect.order (header_layout dialect) l w) same s) in
+    let d = number_first dialect.order version (after_length dialect f n) 2 v refl items c.0 c.2 in
+    omega (
+      arith,
+      c.1,
+      d.1,
+      sized_few dialect.order (after_length dialect f n v) sizes items d.0 is (omega (arith, few))
+          d.2,
+    )
 
-early_three : (dialect : Dialect) (f : Format) (n address : ℕ) (w : List ℕ)
-    → SpellsFields dialect.order (header_layout dialect) (length_is f n ∷ number_is 5 ∷ number_is address ∷ [])
-    w → IsEarly f w
-early_three dialect f n address w s =
-    let a = length_first dialect f n (number_is 5 ∷ number_is address ∷ []) w s in
-    let b = number_first dialect.order version (after_length dialect f n) 2 5 refl (number_is address ∷ []) a.0 a.2 in
-    let c = number_first dialect.order address_size (after_address f n) 1 address refl [] b.0 b.2 in
-    let z : length c.0 ≡ 0 = ap length c.2 in omega (arith, a.1, b.1, c.1)
+-- how many fields there are before header_length
+own_short : (f : Format) (n address segment header : ℕ) (more before after : List Item) (item : Item)
+    → (length_is f n ∷ number_is 5 ∷ number_is address ∷ number_is segment ∷ number_is header ∷ more)
+    ≡ before ++ item ∷ after → header_end before ≡ None → length before ≤ 4
+own_short f n address segment header more [] after item e none = omega arith
+own_short f n address segment header more (a ∷ []) after item e none = omega arith
+own_short f n address segment header more (a ∷ b ∷ []) after item e none = omega arith
+own_short f n address segment header more (a ∷ b ∷ c ∷ []) after item e none = omega arith
+own_short f n address segment header more (a ∷ b ∷ c ∷ d ∷ []) after item e none = omega arith
+own_short f n address segment header more (a ∷ b ∷ c ∷ d ∷ m ∷ before) after item e none =
+    let same : (a ∷ b ∷ c ∷ d ∷ m ∷ before)
+    ≡ (length_is f n ∷ number_is 5 ∷ number_is address ∷ number_is segment ∷ number_is header ∷ before) = cc in
+    absurd (none_some (ap header_end (sym same) ∙ none) refl)
 
-early_four : (dialect : Dialect) (f : Format) (n address segment : ℕ) (w : List ℕ)
-    → SpellsFields dialect.order (header_layout dialect)
-    (length_is f n ∷ number_is 5 ∷ number_is address ∷ number_is segment ∷ []) w → IsEarly f w
-early_four dialect f n address segment w s =
-    let a = length_first dialect f n (number_is 5 ∷ number_is address ∷ number_is segment ∷ []) w s in
-    let b = number_first dialect.order version (after_length dialect f n) 2 5 refl
-    (number_is address ∷ number_is segment ∷ []) a.0
-    a.2 in
-    let c = number_first dialect.order address_size (after_address f n) 1 address refl
-    (number_is segment ∷ []) b.0 b.2 in
-    let d = number_first dialect.order any_byte (after_segment f n address) 1 segment refl [] c.0 c.2 in
-    let z : length d.0 ≡ 0 = ap length d.2 in omega (arith, a.1, b.1, c.1, d.1)
-
-early_five : (dialect : Dialect) (f : Format) (n address segment header : ℕ) (w : List ℕ)
-    → SpellsFields dialect.order (header_layout dialect)
-    (length_is f n ∷ number_is 5 ∷ number_is address ∷ number_is segment ∷ number_is header ∷ []) w → IsEarly f w
-early_five dialect f n address segment header w s =
-    let a = length_first dialect f n (number_is 5 ∷ number_is address ∷ number_is segment ∷ number_is
-    header ∷ []) w s in
-    let b = number_first dialect.order version (after_length dialect f n) 2 5 refl
-    (number_is address ∷ number_is segment ∷ number_is header ∷ []) a.0 a.2 in
-    let c = number_first dialect.order address_size (after_address f n) 1 address refl
-    (number_is segment ∷ number_is header ∷ []) b.0 b.2 in
-    let d = number_first dialect.order any_byte (after_segment f n address) 1 segment refl
-    (number_is header ∷ []) c.0 c.2 in
-    let e = number_first dialect.order (header_length f (n - fixed_part f 5)) (after_header f address segment)
-    (offset_size f)
-    header refl [] d.0 d.2 in
-    let z : length e.0 ≡ 0 = none_left e.0 e.2 in omega (arith, a.1, b.1, c.1, d.1, e.1)
+older_short : (f : Format) (n v header : ℕ) (more before after : List Item) (item : Item) → v ≢ 5
+    → (length_is f n ∷ number_is v ∷ number_is header ∷ more) ≡ before ++ item ∷ after → header_end before ≡ None
+    → length before ≤ 2
+older_short f n v header more [] after item other e none = omega arith
+older_short f n v header more (a ∷ []) after item other e none = omega arith
+older_short f n v header more (a ∷ b ∷ []) after item other e none = omega arith
+older_short f n v header more (a ∷ b ∷ m ∷ before) after item other e none =
+    let same : (a ∷ b ∷ m ∷ before) ≡ (length_is f n ∷ number_is v ∷ number_is header ∷ before) = cc in
+    absurd (none_some {a = initial_size f + fixed_part f v + header} (ap header_end (sym same) ∙ none)
+    (rw (ne_eqb v 5 other) refl))
 
 -- bytes that end inside one of these fields, and the bytes that end it
-pub early : (dialect : Dialect) (f : Format) (n address segment header : ℕ)
-    (more before after : List Item) (item : Item)
-    (w : List ℕ)
-    → (length_is f n ∷ number_is 5 ∷ number_is address ∷ number_is segment ∷ number_is header ∷ more)
-    ≡ before ++ item ∷ after → header_end before ≡ None
-    → SpellsFields dialect.order (header_layout dialect) (before ++ item ∷ []) w → IsEarly f w
-early dialect f n address segment header more [] after item w e none s =
-    let same : item ≡ length_is f n = cc in early_one dialect f n w
-    (subst (λ (i : Item). SpellsFields dialect.order (header_layout dialect) (i ∷ []) w) same s)
-early dialect f n address segment header more (a ∷ []) after item w e none s =
-    let same : (a ∷ item ∷ []) ≡ (length_is f n ∷ number_is 5 ∷ []) = cc in
-    early_two dialect f n w (subst (λ (l : List Item). SpellsFields dialect.order (header_layout dialect) l w) same s)
-early dialect f n address segment header more (a ∷ b ∷ []) after item w e none s =
-    let same : (a ∷ b ∷ item ∷ []) ≡ (length_is f n ∷ number_is 5 ∷ number_is address ∷ []) = cc in
-    early_three dialect f n address w (subst (λ (l : List Item). SpellsFields dialect.order
-    (header_layout dialect) l w) same s)
-early dialect f n address segment header more (a ∷ b ∷ c ∷ []) after item w e none s =
-    let same : (a ∷ b ∷ c ∷ item ∷ []) ≡ (length_is f n ∷ number_is 5 ∷ number_is address ∷ number_is segment ∷ []) =
-    cc in
-    early_four dialect f n address segment w
-    (subst (λ (l : List Item). SpellsFields dialect.order (header_layout dialect) l w) same s)
-early dialect f n address segment header more (a ∷ b ∷ c ∷ d ∷ []) after item w e none s =
-    let same : (a ∷ b ∷ c ∷ d ∷ item ∷ [])
-    ≡ (length_is f n ∷ number_is 5 ∷ number_is address ∷ number_is segment ∷ number_is header ∷ []) = cc in
-    early_five dialect f n address segment header w
-    (subst (λ (l : List Item). SpellsFields dialect.order (header_layout dialect) l w) same s)
-early dialect f n address segment header more (a ∷ b ∷ c ∷ d ∷ m ∷ before) after item w e none s =
-    let same : (a ∷ b ∷ c ∷ d ∷ m ∷ []) ≡ (length_is f n ∷ number_is 5 ∷ number_is address ∷ number_is segment
-    ∷ number_is header ∷ []) = cc in
-    let end : header_end (length_is f n ∷ number_is 5 ∷ number_is address ∷ number_is segment ∷ number_is header
-    ∷ before) ≡ None =
-    ap (λ (l : List Item). header_end (l ++ before)) (sym same) ∙ none in
-    absurd (none_some end refl)
-
--- the same of an older version
-pub older_early : (dialect : Dialect) (f : Format) (n v size header : ℕ) (more before after : List Item) (item : Item)
-    (w : List ℕ) → v ≢ 5 → older_size dialect v ≡ Some size
-    → (length_is f n ∷ number_is v ∷ number_is header ∷ more) ≡ before ++ item ∷ after → header_end before ≡ None
-    → SpellsFields dialect.order (header_layout dialect) (before ++ item ∷ []) w
-    → length w ≤ initial_size f + fixed_part f v
-older_early dialect f n v size header more [] after item w other is e none s =
-    let same : item ≡ length_is f n = cc in
-    let t = subst (λ (i : Item). SpellsFields dialect.order (header_layout dialect) (i ∷ []) w) same s in
-    let a = length_first dialect f n [] w t in
-    omega (arith, a.1, none_left a.0 a.2)
-older_early dialect f n v size header more (a ∷ []) after item w other is e none s =
-    let same : (a ∷ item ∷ []) ≡ (length_is f n ∷ number_is v ∷ []) = cc in
-    let t = subst (λ (l : List Item). SpellsFields dialect.order (header_layout dialect) l w) same s in
-    let b = length_first dialect f n (number_is v ∷ []) w t in
-    let c = number_first dialect.order version (after_length dialect f n) 2 v refl [] b.0 b.2 in
-    let part : fixed_part f v ≡ 2 + offset_size f = rw (ne_eqb v 5 other) refl in
-    omega (arith, b.1, c.1, none_left c.0 c.2, part)
-older_early dialect f n v size header more (a ∷ b ∷ []) after item w other is e none s =
-    let same : (a ∷ b ∷ item ∷ []) ≡ (length_is f n ∷ number_is v ∷ number_is header ∷ []) = cc in
-    let t = subst (λ (l : List Item). SpellsFields dialect.order (header_layout dialect) l w) same s in
-    let c = length_first dialect f n (number_is v ∷ number_is header ∷ []) w t in
-    let d = number_first dialect.order version (after_length dialect f n) 2 v refl (number_is header ∷ []) c.0 c.2 in
-    let last : SpellsFields dialect.order (from_header_length n (older_params f v size)) (number_is header ∷ []) d.0 =
-    rw (ne_eqb v 5 other, is) at d.2 in
-    let g = number_first dialect.order (header_length f (n - fixed_part f v))
-    (λ m. from_minimum_length (older_params f v size)) (offset_size f) header refl [] d.0 last in
-    let part : fixed_part f v ≡ 2 + offset_size f = rw (ne_eqb v 5 other) refl in
-    omega (arith, c.1, d.1, g.1, none_left g.0 g.2, part)
-older_early dialect f n v size header more (a ∷ b ∷ m ∷ before) after item w other is e none s =
-    let same : (a ∷ b ∷ m ∷ []) ≡ (length_is f n ∷ number_is v ∷ number_is header ∷ []) = cc in
-    let end : header_end (length_is f n ∷ number_is v ∷ number_is header ∷ before) ≡ None =
-    ap (λ (l : List Item). header_end (l ++ before)) (sym same) ∙ none in
-    absurd (none_some {a = initial_size f + fixed_part f v + header} end (rw (ne_eqb v 5 other) refl))
-
 pub early_of : (dialect : Dialect) (items : List Item) (fields : List ℕ) (o : Opening dialect items fields)
     (before after : List Item) (item : Item) (w : List ℕ) → items ≡ before ++ item ∷ after → header_end before ≡ None
     → SpellsFields dialect.order (header_layout dialect) (before ++ item ∷ []) w
     → length w ≤ initial_size o.format + fixed_part o.format o.of_version
-early_of dialect items fields o before after item w e none s = on o.shape where
-  on : OwnItems o.format o.unit_length o.header o.more o.of_version items
-      ⊎ OlderItems dialect o.format o.unit_length o.header o.more o.of_version items
-      → length w ≤ initial_size o.format + fixed_part o.format o.of_version
-  on (inl t) = subst (λ (v : ℕ). length w ≤ initial_size o.format + fixed_part o.format v) (sym t.2)
-      (early dialect o.format o.unit_length t.0 t.1 o.header o.more before after item w (sym t.3 ∙ e) none s)
-  on (inr t) = older_early dialect o.format o.unit_length o.of_version t.0 o.header o.more before after item w t.1 t.2
-      (sym t.3 ∙ e) none s
+early_of dialect items fields o before after item w e none s = elim o.shape [
+  | inl t ↦
+      let is = sym t.3 ∙ e in
+      let few = head_few dialect f n 5 (1 ∷ 1 ∷ offset_size f ∷ [])
+      (number_is t.0 ∷ number_is t.1 ∷ number_is o.header ∷ o.more) (before ++ item ∷ []) after w (
+        address_size,
+        after_address f n,
+        refl,
+        refl,
+        λ a. (
+          any_byte,
+          after_segment f n a,
+          refl,
+          refl,
+          λ b. (header_length f (n - fixed_part f 5), after_header f a b, refl, refl, λ c. tt),
+        ),
+      ) (is ∙ longer)
+      (omega (arith, size, own_short f n t.0 t.1 o.header o.more before after item is none)) s in
+      let part : fixed_part f o.of_version ≡ 4 + offset_size f =
+      subst (λ (v : ℕ). fixed_part f v ≡ 4 + offset_size f) (sym t.2) (omega arith) in
+      omega (arith, few, part)
+  | inr t ↦
+      let is = sym t.3 ∙ e in
+      let sized : IsSized (after_length dialect f n o.of_version) (offset_size f ∷ []) =
+      rw (ne_eqb o.of_version 5 t.1, t.2) (
+        header_length f (n - fixed_part f o.of_version),
+        (λ m. from_minimum_length (older_params f o.of_version t.0)),
+        refl,
+        refl,
+        λ c. tt,
+      ) in
+      let few = head_few dialect f n o.of_version (offset_size f ∷ []) (number_is o.header ∷ o.more)
+      (before ++ item ∷ []) after w sized (is ∙ longer)
+      (omega (arith, size, older_short f n o.of_version o.header o.more before after item t.1 is none)) s in
+      let part : fixed_part f o.of_version ≡ 2 + offset_size f = rw (ne_eqb o.of_version 5 t.1) refl in
+      omega (arith, few, part)
+] where
+  f : Format
+  f = o.format
+
+  n : ℕ
+  n = o.unit_length
+
+  longer : before ++ item ∷ after ≡ (before ++ item ∷ []) ++ after
+  longer = sym (append_assoc before (item ∷ []) after)
+
+  size : length (before ++ item ∷ []) ≡ length before + 1
+  size = length-append before (item ∷ [])
