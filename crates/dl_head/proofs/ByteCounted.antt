@@ -24,7 +24,8 @@ use Rattle.dl_head.specs.Standing.{SettlesAt, Settles}
 use Rattle.dl_head.specs.Reading.{Answers}
 use Rattle.dl_field.proofs.FieldLemmas.{none_some}
 use Rattle.dl_head.proofs.CutLemmas.{cut_of, cut_sound, Sound}
-use Rattle.dl_head.proofs.HeaderEnds.{end_from, EndsWithin, of_unit, EndIs, end_is, UpTo}
+use Rattle.dl_head.proofs.HeaderEnds.{end_from, EndsWithin, of_unit, EndIs, UpTo}
+use Rattle.dl_head.proofs.TakenBytes.{end_is}
 use Rattle.dl_head.proofs.TakenBytes.{IsNext, Place, in_field, in_padding, in_foreign, place_of, live_more, overruns}
 use Rattle.dl_head.proofs.MovedReader.{Moved}
 
@@ -64,7 +65,7 @@ fits_of dialect b items rest e ends up n unit =
 
 moved_fits : (r : HeadReader) (b : List ℕ) → Moved r b → FitsUnit r.dialect b
 moved_fits r b m = fits_of r.dialect b m.items m.rest m.cut_is m.ends_within
-    (subst (λ (o : Option ℕ). UpTo (length b) o) (end_is r r.phase m.items m.rest m.at).end m.up_to)
+    (subst (λ (o : Option ℕ). UpTo (length b) o) (end_is r m.items m.rest m.at).end m.up_to)
 
 below_of : (n : ℕ) (end : Option ℕ) → UpTo n end → end ≢ Some n → Below n end
 below_of n None le other = tt
@@ -95,7 +96,7 @@ goes_on r b goes m other =
       record {
         stands = subst (λ (o : Option HeadStep). Stands r o b) (sym goes) (live, m.unmade);
         taken = m.taken_is;
-        unit = unit_of r b m.items m.rest m.cut_is (end_is r r.phase m.items m.rest m.at);
+        unit = unit_of r b m.items m.rest m.cut_is (end_is r m.items m.rest m.at);
         within = moved_fits r b m;
       },
     )
@@ -136,7 +137,7 @@ fails_at_end : (r fin : HeadReader) (b : List ℕ) (m : Moved r b) (result : Hea
     → IsNext (following_all (header_layout r.dialect) m.items) → r.end ≡ Some r.taken
     → Fails r r.overrun result fin → Answers r.dialect b result × StandsFor fin b
 fails_at_end r fin b m result next end f =
-    let at = end_is r r.phase m.items m.rest m.at in
+    let at = end_is r m.items m.rest m.at in
     failed r fin b r.overrun result
     (refused_at r b r.overrun m (overruns r b m.items m.rest m.cut_is at next m.unjudged
     (end ∙ ap (λ (n : ℕ). Some n) m.taken_is)))
@@ -173,7 +174,7 @@ done r fin b m result tail end f =
             (h, c.header, subst (λ (d : Dialect). IsHeader d h b) (sym c.dialect) whole);
         taken = c.taken ∙ m.taken_is;
         unit = unit_kept r fin b c.unit c.dialect
-            (unit_of r b m.items m.rest m.cut_is (end_is r r.phase m.items m.rest m.at));
+            (unit_of r b m.items m.rest m.cut_is (end_is r m.items m.rest m.at));
         within = fits_kept r.dialect fin.dialect b c.dialect (moved_fits r b m);
       },
     )
@@ -190,7 +191,7 @@ foreign r fin b m result v is follows q =
       record {
         stands = subst (λ (o : Option HeadStep). Stands r o b) (sym (ap ending is)) (f, m.unmade);
         taken = m.taken_is;
-        unit = unit_of r b m.items m.rest m.cut_is (end_is r r.phase m.items m.rest m.at);
+        unit = unit_of r b m.items m.rest m.cut_is (end_is r m.items m.rest m.at);
         within = moved_fits r b m;
       },
     ) q
@@ -230,7 +231,7 @@ at_end_or_not r = on r.end refl where
 
 pub settled : (r fin : HeadReader) (b : List ℕ) (m : Moved r b) (result : HeadStep) → Settles r result fin
     → Answers r.dialect b result × StandsFor fin b
-settled r fin b m result s = on (place_of r r.phase m.items m.rest refl m.at) (at_end_or_not r) where
+settled r fin b m result s = on (place_of r m.items m.rest m.at) (at_end_or_not r) where
   on : Place r r.phase m.items → (r.end ≡ Some r.taken) ⊎ (r.end ≢ Some r.taken)
       → Answers r.dialect b result × StandsFor fin b
   on (in_field goes out next) (inl end) = fails_at_end r fin b m result next end

@@ -59,7 +59,7 @@ pub record EndIs (r : HeadReader) (items : List Item) : Type 0 where
   pub overrun : r.overrun ≡ overrun_from items
   pub unit : unit_known (end_of_unit r) r.end ≡ unit_end items
 
-early_end : (r : HeadReader) (items is : List Item) → Early r items is → header_end is ≡ None
+pub early_end : (r : HeadReader) (items is : List Item) → Early r items is → header_end is ≡ None
     → unit_end is ≡ Some (end_of_unit r) → EndIs r items
 early_end r items is e none unit =
     let header : header_end items ≡ None = ap header_end e.items_are ∙ none in
@@ -78,7 +78,7 @@ after_end r items layout e = record {
   unit = ap (λ (o : Option ℕ). unit_known (end_of_unit r) o) e.end ∙ sym e.unit;
 }
 
-start_end : (r : HeadReader) (items : List Item) → items ≡ [] → r.end ≡ None → r.overrun ≡ fault.UnitOverrun
+pub start_end : (r : HeadReader) (items : List Item) → items ≡ [] → r.end ≡ None → r.overrun ≡ fault.UnitOverrun
     → EndIs r items
 start_end r items none end overrun = record {
   end = end ∙ sym (ap end_from none);
@@ -100,7 +100,7 @@ older_none : (r : HeadReader) → r.params.version ≢ 5
     → header_end (length_item r ∷ number_is r.params.version ∷ []) ≡ None
 older_none r other = rw (ne_eqb r.params.version 5 other) refl
 
-before_end : (r : HeadReader) (items : List Item) → Early r items (before_header_length r) → IsOfVersion r
+pub before_end : (r : HeadReader) (items : List Item) → Early r items (before_header_length r) → IsOfVersion r
     → EndIs r items
 before_end r items e (inl own) =
     early_end r items (before_header_length r) e (ap header_end (before_own (parts r) own)) (ap unit_end (before_own (parts r) own))
@@ -108,30 +108,6 @@ before_end r items e (inr older) =
     early_end r items (before_header_length r) e
     (ap header_end (before_older (parts r) older.other) ∙ older_none r older.other)
     (ap unit_end (before_older (parts r) older.other))
-
-pub end_is : (r : HeadReader) (p : Phase) (items : List Item) (rest : List ℕ) → AtPhase r p items rest → EndIs r items
-end_is r (phase.UnitLength n) items rest at = start_end r items at.0.none at.0.end at.0.overrun
-end_is r (phase.LongUnitLength n) items rest at = start_end r items at.0.none at.0.end at.0.overrun
-end_is r phase.Version items rest at = early_end r items _ at.0 refl refl
-end_is r (phase.VersionEnd first) items rest at = early_end r items _ at.0 refl refl
-end_is r (phase.HeaderLength n) items rest at = before_end r items at.0 at.1
-end_is r (phase.Byte field.AddressSize) items rest at = early_end r items _ at.0 refl refl
-end_is r (phase.Byte field.SegmentSelectorSize) items rest at = early_end r items _ at.0 refl refl
-end_is r (phase.Byte field.MinimumInstructionLength) items rest at = after_end r items _ at.0.tail
-end_is r (phase.Byte field.MaximumOperations) items rest at = after_end r items _ at.0.tail
-end_is r (phase.Byte field.DefaultIsStmt) items rest at = after_end r items _ at.0.tail
-end_is r (phase.Byte field.LineBase) items rest at = after_end r items _ at.0.tail
-end_is r (phase.Byte field.LineRange) items rest at = after_end r items _ at.0.tail
-end_is r (phase.Byte field.OpcodeBase) items rest at = after_end r items _ at.0.tail
-end_is r phase.OpcodeLength items rest at = after_end r items _ at.0.tail
-end_is r phase.Directories items rest at = after_end r items at.layout at.tail
-end_is r phase.Files items rest at = after_end r items at.layout at.tail
-end_is r phase.OlderDirectories items rest at = after_end r items at.layout at.tail
-end_is r phase.OlderFiles items rest at = after_end r items at.layout at.tail
-end_is r phase.Padding items rest at = after_end r items _ at
-end_is r (phase.Foreign v) items rest at = early_end r items _ at.0 (rw (ne_eqb v 5 at.1) refl) refl
-end_is r phase.Done items rest at = absurd at
-end_is r (phase.Failed f) items rest at = absurd at
 
 -- ---- a field ends at that end or before it
 

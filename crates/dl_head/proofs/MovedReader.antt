@@ -15,8 +15,8 @@ use Rattle.dl_field.specs.TablePlace.{field_cells}
 use Rattle.dl_head.specs.Place.{At, SameCounts, PushFollows, held_cells}
 use Rattle.dl_head.specs.Standing.{Below, Live, Unmade}
 use Rattle.dl_head.proofs.CutLemmas.{cut_of, cut_within}
-use Rattle.dl_head.proofs.HeaderEnds.{end_is, UpTo, below_next, EndsWithin}
-use Rattle.dl_head.proofs.TakenBytes.{live_quiet}
+use Rattle.dl_head.proofs.HeaderEnds.{UpTo, below_next, EndsWithin}
+use Rattle.dl_head.proofs.TakenBytes.{end_is, live_quiet}
 use Rattle.dl_head.proofs.StepCells.{cells_on}
 use Rattle.dl_head.proofs.SamePlace.{Guards, counted}
 
@@ -60,8 +60,8 @@ pub moved_within : (r new : HeadReader) (g : Guards new) (b : List ℕ) (x t : �
     → Moved (counted new g new.start t) (b ++ x ∷ [])
 moved_within r new g b x t l u f count =
     let made = f.made l.items l.rest l.at in
-    let same = (end_is new new.phase l.items (l.rest ++ x ∷ []) made.1).end
-    ∙ sym (end_is r r.phase l.items l.rest l.at).end in
+    let same = (end_is new l.items (l.rest ++ x ∷ []) made.1).end
+    ∙ sym (end_is r l.items l.rest l.at).end in
     record {
       items = l.items;
       rest = l.rest ++ x ∷ [];

@@ -25,8 +25,8 @@ use Rattle.dl_head.specs.Standing.{Below, Live, Unmade, ending, Stands, StandsFo
 use Rattle.dl_head.specs.Reading.{Answers, AddsCell, Steps}
 use Rattle.dl_field.proofs.FieldLemmas.{none_some}
 use Rattle.dl_head.proofs.CutLemmas.{cut_of, cut_bad}
-use Rattle.dl_head.proofs.HeaderEnds.{UpTo, below_next, end_from, end_is}
-use Rattle.dl_head.proofs.TakenBytes.{Place, in_field, in_padding, in_foreign, place_of, live_quiet}
+use Rattle.dl_head.proofs.HeaderEnds.{UpTo, below_next, end_from}
+use Rattle.dl_head.proofs.TakenBytes.{Place, in_field, in_padding, in_foreign, place_of, end_is, live_quiet}
 use Rattle.dl_head.proofs.TakenBytes.{live_more, not_foreign}
 use Rattle.dl_head.proofs.OneAnswer.{one_answer}
 use Rattle.dl_head.proofs.StepCells.{cells_on}
@@ -116,7 +116,7 @@ refused_step r new fin g b x t kind result stands l f unit count fails =
       shortest = nothing_on r.dialect b x l.0.nothing_before (live_quiet r b l.0);
     } in
     let mid = counted new g new.start t in
-    let below = subst (λ (o : Option ℕ). Below (length b) o) (end_is r r.phase l.0.items l.0.rest l.0.at).end
+    let below = subst (λ (o : Option ℕ). Below (length b) o) (end_is r l.0.items l.0.rest l.0.at).end
     l.0.below in
     let up = subst (λ (n : ℕ). UpTo n (end_from l.0.items)) (sym (length-append b (x ∷ [])))
     (below_next (length b) (end_from l.0.items) below) in
@@ -141,10 +141,10 @@ pub kept_stands : (r new : HeadReader) (b : List ℕ) → ending r.phase ≡ Non
     → (l : Live r b × Unmade r b) → At new l.0.items l.0.rest → SameCounts r new → held_cells new ≡ held_cells r
     → StandsFor new b
 kept_stands r new b goes stands l at counts same_cells = record {
-  stands = subst (λ (o : Option HeadStep). Stands new o b) (sym (ends_not (place_of new new.phase items rest refl at)))
+  stands = subst (λ (o : Option HeadStep). Stands new o b) (sym (ends_not (place_of new items rest at)))
       (live, unmade);
   taken = counts.taken ∙ stands.taken;
-  unit = unit_of new b items rest cut_is (end_is new new.phase items rest at);
+  unit = unit_of new b items rest cut_is (end_is new items rest at);
   within = fits_kept r.dialect new.dialect b counts.dialect stands.within;
 } where
   items : List Item
@@ -157,12 +157,12 @@ kept_stands r new b goes stands l at counts same_cells = record {
   ends_not (in_field none out next) = none
   ends_not (in_padding is tail) = ap ending is
   ends_not (in_foreign v is follows) = absurd
-      (none_some (not_foreign r r.phase items goes (place_of r r.phase items rest refl l.0.at))
+      (none_some (not_foreign r r.phase items goes (place_of r items rest l.0.at))
       (ap (λ (d : Dialect). foreign_made (following_all (header_layout d) items)) (sym counts.dialect)
       ∙ ap foreign_made follows))
 
   end_same : new.end ≡ r.end
-  end_same = (end_is new new.phase items rest at).end ∙ sym (end_is r r.phase items rest l.0.at).end
+  end_same = (end_is new items rest at).end ∙ sym (end_is r items rest l.0.at).end
 
   cut_is : cut new.dialect b ≡ cut_of items rest
   cut_is = ap (λ (d : Dialect). cut d b) counts.dialect ∙ l.0.cut_is

@@ -1,7 +1,7 @@
 -- What the bytes come to that a header reader has taken.
 use Rattle.std.proofs.Common.{◌≡◌, ℕ, ◌-◌, ◌<◌, ◌≤◌, ◌^◌, true, List, [], ◌∷◌, ◌++◌, length, Option, Some, None, refl}
 use Rattle.std.proofs.Common.{sym, ap, subst, ◌∙◌, arith, length-append, append-nil}
-use Rattle.std.proofs.lemmas.Bool.{leb-true}
+use Rattle.std.proofs.lemmas.Bool.{leb-true, ne_eqb}
 use Rattle.dl_num.specs.declared.fixed.Order.{Order}
 use Rattle.dl_field.specs.Layout.{path_or_end}
 use Rattle.dl_field.specs.ListPlace.{ListAt}
@@ -35,7 +35,7 @@ use Rattle.dl_head.specs.Header.{Cut, cut, header_end, unit_end, foreign_made, f
 use Rattle.dl_head.specs.Refusal.{or_else, bad_kind, field_overrun, header_overrun, cut_decided, header_decided}
 use Rattle.dl_head.specs.HeadStep.{end_near}
 use Rattle.dl_field.specs.TablePlace.{TableAt}
-use Rattle.dl_head.specs.Place.{Past, AtPhase, from_byte, from_length, length_item}
+use Rattle.dl_head.specs.Place.{AtStart, Early, Past, AtPhase, At, length_item}
 use Rattle.dl_num.specs.NumberBytes.{number_bytes}
 use Rattle.dl_head.specs.Standing.{Below, Live, ending}
 use Rattle.dl_head.specs.Reading.{Answers}
@@ -44,9 +44,9 @@ use Rattle.dl_head.proofs.CutLemmas.{cut_of, cut_sound, Sound}
 use Rattle.dl_head.proofs.HeaderLaws.{header_cut}
 use Rattle.dl_head.proofs.RefusalLaws.{quiet}
 use Rattle.dl_head.proofs.EarlyFields.{foreign_follows, at_length}
-use Rattle.dl_head.proofs.OneFieldMore.{byte_follows, lengths_open, some_left}
+use Rattle.dl_head.proofs.OneFieldMore.{lengths_open, some_left}
 use Rattle.dl_head.proofs.HeaderEnds.{first_end, end_from, overrun_from, overrun_at, not_at_end, just_at_end, EndIs}
-use Rattle.dl_head.proofs.HeaderEnds.{end_is}
+use Rattle.dl_head.proofs.HeaderEnds.{start_end, early_end, before_end, after_end}
 
 -- ---- what stands next
 
@@ -75,12 +75,6 @@ next_not_foreign (path_or_end format pairs entries next) is = refl
 next_not_foreign (foreign_version v) is = absurd is
 next_not_foreign (last_entry h) is = refl
 
-value_next : (format : Format) (next : TableData → Layout) (pairs : List Pair) (entries : List (List Value))
-    (before : List Value) (left : ℕ) (later : List Pair) (pair : Pair) (rest : List Pair)
-    → later ≡ pair ∷ rest → (after : List Value → Layout) → IsNext (entry_layout format later before after)
-value_next format next pairs entries before left later pair rest e after =
-    subst (λ (l : List Pair). IsNext (entry_layout format l before after)) (sym e) tt
-
 -- in a table a field follows
 pub table_next : (order : Order) (t : TableReader) (p : TablePhase) (format : Format) (next : TableData → Layout)
     (layout : Layout) (rest : List ℕ)
@@ -92,27 +86,13 @@ table_next order t (table.EntryCount count) format next layout rest at going = s
 table_next order t (table.Value at v) format next layout rest is going = on v is
   where
     on : (v : ValuePhase) → TableAt order t (table.Value at v) format next layout rest → IsNext layout
-    on (value.Block left) in_block = subst IsNext (sym in_block.layout_is)
-        (value_next format next t.pairs.items in_block.entries in_block.before at.left _ in_block.pair in_block.later
-        in_block.at_pair _)
-    on (value.Number f n) in_value = subst IsNext (sym in_value.layout_is)
-        (value_next format next t.pairs.items in_value.entries in_value.before at.left _ in_value.pair in_value.later
-        in_value.at_pair _)
-    on (value.Leb n) in_value = subst IsNext (sym in_value.layout_is)
-        (value_next format next t.pairs.items in_value.entries in_value.before at.left _ in_value.pair in_value.later
-        in_value.at_pair _)
-    on (value.Text n) in_value = subst IsNext (sym in_value.layout_is)
-        (value_next format next t.pairs.items in_value.entries in_value.before at.left _ in_value.pair in_value.later
-        in_value.at_pair _)
-    on (value.Data16 n) in_value = subst IsNext (sym in_value.layout_is)
-        (value_next format next t.pairs.items in_value.entries in_value.before at.left _ in_value.pair in_value.later
-        in_value.at_pair _)
-    on (value.BlockLength n) in_value = subst IsNext (sym in_value.layout_is)
-        (value_next format next t.pairs.items in_value.entries in_value.before at.left _ in_value.pair in_value.later
-        in_value.at_pair _)
-    on (value.LebBlockLength n) in_value = subst IsNext (sym in_value.layout_is)
-        (value_next format next t.pairs.items in_value.entries in_value.before at.left _ in_value.pair in_value.later
-        in_value.at_pair _)
+    on (value.Block left) i = rw (i.layout_is, i.at_pair) tt
+    on (value.Number f n) i = rw (i.layout_is, i.at_pair) tt
+    on (value.Leb n) i = rw (i.layout_is, i.at_pair) tt
+    on (value.Text n) i = rw (i.layout_is, i.at_pair) tt
+    on (value.Data16 n) i = rw (i.layout_is, i.at_pair) tt
+    on (value.BlockLength n) i = rw (i.layout_is, i.at_pair) tt
+    on (value.LebBlockLength n) i = rw (i.layout_is, i.at_pair) tt
 table_next order t table.Whole format next layout rest at going = absurd (going refl)
 
 -- ---- where the reader is: in a field, in the padding, or after the version of a foreign unit
@@ -132,105 +112,102 @@ pub data Place (r : HeadReader) (p : Phase) (items : List Item) : Type 0 where
   in_foreign : (v : ℕ) → p ≡ phase.Foreign v → following_all (header_layout r.dialect) items ≡ foreign_version v
       → Place r p items
 
-next_of : (dialect : Dialect) (items is : List Item) → items ≡ is → IsNext (following_all (header_layout dialect) is)
-    → IsNext (following_all (header_layout dialect) items)
-next_of dialect items is e next =
-    subst (λ (l : List Item). IsNext (following_all (header_layout dialect) l)) (sym e) next
-
-byte_next : (f : ByteField) (unit_length : ℕ) (p : Params) → IsNext (from_byte f unit_length p)
-byte_next field.AddressSize unit_length p = tt
-byte_next field.SegmentSelectorSize unit_length p = tt
-byte_next field.MinimumInstructionLength unit_length p = tt
-byte_next field.MaximumOperations unit_length p = tt
-byte_next field.DefaultIsStmt unit_length p = tt
-byte_next field.LineBase unit_length p = tt
-byte_next field.LineRange unit_length p = tt
-byte_next field.OpcodeBase unit_length p = tt
-
-length_next : (r : HeadReader) → r.phase ≡ phase.OpcodeLength → IsNext (from_length r.params)
-length_next r e = subst IsNext
-    (sym (lengths_open r.params (r.params.opcode_base - 1 - length r.params.lengths.items) r.params.lengths.items
-    (some_left r e))) tt
-
-pub place_of : (r : HeadReader) (p : Phase) (items : List Item) (rest : List ℕ) → r.phase ≡ p → AtPhase r p items rest
-    → Place r p items
-place_of r (phase.UnitLength n) items rest e at =
-    in_field refl (λ q. absurd cc) (next_of r.dialect items _ at.0.none tt)
-place_of r (phase.LongUnitLength n) items rest e at =
-    in_field refl (λ q. absurd cc) (next_of r.dialect items _ at.0.none tt)
-place_of r phase.Version items rest e at = in_field refl (λ q. absurd cc) (next_of r.dialect items _ at.0.items_are tt)
-place_of r (phase.VersionEnd first) items rest e at =
-    in_field refl (λ q. absurd cc) (next_of r.dialect items _ at.0.items_are tt)
-place_of r (phase.HeaderLength n) items rest e at =
-    in_field refl (λ q. absurd cc) (next_of r.dialect items _ at.0.items_are
-    (subst IsNext (sym (at_length r at.1).follows) tt))
-place_of r (phase.Byte f) items rest e at = in_field refl (λ q. absurd cc)
-    (subst IsNext (sym (byte_follows r f items rest at).0) (byte_next f r.unit_length r.params))
-place_of r phase.OpcodeLength items rest e at =
-    in_field refl (λ q. absurd cc) (subst IsNext (sym at.0.tail.follows) (length_next r e))
-place_of r phase.Directories items rest e at =
-    in_field refl (λ q. absurd cc)
-    (subst IsNext (sym at.tail.follows)
-    (table_next r.dialect.order r.table r.table.phase r.params.format _ at.layout rest at.at.0 at.at.1))
-place_of r phase.Files items rest e at =
-    in_field refl (λ q. absurd cc)
-    (subst IsNext (sym at.tail.follows)
-    (table_next r.dialect.order r.table r.table.phase r.params.format _ at.layout rest at.at.0 at.at.1))
-place_of r phase.OlderDirectories items rest e at =
-    in_field refl (λ q. absurd cc)
-    (subst IsNext (sym at.tail.follows) (list_next r.list r.list.phase r.params.format _ at.layout rest at.at.0.0 at.at.0.1))
-place_of r phase.OlderFiles items rest e at =
-    in_field refl (λ q. absurd cc)
-    (subst IsNext (sym at.tail.follows) (list_next r.list r.list.phase r.params.format _ at.layout rest at.at.0.0 at.at.0.1))
-place_of r phase.Padding items rest e at = in_padding refl at
-place_of r (phase.Foreign v) items rest e at =
-    in_foreign v refl (ap (λ (l : List Item). following_all (header_layout r.dialect) l) at.0.items_are
-    ∙ foreign_follows r (length_item r ∷ []) v refl at.1 at.2)
-place_of r phase.Done items rest e at = absurd at
-place_of r (phase.Failed f) items rest e at = absurd at
-
--- ---- the end isn't known only within the initial length
-
+-- the end isn't known only within the initial length
 abbrev IsInitial : List Item → List ℕ → Type 0
 IsInitial items rest = (items ≡ []) × (length rest < 12)
 
-known : {A : Type 0} (end : Option ℕ) (e : ℕ) → end ≡ Some e → end ≡ None → A
-known end e some none = absurd (none_some none some)
+-- what is known by the phase
+record Known (r : HeadReader) (p : Phase) (items : List Item) (rest : List ℕ) : Type 0 where
+  place : Place r p items
+  ends : EndIs r items
+  initial : r.end ≡ None → IsInitial items rest
 
-initial_of : (r : HeadReader) (p : Phase) (items : List Item) (rest : List ℕ) → AtPhase r p items rest → r.end ≡ None
-    → IsInitial items rest
-initial_of r (phase.UnitLength n) items rest at none = (at.0.none, omega (arith, ap length at.1, at.2, n.operand.lacks))
-initial_of r (phase.LongUnitLength n) items rest at none = (
-  at.0.none,
-  omega (
-    arith,
-    at.2,
-    n.operand.lacks,
-    at.1.size,
-    ap length at.1.whole,
-    length-append at.1.escape (number_bytes n),
-  ),
-)
-initial_of r phase.Version items rest at none = known r.end _ at.0.end none
-initial_of r (phase.VersionEnd first) items rest at none = known r.end _ at.0.end none
-initial_of r (phase.HeaderLength n) items rest at none = known r.end _ at.0.end none
-initial_of r (phase.Byte field.AddressSize) items rest at none = known r.end _ at.0.end none
-initial_of r (phase.Byte field.SegmentSelectorSize) items rest at none = known r.end _ at.0.end none
-initial_of r (phase.Byte field.MinimumInstructionLength) items rest at none = known r.end _ at.0.tail.end none
-initial_of r (phase.Byte field.MaximumOperations) items rest at none = known r.end _ at.0.tail.end none
-initial_of r (phase.Byte field.DefaultIsStmt) items rest at none = known r.end _ at.0.tail.end none
-initial_of r (phase.Byte field.LineBase) items rest at none = known r.end _ at.0.tail.end none
-initial_of r (phase.Byte field.LineRange) items rest at none = known r.end _ at.0.tail.end none
-initial_of r (phase.Byte field.OpcodeBase) items rest at none = known r.end _ at.0.tail.end none
-initial_of r phase.OpcodeLength items rest at none = known r.end _ at.0.tail.end none
-initial_of r phase.Directories items rest at none = known r.end _ at.tail.end none
-initial_of r phase.Files items rest at none = known r.end _ at.tail.end none
-initial_of r phase.OlderDirectories items rest at none = known r.end _ at.tail.end none
-initial_of r phase.OlderFiles items rest at none = known r.end _ at.tail.end none
-initial_of r phase.Padding items rest at none = known r.end _ at.end none
-initial_of r (phase.Foreign v) items rest at none = known r.end _ at.0.end none
-initial_of r phase.Done items rest at none = absurd at
-initial_of r (phase.Failed f) items rest at none = absurd at
+module _ (r : HeadReader) (p : Phase) (items : List Item) (rest : List ℕ) (goes : ending p ≡ None)
+    (out : p ≡ phase.Padding → ⊥) where
+  at_start : AtStart r items → length rest < 12 → Known r p items rest
+  at_start at few = record {
+    place = in_field goes out (rw at.none tt);
+    ends = start_end r items at.none at.end at.overrun;
+    initial = λ none. (at.none, few);
+  }
+
+  at_early : (is : List Item) → Early r items is → EndIs r items → IsNext (following_all (header_layout r.dialect) is)
+      → Known r p items rest
+  at_early is e ends next = record {
+    place = in_field goes out (rw e.items_are next);
+    ends = ends;
+    initial = λ none. absurd (none_some none e.end);
+  }
+
+  at_late : (layout : Layout) → Past r items layout → IsNext layout → Known r p items rest
+  at_late layout e next = record {
+    place = in_field goes out (rw e.follows next);
+    ends = after_end r items layout e;
+    initial = λ none. absurd (none_some none e.end);
+  }
+
+known_of : (r : HeadReader) (p : Phase) (items : List Item) (rest : List ℕ) → r.phase ≡ p → AtPhase r p items rest
+    → Known r p items rest
+known_of r (phase.UnitLength n) items rest e at =
+    at_start r _ items rest refl (λ q. absurd cc) at.0 (omega (arith, ap length at.1, at.2, n.operand.lacks))
+known_of r (phase.LongUnitLength n) items rest e at = at_start r _ items rest refl (λ q. absurd cc) at.0 (omega (
+  arith,
+  at.2,
+  n.operand.lacks,
+  at.1.size,
+  ap length at.1.whole,
+  length-append at.1.escape (number_bytes n),
+))
+known_of r phase.Version items rest e at =
+    at_early r _ items rest refl (λ q. absurd cc) _ at.0 (early_end r items _ at.0 refl refl) tt
+known_of r (phase.VersionEnd first) items rest e at =
+    at_early r _ items rest refl (λ q. absurd cc) _ at.0 (early_end r items _ at.0 refl refl) tt
+known_of r (phase.HeaderLength n) items rest e at =
+    at_early r _ items rest refl (λ q. absurd cc) _ at.0 (before_end r items at.0 at.1) (rw (at_length r at.1).follows tt)
+known_of r (phase.Byte field.AddressSize) items rest e at =
+    at_early r _ items rest refl (λ q. absurd cc) _ at.0 (early_end r items _ at.0 refl refl) tt
+known_of r (phase.Byte field.SegmentSelectorSize) items rest e at =
+    at_early r _ items rest refl (λ q. absurd cc) _ at.0 (early_end r items _ at.0 refl refl) tt
+known_of r (phase.Byte field.MinimumInstructionLength) items rest e at =
+    at_late r _ items rest refl (λ q. absurd cc) _ at.0.tail tt
+known_of r (phase.Byte field.MaximumOperations) items rest e at =
+    at_late r _ items rest refl (λ q. absurd cc) _ at.0.tail tt
+known_of r (phase.Byte field.DefaultIsStmt) items rest e at =
+    at_late r _ items rest refl (λ q. absurd cc) _ at.0.tail tt
+known_of r (phase.Byte field.LineBase) items rest e at = at_late r _ items rest refl (λ q. absurd cc) _ at.0.tail tt
+known_of r (phase.Byte field.LineRange) items rest e at = at_late r _ items rest refl (λ q. absurd cc) _ at.0.tail tt
+known_of r (phase.Byte field.OpcodeBase) items rest e at = at_late r _ items rest refl (λ q. absurd cc) _ at.0.tail tt
+known_of r phase.OpcodeLength items rest e at =
+    let p = r.params in
+    at_late r _ items rest refl (λ q. absurd cc) _ at.0.tail (subst IsNext
+    (sym (lengths_open p (p.opcode_base - 1 - length p.lengths.items) p.lengths.items (some_left r e))) tt)
+known_of r phase.Directories items rest e at = at_late r _ items rest refl (λ q. absurd cc) _ at.tail
+    (table_next r.dialect.order r.table r.table.phase r.params.format _ at.layout rest at.at.0 at.at.1)
+known_of r phase.Files items rest e at = at_late r _ items rest refl (λ q. absurd cc) _ at.tail
+    (table_next r.dialect.order r.table r.table.phase r.params.format _ at.layout rest at.at.0 at.at.1)
+known_of r phase.OlderDirectories items rest e at = at_late r _ items rest refl (λ q. absurd cc) _ at.tail
+    (list_next r.list r.list.phase r.params.format _ at.layout rest at.at.0.0 at.at.0.1)
+known_of r phase.OlderFiles items rest e at = at_late r _ items rest refl (λ q. absurd cc) _ at.tail
+    (list_next r.list r.list.phase r.params.format _ at.layout rest at.at.0.0 at.at.0.1)
+known_of r phase.Padding items rest e at = record {
+  place = in_padding refl at;
+  ends = after_end r items _ at;
+  initial = λ none. absurd (none_some none at.end);
+}
+known_of r (phase.Foreign v) items rest e at = record {
+  place = in_foreign v refl (ap (λ (l : List Item). following_all (header_layout r.dialect) l) at.0.items_are
+      ∙ foreign_follows r (length_item r ∷ []) v refl at.1 at.2);
+  ends = early_end r items _ at.0 (rw (ne_eqb v 5 at.1) refl) refl;
+  initial = λ none. absurd (none_some none at.0.end);
+}
+known_of r phase.Done items rest e at = absurd at
+known_of r (phase.Failed f) items rest e at = absurd at
+
+pub place_of : (r : HeadReader) (items : List Item) (rest : List ℕ) → At r items rest → Place r r.phase items
+place_of r items rest at = (known_of r r.phase items rest refl at).place
+
+pub end_is : (r : HeadReader) (items : List Item) (rest : List ℕ) → At r items rest → EndIs r items
+end_is r items rest at = (known_of r r.phase items rest refl at).ends
 
 -- bytes in which no field is whole
 no_fields : (dialect : Dialect) (b rest : List ℕ) → cut dialect b ≡ cut_of [] rest → b ≡ rest
@@ -246,7 +223,7 @@ countable r b l = on r.end refl l.below r.near where
   on : (end : Option ℕ) → r.end ≡ end → Below (length b) end → end_near end ≡ true → length b < 2 ^ 41
   on (Some e) is below near = let le : e ≤ 2 ^ 41 = leb-true e (2 ^ 41) near in omega (arith, below, le)
   on None is below near =
-      let i = initial_of r r.phase l.items l.rest l.at is in
+      let i = (known_of r r.phase l.items l.rest refl l.at).initial is in
       let whole = no_fields r.dialect b l.rest (l.cut_is ∙ ap (λ (k : List Item). cut_of k l.rest) i.0) in
       omega (arith, ap length whole, i.1)
 
@@ -264,7 +241,7 @@ quiet_at r b items rest e end none below =
 
 -- a header that goes on decides nothing
 pub live_quiet : (r : HeadReader) (b : List ℕ) → Live r b → header_decided r.dialect b ≡ None
-live_quiet r b l = quiet_at r b l.items l.rest l.cut_is (end_is r r.phase l.items l.rest l.at) l.unjudged l.below
+live_quiet r b l = quiet_at r b l.items l.rest l.cut_is (end_is r l.items l.rest l.at) l.unjudged l.below
 
 -- bytes that end inside a field are refused
 pub overruns : (r : HeadReader) (b : List ℕ) (items : List Item) (rest : List ℕ) → cut r.dialect b ≡ cut_of items rest
@@ -322,8 +299,8 @@ field_more r b items rest e end next none below = (
 
 pub live_more : (r : HeadReader) (b : List ℕ) → ending r.phase ≡ None → Live r b → Answers r.dialect b answer.More
 live_more r b goes l = (
-  λ h w. not_header r b l.items l.rest h l.cut_is (end_is r r.phase l.items l.rest l.at) l.below w,
+  λ h w. not_header r b l.items l.rest h l.cut_is (end_is r l.items l.rest l.at) l.below w,
   foreign_of r.dialect b l.items l.rest l.cut_is ∙ not_foreign r r.phase l.items goes
-      (place_of r r.phase l.items l.rest refl l.at),
+      (place_of r l.items l.rest l.at),
   λ at kind w. none_some (live_quiet r b l) w.decided,
 )

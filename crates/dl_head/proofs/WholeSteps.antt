@@ -24,8 +24,8 @@ use Rattle.dl_head.specs.Reading.{Answers}
 use Rattle.dl_head.specs.Whole.{TakesAll}
 use Rattle.dl_field.proofs.FieldLemmas.{none_some, field_empty}
 use Rattle.dl_head.proofs.CutLemmas.{cut_of, cut_within, cut_good, before_none}
-use Rattle.dl_head.proofs.HeaderEnds.{end_from, UpTo, EndIs, EndsWithin, end_is, room_on, ends_on}
-use Rattle.dl_head.proofs.TakenBytes.{IsNext, quiet_at, field_more}
+use Rattle.dl_head.proofs.HeaderEnds.{end_from, UpTo, EndIs, EndsWithin, room_on, ends_on}
+use Rattle.dl_head.proofs.TakenBytes.{IsNext, end_is, quiet_at, field_more}
 use Rattle.dl_head.proofs.StepCells.{cells_good_on}
 use Rattle.dl_head.proofs.MovedReader.{Moved, nothing_on}
 use Rattle.dl_head.proofs.TurnLemmas.{joined}
@@ -160,7 +160,7 @@ whole_moved r fin b w l made adds dialect header start taken below = record {
     unjudged = field_empty fin.dialect.order (following_all (header_layout fin.dialect) (items ++ made.0 ∷ []));
     start_is = omega (arith, size, start);
     up_to = subst (λ (o : Option ℕ). UpTo (length (b ++ w)) o)
-        (sym (end_is fin fin.phase (items ++ made.0 ∷ []) [] made.2).end) passed.up_to;
+        (sym (end_is fin (items ++ made.0 ∷ []) [] made.2).end) passed.up_to;
     nothing_before = subst (λ (d : Dialect). NothingBefore (header_decided d) (b ++ w)) (sym dialect)
         passed.nothing_before;
     ends_within = passed.ends_within;
@@ -184,7 +184,7 @@ whole_moved r fin b w l made adds dialect header start taken below = record {
   items = l.0.items
 
   here : EndIs r items
-  here = end_is r r.phase items l.0.rest l.0.at
+  here = end_is r items l.0.rest l.0.at
 
   next : IsNext (following_all (header_layout r.dialect) items)
   next = good_next r.dialect.order (following_all (header_layout r.dialect) items) (l.0.rest ++ w) made.0 made.1
