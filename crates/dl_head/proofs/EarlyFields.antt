@@ -64,16 +64,14 @@ pub started : (old new : HeadReader) (format : Format) (n : ℕ) (items : List I
     → initial_length_spelt old.dialect.order w ≡ o → (n ≤ unit_length_limit → o ≡ good (length_is format n))
     → (unit_length_limit + 1 ≤ n → o ≡ bad fault.UnitTooLong)
     → Starts old format n result new → Made old.dialect items w result new
-started old new format n items w byte_makes.Ends o at spelt fine long s =
-    let start : AtStart old [] = subst (λ (l : List Item). AtStart old l) at.none at in (
-      length_is format n,
-      ap (λ (l : List Item). field_spelt old.dialect.order (following_all (header_layout old.dialect) l) w) at.none
-          ∙ spelt ∙ fine s.0,
-      subst (λ (l : List Item). At new (l ++ length_is format n ∷ []) []) (sym at.none) (s.1 start),
-    )
+started old new format n items w byte_makes.Ends o at spelt fine long s = (
+  length_is format n,
+  rw (at.none, spelt) (fine s.0),
+  subst (λ (l : List Item). At new (l ++ length_is format n ∷ []) []) (sym at.none)
+      (s.1 (subst (λ (l : List Item). AtStart old l) at.none at)),
+)
 started old new format n items w (byte_makes.Refuses kind) o at spelt fine long s =
-    ap (λ (l : List Item). field_spelt old.dialect.order (following_all (header_layout old.dialect) l) w) at.none
-    ∙ spelt ∙ long s.0 ∙ ap (λ (k : FaultKind). bad k) (sym s.1)
+    rw (at.none, spelt, s.1) (long s.0)
 started old new format n items w byte_makes.Within o at spelt fine long s = absurd s
 started old new format n items w byte_makes.NoMemory o at spelt fine long s = absurd s
 
@@ -99,11 +97,9 @@ pub started_long : (old new : HeadReader) (n : ℕ) (items : List Item) (rest nu
     → Starts old Dwarf64 n result new → Made old.dialect items (rest ++ byte ∷ []) result new
 started_long old new n items rest number byte result at long eight is s =
     started old new Dwarf64 n items (rest ++ byte ∷ []) result (long_length n) at
-    (ap (λ (v : List ℕ). initial_length_spelt old.dialect.order v)
-    (ap (λ (v : List ℕ). v ++ byte ∷ []) long.whole ∙ append_assoc long.escape number (byte ∷ []))
-    ∙ long_spelt old.dialect.order long.escape (number ++ byte ∷ []) n long.size long.value eight is)
-    (long_good n) (long_bad n)
-    s
+    (rw (long.whole, append_assoc long.escape number (byte ∷ []))
+    (long_spelt old.dialect.order long.escape (number ++ byte ∷ []) n long.size long.value eight is)) (long_good n)
+    (long_bad n) s
 
 -- ---- version
 
@@ -112,21 +108,15 @@ pub version_spelt : (r : HeadReader) (items : List Item) (rest : List ℕ) (firs
     → n ≡ fixed r.dialect.order (first ∷ byte ∷ [])
     → field_spelt r.dialect.order (following_all (header_layout r.dialect) items)
     (rest ++ byte ∷ []) ≡ good (number_is n)
-version_spelt r items rest first byte n is one e =
-    ap (λ (l : List Item). field_spelt r.dialect.order (following_all (header_layout r.dialect) l)
-    (rest ++ byte ∷ [])) is
-    ∙ ap (λ (w : List ℕ). field_spelt r.dialect.order (following_all (header_layout r.dialect) (length_item r ∷ []))
-    (w ++ byte ∷ [])) one ∙ ap (λ (k : ℕ). good (number_is k)) (sym e)
+version_spelt r items rest first byte n is one e = rw (is, one, ← e) refl
 
 pub foreign_follows : (r : HeadReader) (items : List Item) (n : ℕ) → items ≡ length_item r ∷ [] → n ≢ 5
     → older_size r.dialect n ≡ None → following_all (header_layout r.dialect) (items ++ number_is n ∷ [])
     ≡ foreign_version n
-foreign_follows r items n is other none =
-    ap (λ (l : List Item). following_all (header_layout r.dialect) (l ++ number_is n ∷ [])) is
-    ∙ rw (ne_eqb n 5 other, none) refl
+foreign_follows r items n is other none = rw (is, ne_eqb n 5 other, none) refl
 
 pub items_on : (items is : List Item) (i j : Item) → items ≡ is → i ≡ j → items ++ i ∷ [] ≡ is ++ j ∷ []
-items_on items is i j e f = ap (λ (l : List Item). l ++ i ∷ []) e ∙ ap (λ (k : Item). is ++ k ∷ []) f
+items_on items is i j e f = cc
 
 -- after an older version that is read
 pub older_early : (new : Parts) (items : List Item) → new.params.version ≢ 5
@@ -198,13 +188,10 @@ pub header_length_spelt : (r : HeadReader) (items : List Item) (w : List ℕ) (n
     n) n
 header_length_spelt r items w n is of size e =
     let a = at_length r of in
-    ap (λ (l : List Item). field_spelt r.dialect.order (following_all (header_layout r.dialect) l) w) is
-    ∙ ap (λ (l : Layout). field_spelt r.dialect.order l w) a.follows
-    ∙ length_spelt r.dialect.order r.unit_length n a.q w (size ∙ ap offset_size (sym a.format)) e
+    rw (is, a.follows) (length_spelt r.dialect.order r.unit_length n a.q w (size ∙ ap offset_size (sym a.format)) e
     ∙ ap (λ (f : Format). judged (objection (header_length f (r.unit_length - fixed_part f a.q.version)) n) n) a.format
     ∙ ap (λ (v : ℕ). judged (objection (header_length r.params.format (r.unit_length - fixed_part r.params.format v))
-    n) n)
-    a.number
+    n) n) a.number)
 
 pub header_length_good : (r : HeadReader) (items : List Item) (w : List ℕ) (n : ℕ) → items ≡ before_header_length r
     → IsOfVersion r → length w ≡ offset_size r.params.format → n ≡ fixed r.dialect.order w
@@ -224,13 +211,8 @@ header_length_bad r items w n is of size e lt = header_length_spelt r items w n 
 before_ends : (r : HeadReader) (n : ℕ) → IsOfVersion r
     → header_end (before_header_length r ++ number_is n ∷ [])
     ≡ Some (initial_size r.params.format + fixed_part r.params.format r.params.version + n)
-before_ends r n (inl five) =
-    ap (λ (l : List Item). header_end (l ++ number_is n ∷ [])) (before_own (parts r) five)
-    ∙ ap (λ (v : ℕ). let o : Option ℕ = Some (initial_size r.params.format + fixed_part r.params.format v + n) in o)
-    (sym five)
-before_ends r n (inr older) =
-    ap (λ (l : List Item). header_end (l ++ number_is n ∷ [])) (before_older (parts r) older.other)
-    ∙ ends r.params.version older.other
+before_ends r n (inl five) = rw (before_own (parts r) five, five) refl
+before_ends r n (inr older) = rw (before_older (parts r) older.other) (ends r.params.version older.other)
   where
     ends : (v : ℕ) → v ≢ 5 → header_end (length_item r ∷ number_is v ∷ number_is n ∷ [])
         ≡ Some (initial_size r.params.format + fixed_part r.params.format v + n)

@@ -110,10 +110,7 @@ pub byte_spelt : (r : HeadReader) (f : ByteField) (items : List Item) (rest : Li
     ≡ judged (objection (byte_kind f) x) x
 byte_spelt r f items rest x at =
     let b = byte_follows r f items rest at in
-    ap (λ (l : Layout). field_spelt r.dialect.order l (rest ++ x ∷ [])) b.0
-    ∙ ap (λ (w : List ℕ). field_spelt r.dialect.order (from_byte f r.unit_length r.params) (w ++ x ∷ [])) b.1
-    ∙ byte_is r.dialect.order f r.unit_length r.params x
-    ∙ ap (λ (n : ℕ). judged (objection (byte_kind f) n) n) (fixed-one r.dialect.order x)
+    rw (b.0, b.1, byte_is r.dialect.order f r.unit_length r.params x, fixed-one r.dialect.order x) refl
 
 -- ---- line_base
 
@@ -139,12 +136,9 @@ pub lengths_open : (p : Params) (left : ℕ) (before : List ℕ) → 1 ≤ left
     (record p { lengths = record { items = lengths } })
 lengths_open p zero before h = absurd (omega arith)
 lengths_open p (suc count) before h =
-    let e : count ≡ suc count - 1 = omega arith in
+    let e : suc count - 1 ≡ count = omega arith in
     let two : length before + 1 + 1 ≡ length before + 2 = omega arith in
-    ap (λ (k : ℕ). number_then (opcode_length (length before + 1)) λ n. lengths_layout k count (before ++ n ∷ [])
-    λ lengths. tables_layout (record p { lengths = record { items = lengths } })) two
-    ∙ ap (λ (k : ℕ). number_then (opcode_length (length before + 1)) λ n. lengths_layout (length before + 2) k
-    (before ++ n ∷ []) λ lengths. tables_layout (record p { lengths = record { items = lengths } })) e
+    rw (e, two) refl
 
 -- a length is judged by its value
 pub length_judged : (dialect : Dialect) (p : Params) (items : List Item) (rest : List ℕ) (x : ℕ)
@@ -153,11 +147,8 @@ pub length_judged : (dialect : Dialect) (p : Params) (items : List Item) (rest :
     → field_spelt dialect.order (following_all (header_layout dialect) items) (rest ++ x ∷ [])
     ≡ judged (objection (opcode_length (length p.lengths.items + 1)) x) x
 length_judged dialect p items rest x follows left none =
-    ap (λ (l : Layout). field_spelt dialect.order l (rest ++ x ∷ []))
-    (follows ∙ lengths_open p (p.opcode_base - 1 - length p.lengths.items) p.lengths.items left)
-    ∙ ap (λ (w : List ℕ). field_spelt dialect.order
-    (number_then (opcode_length (length p.lengths.items + 1)) λ n. tables_layout p) (w ++ x ∷ [])) none
-    ∙ ap (λ (n : ℕ). judged (objection (opcode_length (length p.lengths.items + 1)) n) n) (fixed-one dialect.order x)
+    rw (follows, lengths_open p (p.opcode_base - 1 - length p.lengths.items) p.lengths.items left, none)
+    (ap (λ (n : ℕ). judged (objection (opcode_length (length p.lengths.items + 1)) n) n) (fixed-one dialect.order x))
 
 abbrev with_lengths : Params → List ℕ → Params
 with_lengths p lengths = record p { lengths = record { items = lengths } }
@@ -168,33 +159,20 @@ pub next_length : (p : Params) (n : ℕ) (more : List ℕ) → 1 ≤ p.opcode_ba
     → following (from_length p) (number_is n) ≡ from_length (with_lengths p more)
 next_length p n more left e =
     let ls = p.lengths.items in
-    let at : length ls + 2 ≡ length more + 1 = omega (arith, ap length e, length-append ls (n ∷ [])) in
-    let fewer : p.opcode_base - 1 - length ls - 1 ≡ p.opcode_base - 1 - length more =
+    let at : length more + 1 ≡ length ls + 2 = omega (arith, ap length e, length-append ls (n ∷ [])) in
+    let fewer : p.opcode_base - 1 - length more ≡ p.opcode_base - 1 - length ls - 1 =
     omega (arith, ap length e, length-append ls (n ∷ [])) in
-    ap (λ (k : Layout). following k (number_is n)) (lengths_open p (p.opcode_base - 1 - length ls) ls left)
-    ∙ ap (λ (k : ℕ). lengths_layout k (p.opcode_base - 1 - length ls - 1) (ls ++ n ∷ []) λ lengths. tables_layout
-    (with_lengths p lengths)) at
-    ∙ ap (λ (k : ℕ). lengths_layout (length more + 1) k (ls ++ n ∷ []) λ lengths. tables_layout
-    (with_lengths p lengths)) fewer
-    ∙ ap (λ (l : List ℕ). lengths_layout (length more + 1) (p.opcode_base - 1 - length more) l λ lengths. tables_layout
-    (with_lengths p lengths)) (sym e)
+    rw (lengths_open p (p.opcode_base - 1 - length ls) ls left, at, fewer, e) refl
 
 -- where none are left, the tables follow
 pub lengths_whole : (p : Params) → p.opcode_base ≤ length p.lengths.items + 1 → from_length p ≡ tables_layout p
 lengths_whole p le =
-    let none : p.opcode_base - 1 - length p.lengths.items ≡ 0 = omega arith in
-    ap (λ (k : ℕ). lengths_layout (length p.lengths.items + 1) k p.lengths.items λ lengths. tables_layout
-    (with_lengths p lengths)) none
+    let none : p.opcode_base - 1 - length p.lengths.items ≡ 0 = omega arith in rw none refl
 
 -- the first length
 pub first_length : (p : Params) (n : ℕ) → p.lengths.items ≡ []
     → following (from_opcode_base p) (number_is n) ≡ from_length (record p { opcode_base = n })
-first_length p n none =
-    let all : n - 1 ≡ n - 1 - 0 = omega arith in
-    ap (λ (k : ℕ). lengths_layout 1 k [] λ lengths. tables_layout (with_lengths (record p { opcode_base = n }) lengths))
-    all
-    ∙ ap (λ (l : List ℕ). lengths_layout (length l + 1) (n - 1 - length l) l λ lengths. tables_layout
-    (with_lengths (record p { opcode_base = n }) lengths)) (sym none)
+first_length p n none = let all : n - 1 - 0 ≡ n - 1 = omega arith in rw (none, all) refl
 
 late_as : (r : Parts) (items : List Item) (layout next : Layout) → layout ≡ next → Late r items layout
     → Late r items next
