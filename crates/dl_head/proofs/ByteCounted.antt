@@ -64,7 +64,7 @@ fits_of dialect b items rest e ends up n unit =
     of_unit items n (length b) ends up (sym (ap (λ (c : Cut). unit_end c.items) e) ∙ unit)
 
 moved_fits : (r : HeadReader) (b : List ℕ) → Moved r b → FitsUnit r.dialect b
-moved_fits r b m = fits_of r.dialect b m.items m.rest m.cut_is m.ends_within
+moved_fits r b m = fits_of r.dialect b m.items m.rest m.read.cut_is m.read.ends_within
     (subst (λ (o : Option ℕ). UpTo (length b) o) (end_is r m.items m.rest m.at).end m.up_to)
 
 below_of : (n : ℕ) (end : Option ℕ) → UpTo n end → end ≢ Some n → Below n end
@@ -84,19 +84,16 @@ goes_on r b goes m other =
     let live : Live r b = record {
       items = m.items;
       rest = m.rest;
-      cut_is = m.cut_is;
+      read = m.read;
       at = m.at;
-      unjudged = m.unjudged;
       start_is = m.start_is;
       below = below;
-      nothing_before = m.nothing_before;
-      ends_within = m.ends_within;
     } in (
       live_more r b goes live,
       record {
         stands = subst (λ (o : Option HeadStep). Stands r o b) (sym goes) (live, m.unmade);
         taken = m.taken_is;
-        unit = unit_of r b m.items m.rest m.cut_is (end_is r m.items m.rest m.at);
+        unit = unit_of r b m.items m.rest m.read.cut_is (end_is r m.items m.rest m.at);
         within = moved_fits r b m;
       },
     )
@@ -127,9 +124,9 @@ failed r fin b kind result refused u taken unit fits f =
 refused_at : (r : HeadReader) (b : List ℕ) (kind : FaultKind) (m : Moved r b) → header_decided r.dialect b ≡ Some kind
     → HeaderRefused r.dialect b r.start kind
 refused_at r b kind m decided = record {
-  place = ap (λ (c : Cut). r.start + length c.rest) m.cut_is ∙ m.start_is;
+  place = ap (λ (c : Cut). r.start + length c.rest) m.read.cut_is ∙ m.start_is;
   decided = decided;
-  shortest = m.nothing_before;
+  shortest = m.read.nothing_before;
 }
 
 -- the bytes end inside a field
@@ -139,9 +136,9 @@ fails_at_end : (r fin : HeadReader) (b : List ℕ) (m : Moved r b) (result : Hea
 fails_at_end r fin b m result next end f =
     let at = end_is r m.items m.rest m.at in
     failed r fin b r.overrun result
-    (refused_at r b r.overrun m (overruns r b m.items m.rest m.cut_is at next m.unjudged
+    (refused_at r b r.overrun m (overruns r b m.read at next
     (end ∙ ap (λ (n : ℕ). Some n) m.taken_is)))
-    m.unmade m.taken_is (unit_of r b m.items m.rest m.cut_is at) (moved_fits r b m) f
+    m.unmade m.taken_is (unit_of r b m.items m.rest m.read.cut_is at) (moved_fits r b m) f
 
 -- the header is whole
 pub header_whole : (r : HeadReader) (b : List ℕ) (m : Moved r b)
@@ -149,7 +146,7 @@ pub header_whole : (r : HeadReader) (b : List ℕ) (m : Moved r b)
     → IsHeader r.dialect (record { params = r.params; directories = r.directories; files = r.files }) b
 header_whole r b m tail end =
     let s : Sound r.dialect.order (header_layout r.dialect) b (cut_of m.items m.rest) =
-    subst (λ (c : Cut). Sound r.dialect.order (header_layout r.dialect) b c) m.cut_is
+    subst (λ (c : Cut). Sound r.dialect.order (header_layout r.dialect) b c) m.read.cut_is
     (cut_sound r.dialect.order (header_layout r.dialect) [] b) in
     record {
       items = m.items;
@@ -174,7 +171,7 @@ done r fin b m result tail end f =
             (h, c.header, subst (λ (d : Dialect). IsHeader d h b) (sym c.dialect) whole);
         taken = c.taken ∙ m.taken_is;
         unit = unit_kept r fin b c.unit c.dialect
-            (unit_of r b m.items m.rest m.cut_is (end_is r m.items m.rest m.at));
+            (unit_of r b m.items m.rest m.read.cut_is (end_is r m.items m.rest m.at));
         within = fits_kept r.dialect fin.dialect b c.dialect (moved_fits r b m);
       },
     )
@@ -185,13 +182,13 @@ foreign : (r fin : HeadReader) (b : List ℕ) (m : Moved r b) (result : HeadStep
 foreign r fin b m result v is follows q =
     let f : foreign_in r.dialect b ≡ Some v =
     ap (λ (c : Cut). foreign_made (following_all (header_layout r.dialect) c.items))
-    m.cut_is ∙ ap foreign_made follows in
+    m.read.cut_is ∙ ap foreign_made follows in
     same_reader r fin b (answer.Foreign v) result (
       f,
       record {
         stands = subst (λ (o : Option HeadStep). Stands r o b) (sym (ap ending is)) (f, m.unmade);
         taken = m.taken_is;
-        unit = unit_of r b m.items m.rest m.cut_is (end_is r m.items m.rest m.at);
+        unit = unit_of r b m.items m.rest m.read.cut_is (end_is r m.items m.rest m.at);
         within = moved_fits r b m;
       },
     ) q

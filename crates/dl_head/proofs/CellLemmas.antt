@@ -1,6 +1,6 @@
 -- A header holds no more cells than it has bytes, and in the end those of its tables.
 use Rattle.std.proofs.Common.{◌≡◌, ℕ, ◌+◌, ◌-◌, ◌^◌, ◌≤◌, true, nat_lt, nat_le, ◌&&◌, ◌==◌, if◌then◌else◌, List, []}
-use Rattle.std.proofs.Common.{zero, suc, Bool, false, Option, Some, ◌++◌, subst, sym, ◌∙◌, ◌⊎◌, ◌∷◌, length, take, drop}
+use Rattle.std.proofs.Common.{Bool, false, Option, Some, sym, ◌∙◌, ◌⊎◌, ◌∷◌, length, take, drop}
 use Rattle.std.proofs.Common.{None, Ok, refl, ap, arith, inl, inr, length-append, sum_by}
 use Rattle.std.proofs.lemmas.Bool.{cases_lt, cases_Bool, lt-ltb, le-ltb, le-leb, lt-leb, eqb-true, cases_eq, eq-eqb}
 use Rattle.std.proofs.lemmas.Bool.{ne_eqb}
@@ -8,15 +8,10 @@ use Rattle.std.proofs.lemmas.List.{length-take-le, length-drop}
 use Rattle.std.proofs.lemmas.List.Sums.{sum_by-cons}
 use Rattle.dl_num.specs.declared.fixed.Order.{Order}
 use Rattle.dl_field.specs.Layout.{path_or_end}
-use Rattle.dl_field.specs.Layout.{listed_from, end_is, value_is, path_judged, pairs_layout, entry_layout}
-use Rattle.dl_field.specs.Layout.{entries_layout, table_layout}
-use Rattle.dl_field.specs.declared.params.Params.{Params}
-use Rattle.dl_table.specs.declared.table.Pair.{Pair}
-use Rattle.dl_table.specs.TableData.{TableData}
+use Rattle.dl_field.specs.Layout.{listed_from, end_is, value_is, path_judged}
 use Rattle.dl_field.proofs.GoodLemmas.{good_item}
-use Rattle.dl_head.specs.HeaderLayout.{tables_layout, lengths_layout, from_files, from_end, from_default_is_stmt}
 use Rattle.dl_head.specs.HeaderLayout.{initial_size}
-use Rattle.dl_head.specs.HeaderLayout.{from_minimum_length, from_older_version, older_params, format_alone}
+use Rattle.dl_head.specs.HeaderLayout.{from_older_version, older_params, format_alone}
 use Rattle.dl_head.specs.Dialect.{older_size}
 use Rattle.dl_head.specs.declared.dialect.Dialect.{Dialect}
 use Rattle.dl_num.specs.Fixed.{fixed}

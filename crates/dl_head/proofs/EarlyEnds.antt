@@ -1,5 +1,5 @@
 -- Where a header and its unit end, by the fields up to header_length, and how many bytes these take.
-use Rattle.std.proofs.Common.{◌≡◌, ℕ, ◌+◌, ◌-◌, ◌<◌, ◌≤◌, inl, inr, ◌⊎◌, ◌≢◌, List, [], ◌∷◌, ◌++◌, length, Option, Some}
+use Rattle.std.proofs.Common.{◌≡◌, ℕ, ◌+◌, ◌-◌, ◌<◌, ◌≤◌, inl, inr, ◌≢◌, List, [], ◌∷◌, ◌++◌, length, Option, Some}
 use Rattle.std.proofs.Common.{None, Ok}
 use Rattle.std.proofs.Common.{refl, sym, ap, subst, ◌∙◌, arith, length-append, append_assoc}
 use Rattle.std.proofs.lemmas.Bool.{ne_eqb, eq-eqb, cases_eq}
@@ -17,8 +17,7 @@ use Rattle.dl_head.specs.HeaderLayout.{header_layout, initial_size, fixed_part, 
 use Rattle.dl_head.specs.Header.{SpellsFields, unit_end, header_end}
 use Rattle.dl_head.specs.Refusal.{at_end, field_overrun}
 use Rattle.dl_field.proofs.FieldLemmas.{none_some, sized_length}
-use Rattle.dl_head.specs.HeaderLayout.{older_params, from_header_length}
-use Rattle.dl_head.specs.Dialect.{older_size}
+use Rattle.dl_head.specs.HeaderLayout.{older_params}
 use Rattle.dl_head.specs.Header.{own_end, older_end}
 use Rattle.dl_head.proofs.Openings.{Opening, numbered, after_length, after_address, after_segment}
 use Rattle.dl_head.proofs.Openings.{after_header}

@@ -4,9 +4,6 @@ use Rattle.std.proofs.Common.{inl, inr, ◌≢◌, subst, ◌∙◌, arith, leng
 use Rattle.std.proofs.lemmas.Bool.{ne_eqb, eq-eqb}
 use Rattle.dl_head.specs.declared.dialect.Dialect.{Dialect}
 use Rattle.dl_field.specs.Layout.{end_is as list_end}
-use Rattle.dl_head.specs.declared.reader.byte_field.ByteField.TheVariants as field
-use Rattle.dl_head.specs.declared.reader.Phase.{Phase}
-use Rattle.dl_head.specs.declared.reader.Phase.TheVariants as phase
 use Rattle.dl_head.specs.declared.reader.HeadReader.{HeadReader}
 use Rattle.dl_table.specs.declared.fault.FaultKind.{FaultKind}
 use Rattle.dl_table.specs.declared.fault.FaultKind.TheVariants as fault
@@ -15,7 +12,7 @@ use Rattle.dl_field.specs.Layout.{Layout, Item, length_is, number_is, form_is, v
 use Rattle.dl_head.specs.HeaderLayout.{header_layout, initial_size, fixed_part}
 use Rattle.dl_head.specs.Header.{SpellsFields, cut, unit_end, header_end}
 use Rattle.dl_head.specs.Refusal.{at_end, field_overrun}
-use Rattle.dl_head.specs.Place.{Parts, parts, Early, Past, AtPhase, end_of_unit, before_length, before_header_length}
+use Rattle.dl_head.specs.Place.{Parts, parts, Early, Past, end_of_unit, before_length, before_header_length}
 use Rattle.dl_head.specs.Place.{IsOfVersion, length_item}
 use Rattle.dl_head.specs.Standing.{Below, unit_known}
 use Rattle.dl_head.proofs.CutLemmas.{cut_of, cut_good, cut_sound, Sound}

@@ -15,13 +15,13 @@ use Rattle.dl_table.specs.Value.{Judgement, bad}
 use Rattle.dl_field.specs.Layout.{Item, following_all, field_spelt}
 use Rattle.dl_head.specs.HeaderLayout.{header_layout}
 use Rattle.dl_head.specs.Header.{Cut, cut, unit_end, unit_len, foreign_made}
-use Rattle.dl_head.specs.Refusal.{or_else, bad_kind, header_overrun, cut_decided, header_decided, NothingBefore}
+use Rattle.dl_head.specs.Refusal.{or_else, bad_kind, header_overrun, cut_decided, header_decided}
 use Rattle.dl_head.specs.Refusal.{HeaderRefused}
 use Rattle.dl_head.specs.Cells.{cells}
 use Rattle.dl_table.specs.TableCells.{table_cells}
 use Rattle.dl_field.specs.TablePlace.{IsFresh}
 use Rattle.dl_head.specs.Place.{AtStart, AtPhase, At, SameCounts, SameUnit, PushFollows, end_of_unit, held_cells}
-use Rattle.dl_head.specs.Standing.{Below, Live, Unmade, ending, Stands, StandsFor, unit_known, Fails, Settles}
+use Rattle.dl_head.specs.Standing.{Below, IsRead, Live, Unmade, ending, Stands, StandsFor, unit_known, Fails, Settles}
 use Rattle.dl_head.specs.Reading.{Answers, AddsCell, Steps}
 use Rattle.dl_field.proofs.FieldLemmas.{none_some}
 use Rattle.dl_head.proofs.CutLemmas.{cut_of, cut_bad}
@@ -106,14 +106,14 @@ pub refused_step : (r new fin : HeadReader) (g : Guards new) (b : List ℕ) (x t
     → Answers r.dialect (b ++ x ∷ []) result × StandsFor fin (b ++ x ∷ [])
 refused_step r new fin g b x t kind result stands l f unit count fails =
     let spelt = f.made l.0.items l.0.rest l.0.at in
-    let cut_is = cut_bad r.dialect b x l.0.items l.0.rest kind l.0.cut_is spelt in
+    let cut_is = cut_bad r.dialect b x l.0.items l.0.rest kind l.0.read.cut_is spelt in
     let refused : HeaderRefused r.dialect (b ++ x ∷ []) new.start kind = record {
       place = ap (λ (c : Cut). new.start + length c.rest) cut_is
           ∙ (let e : new.start + length (l.0.rest ++ x ∷ [])
           ≡ length (b ++ x ∷ []) = omega
           (arith, f.counts.start, l.0.start_is, length-append b (x ∷ []), length-append l.0.rest (x ∷ [])) in e);
-      decided = bad_decided r.dialect b x l.0.items l.0.rest kind l.0.cut_is spelt;
-      shortest = nothing_on r.dialect b x l.0.nothing_before (live_quiet r b l.0);
+      decided = bad_decided r.dialect b x l.0.items l.0.rest kind l.0.read.cut_is spelt;
+      shortest = nothing_on r.dialect b x l.0.read.nothing_before (live_quiet r b l.0);
     } in
     let mid = counted new g new.start t in
     let below = subst (λ (o : Option ℕ). Below (length b) o) (end_is r l.0.items l.0.rest l.0.at).end
@@ -121,7 +121,7 @@ refused_step r new fin g b x t kind result stands l f unit count fails =
     let up = subst (λ (n : ℕ). UpTo n (end_from l.0.items)) (sym (length-append b (x ∷ [])))
     (below_next (length b) (end_from l.0.items) below) in
     let length_known : unit_known (end_of_unit r) r.end ≡ unit_len r.dialect (b ++ x ∷ []) =
-    stands.unit ∙ ap (λ (c : Cut). unit_end c.items) l.0.cut_is ∙ sym (ap (λ (c : Cut). unit_end c.items) cut_is) in
+    stands.unit ∙ ap (λ (c : Cut). unit_end c.items) l.0.read.cut_is ∙ sym (ap (λ (c : Cut). unit_end c.items) cut_is) in
     by_dialect r mid fin (b ++ x ∷ []) result f.counts.dialect
     (failed mid fin (b ++ x ∷ []) kind result
     (subst (λ (d : Dialect). HeaderRefused d (b ++ x ∷ []) new.start kind) (sym f.counts.dialect) refused)
@@ -134,7 +134,7 @@ refused_step r new fin g b x t kind result stands l f unit count fails =
     (unit_kept r mid (b ++ x ∷ []) (record { end = unit.end; unit_length = unit.unit_length; format = unit.format })
     f.counts.dialect length_known)
     (fits_kept r.dialect new.dialect (b ++ x ∷ []) f.counts.dialect
-    (fits_of r.dialect (b ++ x ∷ []) l.0.items (l.0.rest ++ x ∷ []) cut_is l.0.ends_within up)) fails)
+    (fits_of r.dialect (b ++ x ∷ []) l.0.items (l.0.rest ++ x ∷ []) cut_is l.0.read.ends_within up)) fails)
 
 -- a reader that has taken nothing, though its vectors may have moved
 pub kept_stands : (r new : HeadReader) (b : List ℕ) → ending r.phase ≡ None → StandsFor r b
@@ -144,7 +144,7 @@ kept_stands r new b goes stands l at counts same_cells = record {
   stands = subst (λ (o : Option HeadStep). Stands new o b) (sym (ends_not (place_of new items rest at)))
       (live, unmade);
   taken = counts.taken ∙ stands.taken;
-  unit = unit_of new b items rest cut_is (end_is new items rest at);
+  unit = unit_of new b items rest read.cut_is (end_is new items rest at);
   within = fits_kept r.dialect new.dialect b counts.dialect stands.within;
 } where
   items : List Item
@@ -164,22 +164,17 @@ kept_stands r new b goes stands l at counts same_cells = record {
   end_same : new.end ≡ r.end
   end_same = (end_is new items rest at).end ∙ sym (end_is r items rest l.0.at).end
 
-  cut_is : cut new.dialect b ≡ cut_of items rest
-  cut_is = ap (λ (d : Dialect). cut d b) counts.dialect ∙ l.0.cut_is
+  read : IsRead new.dialect b items rest
+  read = subst (λ (d : Dialect). IsRead d b items rest) (sym counts.dialect) l.0.read
 
   live : Live new b
   live = record {
     items = items;
     rest = rest;
-    cut_is = cut_is;
+    read = read;
     at = at;
-    unjudged = ap (λ (d : Dialect). field_spelt d.order (following_all (header_layout d) items) rest) counts.dialect
-        ∙ l.0.unjudged;
     start_is = omega (arith, counts.start, l.0.start_is);
     below = subst (λ (o : Option ℕ). Below (length b) o) (sym end_same) l.0.below;
-    nothing_before = subst (λ (d : Dialect). NothingBefore (header_decided d) b) (sym counts.dialect)
-        l.0.nothing_before;
-    ends_within = l.0.ends_within;
   }
 
   unmade : Unmade new b
@@ -193,7 +188,7 @@ pub unfed_step : (r new : HeadReader) (b : List ℕ) (x : ℕ) → ending r.phas
     → Live r b × Unmade r b → PushFollows r x byte_makes.NoMemory new
     → AddsCell r.dialect b x × StandsFor new b
 unfed_step r new b x goes stands l f = (
-  omega (arith, (f.cells l.0.items l.0.rest l.0.at).1, cells_on r.dialect b x l.0.items l.0.rest l.0.cut_is),
+  omega (arith, (f.cells l.0.items l.0.rest l.0.at).1, cells_on r.dialect b x l.0.items l.0.rest l.0.read.cut_is),
   kept_stands r new b goes stands l (f.made l.0.items l.0.rest l.0.at) f.counts
       (f.cells l.0.items l.0.rest l.0.at).0,
 )
@@ -211,13 +206,15 @@ new_stands r n is none size at taken start header directories files = record {
     record {
       items = [];
       rest = [];
-      cut_is = refl;
+      read = record {
+        cut_is = refl;
+        unjudged = refl;
+        nothing_before = λ front x back e. absurd (no_front front x back e);
+        ends_within = λ n e u h. absurd (none_some refl u);
+      };
       at = subst (λ (p : Phase). AtPhase r p [] []) (sym is) (at, none, size);
-      unjudged = refl;
       start_is = omega (arith, start);
       below = subst (λ (o : Option ℕ). Below 0 o) (sym at.end) tt;
-      nothing_before = λ front x back e. absurd (no_front front x back e);
-      ends_within = λ n e u h. absurd (none_some refl u);
     },
     record {
       header = header;

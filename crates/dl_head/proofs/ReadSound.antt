@@ -19,7 +19,7 @@ use Rattle.dl_field.specs.HeaderData.{HeaderData}
 use Rattle.dl_table.specs.Value.{offset_size}
 use Rattle.dl_field.specs.Layout.{version, address_size, any_byte, header_length, maximum_operations}
 use Rattle.dl_field.specs.Layout.{line_range, opcode_base, opcode_length}
-use Rattle.dl_field.specs.Layout.{objection, Layout, foreign_version, last_entry}
+use Rattle.dl_field.specs.Layout.{objection, Layout, foreign_version}
 use Rattle.dl_field.specs.Layout.{Item, following}
 use Rattle.dl_field.specs.Layout.{table_layout}
 use Rattle.dl_table.specs.Value.{good}
@@ -52,7 +52,7 @@ use Rattle.dl_head.proofs.HeaderSound.{no_fault}
 use Rattle.dl_head.proofs.ReadValues.{front_bytes}
 use Rattle.dl_head.proofs.ReadTables.{Makes, After, TableRead, at_once, joined, none_made, first, after_number}
 use Rattle.dl_head.proofs.ReadTables.{after_table, after_list, last}
-use Rattle.dl_table.specs.TableCells.{value_cells, table_cells}
+use Rattle.dl_table.specs.TableCells.{table_cells}
 use Rattle.dl_field.specs.Cells.{item_cells}
 use Rattle.dl_field.specs.HeaderData.{header_cells}
 

@@ -10,10 +10,8 @@ use Rattle.dl_field.specs.declared.list_reader.ListPhase.TheVariants as list
 use Rattle.dl_field.specs.declared.list_reader.ListReader.{ListReader}
 use Rattle.dl_field.proofs.ListLemmas.{number_layout}
 use Rattle.dl_head.specs.declared.dialect.Dialect.{Dialect}
-use Rattle.dl_head.specs.declared.reader.byte_field.ByteField.{ByteField}
 use Rattle.dl_head.specs.declared.reader.byte_field.ByteField.TheVariants as field
 use Rattle.dl_field.specs.declared.value_phase.ValuePhase.{ValuePhase}
-use Rattle.dl_field.specs.declared.params.Params.{Params}
 use Rattle.dl_head.specs.declared.reader.Phase.{Phase}
 use Rattle.dl_head.specs.declared.reader.Phase.TheVariants as phase
 use Rattle.dl_head.specs.declared.reader.HeadReader.{HeadReader}
@@ -23,21 +21,19 @@ use Rattle.dl_field.specs.declared.table_reader.TablePhase.{TablePhase}
 use Rattle.dl_field.specs.declared.table_reader.TablePhase.TheVariants as table
 use Rattle.dl_field.specs.declared.value_phase.ValuePhase.TheVariants as value
 use Rattle.dl_table.specs.declared.form.Format.{Format}
-use Rattle.dl_table.specs.declared.table.Pair.{Pair}
 use Rattle.dl_table.specs.declared.fault.FaultKind.{FaultKind}
 use Rattle.dl_table.specs.TableData.{TableData}
 use Rattle.dl_field.specs.HeaderData.{HeaderData}
-use Rattle.dl_table.specs.Value.{Value, Judgement}
 use Rattle.dl_field.specs.Layout.{Layout, initial_length_then, number_then, form_then, value_then, foreign_version}
-use Rattle.dl_field.specs.Layout.{last_entry, Item, following_all, field_spelt, entry_layout}
+use Rattle.dl_field.specs.Layout.{last_entry, Item, following_all}
 use Rattle.dl_head.specs.HeaderLayout.{header_layout, from_end}
 use Rattle.dl_head.specs.Header.{Cut, cut, header_end, unit_end, foreign_made, foreign_in, IsHeader}
-use Rattle.dl_head.specs.Refusal.{or_else, bad_kind, field_overrun, header_overrun, cut_decided, header_decided}
+use Rattle.dl_head.specs.Refusal.{field_overrun, header_overrun, header_decided}
 use Rattle.dl_head.specs.HeadStep.{end_near}
 use Rattle.dl_field.specs.TablePlace.{TableAt}
 use Rattle.dl_head.specs.Place.{AtStart, Early, Past, AtPhase, At, length_item}
 use Rattle.dl_num.specs.NumberBytes.{number_bytes}
-use Rattle.dl_head.specs.Standing.{Below, Live, ending}
+use Rattle.dl_head.specs.Standing.{Below, IsRead, Live, ending}
 use Rattle.dl_head.specs.Reading.{Answers}
 use Rattle.dl_field.proofs.FieldLemmas.{none_some}
 use Rattle.dl_head.proofs.CutLemmas.{cut_of, cut_sound, Sound}
@@ -224,38 +220,32 @@ countable r b l = on r.end refl l.below r.near where
   on (Some e) is below near = let le : e ≤ 2 ^ 41 = leb-true e (2 ^ 41) near in omega (arith, below, le)
   on None is below near =
       let i = (known_of r r.phase l.items l.rest refl l.at).initial is in
-      let whole = no_fields r.dialect b l.rest (l.cut_is ∙ ap (λ (k : List Item). cut_of k l.rest) i.0) in
+      let whole = no_fields r.dialect b l.rest (l.read.cut_is ∙ ap (λ (k : List Item). cut_of k l.rest) i.0) in
       omega (arith, ap length whole, i.1)
 
 -- ---- what a cut decides
 
 -- bytes that end inside a field, before the end, decide nothing
-pub quiet_at : (r : HeadReader) (b : List ℕ) (items : List Item) (rest : List ℕ) → cut r.dialect b ≡ cut_of items rest
-    → EndIs r items
-    → field_spelt r.dialect.order (following_all (header_layout r.dialect) items) rest ≡ None → Below (length b) r.end
-    → header_decided r.dialect b ≡ None
-quiet_at r b items rest e end none below =
-    quiet r.dialect b items rest e none
+pub quiet_at : (r : HeadReader) (b : List ℕ) {items : List Item} {rest : List ℕ} → IsRead r.dialect b items rest
+    → EndIs r items → Below (length b) r.end → header_decided r.dialect b ≡ None
+quiet_at r b {items} {rest} read end below =
+    quiet r.dialect b items rest read.cut_is read.unjudged
     (overrun_at (length b) items ∙ not_at_end (overrun_from items) (length b) (end_from items)
     (subst (λ (o : Option ℕ). Below (length b) o) end.end below))
 
 -- a header that goes on decides nothing
 pub live_quiet : (r : HeadReader) (b : List ℕ) → Live r b → header_decided r.dialect b ≡ None
-live_quiet r b l = quiet_at r b l.items l.rest l.cut_is (end_is r l.items l.rest l.at) l.unjudged l.below
+live_quiet r b l = quiet_at r b l.read (end_is r l.items l.rest l.at) l.below
 
 -- bytes that end inside a field are refused
-pub overruns : (r : HeadReader) (b : List ℕ) (items : List Item) (rest : List ℕ) → cut r.dialect b ≡ cut_of items rest
-    → EndIs r items → IsNext (following_all (header_layout r.dialect) items)
-    → field_spelt r.dialect.order (following_all (header_layout r.dialect) items) rest ≡ None → r.end ≡ Some (length b)
+pub overruns : (r : HeadReader) (b : List ℕ) {items : List Item} {rest : List ℕ} → IsRead r.dialect b items rest
+    → EndIs r items → IsNext (following_all (header_layout r.dialect) items) → r.end ≡ Some (length b)
     → header_decided r.dialect b ≡ Some r.overrun
-overruns r b items rest e end next none is =
-    ap (λ (c : Cut). cut_decided r.dialect (length b) c) e
-    ∙ ap (λ (o : Judgement Item). or_else (bad_kind o)
-    (header_overrun (length b) items (following_all (header_layout r.dialect) items))) none
-    ∙ next_overrun (length b) items (following_all (header_layout r.dialect) items) next
-    ∙ overrun_at (length b) items
+overruns r b {items} {rest} read end next is =
+    rw (read.cut_is, read.unjudged, next_overrun (length b) items (following_all (header_layout r.dialect) items) next)
+    (overrun_at (length b) items
     ∙ just_at_end (overrun_from items) (length b) (end_from items) (sym end.end ∙ is)
-    ∙ ap (λ (k : FaultKind). Some k) (sym end.overrun)
+    ∙ ap (λ (k : FaultKind). Some k) (sym end.overrun))
 
 -- ---- what a header that goes on answers
 
@@ -266,18 +256,17 @@ header_items dialect h b items rest w e =
     ap (λ (c : Cut). c.items) (sym e ∙ ap (λ (z : List ℕ). cut dialect z) (sym (append-nil b))
     ∙ header_cut dialect h b [] w)
 
-not_header : (r : HeadReader) (b : List ℕ) (items : List Item) (rest : List ℕ) (h : HeaderData)
-    → cut r.dialect b ≡ cut_of items rest → EndIs r items
-    → Below (length b) r.end → IsHeader r.dialect h b → ⊥
-not_header r b items rest h e end below w =
+not_header : (r : HeadReader) (b : List ℕ) {items : List Item} {rest : List ℕ} (h : HeaderData)
+    → IsRead r.dialect b items rest → EndIs r items → Below (length b) r.end → IsHeader r.dialect h b → ⊥
+not_header r b {items} {rest} h read end below w =
     let whole : header_end items ≡ Some (length b) =
-    ap header_end (header_items r.dialect h b items rest w e) ∙ w.end in
+    ap header_end (header_items r.dialect h b items rest w read.cut_is) ∙ w.end in
     let at : r.end ≡ Some (length b) = end.end ∙ ap (λ (o : Option ℕ). first_end o (unit_end items)) whole in
     let lt : length b < length b = subst (λ (o : Option ℕ). Below (length b) o) at below in omega arith
 
-foreign_of : (dialect : Dialect) (b : List ℕ) (items : List Item) (rest : List ℕ) → cut dialect b ≡ cut_of items rest
+foreign_of : {dialect : Dialect} {b : List ℕ} {items : List Item} {rest : List ℕ} → IsRead dialect b items rest
     → foreign_in dialect b ≡ foreign_made (following_all (header_layout dialect) items)
-foreign_of dialect b items rest e = ap (λ (c : Cut). foreign_made (following_all (header_layout dialect) c.items)) e
+foreign_of {dialect} read = ap (λ (c : Cut). foreign_made (following_all (header_layout dialect) c.items)) read.cut_is
 
 pub not_foreign : (r : HeadReader) (p : Phase) (items : List Item) → ending p ≡ None → Place r p items
     → foreign_made (following_all (header_layout r.dialect) items) ≡ None
@@ -286,21 +275,21 @@ not_foreign r p items goes (in_field none out next) =
 not_foreign r p items goes (in_padding is tail) = ap foreign_made tail.follows
 not_foreign r p items goes (in_foreign v is follows) = absurd (none_some goes (ap ending is))
 
--- bytes that end inside a field, before the end, come to nothing
-pub field_more : (r : HeadReader) (b : List ℕ) (items : List Item) (rest : List ℕ) → cut r.dialect b ≡ cut_of items rest
-    → EndIs r items → IsNext (following_all (header_layout r.dialect) items)
-    → field_spelt r.dialect.order (following_all (header_layout r.dialect) items) rest ≡ None → Below (length b) r.end
+-- bytes that end before the end, where no foreign version stands next, come to nothing
+more_at : (r : HeadReader) (b : List ℕ) {items : List Item} {rest : List ℕ} → IsRead r.dialect b items rest
+    → EndIs r items → foreign_made (following_all (header_layout r.dialect) items) ≡ None → Below (length b) r.end
     → Answers r.dialect b answer.More
-field_more r b items rest e end next none below = (
-  λ h w. not_header r b items rest h e end below w,
-  foreign_of r.dialect b items rest e ∙ next_not_foreign (following_all (header_layout r.dialect) items) next,
-  λ at kind w. none_some (quiet_at r b items rest e end none below) w.decided,
+more_at r b read end own below = (
+  λ h w. not_header r b h read end below w,
+  foreign_of read ∙ own,
+  λ at kind w. none_some (quiet_at r b read end below) w.decided,
 )
 
+pub field_more : (r : HeadReader) (b : List ℕ) {items : List Item} {rest : List ℕ} → IsRead r.dialect b items rest
+    → EndIs r items → IsNext (following_all (header_layout r.dialect) items) → Below (length b) r.end
+    → Answers r.dialect b answer.More
+field_more r b read end next below = more_at r b read end (next_not_foreign _ next) below
+
 pub live_more : (r : HeadReader) (b : List ℕ) → ending r.phase ≡ None → Live r b → Answers r.dialect b answer.More
-live_more r b goes l = (
-  λ h w. not_header r b l.items l.rest h l.cut_is (end_is r l.items l.rest l.at) l.below w,
-  foreign_of r.dialect b l.items l.rest l.cut_is ∙ not_foreign r r.phase l.items goes
-      (place_of r l.items l.rest l.at),
-  λ at kind w. none_some (live_quiet r b l) w.decided,
-)
+live_more r b goes l = more_at r b l.read (end_is r l.items l.rest l.at)
+    (not_foreign r r.phase l.items goes (place_of r l.items l.rest l.at)) l.below

@@ -12,21 +12,19 @@ use Rattle.dl_field.specs.Cells.{rest_cells}
 use Rattle.dl_field.specs.FieldRuns.{EndEach}
 use Rattle.dl_field.specs.Layout.{Layout, Item, following, following_all, field_spelt}
 use Rattle.dl_field.specs.TablePlace.{field_cells}
-use Rattle.dl_field.proofs.FieldLemmas.{field_empty, following_all-append}
+use Rattle.dl_field.proofs.FieldLemmas.{following_all-append}
 use Rattle.dl_head.specs.declared.dialect.Dialect.{Dialect}
 use Rattle.dl_head.specs.declared.reader.HeadReader.{HeadReader}
 use Rattle.dl_head.specs.declared.reader.HeadStep.TheVariants as answer
 use Rattle.dl_head.specs.Cells.{cells}
-use Rattle.dl_head.specs.Header.{cut}
 use Rattle.dl_head.specs.HeaderLayout.{header_layout}
 use Rattle.dl_head.specs.Place.{Past, At, SameCounts, held_cells}
 use Rattle.dl_head.specs.Reading.{Answers}
-use Rattle.dl_head.specs.Refusal.{header_decided, NothingBefore}
-use Rattle.dl_head.specs.Standing.{Below, Live, Unmade, ending, StandsFor}
+use Rattle.dl_head.specs.Standing.{Below, IsRead, Live, Unmade, ending, StandsFor}
 use Rattle.dl_head.specs.Whole.{IsInside, TakesAll, TakesFieldsOf, TakesValues}
 use Rattle.dl_head.proofs.ByteCounted.{goes_on}
-use Rattle.dl_head.proofs.CutLemmas.{cut_of}
-use Rattle.dl_head.proofs.HeaderEnds.{UpTo, EndsWithin, after_end}
+use Rattle.dl_head.proofs.HeaderEnds.{UpTo, after_end}
+use Rattle.dl_head.proofs.TakenBytes.{IsNext}
 use Rattle.dl_head.proofs.MovedReader.{Moved}
 use Rattle.dl_head.proofs.OneByteMore.{goes_more, live_of, kept_stands}
 use Rattle.dl_head.proofs.OneFieldMore.{past_more}
@@ -49,11 +47,8 @@ module _ (r : HeadReader) where
   pub record Among (b rest : List ℕ) (items : List Item) (n : ℕ) : Type 0 where
     pub layout : Layout
     pub past : Past r items layout
-    pub cut_is : cut r.dialect b ≡ cut_of items rest
-    pub unjudged : field_spelt r.dialect.order (layout_of items) rest ≡ None
-    pub nothing_before : NothingBefore (header_decided r.dialect) b
+    pub read : IsRead r.dialect b items rest
     pub below : Below (length b) r.end
-    pub ends_within : EndsWithin items
     pub cells_are : n ≡ cells r.dialect b
 
   -- and no front of the bytes w after b comes to anything
@@ -70,26 +65,24 @@ module _ (r : HeadReader) where
     among = record {
       layout = following a.layout i;
       past = past_more i a.past;
-      cut_is = passed.cut_is;
-      unjudged = field_empty r.dialect.order (layout_of (items ++ i ∷ []));
-      nothing_before = passed.nothing_before;
+      read = passed.read;
       below = subst (λ (k : ℕ). Below k r.end) (sym (length-append b w)) below;
-      ends_within = passed.ends_within;
       cells_are = omega (
         arith,
         adds,
         a.cells_are,
-        cells_good_on r.dialect b (b ++ w) items rest (rest ++ w) i a.cut_is passed.cut_is spelt,
+        cells_good_on r.dialect b (b ++ w) items rest (rest ++ w) i a.read.cut_is passed.read.cut_is spelt,
       );
     };
     more = passed.more;
   } where
-    passed : Passed r items (after_end r items a.layout a.past)
-        (good_next r.dialect.order (layout_of items) (rest ++ w) i spelt) b rest w i
-    passed = passes r items (after_end r items a.layout a.past)
-        (good_next r.dialect.order (layout_of items) (rest ++ w) i spelt) w b rest i
-        (record { cut_is = a.cut_is; unjudged = a.unjudged; nothing_before = a.nothing_before; below = a.below })
-        a.ends_within spelt (below_less (length b + length w) (length b + (length w - 1)) r.end (omega arith) below)
+    next : IsNext (layout_of items)
+    next = good_next r.dialect.order (layout_of items) (rest ++ w) i spelt
+
+    passed : Passed r items (after_end r items a.layout a.past) next b rest w i
+    passed = passes r items (after_end r items a.layout a.past) next w b rest i
+        (record { read = a.read; below = a.below }) spelt
+        (below_less (length b + length w) (length b + (length w - 1)) r.end (omega arith) below)
 
   fronts : (b v w : List ℕ) → ((j : ℕ) → j < length v → Answers r.dialect (b ++ take j v) answer.More)
       → ((j : ℕ) → j < length w → Answers r.dialect ((b ++ v) ++ take j w) answer.More) → (j : ℕ) → j < length (v ++ w)
@@ -250,11 +243,8 @@ values_whole r mid g b piece bytes used t inside some le v counts count s more =
     run = values_on r v.values f.more b l.0.rest f.left l.0.items (held_cells r) (held_cells mid) (record {
       layout = past.0;
       past = past.1;
-      cut_is = l.0.cut_is;
-      unjudged = l.0.unjudged;
-      nothing_before = l.0.nothing_before;
+      read = l.0.read;
       below = l.0.below;
-      ends_within = l.0.ends_within;
       cells_are = l.1.cells_are;
     }) f.ends (subst (λ (o : Option ℕ). Below (length b + length w) o) (sym past.1.end)
         (omega (arith, lt, size, le, s.taken)))
@@ -266,16 +256,11 @@ values_whole r mid g b piece bytes used t inside some le v counts count s more =
     moved = record {
       items = l.0.items ++ f.more;
       rest = [];
-      cut_is = subst (λ (d : Dialect). cut d (b ++ w) ≡ cut_of (l.0.items ++ f.more) []) (sym counts.dialect)
-          among.cut_is;
+      read = subst (λ (d : Dialect). IsRead d (b ++ w) (l.0.items ++ f.more) []) (sym counts.dialect) among.read;
       at = subst (λ (x : List ℕ). At mid (l.0.items ++ f.more) x) ended.1 f.at;
-      unjudged = field_empty new.dialect.order (following_all (header_layout new.dialect) (l.0.items ++ f.more));
       start_is = omega (arith, taken);
       up_to = up_to_of (length (b ++ w)) new.end
           (subst (λ (o : Option ℕ). Below (length (b ++ w)) o) (sym v.end) among.below);
-      nothing_before = subst (λ (d : Dialect). NothingBefore (header_decided d) (b ++ w)) (sym counts.dialect)
-          among.nothing_before;
-      ends_within = among.ends_within;
       unmade = record {
         header = counts.header ∙ l.1.header;
         cells_are = among.cells_are ∙ ap (λ (d : Dialect). cells d (b ++ w)) (sym counts.dialect);

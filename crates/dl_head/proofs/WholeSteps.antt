@@ -14,20 +14,18 @@ use Rattle.dl_table.specs.Value.{good}
 use Rattle.dl_field.specs.Layout.{Layout, initial_length_then, number_then, form_then, value_then, path_or_end}
 use Rattle.dl_field.specs.Layout.{foreign_version, last_entry, Item, following_all, field_spelt}
 use Rattle.dl_head.specs.HeaderLayout.{header_layout}
-use Rattle.dl_head.specs.Header.{cut}
-use Rattle.dl_head.specs.Refusal.{header_decided, NothingBefore}
-use Rattle.dl_head.specs.Cells.{cells}
+use Rattle.dl_head.specs.Refusal.{header_decided}
 use Rattle.dl_field.specs.TableMoves.{Adds}
 use Rattle.dl_head.specs.Place.{Made, held_cells}
-use Rattle.dl_head.specs.Standing.{Below, Live, Unmade, StandsFor}
+use Rattle.dl_head.specs.Standing.{Below, IsRead, Live, Unmade, StandsFor}
 use Rattle.dl_head.specs.Reading.{Answers}
 use Rattle.dl_head.specs.Whole.{TakesAll}
-use Rattle.dl_field.proofs.FieldLemmas.{none_some, field_empty}
-use Rattle.dl_head.proofs.CutLemmas.{cut_of, cut_within, cut_good, before_none}
-use Rattle.dl_head.proofs.HeaderEnds.{end_from, UpTo, EndIs, EndsWithin, room_on, ends_on}
+use Rattle.dl_field.proofs.FieldLemmas.{none_some}
+use Rattle.dl_head.proofs.CutLemmas.{before_none}
+use Rattle.dl_head.proofs.HeaderEnds.{end_from, UpTo, EndIs, room_on}
 use Rattle.dl_head.proofs.TakenBytes.{IsNext, end_is, quiet_at, field_more}
 use Rattle.dl_head.proofs.StepCells.{cells_good_on}
-use Rattle.dl_head.proofs.MovedReader.{Moved, nothing_on}
+use Rattle.dl_head.proofs.MovedReader.{Moved, read_within, read_ends}
 use Rattle.dl_head.proofs.TurnLemmas.{joined}
 use Rattle.dl_head.proofs.OfferLemmas.{Offering}
 
@@ -54,64 +52,53 @@ module _ (r : HeadReader) (items : List Item) (end : EndIs r items)
 
     -- b ends inside the field
     pub record Passing (b rest : List ℕ) : Type 0 where
-      pub cut_is : cut r.dialect b ≡ cut_of items rest
-      pub unjudged : field_spelt r.dialect.order layout rest ≡ None
-      pub nothing_before : NothingBefore (header_decided r.dialect) b
+      pub read : IsRead r.dialect b items rest
       pub below : Below (length b) r.end
 
     -- w ends it
     pub record Passed (b rest w : List ℕ) (i : Item) : Type 0 where
-      pub cut_is : cut r.dialect (b ++ w) ≡ cut_of (items ++ i ∷ []) []
-      pub nothing_before : NothingBefore (header_decided r.dialect) (b ++ w)
+      pub read : IsRead r.dialect (b ++ w) (items ++ i ∷ []) []
       pub up_to : UpTo (length (b ++ w)) (end_from (items ++ i ∷ []))
-      pub ends_within : EndsWithin (items ++ i ∷ [])
       pub more : (j : ℕ) → j < length w → Answers r.dialect (b ++ take j w) answer.More
 
     more_at : (b rest : List ℕ) → Passing b rest → Answers r.dialect (b ++ []) answer.More
-    more_at b rest p = subst (λ (l : List ℕ). Answers r.dialect l answer.More) (sym (append-nil b))
-        (field_more r b items rest p.cut_is end next p.unjudged p.below)
+    more_at b rest p = rw (append-nil b) (field_more r b p.read end next p.below)
 
     quiet_here : (b rest : List ℕ) → Passing b rest → header_decided r.dialect b ≡ None
-    quiet_here b rest p = quiet_at r b items rest p.cut_is end p.unjudged p.below
+    quiet_here b rest p = quiet_at r b p.read end p.below
 
-    pub passes : (w b rest : List ℕ) (i : Item) → Passing b rest → EndsWithin items
+    pub passes : (w b rest : List ℕ) (i : Item) → Passing b rest
         → field_spelt r.dialect.order layout (rest ++ w) ≡ good i → Below (length b + (length w - 1)) r.end
         → Passed b rest w i
-    passes [] b rest i p ends spelt below = absurd
-        (none_some p.unjudged (ap (λ (l : List ℕ). field_spelt r.dialect.order layout l)
+    passes [] b rest i p spelt below = absurd
+        (none_some p.read.unjudged (ap (λ (l : List ℕ). field_spelt r.dialect.order layout l)
         (sym (append-nil rest)) ∙ spelt))
-    passes (x ∷ []) b rest i p ends spelt below =
+    passes (x ∷ []) b rest i p spelt below =
         let here = subst (λ (o : Option ℕ). Below (length b) o) end.end p.below in
         record {
-          cut_is = cut_good r.dialect b x items rest i p.cut_is spelt;
-          nothing_before = nothing_on r.dialect b x p.nothing_before (quiet_here b rest p);
-          up_to = room_on r.dialect b x items rest i p.cut_is spelt here;
-          ends_within = ends_on r.dialect b x items rest i p.cut_is spelt here ends;
+          read = read_ends x i p.read (quiet_here b rest p) spelt here;
+          up_to = room_on r.dialect b x items rest i p.read.cut_is spelt here;
           more = λ j lt. subst (λ (k : ℕ). Answers r.dialect (b ++ take k (x ∷ [])) answer.More)
               (let e : 0 ≡ j = omega (arith, lt) in e) (more_at b rest p);
         }
-    passes (x ∷ y ∷ w) b rest i p ends spelt below =
+    passes (x ∷ y ∷ w) b rest i p spelt below =
         let longer : (rest ++ x ∷ []) ++ y ∷ w ≡ rest ++ x ∷ y ∷ w = append_assoc rest (x ∷ []) (y ∷ w) in
         let later : field_spelt r.dialect.order layout ((rest ++ x ∷ []) ++ y ∷ w) ≡ good i =
         ap (λ (l : List ℕ). field_spelt r.dialect.order layout l) longer ∙ spelt in
         let unjudged = before_none r.dialect.order layout (rest ++ x ∷ []) y w (Ok i) later in
         let on : Passing (b ++ x ∷ []) (rest ++ x ∷ []) = record {
-          cut_is = cut_within r.dialect b x items rest p.cut_is unjudged;
-          unjudged = unjudged;
-          nothing_before = nothing_on r.dialect b x p.nothing_before (quiet_here b rest p);
+          read = read_within x p.read (quiet_here b rest p) unjudged;
           below = below_less (length b + (length (x ∷ y ∷ w) - 1)) (length (b ++ x ∷ [])) r.end
               (omega (arith, length-append b (x ∷ []))) below;
         } in
-        let q = passes (y ∷ w) (b ++ x ∷ []) (rest ++ x ∷ []) i on ends later
+        let q = passes (y ∷ w) (b ++ x ∷ []) (rest ++ x ∷ []) i on later
         (subst (λ (n : ℕ). Below n r.end)
         (let e : length b + (length (x ∷ y ∷ w) - 1) ≡ length (b ++ x ∷ [])
         + (length (y ∷ w) - 1) = omega (arith, length-append b (x ∷ [])) in e) below) in
         let same = append_assoc b (x ∷ []) (y ∷ w) in
         record {
-          cut_is = ap (λ (l : List ℕ). cut r.dialect l) (sym same) ∙ q.cut_is;
-          nothing_before = subst (λ (l : List ℕ). NothingBefore (header_decided r.dialect) l) same q.nothing_before;
+          read = subst (λ (l : List ℕ). IsRead r.dialect l (items ++ i ∷ []) []) same q.read;
           up_to = subst (λ (l : List ℕ). UpTo (length l) (end_from (items ++ i ∷ []))) same q.up_to;
-          ends_within = q.ends_within;
           more = fronts (more_at b rest p) q.more;
         }
       where
@@ -155,26 +142,20 @@ whole_moved r fin b w l made adds dialect header start taken below = record {
   moved = record {
     items = items ++ made.0 ∷ [];
     rest = [];
-    cut_is = subst (λ (d : Dialect). cut d (b ++ w) ≡ cut_of (items ++ made.0 ∷ []) []) (sym dialect) passed.cut_is;
+    read = subst (λ (d : Dialect). IsRead d (b ++ w) (items ++ made.0 ∷ []) []) (sym dialect) passed.read;
     at = made.2;
-    unjudged = field_empty fin.dialect.order (following_all (header_layout fin.dialect) (items ++ made.0 ∷ []));
     start_is = omega (arith, size, start);
     up_to = subst (λ (o : Option ℕ). UpTo (length (b ++ w)) o)
         (sym (end_is fin (items ++ made.0 ∷ []) [] made.2).end) passed.up_to;
-    nothing_before = subst (λ (d : Dialect). NothingBefore (header_decided d) (b ++ w)) (sym dialect)
-        passed.nothing_before;
-    ends_within = passed.ends_within;
     unmade = record {
       header = header ∙ l.1.header;
-      cells_are =
-          (let e : held_cells fin ≡ cells r.dialect (b ++ w) = omega (
-            arith,
-            adds,
-            l.1.cells_are,
-            cells_good_on r.dialect b (b ++ w) items l.0.rest (l.0.rest ++ w) made.0 l.0.cut_is
-                passed.cut_is made.1,
-          ) in e)
-          ∙ ap (λ (d : Dialect). cells d (b ++ w)) (sym dialect);
+      cells_are = rw dialect (omega (
+        arith,
+        adds,
+        l.1.cells_are,
+        cells_good_on r.dialect b (b ++ w) items l.0.rest (l.0.rest ++ w) made.0 l.0.read.cut_is
+            passed.read.cut_is made.1,
+      ));
     };
     taken_is = taken ∙ sym size;
   };
@@ -191,8 +172,7 @@ whole_moved r fin b w l made adds dialect header start taken below = record {
 
   passed : Passed r items here next b l.0.rest w made.0
   passed = passes r items here next w b l.0.rest made.0
-      (record { cut_is = l.0.cut_is; unjudged = l.0.unjudged; nothing_before = l.0.nothing_before; below = l.0.below })
-      l.0.ends_within made.1 below
+      (record { read = l.0.read; below = l.0.below }) made.1 below
 
   size : length (b ++ w) ≡ length b + length w
   size = length-append b w

@@ -15,14 +15,12 @@ use Rattle.dl_num.proofs.LebFrontLemmas.{true_false}
 use Rattle.dl_table.specs.declared.form.Format.{Format}
 use Rattle.dl_table.specs.declared.form.Format.TheVariants.{Dwarf32, Dwarf64}
 use Rattle.dl_field.specs.declared.params.Params.{Params}
-use Rattle.dl_table.specs.TableData.{TableData}
 use Rattle.dl_field.specs.HeaderData.{HeaderData}
 use Rattle.dl_table.specs.Value.{offset_size}
-use Rattle.dl_field.specs.Layout.{Layout, number_then, last_entry, number_is, length_is, following, any_byte}
-use Rattle.dl_field.specs.Layout.{address_size, maximum_operations, line_range, opcode_base, opcode_length}
+use Rattle.dl_field.specs.Layout.{Layout, number_then, last_entry, number_is, length_is, following}
+use Rattle.dl_field.specs.Layout.{address_size, opcode_length}
 use Rattle.dl_field.specs.Layout.{header_length, objection, NumberField, number_size, table_layout}
-use Rattle.dl_head.specs.HeaderLayout.{signed_byte, lengths_layout, tables_layout, from_lengths, from_opcode_base}
-use Rattle.dl_head.specs.HeaderLayout.{from_line_range, from_line_base, from_default_is_stmt, from_maximum_operations}
+use Rattle.dl_head.specs.HeaderLayout.{signed_byte, lengths_layout, tables_layout, from_lengths}
 use Rattle.dl_head.specs.HeaderLayout.{from_files, from_end}
 use Rattle.dl_head.specs.HeaderLayout.{from_minimum_length, from_header_length, from_segment_selector_size}
 use Rattle.dl_head.specs.HeaderLayout.{from_address_size, format_alone, header_layout, fixed_part, initial_size}
