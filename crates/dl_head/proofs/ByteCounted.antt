@@ -1,7 +1,6 @@
 -- What the bytes come to once the last one is counted.
 use Rattle.std.proofs.Common.{◌≤◌, ◌≡◌, ◌≢◌, ℕ, ◌+◌, ◌⊎◌, inl, inr, List, [], length, Option, Some, None, refl, sym, ap}
-use Rattle.std.proofs.Common.{Bool, true, false, not, eqb, ◌==◌}
-use Rattle.std.proofs.Common.{subst, ◌∙◌, arith}
+use Rattle.std.proofs.Common.{Bool, true, false, not, eqb, ◌==◌, subst, ◌∙◌, arith}
 use Rattle.std.proofs.lemmas.Bool.{cases_eq, eq-eqb}
 use Rattle.dl_head.specs.declared.dialect.Dialect.{Dialect}
 use Rattle.std.specs.Option.{option_eq}
@@ -25,8 +24,8 @@ use Rattle.dl_head.specs.Reading.{Answers}
 use Rattle.dl_field.proofs.FieldLemmas.{none_some}
 use Rattle.dl_head.proofs.CutLemmas.{cut_of, cut_sound, Sound}
 use Rattle.dl_head.proofs.HeaderEnds.{end_from, EndsWithin, of_unit, EndIs, UpTo}
-use Rattle.dl_head.proofs.TakenBytes.{end_is}
-use Rattle.dl_head.proofs.TakenBytes.{IsNext, Place, in_field, in_padding, in_foreign, place_of, live_more, overruns}
+use Rattle.dl_head.proofs.TakenBytes.{end_is, IsNext, Place, in_field, in_padding, in_foreign, place_of, live_more}
+use Rattle.dl_head.proofs.TakenBytes.{overruns}
 use Rattle.dl_head.proofs.MovedReader.{Moved}
 
 pub same_reader : (r fin : HeadReader) (b : List ℕ) (a result : HeadStep) → Answers r.dialect b a × StandsFor r b

@@ -1,17 +1,17 @@
 -- A header holds no more cells than it has bytes, and in the end those of its tables.
 use Rattle.std.proofs.Common.{◌≡◌, ℕ, ◌+◌, ◌-◌, ◌^◌, ◌≤◌, true, nat_lt, nat_le, ◌&&◌, ◌==◌, if◌then◌else◌, List, []}
-use Rattle.std.proofs.Common.{Bool, false, Option, Some, sym, ◌∙◌, ◌⊎◌, ◌∷◌, length, take, drop}
-use Rattle.std.proofs.Common.{None, Ok, refl, ap, arith, inl, inr, length-append, sum_by}
+use Rattle.std.proofs.Common.{Bool, false, Option, Some, sym, ◌∙◌, ◌⊎◌, ◌∷◌, length, take, drop, None, Ok, refl, ap}
+use Rattle.std.proofs.Common.{arith, inl, inr, length-append, sum_by}
 use Rattle.std.proofs.lemmas.Bool.{cases_lt, cases_Bool, lt-ltb, le-ltb, le-leb, lt-leb, eqb-true, cases_eq, eq-eqb}
 use Rattle.std.proofs.lemmas.Bool.{ne_eqb}
 use Rattle.std.proofs.lemmas.List.{length-take-le, length-drop}
 use Rattle.std.proofs.lemmas.List.Sums.{sum_by-cons}
 use Rattle.dl_num.specs.declared.fixed.Order.{Order}
-use Rattle.dl_field.specs.Layout.{path_or_end}
-use Rattle.dl_field.specs.Layout.{listed_from, end_is, value_is, path_judged}
-use Rattle.dl_field.proofs.GoodLemmas.{good_item}
-use Rattle.dl_head.specs.HeaderLayout.{initial_size}
-use Rattle.dl_head.specs.HeaderLayout.{from_older_version, older_params, format_alone}
+use Rattle.dl_field.specs.Layout.{path_or_end, listed_from, end_is, value_is, path_judged, Layout, initial_length_then}
+use Rattle.dl_field.specs.Layout.{number_then, form_then, value_then, foreign_version, last_entry, Item, following}
+use Rattle.dl_field.specs.Layout.{following_all, field_spelt}
+use Rattle.dl_field.proofs.GoodLemmas.{good_item, good_value, good_if, leb_some, bad_good, is_form, value_item}
+use Rattle.dl_head.specs.HeaderLayout.{initial_size, from_older_version, older_params, format_alone, header_layout}
 use Rattle.dl_head.specs.Dialect.{older_size}
 use Rattle.dl_head.specs.declared.dialect.Dialect.{Dialect}
 use Rattle.dl_num.specs.Fixed.{fixed}
@@ -25,9 +25,6 @@ use Rattle.dl_table.specs.declared.form.Form.{Form}
 use Rattle.dl_table.specs.declared.form.Form.TheVariants as form
 use Rattle.dl_table.specs.Value.{Value, text, line_str, str, str_sup, number, block, data16, good, bad, is_text}
 use Rattle.dl_table.specs.Value.{text_spelt, block_spelt, leb_spelt, leb_block_spelt, value_spelt, offset_size}
-use Rattle.dl_field.specs.Layout.{Layout, initial_length_then, number_then, form_then, value_then, foreign_version}
-use Rattle.dl_field.specs.Layout.{last_entry, Item, following, following_all, field_spelt}
-use Rattle.dl_head.specs.HeaderLayout.{header_layout}
 use Rattle.dl_head.specs.Header.{SpellsFields, cut}
 use Rattle.dl_table.specs.TableCells.{value_cells}
 use Rattle.dl_field.specs.Cells.{item_cells, begun_block, begun_leb_block, begun_cells, rest_cells}
@@ -35,7 +32,6 @@ use Rattle.dl_head.specs.Laws.{FewCells}
 use Rattle.dl_field.proofs.FieldLemmas.{none_some}
 use Rattle.dl_head.proofs.CutLemmas.{cut_sound, Sound}
 use Rattle.dl_head.proofs.FirstFields.{Leads, leads_entry, leads_late, is_length, is_number}
-use Rattle.dl_field.proofs.GoodLemmas.{good_value, good_if, leb_some, bad_good, is_form, value_item}
 
 -- ---- a field holds no more cells than it has bytes
 

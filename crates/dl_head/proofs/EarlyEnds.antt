@@ -1,26 +1,21 @@
 -- Where a header and its unit end, by the fields up to header_length, and how many bytes these take.
 use Rattle.std.proofs.Common.{◌≡◌, ℕ, ◌+◌, ◌-◌, ◌<◌, ◌≤◌, inl, inr, ◌≢◌, List, [], ◌∷◌, ◌++◌, length, Option, Some}
-use Rattle.std.proofs.Common.{None, Ok}
-use Rattle.std.proofs.Common.{refl, sym, ap, subst, ◌∙◌, arith, length-append, append_assoc}
+use Rattle.std.proofs.Common.{None, Ok, refl, sym, ap, subst, ◌∙◌, arith, length-append, append_assoc}
 use Rattle.std.proofs.lemmas.Bool.{ne_eqb, eq-eqb, cases_eq}
 use Rattle.dl_num.specs.declared.fixed.Order.{Order}
-use Rattle.dl_field.specs.Layout.{end_is}
+use Rattle.dl_field.specs.Layout.{end_is, NumberField, version, address_size, any_byte, header_length, Layout}
+use Rattle.dl_field.specs.Layout.{number_then, Item, length_is, number_is, form_is, value_is, following, following_all}
+use Rattle.dl_field.specs.Layout.{number_size, sized_spelt, number_judged}
 use Rattle.dl_head.specs.declared.dialect.Dialect.{Dialect}
 use Rattle.dl_table.specs.declared.fault.FaultKind.{FaultKind}
 use Rattle.dl_table.specs.declared.fault.FaultKind.TheVariants as fault
 use Rattle.dl_table.specs.declared.form.Format.{Format}
 use Rattle.dl_table.specs.Value.{offset_size}
-use Rattle.dl_field.specs.Layout.{NumberField, version, address_size, any_byte, header_length, Layout, number_then}
-use Rattle.dl_field.specs.Layout.{Item, length_is, number_is, form_is, value_is, following}
-use Rattle.dl_field.specs.Layout.{following_all, number_size, sized_spelt, number_judged}
-use Rattle.dl_head.specs.HeaderLayout.{header_layout, initial_size, fixed_part, from_minimum_length}
-use Rattle.dl_head.specs.Header.{SpellsFields, unit_end, header_end}
+use Rattle.dl_head.specs.HeaderLayout.{header_layout, initial_size, fixed_part, from_minimum_length, older_params}
+use Rattle.dl_head.specs.Header.{SpellsFields, unit_end, header_end, own_end, older_end}
 use Rattle.dl_head.specs.Refusal.{at_end, field_overrun}
 use Rattle.dl_field.proofs.FieldLemmas.{none_some, sized_length}
-use Rattle.dl_head.specs.HeaderLayout.{older_params}
-use Rattle.dl_head.specs.Header.{own_end, older_end}
-use Rattle.dl_head.proofs.Openings.{Opening, numbered, after_length, after_address, after_segment}
-use Rattle.dl_head.proofs.Openings.{after_header}
+use Rattle.dl_head.proofs.Openings.{Opening, numbered, after_length, after_address, after_segment, after_header}
 use Rattle.dl_head.proofs.FirstFields.{is_length}
 
 -- ---- the ends, by the values of the fields

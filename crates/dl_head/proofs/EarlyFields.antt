@@ -11,24 +11,22 @@ use Rattle.dl_table.specs.declared.form.Format.TheVariants.{Dwarf32, Dwarf64}
 use Rattle.dl_field.specs.declared.field_step.FieldStep.{FieldStep}
 use Rattle.dl_field.specs.declared.field_step.FieldStep.TheVariants as byte_makes
 use Rattle.dl_head.specs.HeaderLayout.{older_params, from_older_version, from_header_length, from_address_size}
+use Rattle.dl_head.specs.HeaderLayout.{format_alone, header_layout, initial_size, fixed_part, from_minimum_length}
 use Rattle.dl_head.specs.Dialect.{older_size}
-use Rattle.dl_head.specs.HeaderLayout.{format_alone}
-use Rattle.dl_head.specs.Place.{IsOlder, IsOfVersion, IsBefore}
+use Rattle.dl_head.specs.Place.{IsOlder, IsOfVersion, IsBefore, AtStart, InLong, Early, LateIn, At, Made, SameCounts}
+use Rattle.dl_head.specs.Place.{Starts, StartsHeader, length_item, Parts, parts, EarlyIn, before_length}
+use Rattle.dl_head.specs.Place.{before_header_length, end_of_unit}
 use Rattle.dl_field.specs.declared.params.Params.{Params}
-use Rattle.dl_field.specs.Layout.{Layout, following}
+use Rattle.dl_field.specs.Layout.{Layout, following, header_length, foreign_version, Item, length_is, number_is}
+use Rattle.dl_field.specs.Layout.{following_all, field_spelt, objection, judged, short_length, long_length}
+use Rattle.dl_field.specs.Layout.{initial_length_spelt, unit_length_limit}
 use Rattle.dl_head.proofs.HeaderEnds.{before_own, before_older}
 use Rattle.dl_field.proofs.FieldLemmas.{following_all-append}
 use Rattle.dl_head.specs.declared.reader.HeadReader.{HeadReader}
 use Rattle.dl_table.specs.declared.fault.FaultKind.{FaultKind}
 use Rattle.dl_table.specs.declared.fault.FaultKind.TheVariants as fault
 use Rattle.dl_table.specs.Value.{Judgement, good, bad, offset_size}
-use Rattle.dl_field.specs.Layout.{header_length, foreign_version, Item, length_is, number_is, following_all}
-use Rattle.dl_field.specs.Layout.{field_spelt, objection, judged, short_length, long_length, initial_length_spelt}
-use Rattle.dl_field.specs.Layout.{unit_length_limit}
-use Rattle.dl_head.specs.HeaderLayout.{header_layout, initial_size, fixed_part, from_minimum_length}
 use Rattle.dl_head.specs.Header.{header_end, unit_end}
-use Rattle.dl_head.specs.Place.{AtStart, InLong, Early, LateIn, At, Made, SameCounts, Starts, StartsHeader, length_item}
-use Rattle.dl_head.specs.Place.{Parts, parts, EarlyIn, before_length, before_header_length, end_of_unit}
 
 -- ---- the initial length
 

@@ -1,7 +1,7 @@
 -- The fields up to header_length: their values and sizes; where a layout leads to, and that version 5 leads to no foreign
 -- unit.
-use Rattle.std.proofs.Common.{◌≡◌, ◌≢◌, ℕ, zero, suc, ◌+◌, ◌-◌, ◌≤◌, List, [], ◌∷◌, ◌++◌, length}
-use Rattle.std.proofs.Common.{drop, Option, Some, None, Ok, Err, refl, sym, ap, subst, ◌∙◌, arith, inl, inr}
+use Rattle.std.proofs.Common.{◌≡◌, ◌≢◌, ℕ, zero, suc, ◌+◌, ◌-◌, ◌≤◌, List, [], ◌∷◌, ◌++◌, length, drop, Option, Some}
+use Rattle.std.proofs.Common.{None, Ok, Err, refl, sym, ap, subst, ◌∙◌, arith, inl, inr}
 use Rattle.std.proofs.lemmas.Bool.{cases_lt, cases_eq, lt-ltb, le-ltb, le-leb, lt-leb, ne_eqb, eq-eqb}
 use Rattle.dl_num.specs.declared.fixed.Order.{Order}
 use Rattle.dl_num.specs.Fixed.{fixed}
@@ -13,17 +13,13 @@ use Rattle.dl_field.specs.declared.params.Params.{Params}
 use Rattle.dl_table.specs.declared.table.Pair.{Pair}
 use Rattle.dl_table.specs.TableData.{TableData}
 use Rattle.dl_table.specs.Value.{Value, Judgement, good, bad}
-use Rattle.dl_field.specs.Layout.{NumberField, Layout}
-use Rattle.dl_field.specs.Layout.{initial_length_then, number_then, form_then, value_then, foreign_version, last_entry}
-use Rattle.dl_field.specs.Layout.{Item, length_is, number_is, form_is, value_is, following, following_all, field_spelt}
-use Rattle.dl_field.specs.Layout.{pairs_layout, entry_layout, entries_layout, table_layout, short_length, long_length}
-use Rattle.dl_field.specs.Layout.{initial_length_spelt, unit_length_limit, objection, judged, number_judged}
-use Rattle.dl_field.specs.Layout.{sized_spelt, number_size}
-use Rattle.dl_head.specs.HeaderLayout.{lengths_layout, tables_layout, from_address_size}
-use Rattle.dl_head.specs.HeaderLayout.{from_default_is_stmt, from_end, from_files}
-use Rattle.dl_field.specs.Layout.{path_or_end, end_is}
-use Rattle.dl_head.specs.HeaderLayout.{from_header_length, from_minimum_length}
-use Rattle.dl_head.specs.HeaderLayout.{initial_size}
+use Rattle.dl_field.specs.Layout.{NumberField, Layout, initial_length_then, number_then, form_then, value_then}
+use Rattle.dl_field.specs.Layout.{foreign_version, last_entry, Item, length_is, number_is, form_is, value_is, following}
+use Rattle.dl_field.specs.Layout.{following_all, field_spelt, pairs_layout, entry_layout, entries_layout, table_layout}
+use Rattle.dl_field.specs.Layout.{short_length, long_length, initial_length_spelt, unit_length_limit, objection, judged}
+use Rattle.dl_field.specs.Layout.{number_judged, sized_spelt, number_size, path_or_end, end_is}
+use Rattle.dl_head.specs.HeaderLayout.{lengths_layout, tables_layout, from_address_size, from_default_is_stmt, from_end}
+use Rattle.dl_head.specs.HeaderLayout.{from_files, from_header_length, from_minimum_length, initial_size}
 use Rattle.dl_field.proofs.FieldLemmas.{none_some, length_cases}
 
 pub ok_err : {i : Item} {k : FaultKind} → ◌≡◌ {A = Judgement Item} (bad k) (good i) → ⊥

@@ -3,12 +3,12 @@ use Rattle.std.proofs.Common.{◌<◌, ◌≡◌, ℕ, ◌+◌, ◌≤◌, List,
 use Rattle.std.proofs.Common.{inl, inr, ◌≢◌, subst, ◌∙◌, arith, length-append, append-nil}
 use Rattle.std.proofs.lemmas.Bool.{ne_eqb, eq-eqb}
 use Rattle.dl_head.specs.declared.dialect.Dialect.{Dialect}
-use Rattle.dl_field.specs.Layout.{end_is as list_end}
+use Rattle.dl_field.specs.Layout.{end_is as list_end, Layout, Item, length_is, number_is, form_is, value_is}
+use Rattle.dl_field.specs.Layout.{following_all, field_spelt}
 use Rattle.dl_head.specs.declared.reader.HeadReader.{HeadReader}
 use Rattle.dl_table.specs.declared.fault.FaultKind.{FaultKind}
 use Rattle.dl_table.specs.declared.fault.FaultKind.TheVariants as fault
 use Rattle.dl_table.specs.Value.{good}
-use Rattle.dl_field.specs.Layout.{Layout, Item, length_is, number_is, form_is, value_is, following_all, field_spelt}
 use Rattle.dl_head.specs.HeaderLayout.{header_layout, initial_size, fixed_part}
 use Rattle.dl_head.specs.Header.{SpellsFields, cut, unit_end, header_end}
 use Rattle.dl_head.specs.Refusal.{at_end, field_overrun}

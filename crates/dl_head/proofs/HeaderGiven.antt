@@ -4,9 +4,8 @@ use Rattle.dl_head.specs.declared.reader.HeadReader.{HeadReader}
 use Rattle.dl_head.specs.declared.reader.HeadStep.{HeadStep}
 use Rattle.dl_head.specs.declared.reader.HeadStep.TheVariants as answer
 use Rattle.dl_table.specs.TableData.{TableData}
-use Rattle.dl_field.specs.HeaderData.{HeaderData}
+use Rattle.dl_field.specs.HeaderData.{HeaderData, header_cells}
 use Rattle.dl_field.specs.declared.params.Params.{Params}
-use Rattle.dl_field.specs.HeaderData.{header_cells}
 use Rattle.dl_head.specs.Header.{IsHeader}
 use Rattle.dl_head.specs.Cells.{cells}
 use Rattle.dl_head.specs.Place.{held_cells}

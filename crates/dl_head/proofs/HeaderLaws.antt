@@ -6,15 +6,14 @@ use Rattle.std.proofs.lemmas.Bool.{cases_lt, le-leb, lt-leb}
 use Rattle.std.proofs.lemmas.List.{take-append-drop, length-take-le}
 use Rattle.std.proofs.Math.Seq.{drop-append_seam, take-append-add}
 use Rattle.dl_num.specs.declared.fixed.Order.{Order}
-use Rattle.dl_field.specs.Layout.{path_or_end}
+use Rattle.dl_field.specs.Layout.{path_or_end, Layout, initial_length_then, number_then, form_then, value_then}
+use Rattle.dl_field.specs.Layout.{foreign_version, last_entry, Item, following, following_all, field_spelt}
 use Rattle.dl_head.specs.declared.dialect.Dialect.{Dialect}
 use Rattle.dl_num.proofs.FrontLemmas.{front_before}
 use Rattle.dl_num.proofs.LebFrontLemmas.{true_false, and_left, and_right}
 use Rattle.dl_field.specs.HeaderData.{HeaderData}
 use Rattle.dl_table.specs.declared.fault.FaultKind.{FaultKind}
 use Rattle.dl_table.specs.Value.{Judgement, good, bad}
-use Rattle.dl_field.specs.Layout.{Layout, initial_length_then, number_then, form_then, value_then, foreign_version}
-use Rattle.dl_field.specs.Layout.{last_entry, Item, following, following_all, field_spelt}
 use Rattle.dl_head.specs.HeaderLayout.{header_layout}
 use Rattle.dl_head.specs.Header.{Cut, cut_after, cut, header_made, header_end, foreign_made, header_up_to, IsHeader}
 use Rattle.dl_head.specs.Header.{IsFieldCut}
@@ -35,11 +34,9 @@ made_last (foreign_version v) h e = absurd (none_some refl e)
 pub header_cut : (dialect : Dialect) (h : HeaderData) (w y : List ℕ) (is : IsHeader dialect h w)
     → cut dialect (w ++ y) ≡ cut_of is.items (is.padding ++ y)
 header_cut dialect h w y is =
-    ap (λ (z : List ℕ). cut dialect z) (ap (λ (z : List ℕ). z ++ y) is.whole ∙ append_assoc is.fields is.padding y)
-    ∙ cut_fields dialect.order (header_layout dialect) is.items is.fields (is.padding ++ y) is.spelt
-    ∙ ap (λ (l : Layout). with_items is.items (cut_after dialect.order l [] (is.padding ++ y))) (made_last _ h is.made)
-    ∙ ap (λ (c : Cut). with_items is.items c) (cut_last dialect.order h [] (is.padding ++ y))
-    ∙ ap (λ (l : List Item). cut_of l (is.padding ++ y)) (append-nil is.items)
+    let z = is.padding ++ y in
+    rw (is.whole, append_assoc, cut_fields dialect.order (header_layout dialect) is.items is.fields z is.spelt,
+    made_last _ h is.made, cut_last dialect.order h [] z, append-nil) refl
 
 length_nil : (v : List ℕ) → length v ≡ 0 → v ≡ []
 length_nil [] e = refl
@@ -76,11 +73,7 @@ header_is_found dialect h w rest is =
     && nat_le (length w) (length (w ++ rest))) ≡ true =
     rw (le-leb _ _ fields_end) (le-leb _ _ (omega (arith, length-append w rest))) in
     ap (λ (c : Cut). in_cut dialect (w ++ rest) c) (header_cut dialect h w rest is)
-    ∙ ap (λ o. header_up_to (w ++ rest) (length (w ++ rest) - length (is.padding ++ rest)) o (header_end is.items))
-    is.made
-    ∙ ap (λ o. header_up_to (w ++ rest) (length (w ++ rest) - length (is.padding ++ rest)) (Some h) o) is.end
-    ∙ ap (λ (t : Bool). found_if t h (drop (length w) (w ++ rest))) within
-    ∙ ap (λ (l : List ℕ). found_if true h l) (drop-append_seam w rest)
+    ∙ rw (is.made, is.end, within, drop-append_seam w rest) refl
 
 -- what a header that is computed comes from
 record Found (b : List ℕ) (fields : ℕ) (made : Option HeaderData) (end : Option ℕ) (h : HeaderData)
@@ -219,12 +212,8 @@ rest_has_none order layout begun (x ∷ b) none =
 pub cut_is_computed : CutIsComputed
 cut_is_computed dialect b items rest = (to, from) where
   to : IsFieldCut dialect b items rest → cut dialect b ≡ cut_of items rest
-  to is =
-      ap (λ (z : List ℕ). cut dialect z) is.whole
-      ∙ cut_fields dialect.order (header_layout dialect) items is.fields rest is.spelt
-      ∙ ap (λ (c : Cut). with_items items c)
-      (nothing_cut dialect.order (following_all (header_layout dialect) items) [] rest is.no_more)
-      ∙ ap (λ (l : List Item). cut_of l rest) (append-nil items)
+  to is = rw (is.whole, cut_fields dialect.order (header_layout dialect) items is.fields rest is.spelt,
+      nothing_cut dialect.order (following_all (header_layout dialect) items) [] rest is.no_more, append-nil) refl
 
   computed : IsFieldCut dialect b (cut dialect b).items (cut dialect b).rest
   computed =
@@ -244,6 +233,4 @@ cut_is_computed dialect b items rest = (to, from) where
 -- ---- own and foreign
 
 pub header_is_not_foreign : HeaderIsNotForeign
-header_is_not_foreign dialect h w v is =
-    ap (λ (c : Cut). foreign_made (following_all (header_layout dialect) c.items)) (header_cut dialect h w v is)
-    ∙ ap foreign_made (made_last _ h is.made)
+header_is_not_foreign dialect h w v is = rw (header_cut dialect h w v is, made_last _ h is.made) refl

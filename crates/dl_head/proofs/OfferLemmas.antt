@@ -1,7 +1,6 @@
 -- Bytes of a header that are offered at once: those that were taken, and the answer.
-use Rattle.std.proofs.Common.{◌≡◌, ◌≢◌, ◌+◌, ◌-◌, ◌<◌, ◌≤◌, inl, inr, ℕ, List, ◌++◌}
-use Rattle.std.proofs.Common.{length, take, drop, refl, sym, subst, ◌∙◌, arith}
-use Rattle.std.proofs.Common.{append-nil, length-drop}
+use Rattle.std.proofs.Common.{◌≡◌, ◌≢◌, ◌+◌, ◌-◌, ◌<◌, ◌≤◌, inl, inr, ℕ, List, ◌++◌, length, take, drop, refl, sym}
+use Rattle.std.proofs.Common.{subst, ◌∙◌, arith, append-nil, length-drop}
 use Rattle.std.proofs.lemmas.Bool.{cases_lt}
 use Rattle.std.proofs.lemmas.List.{drop-drop}
 use Rattle.dl_head.specs.declared.dialect.Dialect.{Dialect}

@@ -1,6 +1,6 @@
 -- One byte more of a header: what the reader answers, and the bytes that it stands for then.
-use Rattle.std.proofs.Common.{◌≡◌, ◌≢◌, ℕ, ◌+◌, List, [], ◌∷◌, ◌++◌, length, Option, Some, None, refl}
-use Rattle.std.proofs.Common.{sym, ap, subst, ◌∙◌, arith, length-append}
+use Rattle.std.proofs.Common.{◌≡◌, ◌≢◌, ℕ, ◌+◌, List, [], ◌∷◌, ◌++◌, length, Option, Some, None, refl, sym, ap, subst}
+use Rattle.std.proofs.Common.{◌∙◌, arith, length-append}
 use Rattle.dl_head.specs.declared.dialect.Dialect.{Dialect}
 use Rattle.dl_num.specs.declared.partial_number.PartialNumber.{PartialNumber}
 use Rattle.dl_num.specs.NumberBytes.{number_size, number_bytes}
@@ -15,8 +15,7 @@ use Rattle.dl_table.specs.Value.{Judgement, bad}
 use Rattle.dl_field.specs.Layout.{Item, following_all, field_spelt}
 use Rattle.dl_head.specs.HeaderLayout.{header_layout}
 use Rattle.dl_head.specs.Header.{Cut, cut, unit_end, unit_len, foreign_made}
-use Rattle.dl_head.specs.Refusal.{or_else, bad_kind, header_overrun, cut_decided, header_decided}
-use Rattle.dl_head.specs.Refusal.{HeaderRefused}
+use Rattle.dl_head.specs.Refusal.{or_else, bad_kind, header_overrun, cut_decided, header_decided, HeaderRefused}
 use Rattle.dl_head.specs.Cells.{cells}
 use Rattle.dl_table.specs.TableCells.{table_cells}
 use Rattle.dl_field.specs.TablePlace.{IsFresh}
@@ -26,8 +25,8 @@ use Rattle.dl_head.specs.Reading.{Answers, AddsCell, Steps}
 use Rattle.dl_field.proofs.FieldLemmas.{none_some}
 use Rattle.dl_head.proofs.CutLemmas.{cut_of, cut_bad}
 use Rattle.dl_head.proofs.HeaderEnds.{UpTo, below_next, end_from}
-use Rattle.dl_head.proofs.TakenBytes.{Place, in_field, in_padding, in_foreign, place_of, end_is, live_quiet}
-use Rattle.dl_head.proofs.TakenBytes.{live_more, not_foreign}
+use Rattle.dl_head.proofs.TakenBytes.{Place, in_field, in_padding, in_foreign, place_of, end_is, live_quiet, live_more}
+use Rattle.dl_head.proofs.TakenBytes.{not_foreign}
 use Rattle.dl_head.proofs.OneAnswer.{one_answer}
 use Rattle.dl_head.proofs.StepCells.{cells_on}
 use Rattle.dl_head.proofs.SamePlace.{Guards, counted}

@@ -1,17 +1,18 @@
 -- One field more of the header reader: from where it is to where it goes.
 use Rattle.std.proofs.Common.{◌≡◌, ℕ, zero, suc, ◌+◌, ◌-◌, ◌<◌, ◌≤◌, Bool, true, nat_lt, if◌then◌else◌, ℤ, inl, inr, w8}
-use Rattle.std.proofs.Common.{◌≢◌}
-use Rattle.std.proofs.Common.{to_z, of_z, SFits, List, [], ◌∷◌, ◌++◌, length, refl, sym, ap, subst, ◌∙◌, arith}
+use Rattle.std.proofs.Common.{◌≢◌, to_z, of_z, SFits, List, [], ◌∷◌, ◌++◌, length, refl, sym, ap, subst, ◌∙◌, arith}
 use Rattle.std.proofs.Common.{length-append}
 use Rattle.std.proofs.lemmas.Int.{ints, to_z-of_z}
 use Rattle.std.proofs.lemmas.Bool.{cases_lt, lt-ltb, le-ltb, ltb-true, cases_eq, eq-eqb, ne_eqb}
 use Rattle.dl_num.specs.declared.fixed.Order.{Order}
 use Rattle.dl_field.specs.declared.list_reader.ListReader.{ListReader}
-use Rattle.dl_field.specs.Layout.{table_layout}
+use Rattle.dl_field.specs.Layout.{table_layout, opcode_length, Layout, number_then, Item, number_is, following}
+use Rattle.dl_field.specs.Layout.{following_all, field_spelt, objection, judged}
 use Rattle.dl_head.specs.HeaderLayout.{from_older_directories, from_older_files, after_minimum_length}
-use Rattle.dl_head.specs.HeaderLayout.{from_default_is_stmt}
-use Rattle.dl_head.specs.HeaderLayout.{from_maximum_operations, from_address_size, from_segment_selector_size}
-use Rattle.dl_head.specs.HeadStep.{first_table, field_after_minimum}
+use Rattle.dl_head.specs.HeaderLayout.{from_default_is_stmt, from_maximum_operations, from_address_size}
+use Rattle.dl_head.specs.HeaderLayout.{from_segment_selector_size, header_layout, signed_byte, lengths_layout}
+use Rattle.dl_head.specs.HeaderLayout.{tables_layout, from_files, from_opcode_base}
+use Rattle.dl_head.specs.HeadStep.{first_table, field_after_minimum, lengths_fit}
 use Rattle.dl_head.specs.declared.dialect.Dialect.{Dialect}
 use Rattle.dl_num.specs.Fixed.{fixed}
 use Rattle.dl_head.specs.declared.reader.byte_field.ByteField.{ByteField}
@@ -20,15 +21,9 @@ use Rattle.dl_head.specs.declared.reader.Phase.{Phase}
 use Rattle.dl_head.specs.declared.reader.Phase.TheVariants as phase
 use Rattle.dl_head.specs.declared.reader.HeadReader.{HeadReader}
 use Rattle.dl_field.specs.declared.params.Params.{Params}
-use Rattle.dl_field.specs.Layout.{opcode_length, Layout, number_then, Item, number_is, following, following_all}
-use Rattle.dl_field.specs.Layout.{field_spelt, objection, judged}
-use Rattle.dl_head.specs.HeaderLayout.{header_layout, signed_byte, lengths_layout, tables_layout, from_files}
-use Rattle.dl_head.specs.HeaderLayout.{from_opcode_base}
 use Rattle.dl_head.specs.Bytes.{byte_kind}
-use Rattle.dl_head.specs.HeadStep.{lengths_fit}
 use Rattle.dl_head.specs.Place.{from_byte, from_length, Parts, Bounds, PastIn, LateIn, Late, IsAt, AtPhase, At}
-use Rattle.dl_field.proofs.FieldLemmas.{fixed-one}
-use Rattle.dl_field.proofs.FieldLemmas.{following_all-append}
+use Rattle.dl_field.proofs.FieldLemmas.{fixed-one, following_all-append}
 use Rattle.dl_head.proofs.EarlyEnds.{header_end-append, unit_end-append}
 use Rattle.dl_head.proofs.TableBytes.{table_begins, list_begins}
 use Rattle.dl_field.specs.declared.table_reader.TableReader.{TableReader}

@@ -4,9 +4,7 @@ use Rattle.std.proofs.Common.{refl, sym, ap, ◌∙◌, arith, length-append, ap
 use Rattle.dl_num.specs.declared.fixed.Order.{Order}
 use Rattle.dl_head.specs.declared.dialect.Dialect.{Dialect}
 use Rattle.dl_field.specs.HeaderData.{HeaderData}
-use Rattle.dl_field.specs.Layout.{any_byte, Layout}
-use Rattle.dl_field.specs.Layout.{foreign_version, Item}
-use Rattle.dl_field.specs.Layout.{following_all}
+use Rattle.dl_field.specs.Layout.{any_byte, Layout, foreign_version, Item, following_all}
 use Rattle.dl_head.specs.HeaderLayout.{header_layout, initial_size, fixed_part, from_minimum_length}
 use Rattle.dl_head.specs.Header.{SpellsFields, Cut, cut_after, cut, unit_end, header_end, header_made, IsHeader}
 use Rattle.dl_head.specs.Refusal.{cut_decided, header_decided}
@@ -26,13 +24,8 @@ use Rattle.dl_head.proofs.EarlyEnds.{no_overrun, spells-append, early_of, header
 last_quiet : (dialect : Dialect) (h : HeaderData) (w v : List ℕ) (is : IsHeader dialect h w)
     → header_decided dialect (is.fields ++ v) ≡ None
 last_quiet dialect h w v is =
-    let cut_is : cut dialect (is.fields ++ v) ≡ cut_of is.items v =
-    cut_fields dialect.order (header_layout dialect) is.items is.fields v is.spelt
-    ∙ ap (λ (l : Layout). with_items is.items (cut_after dialect.order l [] v)) (made_last _ h is.made)
-    ∙ ap (λ (c : Cut). with_items is.items c) (cut_last dialect.order h [] v)
-    ∙ ap (λ (l : List Item). cut_of l v) (append-nil is.items) in
-    ap (λ (c : Cut). cut_decided dialect (length (is.fields ++ v)) c) cut_is
-    ∙ ap (λ (l : Layout). decided_on dialect.order (length (is.fields ++ v)) is.items v l) (made_last _ h is.made)
+    rw (cut_fields dialect.order (header_layout dialect) is.items is.fields v is.spelt, made_last _ h is.made,
+    cut_last dialect.order h [] v, append-nil, made_last _ h is.made) refl
 
 some_number : (a b : ℕ) → ◌≡◌ {A = Option ℕ} (Some a) (Some b) → a ≡ b
 some_number a b e = cc
@@ -147,13 +140,8 @@ foreign_last_quiet : (dialect : Dialect) (b : List ℕ) (items : List Item) (fie
     → IsForeignPart dialect b items fields rest other unit
     → (v : List ℕ) → header_decided dialect (fields ++ v) ≡ None
 foreign_last_quiet dialect b items fields rest other unit is v =
-    let cut_is : cut dialect (fields ++ v) ≡ cut_of items v =
-    cut_fields dialect.order (header_layout dialect) items fields v is.spelt
-    ∙ ap (λ (l : Layout). with_items items (cut_after dialect.order l [] v)) is.next
-    ∙ ap (λ (c : Cut). with_items items c) (cut_foreign dialect.order other [] v)
-    ∙ ap (λ (l : List Item). cut_of l v) (append-nil items) in
-    ap (λ (c : Cut). cut_decided dialect (length (fields ++ v)) c) cut_is
-    ∙ ap (λ (l : Layout). decided_on dialect.order (length (fields ++ v)) items v l) is.next
+    rw (cut_fields dialect.order (header_layout dialect) items fields v is.spelt, is.next,
+    cut_foreign dialect.order other [] v, append-nil, is.next) refl
 
 foreign_inside_quiet : (dialect : Dialect) (b : List ℕ) (items : List Item) (fields rest : List ℕ) (other unit : ℕ)
     → IsForeignPart dialect b items fields rest other unit

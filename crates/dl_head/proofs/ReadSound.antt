@@ -1,7 +1,7 @@
 -- A header that bytes spell can be built and written, and its fields hold the cells of its tables. DWARF 5, section 6.2.4.
-use Rattle.std.proofs.Common.{◌≡◌, ℕ, zero, suc, ◌+◌, ◌-◌, ◌^◌, ◌<◌, Bool, true, false, ◌==◌, nat_lt}
-use Rattle.std.proofs.Common.{if◌then◌else◌, List, [], ◌∷◌, ◌++◌, length, Option, Some, None, refl, sym, ap, subst, ◌∙◌}
-use Rattle.std.proofs.Common.{lit≤, lit<, arith, append_assoc, inl, inr, Ok, drop, ◌||◌, ◌≤◌, sum_by}
+use Rattle.std.proofs.Common.{◌≡◌, ℕ, zero, suc, ◌+◌, ◌-◌, ◌^◌, ◌<◌, Bool, true, false, ◌==◌, nat_lt, if◌then◌else◌}
+use Rattle.std.proofs.Common.{List, [], ◌∷◌, ◌++◌, length, Option, Some, None, refl, sym, ap, subst, ◌∙◌, lit≤, lit<}
+use Rattle.std.proofs.Common.{arith, append_assoc, inl, inr, Ok, drop, ◌||◌, ◌≤◌, sum_by}
 use Rattle.std.proofs.lemmas.List.{append-nil, length-append}
 use Rattle.std.specs.Int.{w8}
 use Rattle.std.specs.Int.RustNames.{FitsSigned}
@@ -15,37 +15,30 @@ use Rattle.dl_table.specs.declared.fault.FaultKind.{FaultKind}
 use Rattle.dl_table.specs.declared.fault.FaultKind.TheVariants as fault
 use Rattle.dl_field.specs.declared.params.Params.{Params}
 use Rattle.dl_table.specs.TableData.{TableData}
-use Rattle.dl_field.specs.HeaderData.{HeaderData}
-use Rattle.dl_table.specs.Value.{offset_size}
-use Rattle.dl_field.specs.Layout.{version, address_size, any_byte, header_length, maximum_operations}
-use Rattle.dl_field.specs.Layout.{line_range, opcode_base, opcode_length}
-use Rattle.dl_field.specs.Layout.{objection, Layout, foreign_version}
-use Rattle.dl_field.specs.Layout.{Item, following}
-use Rattle.dl_field.specs.Layout.{table_layout}
-use Rattle.dl_table.specs.Value.{good}
-use Rattle.dl_field.specs.Layout.{listed_file, field_spelt}
+use Rattle.dl_field.specs.HeaderData.{HeaderData, header_cells}
+use Rattle.dl_table.specs.Value.{offset_size, good}
+use Rattle.dl_field.specs.Layout.{version, address_size, any_byte, header_length, maximum_operations, line_range}
+use Rattle.dl_field.specs.Layout.{opcode_base, opcode_length, objection, Layout, foreign_version, Item, following}
+use Rattle.dl_field.specs.Layout.{table_layout, listed_file, field_spelt}
 use Rattle.dl_field.specs.Field.{IsInitialLength}
-use Rattle.dl_field.proofs.FieldLemmas.{field_empty}
+use Rattle.dl_field.proofs.FieldLemmas.{field_empty, none_some}
 use Rattle.dl_head.specs.HeaderLayout.{from_files, from_end, from_older_directories, from_older_files}
-use Rattle.dl_head.specs.HeaderLayout.{from_default_is_stmt}
-use Rattle.dl_head.specs.HeaderLayout.{after_minimum_length, from_maximum_operations, from_older_version, older_params}
+use Rattle.dl_head.specs.HeaderLayout.{from_default_is_stmt, after_minimum_length, from_maximum_operations}
+use Rattle.dl_head.specs.HeaderLayout.{from_older_version, older_params, initial_size, tables_layout, lengths_layout}
+use Rattle.dl_head.specs.HeaderLayout.{from_minimum_length, from_address_size, format_alone, header_layout, signed_byte}
+use Rattle.dl_head.specs.HeaderLayout.{fixed_part}
 use Rattle.dl_head.specs.Dialect.{older_size, older_bytes}
-use Rattle.dl_head.specs.HeaderLayout.{initial_size}
 use Rattle.dl_head.specs.declared.dialect.Dialect.{Dialect}
 use Rattle.dl_head.specs.declared.dialect.Older.{Older}
 use Rattle.dl_head.specs.declared.dialect.Older.TheVariants as older
 use Rattle.dl_head.specs.declared.dialect.AddressSize.TheVariants as size
-use Rattle.dl_head.specs.Header.{unit_end}
+use Rattle.dl_head.specs.Header.{unit_end, SpellsFields}
 use Rattle.dl_head.proofs.Openings.{after_length, opening_of}
 use Rattle.dl_head.proofs.OrderLemmas.{initial_size-le}
-use Rattle.dl_head.specs.HeaderLayout.{tables_layout, lengths_layout, from_minimum_length, from_address_size}
-use Rattle.dl_head.specs.HeaderLayout.{format_alone, header_layout, signed_byte, fixed_part}
-use Rattle.dl_head.specs.Header.{SpellsFields}
 use Rattle.dl_head.specs.Built.{are_operations, is_version, wrong_length}
 use Rattle.dl_table.specs.Sound.{IsSoundTable}
 use Rattle.dl_head.specs.Sound.{IsSoundHeader}
 use Rattle.dl_head.specs.WrittenLaws.{ReadIsSound}
-use Rattle.dl_field.proofs.FieldLemmas.{none_some}
 use Rattle.dl_field.proofs.FieldLaws.{field_is_judged}
 use Rattle.dl_head.proofs.OneFieldMore.{sfits_signed}
 use Rattle.dl_head.proofs.HeaderSound.{no_fault}
@@ -54,7 +47,6 @@ use Rattle.dl_head.proofs.ReadTables.{Makes, After, TableRead, at_once, joined, 
 use Rattle.dl_head.proofs.ReadTables.{after_table, after_list, last}
 use Rattle.dl_table.specs.TableCells.{table_cells}
 use Rattle.dl_field.specs.Cells.{item_cells}
-use Rattle.dl_field.specs.HeaderData.{header_cells}
 
 -- ---- sizes
 

@@ -1,8 +1,8 @@
 -- A table that is read can be built, of version 5 and of versions 2 to 4. DWARF 5, section 6.2.4.1; DWARF 4, section
 -- 6.2.4.
-use Rattle.std.proofs.Common.{◌≡◌, ℕ, zero, suc, ◌+◌, ◌^◌, ◌<◌, Bool, true, false, not, ◌==◌, nat_lt}
-use Rattle.std.proofs.Common.{if◌then◌else◌, List, [], ◌∷◌, ◌++◌, length, Option, Some, None, refl, sym, ap, subst}
-use Rattle.std.proofs.Common.{lit<, arith, append_assoc, inl, inr, drop, ◌≤◌, sum_by}
+use Rattle.std.proofs.Common.{◌≡◌, ℕ, zero, suc, ◌+◌, ◌^◌, ◌<◌, Bool, true, false, not, ◌==◌, nat_lt, if◌then◌else◌}
+use Rattle.std.proofs.Common.{List, [], ◌∷◌, ◌++◌, length, Option, Some, None, refl, sym, ap, subst, lit<, arith}
+use Rattle.std.proofs.Common.{append_assoc, inl, inr, drop, ◌≤◌, sum_by}
 use Rattle.std.proofs.lemmas.List.Sums.{sum_by-cons, sum_by_push}
 use Rattle.dl_table.specs.TableCells.{table_cells, value_cells}
 use Rattle.dl_field.specs.Cells.{item_cells}
@@ -18,17 +18,13 @@ use Rattle.dl_table.specs.declared.fault.FaultKind.TheVariants as fault
 use Rattle.dl_table.specs.declared.table.Pair.{Pair}
 use Rattle.dl_table.specs.TableData.{TableData}
 use Rattle.dl_field.specs.HeaderData.{HeaderData}
-use Rattle.dl_table.specs.Value.{Value}
+use Rattle.dl_table.specs.Value.{Value, text}
 use Rattle.dl_field.specs.Field.{IsNumber, IsField}
-use Rattle.dl_field.specs.Layout.{NumberField, any_byte}
-use Rattle.dl_field.specs.Layout.{content_code, entry_count, number_size}
-use Rattle.dl_field.specs.Layout.{objection, Layout, number_then, form_then, value_then, last_entry}
-use Rattle.dl_field.specs.Layout.{Item, following, following_all, pairs_layout, entry_layout, entries_layout}
-use Rattle.dl_field.specs.Layout.{table_layout}
-use Rattle.dl_table.specs.Value.{text}
+use Rattle.dl_field.specs.Layout.{NumberField, any_byte, content_code, entry_count, number_size, objection, Layout}
+use Rattle.dl_field.specs.Layout.{number_then, form_then, value_then, last_entry, Item, following, following_all}
+use Rattle.dl_field.specs.Layout.{pairs_layout, entry_layout, entries_layout, table_layout, path_or_end, listed_file}
 use Rattle.dl_table.specs.declared.fault.BuildFault.TheVariants as build
 use Rattle.std.specs.Option.{option_map}
-use Rattle.dl_field.specs.Layout.{path_or_end, listed_file}
 use Rattle.dl_head.specs.HeaderLayout.{format_alone}
 use Rattle.dl_head.specs.Header.{SpellsFields, header_made}
 use Rattle.dl_head.specs.TableSpelt.{alone}

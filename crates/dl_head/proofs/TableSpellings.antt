@@ -1,7 +1,7 @@
 -- The fields that the reader of a table has taken, and the table of version 5 that they are.
 use Rattle.std.proofs.Common.{◌≡◌, ℕ, suc, ◌<◌, Bool, true, false, if◌then◌else◌, List, [], ◌∷◌, ◌++◌, refl, sym, ap}
-use Rattle.std.proofs.Common.{◌⊎◌, inl, inr, ◌==◌}
-use Rattle.std.proofs.Common.{subst, ◌∙◌, arith, length, take, drop, get_or, append_assoc, append-nil}
+use Rattle.std.proofs.Common.{◌⊎◌, inl, inr, ◌==◌, subst, ◌∙◌, arith, length, take, drop, get_or, append_assoc}
+use Rattle.std.proofs.Common.{append-nil}
 use Rattle.std.specs.List.{concat}
 use Rattle.std.proofs.lemmas.List.{take-append-drop}
 use Rattle.std.proofs.Props.{props}

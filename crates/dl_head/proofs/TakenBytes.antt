@@ -3,7 +3,8 @@ use Rattle.std.proofs.Common.{◌≡◌, ℕ, ◌-◌, ◌<◌, ◌≤◌, ◌^�
 use Rattle.std.proofs.Common.{sym, ap, subst, ◌∙◌, arith, length-append, append-nil}
 use Rattle.std.proofs.lemmas.Bool.{leb-true, ne_eqb}
 use Rattle.dl_num.specs.declared.fixed.Order.{Order}
-use Rattle.dl_field.specs.Layout.{path_or_end}
+use Rattle.dl_field.specs.Layout.{path_or_end, Layout, initial_length_then, number_then, form_then, value_then}
+use Rattle.dl_field.specs.Layout.{foreign_version, last_entry, Item, following_all}
 use Rattle.dl_field.specs.ListPlace.{ListAt}
 use Rattle.dl_field.specs.declared.list_reader.ListPhase.{ListPhase}
 use Rattle.dl_field.specs.declared.list_reader.ListPhase.TheVariants as list
@@ -24,8 +25,6 @@ use Rattle.dl_table.specs.declared.form.Format.{Format}
 use Rattle.dl_table.specs.declared.fault.FaultKind.{FaultKind}
 use Rattle.dl_table.specs.TableData.{TableData}
 use Rattle.dl_field.specs.HeaderData.{HeaderData}
-use Rattle.dl_field.specs.Layout.{Layout, initial_length_then, number_then, form_then, value_then, foreign_version}
-use Rattle.dl_field.specs.Layout.{last_entry, Item, following_all}
 use Rattle.dl_head.specs.HeaderLayout.{header_layout, from_end}
 use Rattle.dl_head.specs.Header.{Cut, cut, header_end, unit_end, foreign_made, foreign_in, IsHeader}
 use Rattle.dl_head.specs.Refusal.{field_overrun, header_overrun, header_decided}

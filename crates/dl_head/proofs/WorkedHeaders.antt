@@ -5,13 +5,12 @@ use Rattle.dl_table.specs.declared.fault.FaultKind.{FaultKind}
 use Rattle.dl_table.specs.declared.fault.FaultKind.TheVariants as fault
 use Rattle.dl_table.specs.declared.form.Format.TheVariants.{Dwarf32, Dwarf64}
 use Rattle.dl_table.specs.declared.form.Form.TheVariants as form
-use Rattle.dl_field.specs.HeaderData.{HeaderData}
+use Rattle.dl_field.specs.HeaderData.{HeaderData, header_cells}
 use Rattle.dl_table.specs.Value.{text, number, data16, line_str}
 use Rattle.dl_head.specs.declared.dialect.Dialect.{Dialect}
 use Rattle.dl_head.specs.Dialect.{version_5}
 use Rattle.dl_head.specs.Header.{header_in, foreign_in, unit_len}
 use Rattle.dl_head.specs.Refusal.{Refusal, header_refusal_in}
-use Rattle.dl_field.specs.HeaderData.{header_cells}
 use Rattle.dl_head.specs.Cells.{cells}
 use Rattle.dl_head.specs.Written.{header_bytes, is_within_limit}
 

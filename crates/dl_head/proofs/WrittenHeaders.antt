@@ -17,11 +17,9 @@ use Rattle.dl_table.specs.declared.form.Format.TheVariants.{Dwarf32, Dwarf64}
 use Rattle.dl_field.specs.declared.params.Params.{Params}
 use Rattle.dl_field.specs.HeaderData.{HeaderData}
 use Rattle.dl_table.specs.Value.{offset_size}
-use Rattle.dl_field.specs.Layout.{Layout, number_then, last_entry, number_is, length_is, following}
-use Rattle.dl_field.specs.Layout.{address_size, opcode_length}
-use Rattle.dl_field.specs.Layout.{header_length, objection, NumberField, number_size, table_layout}
-use Rattle.dl_head.specs.HeaderLayout.{signed_byte, lengths_layout, tables_layout, from_lengths}
-use Rattle.dl_head.specs.HeaderLayout.{from_files, from_end}
+use Rattle.dl_field.specs.Layout.{Layout, number_then, last_entry, number_is, length_is, following, address_size}
+use Rattle.dl_field.specs.Layout.{opcode_length, header_length, objection, NumberField, number_size, table_layout}
+use Rattle.dl_head.specs.HeaderLayout.{signed_byte, lengths_layout, tables_layout, from_lengths, from_files, from_end}
 use Rattle.dl_head.specs.HeaderLayout.{from_minimum_length, from_header_length, from_segment_selector_size}
 use Rattle.dl_head.specs.HeaderLayout.{from_address_size, format_alone, header_layout, fixed_part, initial_size}
 use Rattle.dl_head.specs.Header.{Cut, header_made, unit_end, IsHeader}

@@ -18,9 +18,9 @@ use Rattle.dl_table.specs.declared.form.Form.TheVariants as form
 use Rattle.dl_table.specs.declared.table.Pair.{Pair}
 use Rattle.dl_table.specs.TableData.{TableData}
 use Rattle.dl_table.specs.Value.{Value, text, line_str, str, str_sup, number, block, data16, form_code, offset_size}
-use Rattle.dl_field.specs.Layout.{Layout, number_then, Item, number_is, form_is, value_is, following}
-use Rattle.dl_field.specs.Layout.{following_all, content_code, entry_count, objection, pairs_layout, entry_layout}
-use Rattle.dl_field.specs.Layout.{entries_layout, table_layout}
+use Rattle.dl_field.specs.Layout.{Layout, number_then, Item, number_is, form_is, value_is, following, following_all}
+use Rattle.dl_field.specs.Layout.{content_code, entry_count, objection, pairs_layout, entry_layout, entries_layout}
+use Rattle.dl_field.specs.Layout.{table_layout}
 use Rattle.dl_head.specs.Header.{SpellsFields}
 use Rattle.dl_field.specs.Field.{IsFixed, HasNoZero, IsValue, IsField}
 use Rattle.dl_table.specs.Written.{value_bytes, pair_bytes, entry_bytes, table_bytes}

@@ -27,8 +27,7 @@ use Rattle.dl_field.specs.TableMoves.{Adds, AmongTable}
 use Rattle.dl_table.specs.Value.{good, bad, offset_size}
 use Rattle.dl_field.specs.Layout.{Layout, Item, length_is, number_is, following_all, field_spelt, unit_length_limit}
 use Rattle.dl_head.specs.HeaderLayout.{header_layout, lengths_layout, tables_layout, from_files, from_end, initial_size}
-use Rattle.dl_head.specs.HeaderLayout.{fixed_part}
-use Rattle.dl_head.specs.HeaderLayout.{from_address_size, from_segment_selector_size, from_minimum_length}
+use Rattle.dl_head.specs.HeaderLayout.{fixed_part, from_address_size, from_segment_selector_size, from_minimum_length}
 use Rattle.dl_head.specs.HeaderLayout.{from_maximum_operations, from_default_is_stmt, from_line_base, from_line_range}
 use Rattle.dl_head.specs.HeaderLayout.{from_opcode_base, from_older_files}
 use Rattle.dl_head.specs.Dialect.{older_size}
