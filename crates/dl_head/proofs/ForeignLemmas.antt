@@ -19,11 +19,4 @@ pub foreign_on : (dialect : Dialect) (b u : List ℕ) (version : ℕ) → foreig
 foreign_on dialect b u version foreign =
     let items = (cut dialect b).items in
     let last = foreign_last (following_all (header_layout dialect) items) version foreign in
-    let none : (cut_after dialect.order (following_all (header_layout dialect) items) (cut dialect b).rest
-    u).items ≡ [] =
-    ap (λ (l : Layout). (cut_after dialect.order l (cut dialect b).rest u).items) last
-    ∙ no_items dialect.order version (cut dialect b).rest u in
-    ap (λ (c : Cut). foreign_made (following_all (header_layout dialect) c.items)) (cut-append dialect b u)
-    ∙ ap (λ (l : List Item). foreign_made (following_all (header_layout dialect) (items ++ l))) none
-    ∙ ap (λ (l : List Item). foreign_made (following_all (header_layout dialect) l)) (append-nil items)
-    ∙ foreign
+    rw (cut-append dialect b u, last, no_items dialect.order version (cut dialect b).rest u, append-nil items) foreign

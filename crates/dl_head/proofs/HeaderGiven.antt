@@ -52,8 +52,7 @@ gives_of r None e = λ b s h. unmade r b h s e
 
 pub made_cells : (r : HeadReader) (b : List ℕ) (h : HeaderData) → StandsFor r b → r.header ≡ Some h
     → cells r.dialect b ≡ header_cells h
-made_cells r b h s is = ap (λ (l : List ℕ). cells r.dialect l) (sym (append-nil b))
-    ∙ (header_holds_its_cells r.dialect h b [] (made r b h s is)).0
+made_cells r b h s is = rw (← append-nil b) (header_holds_its_cells r.dialect h b [] (made r b h s is)).0
 
 pub held_so_far : (r : HeadReader) (b : List ℕ) → StandsFor r b → r.header ≡ None → held_cells r ≡ cells r.dialect b
 held_so_far r b s is = on (ending r.phase) s.stands where
@@ -68,7 +67,4 @@ held_so_far r b s is = on (ending r.phase) s.stands where
 pub header_parts : {p q : Params} {d e f g : TableData} → p ≡ q → d ≡ e → f ≡ g
     → ◌≡◌ {A = HeaderData} (record { params = p; directories = d; files = f })
     (record { params = q; directories = e; files = g })
-header_parts {p} {q} {d} {e} {f} {g} a b c =
-    ap (λ (x : Params). record { params = x; directories = d; files = f }) a
-    ∙ ap (λ (x : TableData). record { params = q; directories = x; files = f }) b
-    ∙ ap (λ (x : TableData). record { params = q; directories = e; files = x }) c
+header_parts {p} {q} {d} {e} {f} {g} a b c = cc

@@ -90,10 +90,8 @@ le_of a b h = elim (cases_lt b a) [ inl lt ↦ absurd (true_false h (lt-leb a b 
 
 pair_same : (g h : HeaderData) (u v : List ℕ) → ◌≡◌ {A = Option (HeaderData × List ℕ)} (Some (g, u)) (Some (h, v))
     → (g ≡ h) × (u ≡ v)
-pair_same g h u v e = (
-  ap (λ (o : Option (HeaderData × List ℕ)). elim o [ Some p ↦ p.0 | None ↦ g ]) e,
-  ap (λ (o : Option (HeaderData × List ℕ)). elim o [ Some p ↦ p.1 | None ↦ u ]) e,
-)
+pair_same g h u v e =
+    let p : ◌≡◌ {A = HeaderData × List ℕ} (g, u) (h, v) = cc in (λ i. (p i).0, λ i. (p i).1)
 
 found : (b : List ℕ) (fields : ℕ) (made : Option HeaderData) (end : Option ℕ) (h : HeaderData) (rest : List ℕ)
     → header_up_to b fields made end ≡ Some (h, rest) → Found b fields made end h rest
