@@ -63,7 +63,7 @@ taken_byte dialect b piece n result fin one some more p =
 
 -- ---- what the bytes make of the field
 
-module _ (r new : HeadReader) (b piece bytes : List ℕ) (n : ℕ) (result : FieldStep) (front : IsFront r piece bytes)
+module _ {r new : HeadReader} {b piece bytes : List ℕ} {n : ℕ} {result : FieldStep} (front : IsFront r piece bytes)
     (p : Pushed r bytes n result new) (stands : StandsFor r b) (more : Answers r.dialect b answer.More) where
   goes : ending r.phase ≡ None
   goes = goes_more r b stands more

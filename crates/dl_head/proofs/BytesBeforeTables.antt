@@ -55,9 +55,6 @@ no_cells order (last_entry h) rest w e = refl
 abbrev pub NoCell : Dialect → List Item → Type 0
 NoCell dialect items = is_no_cell (following_all (header_layout dialect) items) ≡ true
 
-pub none_later : (dialect : Dialect) (items is : List Item) → items ≡ is → NoCell dialect is → NoCell dialect items
-none_later dialect items is e none = subst (NoCell dialect) (sym e) none
-
 pub layout_no_cell : (dialect : Dialect) (items : List Item) (layout : Layout)
     → following_all (header_layout dialect) items ≡ layout → is_no_cell layout ≡ true → NoCell dialect items
 layout_no_cell dialect items layout e none = ap is_no_cell e ∙ none
@@ -106,11 +103,11 @@ adds_nothing old new items rest w (byte_makes.Refuses kind) made same kept = ome
 adds_nothing old new items rest w byte_makes.NoMemory made same kept = absurd made
 
 -- a field that is no cell
-pub field_pushed : (old new : HeadReader) (byte : ℕ) (result : FieldStep) → Follows old byte result new
+pub field_pushed : {old new : HeadReader} {byte : ℕ} {result : FieldStep} → Follows old byte result new
     → held_cells new ≡ held_cells old
     → ((items : List Item) (rest : List ℕ) → At old items rest → NoCell old.dialect items)
     → PushFollows old byte result new
-field_pushed old new byte result follows kept none = record {
+field_pushed {old} {new} {byte} {result} follows kept none = record {
   made = λ items rest at. byte_made old new items rest byte result (follows.made items rest at);
   cells = λ items rest at.
       adds_nothing old new items rest (rest ++ byte ∷ []) result (follows.made items rest at)

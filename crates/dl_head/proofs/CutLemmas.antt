@@ -114,8 +114,12 @@ pub cut_fields : (order : Order) (layout : Layout) (items : List Item) (w y : Li
     → cut_after order layout [] (w ++ y) ≡ with_items items (cut_after order (following_all layout items) [] y)
 cut_fields order layout [] w y s = rw s refl
 cut_fields order layout (i ∷ items) w y s =
-    rw (s.2, append_assoc s.0 s.1 y, cut_front order layout s.0 (s.1 ++ y) i s.3,
-    cut_fields order (following layout i) items s.1 y s.4) refl
+    rw (
+      s.2,
+      append_assoc s.0 s.1 y,
+      cut_front order layout s.0 (s.1 ++ y) i s.3,
+      cut_fields order (following layout i) items s.1 y s.4,
+    ) refl
 
 -- after the last entry nothing is cut off
 pub cut_last : (order : Order) (h : HeaderData) (begun y : List ℕ)

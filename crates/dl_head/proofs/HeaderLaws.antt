@@ -35,8 +35,14 @@ pub header_cut : (dialect : Dialect) (h : HeaderData) (w y : List ℕ) (is : IsH
     → cut dialect (w ++ y) ≡ cut_of is.items (is.padding ++ y)
 header_cut dialect h w y is =
     let z = is.padding ++ y in
-    rw (is.whole, append_assoc, cut_fields dialect.order (header_layout dialect) is.items is.fields z is.spelt,
-    made_last _ h is.made, cut_last dialect.order h [] z, append-nil) refl
+    rw (
+      is.whole,
+      append_assoc,
+      cut_fields dialect.order (header_layout dialect) is.items is.fields z is.spelt,
+      made_last _ h is.made,
+      cut_last dialect.order h [] z,
+      append-nil,
+    ) refl
 
 length_nil : (v : List ℕ) → length v ≡ 0 → v ≡ []
 length_nil [] e = refl
@@ -210,8 +216,12 @@ rest_has_none order layout begun (x ∷ b) none =
 pub cut_is_computed : CutIsComputed
 cut_is_computed dialect b items rest = (to, from) where
   to : IsFieldCut dialect b items rest → cut dialect b ≡ cut_of items rest
-  to is = rw (is.whole, cut_fields dialect.order (header_layout dialect) items is.fields rest is.spelt,
-      nothing_cut dialect.order (following_all (header_layout dialect) items) [] rest is.no_more, append-nil) refl
+  to is = rw (
+    is.whole,
+    cut_fields dialect.order (header_layout dialect) items is.fields rest is.spelt,
+    nothing_cut dialect.order (following_all (header_layout dialect) items) [] rest is.no_more,
+    append-nil,
+  ) refl
 
   computed : IsFieldCut dialect b (cut dialect b).items (cut dialect b).rest
   computed =

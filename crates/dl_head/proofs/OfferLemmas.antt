@@ -38,11 +38,11 @@ so_far_same answer.NoMemory other = absurd (other refl)
 -- ---- bytes more
 
 -- what a reader that has taken the first bytes of a piece makes of the others
-pub advanced : (dialect : Dialect) (b piece rest : List ℕ) (i n : ℕ) (r new : HeadReader) (last : HeadStep)
+pub advanced : {dialect : Dialect} {b piece rest : List ℕ} {i n : ℕ} {r new : HeadReader} {last : HeadStep}
     → Offering dialect b piece i r → r.dialect ≡ dialect → rest ≡ drop i piece
     → ((c : List ℕ) → StandsFor r c → Answers r.dialect c answer.More → Advances r.dialect c rest n last new)
     → Advances dialect (b ++ take i piece) (drop i piece) n last new
-advanced dialect b piece rest i n r new last o same e advances =
+advanced {dialect} {b} {piece} {rest} {i} {n} {r} {new} {last} o same e advances =
     let c = b ++ take i piece in
     subst (λ (k : Dialect). Advances k c (drop i piece) n last new) same
     (subst (λ (l : List ℕ). Advances r.dialect c l n last new) e
@@ -62,10 +62,10 @@ fronts_before dialect b piece i n r o before j lt = elim (cases_lt j i) [
 ]
 
 -- the header goes on
-pub offering_on : (dialect : Dialect) (b piece : List ℕ) (i n : ℕ) (r new : HeadReader) (last : HeadStep)
+pub offering_on : {dialect : Dialect} {b piece : List ℕ} {i n : ℕ} {r new : HeadReader} {last : HeadStep}
     → Offering dialect b piece i r → last ≡ answer.More
     → Advances dialect (b ++ take i piece) (drop i piece) n last new → Offering dialect b piece (i + n) new
-offering_on dialect b piece i n r new last o is a = record {
+offering_on {dialect} {b} {piece} {i} {n} {r} {new} {last} o is a = record {
   stands = subst (λ (l : List ℕ). StandsFor new l) (joined b piece i n) a.stands;
   more = subst (λ (l : List ℕ). Answers dialect l answer.More) (joined b piece i n)
       (subst (λ (q : HeadStep). Answers dialect ((b ++ take i piece) ++ take n (drop i piece)) (so_far q)) is
@@ -74,10 +74,10 @@ offering_on dialect b piece i n r new last o is a = record {
 }
 
 -- memory was refused, or the header came to something
-pub offered_last : (dialect : Dialect) (b piece : List ℕ) (i n : ℕ) (r new : HeadReader) (last : HeadStep)
+pub offered_last : {dialect : Dialect} {b piece : List ℕ} {i n : ℕ} {r new : HeadReader} {last : HeadStep}
     → Offering dialect b piece i r → i ≤ length piece → last ≢ answer.More
     → Advances dialect (b ++ take i piece) (drop i piece) n last new → Offered dialect b piece (i + n) last new
-offered_last dialect b piece i n r new last o le ends a = record {
+offered_last {dialect} {b} {piece} {i} {n} {r} {new} {last} o le ends a = record {
   answered = record {
     took = record {
       within = omega (arith, le, a.took.within, length-drop i piece);
@@ -97,10 +97,10 @@ offered_last dialect b piece i n r new last o le ends a = record {
 }
 
 -- the whole piece was taken
-pub offered_all : (dialect : Dialect) (b piece : List ℕ) (i used : ℕ) (r : HeadReader) → Offering dialect b piece i r
+pub offered_all : {dialect : Dialect} {b piece : List ℕ} {i used : ℕ} {r : HeadReader} → Offering dialect b piece i r
     → i ≤ length piece → length piece ≤ i → used ≡ i
     → Offered dialect b piece used answer.More r
-offered_all dialect b piece i used r o le ge same =
+offered_all {dialect} {b} {piece} {i} {used} {r} o le ge same =
     subst (λ (n : ℕ). Offered dialect b piece n answer.More r) (sym same) (record {
       answered = record {
         took = record { within = le; answers = o.more; before = o.before; unfed = λ e. absurd cc };

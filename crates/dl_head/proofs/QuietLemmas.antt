@@ -24,8 +24,13 @@ use Rattle.dl_head.proofs.EarlyEnds.{no_overrun, spells-append, early_of, header
 last_quiet : (dialect : Dialect) (h : HeaderData) (w v : List ℕ) (is : IsHeader dialect h w)
     → header_decided dialect (is.fields ++ v) ≡ None
 last_quiet dialect h w v is =
-    rw (cut_fields dialect.order (header_layout dialect) is.items is.fields v is.spelt, made_last _ h is.made,
-    cut_last dialect.order h [] v, append-nil, made_last _ h is.made) refl
+    rw (
+      cut_fields dialect.order (header_layout dialect) is.items is.fields v is.spelt,
+      made_last _ h is.made,
+      cut_last dialect.order h [] v,
+      append-nil,
+      made_last _ h is.made,
+    ) refl
 
 some_number : (a b : ℕ) → ◌≡◌ {A = Option ℕ} (Some a) (Some b) → a ≡ b
 some_number a b e = cc
@@ -140,8 +145,13 @@ foreign_last_quiet : (dialect : Dialect) (b : List ℕ) (items : List Item) (fie
     → IsForeignPart dialect b items fields rest other unit
     → (v : List ℕ) → header_decided dialect (fields ++ v) ≡ None
 foreign_last_quiet dialect b items fields rest other unit is v =
-    rw (cut_fields dialect.order (header_layout dialect) items fields v is.spelt, is.next,
-    cut_foreign dialect.order other [] v, append-nil, is.next) refl
+    rw (
+      cut_fields dialect.order (header_layout dialect) items fields v is.spelt,
+      is.next,
+      cut_foreign dialect.order other [] v,
+      append-nil,
+      is.next,
+    ) refl
 
 foreign_inside_quiet : (dialect : Dialect) (b : List ℕ) (items : List Item) (fields rest : List ℕ) (other unit : ℕ)
     → IsForeignPart dialect b items fields rest other unit

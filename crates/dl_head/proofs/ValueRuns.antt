@@ -154,10 +154,10 @@ no_values order layout rest (w ∷ values) [] m n left none e = absurd e
 -- ---- the reader after them
 
 -- `whole_values`: no value is taken
-pub nothing_whole : (r new : HeadReader) (b bytes : List ℕ) (used : ℕ) → used ≡ 0
+pub nothing_whole : {r new : HeadReader} {b : List ℕ} (bytes : List ℕ) (used : ℕ) → used ≡ 0
     → TakesValues r (take used bytes) new → SameCounts r new → StandsFor r b → Answers r.dialect b answer.More
     → TakesAll r.dialect b [] new
-nothing_whole r new b bytes used none v counts s more =
+nothing_whole {r} {new} {b} bytes used none v counts s more =
     takes_none r.dialect b new
     (kept_stands r new b goes s l (rw (same.0, append-nil l.0.items, same.1) at f.at) counts same.2) more
   where
@@ -182,11 +182,12 @@ up_to_of n None lt = tt
 up_to_of n (Some e) lt = omega (arith, lt)
 
 -- `whole_values`: values are taken, and counted
-pub values_whole : (r mid : HeadReader) (g : Guards mid) (b piece bytes : List ℕ) (used t : ℕ) → IsInside r piece bytes
+pub values_whole : {r mid : HeadReader} {b piece bytes : List ℕ} {t : ℕ} (used : ℕ) (g : Guards mid)
+    → IsInside r piece bytes
     → 1 ≤ used → used ≤ length bytes → TakesValues r (take used bytes) mid → SameCounts r mid → t ≡ mid.taken + used
     → StandsFor r b → Answers r.dialect b answer.More
     → TakesAll r.dialect b (take used piece) (counted mid g t t)
-values_whole r mid g b piece bytes used t inside some le v counts count s more =
+values_whole {r} {mid} {b} {piece} {bytes} {t} used g inside some le v counts count s more =
     subst (λ (l : List ℕ). TakesAll r.dialect b l new)
     (sym v.bytes_are ∙ front_taken piece bytes inside.len used inside.bytes_are le) (record {
       stands = last.1;

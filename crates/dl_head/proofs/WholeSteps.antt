@@ -203,19 +203,17 @@ offering_whole dialect b piece i n r new o le t = record {
       more)
 
 -- the same, by the reader's dialect
-pub offering_tried : (dialect : Dialect) (b piece rest : List ℕ) (i n : ℕ) (r new : HeadReader)
+pub offering_tried : {dialect : Dialect} {b piece rest : List ℕ} {i : ℕ} {r new : HeadReader} (n : ℕ)
     → Offering dialect b piece i r → r.dialect ≡ dialect → rest ≡ drop i piece → n ≤ length rest
     → ((c : List ℕ) → StandsFor r c → Answers r.dialect c answer.More → TakesAll r.dialect c (take n rest) new)
     → Offering dialect b piece (i + n) new
-offering_tried dialect b piece rest i n r new o same e le takes =
+offering_tried {dialect} {b} {piece} {rest} {i} {r} {new} n o same e le takes =
     let c = b ++ take i piece in
     offering_whole dialect b piece i n r new o (omega (arith, le, ap length e))
-    (subst (λ (k : Dialect). TakesAll k c (take n (drop i piece)) new) same
-    (subst (λ (l : List ℕ). TakesAll r.dialect c (take n l) new) e
-    (takes c o.stands (subst (λ (k : Dialect). Answers k c answer.More) (sym same) o.more))))
+    (rw (← same, ← e) (takes c o.stands (rw same o.more)))
 
 -- no byte was taken
-pub offering_still : (dialect : Dialect) (b piece : List ℕ) (i n : ℕ) (r : HeadReader) → n ≡ 0
+pub offering_still : {dialect : Dialect} {b piece : List ℕ} {r : HeadReader} (i n : ℕ) → n ≡ 0
     → Offering dialect b piece (i + n) r → Offering dialect b piece i r
-offering_still dialect b piece i n r none o = subst (λ (k : ℕ). Offering dialect b piece k r)
+offering_still {dialect} {b} {piece} {r} i n none o = subst (λ (k : ℕ). Offering dialect b piece k r)
     (let e : i + n ≡ i = omega (arith, none) in e) o

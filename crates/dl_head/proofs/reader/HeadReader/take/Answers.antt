@@ -20,9 +20,7 @@ loop-used-preserved-then-whole-gt0 c =
     record {
       within = omega (arith, w.ensures.within, ap length rest, length-drop c.loop-used.used c.args.piece.now, i.within);
       dialect = w.ensures.dialect ∙ i.dialect;
-      goes = λ b s more.
-          offering_tried c.args.self.now.dialect b c.args.piece.now _ c.loop-used.used w.result c.loop-used.self
-          w.new.self (i.goes b s more) i.dialect rest w.ensures.within w.ensures.takes;
+      goes = λ b s more. offering_tried w.result (i.goes b s more) i.dialect rest w.ensures.within w.ensures.takes;
     }
 
 pub loop-used-preserved : goal.loop-used-preserved
@@ -36,14 +34,9 @@ loop-used-preserved c =
       within = omega (arith, a.ensures.within, ap length rest, length-drop c.loop-used.used c.args.piece.now, i.within);
       dialect = a.ensures.dialect ∙ dialect;
       goes = λ b s more.
-          let tried = offering_tried c.args.self.now.dialect b c.args.piece.now _ c.loop-used.used w.result
-          c.loop-used.self w.new.self (i.goes b s more) i.dialect rest w.ensures.within w.ensures.takes in
-          let o = offering_still c.args.self.now.dialect b c.args.piece.now c.loop-used.used w.result w.new.self
-          (omega (arith, c.if-whole-gt0.false)) tried in
-          offering_on c.args.self.now.dialect b c.args.piece.now c.loop-used.used a.result.0 w.new.self a.new.self
-          a.result.1 o c.in-More.is
-          (advanced c.args.self.now.dialect b c.args.piece.now _ c.loop-used.used a.result.0 w.new.self a.new.self
-          a.result.1 o dialect rest a.ensures.advances);
+          let o = offering_still c.loop-used.used w.result (omega (arith, c.if-whole-gt0.false))
+          (offering_tried w.result (i.goes b s more) i.dialect rest w.ensures.within w.ensures.takes) in
+          offering_on o c.in-More.is (advanced o dialect rest a.ensures.advances);
     }
 
 pub returns-in_default : goal.returns-in_default
@@ -55,14 +48,9 @@ returns-in_default c =
     let rest = take_rest c.args.piece.now c.loop-used.used in
     record {
       offered = λ b s more.
-          let tried = offering_tried c.args.self.now.dialect b c.args.piece.now _ c.loop-used.used w.result
-          c.loop-used.self w.new.self (i.goes b s more) i.dialect rest w.ensures.within w.ensures.takes in
-          let o = offering_still c.args.self.now.dialect b c.args.piece.now c.loop-used.used w.result w.new.self
-          (omega (arith, c.if-whole-gt0.false)) tried in
-          offered_last c.args.self.now.dialect b c.args.piece.now c.loop-used.used a.result.0 w.new.self a.new.self
-          a.result.1 o i.within c.in_default.not-More
-          (advanced c.args.self.now.dialect b c.args.piece.now _ c.loop-used.used a.result.0 w.new.self a.new.self
-          a.result.1 o dialect rest a.ensures.advances);
+          let o = offering_still c.loop-used.used w.result (omega (arith, c.if-whole-gt0.false))
+          (offering_tried w.result (i.goes b s more) i.dialect rest w.ensures.within w.ensures.takes) in
+          offered_last o i.within c.in_default.not-More (advanced o dialect rest a.ensures.advances);
       within = omega (arith, a.ensures.within, ap length rest, length-drop c.loop-used.used c.args.piece.now, i.within);
       progress = λ goes fed. omega (arith, a.ensures.some fed);
       dialect = a.ensures.dialect ∙ dialect;
@@ -70,6 +58,4 @@ returns-in_default c =
 
 pub returns-clause-offered : goal.returns-clause-offered
 returns-clause-offered c b s more =
-    let i = c.loop-used.invariant in
-    offered_all c.args.self.now.dialect b c.args.piece.now c.loop-used.used c.loop-used.used c.loop-used.self
-    (i.goes b s more) i.within (omega (arith, c.loop-used-test.false)) refl
+    let i = c.loop-used.invariant in offered_all (i.goes b s more) i.within (omega (arith, c.loop-used-test.false)) refl
