@@ -123,7 +123,7 @@ module _ {r new : HeadReader} {b piece bytes : List ℕ} {n : ℕ} {result : Fie
   within_advances g t last fin is count s =
       let one = one_of byte_makes.Within is (λ e. cc) in
       taken_byte r.dialect b piece n last fin one some_piece more
-      (within_step r new fin g b byte t last live (one_follows byte_makes.Within is (λ e. cc))
+      (within_step last g t live (one_follows byte_makes.Within is (λ e. cc))
       (counts_on t count ∙ ap (λ (k : ℕ). length b + k) one) s)
 
   pub refuses_advances : (g : Guards new) (t : ℕ) (kind : FaultKind) (last : HeadStep) (fin : HeadReader)
@@ -132,7 +132,7 @@ module _ {r new : HeadReader} {b piece bytes : List ℕ} {n : ℕ} {result : Fie
   refuses_advances g t kind last fin is count f =
       let one = one_of (byte_makes.Refuses kind) is (λ e. cc) in
       taken_byte r.dialect b piece n last fin one some_piece more
-      (refused_step r new fin g b byte t kind last stands live (one_follows (byte_makes.Refuses kind) is (λ e. cc))
+      (refused_step g t stands live (one_follows (byte_makes.Refuses kind) is (λ e. cc))
       (subst (λ (s : FieldStep). Keeps r s new) is p.kept)
       (counts_on t count ∙ ap (λ (k : ℕ). length b + k) one) f)
 
@@ -151,8 +151,7 @@ module _ {r new : HeadReader} {b piece bytes : List ℕ} {n : ℕ} {result : Fie
       (follows.cells live.0.items live.0.rest live.0.at) follows.counts.dialect follows.counts.header total total
       (subst (λ (k : ℕ). Below (length b + (k - 1)) r.end) (sym size) (room r.end refl live.0.below)) in
       taken_bytes r.dialect b piece n last fin within
-      (by_dialect r mid fin (b ++ take n piece) last follows.counts.dialect
-      (settled mid fin (b ++ take n piece) whole.moved last s))
+      (by_dialect last follows.counts.dialect (settled last whole.moved s))
       λ j lt. subst (λ (l : List ℕ). Answers r.dialect (b ++ l) answer.More) (take-take j n piece (omega (arith, lt)))
       (whole.more j (omega (arith, lt, size)))
 

@@ -275,4 +275,4 @@ values_whole {r} {mid} {b} {piece} {bytes} {t} used g inside some le v counts co
         omega (arith, here, taken)
 
     last : Answers new.dialect (b ++ w) answer.More × StandsFor new (b ++ w)
-    last = goes_on new (b ++ w) (ap ending v.phase ∙ goes) moved not_end
+    last = goes_on (ap ending v.phase ∙ goes) moved not_end
