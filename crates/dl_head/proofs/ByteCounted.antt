@@ -10,13 +10,11 @@ use Rattle.dl_head.specs.declared.reader.HeadReader.{HeadReader}
 use Rattle.dl_head.specs.declared.reader.HeadStep.{HeadStep}
 use Rattle.dl_head.specs.declared.reader.HeadStep.TheVariants as answer
 use Rattle.dl_table.specs.declared.fault.FaultKind.{FaultKind}
-use Rattle.dl_table.specs.declared.form.Format.{Format}
 use Rattle.dl_field.specs.HeaderData.{HeaderData}
 use Rattle.dl_field.specs.Layout.{foreign_version, Item, following_all}
-use Rattle.dl_head.specs.HeaderLayout.{header_layout, from_end, initial_size}
-use Rattle.dl_head.specs.Header.{Cut, cut, unit_end, unit_len, header_made, foreign_made, foreign_in, IsHeader}
-use Rattle.dl_head.specs.Refusal.{header_decided, HeaderRefused}
-use Rattle.dl_head.specs.Cells.{cells}
+use Rattle.dl_head.specs.HeaderLayout.{header_layout, from_end}
+use Rattle.dl_head.specs.Header.{Cut, cut, unit_end, unit_len, header_made, foreign_in, IsHeader}
+use Rattle.dl_head.specs.Refusal.{HeaderRefused}
 use Rattle.dl_head.specs.Place.{Past, SameUnit, end_of_unit}
 use Rattle.dl_head.specs.Standing.{IsRead, Below, Live, Unmade, ending, Stands, StandsFor, unit_known, Fails, Completes}
 use Rattle.dl_head.specs.Standing.{SettlesAt, Settles}

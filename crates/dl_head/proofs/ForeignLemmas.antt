@@ -1,10 +1,10 @@
 -- A foreign version stays that of its unit.
-use Rattle.std.proofs.Common.{◌≡◌, ℕ, List, [], ◌∷◌, ◌++◌, Some, refl, ap, ◌∙◌, append-nil}
+use Rattle.std.proofs.Common.{◌≡◌, ℕ, List, [], ◌∷◌, ◌++◌, Some, refl, append-nil}
 use Rattle.dl_num.specs.declared.fixed.Order.{Order}
 use Rattle.dl_head.specs.declared.dialect.Dialect.{Dialect}
-use Rattle.dl_field.specs.Layout.{Layout, foreign_version, Item, following_all}
+use Rattle.dl_field.specs.Layout.{foreign_version, following_all}
 use Rattle.dl_head.specs.HeaderLayout.{header_layout}
-use Rattle.dl_head.specs.Header.{Cut, cut_after, cut, foreign_in, foreign_made}
+use Rattle.dl_head.specs.Header.{cut_after, cut, foreign_in}
 use Rattle.dl_head.proofs.CutLemmas.{cut-append}
 use Rattle.dl_head.proofs.RefusalLaws.{foreign_last}
 

@@ -4,16 +4,16 @@ use Rattle.std.proofs.Common.{refl, sym, ap, ◌∙◌, arith, length-append, ap
 use Rattle.dl_num.specs.declared.fixed.Order.{Order}
 use Rattle.dl_head.specs.declared.dialect.Dialect.{Dialect}
 use Rattle.dl_field.specs.HeaderData.{HeaderData}
-use Rattle.dl_field.specs.Layout.{any_byte, Layout, foreign_version, Item, following_all}
+use Rattle.dl_field.specs.Layout.{any_byte, foreign_version, Item, following_all}
 use Rattle.dl_head.specs.HeaderLayout.{header_layout, initial_size, fixed_part, from_minimum_length}
-use Rattle.dl_head.specs.Header.{SpellsFields, Cut, cut_after, cut, unit_end, header_end, header_made, IsHeader}
-use Rattle.dl_head.specs.Refusal.{cut_decided, header_decided}
+use Rattle.dl_head.specs.Header.{SpellsFields, cut_after, cut, unit_end, header_end, header_made, IsHeader}
+use Rattle.dl_head.specs.Refusal.{header_decided}
 use Rattle.dl_head.specs.Laws.{HeaderIsNotRefused, ForeignIsNotRefused}
 use Rattle.dl_field.proofs.FieldLemmas.{none_some, sized_length}
-use Rattle.dl_head.proofs.CutLemmas.{cut_of, before_none, cut_fields, cut_last, cut_sound, Sound, with_items}
+use Rattle.dl_head.proofs.CutLemmas.{cut_of, before_none, cut_fields, cut_last, cut_sound, Sound}
 use Rattle.dl_head.proofs.HeaderLaws.{made_last}
 use Rattle.dl_head.proofs.FrontLemmas.{GoesOn, fronts, Inside, inside}
-use Rattle.dl_head.proofs.RefusalLaws.{decided_on, quiet, foreign_last}
+use Rattle.dl_head.proofs.RefusalLaws.{quiet, foreign_last}
 use Rattle.dl_head.proofs.Openings.{Opening, opening_of}
 use Rattle.dl_head.proofs.FirstFields.{late_not_foreign}
 use Rattle.dl_head.proofs.EarlyEnds.{no_overrun, spells-append, early_of, header_end-append, unit_end-append}
