@@ -144,7 +144,7 @@ module _ (order : Order) (h : HeaderData) (Known : Type 0) (limit : ℕ) (small 
   after_lengths opcode zero before next items m =
       ([], refl, refl, at_once order h Known (rw (append-nil before) m))
   after_lengths opcode (suc count) before next items m =
-      let n = after_number order h Known (opcode_length opcode) _ items m in
+      let n = after_number order h Known (at_once order h Known m) in
       let more = after_lengths (opcode + 1) count (before ++ n.number ∷ []) next n.tail.later n.tail.makes in (
         n.number ∷ more.0,
         omega (arith, more.1),
@@ -218,10 +218,10 @@ module _ (order : Order) (h : HeaderData) (Known : Type 0) (limit : ℕ) (small 
       → (Known → p.maximum_operations_per_instruction < 2 ^ 8)
       → Makes order h Known (from_default_is_stmt p) items → HeaderRead items
   default_read p items short fine operations most m =
-      let stmt = after_number order h Known any_byte _ items m in
-      let base = after_number order h Known any_byte _ stmt.tail.later stmt.tail.makes in
-      let range = after_number order h Known line_range _ base.tail.later base.tail.makes in
-      let opcodes = after_number order h Known opcode_base _ range.tail.later range.tail.makes in
+      let stmt = after_number order h Known (at_once order h Known m) in
+      let base = after_number order h Known stmt.tail in
+      let range = after_number order h Known base.tail in
+      let opcodes = after_number order h Known range.tail in
       let q : Params = record p {
         default_is_stmt = stmt.number;
         line_base = signed_byte base.number;
@@ -231,12 +231,12 @@ module _ (order : Order) (h : HeaderData) (Known : Type 0) (limit : ℕ) (small 
       let lengths = after_lengths 1 (opcodes.number - 1) []
       (λ ns. tables_layout (record q { lengths = record { items = ns } })) opcodes.tail.later opcodes.tail.makes in
       let positive = ltb-true 0 opcodes.number (some_left opcodes.number fault.OpcodeBase opcodes.right) in
-      read_on stmt.tail (read_on base.tail (read_on range.tail (read_on opcodes.tail (read_on lengths.3
+      read_on opcodes.tail (read_on lengths.3
       (tables_read (record q { lengths = record { items = lengths.0 } }) lengths.3.later
-      (omega (arith, short, stmt.tail.fewer, base.tail.fewer, range.tail.fewer, opcodes.tail.fewer, lengths.3.fewer))
+      (omega (arith, short, opcodes.tail.fewer, lengths.3.fewer))
       (record { version = fine.version; size = fine.size }) operations
       (some_left range.number fault.LineRange range.right) (omega (arith, lengths.1)) lengths.2
-      (λ known. (most known, sfits_signed base.number (base.byte known refl))) lengths.3.makes)))))
+      (λ known. (most known, sfits_signed base.number (base.byte known refl))) lengths.3.makes))
 
   after_minimum_read : (p : Params) (items : List Item) → length items ≤ limit → Fine p
       → (p.version < 4 → p.maximum_operations_per_instruction ≡ 1) → Makes order h Known (after_minimum_length p) items
@@ -249,7 +249,7 @@ module _ (order : Order) (h : HeaderData) (Known : Type 0) (limit : ℕ) (small 
   ] where
     from_four : 4 ≤ p.version → Makes order h Known (from_maximum_operations p) items → HeaderRead items
     from_four new t =
-        let maximum = after_number order h Known maximum_operations _ items t in
+        let maximum = after_number order h Known (at_once order h Known t) in
         read_on maximum.tail (default_read (record p { maximum_operations_per_instruction = maximum.number })
         maximum.tail.later (omega (arith, short, maximum.tail.fewer))
         (record { version = fine.version; size = fine.size })
@@ -261,7 +261,7 @@ module _ (order : Order) (h : HeaderData) (Known : Type 0) (limit : ℕ) (small 
       → (p.version < 4 → p.maximum_operations_per_instruction ≡ 1)
       → Makes order h Known (from_minimum_length p) items → HeaderRead items
   late_read p items short fine one m =
-      let minimum = after_number order h Known any_byte _ items m in
+      let minimum = after_number order h Known (at_once order h Known m) in
       read_on minimum.tail (after_minimum_read (record p { minimum_instruction_length = minimum.number })
       minimum.tail.later (omega (arith, short, minimum.tail.fewer))
       (record { version = fine.version; size = fine.size }) one minimum.tail.makes)
@@ -270,15 +270,14 @@ module _ (order : Order) (h : HeaderData) (Known : Type 0) (limit : ℕ) (small 
   fields_read : (unit : ℕ) (p : Params) (items : List Item) → length items ≤ limit → p.version ≡ 5
       → Makes order h Known (from_address_size unit p) items → HeaderRead items
   fields_read unit p items short five m =
-      let address = after_number order h Known address_size _ items m in
-      let segment = after_number order h Known any_byte _ address.tail.later address.tail.makes in
-      let size = after_number order h Known (header_length p.format (unit - fixed_part p.format p.version)) _
-      segment.tail.later segment.tail.makes in
-      read_on address.tail (read_on segment.tail (read_on size.tail (late_read
+      let address = after_number order h Known (at_once order h Known m) in
+      let segment = after_number order h Known address.tail in
+      let size = after_number order h Known segment.tail in
+      read_on size.tail (late_read
       (record p { address_size = address.number; segment_selector_size = segment.number }) size.tail.later
-      (omega (arith, short, address.tail.fewer, segment.tail.fewer, size.tail.fewer))
+      (omega (arith, short, size.tail.fewer))
       (record { version = ap is_version five; size = size_right address.number address.right })
-      (λ lt. absurd (omega (arith, lt, five))) size.tail.makes)))
+      (λ lt. absurd (omega (arith, lt, five))) size.tail.makes)
 
   -- those of an older version from header_length on
   older_read : (format : Format) (unit v : ℕ) (o : Option ℕ) (items : List Item) → length items ≤ limit
@@ -288,7 +287,7 @@ module _ (order : Order) (h : HeaderData) (Known : Type 0) (limit : ℕ) (small 
   older_read format unit v None (i ∷ items) short fits is_v m =
       absurd ((field_is_judged order (foreign_version v) i m.spelt.0).1 m.spelt.3)
   older_read format unit v (Some n) items short fits is_v m =
-      let size = after_number order h Known (header_length format (unit - fixed_part format v)) _ items m in
+      let size = after_number order h Known (at_once order h Known m) in
       read_on size.tail (late_read (older_params format v n) size.tail.later (omega (arith, short, size.tail.fewer))
       (record { version = is_v n refl; size = fits n refl }) (λ lt. refl) size.tail.makes)
 
@@ -298,15 +297,15 @@ module _ (order : Order) (h : HeaderData) (Known : Type 0) (limit : ℕ) (small 
       let f = first order h Known (header_layout dialect) items (none_made order h Known) m in
       let next = subst (λ (i : Item). After order h Known (following (header_layout dialect) i) (item_cells i) items)
       f.is.2 f.tail in
-      let v = after_number order h Known version (after_length dialect f.is.0 f.is.1) next.later next.makes in
-      let fewer : length v.tail.later ≤ limit = omega (arith, short, next.fewer, v.tail.fewer) in
-      read_on next (read_on v.tail (elim (cases_eq v.number 5) [
+      let v = after_number order h Known {next = after_length dialect f.is.0 f.is.1} next in
+      let fewer : length v.tail.later ≤ limit = omega (arith, short, v.tail.fewer) in
+      read_on v.tail (elim (cases_eq v.number 5) [
         | inl five ↦ fields_read f.is.1 (format_alone f.is.0) v.tail.later fewer refl
             (rw (eq-eqb v.number 5 five) at v.tail.makes)
         | inr other ↦ older_read f.is.0 f.is.1 v.number (older_size dialect v.number) v.tail.later fewer
             (older_fits dialect v.number) (older_version dialect v.number)
             (rw (ne_eqb v.number 5 other) at v.tail.makes)
-      ]))
+      ])
 
 pub header_is_sound : ReadIsSound
 header_is_sound dialect h w is all =

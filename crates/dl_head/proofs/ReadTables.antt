@@ -101,29 +101,34 @@ module _ (order : Order) (h : HeaderData) (Known : Type 0) where
         less = omega arith;
       }
 
-  pub record Number (field : NumberField) (next : ℕ → Layout) (items : List Item) : Type 0 where
+  -- a number, a form and a value more
+  pub record Number (field : NumberField) (next : ℕ → Layout) (held : ℕ) (items : List Item) : Type 0 where
     pub number : ℕ
     pub right : objection field number ≡ None
     pub byte : Known → number_size field ≡ Some 1 → number < 256
-    pub tail : After (next number) 0 items
+    pub tail : After (next number) held items
 
-  pub after_number : (field : NumberField) (next : ℕ → Layout) (items : List Item)
-      → Makes (number_then field next) items → Number field next items
-  after_number field next items m =
-      let f = first (number_then field next) items none_made m in
+  pub after_number : {field : NumberField} {next : ℕ → Layout} {held : ℕ} {items : List Item}
+      → After (number_then field next) held items → Number field next held items
+  after_number {field} {next} {held} a =
+      let f = first (number_then field next) a.later none_made a.makes in
       record {
         number = f.is.0;
         right = f.is.3;
         byte = λ known e. fixed_below order 1 f.is.0 f.bytes (f.all known)
             (subst (λ (k : Option ℕ). IsNumber order k f.is.0 f.bytes) e f.is.2);
-        tail = subst (λ (i : Item). After (following (number_then field next) i) (item_cells i) items) f.is.1 f.tail;
+        tail = joined held a (subst (λ (i : Item). After (following (number_then field next) i) (item_cells i) a.later)
+            f.is.1 f.tail) (omega arith);
       }
 
-  after_form : (next : Form → Layout) (items : List Item) → Makes (form_then next) items
-      → (f : Form) × After (next f) 1 items
-  after_form next items m =
-      let f = first (form_then next) items none_made m in
-      (f.is.0, subst (λ (i : Item). After (following (form_then next) i) (item_cells i) items) f.is.1 f.tail)
+  after_form : {next : Form → Layout} {held : ℕ} {items : List Item} → After (form_then next) held items
+      → (f : Form) × After (next f) (held + 1) items
+  after_form {next} {held} a =
+      let f = first (form_then next) a.later none_made a.makes in (
+        f.is.0,
+        joined (held + 1) a (subst (λ (i : Item). After (following (form_then next) i) (item_cells i) a.later) f.is.1
+            f.tail) refl,
+      )
 
   after_value : (format : Format) (form : Form) (next : Value → Layout) (items : List Item)
       → Makes (value_then format form next) items
@@ -148,16 +153,16 @@ module _ (order : Order) (h : HeaderData) (Known : Type 0) where
       → (pairs : List Pair) × AreContents pairs × (length pairs ≡ count) × After (next (before ++ pairs)) count items
   after_pairs zero before next items m = ([], tt, refl, at_once (rw (append-nil before) m))
   after_pairs (suc count) before next items m =
-      let code = after_number content_code _ items m in
-      let f = after_form _ code.tail.later code.tail.makes in
+      let code = after_number (at_once m) in
+      let f = after_form code.tail in
       let pair : Pair = record { content = code.number; form = f.0 } in
       let more = after_pairs count (before ++ pair ∷ []) next f.1.later f.1.makes in (
         pair ∷ more.0,
         (small_content code.number code.right, more.1),
         omega (arith, more.2),
-        joined (suc count) code.tail (joined (suc count) f.1
+        joined (suc count) f.1
             (subst (λ (l : List Pair). After (next l) count f.1.later) (append_assoc before (pair ∷ []) more.0) more.3)
-            (omega arith)) (omega arith),
+            (omega arith),
       )
 
   after_entry : (format : Format) (i : ℕ) (pairs : List Pair) (before : List Value) (next : List Value → Layout)
@@ -229,9 +234,9 @@ module _ (order : Order) (h : HeaderData) (Known : Type 0) where
   pub after_table : (format : Format) (next : TableData → Layout) (items : List Item)
       → Makes (table_layout format next) items → TableRead format next 0 items
   after_table format next items m =
-      let count = after_number any_byte _ items m in
+      let count = after_number (at_once m) in
       let pairs = after_pairs count.number [] _ count.tail.later count.tail.makes in
-      let entries = after_number (entry_count (not (count.number == 0))) _ pairs.3.later pairs.3.makes in
+      let entries = after_number (joined count.number count.tail pairs.3 (omega arith)) in
       let nothing : pairs.0 ≡ [] → entries.number ≡ 0 = λ none.
       let zero_pairs : count.number ≡ 0 = (let size = ap length none in omega (arith, pairs.2)) in
       no_entries entries.number (subst (λ (b : Bool). objection (entry_count b) entries.number ≡ None)
@@ -247,8 +252,8 @@ module _ (order : Order) (h : HeaderData) (Known : Type 0) where
         };
         later = all.3.later;
         makes = all.3.makes;
-        fewer = omega (arith, all.3.fewer, entries.tail.fewer, pairs.3.fewer, count.tail.fewer);
-        cells = omega (arith, count.tail.cells, pairs.3.cells, entries.tail.cells, all.3.cells, pairs.2);
+        fewer = omega (arith, all.3.fewer, entries.tail.fewer);
+        cells = omega (arith, entries.tail.cells, all.3.cells, pairs.2);
       }
 
   -- ---- tables of versions 2 to 4
