@@ -63,19 +63,3 @@ module _ (r new : HeadReader) (bytes : List ℕ) (k : ℕ) {T : Type 0}
       phase = phase;
       end = end;
     }
-
--- outside the tables nothing is taken
-pub none_taken : (r : HeadReader) → TakesValues r [] r
-none_taken r = record {
-  values = [];
-  bytes_are = refl;
-  each = λ items rest at. record {
-    more = [];
-    left = rest;
-    ends = (refl, refl);
-    at = rw (append-nil items) at;
-    past = λ some. absurd (omega (arith, some));
-  };
-  phase = refl;
-  end = refl;
-}
