@@ -20,17 +20,18 @@ use Rattle.dl_head.specs.HeaderLayout.{header_layout}
 use Rattle.dl_head.specs.Place.{Past, At, SameCounts, held_cells}
 use Rattle.dl_head.specs.Reading.{Answers}
 use Rattle.dl_head.specs.Standing.{Below, IsRead, Live, Unmade, ending, StandsFor}
-use Rattle.dl_head.specs.Whole.{IsInside, TakesAll, TakesFieldsOf, TakesValues}
+use Rattle.dl_head.specs.Whole.{Before, IsInside, TakesAll, TakesFieldsOf, TakesValues}
 use Rattle.dl_head.proofs.ByteCounted.{goes_on}
 use Rattle.dl_head.proofs.HeaderEnds.{UpTo, after_end}
 use Rattle.dl_head.proofs.TakenBytes.{IsNext}
 use Rattle.dl_head.proofs.MovedReader.{Moved}
 use Rattle.dl_head.proofs.OneByteMore.{goes_more, live_of, kept_stands}
+use Rattle.dl_head.proofs.OfferLemmas.{before_join, takes_none}
 use Rattle.dl_head.proofs.OneFieldMore.{past_more}
 use Rattle.dl_head.proofs.SamePlace.{Guards, counted}
 use Rattle.dl_head.proofs.StepCells.{cells_good_on}
 use Rattle.dl_head.proofs.TurnLemmas.{front_taken}
-use Rattle.dl_head.proofs.WholeSteps.{takes_none, Passed, passes, good_next}
+use Rattle.dl_head.proofs.WholeSteps.{Passed, passes, good_next}
 
 -- ---- values more
 
@@ -53,7 +54,7 @@ module _ (r : HeadReader) where
   -- and no front of the bytes w after b comes to anything
   pub record Run (b w rest : List ℕ) (items : List Item) (n : ℕ) : Type 0 where
     pub among : Among (b ++ w) rest items n
-    pub more : (j : ℕ) → j < length w → Answers r.dialect (b ++ take j w) answer.More
+    pub more : Before r.dialect b w
 
   -- a value
   value_on : (b rest w : List ℕ) (items : List Item) (i : Item) (m n : ℕ) → Among b rest items m
@@ -83,21 +84,6 @@ module _ (r : HeadReader) where
         (record { read = a.read; below = a.below }) spelt
         (below_less (length b + length w) (length b + (length w - 1)) r.end (omega arith) below)
 
-  fronts : (b v w : List ℕ) → ((j : ℕ) → j < length v → Answers r.dialect (b ++ take j v) answer.More)
-      → ((j : ℕ) → j < length w → Answers r.dialect ((b ++ v) ++ take j w) answer.More) → (j : ℕ) → j < length (v ++ w)
-      → Answers r.dialect (b ++ take j (v ++ w)) answer.More
-  fronts b v w first later j lt = elim (cases_lt j (length v)) [
-    | inl shorter ↦ subst (λ (l : List ℕ). Answers r.dialect (b ++ l) answer.More)
-        (sym (take-append-le j v w (omega (arith, shorter)))) (first j shorter)
-    | inr tail ↦
-        let k = j - length v in
-        let same : length v + k ≡ j = omega (arith, tail) in
-        subst (λ (l : List ℕ). Answers r.dialect l answer.More)
-        (append_assoc b v (take k w) ∙ ap (λ (l : List ℕ). b ++ l) (sym (take-append-add v w k))
-        ∙ ap (λ (n : ℕ). b ++ take n (v ++ w)) same)
-        (later k (omega (arith, lt, tail, length-append v w)))
-  ]
-
   -- values, one after the other
   values_on : (values : List (List ℕ)) (more : List Item) (b rest left : List ℕ) (items : List Item) (m n : ℕ)
       → Among b rest items m → EndEach r.dialect.order (layout_of items) rest values more m n left
@@ -119,7 +105,7 @@ module _ (r : HeadReader) where
         among = subst (λ (l : List ℕ). Among l left (items ++ i ∷ more) n) (append_assoc b w (concat values))
             (subst (λ (is : List Item). Among ((b ++ w) ++ concat values) left is n)
             (append_assoc items (i ∷ []) more) later.among);
-        more = fronts b w (concat values) first.more later.more;
+        more = before_join r.dialect b w (concat values) first.more later.more;
       }
   values_on [] (i ∷ more) b rest left items m n a e below = absurd e
   values_on (w ∷ values) [] b rest left items m n a e below = absurd e
@@ -189,15 +175,8 @@ pub values_whole : {r mid : HeadReader} {b piece bytes : List ℕ} {t : ℕ} (us
     → TakesAll r.dialect b (take used piece) (counted mid g t t)
 values_whole {r} {mid} {b} {piece} {bytes} {t} used g inside some le v counts count s more =
     subst (λ (l : List ℕ). TakesAll r.dialect b l new)
-    (sym v.bytes_are ∙ front_taken piece bytes inside.len used inside.bytes_are le) (record {
-      stands = last.1;
-      more = λ i small. elim (cases_lt i (length w)) [
-        | inl lt ↦ run.more i lt
-        | inr ge ↦ subst (λ (k : List ℕ). Answers r.dialect (b ++ k) answer.More)
-            (sym (take_all i w ge))
-            (subst (λ (d : Dialect). Answers d (b ++ w) answer.More) counts.dialect last.0)
-      ];
-    })
+    (sym v.bytes_are ∙ front_taken piece bytes inside.len used inside.bytes_are le)
+    (record { stands = last.1; goes = rw counts.dialect at last.0; before = run.more })
   where
     new : HeadReader
     new = counted mid g t t

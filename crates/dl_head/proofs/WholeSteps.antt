@@ -19,7 +19,7 @@ use Rattle.dl_field.specs.TableMoves.{Adds}
 use Rattle.dl_head.specs.Place.{Made, held_cells}
 use Rattle.dl_head.specs.Standing.{Below, IsRead, Live, Unmade, StandsFor}
 use Rattle.dl_head.specs.Reading.{Answers}
-use Rattle.dl_head.specs.Whole.{TakesAll}
+use Rattle.dl_head.specs.Whole.{Before}
 use Rattle.dl_field.proofs.FieldLemmas.{none_some}
 use Rattle.dl_head.proofs.CutLemmas.{before_none}
 use Rattle.dl_head.proofs.HeaderEnds.{end_from, UpTo, EndIs, room_on}
@@ -27,20 +27,7 @@ use Rattle.dl_head.proofs.TakenBytes.{IsNext, end_is, quiet_at, field_more}
 use Rattle.dl_head.proofs.StepCells.{cells_good_on}
 use Rattle.dl_head.proofs.MovedReader.{Moved, read_within, read_ends}
 use Rattle.dl_head.proofs.TurnLemmas.{joined}
-use Rattle.dl_head.proofs.OfferLemmas.{Offering}
-
--- ---- nothing is taken
-
-pub takes_none : (dialect : Dialect) (b : List ℕ) (r : HeadReader) → StandsFor r b → Answers dialect b answer.More
-    → TakesAll dialect b [] r
-takes_none dialect b r s more = record {
-  stands = subst (λ (l : List ℕ). StandsFor r l) (sym (append-nil b)) s;
-  more = λ i le. subst (λ (l : List ℕ). Answers dialect l answer.More)
-      (sym (ap (λ (l : List ℕ). b ++ l) (none i) ∙ append-nil b)) more;
-} where
-  none : (i : ℕ) → take {A = ℕ} i [] ≡ []
-  none zero = refl
-  none (suc i) = refl
+use Rattle.dl_head.proofs.OfferLemmas.{before_join}
 
 -- ---- bytes of a field up to its last one
 
@@ -59,10 +46,11 @@ module _ (r : HeadReader) (items : List Item) (end : EndIs r items)
     pub record Passed (b rest w : List ℕ) (i : Item) : Type 0 where
       pub read : IsRead r.dialect (b ++ w) (items ++ i ∷ []) []
       pub up_to : UpTo (length (b ++ w)) (end_from (items ++ i ∷ []))
-      pub more : (j : ℕ) → j < length w → Answers r.dialect (b ++ take j w) answer.More
+      pub more : Before r.dialect b w
 
-    more_at : (b rest : List ℕ) → Passing b rest → Answers r.dialect (b ++ []) answer.More
-    more_at b rest p = rw (append-nil b) (field_more r b p.read end next p.below)
+    one_before : (b rest : List ℕ) (x : ℕ) → Passing b rest → Before r.dialect b (x ∷ [])
+    one_before b rest x p zero lt = rw (append-nil b) (field_more r b p.read end next p.below)
+    one_before b rest x p (suc j) lt = absurd (omega (arith, lt))
 
     quiet_here : (b rest : List ℕ) → Passing b rest → header_decided r.dialect b ≡ None
     quiet_here b rest p = quiet_at r b p.read end p.below
@@ -78,8 +66,7 @@ module _ (r : HeadReader) (items : List Item) (end : EndIs r items)
         record {
           read = read_ends x i p.read (quiet_here b rest p) spelt here;
           up_to = room_on r.dialect b x items rest i p.read.cut_is spelt here;
-          more = λ j lt. subst (λ (k : ℕ). Answers r.dialect (b ++ take k (x ∷ [])) answer.More)
-              (let e : 0 ≡ j = omega (arith, lt) in e) (more_at b rest p);
+          more = one_before b rest x p;
         }
     passes (x ∷ y ∷ w) b rest i p spelt below =
         let longer : (rest ++ x ∷ []) ++ y ∷ w ≡ rest ++ x ∷ y ∷ w = append_assoc rest (x ∷ []) (y ∷ w) in
@@ -99,19 +86,12 @@ module _ (r : HeadReader) (items : List Item) (end : EndIs r items)
         record {
           read = subst (λ (l : List ℕ). IsRead r.dialect l (items ++ i ∷ []) []) same q.read;
           up_to = subst (λ (l : List ℕ). UpTo (length l) (end_from (items ++ i ∷ []))) same q.up_to;
-          more = fronts (more_at b rest p) q.more;
+          more = before_join r.dialect b (x ∷ []) (y ∷ w) (one_before b rest x p) q.more;
         }
       where
         below_less : (m n : ℕ) (o : Option ℕ) → n ≤ m → Below m o → Below n o
         below_less m n None le lt = tt
         below_less m n (Some e) le lt = omega (arith, le, lt)
-
-        fronts : Answers r.dialect (b ++ []) answer.More
-            → ((j : ℕ) → j < length (y ∷ w) → Answers r.dialect ((b ++ x ∷ []) ++ take j (y ∷ w)) answer.More)
-            → (j : ℕ) → j < length (x ∷ y ∷ w) → Answers r.dialect (b ++ take j (x ∷ y ∷ w)) answer.More
-        fronts first more zero lt = first
-        fronts first more (suc j) lt = subst (λ (l : List ℕ). Answers r.dialect l answer.More)
-            (append_assoc b (x ∷ []) (take j (y ∷ w))) (more j (omega (arith, lt)))
 
 -- ---- a field is whole
 
@@ -129,7 +109,7 @@ good_next order (last_entry h) w i spelt = absurd (none_some {a = Ok i} refl spe
 -- the reader has the bytes w more, which end the field
 pub record Whole (r fin : HeadReader) (b w : List ℕ) : Type 0 where
   pub moved : Moved fin (b ++ w)
-  pub more : (j : ℕ) → j < length w → Answers r.dialect (b ++ take j w) answer.More
+  pub more : Before r.dialect b w
 
 pub whole_moved : (r fin : HeadReader) (b w : List ℕ) → (l : Live r b × Unmade r b)
     → Made r.dialect l.0.items (l.0.rest ++ w) byte_makes.Ends fin
@@ -176,44 +156,3 @@ whole_moved r fin b w l made adds dialect header start taken below = record {
 
   size : length (b ++ w) ≡ length b + length w
   size = length-append b w
-
--- ---- a piece
-
--- a value is taken
-pub offering_whole : (dialect : Dialect) (b piece : List ℕ) (i n : ℕ) (r new : HeadReader)
-    → Offering dialect b piece i r → n ≤ length (drop i piece)
-    → TakesAll dialect (b ++ take i piece) (take n (drop i piece)) new → Offering dialect b piece (i + n) new
-offering_whole dialect b piece i n r new o le t = record {
-  stands = subst (λ (l : List ℕ). StandsFor new l) (joined b piece i n) t.stands;
-  more = front n (omega arith);
-  before = λ j lt. elim (cases_lt j i) [
-    | inl shorter ↦ o.before j shorter
-    | inr tail ↦
-        let same : i + (j - i) ≡ j = omega (arith, tail) in
-        subst (λ (m : ℕ). Answers dialect (b ++ take m piece) answer.More) same
-        (front (j - i) (omega (arith, lt, tail)))
-  ];
-} where
-  front : (j : ℕ) → j ≤ n → Answers dialect (b ++ take (i + j) piece) answer.More
-  front j small =
-      let more = t.more j (omega (arith, small, length-take-le n (drop i piece) le)) in
-      subst (λ (l : List ℕ). Answers dialect l answer.More) (joined b piece i j)
-      (subst (λ (l : List ℕ). Answers dialect ((b ++ take i piece) ++ l) answer.More)
-      (take-take j n (drop i piece) small)
-      more)
-
--- the same, by the reader's dialect
-pub offering_tried : {dialect : Dialect} {b piece rest : List ℕ} {i : ℕ} {r new : HeadReader} (n : ℕ)
-    → Offering dialect b piece i r → r.dialect ≡ dialect → rest ≡ drop i piece → n ≤ length rest
-    → ((c : List ℕ) → StandsFor r c → Answers r.dialect c answer.More → TakesAll r.dialect c (take n rest) new)
-    → Offering dialect b piece (i + n) new
-offering_tried {dialect} {b} {piece} {rest} {i} {r} {new} n o same e le takes =
-    let c = b ++ take i piece in
-    offering_whole dialect b piece i n r new o (omega (arith, le, ap length e))
-    (rw (← same, ← e) (takes c o.stands (rw same o.more)))
-
--- no byte was taken
-pub offering_still : {dialect : Dialect} {b piece : List ℕ} {r : HeadReader} (i n : ℕ) → n ≡ 0
-    → Offering dialect b piece (i + n) r → Offering dialect b piece i r
-offering_still {dialect} {b} {piece} {r} i n none o = subst (λ (k : ℕ). Offering dialect b piece k r)
-    (let e : i + n ≡ i = omega (arith, none) in e) o

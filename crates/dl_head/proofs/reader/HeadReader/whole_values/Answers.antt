@@ -1,6 +1,6 @@
 use Rattle.std.proofs.Common.{arith}
 use Rattle.dl_head.proofs.ValueRuns.{values_whole, nothing_whole}
-use Rattle.dl_head.proofs.WholeSteps.{takes_none}
+use Rattle.dl_head.proofs.OfferLemmas.{takes_none}
 use Rattle.dl_head.proofs.reader.HeadReader.whole_values.Goals as goal
 
 pub returns-then-piece-lt2-clause-takes : goal.returns-then-piece-lt2-clause-takes
