@@ -12,9 +12,9 @@ use Rattle.dl_head.specs.declared.reader.HeadReader.{HeadReader}
 use Rattle.dl_head.specs.declared.reader.HeadStep.{HeadStep}
 use Rattle.dl_head.specs.declared.reader.HeadStep.TheVariants as answer
 use Rattle.dl_head.specs.HeadStep.{end_near}
-use Rattle.dl_head.specs.Place.{BytesFollow, PushFollows, Keeps}
+use Rattle.dl_head.specs.Place.{BytesFollow, PushFollows}
 use Rattle.dl_head.specs.Standing.{Below, Live, Unmade, ending, StandsFor, Fails, Settles}
-use Rattle.dl_head.specs.Reading.{Answers, AddsCell, Steps}
+use Rattle.dl_head.specs.Reading.{Answers, Steps}
 use Rattle.dl_head.specs.Whole.{IsFront, Pushed, Advances}
 use Rattle.dl_head.proofs.ByteCounted.{settled}
 use Rattle.dl_head.proofs.OfferLemmas.{so_far_same}

@@ -55,7 +55,8 @@ moved_counts {r} {b} m =
     record {
       taken = m.taken_is;
       unit = unit_of r m.read at;
-      within = fits_of r.dialect b m.read.cut_is m.read.ends_within (subst (λ (o : Option ℕ). UpTo (length b) o) at.end m.up_to);
+      within = fits_of r.dialect b m.read.cut_is m.read.ends_within
+          (subst (λ (o : Option ℕ). UpTo (length b) o) at.end m.up_to);
     }
 
 same_counts : {dialect : Dialect} {r : HeadReader} {b : List ℕ} (fin : HeadReader) → Counts dialect r b

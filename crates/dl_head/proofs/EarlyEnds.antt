@@ -140,7 +140,12 @@ sized_few order layout [] (i ∷ items) w is few s = absurd (omega (arith, few))
 sized_few order layout (k ∷ sizes) (i ∷ items) w is few s =
     let first = subst (λ (l : Layout). SpellsFields order l (i ∷ items) w) is.2 s in
     let n = numbered order is.0 is.1 k is.3 i items w first in
-    omega (arith, n.size, sized_few order (is.1 n.number) sizes items n.rest (is.4 n.number) (omega (arith, few)) n.spelt)
+    omega (
+      arith,
+      n.size,
+      sized_few order (is.1 n.number) sizes items n.rest (is.4 n.number)
+          (omega (arith, few)) n.spelt,
+    )
 
 -- as many fields as an initial length, a version and numbers of these sizes, or fewer
 head_few : (dialect : Dialect) (f : Format) (n v : ℕ) (sizes : List ℕ) (tail items more : List Item) (w : List ℕ)

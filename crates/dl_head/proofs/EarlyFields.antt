@@ -219,7 +219,8 @@ before_ends r n (inr older) = rw (before_older (parts r) older.other) (ends r.pa
 before_unit : (r : HeadReader) (n : ℕ) → IsOfVersion r
     → unit_end (before_header_length r ++ number_is n ∷ []) ≡ Some (end_of_unit r)
 before_unit r n (inl five) = ap (λ (l : List Item). unit_end (l ++ number_is n ∷ [])) (before_own (parts r) five)
-before_unit r n (inr older) = ap (λ (l : List Item). unit_end (l ++ number_is n ∷ [])) (before_older (parts r) older.other)
+before_unit r n (inr older) = ap (λ (l : List Item). unit_end (l ++ number_is n ∷ []))
+    (before_older (parts r) older.other)
 
 -- after header_length
 pub header_length_late : (r : HeadReader) (end : Option ℕ) (items : List Item) (n : ℕ)

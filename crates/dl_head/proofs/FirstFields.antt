@@ -1,4 +1,5 @@
--- The fields up to header_length: their values and sizes; where a layout leads to, and that version 5 leads to no foreign
+-- The fields up to header_length: their values and sizes; where a layout leads to, and that version 5 leads to no
+-- foreign
 -- unit.
 use Rattle.std.proofs.Common.{◌≡◌, ◌≢◌, ℕ, zero, suc, ◌+◌, ◌-◌, ◌≤◌, List, [], ◌∷◌, ◌++◌, length, drop, Option, Some}
 use Rattle.std.proofs.Common.{None, Ok, Err, refl, sym, ap, subst, ◌∙◌, arith, inl, inr}
@@ -96,7 +97,8 @@ is_number order field next w i e = some_number field (sized_spelt order (number_
 
 -- ---- where a layout leads to
 
--- from the layout on fields have at most n more cells than bytes; Foreign says what is so where a foreign version stands
+-- from the layout on fields have at most n more cells than bytes; Foreign says what is so where a foreign version
+-- stands
 abbrev pub Leads : Type 0 → ℕ → Layout → Type 0
 Leads Foreign n (initial_length_then next) = (f : Format) (m : ℕ) → Leads Foreign n (next f m)
 Leads Foreign n (number_then field next) = (m : ℕ) → Leads Foreign n (next m)

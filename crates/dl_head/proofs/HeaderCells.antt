@@ -11,7 +11,8 @@ use Rattle.dl_head.proofs.ReadSound.{whole_read}
 
 pub header_holds_its_cells : HeaderHoldsItsCells
 header_holds_its_cells dialect h w v is =
-    let sum = (whole_read dialect.order h ⊥ (length is.items) (λ known. absurd known) dialect is.items refl (omega arith)
+    let sum = (whole_read dialect.order h ⊥ (length is.items) (λ known. absurd known) dialect is.items refl
+    (omega arith)
     (record { bytes = is.fields; all = λ known. absurd known; spelt = is.spelt; made = is.made })).cells in
     let rest : rest_cells (following_all (header_layout dialect) is.items) (is.padding ++ v) ≡ 0 =
     ap (λ (l : Layout). rest_cells l (is.padding ++ v)) (made_last _ h is.made) in

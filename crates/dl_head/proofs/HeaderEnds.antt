@@ -100,7 +100,8 @@ older_none r other = rw (ne_eqb r.params.version 5 other) refl
 pub before_end : (r : HeadReader) (items : List Item) → Early r items (before_header_length r) → IsOfVersion r
     → EndIs r items
 before_end r items e (inl own) =
-    early_end r items (before_header_length r) e (ap header_end (before_own (parts r) own)) (ap unit_end (before_own (parts r) own))
+    early_end r items (before_header_length r) e (ap header_end (before_own (parts r) own))
+    (ap unit_end (before_own (parts r) own))
 before_end r items e (inr older) =
     early_end r items (before_header_length r) e
     (ap header_end (before_older (parts r) older.other) ∙ older_none r older.other)

@@ -1,6 +1,6 @@
 -- Bytes of a header that are offered at once: those that were taken, and the answer.
 use Rattle.std.proofs.Common.{◌≡◌, ◌≢◌, ◌+◌, ◌-◌, ◌<◌, ◌≤◌, inl, inr, ℕ, List, [], ◌++◌, length, take, drop, refl, sym}
-use Rattle.std.proofs.Common.{subst, ◌∙◌, ap, arith, append-nil, append_assoc, length-append, length-drop, length-take}
+use Rattle.std.proofs.Common.{subst, ◌∙◌, arith, append-nil, append_assoc, length-append, length-drop, length-take}
 use Rattle.std.proofs.lemmas.Bool.{cases_lt}
 use Rattle.std.proofs.lemmas.List.{drop-drop, take-take, take-append-le}
 use Rattle.std.proofs.Math.Seq.{take-add, take-append-add}
@@ -9,7 +9,7 @@ use Rattle.dl_head.specs.declared.reader.HeadStep.{HeadStep}
 use Rattle.dl_head.specs.declared.reader.HeadStep.TheVariants as answer
 use Rattle.dl_head.specs.declared.reader.HeadReader.{HeadReader}
 use Rattle.dl_head.specs.Standing.{StandsFor}
-use Rattle.dl_head.specs.Reading.{Answers, AddsCell}
+use Rattle.dl_head.specs.Reading.{Answers}
 use Rattle.dl_head.specs.Runs.{so_far, Took, Offered}
 use Rattle.dl_head.specs.Whole.{Advances, Before, TakesAll}
 use Rattle.dl_head.proofs.TurnLemmas.{joined}

@@ -1,4 +1,5 @@
--- A header that bytes spell can be built and written, and its fields hold the cells of its tables. DWARF 5, section 6.2.4.
+-- A header that bytes spell can be built and written, and its fields hold the cells of its tables. DWARF 5, section
+-- 6.2.4.
 use Rattle.std.proofs.Common.{◌≡◌, ℕ, zero, suc, ◌+◌, ◌-◌, ◌^◌, ◌<◌, Bool, true, false, ◌==◌, nat_lt, if◌then◌else◌}
 use Rattle.std.proofs.Common.{List, [], ◌∷◌, ◌++◌, length, Option, Some, None, refl, sym, ap, subst, ◌∙◌, lit≤, lit<}
 use Rattle.std.proofs.Common.{arith, append_assoc, inl, inr, Ok, drop, ◌||◌, ◌≤◌, sum_by}
@@ -17,8 +18,8 @@ use Rattle.dl_field.specs.declared.params.Params.{Params}
 use Rattle.dl_table.specs.TableData.{TableData}
 use Rattle.dl_field.specs.HeaderData.{HeaderData, header_cells}
 use Rattle.dl_table.specs.Value.{offset_size, good}
-use Rattle.dl_field.specs.Layout.{version, address_size, any_byte, header_length, maximum_operations, line_range}
-use Rattle.dl_field.specs.Layout.{opcode_base, opcode_length, objection, Layout, foreign_version, Item, following}
+use Rattle.dl_field.specs.Layout.{address_size}
+use Rattle.dl_field.specs.Layout.{objection, Layout, foreign_version, Item, following}
 use Rattle.dl_field.specs.Layout.{table_layout, listed_file, field_spelt}
 use Rattle.dl_field.specs.Field.{IsInitialLength}
 use Rattle.dl_field.proofs.FieldLemmas.{field_empty, none_some}

@@ -20,7 +20,7 @@ use Rattle.dl_table.specs.TableData.{TableData}
 use Rattle.dl_field.specs.HeaderData.{HeaderData}
 use Rattle.dl_table.specs.Value.{Value, text}
 use Rattle.dl_field.specs.Field.{IsNumber, IsField}
-use Rattle.dl_field.specs.Layout.{NumberField, any_byte, content_code, entry_count, number_size, objection, Layout}
+use Rattle.dl_field.specs.Layout.{NumberField, content_code, entry_count, number_size, objection, Layout}
 use Rattle.dl_field.specs.Layout.{number_then, form_then, value_then, last_entry, Item, following, following_all}
 use Rattle.dl_field.specs.Layout.{pairs_layout, entry_layout, entries_layout, table_layout, path_or_end, listed_file}
 use Rattle.dl_table.specs.declared.fault.BuildFault.TheVariants as build
@@ -60,7 +60,8 @@ module _ (order : Order) (h : HeaderData) (Known : Type 0) where
   pub at_once : {layout : Layout} {items : List Item} → Makes layout items → After layout 0 items
   at_once {layout} {items} m = record { later = items; makes = m; fewer = omega arith; cells = omega arith }
 
-  pub joined : {l m : Layout} {j k : ℕ} {items : List Item} (n : ℕ) (a : After l j items) → After m k a.later → n ≡ j + k
+  pub joined : {l m : Layout} {j k : ℕ} {items : List Item} (n : ℕ) (a : After l j items) → After m k a.later → n
+      ≡ j + k
       → After m n items
   joined n a b e = record {
     later = b.later;

@@ -83,7 +83,8 @@ module _ (order : Order) (format : Format) (next : TableData → Layout) (layout
       let m = f.made is.1 next layout rest is.0 in to _ _ (table_same order old new format next layout rest m.0 is.0)
 
   pub list_makes : (old new : ListReader) (result : FieldStep) → ListFollows old bytes result new
-      → AmongList format old next layout rest → ((l : Layout) (w : List ℕ) → ListAt new new.phase format next l w → Then l w)
+      → AmongList format old next layout rest → ((l : Layout) (w : List ℕ) → ListAt new new.phase format next l w
+      → Then l w)
       → Makes order layout rest bytes Then result
   list_makes old new byte_makes.Within f is to = let m = f is.1 order format next layout rest is.0 in (m.0, to _ _ m.1)
   list_makes old new byte_makes.Ends f is to =

@@ -158,7 +158,8 @@ known_of r phase.Version items rest e at =
 known_of r (phase.VersionEnd first) items rest e at =
     at_early r _ items rest refl (λ q. absurd cc) _ at.0 (early_end r items _ at.0 refl refl) tt
 known_of r (phase.HeaderLength n) items rest e at =
-    at_early r _ items rest refl (λ q. absurd cc) _ at.0 (before_end r items at.0 at.1) (rw (at_length r at.1).follows tt)
+    at_early r _ items rest refl (λ q. absurd cc) _ at.0 (before_end r items at.0 at.1)
+    (rw (at_length r at.1).follows tt)
 known_of r (phase.Byte field.AddressSize) items rest e at =
     at_early r _ items rest refl (λ q. absurd cc) _ at.0 (early_end r items _ at.0 refl refl) tt
 known_of r (phase.Byte field.SegmentSelectorSize) items rest e at =

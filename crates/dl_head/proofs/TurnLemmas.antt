@@ -14,7 +14,8 @@ joined b bytes k i = rw take-add (append_assoc b (take k bytes) (take i (drop k 
 -- the first bytes of a piece's front are its own
 pub front_taken : (piece bytes : List ℕ) (len n : ℕ) → bytes ≡ take len piece → n ≤ length bytes
     → take n bytes ≡ take n piece
-front_taken piece bytes len n e le = rw e (take-take n len piece (omega (arith, le, ap length e, length-take len piece)))
+front_taken piece bytes len n e le = rw e (take-take n len piece
+    (omega (arith, le, ap length e, length-take len piece)))
 
 pub used_cons : {A : Type 0} (a : Answer A) (answers : List (Answer A))
     → used_in (a ∷ answers) ≡ a.used + used_in answers
@@ -57,7 +58,12 @@ module _ {A : Type 0} (May : List ℕ → List ℕ → Answer A → Type 0) (goe
         t.0,
         λ ends. absurd (true_false more ends),
         λ is. trace_on (b ++ take c.used bytes) (drop c.used bytes) turns answers n later a c.gave (t.2 is) goes
-            (rw (joined b bytes c.used (used_in answers), drop-drop (used_in answers) c.used bytes, ← used_cons c answers)
+            (rw (
+              joined b bytes c.used (used_in answers),
+              drop-drop
+                  (used_in answers) c.used bytes,
+              ← used_cons c answers,
+            )
             may) last,
       )
 

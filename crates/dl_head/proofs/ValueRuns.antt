@@ -1,10 +1,8 @@
 -- The header reader takes values of a table, one after the other.
-use Rattle.std.proofs.Common.{◌≡◌, ◌≢◌, ℕ, ◌+◌, ◌-◌, ◌<◌, ◌≤◌, inl, inr, List, [], ◌∷◌, ◌++◌, length, take, Option}
+use Rattle.std.proofs.Common.{◌≡◌, ◌≢◌, ℕ, ◌+◌, ◌-◌, ◌<◌, ◌≤◌, List, [], ◌∷◌, ◌++◌, length, take, Option}
 use Rattle.std.proofs.Common.{Some, None, refl, sym, ap, subst, ◌∙◌, arith, append_assoc, append-nil, length-append}
 use Rattle.std.specs.List.{concat}
-use Rattle.std.proofs.lemmas.Bool.{cases_lt}
-use Rattle.std.proofs.lemmas.List.{take-append-le, length-take-le, take_all}
-use Rattle.std.proofs.Math.Seq.{take-append-add}
+use Rattle.std.proofs.lemmas.List.{length-take-le}
 use Rattle.dl_num.specs.declared.fixed.Order.{Order}
 use Rattle.dl_table.specs.Value.{good}
 use Rattle.dl_field.specs.Cells.{rest_cells}
@@ -116,7 +114,8 @@ module _ (r : HeadReader) where
 none_left : (order : Order) (layout : Layout) (values : List (List ℕ)) (more : List Item) (m n : ℕ) (left : List ℕ)
     → EndEach order layout [] values more m n left → left ≡ []
 none_left order layout [] [] m n left e = e.0
-none_left order layout (w ∷ values) (i ∷ more) m n left e = none_left order (following layout i) values more e.0 n left e.4
+none_left order layout (w ∷ values) (i ∷ more) m n left e = none_left order
+    (following layout i) values more e.0 n left e.4
 none_left order layout [] (i ∷ more) m n left e = absurd e
 none_left order layout (w ∷ values) [] m n left e = absurd e
 

@@ -1,15 +1,12 @@
 -- The header reader takes a value of a table at once: what it answers on the way, and the bytes that it stands for
 -- then.
-use Rattle.std.proofs.Common.{◌≡◌, ℕ, zero, suc, ◌+◌, ◌-◌, ◌<◌, ◌≤◌, inl, inr, List, [], ◌∷◌, ◌++◌, length, take, drop}
+use Rattle.std.proofs.Common.{◌≡◌, ℕ, zero, suc, ◌+◌, ◌-◌, ◌≤◌, List, [], ◌∷◌, ◌++◌, length}
 use Rattle.std.proofs.Common.{Option, Some, None, Ok, refl, sym, ap, subst, ◌∙◌, arith, append_assoc, append-nil}
 use Rattle.std.proofs.Common.{length-append}
-use Rattle.std.proofs.lemmas.Bool.{cases_lt}
-use Rattle.std.proofs.lemmas.List.{length-take-le, take-take}
 use Rattle.dl_num.specs.declared.fixed.Order.{Order}
 use Rattle.dl_head.specs.declared.dialect.Dialect.{Dialect}
 use Rattle.dl_field.specs.declared.field_step.FieldStep.TheVariants as byte_makes
 use Rattle.dl_head.specs.declared.reader.HeadReader.{HeadReader}
-use Rattle.dl_head.specs.declared.reader.HeadStep.TheVariants as answer
 use Rattle.dl_table.specs.Value.{good}
 use Rattle.dl_field.specs.Layout.{Layout, initial_length_then, number_then, form_then, value_then, path_or_end}
 use Rattle.dl_field.specs.Layout.{foreign_version, last_entry, Item, following_all, field_spelt}
@@ -17,8 +14,7 @@ use Rattle.dl_head.specs.HeaderLayout.{header_layout}
 use Rattle.dl_head.specs.Refusal.{header_decided}
 use Rattle.dl_field.specs.TableMoves.{Adds}
 use Rattle.dl_head.specs.Place.{Made, held_cells}
-use Rattle.dl_head.specs.Standing.{Below, IsRead, Live, Unmade, StandsFor}
-use Rattle.dl_head.specs.Reading.{Answers}
+use Rattle.dl_head.specs.Standing.{Below, IsRead, Live, Unmade}
 use Rattle.dl_head.specs.Whole.{Before}
 use Rattle.dl_field.proofs.FieldLemmas.{none_some}
 use Rattle.dl_head.proofs.CutLemmas.{before_none}
@@ -26,7 +22,6 @@ use Rattle.dl_head.proofs.HeaderEnds.{end_from, UpTo, EndIs, room_on}
 use Rattle.dl_head.proofs.TakenBytes.{IsNext, end_is, quiet_at, field_more}
 use Rattle.dl_head.proofs.StepCells.{cells_good_on}
 use Rattle.dl_head.proofs.MovedReader.{Moved, read_within, read_ends}
-use Rattle.dl_head.proofs.TurnLemmas.{joined}
 use Rattle.dl_head.proofs.OfferLemmas.{before_join}
 
 -- ---- bytes of a field up to its last one

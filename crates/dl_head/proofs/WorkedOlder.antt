@@ -55,7 +55,8 @@ older_header format version = record {
 -- the fields from default_is_stmt up to the lengths of the opcodes, and those tables but for their last byte
 abbrev fields : List ℕ
 fields = 1 ∷ 0xfb ∷ 0x0e ∷ 0x0d ∷ 0 ∷ 1 ∷ 1 ∷ 1 ∷ 1 ∷ 0 ∷ 0 ∷ 0 ∷ 1 ∷ 0 ∷ 0 ∷ 1 ∷ 0x2e ∷ 0 ∷ 0x2e ∷ 0x2f ∷ 0x73 ∷ 0x75
-    ∷ 0x62 ∷ 0 ∷ 0 ∷ 0x74 ∷ 0x2e ∷ 0x63 ∷ 0 ∷ 0 ∷ 0 ∷ 0 ∷ 0x61 ∷ 0x2e ∷ 0x68 ∷ 0 ∷ 1 ∷ 0 ∷ 0 ∷ 0x62 ∷ 0x2e ∷ 0x68 ∷ 0 ∷ 2
+    ∷ 0x62 ∷ 0 ∷ 0 ∷ 0x74 ∷ 0x2e ∷ 0x63 ∷ 0 ∷ 0 ∷ 0 ∷ 0 ∷ 0x61 ∷ 0x2e ∷ 0x68 ∷ 0 ∷ 1 ∷ 0 ∷ 0 ∷ 0x62 ∷ 0x2e ∷ 0x68 ∷ 0
+    ∷ 2
     ∷ 0 ∷ 0 ∷ []
 
 -- the bytes are that header, whatever follows, where older versions are read, and a foreign unit where they aren't

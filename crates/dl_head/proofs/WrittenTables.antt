@@ -179,7 +179,8 @@ module _ (order : Order) (to : Layout) where
       let counted : List Pair → Layout = λ ps. number_then (entry_count (not (length t.pairs == 0)))
       λ count. entries_layout t.format ps count [] λ es. next
       (record { format = t.format; pairs = ps; entries = es }) in
-      subst (λ (w : List ℕ). Reaches order (table_layout t.format next) w to) (five (length t.pairs) pairs count entries v)
+      subst (λ (w : List ℕ). Reaches order (table_layout t.format next) w to)
+      (five (length t.pairs) pairs count entries v)
       (reach_one (table_layout t.format next) (number_is (length t.pairs)) (length t.pairs ∷ [])
       (pairs ++ (count ++ (entries ++ v))) (length t.pairs, refl, (refl, fixed_byte (length t.pairs)), refl)
       (reach_pairs t.pairs [] counted (count ++ (entries ++ v)) sound.contents

@@ -13,6 +13,8 @@ use Rattle.dl_head.specs.TableSpelt.{alone, Spelt}
 abbrev pub list_alone : Format → ListKind → Layout
 list_alone format k = path_or_end format (listed k) [] (alone format)
 
--- the reader has taken these fields, and isn't at the table's end; they are the same in either order, and in either format
+-- the reader has taken these fields, and isn't at the table's end; they are the same in either order, and in either
+-- format
 abbrev pub ListReads : ListReader → Type 0
-ListReads t = (format : Format) → (k : ListKind) × Spelt Little (list_alone format k) (AmongList format t (alone format))
+ListReads t = (format : Format) → (k : ListKind) × Spelt Little (list_alone format k)
+    (AmongList format t (alone format))

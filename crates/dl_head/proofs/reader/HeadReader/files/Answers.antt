@@ -17,7 +17,8 @@ returns-in-Some c =
     let p = c.push_front-next.ensures in
     let next = from_end old.params old.directories in
     let taken = c.in-Some.ensures in
-    table_ends old _ c.args.bytes.now _ _ c.push_front-next.new.self next (table_cells old.directories + list_cells old.list)
+    table_ends old _ c.args.bytes.now _ _ c.push_front-next.new.self next
+    (table_cells old.directories + list_cells old.list)
     (record { some = p.some; within = p.within; one = p.one })
     (record { dialect = refl; start = refl; taken = refl; header = refl })
     (record { end = refl; unit_length = refl; format = refl }) (omega (arith, no_files old c.requires.phase))

@@ -20,10 +20,12 @@ returns-in-Some c =
     let p = c.push_front-next.ensures in
     let next = from_older_files old.params in
     let taken = c.in-Some.ensures in
-    list_ends old _ c.args.bytes.now _ _ c.push_front-next.new.self next (table_cells old.files + reader_cells old.table)
+    list_ends old _ c.args.bytes.now _ _ c.push_front-next.new.self next
+    (table_cells old.files + reader_cells old.table)
     (record { some = p.some; within = p.within; one = p.one })
     (record { dialect = refl; start = refl; taken = refl; header = refl })
-    (record { end = refl; unit_length = refl; format = refl }) (omega (arith, no_older_directories old c.requires.phase))
+    (record { end = refl; unit_length = refl; format = refl })
+    (omega (arith, no_older_directories old c.requires.phase))
     (λ items rest at. at_phase old _ items rest c.requires.phase at) p.takes c.in-Some.table taken.0 (taken.2 next)
     (λ kept. omega (arith, kept, fresh_list_cells c.take.new.self taken.1))
     (λ is fresh past. record {

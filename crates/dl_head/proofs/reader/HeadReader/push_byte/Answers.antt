@@ -9,7 +9,8 @@ returns-in-UnitLength-clause-follows c = field_pushed c.unit_length.ensures.foll
     (λ items rest at. rw (at_phase c.args.self.now _ items rest c.in-UnitLength.is at).0.none refl)
 
 pub returns-in-LongUnitLength-clause-follows : goal.returns-in-LongUnitLength-clause-follows
-returns-in-LongUnitLength-clause-follows c = field_pushed c.long_unit_length.ensures.follows c.long_unit_length.ensures.cells
+returns-in-LongUnitLength-clause-follows c = field_pushed c.long_unit_length.ensures.follows
+    c.long_unit_length.ensures.cells
     (λ items rest at. rw (at_phase c.args.self.now _ items rest c.in-LongUnitLength.is at).0.none refl)
 
 pub returns-in-Version-clause-follows : goal.returns-in-Version-clause-follows

@@ -46,7 +46,8 @@ returns-in-OlderDirectories-clause-takes c =
     let k = table_cells old.directories + table_cells old.files + reader_cells old.table in
     let v = c.whole_values-in-OlderDirectories.ensures.values old.dialect.order old.params.format in
     elim c.in-OlderDirectories.is [
-      | inl is ↦ values_taken old _ _ k _ list_cells old.list _ (from_older_files old.params) _ v refl refl (omega arith)
+      | inl is ↦ values_taken old _ _ k _ list_cells old.list _ (from_older_files old.params) _ v refl refl
+          (omega arith)
           (omega arith) (λ items rest at. at_phase old phase.OlderDirectories items rest is at) (λ l w at. at.0)
           (λ items l m w z before past now.
           phase_at _ _ phase.OlderDirectories items z is (record { layout = m; tail = past; at = (now, before.1) }))

@@ -19,7 +19,8 @@ loop-used-preserved-then-whole-gt0 c =
     record {
       within = omega (arith, w.ensures.within, ap length rest, length-drop c.loop-used.used c.args.piece.now, i.within);
       dialect = w.ensures.dialect ∙ i.dialect;
-      goes = λ b s more. takes_more c.args.piece.now c.loop-used.used w.result (i.goes b s more) i.dialect rest w.ensures.takes;
+      goes = λ b s more. takes_more c.args.piece.now c.loop-used.used w.result
+          (i.goes b s more) i.dialect rest w.ensures.takes;
     }
 
 pub loop-used-preserved : goal.loop-used-preserved
@@ -37,7 +38,8 @@ loop-used-preserved c =
       goes = λ b s more.
           let o = subst (λ (k : ℕ). TakesAll c.args.self.now.dialect b (take k c.args.piece.now) w.new.self) none
           (takes_more c.args.piece.now used w.result (i.goes b s more) i.dialect rest w.ensures.takes) in
-          advances_on c.args.piece.now used o c.in-More.is (advanced c.args.piece.now used o dialect rest a.ensures.advances);
+          advances_on c.args.piece.now used o c.in-More.is
+          (advanced c.args.piece.now used o dialect rest a.ensures.advances);
     }
 
 pub returns-in_default : goal.returns-in_default
@@ -53,7 +55,8 @@ returns-in_default c =
       offered = λ b s more.
           let o = subst (λ (k : ℕ). TakesAll c.args.self.now.dialect b (take k c.args.piece.now) w.new.self) none
           (takes_more c.args.piece.now used w.result (i.goes b s more) i.dialect rest w.ensures.takes) in
-          offered_last used o i.within c.in_default.not-More (advanced c.args.piece.now used o dialect rest a.ensures.advances);
+          offered_last used o i.within c.in_default.not-More
+          (advanced c.args.piece.now used o dialect rest a.ensures.advances);
       within = omega (arith, a.ensures.within, ap length rest, length-drop used c.args.piece.now, i.within);
       progress = λ goes fed. omega (arith, a.ensures.some fed);
       dialect = a.ensures.dialect ∙ dialect;
