@@ -1,21 +1,19 @@
--- Where a header and its unit end, by the fields up to header_length, and how many bytes these take.
-use Rattle.std.proofs.Common.{◌≡◌, ℕ, ◌+◌, ◌-◌, ◌<◌, ◌≤◌, inl, inr, ◌≢◌, List, [], ◌∷◌, ◌++◌, length, Option, Some}
-use Rattle.std.proofs.Common.{None, Ok, refl, sym, ap, subst, ◌∙◌, arith, length-append, append_assoc}
+-- Where a header and its unit end, by the fields up to header_length.
+use Rattle.std.proofs.Common.{◌≡◌, ℕ, ◌+◌, ◌<◌, ◌≤◌, inl, inr, ◌≢◌, List, [], ◌∷◌, ◌++◌, length, Option, Some}
+use Rattle.std.proofs.Common.{None, refl, sym, ap, ◌∙◌, arith, length-append}
 use Rattle.std.proofs.lemmas.Bool.{ne_eqb, eq-eqb, cases_eq}
 use Rattle.dl_num.specs.declared.fixed.Order.{Order}
-use Rattle.dl_field.specs.Layout.{end_is, NumberField, version, address_size, any_byte, header_length, Layout}
-use Rattle.dl_field.specs.Layout.{number_then, Item, length_is, number_is, form_is, value_is, following, following_all}
-use Rattle.dl_field.specs.Layout.{number_size, sized_spelt, number_judged}
+use Rattle.dl_field.specs.Layout.{end_is, Layout}
+use Rattle.dl_field.specs.Layout.{Item, length_is, number_is, form_is, value_is, following}
 use Rattle.dl_head.specs.declared.dialect.Dialect.{Dialect}
 use Rattle.dl_table.specs.declared.fault.FaultKind.{FaultKind}
 use Rattle.dl_table.specs.declared.fault.FaultKind.TheVariants as fault
 use Rattle.dl_table.specs.declared.form.Format.{Format}
-use Rattle.dl_table.specs.Value.{offset_size}
-use Rattle.dl_head.specs.HeaderLayout.{header_layout, initial_size, fixed_part, from_minimum_length, older_params}
+use Rattle.dl_head.specs.HeaderLayout.{header_layout, initial_size, fixed_part, from_minimum_length}
 use Rattle.dl_head.specs.Header.{SpellsFields, unit_end, header_end, own_end, older_end}
 use Rattle.dl_head.specs.Refusal.{at_end, field_overrun}
-use Rattle.dl_field.proofs.FieldLemmas.{none_some, sized_length}
-use Rattle.dl_head.proofs.Openings.{Opening, numbered, after_length, after_address, after_segment, after_header}
+use Rattle.dl_field.proofs.FieldLemmas.{none_some}
+use Rattle.dl_head.proofs.Openings.{Opening, opening_of}
 use Rattle.dl_head.proofs.FirstFields.{is_length}
 
 -- ---- the ends, by the values of the fields
@@ -83,19 +81,6 @@ no_overrun n items header unit = on (header_end items) refl where
 
 -- ---- how many bytes the fields up to header_length take
 
-pub spells-append : (order : Order) (layout : Layout) (items more : List Item) (w v : List ℕ)
-    → SpellsFields order layout items w → SpellsFields order (following_all layout items) more v
-    → SpellsFields order layout (items ++ more) (w ++ v)
-spells-append order layout [] more w v s t = subst (λ (l : List ℕ). SpellsFields order layout more (l ++ v)) (sym s) t
-spells-append order layout (i ∷ items) more w v s t = (
-  s.0,
-  s.1 ++ v,
-  ap (λ (l : List ℕ). l ++ v) s.2
-      ∙ append_assoc s.0 s.1 v,
-  s.3,
-  spells-append order (following layout i) items more s.1 v s.4 t,
-)
-
 pub length_first : (dialect : Dialect) (f : Format) (n : ℕ) (items : List Item) (w : List ℕ)
     → SpellsFields dialect.order (header_layout dialect) (length_is f n ∷ items) w
     → (rest : List ℕ) × (length w ≡ initial_size f + length rest)
@@ -113,61 +98,6 @@ length_first dialect f n items w s =
       s.1,
       ap length s.2 ∙ length-append s.0 s.1 ∙ ap (λ (m : ℕ). m + length s.1) (a.size ∙ ap initial_size (sym same)),
       s.4,
-    )
-
-number_first : (order : Order) (field : NumberField) (next : ℕ → Layout) (k n : ℕ) → number_size field ≡ Some k
-    → (items : List Item) (w : List ℕ) → SpellsFields order (number_then field next) (number_is n ∷ items) w
-    → (rest : List ℕ) × (length w ≡ k + length rest) × SpellsFields order (next n) items rest
-number_first order field next k n sized items w s =
-    let size : length s.0 ≡ k = sized_length order field k s.0 (Ok (number_is n))
-    (ap (λ o. number_judged field (sized_spelt order o s.0)) (sym sized) ∙ s.3) in
-    (s.1, ap length s.2 ∙ length-append s.0 s.1 ∙ ap (λ (m : ℕ). m + length s.1) size, s.4)
-
--- numbers of these sizes follow
-abbrev IsSized : Layout → List ℕ → Type 0
-IsSized layout [] = Unit {0}
-IsSized layout (k ∷ sizes) = (field : NumberField) × (next : ℕ → Layout) × (layout ≡ number_then field next)
-    × (number_size field ≡ Some k) × ((n : ℕ) → IsSized (next n) sizes)
-
-abbrev total : List ℕ → ℕ
-total [] = 0
-total (k ∷ sizes) = k + total sizes
-
-sized_few : (order : Order) (layout : Layout) (sizes : List ℕ) (items : List Item) (w : List ℕ) → IsSized layout sizes
-    → length items ≤ length sizes → SpellsFields order layout items w → length w ≤ total sizes
-sized_few order layout sizes [] w is few s = omega (arith, ap length s)
-sized_few order layout [] (i ∷ items) w is few s = absurd (omega (arith, few))
-sized_few order layout (k ∷ sizes) (i ∷ items) w is few s =
-    let first = subst (λ (l : Layout). SpellsFields order l (i ∷ items) w) is.2 s in
-    let n = numbered order is.0 is.1 k is.3 i items w first in
-    omega (
-      arith,
-      n.size,
-      sized_few order (is.1 n.number) sizes items n.rest (is.4 n.number)
-          (omega (arith, few)) n.spelt,
-    )
-
--- as many fields as an initial length, a version and numbers of these sizes, or fewer
-head_few : (dialect : Dialect) (f : Format) (n v : ℕ) (sizes : List ℕ) (tail items more : List Item) (w : List ℕ)
-    → IsSized (after_length dialect f n v) sizes → (length_is f n ∷ number_is v ∷ tail) ≡ items ++ more
-    → length items ≤ 2 + length sizes → SpellsFields dialect.order (header_layout dialect) items w
-    → length w ≤ initial_size f + 2 + total sizes
-head_few dialect f n v sizes tail [] more w is e few s = omega (arith, ap length s)
-head_few dialect f n v sizes tail (a ∷ []) more w is e few s =
-    let same : a ≡ length_is f n = cc in
-    let b = length_first dialect f n [] w (rw same at s) in
-    omega (arith, b.1, ap length b.2)
-head_few dialect f n v sizes tail (a ∷ b ∷ items) more w is e few s =
-    let same : (a ∷ b ∷ items) ≡ (length_is f n ∷ number_is v ∷ items) = cc in
-    let c = length_first dialect f n (number_is v ∷ items) w
-    (subst (λ (l : List Item). SpellsFields dialect.order (header_layout dialect) l w) same s) in
-    let d = number_first dialect.order version (after_length dialect f n) 2 v refl items c.0 c.2 in
-    omega (
-      arith,
-      c.1,
-      d.1,
-      sized_few dialect.order (after_length dialect f n v) sizes items d.0 is (omega (arith, few))
-          d.2,
     )
 
 -- how many fields there are before header_length
@@ -195,56 +125,41 @@ older_short f n v header more (a ∷ b ∷ m ∷ before) after item other e none
     absurd (none_some {a = initial_size f + fixed_part f v + header} (ap header_end (sym same) ∙ none)
     (rw (ne_eqb v 5 other) refl))
 
--- bytes that end inside one of these fields, and the bytes that end it
-pub early_of : (dialect : Dialect) (items : List Item) (fields : List ℕ) (o : Opening dialect items fields)
-    (before after : List Item) (item : Item) (w : List ℕ) → items ≡ before ++ item ∷ after → header_end before ≡ None
-    → SpellsFields dialect.order (header_layout dialect) (before ++ item ∷ []) w
-    → length w ≤ initial_size o.format + fixed_part o.format o.of_version
-early_of dialect items fields o before after item w e none s = elim o.shape [
-  | inl t ↦
-      let is = sym t.3 ∙ e in
-      let few = head_few dialect f n 5 (1 ∷ 1 ∷ offset_size f ∷ [])
-      (number_is t.0 ∷ number_is t.1 ∷ number_is o.header ∷ o.more) (before ++ item ∷ []) after w (
-        address_size,
-        after_address f n,
-        refl,
-        refl,
-        λ a. (
-          any_byte,
-          after_segment f n a,
-          refl,
-          refl,
-          λ b. (header_length f (n - fixed_part f 5), after_header f a b, refl, refl, λ c. tt),
-        ),
-      ) (is ∙ longer)
-      (omega (arith, size, own_short f n t.0 t.1 o.header o.more before after item is none)) s in
-      let part : fixed_part f o.of_version ≡ 4 + offset_size f =
-      subst (λ (v : ℕ). fixed_part f v ≡ 4 + offset_size f) (sym t.2) (omega arith) in
-      omega (arith, few, part)
-  | inr t ↦
-      let is = sym t.3 ∙ e in
-      let sized : IsSized (after_length dialect f n o.of_version) (offset_size f ∷ []) =
-      rw (ne_eqb o.of_version 5 t.1, t.2) (
-        header_length f (n - fixed_part f o.of_version),
-        (λ m. from_minimum_length (older_params f o.of_version t.0)),
-        refl,
-        refl,
-        λ c. tt,
-      ) in
-      let few = head_few dialect f n o.of_version (offset_size f ∷ []) (number_is o.header ∷ o.more)
-      (before ++ item ∷ []) after w sized (is ∙ longer)
-      (omega (arith, size, older_short f n o.of_version o.header o.more before after item t.1 is none)) s in
-      let part : fixed_part f o.of_version ≡ 2 + offset_size f = rw (ne_eqb o.of_version 5 t.1) refl in
-      omega (arith, few, part)
-] where
-  f : Format
-  f = o.format
+none_spelt : (order : Order) (layout : Layout) (items : List Item) (w : List ℕ) → length items ≡ 0
+    → SpellsFields order layout items w → length w ≡ 0
+none_spelt order layout [] w none s = ap length s
+none_spelt order layout (i ∷ items) w none s = absurd (omega (arith, none))
 
-  n : ℕ
-  n = o.unit_length
+-- the bytes up to the field by which the end is known
+pub header_room : (dialect : Dialect) (items : List Item) (i : Item) (w : List ℕ) (e : ℕ)
+    → SpellsFields dialect.order (header_layout dialect) (items ++ i ∷ []) w
+    → header_end items ≡ None → header_end (items ++ i ∷ []) ≡ Some e → length w ≤ e
+header_room dialect items i w e s none h = omega (
+  arith,
+  o.size,
+  is,
+  none_spelt dialect.order
+      (from_minimum_length o.p) o.more o.rest last o.spelt,
+) where
+  o : Opening dialect (items ++ i ∷ []) w
+  o = opening_of dialect (items ++ i ∷ []) w e s h
 
-  longer : before ++ item ∷ after ≡ (before ++ item ∷ []) ++ after
-  longer = sym (append_assoc before (item ∷ []) after)
+  is : initial_size o.format + fixed_part o.format o.of_version + o.header ≡ e
+  is = let same : Some (initial_size o.format + fixed_part o.format o.of_version + o.header) ≡ Some e = sym o.end ∙ h in
+      cc
 
-  size : length (before ++ item ∷ []) ≡ length before + 1
-  size = length-append before (item ∷ [])
+  last : length o.more ≡ 0
+  last = elim o.shape [
+    | inl t ↦ omega (
+      arith,
+      length-append items (i ∷ []),
+      ap length t.3,
+      own_short o.format o.unit_length t.0 t.1 o.header o.more items [] i (sym t.3) none,
+    )
+    | inr t ↦ omega (
+      arith,
+      length-append items (i ∷ []),
+      ap length t.3,
+      older_short o.format o.unit_length o.of_version o.header o.more items [] i t.1 (sym t.3) none,
+    )
+  ]

@@ -17,7 +17,7 @@ use Rattle.dl_head.specs.Place.{IsOfVersion, length_item}
 use Rattle.dl_head.specs.Standing.{Below, unit_known}
 use Rattle.dl_head.proofs.CutLemmas.{cut_of, cut_good, cut_sound, Sound}
 use Rattle.dl_head.proofs.Openings.{Opening, opening_of}
-use Rattle.dl_head.proofs.EarlyEnds.{header_end-append, unit_end-append, length_first, early_of}
+use Rattle.dl_head.proofs.EarlyEnds.{header_end-append, unit_end-append, length_first, header_room}
 use Rattle.dl_field.proofs.FieldLemmas.{none_some}
 
 -- the header's end, or else the unit's, as far as they are known
@@ -117,18 +117,6 @@ UpTo n (Some end) = n ≤ end
 pub below_next : (n : ℕ) (end : Option ℕ) → Below n end → UpTo (n + 1) end
 below_next n None lt = tt
 below_next n (Some e) lt = omega arith
-
-header_room : (dialect : Dialect) (items : List Item) (i : Item) (w : List ℕ) (e : ℕ)
-    → SpellsFields dialect.order (header_layout dialect) (items ++ i ∷ []) w
-    → header_end items ≡ None → header_end (items ++ i ∷ []) ≡ Some e → length w ≤ e
-header_room dialect items i w e s none h =
-    let o : Opening dialect (items ++ i ∷ []) w = opening_of dialect (items ++ i ∷ []) w e s h in
-    let small = early_of dialect (items ++ i ∷ []) w o items [] i w refl
-    none s in
-    let same : Some (initial_size o.format + fixed_part o.format o.of_version + o.header) ≡ Some e = sym o.end
-    ∙ h in
-    let is : initial_size o.format + fixed_part o.format o.of_version + o.header ≡ e = cc in
-    omega (arith, small, is)
 
 unit_room : (dialect : Dialect) (items : List Item) (i : Item) (w : List ℕ) (n : ℕ) → length w ≡ n + 1
     → SpellsFields dialect.order (header_layout dialect) (items ++ i ∷ []) w

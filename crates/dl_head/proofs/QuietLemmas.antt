@@ -16,7 +16,7 @@ use Rattle.dl_head.proofs.FrontLemmas.{GoesOn, fronts, Inside, inside}
 use Rattle.dl_head.proofs.RefusalLaws.{quiet, foreign_last}
 use Rattle.dl_head.proofs.Openings.{Opening, opening_of}
 use Rattle.dl_head.proofs.FirstFields.{late_not_foreign}
-use Rattle.dl_head.proofs.EarlyEnds.{no_overrun, spells-append, early_of, header_end-append, unit_end-append}
+use Rattle.dl_head.proofs.EarlyEnds.{no_overrun, header_end-append, unit_end-append}
 
 -- ---- fronts of a header
 
@@ -85,27 +85,16 @@ inside_quiet dialect h w b is goes =
         let whole : u ≡ initial_size o.format + o.unit_length = sym (some_number _ _ ends) in
         let header_is : initial_size o.format + fixed_part o.format o.of_version + o.header ≡ length w =
         some_number _ _ (sym o.end ∙ is.end) in
-        let part : SpellsFields dialect.order (header_layout dialect) (at.before ++ at.item ∷ [])
-        (at.fields ++ (at.rest ++ at.byte ∷ at.back)) =
-        spells-append dialect.order (header_layout dialect) at.before (at.item ∷ []) at.fields
-        (at.rest ++ at.byte ∷ at.back) at.spelt
-        (at.rest ++ at.byte ∷ at.back, [], sym (append-nil _), at.field, refl) in
-        let small = early_of dialect is.items is.fields o at.before
-        at.after at.item _ at.items_are none part in
         omega (
           arith,
           whole,
           header_is,
-          small,
           o.fits,
           o.size,
+          shorter,
           more_fields dialect h w is o,
-          ap length at.whole,
           ap length is.whole,
           length-append is.fields is.padding,
-          length-append at.fields at.rest,
-          length-append at.fields (at.rest ++ at.byte ∷ at.back),
-          length-append at.rest (at.byte ∷ at.back),
         )
 
 pub header_is_not_refused : HeaderIsNotRefused
