@@ -21,7 +21,7 @@ use Rattle.dl_field.specs.TableMoves.{Adds}
 use Rattle.dl_head.specs.Place.{from_byte, At, AtPhase, held_cells, Made, BytesMade, Follows, PushFollows}
 use Rattle.dl_head.proofs.FirstFields.{is_length}
 use Rattle.dl_field.proofs.FieldCells.{cells_good, cells_open, cells_bad, number_cells}
-use Rattle.dl_head.proofs.OneFieldMore.{byte_follows, lengths_open, some_left}
+use Rattle.dl_head.proofs.OneFieldMore.{byte_number, byte_follows, lengths_open, some_left}
 
 -- whether the first field of the layout is no cell, and none of its bytes
 abbrev pub is_no_cell : Layout → Bool
@@ -59,20 +59,10 @@ pub layout_no_cell : (dialect : Dialect) (items : List Item) (layout : Layout)
     → following_all (header_layout dialect) items ≡ layout → is_no_cell layout ≡ true → NoCell dialect items
 layout_no_cell dialect items layout e none = ap is_no_cell e ∙ none
 
-byte_no_cell : (f : ByteField) (unit_length : ℕ) (p : Params) → is_no_cell (from_byte f unit_length p) ≡ true
-byte_no_cell field.AddressSize unit_length p = refl
-byte_no_cell field.SegmentSelectorSize unit_length p = refl
-byte_no_cell field.MinimumInstructionLength unit_length p = refl
-byte_no_cell field.MaximumOperations unit_length p = refl
-byte_no_cell field.DefaultIsStmt unit_length p = refl
-byte_no_cell field.LineBase unit_length p = refl
-byte_no_cell field.LineRange unit_length p = refl
-byte_no_cell field.OpcodeBase unit_length p = refl
-
 pub field_no_cell : (r : HeadReader) (f : ByteField) (items : List Item) (rest : List ℕ)
     → AtPhase r (phase.Byte f) items rest → NoCell r.dialect items
 field_no_cell r f items rest at = layout_no_cell r.dialect items (from_byte f r.unit_length r.params)
-    (byte_follows r f items rest at).0 (byte_no_cell f r.unit_length r.params)
+    (byte_follows r f items rest at).0 (ap is_no_cell (byte_number f r.unit_length r.params).1)
 
 pub length_no_cell : (r : HeadReader) (items : List Item) (rest : List ℕ) → r.phase ≡ phase.OpcodeLength
     → AtPhase r phase.OpcodeLength items rest → NoCell r.dialect items

@@ -1,15 +1,12 @@
 -- A header holds no more cells than it has bytes, and in the end those of its tables.
-use Rattle.std.proofs.Common.{◌≡◌, ◌++◌, ℕ, ◌+◌, ◌-◌, ◌^◌, ◌≤◌, true, nat_lt, ◌&&◌, List, []}
-use Rattle.std.proofs.Common.{Option, Some, ◌∷◌, length, drop, None, ap}
-use Rattle.std.proofs.Common.{arith, inl, inr, length-append, sum_by}
-use Rattle.std.proofs.lemmas.Bool.{cases_lt, cases_Bool, le-leb, lt-leb, cases_eq, eq-eqb}
-use Rattle.std.proofs.lemmas.Bool.{ne_eqb}
+use Rattle.std.proofs.Common.{◌≡◌, ◌++◌, ℕ, ◌+◌, ◌-◌, ◌^◌, ◌≤◌, true, nat_lt, ◌&&◌, List, [], Option, Some, ◌∷◌, length}
+use Rattle.std.proofs.Common.{drop, None, ap, arith, inl, inr, length-append, sum_by}
+use Rattle.std.proofs.lemmas.Bool.{cases_lt, cases_Bool, le-leb, lt-leb, cases_eq, eq-eqb, ne_eqb}
 use Rattle.std.proofs.lemmas.List.{length-drop}
 use Rattle.std.proofs.lemmas.List.Sums.{sum_by-cons}
 use Rattle.dl_num.specs.declared.fixed.Order.{Order}
-use Rattle.dl_field.specs.Layout.{path_or_end, listed_from, end_is, Layout, initial_length_then}
-use Rattle.dl_field.specs.Layout.{number_then, form_then, value_then, foreign_version, last_entry, Item, following}
-use Rattle.dl_field.specs.Layout.{following_all}
+use Rattle.dl_field.specs.Layout.{path_or_end, listed_from, end_is, Layout, initial_length_then, number_then, form_then}
+use Rattle.dl_field.specs.Layout.{value_then, foreign_version, last_entry, Item, following, following_all}
 use Rattle.dl_field.proofs.GoodLemmas.{leb_some}
 use Rattle.dl_field.proofs.FieldLaws.{field_is_judged}
 use Rattle.dl_field.specs.Field.{IsField, IsText, IsValue}
@@ -23,8 +20,7 @@ use Rattle.dl_table.specs.declared.form.Format.{Format}
 use Rattle.dl_table.specs.declared.form.Format.TheVariants.{Dwarf32, Dwarf64}
 use Rattle.dl_table.specs.declared.form.Form.{Form}
 use Rattle.dl_table.specs.declared.form.Form.TheVariants as form
-use Rattle.dl_table.specs.Value.{Value, text}
-use Rattle.dl_table.specs.Value.{offset_size}
+use Rattle.dl_table.specs.Value.{Value, text, offset_size}
 use Rattle.dl_head.specs.Header.{SpellsFields, cut}
 use Rattle.dl_table.specs.TableCells.{value_cells}
 use Rattle.dl_field.specs.Cells.{item_cells, begun_block, begun_leb_block, begun_cells, rest_cells}

@@ -179,7 +179,7 @@ length_spelt : (order : Order) (unit n : ℕ) (q : Params) (w : List ℕ)
     ≡ judged (objection (header_length q.format (unit - fixed_part q.format q.version)) n) n
 length_spelt order unit n q w size e = rw (eq-eqb _ _ size, ← e) refl
 
-pub header_length_spelt : (r : HeadReader) (items : List Item) (w : List ℕ) (n : ℕ) → items ≡ before_header_length r
+header_length_spelt : (r : HeadReader) (items : List Item) (w : List ℕ) (n : ℕ) → items ≡ before_header_length r
     → IsOfVersion r → length w ≡ offset_size r.params.format → n ≡ fixed r.dialect.order w
     → field_spelt r.dialect.order (following_all (header_layout r.dialect) items) w
     ≡ judged (objection (header_length r.params.format (r.unit_length - fixed_part r.params.format r.params.version))
@@ -190,20 +190,6 @@ header_length_spelt r items w n is of size e =
     ∙ ap (λ (f : Format). judged (objection (header_length f (r.unit_length - fixed_part f a.q.version)) n) n) a.format
     ∙ ap (λ (v : ℕ). judged (objection (header_length r.params.format (r.unit_length - fixed_part r.params.format v))
     n) n) a.number)
-
-pub header_length_good : (r : HeadReader) (items : List Item) (w : List ℕ) (n : ℕ) → items ≡ before_header_length r
-    → IsOfVersion r → length w ≡ offset_size r.params.format → n ≡ fixed r.dialect.order w
-    → n ≤ r.unit_length - fixed_part r.params.format r.params.version
-    → field_spelt r.dialect.order (following_all (header_layout r.dialect) items) w ≡ good (number_is n)
-header_length_good r items w n is of size e le = header_length_spelt r items w n is of size e
-    ∙ rw (le-leb n (r.unit_length - fixed_part r.params.format r.params.version) le) refl
-
-pub header_length_bad : (r : HeadReader) (items : List Item) (w : List ℕ) (n : ℕ) → items ≡ before_header_length r
-    → IsOfVersion r → length w ≡ offset_size r.params.format → n ≡ fixed r.dialect.order w
-    → r.unit_length - fixed_part r.params.format r.params.version + 1 ≤ n
-    → field_spelt r.dialect.order (following_all (header_layout r.dialect) items) w ≡ bad fault.HeaderBeyondUnit
-header_length_bad r items w n is of size e lt = header_length_spelt r items w n is of size e
-    ∙ rw (lt-leb n (r.unit_length - fixed_part r.params.format r.params.version) (omega (arith, lt))) refl
 
 -- where the header ends by its header_length
 before_ends : (r : HeadReader) (n : ℕ) → IsOfVersion r
@@ -249,10 +235,13 @@ pub started_header : (old new : HeadReader) (n : ℕ) (items : List Item) (w : L
     → IsOfVersion old
     → length w ≡ offset_size old.params.format → n ≡ fixed old.dialect.order w → StartsHeader old n result new
     → Made old.dialect items w result new
-started_header old new n items w byte_makes.Ends early of size is s =
-    (number_is n, header_length_good old items w n early.items_are of size is s.0, s.1 items early of)
+started_header old new n items w byte_makes.Ends early of size is s = (
+  number_is n,
+  header_length_spelt old items w n early.items_are of size is ∙ rw (le-leb n _ s.0) refl,
+  s.1 items early of,
+)
 started_header old new n items w (byte_makes.Refuses kind) early of size is s =
-    header_length_bad old items w n early.items_are of size is s.0 ∙ ap (λ (k : FaultKind). bad k) (sym s.1)
+    rw s.1 (header_length_spelt old items w n early.items_are of size is ∙ rw (lt-leb n (old.unit_length - fixed_part old.params.format old.params.version) (omega (arith, s.0))) refl)
 started_header old new n items w byte_makes.Within early of size is s = absurd s
 started_header old new n items w byte_makes.NoMemory early of size is s = absurd s
 

@@ -15,8 +15,7 @@ use Rattle.dl_field.specs.HeaderData.{HeaderData}
 use Rattle.dl_table.specs.declared.fault.FaultKind.{FaultKind}
 use Rattle.dl_table.specs.Value.{Judgement, good, bad}
 use Rattle.dl_head.specs.HeaderLayout.{header_layout}
-use Rattle.dl_head.specs.Header.{Cut, cut_after, cut, header_made, header_end, header_up_to, IsHeader}
-use Rattle.dl_head.specs.Header.{IsFieldCut}
+use Rattle.dl_head.specs.Header.{Cut, cut_after, cut, header_made, header_end, header_up_to, IsHeader, IsFieldCut}
 use Rattle.dl_head.specs.Laws.{OneHeader, HeaderIsFound, FoundIsHeader, CutIsComputed, HeaderIsNotForeign}
 use Rattle.dl_field.proofs.FieldLemmas.{field_empty, none_some}
 use Rattle.dl_head.proofs.CutLemmas.{cut_of, cut_on, cut_fields, cut_last, cut_sound, Sound}

@@ -1,13 +1,13 @@
 -- One field more of the header reader: from where it is to where it goes.
-use Rattle.std.proofs.Common.{◌≡◌, ℕ, zero, suc, ◌+◌, ◌-◌, ◌<◌, ◌≤◌, Bool, true, nat_lt, if◌then◌else◌, ℤ, inl, inr, w8}
-use Rattle.std.proofs.Common.{◌≢◌, to_z, of_z, SFits, List, [], ◌∷◌, ◌++◌, length, refl, sym, ap, subst, ◌∙◌, arith}
-use Rattle.std.proofs.Common.{length-append}
+use Rattle.std.proofs.Common.{Some, ◌≡◌, ℕ, zero, suc, ◌+◌, ◌-◌, ◌<◌, ◌≤◌, Bool, true, nat_lt, if◌then◌else◌, ℤ, inl}
+use Rattle.std.proofs.Common.{inr, w8, ◌≢◌, to_z, of_z, SFits, List, [], ◌∷◌, ◌++◌, length, refl, sym, ap, subst, ◌∙◌}
+use Rattle.std.proofs.Common.{arith, length-append}
 use Rattle.std.proofs.lemmas.Int.{ints, to_z-of_z}
 use Rattle.std.proofs.lemmas.Bool.{cases_lt, lt-ltb, le-ltb, ltb-true, cases_eq, eq-eqb, ne_eqb}
 use Rattle.dl_num.specs.declared.fixed.Order.{Order}
 use Rattle.dl_field.specs.declared.list_reader.ListReader.{ListReader}
-use Rattle.dl_field.specs.Layout.{table_layout, opcode_length, Layout, number_then, Item, number_is, following}
-use Rattle.dl_field.specs.Layout.{following_all, field_spelt, objection, judged}
+use Rattle.dl_field.specs.Layout.{number_size, table_layout, opcode_length, Layout, number_then, Item, number_is}
+use Rattle.dl_field.specs.Layout.{following, following_all, field_spelt, objection, judged}
 use Rattle.dl_head.specs.HeaderLayout.{from_older_directories, from_older_files, after_minimum_length}
 use Rattle.dl_head.specs.HeaderLayout.{from_default_is_stmt, from_maximum_operations, from_address_size}
 use Rattle.dl_head.specs.HeaderLayout.{from_segment_selector_size, header_layout, signed_byte, lengths_layout}
@@ -87,17 +87,17 @@ byte_follows r field.LineBase items rest at = (at.0.tail.follows, at.1)
 byte_follows r field.LineRange items rest at = (at.0.tail.follows, at.1)
 byte_follows r field.OpcodeBase items rest at = (at.0.tail.follows, at.1)
 
-byte_is : (order : Order) (f : ByteField) (unit_length : ℕ) (p : Params) (x : ℕ)
-    → field_spelt order (from_byte f unit_length p) (x ∷ [])
-    ≡ judged (objection (byte_kind f) (fixed order (x ∷ []))) (fixed order (x ∷ []))
-byte_is order field.AddressSize unit_length p x = refl
-byte_is order field.SegmentSelectorSize unit_length p x = refl
-byte_is order field.MinimumInstructionLength unit_length p x = refl
-byte_is order field.MaximumOperations unit_length p x = refl
-byte_is order field.DefaultIsStmt unit_length p x = refl
-byte_is order field.LineBase unit_length p x = refl
-byte_is order field.LineRange unit_length p x = refl
-byte_is order field.OpcodeBase unit_length p x = refl
+-- it is a number of one byte
+pub byte_number : (f : ByteField) (unit_length : ℕ) (p : Params) → (next : ℕ → Layout)
+    × (from_byte f unit_length p ≡ number_then (byte_kind f) next) × (number_size (byte_kind f) ≡ Some 1)
+byte_number field.AddressSize unit_length p = (_, refl, refl)
+byte_number field.SegmentSelectorSize unit_length p = (_, refl, refl)
+byte_number field.MinimumInstructionLength unit_length p = (_, refl, refl)
+byte_number field.MaximumOperations unit_length p = (_, refl, refl)
+byte_number field.DefaultIsStmt unit_length p = (_, refl, refl)
+byte_number field.LineBase unit_length p = (_, refl, refl)
+byte_number field.LineRange unit_length p = (_, refl, refl)
+byte_number field.OpcodeBase unit_length p = (_, refl, refl)
 
 pub byte_spelt : (r : HeadReader) (f : ByteField) (items : List Item) (rest : List ℕ) (x : ℕ)
     → AtPhase r (phase.Byte f) items rest
@@ -105,7 +105,8 @@ pub byte_spelt : (r : HeadReader) (f : ByteField) (items : List Item) (rest : Li
     ≡ judged (objection (byte_kind f) x) x
 byte_spelt r f items rest x at =
     let b = byte_follows r f items rest at in
-    rw (b.0, b.1, byte_is r.dialect.order f r.unit_length r.params x, fixed-one r.dialect.order x) refl
+    let n = byte_number f r.unit_length r.params in
+    rw (b.0, b.1, n.1, n.2, fixed-one r.dialect.order x) refl
 
 -- ---- line_base
 

@@ -18,9 +18,8 @@ use Rattle.dl_field.specs.declared.params.Params.{Params}
 use Rattle.dl_table.specs.TableData.{TableData}
 use Rattle.dl_field.specs.HeaderData.{HeaderData, header_cells}
 use Rattle.dl_table.specs.Value.{offset_size, good}
-use Rattle.dl_field.specs.Layout.{address_size}
-use Rattle.dl_field.specs.Layout.{objection, Layout, foreign_version, Item, following}
-use Rattle.dl_field.specs.Layout.{table_layout, listed_file, field_spelt}
+use Rattle.dl_field.specs.Layout.{address_size, objection, Layout, foreign_version, Item, following, table_layout}
+use Rattle.dl_field.specs.Layout.{listed_file, field_spelt}
 use Rattle.dl_field.specs.Field.{IsInitialLength}
 use Rattle.dl_field.proofs.FieldLemmas.{field_empty, none_some}
 use Rattle.dl_head.specs.HeaderLayout.{from_files, from_end, from_older_directories, from_older_files}

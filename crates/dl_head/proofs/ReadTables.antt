@@ -20,9 +20,9 @@ use Rattle.dl_table.specs.TableData.{TableData}
 use Rattle.dl_field.specs.HeaderData.{HeaderData}
 use Rattle.dl_table.specs.Value.{Value, text}
 use Rattle.dl_field.specs.Field.{IsNumber, IsField}
-use Rattle.dl_field.specs.Layout.{NumberField, content_code, entry_count, number_size, objection, Layout}
-use Rattle.dl_field.specs.Layout.{number_then, form_then, value_then, last_entry, Item, following, following_all}
-use Rattle.dl_field.specs.Layout.{pairs_layout, entry_layout, entries_layout, table_layout, path_or_end, listed_file}
+use Rattle.dl_field.specs.Layout.{NumberField, content_code, entry_count, number_size, objection, Layout, number_then}
+use Rattle.dl_field.specs.Layout.{form_then, value_then, last_entry, Item, following, following_all, pairs_layout}
+use Rattle.dl_field.specs.Layout.{entry_layout, entries_layout, table_layout, path_or_end, listed_file}
 use Rattle.dl_table.specs.declared.fault.BuildFault.TheVariants as build
 use Rattle.std.specs.Option.{option_map}
 use Rattle.dl_head.specs.HeaderLayout.{format_alone}
