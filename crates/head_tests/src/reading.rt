@@ -49,18 +49,17 @@ const OLDER_RUNS: &[Run<'static>] = &[
 /// How many bytes are taken in these turns, up to an end or a fault, and the last answer. A turn offers at most its
 /// number of the bytes that aren't taken.
 fn run(reader: &mut HeadReader, bytes: &[u8], turns: &[usize]) -> (usize, HeadStep) {
-    let mut taken = 0;
+    let mut rest = bytes;
     let mut last = HeadStep::More;
     for turn in turns {
-        let rest = &bytes[taken..];
         let (used, answer) = reader.offer(rest.get(..*turn).unwrap_or(rest));
-        taken += used;
+        rest = rest.get(used..).unwrap_or(rest);
         last = answer;
         if last != HeadStep::More {
             break;
         }
     }
-    (taken, last)
+    (bytes.len().saturating_sub(rest.len()), last)
 }
 
 /// Asserts what the bytes in these turns come to.
