@@ -12,15 +12,15 @@ use Rattle.dl_head.specs.declared.reader.HeadReader.{HeadReader}
 use Rattle.dl_head.specs.declared.reader.HeadStep.{HeadStep}
 use Rattle.dl_head.specs.declared.reader.HeadStep.TheVariants as answer
 use Rattle.dl_head.specs.HeadStep.{end_near}
-use Rattle.dl_head.specs.Place.{BytesFollow, PushFollows, Keeps}
+use Rattle.dl_head.specs.Place.{BytesFollow, PushFollows}
 use Rattle.dl_head.specs.Standing.{Below, Live, Unmade, ending, StandsFor, Fails, Settles}
-use Rattle.dl_head.specs.Reading.{Answers, AddsCell, Steps}
+use Rattle.dl_head.specs.Reading.{Answers, Steps}
 use Rattle.dl_head.specs.Whole.{IsFront, Pushed, Advances}
 use Rattle.dl_head.proofs.ByteCounted.{settled}
 use Rattle.dl_head.proofs.OfferLemmas.{so_far_same}
 use Rattle.dl_head.proofs.OneAnswer.{one_answer}
 use Rattle.dl_head.proofs.OneByteMore.{by_dialect, live_of, goes_more, within_step, refused_step, unfed_step}
-use Rattle.dl_head.proofs.SamePlace.{Guards, counted, at_counted}
+use Rattle.dl_head.proofs.SamePlace.{Guards, counted}
 use Rattle.dl_head.proofs.TakenBytes.{countable, live_more}
 use Rattle.dl_head.proofs.TurnLemmas.{front_taken}
 use Rattle.dl_head.proofs.WholeSteps.{whole_moved}
@@ -28,7 +28,7 @@ use Rattle.dl_head.proofs.WholeSteps.{whole_moved}
 -- ---- the first bytes of a piece
 
 one_byte : (piece : List ℕ) (n : ℕ) → n ≡ 1 → 1 ≤ length piece → take n piece ≡ slice_index_or piece 0 0 ∷ []
-one_byte piece n one some = ap (λ (k : ℕ). take k piece) one ∙ take_more piece 0 0 some
+one_byte piece n one some = rw one (take_more piece 0 0 some)
 
 -- ---- what was taken
 
@@ -39,14 +39,14 @@ taken_bytes : (dialect : Dialect) (b piece : List ℕ) (n : ℕ) (result : HeadS
 taken_bytes dialect b piece n result fin le p before = record {
   took = record {
     within = le;
-    answers = subst (λ (a : HeadStep). Answers dialect (b ++ take n piece) a) (sym (so_far_same result fed)) p.0;
+    answers = rw (so_far_same result fed) p.0;
     before = before;
     unfed = λ e. absurd (fed e);
   };
   stands = p.1;
 } where
   fed : result ≢ answer.NoMemory
-  fed e = subst (λ (a : HeadStep). Answers dialect (b ++ take n piece) a) e p.0
+  fed e = rw e at p.0
 
 -- one byte was taken
 taken_byte : (dialect : Dialect) (b piece : List ℕ) (n : ℕ) (result : HeadStep) (fin : HeadReader) → n ≡ 1
@@ -54,16 +54,12 @@ taken_byte : (dialect : Dialect) (b piece : List ℕ) (n : ℕ) (result : HeadSt
     → Answers dialect (b ++ slice_index_or piece 0 0 ∷ []) result × StandsFor fin (b ++ slice_index_or piece 0 0 ∷ [])
     → Advances dialect b piece n result fin
 taken_byte dialect b piece n result fin one some more p =
-    taken_bytes dialect b piece n result fin (omega (arith, one, some))
-    (subst (λ (l : List ℕ). Answers dialect (b ++ l) result × StandsFor fin (b ++ l))
-    (sym (one_byte piece n one some)) p)
-    λ j lt. subst (λ (k : ℕ). Answers dialect (b ++ take k piece) answer.More)
-    (let e : 0 ≡ j = omega (arith, one, lt) in e)
-    (subst (λ (l : List ℕ). Answers dialect l answer.More) (sym (append-nil b)) more)
+    taken_bytes dialect b piece n result fin (omega (arith, one, some)) (rw (one_byte piece n one some) p)
+    (λ j lt. let none : j ≡ 0 = omega (arith, one, lt) in rw (none, append-nil b) more)
 
 -- ---- what the bytes make of the field
 
-module _ (r new : HeadReader) (b piece bytes : List ℕ) (n : ℕ) (result : FieldStep) (front : IsFront r piece bytes)
+module _ {r new : HeadReader} {b piece bytes : List ℕ} {n : ℕ} {result : FieldStep} (front : IsFront r piece bytes)
     (p : Pushed r bytes n result new) (stands : StandsFor r b) (more : Answers r.dialect b answer.More) where
   goes : ending r.phase ≡ None
   goes = goes_more r b stands more
@@ -111,8 +107,7 @@ module _ (r new : HeadReader) (b piece bytes : List ℕ) (n : ℕ) (result : Fie
   one_follows : (made : FieldStep) → result ≡ made → made ≢ byte_makes.Ends → PushFollows r byte made new
   one_follows made is other =
       let one : n ≡ 1 = p.one (λ e. other (sym is ∙ e)) in
-      subst (λ (l : List ℕ). BytesFollow r l made new) (same ∙ one_byte piece n one some_piece)
-      (subst (λ (s : FieldStep). BytesFollow r (take n bytes) s new) is p.follows)
+      rw (is, same, one_byte piece n one some_piece) at p.follows
 
   one_of : (made : FieldStep) → result ≡ made → made ≢ byte_makes.Ends → n ≡ 1
   one_of made is other = p.one (λ e. other (sym is ∙ e))
@@ -123,7 +118,7 @@ module _ (r new : HeadReader) (b piece bytes : List ℕ) (n : ℕ) (result : Fie
   within_advances g t last fin is count s =
       let one = one_of byte_makes.Within is (λ e. cc) in
       taken_byte r.dialect b piece n last fin one some_piece more
-      (within_step r new fin g b byte t last live (one_follows byte_makes.Within is (λ e. cc))
+      (within_step last g t live (one_follows byte_makes.Within is (λ e. cc))
       (counts_on t count ∙ ap (λ (k : ℕ). length b + k) one) s)
 
   pub refuses_advances : (g : Guards new) (t : ℕ) (kind : FaultKind) (last : HeadStep) (fin : HeadReader)
@@ -132,47 +127,42 @@ module _ (r new : HeadReader) (b piece bytes : List ℕ) (n : ℕ) (result : Fie
   refuses_advances g t kind last fin is count f =
       let one = one_of (byte_makes.Refuses kind) is (λ e. cc) in
       taken_byte r.dialect b piece n last fin one some_piece more
-      (refused_step r new fin g b byte t kind last stands live (one_follows (byte_makes.Refuses kind) is (λ e. cc))
-      (subst (λ (s : FieldStep). Keeps r s new) is p.kept)
+      (refused_step g t stands live (one_follows (byte_makes.Refuses kind) is (λ e. cc))
+      (rw is at p.kept)
       (counts_on t count ∙ ap (λ (k : ℕ). length b + k) one) f)
 
   pub ends_advances : (g : Guards new) (t : ℕ) (last : HeadStep) (fin : HeadReader) → result ≡ byte_makes.Ends
       → t ≡ min (new.taken + n) (2 ^ 64 - 1) → Settles (counted new g t t) last fin
       → Advances r.dialect b piece n last fin
   ends_advances g t last fin is count s =
-      let follows : BytesFollow r (take n piece) byte_makes.Ends new =
-      subst (λ (l : List ℕ). BytesFollow r l byte_makes.Ends new) same
-      (subst (λ (k : FieldStep). BytesFollow r (take n bytes) k new) is p.follows) in
+      let follows : BytesFollow r (take n piece) byte_makes.Ends new = rw (is, same) at p.follows in
       let made = follows.made live.0.items live.0.rest live.0.at in
       let mid = counted new g t t in
       let total : t ≡ length b + length (take n piece) = counts_on t count ∙ ap (λ (k : ℕ). length b + k) (sym size) in
       let whole = whole_moved r mid b (take n piece) live
-      (made.0, made.1, at_counted new g t t new.phase (live.0.items ++ made.0 ∷ []) [] made.2)
+      made
       (follows.cells live.0.items live.0.rest live.0.at) follows.counts.dialect follows.counts.header total total
       (subst (λ (k : ℕ). Below (length b + (k - 1)) r.end) (sym size) (room r.end refl live.0.below)) in
       taken_bytes r.dialect b piece n last fin within
-      (by_dialect r mid fin (b ++ take n piece) last follows.counts.dialect
-      (settled mid fin (b ++ take n piece) whole.moved last s))
-      λ j lt. subst (λ (l : List ℕ). Answers r.dialect (b ++ l) answer.More) (take-take j n piece (omega (arith, lt)))
-      (whole.more j (omega (arith, lt, size)))
+      (by_dialect last follows.counts.dialect (settled last whole.moved s))
+      (λ j lt. rw (take-take j n piece (omega (arith, lt))) at (whole.more j (omega (arith, lt, size))))
 
   pub unfed_advances : result ≡ byte_makes.NoMemory → Advances r.dialect b piece 0 answer.NoMemory new
   unfed_advances is =
       let u = unfed_step r new b byte goes stands live (one_follows byte_makes.NoMemory is (λ e. cc)) in
-      let none = sym (append-nil b) in
       record {
         took = record {
           within = omega arith;
-          answers = subst (λ (l : List ℕ). Answers r.dialect l answer.More) none more;
+          answers = rw (append-nil b) more;
           before = λ j lt. absurd (omega (arith, lt));
           unfed = λ e. (
             byte,
             drop 1 piece,
             (let e : drop 0 piece ≡ byte ∷ drop 1 piece = drop_more piece 0 0 some_piece in e),
-            subst (λ (l : List ℕ). AddsCell r.dialect l byte) none u.0,
+            rw (append-nil b) u.0,
           );
         };
-        stands = subst (λ (l : List ℕ). StandsFor new l) none u.1;
+        stands = rw (append-nil b) u.1;
       }
 
 -- ---- one byte
@@ -188,15 +178,13 @@ steps_one r new b x n result goes l a some = record {
       let same : x ∷ [] ≡ u.0 ∷ u.1 = ap (λ (k : ℕ). drop k (x ∷ [])) (sym none) ∙ u.2 in
       let byte : u.0 ≡ x = cc in
       let bytes : b ++ take n (x ∷ []) ≡ b = ap (λ (k : ℕ). b ++ take k (x ∷ [])) none ∙ append-nil b in (
-        subst (λ (y : ℕ). AddsCell r.dialect b y) byte (subst (λ (w : List ℕ). AddsCell r.dialect w u.0) bytes u.3),
-        subst (λ (w : List ℕ). StandsFor new w) bytes a.stands,
+        rw (← byte, ← bytes) u.3,
+        rw bytes at a.stands,
       );
   taken = λ more fed.
       let one : n ≡ 1 = omega (arith, some fed, a.took.within) in
       let bytes : b ++ take n (x ∷ []) ≡ b ++ x ∷ [] = ap (λ (k : ℕ). b ++ take k (x ∷ [])) one in (
-        subst (λ (w : List ℕ). Answers r.dialect w result) bytes
-            (subst (λ (s : HeadStep). Answers r.dialect (b ++ take n (x ∷ [])) s) (so_far_same result fed)
-            a.took.answers),
-        subst (λ (w : List ℕ). StandsFor new w) bytes a.stands,
+        rw (so_far_same result fed, bytes) at a.took.answers,
+        rw bytes at a.stands,
       );
 }

@@ -1,7 +1,6 @@
 -- What the bytes come to once the last one is counted.
 use Rattle.std.proofs.Common.{◌≤◌, ◌≡◌, ◌≢◌, ℕ, ◌+◌, ◌⊎◌, inl, inr, List, [], length, Option, Some, None, refl, sym, ap}
-use Rattle.std.proofs.Common.{Bool, true, false, not, eqb, ◌==◌}
-use Rattle.std.proofs.Common.{subst, ◌∙◌, arith}
+use Rattle.std.proofs.Common.{Bool, true, false, not, eqb, ◌==◌, subst, ◌∙◌, arith}
 use Rattle.std.proofs.lemmas.Bool.{cases_eq, eq-eqb}
 use Rattle.dl_head.specs.declared.dialect.Dialect.{Dialect}
 use Rattle.std.specs.Option.{option_eq}
@@ -11,144 +10,127 @@ use Rattle.dl_head.specs.declared.reader.HeadReader.{HeadReader}
 use Rattle.dl_head.specs.declared.reader.HeadStep.{HeadStep}
 use Rattle.dl_head.specs.declared.reader.HeadStep.TheVariants as answer
 use Rattle.dl_table.specs.declared.fault.FaultKind.{FaultKind}
-use Rattle.dl_table.specs.declared.form.Format.{Format}
 use Rattle.dl_field.specs.HeaderData.{HeaderData}
 use Rattle.dl_field.specs.Layout.{foreign_version, Item, following_all}
-use Rattle.dl_head.specs.HeaderLayout.{header_layout, from_end, initial_size}
-use Rattle.dl_head.specs.Header.{Cut, cut, unit_end, unit_len, header_made, foreign_made, foreign_in, IsHeader}
-use Rattle.dl_head.specs.Refusal.{header_decided, HeaderRefused}
-use Rattle.dl_head.specs.Cells.{cells}
+use Rattle.dl_head.specs.HeaderLayout.{header_layout, from_end}
+use Rattle.dl_head.specs.Header.{Cut, cut, unit_end, unit_len, header_made, foreign_in, IsHeader}
+use Rattle.dl_head.specs.Refusal.{HeaderRefused}
 use Rattle.dl_head.specs.Place.{Past, SameUnit, end_of_unit}
-use Rattle.dl_head.specs.Standing.{Below, Live, Unmade, ending, Stands, StandsFor, unit_known, Fails, Completes}
+use Rattle.dl_head.specs.Standing.{IsRead, Below, Live, Unmade, ending, Stands, StandsFor, unit_known, Fails, Completes}
 use Rattle.dl_head.specs.Standing.{SettlesAt, Settles}
 use Rattle.dl_head.specs.Reading.{Answers}
 use Rattle.dl_field.proofs.FieldLemmas.{none_some}
 use Rattle.dl_head.proofs.CutLemmas.{cut_of, cut_sound, Sound}
-use Rattle.dl_head.proofs.HeaderEnds.{end_from, EndsWithin, of_unit, EndIs, end_is, UpTo}
-use Rattle.dl_head.proofs.TakenBytes.{IsNext, Place, in_field, in_padding, in_foreign, place_of, live_more, overruns}
+use Rattle.dl_head.proofs.HeaderEnds.{end_from, EndsWithin, of_unit, EndIs, UpTo}
+use Rattle.dl_head.proofs.TakenBytes.{end_is, IsNext, Place, in_field, in_padding, in_foreign, place_of, live_more}
+use Rattle.dl_head.proofs.TakenBytes.{overruns}
 use Rattle.dl_head.proofs.MovedReader.{Moved}
 
-pub same_reader : (r fin : HeadReader) (b : List ℕ) (a result : HeadStep) → Answers r.dialect b a × StandsFor r b
+same_reader : {r fin : HeadReader} {b : List ℕ} {a result : HeadStep} → Answers r.dialect b a × StandsFor r b
     → (result ≡ a) × (fin ≡ r) → Answers r.dialect b result × StandsFor fin b
-same_reader r fin b a result s q = (
-  subst (λ (z : HeadStep). Answers r.dialect b z) (sym q.0) s.0,
-  subst (λ (z : HeadReader). StandsFor z b) (sym q.1) s.1,
-)
+same_reader {r} {fin} {b} {a} {result} s q = (rw q.0 s.0, subst (λ (z : HeadReader). StandsFor z b) (sym q.1) s.1)
 
-pub unit_of : (r : HeadReader) (b : List ℕ) (items : List Item) (rest : List ℕ) → cut r.dialect b ≡ cut_of items rest
+pub unit_of : (r : HeadReader) {b : List ℕ} {items : List Item} {rest : List ℕ} → IsRead r.dialect b items rest
     → EndIs r items → unit_known (end_of_unit r) r.end ≡ unit_len r.dialect b
-unit_of r b items rest e end = end.unit ∙ sym (ap (λ (c : Cut). unit_end c.items) e)
-
--- the unit's length is kept
-pub unit_kept : (r fin : HeadReader) (b : List ℕ) → SameUnit r fin → fin.dialect ≡ r.dialect
-    → unit_known (end_of_unit r) r.end ≡ unit_len r.dialect b
-    → unit_known (end_of_unit fin) fin.end ≡ unit_len fin.dialect b
-unit_kept r fin b same dialect e =
-    ap (λ (o : Option ℕ). unit_known (end_of_unit fin) o) same.end
-    ∙ ap (λ (n : ℕ). unit_known n r.end)
-    (ap (λ (f : Format). initial_size f + fin.unit_length) same.format
-    ∙ ap (λ (n : ℕ). initial_size r.params.format + n) same.unit_length)
-    ∙ e ∙ ap (λ (d : Dialect). unit_len d b) (sym dialect)
+unit_of r read end = end.unit ∙ sym (ap (λ (c : Cut). unit_end c.items) read.cut_is)
 
 -- b is no longer than its unit
 abbrev pub FitsUnit : Dialect → List ℕ → Type 0
 FitsUnit dialect b = (n : ℕ) → unit_len dialect b ≡ Some n → length b ≤ n
 
-pub fits_kept : (d p : Dialect) (b : List ℕ) → p ≡ d → FitsUnit d b → FitsUnit p b
-fits_kept d p b same fits = subst (λ (q : Dialect). FitsUnit q b) (sym same) fits
-
-pub fits_of : (dialect : Dialect) (b : List ℕ) (items : List Item) (rest : List ℕ) → cut dialect b ≡ cut_of items rest
+pub fits_of : (dialect : Dialect) (b : List ℕ) {items : List Item} {rest : List ℕ} → cut dialect b ≡ cut_of items rest
     → EndsWithin items → UpTo (length b) (end_from items) → FitsUnit dialect b
-fits_of dialect b items rest e ends up n unit =
+fits_of dialect b {items} e ends up n unit =
     of_unit items n (length b) ends up (sym (ap (λ (c : Cut). unit_end c.items) e) ∙ unit)
 
-moved_fits : (r : HeadReader) (b : List ℕ) → Moved r b → FitsUnit r.dialect b
-moved_fits r b m = fits_of r.dialect b m.items m.rest m.cut_is m.ends_within
-    (subst (λ (o : Option ℕ). UpTo (length b) o) (end_is r r.phase m.items m.rest m.at).end m.up_to)
+-- the reader has counted the bytes, and knows of their unit what stands in them
+pub record Counts (dialect : Dialect) (r : HeadReader) (b : List ℕ) : Type 0 where
+  pub taken : r.taken ≡ length b
+  pub unit : unit_known (end_of_unit r) r.end ≡ unit_len dialect b
+  pub within : FitsUnit dialect b
+
+moved_counts : {r : HeadReader} {b : List ℕ} → Moved r b → Counts r.dialect r b
+moved_counts {r} {b} m =
+    let at = end_is r m.items m.rest m.at in
+    record {
+      taken = m.taken_is;
+      unit = unit_of r m.read at;
+      within = fits_of r.dialect b m.read.cut_is m.read.ends_within
+          (subst (λ (o : Option ℕ). UpTo (length b) o) at.end m.up_to);
+    }
+
+same_counts : {dialect : Dialect} {r : HeadReader} {b : List ℕ} (fin : HeadReader) → Counts dialect r b
+    → fin.taken ≡ r.taken → SameUnit r fin → Counts dialect fin b
+same_counts {dialect} {r} {b} fin c taken same = record {
+  taken = taken ∙ c.taken;
+  unit = (let e : unit_known (end_of_unit fin) fin.end ≡ unit_known (end_of_unit r) r.end = cc in e) ∙ c.unit;
+  within = c.within;
+}
+
+pub stands_so : {dialect : Dialect} {r : HeadReader} {b : List ℕ} (o : Option HeadStep) → ending r.phase ≡ o
+    → Stands r o b → r.dialect ≡ dialect → Counts dialect r b → StandsFor r b
+stands_so {dialect} {r} {b} o is stands same c = record {
+  stands = subst (λ (p : Option HeadStep). Stands r p b) (sym is) stands;
+  taken = c.taken;
+  unit = c.unit ∙ ap (λ (d : Dialect). unit_len d b) (sym same);
+  within = subst (λ (d : Dialect). FitsUnit d b) (sym same) c.within;
+}
 
 below_of : (n : ℕ) (end : Option ℕ) → UpTo n end → end ≢ Some n → Below n end
 below_of n None le other = tt
-below_of n (Some e) le other =
-    elim (cases_eq e n) [
-      | inl same ↦ absurd (other (ap (λ (k : ℕ). Some k) same))
-      | inr differs ↦
-          omega (arith, differs)
-    ]
+below_of n (Some e) le other = elim (cases_eq e n) [
+  | inl same ↦ absurd (other (ap (λ (k : ℕ). Some k) same))
+  | inr differs ↦ omega (arith, differs)
+]
 
 -- the header goes on
-pub goes_on : (r : HeadReader) (b : List ℕ) → ending r.phase ≡ None → Moved r b → r.end ≢ Some r.taken
+pub goes_on : {r : HeadReader} {b : List ℕ} → ending r.phase ≡ None → Moved r b → r.end ≢ Some r.taken
     → Answers r.dialect b answer.More × StandsFor r b
-goes_on r b goes m other =
-    let below = below_of (length b) r.end m.up_to (λ same. other (same ∙ ap (λ (n : ℕ). Some n) (sym m.taken_is))) in
+goes_on {r} {b} goes m other =
     let live : Live r b = record {
       items = m.items;
       rest = m.rest;
-      cut_is = m.cut_is;
+      read = m.read;
       at = m.at;
-      unjudged = m.unjudged;
       start_is = m.start_is;
-      below = below;
-      nothing_before = m.nothing_before;
-      ends_within = m.ends_within;
-    } in (
-      live_more r b goes live,
-      record {
-        stands = subst (λ (o : Option HeadStep). Stands r o b) (sym goes) (live, m.unmade);
-        taken = m.taken_is;
-        unit = unit_of r b m.items m.rest m.cut_is (end_is r r.phase m.items m.rest m.at);
-        within = moved_fits r b m;
-      },
-    )
+      below = below_of (length b) r.end m.up_to (λ same. other (same ∙ ap (λ (n : ℕ). Some n) (sym m.taken_is)));
+    } in
+    (live_more r b goes live, stands_so None goes (live, m.unmade) refl (moved_counts m))
 
 -- the bytes are refused
-pub failed : (r fin : HeadReader) (b : List ℕ) (kind : FaultKind) (result : HeadStep)
-    → HeaderRefused r.dialect b r.start kind → Unmade r b → r.taken ≡ length b
-    → unit_known (end_of_unit r) r.end ≡ unit_len r.dialect b → FitsUnit r.dialect b → Fails r kind result fin
+pub failed : {r fin : HeadReader} {b : List ℕ} {kind : FaultKind} {result : HeadStep}
+    → HeaderRefused r.dialect b r.start kind → Unmade r b → Counts r.dialect r b → Fails r kind result fin
     → Answers r.dialect b result × StandsFor fin b
-failed r fin b kind result refused u taken unit fits f =
+failed {r} {fin} {b} {kind} refused u counts f =
     let same = f.2 in (
-      subst (λ (a : HeadStep). Answers r.dialect b a) (sym f.0) refused,
-      record {
-        stands = subst (λ (o : Option HeadStep). Stands fin o b) (sym (ap ending f.1)) (
-          subst (λ (d : Dialect). HeaderRefused d b r.start kind) (sym same.counts.dialect) refused,
-          record {
-            header = same.counts.header ∙ u.header;
-            cells_are = same.cells ∙ u.cells_are
-                ∙ ap (λ (d : Dialect). cells d b) (sym same.counts.dialect);
-          },
-        );
-        taken = same.counts.taken ∙ taken;
-        unit = unit_kept r fin b same.unit same.counts.dialect unit;
-        within = fits_kept r.dialect fin.dialect b same.counts.dialect fits;
-      },
+      rw f.0 refused,
+      stands_so _ (ap ending f.1) (
+        rw same.counts.dialect refused,
+        record {
+          header = same.counts.header ∙ u.header;
+          cells_are = rw same.counts.dialect (same.cells ∙ u.cells_are);
+        },
+      ) same.counts.dialect (same_counts fin counts same.counts.taken same.unit),
     )
 
-refused_at : (r : HeadReader) (b : List ℕ) (kind : FaultKind) (m : Moved r b) → header_decided r.dialect b ≡ Some kind
-    → HeaderRefused r.dialect b r.start kind
-refused_at r b kind m decided = record {
-  place = ap (λ (c : Cut). r.start + length c.rest) m.cut_is ∙ m.start_is;
-  decided = decided;
-  shortest = m.nothing_before;
-}
-
 -- the bytes end inside a field
-fails_at_end : (r fin : HeadReader) (b : List ℕ) (m : Moved r b) (result : HeadStep)
+fails_at_end : {r fin : HeadReader} {b : List ℕ} {result : HeadStep} (m : Moved r b)
     → IsNext (following_all (header_layout r.dialect) m.items) → r.end ≡ Some r.taken
     → Fails r r.overrun result fin → Answers r.dialect b result × StandsFor fin b
-fails_at_end r fin b m result next end f =
-    let at = end_is r r.phase m.items m.rest m.at in
-    failed r fin b r.overrun result
-    (refused_at r b r.overrun m (overruns r b m.items m.rest m.cut_is at next m.unjudged
-    (end ∙ ap (λ (n : ℕ). Some n) m.taken_is)))
-    m.unmade m.taken_is (unit_of r b m.items m.rest m.cut_is at) (moved_fits r b m) f
+fails_at_end {r} {fin} {b} m next end f =
+    failed (record {
+      place = ap (λ (c : Cut). r.start + length c.rest) m.read.cut_is ∙ m.start_is;
+      decided = overruns r b m.read (end_is r m.items m.rest m.at) next (end ∙ ap (λ (n : ℕ). Some n) m.taken_is);
+      shortest = m.read.nothing_before;
+    }) m.unmade (moved_counts m) f
 
 -- the header is whole
-pub header_whole : (r : HeadReader) (b : List ℕ) (m : Moved r b)
+header_whole : {r : HeadReader} {b : List ℕ} (m : Moved r b)
     → Past r m.items (from_end r.params r.directories r.files) → r.end ≡ Some r.taken
     → IsHeader r.dialect (record { params = r.params; directories = r.directories; files = r.files }) b
-header_whole r b m tail end =
+header_whole {r} {b} m tail end =
     let s : Sound r.dialect.order (header_layout r.dialect) b (cut_of m.items m.rest) =
-    subst (λ (c : Cut). Sound r.dialect.order (header_layout r.dialect) b c) m.cut_is
+    subst (λ (c : Cut). Sound r.dialect.order (header_layout r.dialect) b c) m.read.cut_is
     (cut_sound r.dialect.order (header_layout r.dialect) [] b) in
     record {
       items = m.items;
@@ -160,40 +142,24 @@ header_whole r b m tail end =
       end = tail.header_ends ∙ sym tail.end ∙ end ∙ ap (λ (n : ℕ). Some n) m.taken_is;
     }
 
-done : (r fin : HeadReader) (b : List ℕ) (m : Moved r b) (result : HeadStep)
+done : {r fin : HeadReader} {b : List ℕ} {result : HeadStep} (m : Moved r b)
     → Past r m.items (from_end r.params r.directories r.files) → r.end ≡ Some r.taken
     → (result ≡ answer.Done) × Completes r fin → Answers r.dialect b result × StandsFor fin b
-done r fin b m result tail end f =
+done {r} {fin} {b} m tail end f =
     let h : HeaderData = record { params = r.params; directories = r.directories; files = r.files } in
-    let whole = header_whole r b m tail end in
+    let whole = header_whole m tail end in
     let c = f.1 in (
-      subst (λ (a : HeadStep). Answers r.dialect b a) (sym f.0) (h, whole),
-      record {
-        stands = subst (λ (o : Option HeadStep). Stands fin o b) (sym (ap ending c.phase))
-            (h, c.header, subst (λ (d : Dialect). IsHeader d h b) (sym c.dialect) whole);
-        taken = c.taken ∙ m.taken_is;
-        unit = unit_kept r fin b c.unit c.dialect
-            (unit_of r b m.items m.rest m.cut_is (end_is r r.phase m.items m.rest m.at));
-        within = fits_kept r.dialect fin.dialect b c.dialect (moved_fits r b m);
-      },
+      rw f.0 (h, whole),
+      stands_so _ (ap ending c.phase) (h, c.header, subst (λ (d : Dialect). IsHeader d h b) (sym c.dialect) whole)
+          c.dialect (same_counts fin (moved_counts m) c.taken c.unit),
     )
 
-foreign : (r fin : HeadReader) (b : List ℕ) (m : Moved r b) (result : HeadStep) (v : ℕ) → r.phase ≡ phase.Foreign v
+foreign : {r fin : HeadReader} {b : List ℕ} {result : HeadStep} (m : Moved r b) (v : ℕ) → r.phase ≡ phase.Foreign v
     → following_all (header_layout r.dialect) m.items ≡ foreign_version v
     → (result ≡ answer.Foreign v) × (fin ≡ r) → Answers r.dialect b result × StandsFor fin b
-foreign r fin b m result v is follows q =
-    let f : foreign_in r.dialect b ≡ Some v =
-    ap (λ (c : Cut). foreign_made (following_all (header_layout r.dialect) c.items))
-    m.cut_is ∙ ap foreign_made follows in
-    same_reader r fin b (answer.Foreign v) result (
-      f,
-      record {
-        stands = subst (λ (o : Option HeadStep). Stands r o b) (sym (ap ending is)) (f, m.unmade);
-        taken = m.taken_is;
-        unit = unit_of r b m.items m.rest m.cut_is (end_is r r.phase m.items m.rest m.at);
-        within = moved_fits r b m;
-      },
-    ) q
+foreign {r} {fin} {b} m v is follows q =
+    let f : foreign_in r.dialect b ≡ Some v = rw (m.read.cut_is, follows) refl in
+    same_reader (f, stands_so _ (ap ending is) (f, m.unmade) refl (moved_counts m)) q
 
 -- what `settle` says where a field comes next
 abbrev SettlesField : HeadReader → HeadStep → HeadReader → Type 0
@@ -228,21 +194,21 @@ at_end_or_not r = on r.end refl where
         let h : e ≡ r.taken = cc in differs h)
   ]
 
-pub settled : (r fin : HeadReader) (b : List ℕ) (m : Moved r b) (result : HeadStep) → Settles r result fin
+pub settled : {r fin : HeadReader} {b : List ℕ} (result : HeadStep) → Moved r b → Settles r result fin
     → Answers r.dialect b result × StandsFor fin b
-settled r fin b m result s = on (place_of r r.phase m.items m.rest refl m.at) (at_end_or_not r) where
+settled {r} {fin} {b} result m s = on (place_of r m.items m.rest m.at) (at_end_or_not r) where
+  by : (p : Phase) → r.phase ≡ p → SettlesAt r p result fin
+  by p is = subst (λ (p : Phase). SettlesAt r p result fin) is s
+
   on : Place r r.phase m.items → (r.end ≡ Some r.taken) ⊎ (r.end ≢ Some r.taken)
       → Answers r.dialect b result × StandsFor fin b
-  on (in_field goes out next) (inl end) = fails_at_end r fin b m result next end
-      ((settles_field r fin result r.phase goes out s).1 end)
-  on (in_field goes out next) (inr other) = same_reader r fin b answer.More result (goes_on r b goes m other)
-      ((settles_field r fin result r.phase goes out s).0 other)
-  on (in_padding is tail) (inl end) = done r fin b m result tail end
-      ((subst (λ (p : Phase). SettlesAt r p result fin) is s).1 end)
-  on (in_padding is tail) (inr other) = same_reader r fin b answer.More result (goes_on r b (ap ending is) m other)
-      ((subst (λ (p : Phase). SettlesAt r p result fin) is s).0 other)
-  on (in_foreign v is follows) at = foreign r fin b m result v is follows
-      (subst (λ (p : Phase). SettlesAt r p result fin) is s)
+  on (in_field goes out next) (inl end) =
+      fails_at_end m next end ((settles_field r fin result r.phase goes out s).1 end)
+  on (in_field goes out next) (inr other) =
+      same_reader (goes_on goes m other) ((settles_field r fin result r.phase goes out s).0 other)
+  on (in_padding is tail) (inl end) = done m tail end ((by phase.Padding is).1 end)
+  on (in_padding is tail) (inr other) = same_reader (goes_on (ap ending is) m other) ((by phase.Padding is).0 other)
+  on (in_foreign v is follows) at = foreign m v is follows (by (phase.Foreign v) is)
 
 -- `settle`, where the bytes don't end
 pub settles_more : (r new : HeadReader) (p : Phase) → ((v : ℕ) → p ≡ phase.Foreign v → ⊥) → r.end ≢ Some r.taken

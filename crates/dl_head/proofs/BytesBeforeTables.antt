@@ -1,11 +1,12 @@
 -- A byte of a header before its tables, or of its padding: it adds no cell.
 use Rattle.std.proofs.Common.{◌≡◌, ℕ, ◌-◌, Bool, true, false, List, [], ◌∷◌, ◌++◌, length, Some, None, Ok, Err, refl}
-use Rattle.std.proofs.Common.{sym, ap, subst, ◌∙◌, arith}
+use Rattle.std.proofs.Common.{ap, ◌∙◌, arith}
 use Rattle.dl_num.specs.declared.fixed.Order.{Order}
 use Rattle.dl_head.specs.declared.dialect.Dialect.{Dialect}
 use Rattle.dl_table.specs.declared.form.Format.{Format}
 use Rattle.dl_field.specs.declared.params.Params.{Params}
-use Rattle.dl_field.specs.Layout.{path_or_end}
+use Rattle.dl_field.specs.Layout.{path_or_end, Layout, initial_length_then, number_then, form_then, value_then}
+use Rattle.dl_field.specs.Layout.{foreign_version, last_entry, Item, following_all, field_spelt, initial_length_spelt}
 use Rattle.dl_head.specs.declared.reader.byte_field.ByteField.{ByteField}
 use Rattle.dl_head.specs.declared.reader.byte_field.ByteField.TheVariants as field
 use Rattle.dl_head.specs.declared.reader.HeadReader.{HeadReader}
@@ -14,15 +15,13 @@ use Rattle.dl_field.specs.declared.field_step.FieldStep.{FieldStep}
 use Rattle.dl_field.specs.declared.field_step.FieldStep.TheVariants as byte_makes
 use Rattle.dl_table.specs.Value.{Judgement}
 use Rattle.dl_field.specs.Cells.{item_cells, rest_cells}
-use Rattle.dl_field.specs.Layout.{Layout, initial_length_then, number_then, form_then, value_then, foreign_version}
-use Rattle.dl_field.specs.Layout.{last_entry, Item, following_all, field_spelt, initial_length_spelt}
 use Rattle.dl_head.specs.HeaderLayout.{header_layout}
 use Rattle.dl_field.specs.TablePlace.{field_cells}
 use Rattle.dl_field.specs.TableMoves.{Adds}
 use Rattle.dl_head.specs.Place.{from_byte, At, AtPhase, held_cells, Made, BytesMade, Follows, PushFollows}
 use Rattle.dl_head.proofs.FirstFields.{is_length}
 use Rattle.dl_field.proofs.FieldCells.{cells_good, cells_open, cells_bad, number_cells}
-use Rattle.dl_head.proofs.OneFieldMore.{byte_follows, lengths_open, some_left}
+use Rattle.dl_head.proofs.OneFieldMore.{byte_number, byte_follows, lengths_open, some_left}
 
 -- whether the first field of the layout is no cell, and none of its bytes
 abbrev pub is_no_cell : Layout → Bool
@@ -56,27 +55,14 @@ no_cells order (last_entry h) rest w e = refl
 abbrev pub NoCell : Dialect → List Item → Type 0
 NoCell dialect items = is_no_cell (following_all (header_layout dialect) items) ≡ true
 
-pub none_later : (dialect : Dialect) (items is : List Item) → items ≡ is → NoCell dialect is → NoCell dialect items
-none_later dialect items is e none = subst (NoCell dialect) (sym e) none
-
 pub layout_no_cell : (dialect : Dialect) (items : List Item) (layout : Layout)
     → following_all (header_layout dialect) items ≡ layout → is_no_cell layout ≡ true → NoCell dialect items
 layout_no_cell dialect items layout e none = ap is_no_cell e ∙ none
 
-byte_no_cell : (f : ByteField) (unit_length : ℕ) (p : Params) → is_no_cell (from_byte f unit_length p) ≡ true
-byte_no_cell field.AddressSize unit_length p = refl
-byte_no_cell field.SegmentSelectorSize unit_length p = refl
-byte_no_cell field.MinimumInstructionLength unit_length p = refl
-byte_no_cell field.MaximumOperations unit_length p = refl
-byte_no_cell field.DefaultIsStmt unit_length p = refl
-byte_no_cell field.LineBase unit_length p = refl
-byte_no_cell field.LineRange unit_length p = refl
-byte_no_cell field.OpcodeBase unit_length p = refl
-
 pub field_no_cell : (r : HeadReader) (f : ByteField) (items : List Item) (rest : List ℕ)
     → AtPhase r (phase.Byte f) items rest → NoCell r.dialect items
 field_no_cell r f items rest at = layout_no_cell r.dialect items (from_byte f r.unit_length r.params)
-    (byte_follows r f items rest at).0 (byte_no_cell f r.unit_length r.params)
+    (byte_follows r f items rest at).0 (ap is_no_cell (byte_number f r.unit_length r.params).1)
 
 pub length_no_cell : (r : HeadReader) (items : List Item) (rest : List ℕ) → r.phase ≡ phase.OpcodeLength
     → AtPhase r phase.OpcodeLength items rest → NoCell r.dialect items
@@ -107,11 +93,11 @@ adds_nothing old new items rest w (byte_makes.Refuses kind) made same kept = ome
 adds_nothing old new items rest w byte_makes.NoMemory made same kept = absurd made
 
 -- a field that is no cell
-pub field_pushed : (old new : HeadReader) (byte : ℕ) (result : FieldStep) → Follows old byte result new
+pub field_pushed : {old new : HeadReader} {byte : ℕ} {result : FieldStep} → Follows old byte result new
     → held_cells new ≡ held_cells old
     → ((items : List Item) (rest : List ℕ) → At old items rest → NoCell old.dialect items)
     → PushFollows old byte result new
-field_pushed old new byte result follows kept none = record {
+field_pushed {old} {new} {byte} {result} follows kept none = record {
   made = λ items rest at. byte_made old new items rest byte result (follows.made items rest at);
   cells = λ items rest at.
       adds_nothing old new items rest (rest ++ byte ∷ []) result (follows.made items rest at)

@@ -55,20 +55,14 @@ cut_step : (dialect : Dialect) (b : List ℕ) (x : ℕ) (items : List Item) (res
     → field_spelt dialect.order (following_all (header_layout dialect) items) (rest ++ x ∷ []) ≡ o
     → cut dialect (b ++ x ∷ []) ≡ then_cut (cut_of items rest)
     (cut_on dialect.order (following_all (header_layout dialect) items) (rest ++ x ∷ []) o [])
-cut_step dialect b x items rest o e f =
-    cut-append dialect b (x ∷ [])
-    ∙ ap (λ (c : Cut). then_cut c (cut_after dialect.order (following_all (header_layout dialect) c.items)
-    c.rest (x ∷ []))) e
-    ∙ ap (λ o. then_cut (cut_of items rest) (cut_on dialect.order (following_all (header_layout dialect) items)
-    (rest ++ x ∷ []) o [])) f
+cut_step dialect b x items rest o e f = rw (cut-append dialect b (x ∷ []), e, f) refl
 
 -- a byte within a field
 pub cut_within : (dialect : Dialect) (b : List ℕ) (x : ℕ) (items : List Item) (rest : List ℕ)
     → cut dialect b ≡ cut_of items rest
     → field_spelt dialect.order (following_all (header_layout dialect) items) (rest ++ x ∷ []) ≡ None
     → cut dialect (b ++ x ∷ []) ≡ cut_of items (rest ++ x ∷ [])
-cut_within dialect b x items rest e f = cut_step dialect b x items rest None e f
-    ∙ ap (λ (l : List Item). cut_of l (rest ++ x ∷ [])) (append-nil items)
+cut_within dialect b x items rest e f = rw (cut_step dialect b x items rest None e f, append-nil items) refl
 
 -- a byte that ends a good field
 pub cut_good : (dialect : Dialect) (b : List ℕ) (x : ℕ) (items : List Item) (rest : List ℕ) (i : Item)
@@ -82,8 +76,7 @@ pub cut_bad : (dialect : Dialect) (b : List ℕ) (x : ℕ) (items : List Item) (
     → cut dialect b ≡ cut_of items rest
     → field_spelt dialect.order (following_all (header_layout dialect) items) (rest ++ x ∷ []) ≡ bad kind
     → cut dialect (b ++ x ∷ []) ≡ cut_of items (rest ++ x ∷ [])
-cut_bad dialect b x items rest kind e f = cut_step dialect b x items rest (bad kind) e f
-    ∙ ap (λ (l : List Item). cut_of l (rest ++ x ∷ [])) (append-nil items)
+cut_bad dialect b x items rest kind e f = rw (cut_step dialect b x items rest (bad kind) e f, append-nil items) refl
 
 -- ---- fields are cut off, whatever follows
 
@@ -121,16 +114,18 @@ pub cut_fields : (order : Order) (layout : Layout) (items : List Item) (w y : Li
     → cut_after order layout [] (w ++ y) ≡ with_items items (cut_after order (following_all layout items) [] y)
 cut_fields order layout [] w y s = rw s refl
 cut_fields order layout (i ∷ items) w y s =
-    ap (λ (z : List ℕ). cut_after order layout [] z) (ap (λ (z : List ℕ). z ++ y) s.2 ∙ append_assoc s.0 s.1 y)
-    ∙ cut_front order layout s.0 (s.1 ++ y) i s.3
-    ∙ ap (with_item i) (cut_fields order (following layout i) items s.1 y s.4)
+    rw (
+      s.2,
+      append_assoc s.0 s.1 y,
+      cut_front order layout s.0 (s.1 ++ y) i s.3,
+      cut_fields order (following layout i) items s.1 y s.4,
+    ) refl
 
 -- after the last entry nothing is cut off
 pub cut_last : (order : Order) (h : HeaderData) (begun y : List ℕ)
     → cut_after order (last_entry h) begun y ≡ cut_of [] (begun ++ y)
-cut_last order h begun [] = ap (λ (z : List ℕ). cut_of [] z) (sym (append-nil begun))
-cut_last order h begun (x ∷ y) = cut_last order h (begun ++ x ∷ []) y
-    ∙ ap (λ (z : List ℕ). cut_of [] z) (append_assoc begun (x ∷ []) y)
+cut_last order h begun [] = rw (append-nil begun) refl
+cut_last order h begun (x ∷ y) = rw (cut_last order h (begun ++ x ∷ []) y, append_assoc begun (x ∷ []) y) refl
 
 -- ---- what is cut off spells the values
 

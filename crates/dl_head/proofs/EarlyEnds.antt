@@ -1,27 +1,18 @@
--- Where a header and its unit end, by the fields up to header_length, and how many bytes these take.
-use Rattle.std.proofs.Common.{◌≡◌, ℕ, ◌+◌, ◌-◌, ◌<◌, ◌≤◌, inl, inr, ◌⊎◌, ◌≢◌, List, [], ◌∷◌, ◌++◌, length, Option, Some}
-use Rattle.std.proofs.Common.{None, Ok}
-use Rattle.std.proofs.Common.{refl, sym, ap, subst, ◌∙◌, arith, length-append, append_assoc}
+-- Where a header and its unit end, by the fields up to header_length.
+use Rattle.std.proofs.Common.{◌≡◌, ℕ, ◌+◌, ◌<◌, ◌≤◌, inl, inr, ◌≢◌, List, [], ◌∷◌, ◌++◌, length, Option, Some, None}
+use Rattle.std.proofs.Common.{refl, sym, ap, ◌∙◌, arith, length-append}
 use Rattle.std.proofs.lemmas.Bool.{ne_eqb, eq-eqb, cases_eq}
 use Rattle.dl_num.specs.declared.fixed.Order.{Order}
-use Rattle.dl_field.specs.Layout.{end_is}
+use Rattle.dl_field.specs.Layout.{end_is, Layout, Item, length_is, number_is, form_is, value_is, following}
 use Rattle.dl_head.specs.declared.dialect.Dialect.{Dialect}
 use Rattle.dl_table.specs.declared.fault.FaultKind.{FaultKind}
 use Rattle.dl_table.specs.declared.fault.FaultKind.TheVariants as fault
 use Rattle.dl_table.specs.declared.form.Format.{Format}
-use Rattle.dl_table.specs.Value.{offset_size}
-use Rattle.dl_field.specs.Layout.{NumberField, version, address_size, any_byte, header_length, Layout, number_then}
-use Rattle.dl_field.specs.Layout.{Item, length_is, number_is, form_is, value_is, following}
-use Rattle.dl_field.specs.Layout.{following_all, number_size, sized_spelt, number_judged}
 use Rattle.dl_head.specs.HeaderLayout.{header_layout, initial_size, fixed_part, from_minimum_length}
-use Rattle.dl_head.specs.Header.{SpellsFields, unit_end, header_end}
+use Rattle.dl_head.specs.Header.{SpellsFields, unit_end, header_end, own_end, older_end}
 use Rattle.dl_head.specs.Refusal.{at_end, field_overrun}
-use Rattle.dl_field.proofs.FieldLemmas.{none_some, sized_length}
-use Rattle.dl_head.specs.HeaderLayout.{older_params, from_header_length}
-use Rattle.dl_head.specs.Dialect.{older_size}
-use Rattle.dl_head.specs.Header.{own_end, older_end}
-use Rattle.dl_head.proofs.Openings.{Opening, after_length, after_address, OwnItems, OlderItems, after_segment}
-use Rattle.dl_head.proofs.Openings.{after_header}
+use Rattle.dl_field.proofs.FieldLemmas.{none_some}
+use Rattle.dl_head.proofs.Openings.{Opening, opening_of}
 use Rattle.dl_head.proofs.FirstFields.{is_length}
 
 -- ---- the ends, by the values of the fields
@@ -89,19 +80,6 @@ no_overrun n items header unit = on (header_end items) refl where
 
 -- ---- how many bytes the fields up to header_length take
 
-pub spells-append : (order : Order) (layout : Layout) (items more : List Item) (w v : List ℕ)
-    → SpellsFields order layout items w → SpellsFields order (following_all layout items) more v
-    → SpellsFields order layout (items ++ more) (w ++ v)
-spells-append order layout [] more w v s t = subst (λ (l : List ℕ). SpellsFields order layout more (l ++ v)) (sym s) t
-spells-append order layout (i ∷ items) more w v s t = (
-  s.0,
-  s.1 ++ v,
-  ap (λ (l : List ℕ). l ++ v) s.2
-      ∙ append_assoc s.0 s.1 v,
-  s.3,
-  spells-append order (following layout i) items more s.1 v s.4 t,
-)
-
 pub length_first : (dialect : Dialect) (f : Format) (n : ℕ) (items : List Item) (w : List ℕ)
     → SpellsFields dialect.order (header_layout dialect) (length_is f n ∷ items) w
     → (rest : List ℕ) × (length w ≡ initial_size f + length rest)
@@ -121,151 +99,66 @@ length_first dialect f n items w s =
       s.4,
     )
 
-number_first : (order : Order) (field : NumberField) (next : ℕ → Layout) (k n : ℕ) → number_size field ≡ Some k
-    → (items : List Item) (w : List ℕ) → SpellsFields order (number_then field next) (number_is n ∷ items) w
-    → (rest : List ℕ) × (length w ≡ k + length rest) × SpellsFields order (next n) items rest
-number_first order field next k n sized items w s =
-    let size : length s.0 ≡ k = sized_length order field k s.0 (Ok (number_is n))
-    (ap (λ o. number_judged field (sized_spelt order o s.0)) (sym sized) ∙ s.3) in
-    (s.1, ap length s.2 ∙ length-append s.0 s.1 ∙ ap (λ (m : ℕ). m + length s.1) size, s.4)
-
-none_left : (w : List ℕ) → w ≡ [] → length w ≡ 0
-none_left w e = ap length e
-
--- as many bytes as the fields up to header_length, or less
-abbrev IsEarly : Format → List ℕ → Type 0
-IsEarly f w = length w ≤ initial_size f + fixed_part f 5
-
-early_one : (dialect : Dialect) (f : Format) (n : ℕ) (w : List ℕ)
-    → SpellsFields dialect.order (header_layout dialect) (length_is f n ∷ []) w → IsEarly f w
-early_one dialect f n w s = let a = length_first dialect f n [] w s in let z : length a.0 ≡ 0 = ap length a.2 in
-    omega (arith, a.1)
-
-early_two : (dialect : Dialect) (f : Format) (n : ℕ) (w : List ℕ)
-    → SpellsFields dialect.order (header_layout dialect) (length_is f n ∷ number_is 5 ∷ []) w → IsEarly f w
-early_two dialect f n w s =
-    let a = length_first dialect f n (number_is 5 ∷ []) w s in
-    let b = number_first dialect.order version (after_length dialect f n) 2 5 refl [] a.0 a.2 in
-    let z : length b.0 ≡ 0 = ap length b.2 in omega (arith, a.1, b.1)
-
-early_three : (dialect : Dialect) (f : Format) (n address : ℕ) (w : List ℕ)
-    → SpellsFields dialect.order (header_layout dialect) (length_is f n ∷ number_is 5 ∷ number_is address ∷ [])
-    w → IsEarly f w
-early_three dialect f n address w s =
-    let a = length_first dialect f n (number_is 5 ∷ number_is address ∷ []) w s in
-    let b = number_first dialect.order version (after_length dialect f n) 2 5 refl (number_is address ∷ []) a.0 a.2 in
-    let c = number_first dialect.order address_size (after_address f n) 1 address refl [] b.0 b.2 in
-    let z : length c.0 ≡ 0 = ap length c.2 in omega (arith, a.1, b.1, c.1)
-
-early_four : (dialect : Dialect) (f : Format) (n address segment : ℕ) (w : List ℕ)
-    → SpellsFields dialect.order (header_layout dialect)
-    (length_is f n ∷ number_is 5 ∷ number_is address ∷ number_is segment ∷ []) w → IsEarly f w
-early_four dialect f n address segment w s =
-    let a = length_first dialect f n (number_is 5 ∷ number_is address ∷ number_is segment ∷ []) w s in
-    let b = number_first dialect.order version (after_length dialect f n) 2 5 refl
-    (number_is address ∷ number_is segment ∷ []) a.0
-    a.2 in
-    let c = number_first dialect.order address_size (after_address f n) 1 address refl
-    (number_is segment ∷ []) b.0 b.2 in
-    let d = number_first dialect.order any_byte (after_segment f n address) 1 segment refl [] c.0 c.2 in
-    let z : length d.0 ≡ 0 = ap length d.2 in omega (arith, a.1, b.1, c.1, d.1)
-
-early_five : (dialect : Dialect) (f : Format) (n address segment header : ℕ) (w : List ℕ)
-    → SpellsFields dialect.order (header_layout dialect)
-    (length_is f n ∷ number_is 5 ∷ number_is address ∷ number_is segment ∷ number_is header ∷ []) w → IsEarly f w
-early_five dialect f n address segment header w s =
-    let a = length_first dialect f n (number_is 5 ∷ number_is address ∷ number_is segment ∷ number_is
-    header ∷ []) w s in
-    let b = number_first dialect.order version (after_length dialect f n) 2 5 refl
-    (number_is address ∷ number_is segment ∷ number_is header ∷ []) a.0 a.2 in
-    let c = number_first dialect.order address_size (after_address f n) 1 address refl
-    (number_is segment ∷ number_is header ∷ []) b.0 b.2 in
-    let d = number_first dialect.order any_byte (after_segment f n address) 1 segment refl
-    (number_is header ∷ []) c.0 c.2 in
-    let e = number_first dialect.order (header_length f (n - fixed_part f 5)) (after_header f address segment)
-    (offset_size f)
-    header refl [] d.0 d.2 in
-    let z : length e.0 ≡ 0 = none_left e.0 e.2 in omega (arith, a.1, b.1, c.1, d.1, e.1)
-
--- bytes that end inside one of these fields, and the bytes that end it
-pub early : (dialect : Dialect) (f : Format) (n address segment header : ℕ)
-    (more before after : List Item) (item : Item)
-    (w : List ℕ)
+-- how many fields there are before header_length
+own_short : (f : Format) (n address segment header : ℕ) (more before after : List Item) (item : Item)
     → (length_is f n ∷ number_is 5 ∷ number_is address ∷ number_is segment ∷ number_is header ∷ more)
-    ≡ before ++ item ∷ after → header_end before ≡ None
-    → SpellsFields dialect.order (header_layout dialect) (before ++ item ∷ []) w → IsEarly f w
-early dialect f n address segment header more [] after item w e none s =
-    let same : item ≡ length_is f n = cc in early_one dialect f n w
-    (subst (λ (i : Item). SpellsFields dialect.order (header_layout dialect) (i ∷ []) w) same s)
-early dialect f n address segment header more (a ∷ []) after item w e none s =
-    let same : (a ∷ item ∷ []) ≡ (length_is f n ∷ number_is 5 ∷ []) = cc in
-    early_two dialect f n w (subst (λ (l : List Item). SpellsFields dialect.order (header_layout dialect) l w) same s)
-early dialect f n address segment header more (a ∷ b ∷ []) after item w e none s =
-    let same : (a ∷ b ∷ item ∷ []) ≡ (length_is f n ∷ number_is 5 ∷ number_is address ∷ []) = cc in
-    early_three dialect f n address w (subst (λ (l : List Item). SpellsFields dialect.order
-    (header_layout dialect) l w) same s)
-early dialect f n address segment header more (a ∷ b ∷ c ∷ []) after item w e none s =
-    let same : (a ∷ b ∷ c ∷ item ∷ []) ≡ (length_is f n ∷ number_is 5 ∷ number_is address ∷ number_is segment ∷ []) =
-    cc in
-    early_four dialect f n address segment w
-    (subst (λ (l : List Item). SpellsFields dialect.order (header_layout dialect) l w) same s)
-early dialect f n address segment header more (a ∷ b ∷ c ∷ d ∷ []) after item w e none s =
-    let same : (a ∷ b ∷ c ∷ d ∷ item ∷ [])
-    ≡ (length_is f n ∷ number_is 5 ∷ number_is address ∷ number_is segment ∷ number_is header ∷ []) = cc in
-    early_five dialect f n address segment header w
-    (subst (λ (l : List Item). SpellsFields dialect.order (header_layout dialect) l w) same s)
-early dialect f n address segment header more (a ∷ b ∷ c ∷ d ∷ m ∷ before) after item w e none s =
-    let same : (a ∷ b ∷ c ∷ d ∷ m ∷ []) ≡ (length_is f n ∷ number_is 5 ∷ number_is address ∷ number_is segment
-    ∷ number_is header ∷ []) = cc in
-    let end : header_end (length_is f n ∷ number_is 5 ∷ number_is address ∷ number_is segment ∷ number_is header
-    ∷ before) ≡ None =
-    ap (λ (l : List Item). header_end (l ++ before)) (sym same) ∙ none in
-    absurd (none_some end refl)
+    ≡ before ++ item ∷ after → header_end before ≡ None → length before ≤ 4
+own_short f n address segment header more [] after item e none = omega arith
+own_short f n address segment header more (a ∷ []) after item e none = omega arith
+own_short f n address segment header more (a ∷ b ∷ []) after item e none = omega arith
+own_short f n address segment header more (a ∷ b ∷ c ∷ []) after item e none = omega arith
+own_short f n address segment header more (a ∷ b ∷ c ∷ d ∷ []) after item e none = omega arith
+own_short f n address segment header more (a ∷ b ∷ c ∷ d ∷ m ∷ before) after item e none =
+    let same : (a ∷ b ∷ c ∷ d ∷ m ∷ before)
+    ≡ (length_is f n ∷ number_is 5 ∷ number_is address ∷ number_is segment ∷ number_is header ∷ before) = cc in
+    absurd (none_some (ap header_end (sym same) ∙ none) refl)
 
--- the same of an older version
-pub older_early : (dialect : Dialect) (f : Format) (n v size header : ℕ) (more before after : List Item) (item : Item)
-    (w : List ℕ) → v ≢ 5 → older_size dialect v ≡ Some size
+older_short : (f : Format) (n v header : ℕ) (more before after : List Item) (item : Item) → v ≢ 5
     → (length_is f n ∷ number_is v ∷ number_is header ∷ more) ≡ before ++ item ∷ after → header_end before ≡ None
-    → SpellsFields dialect.order (header_layout dialect) (before ++ item ∷ []) w
-    → length w ≤ initial_size f + fixed_part f v
-older_early dialect f n v size header more [] after item w other is e none s =
-    let same : item ≡ length_is f n = cc in
-    let t = subst (λ (i : Item). SpellsFields dialect.order (header_layout dialect) (i ∷ []) w) same s in
-    let a = length_first dialect f n [] w t in
-    omega (arith, a.1, none_left a.0 a.2)
-older_early dialect f n v size header more (a ∷ []) after item w other is e none s =
-    let same : (a ∷ item ∷ []) ≡ (length_is f n ∷ number_is v ∷ []) = cc in
-    let t = subst (λ (l : List Item). SpellsFields dialect.order (header_layout dialect) l w) same s in
-    let b = length_first dialect f n (number_is v ∷ []) w t in
-    let c = number_first dialect.order version (after_length dialect f n) 2 v refl [] b.0 b.2 in
-    let part : fixed_part f v ≡ 2 + offset_size f = rw (ne_eqb v 5 other) refl in
-    omega (arith, b.1, c.1, none_left c.0 c.2, part)
-older_early dialect f n v size header more (a ∷ b ∷ []) after item w other is e none s =
-    let same : (a ∷ b ∷ item ∷ []) ≡ (length_is f n ∷ number_is v ∷ number_is header ∷ []) = cc in
-    let t = subst (λ (l : List Item). SpellsFields dialect.order (header_layout dialect) l w) same s in
-    let c = length_first dialect f n (number_is v ∷ number_is header ∷ []) w t in
-    let d = number_first dialect.order version (after_length dialect f n) 2 v refl (number_is header ∷ []) c.0 c.2 in
-    let last : SpellsFields dialect.order (from_header_length n (older_params f v size)) (number_is header ∷ []) d.0 =
-    rw (ne_eqb v 5 other, is) at d.2 in
-    let g = number_first dialect.order (header_length f (n - fixed_part f v))
-    (λ m. from_minimum_length (older_params f v size)) (offset_size f) header refl [] d.0 last in
-    let part : fixed_part f v ≡ 2 + offset_size f = rw (ne_eqb v 5 other) refl in
-    omega (arith, c.1, d.1, g.1, none_left g.0 g.2, part)
-older_early dialect f n v size header more (a ∷ b ∷ m ∷ before) after item w other is e none s =
-    let same : (a ∷ b ∷ m ∷ []) ≡ (length_is f n ∷ number_is v ∷ number_is header ∷ []) = cc in
-    let end : header_end (length_is f n ∷ number_is v ∷ number_is header ∷ before) ≡ None =
-    ap (λ (l : List Item). header_end (l ++ before)) (sym same) ∙ none in
-    absurd (none_some {a = initial_size f + fixed_part f v + header} end (rw (ne_eqb v 5 other) refl))
+    → length before ≤ 2
+older_short f n v header more [] after item other e none = omega arith
+older_short f n v header more (a ∷ []) after item other e none = omega arith
+older_short f n v header more (a ∷ b ∷ []) after item other e none = omega arith
+older_short f n v header more (a ∷ b ∷ m ∷ before) after item other e none =
+    let same : (a ∷ b ∷ m ∷ before) ≡ (length_is f n ∷ number_is v ∷ number_is header ∷ before) = cc in
+    absurd (none_some {a = initial_size f + fixed_part f v + header} (ap header_end (sym same) ∙ none)
+    (rw (ne_eqb v 5 other) refl))
 
-pub early_of : (dialect : Dialect) (items : List Item) (fields : List ℕ) (o : Opening dialect items fields)
-    (before after : List Item) (item : Item) (w : List ℕ) → items ≡ before ++ item ∷ after → header_end before ≡ None
-    → SpellsFields dialect.order (header_layout dialect) (before ++ item ∷ []) w
-    → length w ≤ initial_size o.format + fixed_part o.format o.of_version
-early_of dialect items fields o before after item w e none s = on o.shape where
-  on : OwnItems o.format o.unit_length o.header o.more o.of_version items
-      ⊎ OlderItems dialect o.format o.unit_length o.header o.more o.of_version items
-      → length w ≤ initial_size o.format + fixed_part o.format o.of_version
-  on (inl t) = subst (λ (v : ℕ). length w ≤ initial_size o.format + fixed_part o.format v) (sym t.2)
-      (early dialect o.format o.unit_length t.0 t.1 o.header o.more before after item w (sym t.3 ∙ e) none s)
-  on (inr t) = older_early dialect o.format o.unit_length o.of_version t.0 o.header o.more before after item w t.1 t.2
-      (sym t.3 ∙ e) none s
+none_spelt : (order : Order) (layout : Layout) (items : List Item) (w : List ℕ) → length items ≡ 0
+    → SpellsFields order layout items w → length w ≡ 0
+none_spelt order layout [] w none s = ap length s
+none_spelt order layout (i ∷ items) w none s = absurd (omega (arith, none))
+
+-- the bytes up to the field by which the end is known
+pub header_room : (dialect : Dialect) (items : List Item) (i : Item) (w : List ℕ) (e : ℕ)
+    → SpellsFields dialect.order (header_layout dialect) (items ++ i ∷ []) w
+    → header_end items ≡ None → header_end (items ++ i ∷ []) ≡ Some e → length w ≤ e
+header_room dialect items i w e s none h = omega (
+  arith,
+  o.size,
+  is,
+  none_spelt dialect.order
+      (from_minimum_length o.p) o.more o.rest last o.spelt,
+) where
+  o : Opening dialect (items ++ i ∷ []) w
+  o = opening_of dialect (items ++ i ∷ []) w e s h
+
+  is : initial_size o.format + fixed_part o.format o.of_version + o.header ≡ e
+  is = let same : Some (initial_size o.format + fixed_part o.format o.of_version + o.header) ≡ Some e = sym o.end ∙ h in
+      cc
+
+  last : length o.more ≡ 0
+  last = elim o.shape [
+    | inl t ↦ omega (
+      arith,
+      length-append items (i ∷ []),
+      ap length t.3,
+      own_short o.format o.unit_length t.0 t.1 o.header o.more items [] i (sym t.3) none,
+    )
+    | inr t ↦ omega (
+      arith,
+      length-append items (i ∷ []),
+      ap length t.3,
+      older_short o.format o.unit_length o.of_version o.header o.more items [] i t.1 (sym t.3) none,
+    )
+  ]

@@ -11,28 +11,22 @@ use Rattle.dl_table.specs.declared.form.Format.TheVariants.{Dwarf32, Dwarf64}
 use Rattle.dl_field.specs.declared.field_step.FieldStep.{FieldStep}
 use Rattle.dl_field.specs.declared.field_step.FieldStep.TheVariants as byte_makes
 use Rattle.dl_head.specs.HeaderLayout.{older_params, from_older_version, from_header_length, from_address_size}
+use Rattle.dl_head.specs.HeaderLayout.{format_alone, header_layout, initial_size, fixed_part, from_minimum_length}
 use Rattle.dl_head.specs.Dialect.{older_size}
-use Rattle.dl_head.specs.HeaderLayout.{format_alone}
-use Rattle.dl_head.specs.Place.{IsOlder, IsOfVersion, IsBefore}
+use Rattle.dl_head.specs.Place.{IsOlder, IsOfVersion, IsBefore, AtStart, InLong, Early, LateIn, At, Made, SameCounts}
+use Rattle.dl_head.specs.Place.{Starts, StartsHeader, length_item, Parts, parts, EarlyIn, before_length}
+use Rattle.dl_head.specs.Place.{before_header_length, end_of_unit}
 use Rattle.dl_field.specs.declared.params.Params.{Params}
-use Rattle.dl_field.specs.Layout.{Layout, following}
-use Rattle.dl_field.specs.ListPlace.{IsFreshList}
-use Rattle.dl_field.specs.declared.list_reader.ListKind.TheVariants as kind
+use Rattle.dl_field.specs.Layout.{Layout, following, header_length, foreign_version, Item, length_is, number_is}
+use Rattle.dl_field.specs.Layout.{following_all, field_spelt, objection, judged, short_length, long_length}
+use Rattle.dl_field.specs.Layout.{initial_length_spelt, unit_length_limit}
 use Rattle.dl_head.proofs.HeaderEnds.{before_own, before_older}
 use Rattle.dl_field.proofs.FieldLemmas.{following_all-append}
-use Rattle.dl_head.specs.declared.dialect.Dialect.{Dialect}
 use Rattle.dl_head.specs.declared.reader.HeadReader.{HeadReader}
 use Rattle.dl_table.specs.declared.fault.FaultKind.{FaultKind}
 use Rattle.dl_table.specs.declared.fault.FaultKind.TheVariants as fault
 use Rattle.dl_table.specs.Value.{Judgement, good, bad, offset_size}
-use Rattle.dl_field.specs.Layout.{header_length, foreign_version, Item, length_is, number_is, following_all}
-use Rattle.dl_field.specs.Layout.{field_spelt, objection, judged, short_length, long_length, initial_length_spelt}
-use Rattle.dl_field.specs.Layout.{unit_length_limit}
-use Rattle.dl_head.specs.HeaderLayout.{header_layout, initial_size, fixed_part, from_minimum_length}
 use Rattle.dl_head.specs.Header.{header_end, unit_end}
-use Rattle.dl_head.specs.Place.{AtStart, InLong, Early, Late, At, Made, SameCounts, Starts, StartsHeader, length_item}
-use Rattle.dl_head.specs.Place.{before_header_length, end_of_unit}
-use Rattle.dl_field.specs.TablePlace.{IsFresh}
 
 -- ---- the initial length
 
@@ -68,16 +62,14 @@ pub started : (old new : HeadReader) (format : Format) (n : ℕ) (items : List I
     → initial_length_spelt old.dialect.order w ≡ o → (n ≤ unit_length_limit → o ≡ good (length_is format n))
     → (unit_length_limit + 1 ≤ n → o ≡ bad fault.UnitTooLong)
     → Starts old format n result new → Made old.dialect items w result new
-started old new format n items w byte_makes.Ends o at spelt fine long s =
-    let start : AtStart old [] = subst (λ (l : List Item). AtStart old l) at.none at in (
-      length_is format n,
-      ap (λ (l : List Item). field_spelt old.dialect.order (following_all (header_layout old.dialect) l) w) at.none
-          ∙ spelt ∙ fine s.0,
-      subst (λ (l : List Item). At new (l ++ length_is format n ∷ []) []) (sym at.none) (s.1 start),
-    )
+started old new format n items w byte_makes.Ends o at spelt fine long s = (
+  length_is format n,
+  rw (at.none, spelt) (fine s.0),
+  subst (λ (l : List Item). At new (l ++ length_is format n ∷ []) []) (sym at.none)
+      (s.1 (subst (λ (l : List Item). AtStart old l) at.none at)),
+)
 started old new format n items w (byte_makes.Refuses kind) o at spelt fine long s =
-    ap (λ (l : List Item). field_spelt old.dialect.order (following_all (header_layout old.dialect) l) w) at.none
-    ∙ spelt ∙ long s.0 ∙ ap (λ (k : FaultKind). bad k) (sym s.1)
+    rw (at.none, spelt, s.1) (long s.0)
 started old new format n items w byte_makes.Within o at spelt fine long s = absurd s
 started old new format n items w byte_makes.NoMemory o at spelt fine long s = absurd s
 
@@ -103,11 +95,9 @@ pub started_long : (old new : HeadReader) (n : ℕ) (items : List Item) (rest nu
     → Starts old Dwarf64 n result new → Made old.dialect items (rest ++ byte ∷ []) result new
 started_long old new n items rest number byte result at long eight is s =
     started old new Dwarf64 n items (rest ++ byte ∷ []) result (long_length n) at
-    (ap (λ (v : List ℕ). initial_length_spelt old.dialect.order v)
-    (ap (λ (v : List ℕ). v ++ byte ∷ []) long.whole ∙ append_assoc long.escape number (byte ∷ []))
-    ∙ long_spelt old.dialect.order long.escape (number ++ byte ∷ []) n long.size long.value eight is)
-    (long_good n) (long_bad n)
-    s
+    (rw (long.whole, append_assoc long.escape number (byte ∷ []))
+    (long_spelt old.dialect.order long.escape (number ++ byte ∷ []) n long.size long.value eight is)) (long_good n)
+    (long_bad n) s
 
 -- ---- version
 
@@ -116,26 +106,21 @@ pub version_spelt : (r : HeadReader) (items : List Item) (rest : List ℕ) (firs
     → n ≡ fixed r.dialect.order (first ∷ byte ∷ [])
     → field_spelt r.dialect.order (following_all (header_layout r.dialect) items)
     (rest ++ byte ∷ []) ≡ good (number_is n)
-version_spelt r items rest first byte n is one e =
-    ap (λ (l : List Item). field_spelt r.dialect.order (following_all (header_layout r.dialect) l)
-    (rest ++ byte ∷ [])) is
-    ∙ ap (λ (w : List ℕ). field_spelt r.dialect.order (following_all (header_layout r.dialect) (length_item r ∷ []))
-    (w ++ byte ∷ [])) one ∙ ap (λ (k : ℕ). good (number_is k)) (sym e)
+version_spelt r items rest first byte n is one e = rw (is, one, ← e) refl
 
 pub foreign_follows : (r : HeadReader) (items : List Item) (n : ℕ) → items ≡ length_item r ∷ [] → n ≢ 5
     → older_size r.dialect n ≡ None → following_all (header_layout r.dialect) (items ++ number_is n ∷ [])
     ≡ foreign_version n
-foreign_follows r items n is other none =
-    ap (λ (l : List Item). following_all (header_layout r.dialect) (l ++ number_is n ∷ [])) is
-    ∙ rw (ne_eqb n 5 other, none) refl
+foreign_follows r items n is other none = rw (is, ne_eqb n 5 other, none) refl
 
 pub items_on : (items is : List Item) (i j : Item) → items ≡ is → i ≡ j → items ++ i ∷ [] ≡ is ++ j ∷ []
-items_on items is i j e f = ap (λ (l : List Item). l ++ i ∷ []) e ∙ ap (λ (k : Item). is ++ k ∷ []) f
+items_on items is i j e f = cc
 
 -- after an older version that is read
-pub older_early : (new : HeadReader) (items : List Item) → new.params.version ≢ 5
-    → items ≡ length_item new ∷ number_is new.params.version ∷ [] → new.end ≡ Some (end_of_unit new)
-    → new.overrun ≡ fault.UnitOverrun → IsBefore new → Early new items (before_header_length new)
+pub older_early : (new : Parts) (items : List Item) → new.params.version ≢ 5
+    → items ≡ length_is new.params.format new.unit_length ∷ number_is new.params.version ∷ []
+    → new.end ≡ Some (initial_size new.params.format + new.unit_length) → new.overrun ≡ fault.UnitOverrun
+    → IsBefore new.params.lengths.items new.table new.list → EarlyIn new items (before_length new)
 older_early new items other is end overrun before = record {
   items_are = is ∙ sym (before_older new other);
   end = end;
@@ -154,7 +139,7 @@ pub record AtLength (r : HeadReader) : Type 0 where
   pub number : q.version ≡ r.params.version
   pub late : from_minimum_length q ≡ from_minimum_length r.params
 
-older_follows : (r : HeadReader) → (is : IsOlder r)
+older_follows : (r : HeadReader) → (is : IsOlder r.dialect r.params)
     → following_all (header_layout r.dialect) (length_item r ∷ number_is r.params.version ∷ [])
     ≡ from_header_length r.unit_length (older_params r.params.format r.params.version r.params.address_size)
 older_follows r is =
@@ -169,14 +154,14 @@ at_length r (inl five) = record {
     address_size = r.params.address_size;
     segment_selector_size = r.params.segment_selector_size;
   };
-  follows = ap (λ (l : List Item). following_all (header_layout r.dialect) l) (before_own r five);
+  follows = ap (λ (l : List Item). following_all (header_layout r.dialect) l) (before_own (parts r) five);
   format = refl;
   number = sym five;
   late = ap (λ (v : ℕ). from_minimum_length (record r.params { version = v })) (sym five);
 }
 at_length r (inr older) = record {
   q = older_params r.params.format r.params.version r.params.address_size;
-  follows = ap (λ (l : List Item). following_all (header_layout r.dialect) l) (before_older r older.other)
+  follows = ap (λ (l : List Item). following_all (header_layout r.dialect) l) (before_older (parts r) older.other)
       ∙ older_follows r older;
   format = refl;
   number = refl;
@@ -194,46 +179,24 @@ length_spelt : (order : Order) (unit n : ℕ) (q : Params) (w : List ℕ)
     ≡ judged (objection (header_length q.format (unit - fixed_part q.format q.version)) n) n
 length_spelt order unit n q w size e = rw (eq-eqb _ _ size, ← e) refl
 
-pub header_length_spelt : (r : HeadReader) (items : List Item) (w : List ℕ) (n : ℕ) → items ≡ before_header_length r
+header_length_spelt : (r : HeadReader) (items : List Item) (w : List ℕ) (n : ℕ) → items ≡ before_header_length r
     → IsOfVersion r → length w ≡ offset_size r.params.format → n ≡ fixed r.dialect.order w
     → field_spelt r.dialect.order (following_all (header_layout r.dialect) items) w
     ≡ judged (objection (header_length r.params.format (r.unit_length - fixed_part r.params.format r.params.version))
     n) n
 header_length_spelt r items w n is of size e =
     let a = at_length r of in
-    ap (λ (l : List Item). field_spelt r.dialect.order (following_all (header_layout r.dialect) l) w) is
-    ∙ ap (λ (l : Layout). field_spelt r.dialect.order l w) a.follows
-    ∙ length_spelt r.dialect.order r.unit_length n a.q w (size ∙ ap offset_size (sym a.format)) e
+    rw (is, a.follows) (length_spelt r.dialect.order r.unit_length n a.q w (size ∙ ap offset_size (sym a.format)) e
     ∙ ap (λ (f : Format). judged (objection (header_length f (r.unit_length - fixed_part f a.q.version)) n) n) a.format
     ∙ ap (λ (v : ℕ). judged (objection (header_length r.params.format (r.unit_length - fixed_part r.params.format v))
-    n) n)
-    a.number
-
-pub header_length_good : (r : HeadReader) (items : List Item) (w : List ℕ) (n : ℕ) → items ≡ before_header_length r
-    → IsOfVersion r → length w ≡ offset_size r.params.format → n ≡ fixed r.dialect.order w
-    → n ≤ r.unit_length - fixed_part r.params.format r.params.version
-    → field_spelt r.dialect.order (following_all (header_layout r.dialect) items) w ≡ good (number_is n)
-header_length_good r items w n is of size e le = header_length_spelt r items w n is of size e
-    ∙ rw (le-leb n (r.unit_length - fixed_part r.params.format r.params.version) le) refl
-
-pub header_length_bad : (r : HeadReader) (items : List Item) (w : List ℕ) (n : ℕ) → items ≡ before_header_length r
-    → IsOfVersion r → length w ≡ offset_size r.params.format → n ≡ fixed r.dialect.order w
-    → r.unit_length - fixed_part r.params.format r.params.version + 1 ≤ n
-    → field_spelt r.dialect.order (following_all (header_layout r.dialect) items) w ≡ bad fault.HeaderBeyondUnit
-header_length_bad r items w n is of size e lt = header_length_spelt r items w n is of size e
-    ∙ rw (lt-leb n (r.unit_length - fixed_part r.params.format r.params.version) (omega (arith, lt))) refl
+    n) n) a.number)
 
 -- where the header ends by its header_length
 before_ends : (r : HeadReader) (n : ℕ) → IsOfVersion r
     → header_end (before_header_length r ++ number_is n ∷ [])
     ≡ Some (initial_size r.params.format + fixed_part r.params.format r.params.version + n)
-before_ends r n (inl five) =
-    ap (λ (l : List Item). header_end (l ++ number_is n ∷ [])) (before_own r five)
-    ∙ ap (λ (v : ℕ). let o : Option ℕ = Some (initial_size r.params.format + fixed_part r.params.format v + n) in o)
-    (sym five)
-before_ends r n (inr older) =
-    ap (λ (l : List Item). header_end (l ++ number_is n ∷ [])) (before_older r older.other)
-    ∙ ends r.params.version older.other
+before_ends r n (inl five) = rw (before_own (parts r) five, five) refl
+before_ends r n (inr older) = rw (before_older (parts r) older.other) (ends r.params.version older.other)
   where
     ends : (v : ℕ) → v ≢ 5 → header_end (length_item r ∷ number_is v ∷ number_is n ∷ [])
         ≡ Some (initial_size r.params.format + fixed_part r.params.format v + n)
@@ -241,34 +204,29 @@ before_ends r n (inr older) =
 
 before_unit : (r : HeadReader) (n : ℕ) → IsOfVersion r
     → unit_end (before_header_length r ++ number_is n ∷ []) ≡ Some (end_of_unit r)
-before_unit r n (inl five) = ap (λ (l : List Item). unit_end (l ++ number_is n ∷ [])) (before_own r five)
-before_unit r n (inr older) = ap (λ (l : List Item). unit_end (l ++ number_is n ∷ [])) (before_older r older.other)
+before_unit r n (inl five) = ap (λ (l : List Item). unit_end (l ++ number_is n ∷ [])) (before_own (parts r) five)
+before_unit r n (inr older) = ap (λ (l : List Item). unit_end (l ++ number_is n ∷ []))
+    (before_older (parts r) older.other)
 
 -- after header_length
-pub header_length_late : (r new : HeadReader) (items : List Item) (n : ℕ) → Early r items (before_header_length r)
-    → IsOfVersion r → new.dialect
-    ≡ r.dialect → new.params ≡ r.params → end_of_unit new ≡ end_of_unit r
-    → new.end ≡ Some (initial_size r.params.format + fixed_part r.params.format r.params.version + n) → new.overrun
-    ≡ fault.HeaderOverrun
-    → IsFresh new.table
-    → IsFreshList kind.Directories new.list
-    → Late new (items ++ number_is n ∷ []) (from_minimum_length new.params)
-header_length_late r new items n early of order params unit end overrun fresh unlisted = record {
+pub header_length_late : (r : HeadReader) (end : Option ℕ) (items : List Item) (n : ℕ)
+    → Early r items (before_header_length r) → IsOfVersion r
+    → end ≡ Some (initial_size r.params.format + fixed_part r.params.format r.params.version + n)
+    → LateIn (record { dialect = r.dialect; unit = end_of_unit r; end = end; overrun = fault.HeaderOverrun }) r.table
+    r.list (items ++ number_is n ∷ []) (from_minimum_length r.params)
+header_length_late r end items n early of is = record {
   tail = record {
-    follows = ap (λ (d : Dialect). following_all (header_layout d) (items ++ number_is n ∷ [])) order
-        ∙ ap (λ (k : List Item). following_all (header_layout r.dialect) (k ++ number_is n ∷ []))
-        early.items_are ∙ following_all-append (header_layout r.dialect) (before_header_length r) (number_is n ∷ [])
-        ∙ ap (λ (l : Layout). following l (number_is n)) (at_length r of).follows ∙ (at_length r of).late
-        ∙ ap from_minimum_length (sym params);
-    unit = ap (λ (k : List Item). unit_end (k ++ number_is n ∷ [])) early.items_are ∙ before_unit r n of
-        ∙ ap (λ (k : ℕ). Some k) (sym unit);
+    follows = ap (λ (k : List Item). following_all (header_layout r.dialect) (k ++ number_is n ∷ [])) early.items_are
+        ∙ following_all-append (header_layout r.dialect) (before_header_length r) (number_is n ∷ [])
+        ∙ ap (λ (l : Layout). following l (number_is n)) (at_length r of).follows ∙ (at_length r of).late;
+    unit = ap (λ (k : List Item). unit_end (k ++ number_is n ∷ [])) early.items_are ∙ before_unit r n of;
     header = initial_size r.params.format + fixed_part r.params.format r.params.version + n;
     header_ends = ap (λ (k : List Item). header_end (k ++ number_is n ∷ [])) early.items_are ∙ before_ends r n of;
-    end = end;
-    overrun = overrun;
+    end = is;
+    overrun = refl;
   };
-  fresh = fresh;
-  unlisted = unlisted;
+  fresh = early.before.fresh;
+  unlisted = early.before.unlisted;
 }
 
 -- header_length is whole
@@ -277,10 +235,13 @@ pub started_header : (old new : HeadReader) (n : ℕ) (items : List Item) (w : L
     → IsOfVersion old
     → length w ≡ offset_size old.params.format → n ≡ fixed old.dialect.order w → StartsHeader old n result new
     → Made old.dialect items w result new
-started_header old new n items w byte_makes.Ends early of size is s =
-    (number_is n, header_length_good old items w n early.items_are of size is s.0, s.1 items early of)
+started_header old new n items w byte_makes.Ends early of size is s = (
+  number_is n,
+  header_length_spelt old items w n early.items_are of size is ∙ rw (le-leb n _ s.0) refl,
+  s.1 items early of,
+)
 started_header old new n items w (byte_makes.Refuses kind) early of size is s =
-    header_length_bad old items w n early.items_are of size is s.0 ∙ ap (λ (k : FaultKind). bad k) (sym s.1)
+    rw s.1 (header_length_spelt old items w n early.items_are of size is ∙ rw (lt-leb n (old.unit_length - fixed_part old.params.format old.params.version) (omega (arith, s.0))) refl)
 started_header old new n items w byte_makes.Within early of size is s = absurd s
 started_header old new n items w byte_makes.NoMemory early of size is s = absurd s
 

@@ -1,6 +1,8 @@
--- The fields up to header_length: their values and sizes, and that version 5 leads to no foreign unit.
-use Rattle.std.proofs.Common.{◌≡◌, ◌≢◌, ℕ, zero, suc, ◌+◌, ◌-◌, List, [], ◌∷◌, ◌++◌, length}
-use Rattle.std.proofs.Common.{drop, Option, Some, None, Ok, Err, refl, sym, ap, subst, ◌∙◌, arith, inl, inr}
+-- The fields up to header_length: their values and sizes; where a layout leads to, and that version 5 leads to no
+-- foreign
+-- unit.
+use Rattle.std.proofs.Common.{◌≡◌, ◌≢◌, ℕ, zero, suc, ◌+◌, ◌-◌, ◌≤◌, List, [], ◌∷◌, ◌++◌, length, drop, Option, Some}
+use Rattle.std.proofs.Common.{None, Ok, Err, refl, sym, ap, subst, ◌∙◌, arith, inl, inr}
 use Rattle.std.proofs.lemmas.Bool.{cases_lt, cases_eq, lt-ltb, le-ltb, le-leb, lt-leb, ne_eqb, eq-eqb}
 use Rattle.dl_num.specs.declared.fixed.Order.{Order}
 use Rattle.dl_num.specs.Fixed.{fixed}
@@ -12,17 +14,13 @@ use Rattle.dl_field.specs.declared.params.Params.{Params}
 use Rattle.dl_table.specs.declared.table.Pair.{Pair}
 use Rattle.dl_table.specs.TableData.{TableData}
 use Rattle.dl_table.specs.Value.{Value, Judgement, good, bad}
-use Rattle.dl_field.specs.Layout.{NumberField, Layout}
-use Rattle.dl_field.specs.Layout.{initial_length_then, number_then, form_then, value_then, foreign_version, last_entry}
-use Rattle.dl_field.specs.Layout.{Item, length_is, number_is, form_is, value_is, following, following_all, field_spelt}
-use Rattle.dl_field.specs.Layout.{pairs_layout, entry_layout, entries_layout, table_layout, short_length, long_length}
-use Rattle.dl_field.specs.Layout.{initial_length_spelt, unit_length_limit, objection, judged, number_judged}
-use Rattle.dl_field.specs.Layout.{sized_spelt, number_size}
-use Rattle.dl_head.specs.HeaderLayout.{lengths_layout, tables_layout, from_address_size}
-use Rattle.dl_head.specs.HeaderLayout.{after_minimum_length, from_files}
-use Rattle.dl_field.specs.Layout.{path_or_end, end_is}
-use Rattle.dl_head.specs.HeaderLayout.{from_header_length, from_minimum_length}
-use Rattle.dl_head.specs.HeaderLayout.{initial_size}
+use Rattle.dl_field.specs.Layout.{NumberField, Layout, initial_length_then, number_then, form_then, value_then}
+use Rattle.dl_field.specs.Layout.{foreign_version, last_entry, Item, length_is, number_is, form_is, value_is, following}
+use Rattle.dl_field.specs.Layout.{following_all, field_spelt, pairs_layout, entry_layout, entries_layout, table_layout}
+use Rattle.dl_field.specs.Layout.{short_length, long_length, initial_length_spelt, unit_length_limit, objection, judged}
+use Rattle.dl_field.specs.Layout.{number_judged, sized_spelt, number_size, path_or_end, end_is}
+use Rattle.dl_head.specs.HeaderLayout.{lengths_layout, tables_layout, from_address_size, from_default_is_stmt, from_end}
+use Rattle.dl_head.specs.HeaderLayout.{from_files, from_header_length, from_minimum_length, initial_size}
 use Rattle.dl_field.proofs.FieldLemmas.{none_some, length_cases}
 
 pub ok_err : {i : Item} {k : FaultKind} → ◌≡◌ {A = Judgement Item} (bad k) (good i) → ⊥
@@ -97,131 +95,135 @@ pub is_number : (order : Order) (field : NumberField) (next : ℕ → Layout) (w
     → field_spelt order (number_then field next) w ≡ good i → IsNumber field i
 is_number order field next w i e = some_number field (sized_spelt order (number_size field) w) i e
 
+-- ---- where a layout leads to
+
+-- from the layout on fields have at most n more cells than bytes; Foreign says what is so where a foreign version
+-- stands
+abbrev pub Leads : Type 0 → ℕ → Layout → Type 0
+Leads Foreign n (initial_length_then next) = (f : Format) (m : ℕ) → Leads Foreign n (next f m)
+Leads Foreign n (number_then field next) = (m : ℕ) → Leads Foreign n (next m)
+Leads Foreign n (form_then next) = (f : Form) → Leads Foreign n (next f)
+Leads Foreign n (value_then format f next) = (v : Value) → Leads Foreign n (next v)
+-- the end of a table of versions 2 to 4 is one byte
+Leads Foreign n (path_or_end format pairs entries next) =
+    (k : ℕ) × (length pairs - 1 + k ≤ n) × ((t : TableData) → Leads Foreign k (next t))
+Leads Foreign n (foreign_version v) = Foreign
+Leads Foreign n (last_entry h) = Unit {0}
+
+module _ (Foreign : Type 0) where
+  pub leads_entry : (n : ℕ) (format : Format) (pairs : List Pair) (before : List Value) (next : List Value → Layout)
+      → ((entry : List Value) → Leads Foreign n (next entry))
+      → Leads Foreign n (entry_layout format pairs before next)
+  leads_entry n format [] before next to = to before
+  leads_entry n format (p ∷ pairs) before next to = λ v. leads_entry n format pairs (before ++ v ∷ []) next to
+
+  leads_pairs : (n count : ℕ) (before : List Pair) (next : List Pair → Layout)
+      → ((pairs : List Pair) → Leads Foreign n (next pairs)) → Leads Foreign n (pairs_layout count before next)
+  leads_pairs n zero before next to = to before
+  leads_pairs n (suc count) before next to = λ code f. leads_pairs n count
+      (before ++ record { content = code; form = f } ∷ []) next to
+
+  leads_entries : (n : ℕ) (format : Format) (pairs : List Pair) (count : ℕ) (before : List (List Value))
+      (next : List (List Value) → Layout) → ((entries : List (List Value)) → Leads Foreign n (next entries))
+      → Leads Foreign n (entries_layout format pairs count before next)
+  leads_entries n format pairs zero before next to = to before
+  leads_entries n format pairs (suc count) before next to =
+      leads_entry n format pairs [] (λ entry. entries_layout format pairs count (before ++ entry ∷ []) next)
+      (λ entry. leads_entries n format pairs count (before ++ entry ∷ []) next to)
+
+  leads_table : (n : ℕ) (format : Format) (next : TableData → Layout) → ((t : TableData) → Leads Foreign n (next t))
+      → Leads Foreign n (table_layout format next)
+  leads_table n format next to = λ pair_count. leads_pairs n pair_count [] _
+      (λ pairs count. leads_entries n format pairs count [] _ (λ entries. to _))
+
+  leads_lengths : (n opcode count : ℕ) (before : List ℕ) (next : List ℕ → Layout)
+      → ((lengths : List ℕ) → Leads Foreign n (next lengths))
+      → Leads Foreign n (lengths_layout opcode count before next)
+  leads_lengths n opcode zero before next to = to before
+  leads_lengths n opcode (suc count) before next to =
+      λ m. leads_lengths n (opcode + 1) count (before ++ m ∷ []) next to
+
+  -- in a header those are three
+  leads_tables : (p : Params) → Leads Foreign 3 (tables_layout p)
+  leads_tables p = elim (cases_eq p.version 5) [
+    | inl five ↦ rw (eq-eqb p.version 5 five) (leads_table 3 p.format (from_files p)
+        (λ directories. leads_table 3 p.format (from_end p directories) (λ files. tt)))
+    | inr other ↦ rw (ne_eqb p.version 5 other) (3, omega arith, λ directories. (0, omega arith, λ files. tt))
+  ]
+
+  leads_default : (p : Params) → Leads Foreign 3 (from_default_is_stmt p)
+  leads_default p = λ is_stmt base range opcodes. leads_lengths 3 1 (opcodes - 1) [] _ (λ lengths. leads_tables _)
+
+  pub leads_late : (p : Params) → Leads Foreign 3 (from_minimum_length p)
+  leads_late p minimum = elim (cases_lt p.version 4) [
+    | inl old ↦ rw (lt-ltb p.version 4 old) (leads_default (record p { minimum_instruction_length = minimum }))
+    | inr new ↦ rw (le-ltb p.version 4 new) (λ maximum. leads_default
+        (record p { minimum_instruction_length = minimum; maximum_operations_per_instruction = maximum }))
+  ]
+
 -- ---- what follows version 5 leads to no foreign unit
 
--- no foreign version stands in the layout
-abbrev pub IsOwn : Layout → Type 0
-IsOwn (initial_length_then next) = (f : Format) (n : ℕ) → IsOwn (next f n)
-IsOwn (number_then field next) = (n : ℕ) → IsOwn (next n)
-IsOwn (form_then next) = (f : Form) → IsOwn (next f)
-IsOwn (value_then format f next) = (v : Value) → IsOwn (next v)
-IsOwn (path_or_end format pairs entries next) = (t : TableData) → IsOwn (next t)
-IsOwn (foreign_version v) = ⊥
-IsOwn (last_entry h) = Unit {0}
+abbrev IsOwn : Layout → Type 0
+IsOwn layout = (n : ℕ) × Leads ⊥ n layout
 
-own_entry : (format : Format) (pairs : List Pair) (before : List Value) (next : List Value → Layout)
-    → ((entry : List Value) → IsOwn (next entry)) → IsOwn (entry_layout format pairs before next)
-own_entry format [] before next own = own before
-own_entry format (p ∷ pairs) before next own = λ v. own_entry format pairs (before ++ v ∷ []) next own
+own_on : (n : ℕ) (layout : Layout) (i : Item) → Leads ⊥ n layout → IsOwn (following layout i)
+own_on n (initial_length_then next) (length_is f m) own = (n, own f m)
+own_on n (initial_length_then next) (number_is m) own = (n, own)
+own_on n (initial_length_then next) (form_is f) own = (n, own)
+own_on n (initial_length_then next) (value_is v) own = (n, own)
+own_on n (initial_length_then next) (end_is m) own = (n, own)
+own_on n (number_then field next) (length_is f m) own = (n, own)
+own_on n (number_then field next) (number_is m) own = (n, own m)
+own_on n (number_then field next) (form_is f) own = (n, own)
+own_on n (number_then field next) (value_is v) own = (n, own)
+own_on n (number_then field next) (end_is m) own = (n, own)
+own_on n (form_then next) (length_is f m) own = (n, own)
+own_on n (form_then next) (number_is m) own = (n, own)
+own_on n (form_then next) (form_is f) own = (n, own f)
+own_on n (form_then next) (value_is v) own = (n, own)
+own_on n (form_then next) (end_is m) own = (n, own)
+own_on n (value_then format f next) (length_is g m) own = (n, own)
+own_on n (value_then format f next) (number_is m) own = (n, own)
+own_on n (value_then format f next) (form_is g) own = (n, own)
+own_on n (value_then format f next) (value_is v) own = (n, own v)
+own_on n (value_then format f next) (end_is m) own = (n, own)
+own_on n (path_or_end format pairs entries next) (length_is f m) own = (n, own)
+own_on n (path_or_end format pairs entries next) (number_is m) own = (n, own)
+own_on n (path_or_end format pairs entries next) (form_is f) own = (n, own)
+own_on n (path_or_end format pairs entries next) (value_is v) own = (
+  n,
+  leads_entry ⊥ n format (drop 1 pairs) (v ∷ [])
+      (λ entry. path_or_end format pairs (entries ++ entry ∷ []) next) (λ entry. own),
+)
+own_on n (path_or_end format pairs entries next) (end_is m) own = (own.0, own.2 _)
+own_on n (foreign_version v) i own = absurd own
+own_on n (last_entry h) (length_is f m) own = (n, own)
+own_on n (last_entry h) (number_is m) own = (n, own)
+own_on n (last_entry h) (form_is f) own = (n, own)
+own_on n (last_entry h) (value_is v) own = (n, own)
+own_on n (last_entry h) (end_is m) own = (n, own)
 
-own_following : (layout : Layout) (i : Item) → IsOwn layout → IsOwn (following layout i)
-own_following (initial_length_then next) (length_is f n) own = own f n
-own_following (initial_length_then next) (number_is n) own = own
-own_following (initial_length_then next) (form_is f) own = own
-own_following (initial_length_then next) (value_is v) own = own
-own_following (initial_length_then next) (end_is n) own = own
-own_following (number_then field next) (length_is f n) own = own
-own_following (number_then field next) (number_is n) own = own n
-own_following (number_then field next) (form_is f) own = own
-own_following (number_then field next) (value_is v) own = own
-own_following (number_then field next) (end_is n) own = own
-own_following (form_then next) (length_is f n) own = own
-own_following (form_then next) (number_is n) own = own
-own_following (form_then next) (form_is f) own = own f
-own_following (form_then next) (value_is v) own = own
-own_following (form_then next) (end_is n) own = own
-own_following (value_then format f next) (length_is g n) own = own
-own_following (value_then format f next) (number_is n) own = own
-own_following (value_then format f next) (form_is g) own = own
-own_following (value_then format f next) (value_is v) own = own v
-own_following (value_then format f next) (end_is n) own = own
-own_following (path_or_end format pairs entries next) (length_is f n) own = own
-own_following (path_or_end format pairs entries next) (number_is n) own = own
-own_following (path_or_end format pairs entries next) (form_is f) own = own
-own_following (path_or_end format pairs entries next) (value_is v) own =
-    own_entry format (drop 1 pairs) (v ∷ []) (λ entry. path_or_end format pairs (entries ++ entry ∷ []) next)
-    (λ entry. own)
-own_following (path_or_end format pairs entries next) (end_is n) own = own _
-own_following (foreign_version v) i own = absurd own
-own_following (last_entry h) (length_is f n) own = own
-own_following (last_entry h) (number_is n) own = own
-own_following (last_entry h) (form_is f) own = own
-own_following (last_entry h) (value_is v) own = own
-own_following (last_entry h) (end_is n) own = own
+own_all : (layout : Layout) (items : List Item) → IsOwn layout → IsOwn (following_all layout items)
+own_all layout [] own = own
+own_all layout (i ∷ items) own = own_all (following layout i) items (own_on own.0 layout i own.1)
 
-own_following_all : (layout : Layout) (items : List Item) → IsOwn layout → IsOwn (following_all layout items)
-own_following_all layout [] own = own
-own_following_all layout (i ∷ items) own = own_following_all (following layout i) items (own_following layout i own)
-
-own_lengths : (opcode count : ℕ) (before : List ℕ) (next : List ℕ → Layout)
-    → ((lengths : List ℕ) → IsOwn (next lengths)) → IsOwn (lengths_layout opcode count before next)
-own_lengths opcode zero before next own = own before
-own_lengths opcode (suc count) before next own = λ n. own_lengths (opcode + 1) count (before ++ n ∷ []) next own
-
-own_pairs : (count : ℕ) (before : List Pair) (next : List Pair → Layout) → ((pairs : List Pair) → IsOwn (next pairs))
-    → IsOwn (pairs_layout count before next)
-own_pairs zero before next own = own before
-own_pairs (suc count) before next own = λ code f. own_pairs count (before ++ record { content = code; form = f } ∷ [])
-    next own
-
-own_entries : (format : Format) (pairs : List Pair) (count : ℕ) (before : List (List Value))
-    (next : List (List Value) → Layout)
-    → ((entries : List (List Value)) → IsOwn (next entries)) → IsOwn (entries_layout format pairs count before next)
-own_entries format pairs zero before next own = own before
-own_entries format pairs (suc count) before next own =
-    own_entry format pairs [] (λ entry. entries_layout format pairs count (before ++ entry ∷ []) next)
-    (λ entry. own_entries format pairs count (before ++ entry ∷ []) next own)
-
-own_table : (format : Format) (next : TableData → Layout) → ((t : TableData) → IsOwn (next t))
-    → IsOwn (table_layout format next)
-own_table format next own = λ pair_count. own_pairs pair_count [] _
-    (λ pairs. λ count. own_entries format pairs count [] _ (λ entries. own _))
-
-own_new : (p : Params) → IsOwn (table_layout p.format (from_files p))
-own_new p =
-    own_table p.format (λ directories. table_layout p.format λ files. last_entry
-    (record { params = p; directories = directories; files = files }))
-    (λ directories. own_table p.format
-    (λ files. last_entry (record { params = p; directories = directories; files = files })) (λ files. tt))
-
-own_tables : (p : Params) → IsOwn (tables_layout p)
-own_tables p = elim (cases_eq p.version 5) [
-  | inl own ↦ rw
-      (eq-eqb _ _ own) (own_new p)
-  | inr older ↦ rw (ne_eqb _ _ older) (λ directories files. tt)
-]
-
--- after header_length no foreign version stands, in an older version neither
-own_late : (p : Params) → IsOwn (after_minimum_length p)
-own_late p = elim (cases_lt p.version 4) [
-  | inl old ↦ rw (lt-ltb _ _ old) (λ is_stmt base range opcodes. own_lengths 1 (opcodes - 1) [] _
-      (λ lengths. own_tables _))
-  | inr new ↦ rw (le-ltb _ _ new) (λ maximum is_stmt base range opcodes. own_lengths 1
-      (opcodes - 1) [] _ (λ lengths. own_tables _))
-]
-
-own_fields : (unit_length : ℕ) (p : Params) → IsOwn (from_address_size unit_length p)
-own_fields unit_length p = λ address segment header minimum.
-    own_late (record p {
-      address_size = address;
-      segment_selector_size = segment;
-      minimum_instruction_length = minimum;
-    })
+none_foreign : (layout : Layout) (items : List Item) (v : ℕ) → Leads ⊥ 3 layout
+    → following_all layout items ≡ foreign_version v → ⊥
+none_foreign layout items v leads e = let own = subst IsOwn e (own_all layout items (3, leads)) in own.1
 
 -- where version 5 was read, no foreign unit is
 pub not_foreign : (unit_length : ℕ) (p : Params) (items : List Item) (v : ℕ)
     → following_all (from_address_size unit_length p) items ≡ foreign_version v → ⊥
-not_foreign unit_length p items v e = subst IsOwn e
-    (own_following_all (from_address_size unit_length p) items (own_fields unit_length p))
+not_foreign unit_length p items v e =
+    none_foreign (from_address_size unit_length p) items v (λ address segment header. leads_late ⊥
+    (record p { address_size = address; segment_selector_size = segment })) e
 
 -- nor where header_length was
 pub late_not_foreign : (p : Params) (items : List Item) (v : ℕ)
     → following_all (from_minimum_length p) items ≡ foreign_version v → ⊥
-late_not_foreign p items v e = subst IsOwn e
-    (own_following_all (from_minimum_length p) items (λ n. own_late (record p { minimum_instruction_length = n })))
+late_not_foreign p items v e = none_foreign (from_minimum_length p) items v (leads_late ⊥ p) e
 
 pub older_not_foreign : (unit_length : ℕ) (p : Params) (items : List Item) (v : ℕ)
     → following_all (from_header_length unit_length p) items ≡ foreign_version v → ⊥
-older_not_foreign unit_length p items v e = subst IsOwn e
-    (own_following_all (from_header_length unit_length p) items
-    (λ header minimum. own_late (record p { minimum_instruction_length = minimum })))
+older_not_foreign unit_length p items v e =
+    none_foreign (from_header_length unit_length p) items v (λ header. leads_late ⊥ p) e

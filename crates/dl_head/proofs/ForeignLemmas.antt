@@ -1,10 +1,10 @@
 -- A foreign version stays that of its unit.
-use Rattle.std.proofs.Common.{◌≡◌, ℕ, List, [], ◌∷◌, ◌++◌, Some, refl, ap, ◌∙◌, append-nil}
+use Rattle.std.proofs.Common.{◌≡◌, ℕ, List, [], ◌∷◌, ◌++◌, Some, refl, append-nil}
 use Rattle.dl_num.specs.declared.fixed.Order.{Order}
 use Rattle.dl_head.specs.declared.dialect.Dialect.{Dialect}
-use Rattle.dl_field.specs.Layout.{Layout, foreign_version, Item, following_all}
+use Rattle.dl_field.specs.Layout.{foreign_version, following_all}
 use Rattle.dl_head.specs.HeaderLayout.{header_layout}
-use Rattle.dl_head.specs.Header.{Cut, cut_after, cut, foreign_in, foreign_made}
+use Rattle.dl_head.specs.Header.{cut_after, cut, foreign_in}
 use Rattle.dl_head.proofs.CutLemmas.{cut-append}
 use Rattle.dl_head.proofs.RefusalLaws.{foreign_last}
 
@@ -19,11 +19,4 @@ pub foreign_on : (dialect : Dialect) (b u : List ℕ) (version : ℕ) → foreig
 foreign_on dialect b u version foreign =
     let items = (cut dialect b).items in
     let last = foreign_last (following_all (header_layout dialect) items) version foreign in
-    let none : (cut_after dialect.order (following_all (header_layout dialect) items) (cut dialect b).rest
-    u).items ≡ [] =
-    ap (λ (l : Layout). (cut_after dialect.order l (cut dialect b).rest u).items) last
-    ∙ no_items dialect.order version (cut dialect b).rest u in
-    ap (λ (c : Cut). foreign_made (following_all (header_layout dialect) c.items)) (cut-append dialect b u)
-    ∙ ap (λ (l : List Item). foreign_made (following_all (header_layout dialect) (items ++ l))) none
-    ∙ ap (λ (l : List Item). foreign_made (following_all (header_layout dialect) l)) (append-nil items)
-    ∙ foreign
+    rw (cut-append dialect b u, last, no_items dialect.order version (cut dialect b).rest u, append-nil items) foreign

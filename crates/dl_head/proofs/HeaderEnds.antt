@@ -3,23 +3,21 @@ use Rattle.std.proofs.Common.{◌<◌, ◌≡◌, ℕ, ◌+◌, ◌≤◌, List,
 use Rattle.std.proofs.Common.{inl, inr, ◌≢◌, subst, ◌∙◌, arith, length-append, append-nil}
 use Rattle.std.proofs.lemmas.Bool.{ne_eqb, eq-eqb}
 use Rattle.dl_head.specs.declared.dialect.Dialect.{Dialect}
-use Rattle.dl_field.specs.Layout.{end_is as list_end}
-use Rattle.dl_head.specs.declared.reader.byte_field.ByteField.TheVariants as field
-use Rattle.dl_head.specs.declared.reader.Phase.{Phase}
-use Rattle.dl_head.specs.declared.reader.Phase.TheVariants as phase
+use Rattle.dl_field.specs.Layout.{end_is as list_end, Layout, Item, length_is, number_is, form_is, value_is}
+use Rattle.dl_field.specs.Layout.{following_all, field_spelt}
 use Rattle.dl_head.specs.declared.reader.HeadReader.{HeadReader}
 use Rattle.dl_table.specs.declared.fault.FaultKind.{FaultKind}
 use Rattle.dl_table.specs.declared.fault.FaultKind.TheVariants as fault
 use Rattle.dl_table.specs.Value.{good}
-use Rattle.dl_field.specs.Layout.{Layout, Item, length_is, number_is, form_is, value_is, following_all, field_spelt}
 use Rattle.dl_head.specs.HeaderLayout.{header_layout, initial_size, fixed_part}
 use Rattle.dl_head.specs.Header.{SpellsFields, cut, unit_end, header_end}
 use Rattle.dl_head.specs.Refusal.{at_end, field_overrun}
-use Rattle.dl_head.specs.Place.{Early, Past, AtPhase, end_of_unit, before_header_length, IsOfVersion, length_item}
+use Rattle.dl_head.specs.Place.{Parts, parts, Early, Past, end_of_unit, before_length, before_header_length}
+use Rattle.dl_head.specs.Place.{IsOfVersion, length_item}
 use Rattle.dl_head.specs.Standing.{Below, unit_known}
 use Rattle.dl_head.proofs.CutLemmas.{cut_of, cut_good, cut_sound, Sound}
 use Rattle.dl_head.proofs.Openings.{Opening, opening_of}
-use Rattle.dl_head.proofs.EarlyEnds.{header_end-append, unit_end-append, length_first, early_of}
+use Rattle.dl_head.proofs.EarlyEnds.{header_end-append, unit_end-append, length_first, header_room}
 use Rattle.dl_field.proofs.FieldLemmas.{none_some}
 
 -- the header's end, or else the unit's, as far as they are known
@@ -58,7 +56,7 @@ pub record EndIs (r : HeadReader) (items : List Item) : Type 0 where
   pub overrun : r.overrun ≡ overrun_from items
   pub unit : unit_known (end_of_unit r) r.end ≡ unit_end items
 
-early_end : (r : HeadReader) (items is : List Item) → Early r items is → header_end is ≡ None
+pub early_end : (r : HeadReader) (items is : List Item) → Early r items is → header_end is ≡ None
     → unit_end is ≡ Some (end_of_unit r) → EndIs r items
 early_end r items is e none unit =
     let header : header_end items ≡ None = ap header_end e.items_are ∙ none in
@@ -77,7 +75,7 @@ after_end r items layout e = record {
   unit = ap (λ (o : Option ℕ). unit_known (end_of_unit r) o) e.end ∙ sym e.unit;
 }
 
-start_end : (r : HeadReader) (items : List Item) → items ≡ [] → r.end ≡ None → r.overrun ≡ fault.UnitOverrun
+pub start_end : (r : HeadReader) (items : List Item) → items ≡ [] → r.end ≡ None → r.overrun ≡ fault.UnitOverrun
     → EndIs r items
 start_end r items none end overrun = record {
   end = end ∙ sym (ap end_from none);
@@ -86,51 +84,28 @@ start_end r items none end overrun = record {
 }
 
 -- the fields before header_length, by the version
-pub before_own : (r : HeadReader) → r.params.version ≡ 5
-    → before_header_length r ≡ length_item r ∷ number_is 5 ∷ number_is r.params.address_size
+pub before_own : (r : Parts) → r.params.version ≡ 5
+    → before_length r ≡ length_is r.params.format r.unit_length ∷ number_is 5 ∷ number_is r.params.address_size
     ∷ number_is r.params.segment_selector_size ∷ []
 before_own r five = rw (eq-eqb r.params.version 5 five) refl
 
-pub before_older : (r : HeadReader) → r.params.version ≢ 5
-    → before_header_length r ≡ length_item r ∷ number_is r.params.version ∷ []
+pub before_older : (r : Parts) → r.params.version ≢ 5
+    → before_length r ≡ length_is r.params.format r.unit_length ∷ number_is r.params.version ∷ []
 before_older r other = rw (ne_eqb r.params.version 5 other) refl
 
 older_none : (r : HeadReader) → r.params.version ≢ 5
     → header_end (length_item r ∷ number_is r.params.version ∷ []) ≡ None
 older_none r other = rw (ne_eqb r.params.version 5 other) refl
 
-before_end : (r : HeadReader) (items : List Item) → Early r items (before_header_length r) → IsOfVersion r
+pub before_end : (r : HeadReader) (items : List Item) → Early r items (before_header_length r) → IsOfVersion r
     → EndIs r items
 before_end r items e (inl own) =
-    early_end r items (before_header_length r) e (ap header_end (before_own r own)) (ap unit_end (before_own r own))
+    early_end r items (before_header_length r) e (ap header_end (before_own (parts r) own))
+    (ap unit_end (before_own (parts r) own))
 before_end r items e (inr older) =
     early_end r items (before_header_length r) e
-    (ap header_end (before_older r older.other) ∙ older_none r older.other)
-    (ap unit_end (before_older r older.other))
-
-pub end_is : (r : HeadReader) (p : Phase) (items : List Item) (rest : List ℕ) → AtPhase r p items rest → EndIs r items
-end_is r (phase.UnitLength n) items rest at = start_end r items at.0.none at.0.end at.0.overrun
-end_is r (phase.LongUnitLength n) items rest at = start_end r items at.0.none at.0.end at.0.overrun
-end_is r phase.Version items rest at = early_end r items _ at.0 refl refl
-end_is r (phase.VersionEnd first) items rest at = early_end r items _ at.0 refl refl
-end_is r (phase.HeaderLength n) items rest at = before_end r items at.0 at.1
-end_is r (phase.Byte field.AddressSize) items rest at = early_end r items _ at.0 refl refl
-end_is r (phase.Byte field.SegmentSelectorSize) items rest at = early_end r items _ at.0 refl refl
-end_is r (phase.Byte field.MinimumInstructionLength) items rest at = after_end r items _ at.0.tail
-end_is r (phase.Byte field.MaximumOperations) items rest at = after_end r items _ at.0.tail
-end_is r (phase.Byte field.DefaultIsStmt) items rest at = after_end r items _ at.0.tail
-end_is r (phase.Byte field.LineBase) items rest at = after_end r items _ at.0.tail
-end_is r (phase.Byte field.LineRange) items rest at = after_end r items _ at.0.tail
-end_is r (phase.Byte field.OpcodeBase) items rest at = after_end r items _ at.0.tail
-end_is r phase.OpcodeLength items rest at = after_end r items _ at.0.tail
-end_is r phase.Directories items rest at = after_end r items at.layout at.tail
-end_is r phase.Files items rest at = after_end r items at.layout at.tail
-end_is r phase.OlderDirectories items rest at = after_end r items at.layout at.tail
-end_is r phase.OlderFiles items rest at = after_end r items at.layout at.tail
-end_is r phase.Padding items rest at = after_end r items _ at
-end_is r (phase.Foreign v) items rest at = early_end r items _ at.0 (rw (ne_eqb v 5 at.1) refl) refl
-end_is r phase.Done items rest at = absurd at
-end_is r (phase.Failed f) items rest at = absurd at
+    (ap header_end (before_older (parts r) older.other) ∙ older_none r older.other)
+    (ap unit_end (before_older (parts r) older.other))
 
 -- ---- a field ends at that end or before it
 
@@ -142,18 +117,6 @@ UpTo n (Some end) = n ≤ end
 pub below_next : (n : ℕ) (end : Option ℕ) → Below n end → UpTo (n + 1) end
 below_next n None lt = tt
 below_next n (Some e) lt = omega arith
-
-header_room : (dialect : Dialect) (items : List Item) (i : Item) (w : List ℕ) (e : ℕ)
-    → SpellsFields dialect.order (header_layout dialect) (items ++ i ∷ []) w
-    → header_end items ≡ None → header_end (items ++ i ∷ []) ≡ Some e → length w ≤ e
-header_room dialect items i w e s none h =
-    let o : Opening dialect (items ++ i ∷ []) w = opening_of dialect (items ++ i ∷ []) w e s h in
-    let small = early_of dialect (items ++ i ∷ []) w o items [] i w refl
-    none s in
-    let same : Some (initial_size o.format + fixed_part o.format o.of_version + o.header) ≡ Some e = sym o.end
-    ∙ h in
-    let is : initial_size o.format + fixed_part o.format o.of_version + o.header ≡ e = cc in
-    omega (arith, small, is)
 
 unit_room : (dialect : Dialect) (items : List Item) (i : Item) (w : List ℕ) (n : ℕ) → length w ≡ n + 1
     → SpellsFields dialect.order (header_layout dialect) (items ++ i ∷ []) w

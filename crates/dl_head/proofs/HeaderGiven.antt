@@ -1,12 +1,11 @@
 -- The header that a reader gives, and the cells that it holds.
-use Rattle.std.proofs.Common.{◌≡◌, ◌≢◌, ℕ, List, [], Option, Some, None, refl, sym, ap, subst, ◌∙◌, append-nil}
+use Rattle.std.proofs.Common.{◌≡◌, ◌≢◌, ℕ, List, [], Option, Some, None, refl, sym, subst, ◌∙◌, append-nil}
 use Rattle.dl_head.specs.declared.reader.HeadReader.{HeadReader}
 use Rattle.dl_head.specs.declared.reader.HeadStep.{HeadStep}
 use Rattle.dl_head.specs.declared.reader.HeadStep.TheVariants as answer
 use Rattle.dl_table.specs.TableData.{TableData}
-use Rattle.dl_field.specs.HeaderData.{HeaderData}
+use Rattle.dl_field.specs.HeaderData.{HeaderData, header_cells}
 use Rattle.dl_field.specs.declared.params.Params.{Params}
-use Rattle.dl_field.specs.HeaderData.{header_cells}
 use Rattle.dl_head.specs.Header.{IsHeader}
 use Rattle.dl_head.specs.Cells.{cells}
 use Rattle.dl_head.specs.Place.{held_cells}
@@ -53,8 +52,7 @@ gives_of r None e = λ b s h. unmade r b h s e
 
 pub made_cells : (r : HeadReader) (b : List ℕ) (h : HeaderData) → StandsFor r b → r.header ≡ Some h
     → cells r.dialect b ≡ header_cells h
-made_cells r b h s is = ap (λ (l : List ℕ). cells r.dialect l) (sym (append-nil b))
-    ∙ (header_holds_its_cells r.dialect h b [] (made r b h s is)).0
+made_cells r b h s is = rw (← append-nil b) (header_holds_its_cells r.dialect h b [] (made r b h s is)).0
 
 pub held_so_far : (r : HeadReader) (b : List ℕ) → StandsFor r b → r.header ≡ None → held_cells r ≡ cells r.dialect b
 held_so_far r b s is = on (ending r.phase) s.stands where
@@ -69,7 +67,4 @@ held_so_far r b s is = on (ending r.phase) s.stands where
 pub header_parts : {p q : Params} {d e f g : TableData} → p ≡ q → d ≡ e → f ≡ g
     → ◌≡◌ {A = HeaderData} (record { params = p; directories = d; files = f })
     (record { params = q; directories = e; files = g })
-header_parts {p} {q} {d} {e} {f} {g} a b c =
-    ap (λ (x : Params). record { params = x; directories = d; files = f }) a
-    ∙ ap (λ (x : TableData). record { params = q; directories = x; files = f }) b
-    ∙ ap (λ (x : TableData). record { params = q; directories = e; files = x }) c
+header_parts {p} {q} {d} {e} {f} {g} a b c = cc

@@ -6,21 +6,19 @@ use Rattle.std.proofs.lemmas.Bool.{cases_lt, le-leb, lt-leb}
 use Rattle.std.proofs.lemmas.List.{take-append-drop, length-take-le}
 use Rattle.std.proofs.Math.Seq.{drop-append_seam, take-append-add}
 use Rattle.dl_num.specs.declared.fixed.Order.{Order}
-use Rattle.dl_field.specs.Layout.{path_or_end}
+use Rattle.dl_field.specs.Layout.{path_or_end, Layout, initial_length_then, number_then, form_then, value_then}
+use Rattle.dl_field.specs.Layout.{foreign_version, last_entry, Item, following, following_all, field_spelt}
 use Rattle.dl_head.specs.declared.dialect.Dialect.{Dialect}
 use Rattle.dl_num.proofs.FrontLemmas.{front_before}
 use Rattle.dl_num.proofs.LebFrontLemmas.{true_false, and_left, and_right}
 use Rattle.dl_field.specs.HeaderData.{HeaderData}
 use Rattle.dl_table.specs.declared.fault.FaultKind.{FaultKind}
 use Rattle.dl_table.specs.Value.{Judgement, good, bad}
-use Rattle.dl_field.specs.Layout.{Layout, initial_length_then, number_then, form_then, value_then, foreign_version}
-use Rattle.dl_field.specs.Layout.{last_entry, Item, following, following_all, field_spelt}
 use Rattle.dl_head.specs.HeaderLayout.{header_layout}
-use Rattle.dl_head.specs.Header.{Cut, cut_after, cut, header_made, header_end, foreign_made, header_up_to, IsHeader}
-use Rattle.dl_head.specs.Header.{IsFieldCut}
+use Rattle.dl_head.specs.Header.{Cut, cut_after, cut, header_made, header_end, header_up_to, IsHeader, IsFieldCut}
 use Rattle.dl_head.specs.Laws.{OneHeader, HeaderIsFound, FoundIsHeader, CutIsComputed, HeaderIsNotForeign}
 use Rattle.dl_field.proofs.FieldLemmas.{field_empty, none_some}
-use Rattle.dl_head.proofs.CutLemmas.{cut_of, with_items, cut_on, cut_fields, cut_last, cut_sound, Sound}
+use Rattle.dl_head.proofs.CutLemmas.{cut_of, cut_on, cut_fields, cut_last, cut_sound, Sound}
 
 pub made_last : (layout : Layout) (h : HeaderData) → header_made layout ≡ Some h → layout ≡ last_entry h
 made_last (last_entry g) h e = let f : ◌≡◌ {A = Option HeaderData} (Some g) (Some h) = e in cc
@@ -35,11 +33,15 @@ made_last (foreign_version v) h e = absurd (none_some refl e)
 pub header_cut : (dialect : Dialect) (h : HeaderData) (w y : List ℕ) (is : IsHeader dialect h w)
     → cut dialect (w ++ y) ≡ cut_of is.items (is.padding ++ y)
 header_cut dialect h w y is =
-    ap (λ (z : List ℕ). cut dialect z) (ap (λ (z : List ℕ). z ++ y) is.whole ∙ append_assoc is.fields is.padding y)
-    ∙ cut_fields dialect.order (header_layout dialect) is.items is.fields (is.padding ++ y) is.spelt
-    ∙ ap (λ (l : Layout). with_items is.items (cut_after dialect.order l [] (is.padding ++ y))) (made_last _ h is.made)
-    ∙ ap (λ (c : Cut). with_items is.items c) (cut_last dialect.order h [] (is.padding ++ y))
-    ∙ ap (λ (l : List Item). cut_of l (is.padding ++ y)) (append-nil is.items)
+    let z = is.padding ++ y in
+    rw (
+      is.whole,
+      append_assoc,
+      cut_fields dialect.order (header_layout dialect) is.items is.fields z is.spelt,
+      made_last _ h is.made,
+      cut_last dialect.order h [] z,
+      append-nil,
+    ) refl
 
 length_nil : (v : List ℕ) → length v ≡ 0 → v ≡ []
 length_nil [] e = refl
@@ -76,11 +78,7 @@ header_is_found dialect h w rest is =
     && nat_le (length w) (length (w ++ rest))) ≡ true =
     rw (le-leb _ _ fields_end) (le-leb _ _ (omega (arith, length-append w rest))) in
     ap (λ (c : Cut). in_cut dialect (w ++ rest) c) (header_cut dialect h w rest is)
-    ∙ ap (λ o. header_up_to (w ++ rest) (length (w ++ rest) - length (is.padding ++ rest)) o (header_end is.items))
-    is.made
-    ∙ ap (λ o. header_up_to (w ++ rest) (length (w ++ rest) - length (is.padding ++ rest)) (Some h) o) is.end
-    ∙ ap (λ (t : Bool). found_if t h (drop (length w) (w ++ rest))) within
-    ∙ ap (λ (l : List ℕ). found_if true h l) (drop-append_seam w rest)
+    ∙ rw (is.made, is.end, within, drop-append_seam w rest) refl
 
 -- what a header that is computed comes from
 record Found (b : List ℕ) (fields : ℕ) (made : Option HeaderData) (end : Option ℕ) (h : HeaderData)
@@ -97,10 +95,8 @@ le_of a b h = elim (cases_lt b a) [ inl lt ↦ absurd (true_false h (lt-leb a b 
 
 pair_same : (g h : HeaderData) (u v : List ℕ) → ◌≡◌ {A = Option (HeaderData × List ℕ)} (Some (g, u)) (Some (h, v))
     → (g ≡ h) × (u ≡ v)
-pair_same g h u v e = (
-  ap (λ (o : Option (HeaderData × List ℕ)). elim o [ Some p ↦ p.0 | None ↦ g ]) e,
-  ap (λ (o : Option (HeaderData × List ℕ)). elim o [ Some p ↦ p.1 | None ↦ u ]) e,
-)
+pair_same g h u v e =
+    let p : ◌≡◌ {A = HeaderData × List ℕ} (g, u) (h, v) = cc in (λ i. (p i).0, λ i. (p i).1)
 
 found : (b : List ℕ) (fields : ℕ) (made : Option HeaderData) (end : Option ℕ) (h : HeaderData) (rest : List ℕ)
     → header_up_to b fields made end ≡ Some (h, rest) → Found b fields made end h rest
@@ -219,12 +215,12 @@ rest_has_none order layout begun (x ∷ b) none =
 pub cut_is_computed : CutIsComputed
 cut_is_computed dialect b items rest = (to, from) where
   to : IsFieldCut dialect b items rest → cut dialect b ≡ cut_of items rest
-  to is =
-      ap (λ (z : List ℕ). cut dialect z) is.whole
-      ∙ cut_fields dialect.order (header_layout dialect) items is.fields rest is.spelt
-      ∙ ap (λ (c : Cut). with_items items c)
-      (nothing_cut dialect.order (following_all (header_layout dialect) items) [] rest is.no_more)
-      ∙ ap (λ (l : List Item). cut_of l rest) (append-nil items)
+  to is = rw (
+    is.whole,
+    cut_fields dialect.order (header_layout dialect) items is.fields rest is.spelt,
+    nothing_cut dialect.order (following_all (header_layout dialect) items) [] rest is.no_more,
+    append-nil,
+  ) refl
 
   computed : IsFieldCut dialect b (cut dialect b).items (cut dialect b).rest
   computed =
@@ -244,6 +240,4 @@ cut_is_computed dialect b items rest = (to, from) where
 -- ---- own and foreign
 
 pub header_is_not_foreign : HeaderIsNotForeign
-header_is_not_foreign dialect h w v is =
-    ap (λ (c : Cut). foreign_made (following_all (header_layout dialect) c.items)) (header_cut dialect h w v is)
-    ∙ ap foreign_made (made_last _ h is.made)
+header_is_not_foreign dialect h w v is = rw (header_cut dialect h w v is, made_last _ h is.made) refl

@@ -8,7 +8,6 @@ pub mod EarlyFields
 pub mod FirstFields
 pub mod ForeignLemmas
 pub mod FrontLemmas
-pub mod HeadLists
 pub mod HeadTables
 pub mod HeaderCells
 pub mod HeaderEnds
@@ -28,9 +27,9 @@ pub mod ReadSound
 pub mod ReadTables
 pub mod ReadValues
 pub mod RefusalLaws
-pub mod RunLemmas
 pub mod SamePlace
 pub mod StepCells
+pub mod TableBytes
 pub mod TableSpellings
 pub mod TableValues
 pub mod TakenBytes

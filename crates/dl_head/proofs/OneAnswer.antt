@@ -18,8 +18,7 @@ use Rattle.dl_head.proofs.RefusalLaws.{decided_on, foreign_last, one_header_refu
 
 header_not_foreign : (dialect : Dialect) (h : HeaderData) (b : List ℕ) → IsHeader dialect h b
     → foreign_in dialect b ≡ None
-header_not_foreign dialect h b w = ap (λ (l : List ℕ). foreign_in dialect l) (sym (append-nil b))
-    ∙ header_is_not_foreign dialect h b [] w
+header_not_foreign dialect h b w = rw (← append-nil b) (header_is_not_foreign dialect h b [] w)
 
 header_not_refused : (dialect : Dialect) (h : HeaderData) (b : List ℕ) (at : ℕ) (kind : FaultKind)
     → IsHeader dialect h b → HeaderRefused dialect b at kind → ⊥
@@ -36,8 +35,7 @@ version_same : (v u : ℕ) → ◌≡◌ {A = Option ℕ} (Some v) (Some u) → 
 version_same v u e = cc
 
 fault_same : (f g : Fault) → f.offset ≡ g.offset → f.kind ≡ g.kind → answer.Fault f ≡ answer.Fault g
-fault_same f g a b = ap (λ (n : ℕ). answer.Fault (record { offset = n; kind = f.kind })) a
-    ∙ ap (λ (k : FaultKind). answer.Fault (record { offset = g.offset; kind = k })) b
+fault_same f g a b = λ i. answer.Fault (record { offset = a i; kind = b i })
 
 same_fault : (dialect : Dialect) (b : List ℕ) (f g : Fault) → HeaderRefused dialect b f.offset f.kind
     → HeaderRefused dialect b g.offset g.kind → answer.Fault f ≡ answer.Fault g

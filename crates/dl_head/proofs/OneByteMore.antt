@@ -1,6 +1,6 @@
 -- One byte more of a header: what the reader answers, and the bytes that it stands for then.
-use Rattle.std.proofs.Common.{◌≡◌, ◌≢◌, ℕ, ◌+◌, List, [], ◌∷◌, ◌++◌, length, Option, Some, None, refl}
-use Rattle.std.proofs.Common.{sym, ap, subst, ◌∙◌, arith, length-append}
+use Rattle.std.proofs.Common.{◌≡◌, ◌≢◌, ℕ, ◌+◌, List, [], ◌∷◌, ◌++◌, length, Option, Some, None, refl, sym, ap, subst}
+use Rattle.std.proofs.Common.{◌∙◌, arith, length-append}
 use Rattle.dl_head.specs.declared.dialect.Dialect.{Dialect}
 use Rattle.dl_num.specs.declared.partial_number.PartialNumber.{PartialNumber}
 use Rattle.dl_num.specs.NumberBytes.{number_size, number_bytes}
@@ -15,29 +15,28 @@ use Rattle.dl_table.specs.Value.{Judgement, bad}
 use Rattle.dl_field.specs.Layout.{Item, following_all, field_spelt}
 use Rattle.dl_head.specs.HeaderLayout.{header_layout}
 use Rattle.dl_head.specs.Header.{Cut, cut, unit_end, unit_len, foreign_made}
-use Rattle.dl_head.specs.Refusal.{or_else, bad_kind, header_overrun, cut_decided, header_decided, NothingBefore}
-use Rattle.dl_head.specs.Refusal.{HeaderRefused}
+use Rattle.dl_head.specs.Refusal.{or_else, bad_kind, header_overrun, cut_decided, header_decided, HeaderRefused}
 use Rattle.dl_head.specs.Cells.{cells}
 use Rattle.dl_table.specs.TableCells.{table_cells}
 use Rattle.dl_field.specs.TablePlace.{IsFresh}
 use Rattle.dl_head.specs.Place.{AtStart, AtPhase, At, SameCounts, SameUnit, PushFollows, end_of_unit, held_cells}
-use Rattle.dl_head.specs.Standing.{Below, Live, Unmade, ending, Stands, StandsFor, unit_known, Fails, Settles}
+use Rattle.dl_head.specs.Standing.{Below, IsRead, Live, Unmade, ending, Stands, StandsFor, unit_known, Fails, Settles}
 use Rattle.dl_head.specs.Reading.{Answers, AddsCell, Steps}
 use Rattle.dl_field.proofs.FieldLemmas.{none_some}
 use Rattle.dl_head.proofs.CutLemmas.{cut_of, cut_bad}
-use Rattle.dl_head.proofs.HeaderEnds.{UpTo, below_next, end_from, end_is}
-use Rattle.dl_head.proofs.TakenBytes.{Place, in_field, in_padding, in_foreign, place_of, live_quiet}
-use Rattle.dl_head.proofs.TakenBytes.{live_more, not_foreign}
+use Rattle.dl_head.proofs.HeaderEnds.{UpTo, below_next, end_from}
+use Rattle.dl_head.proofs.TakenBytes.{Place, in_field, in_padding, in_foreign, place_of, end_is, live_quiet, live_more}
+use Rattle.dl_head.proofs.TakenBytes.{not_foreign}
 use Rattle.dl_head.proofs.OneAnswer.{one_answer}
 use Rattle.dl_head.proofs.StepCells.{cells_on}
 use Rattle.dl_head.proofs.SamePlace.{Guards, counted}
 use Rattle.dl_head.proofs.MovedReader.{nothing_on, moved_within, cells_taken}
-use Rattle.dl_head.proofs.ByteCounted.{settled, failed, unit_of, unit_kept, fits_kept, fits_of}
+use Rattle.dl_head.proofs.ByteCounted.{Counts, settled, failed, stands_so, unit_of, fits_of}
 
 -- what the bytes c come to, by the dialect
-pub by_dialect : (r mid fin : HeadReader) (c : List ℕ) (result : HeadStep) → mid.dialect ≡ r.dialect
-    → Answers mid.dialect c result × StandsFor fin c → Answers r.dialect c result × StandsFor fin c
-by_dialect r mid fin c result dialect p = (subst (λ (d : Dialect). Answers d c result) dialect p.0, p.1)
+pub by_dialect : {d e : Dialect} {fin : HeadReader} {c : List ℕ} (result : HeadStep) → d ≡ e
+    → Answers d c result × StandsFor fin c → Answers e c result × StandsFor fin c
+by_dialect {d} {e} {fin} {c} result dialect p = (subst (λ (d : Dialect). Answers d c result) dialect p.0, p.1)
 
 answers_of : (r : HeadReader) (b : List ℕ) (a : HeadStep) → Stands r (Some a) b → Answers r.dialect b a
 answers_of r b answer.Done t = (t.0, t.2)
@@ -80,14 +79,12 @@ goes_more r b s more = on (ending r.phase) refl s.stands where
   on (Some a) e t = absurd (subst (λ (q : HeadStep). Stands r (Some q) b)
       (one_answer r.dialect b a answer.More (answers_of r b a t) more) t)
 
-pub within_step : (r new fin : HeadReader) (g : Guards new) (b : List ℕ) (x t : ℕ) (result : HeadStep)
-    → Live r b × Unmade r b
-    → PushFollows r x byte_makes.Within new → t ≡ length b + 1 → Settles (counted new g new.start t) result fin
+pub within_step : {r new fin : HeadReader} {b : List ℕ} {x : ℕ} (result : HeadStep) (g : Guards new) (t : ℕ)
+    → Live r b × Unmade r b → PushFollows r x byte_makes.Within new → t ≡ length b + 1
+    → Settles (counted new g new.start t) result fin
     → Answers r.dialect (b ++ x ∷ []) result × StandsFor fin (b ++ x ∷ [])
-within_step r new fin g b x t result l f count s =
-    let mid = counted new g new.start t in
-    by_dialect r mid fin (b ++ x ∷ []) result f.counts.dialect
-    (settled mid fin (b ++ x ∷ []) (moved_within r new g b x t l.0 l.1 f count) result s)
+within_step {r} {new} {fin} {b} {x} result g t l f count s =
+    by_dialect result f.counts.dialect (settled result (moved_within r new g b x t l.0 l.1 f count) s)
 
 bad_decided : (dialect : Dialect) (b : List ℕ) (x : ℕ) (items : List Item) (rest : List ℕ) (kind : FaultKind)
     → cut dialect b ≡ cut_of items rest
@@ -99,101 +96,86 @@ bad_decided dialect b x items rest kind e spelt =
     (header_overrun (length (b ++ x ∷ [])) items (following_all (header_layout dialect) items))) spelt
 
 -- the byte ends a bad field
-pub refused_step : (r new fin : HeadReader) (g : Guards new) (b : List ℕ) (x t : ℕ) (kind : FaultKind)
-    (result : HeadStep) → StandsFor r b → Live r b × Unmade r b
-    → PushFollows r x (byte_makes.Refuses kind) new → SameUnit r new → t ≡ length b + 1
-    → Fails (counted new g new.start t) kind result fin
+pub refused_step : {r new fin : HeadReader} {b : List ℕ} {x : ℕ} {kind : FaultKind} {result : HeadStep}
+    (g : Guards new) (t : ℕ) → StandsFor r b → Live r b × Unmade r b → PushFollows r x (byte_makes.Refuses kind) new
+    → SameUnit r new → t ≡ length b + 1 → Fails (counted new g new.start t) kind result fin
     → Answers r.dialect (b ++ x ∷ []) result × StandsFor fin (b ++ x ∷ [])
-refused_step r new fin g b x t kind result stands l f unit count fails =
+refused_step {r} {new} {fin} {b} {x} {kind} {result} g t stands l f unit count fails =
     let spelt = f.made l.0.items l.0.rest l.0.at in
-    let cut_is = cut_bad r.dialect b x l.0.items l.0.rest kind l.0.cut_is spelt in
+    let cut_is = cut_bad r.dialect b x l.0.items l.0.rest kind l.0.read.cut_is spelt in
+    let size = length-append b (x ∷ []) in
     let refused : HeaderRefused r.dialect (b ++ x ∷ []) new.start kind = record {
-      place = ap (λ (c : Cut). new.start + length c.rest) cut_is
-          ∙ (let e : new.start + length (l.0.rest ++ x ∷ [])
-          ≡ length (b ++ x ∷ []) = omega
-          (arith, f.counts.start, l.0.start_is, length-append b (x ∷ []), length-append l.0.rest (x ∷ [])) in e);
-      decided = bad_decided r.dialect b x l.0.items l.0.rest kind l.0.cut_is spelt;
-      shortest = nothing_on r.dialect b x l.0.nothing_before (live_quiet r b l.0);
+      place = rw cut_is (omega (arith, f.counts.start, l.0.start_is, size, length-append l.0.rest (x ∷ [])));
+      decided = bad_decided r.dialect b x l.0.items l.0.rest kind l.0.read.cut_is spelt;
+      shortest = nothing_on r.dialect b x l.0.read.nothing_before (live_quiet r b l.0);
     } in
+    let up = subst (λ (n : ℕ). UpTo n (end_from l.0.items)) (sym size) (below_next (length b) (end_from l.0.items)
+    (subst (λ (o : Option ℕ). Below (length b) o) (end_is r l.0.items l.0.rest l.0.at).end l.0.below)) in
     let mid = counted new g new.start t in
-    let below = subst (λ (o : Option ℕ). Below (length b) o) (end_is r r.phase l.0.items l.0.rest l.0.at).end
-    l.0.below in
-    let up = subst (λ (n : ℕ). UpTo n (end_from l.0.items)) (sym (length-append b (x ∷ [])))
-    (below_next (length b) (end_from l.0.items) below) in
-    let length_known : unit_known (end_of_unit r) r.end ≡ unit_len r.dialect (b ++ x ∷ []) =
-    stands.unit ∙ ap (λ (c : Cut). unit_end c.items) l.0.cut_is ∙ sym (ap (λ (c : Cut). unit_end c.items) cut_is) in
-    by_dialect r mid fin (b ++ x ∷ []) result f.counts.dialect
-    (failed mid fin (b ++ x ∷ []) kind result
-    (subst (λ (d : Dialect). HeaderRefused d (b ++ x ∷ []) new.start kind) (sym f.counts.dialect) refused)
-    (record {
+    let same : unit_known (end_of_unit new) new.end ≡ unit_known (end_of_unit r) r.end = cc in
+    let counts : Counts r.dialect mid (b ++ x ∷ []) = record {
+      taken = omega (arith, count, size);
+      unit = same ∙ stands.unit ∙ ap (λ (c : Cut). unit_end c.items) l.0.read.cut_is
+          ∙ sym (ap (λ (c : Cut). unit_end c.items) cut_is);
+      within = fits_of r.dialect (b ++ x ∷ []) cut_is l.0.read.ends_within up;
+    } in
+    by_dialect result f.counts.dialect (failed {r = mid} (rw f.counts.dialect refused) (record {
       header = f.counts.header ∙ l.1.header;
-      cells_are = cells_taken r new b x l.0 l.1 f.counts
-          (f.cells l.0.items l.0.rest l.0.at);
-    })
-    (omega (arith, count, length-append b (x ∷ [])))
-    (unit_kept r mid (b ++ x ∷ []) (record { end = unit.end; unit_length = unit.unit_length; format = unit.format })
-    f.counts.dialect length_known)
-    (fits_kept r.dialect new.dialect (b ++ x ∷ []) f.counts.dialect
-    (fits_of r.dialect (b ++ x ∷ []) l.0.items (l.0.rest ++ x ∷ []) cut_is l.0.ends_within up)) fails)
+      cells_are = cells_taken r new b x l.0 l.1 f.counts (f.cells l.0.items l.0.rest l.0.at);
+    }) (subst (λ (d : Dialect). Counts d mid (b ++ x ∷ [])) (sym f.counts.dialect) counts) fails)
 
 -- a reader that has taken nothing, though its vectors may have moved
 pub kept_stands : (r new : HeadReader) (b : List ℕ) → ending r.phase ≡ None → StandsFor r b
     → (l : Live r b × Unmade r b) → At new l.0.items l.0.rest → SameCounts r new → held_cells new ≡ held_cells r
     → StandsFor new b
-kept_stands r new b goes stands l at counts same_cells = record {
-  stands = subst (λ (o : Option HeadStep). Stands new o b) (sym (ends_not (place_of new new.phase items rest refl at)))
-      (live, unmade);
-  taken = counts.taken ∙ stands.taken;
-  unit = unit_of new b items rest cut_is (end_is new new.phase items rest at);
-  within = fits_kept r.dialect new.dialect b counts.dialect stands.within;
-} where
-  items : List Item
-  items = l.0.items
+kept_stands r new b goes stands l at counts same_cells =
+    stands_so None (ends_not (place_of new items rest at)) (live, unmade) counts.dialect (record {
+      taken = counts.taken ∙ stands.taken;
+      unit = unit_of new read (end_is new items rest at) ∙ ap (λ (d : Dialect). unit_len d b) counts.dialect;
+      within = stands.within;
+    }) where
+      items : List Item
+      items = l.0.items
 
-  rest : List ℕ
-  rest = l.0.rest
+      rest : List ℕ
+      rest = l.0.rest
 
-  ends_not : Place new new.phase items → ending new.phase ≡ None
-  ends_not (in_field none out next) = none
-  ends_not (in_padding is tail) = ap ending is
-  ends_not (in_foreign v is follows) = absurd
-      (none_some (not_foreign r r.phase items goes (place_of r r.phase items rest refl l.0.at))
-      (ap (λ (d : Dialect). foreign_made (following_all (header_layout d) items)) (sym counts.dialect)
-      ∙ ap foreign_made follows))
+      ends_not : Place new new.phase items → ending new.phase ≡ None
+      ends_not (in_field none out next) = none
+      ends_not (in_padding is tail) = ap ending is
+      ends_not (in_foreign v is follows) = absurd
+          (none_some (not_foreign r r.phase items goes (place_of r items rest l.0.at))
+          (ap (λ (d : Dialect). foreign_made (following_all (header_layout d) items)) (sym counts.dialect)
+          ∙ ap foreign_made follows))
 
-  end_same : new.end ≡ r.end
-  end_same = (end_is new new.phase items rest at).end ∙ sym (end_is r r.phase items rest l.0.at).end
+      end_same : new.end ≡ r.end
+      end_same = (end_is new items rest at).end ∙ sym (end_is r items rest l.0.at).end
 
-  cut_is : cut new.dialect b ≡ cut_of items rest
-  cut_is = ap (λ (d : Dialect). cut d b) counts.dialect ∙ l.0.cut_is
+      read : IsRead new.dialect b items rest
+      read = subst (λ (d : Dialect). IsRead d b items rest) (sym counts.dialect) l.0.read
 
-  live : Live new b
-  live = record {
-    items = items;
-    rest = rest;
-    cut_is = cut_is;
-    at = at;
-    unjudged = ap (λ (d : Dialect). field_spelt d.order (following_all (header_layout d) items) rest) counts.dialect
-        ∙ l.0.unjudged;
-    start_is = omega (arith, counts.start, l.0.start_is);
-    below = subst (λ (o : Option ℕ). Below (length b) o) (sym end_same) l.0.below;
-    nothing_before = subst (λ (d : Dialect). NothingBefore (header_decided d) b) (sym counts.dialect)
-        l.0.nothing_before;
-    ends_within = l.0.ends_within;
-  }
+      live : Live new b
+      live = record {
+        items = items;
+        rest = rest;
+        read = read;
+        at = at;
+        start_is = omega (arith, counts.start, l.0.start_is);
+        below = subst (λ (o : Option ℕ). Below (length b) o) (sym end_same) l.0.below;
+      }
 
-  unmade : Unmade new b
-  unmade = record {
-    header = counts.header ∙ l.1.header;
-    cells_are = same_cells ∙ l.1.cells_are ∙ ap (λ (d : Dialect). cells d b) (sym counts.dialect);
-  }
+      unmade : Unmade new b
+      unmade = record {
+        header = counts.header ∙ l.1.header;
+        cells_are = same_cells ∙ l.1.cells_are ∙ ap (λ (d : Dialect). cells d b) (sym counts.dialect);
+      }
 
 -- memory was refused
 pub unfed_step : (r new : HeadReader) (b : List ℕ) (x : ℕ) → ending r.phase ≡ None → StandsFor r b
     → Live r b × Unmade r b → PushFollows r x byte_makes.NoMemory new
     → AddsCell r.dialect b x × StandsFor new b
 unfed_step r new b x goes stands l f = (
-  omega (arith, (f.cells l.0.items l.0.rest l.0.at).1, cells_on r.dialect b x l.0.items l.0.rest l.0.cut_is),
+  omega (arith, (f.cells l.0.items l.0.rest l.0.at).1, cells_on r.dialect b x l.0.items l.0.rest l.0.read.cut_is),
   kept_stands r new b goes stands l (f.made l.0.items l.0.rest l.0.at) f.counts
       (f.cells l.0.items l.0.rest l.0.at).0,
 )
@@ -211,13 +193,15 @@ new_stands r n is none size at taken start header directories files = record {
     record {
       items = [];
       rest = [];
-      cut_is = refl;
+      read = record {
+        cut_is = refl;
+        unjudged = refl;
+        nothing_before = λ front x back e. absurd (no_front front x back e);
+        ends_within = λ n e u h. absurd (none_some refl u);
+      };
       at = subst (λ (p : Phase). AtPhase r p [] []) (sym is) (at, none, size);
-      unjudged = refl;
       start_is = omega (arith, start);
       below = subst (λ (o : Option ℕ). Below 0 o) (sym at.end) tt;
-      nothing_before = λ front x back e. absurd (no_front front x back e);
-      ends_within = λ n e u h. absurd (none_some refl u);
     },
     record {
       header = header;

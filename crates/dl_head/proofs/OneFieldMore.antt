@@ -1,28 +1,18 @@
 -- One field more of the header reader: from where it is to where it goes.
-use Rattle.std.proofs.Common.{◌≡◌, ℕ, zero, suc, ◌+◌, ◌-◌, ◌<◌, ◌≤◌, Bool, true, nat_lt, if◌then◌else◌, ℤ, inl, inr, w8}
-use Rattle.std.proofs.Common.{◌≢◌, map}
-use Rattle.std.proofs.Common.{to_z, of_z, SFits, List, [], ◌∷◌, ◌++◌, length, Some, refl, sym, ap, subst, ◌∙◌, arith}
-use Rattle.std.proofs.Common.{length-append}
+use Rattle.std.proofs.Common.{Some, ◌≡◌, ℕ, zero, suc, ◌+◌, ◌-◌, ◌<◌, ◌≤◌, Bool, true, nat_lt, if◌then◌else◌, ℤ, inl}
+use Rattle.std.proofs.Common.{inr, w8, ◌≢◌, to_z, of_z, SFits, List, [], ◌∷◌, ◌++◌, length, refl, sym, ap, subst, ◌∙◌}
+use Rattle.std.proofs.Common.{arith, length-append}
 use Rattle.std.proofs.lemmas.Int.{ints, to_z-of_z}
 use Rattle.std.proofs.lemmas.Bool.{cases_lt, lt-ltb, le-ltb, ltb-true, cases_eq, eq-eqb, ne_eqb}
 use Rattle.dl_num.specs.declared.fixed.Order.{Order}
-use Rattle.dl_field.specs.Layout.{path_or_end}
-use Rattle.dl_field.specs.ListStep.{listed}
-use Rattle.dl_field.specs.ListPlace.{InPath, ListAt}
-use Rattle.dl_field.specs.TablePlace.{Summed}
-use Rattle.dl_field.specs.declared.list_reader.ListKind.{ListKind}
-use Rattle.dl_field.specs.declared.list_reader.ListPhase.{ListPhase}
-use Rattle.dl_field.specs.declared.list_reader.ListPhase.TheVariants as list
 use Rattle.dl_field.specs.declared.list_reader.ListReader.{ListReader}
-use Rattle.dl_table.specs.declared.form.Format.{Format}
-use Rattle.dl_table.specs.declared.table.held.StoredValue.{StoredValue}
-use Rattle.dl_table.specs.Held.{value_held, values_end}
-use Rattle.dl_table.specs.TableData.{TableData}
-use Rattle.dl_field.specs.Layout.{table_layout}
+use Rattle.dl_field.specs.Layout.{number_size, table_layout, opcode_length, Layout, number_then, Item, number_is}
+use Rattle.dl_field.specs.Layout.{following, following_all, field_spelt, objection, judged}
 use Rattle.dl_head.specs.HeaderLayout.{from_older_directories, from_older_files, after_minimum_length}
-use Rattle.dl_head.specs.HeaderLayout.{from_default_is_stmt}
-use Rattle.dl_head.specs.HeaderLayout.{from_maximum_operations, from_address_size, from_segment_selector_size}
-use Rattle.dl_head.specs.HeadStep.{first_table, field_after_minimum}
+use Rattle.dl_head.specs.HeaderLayout.{from_default_is_stmt, from_maximum_operations, from_address_size}
+use Rattle.dl_head.specs.HeaderLayout.{from_segment_selector_size, header_layout, signed_byte, lengths_layout}
+use Rattle.dl_head.specs.HeaderLayout.{tables_layout, from_files, from_opcode_base}
+use Rattle.dl_head.specs.HeadStep.{first_table, field_after_minimum, lengths_fit}
 use Rattle.dl_head.specs.declared.dialect.Dialect.{Dialect}
 use Rattle.dl_num.specs.Fixed.{fixed}
 use Rattle.dl_head.specs.declared.reader.byte_field.ByteField.{ByteField}
@@ -31,62 +21,48 @@ use Rattle.dl_head.specs.declared.reader.Phase.{Phase}
 use Rattle.dl_head.specs.declared.reader.Phase.TheVariants as phase
 use Rattle.dl_head.specs.declared.reader.HeadReader.{HeadReader}
 use Rattle.dl_field.specs.declared.params.Params.{Params}
-use Rattle.dl_field.specs.Layout.{opcode_length, Layout, number_then, Item, number_is, following, following_all}
-use Rattle.dl_field.specs.Layout.{field_spelt, objection, judged}
-use Rattle.dl_head.specs.HeaderLayout.{header_layout, signed_byte, lengths_layout, tables_layout, from_files}
-use Rattle.dl_head.specs.HeaderLayout.{from_opcode_base}
 use Rattle.dl_head.specs.Bytes.{byte_kind}
-use Rattle.dl_head.specs.HeadStep.{lengths_fit}
-use Rattle.dl_head.specs.Place.{from_byte, from_length, end_of_unit, Past, Late, AtPhase, At}
-use Rattle.dl_field.specs.TablePlace.{IsFresh, TableAt}
-use Rattle.dl_field.specs.declared.table_reader.TablePhase.{TablePhase}
-use Rattle.dl_field.specs.declared.table_reader.TablePhase.TheVariants as table
-use Rattle.dl_field.proofs.FieldLemmas.{fixed-one}
-use Rattle.dl_field.proofs.FieldLemmas.{following_all-append}
+use Rattle.dl_head.specs.Place.{from_byte, from_length, Parts, Bounds, PastIn, LateIn, Late, IsAt, AtPhase, At}
+use Rattle.dl_field.proofs.FieldLemmas.{fixed-one, following_all-append}
 use Rattle.dl_head.proofs.EarlyEnds.{header_end-append, unit_end-append}
-use Rattle.dl_field.specs.ListPlace.{IsFreshList}
+use Rattle.dl_head.proofs.TableBytes.{table_begins, list_begins}
+use Rattle.dl_field.specs.declared.table_reader.TableReader.{TableReader}
 use Rattle.dl_field.specs.declared.list_reader.ListKind.TheVariants as kind
 
 pub at_phase : (r : HeadReader) (p : Phase) (items : List Item) (rest : List ℕ) → r.phase ≡ p → At r items rest
     → AtPhase r p items rest
 at_phase r p items rest e at = subst (λ (q : Phase). AtPhase r q items rest) e at
 
-pub phase_at : (r : HeadReader) (p : Phase) (items : List Item) (rest : List ℕ) → r.phase ≡ p → AtPhase r p items rest
-    → At r items rest
-phase_at r p items rest e at = subst (λ (q : Phase). AtPhase r q items rest) (sym e) at
+pub phase_at : (q : Parts) (p a : Phase) (items : List Item) (rest : List ℕ) → p ≡ a → IsAt q a items rest
+    → IsAt q p items rest
+phase_at q p a items rest e at = subst (λ (x : Phase). IsAt q x items rest) (sym e) at
 
 pub at_field : (r : HeadReader) (f g : ByteField) (items : List Item) (rest : List ℕ) → f ≡ g → r.phase ≡ phase.Byte f
     → At r items rest → AtPhase r (phase.Byte g) items rest
 at_field r f g items rest is e at = at_phase r (phase.Byte g) items rest
     (e ∙ ap (λ (h : ByteField). phase.Byte h) is) at
 
-pub after_on : (r new : HeadReader) (items : List Item) (layout next : Layout) (i : Item) → Past r items layout
-    → following layout i ≡ next
-    → new.dialect ≡ r.dialect
-    → new.end ≡ r.end → new.overrun ≡ r.overrun → end_of_unit new ≡ end_of_unit r → Past new (items ++ i ∷ []) next
-after_on r new items layout next i tail e order end overrun unit = record {
-  follows = ap (λ (o : Dialect). following_all (header_layout o) (items ++ i ∷ [])) order
-      ∙ following_all-append (header_layout r.dialect) items (i ∷ [])
-      ∙ ap (λ (l : Layout). following l i) tail.follows ∙ e;
-  unit = unit_end-append items (i ∷ []) (end_of_unit r) tail.unit ∙ ap (λ (n : ℕ). Some n) (sym unit);
-  header = tail.header;
-  header_ends = header_end-append items (i ∷ []) tail.header tail.header_ends;
-  end = end ∙ tail.end;
-  overrun = overrun ∙ tail.overrun;
+-- a field more, after header_length
+pub past_more : {b : Bounds} {items : List Item} {layout : Layout} (i : Item) → PastIn b items layout
+    → PastIn b (items ++ i ∷ []) (following layout i)
+past_more {b} {items} {layout} i past = record {
+  follows = following_all-append (header_layout b.dialect) items (i ∷ [])
+      ∙ ap (λ (l : Layout). following l i) past.follows;
+  unit = unit_end-append items (i ∷ []) b.unit past.unit;
+  header = past.header;
+  header_ends = header_end-append items (i ∷ []) past.header past.header_ends;
+  end = past.end;
+  overrun = past.overrun;
 }
 
-pub late_on : (r new : HeadReader) (items : List Item) (layout next : Layout) (i : Item) → Late r items layout
-    → following layout i ≡ next
-    → new.dialect ≡ r.dialect
-    → new.end ≡ r.end → new.overrun ≡ r.overrun → end_of_unit new ≡ end_of_unit r → IsFresh new.table
-    → IsFreshList kind.Directories new.list → Late new (items ++ i ∷ []) next
-late_on r new items layout next i late e order end overrun unit fresh unlisted =
-    record {
-      tail = after_on r new items layout next i late.tail e order end overrun unit;
-      fresh = fresh;
-      unlisted
-          = unlisted;
-    }
+-- and before the tables
+pub late_more : {b : Bounds} {t : TableReader} {u : ListReader} {items : List Item} {layout next : Layout} (i : Item)
+    → LateIn b t u items layout → following layout i ≡ next → LateIn b t u (items ++ i ∷ []) next
+late_more {b} {t} {u} {items} {layout} {next} i late e = record {
+  tail = subst (λ (l : Layout). PastIn b (items ++ i ∷ []) l) e (past_more i late.tail);
+  fresh = late.fresh;
+  unlisted = late.unlisted;
+}
 
 -- ---- fields of one byte
 
@@ -111,17 +87,17 @@ byte_follows r field.LineBase items rest at = (at.0.tail.follows, at.1)
 byte_follows r field.LineRange items rest at = (at.0.tail.follows, at.1)
 byte_follows r field.OpcodeBase items rest at = (at.0.tail.follows, at.1)
 
-byte_is : (order : Order) (f : ByteField) (unit_length : ℕ) (p : Params) (x : ℕ)
-    → field_spelt order (from_byte f unit_length p) (x ∷ [])
-    ≡ judged (objection (byte_kind f) (fixed order (x ∷ []))) (fixed order (x ∷ []))
-byte_is order field.AddressSize unit_length p x = refl
-byte_is order field.SegmentSelectorSize unit_length p x = refl
-byte_is order field.MinimumInstructionLength unit_length p x = refl
-byte_is order field.MaximumOperations unit_length p x = refl
-byte_is order field.DefaultIsStmt unit_length p x = refl
-byte_is order field.LineBase unit_length p x = refl
-byte_is order field.LineRange unit_length p x = refl
-byte_is order field.OpcodeBase unit_length p x = refl
+-- it is a number of one byte
+pub byte_number : (f : ByteField) (unit_length : ℕ) (p : Params) → (next : ℕ → Layout)
+    × (from_byte f unit_length p ≡ number_then (byte_kind f) next) × (number_size (byte_kind f) ≡ Some 1)
+byte_number field.AddressSize unit_length p = (_, refl, refl)
+byte_number field.SegmentSelectorSize unit_length p = (_, refl, refl)
+byte_number field.MinimumInstructionLength unit_length p = (_, refl, refl)
+byte_number field.MaximumOperations unit_length p = (_, refl, refl)
+byte_number field.DefaultIsStmt unit_length p = (_, refl, refl)
+byte_number field.LineBase unit_length p = (_, refl, refl)
+byte_number field.LineRange unit_length p = (_, refl, refl)
+byte_number field.OpcodeBase unit_length p = (_, refl, refl)
 
 pub byte_spelt : (r : HeadReader) (f : ByteField) (items : List Item) (rest : List ℕ) (x : ℕ)
     → AtPhase r (phase.Byte f) items rest
@@ -129,10 +105,8 @@ pub byte_spelt : (r : HeadReader) (f : ByteField) (items : List Item) (rest : Li
     ≡ judged (objection (byte_kind f) x) x
 byte_spelt r f items rest x at =
     let b = byte_follows r f items rest at in
-    ap (λ (l : Layout). field_spelt r.dialect.order l (rest ++ x ∷ [])) b.0
-    ∙ ap (λ (w : List ℕ). field_spelt r.dialect.order (from_byte f r.unit_length r.params) (w ++ x ∷ [])) b.1
-    ∙ byte_is r.dialect.order f r.unit_length r.params x
-    ∙ ap (λ (n : ℕ). judged (objection (byte_kind f) n) n) (fixed-one r.dialect.order x)
+    let n = byte_number f r.unit_length r.params in
+    rw (b.0, b.1, n.1, n.2, fixed-one r.dialect.order x) refl
 
 -- ---- line_base
 
@@ -158,12 +132,9 @@ pub lengths_open : (p : Params) (left : ℕ) (before : List ℕ) → 1 ≤ left
     (record p { lengths = record { items = lengths } })
 lengths_open p zero before h = absurd (omega arith)
 lengths_open p (suc count) before h =
-    let e : count ≡ suc count - 1 = omega arith in
+    let e : suc count - 1 ≡ count = omega arith in
     let two : length before + 1 + 1 ≡ length before + 2 = omega arith in
-    ap (λ (k : ℕ). number_then (opcode_length (length before + 1)) λ n. lengths_layout k count (before ++ n ∷ [])
-    λ lengths. tables_layout (record p { lengths = record { items = lengths } })) two
-    ∙ ap (λ (k : ℕ). number_then (opcode_length (length before + 1)) λ n. lengths_layout (length before + 2) k
-    (before ++ n ∷ []) λ lengths. tables_layout (record p { lengths = record { items = lengths } })) e
+    rw (e, two) refl
 
 -- a length is judged by its value
 pub length_judged : (dialect : Dialect) (p : Params) (items : List Item) (rest : List ℕ) (x : ℕ)
@@ -172,11 +143,8 @@ pub length_judged : (dialect : Dialect) (p : Params) (items : List Item) (rest :
     → field_spelt dialect.order (following_all (header_layout dialect) items) (rest ++ x ∷ [])
     ≡ judged (objection (opcode_length (length p.lengths.items + 1)) x) x
 length_judged dialect p items rest x follows left none =
-    ap (λ (l : Layout). field_spelt dialect.order l (rest ++ x ∷ []))
-    (follows ∙ lengths_open p (p.opcode_base - 1 - length p.lengths.items) p.lengths.items left)
-    ∙ ap (λ (w : List ℕ). field_spelt dialect.order
-    (number_then (opcode_length (length p.lengths.items + 1)) λ n. tables_layout p) (w ++ x ∷ [])) none
-    ∙ ap (λ (n : ℕ). judged (objection (opcode_length (length p.lengths.items + 1)) n) n) (fixed-one dialect.order x)
+    rw (follows, lengths_open p (p.opcode_base - 1 - length p.lengths.items) p.lengths.items left, none)
+    (ap (λ (n : ℕ). judged (objection (opcode_length (length p.lengths.items + 1)) n) n) (fixed-one dialect.order x))
 
 abbrev with_lengths : Params → List ℕ → Params
 with_lengths p lengths = record p { lengths = record { items = lengths } }
@@ -187,35 +155,22 @@ pub next_length : (p : Params) (n : ℕ) (more : List ℕ) → 1 ≤ p.opcode_ba
     → following (from_length p) (number_is n) ≡ from_length (with_lengths p more)
 next_length p n more left e =
     let ls = p.lengths.items in
-    let at : length ls + 2 ≡ length more + 1 = omega (arith, ap length e, length-append ls (n ∷ [])) in
-    let fewer : p.opcode_base - 1 - length ls - 1 ≡ p.opcode_base - 1 - length more =
+    let at : length more + 1 ≡ length ls + 2 = omega (arith, ap length e, length-append ls (n ∷ [])) in
+    let fewer : p.opcode_base - 1 - length more ≡ p.opcode_base - 1 - length ls - 1 =
     omega (arith, ap length e, length-append ls (n ∷ [])) in
-    ap (λ (k : Layout). following k (number_is n)) (lengths_open p (p.opcode_base - 1 - length ls) ls left)
-    ∙ ap (λ (k : ℕ). lengths_layout k (p.opcode_base - 1 - length ls - 1) (ls ++ n ∷ []) λ lengths. tables_layout
-    (with_lengths p lengths)) at
-    ∙ ap (λ (k : ℕ). lengths_layout (length more + 1) k (ls ++ n ∷ []) λ lengths. tables_layout
-    (with_lengths p lengths)) fewer
-    ∙ ap (λ (l : List ℕ). lengths_layout (length more + 1) (p.opcode_base - 1 - length more) l λ lengths. tables_layout
-    (with_lengths p lengths)) (sym e)
+    rw (lengths_open p (p.opcode_base - 1 - length ls) ls left, at, fewer, e) refl
 
 -- where none are left, the tables follow
 pub lengths_whole : (p : Params) → p.opcode_base ≤ length p.lengths.items + 1 → from_length p ≡ tables_layout p
 lengths_whole p le =
-    let none : p.opcode_base - 1 - length p.lengths.items ≡ 0 = omega arith in
-    ap (λ (k : ℕ). lengths_layout (length p.lengths.items + 1) k p.lengths.items λ lengths. tables_layout
-    (with_lengths p lengths)) none
+    let none : p.opcode_base - 1 - length p.lengths.items ≡ 0 = omega arith in rw none refl
 
 -- the first length
 pub first_length : (p : Params) (n : ℕ) → p.lengths.items ≡ []
     → following (from_opcode_base p) (number_is n) ≡ from_length (record p { opcode_base = n })
-first_length p n none =
-    let all : n - 1 ≡ n - 1 - 0 = omega arith in
-    ap (λ (k : ℕ). lengths_layout 1 k [] λ lengths. tables_layout (with_lengths (record p { opcode_base = n }) lengths))
-    all
-    ∙ ap (λ (l : List ℕ). lengths_layout (length l + 1) (n - 1 - length l) l λ lengths. tables_layout
-    (with_lengths (record p { opcode_base = n }) lengths)) (sym none)
+first_length p n none = let all : n - 1 - 0 ≡ n - 1 = omega arith in rw (none, all) refl
 
-late_as : (r : HeadReader) (items : List Item) (layout next : Layout) → layout ≡ next → Late r items layout
+late_as : (r : Parts) (items : List Item) (layout next : Layout) → layout ≡ next → Late r items layout
     → Late r items next
 late_as r items layout next e late = subst (λ (l : Layout). Late r items l) e late
 
@@ -226,75 +181,50 @@ older_tables : (p : Params) → p.version ≢ 5 → tables_layout p ≡ from_old
 older_tables p other = rw (ne_eqb p.version 5 other) refl
 
 -- the tables follow
-before_tables : (r : HeadReader) (items : List Item) → r.params.version ≡ 5 → Late r items (tables_layout r.params)
-    → AtPhase r phase.Directories items []
+before_tables : (r : Parts) (items : List Item) → r.params.version ≡ 5 → Late r items (tables_layout r.params)
+    → IsAt r phase.Directories items []
 before_tables r items five late = record {
   layout = tables_layout r.params;
   tail = late.tail;
-  at = subst (λ (p : TablePhase). TableAt r.dialect.order r.table p r.params.format (from_files r.params)
-      (tables_layout r.params) []) (sym late.fresh.phase) (late.fresh, own_tables r.params five, refl);
-  going = λ whole. fresh_whole (sym late.fresh.phase ∙ whole);
-} where
-  fresh_whole : table.PairCount ≡ table.Whole → ⊥
-  fresh_whole e = absurd cc
-
--- the reader of a table of versions 2 to 4 before its first byte
-pub fresh_path : (t : ListReader) (k : ListKind) (format : Format) (next : TableData → Layout) (layout : Layout)
-    → IsFreshList k t → layout ≡ path_or_end format (listed k) [] next → InPath t 0 format next layout []
-fresh_path t k format next layout is e = record {
-  none = is.pairs;
-  entries = [];
-  holds = record {
-    held = ap (λ (hs : List StoredValue). map (value_held t.pool.items) hs) (sym is.values);
-    wide = tt;
-    within = omega (arith, ap values_end is.values);
-  };
-  summed = subst (λ (hs : List StoredValue). Summed hs 0) (sym is.values) refl;
-  layout_is = e ∙ ap (λ (q : ListKind). path_or_end format (listed q) [] next) (sym is.kind);
-  start_is = omega arith;
-  rest_is = is.pool;
-  no_zero = tt;
+  at = table_begins r.dialect.order r.params.format r.table (from_files r.params) (tables_layout r.params) late.fresh
+      (own_tables r.params five);
 }
 
-before_lists : (r : HeadReader) (items : List Item) → r.params.version ≢ 5 → Late r items (tables_layout r.params)
-    → AtPhase r phase.OlderDirectories items []
+before_lists : (r : Parts) (items : List Item) → r.params.version ≢ 5 → Late r items (tables_layout r.params)
+    → IsAt r phase.OlderDirectories items []
 before_lists r items other late = record {
   layout = tables_layout r.params;
   tail = late.tail;
-  at = subst (λ (p : ListPhase). ListAt r.list p r.params.format (from_older_files r.params) (tables_layout r.params)
-      [])
-      (sym late.unlisted.phase)
-      (fresh_path r.list kind.Directories r.params.format (from_older_files r.params) (tables_layout r.params)
-      late.unlisted (older_tables r.params other));
-  going = λ whole. fresh_whole (sym late.unlisted.phase ∙ whole);
-  fresh = late.fresh;
-} where
-  fresh_whole : list.Path 0 ≡ list.Whole → ⊥
-  fresh_whole e = absurd cc
+  at = (
+    list_begins kind.Directories r.params.format r.list (from_older_files r.params) (tables_layout r.params)
+        late.unlisted (older_tables r.params other),
+    late.fresh,
+  );
+}
 
-at_first_table : (r : HeadReader) (items : List Item) → Late r items (tables_layout r.params)
-    → AtPhase r (first_table r.params.version) items []
+at_first_table : (r : Parts) (items : List Item) → Late r items (tables_layout r.params)
+    → IsAt r (first_table r.params.version) items []
 at_first_table r items late = elim (cases_eq r.params.version 5) [
   | inl five ↦ rw (eq-eqb r.params.version 5 five) (before_tables r items five late)
   | inr other ↦ rw (ne_eqb r.params.version 5 other) (before_lists r items other late)
 ]
 
 -- the next length of an opcode follows, or the tables
-pub at_lengths : (r : HeadReader) (items : List Item) (p : Phase) → Late r items (from_length r.params)
+pub at_lengths : (r : Parts) (items : List Item) (p : Phase) → Late r items (from_length r.params)
     → p ≡ (if nat_lt (length r.params.lengths.items + 1) r.params.opcode_base then phase.OpcodeLength
-    else first_table r.params.version) → AtPhase r p items []
+    else first_table r.params.version) → IsAt r p items []
 at_lengths r items p late is = elim (cases_lt (length r.params.lengths.items + 1) r.params.opcode_base) [
-  | inl lt ↦ subst (λ (q : Phase). AtPhase r q items [])
+  | inl lt ↦ subst (λ (q : Phase). IsAt r q items [])
       (sym (is ∙ ap (λ (b : Bool). if b then phase.OpcodeLength else first_table r.params.version) (lt-ltb _ _ lt)))
       (late, refl)
-  | inr le ↦ subst (λ (q : Phase). AtPhase r q items [])
+  | inr le ↦ subst (λ (q : Phase). IsAt r q items [])
       (sym (is ∙ ap (λ (b : Bool). if b then phase.OpcodeLength else first_table r.params.version) (le-ltb _ _ le)))
       (at_first_table r items (late_as r items (from_length r.params) (tables_layout r.params)
       (lengths_whole r.params (omega (arith, le))) late))
 ]
 
-minimum_at : (r : HeadReader) (items : List Item) → Late r items (after_minimum_length r.params)
-    → r.params.lengths.items ≡ [] → AtPhase r (phase.Byte (field_after_minimum r.params.version)) items []
+minimum_at : (r : Parts) (items : List Item) → Late r items (after_minimum_length r.params)
+    → r.params.lengths.items ≡ [] → IsAt r (phase.Byte (field_after_minimum r.params.version)) items []
 minimum_at r items late none = elim (cases_lt r.params.version 4) [
   | inl old ↦ rw (lt-ltb r.params.version 4 old) (late_as r items _ _ (before r.params old) late, refl, none)
   | inr new ↦ rw (le-ltb r.params.version 4 new) (late_as r items _ _ (from r.params new) late, refl, none)
@@ -306,9 +236,9 @@ minimum_at r items late none = elim (cases_lt r.params.version 4) [
   from p new = rw (le-ltb p.version 4 new) refl
 
 -- the field after minimum_instruction_length
-pub at_minimum : (r : HeadReader) (items : List Item) (f : ByteField) → Late r items (after_minimum_length r.params)
-    → r.params.lengths.items ≡ [] → f ≡ field_after_minimum r.params.version → AtPhase r (phase.Byte f) items []
-at_minimum r items f late none is = subst (λ (g : ByteField). AtPhase r (phase.Byte g) items []) (sym is)
+pub at_minimum : (r : Parts) (items : List Item) (f : ByteField) → Late r items (after_minimum_length r.params)
+    → r.params.lengths.items ≡ [] → f ≡ field_after_minimum r.params.version → IsAt r (phase.Byte f) items []
+at_minimum r items f late none is = subst (λ (g : ByteField). IsAt r (phase.Byte g) items []) (sym is)
     (minimum_at r items late none)
 
 -- the next phase, by how many lengths there are

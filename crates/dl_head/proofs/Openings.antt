@@ -1,7 +1,6 @@
 -- The fields of a header up to header_length: five of version 5, three of versions 2 to 4.
-use Rattle.std.proofs.Common.{◌≡◌, ◌≢◌, ℕ, ◌+◌, ◌-◌, ◌≤◌, if◌then◌else◌, ◌==◌, List, [], ◌∷◌, length}
-use Rattle.std.proofs.Common.{Option, Some, None, Ok, refl, sym, ap, subst, ◌∙◌, arith, inl, inr, ◌⊎◌}
-use Rattle.std.proofs.Common.{Bool, length-append}
+use Rattle.std.proofs.Common.{◌≡◌, ◌≢◌, ℕ, ◌+◌, ◌-◌, ◌≤◌, if◌then◌else◌, ◌==◌, List, [], ◌∷◌, length, Option, Some}
+use Rattle.std.proofs.Common.{None, Ok, refl, sym, ap, subst, ◌∙◌, arith, inl, inr, ◌⊎◌, Bool, length-append}
 use Rattle.std.proofs.lemmas.Bool.{cases_lt, cases_eq, lt-leb, ne_eqb, eq-eqb}
 use Rattle.dl_num.specs.declared.fixed.Order.{Order}
 use Rattle.dl_head.specs.declared.dialect.Dialect.{Dialect}
@@ -9,19 +8,14 @@ use Rattle.dl_table.specs.declared.fault.FaultKind.TheVariants as fault
 use Rattle.dl_table.specs.declared.form.Format.{Format}
 use Rattle.dl_field.specs.declared.params.Params.{Params}
 use Rattle.dl_table.specs.Value.{offset_size}
-use Rattle.dl_field.specs.Layout.{NumberField, version, address_size, any_byte, header_length, Layout}
-use Rattle.dl_field.specs.Layout.{number_then}
-use Rattle.dl_field.specs.Layout.{Item, length_is, number_is, form_is, value_is, following, following_all}
-use Rattle.dl_field.specs.Layout.{objection, number_judged}
-use Rattle.dl_field.specs.Layout.{sized_spelt, number_size}
-use Rattle.dl_head.specs.HeaderLayout.{header_layout, from_address_size}
-use Rattle.dl_head.specs.HeaderLayout.{older_params, from_older_version}
-use Rattle.dl_head.specs.Dialect.{older_size}
-use Rattle.dl_head.specs.Header.{own_end, unit_end}
-use Rattle.dl_field.specs.Layout.{end_is}
+use Rattle.dl_field.specs.Layout.{NumberField, version, address_size, any_byte, header_length, Layout, number_then}
+use Rattle.dl_field.specs.Layout.{Item, length_is, number_is, form_is, value_is, following, following_all, objection}
+use Rattle.dl_field.specs.Layout.{number_judged, sized_spelt, number_size, end_is}
+use Rattle.dl_head.specs.HeaderLayout.{header_layout, from_address_size, older_params, from_older_version}
 use Rattle.dl_head.specs.HeaderLayout.{from_segment_selector_size, from_header_length, from_minimum_length}
 use Rattle.dl_head.specs.HeaderLayout.{format_alone, initial_size, fixed_part}
-use Rattle.dl_head.specs.Header.{SpellsFields, header_end}
+use Rattle.dl_head.specs.Dialect.{older_size}
+use Rattle.dl_head.specs.Header.{own_end, unit_end, SpellsFields, header_end}
 use Rattle.dl_field.proofs.FieldLemmas.{none_some, sized_length}
 use Rattle.dl_head.proofs.FirstFields.{is_length, is_number}
 

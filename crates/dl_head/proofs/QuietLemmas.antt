@@ -4,21 +4,19 @@ use Rattle.std.proofs.Common.{refl, sym, ap, ◌∙◌, arith, length-append, ap
 use Rattle.dl_num.specs.declared.fixed.Order.{Order}
 use Rattle.dl_head.specs.declared.dialect.Dialect.{Dialect}
 use Rattle.dl_field.specs.HeaderData.{HeaderData}
-use Rattle.dl_field.specs.Layout.{any_byte, Layout}
-use Rattle.dl_field.specs.Layout.{foreign_version, Item}
-use Rattle.dl_field.specs.Layout.{following_all}
+use Rattle.dl_field.specs.Layout.{any_byte, foreign_version, Item, following_all}
 use Rattle.dl_head.specs.HeaderLayout.{header_layout, initial_size, fixed_part, from_minimum_length}
-use Rattle.dl_head.specs.Header.{SpellsFields, Cut, cut_after, cut, unit_end, header_end, header_made, IsHeader}
-use Rattle.dl_head.specs.Refusal.{cut_decided, header_decided}
+use Rattle.dl_head.specs.Header.{SpellsFields, cut_after, cut, unit_end, header_end, header_made, IsHeader}
+use Rattle.dl_head.specs.Refusal.{header_decided}
 use Rattle.dl_head.specs.Laws.{HeaderIsNotRefused, ForeignIsNotRefused}
 use Rattle.dl_field.proofs.FieldLemmas.{none_some, sized_length}
-use Rattle.dl_head.proofs.CutLemmas.{cut_of, before_none, cut_fields, cut_last, cut_sound, Sound, with_items}
+use Rattle.dl_head.proofs.CutLemmas.{cut_of, before_none, cut_fields, cut_last, cut_sound, Sound}
 use Rattle.dl_head.proofs.HeaderLaws.{made_last}
 use Rattle.dl_head.proofs.FrontLemmas.{GoesOn, fronts, Inside, inside}
-use Rattle.dl_head.proofs.RefusalLaws.{decided_on, quiet, foreign_last}
+use Rattle.dl_head.proofs.RefusalLaws.{quiet, foreign_last}
 use Rattle.dl_head.proofs.Openings.{Opening, opening_of}
 use Rattle.dl_head.proofs.FirstFields.{late_not_foreign}
-use Rattle.dl_head.proofs.EarlyEnds.{no_overrun, spells-append, early_of, header_end-append, unit_end-append}
+use Rattle.dl_head.proofs.EarlyEnds.{no_overrun, header_end-append, unit_end-append}
 
 -- ---- fronts of a header
 
@@ -26,13 +24,13 @@ use Rattle.dl_head.proofs.EarlyEnds.{no_overrun, spells-append, early_of, header
 last_quiet : (dialect : Dialect) (h : HeaderData) (w v : List ℕ) (is : IsHeader dialect h w)
     → header_decided dialect (is.fields ++ v) ≡ None
 last_quiet dialect h w v is =
-    let cut_is : cut dialect (is.fields ++ v) ≡ cut_of is.items v =
-    cut_fields dialect.order (header_layout dialect) is.items is.fields v is.spelt
-    ∙ ap (λ (l : Layout). with_items is.items (cut_after dialect.order l [] v)) (made_last _ h is.made)
-    ∙ ap (λ (c : Cut). with_items is.items c) (cut_last dialect.order h [] v)
-    ∙ ap (λ (l : List Item). cut_of l v) (append-nil is.items) in
-    ap (λ (c : Cut). cut_decided dialect (length (is.fields ++ v)) c) cut_is
-    ∙ ap (λ (l : Layout). decided_on dialect.order (length (is.fields ++ v)) is.items v l) (made_last _ h is.made)
+    rw (
+      cut_fields dialect.order (header_layout dialect) is.items is.fields v is.spelt,
+      made_last _ h is.made,
+      cut_last dialect.order h [] v,
+      append-nil,
+      made_last _ h is.made,
+    ) refl
 
 some_number : (a b : ℕ) → ◌≡◌ {A = Option ℕ} (Some a) (Some b) → a ≡ b
 some_number a b e = cc
@@ -87,27 +85,16 @@ inside_quiet dialect h w b is goes =
         let whole : u ≡ initial_size o.format + o.unit_length = sym (some_number _ _ ends) in
         let header_is : initial_size o.format + fixed_part o.format o.of_version + o.header ≡ length w =
         some_number _ _ (sym o.end ∙ is.end) in
-        let part : SpellsFields dialect.order (header_layout dialect) (at.before ++ at.item ∷ [])
-        (at.fields ++ (at.rest ++ at.byte ∷ at.back)) =
-        spells-append dialect.order (header_layout dialect) at.before (at.item ∷ []) at.fields
-        (at.rest ++ at.byte ∷ at.back) at.spelt
-        (at.rest ++ at.byte ∷ at.back, [], sym (append-nil _), at.field, refl) in
-        let small = early_of dialect is.items is.fields o at.before
-        at.after at.item _ at.items_are none part in
         omega (
           arith,
           whole,
           header_is,
-          small,
           o.fits,
           o.size,
+          shorter,
           more_fields dialect h w is o,
-          ap length at.whole,
           ap length is.whole,
           length-append is.fields is.padding,
-          length-append at.fields at.rest,
-          length-append at.fields (at.rest ++ at.byte ∷ at.back),
-          length-append at.rest (at.byte ∷ at.back),
         )
 
 pub header_is_not_refused : HeaderIsNotRefused
@@ -147,13 +134,13 @@ foreign_last_quiet : (dialect : Dialect) (b : List ℕ) (items : List Item) (fie
     → IsForeignPart dialect b items fields rest other unit
     → (v : List ℕ) → header_decided dialect (fields ++ v) ≡ None
 foreign_last_quiet dialect b items fields rest other unit is v =
-    let cut_is : cut dialect (fields ++ v) ≡ cut_of items v =
-    cut_fields dialect.order (header_layout dialect) items fields v is.spelt
-    ∙ ap (λ (l : Layout). with_items items (cut_after dialect.order l [] v)) is.next
-    ∙ ap (λ (c : Cut). with_items items c) (cut_foreign dialect.order other [] v)
-    ∙ ap (λ (l : List Item). cut_of l v) (append-nil items) in
-    ap (λ (c : Cut). cut_decided dialect (length (fields ++ v)) c) cut_is
-    ∙ ap (λ (l : Layout). decided_on dialect.order (length (fields ++ v)) items v l) is.next
+    rw (
+      cut_fields dialect.order (header_layout dialect) items fields v is.spelt,
+      is.next,
+      cut_foreign dialect.order other [] v,
+      append-nil,
+      is.next,
+    ) refl
 
 foreign_inside_quiet : (dialect : Dialect) (b : List ℕ) (items : List Item) (fields rest : List ℕ) (other unit : ℕ)
     → IsForeignPart dialect b items fields rest other unit

@@ -2,13 +2,12 @@
 use Rattle.std.proofs.Common.{◌≡◌, ℕ, ◌-◌, inl, inr, List, [], ◌∷◌, ◌++◌, length, Option, Some, None, refl, sym, ap}
 use Rattle.std.proofs.Common.{subst, ◌∙◌, arith, length-append, append_assoc, append-nil}
 use Rattle.dl_num.specs.declared.fixed.Order.{Order}
-use Rattle.dl_field.specs.Layout.{path_or_end}
+use Rattle.dl_field.specs.Layout.{path_or_end, Layout, initial_length_then, number_then, form_then, value_then}
+use Rattle.dl_field.specs.Layout.{foreign_version, last_entry, Item, following_all, field_spelt}
 use Rattle.dl_head.specs.declared.dialect.Dialect.{Dialect}
 use Rattle.dl_num.proofs.FrontLemmas.{front_before}
 use Rattle.dl_table.specs.declared.fault.FaultKind.{FaultKind}
 use Rattle.dl_table.specs.Value.{Judgement}
-use Rattle.dl_field.specs.Layout.{Layout, initial_length_then, number_then, form_then, value_then, foreign_version}
-use Rattle.dl_field.specs.Layout.{last_entry, Item, following_all, field_spelt}
 use Rattle.dl_head.specs.HeaderLayout.{header_layout}
 use Rattle.dl_head.specs.Header.{Cut, cut, header_end, foreign_made}
 use Rattle.dl_head.specs.Refusal.{or_else, bad_kind, field_overrun, header_overrun, cut_decided, header_decided}
@@ -89,10 +88,8 @@ record First (decided : List ℕ → Option FaultKind) (b front : List ℕ) (kin
 
 some_pair : (f g : List ℕ) (j k : FaultKind) → ◌≡◌ {A = Option (List ℕ × FaultKind)} (Some (f, j)) (Some (g, k))
     → (f ≡ g) × (j ≡ k)
-some_pair f g j k e = (
-  ap (λ (o : Option (List ℕ × FaultKind)). elim o [ Some p ↦ p.0 | None ↦ f ]) e,
-  ap (λ (o : Option (List ℕ × FaultKind)). elim o [ Some p ↦ p.1 | None ↦ j ]) e,
-)
+some_pair f g j k e =
+    let p : ◌≡◌ {A = List ℕ × FaultKind} (f, j) (g, k) = cc in (λ i. (p i).0, λ i. (p i).1)
 
 nothing_more : (decided : List ℕ → Option FaultKind) (begun : List ℕ) (x : ℕ) → NothingBefore decided begun
     → decided begun ≡ None → NothingBefore decided (begun ++ x ∷ [])
@@ -132,20 +129,16 @@ first_found : (decided : List ℕ → Option FaultKind) (begun y v : List ℕ) (
     → decided (begun ++ y) ≡ Some kind → NothingBefore decided (begun ++ y)
     → first_decided decided begun (y ++ v) ≡ Some (begun ++ y, kind)
 first_found decided begun [] [] kind d shortest =
-    let never : Option (List ℕ × FaultKind) = None in
-    ap (λ (o : Option FaultKind). found_on begun o never) (ap decided (sym (append-nil begun)) ∙ d)
-    ∙ ap (λ (l : List ℕ). found_on l (Some kind) never) (sym (append-nil begun))
+    let decides : decided begun ≡ Some kind = ap decided (sym (append-nil begun)) ∙ d in
+    rw (decides, append-nil begun) refl
 first_found decided begun [] (x ∷ v) kind d shortest =
-    let later = first_decided decided (begun ++ x ∷ []) v in
-    ap (λ (o : Option FaultKind). found_on begun o later) (ap decided (sym (append-nil begun)) ∙ d)
-    ∙ ap (λ (l : List ℕ). found_on l (Some kind) later) (sym (append-nil begun))
+    let decides : decided begun ≡ Some kind = ap decided (sym (append-nil begun)) ∙ d in
+    rw (decides, append-nil begun) refl
 first_found decided begun (x ∷ y) v kind d shortest =
     let same : (begun ++ x ∷ []) ++ y ≡ begun ++ x ∷ y = append_assoc begun (x ∷ []) y in
-    ap (λ (o : Option FaultKind). found_on begun o (first_decided decided (begun ++ x ∷ []) (y ++ v)))
-    (shortest begun x y refl)
-    ∙ first_found decided (begun ++ x ∷ []) y v kind (ap decided same ∙ d)
+    rw (shortest begun x y refl) (first_found decided (begun ++ x ∷ []) y v kind (ap decided same ∙ d)
     (subst (λ (l : List ℕ). NothingBefore decided l) (sym same) shortest)
-    ∙ ap (λ (l : List ℕ). found_on l (Some kind) None) same
+    ∙ ap (λ (l : List ℕ). found_on l (Some kind) None) same)
 
 abbrev refusal_is : List ℕ → ℕ → FaultKind → Refusal
 refusal_is front at kind = record { front = front; at = at; kind = kind }
@@ -160,14 +153,12 @@ parts : (dialect : Dialect) (o : Option (List ℕ × FaultKind)) (front : List �
     → refusal_of dialect o ≡ Some (refusal_is front at kind) → Parts dialect o front at kind
 parts dialect None front at kind e = absurd (none_some {a = refusal_is front at kind} refl e)
 parts dialect (Some (f, k)) front at kind e =
-    let fronts_same : f ≡ front = ap (λ (o : Option Refusal). elim o [ Some r ↦ r.front | None ↦ f ]) e in
-    let places_same : length f - length (cut dialect f).rest ≡ at =
-    ap (λ (o : Option Refusal). elim o [ Some r ↦ r.at | None ↦ length f - length (cut dialect f).rest ]) e in
-    let kinds_same : k ≡ kind = ap (λ (o : Option Refusal). elim o [ Some r ↦ r.kind | None ↦ k ]) e in
+    let p : refusal_is f (length f - length (cut dialect f).rest) k ≡ refusal_is front at kind = cc in
+    let q : f ≡ front = λ i. (p i).front in
+    let a : length f - length (cut dialect f).rest ≡ at = λ i. (p i).at in
     record {
-      found = ap (λ (l : List ℕ). found_on l (Some k) None) fronts_same
-          ∙ ap (λ (j : FaultKind). found_on front (Some j) None) kinds_same;
-      place = sym places_same ∙ ap (λ (l : List ℕ). length l - length (cut dialect l).rest) fronts_same;
+      found = λ i. Some ((p i).front, (p i).kind);
+      place = sym a ∙ ap (λ (l : List ℕ). length l - length (cut dialect l).rest) q;
     }
 
 nothing_empty : (decided : List ℕ → Option FaultKind) → NothingBefore decided []
@@ -194,7 +185,5 @@ refusal_is_computed dialect b front at kind = (to, from) where
   from : HeaderRefused dialect front at kind × ((v : List ℕ) × (b ≡ front ++ v))
       → header_refusal_in dialect b ≡ Some (refusal_is front at kind)
   from r =
-      ap (λ (l : List ℕ). header_refusal_in dialect l) r.1.1
-      ∙ ap (λ (o : Option (List ℕ × FaultKind)). refusal_of dialect o)
-      (first_found (header_decided dialect) [] front r.1.0 kind r.0.decided r.0.shortest)
-      ∙ ap (λ (n : ℕ). let o : Option Refusal = Some (refusal_is front n kind) in o) (omega (arith, r.0.place))
+      rw (r.1.1, first_found (header_decided dialect) [] front r.1.0 kind r.0.decided r.0.shortest)
+      (ap (λ (n : ℕ). let o : Option Refusal = Some (refusal_is front n kind) in o) (omega (arith, r.0.place)))

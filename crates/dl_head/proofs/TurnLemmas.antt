@@ -9,14 +9,13 @@ use Rattle.dl_head.specs.Turns.{Answer, used_in, last_given, IsTrace, some_turns
 
 -- the first k bytes after b, and then i more
 pub joined : (b bytes : List ℕ) (k i : ℕ) → (b ++ take k bytes) ++ take i (drop k bytes) ≡ b ++ take (k + i) bytes
-joined b bytes k i = append_assoc b (take k bytes) (take i (drop k bytes))
-    ∙ ap (λ (l : List ℕ). b ++ l) (sym (take-add k i bytes))
+joined b bytes k i = rw take-add (append_assoc b (take k bytes) (take i (drop k bytes)))
 
 -- the first bytes of a piece's front are its own
 pub front_taken : (piece bytes : List ℕ) (len n : ℕ) → bytes ≡ take len piece → n ≤ length bytes
     → take n bytes ≡ take n piece
-front_taken piece bytes len n e le = ap (λ (l : List ℕ). take n l) e
-    ∙ take-take n len piece (omega (arith, le, ap length e, length-take len piece))
+front_taken piece bytes len n e le = rw e (take-take n len piece
+    (omega (arith, le, ap length e, length-take len piece)))
 
 pub used_cons : {A : Type 0} (a : Answer A) (answers : List (Answer A))
     → used_in (a ∷ answers) ≡ a.used + used_in answers
@@ -34,8 +33,7 @@ pub goes_first : {A : Type 0} (goes_on : A → Bool) (a : Answer A) (answers : L
     → (goes_on a.gave ≡ false → answers ≡ []) → goes_on (last_given a.gave answers) ≡ true → goes_on a.gave ≡ true
 goes_first {A} goes_on a answers none goes = elim (true_or_false (goes_on a.gave)) [
   | inl is ↦ is
-  | inr is ↦ absurd (true_false (subst (λ (l : List (Answer A)). goes_on (last_given a.gave l) ≡ true) (none is) goes)
-      is)
+  | inr is ↦ absurd (true_false (rw (none is) at goes) is)
 ]
 
 pub last_of_push : {A : Type 0} (first : A) (answers : List (Answer A)) (a : Answer A)
@@ -51,25 +49,22 @@ module _ {A : Type 0} (May : List ℕ → List ℕ → Answer A → Type 0) (goe
       → May (b ++ take (used_in answers) bytes) (take n (drop (used_in answers) bytes)) a
       → (goes_on a.gave ≡ true → later ≡ [])
       → IsTrace May goes_on b bytes (turns ++ n ∷ later) (answers ++ a ∷ [])
-  trace_on b bytes [] [] n later a first t goes may last = (
-    subst (λ (l : List ℕ). May l (take n bytes) a) (append-nil b) may,
-    λ ends. refl,
-    λ more. subst (λ (l : List ℕ). IsTrace May goes_on (b ++ take a.used bytes) (drop a.used bytes) l [])
-        (sym (last more)) refl,
-  )
+  trace_on b bytes [] [] n later a first t goes may last =
+      (rw (append-nil b) at may, λ ends. refl, λ more. rw (last more) refl)
   trace_on b bytes [] (c ∷ answers) n later a first t goes may last = absurd cc
   trace_on b bytes (m ∷ turns) [] n later a first t goes may last = absurd t
   trace_on b bytes (m ∷ turns) (c ∷ answers) n later a first t goes may last =
-      let more = goes_first goes_on c answers t.1 goes in
-      let used = used_in answers in
-      let tail = subst (λ (k : ℕ). May (b ++ take k bytes) (take n (drop k bytes)) a) (used_cons c answers) may in
-      let here = subst (λ (l : List ℕ). May l (take n (drop (c.used + used) bytes)) a)
-      (sym (joined b bytes c.used used)) tail in (
+      let more = goes_first goes_on c answers t.1 goes in (
         t.0,
         λ ends. absurd (true_false more ends),
         λ is. trace_on (b ++ take c.used bytes) (drop c.used bytes) turns answers n later a c.gave (t.2 is) goes
-            (subst (λ (l : List ℕ). May ((b ++ take c.used bytes) ++ take used (drop c.used bytes)) (take n l) a)
-            (sym (drop-drop used c.used bytes)) here) last,
+            (rw (
+              joined b bytes c.used (used_in answers),
+              drop-drop
+                  (used_in answers) c.used bytes,
+              ← used_cons c answers,
+            )
+            may) last,
       )
 
   module _ (b bytes turns : List ℕ) (i : ℕ) (answers : List (Answer A)) (a : Answer A) (first : A)
@@ -120,8 +115,7 @@ module _ {A : Type 0} (May : List ℕ → List ℕ → Answer A → Type 0) (goe
         tail = 0;
         n = r.0;
         answer = a;
-        may = subst (λ (l : List ℕ). May l (take r.0 bytes) a)
-            (sym (append-nil b)) r.2;
+        may = rw (append-nil b) r.2;
         total = used_cons a [] ∙ omega arith;
         is_last = refl;
       }
@@ -132,10 +126,7 @@ module _ {A : Type 0} (May : List ℕ → List ℕ → Answer A → Type 0) (goe
         tail = a.used + l.tail;
         n = l.n;
         answer = l.answer;
-        may = subst (λ (d : List ℕ). May (b ++ take (a.used + l.tail) bytes) (take l.n d) l.answer)
-            (drop-drop l.tail a.used bytes)
-            (subst (λ (d : List ℕ). May d (take l.n (drop l.tail (drop a.used bytes))) l.answer)
-            (joined b bytes a.used l.tail) l.may);
+        may = rw (← joined b bytes a.used l.tail, ← drop-drop l.tail a.used bytes) l.may;
         total = used_cons a (c ∷ answers) ∙ ap (λ (k : ℕ). a.used + k) l.total ∙ omega arith;
         is_last = l.is_last;
       }

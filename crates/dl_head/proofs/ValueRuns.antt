@@ -1,39 +1,35 @@
 -- The header reader takes values of a table, one after the other.
-use Rattle.std.proofs.Common.{◌≡◌, ◌≢◌, ℕ, ◌+◌, ◌-◌, ◌<◌, ◌≤◌, inl, inr, List, [], ◌∷◌, ◌++◌, length}
-use Rattle.std.proofs.Common.{take, Option, Some, None, refl, sym, ap, subst, ◌∙◌, arith, append_assoc}
-use Rattle.std.proofs.Common.{append-nil, length-append}
+use Rattle.std.proofs.Common.{◌≡◌, ◌≢◌, ℕ, ◌+◌, ◌-◌, ◌<◌, ◌≤◌, List, [], ◌∷◌, ◌++◌, length, take, Option, Some, None}
+use Rattle.std.proofs.Common.{refl, sym, ap, subst, ◌∙◌, arith, append_assoc, append-nil, length-append}
 use Rattle.std.specs.List.{concat}
-use Rattle.std.proofs.lemmas.Bool.{cases_lt}
-use Rattle.std.proofs.lemmas.List.{take-append-le, length-take-le, take_all}
-use Rattle.std.proofs.Math.Seq.{take-append-add}
+use Rattle.std.proofs.lemmas.List.{length-take-le}
 use Rattle.dl_num.specs.declared.fixed.Order.{Order}
 use Rattle.dl_table.specs.Value.{good}
 use Rattle.dl_field.specs.Cells.{rest_cells}
 use Rattle.dl_field.specs.FieldRuns.{EndEach}
 use Rattle.dl_field.specs.Layout.{Layout, Item, following, following_all, field_spelt}
 use Rattle.dl_field.specs.TablePlace.{field_cells}
-use Rattle.dl_field.proofs.FieldLemmas.{field_empty, following_all-append}
+use Rattle.dl_field.proofs.FieldLemmas.{following_all-append}
 use Rattle.dl_head.specs.declared.dialect.Dialect.{Dialect}
 use Rattle.dl_head.specs.declared.reader.HeadReader.{HeadReader}
 use Rattle.dl_head.specs.declared.reader.HeadStep.TheVariants as answer
 use Rattle.dl_head.specs.Cells.{cells}
-use Rattle.dl_head.specs.Header.{cut}
 use Rattle.dl_head.specs.HeaderLayout.{header_layout}
 use Rattle.dl_head.specs.Place.{Past, At, SameCounts, held_cells}
 use Rattle.dl_head.specs.Reading.{Answers}
-use Rattle.dl_head.specs.Refusal.{header_decided, NothingBefore}
-use Rattle.dl_head.specs.Standing.{Below, Live, Unmade, ending, StandsFor}
-use Rattle.dl_head.specs.Whole.{IsInside, TakesAll, TakesFieldsOf, TakesValues}
+use Rattle.dl_head.specs.Standing.{Below, IsRead, Live, Unmade, ending, StandsFor}
+use Rattle.dl_head.specs.Whole.{Before, IsInside, TakesAll, TakesFieldsOf, TakesValues}
 use Rattle.dl_head.proofs.ByteCounted.{goes_on}
-use Rattle.dl_head.proofs.CutLemmas.{cut_of}
-use Rattle.dl_head.proofs.HeaderEnds.{UpTo, EndsWithin, after_end}
+use Rattle.dl_head.proofs.HeaderEnds.{UpTo, after_end}
+use Rattle.dl_head.proofs.TakenBytes.{IsNext}
 use Rattle.dl_head.proofs.MovedReader.{Moved}
 use Rattle.dl_head.proofs.OneByteMore.{goes_more, live_of, kept_stands}
-use Rattle.dl_head.proofs.OneFieldMore.{after_on}
-use Rattle.dl_head.proofs.SamePlace.{Guards, counted, at_counted}
+use Rattle.dl_head.proofs.OfferLemmas.{before_join, takes_none}
+use Rattle.dl_head.proofs.OneFieldMore.{past_more}
+use Rattle.dl_head.proofs.SamePlace.{Guards, counted}
 use Rattle.dl_head.proofs.StepCells.{cells_good_on}
 use Rattle.dl_head.proofs.TurnLemmas.{front_taken}
-use Rattle.dl_head.proofs.WholeSteps.{takes_none, Passed, passes, good_next}
+use Rattle.dl_head.proofs.WholeSteps.{Passed, passes, good_next}
 
 -- ---- values more
 
@@ -49,17 +45,14 @@ module _ (r : HeadReader) where
   pub record Among (b rest : List ℕ) (items : List Item) (n : ℕ) : Type 0 where
     pub layout : Layout
     pub past : Past r items layout
-    pub cut_is : cut r.dialect b ≡ cut_of items rest
-    pub unjudged : field_spelt r.dialect.order (layout_of items) rest ≡ None
-    pub nothing_before : NothingBefore (header_decided r.dialect) b
+    pub read : IsRead r.dialect b items rest
     pub below : Below (length b) r.end
-    pub ends_within : EndsWithin items
     pub cells_are : n ≡ cells r.dialect b
 
   -- and no front of the bytes w after b comes to anything
   pub record Run (b w rest : List ℕ) (items : List Item) (n : ℕ) : Type 0 where
     pub among : Among (b ++ w) rest items n
-    pub more : (j : ℕ) → j < length w → Answers r.dialect (b ++ take j w) answer.More
+    pub more : Before r.dialect b w
 
   -- a value
   value_on : (b rest w : List ℕ) (items : List Item) (i : Item) (m n : ℕ) → Among b rest items m
@@ -69,42 +62,25 @@ module _ (r : HeadReader) where
   value_on b rest w items i m n a spelt adds below = record {
     among = record {
       layout = following a.layout i;
-      past = after_on r r items a.layout (following a.layout i) i a.past refl refl refl refl refl;
-      cut_is = passed.cut_is;
-      unjudged = field_empty r.dialect.order (layout_of (items ++ i ∷ []));
-      nothing_before = passed.nothing_before;
+      past = past_more i a.past;
+      read = passed.read;
       below = subst (λ (k : ℕ). Below k r.end) (sym (length-append b w)) below;
-      ends_within = passed.ends_within;
       cells_are = omega (
         arith,
         adds,
         a.cells_are,
-        cells_good_on r.dialect b (b ++ w) items rest (rest ++ w) i a.cut_is passed.cut_is spelt,
+        cells_good_on r.dialect b (b ++ w) items rest (rest ++ w) i a.read.cut_is passed.read.cut_is spelt,
       );
     };
     more = passed.more;
   } where
-    passed : Passed r items (after_end r items a.layout a.past)
-        (good_next r.dialect.order (layout_of items) (rest ++ w) i spelt) b rest w i
-    passed = passes r items (after_end r items a.layout a.past)
-        (good_next r.dialect.order (layout_of items) (rest ++ w) i spelt) w b rest i
-        (record { cut_is = a.cut_is; unjudged = a.unjudged; nothing_before = a.nothing_before; below = a.below })
-        a.ends_within spelt (below_less (length b + length w) (length b + (length w - 1)) r.end (omega arith) below)
+    next : IsNext (layout_of items)
+    next = good_next r.dialect.order (layout_of items) (rest ++ w) i spelt
 
-  fronts : (b v w : List ℕ) → ((j : ℕ) → j < length v → Answers r.dialect (b ++ take j v) answer.More)
-      → ((j : ℕ) → j < length w → Answers r.dialect ((b ++ v) ++ take j w) answer.More) → (j : ℕ) → j < length (v ++ w)
-      → Answers r.dialect (b ++ take j (v ++ w)) answer.More
-  fronts b v w first later j lt = elim (cases_lt j (length v)) [
-    | inl shorter ↦ subst (λ (l : List ℕ). Answers r.dialect (b ++ l) answer.More)
-        (sym (take-append-le j v w (omega (arith, shorter)))) (first j shorter)
-    | inr tail ↦
-        let k = j - length v in
-        let same : length v + k ≡ j = omega (arith, tail) in
-        subst (λ (l : List ℕ). Answers r.dialect l answer.More)
-        (append_assoc b v (take k w) ∙ ap (λ (l : List ℕ). b ++ l) (sym (take-append-add v w k))
-        ∙ ap (λ (n : ℕ). b ++ take n (v ++ w)) same)
-        (later k (omega (arith, lt, tail, length-append v w)))
-  ]
+    passed : Passed r items (after_end r items a.layout a.past) next b rest w i
+    passed = passes r items (after_end r items a.layout a.past) next w b rest i
+        (record { read = a.read; below = a.below }) spelt
+        (below_less (length b + length w) (length b + (length w - 1)) r.end (omega arith) below)
 
   -- values, one after the other
   values_on : (values : List (List ℕ)) (more : List Item) (b rest left : List ℕ) (items : List Item) (m n : ℕ)
@@ -127,7 +103,7 @@ module _ (r : HeadReader) where
         among = subst (λ (l : List ℕ). Among l left (items ++ i ∷ more) n) (append_assoc b w (concat values))
             (subst (λ (is : List Item). Among ((b ++ w) ++ concat values) left is n)
             (append_assoc items (i ∷ []) more) later.among);
-        more = fronts b w (concat values) first.more later.more;
+        more = before_join r.dialect b w (concat values) first.more later.more;
       }
   values_on [] (i ∷ more) b rest left items m n a e below = absurd e
   values_on (w ∷ values) [] b rest left items m n a e below = absurd e
@@ -138,7 +114,8 @@ module _ (r : HeadReader) where
 none_left : (order : Order) (layout : Layout) (values : List (List ℕ)) (more : List Item) (m n : ℕ) (left : List ℕ)
     → EndEach order layout [] values more m n left → left ≡ []
 none_left order layout [] [] m n left e = e.0
-none_left order layout (w ∷ values) (i ∷ more) m n left e = none_left order (following layout i) values more e.0 n left e.4
+none_left order layout (w ∷ values) (i ∷ more) m n left e = none_left order
+    (following layout i) values more e.0 n left e.4
 none_left order layout [] (i ∷ more) m n left e = absurd e
 none_left order layout (w ∷ values) [] m n left e = absurd e
 
@@ -162,10 +139,10 @@ no_values order layout rest (w ∷ values) [] m n left none e = absurd e
 -- ---- the reader after them
 
 -- `whole_values`: no value is taken
-pub nothing_whole : (r new : HeadReader) (b bytes : List ℕ) (used : ℕ) → used ≡ 0
+pub nothing_whole : {r new : HeadReader} {b : List ℕ} (bytes : List ℕ) (used : ℕ) → used ≡ 0
     → TakesValues r (take used bytes) new → SameCounts r new → StandsFor r b → Answers r.dialect b answer.More
     → TakesAll r.dialect b [] new
-nothing_whole r new b bytes used none v counts s more =
+nothing_whole {r} {new} {b} bytes used none v counts s more =
     takes_none r.dialect b new
     (kept_stands r new b goes s l (rw (same.0, append-nil l.0.items, same.1) at f.at) counts same.2) more
   where
@@ -190,21 +167,15 @@ up_to_of n None lt = tt
 up_to_of n (Some e) lt = omega (arith, lt)
 
 -- `whole_values`: values are taken, and counted
-pub values_whole : (r mid : HeadReader) (g : Guards mid) (b piece bytes : List ℕ) (used t : ℕ) → IsInside r piece bytes
+pub values_whole : {r mid : HeadReader} {b piece bytes : List ℕ} {t : ℕ} (used : ℕ) (g : Guards mid)
+    → IsInside r piece bytes
     → 1 ≤ used → used ≤ length bytes → TakesValues r (take used bytes) mid → SameCounts r mid → t ≡ mid.taken + used
     → StandsFor r b → Answers r.dialect b answer.More
     → TakesAll r.dialect b (take used piece) (counted mid g t t)
-values_whole r mid g b piece bytes used t inside some le v counts count s more =
+values_whole {r} {mid} {b} {piece} {bytes} {t} used g inside some le v counts count s more =
     subst (λ (l : List ℕ). TakesAll r.dialect b l new)
-    (sym v.bytes_are ∙ front_taken piece bytes inside.len used inside.bytes_are le) (record {
-      stands = last.1;
-      more = λ i small. elim (cases_lt i (length w)) [
-        | inl lt ↦ run.more i lt
-        | inr ge ↦ subst (λ (k : List ℕ). Answers r.dialect (b ++ k) answer.More)
-            (sym (take_all i w ge))
-            (subst (λ (d : Dialect). Answers d (b ++ w) answer.More) counts.dialect last.0)
-      ];
-    })
+    (sym v.bytes_are ∙ front_taken piece bytes inside.len used inside.bytes_are le)
+    (record { stands = last.1; goes = rw counts.dialect at last.0; before = run.more })
   where
     new : HeadReader
     new = counted mid g t t
@@ -250,11 +221,8 @@ values_whole r mid g b piece bytes used t inside some le v counts count s more =
     run = values_on r v.values f.more b l.0.rest f.left l.0.items (held_cells r) (held_cells mid) (record {
       layout = past.0;
       past = past.1;
-      cut_is = l.0.cut_is;
-      unjudged = l.0.unjudged;
-      nothing_before = l.0.nothing_before;
+      read = l.0.read;
       below = l.0.below;
-      ends_within = l.0.ends_within;
       cells_are = l.1.cells_are;
     }) f.ends (subst (λ (o : Option ℕ). Below (length b + length w) o) (sym past.1.end)
         (omega (arith, lt, size, le, s.taken)))
@@ -266,17 +234,11 @@ values_whole r mid g b piece bytes used t inside some le v counts count s more =
     moved = record {
       items = l.0.items ++ f.more;
       rest = [];
-      cut_is = subst (λ (d : Dialect). cut d (b ++ w) ≡ cut_of (l.0.items ++ f.more) []) (sym counts.dialect)
-          among.cut_is;
-      at = at_counted mid g t t mid.phase (l.0.items ++ f.more) []
-          (subst (λ (x : List ℕ). At mid (l.0.items ++ f.more) x) ended.1 f.at);
-      unjudged = field_empty new.dialect.order (following_all (header_layout new.dialect) (l.0.items ++ f.more));
+      read = subst (λ (d : Dialect). IsRead d (b ++ w) (l.0.items ++ f.more) []) (sym counts.dialect) among.read;
+      at = subst (λ (x : List ℕ). At mid (l.0.items ++ f.more) x) ended.1 f.at;
       start_is = omega (arith, taken);
       up_to = up_to_of (length (b ++ w)) new.end
           (subst (λ (o : Option ℕ). Below (length (b ++ w)) o) (sym v.end) among.below);
-      nothing_before = subst (λ (d : Dialect). NothingBefore (header_decided d) (b ++ w)) (sym counts.dialect)
-          among.nothing_before;
-      ends_within = among.ends_within;
       unmade = record {
         header = counts.header ∙ l.1.header;
         cells_are = among.cells_are ∙ ap (λ (d : Dialect). cells d (b ++ w)) (sym counts.dialect);
@@ -291,4 +253,4 @@ values_whole r mid g b piece bytes used t inside some le v counts count s more =
         omega (arith, here, taken)
 
     last : Answers new.dialect (b ++ w) answer.More × StandsFor new (b ++ w)
-    last = goes_on new (b ++ w) (ap ending v.phase ∙ goes) moved not_end
+    last = goes_on (ap ending v.phase ∙ goes) moved not_end

@@ -1,48 +1,27 @@
 -- The header reader takes a value of a table at once: what it answers on the way, and the bytes that it stands for
 -- then.
-use Rattle.std.proofs.Common.{◌≡◌, ℕ, zero, suc, ◌+◌, ◌-◌, ◌<◌, ◌≤◌, inl, inr, List, [], ◌∷◌, ◌++◌}
-use Rattle.std.proofs.Common.{length, take, drop, Option, Some, None, Ok, refl, sym, ap, subst, ◌∙◌, arith}
-use Rattle.std.proofs.Common.{append_assoc, append-nil, length-append}
-use Rattle.std.proofs.lemmas.Bool.{cases_lt}
-use Rattle.std.proofs.lemmas.List.{length-take-le, take-take}
+use Rattle.std.proofs.Common.{◌≡◌, ℕ, zero, suc, ◌+◌, ◌-◌, ◌≤◌, List, [], ◌∷◌, ◌++◌, length, Option, Some, None, Ok}
+use Rattle.std.proofs.Common.{refl, sym, ap, subst, ◌∙◌, arith, append_assoc, append-nil, length-append}
 use Rattle.dl_num.specs.declared.fixed.Order.{Order}
 use Rattle.dl_head.specs.declared.dialect.Dialect.{Dialect}
 use Rattle.dl_field.specs.declared.field_step.FieldStep.TheVariants as byte_makes
 use Rattle.dl_head.specs.declared.reader.HeadReader.{HeadReader}
-use Rattle.dl_head.specs.declared.reader.HeadStep.TheVariants as answer
 use Rattle.dl_table.specs.Value.{good}
 use Rattle.dl_field.specs.Layout.{Layout, initial_length_then, number_then, form_then, value_then, path_or_end}
 use Rattle.dl_field.specs.Layout.{foreign_version, last_entry, Item, following_all, field_spelt}
 use Rattle.dl_head.specs.HeaderLayout.{header_layout}
-use Rattle.dl_head.specs.Header.{cut}
-use Rattle.dl_head.specs.Refusal.{header_decided, NothingBefore}
-use Rattle.dl_head.specs.Cells.{cells}
+use Rattle.dl_head.specs.Refusal.{header_decided}
 use Rattle.dl_field.specs.TableMoves.{Adds}
 use Rattle.dl_head.specs.Place.{Made, held_cells}
-use Rattle.dl_head.specs.Standing.{Below, Live, Unmade, StandsFor}
-use Rattle.dl_head.specs.Reading.{Answers}
-use Rattle.dl_head.specs.Whole.{TakesAll}
-use Rattle.dl_field.proofs.FieldLemmas.{none_some, field_empty}
-use Rattle.dl_head.proofs.CutLemmas.{cut_of, cut_within, cut_good, before_none}
-use Rattle.dl_head.proofs.HeaderEnds.{end_from, UpTo, EndIs, EndsWithin, end_is, room_on, ends_on}
-use Rattle.dl_head.proofs.TakenBytes.{IsNext, quiet_at, field_more}
+use Rattle.dl_head.specs.Standing.{Below, IsRead, Live, Unmade}
+use Rattle.dl_head.specs.Whole.{Before}
+use Rattle.dl_field.proofs.FieldLemmas.{none_some}
+use Rattle.dl_head.proofs.CutLemmas.{before_none}
+use Rattle.dl_head.proofs.HeaderEnds.{end_from, UpTo, EndIs, room_on}
+use Rattle.dl_head.proofs.TakenBytes.{IsNext, end_is, quiet_at, field_more}
 use Rattle.dl_head.proofs.StepCells.{cells_good_on}
-use Rattle.dl_head.proofs.MovedReader.{Moved, nothing_on}
-use Rattle.dl_head.proofs.TurnLemmas.{joined}
-use Rattle.dl_head.proofs.OfferLemmas.{Offering}
-
--- ---- nothing is taken
-
-pub takes_none : (dialect : Dialect) (b : List ℕ) (r : HeadReader) → StandsFor r b → Answers dialect b answer.More
-    → TakesAll dialect b [] r
-takes_none dialect b r s more = record {
-  stands = subst (λ (l : List ℕ). StandsFor r l) (sym (append-nil b)) s;
-  more = λ i le. subst (λ (l : List ℕ). Answers dialect l answer.More)
-      (sym (ap (λ (l : List ℕ). b ++ l) (none i) ∙ append-nil b)) more;
-} where
-  none : (i : ℕ) → take {A = ℕ} i [] ≡ []
-  none zero = refl
-  none (suc i) = refl
+use Rattle.dl_head.proofs.MovedReader.{Moved, read_within, read_ends}
+use Rattle.dl_head.proofs.OfferLemmas.{before_join}
 
 -- ---- bytes of a field up to its last one
 
@@ -54,77 +33,59 @@ module _ (r : HeadReader) (items : List Item) (end : EndIs r items)
 
     -- b ends inside the field
     pub record Passing (b rest : List ℕ) : Type 0 where
-      pub cut_is : cut r.dialect b ≡ cut_of items rest
-      pub unjudged : field_spelt r.dialect.order layout rest ≡ None
-      pub nothing_before : NothingBefore (header_decided r.dialect) b
+      pub read : IsRead r.dialect b items rest
       pub below : Below (length b) r.end
 
     -- w ends it
     pub record Passed (b rest w : List ℕ) (i : Item) : Type 0 where
-      pub cut_is : cut r.dialect (b ++ w) ≡ cut_of (items ++ i ∷ []) []
-      pub nothing_before : NothingBefore (header_decided r.dialect) (b ++ w)
+      pub read : IsRead r.dialect (b ++ w) (items ++ i ∷ []) []
       pub up_to : UpTo (length (b ++ w)) (end_from (items ++ i ∷ []))
-      pub ends_within : EndsWithin (items ++ i ∷ [])
-      pub more : (j : ℕ) → j < length w → Answers r.dialect (b ++ take j w) answer.More
+      pub more : Before r.dialect b w
 
-    more_at : (b rest : List ℕ) → Passing b rest → Answers r.dialect (b ++ []) answer.More
-    more_at b rest p = subst (λ (l : List ℕ). Answers r.dialect l answer.More) (sym (append-nil b))
-        (field_more r b items rest p.cut_is end next p.unjudged p.below)
+    one_before : (b rest : List ℕ) (x : ℕ) → Passing b rest → Before r.dialect b (x ∷ [])
+    one_before b rest x p zero lt = rw (append-nil b) (field_more r b p.read end next p.below)
+    one_before b rest x p (suc j) lt = absurd (omega (arith, lt))
 
     quiet_here : (b rest : List ℕ) → Passing b rest → header_decided r.dialect b ≡ None
-    quiet_here b rest p = quiet_at r b items rest p.cut_is end p.unjudged p.below
+    quiet_here b rest p = quiet_at r b p.read end p.below
 
-    pub passes : (w b rest : List ℕ) (i : Item) → Passing b rest → EndsWithin items
+    pub passes : (w b rest : List ℕ) (i : Item) → Passing b rest
         → field_spelt r.dialect.order layout (rest ++ w) ≡ good i → Below (length b + (length w - 1)) r.end
         → Passed b rest w i
-    passes [] b rest i p ends spelt below = absurd
-        (none_some p.unjudged (ap (λ (l : List ℕ). field_spelt r.dialect.order layout l)
+    passes [] b rest i p spelt below = absurd
+        (none_some p.read.unjudged (ap (λ (l : List ℕ). field_spelt r.dialect.order layout l)
         (sym (append-nil rest)) ∙ spelt))
-    passes (x ∷ []) b rest i p ends spelt below =
+    passes (x ∷ []) b rest i p spelt below =
         let here = subst (λ (o : Option ℕ). Below (length b) o) end.end p.below in
         record {
-          cut_is = cut_good r.dialect b x items rest i p.cut_is spelt;
-          nothing_before = nothing_on r.dialect b x p.nothing_before (quiet_here b rest p);
-          up_to = room_on r.dialect b x items rest i p.cut_is spelt here;
-          ends_within = ends_on r.dialect b x items rest i p.cut_is spelt here ends;
-          more = λ j lt. subst (λ (k : ℕ). Answers r.dialect (b ++ take k (x ∷ [])) answer.More)
-              (let e : 0 ≡ j = omega (arith, lt) in e) (more_at b rest p);
+          read = read_ends x i p.read (quiet_here b rest p) spelt here;
+          up_to = room_on r.dialect b x items rest i p.read.cut_is spelt here;
+          more = one_before b rest x p;
         }
-    passes (x ∷ y ∷ w) b rest i p ends spelt below =
+    passes (x ∷ y ∷ w) b rest i p spelt below =
         let longer : (rest ++ x ∷ []) ++ y ∷ w ≡ rest ++ x ∷ y ∷ w = append_assoc rest (x ∷ []) (y ∷ w) in
         let later : field_spelt r.dialect.order layout ((rest ++ x ∷ []) ++ y ∷ w) ≡ good i =
         ap (λ (l : List ℕ). field_spelt r.dialect.order layout l) longer ∙ spelt in
         let unjudged = before_none r.dialect.order layout (rest ++ x ∷ []) y w (Ok i) later in
         let on : Passing (b ++ x ∷ []) (rest ++ x ∷ []) = record {
-          cut_is = cut_within r.dialect b x items rest p.cut_is unjudged;
-          unjudged = unjudged;
-          nothing_before = nothing_on r.dialect b x p.nothing_before (quiet_here b rest p);
+          read = read_within x p.read (quiet_here b rest p) unjudged;
           below = below_less (length b + (length (x ∷ y ∷ w) - 1)) (length (b ++ x ∷ [])) r.end
               (omega (arith, length-append b (x ∷ []))) below;
         } in
-        let q = passes (y ∷ w) (b ++ x ∷ []) (rest ++ x ∷ []) i on ends later
+        let q = passes (y ∷ w) (b ++ x ∷ []) (rest ++ x ∷ []) i on later
         (subst (λ (n : ℕ). Below n r.end)
         (let e : length b + (length (x ∷ y ∷ w) - 1) ≡ length (b ++ x ∷ [])
         + (length (y ∷ w) - 1) = omega (arith, length-append b (x ∷ [])) in e) below) in
         let same = append_assoc b (x ∷ []) (y ∷ w) in
         record {
-          cut_is = ap (λ (l : List ℕ). cut r.dialect l) (sym same) ∙ q.cut_is;
-          nothing_before = subst (λ (l : List ℕ). NothingBefore (header_decided r.dialect) l) same q.nothing_before;
+          read = subst (λ (l : List ℕ). IsRead r.dialect l (items ++ i ∷ []) []) same q.read;
           up_to = subst (λ (l : List ℕ). UpTo (length l) (end_from (items ++ i ∷ []))) same q.up_to;
-          ends_within = q.ends_within;
-          more = fronts (more_at b rest p) q.more;
+          more = before_join r.dialect b (x ∷ []) (y ∷ w) (one_before b rest x p) q.more;
         }
       where
         below_less : (m n : ℕ) (o : Option ℕ) → n ≤ m → Below m o → Below n o
         below_less m n None le lt = tt
         below_less m n (Some e) le lt = omega (arith, le, lt)
-
-        fronts : Answers r.dialect (b ++ []) answer.More
-            → ((j : ℕ) → j < length (y ∷ w) → Answers r.dialect ((b ++ x ∷ []) ++ take j (y ∷ w)) answer.More)
-            → (j : ℕ) → j < length (x ∷ y ∷ w) → Answers r.dialect (b ++ take j (x ∷ y ∷ w)) answer.More
-        fronts first more zero lt = first
-        fronts first more (suc j) lt = subst (λ (l : List ℕ). Answers r.dialect l answer.More)
-            (append_assoc b (x ∷ []) (take j (y ∷ w))) (more j (omega (arith, lt)))
 
 -- ---- a field is whole
 
@@ -142,7 +103,7 @@ good_next order (last_entry h) w i spelt = absurd (none_some {a = Ok i} refl spe
 -- the reader has the bytes w more, which end the field
 pub record Whole (r fin : HeadReader) (b w : List ℕ) : Type 0 where
   pub moved : Moved fin (b ++ w)
-  pub more : (j : ℕ) → j < length w → Answers r.dialect (b ++ take j w) answer.More
+  pub more : Before r.dialect b w
 
 pub whole_moved : (r fin : HeadReader) (b w : List ℕ) → (l : Live r b × Unmade r b)
     → Made r.dialect l.0.items (l.0.rest ++ w) byte_makes.Ends fin
@@ -155,26 +116,20 @@ whole_moved r fin b w l made adds dialect header start taken below = record {
   moved = record {
     items = items ++ made.0 ∷ [];
     rest = [];
-    cut_is = subst (λ (d : Dialect). cut d (b ++ w) ≡ cut_of (items ++ made.0 ∷ []) []) (sym dialect) passed.cut_is;
+    read = subst (λ (d : Dialect). IsRead d (b ++ w) (items ++ made.0 ∷ []) []) (sym dialect) passed.read;
     at = made.2;
-    unjudged = field_empty fin.dialect.order (following_all (header_layout fin.dialect) (items ++ made.0 ∷ []));
     start_is = omega (arith, size, start);
     up_to = subst (λ (o : Option ℕ). UpTo (length (b ++ w)) o)
-        (sym (end_is fin fin.phase (items ++ made.0 ∷ []) [] made.2).end) passed.up_to;
-    nothing_before = subst (λ (d : Dialect). NothingBefore (header_decided d) (b ++ w)) (sym dialect)
-        passed.nothing_before;
-    ends_within = passed.ends_within;
+        (sym (end_is fin (items ++ made.0 ∷ []) [] made.2).end) passed.up_to;
     unmade = record {
       header = header ∙ l.1.header;
-      cells_are =
-          (let e : held_cells fin ≡ cells r.dialect (b ++ w) = omega (
-            arith,
-            adds,
-            l.1.cells_are,
-            cells_good_on r.dialect b (b ++ w) items l.0.rest (l.0.rest ++ w) made.0 l.0.cut_is
-                passed.cut_is made.1,
-          ) in e)
-          ∙ ap (λ (d : Dialect). cells d (b ++ w)) (sym dialect);
+      cells_are = rw dialect (omega (
+        arith,
+        adds,
+        l.1.cells_are,
+        cells_good_on r.dialect b (b ++ w) items l.0.rest (l.0.rest ++ w) made.0 l.0.read.cut_is
+            passed.read.cut_is made.1,
+      ));
     };
     taken_is = taken ∙ sym size;
   };
@@ -184,58 +139,14 @@ whole_moved r fin b w l made adds dialect header start taken below = record {
   items = l.0.items
 
   here : EndIs r items
-  here = end_is r r.phase items l.0.rest l.0.at
+  here = end_is r items l.0.rest l.0.at
 
   next : IsNext (following_all (header_layout r.dialect) items)
   next = good_next r.dialect.order (following_all (header_layout r.dialect) items) (l.0.rest ++ w) made.0 made.1
 
   passed : Passed r items here next b l.0.rest w made.0
   passed = passes r items here next w b l.0.rest made.0
-      (record { cut_is = l.0.cut_is; unjudged = l.0.unjudged; nothing_before = l.0.nothing_before; below = l.0.below })
-      l.0.ends_within made.1 below
+      (record { read = l.0.read; below = l.0.below }) made.1 below
 
   size : length (b ++ w) ≡ length b + length w
   size = length-append b w
-
--- ---- a piece
-
--- a value is taken
-pub offering_whole : (dialect : Dialect) (b piece : List ℕ) (i n : ℕ) (r new : HeadReader)
-    → Offering dialect b piece i r → n ≤ length (drop i piece)
-    → TakesAll dialect (b ++ take i piece) (take n (drop i piece)) new → Offering dialect b piece (i + n) new
-offering_whole dialect b piece i n r new o le t = record {
-  stands = subst (λ (l : List ℕ). StandsFor new l) (joined b piece i n) t.stands;
-  more = front n (omega arith);
-  before = λ j lt. elim (cases_lt j i) [
-    | inl shorter ↦ o.before j shorter
-    | inr tail ↦
-        let same : i + (j - i) ≡ j = omega (arith, tail) in
-        subst (λ (m : ℕ). Answers dialect (b ++ take m piece) answer.More) same
-        (front (j - i) (omega (arith, lt, tail)))
-  ];
-} where
-  front : (j : ℕ) → j ≤ n → Answers dialect (b ++ take (i + j) piece) answer.More
-  front j small =
-      let more = t.more j (omega (arith, small, length-take-le n (drop i piece) le)) in
-      subst (λ (l : List ℕ). Answers dialect l answer.More) (joined b piece i j)
-      (subst (λ (l : List ℕ). Answers dialect ((b ++ take i piece) ++ l) answer.More)
-      (take-take j n (drop i piece) small)
-      more)
-
--- the same, by the reader's dialect
-pub offering_tried : (dialect : Dialect) (b piece rest : List ℕ) (i n : ℕ) (r new : HeadReader)
-    → Offering dialect b piece i r → r.dialect ≡ dialect → rest ≡ drop i piece → n ≤ length rest
-    → ((c : List ℕ) → StandsFor r c → Answers r.dialect c answer.More → TakesAll r.dialect c (take n rest) new)
-    → Offering dialect b piece (i + n) new
-offering_tried dialect b piece rest i n r new o same e le takes =
-    let c = b ++ take i piece in
-    offering_whole dialect b piece i n r new o (omega (arith, le, ap length e))
-    (subst (λ (k : Dialect). TakesAll k c (take n (drop i piece)) new) same
-    (subst (λ (l : List ℕ). TakesAll r.dialect c (take n l) new) e
-    (takes c o.stands (subst (λ (k : Dialect). Answers k c answer.More) (sym same) o.more))))
-
--- no byte was taken
-pub offering_still : (dialect : Dialect) (b piece : List ℕ) (i n : ℕ) (r : HeadReader) → n ≡ 0
-    → Offering dialect b piece (i + n) r → Offering dialect b piece i r
-offering_still dialect b piece i n r none o = subst (λ (k : ℕ). Offering dialect b piece k r)
-    (let e : i + n ≡ i = omega (arith, none) in e) o

@@ -1,17 +1,16 @@
 -- Worked rows, computed: what the definitions give for the bytes of headers.
-use Rattle.std.proofs.Common.{◌≡◌, refl, ℕ, List, [], ◌∷◌, ◌++◌, Option, Some, None, negsuc, true, false}
+use Rattle.std.proofs.Common.{◌≡◌, refl, ℕ, List, [], ◌∷◌, ◌++◌, Some, None, negsuc, true, false}
 use Rattle.dl_num.specs.declared.fixed.Order.TheVariants.{Little, Big}
 use Rattle.dl_table.specs.declared.fault.FaultKind.{FaultKind}
 use Rattle.dl_table.specs.declared.fault.FaultKind.TheVariants as fault
 use Rattle.dl_table.specs.declared.form.Format.TheVariants.{Dwarf32, Dwarf64}
 use Rattle.dl_table.specs.declared.form.Form.TheVariants as form
-use Rattle.dl_field.specs.HeaderData.{HeaderData}
+use Rattle.dl_field.specs.HeaderData.{HeaderData, header_cells}
 use Rattle.dl_table.specs.Value.{text, number, data16, line_str}
 use Rattle.dl_head.specs.declared.dialect.Dialect.{Dialect}
 use Rattle.dl_head.specs.Dialect.{version_5}
 use Rattle.dl_head.specs.Header.{header_in, foreign_in, unit_len}
-use Rattle.dl_head.specs.Refusal.{Refusal, header_refusal_in}
-use Rattle.dl_field.specs.HeaderData.{header_cells}
+use Rattle.dl_head.specs.Refusal.{header_refusal_in}
 use Rattle.dl_head.specs.Cells.{cells}
 use Rattle.dl_head.specs.Written.{header_bytes, is_within_limit}
 
@@ -21,9 +20,18 @@ little = version_5 Little
 abbrev big : Dialect
 big = version_5 Big
 
--- a refusal after these bytes
-abbrev refused : List ℕ → ℕ → FaultKind → Option Refusal
-refused front at kind = Some (record { front = front; at = at; kind = kind })
+-- bytes are refused after this front
+abbrev IsRefused : (front back : List ℕ) → ℕ → FaultKind → Type 0
+IsRefused front back at kind = header_refusal_in little (front ++ back)
+    ≡ Some (record { front = front; at = at; kind = kind })
+
+-- the fields up to header_length, where unit_length and header_length are these
+abbrev before : (unit header : ℕ) → List ℕ
+before unit header = unit ∷ 0 ∷ 0 ∷ 0 ∷ 5 ∷ 0 ∷ 8 ∷ 0 ∷ header ∷ 0 ∷ 0 ∷ 0 ∷ []
+
+-- the fields from minimum_instruction_length up to the lengths of twelve opcodes
+abbrev usual : List ℕ
+usual = 1 ∷ 1 ∷ 1 ∷ 0xfb ∷ 0x0e ∷ 0x0d ∷ 0 ∷ 1 ∷ 1 ∷ 1 ∷ 1 ∷ 0 ∷ 0 ∷ 0 ∷ 1 ∷ 0 ∷ 0 ∷ 1 ∷ []
 
 -- a header of the 32-bit format without entries
 abbrev empty_header : HeaderData
@@ -67,41 +75,25 @@ md5_header = record {
 -- ---- headers
 
 abbrev empty_program : List ℕ
-empty_program = 0x1e ∷ 0 ∷ 0 ∷ 0 ∷ 5 ∷ 0 ∷ 8 ∷ 0 ∷ 0x16 ∷ 0 ∷ 0 ∷ 0 ∷ 1 ∷ 1 ∷ 1 ∷ 0xfb ∷ 0x0e ∷ 0x0d ∷ 0 ∷ 1 ∷ 1 ∷ 1 ∷ 1
-    ∷ 0 ∷ 0 ∷ 0 ∷ 1 ∷ 0 ∷ 0 ∷ 1 ∷ 0 ∷ 0 ∷ 0 ∷ 0 ∷ []
+empty_program = before 0x1e 0x16 ++ usual ++ 0 ∷ 0 ∷ 0 ∷ 0 ∷ []
 
-empty_program_header : header_in little empty_program ≡ Some (empty_header, [])
-empty_program_header = refl
-
-empty_program_before_more : header_in little (empty_program ++ 0xff ∷ []) ≡ Some (empty_header, 0xff ∷ [])
-empty_program_before_more = refl
-
-empty_program_not_refused : header_refusal_in little empty_program ≡ None
-empty_program_not_refused = refl
-
-empty_program_unit : unit_len little empty_program ≡ Some 34
-empty_program_unit = refl
+empty_program_is : (header_in little empty_program ≡ Some (empty_header, []))
+    × (header_in little (empty_program ++ 0xff ∷ []) ≡ Some (empty_header, 0xff ∷ []))
+    × (header_refusal_in little empty_program ≡ None) × (unit_len little empty_program ≡ Some 34)
+empty_program_is = (refl, refl, refl, refl)
 
 abbrev md5 : List ℕ
-md5 = 0xff ∷ 0xff ∷ 0xff ∷ 0xff ∷ 0x42 ∷ 0 ∷ 0 ∷ 0 ∷ 0 ∷ 0 ∷ 0 ∷ 0 ∷ 5 ∷ 0 ∷ 8 ∷ 0 ∷ 0x36 ∷ 0 ∷ 0 ∷ 0 ∷ 0 ∷ 0 ∷ 0 ∷ 0
-    ∷ 1 ∷ 1 ∷ 1 ∷ 0xfb ∷ 0x0e ∷ 0x0d ∷ 0 ∷ 1 ∷ 1 ∷ 1 ∷ 1 ∷ 0 ∷ 0 ∷ 0 ∷ 1 ∷ 0 ∷ 0 ∷ 1 ∷ 1 ∷ 1 ∷ 8 ∷ 1 ∷ 0x2f ∷ 0x73 ∷ 0
-    ∷ 3 ∷ 1 ∷ 8 ∷ 2 ∷ 0x0f ∷ 5 ∷ 0x1e ∷ 1 ∷ 0x61 ∷ 0x2e ∷ 0x63 ∷ 0 ∷ 0 ∷ 0 ∷ 1 ∷ 2 ∷ 3 ∷ 4 ∷ 5 ∷ 6 ∷ 7 ∷ 8 ∷ 9 ∷ 0x0a
-    ∷ 0x0b ∷ 0x0c ∷ 0x0d ∷ 0x0e ∷ 0x0f ∷ []
+md5 = 0xff ∷ 0xff ∷ 0xff ∷ 0xff ∷ 0x42 ∷ 0 ∷ 0 ∷ 0 ∷ 0 ∷ 0 ∷ 0 ∷ 0 ∷ 5 ∷ 0 ∷ 8 ∷ 0 ∷ 0x36 ∷ 0 ∷ 0 ∷ 0 ∷ 0 ∷ 0 ∷ 0
+    ∷ 0 ∷ usual ++ 1 ∷ 1 ∷ 8 ∷ 1 ∷ 0x2f ∷ 0x73 ∷ 0 ∷ 3 ∷ 1 ∷ 8 ∷ 2 ∷ 0x0f ∷ 5 ∷ 0x1e ∷ 1 ∷ 0x61 ∷ 0x2e ∷ 0x63 ∷ 0
+    ∷ 0 ∷ 0 ∷ 1 ∷ 2 ∷ 3 ∷ 4 ∷ 5 ∷ 6 ∷ 7 ∷ 8 ∷ 9 ∷ 0x0a ∷ 0x0b ∷ 0x0c ∷ 0x0d ∷ 0x0e ∷ 0x0f ∷ []
 
-md5_is_header : header_in little md5 ≡ Some (md5_header, [])
-md5_is_header = refl
-
-md5_cells : cells little md5 ≡ 13
-md5_cells = refl
-
-md5_header_cells : header_cells md5_header ≡ 13
-md5_header_cells = refl
+md5_is : (header_in little md5 ≡ Some (md5_header, [])) × (cells little md5 ≡ 13) × (header_cells md5_header ≡ 13)
+md5_is = (refl, refl, refl)
 
 abbrev big_md5 : List ℕ
 big_md5 = 0xff ∷ 0xff ∷ 0xff ∷ 0xff ∷ 0 ∷ 0 ∷ 0 ∷ 0 ∷ 0 ∷ 0 ∷ 0 ∷ 0x42 ∷ 0 ∷ 5 ∷ 8 ∷ 0 ∷ 0 ∷ 0 ∷ 0 ∷ 0 ∷ 0 ∷ 0 ∷ 0
-    ∷ 0x36 ∷ 1 ∷ 1 ∷ 1 ∷ 0xfb ∷ 0x0e ∷ 0x0d ∷ 0 ∷ 1 ∷ 1 ∷ 1 ∷ 1 ∷ 0 ∷ 0 ∷ 0 ∷ 1 ∷ 0 ∷ 0 ∷ 1 ∷ 1 ∷ 1 ∷ 8 ∷ 1 ∷ 0x2f
-    ∷ 0x73 ∷ 0 ∷ 3 ∷ 1 ∷ 8 ∷ 2 ∷ 0x0f ∷ 5 ∷ 0x1e ∷ 1 ∷ 0x61 ∷ 0x2e ∷ 0x63 ∷ 0 ∷ 0 ∷ 0 ∷ 1 ∷ 2 ∷ 3 ∷ 4 ∷ 5 ∷ 6 ∷ 7 ∷ 8
-    ∷ 9 ∷ 0x0a ∷ 0x0b ∷ 0x0c ∷ 0x0d ∷ 0x0e ∷ 0x0f ∷ []
+    ∷ 0x36 ∷ usual ++ 1 ∷ 1 ∷ 8 ∷ 1 ∷ 0x2f ∷ 0x73 ∷ 0 ∷ 3 ∷ 1 ∷ 8 ∷ 2 ∷ 0x0f ∷ 5 ∷ 0x1e ∷ 1 ∷ 0x61 ∷ 0x2e ∷ 0x63 ∷ 0
+    ∷ 0 ∷ 0 ∷ 1 ∷ 2 ∷ 3 ∷ 4 ∷ 5 ∷ 6 ∷ 7 ∷ 8 ∷ 9 ∷ 0x0a ∷ 0x0b ∷ 0x0c ∷ 0x0d ∷ 0x0e ∷ 0x0f ∷ []
 
 big_md5_is_header : header_in big big_md5 ≡ Some (md5_header, [])
 big_md5_is_header = refl
@@ -123,8 +115,7 @@ padded_count_is_header : header_in little padded_count ≡ Some (empty_header, [
 padded_count_is_header = refl
 
 abbrev line_strp_directory : List ℕ
-line_strp_directory = 0x24 ∷ 0 ∷ 0 ∷ 0 ∷ 5 ∷ 0 ∷ 8 ∷ 0 ∷ 0x1c ∷ 0 ∷ 0 ∷ 0 ∷ 1 ∷ 1 ∷ 1 ∷ 0xfb ∷ 0x0e ∷ 0x0d ∷ 0 ∷ 1 ∷ 1
-    ∷ 1 ∷ 1 ∷ 0 ∷ 0 ∷ 0 ∷ 1 ∷ 0 ∷ 0 ∷ 1 ∷ 1 ∷ 1 ∷ 0x1f ∷ 1 ∷ 2 ∷ 0 ∷ 0 ∷ 0 ∷ 0 ∷ 0 ∷ []
+line_strp_directory = before 0x24 0x1c ++ usual ++ 1 ∷ 1 ∷ 0x1f ∷ 1 ∷ 2 ∷ 0 ∷ 0 ∷ 0 ∷ 0 ∷ 0 ∷ []
 
 line_strp_is_header : header_in little line_strp_directory ≡ Some (
   record empty_header {
@@ -140,8 +131,8 @@ line_strp_is_header : header_in little line_strp_directory ≡ Some (
 line_strp_is_header = refl
 
 abbrev low_opcode_base : List ℕ
-low_opcode_base = 0x1e ∷ 0 ∷ 0 ∷ 0 ∷ 5 ∷ 0 ∷ 8 ∷ 0 ∷ 0x13 ∷ 0 ∷ 0 ∷ 0 ∷ 1 ∷ 1 ∷ 1 ∷ 0xfb ∷ 0x0e ∷ 0x0a ∷ 0 ∷ 1 ∷ 1 ∷ 1
-    ∷ 1 ∷ 0 ∷ 0 ∷ 0 ∷ 1 ∷ 0 ∷ 0 ∷ 0 ∷ 0 ∷ 3 ∷ 0x0a ∷ 0x0a ∷ []
+low_opcode_base = before 0x1e 0x13 ++ 1 ∷ 1 ∷ 1 ∷ 0xfb ∷ 0x0e ∷ 0x0a ∷ 0 ∷ 1 ∷ 1 ∷ 1 ∷ 1 ∷ 0 ∷ 0 ∷ 0 ∷ 1 ∷ 0 ∷ 0 ∷ 0
+    ∷ 0 ∷ 3 ∷ 0x0a ∷ 0x0a ∷ []
 
 low_opcode_base_is_header : header_in little low_opcode_base ≡ Some (
   record empty_header {
@@ -154,8 +145,7 @@ low_opcode_base_is_header : header_in little low_opcode_base ≡ Some (
 )
 low_opcode_base_is_header = refl
 
-not_yet : header_in little (0x1e ∷ 0 ∷ 0 ∷ 0 ∷ 5 ∷ 0 ∷ 8 ∷ 0 ∷ 0x16 ∷ 0 ∷ 0 ∷ 0 ∷ 1 ∷ 1 ∷ 1 ∷ 0xfb ∷ 0x0e ∷ 0x0d ∷ 0 ∷ 1
-    ∷ 1 ∷ 1 ∷ 1 ∷ 0 ∷ 0 ∷ 0 ∷ 1 ∷ 0 ∷ 0 ∷ 1 ∷ 0 ∷ 0 ∷ 0 ∷ []) ≡ None
+not_yet : header_in little (before 0x1e 0x16 ++ usual ++ 0 ∷ 0 ∷ 0 ∷ []) ≡ None
 not_yet = refl
 
 -- ---- other versions
@@ -163,30 +153,22 @@ not_yet = refl
 abbrev foreign_unit : List ℕ
 foreign_unit = 6 ∷ 0 ∷ 0 ∷ 0 ∷ 4 ∷ 0 ∷ 0xaa ∷ 0xbb ∷ 0xcc ∷ 0xdd ∷ []
 
-foreign_version_4 : foreign_in little foreign_unit ≡ Some 4
-foreign_version_4 = refl
-
-foreign_not_refused : header_refusal_in little foreign_unit ≡ None
-foreign_not_refused = refl
-
-foreign_no_header : header_in little foreign_unit ≡ None
-foreign_no_header = refl
+foreign_unit_is : (foreign_in little foreign_unit ≡ Some 4) × (header_refusal_in little foreign_unit ≡ None)
+    × (header_in little foreign_unit ≡ None)
+foreign_unit_is = (refl, refl, refl)
 
 shortest_foreign_unit : header_refusal_in little (2 ∷ 0 ∷ 0 ∷ 0 ∷ 4 ∷ 0 ∷ []) ≡ None
 shortest_foreign_unit = refl
 
-wrong_order : foreign_in big (0x21 ∷ 0 ∷ 0 ∷ 0 ∷ 5 ∷ 0 ∷ 8 ∷ 0 ∷ 0x16 ∷ 0 ∷ 0 ∷ 0 ∷ 1 ∷ 1 ∷ 1 ∷ 0xfb ∷ 0x0e ∷ 0x0d ∷ 0
-    ∷ 1 ∷ 1 ∷ 1 ∷ 1 ∷ 0 ∷ 0 ∷ 0 ∷ 1 ∷ 0 ∷ 0 ∷ 1 ∷ 0 ∷ 0 ∷ 0 ∷ 0 ∷ 0 ∷ 1 ∷ 1 ∷ []) ≡ Some 1280
+wrong_order : foreign_in big (before 0x21 0x16 ++ usual ++ 0 ∷ 0 ∷ 0 ∷ 0 ∷ 0 ∷ 1 ∷ 1 ∷ []) ≡ Some 1280
 wrong_order = refl
 
 -- ---- refusals
 
-reserved_length : header_refusal_in little (0xf0 ∷ 0xff ∷ 0xff ∷ 0xff ∷ [])
-    ≡ refused (0xf0 ∷ 0xff ∷ 0xff ∷ 0xff ∷ []) 0 fault.ReservedLength
+reserved_length : IsRefused (0xf0 ∷ 0xff ∷ 0xff ∷ 0xff ∷ []) [] 0 fault.ReservedLength
 reserved_length = refl
 
-too_long : header_refusal_in little (0xff ∷ 0xff ∷ 0xff ∷ 0xff ∷ 1 ∷ 0 ∷ 0 ∷ 0 ∷ 0 ∷ 1 ∷ 0 ∷ 0 ∷ [])
-    ≡ refused (0xff ∷ 0xff ∷ 0xff ∷ 0xff ∷ 1 ∷ 0 ∷ 0 ∷ 0 ∷ 0 ∷ 1 ∷ 0 ∷ 0 ∷ []) 0 fault.UnitTooLong
+too_long : IsRefused (0xff ∷ 0xff ∷ 0xff ∷ 0xff ∷ 1 ∷ 0 ∷ 0 ∷ 0 ∷ 0 ∷ 1 ∷ 0 ∷ 0 ∷ []) [] 0 fault.UnitTooLong
 too_long = refl
 
 longest : header_refusal_in little (0xff ∷ 0xff ∷ 0xff ∷ 0xff ∷ 0 ∷ 0 ∷ 0 ∷ 0 ∷ 0 ∷ 1 ∷ 0 ∷ 0 ∷ []) ≡ None
@@ -195,145 +177,82 @@ longest = refl
 small_in_64_bits : header_refusal_in little (0xff ∷ 0xff ∷ 0xff ∷ 0xff ∷ 1 ∷ 0 ∷ 0 ∷ 0 ∷ 1 ∷ 0 ∷ 0 ∷ 0 ∷ []) ≡ None
 small_in_64_bits = refl
 
-no_version : header_refusal_in little (0 ∷ 0 ∷ 0 ∷ 0 ∷ []) ≡ refused (0 ∷ 0 ∷ 0 ∷ 0 ∷ []) 4 fault.UnitOverrun
+no_version : IsRefused (0 ∷ 0 ∷ 0 ∷ 0 ∷ []) [] 4 fault.UnitOverrun
 no_version = refl
 
-half_a_version : header_refusal_in little (1 ∷ 0 ∷ 0 ∷ 0 ∷ 5 ∷ [])
-    ≡ refused (1 ∷ 0 ∷ 0 ∷ 0 ∷ 5 ∷ []) 4 fault.UnitOverrun
+half_a_version : IsRefused (1 ∷ 0 ∷ 0 ∷ 0 ∷ 5 ∷ []) [] 4 fault.UnitOverrun
 half_a_version = refl
 
-beyond_unit : header_refusal_in little
-    (0x1e ∷ 0 ∷ 0 ∷ 0 ∷ 5 ∷ 0 ∷ 8 ∷ 0 ∷ 0x17 ∷ 0 ∷ 0 ∷ 0 ∷ 1 ∷ 1 ∷ 1 ∷ 0xfb ∷ 0x0e ∷ 0x0d ∷ 0 ∷ 1 ∷ 1 ∷ 1 ∷ 1 ∷ 0 ∷ 0
-    ∷ 0 ∷ 1 ∷ 0 ∷ 0 ∷ 1 ∷ 0 ∷ 0 ∷ 0 ∷ 0 ∷ []) ≡ refused (0x1e ∷ 0 ∷ 0 ∷ 0 ∷ 5 ∷ 0 ∷ 8 ∷ 0 ∷ 0x17 ∷ 0 ∷ 0 ∷ 0 ∷ []) 8
-    fault.HeaderBeyondUnit
+beyond_unit : IsRefused (before 0x1e 0x17) (usual ++ 0 ∷ 0 ∷ 0 ∷ 0 ∷ []) 8 fault.HeaderBeyondUnit
 beyond_unit = refl
 
-too_short : header_refusal_in little
-    (0x1e ∷ 0 ∷ 0 ∷ 0 ∷ 5 ∷ 0 ∷ 8 ∷ 0 ∷ 0x15 ∷ 0 ∷ 0 ∷ 0 ∷ 1 ∷ 1 ∷ 1 ∷ 0xfb ∷ 0x0e ∷ 0x0d ∷ 0 ∷ 1 ∷ 1 ∷ 1 ∷ 1 ∷ 0 ∷ 0
-    ∷ 0 ∷ 1 ∷ 0 ∷ 0 ∷ 1 ∷ 0 ∷ 0 ∷ 0 ∷ 0 ∷ []) ≡ refused
-    (0x1e ∷ 0 ∷ 0 ∷ 0 ∷ 5 ∷ 0 ∷ 8 ∷ 0 ∷ 0x15 ∷ 0 ∷ 0 ∷ 0 ∷ 1 ∷ 1 ∷ 1 ∷ 0xfb ∷ 0x0e ∷ 0x0d ∷ 0 ∷ 1 ∷ 1 ∷ 1 ∷ 1 ∷ 0 ∷ 0
-    ∷ 0 ∷ 1 ∷ 0 ∷ 0 ∷ 1 ∷ 0 ∷ 0 ∷ 0 ∷ []) 33 fault.HeaderOverrun
+too_short : IsRefused (before 0x1e 0x15 ++ usual ++ 0 ∷ 0 ∷ 0 ∷ []) (0 ∷ []) 33 fault.HeaderOverrun
 too_short = refl
 
-bad_address_size : header_refusal_in little
-    (0x1e ∷ 0 ∷ 0 ∷ 0 ∷ 5 ∷ 0 ∷ 3 ∷ 0 ∷ 0x16 ∷ 0 ∷ 0 ∷ 0 ∷ 1 ∷ 1 ∷ 1 ∷ 0xfb ∷ 0x0e ∷ 0x0d ∷ 0 ∷ 1 ∷ 1 ∷ 1 ∷ 1 ∷ 0 ∷ 0
-    ∷ 0 ∷ 1 ∷ 0 ∷ 0 ∷ 1 ∷ 0 ∷ 0 ∷ 0 ∷ 0 ∷ []) ≡ refused (0x1e ∷ 0 ∷ 0 ∷ 0 ∷ 5 ∷ 0 ∷ 3 ∷ []) 6 fault.AddressSize
+bad_address_size : IsRefused (0x1e ∷ 0 ∷ 0 ∷ 0 ∷ 5 ∷ 0 ∷ 3 ∷ []) (0 ∷ 0x16 ∷ 0 ∷ 0 ∷ 0 ∷ usual ++ 0 ∷ 0 ∷ 0 ∷ 0
+    ∷ []) 6 fault.AddressSize
 bad_address_size = refl
 
-bad_address_size_at_the_end : header_refusal_in little (3 ∷ 0 ∷ 0 ∷ 0 ∷ 5 ∷ 0 ∷ 3 ∷ [])
-    ≡ refused (3 ∷ 0 ∷ 0 ∷ 0 ∷ 5 ∷ 0 ∷ 3 ∷ []) 6 fault.AddressSize
+bad_address_size_at_the_end : IsRefused (3 ∷ 0 ∷ 0 ∷ 0 ∷ 5 ∷ 0 ∷ 3 ∷ []) [] 6 fault.AddressSize
 bad_address_size_at_the_end = refl
 
-no_operations : header_refusal_in little
-    (0x1e ∷ 0 ∷ 0 ∷ 0 ∷ 5 ∷ 0 ∷ 8 ∷ 0 ∷ 0x16 ∷ 0 ∷ 0 ∷ 0 ∷ 1 ∷ 0 ∷ 1 ∷ 0xfb ∷ 0x0e ∷ 0x0d ∷ 0 ∷ 1 ∷ 1 ∷ 1 ∷ 1 ∷ 0 ∷ 0
-    ∷ 0 ∷ 1 ∷ 0 ∷ 0 ∷ 1 ∷ 0 ∷ 0 ∷ 0 ∷ 0 ∷ []) ≡ refused
-    (0x1e ∷ 0 ∷ 0 ∷ 0 ∷ 5 ∷ 0 ∷ 8 ∷ 0 ∷ 0x16 ∷ 0 ∷ 0 ∷ 0 ∷ 1 ∷ 0 ∷ []) 13 fault.MaxOps
+no_operations : IsRefused (before 0x1e 0x16 ++ 1 ∷ 0 ∷ []) (1 ∷ 0xfb ∷ 0x0e ∷ 0x0d ∷ 0 ∷ 1 ∷ 1 ∷ 1 ∷ 1 ∷ 0 ∷ 0 ∷ 0
+    ∷ 1 ∷ 0 ∷ 0 ∷ 1 ∷ 0 ∷ 0 ∷ 0 ∷ 0 ∷ []) 13 fault.MaxOps
 no_operations = refl
 
-no_line_range : header_refusal_in little
-    (0x1e ∷ 0 ∷ 0 ∷ 0 ∷ 5 ∷ 0 ∷ 8 ∷ 0 ∷ 0x16 ∷ 0 ∷ 0 ∷ 0 ∷ 1 ∷ 1 ∷ 1 ∷ 0xfb ∷ 0 ∷ 0x0d ∷ 0 ∷ 1 ∷ 1 ∷ 1 ∷ 1 ∷ 0 ∷ 0 ∷ 0
-    ∷ 1 ∷ 0 ∷ 0 ∷ 1 ∷ 0 ∷ 0 ∷ 0 ∷ 0 ∷ []) ≡ refused
-    (0x1e ∷ 0 ∷ 0 ∷ 0 ∷ 5 ∷ 0 ∷ 8 ∷ 0 ∷ 0x16 ∷ 0 ∷ 0 ∷ 0 ∷ 1 ∷ 1 ∷ 1 ∷ 0xfb ∷ 0 ∷ []) 16 fault.LineRange
+no_line_range : IsRefused (before 0x1e 0x16 ++ 1 ∷ 1 ∷ 1 ∷ 0xfb ∷ 0 ∷ []) (0x0d ∷ 0 ∷ 1 ∷ 1 ∷ 1 ∷ 1 ∷ 0 ∷ 0 ∷ 0 ∷ 1
+    ∷ 0 ∷ 0 ∷ 1 ∷ 0 ∷ 0 ∷ 0 ∷ 0 ∷ []) 16 fault.LineRange
 no_line_range = refl
 
-no_opcode_base : header_refusal_in little
-    (0x1e ∷ 0 ∷ 0 ∷ 0 ∷ 5 ∷ 0 ∷ 8 ∷ 0 ∷ 0x16 ∷ 0 ∷ 0 ∷ 0 ∷ 1 ∷ 1 ∷ 1 ∷ 0xfb ∷ 0x0e ∷ 0 ∷ 0 ∷ 1 ∷ 1 ∷ 1 ∷ 1 ∷ 0 ∷ 0 ∷ 0
-    ∷ 1 ∷ 0 ∷ 0 ∷ 1 ∷ 0 ∷ 0 ∷ 0 ∷ 0 ∷ []) ≡ refused
-    (0x1e ∷ 0 ∷ 0 ∷ 0 ∷ 5 ∷ 0 ∷ 8 ∷ 0 ∷ 0x16 ∷ 0 ∷ 0 ∷ 0 ∷ 1 ∷ 1 ∷ 1 ∷ 0xfb ∷ 0x0e ∷ 0 ∷ []) 17 fault.OpcodeBase
+no_opcode_base : IsRefused (before 0x1e 0x16 ++ 1 ∷ 1 ∷ 1 ∷ 0xfb ∷ 0x0e ∷ 0 ∷ []) (0 ∷ 1 ∷ 1 ∷ 1 ∷ 1 ∷ 0 ∷ 0 ∷ 0 ∷ 1
+    ∷ 0 ∷ 0 ∷ 1 ∷ 0 ∷ 0 ∷ 0 ∷ 0 ∷ []) 17 fault.OpcodeBase
 no_opcode_base = refl
 
-wrong_length : header_refusal_in little
-    (0x1e ∷ 0 ∷ 0 ∷ 0 ∷ 5 ∷ 0 ∷ 8 ∷ 0 ∷ 0x16 ∷ 0 ∷ 0 ∷ 0 ∷ 1 ∷ 1 ∷ 1 ∷ 0xfb ∷ 0x0e ∷ 0x0d ∷ 0 ∷ 0 ∷ 1 ∷ 1 ∷ 1 ∷ 0 ∷ 0
-    ∷ 0 ∷ 1 ∷ 0 ∷ 0 ∷ 1 ∷ 0 ∷ 0 ∷ 0 ∷ 0 ∷ []) ≡ refused
-    (0x1e ∷ 0 ∷ 0 ∷ 0 ∷ 5 ∷ 0 ∷ 8 ∷ 0 ∷ 0x16 ∷ 0 ∷ 0 ∷ 0 ∷ 1 ∷ 1 ∷ 1 ∷ 0xfb ∷ 0x0e ∷ 0x0d ∷ 0 ∷ 0 ∷ []) 19
-    (fault.StandardLength 2)
+wrong_length : IsRefused (before 0x1e 0x16 ++ 1 ∷ 1 ∷ 1 ∷ 0xfb ∷ 0x0e ∷ 0x0d ∷ 0 ∷ 0 ∷ []) (1 ∷ 1 ∷ 1 ∷ 0 ∷ 0 ∷ 0
+    ∷ 1 ∷ 0 ∷ 0 ∷ 1 ∷ 0 ∷ 0 ∷ 0 ∷ 0 ∷ []) 19 (fault.StandardLength 2)
 wrong_length = refl
 
-directories_without_format : header_refusal_in little
-    (0x1e ∷ 0 ∷ 0 ∷ 0 ∷ 5 ∷ 0 ∷ 8 ∷ 0 ∷ 0x16 ∷ 0 ∷ 0 ∷ 0 ∷ 1 ∷ 1 ∷ 1 ∷ 0xfb ∷ 0x0e ∷ 0x0d ∷ 0 ∷ 1 ∷ 1 ∷ 1 ∷ 1 ∷ 0 ∷ 0
-    ∷ 0 ∷ 1 ∷ 0 ∷ 0 ∷ 1 ∷ 0 ∷ 1 ∷ 0 ∷ 0 ∷ []) ≡ refused
-    (0x1e ∷ 0 ∷ 0 ∷ 0 ∷ 5 ∷ 0 ∷ 8 ∷ 0 ∷ 0x16 ∷ 0 ∷ 0 ∷ 0 ∷ 1 ∷ 1 ∷ 1 ∷ 0xfb ∷ 0x0e ∷ 0x0d ∷ 0 ∷ 1 ∷ 1 ∷ 1 ∷ 1 ∷ 0 ∷ 0
-    ∷ 0 ∷ 1 ∷ 0 ∷ 0 ∷ 1 ∷ 0 ∷ 1 ∷ []) 31 fault.EmptyFormat
+directories_without_format : IsRefused (before 0x1e 0x16 ++ usual ++ 0 ∷ 1 ∷ []) (0 ∷ 0 ∷ []) 31 fault.EmptyFormat
 directories_without_format = refl
 
-files_without_format : header_refusal_in little
-    (0x1e ∷ 0 ∷ 0 ∷ 0 ∷ 5 ∷ 0 ∷ 8 ∷ 0 ∷ 0x16 ∷ 0 ∷ 0 ∷ 0 ∷ 1 ∷ 1 ∷ 1 ∷ 0xfb ∷ 0x0e ∷ 0x0d ∷ 0 ∷ 1 ∷ 1 ∷ 1 ∷ 1 ∷ 0 ∷ 0
-    ∷ 0 ∷ 1 ∷ 0 ∷ 0 ∷ 1 ∷ 0 ∷ 0 ∷ 0 ∷ 1 ∷ []) ≡ refused
-    (0x1e ∷ 0 ∷ 0 ∷ 0 ∷ 5 ∷ 0 ∷ 8 ∷ 0 ∷ 0x16 ∷ 0 ∷ 0 ∷ 0 ∷ 1 ∷ 1 ∷ 1 ∷ 0xfb ∷ 0x0e ∷ 0x0d ∷ 0 ∷ 1 ∷ 1 ∷ 1 ∷ 1 ∷ 0 ∷ 0
-    ∷ 0 ∷ 1 ∷ 0 ∷ 0 ∷ 1 ∷ 0 ∷ 0 ∷ 0 ∷ 1 ∷ []) 33 fault.EmptyFormat
+files_without_format : IsRefused (before 0x1e 0x16 ++ usual ++ 0 ∷ 0 ∷ 0 ∷ 1 ∷ []) [] 33 fault.EmptyFormat
 files_without_format = refl
 
-unknown_form : header_refusal_in little
-    (0x1e ∷ 0 ∷ 0 ∷ 0 ∷ 5 ∷ 0 ∷ 8 ∷ 0 ∷ 0x16 ∷ 0 ∷ 0 ∷ 0 ∷ 1 ∷ 1 ∷ 1 ∷ 0xfb ∷ 0x0e ∷ 0x0d ∷ 0 ∷ 1 ∷ 1 ∷ 1 ∷ 1 ∷ 0 ∷ 0
-    ∷ 0 ∷ 1 ∷ 0 ∷ 0 ∷ 1 ∷ 1 ∷ 1 ∷ 0x0d ∷ 0 ∷ []) ≡ refused
-    (0x1e ∷ 0 ∷ 0 ∷ 0 ∷ 5 ∷ 0 ∷ 8 ∷ 0 ∷ 0x16 ∷ 0 ∷ 0 ∷ 0 ∷ 1 ∷ 1 ∷ 1 ∷ 0xfb ∷ 0x0e ∷ 0x0d ∷ 0 ∷ 1 ∷ 1 ∷ 1 ∷ 1 ∷ 0 ∷ 0
-    ∷ 0 ∷ 1 ∷ 0 ∷ 0 ∷ 1 ∷ 1 ∷ 1 ∷ 0x0d ∷ []) 32 (fault.UnknownForm 13)
+unknown_form : IsRefused (before 0x1e 0x16 ++ usual ++ 1 ∷ 1 ∷ 0x0d ∷ []) (0 ∷ []) 32 (fault.UnknownForm 13)
 unknown_form = refl
 
-huge_count : header_refusal_in little
-    (0x29 ∷ 0 ∷ 0 ∷ 0 ∷ 5 ∷ 0 ∷ 8 ∷ 0 ∷ 0x21 ∷ 0 ∷ 0 ∷ 0 ∷ 1 ∷ 1 ∷ 1 ∷ 0xfb ∷ 0x0e ∷ 0x0d ∷ 0 ∷ 1 ∷ 1 ∷ 1 ∷ 1 ∷ 0 ∷ 0
-    ∷ 0 ∷ 1 ∷ 0 ∷ 0 ∷ 1 ∷ 1 ∷ 1 ∷ 8 ∷ 0x80 ∷ 0x80 ∷ 0x80 ∷ 0x80 ∷ 0x80 ∷ 0x80 ∷ 0x80 ∷ 0x80 ∷ 0x10 ∷ 0x2f ∷ 0x73 ∷ 0
-    ∷ []) ≡ refused (0x29 ∷ 0 ∷ 0 ∷ 0 ∷ 5 ∷ 0 ∷ 8 ∷ 0 ∷ 0x21 ∷ 0 ∷ 0 ∷ 0 ∷ 1 ∷ 1 ∷ 1 ∷ 0xfb ∷ 0x0e ∷ 0x0d ∷ 0 ∷ 1 ∷ 1
-    ∷ 1 ∷ 1 ∷ 0 ∷ 0 ∷ 0 ∷ 1 ∷ 0 ∷ 0 ∷ 1 ∷ 1 ∷ 1 ∷ 8 ∷ 0x80 ∷ 0x80 ∷ 0x80 ∷ 0x80 ∷ 0x80 ∷ 0x80 ∷ 0x80 ∷ 0x80 ∷ 0x10
-    ∷ 0x2f ∷ 0x73 ∷ 0 ∷ []) 45 fault.HeaderOverrun
-huge_count = refl
+abbrev huge_count : List ℕ
+huge_count = before 0x29 0x21 ++ usual ++ 1 ∷ 1 ∷ 8 ∷ 0x80 ∷ 0x80 ∷ 0x80 ∷ 0x80 ∷ 0x80 ∷ 0x80 ∷ 0x80 ∷ 0x80 ∷ 0x10
+    ∷ 0x2f ∷ 0x73 ∷ []
 
-huge_count_cells : cells little
-    (0x29 ∷ 0 ∷ 0 ∷ 0 ∷ 5 ∷ 0 ∷ 8 ∷ 0 ∷ 0x21 ∷ 0 ∷ 0 ∷ 0 ∷ 1 ∷ 1 ∷ 1 ∷ 0xfb ∷ 0x0e ∷ 0x0d ∷ 0 ∷ 1 ∷ 1 ∷ 1 ∷ 1 ∷ 0 ∷ 0
-    ∷ 0 ∷ 1 ∷ 0 ∷ 0 ∷ 1 ∷ 1 ∷ 1 ∷ 8 ∷ 0x80 ∷ 0x80 ∷ 0x80 ∷ 0x80 ∷ 0x80 ∷ 0x80 ∷ 0x80 ∷ 0x80 ∷ 0x10 ∷ 0x2f ∷ 0x73 ∷ 0
-    ∷ []) ≡ 4
-huge_count_cells = refl
+huge_count_is : IsRefused (huge_count ++ 0 ∷ []) [] 45 fault.HeaderOverrun × (cells little (huge_count ++ 0 ∷ []) ≡ 4)
+    × (cells little huge_count ≡ 3)
+huge_count_is = (refl, refl, refl)
 
-before_the_zero_byte : cells little
-    (0x29 ∷ 0 ∷ 0 ∷ 0 ∷ 5 ∷ 0 ∷ 8 ∷ 0 ∷ 0x21 ∷ 0 ∷ 0 ∷ 0 ∷ 1 ∷ 1 ∷ 1 ∷ 0xfb ∷ 0x0e ∷ 0x0d ∷ 0 ∷ 1 ∷ 1 ∷ 1 ∷ 1 ∷ 0 ∷ 0
-    ∷ 0 ∷ 1 ∷ 0 ∷ 0 ∷ 1 ∷ 1 ∷ 1 ∷ 8 ∷ 0x80 ∷ 0x80 ∷ 0x80 ∷ 0x80 ∷ 0x80 ∷ 0x80 ∷ 0x80 ∷ 0x80 ∷ 0x10 ∷ 0x2f ∷ 0x73 ∷ [])
-    ≡ 3
-before_the_zero_byte = refl
+abbrev block_past_the_header : List ℕ
+block_past_the_header = before 0x28 0x20 ++ usual ++ 1 ∷ 1 ∷ 9 ∷ 1 ∷ 0xff ∷ 0xff ∷ 0xff ∷ 0xff ∷ 0xff ∷ 0xff ∷ 0xff
+    ∷ 0xff ∷ 0xff ∷ 1 ∷ []
 
-block_past_the_header : header_refusal_in little
-    (0x28 ∷ 0 ∷ 0 ∷ 0 ∷ 5 ∷ 0 ∷ 8 ∷ 0 ∷ 0x20 ∷ 0 ∷ 0 ∷ 0 ∷ 1 ∷ 1 ∷ 1 ∷ 0xfb ∷ 0x0e ∷ 0x0d ∷ 0 ∷ 1 ∷ 1 ∷ 1 ∷ 1 ∷ 0 ∷ 0
-    ∷ 0 ∷ 1 ∷ 0 ∷ 0 ∷ 1 ∷ 1 ∷ 1 ∷ 9 ∷ 1 ∷ 0xff ∷ 0xff ∷ 0xff ∷ 0xff ∷ 0xff ∷ 0xff ∷ 0xff ∷ 0xff ∷ 0xff ∷ 1 ∷ [])
-    ≡ refused (0x28 ∷ 0 ∷ 0 ∷ 0 ∷ 5 ∷ 0 ∷ 8 ∷ 0 ∷ 0x20 ∷ 0 ∷ 0 ∷ 0 ∷ 1 ∷ 1 ∷ 1 ∷ 0xfb ∷ 0x0e ∷ 0x0d ∷ 0 ∷ 1 ∷ 1 ∷ 1 ∷ 1
-    ∷ 0 ∷ 0 ∷ 0 ∷ 1 ∷ 0 ∷ 0 ∷ 1 ∷ 1 ∷ 1 ∷ 9 ∷ 1 ∷ 0xff ∷ 0xff ∷ 0xff ∷ 0xff ∷ 0xff ∷ 0xff ∷ 0xff ∷ 0xff ∷ 0xff ∷ 1 ∷ [])
-    34 fault.HeaderOverrun
-block_past_the_header = refl
+block_past_the_header_is : IsRefused block_past_the_header [] 34 fault.HeaderOverrun
+    × (cells little block_past_the_header ≡ 2)
+block_past_the_header_is = (refl, refl)
 
-block_past_the_header_cells : cells little
-    (0x28 ∷ 0 ∷ 0 ∷ 0 ∷ 5 ∷ 0 ∷ 8 ∷ 0 ∷ 0x20 ∷ 0 ∷ 0 ∷ 0 ∷ 1 ∷ 1 ∷ 1 ∷ 0xfb ∷ 0x0e ∷ 0x0d ∷ 0 ∷ 1 ∷ 1 ∷ 1 ∷ 1 ∷ 0 ∷ 0
-    ∷ 0 ∷ 1 ∷ 0 ∷ 0 ∷ 1 ∷ 1 ∷ 1 ∷ 9 ∷ 1 ∷ 0xff ∷ 0xff ∷ 0xff ∷ 0xff ∷ 0xff ∷ 0xff ∷ 0xff ∷ 0xff ∷ 0xff ∷ 1 ∷ []) ≡ 2
-block_past_the_header_cells = refl
-
-count_out_of_range : header_refusal_in little
-    (0x28 ∷ 0 ∷ 0 ∷ 0 ∷ 5 ∷ 0 ∷ 8 ∷ 0 ∷ 0x20 ∷ 0 ∷ 0 ∷ 0 ∷ 1 ∷ 1 ∷ 1 ∷ 0xfb ∷ 0x0e ∷ 0x0d ∷ 0 ∷ 1 ∷ 1 ∷ 1 ∷ 1 ∷ 0 ∷ 0
-    ∷ 0 ∷ 1 ∷ 0 ∷ 0 ∷ 1 ∷ 1 ∷ 1 ∷ 8 ∷ 0xff ∷ 0xff ∷ 0xff ∷ 0xff ∷ 0xff ∷ 0xff ∷ 0xff ∷ 0xff ∷ 0xff ∷ 2 ∷ [])
-    ≡ refused (0x28 ∷ 0 ∷ 0 ∷ 0 ∷ 5 ∷ 0 ∷ 8 ∷ 0 ∷ 0x20 ∷ 0 ∷ 0 ∷ 0 ∷ 1 ∷ 1 ∷ 1 ∷ 0xfb ∷ 0x0e ∷ 0x0d ∷ 0 ∷ 1 ∷ 1 ∷ 1 ∷ 1
-    ∷ 0 ∷ 0 ∷ 0 ∷ 1 ∷ 0 ∷ 0 ∷ 1 ∷ 1 ∷ 1 ∷ 8 ∷ 0xff ∷ 0xff ∷ 0xff ∷ 0xff ∷ 0xff ∷ 0xff ∷ 0xff ∷ 0xff ∷ 0xff ∷ 2 ∷ []) 33
-    fault.LebRange
+count_out_of_range : IsRefused (before 0x28 0x20 ++ usual ++ 1 ∷ 1 ∷ 8 ∷ 0xff ∷ 0xff ∷ 0xff ∷ 0xff ∷ 0xff ∷ 0xff
+    ∷ 0xff ∷ 0xff ∷ 0xff ∷ 2 ∷ []) [] 33 fault.LebRange
 count_out_of_range = refl
 
-empty_header_part : header_refusal_in little (8 ∷ 0 ∷ 0 ∷ 0 ∷ 5 ∷ 0 ∷ 8 ∷ 0 ∷ 0 ∷ 0 ∷ 0 ∷ 0 ∷ [])
-    ≡ refused (8 ∷ 0 ∷ 0 ∷ 0 ∷ 5 ∷ 0 ∷ 8 ∷ 0 ∷ 0 ∷ 0 ∷ 0 ∷ 0 ∷ []) 12 fault.HeaderOverrun
+empty_header_part : IsRefused (before 8 0) [] 12 fault.HeaderOverrun
 empty_header_part = refl
 
 -- ---- headers that are written
 
-written_empty : header_bytes Little empty_header 0 ≡ empty_program
-written_empty = refl
+written : (header_bytes Little empty_header 0 ≡ empty_program) × (header_bytes Little md5_header 0 ≡ md5)
+    × (header_bytes Big md5_header 0 ≡ big_md5)
+written = (refl, refl, refl)
 
-written_md5 : header_bytes Little md5_header 0 ≡ md5
-written_md5 = refl
+longest_program : (is_within_limit empty_header 4294967249 ≡ true) × (is_within_limit empty_header 4294967250 ≡ false)
+longest_program = (refl, refl)
 
-written_big_md5 : header_bytes Big md5_header 0 ≡ big_md5
-written_big_md5 = refl
-
-longest_program : is_within_limit empty_header 4294967249 ≡ true
-longest_program = refl
-
-program_too_long : is_within_limit empty_header 4294967250 ≡ false
-program_too_long = refl
-
-longest_program_64 : is_within_limit md5_header 1099511627710 ≡ true
-longest_program_64 = refl
-
-program_too_long_64 : is_within_limit md5_header 1099511627711 ≡ false
-program_too_long_64 = refl
+longest_program_64 : (is_within_limit md5_header 1099511627710 ≡ true)
+    × (is_within_limit md5_header 1099511627711 ≡ false)
+longest_program_64 = (refl, refl)

@@ -52,97 +52,38 @@ older_header format version = record {
   };
 }
 
-abbrev version_two : List ℕ
-version_two = 0x78 ∷ 0 ∷ 0 ∷ 0 ∷ 2 ∷ 0 ∷ 0x30 ∷ 0 ∷ 0 ∷ 0 ∷ 1 ∷ 1 ∷ 0xfb ∷ 0x0e ∷ 0x0d ∷ 0 ∷ 1 ∷ 1 ∷ 1 ∷ 1 ∷ 0 ∷ 0 ∷ 0
-    ∷ 1 ∷ 0
-    ∷ 0 ∷ 1 ∷ 0x2e ∷ 0 ∷ 0x2e ∷ 0x2f ∷ 0x73 ∷ 0x75 ∷ 0x62 ∷ 0 ∷ 0 ∷ 0x74 ∷ 0x2e ∷ 0x63 ∷ 0 ∷ 0 ∷ 0 ∷ 0 ∷ 0x61 ∷ 0x2e
-    ∷ 0x68 ∷ 0 ∷ 1 ∷ 0 ∷ 0 ∷ 0x62 ∷ 0x2e ∷ 0x68 ∷ 0 ∷ 2 ∷ 0 ∷ 0 ∷ 0 ∷ []
-
-version_two_is_header : header_in all_versions (version_two ++ 0 ∷ 9 ∷ 2 ∷ []) ≡ Some (
-  older_header Dwarf32 2,
-  0 ∷ 9
-      ∷ 2 ∷ [],
-)
-version_two_is_header = refl
-
-version_two_cells : cells all_versions version_two ≡ header_cells (older_header Dwarf32 2)
-version_two_cells = refl
-
-version_two_not_refused : header_refusal_in all_versions version_two ≡ None
-version_two_not_refused = refl
-
-version_two_alone : foreign_in five_alone version_two ≡ Some 2
-version_two_alone = refl
-
-abbrev version_three : List ℕ
-version_three = 0x78 ∷ 0 ∷ 0 ∷ 0 ∷ 3 ∷ 0 ∷ 0x30 ∷ 0 ∷ 0 ∷ 0 ∷ 1 ∷ 1 ∷ 0xfb ∷ 0x0e ∷ 0x0d ∷ 0 ∷ 1 ∷ 1 ∷ 1 ∷ 1 ∷ 0 ∷ 0
-    ∷ 0 ∷ 1 ∷ 0
-    ∷ 0 ∷ 1 ∷ 0x2e ∷ 0 ∷ 0x2e ∷ 0x2f ∷ 0x73 ∷ 0x75 ∷ 0x62 ∷ 0 ∷ 0 ∷ 0x74 ∷ 0x2e ∷ 0x63 ∷ 0 ∷ 0 ∷ 0 ∷ 0 ∷ 0x61 ∷ 0x2e
-    ∷ 0x68 ∷ 0 ∷ 1 ∷ 0 ∷ 0 ∷ 0x62 ∷ 0x2e ∷ 0x68 ∷ 0 ∷ 2 ∷ 0 ∷ 0 ∷ 0 ∷ []
-
-version_three_is_header : header_in all_versions (version_three ++ 0 ∷ 9 ∷ 2 ∷ [])
-    ≡ Some (older_header Dwarf32 3, 0 ∷ 9 ∷ 2 ∷ [])
-version_three_is_header = refl
-
-version_three_cells : cells all_versions version_three ≡ header_cells (older_header Dwarf32 3)
-version_three_cells = refl
-
-version_three_not_refused : header_refusal_in all_versions version_three ≡ None
-version_three_not_refused = refl
-
-version_three_alone : foreign_in five_alone version_three ≡ Some 3
-version_three_alone = refl
-
-abbrev version_four : List ℕ
-version_four = 0x79 ∷ 0 ∷ 0 ∷ 0 ∷ 4 ∷ 0 ∷ 0x31 ∷ 0 ∷ 0 ∷ 0 ∷ 1 ∷ 1 ∷ 1 ∷ 0xfb ∷ 0x0e ∷ 0x0d ∷ 0 ∷ 1 ∷ 1 ∷ 1 ∷ 1 ∷ 0 ∷ 0
-    ∷ 0 ∷ 1
-    ∷ 0 ∷ 0 ∷ 1 ∷ 0x2e ∷ 0 ∷ 0x2e ∷ 0x2f ∷ 0x73 ∷ 0x75 ∷ 0x62 ∷ 0 ∷ 0 ∷ 0x74 ∷ 0x2e ∷ 0x63 ∷ 0 ∷ 0 ∷ 0 ∷ 0 ∷ 0x61
-    ∷ 0x2e ∷ 0x68 ∷ 0 ∷ 1 ∷ 0 ∷ 0 ∷ 0x62 ∷ 0x2e ∷ 0x68 ∷ 0 ∷ 2 ∷ 0 ∷ 0 ∷ 0 ∷ []
-
-version_four_is_header : header_in all_versions (version_four ++ 0 ∷ 9 ∷ 2 ∷ []) ≡ Some (
-  older_header Dwarf32 4,
-  0 ∷ 9
-      ∷ 2 ∷ [],
-)
-version_four_is_header = refl
-
-version_four_cells : cells all_versions version_four ≡ header_cells (older_header Dwarf32 4)
-version_four_cells = refl
-
-version_four_not_refused : header_refusal_in all_versions version_four ≡ None
-version_four_not_refused = refl
-
-version_four_alone : foreign_in five_alone version_four ≡ Some 4
-version_four_alone = refl
-
-abbrev version_long_four : List ℕ
-version_long_four = 0xff ∷ 0xff ∷ 0xff ∷ 0xff ∷ 0x7d ∷ 0 ∷ 0 ∷ 0 ∷ 0 ∷ 0 ∷ 0 ∷ 0 ∷ 4 ∷ 0 ∷ 0x31 ∷ 0 ∷ 0 ∷ 0 ∷ 0 ∷ 0 ∷ 0
-    ∷ 0 ∷ 1 ∷ 1
-    ∷ 1 ∷ 0xfb ∷ 0x0e ∷ 0x0d ∷ 0 ∷ 1 ∷ 1 ∷ 1 ∷ 1 ∷ 0 ∷ 0 ∷ 0 ∷ 1 ∷ 0 ∷ 0 ∷ 1 ∷ 0x2e ∷ 0 ∷ 0x2e ∷ 0x2f ∷ 0x73 ∷ 0x75
+-- the fields from default_is_stmt up to the lengths of the opcodes, and those tables but for their last byte
+abbrev fields : List ℕ
+fields = 1 ∷ 0xfb ∷ 0x0e ∷ 0x0d ∷ 0 ∷ 1 ∷ 1 ∷ 1 ∷ 1 ∷ 0 ∷ 0 ∷ 0 ∷ 1 ∷ 0 ∷ 0 ∷ 1 ∷ 0x2e ∷ 0 ∷ 0x2e ∷ 0x2f ∷ 0x73 ∷ 0x75
     ∷ 0x62 ∷ 0 ∷ 0 ∷ 0x74 ∷ 0x2e ∷ 0x63 ∷ 0 ∷ 0 ∷ 0 ∷ 0 ∷ 0x61 ∷ 0x2e ∷ 0x68 ∷ 0 ∷ 1 ∷ 0 ∷ 0 ∷ 0x62 ∷ 0x2e ∷ 0x68 ∷ 0
-    ∷ 2 ∷ 0 ∷ 0 ∷ 0 ∷ []
+    ∷ 2
+    ∷ 0 ∷ 0 ∷ []
 
-version_long_four_is_header : header_in all_versions (version_long_four ++ 0 ∷ 9 ∷ 2 ∷ [])
-    ≡ Some (older_header Dwarf64 4, 0 ∷ 9 ∷ 2 ∷ [])
-version_long_four_is_header = refl
+-- the bytes are that header, whatever follows, where older versions are read, and a foreign unit where they aren't
+abbrev IsWorked : Format → ℕ → List ℕ → Type 0
+IsWorked format version w =
+    (header_in all_versions (w ++ 0 ∷ 9 ∷ 2 ∷ []) ≡ Some (older_header format version, 0 ∷ 9 ∷ 2 ∷ []))
+    × (cells all_versions w ≡ header_cells (older_header format version)) × (header_refusal_in all_versions w ≡ None)
+    × (foreign_in five_alone w ≡ Some version)
 
-version_long_four_cells : cells all_versions version_long_four ≡ header_cells (older_header Dwarf64 4)
-version_long_four_cells = refl
+version_two : IsWorked Dwarf32 2 (0x78 ∷ 0 ∷ 0 ∷ 0 ∷ 2 ∷ 0 ∷ 0x30 ∷ 0 ∷ 0 ∷ 0 ∷ 1 ∷ fields ++ 0 ∷ [])
+version_two = (refl, refl, refl, refl)
 
-version_long_four_not_refused : header_refusal_in all_versions version_long_four ≡ None
-version_long_four_not_refused = refl
+version_three : IsWorked Dwarf32 3 (0x78 ∷ 0 ∷ 0 ∷ 0 ∷ 3 ∷ 0 ∷ 0x30 ∷ 0 ∷ 0 ∷ 0 ∷ 1 ∷ fields ++ 0 ∷ [])
+version_three = (refl, refl, refl, refl)
 
-version_long_four_alone : foreign_in five_alone version_long_four ≡ Some 4
-version_long_four_alone = refl
+version_four : IsWorked Dwarf32 4 (0x79 ∷ 0 ∷ 0 ∷ 0 ∷ 4 ∷ 0 ∷ 0x31 ∷ 0 ∷ 0 ∷ 0 ∷ 1 ∷ 1 ∷ fields ++ 0 ∷ [])
+version_four = (refl, refl, refl, refl)
+
+version_long_four : IsWorked Dwarf64 4 (0xff ∷ 0xff ∷ 0xff ∷ 0xff ∷ 0x7d ∷ 0 ∷ 0 ∷ 0 ∷ 0 ∷ 0 ∷ 0 ∷ 0 ∷ 4 ∷ 0 ∷ 0x31 ∷ 0
+    ∷ 0 ∷ 0 ∷ 0 ∷ 0 ∷ 0 ∷ 0 ∷ 1 ∷ 1 ∷ fields ++ 0 ∷ [])
+version_long_four = (refl, refl, refl, refl)
 
 -- ---- refusals
 
 -- header_length says that the header ends before the zero byte after the files
 abbrev without_its_end : List ℕ
-without_its_end = 0x79 ∷ 0 ∷ 0 ∷ 0 ∷ 4 ∷ 0 ∷ 0x30 ∷ 0 ∷ 0 ∷ 0 ∷ 1 ∷ 1 ∷ 1 ∷ 0xfb ∷ 0x0e ∷ 0x0d ∷ 0 ∷ 1 ∷ 1 ∷ 1 ∷ 1 ∷ 0
-    ∷ 0 ∷ 0 ∷ 1
-    ∷ 0 ∷ 0 ∷ 1 ∷ 0x2e ∷ 0 ∷ 0x2e ∷ 0x2f ∷ 0x73 ∷ 0x75 ∷ 0x62 ∷ 0 ∷ 0 ∷ 0x74 ∷ 0x2e ∷ 0x63 ∷ 0 ∷ 0 ∷ 0 ∷ 0 ∷ 0x61
-    ∷ 0x2e ∷ 0x68 ∷ 0 ∷ 1 ∷ 0 ∷ 0 ∷ 0x62 ∷ 0x2e ∷ 0x68 ∷ 0 ∷ 2 ∷ 0 ∷ 0 ∷ []
+without_its_end = 0x79 ∷ 0 ∷ 0 ∷ 0 ∷ 4 ∷ 0 ∷ 0x30 ∷ 0 ∷ 0 ∷ 0 ∷ 1 ∷ 1 ∷ fields
 
 ends_too_soon : header_refusal_in all_versions (without_its_end ++ 0 ∷ []) ≡ Some
     (record { front = without_its_end; at = 58; kind = fault.HeaderOverrun })
@@ -157,11 +98,9 @@ operations_are_refused : header_refusal_in all_versions (no_operations ++ 1 ∷ 
 operations_are_refused = refl
 
 -- versions that no dialect reads
-version_1_is_foreign : foreign_in all_versions (6 ∷ 0 ∷ 0 ∷ 0 ∷ 1 ∷ 0 ∷ []) ≡ Some 1
-version_1_is_foreign = refl
-
-version_6_is_foreign : foreign_in all_versions (6 ∷ 0 ∷ 0 ∷ 0 ∷ 6 ∷ 0 ∷ []) ≡ Some 6
-version_6_is_foreign = refl
+versions_1_and_6 : (foreign_in all_versions (6 ∷ 0 ∷ 0 ∷ 0 ∷ 1 ∷ 0 ∷ []) ≡ Some 1)
+    × (foreign_in all_versions (6 ∷ 0 ∷ 0 ∷ 0 ∷ 6 ∷ 0 ∷ []) ≡ Some 6)
+versions_1_and_6 = (refl, refl)
 
 -- an older unit that ends in its header_length
 ends_in_its_header : header_refusal_in all_versions (4 ∷ 0 ∷ 0 ∷ 0 ∷ 3 ∷ 0 ∷ 1 ∷ 0 ∷ []) ≡ Some

@@ -15,15 +15,11 @@ use Rattle.dl_num.proofs.LebFrontLemmas.{true_false}
 use Rattle.dl_table.specs.declared.form.Format.{Format}
 use Rattle.dl_table.specs.declared.form.Format.TheVariants.{Dwarf32, Dwarf64}
 use Rattle.dl_field.specs.declared.params.Params.{Params}
-use Rattle.dl_table.specs.TableData.{TableData}
 use Rattle.dl_field.specs.HeaderData.{HeaderData}
 use Rattle.dl_table.specs.Value.{offset_size}
-use Rattle.dl_field.specs.Layout.{Layout, number_then, last_entry, number_is, length_is, following, any_byte}
-use Rattle.dl_field.specs.Layout.{address_size, maximum_operations, line_range, opcode_base, opcode_length}
-use Rattle.dl_field.specs.Layout.{header_length, objection, NumberField, number_size, table_layout}
-use Rattle.dl_head.specs.HeaderLayout.{signed_byte, lengths_layout, tables_layout, from_lengths, from_opcode_base}
-use Rattle.dl_head.specs.HeaderLayout.{from_line_range, from_line_base, from_default_is_stmt, from_maximum_operations}
-use Rattle.dl_head.specs.HeaderLayout.{from_files}
+use Rattle.dl_field.specs.Layout.{Layout, number_then, last_entry, number_is, length_is, following, address_size}
+use Rattle.dl_field.specs.Layout.{opcode_length, header_length, objection, NumberField, number_size, table_layout}
+use Rattle.dl_head.specs.HeaderLayout.{signed_byte, lengths_layout, tables_layout, from_lengths, from_files, from_end}
 use Rattle.dl_head.specs.HeaderLayout.{from_minimum_length, from_header_length, from_segment_selector_size}
 use Rattle.dl_head.specs.HeaderLayout.{from_address_size, format_alone, header_layout, fixed_part, initial_size}
 use Rattle.dl_head.specs.Header.{Cut, header_made, unit_end, IsHeader}
@@ -39,7 +35,7 @@ use Rattle.dl_field.proofs.FieldLaws.{field_is_judged}
 use Rattle.dl_head.proofs.HeaderLaws.{header_cut}
 use Rattle.dl_head.proofs.HeaderSound.{Good, all_good, one_operation}
 use Rattle.dl_head.proofs.OrderLemmas.{length-header}
-use Rattle.dl_head.proofs.WrittenTables.{Reaches, reach_one, reach_table, fixed_byte, fixed_written}
+use Rattle.dl_head.proofs.WrittenTables.{Reaches, one_more, reach_one, reach_table, fixed_byte, fixed_written}
 
 below_zero : (m n k : ℕ) → m + suc n ≡ k → pos m -ℤ pos k ≡ negsuc n
 below_zero m n k e = omega (arith, ints)
@@ -72,78 +68,47 @@ module _ (order : Order) (h : HeaderData) where
   reach_lengths : (opcode : ℕ) (ns before : List ℕ) (next : List ℕ → Layout) (v : List ℕ)
       → wrong_length opcode ns ≡ None → Reaches order (next (before ++ ns)) v end
       → Reaches order (lengths_layout opcode (length ns) before next) (ns ++ v) end
-  reach_lengths opcode [] before next v none rest =
-      subst (λ (l : List ℕ). Reaches order (next l) v end) (append-nil before) rest
+  reach_lengths opcode [] before next v none rest = rw (← append-nil before) rest
   reach_lengths opcode (n ∷ ns) before next v none rest =
       let t = length_first (is_none (objection (opcode_length opcode) n)) opcode (wrong_length (opcode + 1) ns) none in
-      let again = reach_lengths (opcode + 1) ns (before ++ n ∷ []) next v t.1
-      (subst (λ (l : List ℕ). Reaches order (next l) v end) (sym (append_assoc before (n ∷ []) ns)) rest) in
       reach_one order end (lengths_layout opcode (length (n ∷ ns)) before next) (number_is n) (n ∷ []) (ns ++ v)
-      (n, refl, (refl, fixed_byte order end n), is_nothing (objection (opcode_length opcode) n) t.0) again
-
-  own_tables : (p : Params) → p.version ≡ 5 → table_layout p.format (from_files p) ≡ tables_layout p
-  own_tables p five = rw (eq-eqb p.version 5 five) refl
-
-  reach_tables : (p : Params) → p.version ≡ 5
-      → (record { params = p; directories = h.directories; files = h.files }) ≡ h
-      → h.directories.format ≡ p.format → h.files.format ≡ p.format → IsSoundTable h.directories → IsSoundTable h.files
-      → Reaches order (tables_layout p) (table_bytes order h.directories ++ (table_bytes order h.files ++ [])) end
-  reach_tables p five same d f directories files =
-      let files_layout : TableData → Layout = λ g. last_entry
-      (record { params = p; directories = h.directories; files = g }) in
-      let last : Reaches order (files_layout h.files) [] end =
-      record { items = []; spelt = refl; ends = ap last_entry same } in
-      let second = subst (λ (g : Format). Reaches order (table_layout g files_layout) (table_bytes order h.files ++ [])
-      end) f (reach_table order end h.files files_layout [] files last) in
-      let directories_layout : TableData → Layout =
-      λ t. table_layout p.format λ g. last_entry (record { params = p; directories = t; files = g }) in
-      subst (λ (l : Layout). Reaches order l (table_bytes order h.directories ++ (table_bytes order h.files ++ [])) end)
-      (own_tables p five)
-      (subst (λ (g : Format). Reaches order (table_layout g directories_layout)
-      (table_bytes order h.directories ++ (table_bytes order h.files ++ [])) end) d
-      (reach_table order end h.directories directories_layout (table_bytes order h.files ++ []) directories second))
+      (n, refl, (refl, fixed_byte order end n), is_nothing (objection (opcode_length opcode) n) t.0)
+      (reach_lengths (opcode + 1) ns (before ++ n ∷ []) next v t.1 (one_more order end next before n ns v rest))
 
   -- a field of one byte
-  reach_byte : (field : NumberField) (next : ℕ → Layout) (n : ℕ) (v : List ℕ) → number_size field ≡ Some 1
+  reach_byte : {field : NumberField} {next : ℕ → Layout} {n : ℕ} {v : List ℕ} → number_size field ≡ Some 1
       → objection field n ≡ None → Reaches order (next n) v end → Reaches order (number_then field next) (n ∷ v) end
-  reach_byte field next n v one none rest = reach_one order end (number_then field next) (number_is n) (n ∷ []) v
+  reach_byte {field} {next} {n} {v} one none rest =
+      reach_one order end (number_then field next) (number_is n) (n ∷ []) v
       (n, refl, rw one (refl, fixed_byte order end n), none) rest
 
-  -- not 0
-  some_operations : (n : ℕ) → (n ≡ 0 → ⊥) → objection maximum_operations n ≡ None
-  some_operations n some = rw (ne_eqb n 0 some) refl
-
-  some_lines : (n : ℕ) → (n ≡ 0 → ⊥) → objection line_range n ≡ None
-  some_lines n some = rw (ne_eqb n 0 some) refl
-
-  some_opcodes : (n : ℕ) → (n ≡ 0 → ⊥) → objection opcode_base n ≡ None
-  some_opcodes n some = rw (ne_eqb n 0 some) refl
-
+  -- the lengths of the opcodes, and the tables
   reach_from_lengths : (p : Params) → p.version ≡ 5 → h.params.opcode_base ≡ p.opcode_base
-      → Good h.params h.directories h.files
-      → IsSoundTable h.directories → IsSoundTable h.files → p.format ≡ h.params.format
-      → (record p { lengths = h.params.lengths }) ≡ h.params
+      → Good h.params h.directories h.files → IsSoundTable h.directories → IsSoundTable h.files
+      → p.format ≡ h.params.format → (record p { lengths = h.params.lengths }) ≡ h.params
       → Reaches order (from_lengths p)
-      (h.params.lengths.items ++ (table_bytes order h.directories ++ (table_bytes order h.files ++ []))) end
+      ((h.params.lengths.items ++ table_bytes order h.directories) ++ table_bytes order h.files) end
   reach_from_lengths p five base good directories files format same =
+      let q : Params = record p { lengths = h.params.lengths } in
       let count : length h.params.lengths.items ≡ p.opcode_base - 1 = (let sum = good.opcodes in omega arith) in
-      let next : List ℕ → Layout = λ lengths. tables_layout (record p { lengths = record { items = lengths } }) in
-      let whole : (record {
-        params = record p { lengths = h.params.lengths };
-        directories = h.directories;
-        files = h.files;
-      }) ≡ h = ap (λ (q : Params). let g : HeaderData = record {
-        params = q;
-        directories =
-            h.directories;
-        files = h.files;
-      } in g) same in
-      let tables = reach_tables (record p { lengths = h.params.lengths }) five whole (good.directories ∙ sym format)
-      (good.files ∙ sym format) directories files in
-      subst (λ (n : ℕ). Reaches order (lengths_layout 1 n [] next)
-      (h.params.lengths.items ++ (table_bytes order h.directories ++ (table_bytes order h.files ++ []))) end) count
-      (reach_lengths 1 h.params.lengths.items [] next
-      (table_bytes order h.directories ++ (table_bytes order h.files ++ [])) good.lengths tables)
+      let bytes = table_bytes order h.directories ++ (table_bytes order h.files ++ []) in
+      let last : Reaches order (from_end q h.directories h.files) [] end =
+      record { items = []; spelt = refl; ends = ap (λ (r : Params). from_end r h.directories h.files) same } in
+      let second = subst (λ (g : Format). Reaches order (table_layout g (from_end q h.directories))
+      (table_bytes order h.files ++ []) end) (good.files ∙ sym format)
+      (reach_table order end h.files (from_end q h.directories) [] files last) in
+      let first = subst (λ (g : Format). Reaches order (table_layout g (from_files q)) bytes end)
+      (good.directories ∙ sym format)
+      (reach_table order end h.directories (from_files q) (table_bytes order h.files ++ []) directories second) in
+      let tables : Reaches order (tables_layout q) bytes end = rw (eq-eqb p.version 5 five) first in
+      let all = reach_lengths 1 h.params.lengths.items []
+      (λ lengths. tables_layout (record p { lengths = record { items = lengths } })) bytes good.lengths tables in
+      subst (λ (w : List ℕ). Reaches order (from_lengths p) w end)
+      (ends_so h.params.lengths.items (table_bytes order h.directories) (table_bytes order h.files))
+      (rw (← count) all)
+    where
+      ends_so : (a b c : List ℕ) → a ++ (b ++ (c ++ [])) ≡ (a ++ b) ++ c
+      ends_so a b c = rw append-nil (sym (append_assoc a b c))
 
   -- the fields after header_length, of params whose fields before it are those of the header
   reach_fields : IsSoundHeader h → h.params.version ≡ 5 → Good h.params h.directories h.files
@@ -154,46 +119,18 @@ module _ (order : Order) (h : HeaderData) where
       })) (after_header_length order h) end
   reach_fields sound five good =
       let p = h.params in
-      let tables = table_bytes order h.directories ++ (table_bytes order h.files ++ []) in
-      let base = byte_of p.line_base in
-      let p1 : Params = record (format_alone p.format) {
-        address_size = p.address_size;
-        segment_selector_size = p.segment_selector_size;
-      } in
-      let p2 : Params = record p1 { minimum_instruction_length = p.minimum_instruction_length } in
-      let p3 : Params = record p2 { maximum_operations_per_instruction = p.maximum_operations_per_instruction } in
-      let p4 : Params = record p3 { default_is_stmt = p.default_is_stmt } in
-      let p5 : Params = record p4 { line_base = signed_byte base } in
-      let p6 : Params = record p5 { line_range = p.line_range } in
-      let p7 : Params = record p6 { opcode_base = p.opcode_base } in
-      let same : (record p7 { lengths = p.lengths }) ≡ p =
+      let same : (record p { line_base = signed_byte (byte_of p.line_base); version = 5 }) ≡ p =
       ap (λ (z : ℤ). let q : Params = record p { line_base = z; version = 5 } in q)
       (signed_again p.line_base sound.line_base)
       ∙ ap (λ (v : ℕ). let q : Params = record p { version = v } in q) (sym five) in
-      let a = reach_from_lengths p7 refl refl good sound.directories sound.files refl same in
-      let b = reach_byte opcode_base (λ n. from_lengths (record p6 { opcode_base = n })) p.opcode_base
-      (p.lengths.items ++ tables) refl (some_opcodes p.opcode_base (λ z. let sum = good.opcodes in omega arith)) a in
-      let c = reach_byte line_range (λ n. from_opcode_base (record p5 { line_range = n })) p.line_range
-      (p.opcode_base ∷ (p.lengths.items ++ tables)) refl (some_lines p.line_range good.lines) b in
-      let d = reach_byte any_byte (λ n. from_line_range (record p4 { line_base = signed_byte n })) base
-      (p.line_range ∷ p.opcode_base ∷ (p.lengths.items ++ tables)) refl refl c in
-      let e = reach_byte any_byte (λ n. from_line_base (record p3 { default_is_stmt = n })) p.default_is_stmt
-      (base ∷ p.line_range ∷ p.opcode_base ∷ (p.lengths.items ++ tables)) refl refl d in
-      let f = reach_byte maximum_operations
-      (λ n. from_default_is_stmt (record p2 { maximum_operations_per_instruction = n }))
-      p.maximum_operations_per_instruction
-      (p.default_is_stmt ∷ base ∷ p.line_range ∷ p.opcode_base ∷ (p.lengths.items ++ tables)) refl
-      (some_operations p.maximum_operations_per_instruction
-      (λ z. omega (arith, z, one_operation p.version p.maximum_operations_per_instruction good.operations))) e in
-      let g = reach_byte any_byte (λ n. from_maximum_operations (record p1 { minimum_instruction_length = n }))
-      p.minimum_instruction_length (p.maximum_operations_per_instruction ∷ p.default_is_stmt ∷ base ∷ p.line_range
-      ∷ p.opcode_base ∷ (p.lengths.items ++ tables)) refl refl f in
-      subst (λ (w : List ℕ). Reaches order (from_minimum_length p1) w end)
-      (ends_so (p.minimum_instruction_length ∷ p.maximum_operations_per_instruction ∷ p.default_is_stmt ∷ base
-      ∷ p.line_range ∷ p.opcode_base ∷ p.lengths.items) (table_bytes order h.directories) (table_bytes order h.files)) g
-    where
-      ends_so : (a b c : List ℕ) → a ++ (b ++ (c ++ [])) ≡ (a ++ b) ++ c
-      ends_so a b c = rw append-nil (sym (append_assoc a b c))
+      let one = one_operation p.version p.maximum_operations_per_instruction good.operations in
+      reach_byte refl refl (reach_byte refl
+      (rw (ne_eqb p.maximum_operations_per_instruction 0 (λ z. omega (arith, z, one))) refl)
+      (reach_byte refl refl (reach_byte refl refl
+      (reach_byte refl (rw (ne_eqb p.line_range 0 good.lines) refl)
+      (reach_byte refl (rw (ne_eqb p.opcode_base 0 (λ z. let sum = good.opcodes in omega arith)) refl)
+      (reach_from_lengths (record p { line_base = signed_byte (byte_of p.line_base); version = 5 }) refl refl good
+      sound.directories sound.files refl same))))))
 
 -- ---- the whole header
 

@@ -18,9 +18,9 @@ use Rattle.dl_table.specs.declared.form.Form.TheVariants as form
 use Rattle.dl_table.specs.declared.table.Pair.{Pair}
 use Rattle.dl_table.specs.TableData.{TableData}
 use Rattle.dl_table.specs.Value.{Value, text, line_str, str, str_sup, number, block, data16, form_code, offset_size}
-use Rattle.dl_field.specs.Layout.{Layout, number_then, form_then, Item, number_is, form_is, value_is, following}
-use Rattle.dl_field.specs.Layout.{following_all, content_code, entry_count, objection, pairs_layout, entry_layout}
-use Rattle.dl_field.specs.Layout.{entries_layout, table_layout}
+use Rattle.dl_field.specs.Layout.{Layout, number_then, Item, number_is, form_is, value_is, following, following_all}
+use Rattle.dl_field.specs.Layout.{content_code, entry_count, objection, pairs_layout, entry_layout, entries_layout}
+use Rattle.dl_field.specs.Layout.{table_layout}
 use Rattle.dl_head.specs.Header.{SpellsFields}
 use Rattle.dl_field.specs.Field.{IsFixed, HasNoZero, IsValue, IsField}
 use Rattle.dl_table.specs.Written.{value_bytes, pair_bytes, entry_bytes, table_bytes}
@@ -100,33 +100,28 @@ module _ (order : Order) (to : Layout) where
     in_order Little n = omega arith
     in_order Big n = omega arith
 
-  form_written : (f : Form) (next : Form → Layout)
-      → IsField order (form_then next) (form_is f) (shortest_uleb (form_code f))
-  form_written f next = (f, refl, (computed_is_shortest (form_code f)).spells)
+  -- one more of a list of pairs, values or entries
+  pub one_more : {A : Type 0} (next : List A → Layout) (before : List A) (x : A) (xs : List A) (v : List ℕ)
+      → Reaches order (next (before ++ x ∷ xs)) v to → Reaches order (next ((before ++ x ∷ []) ++ xs)) v to
+  one_more next before x xs v rest = rw (append_assoc before (x ∷ []) xs) rest
 
   uleb_fits : (n : ℕ) → n < 2 ^ 64 → objection content_code n ≡ None
   uleb_fits n lt = rw (lt-ltb n (2 ^ 64) lt) refl
 
-  four : (a b c d : List ℕ) → a ++ (b ++ (c ++ d)) ≡ ((a ++ b) ++ c) ++ d
-  four a b c d = simp append_assoc
-
   reach_pairs : (ps before : List Pair) (next : List Pair → Layout) (v : List ℕ)
       → AllByRecursion (λ (p : Pair). p.content < 2 ^ 64) ps → Reaches order (next (before ++ ps)) v to
       → Reaches order (pairs_layout (length ps) before next) (flat_map pair_bytes ps ++ v) to
-  reach_pairs [] before next v fits rest = subst (λ (l : List Pair). Reaches order (next l) v to) (append-nil before)
-      rest
+  reach_pairs [] before next v fits rest = rw (← append-nil before) rest
   reach_pairs (p ∷ ps) before next v fits rest =
-      let again = reach_pairs ps (before ++ p ∷ []) next v fits.1
-      (subst (λ (l : List Pair). Reaches order (next l) v to) (sym (append_assoc before (p ∷ []) ps)) rest) in
-      let of_form : Form → Layout = λ f. pairs_layout (length ps)
-      (before ++ record { content = p.content; form = f } ∷ []) next in
-      let form = reach_one (form_then of_form) (form_is p.form) (shortest_uleb (form_code p.form))
-      (flat_map pair_bytes ps ++ v) (form_written p.form of_form) again in
-      let all = reach_one (pairs_layout (length (p ∷ ps)) before next) (number_is p.content) (shortest_uleb p.content)
-      (shortest_uleb (form_code p.form) ++ (flat_map pair_bytes ps ++ v))
-      (p.content, refl, (computed_is_shortest p.content).spells, uleb_fits p.content fits.0) form in
+      let code = shortest_uleb p.content in
+      let form = shortest_uleb (form_code p.form) in
+      let bytes = flat_map pair_bytes ps ++ v in
       subst (λ (w : List ℕ). Reaches order (pairs_layout (length (p ∷ ps)) before next) w to)
-      (four (shortest_uleb p.content) (shortest_uleb (form_code p.form)) (flat_map pair_bytes ps) v) all
+      (simp append_assoc)
+      (reach_one (pairs_layout (length (p ∷ ps)) before next) (number_is p.content) code (form ++ bytes)
+      (p.content, refl, (computed_is_shortest p.content).spells, uleb_fits p.content fits.0)
+      (reach_one _ (form_is p.form) form bytes (p.form, refl, (computed_is_shortest (form_code p.form)).spells)
+      (reach_pairs ps (before ++ p ∷ []) next v fits.1 (one_more next before p ps v rest))))
 
   value_first : (b : Bool) (i : ℕ) (o : Option ℕ) → (if b then o else Some i) ≡ None → (b ≡ true) × (o ≡ None)
   value_first true i o e = (refl, e)
@@ -135,18 +130,15 @@ module _ (order : Order) (to : Layout) where
   reach_entry : (format : Format) (i : ℕ) (pairs : List Pair) (values before : List Value) (next : List Value → Layout)
       (v : List ℕ) → wrong_value format i pairs values ≡ None → Reaches order (next (before ++ values)) v to
       → Reaches order (entry_layout format pairs before next) (entry_bytes order format pairs values ++ v) to
-  reach_entry format i [] [] before next v none rest =
-      subst (λ (l : List Value). Reaches order (next l) v to) (append-nil before) rest
+  reach_entry format i [] [] before next v none rest = rw (← append-nil before) rest
   reach_entry format i [] (x ∷ values) before next v none rest = absurd cc
   reach_entry format i (p ∷ pairs) [] before next v none rest = absurd cc
   reach_entry format i (p ∷ pairs) (x ∷ values) before next v none rest =
       let t = value_first (fits_form format p.form x) i (wrong_value format (i + 1) pairs values) none in
-      let again = reach_entry format (i + 1) pairs values (before ++ x ∷ []) next v t.1
-      (subst (λ (l : List Value). Reaches order (next l) v to) (sym (append_assoc before (x ∷ []) values)) rest) in
-      let all = reach_one (entry_layout format (p ∷ pairs) before next) (value_is x) (value_bytes order format p.form x)
-      (entry_bytes order format pairs values ++ v) (x, refl, value_written order format p.form x t.0) again in
-      subst (λ (w : List ℕ). Reaches order (entry_layout format (p ∷ pairs) before next) w to)
-      (sym (append_assoc (value_bytes order format p.form x) (entry_bytes order format pairs values) v)) all
+      rw append_assoc (reach_one (entry_layout format (p ∷ pairs) before next) (value_is x)
+      (value_bytes order format p.form x) (entry_bytes order format pairs values ++ v)
+      (x, refl, value_written order format p.form x t.0)
+      (reach_entry format (i + 1) pairs values (before ++ x ∷ []) next v t.1 (one_more next before x values v rest)))
 
   entry_right : (pairs : List Pair) (o : Option ℕ) → entry_fault_of pairs o ≡ None → o ≡ None
   entry_right [] o e = absurd cc
@@ -158,17 +150,13 @@ module _ (order : Order) (to : Layout) where
       → AllByRecursion (λ (values : List Value). entry_fault_of pairs (wrong_value format 0 pairs values) ≡ None) es
       → Reaches order (next (before ++ es)) v to → Reaches order (entries_layout format pairs (length es) before next)
       (flat_map (λ values. entry_bytes order format pairs values) es ++ v) to
-  reach_entries format pairs [] before next v right rest =
-      subst (λ (l : List (List Value)). Reaches order (next l) v to) (append-nil before) rest
+  reach_entries format pairs [] before next v right rest = rw (← append-nil before) rest
   reach_entries format pairs (e ∷ es) before next v right rest =
       let bytes = flat_map (λ values. entry_bytes order format pairs values) es in
-      let again = reach_entries format pairs es (before ++ e ∷ []) next v right.1
-      (subst (λ (l : List (List Value)). Reaches order (next l) v to) (sym (append_assoc before (e ∷ []) es)) rest) in
-      let all = reach_entry format 0 pairs e []
+      rw append_assoc (reach_entry format 0 pairs e []
       (λ entry. entries_layout format pairs (length es) (before ++ entry ∷ []) next) (bytes ++ v)
-      (entry_right pairs (wrong_value format 0 pairs e) right.0) again in
-      subst (λ (w : List ℕ). Reaches order (entries_layout format pairs (length (e ∷ es)) before next) w to)
-      (sym (append_assoc (entry_bytes order format pairs e) bytes v)) all
+      (entry_right pairs (wrong_value format 0 pairs e) right.0)
+      (reach_entries format pairs es (before ++ e ∷ []) next v right.1 (one_more next before e es v rest)))
 
   -- an entry needs pairs
   count_right : (pairs : List Pair) (es : List (List Value)) (o : List Value → Option ℕ)
@@ -186,23 +174,20 @@ module _ (order : Order) (to : Layout) where
       → Reaches order (next t) v to → Reaches order (table_layout t.format next) (table_bytes order t ++ v) to
   reach_table t next v sound rest =
       let pairs = flat_map pair_bytes t.pairs in
+      let count = shortest_uleb (length t.entries) in
       let entries = flat_map (λ values. entry_bytes order t.format t.pairs values) t.entries in
       let counted : List Pair → Layout = λ ps. number_then (entry_count (not (length t.pairs == 0)))
       λ count. entries_layout t.format ps count [] λ es. next
       (record { format = t.format; pairs = ps; entries = es }) in
-      let values = reach_entries t.format t.pairs t.entries []
-      (λ es. next (record { format = t.format; pairs = t.pairs; entries = es })) v sound.entries rest in
-      let count = reach_one (counted t.pairs) (number_is (length t.entries)) (shortest_uleb (length t.entries))
-      (entries ++ v) (
+      subst (λ (w : List ℕ). Reaches order (table_layout t.format next) w to)
+      (five (length t.pairs) pairs count entries v)
+      (reach_one (table_layout t.format next) (number_is (length t.pairs)) (length t.pairs ∷ [])
+      (pairs ++ (count ++ (entries ++ v))) (length t.pairs, refl, (refl, fixed_byte (length t.pairs)), refl)
+      (reach_pairs t.pairs [] counted (count ++ (entries ++ v)) sound.contents
+      (reach_one (counted t.pairs) (number_is (length t.entries)) count (entries ++ v) (
         length t.entries,
         refl,
         (computed_is_shortest (length t.entries)).spells,
         count_right t.pairs t.entries (λ es. wrong_value t.format 0 t.pairs es) sound.entries sound.count,
-      ) values in
-      let kinds = reach_pairs t.pairs [] counted (shortest_uleb (length t.entries) ++ (entries ++ v)) sound.contents
-      count in
-      let all = reach_one (table_layout t.format next) (number_is (length t.pairs)) (length t.pairs ∷ [])
-      (pairs ++ (shortest_uleb (length t.entries) ++ (entries ++ v)))
-      (length t.pairs, refl, (refl, fixed_byte (length t.pairs)), refl) kinds in
-      subst (λ (w : List ℕ). Reaches order (table_layout t.format next) w to)
-      (five (length t.pairs) pairs (shortest_uleb (length t.entries)) entries v) all
+      ) (reach_entries t.format t.pairs t.entries []
+      (λ es. next (record { format = t.format; pairs = t.pairs; entries = es })) v sound.entries rest))))

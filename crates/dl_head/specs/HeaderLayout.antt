@@ -1,7 +1,7 @@
 -- The fields of a line number program header in their order. DWARF 5, sections 6.2.4 and 7.4; DWARF 2 to 4, section
 -- 6.2.4.
-use Rattle.std.specs.Prelude.{ℕ, zero, suc, ◌+◌, ◌-◌, List, [], ◌∷◌, ◌++◌, ℤ, pos, ◌-ℤ◌, nat_lt, ◌==◌}
-use Rattle.std.specs.Prelude.{Option, Some, None, if◌then◌else◌}
+use Rattle.std.specs.Prelude.{ℕ, zero, suc, ◌+◌, ◌-◌, List, [], ◌∷◌, ◌++◌, ℤ, pos, ◌-ℤ◌, nat_lt, ◌==◌, Option, Some}
+use Rattle.std.specs.Prelude.{None, if◌then◌else◌}
 use Rattle.dl_head.specs.declared.dialect.Dialect.{Dialect}
 use Rattle.dl_head.specs.Dialect.{older_size}
 use Rattle.dl_table.specs.declared.form.Format.{Format}

@@ -2,11 +2,10 @@
 use Rattle.std.specs.Prelude.{◌≡◌, ◌≤◌, ℕ, ◌↔◌, List, [], ◌++◌, length, Some, None}
 use Rattle.dl_head.specs.declared.dialect.Dialect.{Dialect}
 use Rattle.dl_table.specs.declared.fault.FaultKind.{FaultKind}
-use Rattle.dl_field.specs.HeaderData.{HeaderData}
+use Rattle.dl_field.specs.HeaderData.{HeaderData, header_cells}
 use Rattle.dl_field.specs.Layout.{Item}
 use Rattle.dl_head.specs.Header.{IsHeader, IsFieldCut, cut, foreign_in, unit_len, header_in}
 use Rattle.dl_head.specs.Refusal.{HeaderRefused, header_refusal_in}
-use Rattle.dl_field.specs.HeaderData.{header_cells}
 use Rattle.dl_head.specs.Cells.{cells}
 
 -- no header begins another, and bytes are the header of one thing alone

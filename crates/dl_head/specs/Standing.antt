@@ -5,6 +5,7 @@ use Rattle.dl_head.specs.declared.reader.Phase.TheVariants as phase
 use Rattle.dl_head.specs.declared.reader.HeadReader.{HeadReader}
 use Rattle.dl_head.specs.declared.reader.HeadStep.{HeadStep}
 use Rattle.dl_head.specs.declared.reader.HeadStep.TheVariants as answer
+use Rattle.dl_head.specs.declared.dialect.Dialect.{Dialect}
 use Rattle.dl_head.specs.declared.fault.Fault.{Fault}
 use Rattle.dl_table.specs.declared.fault.FaultKind.{FaultKind}
 use Rattle.dl_field.specs.HeaderData.{HeaderData}
@@ -20,17 +21,21 @@ abbrev pub Below : ℕ → Option ℕ → Type 0
 Below n None = Unit {0}
 Below n (Some end) = n < end
 
+-- b is fields of these values, and the bytes rest of the next one, and nothing shorter decides anything
+pub record IsRead (dialect : Dialect) (b : List ℕ) (items : List Item) (rest : List ℕ) : Type 0 where
+  pub cut_is : cut dialect b ≡ record { items = items; rest = rest }
+  pub unjudged : field_spelt dialect.order (following_all (header_layout dialect) items) rest ≡ None
+  pub nothing_before : NothingBefore (header_decided dialect) b
+  pub ends_within : (n e : ℕ) → unit_end items ≡ Some n → header_end items ≡ Some e → e ≤ n
+
 -- the header goes on after b
 pub record Live (r : HeadReader) (b : List ℕ) : Type 0 where
   pub items : List Item
   pub rest : List ℕ
-  pub cut_is : cut r.dialect b ≡ record { items = items; rest = rest }
+  pub read : IsRead r.dialect b items rest
   pub at : At r items rest
-  pub unjudged : field_spelt r.dialect.order (following_all (header_layout r.dialect) items) rest ≡ None
   pub start_is : r.start + length rest ≡ length b
   pub below : Below (length b) r.end
-  pub nothing_before : NothingBefore (header_decided r.dialect) b
-  pub ends_within : (n e : ℕ) → unit_end items ≡ Some n → header_end items ≡ Some e → e ≤ n
 
 -- there is no header yet, and the cells of b are held
 pub record Unmade (r : HeadReader) (b : List ℕ) : Type 0 where

@@ -1,34 +1,34 @@
 -- What the reader of a table has taken: good fields, and bytes of the next one. No promise rests on this file.
-use Rattle.std.specs.Prelude.{◌≡◌, ℕ, List, ◌++◌}
+use Rattle.std.specs.Prelude.{ℕ, List, ◌++◌}
 use Rattle.dl_num.specs.declared.fixed.Order.{Order}
 use Rattle.dl_num.specs.Laws.{AllBytes}
 use Rattle.dl_table.specs.declared.form.Format.{Format}
 use Rattle.dl_head.specs.declared.reader.Phase.{Phase}
 use Rattle.dl_head.specs.declared.reader.Phase.TheVariants as phase
 use Rattle.dl_field.specs.declared.table_reader.TableReader.{TableReader}
-use Rattle.dl_field.specs.declared.table_reader.TablePhase.TheVariants as table
 use Rattle.dl_table.specs.TableData.{TableData}
 use Rattle.dl_field.specs.Layout.{Layout, last_entry, Item, following_all, table_layout}
 use Rattle.dl_head.specs.HeaderLayout.{format_alone}
 use Rattle.dl_head.specs.Header.{SpellsFields}
-use Rattle.dl_field.specs.TablePlace.{IsFresh, TableAt}
+use Rattle.dl_field.specs.TableMoves.{AmongTable}
+use Rattle.dl_field.specs.TablePlace.{IsFresh}
 
 -- a table after which no field follows
 abbrev pub alone : Format → TableData → Layout
 alone format t = last_entry (record { params = format_alone format; directories = t; files = t })
 
--- the reader has taken these fields, and the bytes rest of the next one
-pub record TableSpelt (order : Order) (format : Format) (t : TableReader) : Type 0 where
+-- good fields were taken from the layout on, and of the next one bytes, in which is_at says where the reader is
+pub record Spelt (order : Order) (first : Layout) (is_at : Layout → List ℕ → Type 0) : Type 0 where
   pub items : List Item
   pub fields : List ℕ
   pub rest : List ℕ
   pub bytes : AllBytes (fields ++ rest)
-  pub spelt : SpellsFields order (table_layout format (alone format)) items fields
-  pub at : TableAt order t t.phase format (alone format) (following_all (table_layout format (alone format)) items) rest
+  pub spelt : SpellsFields order first items fields
+  pub at : is_at (following_all first items) rest
 
--- the reader of the current table isn't at the table's end
+-- by the reader of the current table, which isn't at the table's end
 abbrev pub TableReads : Order → Format → TableReader → Type 0
-TableReads order format t = TableSpelt order format t × (t.phase ≡ table.Whole → ⊥)
+TableReads order format t = Spelt order (table_layout format (alone format)) (AmongTable order format t (alone format))
 
 -- what is known of it: nothing is taken while the format isn't known
 abbrev pub TableStands : Phase → Order → Format → TableReader → Type 0

@@ -53,10 +53,15 @@ pub record Advances (dialect : Dialect) (b piece : List ℕ) (used : ℕ) (last 
   pub took : Took dialect b piece used last
   pub stands : StandsFor new (b ++ take used piece)
 
--- the bytes after b are taken, and the header goes on after each front of them
+-- no shorter front of the bytes after b comes to anything
+abbrev pub Before : Dialect → (b bytes : List ℕ) → Type 0
+Before dialect b bytes = (j : ℕ) → j < length bytes → Answers dialect (b ++ take j bytes) answer.More
+
+-- the bytes after b are taken, and the header goes on after them, as after each front
 pub record TakesAll (dialect : Dialect) (b bytes : List ℕ) (new : HeadReader) : Type 0 where
   pub stands : StandsFor new (b ++ bytes)
-  pub more : (i : ℕ) → i ≤ length bytes → Answers dialect (b ++ take i bytes) answer.More
+  pub goes : Answers dialect (b ++ bytes) answer.More
+  pub before : Before dialect b bytes
 
 -- the bytes are values, of the field that the reader is in and of later ones; after them it is after these fields too
 pub record TakesFieldsOf (old : HeadReader) (items : List Item) (rest : List ℕ) (values : List (List ℕ))

@@ -6,7 +6,6 @@ ghost use Rattle.dl_head.specs.Laws.{OneHeaderRefusal, RefusalIsComputed, Header
 ghost use Rattle.dl_head.specs.Laws.{FewCells, HeaderHoldsItsCells};
 ghost use Rattle.dl_head.specs.Reading.{OneAnswer};
 ghost use Rattle.dl_head.specs.WrittenLaws.{WrittenIsHeader, WrittenHasItsLength, ReadIsSound};
-ghost use Rattle.dl_head.specs.Runs.{TraceRuns, HeaderIsRead};
 
 /// The judgement of bytes as a field finds the good fields of sections 6.2.4, 7.4 and 7.5.6.
 pub fn good_fields()
@@ -66,11 +65,4 @@ pub fn header_is_written()
 /// A header that bytes spell is one that can be written.
 pub fn header_is_sound()
     ensures { ReadIsSound }
-{}
-
-/// What turns over bytes took is what the last answer says, however long the turns are and wherever
-/// memory is refused; with enough of them a header that the bytes complete is read whole.
-pub fn turns()
-    ensures trace { TraceRuns }
-    ensures header { HeaderIsRead }
 {}

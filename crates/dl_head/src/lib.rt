@@ -17,5 +17,5 @@ pub use dl_table::{
 };
 pub use fault::{Fault, ParamFault};
 pub use header::{Header, Refused};
-pub use reader::{HeadReader, HeadRun, HeadStep};
+pub use reader::{HeadReader, HeadStep};
 pub use write::{TooLong, header_len, write_header};

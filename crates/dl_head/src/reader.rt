@@ -15,7 +15,7 @@ ghost use Rattle.std.proofs.Props.{props};
 mod byte_field;
 mod fields;
 mod lengths;
-mod run;
+mod offer;
 mod tables;
 
 use crate::dialect::Dialect;
@@ -26,7 +26,6 @@ use byte_field::ByteField;
 use dl_field::{FieldStep, ListKind, ListReader, Params, TableReader};
 use dl_num::PartialNumber;
 use dl_table::{FaultKind, Format, Table};
-pub use run::HeadRun;
 use std::alloc::Global;
 use std::mem;
 

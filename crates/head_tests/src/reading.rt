@@ -1,7 +1,7 @@
 //! Headers that are read in turns.
 
 use crate::vectors::{EACH_FORM, EMPTY_PROGRAM};
-use dl_head::{AddressSize, Dialect, Fault, FaultKind, HeadReader, HeadRun, HeadStep, Older};
+use dl_head::{AddressSize, Dialect, Fault, FaultKind, HeadReader, HeadStep, Older};
 use dl_num::Order;
 use std::alloc::Global;
 use std::process::Abort;
@@ -46,20 +46,27 @@ const OLDER_RUNS: &[Run<'static>] = &[
     (VERSION_2, &[57, 1], 58, HeadStep::Done),
 ];
 
-/// A run that takes `taken` bytes, of which none is refused, and ends with this answer.
-fn took(taken: usize, last: HeadStep) -> HeadRun {
-    HeadRun {
-        taken,
-        refused: 0,
-        last,
+/// How many bytes are taken in these turns, up to an end or a fault, and the last answer. A turn offers at most its
+/// number of the bytes that aren't taken.
+fn run(reader: &mut HeadReader, bytes: &[u8], turns: &[usize]) -> (usize, HeadStep) {
+    let mut rest = bytes;
+    let mut last = HeadStep::More;
+    for turn in turns {
+        let (used, answer) = reader.offer(rest.get(..*turn).unwrap_or(rest));
+        rest = rest.get(used..).unwrap_or(rest);
+        last = answer;
+        if last != HeadStep::More {
+            break;
+        }
     }
+    (bytes.len().saturating_sub(rest.len()), last)
 }
 
 /// Asserts what the bytes in these turns come to.
-fn assert_run(rt: &impl Abort, reader: &mut HeadReader, run: &Run<'_>) {
-    let (bytes, turns, taken, last) = *run;
-    let answer = reader.run(bytes, turns);
-    assert!(rt; answer == took(taken, last), "{answer:?}");
+fn assert_run(rt: &impl Abort, reader: &mut HeadReader, vector: &Run<'_>) {
+    let (bytes, turns, taken, last) = *vector;
+    let answer = run(reader, bytes, turns);
+    assert!(rt; answer == (taken, last), "{answer:?}");
 }
 
 /// Asserts the same of each of these, which has a reader of its own.

@@ -7,7 +7,7 @@ pub returns-in-Some-clause-follows : goal.returns-in-Some-clause-follows
 returns-in-Some-clause-follows c = record {
   made = λ items rest at.
       byte_spelt c.args.self.now c.args.field items rest c.args.byte
-      (at_phase _ _ items rest c.requires at)
+      (at_phase c.args.self.now _ items rest c.requires at)
       ∙ ap (λ o. judged o c.args.byte) (sym c.in-Some.ensures);
   counts = record { dialect = refl; start = refl; taken = refl; header = refl };
 }
@@ -17,7 +17,7 @@ returns-clause-follows c = record {
   made = λ items rest at. (
     number_is c.args.byte,
     byte_spelt c.args.self.now c.args.field items rest c.args.byte
-        (at_phase _ _ items rest c.requires at)
+        (at_phase c.args.self.now _ items rest c.requires at)
         ∙ ap (λ o. judged o c.args.byte) (sym c.in_default.ensures),
     c.store.ensures.at items rest at,
   );

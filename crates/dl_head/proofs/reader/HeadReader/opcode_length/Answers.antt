@@ -2,7 +2,7 @@ use Rattle.std.proofs.Common.{nat_lt, subst, None, ◌≡◌, List, ℕ, Option,
 use Rattle.std.proofs.Common.{length, length-append}
 use Rattle.dl_table.specs.declared.fault.FaultKind.{FaultKind}
 use Rattle.dl_field.specs.Layout.{number_is, judged, objection, opcode_length}
-use Rattle.dl_head.proofs.OneFieldMore.{at_phase, late_on, length_judged, next_length, at_lengths, some_left, next_at}
+use Rattle.dl_head.proofs.OneFieldMore.{at_phase, late_more, length_judged, next_length, at_lengths, some_left, next_at}
 use Rattle.dl_head.specs.declared.reader.Phase.TheVariants as phase
 use Rattle.dl_head.specs.Built.{wrong_length}
 use Rattle.dl_head.proofs.HeaderSound.{lengths_push}
@@ -33,10 +33,8 @@ returns-clause-follows c = record {
             ∙ ap (λ (n : ℕ). judged (objection (opcode_length (n + 1)) c.args.byte) c.args.byte)
             (sym c.len-opcode.ensures.value)
             ∙ ap (λ (o : Option FaultKind). judged o c.args.byte) c.if-is_wrong_length.ensures.value,
-        at_lengths _ _ _ (late_on c.args.self.now _ items _ _ _ a.0
-            (next_length p c.args.byte _ (some_left c.args.self.now c.requires) c.push.ensures.items) refl refl refl
-            refl
-            a.0.fresh a.0.unlisted)
+        at_lengths _ _ _ (late_more _ a.0
+            (next_length p c.args.byte _ (some_left c.args.self.now c.requires) c.push.ensures.items))
             (c.length_or_table-self.ensures.next ∙ next_at (c.len-opcode.result + 1) (length c.push.new.self.items)
             p.opcode_base p.version (omega (
               arith,

@@ -6,9 +6,8 @@ pub returns-clause-follows : goal.returns-clause-follows
 returns-clause-follows c = (
   omega (arith, c.saturating_sub.ensures, c.fixed_part-fixed.ensures, c.if-length-saturating_sub.false),
   λ items early of. (
-    header_length_late c.args.self.now _ items c.args.length early of refl refl refl
-        (ap (λ (n : ℕ). Some n) (omega (arith, c.initial_size.ensures, c.fixed_part-fixed.ensures))) refl
-        early.before.fresh early.before.unlisted,
+    header_length_late c.args.self.now _ items c.args.length early of
+        (ap (λ (n : ℕ). Some n) (omega (arith, c.initial_size.ensures, c.fixed_part-fixed.ensures))),
     refl,
     early.before.no_lengths,
   ),

@@ -16,11 +16,7 @@ returns-then-version-eq5-clause-follows c = record {
             items_are = items_on items _ _ (number_is 5) a.0.items_are (ap number_is c.if-version-eq5.true);
             end = a.0.end;
             overrun = a.0.overrun;
-            before = record {
-              no_lengths = a.0.before.no_lengths;
-              fresh = a.0.before.fresh;
-              unlisted = a.0.before.unlisted;
-            };
+            before = a.0.before;
           },
           refl,
           a.2.version,
@@ -37,13 +33,8 @@ returns-in-Some-clause-follows c = record {
         version_spelt c.args.self.now items rest c.args.first c.args.byte _ a.0.items_are a.1
             c.version_of-version.ensures,
         (
-          older_early _ _ c.if-version-eq5.false (items_on items _ _ _ a.0.items_are
-              refl) a.0.end a.0.overrun
-              (record {
-                no_lengths = a.0.before.no_lengths;
-                fresh = a.0.before.fresh;
-                unlisted = a.0.before.unlisted;
-              }),
+          older_early _ _ c.if-version-eq5.false (items_on items _ _ _ a.0.items_are refl) a.0.end a.0.overrun
+              a.0.before,
           inr (record {
             other = c.if-version-eq5.false;
             size = sym c.older_size.ensures.value ∙ c.in-Some.is;
@@ -69,11 +60,7 @@ returns-in_default-clause-follows c = record {
             items_are = items_on items _ _ _ a.0.items_are refl;
             end = a.0.end;
             overrun = a.0.overrun;
-            before = record {
-              no_lengths = a.0.before.no_lengths;
-              fresh = a.0.before.fresh;
-              unlisted = a.0.before.unlisted;
-            };
+            before = a.0.before;
           },
           c.if-version-eq5.false,
           sym c.older_size.ensures.value ∙ c.in_default.is,

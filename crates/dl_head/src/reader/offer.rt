@@ -1,75 +1,16 @@
-//! A header in pieces, where memory may be refused and asked for again.
+//! The bytes of a header at once, where memory may be refused and asked for again.
 
-ghost use Rattle.std.specs.Prelude.{◌≡◌, ◌≢◌, ◌+◌, ◌^◌, ◌<◌, ◌≤◌, ℕ, List, length, take, drop};
+ghost use Rattle.std.specs.Prelude.{◌≡◌, ◌≢◌, ◌+◌, ◌^◌, ◌<◌, ◌≤◌, ℕ, List, length, take};
 
 use crate::reader::{HeadReader, HeadStep};
-
-/// What a run of turns came to.
-#[derive(Clone, Copy, Debug, PartialEq, Eq)]
-pub struct HeadRun {
-    /// How many bytes were taken.
-    pub taken: usize,
-    /// How many turns ended where memory was refused.
-    pub refused: usize,
-    /// The last answer; where there was none, what the bytes taken before came to.
-    pub last: HeadStep,
-}
 
 impl HeadReader {
     ghost use Rattle.dl_head.specs.Reading.{Answers};
     ghost use Rattle.dl_head.specs.declared.reader.HeadStep.{HeadStep};
     ghost use Rattle.dl_head.specs.declared.reader.HeadStep.TheVariants as answer;
     ghost use Rattle.dl_head.specs.Standing.{StandsFor};
-    ghost use Rattle.dl_head.specs.Runs.{Traced, Runs, Offered};
+    ghost use Rattle.dl_head.specs.Runs.{Offered};
     ghost use Rattle.dl_head.specs.Whole.{IsInside, TakesAll};
-
-    /// Takes the bytes in turns, up to an end or a fault. A turn offers at most its number of the
-    /// bytes that aren't taken, and ends early where memory is refused; the next turn offers the same byte
-    /// again. Where the bytes taken before came to something, nothing is offered, and that is the last answer.
-    pub fn run(&mut self, bytes: &[u8], turns: &[usize]) -> HeadRun
-        ensures traced { (b : List ℕ) → StandsFor self.old b → Answers self.old.dialect b answer.More
-            → Traced self.old.dialect b bytes.now turns.now result self.new }
-        ensures runs { (b : List ℕ) → StandsFor self.old b → Answers self.old.dialect b answer.More
-            → Runs self.old.dialect b bytes.now turns.now result }
-        ensures ended { (b : List ℕ) (r : HeadStep) → StandsFor self.old b → Answers self.old.dialect b r
-            → r ≢ answer.More → (result ≡ record { taken = 0; refused = 0; last = r }) × (self.new ≡ self.old) }
-        ensures dialect { self.new.dialect ≡ self.old.dialect }
-    {
-        match self.ended() {
-            Some(last) => HeadRun {
-                taken: 0,
-                refused: 0,
-                last,
-            },
-            None => self.take_turns(bytes, turns),
-        }
-    }
-
-    /// Takes the bytes in turns, of a header that goes on.
-    fn take_turns(&mut self, bytes: &[u8], turns: &[usize]) -> HeadRun
-        ensures traced { (b : List ℕ) → StandsFor self.old b → Answers self.old.dialect b answer.More
-            → Traced self.old.dialect b bytes.now turns.now result self.new }
-        ensures runs { (b : List ℕ) → StandsFor self.old b → Answers self.old.dialect b answer.More
-            → Runs self.old.dialect b bytes.now turns.now result }
-        ensures dialect { self.new.dialect ≡ self.old.dialect }
-    {
-        let mut run = HeadRun {
-            taken: 0,
-            refused: 0,
-            last: HeadStep::More,
-        };
-        for turn in turns {
-            let (used, last) = self.take(piece(bytes, run.taken, *turn));
-            run.taken += used;
-            run.last = last;
-            match last {
-                HeadStep::More => {}
-                HeadStep::NoMemory => run.refused += 1,
-                _ => return run,
-            }
-        }
-        run
-    }
 
     /// Takes bytes up to an answer that isn't More; how many were taken, and that answer. Once they have come to
     /// something, nothing is taken, and it is answered again.
@@ -150,13 +91,4 @@ impl HeadReader {
             piece
         }
     }
-}
-
-/// So many of the bytes from a place on, or all of these.
-fn piece(bytes: &[u8], start: usize, len: usize) -> &[u8]
-    requires { start ≤ length bytes.now }
-    ensures { result.now ≡ take len (drop start bytes.now) }
-{
-    let rest = &bytes[start..];
-    rest.get(..len).unwrap_or(rest)
 }
