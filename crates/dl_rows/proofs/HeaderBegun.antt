@@ -1,17 +1,14 @@
 -- What a reader of a header has taken, where it is known that it has taken something.
-use Rattle.std.proofs.Common.{◌≡◌, ◌≢◌, ◌++◌, ◌≤◌, ℕ, List, length, take, Option, None, sym, subst, ◌∙◌}
+use Rattle.std.proofs.Common.{◌≡◌, ◌≢◌, ◌++◌, ◌≤◌, ℕ, List, length, take, Option, None, sym, ◌∙◌}
 use Rattle.std.proofs.Props.{props}
 use Rattle.std.proofs.Math.Logic.{∥∥₁_elim, ∥∥₁_prop}
-use Rattle.dl_head.specs.declared.dialect.Dialect.{Dialect}
 use Rattle.dl_head.specs.declared.reader.HeadReader.{HeadReader}
 use Rattle.dl_head.specs.declared.reader.HeadStep.{HeadStep}
 use Rattle.dl_head.specs.declared.reader.HeadStep.TheVariants as answer
 use Rattle.dl_field.specs.HeaderData.{HeaderData}
-use Rattle.dl_head.specs.Header.{unit_len}
 use Rattle.dl_head.specs.Reading.{Answers, Gives}
 use Rattle.dl_head.specs.Runs.{so_far, Offered}
 use Rattle.dl_head.specs.Standing.{StandsFor as HeadStands}
-use Rattle.dl_field.proofs.FieldLemmas.{none_some}
 use Rattle.dl_rows.specs.declared.reader.State.{State}
 use Rattle.dl_rows.specs.declared.reader.State.TheVariants as state
 use Rattle.dl_rows.specs.ReaderStates.{GoesOn, IsBegun, KnowsLength, HasHeader}
@@ -33,11 +30,6 @@ pub begun_takes : {head : HeadReader} {used : ℕ} {step : HeadStep} → ∥ Goe
 begun_takes begun takes ends fed =
     ∥∥₁_elim begun (hlevel props) (λ g. takes g.0 g.1 g.2 ends fed)
 
--- a reader that knows how long the unit is answers that
-pub length_known : (head : HeadReader) (o : Option ℕ) → ∥ KnowsLength head ∥₁
-    → ((b : List ℕ) → HeadStands head b → o ≡ unit_len head.dialect b) → o ≡ None → ⊥
-length_known head o known tells none = ∥∥₁_elim known (hlevel props) (λ k. none_some none (tells k.0 k.1 ∙ k.2.1))
-
 -- a reader that has taken a header does so
 pub header_knows : (head : HeadReader) → ∥ HasHeader head ∥₁ → ∥ KnowsLength head ∥₁
 header_knows head has = ∥∥₁_elim has ∥∥₁_prop (λ k. ∣ (k.0, k.1, header_known head.dialect k.2.0 k.0 k.2.1) ∣₁)
@@ -47,43 +39,22 @@ pub header_given : (head : HeadReader) (o : Option HeaderData) → ∥ HasHeader
     → o ≡ None → ⊥
 header_given head o has gives none =
     ∥∥₁_elim has (hlevel props)
-    (λ k. (let n : Gives head.dialect head None = subst (λ (p : Option HeaderData). Gives head.dialect head
-    p) none gives in n k.0 k.1 k.2.0 k.2.1))
+    (λ k. (let n : Gives head.dialect head None = rw none at gives in n k.0 k.1 k.2.0 k.2.1))
 
 -- a piece was offered to the reader of a header
 module _ {old new : HeadReader} {piece : List ℕ} {used : ℕ} {step : HeadStep} (begun : ∥ GoesOn old ∥₁)
     (offered : (b : List ℕ) → HeadStands old b → Answers old.dialect b answer.More
     → Offered old.dialect b piece used step new)
     (same : new.dialect ≡ old.dialect) where
-  answers : (s : HeadStep) → step ≡ s → (b : List ℕ) → Offered old.dialect b piece used step new
-      → Answers new.dialect (b ++ take used piece) (so_far s)
-  answers s is b o =
-      subst (λ (d : Dialect). Answers d (b ++ take used piece) (so_far s)) (sym same)
-      (subst (λ (t : HeadStep). Answers old.dialect (b ++ take used piece) (so_far t)) is o.answered.took.answers)
-
-  -- the header still goes on
-  pub goes_more : step ≡ answer.More → ∥ GoesOn new ∥₁
-  goes_more is =
-      ∥∥₁_elim begun ∥∥₁_prop (λ g. (let o = offered g.0 g.1 g.2 in
-      ∣ (g.0 ++ take used piece, o.stands, answers answer.More is g.0 o) ∣₁))
-
-  pub goes_refused : step ≡ answer.NoMemory → ∥ GoesOn new ∥₁
-  goes_refused is =
-      ∥∥₁_elim begun ∥∥₁_prop (λ g. (let o = offered g.0 g.1 g.2 in
-      ∣ (g.0 ++ take used piece, o.stands, answers answer.NoMemory is g.0 o) ∣₁))
+  -- what the bytes that it has taken come to
+  pub comes_to : (s : HeadStep) → step ≡ s
+      → ∥ ((b : List ℕ) × HeadStands new b × Answers new.dialect b (so_far s)) ∥₁
+  comes_to s is = ∥∥₁_elim begun ∥∥₁_prop (λ g.
+      (let o = offered g.0 g.1 g.2 in
+      ∣ (g.0 ++ take used piece, o.stands, rw same (rw is at o.answered.took.answers)) ∣₁))
 
   -- a foreign version is complete
   pub knows_foreign : (version : ℕ) → step ≡ answer.Foreign version → ∥ KnowsLength new ∥₁
-  knows_foreign version is = ∥∥₁_elim begun ∥∥₁_prop (λ g.
-      (let o = offered g.0 g.1 g.2 in
-      ∣ (
-        g.0 ++ take used piece,
-        o.stands,
-        foreign_known new.dialect (g.0 ++ take used piece) version (answers (answer.Foreign version) is g.0 o),
-      ) ∣₁))
-
-  -- the header is complete
-  pub has_header : step ≡ answer.Done → ∥ HasHeader new ∥₁
-  has_header is =
-      ∥∥₁_elim begun ∥∥₁_prop (λ g. (let o = offered g.0 g.1 g.2 in
-      ∣ (g.0 ++ take used piece, o.stands, answers answer.Done is g.0 o) ∣₁))
+  knows_foreign version is =
+      ∥∥₁_elim (comes_to (answer.Foreign version) is) ∥∥₁_prop (λ g.
+      ∣ (g.0, g.1, foreign_known new.dialect g.0 version g.2) ∣₁)

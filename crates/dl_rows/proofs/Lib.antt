@@ -32,13 +32,11 @@ pub mod RegisterLemmas
 pub mod RowBytes
 pub mod RunLemmas
 pub mod RunTurns
-pub mod RunUnits
 pub mod ShortExtended
 pub mod SkipLemmas
 pub mod SpeltFirst
 pub mod UnitBodyFeeds
 pub mod UnitBodyLemmas
-pub mod UnitBodyPauses
 pub mod UnitFaults
 pub mod UnitKnown
 pub mod UnitLaws
