@@ -19,12 +19,9 @@ pub mod OperationLaws
 pub mod OwnVersions
 pub mod PhaseLemmas
 pub mod PlaceLemmas
-pub mod ProgramEnds
 pub mod ProgramLaws
 pub mod ProgramLemmas
 pub mod ProgramSteps
-pub mod ProgramTold
-pub mod ProgramTurns
 pub mod ProgramWalks
 pub mod ReaderFeeds
 pub mod ReaderLemmas

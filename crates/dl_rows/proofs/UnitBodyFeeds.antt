@@ -1,11 +1,10 @@
 -- What a reader answers after the header of a unit, or after a foreign version.
 use Rattle.dl_head.specs.declared.dialect.Dialect.{Dialect}
-use Rattle.std.proofs.Common.{◌≡◌, ◌≢◌, ◌⊎◌, inl, inr, ℕ, suc, get_or, ◌+◌, ◌-◌, ◌^◌, ◌<◌, ◌≤◌, List, [], ◌∷◌, ◌++◌}
-use Rattle.std.proofs.Common.{Bor, length, map, take, drop, min, Some, Err, refl, sym, ap, ◌∙◌, arith, length-append}
+use Rattle.std.proofs.Common.{◌≡◌, ◌≢◌, ◌⊎◌, inl, inr, ℕ, suc, get_or, ◌+◌, ◌-◌, ◌<◌, ◌≤◌, List, [], ◌∷◌, ◌++◌}
+use Rattle.std.proofs.Common.{length, map, take, drop, Some, refl, sym, ap, ◌∙◌, arith, length-append}
 use Rattle.std.proofs.Common.{append_assoc, append-nil, length-take}
 use Rattle.std.proofs.lemmas.Bool.{cases_eq, cases_lt, eq-eqb, ne_eqb, lt-ltb, le-ltb}
 use Rattle.std.proofs.lemmas.List.{take-append-drop, map-append}
-use Rattle.dl_num.specs.declared.fixed.Order.{Order}
 use Rattle.dl_num.specs.Laws.{AllBytes}
 use Rattle.dl_num.proofs.FrontLemmas.{front_before}
 use Rattle.dl_head.specs.declared.fault.Fault.{Fault}
@@ -17,24 +16,21 @@ use Rattle.dl_head.specs.Header.{unit_len}
 use Rattle.dl_field.proofs.FieldLemmas.{none_some}
 use Rattle.dl_rows.specs.declared.program.Program.{Program}
 use Rattle.dl_rows.specs.declared.program.ProgramStep.{ProgramStep}
-use Rattle.dl_rows.specs.declared.program.ProgramStep.TheVariants as given
 use Rattle.dl_rows.specs.declared.reader.Event.{Event}
 use Rattle.dl_rows.specs.declared.reader.Event.TheVariants as event
 use Rattle.dl_rows.specs.declared.reader.Fed.{Fed}
 use Rattle.dl_rows.specs.declared.row.Row.{Row}
 use Rattle.dl_rows.specs.declared.unit_body.UnitBody.{UnitBody}
 use Rattle.dl_rows.specs.declared.unit_body.UnitBytes.{UnitBytes}
-use Rattle.dl_rows.specs.OperationSpelt.{operation_spelt, operations_in}
 use Rattle.dl_rows.specs.LineUnit.{IsUnit, rows_in, ends_open, events}
-use Rattle.dl_rows.specs.Programs.{GivenIs, ProgramStands, Unrefused, Told, Tells}
+use Rattle.dl_rows.specs.Programs.{ProgramStands, NothingGiven, RowGiven, BadGiven, Tells}
 use Rattle.dl_rows.specs.Reading.{WithinUnit, told, EventHoldsAfter, FeedsAfter, FailsAfter, IsPause, SinkAt}
 use Rattle.dl_rows.specs.Refusal.{Refused}
 use Rattle.dl_rows.specs.Sinks.{Story}
 use Rattle.dl_rows.specs.Sums.{FitsProgram}
 use Rattle.dl_rows.specs.UnitBodies.{Counts, AfterHeader, InProgram, Stops, paused}
 use Rattle.dl_rows.proofs.OperandRanges.{bytes_front}
-use Rattle.dl_rows.proofs.ProgramTurns.{rest-found, unrefused_join}
-use Rattle.dl_rows.proofs.ProgramWalks.{in_sequence_is}
+use Rattle.dl_rows.proofs.ProgramSteps.{rest_here, in_sequence_is}
 use Rattle.dl_rows.proofs.RowBytes.{row_ends, front_is}
 use Rattle.dl_rows.proofs.UnitBodyLemmas.{begun_in, header_at, rows_at, bad_at, overrun_at, later, events_more}
 use Rattle.dl_rows.proofs.UnitBodyLemmas.{counts_within, Counted, counts_on, program_on, refused_on}
@@ -163,91 +159,6 @@ tells_in {t = t} is piece params front all gives =
     bytes_front (take t.bytes.left piece) (drop t.bytes.left piece) (rw take-append-drop (all_bytes piece all)) in
     rw (params, ← front) (gives is.at.program (rw params at is.fits) (rw front some) (rw params at is.stands))
 
--- bytes that give rows, with the last of them one more row
-pub record RowGiven (order : Order) (p : Params) (program bytes : List ℕ) (rows : List Row) (row : Row) (tail : List ℕ)
-    (new : Program) : Type 0 where
-  pub front : List ℕ
-  pub last : ℕ
-  pub split : bytes ≡ (front ++ last ∷ []) ++ tail
-  pub stands : ProgramStands order p new (program ++ (front ++ last ∷ []))
-  pub before : rows_in order p (program ++ front) ≡ rows_in order p program ++ rows
-  pub grown : rows_in order p (program ++ (front ++ last ∷ [])) ≡ (rows_in order p program ++ rows) ++ row ∷ []
-  pub unrefused : Unrefused order p program (front ++ last ∷ [])
-
--- bytes that give rows, and nothing more
-pub record NothingGiven (order : Order) (p : Params) (program bytes : List ℕ) (rows : List Row) (new : Program)
-    : Type 0 where
-  pub stands : ProgramStands order p new (program ++ bytes)
-  pub grown : rows_in order p (program ++ bytes) ≡ rows_in order p program ++ rows
-  pub unrefused : Unrefused order p program bytes
-
--- bytes that give rows, and then end in a bad operation
-pub record BadGiven (order : Order) (p : Params) (program bytes : List ℕ) (rows : List Row) (kind : FaultKind)
-    (tail : List ℕ) (new : Program) : Type 0 where
-  pub front : List ℕ
-  pub last : ℕ
-  pub split : bytes ≡ (front ++ last ∷ []) ++ tail
-  pub grown : rows_in order p (program ++ (front ++ last ∷ [])) ≡ rows_in order p program ++ rows
-  pub unrefused : Unrefused order p program front
-  pub spelt : operation_spelt order p (operations_in order p (program ++ (front ++ last ∷ []))).rest ≡ Some (Err kind)
-  pub count : new.begun ≡ min (length (operations_in order p (program ++ (front ++ last ∷ []))).rest) (2 ^ 64 - 1)
-  pub is_open : new.in_sequence ≡ ends_open (rows_in order p (program ++ (front ++ last ∷ [])))
-
--- where rows were told up to a place, what is given after it is given by all bytes
-module _ {order : Order} {p : Params} {program bytes : List ℕ} {rows : List Row} {since : List ℕ}
-    (t : Told order p program bytes rows since) where
-  -- a front of the bytes after that place
-  joined : (u tail : List ℕ) → since ≡ u ++ tail → bytes ≡ (t.done ++ u) ++ tail
-  joined u tail e = t.split ∙ rw e (sym (append_assoc t.done u tail))
-
-  -- the same with its last byte set apart
-  parted : (front : List ℕ) (last : ℕ) → t.done ++ (front ++ last ∷ []) ≡ (t.done ++ front) ++ last ∷ []
-  parted front last = sym (append_assoc t.done front (last ∷ []))
-
-  after : (front : List ℕ) (last : ℕ)
-      → (program ++ t.done) ++ (front ++ last ∷ []) ≡ program ++ ((t.done ++ front) ++ last ∷ [])
-  after front last =
-      append_assoc program t.done (front ++ last ∷ []) ∙ ap (λ (w : List ℕ). program ++ w) (parted front last)
-
-  pub flat_row : {row : Row} (tail : Bor (List ℕ)) {new : Program}
-      → GivenIs order p (program ++ t.done) since (given.Row row tail) new
-      → RowGiven order p program bytes rows row tail.now new
-  flat_row {row} tail (front, last, e, stands, quiet, grown, unrefused) = record {
-    front = t.done ++ front;
-    last = last;
-    split = joined (front ++ last ∷ []) tail.now e ∙ ap (λ (w : List ℕ). w ++ tail.now) (parted front last);
-    stands = rw (after front last) at stands;
-    before = ap (rows_in order p) (sym (append_assoc program t.done front)) ∙ quiet ∙ t.told;
-    grown = ap (rows_in order p) (sym (after front last)) ∙ grown ∙ ap (λ (z : List Row). z ++ row ∷ []) t.told;
-    unrefused = rw (parted front last) at (unrefused_join order p program t.done (front ++ last ∷ []) t.unrefused
-        unrefused);
-  }
-
-  pub flat_nothing : {new : Program} → GivenIs order p (program ++ t.done) since given.Nothing new
-      → NothingGiven order p program bytes rows new
-  flat_nothing (stands, quiet, unrefused) =
-      let here : (program ++ t.done) ++ since ≡ program ++ bytes =
-      append_assoc program t.done since ∙ ap (λ (w : List ℕ). program ++ w) (sym t.split) in
-      record {
-        stands = rw here at stands;
-        grown = ap (rows_in order p) (sym here) ∙ quiet ∙ t.told;
-        unrefused = rw (← t.split) at (unrefused_join order p program t.done since t.unrefused unrefused);
-      }
-
-  pub flat_bad : {kind : FaultKind} (tail : Bor (List ℕ)) {new : Program}
-      → GivenIs order p (program ++ t.done) since (given.Refuses kind tail) new
-      → BadGiven order p program bytes rows kind tail.now new
-  flat_bad {kind} tail (front, last, e, quiet, unrefused, spelt, count, is_open) = record {
-    front = t.done ++ front;
-    last = last;
-    split = joined (front ++ last ∷ []) tail.now e ∙ ap (λ (w : List ℕ). w ++ tail.now) (parted front last);
-    grown = ap (rows_in order p) (sym (after front last)) ∙ quiet ∙ t.told;
-    unrefused = unrefused_join order p program t.done front t.unrefused unrefused;
-    spelt = rw (after front last) at spelt;
-    count = rw (after front last) at count;
-    is_open = rw (after front last) at is_open;
-  }
-
 pub feeds_row : {dialect : Dialect} {h : HeaderData} {t new : UnitBody} {b piece tail : List ℕ} {rows : List Row}
     {row : Row} {used : ℕ} (is : InProgram dialect h t b)
     → RowGiven dialect.order h.params is.at.program (take t.bytes.left piece) rows row tail new.program
@@ -338,12 +249,11 @@ fails_overrun {dialect} {h} {t} {new} {b} {piece} {rows = rows} is g front count
     unit_len_on dialect b u (t.bytes.taken + t.bytes.left) is.counts.left
     ∙ ap (λ (n : ℕ). Some n) (omega (arith, counted.left, none, taken.few, is.counts.taken, length-append b u)) in
     fails_with is rows taken counted g.grown
-    (in_sequence_is dialect.order h.params new.program (is.at.program ++ u) g.stands) answer_is
+    (in_sequence_is g.stands) answer_is
     (refused_on is u taken.few new fault.OpcodeOverrun
     (overrun_at (later is.at u) len begun (g.unrefused u [] (sym (append-nil u))))
     (λ front x back e. g.unrefused front (x ∷ back) e) counted
-    (rw (rest-found dialect.order h.params (is.at.program ++ u) g.stands.operations g.stands.begun g.stands.found)
-    g.stands.count))
+    (rw (rest_here g.stands) g.stands.count))
 
 pub fails_bad : {dialect : Dialect} {h : HeaderData} {t new : UnitBody} {b piece tail : List ℕ} {rows : List Row}
     {kind : FaultKind} {answer : Fault} {used : ℕ} (is : InProgram dialect h t b)
