@@ -1,7 +1,7 @@
 -- The bytes of a header that are taken at once: what the reader of the unit answers.
 use Rattle.std.proofs.Common.{◌≡◌, ◌<◌, ◌≤◌, ◌-◌, ◌^◌, min, ◌⊎◌, inl, inr, ℕ, zero, suc, List, [], ◌∷◌, ◌++◌, length}
 use Rattle.std.proofs.Common.{take, drop, get_or, slice_get, Option, Some, None, refl, sym, ap, subst, ◌∙◌, arith}
-use Rattle.std.proofs.Common.{append-nil, append_assoc, length-append, length-take}
+use Rattle.std.proofs.Common.{append-nil, length-append, length-take}
 use Rattle.std.proofs.lemmas.List.{take-append-drop}
 use Rattle.dl_head.specs.declared.dialect.Dialect.{Dialect}
 use Rattle.dl_num.specs.Laws.{AllBytes}
@@ -31,7 +31,7 @@ use Rattle.dl_rows.specs.LineUnit.{IsUnit, events}
 use Rattle.dl_rows.specs.Reading.{WithinUnit, told, EventHolds, Feeds, Fails}
 use Rattle.dl_rows.specs.ReaderStands.{StandsFor}
 use Rattle.dl_rows.specs.ReaderStates.{InHeader, StandsAt, StoppedInHeader}
-use Rattle.dl_head.proofs.FrontLemmas.{fronts, after_front}
+use Rattle.dl_rows.proofs.FirstLemmas.{split_front}
 use Rattle.dl_rows.proofs.JoinLemmas.{no_events, header_sound, header_event}
 use Rattle.dl_rows.proofs.OperandRanges.{bytes_front, bytes_joined}
 use Rattle.dl_rows.proofs.ReaderLemmas.{foreign_no_header}
@@ -46,17 +46,13 @@ use Rattle.dl_rows.proofs.UnitWhole.{NoneRefused}
 -- a front of b and bytes of the piece goes on in b, or is b and some of them
 in_piece : (b piece front back : List ℕ) (n : ℕ) → b ++ take n piece ≡ front ++ back
     → ((x : ℕ) × (rest : List ℕ) × (b ≡ front ++ x ∷ rest)) ⊎ ((i : ℕ) × (i ≤ n) × (front ≡ b ++ take i piece))
-in_piece b piece front back n e = elim (fronts b front (take n piece) back e) [
-  | inl same ↦ inr (0, omega arith, rw append-nil (sym same))
-  | inr (inl goes) ↦
-      let v = goes.0 ∷ goes.1 in
-      let parts = after_front b (take n piece) (v ++ back) (e ∙ rw goes.2 (append_assoc b v back)) in
-      inr (
-        length v,
-        omega (arith, ap length parts, length-append v back, length-take n piece),
-        rw (front_is piece v back n parts) goes.2,
-      )
-  | inr (inr goes) ↦ inl goes
+in_piece b piece front back n e = elim (split_front b (take n piece) front back e) [
+  | inl goes ↦ inl goes
+  | inr (v, is, parts) ↦ inr (
+    length v,
+    omega (arith, ap length parts, length-append v back, length-take n piece),
+    rw (front_is piece v back n parts) is,
+  )
 ]
 
 -- no front is a header

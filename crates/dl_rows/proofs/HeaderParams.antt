@@ -41,6 +41,7 @@ use Rattle.dl_head.proofs.Openings.{after_length}
 use Rattle.dl_head.proofs.ReadSound.{older_fits}
 use Rattle.dl_rows.specs.UnitLaws.{HeaderFits}
 use Rattle.dl_rows.proofs.OperandRanges.{bytes_front, bytes_back}
+use Rattle.dl_rows.proofs.UnitLengths.{number_same}
 
 -- a number of one byte is below 256
 abbrev pub IsSmall : NumberField → ℕ → Type 0
@@ -56,9 +57,6 @@ LeadsTo Bytes P (value_then format f next) = (v : Value) → LeadsTo Bytes P (ne
 LeadsTo Bytes P (path_or_end format pairs entries next) = (t : TableData) → LeadsTo Bytes P (next t)
 LeadsTo Bytes P (foreign_version v) = Unit {0}
 LeadsTo Bytes P (last_entry h) = P h
-
-number_same : (m n : ℕ) → number_is m ≡ number_is n → m ≡ n
-number_same m n e = cc
 
 -- a byte as a number
 small : (order : Order) (field : NumberField) (next : ℕ → Layout) (n : ℕ) (w : List ℕ) → AllBytes w
@@ -82,10 +80,6 @@ leads_on : (Bytes : Type 0) (P : HeaderData → Type 0) (order : Order) (layout 
     (w : List ℕ) → (Bytes → AllBytes w) → SpellsFields order layout (i ∷ items) w → LeadsTo Bytes P layout
     → LeadsTo Bytes P (following layout i)
 leads_on Bytes P order (initial_length_then next) (length_is f n) items w all s leads = leads f n
-leads_on Bytes P order (initial_length_then next) (number_is n) items w all s leads = leads
-leads_on Bytes P order (initial_length_then next) (form_is f) items w all s leads = leads
-leads_on Bytes P order (initial_length_then next) (value_is v) items w all s leads = leads
-leads_on Bytes P order (initial_length_then next) (end_is n) items w all s leads = leads
 leads_on Bytes P order (number_then field next) i items w all s leads =
     let n = is_number order field next s.0 i s.3 in
     let front = λ (h : Bytes). bytes_front s.0 s.1 (subst (λ (z : List ℕ). AllBytes z) s.2 (all h)) in
@@ -93,25 +87,15 @@ leads_on Bytes P order (number_then field next) i items w all s leads =
     (leads n.number n.fits (λ h. small order field next n.number s.0 (front h) (s.3
     ∙ ap (λ (j : Item). good j) n.item)))
 leads_on Bytes P order (form_then next) (form_is f) items w all s leads = leads f
-leads_on Bytes P order (form_then next) (length_is f n) items w all s leads = leads
-leads_on Bytes P order (form_then next) (number_is n) items w all s leads = leads
-leads_on Bytes P order (form_then next) (value_is v) items w all s leads = leads
-leads_on Bytes P order (form_then next) (end_is n) items w all s leads = leads
 leads_on Bytes P order (value_then format f next) (value_is v) items w all s leads = leads v
-leads_on Bytes P order (value_then format f next) (length_is g n) items w all s leads = leads
-leads_on Bytes P order (value_then format f next) (number_is n) items w all s leads = leads
-leads_on Bytes P order (value_then format f next) (form_is g) items w all s leads = leads
-leads_on Bytes P order (value_then format f next) (end_is n) items w all s leads = leads
 leads_on Bytes P order (path_or_end format pairs entries next) (value_is v) items w all s leads =
     leads_entry Bytes P format (drop 1 pairs) (v ∷ [])
     (λ entry. path_or_end format pairs (entries ++ entry ∷ []) next) (λ entry. leads)
 leads_on Bytes P order (path_or_end format pairs entries next) (end_is n) items w all s leads =
     leads (record { format = format; pairs = pairs; entries = entries })
-leads_on Bytes P order (path_or_end format pairs entries next) (length_is g n) items w all s leads = leads
-leads_on Bytes P order (path_or_end format pairs entries next) (number_is n) items w all s leads = leads
-leads_on Bytes P order (path_or_end format pairs entries next) (form_is g) items w all s leads = leads
 leads_on Bytes P order (foreign_version v) i items w all s leads = absurd (none_some refl s.3)
 leads_on Bytes P order (last_entry h) i items w all s leads = absurd (none_some refl s.3)
+leads_on Bytes P order layout i items w all s leads = leads
 
 pub leads_all : (Bytes : Type 0) (P : HeaderData → Type 0) (order : Order) (layout : Layout) (items : List Item)
     (w : List ℕ) → (Bytes → AllBytes w) → SpellsFields order layout items w → LeadsTo Bytes P layout

@@ -26,40 +26,14 @@ settled-plain : (h : Params) (o : Operation) (r : Registers) → appends_row o �
 settled-plain h (op.Special b) r e = absurd cc
 settled-plain h op.Copy r e = absurd cc
 settled-plain h op.EndSequence r e = absurd cc
-settled-plain h (op.AdvancePc n) r e = refl
-settled-plain h (op.AdvanceLine i) r e = refl
-settled-plain h (op.SetFile n) r e = refl
-settled-plain h (op.SetColumn n) r e = refl
-settled-plain h op.NegateStatement r e = refl
-settled-plain h op.SetBasicBlock r e = refl
-settled-plain h op.ConstAddPc r e = refl
-settled-plain h (op.FixedAdvancePc n) r e = refl
-settled-plain h op.SetPrologueEnd r e = refl
-settled-plain h op.SetEpilogueBegin r e = refl
-settled-plain h (op.SetIsa n) r e = refl
-settled-plain h (op.SetAddress n) r e = refl
-settled-plain h (op.SetDiscriminator n) r e = refl
-settled-plain h op.Skipped r e = refl
+settled-plain h other r e = refl
 
 pub appends_none : (o : Operation) → ((b : ℕ) → o ≡ op.Special b → ⊥) → (o ≡ op.Copy → ⊥) → (o ≡ op.EndSequence → ⊥)
     → appends_row o ≡ false
 appends_none (op.Special b) s c e = absurd (s b refl)
 appends_none op.Copy s c e = absurd (c refl)
 appends_none op.EndSequence s c e = absurd (e refl)
-appends_none (op.AdvancePc n) s c e = refl
-appends_none (op.AdvanceLine i) s c e = refl
-appends_none (op.SetFile n) s c e = refl
-appends_none (op.SetColumn n) s c e = refl
-appends_none op.NegateStatement s c e = refl
-appends_none op.SetBasicBlock s c e = refl
-appends_none op.ConstAddPc s c e = refl
-appends_none (op.FixedAdvancePc n) s c e = refl
-appends_none op.SetPrologueEnd s c e = refl
-appends_none op.SetEpilogueBegin s c e = refl
-appends_none (op.SetIsa n) s c e = refl
-appends_none (op.SetAddress n) s c e = refl
-appends_none (op.SetDiscriminator n) s c e = refl
-appends_none op.Skipped s c e = refl
+appends_none other s c e = refl
 
 pub finishes_with_row : (h : Params) (before : List Operation) (o : Operation) (r : Row) (new : Program) (end : Bool)
     → FitsProgram h → HasRange o

@@ -127,41 +127,22 @@ pub registers_of-push : (h : Params) (s f : List Operation) (o : Operation) → 
 registers_of-push h s f (op.Special b) good r =
     pushed h s f (op.Special b) _ _ _ (place h s (op.Special b) good.usable.operations refl refl refl refl)
     (op_index-plain h s (op.Special b) refl refl) (line_moves h s (op.Special b) (step_lt h b good.line_base r))
-registers_of-push h s f op.Copy good r = quiet h s f op.Copy good.usable.operations refl refl refl refl refl refl
 registers_of-push h s f (op.AdvancePc n) good r =
     pushed h s f (op.AdvancePc n) _ _ _ (place h s (op.AdvancePc n) good.usable.operations refl refl refl refl)
     (op_index-plain h s (op.AdvancePc n) refl refl) (line_stays h s (op.AdvancePc n) refl)
 registers_of-push h s f (op.AdvanceLine i) good r =
     let p = stays h s (op.AdvanceLine i) good.usable.operations refl refl refl refl refl in
     pushed h s f (op.AdvanceLine i) _ _ _ (ap (λ (y : ℕ). y % 2 ^ 64) p.0) p.1 (line_moves h s (op.AdvanceLine i) r)
-registers_of-push h s f (op.SetFile n) good r =
-    quiet h s f (op.SetFile n) good.usable.operations refl refl refl refl refl refl
-registers_of-push h s f (op.SetColumn n) good r =
-    quiet h s f (op.SetColumn n) good.usable.operations refl refl refl refl refl refl
-registers_of-push h s f op.NegateStatement good r =
-    quiet h s f op.NegateStatement good.usable.operations refl refl refl refl refl refl
-registers_of-push h s f op.SetBasicBlock good r =
-    quiet h s f op.SetBasicBlock good.usable.operations refl refl refl refl refl refl
 registers_of-push h s f op.ConstAddPc good r =
     pushed h s f op.ConstAddPc _ _ _ (place h s op.ConstAddPc good.usable.operations refl refl refl refl)
     (op_index-plain h s op.ConstAddPc refl refl) (line_stays h s op.ConstAddPc refl)
 registers_of-push h s f (op.FixedAdvancePc n) good r =
     pushed h s f (op.FixedAdvancePc n) _ _ _ (rw (address-fixed h s n) (sym (wrapped (address h s) n)))
     (op_index-fixed h s n) (line_stays h s (op.FixedAdvancePc n) refl)
-registers_of-push h s f op.SetPrologueEnd good r =
-    quiet h s f op.SetPrologueEnd good.usable.operations refl refl refl refl refl refl
-registers_of-push h s f op.SetEpilogueBegin good r =
-    quiet h s f op.SetEpilogueBegin good.usable.operations refl refl refl refl refl refl
-registers_of-push h s f (op.SetIsa n) good r =
-    quiet h s f (op.SetIsa n) good.usable.operations refl refl refl refl refl refl
-registers_of-push h s f op.EndSequence good r =
-    quiet h s f op.EndSequence good.usable.operations refl refl refl refl refl refl
 registers_of-push h s f (op.SetAddress n) good r =
     pushed h s f (op.SetAddress n) _ _ _ (rw (address-set h s n) (mod-eq_of_lt r)) (op_index-set h s n)
     (line_stays h s (op.SetAddress n) refl)
-registers_of-push h s f (op.SetDiscriminator n) good r =
-    quiet h s f (op.SetDiscriminator n) good.usable.operations refl refl refl refl refl refl
-registers_of-push h s f op.Skipped good r = quiet h s f op.Skipped good.usable.operations refl refl refl refl refl refl
+registers_of-push h s f other good r = quiet h s f other good.usable.operations refl refl refl refl refl refl
 
 pub starts : (h : Params) → initial (not (h.default_is_stmt == 0)) ≡ registers_of h [] []
 starts h =
@@ -172,23 +153,8 @@ starts h =
 pub settles : (h : Params) (s f : List Operation) (o : Operation)
     → settled h o (registers_of h (s ++ o ∷ []) (f ++ o ∷ []))
     ≡ registers_of h (cond (is_end o) [] (s ++ o ∷ [])) (cond (appends_row o) [] (f ++ o ∷ []))
-settles h s f (op.Special b) = refl
-settles h s f op.Copy = refl
-settles h s f (op.AdvancePc n) = refl
-settles h s f (op.AdvanceLine i) = refl
-settles h s f (op.SetFile n) = refl
-settles h s f (op.SetColumn n) = refl
-settles h s f op.NegateStatement = refl
-settles h s f op.SetBasicBlock = refl
-settles h s f op.ConstAddPc = refl
-settles h s f (op.FixedAdvancePc n) = refl
-settles h s f op.SetPrologueEnd = refl
-settles h s f op.SetEpilogueBegin = refl
-settles h s f (op.SetIsa n) = refl
 settles h s f op.EndSequence = starts h
-settles h s f (op.SetAddress n) = refl
-settles h s f (op.SetDiscriminator n) = refl
-settles h s f op.Skipped = refl
+settles h s f other = refl
 
 -- ---- rows
 

@@ -8,7 +8,6 @@ use Rattle.std.proofs.lemmas.List.Sums.{sum_by-cons}
 use Rattle.dl_head.specs.declared.dialect.Dialect.{Dialect}
 use Rattle.dl_head.specs.declared.fault.Fault.{Fault}
 use Rattle.dl_head.specs.Turns.{Answer, used_in, last_given, IsTrace, some_turns}
-use Rattle.dl_head.proofs.FrontLemmas.{fronts}
 use Rattle.dl_head.proofs.TurnLemmas.{joined, used_cons, goes_first, trace_rest, true_false, true_or_false}
 use Rattle.dl_rows.specs.declared.reader.Event.{Event}
 use Rattle.dl_rows.specs.declared.reader.Event.TheVariants as event
@@ -18,6 +17,7 @@ use Rattle.dl_rows.specs.Reading.{WithinUnit}
 use Rattle.dl_rows.specs.Refusal.{Refused}
 use Rattle.dl_rows.specs.Runs.{MayGive, May, is_end, goes_on, is_refusal, refusals, told_by, heard_in, outcome, Took}
 use Rattle.dl_rows.specs.Runs.{Sound, Runs, RunIs, TraceRuns, TookUnit, UnitRuns, UnitRunIs, TraceOfUnit}
+use Rattle.dl_rows.proofs.FirstLemmas.{split_front}
 use Rattle.dl_rows.proofs.UnitLemmas.{unit_len_on}
 use Rattle.dl_rows.proofs.UnitLengths.{length_of_unit, nothing_left, no_unit_begins_another}
 use Rattle.dl_rows.proofs.UnitQuiet.{unit_is_not_refused}
@@ -213,13 +213,12 @@ module _ (dialect : Dialect) (b bytes u rest : List ℕ) (e : b ++ bytes ≡ u +
   front_of {used} t =
       let c = b ++ take used bytes in
       let whole : c ++ drop used bytes ≡ u ++ rest = rw (append_assoc, take-append-drop) e in
-      elim (fronts c u (drop used bytes) rest whole) [
-        | inl same ↦ ([], rw append-nil (sym same))
-        | inr (inl goes) ↦ (goes.0 ∷ goes.1, goes.2)
-        | inr (inr goes) ↦
-            let len = unit_len_on dialect u (goes.0 ∷ goes.1) (length u) (length_of_unit dialect u unit) in
-            let le = t.in_unit (length u) (rw goes.2 len) in
-            absurd (omega (arith, le, ap length goes.2, length-append u (goes.0 ∷ goes.1)))
+      elim (split_front c (drop used bytes) u rest whole) [
+        | inl (x, v, goes) ↦
+            let len = unit_len_on dialect u (x ∷ v) (length u) (length_of_unit dialect u unit) in
+            let le = t.in_unit (length u) (rw goes len) in
+            absurd (omega (arith, le, ap length goes, length-append u (x ∷ v)))
+        | inr (v, is, left) ↦ (v, is)
       ]
 
   unit_runs : {turns : List ℕ} {heard : List Event} {run : Run} → Runs dialect b bytes turns heard run

@@ -1,7 +1,7 @@
 -- Where a header isn't complete at its end or at that of its unit, something is decided there.
 use Rattle.dl_head.specs.declared.dialect.Dialect.{Dialect}
 use Rattle.std.proofs.Common.{◌≡◌, ◌≢◌, ℕ, ◌+◌, ◌-◌, ◌≤◌, Bool, true, nat_le, ◌&&◌, if◌then◌else◌, List, [], ◌∷◌, ◌++◌}
-use Rattle.std.proofs.Common.{length, take, drop, Option, Some, None, refl, sym, ap, subst, ◌∙◌, arith, inl, inr}
+use Rattle.std.proofs.Common.{length, take, drop, Option, Some, None, refl, sym, ap, subst, ◌∙◌, arith, inl, inr, ◌⊎◌}
 use Rattle.std.proofs.Common.{length-append, append_assoc}
 use Rattle.std.proofs.lemmas.Bool.{cases_eq, eq-eqb, ne_eqb, le-leb}
 use Rattle.std.proofs.lemmas.List.{take-append-drop, length-take-le}
@@ -9,10 +9,10 @@ use Rattle.dl_num.specs.declared.fixed.Order.{Order}
 use Rattle.dl_table.specs.declared.fault.FaultKind.{FaultKind}
 use Rattle.dl_table.specs.declared.fault.FaultKind.TheVariants as fault
 use Rattle.dl_table.specs.declared.form.Format.{Format}
-use Rattle.dl_field.specs.Layout.{any_byte, address_size, header_length, version, Layout, initial_length_then}
+use Rattle.dl_field.specs.HeaderData.{HeaderData}
+use Rattle.dl_field.specs.Layout.{any_byte, address_size, header_length, version, Layout}
 use Rattle.dl_field.specs.Layout.{number_then}
-use Rattle.dl_field.specs.Layout.{form_then, path_or_end}
-use Rattle.dl_field.specs.Layout.{value_then, foreign_version, last_entry, Item, length_is, number_is, following}
+use Rattle.dl_field.specs.Layout.{foreign_version, last_entry, Item, length_is, number_is, following}
 use Rattle.dl_field.specs.Layout.{following_all, field_spelt}
 use Rattle.dl_head.specs.HeaderLayout.{header_layout, initial_size, fixed_part, from_minimum_length}
 use Rattle.dl_head.specs.HeaderLayout.{from_address_size, format_alone, from_older_version, older_params}
@@ -26,6 +26,7 @@ use Rattle.dl_head.proofs.FirstFields.{is_length, is_number, late_not_foreign}
 use Rattle.dl_head.proofs.Openings.{Opening, opening_of, after_length, after_address, after_segment, after_header}
 use Rattle.dl_head.proofs.EarlyEnds.{header_end-append}
 use Rattle.dl_head.proofs.RefusalLaws.{decided_on}
+use Rattle.dl_rows.proofs.UnitLengths.{some_same, number_same}
 
 -- ---- where a header ends without being complete
 
@@ -34,43 +35,49 @@ decides (Some k) kind n e = none_some e refl
 decides None kind n e =
     none_some {a = kind} (sym (ap (λ (b : Bool). if b then Some kind else None) (eq-eqb n n refl)) ∙ e) refl
 
--- all fields that header_length and what follows it leave decide something at the header's last byte
-pub end_decides : (dialect : Dialect) (b : List ℕ) → header_end (cut dialect b).items ≡ Some (length b)
-    → header_in dialect b ≡ None → header_decided dialect b ≡ None → ⊥
-end_decides dialect b end none quiet = on (following_all (header_layout dialect) (cut dialect b).items) refl where
-  s : Sound dialect.order (header_layout dialect) b (cut dialect b)
-  s = cut_sound dialect.order (header_layout dialect) [] b
-
-  -- a field is incomplete
-  incomplete : (l : Layout) → following_all (header_layout dialect) (cut dialect b).items ≡ l
+-- where bytes end in an incomplete field, and decide nothing, the fields are complete, or those of a foreign unit
+quiet_ends : (dialect : Dialect) (b : List ℕ) (kind : FaultKind)
+    → field_overrun (length b) (cut dialect b).items (header_end (cut dialect b).items)
+    ≡ at_end kind (length b) (Some (length b)) → header_decided dialect b ≡ None
+    → ((h : HeaderData) × (following_all (header_layout dialect) (cut dialect b).items ≡ last_entry h))
+    ⊎ ((v : ℕ) × (following_all (header_layout dialect) (cut dialect b).items ≡ foreign_version v))
+quiet_ends dialect b kind over quiet = on (following_all (header_layout dialect) (cut dialect b).items) refl where
+  incomplete : (l : Layout) → decided_on dialect.order (length b) (cut dialect b).items (cut dialect b).rest l ≡ None
       → decided_on dialect.order (length b) (cut dialect b).items (cut dialect b).rest l
       ≡ or_else (bad_kind (field_spelt dialect.order l (cut dialect b).rest))
       (field_overrun (length b) (cut dialect b).items (header_end (cut dialect b).items))
       → ⊥
-  incomplete l e same =
-      let bad = bad_kind (field_spelt dialect.order l (cut dialect b).rest) in
-      decides bad fault.HeaderOverrun (length b)
-      (sym (ap (λ (o : Option ℕ). or_else bad (field_overrun (length b) (cut dialect b).items o)) end) ∙ sym same
-      ∙ sym (ap (decided_on dialect.order (length b) (cut dialect b).items (cut dialect b).rest) e) ∙ quiet)
+  incomplete l none same =
+      decides (bad_kind (field_spelt dialect.order l (cut dialect b).rest)) kind (length b)
+      (ap (or_else (bad_kind (field_spelt dialect.order l (cut dialect b).rest))) (sym over) ∙ sym same ∙ none)
 
-  on : (l : Layout) → following_all (header_layout dialect) (cut dialect b).items ≡ l → ⊥
-  on (last_entry h) e =
-      let fields = length b - length (cut dialect b).rest in
-      let within : (nat_le fields (length b) && nat_le (length b) (length b)) ≡ true =
-      rw (le-leb fields (length b) (omega arith)) (le-leb (length b) (length b) (omega arith)) in
-      let found : header_in dialect b ≡ Some (h, drop (length b) b) =
-      ap (λ (l : Layout). header_up_to b fields (header_made l) (header_end (cut dialect b).items)) e
-      ∙ ap (λ (o : Option ℕ). header_up_to b fields (Some h) o) end
-      ∙ ap (λ (t : Bool). if t then Some (h, drop (length b) b) else None) within in
-      none_some none found
-  on (foreign_version v) e =
-      let o = opening_of dialect (cut dialect b).items s.front (length b) s.spelt end in
-      late_not_foreign o.p o.more v (sym o.after ∙ e)
-  on (initial_length_then next) e = incomplete (initial_length_then next) e refl
-  on (number_then field next) e = incomplete (number_then field next) e refl
-  on (form_then next) e = incomplete (form_then next) e refl
-  on (value_then format f next) e = incomplete (value_then format f next) e refl
-  on (path_or_end format pairs entries next) e = incomplete (path_or_end format pairs entries next) e refl
+  on : (l : Layout) → following_all (header_layout dialect) (cut dialect b).items ≡ l
+      → ((h : HeaderData) × (l ≡ last_entry h)) ⊎ ((v : ℕ) × (l ≡ foreign_version v))
+  on (last_entry h) e = inl (h, refl)
+  on (foreign_version v) e = inr (v, refl)
+  on other e = absurd (incomplete other
+      (ap (decided_on dialect.order (length b) (cut dialect b).items (cut dialect b).rest) (sym e) ∙ quiet) refl)
+
+-- all fields that header_length and what follows it leave decide something at the header's last byte
+pub end_decides : (dialect : Dialect) (b : List ℕ) → header_end (cut dialect b).items ≡ Some (length b)
+    → header_in dialect b ≡ None → header_decided dialect b ≡ None → ⊥
+end_decides dialect b end none quiet =
+    elim (quiet_ends dialect b fault.HeaderOverrun (ap (field_overrun (length b) (cut dialect b).items) end) quiet) [
+      | inl (h, e) ↦
+          let fields = length b - length (cut dialect b).rest in
+          let within : (nat_le fields (length b) && nat_le (length b) (length b)) ≡ true =
+          rw (le-leb fields (length b) (omega arith)) (le-leb (length b) (length b) (omega arith)) in
+          let found : header_in dialect b ≡ Some (h, drop (length b) b) =
+          ap (λ (l : Layout). header_up_to b fields (header_made l) (header_end (cut dialect b).items)) e
+          ∙ ap (λ (o : Option ℕ). header_up_to b fields (Some h) o) end
+          ∙ ap (λ (t : Bool). if t then Some (h, drop (length b) b) else None) within in
+          none_some none found
+      | inr (v, e) ↦
+          let s : Sound dialect.order (header_layout dialect) b (cut dialect b) =
+          cut_sound dialect.order (header_layout dialect) [] b in
+          let o = opening_of dialect (cut dialect b).items s.front (length b) s.spelt end in
+          late_not_foreign o.p o.more v (sym o.after ∙ e)
+    ]
 
 spells_split : (order : Order) (layout : Layout) (items more : List Item) (w : List ℕ)
     → SpellsFields order layout (items ++ more) w
@@ -86,9 +93,6 @@ spells_split order layout (i ∷ items) more w s =
 
 format_same : (f g : Format) (m n : ℕ) → length_is f m ≡ length_is g n → f ≡ g
 format_same f g m n e = cc
-
-some_same : (m n : ℕ) → ◌≡◌ {A = Option ℕ} (Some m) (Some n) → m ≡ n
-some_same m n e = cc
 
 -- the bytes of a unit up to the end of its header
 pub record UpToHeader (dialect : Dialect) (b : List ℕ) : Type 0 where
@@ -113,9 +117,6 @@ nothing_more dialect items u o none =
     let zero : length o.rest ≡ 0 =
     ap length (subst (λ (l : List Item). SpellsFields dialect.order (from_minimum_length o.p) l o.rest) none o.spelt) in
     omega (arith, o.size, zero)
-
-number_same : (m n : ℕ) → number_is m ≡ number_is n → m ≡ n
-number_same m n e = cc
 
 abbrev sizes : Format → ℕ → ℕ
 sizes f v = initial_size f + fixed_part f v
@@ -299,27 +300,11 @@ made_ends dialect (i ∷ j ∷ items) w s e =
 pub unit_decides : (dialect : Dialect) (b : List ℕ) → unit_len dialect b ≡ Some (length b)
     → header_end (cut dialect b).items ≡ None → foreign_in dialect b ≡ None → header_decided dialect b ≡ None → ⊥
 unit_decides dialect b len end foreign quiet =
-    on (following_all (header_layout dialect) (cut dialect b).items) refl where
-      incomplete : (l : Layout) → following_all (header_layout dialect) (cut dialect b).items ≡ l
-          → decided_on dialect.order (length b) (cut dialect b).items (cut dialect b).rest l
-          ≡ or_else (bad_kind (field_spelt dialect.order l (cut dialect b).rest))
-          (field_overrun (length b) (cut dialect b).items (header_end (cut dialect b).items))
-          → ⊥
-      incomplete l e same =
-          let bad = bad_kind (field_spelt dialect.order l (cut dialect b).rest) in
-          decides bad fault.UnitOverrun (length b)
-          (sym (ap (λ (o : Option ℕ). or_else bad (field_overrun (length b) (cut dialect b).items o)) end
-          ∙ ap (λ (o : Option ℕ). or_else bad (at_end fault.UnitOverrun (length b) o)) len) ∙ sym same
-          ∙ sym (ap (decided_on dialect.order (length b) (cut dialect b).items (cut dialect b).rest) e) ∙ quiet)
-
-      on : (l : Layout) → following_all (header_layout dialect) (cut dialect b).items ≡ l → ⊥
-      on (last_entry h) e =
+    elim (quiet_ends dialect b fault.UnitOverrun
+    (ap (field_overrun (length b) (cut dialect b).items) end ∙ ap (at_end fault.UnitOverrun (length b)) len) quiet) [
+      | inl (h, e) ↦
           let s : Sound dialect.order (header_layout dialect) b (cut dialect b) =
           cut_sound dialect.order (header_layout dialect) [] b in
           none_some {a = h} (made_ends dialect (cut dialect b).items s.front s.spelt end) (ap header_made e)
-      on (foreign_version v) e = none_some {a = v} foreign (ap foreign_made e)
-      on (initial_length_then next) e = incomplete (initial_length_then next) e refl
-      on (number_then field next) e = incomplete (number_then field next) e refl
-      on (form_then next) e = incomplete (form_then next) e refl
-      on (value_then format f next) e = incomplete (value_then format f next) e refl
-      on (path_or_end format pairs entries next) e = incomplete (path_or_end format pairs entries next) e refl
+      | inr (v, e) ↦ none_some {a = v} foreign (ap foreign_made e)
+    ]

@@ -9,8 +9,8 @@ use Rattle.dl_table.specs.declared.form.Format.{Format}
 use Rattle.dl_table.specs.declared.form.Format.TheVariants.{Dwarf32, Dwarf64}
 use Rattle.dl_table.specs.Value.{good}
 use Rattle.dl_field.specs.Field.{IsFixed, IsInitialLength}
-use Rattle.dl_field.specs.Layout.{version, Layout, number_then, foreign_version, Item, length_is, number_is, form_is}
-use Rattle.dl_field.specs.Layout.{value_is, end_is, following, following_all, field_spelt}
+use Rattle.dl_field.specs.Layout.{version, Layout, number_then, foreign_version, Item, length_is, number_is}
+use Rattle.dl_field.specs.Layout.{following, following_all, field_spelt}
 use Rattle.dl_head.specs.Dialect.{older_size}
 use Rattle.dl_head.specs.HeaderLayout.{header_layout, initial_size, from_address_size, format_alone, older_params}
 use Rattle.dl_head.specs.HeaderLayout.{from_older_version}
@@ -25,6 +25,9 @@ use Rattle.dl_head.proofs.Openings.{after_length}
 use Rattle.dl_rows.specs.LineUnit.{HasItsLength, IsForeignUnit, IsUnit}
 use Rattle.dl_rows.specs.UnitLaws.{LengthIsComputed, NoUnitBeginsAnother}
 use Rattle.dl_rows.proofs.UnitLemmas.{unit_len_on}
+
+length_same : (f g : Format) (m n : ℕ) → length_is f m ≡ length_is g n → initial_size f + m ≡ initial_size g + n
+length_same f g m n e = cc
 
 pub some_same : (m n : ℕ) → ◌≡◌ {A = Option ℕ} (Some m) (Some n) → m ≡ n
 some_same m n e = cc
@@ -63,15 +66,7 @@ length_first : (dialect : Dialect) (u : List ℕ) (format : Format) (n : ℕ) (f
     → initial_size format + n ≡ length u → HasItsLength dialect.order u
 length_first dialect u format n front rest whole e size =
     let is = (field_is_judged dialect.order (header_layout dialect) (length_is format n) front).1 e in
-    let sizes : initial_size is.0 + is.1 ≡ initial_size format + n =
-    ap (λ (i : Item). elim i [
-      | length_is g m ↦ initial_size g
-          + m
-      | number_is m ↦ 0
-      | form_is g ↦ 0
-      | value_is v ↦ 0
-      | end_is m ↦ 0
-    ]) (sym is.2) in
+    let sizes = length_same format is.0 n is.1 is.2 in
     record {
       format = is.0;
       unit_length = is.1;
@@ -92,14 +87,10 @@ length_first dialect u format n front rest whole e size =
 length_in : (dialect : Dialect) (u fields rest : List ℕ) (items : List Item) → u ≡ fields ++ rest
     → SpellsFields dialect.order (header_layout dialect) items fields → unit_end items ≡ Some (length u)
     → HasItsLength dialect.order u
-length_in dialect u fields rest [] whole s e = absurd (none_some refl e)
-length_in dialect u fields rest (number_is n ∷ items) whole s e = absurd (none_some refl e)
-length_in dialect u fields rest (form_is f ∷ items) whole s e = absurd (none_some refl e)
-length_in dialect u fields rest (value_is v ∷ items) whole s e = absurd (none_some refl e)
-length_in dialect u fields rest (end_is n ∷ items) whole s e = absurd (none_some refl e)
 length_in dialect u fields rest (length_is format n ∷ items) whole s e =
     length_first dialect u format n s.0 (s.1 ++ rest) (whole ∙ ap (λ (w : List ℕ). w ++ rest) s.2
     ∙ append_assoc s.0 s.1 rest) s.3 (some_same _ _ e)
+length_in dialect u fields rest other whole s e = absurd (none_some refl e)
 
 pub length_is_computed : LengthIsComputed
 length_is_computed dialect u = (
@@ -160,7 +151,7 @@ none_foreign : (order : Order) (v w : ℕ) (items : List Item) (b : List ℕ)
 none_foreign order v w [] b s e = cc
 none_foreign order v w (i ∷ items) b s e = absurd (none_some refl s.3)
 
-number_same : (m n : ℕ) → number_is m ≡ number_is n → m ≡ n
+pub number_same : (m n : ℕ) → number_is m ≡ number_is n → m ≡ n
 number_same m n e = cc
 
 -- what follows a version other than 5 leads to a foreign version only where it isn't read
@@ -257,20 +248,8 @@ unit_len_small dialect b n e =
   where
     on : (items : List Item) (w : List ℕ) → SpellsFields dialect.order (header_layout dialect) items w
         → unit_end items ≡ Some n → n ≤ 2 ^ 41
-    on [] w s e = absurd (none_some refl e)
-    on (number_is m ∷ items) w s e = absurd (none_some refl e)
-    on (form_is f ∷ items) w s e = absurd (none_some refl e)
-    on (value_is v ∷ items) w s e = absurd (none_some refl e)
-    on (end_is m ∷ items) w s e = absurd (none_some refl e)
     on (length_is format m ∷ items) w s e =
         let is = (field_is_judged dialect.order (header_layout dialect) (length_is format m) s.0).1 s.3 in
-        let sizes : initial_size is.0 + is.1 ≡ initial_size format + m =
-        ap (λ (i : Item). elim i [
-          | length_is g k ↦ initial_size g
-              + k
-          | number_is k ↦ 0
-          | form_is g ↦ 0
-          | value_is v ↦ 0
-          | end_is k ↦ 0
-        ]) (sym is.2) in
+        let sizes = length_same format is.0 m is.1 is.2 in
         omega (arith, some_same _ _ e, sizes, small_length dialect.order is.0 is.1 s.0 is.3)
+    on other w s e = absurd (none_some refl e)
