@@ -1,6 +1,6 @@
 -- What the bytes of an extended opcode spell first: a zero byte, a length, the opcode, its operand.
 use Rattle.std.proofs.Common.{◌≡◌, ℕ, suc, ◌+◌, ◌^◌, ◌<◌, ◌≤◌, List, [], ◌∷◌, ◌++◌, length, drop, Option, Some, None}
-use Rattle.std.proofs.Common.{Ok, Err, refl, sym, ap, subst, ◌∙◌, arith}
+use Rattle.std.proofs.Common.{Ok, Err, refl, sym, ap, ◌∙◌, arith}
 use Rattle.std.proofs.lemmas.Bool.{lt-ltb, le-ltb, lt-leb, eq-eqb, ne_eqb}
 use Rattle.std.proofs.lemmas.List.{length-append, append-nil, drop-append-le, drop_all}
 use Rattle.dl_num.specs.declared.fixed.Order.{Order}
@@ -15,7 +15,7 @@ use Rattle.dl_rows.specs.declared.operation.Operation.TheVariants as op
 use Rattle.dl_rows.specs.OperationSpelt.{discriminator_spelt, extended_spelt, body_spelt, length_and_body}
 use Rattle.dl_rows.specs.OperationSpelt.{operation_spelt}
 use Rattle.dl_rows.specs.Phases.{HasLength}
-use Rattle.dl_rows.proofs.FirstLemmas.{IsOpen, nowhere_after, first_after, open_byte, first_nil, nowhere_nil}
+use Rattle.dl_rows.proofs.FirstLemmas.{IsOpen, At, at_nowhere, nowhere_here, at_byte, at_join, at_here, first_nil, nowhere_nil}
 use Rattle.dl_rows.proofs.OperandLemmas.{Verdict, continue_front, continue_before, leb_front_continues, is_leb-number}
 
 -- ---- the length
@@ -45,20 +45,12 @@ length_then order size w n s u =
     ∙ ap (λ (z : List ℕ). z ++ u) (drop_all (length w) w (omega arith)) in
     rw (f, t, g, d) refl
 
-pub zero_open : (order : Order) (h : Params) → IsOpen {A = Verdict} (operation_spelt order h) (0 ∷ [])
-zero_open order h = open_byte (operation_spelt order h) 0 refl
-
 -- after the zero byte stands the length
 pub zero_then : (order : Order) (h : Params) → 1 ≤ h.opcode_base → (u : List ℕ)
     → operation_spelt order h (0 ∷ u) ≡ length_and_body order h.address_size u
 zero_then order h some u = rw (lt-leb h.opcode_base 0 some) refl
 
 -- ---- the opcode
-
-pub body_open : (order : Order) (size n opcode : ℕ) → 1 ≤ n → n < 2 ^ 64
-    → IsOpen {A = Verdict} (body_spelt order size n) (opcode ∷ [])
-body_open order size n opcode some lt =
-    open_byte (body_spelt order size n) opcode (rw (ne_eqb n 0 (λ k. omega arith), lt-ltb n (2 ^ 64) lt) refl)
 
 pub body_then : (order : Order) (size n opcode : ℕ) → 1 ≤ n → n < 2 ^ 64 → (u : List ℕ)
     → body_spelt order size n (opcode ∷ u) ≡ extended_spelt order size n opcode u
@@ -71,67 +63,50 @@ body_nowhere order size n some lt =
 
 -- ---- all before the operand
 
--- the bytes before a length's body, and what the body spells first
-pub length_first : (order : Order) (h : Params) → 1 ≤ h.opcode_base → (w : List ℕ) (n : ℕ) (u : List ℕ) (v : Verdict)
-    → IsUleb w n
-    → SpellsFirst (body_spelt order h.address_size n) u v → SpellsFirst (operation_spelt order h) (0 ∷ (w ++ u)) v
-length_first order h some w n u v s first =
-    let size = h.address_size in
-    first_after (operation_spelt order h) (length_and_body order size) (0 ∷ []) (w ++ u) v (zero_open order h)
-    (zero_then order h some)
-    (first_after (length_and_body order size) (body_spelt order size n) w u v (length_open order size w n s)
-    (length_then order size w n s) first)
+-- after a length
+length_at : (order : Order) (h : Params) → 1 ≤ h.opcode_base → (w : List ℕ) (n : ℕ) (u : List ℕ) → IsUleb w n
+    → At (operation_spelt order h) (body_spelt order h.address_size n) (0 ∷ (w ++ u)) u
+length_at order h some w n u s =
+    at_join
+    (at_byte (operation_spelt order h) (length_and_body order h.address_size) 0 (w ++ u) refl (zero_then order h some))
+    (record {
+      head = w;
+      whole = refl;
+      begun = length_open order h.address_size w n s;
+      same = length_then order h.address_size w n s;
+    })
 
-pub length_is_nowhere : (order : Order) (h : Params) → 1 ≤ h.opcode_base → (w : List ℕ) (n : ℕ) (u : List ℕ)
-    → IsUleb w n
-    → SpellsNowhere (body_spelt order h.address_size n) u → SpellsNowhere (operation_spelt order h) (0 ∷ (w ++ u))
-length_is_nowhere order h some w n u s none =
+-- after an extended opcode, the bytes being the length's, the opcode and operand
+pub extended_at : (order : Order) (h : Params) → 1 ≤ h.opcode_base → {v : List ℕ} (w operand : List ℕ) (n opcode : ℕ)
+    → v ≡ 0 ∷ (w ++ opcode ∷ operand) → HasLength w n
+    → At (operation_spelt order h) (extended_spelt order h.address_size n opcode) v operand
+extended_at order h some w operand n opcode e s =
     let size = h.address_size in
-    nowhere_after (operation_spelt order h) (length_and_body order size) (0 ∷ []) (w ++ u) (zero_open order h)
-    (zero_then order h some)
-    (nowhere_after (length_and_body order size) (body_spelt order size n) w u (length_open order size w n s)
-    (length_then order size w n s) none)
-
-pub extended_first : (order : Order) (h : Params) → 1 ≤ h.opcode_base
-    → (w : List ℕ) (n opcode : ℕ) (u : List ℕ) (v : Verdict) → HasLength w n
-    → SpellsFirst (extended_spelt order h.address_size n opcode) u v
-    → SpellsFirst (operation_spelt order h) (0 ∷ (w ++ opcode ∷ u)) v
-extended_first order h some w n opcode u v s first =
-    let size = h.address_size in
-    length_first order h some w n (opcode ∷ u) v s.0
-    (first_after (body_spelt order size n) (extended_spelt order size n opcode) (opcode ∷ []) u v
-    (body_open order size n opcode s.1 s.2) (body_then order size n opcode s.1 s.2) first)
-
-pub extended_nowhere : (order : Order) (h : Params) → 1 ≤ h.opcode_base → (w : List ℕ) (n opcode : ℕ) (u : List ℕ)
-    → HasLength w n
-    → SpellsNowhere (extended_spelt order h.address_size n opcode) u
-    → SpellsNowhere (operation_spelt order h) (0 ∷ (w ++ opcode ∷ u))
-extended_nowhere order h some w n opcode u s none =
-    let size = h.address_size in
-    length_is_nowhere order h some w n (opcode ∷ u) s.0
-    (nowhere_after (body_spelt order size n) (extended_spelt order size n opcode) (opcode ∷ []) u
-    (body_open order size n opcode s.1 s.2) (body_then order size n opcode s.1 s.2) none)
+    rw e (at_join (length_at order h some w n (opcode ∷ operand) s.0)
+    (at_byte (body_spelt order size n) (extended_spelt order size n opcode) opcode operand
+    (rw (ne_eqb n 0 (λ k. omega (arith, k, s.1)), lt-ltb n (2 ^ 64) s.2) refl) (body_then order size n opcode s.1 s.2)))
 
 -- the length alone
 pub length_pending : (order : Order) (h : Params) → 1 ≤ h.opcode_base → (w : List ℕ) (n : ℕ) → HasLength w n
     → SpellsNowhere (operation_spelt order h) (0 ∷ w)
 length_pending order h some w n s =
-    subst (λ (z : List ℕ). SpellsNowhere (operation_spelt order h) (0 ∷ z)) (append-nil w)
-    (length_is_nowhere order h some w n [] s.0 (body_nowhere order h.address_size n s.1 s.2))
+    rw (append-nil w) at
+    (nowhere_here (length_at order h some w n [] s.0) (body_nowhere order h.address_size n s.1 s.2))
 
 pub length_begun : (order : Order) (h : Params) → 1 ≤ h.opcode_base → (w : List ℕ) → AllContinue w
     → SpellsNowhere (operation_spelt order h) (0 ∷ w)
 length_begun order h some w c =
-    nowhere_after (operation_spelt order h) (length_and_body order h.address_size) (0 ∷ []) w (zero_open order h)
-    (zero_then order h some) (length_nowhere order h.address_size w c)
+    at_nowhere w
+    (at_byte (operation_spelt order h) (length_and_body order h.address_size) 0 [] refl (zero_then order h some))
+    (length_nowhere order h.address_size w c)
 
 -- a length that is refused: 0, or 2^64 and more
 pub length_refused : (order : Order) (h : Params) → 1 ≤ h.opcode_base → (w : List ℕ) (n : ℕ) (k : FaultKind)
     → IsUleb w n
     → body_spelt order h.address_size n [] ≡ Some (Err k) → SpellsFirst (operation_spelt order h) (0 ∷ w) (Err k)
 length_refused order h some w n k s e =
-    subst (λ (z : List ℕ). SpellsFirst (operation_spelt order h) (0 ∷ z) (Err k)) (append-nil w)
-    (length_first order h some w n [] (Err k) s (first_nil (body_spelt order h.address_size n) (Err k) e))
+    let first = at_here (length_at order h some w n [] s) (first_nil (body_spelt order h.address_size n) (Err k) e) in
+    rw (append-nil w) at first
 
 pub body_out : (order : Order) (size n : ℕ) → 2 ^ 64 ≤ n → body_spelt order size n [] ≡ Some (Err fault.LebRange)
 body_out order size n le = rw (ne_eqb n 0 (λ k. omega arith), le-ltb n (2 ^ 64) le) refl

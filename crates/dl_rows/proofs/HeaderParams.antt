@@ -2,8 +2,7 @@
 use Rattle.dl_head.specs.declared.dialect.Dialect.{Dialect}
 use Rattle.std.proofs.Common.{◌≡◌, ℕ, zero, suc, ◌+◌, ◌-◌, ◌≤◌, Bool, true, false, if◌then◌else◌, ◌==◌, List, [], ◌∷◌}
 use Rattle.std.proofs.Common.{◌++◌, length, drop, Some, None, refl, sym, subst, arith, inl, inr, length-append, ◌∙◌}
-use Rattle.std.proofs.Common.{◌<◌, ◌^◌}
-use Rattle.std.proofs.Common.{pos, negsuc, ◌-ℤ◌, Option, ap}
+use Rattle.std.proofs.Common.{◌<◌, ◌^◌, pos, negsuc, ◌-ℤ◌, Option, ap}
 use Rattle.std.proofs.lemmas.Bool.{cases_lt, lt-ltb, le-ltb, cases_eq, eq-eqb, ne_eqb}
 use Rattle.std.specs.Prelude.{unsigned_abs}
 use Rattle.std.proofs.lemmas.Int.{ints}
@@ -24,10 +23,8 @@ use Rattle.dl_table.specs.Value.{Value, good}
 use Rattle.dl_field.specs.Field.{IsNumber}
 use Rattle.dl_field.specs.Layout.{Layout, initial_length_then, number_then, form_then, value_then, foreign_version}
 use Rattle.dl_field.specs.Layout.{path_or_end, last_entry, Item, length_is, number_is, form_is, value_is, end_is}
-use Rattle.dl_field.specs.Layout.{following}
-use Rattle.dl_field.specs.Layout.{following_all}
-use Rattle.dl_field.specs.Layout.{objection, number_size, field_spelt, pairs_layout, entry_layout, entries_layout}
-use Rattle.dl_field.specs.Layout.{table_layout, NumberField}
+use Rattle.dl_field.specs.Layout.{following, following_all, objection, number_size, field_spelt, pairs_layout}
+use Rattle.dl_field.specs.Layout.{entry_layout, entries_layout, table_layout, NumberField}
 use Rattle.dl_head.specs.Dialect.{older_size}
 use Rattle.dl_head.specs.HeaderLayout.{header_layout, lengths_layout, tables_layout, from_files, from_end}
 use Rattle.dl_head.specs.HeaderLayout.{from_default_is_stmt, after_minimum_length, from_address_size}

@@ -1,15 +1,13 @@
 -- Numbers in LEB128 as an operation has them, computed.
-use Rattle.std.proofs.Common.{◌≡◌, ℕ, zero, suc, ◌^◌, ◌<◌, ◌≤◌, ℤ, pos, negsuc, true, false, not}
-use Rattle.std.proofs.Common.{nat_lt, List, [], ◌∷◌, ◌++◌, length}
-use Rattle.std.proofs.Common.{refl, sym, ap, subst, ◌∙◌, arith, inl, inr}
+use Rattle.std.proofs.Common.{◌≡◌, ℕ, zero, suc, ◌^◌, ℤ, pos, negsuc, true, false, List, [], ◌∷◌}
+use Rattle.std.proofs.Common.{◌++◌, length, refl, sym, ap, subst, ◌∙◌, arith, inl, inr}
 use Rattle.std.specs.List.{concat, AllByRecursion}
 use Rattle.std.proofs.lemmas.Bool.{cases_lt, lt-ltb, le-ltb, eqb-true, ltb-true, ltb-false}
 use Rattle.dl_num.specs.Leb.{groups, signed_groups, IsUleb, IsSleb, IsSigned64}
 use Rattle.dl_num.specs.LebFront.{is_leb, leb_front, after_leb}
 use Rattle.dl_num.proofs.LebLaws.{leb_is, is_leb-of}
 use Rattle.dl_num.proofs.LebFrontLemmas.{and_left, and_right, true_false}
-use Rattle.dl_rows.specs.OperationSpelt.{is_empty, fits_signed, signed_number}
-use Rattle.dl_rows.specs.OperationSpelt.{are_lebs}
+use Rattle.dl_rows.specs.OperationSpelt.{is_empty, fits_signed, signed_number, are_lebs}
 use Rattle.dl_rows.specs.Spelling.{IsNumber}
 use Rattle.dl_rows.proofs.OperandLemmas.{signed_number-is}
 
@@ -34,18 +32,6 @@ fits (negsuc n) e = ltb-true n (2 ^ 63) e
 pub fits_not : (i : ℤ) → fits_signed i ≡ false → IsSigned64 i → ⊥
 fits_not (pos n) e f = let l = ltb-false n (2 ^ 63) e in omega arith
 fits_not (negsuc n) e f = let l = ltb-false n (2 ^ 63) e in omega arith
-
-pub not_below : (n : ℕ) → not (nat_lt n (2 ^ 64)) ≡ true → 2 ^ 64 ≤ n
-not_below n e = elim (cases_lt n (2 ^ 64)) [
-  | inl lt ↦ absurd (true_false e (ap not (lt-ltb n (2 ^ 64) lt)))
-  | inr le ↦ le
-]
-
-pub below : (n : ℕ) → not (nat_lt n (2 ^ 64)) ≡ false → n < 2 ^ 64
-below n e = elim (cases_lt n (2 ^ 64)) [
-  | inl lt ↦ lt
-  | inr le ↦ absurd (true_false (ap not (le-ltb n (2 ^ 64) le)) e)
-]
 
 pub empty_is : (w : List ℕ) → is_empty w ≡ true → w ≡ []
 empty_is [] e = refl

@@ -1,11 +1,9 @@
 pub mod Arithmetic
 pub mod BodyLemmas
-pub mod BodyStops
 pub mod CallLemmas
 pub mod ExtendedLemmas
 pub mod FirstLemmas
 pub mod ForeignCells
-pub mod ForeignFeeds
 pub mod HeadFeeds
 pub mod HeaderBegun
 pub mod HeaderParams
@@ -30,7 +28,6 @@ pub mod RowBytes
 pub mod RunLemmas
 pub mod RunTurns
 pub mod ShortExtended
-pub mod SkipLemmas
 pub mod SpeltFirst
 pub mod UnitBodyFeeds
 pub mod UnitBodyLemmas

@@ -1,7 +1,6 @@
 -- Where units of version 5 alone are read, each header is of version 5.
 use Rattle.std.proofs.Common.{◌≡◌, ℕ, ◌-◌, Bool, true, false, if◌then◌else◌, List, [], Option, None, inl, inr, refl}
-use Rattle.std.proofs.Common.{sym, ap}
-use Rattle.std.proofs.Common.{subst}
+use Rattle.std.proofs.Common.{sym, ap, subst}
 use Rattle.std.proofs.lemmas.Bool.{cases_eq, eq-eqb, ne_eqb}
 use Rattle.dl_table.specs.declared.form.Format.{Format}
 use Rattle.dl_field.specs.declared.params.Params.{Params}
@@ -11,8 +10,7 @@ use Rattle.dl_head.specs.declared.dialect.Dialect.{Dialect}
 use Rattle.dl_head.specs.declared.dialect.Older.TheVariants as older
 use Rattle.dl_head.specs.Dialect.{older_bytes, older_size}
 use Rattle.dl_head.specs.HeaderLayout.{header_layout, tables_layout, from_files, from_end, from_address_size}
-use Rattle.dl_head.specs.HeaderLayout.{format_alone}
-use Rattle.dl_head.specs.HeaderLayout.{from_older_version}
+use Rattle.dl_head.specs.HeaderLayout.{format_alone, from_older_version}
 use Rattle.dl_head.specs.Header.{IsHeader}
 use Rattle.dl_head.proofs.HeaderLaws.{made_last}
 use Rattle.dl_head.proofs.Openings.{after_length}

@@ -29,7 +29,7 @@ use Rattle.dl_rows.specs.ReaderStands.{StandsFor}
 use Rattle.dl_rows.specs.ReaderAnswers.{ReaderFed, FedAfter, RowsFed}
 use Rattle.dl_rows.specs.ReaderStates.{InHeader, StandsAt}
 use Rattle.dl_rows.specs.UnitBodies.{InForeign, BodyFedAfter, BodyTells}
-use Rattle.dl_rows.proofs.BodyStops.{fails_again}
+use Rattle.dl_rows.proofs.UnitBodyFeeds.{fails_again}
 use Rattle.dl_rows.proofs.HeadFeeds.{no_unit}
 use Rattle.dl_rows.proofs.UnitWhole.{NoneRefused}
 

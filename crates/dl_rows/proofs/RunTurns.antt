@@ -1,7 +1,6 @@
 -- The loop of a run: its turns so far, and one more.
 use Rattle.std.proofs.Common.{◌≡◌, ◌+◌, ◌<◌, ◌≤◌, ℕ, true, false, cond, List, [], ◌∷◌, ◌++◌, length, take, drop}
-use Rattle.std.proofs.Common.{slice_index_or, Result, Ok, Err, refl, arith, append_assoc}
-use Rattle.std.proofs.Common.{append-nil, add-zero}
+use Rattle.std.proofs.Common.{slice_index_or, Result, Ok, Err, refl, arith, append_assoc, append-nil, add-zero}
 use Rattle.std.proofs.lemmas.List.{take_all}
 use Rattle.std.proofs.lemmas.List.Sums.{sum_by_push}
 use Rattle.std.proofs.lemmas.Grind.{flat_map-append}
@@ -19,8 +18,8 @@ use Rattle.dl_rows.specs.LineUnit.{IsUnit}
 use Rattle.dl_rows.specs.Reading.{told}
 use Rattle.dl_rows.specs.ReaderStands.{StandsFor}
 use Rattle.dl_rows.specs.ReaderAnswers.{ReaderFed}
-use Rattle.dl_rows.specs.Runs.{MayGive, May, goes_on, is_refusal, refusals, told_by, heard_in, outcome, Traced}
-use Rattle.dl_rows.specs.Runs.{RunIs, UnitRunIs}
+use Rattle.dl_rows.specs.Runs.{MayGive, May, goes_on, is_refusal, refusals, told_by, heard_in, outcome, Traced, RunIs}
+use Rattle.dl_rows.specs.Runs.{UnitRunIs}
 use Rattle.dl_rows.proofs.ReaderLemmas.{within_here}
 use Rattle.dl_rows.proofs.RunLemmas.{Given, turned, trace_runs, trace_of_unit}
 

@@ -1,7 +1,6 @@
 -- What is spelled as an operation is computed to be it, and no shorter front of it is anything.
 use Rattle.std.proofs.Common.{◌≡◌, ◌≢◌, ℕ, zero, suc, ◌+◌, ◌-◌, ◌<◌, ◌≤◌, true, false, List, [], ◌∷◌, ◌++◌, length}
-use Rattle.std.proofs.Common.{slice_index, Option, Some, None, Ok, if◌then◌else◌, refl, sym, ap, subst, ◌∙◌, arith, inl}
-use Rattle.std.proofs.Common.{inr}
+use Rattle.std.proofs.Common.{slice_index, Option, Some, None, Ok, if◌then◌else◌, refl, sym, ap, ◌∙◌, arith, inl, inr}
 use Rattle.std.specs.List.{concat, AllByRecursion}
 use Rattle.std.proofs.lemmas.Bool.{lt-leb, le-leb, eq-eqb, ne_eqb, cases_Bool, cases_eq, and_from}
 use Rattle.std.proofs.lemmas.Bool.{and_right as and_false}
@@ -20,29 +19,23 @@ use Rattle.dl_rows.specs.OperationSpelt.{unsigned_operand, signed_operand, are_l
 use Rattle.dl_rows.specs.OperationSpelt.{extended_spelt, operation_spelt}
 use Rattle.dl_rows.specs.Spelling.{IsBare, HasUnsigned, IsExtended, IsNumber, SkipsStandard, SkipsExtended}
 use Rattle.dl_rows.specs.Spelling.{SpellsOperation}
-use Rattle.dl_rows.proofs.FirstLemmas.{first_after, open_byte, first_nil, open_nil}
-use Rattle.dl_rows.proofs.OperandLemmas.{Verdict, unsigned_first, signed_first, sized, sized_first}
-use Rattle.dl_rows.proofs.ExtendedLemmas.{extended_first, discriminator_first}
-use Rattle.dl_rows.proofs.SkipLemmas.{skipped_then}
-
--- what spells the same spells the same first
-first_same : {A : Type 0} (spelt other : List ℕ → Option A) (w : List ℕ) (a : A) → ((u : List ℕ) → spelt u ≡ other u)
-    → SpellsFirst other w a → SpellsFirst spelt w a
-first_same spelt other w a same first = first_after spelt other [] w a (open_nil spelt) same first
-
-first_at : {A : Type 0} (spelt : List ℕ → Option A) (v w : List ℕ) (a : A) → w ≡ v → SpellsFirst spelt v a
-    → SpellsFirst spelt w a
-first_at spelt v w a e first = subst (λ (z : List ℕ). SpellsFirst spelt z a) (sym e) first
+use Rattle.dl_rows.proofs.FirstLemmas.{at_here, at_byte, at_same, first_nil}
+use Rattle.dl_rows.proofs.OperandLemmas.{Verdict, unsigned_first, signed_first, sized, sized_first, skipped_then}
+use Rattle.dl_rows.proofs.ExtendedLemmas.{extended_at, discriminator_first}
 
 -- ---- standard opcodes
+
+-- an operation of one byte
+byte_first : (order : Order) (h : Params) (o : Operation) (opcode : ℕ) (w : List ℕ) → w ≡ opcode ∷ []
+    → operation_spelt order h (opcode ∷ []) ≡ Some (Ok o) → SpellsFirst (operation_spelt order h) w (Ok o)
+byte_first order h o opcode w is e =
+    let spelt = λ (u : List ℕ). operation_spelt order h (opcode ∷ u) in
+    rw is (at_here (at_byte (operation_spelt order h) spelt opcode [] refl (λ u. refl)) (first_nil spelt (Ok o) e))
 
 bare_first : (order : Order) (h : Params) (o : Operation) (opcode : ℕ) (w : List ℕ)
     → operation_spelt order h (opcode ∷ []) ≡ Some (Ok o)
     → IsBare h opcode w → SpellsFirst (operation_spelt order h) w (Ok o)
-bare_first order h o opcode w e s = first_at (operation_spelt order h) (opcode ∷ []) w (Ok o) s.bytes
-    (first_after (operation_spelt order h) (λ u. operation_spelt order h (opcode ∷ u)) (opcode ∷ []) [] (Ok o)
-    (open_byte (operation_spelt order h) opcode refl) (λ u. refl)
-    (first_nil (λ u. operation_spelt order h (opcode ∷ u)) (Ok o) e))
+bare_first order h o opcode w e s = byte_first order h o opcode w s.bytes e
 
 -- an opcode of one byte, and its operand
 operand_first : (order : Order) (h : Params) (o : Operation) (opcode : ℕ) (operand w : List ℕ)
@@ -50,9 +43,7 @@ operand_first : (order : Order) (h : Params) (o : Operation) (opcode : ℕ) (ope
     → ((u : List ℕ) → operation_spelt order h (opcode ∷ u) ≡ spelt u) → w ≡ opcode ∷ operand
     → SpellsFirst spelt operand (Ok o) → SpellsFirst (operation_spelt order h) w (Ok o)
 operand_first order h o opcode operand w spelt same e first =
-    first_at (operation_spelt order h) (opcode ∷ operand) w (Ok o) e
-    (first_after (operation_spelt order h) spelt (opcode ∷ []) operand (Ok o)
-    (open_byte (operation_spelt order h) opcode refl) same first)
+    rw e (at_here (at_byte (operation_spelt order h) spelt opcode operand refl same) first)
 
 unsigned_case : (order : Order) (h : Params) (make : ℕ → Operation) (opcode n : ℕ) (w : List ℕ)
     → (opcode < h.opcode_base → (u : List ℕ) → operation_spelt order h (opcode ∷ u) ≡ unsigned_operand make u)
@@ -120,12 +111,8 @@ extended_case : (order : Order) (h : Params) (o : Operation) (opcode : ℕ) (ope
     → SpellsFirst (extended_spelt order h.address_size (length (opcode ∷ operand)) opcode) operand (Ok o)
     → SpellsFirst (operation_spelt order h) w (Ok o)
 extended_case order h o opcode operand w some e first =
-    first_at (operation_spelt order h) (0 ∷ (e.size ++ opcode ∷ operand)) w (Ok o) e.bytes
-    (extended_first order h some e.size (length (opcode ∷ operand)) opcode operand (Ok o) (
-      e.spells,
-      omega arith,
-      e.fits,
-    ) first)
+    at_here (extended_at order h some e.size operand (length (opcode ∷ operand)) opcode e.bytes
+    (e.spells, omega arith, e.fits)) first
 
 address_same : (order : Order) (size n : ℕ) → n ≡ 1 + size → (u : List ℕ)
     → extended_spelt order size n 2 u ≡ sized size (λ v. op.SetAddress (fixed order v)) u
@@ -142,19 +129,17 @@ rest_same order size n opcode one two four u =
 skips_extended : (order : Order) (h : Params) (w : List ℕ) → 1 ≤ h.opcode_base → SkipsExtended w
     → SpellsFirst (operation_spelt order h) w (Ok op.Skipped)
 skips_extended order h w some s = extended_case order h op.Skipped s.opcode s.operand w some s.extended
-    (first_same (extended_spelt order h.address_size (suc (length s.operand)) s.opcode)
-    (sized (length s.operand) (λ v. op.Skipped)) s.operand (Ok op.Skipped)
+    (at_here (at_same (extended_spelt order h.address_size (suc (length s.operand)) s.opcode)
+    (sized (length s.operand) (λ v. op.Skipped)) s.operand
     (rest_same order h.address_size (length s.operand) s.opcode s.not_end_sequence s.not_set_address
-    s.not_set_discriminator) (sized_first (length s.operand) (λ v. op.Skipped) s.operand refl))
+    s.not_set_discriminator)) (sized_first (length s.operand) (λ v. op.Skipped) s.operand refl))
 
 -- ---- each operation
 
 pub spells_first : (order : Order) (h : Params) (o : Operation) (w : List ℕ) → 1 ≤ h.opcode_base
     → SpellsOperation order h o w → SpellsFirst (operation_spelt order h) w (Ok o)
-spells_first order h (op.Special b) w some s = first_at (operation_spelt order h) (b ∷ []) w (Ok (op.Special b)) s.1
-    (first_after (operation_spelt order h) (λ u. operation_spelt order h (b ∷ u)) (b ∷ []) [] (Ok (op.Special b))
-    (open_byte (operation_spelt order h) b refl) (λ u. refl)
-    (first_nil (λ u. operation_spelt order h (b ∷ u)) (Ok (op.Special b)) (rw (le-leb h.opcode_base b s.0) refl)))
+spells_first order h (op.Special b) w some s =
+    byte_first order h (op.Special b) b w s.1 (rw (le-leb h.opcode_base b s.0) refl)
 spells_first order h op.Copy w some s = bare_first order h op.Copy 1 w (rw (lt-leb h.opcode_base 1 s.below) refl) s
 spells_first order h (op.AdvancePc n) w some s =
     unsigned_case order h (λ m. op.AdvancePc m) 2 n w (λ lt u. rw (lt-leb h.opcode_base 2 lt) refl) s
@@ -173,8 +158,7 @@ spells_first order h op.SetBasicBlock w some s =
 spells_first order h op.ConstAddPc w some s =
     bare_first order h op.ConstAddPc 8 w (rw (lt-leb h.opcode_base 8 s.below) refl) s
 spells_first order h (op.FixedAdvancePc n) w some s =
-    subst (λ (m : ℕ). SpellsFirst (operation_spelt order h) w (Ok (op.FixedAdvancePc m))) (sym s.number)
-    (operand_first order h (op.FixedAdvancePc (fixed order s.operand)) 9 s.operand w
+    rw s.number (operand_first order h (op.FixedAdvancePc (fixed order s.operand)) 9 s.operand w
     (sized 2 (λ v. op.FixedAdvancePc (fixed order v))) (λ u. rw (lt-leb h.opcode_base 9 s.below) refl) s.bytes
     (sized_first 2 (λ v. op.FixedAdvancePc (fixed order v)) s.operand s.size))
 spells_first order h op.SetPrologueEnd w some s =
@@ -187,17 +171,15 @@ spells_first order h op.EndSequence w some s =
     extended_case order h op.EndSequence 1 [] w some s
     (first_nil (extended_spelt order h.address_size 1 1) (Ok op.EndSequence) refl)
 spells_first order h (op.SetAddress n) w some s =
-    subst (λ (m : ℕ). SpellsFirst (operation_spelt order h) w (Ok (op.SetAddress m))) (sym s.number)
-    (extended_case order h (op.SetAddress (fixed order s.operand)) 2 s.operand w some s.extended
-    (first_same (extended_spelt order h.address_size (length (2 ∷ s.operand)) 2)
+    rw s.number (extended_case order h (op.SetAddress (fixed order s.operand)) 2 s.operand w some s.extended
+    (at_here (at_same (extended_spelt order h.address_size (length (2 ∷ s.operand)) 2)
     (sized h.address_size (λ v. op.SetAddress (fixed order v))) s.operand
-    (Ok (op.SetAddress (fixed order s.operand)))
-    (address_same order h.address_size (length (2 ∷ s.operand)) (omega (arith, s.size)))
+    (address_same order h.address_size (length (2 ∷ s.operand)) (omega (arith, s.size))))
     (sized_first h.address_size (λ v. op.SetAddress (fixed order v)) s.operand s.size)))
 spells_first order h (op.SetDiscriminator n) w some s =
     extended_case order h (op.SetDiscriminator n) 4 s.operand w some s.extended
-    (first_same (extended_spelt order h.address_size (length (4 ∷ s.operand)) 4)
-    (discriminator_spelt (length (4 ∷ s.operand))) s.operand (Ok (op.SetDiscriminator n)) (λ u. refl)
+    (at_here (at_same (extended_spelt order h.address_size (length (4 ∷ s.operand)) 4)
+    (discriminator_spelt (length (4 ∷ s.operand))) s.operand (λ u. refl))
     (discriminator_first (length (4 ∷ s.operand)) n s.operand s.spells s.fits (omega arith)))
 spells_first order h op.Skipped w some (inl s) = skips_standard order h w s
 spells_first order h op.Skipped w some (inr s) = skips_extended order h w some s

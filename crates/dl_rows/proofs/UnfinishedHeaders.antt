@@ -10,12 +10,10 @@ use Rattle.dl_table.specs.declared.fault.FaultKind.{FaultKind}
 use Rattle.dl_table.specs.declared.fault.FaultKind.TheVariants as fault
 use Rattle.dl_table.specs.declared.form.Format.{Format}
 use Rattle.dl_field.specs.HeaderData.{HeaderData}
-use Rattle.dl_field.specs.Layout.{any_byte, address_size, header_length, version, Layout}
-use Rattle.dl_field.specs.Layout.{number_then}
-use Rattle.dl_field.specs.Layout.{foreign_version, last_entry, Item, length_is, number_is, following}
-use Rattle.dl_field.specs.Layout.{following_all, field_spelt}
-use Rattle.dl_head.specs.HeaderLayout.{header_layout, initial_size, fixed_part, from_minimum_length}
-use Rattle.dl_head.specs.HeaderLayout.{from_address_size, format_alone, from_older_version, older_params}
+use Rattle.dl_field.specs.Layout.{any_byte, address_size, header_length, version, Layout, number_then, foreign_version}
+use Rattle.dl_field.specs.Layout.{last_entry, Item, length_is, number_is, following, following_all, field_spelt}
+use Rattle.dl_head.specs.HeaderLayout.{header_layout, initial_size, fixed_part, from_minimum_length, from_address_size}
+use Rattle.dl_head.specs.HeaderLayout.{format_alone, from_older_version, older_params}
 use Rattle.dl_head.specs.Dialect.{older_size}
 use Rattle.dl_head.specs.Header.{SpellsFields, Cut, cut, unit_end, unit_len, header_end, header_made, header_up_to}
 use Rattle.dl_head.specs.Header.{foreign_made, foreign_in, header_in, own_end, older_end}

@@ -1,8 +1,8 @@
 -- What a reader answers after the header of a unit, or after a foreign version.
 use Rattle.dl_head.specs.declared.dialect.Dialect.{Dialect}
-use Rattle.std.proofs.Common.{◌≡◌, ◌≢◌, ◌⊎◌, inl, inr, ℕ, suc, get_or, ◌+◌, ◌-◌, ◌<◌, ◌≤◌, List, [], ◌∷◌, ◌++◌}
-use Rattle.std.proofs.Common.{length, map, take, drop, Some, refl, sym, ap, ◌∙◌, arith, length-append}
-use Rattle.std.proofs.Common.{append_assoc, append-nil, length-take}
+use Rattle.std.proofs.Common.{◌≡◌, ◌≢◌, ◌⊎◌, inl, inr, ℕ, suc, get_or, ◌+◌, ◌-◌, ◌<◌, ◌≤◌, List, [], ◌∷◌, ◌++◌, length}
+use Rattle.std.proofs.Common.{map, take, drop, Some, refl, sym, ap, ◌∙◌, arith, length-append, append_assoc, append-nil}
+use Rattle.std.proofs.Common.{length-take, Ok, Err}
 use Rattle.std.proofs.lemmas.Bool.{cases_eq, cases_lt, eq-eqb, ne_eqb, lt-ltb, le-ltb}
 use Rattle.std.proofs.lemmas.List.{take-append-drop, map-append}
 use Rattle.dl_num.specs.Laws.{AllBytes}
@@ -12,7 +12,7 @@ use Rattle.dl_table.specs.declared.fault.FaultKind.{FaultKind}
 use Rattle.dl_table.specs.declared.fault.FaultKind.TheVariants as fault
 use Rattle.dl_field.specs.declared.params.Params.{Params}
 use Rattle.dl_field.specs.HeaderData.{HeaderData}
-use Rattle.dl_head.specs.Header.{unit_len}
+use Rattle.dl_head.specs.Header.{unit_len, foreign_in}
 use Rattle.dl_field.proofs.FieldLemmas.{none_some}
 use Rattle.dl_rows.specs.declared.program.Program.{Program}
 use Rattle.dl_rows.specs.declared.program.ProgramStep.{ProgramStep}
@@ -24,19 +24,25 @@ use Rattle.dl_rows.specs.declared.unit_body.UnitBody.{UnitBody}
 use Rattle.dl_rows.specs.declared.unit_body.UnitBytes.{UnitBytes}
 use Rattle.dl_rows.specs.LineUnit.{IsUnit, rows_in, ends_open, events}
 use Rattle.dl_rows.specs.Programs.{ProgramStands, NothingGiven, RowGiven, BadGiven, Tells}
-use Rattle.dl_rows.specs.Reading.{WithinUnit, told, EventHoldsAfter, FeedsAfter, FailsAfter, IsPause, SinkAt}
+use Rattle.dl_rows.specs.Reading.{WithinUnit, told, EventHoldsAfter, FeedsAfter, FailsAfter, IsPause, SinkAt, Fails}
+use Rattle.dl_rows.specs.Reading.{Feeds}
 use Rattle.dl_rows.specs.Refusal.{Refused}
 use Rattle.dl_rows.specs.Sinks.{Story}
 use Rattle.dl_rows.specs.Sums.{FitsProgram}
-use Rattle.dl_rows.specs.UnitBodies.{Counts, AfterHeader, InProgram, Stops, paused}
+use Rattle.dl_rows.specs.UnitBodies.{Counts, AfterHeader, InProgram, Stops, paused, BodyStopped, ProgramTells}
+use Rattle.dl_rows.specs.UnitBodies.{BodyTells, InForeign}
 use Rattle.dl_rows.proofs.OperandRanges.{bytes_front}
 use Rattle.dl_rows.proofs.ProgramSteps.{rest_here, in_sequence_is}
 use Rattle.dl_rows.proofs.RowBytes.{row_ends, front_is}
 use Rattle.dl_rows.proofs.UnitBodyLemmas.{begun_in, header_at, rows_at, bad_at, overrun_at, later, events_more}
 use Rattle.dl_rows.proofs.UnitBodyLemmas.{counts_within, Counted, counts_on, program_on, refused_on}
 use Rattle.dl_rows.proofs.UnitLemmas.{unit_len_on}
-use Rattle.dl_rows.proofs.UnitLengths.{some_same, length_of_unit}
+use Rattle.dl_rows.proofs.UnitLengths.{some_same, length_of_unit, foreign_unit}
 use Rattle.dl_rows.proofs.UnitWhole.{NoneRefused, unit_unless_refused}
+use Rattle.dl_rows.specs.declared.unit_body.BodyState.TheVariants as body
+use Rattle.dl_rows.specs.declared.unit_body.BodyStop.{BodyStop}
+use Rattle.dl_head.proofs.ForeignLemmas.{foreign_on}
+use Rattle.dl_rows.proofs.UnitQuiet.{foreign_quiet}
 
 -- u is what is taken of the piece, of which at most so many bytes are of the unit
 record TakenOf (piece : List ℕ) (most : ℕ) (u : List ℕ) (used : ℕ) : Type 0 where
@@ -277,3 +283,86 @@ sink_paused story s rows event.More pause hears = hears
 sink_paused story s rows event.End pause hears = hears
 sink_paused story s rows event.NoMemory pause hears = hears
 sink_paused story s rows other pause hears = absurd pause
+
+-- ---- the fault that stops a reader
+
+-- after a fault it is answered again, and no byte is taken
+pub fails_again : (dialect : Dialect) (b piece : List ℕ) (fault : Fault) → WithinUnit dialect b
+    → Refused dialect b fault.offset fault.kind → Fails dialect b piece fault 0
+fails_again dialect b piece fault in_unit refused = record {
+  within = omega arith;
+  in_unit = rw append-nil in_unit;
+  refused = rw append-nil refused;
+  no_event = rw append-nil;
+}
+
+module _ {S : Type 0} {story : Story S} {dialect : Dialect} {h : HeaderData} {b piece : List ℕ} {before : List Row}
+    {sink : S} where
+  -- an answer of an event
+  pub tells_fed : {new : UnitBody} {fed : Fed} → ProgramTells story dialect h b piece before (Ok fed) new sink
+      → BodyTells story dialect h b piece before (Ok fed) (body.InProgram new) sink
+  tells_fed t =
+      record { rows = t.rows; fed = record { answered = t.fed.answered; stands = t.fed.stands }; sink = t.sink }
+
+  -- the first answer of a fault
+  pub tells_fault : {old new : UnitBody} {fault : Fault} {stop : BodyStop} → InProgram dialect h old b
+      → stop ≡ record { fault = fault; taken = new.bytes.taken; in_sequence = new.program.in_sequence }
+      → ProgramTells story dialect h b piece before (Err fault) new sink
+      → BodyTells story dialect h b piece before (Err fault) (body.Stopped stop) sink
+  tells_fault is made t = rw made (record {
+    rows = t.rows;
+    fed = (
+      t.fed.0,
+      t.fed.1,
+      record {
+        refused = t.fed.1.refused;
+        taken = t.fed.2.taken;
+        in_unit = t.fed.2.in_unit;
+        in_sequence = t.fed.2.in_sequence;
+        at = later is.at (take t.fed.0 piece);
+      },
+    );
+    sink = t.sink;
+  })
+
+  -- it is answered again
+  pub tells_again : {stop : BodyStop} → BodyStopped dialect h stop b → story.hears sink before
+      → BodyTells story dialect h b piece before (Err stop.fault) (body.Stopped stop) sink
+  tells_again {stop} is hears = record {
+    rows = [];
+    fed = (
+      0,
+      rw (append-nil (events dialect b)) (fails_again dialect b piece stop.fault is.in_unit is.refused),
+      rw append-nil is,
+    );
+    sink = rw append-nil hears;
+  }
+
+-- ---- a unit of another version
+
+foreign_events : (dialect : Dialect) (b : List ℕ) (version : ℕ) → foreign_in dialect b ≡ Some version
+    → events dialect b ≡ event.Foreign version ∷ []
+foreign_events dialect b version foreign = rw foreign
+
+some_foreign : (dialect : Dialect) (b : List ℕ) (version : ℕ) → foreign_in dialect b ≡ Some version → 1 ≤ length b
+some_foreign dialect [] version foreign = absurd (none_some {a = version} refl foreign)
+some_foreign dialect (x ∷ b) version foreign = omega arith
+
+pub feeds_foreign : {dialect : Dialect} {version : ℕ} {t new : UnitBytes} {b piece bytes : List ℕ} {fed : Fed}
+    → InForeign dialect version t b → bytes ≡ take t.left piece → fed.used ≡ length bytes
+    → fed.event ≡ paused new.taken new.left fed.used (length piece) → Counted t new (length bytes)
+    → Feeds (InForeign dialect version) dialect b piece fed new
+feeds_foreign {dialect} {version} {t} {new} {b} {piece} is front size event counts =
+    let u = take t.left piece in
+    let counted = rw front at counts in
+    let counts = counts_on u is.counts (omega (arith, length-take t.left piece)) counted in
+    let foreign = foreign_on dialect b u version is.foreign in
+    pauses (rw front at size) event counted is.counts (some_foreign dialect (b ++ u) version foreign)
+    (record { counts = counts; foreign = foreign })
+    (foreign_events dialect (b ++ u) version foreign ∙ sym (foreign_events dialect b version is.foreign))
+    (foreign_quiet dialect (b ++ u) version (new.taken + new.left) foreign counts.left (omega (arith, counts.taken)))
+    (λ none. inl (
+      version,
+      foreign_unit dialect version (b ++ u) (counts.left ∙ ap (λ (n : ℕ). Some n) (omega (arith, none, counts.taken)))
+          foreign,
+    ))

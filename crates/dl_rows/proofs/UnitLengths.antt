@@ -1,16 +1,15 @@
 -- The length of a unit, and the version of a foreign one, as they are computed.
 use Rattle.dl_head.specs.declared.dialect.Dialect.{Dialect}
 use Rattle.std.proofs.Common.{◌≡◌, ◌≢◌, ℕ, ◌≤◌, ◌^◌, ◌+◌, List, [], ◌∷◌, ◌++◌, length, Option, Some, None, refl, sym}
-use Rattle.std.proofs.Common.{ap}
-use Rattle.std.proofs.Common.{subst, ◌∙◌, arith, inl, inr, length-append, append_assoc, append-nil}
+use Rattle.std.proofs.Common.{ap, subst, ◌∙◌, arith, inl, inr, length-append, append_assoc, append-nil}
 use Rattle.std.proofs.lemmas.Bool.{cases_eq, eq-eqb, ne_eqb}
 use Rattle.dl_num.specs.declared.fixed.Order.{Order}
 use Rattle.dl_table.specs.declared.form.Format.{Format}
 use Rattle.dl_table.specs.declared.form.Format.TheVariants.{Dwarf32, Dwarf64}
 use Rattle.dl_table.specs.Value.{good}
 use Rattle.dl_field.specs.Field.{IsFixed, IsInitialLength}
-use Rattle.dl_field.specs.Layout.{version, Layout, number_then, foreign_version, Item, length_is, number_is}
-use Rattle.dl_field.specs.Layout.{following, following_all, field_spelt}
+use Rattle.dl_field.specs.Layout.{version, Layout, number_then, foreign_version, Item, length_is, number_is, following}
+use Rattle.dl_field.specs.Layout.{following_all, field_spelt}
 use Rattle.dl_head.specs.Dialect.{older_size}
 use Rattle.dl_head.specs.HeaderLayout.{header_layout, initial_size, from_address_size, format_alone, older_params}
 use Rattle.dl_head.specs.HeaderLayout.{from_older_version}

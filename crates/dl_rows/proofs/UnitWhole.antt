@@ -1,16 +1,14 @@
 -- Bytes as long as their initial length says, of which no front is refused, are a unit.
 use Rattle.dl_head.specs.declared.dialect.Dialect.{Dialect}
-use Rattle.std.proofs.Common.{◌≡◌, ℕ, ◌-◌, ◌≤◌, List, [], ◌∷◌, ◌++◌}
-use Rattle.std.proofs.Common.{length, Option, Some, None, refl, sym, ap, subst, ◌∙◌, arith, inl, inr}
-use Rattle.std.proofs.Common.{length-append, append_assoc, append-nil}
+use Rattle.std.proofs.Common.{◌≡◌, ℕ, ◌-◌, ◌≤◌, List, [], ◌∷◌, ◌++◌, length, Option, Some, None, refl, sym, ap, subst}
+use Rattle.std.proofs.Common.{◌∙◌, arith, inl, inr, length-append, append_assoc, append-nil}
 use Rattle.dl_num.specs.Front.{IsCut, standing}
 use Rattle.dl_num.proofs.FrontLemmas.{one_cut}
 use Rattle.dl_table.specs.declared.fault.FaultKind.{FaultKind}
 use Rattle.dl_table.specs.declared.fault.FaultKind.TheVariants as fault
 use Rattle.dl_field.specs.HeaderData.{HeaderData}
 use Rattle.dl_head.specs.HeaderLayout.{header_layout}
-use Rattle.dl_head.specs.Header.{cut, unit_len, header_end}
-use Rattle.dl_head.specs.Header.{foreign_in, header_in}
+use Rattle.dl_head.specs.Header.{cut, unit_len, header_end, foreign_in, header_in}
 use Rattle.dl_head.specs.Refusal.{bad_kind}
 use Rattle.dl_field.proofs.FieldLemmas.{none_some}
 use Rattle.dl_head.proofs.CutLemmas.{cut_sound, Sound}

@@ -1,7 +1,7 @@
 use Rattle.std.proofs.Common.{List, ℕ, ◌++◌, ◌-◌, suc, ◌≡◌, take, slice_index_or, sym, subst, arith, refl}
 use Rattle.dl_num.proofs.ReadBack.{split_at}
 use Rattle.dl_rows.specs.Phases.{LebsLeft}
-use Rattle.dl_rows.proofs.SkipLemmas.{lebs_more, lebs_next}
+use Rattle.dl_rows.proofs.OperandLemmas.{lebs_more, lebs_next}
 use Rattle.dl_rows.proofs.BodyLemmas.{not_lt, next_front, all_taken, skipped_within, skipped_ends}
 use Rattle.dl_rows.proofs.operation_state.skipped.Goals as goal
 

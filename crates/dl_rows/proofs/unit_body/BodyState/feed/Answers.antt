@@ -1,5 +1,5 @@
 use Rattle.dl_rows.specs.UnitBodies.{InProgram, BodyStopped}
-use Rattle.dl_rows.proofs.BodyStops.{tells_fed, tells_fault, tells_again}
+use Rattle.dl_rows.proofs.UnitBodyFeeds.{tells_fed, tells_fault, tells_again}
 use Rattle.dl_rows.proofs.unit_body.BodyState.feed.Goals as goal
 
 pub returns-in-Err-clause-fed : goal.returns-in-Err-clause-fed

@@ -1,7 +1,6 @@
 use Rattle.std.proofs.Common.{ℕ, ◌-◌, List, ◌++◌, length, ap, arith}
 use Rattle.dl_num.proofs.LebFrontLemmas.{true_false}
-use Rattle.dl_rows.proofs.UnitBodyFeeds.{tells_in, feeds_row}
-use Rattle.dl_rows.proofs.UnitBodyFeeds.{feeds_nothing, fails_overrun, fails_bad, sink_paused}
+use Rattle.dl_rows.proofs.UnitBodyFeeds.{tells_in, feeds_row, feeds_nothing, fails_overrun, fails_bad, sink_paused}
 use Rattle.dl_rows.proofs.unit_body.UnitBody.feed.Goals.{else-self-eq0-via-then-self-eq0+else-not-is_between}
 use Rattle.dl_rows.proofs.unit_body.UnitBody.feed.Goals.{else-self-eq0-via-else-self-eq0}
 use Rattle.dl_rows.proofs.unit_body.UnitBody.feed.Goals as goal

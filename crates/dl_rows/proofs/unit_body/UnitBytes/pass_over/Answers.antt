@@ -1,4 +1,4 @@
-use Rattle.dl_rows.proofs.ForeignFeeds.{feeds_foreign}
+use Rattle.dl_rows.proofs.UnitBodyFeeds.{feeds_foreign}
 use Rattle.dl_rows.proofs.unit_body.UnitBytes.pass_over.Goals as goal
 
 pub returns-clause-fed : goal.returns-clause-fed
