@@ -2,7 +2,7 @@
 -- and the bytes before an operand.
 use Rattle.std.proofs.Common.{◌≡◌, ◌≢◌, ℕ, ◌+◌, ◌-◌, ◌^◌, ◌<◌, ◌≤◌, Bool, true, false, List, [], ◌∷◌, ◌++◌, length}
 use Rattle.std.proofs.Common.{take, slice_index, slice_index_or, Some, Ok, Err, refl, sym, ap, subst, ◌∙◌, arith, inl}
-use Rattle.std.proofs.Common.{inr, append_assoc}
+use Rattle.std.proofs.Common.{inr, append_assoc, length-append}
 use Rattle.std.proofs.lemmas.Bool.{cases_lt, ne_eqb}
 use Rattle.std.proofs.lemmas.List.{length-append, append-nil, take_more, take_all}
 use Rattle.dl_num.specs.declared.fixed.Order.{Order}
@@ -22,11 +22,13 @@ use Rattle.dl_rows.specs.declared.operation_state.OperationStep.TheVariants as s
 use Rattle.dl_rows.specs.OperationSpelt.{discriminator_spelt, extended_spelt, operation_spelt}
 use Rattle.dl_rows.specs.Phases.{HasLength, LebsLeft, PhaseStands, StepIs}
 use Rattle.dl_rows.proofs.FirstLemmas.{At, nowhere_here, at_first, at_same, at_join, at_here, first_nil, open_byte}
-use Rattle.dl_rows.proofs.OperandLemmas.{Verdict, skipped_nowhere, skipped_first, skipped_then}
+use Rattle.dl_rows.proofs.OperandLemmas.{Verdict, skipped_nowhere, skipped_first, skipped_then, sized, sized_first}
 use Rattle.dl_rows.proofs.ExtendedLemmas.{extended_at, length_pending, length_begun, length_refused, body_out}
 use Rattle.dl_rows.proofs.ExtendedLemmas.{discriminator_nowhere, discriminator_first, discriminator_out}
 use Rattle.dl_rows.proofs.ExtendedLemmas.{discriminator_early, discriminator_late}
-use Rattle.dl_rows.proofs.PhaseLemmas.{EndsAs, Answered, piece_is}
+use Rattle.dl_rows.proofs.PhaseLemmas.{EndsAs, Answered, piece_is, address_then}
+use Rattle.dl_num.specs.Fixed.{fixed}
+use Rattle.dl_rows.specs.declared.operation.Operation.{Operation}
 
 -- ---- set_discriminator
 
@@ -301,3 +303,55 @@ rest_begins order h n x v bytes tail r s e a b d more rest =
       omega arith,
       (s.1.0, x, [], now, a, b, d, subst (λ (z : ℕ). HasLength s.1.0 z) m s.1.2),
     ))
+
+-- ---- extended opcodes whose bytes are all there, with a length of one byte
+
+-- bytes after a zero byte spell an operation, and tail are left
+abbrev pub Spelt : Order → Params → List ℕ → List ℕ → Operation → Type 0
+Spelt order h bytes tail o =
+    (front : List ℕ) × (bytes ≡ front ++ tail) × SpellsFirst (operation_spelt order h) (0 ∷ front) (Ok o)
+
+one_byte : (n : ℕ) → 1 ≤ n → n < 128 → HasLength (n ∷ []) n
+one_byte n some lt = (([], n, record { bytes = refl; continue = tt; ends = lt }, omega arith), some, omega arith)
+
+front_is : (n x : ℕ) (bytes rest body w tail : List ℕ) → bytes ≡ n ∷ rest → rest ≡ x ∷ body → body ≡ w ++ tail
+    → bytes ≡ (n ∷ x ∷ w) ++ tail
+front_is n x bytes rest body w tail a b c = a ∙ ap (λ (z : List ℕ). n ∷ z) (b ∙ ap (λ (z : List ℕ). x ∷ z) c)
+
+pub short_end : (order : Order) (h : Params) → 1 ≤ h.opcode_base → (n x : ℕ) (bytes rest tail : List ℕ)
+    → bytes ≡ n ∷ rest → rest ≡ x ∷ tail → x ≡ 1 → n ≡ 1 → Spelt order h bytes tail op.EndSequence
+short_end order h some n x bytes rest tail a b one len = (
+  n ∷ x ∷ [],
+  front_is n x bytes rest tail [] tail a b refl,
+  at_here (extended_at order h some (n ∷ []) [] n x refl (one_byte n (omega arith) (omega arith)))
+      (first_nil (extended_spelt order h.address_size n x) (Ok op.EndSequence)
+      (end_is order h.address_size n x one len)),
+)
+
+pub short_address : (order : Order) (h : Params) → 1 ≤ h.opcode_base → (n x m : ℕ) (bytes rest body tail : List ℕ)
+    → bytes ≡ n ∷ rest → rest ≡ x ∷ body → x ≡ 2 → n ≡ 1 + h.address_size → n < 128
+    → (w : List ℕ) × (body ≡ w ++ tail) × (length w ≡ h.address_size) × (m ≡ fixed order w)
+    → Spelt order h bytes tail (op.SetAddress m)
+short_address order h some n x m bytes rest body tail a b two len lt (w, cut, size, value) = (
+  n ∷ x ∷ w,
+  front_is n x bytes rest body w tail a b cut,
+  rw (value, two) (at_here (at_join
+      (extended_at order h some (n ∷ []) w n 2 refl (one_byte n (omega arith) lt))
+      (at_same (extended_spelt order h.address_size n 2) (sized h.address_size (λ w. op.SetAddress (fixed order w))) w
+      (address_then order h.address_size n len)))
+      (sized_first h.address_size (λ w. op.SetAddress (fixed order w)) w size)),
+)
+
+pub short_discriminator : (order : Order) (h : Params) → 1 ≤ h.opcode_base
+    → (n x m : ℕ) (bytes rest body tail : List ℕ) → bytes ≡ n ∷ rest → rest ≡ x ∷ body → x ≡ 4 → n < 128 → m < 2 ^ 64
+    → n + length tail ≡ 1 + length body → (w : List ℕ) × (body ≡ w ++ tail) × IsUleb w m
+    → Spelt order h bytes tail (op.SetDiscriminator m)
+short_discriminator order h some n x m bytes rest body tail a b four lt fits long (w, cut, is) =
+    let l : length body ≡ length w + length tail = ap length cut ∙ length-append w tail in
+    let len : 1 + length w ≡ n = omega arith in (
+      n ∷ x ∷ w,
+      front_is n x bytes rest body w tail a b cut,
+      rw four (at_here (at_join (extended_at order h some (n ∷ []) w n 4 refl (one_byte n (omega arith) lt))
+          (at_same (extended_spelt order h.address_size n 4) (discriminator_spelt n) w (λ u. refl)))
+          (discriminator_first n m w is fits len)),
+    )

@@ -1,14 +1,15 @@
 -- What is computed of bytes as an operation is so: a good one is spelled, a bad one is faulty.
-use Rattle.std.proofs.Common.{◌≡◌, ℕ, zero, suc, ◌+◌, ◌-◌, ◌^◌, ◌<◌, ◌≤◌, ◌⊎◌, true, not}
-use Rattle.std.proofs.Common.{nat_lt, ◌==◌, List, [], ◌∷◌, ◌++◌, length, slice_get, slice_index, Some}
-use Rattle.std.proofs.Common.{None, Ok, Err, if◌then◌else◌, refl, sym, ap, arith, inl, inr}
+use Rattle.std.proofs.Common.{◌≡◌, ℕ, zero, suc, ◌+◌, ◌-◌, ◌^◌, ◌<◌, ◌≤◌, ◌⊎◌, true, not, nat_lt, ◌==◌, List, [], ◌∷◌}
+use Rattle.std.proofs.Common.{◌++◌, length, slice_get, slice_index, Some, None, Ok, Err, if◌then◌else◌, refl, sym, ap}
+use Rattle.std.proofs.Common.{arith, inl, inr, ℤ, pos, negsuc, false, subst, ◌∙◌}
 use Rattle.std.proofs.lemmas.Bool.{cases_Bool, cases_eq, cases_lt, lt-leb, le-leb, lt-ltb, le-ltb, eq-eqb, ne_eqb}
+use Rattle.std.proofs.lemmas.Bool.{eqb-true, ltb-true, ltb-false}
 use Rattle.std.proofs.lemmas.List.{append-nil}
 use Rattle.dl_num.specs.declared.fixed.Order.{Order}
 use Rattle.dl_num.specs.Fixed.{fixed}
-use Rattle.dl_num.specs.Leb.{groups, IsUleb}
+use Rattle.dl_num.specs.Leb.{groups, IsUleb, signed_groups, IsSleb, IsSigned64}
 use Rattle.dl_num.specs.LebFront.{is_leb, leb_front, after_leb}
-use Rattle.dl_num.proofs.LebLaws.{leb_is}
+use Rattle.dl_num.proofs.LebLaws.{leb_is, is_leb-of}
 use Rattle.dl_field.specs.declared.params.Params.{Params}
 use Rattle.dl_table.specs.declared.fault.FaultKind.TheVariants as fault
 use Rattle.dl_table.specs.Value.{Judgement, good, bad}
@@ -17,9 +18,64 @@ use Rattle.dl_rows.specs.declared.operation.Operation.TheVariants as op
 use Rattle.dl_rows.specs.OperationSpelt.{is_empty, fits_signed, signed_number, unsigned_operand, signed_operand}
 use Rattle.dl_rows.specs.OperationSpelt.{standard_opcodes, standard_spelt, are_lebs, discriminator_spelt}
 use Rattle.dl_rows.specs.OperationSpelt.{extended_spelt, body_spelt, operation_spelt}
-use Rattle.dl_rows.specs.Spelling.{IsBare, HasUnsigned, IsExtended, SpellsOperation}
+use Rattle.dl_rows.specs.Spelling.{IsBare, HasUnsigned, IsExtended, SpellsOperation, IsNumber}
 use Rattle.dl_rows.specs.BadOperation.{BeginsExtended, BeginsDiscriminator, IsWrongLength, IsFaulty}
-use Rattle.dl_rows.proofs.JudgedNumbers.{empty_is, fits, fits_not, leb_split, lebs_are, no_number, number_is, signed_is}
+use Rattle.std.specs.List.{concat, AllByRecursion}
+use Rattle.dl_num.proofs.LebFrontLemmas.{and_left, and_right, true_false}
+use Rattle.dl_rows.proofs.OperandLemmas.{signed_number-is}
+
+-- ---- numbers
+
+pub number_is : (w : List ℕ) → is_leb w ≡ true → IsUleb w (groups w)
+number_is w t = let r = leb_is w t in (r.0, r.1, r.2, refl)
+
+pub signed_is : (w : List ℕ) → is_leb w ≡ true → IsSleb w (signed_number w)
+signed_is w t =
+    let r = leb_is w t in
+    let s : IsSleb w (signed_groups w r.1) = (r.0, r.1, r.2, refl) in
+    subst (λ (i : ℤ). IsSleb w i) (sym (signed_number-is w (signed_groups w r.1) s)) s
+
+pub no_number : (w : List ℕ) → is_leb w ≡ false → IsNumber w → ⊥
+no_number w f n = true_false (is_leb-of w n.0 n.1 n.2) f
+
+pub fits : (i : ℤ) → fits_signed i ≡ true → IsSigned64 i
+fits (pos n) e = ltb-true n (2 ^ 63) e
+fits (negsuc n) e = ltb-true n (2 ^ 63) e
+
+pub fits_not : (i : ℤ) → fits_signed i ≡ false → IsSigned64 i → ⊥
+fits_not (pos n) e f = let l = ltb-false n (2 ^ 63) e in omega arith
+fits_not (negsuc n) e f = let l = ltb-false n (2 ^ 63) e in omega arith
+
+pub empty_is : (w : List ℕ) → is_empty w ≡ true → w ≡ []
+empty_is [] e = refl
+empty_is (b ∷ w) e = let l = eqb-true (length (b ∷ w)) 0 e in absurd (omega arith)
+
+-- the number at the front, and what follows it
+pub leb_split : (w : List ℕ) → leb_front w ++ after_leb w ≡ w
+leb_split [] = refl
+leb_split (b ∷ w) = elim (cases_lt b 128) [
+  | inl lt ↦ rw (lt-ltb b 128 lt) refl
+  | inr le ↦ rw (le-ltb b 128 le) (ap (λ (z : List ℕ). b ∷ z) (leb_split w))
+]
+
+-- numbers, as many as these
+pub record AreNumbers (count : ℕ) (w : List ℕ) : Type 0 where
+  pub operands : List (List ℕ)
+  pub as_many : length operands ≡ count
+  pub each : AllByRecursion IsNumber operands
+  pub bytes : w ≡ concat operands
+
+pub lebs_are : (count : ℕ) (w : List ℕ) → are_lebs count w ≡ true → AreNumbers count w
+lebs_are zero w e = record { operands = []; as_many = refl; each = tt; bytes = empty_is w e }
+lebs_are (suc count) w e =
+    let t = and_left (is_leb (leb_front w)) (are_lebs count (after_leb w)) e in
+    let r = lebs_are count (after_leb w) (and_right (is_leb (leb_front w)) (are_lebs count (after_leb w)) e) in
+    record {
+      operands = leb_front w ∷ r.operands;
+      as_many = ap suc r.as_many;
+      each = (leb_is (leb_front w) t, r.each);
+      bytes = sym (leb_split w) ∙ ap (λ (z : List ℕ). leb_front w ++ z) r.bytes;
+    }
 
 -- what holds of w where this is computed of it
 abbrev pub Judged : Order → Params → List ℕ → Judgement Operation → Type 0

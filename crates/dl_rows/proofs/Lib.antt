@@ -1,15 +1,11 @@
-pub mod Arithmetic
 pub mod BodyLemmas
 pub mod CallLemmas
 pub mod ExtendedLemmas
 pub mod FirstLemmas
-pub mod ForeignCells
 pub mod HeadFeeds
-pub mod HeaderBegun
 pub mod HeaderParams
 pub mod JoinLemmas
 pub mod Judged
-pub mod JudgedNumbers
 pub mod OperandLemmas
 pub mod OperandRanges
 pub mod OperationFront
@@ -18,7 +14,6 @@ pub mod OwnVersions
 pub mod PhaseLemmas
 pub mod PlaceLemmas
 pub mod ProgramLaws
-pub mod ProgramLemmas
 pub mod ProgramSteps
 pub mod ProgramWalks
 pub mod ReaderFeeds
@@ -27,7 +22,6 @@ pub mod RegisterLemmas
 pub mod RowBytes
 pub mod RunLemmas
 pub mod RunTurns
-pub mod ShortExtended
 pub mod SpeltFirst
 pub mod UnitBodyFeeds
 pub mod UnitBodyLemmas

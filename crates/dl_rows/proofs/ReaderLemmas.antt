@@ -24,9 +24,8 @@ use Rattle.dl_rows.specs.LineUnit.{IsUnit, rows_later, unit_rows}
 use Rattle.dl_rows.specs.Reading.{WithinUnit, FinishIs}
 use Rattle.dl_rows.specs.ReaderStates.{StandsAt}
 use Rattle.dl_rows.specs.UnitBodies.{Counts, AfterHeader, InProgram, InForeign, BodyStands}
-use Rattle.dl_rows.proofs.ForeignCells.{foreign_no_cells}
+use Rattle.dl_rows.proofs.UnitLengths.{foreign_no_cells, foreign_unit, length_of_unit, some_same}
 use Rattle.dl_rows.proofs.UnitBodyLemmas.{counts_within, header_at}
-use Rattle.dl_rows.proofs.UnitLengths.{foreign_unit, length_of_unit, some_same}
 use Rattle.dl_rows.proofs.UnitQuiet.{foreign_quiet}
 use Rattle.dl_rows.proofs.UnitWhole.{NoneRefused, unit_unless_refused}
 

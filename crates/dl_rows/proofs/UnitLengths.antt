@@ -1,7 +1,7 @@
--- The length of a unit, and the version of a foreign one, as they are computed.
+-- The length of a unit, and the version of a foreign one, as they are computed; and that this holds no cells.
 use Rattle.dl_head.specs.declared.dialect.Dialect.{Dialect}
 use Rattle.std.proofs.Common.{◌≡◌, ◌≢◌, ℕ, ◌≤◌, ◌^◌, ◌+◌, List, [], ◌∷◌, ◌++◌, length, Option, Some, None, refl, sym}
-use Rattle.std.proofs.Common.{ap, subst, ◌∙◌, arith, inl, inr, length-append, append_assoc, append-nil}
+use Rattle.std.proofs.Common.{ap, subst, ◌∙◌, arith, inl, inr, length-append, append_assoc, append-nil, sum_by}
 use Rattle.std.proofs.lemmas.Bool.{cases_eq, eq-eqb, ne_eqb}
 use Rattle.dl_num.specs.declared.fixed.Order.{Order}
 use Rattle.dl_table.specs.declared.form.Format.{Format}
@@ -24,6 +24,9 @@ use Rattle.dl_head.proofs.Openings.{after_length}
 use Rattle.dl_rows.specs.LineUnit.{HasItsLength, IsForeignUnit, IsUnit}
 use Rattle.dl_rows.specs.UnitLaws.{LengthIsComputed, NoUnitBeginsAnother}
 use Rattle.dl_rows.proofs.UnitLemmas.{unit_len_on}
+use Rattle.std.proofs.lemmas.List.Sums.{sum_by-cons}
+use Rattle.dl_field.specs.Cells.{item_cells, rest_cells}
+use Rattle.dl_head.specs.Cells.{cells}
 
 length_same : (f g : Format) (m n : ℕ) → length_is f m ≡ length_is g n → initial_size f + m ≡ initial_size g + n
 length_same f g m n e = cc
@@ -252,3 +255,56 @@ unit_len_small dialect b n e =
         let sizes = length_same format is.0 m is.1 is.2 in
         omega (arith, some_same _ _ e, sizes, small_length dialect.order is.0 is.1 s.0 is.3)
     on other w s e = absurd (none_some refl e)
+
+-- ---- a foreign unit holds no cells
+
+-- after a foreign version no field is spelled
+after_version : (dialect : Dialect) (format : Format) (n m v : ℕ) (items : List Item) (w : List ℕ)
+    → SpellsFields dialect.order (after_length dialect format n m) items w
+    → following_all (after_length dialect format n m) items ≡ foreign_version v → sum_by item_cells items ≡ 0
+after_version dialect format n m v [] w s e = refl
+after_version dialect format n m v (i ∷ items) w s e =
+    let found = version_of dialect format n m v (i ∷ items) w s e in
+    let same : after_length dialect format n m ≡ foreign_version m =
+    rw (found.0, ne_eqb v 5 found.1) (rw found.2 refl) in
+    let t : SpellsFields dialect.order (foreign_version m) (i ∷ items) w = rw same at s in
+    absurd (none_some refl t.3)
+
+-- nor is its length or its version a cell
+in_fields : (dialect : Dialect) (v : ℕ) (items : List Item) (w : List ℕ)
+    → SpellsFields dialect.order (header_layout dialect) items w
+    → following_all (header_layout dialect) items ≡ foreign_version v → sum_by item_cells items ≡ 0
+in_fields dialect v [] w s f = absurd (none_some {a = v} refl (ap foreign_made f))
+in_fields dialect v (i ∷ []) w s f =
+    let a = is_length dialect.order s.0 i s.3 in
+    absurd (none_some {a = v} (ap (λ (j : Item). foreign_made (following (header_layout dialect) j)) a.item)
+    (ap foreign_made f))
+in_fields dialect v (i ∷ j ∷ items) w s f =
+    let a = is_length dialect.order s.0 i s.3 in
+    let next : SpellsFields dialect.order (number_then version (after_length dialect a.format a.number))
+    (j ∷ items) s.1 =
+    subst (λ (k : Item). SpellsFields dialect.order (following (header_layout dialect) k) (j ∷ items) s.1) a.item s.4 in
+    let n = is_number dialect.order version (after_length dialect a.format a.number) next.0 j next.3 in
+    let tail : following_all (after_length dialect a.format a.number n.number) items ≡ foreign_version v =
+    ap (λ (k : Item). following_all (following (number_then version (after_length dialect a.format a.number)) k) items)
+    (sym n.item)
+    ∙ ap (λ (k : Item). following_all (following (header_layout dialect) k) (j ∷ items)) (sym a.item) ∙ f in
+    let rest =
+    after_version dialect a.format a.number n.number v items next.1
+    (subst (λ (k : Item). SpellsFields dialect.order
+    (following (number_then version (after_length dialect a.format a.number)) k)
+    items next.1) n.item next.4) tail in
+    let first : item_cells i ≡ 0 = ap item_cells a.item in
+    let second : item_cells j ≡ 0 = ap item_cells n.item in
+    omega (arith, sum_by-cons item_cells i (j ∷ items), sum_by-cons item_cells j items, first, second, rest)
+
+-- what begins with a foreign version holds no cells
+pub foreign_no_cells : (dialect : Dialect) (v : ℕ) (b : List ℕ) → foreign_in dialect b ≡ Some v → cells dialect b ≡ 0
+foreign_no_cells dialect v b foreign =
+    let s : Sound dialect.order (header_layout dialect) b (cut dialect b) =
+    cut_sound dialect.order (header_layout dialect) [] b in
+    let last : following_all (header_layout dialect) (cut dialect b).items ≡ foreign_version v =
+    foreign_last (following_all (header_layout dialect) (cut dialect b).items) v foreign in
+    let items = in_fields dialect v (cut dialect b).items s.front s.spelt last in
+    ap (λ (l : Layout). sum_by item_cells (cut dialect b).items + rest_cells l (cut dialect b).rest) last
+    ∙ ap (λ (n : ℕ). n + 0) items

@@ -2,8 +2,8 @@ use Rattle.std.proofs.Common.{true, false, refl, sym, ap, ◌∙◌}
 use Rattle.dl_rows.specs.declared.registers.Registers.{Registers}
 use Rattle.dl_rows.specs.Matrix.{appends_row, is_end}
 use Rattle.dl_rows.specs.Machine.{applied, cleared, row_of}
-use Rattle.dl_rows.proofs.ProgramLemmas.{appends_none, finishes_with_row, finishes_without, settled_special}
-use Rattle.dl_rows.proofs.ProgramLemmas.{settled_end}
+use Rattle.dl_rows.proofs.RegisterLemmas.{appends_none, finishes_with_row, finishes_without, settled_special}
+use Rattle.dl_rows.proofs.RegisterLemmas.{settled_end}
 use Rattle.dl_rows.proofs.program.Program.finish.Goals as goal
 
 pub returns-in-Special-clause-finishes : goal.returns-in-Special-clause-finishes

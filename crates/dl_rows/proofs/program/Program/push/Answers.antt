@@ -1,6 +1,6 @@
 use Rattle.std.proofs.Common.{[], sym, ◌∙◌, arith, append-nil}
 use Rattle.dl_rows.specs.declared.program.ProgramStep.TheVariants as given
-use Rattle.dl_rows.proofs.JudgedNumbers.{empty_is}
+use Rattle.dl_rows.proofs.Judged.{empty_is}
 use Rattle.dl_rows.proofs.ProgramSteps.{within_given, refuses_given, turned_at, walked_on, walked_row, row_given}
 use Rattle.dl_rows.proofs.ProgramWalks.{nothing_left, tell_start, tell_after, tells_after}
 use Rattle.dl_rows.proofs.program.Program.push.Goals as goal

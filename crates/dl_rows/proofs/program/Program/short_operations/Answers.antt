@@ -1,4 +1,4 @@
-use Rattle.dl_rows.proofs.ProgramLemmas.{same_begun}
+use Rattle.dl_rows.proofs.RegisterLemmas.{same_begun}
 use Rattle.dl_rows.proofs.ProgramWalks.{tell_start}
 use Rattle.dl_rows.proofs.program.Program.short_operations.Goals as goal
 

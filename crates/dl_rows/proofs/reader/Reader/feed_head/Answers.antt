@@ -2,7 +2,7 @@ use Rattle.std.proofs.Common.{◌++◌, take, inr, refl, sym, ◌∙◌, arith}
 use Rattle.dl_head.specs.declared.reader.HeadStep.TheVariants as answer
 use Rattle.dl_rows.proofs.HeadFeeds.{head_took, bytes_taken, come_to, goes_stands, feeds_goes, holds_more}
 use Rattle.dl_rows.proofs.HeadFeeds.{holds_refused, fails_head, stopped_head, feeds_version, feeds_header}
-use Rattle.dl_rows.proofs.HeaderBegun.{begun_in, begun_takes, comes_to, knows_foreign}
+use Rattle.dl_rows.proofs.HeadFeeds.{begun_in, begun_takes, comes_to, knows_foreign}
 use Rattle.dl_rows.proofs.ReaderLemmas.{cells_at}
 use Rattle.dl_rows.proofs.reader.Reader.feed_head.Goals as goal
 
