@@ -1,7 +1,7 @@
 -- What bytes make of an operation that is begun: set_discriminator, opcodes that are passed over,
 -- and the bytes before an operand.
 use Rattle.std.proofs.Common.{◌≡◌, ◌≢◌, ℕ, ◌+◌, ◌-◌, ◌^◌, ◌<◌, ◌≤◌, Bool, true, false, List, [], ◌∷◌, ◌++◌, length}
-use Rattle.std.proofs.Common.{take, slice_index, slice_index_or, Some, Ok, Err, refl, sym, ap, subst, ◌∙◌, arith, inl}
+use Rattle.std.proofs.Common.{take, slice_index, slice_index_or, Some, Ok, Err, refl, sym, ap, ◌∙◌, arith, inl}
 use Rattle.std.proofs.Common.{inr, append_assoc, length-append}
 use Rattle.std.proofs.lemmas.Bool.{cases_lt, ne_eqb}
 use Rattle.std.proofs.lemmas.List.{length-append, append-nil, take_more, take_all}
@@ -46,7 +46,7 @@ discriminator_more order h left b old new v s more took =
         s.2.0,
         operand ++ b ∷ [],
         piece_is s.2.0 operand (b ∷ []) v 4 s.2.2,
-        subst (λ (z : ℕ). HasLength s.2.0 z) m s.2.3,
+        rw m at s.2.3,
         took operand s.2.4,
       ),
     )
@@ -176,11 +176,7 @@ pub extended_pends : (order : Order) (h : Params) (n : ℕ) (v bytes : List ℕ)
     → PhaseStands h (phase.Extended n) v → StepIs order h v bytes (step.Within (phase.Extended n))
 extended_pends order h n v (x ∷ bytes) e s = absurd (omega arith)
 extended_pends order h n v [] e s =
-    let same = append-nil v in (
-      subst (λ (z : List ℕ). PhaseStands h (phase.Extended n) z) (sym same) s,
-      subst (λ (z : List ℕ). SpellsNowhere (operation_spelt order h) z) (sym (same ∙ s.1.1))
-          (length_pending order h s.0 s.1.0 n s.1.2),
-    )
+    rw (append-nil v) (s, rw s.1.1 (length_pending order h s.0 s.1.0 n s.1.2))
 
 -- its number decides alone
 pub opcode_decides : (order : Order) (h : Params) (n x : ℕ) (v bytes tail : List ℕ) (a : Verdict)
@@ -277,7 +273,7 @@ address_begins order h n x new v bytes tail r s e is size none width rest =
     ap (λ (z : List ℕ). z ++ x ∷ []) s.1.1 ∙ ap (λ (z : ℕ). 0 ∷ (s.1.0 ++ z ∷ [])) is
     ∙ ap (λ (z : List ℕ). 0 ∷ (s.1.0 ++ 2 ∷ z)) (sym none) in
     step_from order h v (x ∷ []) tail bytes r e
-    (rest (v ++ x ∷ []) (s.0, (s.1.0, now, subst (λ (z : ℕ). HasLength s.1.0 z) size s.1.2, width)))
+    (rest (v ++ x ∷ []) (s.0, (s.1.0, now, rw size at s.1.2, width)))
 
 pub discriminator_begins : (order : Order) (h : Params) (n x : ℕ) (new : Uleb) (v bytes tail : List ℕ)
     (r : OperationStep) → PhaseStands h (phase.Extended n) v → bytes ≡ x ∷ tail → x ≡ 4
@@ -288,7 +284,7 @@ discriminator_begins order h n x new v bytes tail r s e is more took rest =
     ap (λ (z : List ℕ). z ++ x ∷ []) s.1.1 ∙ ap (λ (z : ℕ). 0 ∷ (s.1.0 ++ z ∷ [])) is in
     let m : n ≡ 1 + 0 + (n - 1) = omega arith in
     step_from order h v (x ∷ []) tail bytes r e
-    (rest (v ++ x ∷ []) (s.0, omega arith, (s.1.0, [], now, subst (λ (z : ℕ). HasLength s.1.0 z) m s.1.2, took)))
+    (rest (v ++ x ∷ []) (s.0, omega arith, (s.1.0, [], now, rw m at s.1.2, took)))
 
 pub rest_begins : (order : Order) (h : Params) (n x : ℕ) (v bytes tail : List ℕ) (r : OperationStep)
     → PhaseStands h (phase.Extended n) v → bytes ≡ x ∷ tail → x ≢ 1 → x ≢ 2 → x ≢ 4
@@ -301,7 +297,7 @@ rest_begins order h n x v bytes tail r s e a b d more rest =
     (rest (v ++ x ∷ []) (
       s.0,
       omega arith,
-      (s.1.0, x, [], now, a, b, d, subst (λ (z : ℕ). HasLength s.1.0 z) m s.1.2),
+      (s.1.0, x, [], now, a, b, d, rw m at s.1.2),
     ))
 
 -- ---- extended opcodes whose bytes are all there, with a length of one byte

@@ -1,6 +1,6 @@
 -- What the bytes of an operand spell first.
 use Rattle.std.proofs.Common.{◌≡◌, ℕ, suc, ◌+◌, ◌^◌, ◌<◌, ◌≤◌, ℤ, pos, negsuc, true, false, ◌==◌, List, [], ◌∷◌, ◌++◌}
-use Rattle.std.proofs.Common.{length, Option, Some, None, Result, Ok, Err, if◌then◌else◌, refl, sym, ap, subst, ◌∙◌}
+use Rattle.std.proofs.Common.{length, Option, Some, None, Result, Ok, Err, if◌then◌else◌, refl, sym, ap, ◌∙◌}
 use Rattle.std.proofs.Common.{arith, inl, inr, zero, ◌-◌, slice_index, append_assoc}
 use Rattle.std.proofs.lemmas.Bool.{cases_lt, lt-ltb, le-ltb, eq-eqb, ne_eqb, lt-leb}
 use Rattle.std.proofs.lemmas.List.{length-append, append-nil, drop-append-le, drop_all}
@@ -32,7 +32,7 @@ continue_front [] (b ∷ front) back h e = absurd cc
 continue_front (a ∷ w) (b ∷ front) back h e =
     let s : a ≡ b = cc in
     let t : w ≡ front ++ back = cc in
-    (subst (λ (z : ℕ). 128 ≤ z) s h.0, continue_front w front back h.1 t)
+    (rw s at h.0, continue_front w front back h.1 t)
 
 -- so do proper fronts of bytes that continue up to the last one
 pub continue_before : (before : List ℕ) (last : ℕ) (front : List ℕ) (x : ℕ) (back : List ℕ) → AllContinue before
@@ -43,7 +43,7 @@ continue_before [] last (b ∷ c ∷ front) x back h e = absurd cc
 continue_before (a ∷ before) last (b ∷ front) x back h e =
     let s : a ≡ b = cc in
     let t : before ++ last ∷ [] ≡ front ++ x ∷ back = cc in
-    (subst (λ (z : ℕ). 128 ≤ z) s h.0, continue_before before last front x back h.1 t)
+    (rw s at h.0, continue_before before last front x back h.1 t)
 
 -- proper fronts of a number in LEB128
 pub leb_front_continues : (w front : List ℕ) (last : ℕ) (before : List ℕ) (x : ℕ) (back : List ℕ) → IsLeb w before last
@@ -53,7 +53,7 @@ leb_front_continues w front last before x back leb e =
 
 pub is_leb-number : (w front : List ℕ) (last : ℕ) → IsLeb w front last → is_leb w ≡ true
 is_leb-number w front last leb =
-    subst (λ (z : List ℕ). is_leb z ≡ true) (sym leb.bytes) (is_leb-ends front last leb.continue leb.ends)
+    rw leb.bytes (is_leb-ends front last leb.continue leb.ends)
 
 last_byte-push : (w : List ℕ) (b : ℕ) → last_byte (w ++ b ∷ []) ≡ b
 last_byte-push [] b = refl
@@ -62,7 +62,7 @@ last_byte-push (a ∷ c ∷ w) b = last_byte-push (c ∷ w) b
 
 pub signed_number-is : (w : List ℕ) (i : ℤ) → IsSleb w i → signed_number w ≡ i
 signed_number-is w i s =
-    let b : last_byte w ≡ s.1 = subst (λ (z : List ℕ). last_byte z ≡ s.1) (sym s.2.bytes) (last_byte-push s.0 s.1) in
+    let b : last_byte w ≡ s.1 = rw s.2.bytes (last_byte-push s.0 s.1) in
     ap (λ (z : ℕ). signed_groups w z) b ∙ sym s.3
 
 -- ---- an unsigned operand
@@ -157,8 +157,7 @@ lebs_start count some = record {
   continue = tt;
   same = λ x. refl;
   nowhere =
-      λ front back e. subst (λ (z : List ℕ). are_lebs count z ≡ false) (sym (nil_front front back e))
-      (begun_fails count [] some tt);
+      λ front back e. rw (nil_front front back e) (begun_fails count [] some tt);
 }
 
 -- the fronts of w and one byte more
@@ -167,7 +166,7 @@ nowhere_push : (count : ℕ) (w : List ℕ) (b : ℕ)
     → are_lebs count (w ++ b ∷ []) ≡ false → (front : List ℕ) (back : List ℕ) → w ++ b ∷ [] ≡ front ++ back
     → are_lebs count front ≡ false
 nowhere_push count w b h whole front [] e =
-    subst (λ (z : List ℕ). are_lebs count z ≡ false) (e ∙ append-nil front) whole
+    rw (e ∙ append-nil front) at whole
 nowhere_push count w b h whole front (y ∷ back) e = let r = front_before w front b y back e in h front r.0 r.1
 
 pub lebs_more : (count : ℕ) (w : List ℕ) (left b : ℕ) → LebsLeft count w left → 128 ≤ b

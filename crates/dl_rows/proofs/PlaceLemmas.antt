@@ -1,6 +1,6 @@
 -- The place of a row, one operation more.
 use Rattle.std.proofs.Common.{◌≡◌, ℕ, ◌+◌, ◌*◌, ◌/◌, ◌%◌, ◌-◌, ◌<◌, ◌≤◌, refl, ap, ◌∙◌, arith, inl, inr, cond, Bool}
-use Rattle.std.proofs.Common.{true, false, not, ◌||◌, List, [], ◌∷◌, ◌++◌, length, Option, Some, None, sum_by, suc, ◌^◌}
+use Rattle.std.proofs.Common.{true, false, not, List, [], ◌∷◌, ◌++◌, length, Option, Some, None, sum_by, suc, ◌^◌}
 use Rattle.std.proofs.Common.{sym, ℤ, pos, negsuc, ◌+ℤ◌}
 use Rattle.std.specs.Option.{option_or}
 use Rattle.std.specs.List.{after_last, list_any, suffix_len}
@@ -116,14 +116,8 @@ last_set-push sets (x ∷ os) o = rw (last_set-push sets os o) (or_assoc (sets o
 
 pub any-push : (p : Operation → Bool) (os : List Operation) (o : Operation)
     → list_any p (os ++ o ∷ []) ≡ cond (p o) true (list_any p os)
-any-push p [] o = elim (p o) as (λ b. (b || false) ≡ cond b true false) [ true ↦ refl | false ↦ refl ]
-any-push p (x ∷ os) o =
-    rw (any-push p os o) (elim (p o) as (λ b. (p x || cond b true (list_any p os))
-    ≡ cond b true (p x || list_any p os)) [
-      | true ↦ (elim (p x) as (λ a. (a || true)
-          ≡ true) [ true ↦ refl | false ↦ refl ])
-      | false ↦ refl
-    ])
+any-push p [] o = grind arith
+any-push p (x ∷ os) o = rw (any-push p os o) (elim (cases_Bool (p x)) [ inl a ↦ rw a (grind arith) | inr a ↦ rw a refl ])
 
 -- ---- parts
 
@@ -138,11 +132,10 @@ IsSome xs = (x : ℕ) × (ys : List ℕ) × (xs ≡ x ∷ ys)
 
 parts_some : (h : Params) (os : List Operation) → IsSome (parts h os)
 parts_some h [] = (0, [], refl)
-parts_some h (o ∷ os) =
-    elim (is_fixed_add o) as (λ b. IsSome (cond b (0 ∷ parts h os) (onto_first (advance h o) (parts h os)))) [
-      | true ↦ (0, parts h os, refl)
-      | false ↦ let s = parts_some h os in (advance h o + s.0, s.1, rw s.2 refl)
-    ]
+parts_some h (o ∷ os) = elim (cases_Bool (is_fixed_add o)) [
+  | inl t ↦ rw t (0, parts h os, refl)
+  | inr f ↦ (let s = parts_some h os in rw f (advance h o + s.0, s.1, rw s.2 refl))
+]
 
 onto_first-push : (a : ℕ) (xs : List ℕ) → IsSome xs → onto_first a (xs ++ 0 ∷ []) ≡ onto_first a xs ++ 0 ∷ []
 onto_first-push a xs s = rw s.2 refl
@@ -151,12 +144,9 @@ parts-fixed : (h : Params) (os : List Operation) (o : Operation) → is_fixed_ad
     → parts h (os ++ o ∷ []) ≡ parts h os ++ 0 ∷ []
 parts-fixed h [] o e = rw e refl
 parts-fixed h (x ∷ os) o e =
-    rw (parts-fixed h os o e)
-    (elim (is_fixed_add x) as (λ b. cond b (0 ∷ (parts h os ++ 0 ∷ []))
-    (onto_first (advance h x) (parts h os ++ 0 ∷ [])) ≡ cond b (0 ∷ parts h os) (onto_first (advance h x) (parts h os))
-    ++ 0 ∷ []) [
-      | true ↦ refl
-      | false ↦ onto_first-push (advance h x) (parts h os) (parts_some h os)
+    rw (parts-fixed h os o e) (elim (cases_Bool (is_fixed_add x)) [
+      | inl t ↦ rw t refl
+      | inr f ↦ rw f (onto_first-push (advance h x) (parts h os) (parts_some h os))
     ])
 
 onto_last-cons : (a : ℕ) (xs : List ℕ) → IsSome xs → 0 ∷ onto_last a xs ≡ onto_last a (0 ∷ xs)
@@ -176,12 +166,9 @@ parts-plain : (h : Params) (os : List Operation) (o : Operation) → is_fixed_ad
 unfolding onto_last
 parts-plain h [] o e = rw e (ap (λ (n : ℕ). n ∷ []) (omega arith))
 parts-plain h (x ∷ os) o e =
-    rw (parts-plain h os o e)
-    (elim (is_fixed_add x) as (λ b. cond b (0 ∷ onto_last (advance h o) (parts h os))
-    (onto_first (advance h x) (onto_last (advance h o) (parts h os)))
-    ≡ onto_last (advance h o) (cond b (0 ∷ parts h os) (onto_first (advance h x) (parts h os)))) [
-      | true ↦ onto_last-cons (advance h o) (parts h os) (parts_some h os)
-      | false ↦ onto_both (advance h o) (advance h x) (parts h os) (parts_some h os)
+    rw (parts-plain h os o e) (elim (cases_Bool (is_fixed_add x)) [
+      | inl t ↦ rw t (onto_last-cons (advance h o) (parts h os) (parts_some h os))
+      | inr f ↦ rw f (onto_both (advance h o) (advance h x) (parts h os) (parts_some h os))
     ])
 
 last_part-onto : (a : ℕ) (xs : List ℕ) → last_part (onto_last a xs) ≡ last_part xs + a

@@ -9,7 +9,7 @@ use Rattle.std.specs.List.{after_last, list_any}
 use Rattle.std.proofs.lemmas.List.{append-nil}
 use Rattle.std.proofs.lemmas.List.Sums.{fold_push}
 use Rattle.std.proofs.Math.Nat.{zero-div, zero-mod, mod-lt, div-eq_of_lt, mod-eq_of_lt}
-use Rattle.std.proofs.lemmas.Bool.{cases_lt, or_cases, eqb-true}
+use Rattle.std.proofs.lemmas.Bool.{cases_Bool, cases_lt, or_cases, eqb-true}
 use Rattle.std.proofs.lemmas.Nat.{div-add-mod'}
 use Rattle.std.proofs.lemmas.Int.{ints}
 use Rattle.dl_field.specs.declared.params.Params.{Params}
@@ -201,15 +201,9 @@ rows_after-push : (h : Params) (front os : List Operation) (o : Operation)
     → rows_after h front (os ++ o ∷ []) ≡ rows_after h front os ++ cond (appends_row o) (row h (front ++ os) o ∷ []) []
 rows_after-push h front [] o = rw append-nil refl
 rows_after-push h front (x ∷ os) o =
-    let ih = rows_after-push h (front ++ x ∷ []) os o in
     let e = append_assoc front (x ∷ []) os in
-    rw (ih, e)
-    (elim (appends_row x) as (λ b.
-    cond b (row h front x
-    ∷ (rows_after h (front ++ x ∷ []) os ++ cond (appends_row o) (row h (front ++ (x ∷ os)) o ∷ []) []))
-    (rows_after h (front ++ x ∷ []) os ++ cond (appends_row o) (row h (front ++ (x ∷ os)) o ∷ []) [])
-    ≡ cond b (row h front x ∷ rows_after h (front ++ x ∷ []) os) (rows_after h (front ++ x ∷ []) os)
-    ++ cond (appends_row o) (row h (front ++ (x ∷ os)) o ∷ []) []) [ true ↦ refl | false ↦ refl ])
+    rw (rows_after-push h (front ++ x ∷ []) os o, e)
+    (elim (cases_Bool (appends_row x)) [ inl t ↦ rw t | inr f ↦ rw f ])
 
 -- one operation more, and its row where it appends one
 pub matrix-push : (h : Params) (os : List Operation) (o : Operation)

@@ -1,7 +1,7 @@
 -- Where a header isn't complete at its end or at that of its unit, something is decided there.
 use Rattle.dl_head.specs.declared.dialect.Dialect.{Dialect}
 use Rattle.std.proofs.Common.{◌≡◌, ◌≢◌, ℕ, ◌+◌, ◌-◌, ◌≤◌, Bool, true, nat_le, ◌&&◌, if◌then◌else◌, List, [], ◌∷◌, ◌++◌}
-use Rattle.std.proofs.Common.{length, take, drop, Option, Some, None, refl, sym, ap, subst, ◌∙◌, arith, inl, inr, ◌⊎◌}
+use Rattle.std.proofs.Common.{length, take, drop, Option, Some, None, refl, sym, ap, ◌∙◌, arith, inl, inr, ◌⊎◌}
 use Rattle.std.proofs.Common.{length-append, append_assoc}
 use Rattle.std.proofs.lemmas.Bool.{cases_eq, eq-eqb, ne_eqb, le-leb}
 use Rattle.std.proofs.lemmas.List.{take-append-drop, length-take-le}
@@ -113,7 +113,7 @@ nothing_more : (dialect : Dialect) (items : List Item) (u : List ℕ) (o : Openi
     → length u ≡ initial_size o.format + fixed_part o.format o.of_version
 nothing_more dialect items u o none =
     let zero : length o.rest ≡ 0 =
-    ap length (subst (λ (l : List Item). SpellsFields dialect.order (from_minimum_length o.p) l o.rest) none o.spelt) in
+    ap length (rw none at o.spelt) in
     omega (arith, o.size, zero)
 
 abbrev sizes : Format → ℕ → ℕ
@@ -192,7 +192,7 @@ up_to_header dialect b end len e =
     opened items fields rest whole s unit o =
         let i = first_of dialect items fields o in
         let u = spells_split dialect.order (header_layout dialect) i.first i.more fields
-        (subst (λ (l : List Item). SpellsFields dialect.order (header_layout dialect) l fields) i.all s) in
+        (rw i.all at s) in
         let tail = u.1 ++ rest in
         let all : b ≡ u.0 ++ tail = whole ∙ ap (λ (w : List ℕ). w ++ rest) u.2 ∙ append_assoc u.0 u.1 rest in
         let size = i.size u.0 u.3 in
@@ -222,26 +222,16 @@ made_own : (order : Order) (f : Format) (n : ℕ) (items : List Item) (w : List 
     → SpellsFields order (from_address_size n (format_alone f)) items w
     → header_made (following_all (from_address_size n (format_alone f)) items) ≡ None
 made_own order f n [] w e s = refl
-made_own order f n (i ∷ []) w e s =
-    let a = is_number order address_size (after_address f n) s.0 i s.3 in
-    ap (λ (x : Item). header_made (following (from_address_size n (format_alone f)) x)) a.item
+made_own order f n (i ∷ []) w e s = rw (is_number order address_size (after_address f n) s.0 i s.3).item
 made_own order f n (i ∷ j ∷ []) w e s =
     let a = is_number order address_size (after_address f n) s.0 i s.3 in
-    let t : SpellsFields order (after_address f n a.number) (j ∷ []) s.1 =
-    subst (λ (x : Item). SpellsFields order (following (from_address_size n (format_alone f)) x) (j ∷ []) s.1) a.item
-    s.4
-    in
-    let b = is_number order any_byte (after_segment f n a.number) t.0 j t.3 in
-    ap (λ (x : Item). header_made (following (following (from_address_size n (format_alone f)) x) j)) a.item
-    ∙ ap (λ (x : Item). header_made (following (after_address f n a.number) x)) b.item
+    let t : SpellsFields order (after_address f n a.number) (j ∷ []) s.1 = rw a.item at s.4 in
+    rw (a.item, (is_number order any_byte (after_segment f n a.number) t.0 j t.3).item)
 made_own order f n (i ∷ j ∷ k ∷ items) w e s =
     let a = is_number order address_size (after_address f n) s.0 i s.3 in
-    let t : SpellsFields order (after_address f n a.number) (j ∷ k ∷ items) s.1 =
-    subst (λ (x : Item). SpellsFields order (following (from_address_size n (format_alone f)) x) (j ∷ k ∷ items) s.1)
-    a.item s.4 in
+    let t : SpellsFields order (after_address f n a.number) (j ∷ k ∷ items) s.1 = rw a.item at s.4 in
     let b = is_number order any_byte (after_segment f n a.number) t.0 j t.3 in
-    let u : SpellsFields order (after_segment f n a.number b.number) (k ∷ items) t.1 =
-    subst (λ (x : Item). SpellsFields order (following (after_address f n a.number) x) (k ∷ items) t.1) b.item t.4 in
+    let u : SpellsFields order (after_segment f n a.number b.number) (k ∷ items) t.1 = rw b.item at t.4 in
     let c = is_number order (header_length f (n - fixed_part f 5)) (after_header f a.number b.number) u.0 k u.3 in
     absurd (none_some e (ap (λ (x : Item). own_end f (i ∷ j ∷ x ∷ items)) c.item))
 
@@ -277,22 +267,14 @@ made_ends : (dialect : Dialect) (items : List Item) (w : List ℕ)
     → SpellsFields dialect.order (header_layout dialect) items w
     → header_end items ≡ None → header_made (following_all (header_layout dialect) items) ≡ None
 made_ends dialect [] w s e = refl
-made_ends dialect (i ∷ []) w s e =
-    ap (λ (x : Item). header_made (following (header_layout dialect) x)) (is_length dialect.order s.0 i s.3).item
+made_ends dialect (i ∷ []) w s e = rw (is_length dialect.order s.0 i s.3).item
 made_ends dialect (i ∷ j ∷ items) w s e =
     let a = is_length dialect.order s.0 i s.3 in
-    let t : SpellsFields dialect.order (number_then version (after_length dialect a.format a.number)) (j ∷ items) s.1 =
-    subst (λ (x : Item). SpellsFields dialect.order (following (header_layout dialect) x) (j ∷ items) s.1) a.item s.4 in
+    let next = number_then version (after_length dialect a.format a.number) in
+    let t : SpellsFields dialect.order next (j ∷ items) s.1 = rw a.item at s.4 in
     let b = is_number dialect.order version (after_length dialect a.format a.number) t.0 j t.3 in
-    let none : header_end (length_is a.format a.number ∷ number_is b.number ∷ items) ≡ None =
-    sym (ap (λ (x : Item). header_end (x ∷ j ∷ items)) a.item
-    ∙ ap (λ (x : Item). header_end (length_is a.format a.number ∷ x ∷ items)) b.item) ∙ e in
-    ap (λ (x : Item). header_made (following_all (following (header_layout dialect) x) (j ∷ items))) a.item
-    ∙ ap (λ (x : Item). header_made (following_all
-    (following (number_then version (after_length dialect a.format a.number)) x) items)) b.item
-    ∙ made_version dialect a.format a.number b.number items t.1 none
-    (subst (λ (x : Item). SpellsFields dialect.order
-    (following (number_then version (after_length dialect a.format a.number)) x) items t.1) b.item t.4)
+    rw (a.item, b.item)
+    (made_version dialect a.format a.number b.number items t.1 (rw (a.item, b.item) at e) (rw b.item at t.4))
 
 -- the unit's last byte decides something
 pub unit_decides : (dialect : Dialect) (b : List ℕ) → unit_len dialect b ≡ Some (length b)

@@ -1,13 +1,13 @@
 -- The length of a unit, and the version of a foreign one, as they are computed; and that this holds no cells.
 use Rattle.dl_head.specs.declared.dialect.Dialect.{Dialect}
 use Rattle.std.proofs.Common.{◌≡◌, ◌≢◌, ℕ, ◌≤◌, ◌^◌, ◌+◌, List, [], ◌∷◌, ◌++◌, length, Option, Some, None, refl, sym}
-use Rattle.std.proofs.Common.{ap, subst, ◌∙◌, arith, inl, inr, length-append, append_assoc, append-nil, sum_by}
+use Rattle.std.proofs.Common.{ap, ◌∙◌, arith, inl, inr, length-append, append_assoc, append-nil, sum_by}
 use Rattle.std.proofs.lemmas.Bool.{cases_eq, eq-eqb, ne_eqb}
 use Rattle.dl_num.specs.declared.fixed.Order.{Order}
 use Rattle.dl_table.specs.declared.form.Format.{Format}
 use Rattle.dl_table.specs.declared.form.Format.TheVariants.{Dwarf32, Dwarf64}
 use Rattle.dl_table.specs.Value.{good}
-use Rattle.dl_field.specs.Field.{IsFixed, IsInitialLength}
+use Rattle.dl_field.specs.Field.{IsInitialLength}
 use Rattle.dl_field.specs.Layout.{version, Layout, number_then, foreign_version, Item, length_is, number_is, following}
 use Rattle.dl_field.specs.Layout.{following_all, field_spelt}
 use Rattle.dl_head.specs.Dialect.{older_size}
@@ -196,23 +196,18 @@ foreign_in_fields dialect v u fields rest (i ∷ j ∷ items) whole s e f =
     let a = is_length dialect.order s.0 i s.3 in
     let first : field_spelt dialect.order (header_layout dialect) s.0 ≡ good (length_is a.format a.number) =
     s.3 ∙ ap (λ (k : Item). good k) a.item in
-    let next : SpellsFields dialect.order (number_then version (after_length dialect a.format a.number))
-    (j ∷ items) s.1 =
-    subst (λ (k : Item). SpellsFields dialect.order (following (header_layout dialect) k) (j ∷ items) s.1) a.item s.4 in
+    let next : SpellsFields dialect.order (number_then version (after_length dialect a.format a.number)) (j ∷ items)
+    s.1 = rw a.item at s.4 in
     let n = is_number dialect.order version (after_length dialect a.format a.number) next.0 j next.3 in
     let tail : following_all (after_length dialect a.format a.number n.number) items ≡ foreign_version v =
-    ap (λ (k : Item). following_all (following (number_then version (after_length dialect a.format a.number)) k) items)
-    (sym n.item)
-    ∙ ap (λ (k : Item). following_all (following (header_layout dialect) k) (j ∷ items)) (sym a.item) ∙ f in
+    rw (a.item, n.item) at f in
     let found =
     version_of dialect a.format a.number n.number v items next.1
-    (subst (λ (k : Item). SpellsFields dialect.order
-    (following (number_then version (after_length dialect a.format a.number)) k)
-    items next.1) n.item next.4) tail in
+    (rw n.item at next.4) tail in
     let judged =
     (field_is_judged dialect.order (number_then version (after_length dialect a.format a.number))
     (number_is n.number) next.0).1
-    (next.3 ∙ ap (λ (k : Item). good k) n.item) in
+    (rw n.item at next.3) in
     record {
       its_length =
           length_first dialect u a.format a.number s.0 (s.1 ++ rest) (whole ∙ ap (λ (w : List ℕ). w ++ rest) s.2
@@ -222,8 +217,7 @@ foreign_in_fields dialect v u fields rest (i ∷ j ∷ items) whole s e f =
       back = next.1 ++ rest;
       whole = ap (λ (w : List ℕ). w ++ rest) next.2 ∙ append_assoc next.0 next.1 rest;
       spells =
-          subst (λ (m : ℕ). IsFixed dialect.order 2 m next.0)
-          (sym (number_same n.number judged.0 judged.1) ∙ found.0) judged.2;
+          rw (sym (number_same n.number judged.0 judged.1) ∙ found.0) at judged.2;
       other = found.1;
       unread = found.2;
     }
@@ -281,19 +275,14 @@ in_fields dialect v (i ∷ []) w s f =
     (ap foreign_made f))
 in_fields dialect v (i ∷ j ∷ items) w s f =
     let a = is_length dialect.order s.0 i s.3 in
-    let next : SpellsFields dialect.order (number_then version (after_length dialect a.format a.number))
-    (j ∷ items) s.1 =
-    subst (λ (k : Item). SpellsFields dialect.order (following (header_layout dialect) k) (j ∷ items) s.1) a.item s.4 in
+    let next : SpellsFields dialect.order (number_then version (after_length dialect a.format a.number)) (j ∷ items)
+    s.1 = rw a.item at s.4 in
     let n = is_number dialect.order version (after_length dialect a.format a.number) next.0 j next.3 in
     let tail : following_all (after_length dialect a.format a.number n.number) items ≡ foreign_version v =
-    ap (λ (k : Item). following_all (following (number_then version (after_length dialect a.format a.number)) k) items)
-    (sym n.item)
-    ∙ ap (λ (k : Item). following_all (following (header_layout dialect) k) (j ∷ items)) (sym a.item) ∙ f in
+    rw (a.item, n.item) at f in
     let rest =
     after_version dialect a.format a.number n.number v items next.1
-    (subst (λ (k : Item). SpellsFields dialect.order
-    (following (number_then version (after_length dialect a.format a.number)) k)
-    items next.1) n.item next.4) tail in
+    (rw n.item at next.4) tail in
     let first : item_cells i ≡ 0 = ap item_cells a.item in
     let second : item_cells j ≡ 0 = ap item_cells n.item in
     omega (arith, sum_by-cons item_cells i (j ∷ items), sum_by-cons item_cells j items, first, second, rest)
