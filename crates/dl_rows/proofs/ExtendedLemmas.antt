@@ -1,12 +1,12 @@
 -- What the bytes of an extended opcode spell first: a zero byte, a length, the opcode, its operand.
-use Rattle.std.proofs.Common.{◌≡◌, ℕ, suc, ◌+◌, ◌^◌, ◌<◌, ◌≤◌, List, [], ◌∷◌, ◌++◌, length, drop, Option, Some, None}
+use Rattle.std.proofs.Common.{◌≡◌, ℕ, suc, true, ◌+◌, ◌^◌, ◌<◌, ◌≤◌, List, [], ◌∷◌, ◌++◌, length, drop, Option, Some, None}
 use Rattle.std.proofs.Common.{Ok, Err, refl, sym, ap, ◌∙◌, arith}
 use Rattle.std.proofs.lemmas.Bool.{lt-ltb, le-ltb, lt-leb, eq-eqb, ne_eqb}
 use Rattle.std.proofs.lemmas.List.{length-append, append-nil, drop-append-le, drop_all}
 use Rattle.dl_num.specs.declared.fixed.Order.{Order}
 use Rattle.dl_num.specs.Front.{SpellsNowhere, SpellsFirst}
 use Rattle.dl_num.specs.Leb.{groups, AllContinue, IsUleb}
-use Rattle.dl_num.specs.LebFront.{leb_front}
+use Rattle.dl_num.specs.LebFront.{is_leb, leb_front}
 use Rattle.dl_num.proofs.LebFrontLemmas.{is_leb-continues, leb_front-leb, leb_front-append, leb_front-continues}
 use Rattle.dl_field.specs.declared.params.Params.{Params}
 use Rattle.dl_table.specs.declared.fault.FaultKind.{FaultKind}
@@ -132,48 +132,37 @@ discriminator_open n w front x back before last c is le e =
     let m = continue_before before last front x back c (sym is ∙ e) in
     rw (ne_eqb n 1 (λ k. omega arith), is_leb-continues front m, ne_eqb (1 + length front) n (λ k. omega arith)) refl
 
+-- a number that fits in the length, and what it is judged to be
+ended_first : (n m : ℕ) (w : List ℕ) (a : Verdict) → IsUleb w m → 1 + length w ≤ n
+    → (2 ≤ length w + 1 → is_leb w ≡ true → groups w ≡ m → discriminator_spelt n w ≡ Some a)
+    → SpellsFirst (discriminator_spelt n) w a
+ended_first n m w a u le spelt = record {
+  spells = (let l = ap length u.2.bytes in
+      spelt (omega (arith, l, length-append u.0 (u.1 ∷ []))) (is_leb-number w u.0 u.1 u.2) (sym u.3));
+  shortest = λ front x back k. discriminator_open n w front x back u.0 u.1 u.2.continue u.2.bytes le k;
+}
+
 pub discriminator_first : (n m : ℕ) (w : List ℕ) → IsUleb w m → m < 2 ^ 64 → 1 + length w ≡ n
     → SpellsFirst (discriminator_spelt n) w (Ok (op.SetDiscriminator m))
-discriminator_first n m w u lt e = record {
-  spells =
-      (let l : length w ≡ length u.0 + 1 = ap length u.2.bytes ∙ length-append u.0 (u.1
-      ∷ []) in let g : groups w ≡ m = sym u.3 in
-      rw (
-        ne_eqb n 1 (λ k. omega arith),
-        is_leb-number w u.0 u.1 u.2,
-        g,
-        lt-ltb m (2 ^ 64) lt,
-        eq-eqb (1 + length w) n e,
-      ) refl);
-  shortest = λ front x back k. discriminator_open n w front x back u.0 u.1 u.2.continue u.2.bytes (omega arith) k;
-}
+discriminator_first n m w u lt e = ended_first n m w (Ok (op.SetDiscriminator m)) u (omega arith) (λ some t g.
+    rw (ne_eqb n 1 (λ k. omega arith), t, g, lt-ltb m (2 ^ 64) lt, eq-eqb (1 + length w) n e) refl)
 
 pub discriminator_out : (n m : ℕ) (w : List ℕ) → IsUleb w m → 2 ^ 64 ≤ m → 1 + length w ≤ n
     → SpellsFirst (discriminator_spelt n) w (Err fault.LebRange)
-discriminator_out n m w u le e = record {
-  spells =
-      (let l : length w ≡ length u.0 + 1 = ap length u.2.bytes ∙ length-append u.0 (u.1
-      ∷ []) in let g : groups w ≡ m = sym u.3 in
-      rw (ne_eqb n 1 (λ k. omega arith), is_leb-number w u.0 u.1 u.2, g, le-ltb m (2 ^ 64) le) refl);
-  shortest = λ front x back k. discriminator_open n w front x back u.0 u.1 u.2.continue u.2.bytes e k;
-}
+discriminator_out n m w u le e = ended_first n m w (Err fault.LebRange) u e (λ some t g.
+    rw (ne_eqb n 1 (λ k. omega arith), t, g, le-ltb m (2 ^ 64) le) refl)
 
 -- the operand ends before its length does
 pub discriminator_early : (n m : ℕ) (w : List ℕ) → IsUleb w m → m < 2 ^ 64 → 1 + length w < n
     → SpellsFirst (discriminator_spelt n) w (Err fault.ExtendedLength)
-discriminator_early n m w u lt e = record {
-  spells =
-      (let l : length w ≡ length u.0 + 1 = ap length u.2.bytes ∙ length-append u.0 (u.1
-      ∷ []) in let g : groups w ≡ m = sym u.3 in
-      rw (
-        ne_eqb n 1 (λ k. omega arith),
-        is_leb-number w u.0 u.1 u.2,
-        g,
-        lt-ltb m (2 ^ 64) lt,
-        ne_eqb (1 + length w) n (λ k. omega arith),
-      ) refl);
-  shortest = λ front x back k. discriminator_open n w front x back u.0 u.1 u.2.continue u.2.bytes (omega arith) k;
-}
+discriminator_early n m w u lt e = ended_first n m w (Err fault.ExtendedLength) u (omega arith) (λ some t g.
+    rw (
+      ne_eqb n 1 (λ k. omega arith),
+      t,
+      g,
+      lt-ltb m (2 ^ 64) lt,
+      ne_eqb (1 + length w) n (λ k. omega arith),
+    ) refl)
 
 -- the operand goes on at its length's end
 pub discriminator_late : (n b : ℕ) (w : List ℕ) → AllContinue (w ++ b ∷ []) → AllContinue w

@@ -231,49 +231,40 @@ appends_none op.Copy s c e = absurd (c refl)
 appends_none op.EndSequence s c e = absurd (e refl)
 appends_none other s c e = refl
 
-pub finishes_with_row : (h : Params) (before : List Operation) (o : Operation) (r : Row) (new : Program) (end : Bool)
+pub finishes_with_row : {h : Params} {before : List Operation} {o : Operation} {r : Row} {new : Program} (end : Bool)
     → FitsProgram h → HasRange o
     → appends_row o ≡ true → end ≡ is_end o → r ≡ row_of h (applied h (registers_after h before) o) end
     → new.registers ≡ settled h o (applied h (registers_after h before) o) → new.in_sequence ≡ not end
     → Finishes h before o (Some r) new
-finishes_with_row h before o r new end fits range appends ends is registers was =
-    let made : r ≡ row h before o =
-    is ∙ ap (row_of h (applied h (registers_after h before) o)) ends ∙ row_is h before o fits range in
+finishes_with_row {h} {before} {o} {r} end fits range appends ends is registers was =
+    let made : r ≡ row h before o = is ∙ rw ends (row_is h before o fits range) in
     let rows : matrix h (before ++ o ∷ []) ≡ matrix h before ++ r ∷ [] =
-    matrix-push h before o ∙ ap (λ (b : Bool). matrix h before ++ cond b (row h before o ∷ []) []) appends
-    ∙ ap (λ (z : Row). matrix h before ++ z ∷ []) (sym made) in
+    rw made (rw appends at (matrix-push h before o)) in
     record {
       registers = registers ∙ sym (registers_after-push h before o fits range);
       rows = rows;
-      in_sequence =
-          was ∙ ap not (ends ∙ ap (λ (z : Row). z.end_sequence) (sym made))
-          ∙ sym (ap ends_open rows ∙ ends_open-push (matrix h before) r);
+      in_sequence = was ∙ rw (rows, ends_open-push (matrix h before) r, made) (ap not ends);
     }
 
-pub finishes_without : (h : Params) (before : List Operation) (o : Operation) (new : Program) → FitsProgram h
+pub finishes_without : {h : Params} {before : List Operation} {o : Operation} {new : Program} → FitsProgram h
     → HasRange o → appends_row o ≡ false
     → new.registers ≡ applied h (registers_after h before) o → new.in_sequence ≡ ends_open (matrix h before)
     → Finishes h before o None new
-finishes_without h before o new fits range appends registers was =
-    let rows : matrix h (before ++ o ∷ []) ≡ matrix h before ++ [] =
-    matrix-push h before o ∙ ap (λ (b : Bool). matrix h before ++ cond b (row h before o ∷ []) []) appends in
+finishes_without {h} {before} {o} fits range appends registers was =
+    let rows : matrix h (before ++ o ∷ []) ≡ matrix h before ++ [] = rw appends at (matrix-push h before o) in
     record {
       registers =
           registers ∙ sym (settled-plain h o (applied h (registers_after h before) o) appends)
           ∙ sym (registers_after-push h before o fits range);
       rows = rows;
-      in_sequence = was ∙ sym (ap ends_open (rows ∙ append-nil (matrix h before)));
+      in_sequence = rw (rows, append-nil) was;
     }
 
 -- what a special opcode and copy leave
 pub settled_special : (o : Operation) → ((b : ℕ) × (o ≡ op.Special b)) ⊎ (o ≡ op.Copy)
     → (appends_row o ≡ true) × (false ≡ is_end o) × ((h : Params) (r : Registers) → settled h o r ≡ cleared r)
-settled_special o (inl s) = (ap appends_row s.1, sym (ap is_end s.1), λ h r. ap (λ (z : Operation). settled h z r) s.1)
-settled_special o (inr s) = (ap appends_row s, sym (ap is_end s), λ h r. ap (λ (z : Operation). settled h z r) s)
-
-pub settled_end : (h : Params) (o : Operation) (r : Registers) → o ≡ op.EndSequence
-    → settled h o r ≡ initial (not (h.default_is_stmt == 0))
-settled_end h o r e = ap (λ (z : Operation). settled h z r) e
+settled_special o (inl (b, is)) = rw is (refl, refl, λ h r. refl)
+settled_special o (inr is) = rw is (refl, refl, λ h r. refl)
 
 -- a program in an operation of which as much has come as in that of another
 pub same_begun : (p q : Program) → p.phase ≡ q.phase → p.begun ≡ q.begun

@@ -116,19 +116,15 @@ own_unit dialect b h program len quiet e =
     let opcodes = (header_is_usable dialect h f.0 f.2).opcodes in
     let p = found_is_program dialect.order h.params program (omega arith) in
     let over =
-    none_over (operations_in dialect.order h.params program).rest (sym (ap (decided_after dialect b) e
-    ∙ ap (λ (o : Option ℕ). operation_decided dialect.order h.params (operations_in dialect.order h.params program).rest
-    (length b) o) len) ∙ quiet) in
-    let whole : p.0 ≡ program = sym (p.1 ∙ ap (λ (w : List ℕ). p.0 ++ w) over ∙ append-nil p.0) in
+    none_over (operations_in dialect.order h.params program).rest (rw (e, len) at quiet) in
+    let whole : p.0 ≡ program = sym (rw (over, append-nil) at p.1) in
     record {
       its_length = (length_is_computed dialect b).1 len;
       header = f.0;
       program = program;
       whole = f.1;
       spells_header = f.2;
-      spells_program =
-          subst (λ (w : List ℕ). SpellsProgram dialect.order h.params
-          (operations_in dialect.order h.params program).found w) whole p.2;
+      spells_program = rw whole at p.2;
     }
   where
     none_over : (w : List ℕ) → operation_decided dialect.order h.params w (length b) (Some (length b)) ≡ None → w ≡ []
