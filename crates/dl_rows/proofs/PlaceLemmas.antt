@@ -102,12 +102,10 @@ after_last-push p xs x =
     ]
 
 or_none : (a : Option ℕ) → option_or None a ≡ option_or a None
-or_none None = refl
-or_none (Some n) = refl
+or_none a = grind arith
 
 or_assoc : (a b c : Option ℕ) → option_or (option_or a b) c ≡ option_or a (option_or b c)
-or_assoc None b c = refl
-or_assoc (Some n) b c = refl
+or_assoc a b c = grind arith
 
 pub last_set-push : (sets : Operation → Option ℕ) (os : List Operation) (o : Operation)
     → last_set sets (os ++ o ∷ []) ≡ option_or (sets o) (last_set sets os)

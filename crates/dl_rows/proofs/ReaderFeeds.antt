@@ -112,8 +112,7 @@ sink_after story s rows (Ok fed) none hears = on fed.event none where
 sink_after story s rows (Err fault) none hears = hears
 
 pub no_row_paused : (e : Event) → IsPause e → (r : Row) → e ≢ event.Row r
-no_row_paused (event.Row x) pause r e = absurd pause
-no_row_paused other pause r e = absurd cc
+no_row_paused e pause r is = grind arith
 
 after_of_fed : (dialect : Dialect) (b piece : List ℕ) (result : Result Fed Fault) (new : Reader)
     → ReaderFed dialect b piece result new → FedAfter dialect (events dialect b) b piece result new

@@ -219,17 +219,11 @@ ends_open-push (a ∷ b ∷ rows) r = ends_open-push (b ∷ rows) r
 
 -- an operation that appends no row leaves the registers as they are
 settled-plain : (h : Params) (o : Operation) (r : Registers) → appends_row o ≡ false → settled h o r ≡ r
-settled-plain h (op.Special b) r e = absurd cc
-settled-plain h op.Copy r e = absurd cc
-settled-plain h op.EndSequence r e = absurd cc
-settled-plain h other r e = refl
+settled-plain h o r e = grind arith
 
 pub appends_none : (o : Operation) → ((b : ℕ) → o ≡ op.Special b → ⊥) → (o ≡ op.Copy → ⊥) → (o ≡ op.EndSequence → ⊥)
     → appends_row o ≡ false
-appends_none (op.Special b) s c e = absurd (s b refl)
-appends_none op.Copy s c e = absurd (c refl)
-appends_none op.EndSequence s c e = absurd (e refl)
-appends_none other s c e = refl
+appends_none o s c e = grind arith
 
 pub finishes_with_row : {h : Params} {before : List Operation} {o : Operation} {r : Row} {new : Program} (end : Bool)
     → FitsProgram h → HasRange o

@@ -135,12 +135,7 @@ first_row order h p (x ∷ u) r rows e = elim (byte_rows order h p x) [
 -- a row comes after a header alone
 no_row_first : (order : Order) (f : Option ℕ) (o : Option (HeaderData × List ℕ)) (es before : List Event) (r : Row)
     → events_of order f o ≡ before ++ event.Row r ∷ es → (before ≡ []) ⊎ ((v : ℕ) × (before ≡ event.Foreign v ∷ [])) → ⊥
-no_row_first order (Some w) o es before r e (inl none) = (let f = rw none at e in absurd cc)
-no_row_first order None None es before r e (inl none) = (let f = rw none at e in absurd cc)
-no_row_first order None (Some parts) es before r e (inl none) = (let f = rw none at e in absurd cc)
-no_row_first order (Some w) o es before r e (inr (v, is)) = (let f = rw is at e in absurd cc)
-no_row_first order None None es before r e (inr (v, is)) = (let f = rw is at e in absurd cc)
-no_row_first order None (Some parts) es before r e (inr (v, is)) = (let f = rw is at e in absurd cc)
+no_row_first order f o es before r e begins = grind arith
 
 has_header : (dialect : Dialect) (b c : List ℕ) (r : Row) (es : List Event)
     → events dialect c ≡ events dialect b ++ event.Row r ∷ es → (h : HeaderData) × AfterHeader dialect h b

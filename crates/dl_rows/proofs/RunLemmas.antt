@@ -43,9 +43,7 @@ going_event e goes = grind arith
 -- neither End nor want of memory
 pub other_event : (e : Event) → (e ≡ event.End → ⊥) → (e ≡ event.NoMemory → ⊥)
     → (goes_on (Ok e) ≡ true) × (is_refusal (Ok e) ≡ false)
-other_event event.End ends fed = absurd (ends refl)
-other_event event.NoMemory ends fed = absurd (fed refl)
-other_event other ends fed = (refl, refl)
+other_event e ends fed = grind arith
 
 -- what the last answer says of all bytes that were taken
 abbrev Says : Dialect → List ℕ → Result Event Fault → Type 0

@@ -2,6 +2,7 @@
 use Rattle.std.proofs.Common.{◌≡◌, ◌≢◌, ℕ, zero, suc, ◌+◌, ◌-◌, ◌<◌, ◌≤◌, true, false, List, [], ◌∷◌, ◌++◌, length}
 use Rattle.std.proofs.Common.{slice_index, Option, Some, None, Ok, if◌then◌else◌, refl, sym, ap, ◌∙◌, arith, inl, inr}
 use Rattle.std.specs.List.{concat, AllByRecursion}
+use Rattle.std.proofs.lemmas.Bool.Decides.{nat_tests}
 use Rattle.std.proofs.lemmas.Bool.{lt-leb, le-leb, eq-eqb, ne_eqb, cases_Bool, cases_eq, and_from}
 use Rattle.std.proofs.lemmas.Bool.{and_right as and_false}
 use Rattle.std.proofs.lemmas.List.{drop-append-le}
@@ -121,10 +122,7 @@ address_same order size n e u = rw (eq-eqb n (1 + size) e) refl
 rest_same : (order : Order) (size n opcode : ℕ) → opcode ≢ 1 → opcode ≢ 2 → opcode ≢ 4 → (u : List ℕ)
     → extended_spelt order size (suc n) opcode u ≡ sized n (λ v. op.Skipped) u
 rest_same order size n opcode one two four u =
-    rw (ne_eqb opcode 1 one, ne_eqb opcode 2 two, ne_eqb opcode 4 four) (elim (cases_eq (length u) n) [
-      | inl e ↦ rw (eq-eqb (length u) n e, eq-eqb (1 + length u) (suc n) (omega arith)) refl
-      | inr e ↦ rw (ne_eqb (length u) n e, ne_eqb (1 + length u) (suc n) (λ k. e (omega arith))) refl
-    ])
+    rw (ne_eqb opcode 1 one, ne_eqb opcode 2 two, ne_eqb opcode 4 four) (grind (arith, nat_tests))
 
 skips_extended : (order : Order) (h : Params) (w : List ℕ) → 1 ≤ h.opcode_base → SkipsExtended w
     → SpellsFirst (operation_spelt order h) w (Ok op.Skipped)

@@ -3,6 +3,7 @@ use Rattle.dl_head.specs.declared.dialect.Dialect.{Dialect}
 use Rattle.std.proofs.Common.{◌≡◌, ◌≢◌, ◌⊎◌, inl, inr, ℕ, suc, get_or, ◌+◌, ◌-◌, ◌<◌, ◌≤◌, List, [], ◌∷◌, ◌++◌, length}
 use Rattle.std.proofs.Common.{map, take, drop, Some, refl, sym, ap, ◌∙◌, arith, length-append, append_assoc, append-nil}
 use Rattle.std.proofs.Common.{length-take, Ok, Err}
+use Rattle.std.proofs.lemmas.Bool.Decides.{nat_tests}
 use Rattle.std.proofs.lemmas.Bool.{cases_eq, cases_lt, eq-eqb, ne_eqb, lt-ltb, le-ltb}
 use Rattle.std.proofs.lemmas.List.{take-append-drop, map-append}
 use Rattle.dl_num.specs.Laws.{AllBytes}
@@ -90,26 +91,7 @@ feeds_with taken stands grows holds sound in_unit = record {
 paused_cases : (taken left used len : ℕ) → 1 ≤ taken
     → ((paused taken left used len ≡ event.End) × (left ≡ 0) × ((used ≡ 0) ⊎ (used < len)))
     ⊎ ((paused taken left used len ≡ event.More) × (left ≡ 0 → (1 ≤ used) × (len ≤ used)))
-paused_cases taken left used len some = elim (cases_eq left 0) [
-  | inr other ↦ inr (rw (ne_eqb taken 0 any, ne_eqb left 0 other) refl, λ none. absurd (other none))
-  | inl none ↦ elim (cases_eq used 0) [
-    | inl nothing ↦ inl (rw (ne_eqb taken 0 any, eq-eqb left 0 none, eq-eqb used 0 nothing) refl, none, inl nothing)
-    | inr something ↦ elim (cases_lt used len) [
-      | inl lt ↦ inl (
-        rw (ne_eqb taken 0 any, eq-eqb left 0 none, ne_eqb used 0 something, lt-ltb used len lt) refl,
-        none,
-        inr lt,
-      )
-      | inr le ↦ inr (
-        rw (ne_eqb taken 0 any, eq-eqb left 0 none, ne_eqb used 0 something, le-ltb used len le) refl,
-        λ same. (omega (arith, something), le),
-      )
-    ]
-  ]
-]
-  where
-    any : taken ≢ 0
-    any same = omega arith
+paused_cases taken left used len some = grind (arith, nat_tests)
 
 -- a pause after the events before, where nothing is refused
 pub pauses : {S : Type 0} {StandsFor : S → List ℕ → Type 0} {dialect : Dialect} {before : List Event}

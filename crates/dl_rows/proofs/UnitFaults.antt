@@ -2,6 +2,7 @@
 use Rattle.dl_head.specs.declared.dialect.Dialect.{Dialect}
 use Rattle.std.proofs.Common.{◌≡◌, ℕ, ◌+◌, ◌<◌, ◌≤◌, List, [], ◌∷◌, ◌++◌, length, Option, Some, None, Ok, Err, refl}
 use Rattle.std.proofs.Common.{sym, ap, ◌∙◌, arith, inl, inr, ◌⊎◌, append_assoc, append-nil, length-append}
+use Rattle.std.proofs.lemmas.Bool.Decides.{nat_tests}
 use Rattle.std.proofs.lemmas.Bool.{cases_eq, eq-eqb, ne_eqb}
 use Rattle.dl_num.specs.declared.fixed.Order.{Order}
 use Rattle.dl_num.specs.Front.{SpellsNowhere, Standing}
@@ -48,15 +49,7 @@ quiet_in_header dialect h w v front back is e none =
 
 -- an overrun is decided at the end, and is one
 ended : (kind k : FaultKind) (n : ℕ) (end : Option ℕ) → at_end kind n end ≡ Some k → (end ≡ Some n) × (k ≡ kind)
-ended kind k n None e = absurd (none_some {a = k} refl e)
-ended kind k n (Some m) e = elim (cases_eq n m) [
-  | inl same ↦
-      let f : ◌≡◌ {A = Option FaultKind} (Some kind) (Some k) = rw (eq-eqb n m same) at e in
-      (ap (λ (x : ℕ). Some x) (sym same), kind_same k kind (sym f))
-  | inr other ↦
-      let f : ◌≡◌ {A = Option FaultKind} None (Some k) = rw (ne_eqb n m other) at e in
-      absurd (none_some {a = k} refl f)
-]
+ended kind k n end e = grind (arith, nat_tests)
 
 -- what is judged good or incomplete isn't bad, and what isn't good is no operation
 good_one_none : (order : Order) (h : Params) (w : List ℕ) → 1 ≤ h.opcode_base
