@@ -3,6 +3,7 @@ use Rattle.dl_head.specs.declared.dialect.Dialect.{Dialect}
 use Rattle.std.proofs.Common.{◌≡◌, ℕ, zero, suc, ◌+◌, ◌-◌, ◌≤◌, Bool, true, false, if◌then◌else◌, ◌==◌, List, [], ◌∷◌}
 use Rattle.std.proofs.Common.{◌++◌, length, drop, Some, None, refl, sym, arith, inl, inr, length-append}
 use Rattle.std.proofs.Common.{◌<◌, ◌^◌, pos, negsuc, ◌-ℤ◌, Option, ap}
+use Rattle.std.proofs.lemmas.Bool.Decides.{nat_tests}
 use Rattle.std.proofs.lemmas.Bool.{cases_lt, lt-ltb, le-ltb, cases_eq, eq-eqb, ne_eqb}
 use Rattle.std.specs.Prelude.{unsigned_abs}
 use Rattle.std.proofs.lemmas.Int.{ints}
@@ -151,14 +152,10 @@ leads_tables Bytes p fit = elim (cases_eq p.version 5) [
 -- ---- the fields that the params hold
 
 fits_true : (b : Bool) (k : FaultKind) → (if b then None else Some k) ≡ None → b ≡ true
-fits_true true k e = refl
-fits_true false k e = absurd (none_some {a = k} refl (sym e))
+fits_true b k e = grind arith
 
 not_zero : (n : ℕ) (k : FaultKind) → (if n == 0 then Some k else None) ≡ None → 1 ≤ n
-not_zero n k e = elim (cases_eq n 0) [
-  | inl none ↦ absurd (none_some {a = k} e (rw (eq-eqb n 0 none) refl))
-  | inr other ↦ omega arith
-]
+not_zero n k e = grind (arith, nat_tests)
 
 signed_small : (n : ℕ) → n < 256 → unsigned_abs (signed_byte n) < 2 ^ 62
 signed_small n lt = elim (cases_lt n 128) [

@@ -65,16 +65,7 @@ advanced_by_one h r by one a b c =
 -- a step of a line that wraps on the way
 pub modulo-add : (z i : ℤ) → unsigned_abs i < 2 ^ 64
     → (modulo z (2 ^ 64) + cast_unsigned w64 i) % 2 ^ 64 ≡ modulo (z +ℤ i) (2 ^ 64)
-modulo-add (pos a) (pos b) h = omega arith
-modulo-add (pos a) (negsuc b) h = elim (cases_lt b a) [
-  | inl lt ↦ let e : pos a +ℤ negsuc b ≡ pos (a - suc b) = omega (arith, ints) in rw e (omega arith)
-  | inr le ↦ let e : pos a +ℤ negsuc b ≡ negsuc (b - a) = omega (arith, ints) in rw e (omega arith)
-]
-modulo-add (negsuc a) (pos b) h = elim (cases_lt a b) [
-  | inl lt ↦ let e : negsuc a +ℤ pos b ≡ pos (b - suc a) = omega (arith, ints) in rw e (omega arith)
-  | inr le ↦ let e : negsuc a +ℤ pos b ≡ negsuc (a - b) = omega (arith, ints) in rw e (omega arith)
-]
-modulo-add (negsuc a) (negsuc b) h = omega arith
+modulo-add z i h = grind (arith, ints)
 
 pub modulo-same : (z : ℤ) → z +ℤ pos 0 ≡ z
 modulo-same z = omega (arith, ints)

@@ -27,9 +27,7 @@ first_of order h o w some s =
     record { spells = ap good_one f.spells; shortest = λ front x back e. ap good_one (f.shortest front x back e) }
 
 good_one_is : (j : Judgement Operation) (o : Operation) → good_one j ≡ Some o → j ≡ good o
-good_one_is None o e = absurd cc
-good_one_is (Some (Ok p)) o e = cc
-good_one_is (Some (Err kind)) o e = absurd cc
+good_one_is j o e = grind arith
 
 -- a program, and then what is cut off the bytes after it
 pub program_cut : (order : Order) (h : Params) (p : List Operation) (w v : List ℕ) (found : List Operation)

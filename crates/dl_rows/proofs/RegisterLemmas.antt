@@ -115,11 +115,7 @@ place h s o some a x n z =
     (h.minimum_instruction_length * ((op_index h s + advance h o) / h.maximum_operations_per_instruction))))
 
 abs_add : (z : ℤ) (n : ℕ) → unsigned_abs z < 2 ^ 62 → n < 256 → unsigned_abs (z +ℤ pos n) < 2 ^ 64
-abs_add (pos a) n h lt = omega arith
-abs_add (negsuc a) n h lt = elim (cases_lt a n) [
-  | inl small ↦ let e : negsuc a +ℤ pos n ≡ pos (n - suc a) = omega (arith, ints) in rw e (omega arith)
-  | inr le ↦ let e : negsuc a +ℤ pos n ≡ negsuc (a - n) = omega (arith, ints) in rw e (omega arith)
-]
+abs_add z n h lt = grind (arith, ints)
 
 step_lt : (h : Params) (b : ℕ) → unsigned_abs h.line_base < 2 ^ 62 → b < 256
     → unsigned_abs (h.line_base +ℤ pos ((b - h.opcode_base) % h.line_range)) < 2 ^ 64

@@ -3,7 +3,7 @@ use Rattle.std.proofs.Common.{◌≡◌, ◌+◌, ◌<◌, ◌≤◌, ◌⊎◌,
 use Rattle.std.proofs.Common.{length, min, take, drop, Result, Ok, Err, refl, sym, ap, ◌∙◌}
 use Rattle.std.proofs.Common.{arith, append_assoc, append-nil, length-take, length-drop, length-append}
 use Rattle.std.proofs.lemmas.Bool.{cases_eq}
-use Rattle.std.proofs.lemmas.List.{take-take, take-append-drop, length-take-le}
+use Rattle.std.proofs.lemmas.List.{take-take, take-append-drop, length-take-le, nil_from_length}
 use Rattle.std.proofs.lemmas.List.Sums.{sum_by-cons}
 use Rattle.dl_head.specs.declared.dialect.Dialect.{Dialect}
 use Rattle.dl_head.specs.declared.fault.Fault.{Fault}
@@ -19,7 +19,7 @@ use Rattle.dl_rows.specs.Runs.{MayGive, May, is_end, goes_on, is_refusal, refusa
 use Rattle.dl_rows.specs.Runs.{Sound, Runs, RunIs, TraceRuns, TookUnit, UnitRuns, UnitRunIs, TraceOfUnit}
 use Rattle.dl_rows.proofs.FirstLemmas.{split_front}
 use Rattle.dl_rows.proofs.UnitLemmas.{unit_len_on}
-use Rattle.dl_rows.proofs.UnitLengths.{length_of_unit, nothing_left, no_unit_begins_another}
+use Rattle.dl_rows.proofs.UnitLengths.{length_of_unit, no_unit_begins_another}
 use Rattle.dl_rows.proofs.UnitQuiet.{unit_is_not_refused}
 
 abbrev pub Given : Type 0
@@ -244,7 +244,7 @@ module _ (dialect : Dialect) (b bytes u rest : List ℕ) (e : b ++ bytes ≡ u +
       none_left : (run.ended ≡ true) ⊎ (length u + run.refused ≤ length b + some_turns turns) → front.0 ≡ []
       none_left k = elim (true_or_false run.ended) [
         | inl is ↦ no_unit_begins_another dialect (b ++ take run.taken bytes) front.0 (r.whole is) (rw front.1 at unit)
-        | inr is ↦ nothing_left front.0 (elim k [
+        | inr is ↦ nil_from_length front.0 (elim k [
           | inl told ↦ absurd (true_false told is)
           | inr enough ↦ elim (r.moved is) [
             | inl all ↦ omega (arith, all, size, ap length e, length-append b bytes, length-append u rest)

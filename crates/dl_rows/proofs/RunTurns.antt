@@ -164,9 +164,7 @@ traced_all {turns = turns} {i = i} {taken = taken} {refused = refused} g le = re
 } where
   not_ended : (answers : List Given) (gave : Result Event Fault) → goes_on gave ≡ true
       → Ok (record { taken = used_in answers; refused = refusals answers; ended = false }) ≡ outcome answers gave
-  not_ended answers (Ok event.End) goes = absurd cc
-  not_ended answers (Ok other) goes = refl
-  not_ended answers (Err fault) goes = absurd cc
+  not_ended answers gave goes = grind arith
 
 -- what a reader that stands for b makes of a trace
 module _ (r : Reader) {b bytes turns : List ℕ} (s : StandsFor r b) {Heard : List Event → Type 0}

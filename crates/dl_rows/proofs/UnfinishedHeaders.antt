@@ -3,6 +3,7 @@ use Rattle.dl_head.specs.declared.dialect.Dialect.{Dialect}
 use Rattle.std.proofs.Common.{◌≡◌, ◌≢◌, ℕ, ◌+◌, ◌-◌, ◌≤◌, Bool, true, nat_le, ◌&&◌, if◌then◌else◌, List, [], ◌∷◌, ◌++◌}
 use Rattle.std.proofs.Common.{length, take, drop, Option, Some, None, refl, sym, ap, ◌∙◌, arith, inl, inr, ◌⊎◌}
 use Rattle.std.proofs.Common.{length-append, append_assoc}
+use Rattle.std.proofs.lemmas.Bool.Decides.{nat_tests}
 use Rattle.std.proofs.lemmas.Bool.{cases_eq, eq-eqb, ne_eqb, le-leb}
 use Rattle.std.proofs.lemmas.List.{take-append-drop, length-take-le}
 use Rattle.dl_num.specs.declared.fixed.Order.{Order}
@@ -29,9 +30,7 @@ use Rattle.dl_rows.proofs.UnitLengths.{some_same, number_same}
 -- ---- where a header ends without being complete
 
 pub decides : (o : Option FaultKind) (kind : FaultKind) (n : ℕ) → or_else o (at_end kind n (Some n)) ≡ None → ⊥
-decides (Some k) kind n e = none_some e refl
-decides None kind n e =
-    none_some {a = kind} (sym (ap (λ (b : Bool). if b then Some kind else None) (eq-eqb n n refl)) ∙ e) refl
+decides o kind n e = grind (arith, nat_tests)
 
 -- where bytes end in an incomplete field, and decide nothing, the fields are complete, or those of a foreign unit
 quiet_ends : (dialect : Dialect) (b : List ℕ) (kind : FaultKind)

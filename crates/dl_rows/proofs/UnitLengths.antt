@@ -2,6 +2,7 @@
 use Rattle.dl_head.specs.declared.dialect.Dialect.{Dialect}
 use Rattle.std.proofs.Common.{◌≡◌, ◌≢◌, ℕ, ◌≤◌, ◌^◌, ◌+◌, List, [], ◌∷◌, ◌++◌, length, Option, Some, None, refl, sym}
 use Rattle.std.proofs.Common.{ap, ◌∙◌, arith, inl, inr, length-append, append_assoc, append-nil, sum_by}
+use Rattle.std.proofs.lemmas.List.{nil_from_length}
 use Rattle.std.proofs.lemmas.Bool.{cases_eq, eq-eqb, ne_eqb}
 use Rattle.dl_num.specs.declared.fixed.Order.{Order}
 use Rattle.dl_table.specs.declared.form.Format.{Format}
@@ -106,16 +107,12 @@ pub length_of_unit : (dialect : Dialect) (u : List ℕ) → IsUnit dialect u →
 length_of_unit dialect u (inl foreign) = length_of dialect u foreign.1.its_length
 length_of_unit dialect u (inr own) = length_of dialect u own.2.its_length
 
-pub nothing_left : (v : List ℕ) → length v ≡ 0 → v ≡ []
-nothing_left [] e = refl
-nothing_left (x ∷ v) e = absurd (omega arith)
-
 pub no_unit_begins_another : NoUnitBeginsAnother
 no_unit_begins_another dialect u v one two =
     let same =
     some_same _ _ (sym (unit_len_on dialect u v (length u) (length_of_unit dialect u one))
     ∙ length_of_unit dialect (u ++ v) two) in
-    nothing_left v (omega (arith, same, length-append u v))
+    nil_from_length v (omega (arith, same, length-append u v))
 
 -- ---- the version of a foreign unit
 

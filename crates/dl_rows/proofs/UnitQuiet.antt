@@ -132,10 +132,7 @@ operation_quiet order h p b back (x ∷ w) n end some s e ends =
 
 pub parts_same : (g h : HeaderData) (v w : List ℕ) → ◌≡◌ {A = Option (HeaderData × List ℕ)} (Some (g, v)) (Some (h, w))
     → (g ≡ h) × (v ≡ w)
-parts_same g h v w e = (
-  ap (λ (o : Option (HeaderData × List ℕ)). elim o [ Some p ↦ p.0 | None ↦ g ]) e,
-  ap (λ (o : Option (HeaderData × List ℕ)). elim o [ Some p ↦ p.1 | None ↦ v ]) e,
-)
+parts_same g h v w e = grind arith
 
 -- a front with the header decides nothing
 own_quiet : (dialect : Dialect) (h : HeaderData) (p : List Operation) (u front back : List ℕ) (g : HeaderData)
