@@ -1,6 +1,5 @@
 pub mod BodyLemmas
 pub mod CallLemmas
-pub mod ExtendedLemmas
 pub mod FirstLemmas
 pub mod HeadFeeds
 pub mod HeaderParams

@@ -20,8 +20,7 @@ use Rattle.dl_rows.specs.BadOperation.{UnsignedOut, SignedOut, EndsInLength, Beg
 use Rattle.dl_rows.specs.BadOperation.{DiscriminatorLength, IsFaulty, fault_order}
 use Rattle.dl_rows.specs.Laws.{SpeltIsSpelled, BadIsFaulty, NoOperationBeginsAnother, OneOperation, NoSpellingIsFaulty}
 use Rattle.dl_rows.proofs.OperandLemmas.{unsigned_out, signed_out}
-use Rattle.dl_rows.proofs.ExtendedLemmas.{zero_then, length_then, body_then, body_out, length_refused}
-use Rattle.dl_rows.proofs.SpeltFirst.{spells_first}
+use Rattle.dl_rows.proofs.SpeltFirst.{zero_then, length_then, body_then, body_out, length_refused, spells_first}
 use Rattle.dl_rows.proofs.Judged.{judged}
 
 pub spelt_is_spelled : SpeltIsSpelled

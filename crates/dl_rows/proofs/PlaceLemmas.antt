@@ -1,13 +1,13 @@
 -- The place of a row, one operation more.
 use Rattle.std.proofs.Common.{◌≡◌, ℕ, ◌+◌, ◌*◌, ◌/◌, ◌%◌, ◌-◌, ◌<◌, ◌≤◌, refl, ap, ◌∙◌, arith, inl, inr, cond, Bool}
-use Rattle.std.proofs.Common.{true, false, not, List, [], ◌∷◌, ◌++◌, length, Option, Some, None, sum_by, suc, ◌^◌}
-use Rattle.std.proofs.Common.{sym, ℤ, pos, negsuc, ◌+ℤ◌}
+use Rattle.std.proofs.Common.{true, false, not, List, [], ◌∷◌, ◌++◌, length, Option, None, sum_by, ◌^◌}
+use Rattle.std.proofs.Common.{sym, ℤ, pos, ◌+ℤ◌}
 use Rattle.std.specs.Option.{option_or}
 use Rattle.std.specs.List.{after_last, list_any, suffix_len}
 use Rattle.std.proofs.lemmas.List.{reverse-append, drop_all, drop-append-le, length-append}
 use Rattle.std.proofs.lemmas.List.Sums.{suffix_len-le-length, sum_by-cons, sum_by_push}
 use Rattle.std.proofs.Math.Nat.{zero-div, zero-mod, add-mul-div_right, add-mul-mod_self_right}
-use Rattle.std.proofs.lemmas.Bool.{cases_Bool, cases_lt}
+use Rattle.std.proofs.lemmas.Bool.{cases_Bool}
 use Rattle.dl_field.specs.declared.params.Params.{Params}
 use Rattle.dl_rows.specs.declared.operation.Operation.{Operation}
 use Rattle.dl_rows.specs.declared.operation.Operation.TheVariants as op

@@ -1,6 +1,6 @@
 -- The registers that are kept are the sums and last settings of the operations so far, and a row is made of them.
-use Rattle.std.proofs.Common.{◌≡◌, ℕ, suc, ◌+◌, ◌*◌, ◌/◌, ◌^◌, ◌%◌, ◌-◌, ◌<◌, ◌≤◌, ◌==◌, refl, sym, ap, ◌∙◌, arith, inl}
-use Rattle.std.proofs.Common.{inr, ℤ, pos, negsuc, ◌+ℤ◌, cond, true, false, not, List, [], ◌∷◌, ◌++◌, None, unwrap_or}
+use Rattle.std.proofs.Common.{◌≡◌, ℕ, ◌+◌, ◌*◌, ◌/◌, ◌^◌, ◌%◌, ◌-◌, ◌<◌, ◌≤◌, ◌==◌, refl, sym, ap, ◌∙◌, arith, inl}
+use Rattle.std.proofs.Common.{inr, ℤ, pos, ◌+ℤ◌, cond, true, false, not, List, [], ◌∷◌, ◌++◌, None, unwrap_or}
 use Rattle.std.proofs.Common.{fold, append_assoc, Bool, ◌⊎◌, Some}
 use Rattle.std.specs.Prelude.{unsigned_abs}
 use Rattle.std.specs.Int.{w64, cast_unsigned}
@@ -9,7 +9,7 @@ use Rattle.std.specs.List.{after_last, list_any}
 use Rattle.std.proofs.lemmas.List.{append-nil}
 use Rattle.std.proofs.lemmas.List.Sums.{fold_push}
 use Rattle.std.proofs.Math.Nat.{zero-div, zero-mod, mod-lt, div-eq_of_lt, mod-eq_of_lt}
-use Rattle.std.proofs.lemmas.Bool.{cases_Bool, cases_lt, or_cases, eqb-true}
+use Rattle.std.proofs.lemmas.Bool.{cases_Bool, or_cases, eqb-true}
 use Rattle.std.proofs.lemmas.Nat.{div-add-mod'}
 use Rattle.std.proofs.lemmas.Int.{ints}
 use Rattle.dl_field.specs.declared.params.Params.{Params}

@@ -49,7 +49,18 @@ going_none Heard b bytes turns l r s = record {
   stands = rw append-nil s;
 }
 
--- one turn more
+-- what stands after a turn in which used bytes were taken, and this was answered
+record Turned {S : Type 0} (Heard : S → List Event → Type 0) (dialect : Dialect) (b bytes turns : List ℕ)
+    (i taken refused : ℕ) (before after : S) (new : Reader) (used : ℕ) (gave : Result Event Fault) : Type 0 where
+  answers : List Given
+  goes : goes_on gave ≡ true → IsTrace (May dialect) goes_on b bytes (take (i + 1) turns) answers
+  ends : goes_on gave ≡ false → IsTrace (May dialect) goes_on b bytes turns answers
+  gave_is : last_given (Ok event.More) answers ≡ gave
+  taken_is : taken + used ≡ used_in answers
+  refused_is : refused + cond (is_refusal gave) 1 0 ≡ refusals answers
+  hears : Hears Heard before after (heard_in answers)
+  stands : StandsFor new (b ++ take (used_in answers) bytes)
+
 module _ {S : Type 0} {Heard : S → List Event → Type 0} {dialect : Dialect} {b bytes turns : List ℕ} {i taken refused : ℕ}
     {before now : S} {r : Reader}
     (g : Going Heard dialect b bytes turns i taken refused before now r) (same : r.dialect ≡ dialect)
@@ -58,95 +69,78 @@ module _ {S : Type 0} {Heard : S → List Event → Type 0} {dialect : Dialect} 
   abbrev d : List ℕ
   d = b ++ take (used_in g.answers) bytes
 
-  -- what was answered, the reader standing for what was taken in it
-  module _ (after : S) (new : Reader) (used : ℕ) (gave : Result Event Fault) (may : MayGive dialect d piece used gave)
-      (le : used ≤ length piece) (stands : StandsFor new (d ++ take used piece)) (hears : Hears Heard now after (told_by gave))
-    where
-      abbrev given_now : Given
-      given_now = record { used = used; gave = gave }
-
-      abbrev answers_now : List Given
-      answers_now = g.answers ++ given_now ∷ []
-
-      piece_is : piece ≡ take (slice_index_or turns i 0) (drop (used_in g.answers) bytes)
-      piece_is = rw g.taken_is at is
-
-      may_here : May dialect d (take (slice_index_or turns i 0) (drop (used_in g.answers) bytes)) given_now
-      may_here = rw piece_is at may
-
-      used_now : taken + used ≡ used_in answers_now
-      used_now = omega (arith, g.taken_is, sum_by_push (λ (a : Given). a.used) g.answers given_now)
-
-      refused_now : refused + cond (is_refusal gave) 1 0 ≡ refusals answers_now
-      refused_now =
-          omega (arith, g.refused_is, sum_by_push (λ (a : Given). cond (is_refusal a.gave) 1 0) g.answers given_now)
-
-      last_now : last_given (Ok event.More) answers_now ≡ gave
-      last_now = last_of_push (Ok event.More) g.answers given_now
-
-      hears_now : Hears Heard before after (heard_in answers_now)
-      hears_now = λ es h.
-          rw (flat_map-append (λ (a : Given). told_by a.gave) g.answers (given_now ∷ []), append-nil, ← append_assoc)
-          (hears (es ++ heard_in g.answers) (g.hears es h))
-
-      stands_now : StandsFor new (b ++ take (used_in answers_now) bytes)
-      stands_now =
-          let all = turned b bytes (used_in g.answers) (slice_index_or turns i 0) used (rw piece_is at le) in
-          rw (← used_now, g.taken_is) (rw all at (rw piece_is at stands))
-
-      goes_to : goes_on gave ≡ true → Going Heard dialect b bytes turns (i + 1) (taken + used)
-          (refused + cond (is_refusal gave) 1 0) before after new
-      goes_to goes = record {
-        answers = answers_now;
-        trace = trace_more (May dialect) goes_on b bytes turns i g.answers given_now (Ok event.More) lt g.trace g.goes
-            may_here;
-        goes = rw last_now goes;
-        taken_is = used_now;
-        refused_is = refused_now;
-        hears = hears_now;
-        stands = stands_now;
-      }
-
-      ends_with : (result : Result Run Fault) → result ≡ outcome answers_now gave → goes_on gave ≡ false
-          → Traced dialect b bytes turns (Hears Heard before after) result new
-      ends_with result is_outcome ends = record {
-        answers = answers_now;
-        trace = trace_last (May dialect) goes_on b bytes turns i g.answers given_now (Ok event.More) lt g.trace g.goes
-            may_here ends;
-        result_is = rw last_now is_outcome;
-        hears = hears_now;
-        stands = stands_now;
+  turn : (after : S) (new : Reader) (used : ℕ) (gave : Result Event Fault) → MayGive dialect d piece used gave
+      → used ≤ length piece → StandsFor new (d ++ take used piece) → Hears Heard now after (told_by gave)
+      → Turned Heard dialect b bytes turns i taken refused before after new used gave
+  turn after new used gave may le stands hears =
+      let n = slice_index_or turns i 0 in
+      let answer : Given = record { used = used; gave = gave } in
+      let piece_is : piece ≡ take n (drop (used_in g.answers) bytes) = rw g.taken_is at is in
+      let here : May dialect d (take n (drop (used_in g.answers) bytes)) answer = rw piece_is at may in
+      let all = turned b bytes (used_in g.answers) n used (rw piece_is at le) in
+      let sum : taken + used ≡ used_in (g.answers ++ answer ∷ []) =
+      omega (arith, g.taken_is, sum_by_push (λ (a : Given). a.used) g.answers answer) in
+      record {
+        answers = g.answers ++ answer ∷ [];
+        goes = λ more. trace_more (May dialect) goes_on b bytes turns i g.answers answer (Ok event.More) lt g.trace
+            g.goes here;
+        ends = trace_last (May dialect) goes_on b bytes turns i g.answers answer (Ok event.More) lt g.trace g.goes here;
+        gave_is = last_of_push (Ok event.More) g.answers answer;
+        taken_is = sum;
+        refused_is = omega (
+          arith,
+          g.refused_is,
+          sum_by_push (λ (a : Given). cond (is_refusal a.gave) 1 0) g.answers answer,
+        );
+        hears = λ es h.
+            rw (flat_map-append (λ (a : Given). told_by a.gave) g.answers (answer ∷ []), append-nil, ← append_assoc)
+            (hears (es ++ heard_in g.answers) (g.hears es h));
+        stands = rw (← sum, g.taken_is) (rw all at (rw piece_is at stands));
       }
 
   -- by what the reader answered
-  module _ (after : S) (new : Reader) (fed : Fed) (feed : (d : List ℕ) → StandsFor r d → ReaderFed r.dialect d piece (Ok fed) new)
+  module _ (after : S) (new : Reader) (fed : Fed)
+      (feed : (d : List ℕ) → StandsFor r d → ReaderFed r.dialect d piece (Ok fed) new)
       (hears : Hears Heard now after (told fed.event)) where
-    fed_here : ReaderFed dialect d piece (Ok fed) new
-    fed_here = rw same at (feed d g.stands)
+    fed_turn : Turned Heard dialect b bytes turns i taken refused before after new fed.used (Ok fed.event)
+    fed_turn =
+        let f : ReaderFed dialect d piece (Ok fed) new = rw same at (feed d g.stands) in
+        turn after new fed.used (Ok fed.event) f.answered f.answered.within f.stands hears
 
     pub going_on : goes_on (Ok fed.event) ≡ true → Going Heard dialect b bytes turns (i + 1) (taken + fed.used)
         (refused + cond (is_refusal (Ok fed.event)) 1 0) before after new
     going_on goes =
-        goes_to after new fed.used (Ok fed.event) fed_here.answered fed_here.answered.within fed_here.stands hears goes
+        let t = fed_turn in
+        record {
+          answers = t.answers;
+          trace = t.goes goes;
+          goes = rw t.gave_is goes;
+          taken_is = t.taken_is;
+          refused_is = t.refused_is;
+          hears = t.hears;
+          stands = t.stands;
+        }
 
     pub traced_end : fed.event ≡ event.End → Traced dialect b bytes turns (Hears Heard before after) (Ok (record {
       taken = taken + fed.used;
       refused = refused;
       ended = true;
     })) new
-    traced_end ends =
-        let here = fed_here in
-        let used = used_now after new fed.used (Ok fed.event) here.answered here.answered.within here.stands hears in
-        let counted = refused_now after new fed.used (Ok fed.event) here.answered here.answered.within here.stands hears in
-        ends_with after new fed.used (Ok fed.event) here.answered here.answered.within here.stands hears _
-        (rw (← used, ← counted, ends, add-zero)) (rw ends)
+    traced_end ends = (let t = fed_turn in record {
+      answers = t.answers;
+      trace = t.ends (rw ends);
+      result_is = rw (t.gave_is, ← t.taken_is, ← t.refused_is, ends, add-zero);
+      hears = t.hears;
+      stands = t.stands;
+    })
 
   pub traced_fault : (new : Reader) (fault : Fault)
       → ((d : List ℕ) → StandsFor r d → ReaderFed r.dialect d piece (Err fault) new)
       → Traced dialect b bytes turns (Hears Heard before now) (Err fault) new
   traced_fault new fault feed =
       let f = rw same at (feed d g.stands) in
-      ends_with now new f.0 (Err fault) f.1 f.1.within f.2 (hears_none Heard now) (Err fault) refl refl
+      let t = turn now new f.0 (Err fault) f.1 f.1.within f.2 (hears_none Heard now) in
+      record { answers = t.answers; trace = t.ends refl; result_is = rw t.gave_is; hears = t.hears; stands = t.stands }
 
 pub traced_all : {S : Type 0} {Heard : S → List Event → Type 0} {dialect : Dialect} {b bytes turns : List ℕ}
     {i taken refused : ℕ} {before now : S} {r : Reader} → Going Heard dialect b bytes turns i taken refused before now r

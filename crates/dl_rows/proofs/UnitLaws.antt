@@ -1,7 +1,5 @@
 -- The laws of units and refusals that need no more than those of headers and programs.
-use Rattle.std.proofs.Common.{◌≡◌, ℕ, List, [], ◌∷◌, length, Option, Some, None, sym, ap, subst, ◌∙◌, arith, inl, inr}
-use Rattle.std.proofs.Common.{append-nil}
-use Rattle.std.specs.Prelude.{map}
+use Rattle.std.proofs.Common.{◌≡◌, ℕ, List, [], length, Option, Some, None, sym, ap, ◌∙◌, arith, inl, inr, append-nil}
 use Rattle.dl_head.specs.declared.dialect.Dialect.{Dialect}
 use Rattle.dl_num.specs.Front.{Standing}
 use Rattle.dl_table.specs.declared.fault.FaultKind.{FaultKind}
@@ -11,10 +9,8 @@ use Rattle.dl_field.proofs.FieldLemmas.{none_some}
 use Rattle.dl_head.proofs.FrontLemmas.{GoesOn, fronts}
 use Rattle.dl_head.proofs.HeaderLaws.{header_is_found, header_is_not_foreign}
 use Rattle.dl_rows.specs.declared.operation.Operation.{Operation}
-use Rattle.dl_rows.specs.declared.reader.Event.TheVariants as event
-use Rattle.dl_rows.specs.Matrix.{matrix}
 use Rattle.dl_rows.specs.OperationSpelt.{operations_in}
-use Rattle.dl_rows.specs.LineUnit.{events_of, rows_later, own_events}
+use Rattle.dl_rows.specs.LineUnit.{rows_later}
 use Rattle.dl_rows.specs.Refusal.{Refused}
 use Rattle.dl_rows.specs.UnitLaws.{ForeignComesTo, UnitComesTo, OneRefusal, RowForProgramByte}
 use Rattle.dl_rows.proofs.HeaderParams.{header_is_usable}

@@ -1,6 +1,6 @@
 -- Bytes as long as their initial length says, of which no front is refused, are a unit.
 use Rattle.dl_head.specs.declared.dialect.Dialect.{Dialect}
-use Rattle.std.proofs.Common.{◌≡◌, ℕ, ◌-◌, ◌≤◌, List, [], ◌∷◌, ◌++◌, length, Option, Some, None, refl, sym, ap, subst}
+use Rattle.std.proofs.Common.{◌≡◌, ℕ, ◌-◌, ◌≤◌, List, [], ◌∷◌, ◌++◌, length, Option, Some, None, refl, sym, ap}
 use Rattle.std.proofs.Common.{◌∙◌, arith, inl, inr, length-append, append_assoc, append-nil}
 use Rattle.dl_num.specs.Front.{IsCut, standing}
 use Rattle.dl_num.proofs.FrontLemmas.{one_cut}
@@ -14,9 +14,8 @@ use Rattle.dl_field.proofs.FieldLemmas.{none_some}
 use Rattle.dl_head.proofs.CutLemmas.{cut_sound, Sound}
 use Rattle.dl_head.proofs.HeaderLaws.{found_is_header}
 use Rattle.dl_rows.specs.OperationSpelt.{operation_spelt, operations_in}
-use Rattle.dl_rows.specs.Spelling.{SpellsProgram}
 use Rattle.dl_rows.specs.LineUnit.{IsOwnUnit, IsUnit}
-use Rattle.dl_rows.specs.Refusal.{left_after, left_over, operation_decided, decided_after, unit_decided, Refused}
+use Rattle.dl_rows.specs.Refusal.{left_after, left_over, operation_decided, unit_decided, Refused}
 use Rattle.dl_rows.specs.UnitLaws.{UnitUnlessRefused}
 use Rattle.dl_rows.proofs.HeaderParams.{header_is_usable}
 use Rattle.dl_rows.proofs.ProgramLaws.{found_is_program}

@@ -1,5 +1,4 @@
 use Rattle.std.proofs.Common.{true, false, refl, sym, ap, ◌∙◌}
-use Rattle.dl_rows.specs.declared.registers.Registers.{Registers}
 use Rattle.dl_rows.specs.Machine.{cleared}
 use Rattle.dl_rows.proofs.RegisterLemmas.{appends_none, finishes_with_row, finishes_without, settled_special}
 use Rattle.dl_rows.proofs.program.Program.finish.Goals as goal
