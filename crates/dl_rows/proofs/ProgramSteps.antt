@@ -95,33 +95,28 @@ module _ {order : Order} {h : Params} {p : Program} {b : List ℕ} (s : ProgramS
 
   -- ---- bytes that complete no operation
 
-  found_none : (u : List ℕ) → ((front : List ℕ) (x : ℕ) (back : List ℕ) → u ≡ front ++ x ∷ back
-      → ◌≡◌ {A = Option Operation} (spelt order h (s.begun ++ (front ++ x ∷ []))) None)
-      → operations_in order h (b ++ u) ≡ record { found = s.operations; rest = s.begun ++ u }
-  found_none u none = more u ∙ rw (nothing_yet (spelt order h) s.begun u none, append-nil s.operations)
-
-  -- the same bytes with one of u set apart
+  -- the bytes of the operation with one of u set apart
   apart : (u front : List ℕ) (x : ℕ) (back : List ℕ) → u ≡ front ++ x ∷ back
       → s.begun ++ u ≡ (s.begun ++ (front ++ x ∷ [])) ++ back
   apart u front x back e = rw (e, append_assoc s.begun (front ++ x ∷ []) back, append_assoc front (x ∷ []) back)
 
+  found_none : (u : List ℕ) → SpellsNowhere (spelt order h) (s.begun ++ u)
+      → operations_in order h (b ++ u) ≡ record { found = s.operations; rest = s.begun ++ u }
+  found_none u none =
+      more u ∙ rw (nothing_yet (spelt order h) s.begun u (λ front x back e.
+      none (s.begun ++ (front ++ x ∷ [])) back (apart u front x back e)), append-nil s.operations)
+
   found_within : (u : List ℕ) → SpellsNowhere (operation_spelt order h) (s.begun ++ u)
       → operations_in order h (b ++ u) ≡ record { found = s.operations; rest = s.begun ++ u }
-  found_within u nowhere = found_none u (λ front x back k.
-      ap good_one (nowhere (s.begun ++ (front ++ x ∷ [])) back (apart u front x back k)))
+  found_within u nowhere = found_none u (λ front back e. ap good_one (nowhere front back e))
 
   -- bytes that end in a bad one
   found_bad : (u : List ℕ) (k : FaultKind) → SpellsFirst (operation_spelt order h) (s.begun ++ u) (Err k)
       → operations_in order h (b ++ u) ≡ record { found = s.operations; rest = s.begun ++ u }
-  found_bad u k first = found_none u at where
-    at : (front : List ℕ) (x : ℕ) (back : List ℕ) → u ≡ front ++ x ∷ back
-        → ◌≡◌ {A = Option Operation} (spelt order h (s.begun ++ (front ++ x ∷ []))) None
-    at front x [] m =
-        let is : s.begun ++ u ≡ s.begun ++ (front ++ x ∷ []) =
-        apart u front x [] m ∙ append-nil (s.begun ++ (front ++ x ∷ [])) in
-        ap good_one (ap (operation_spelt order h) (sym is) ∙ first.spells)
-    at front x (y ∷ back) m =
-        ap good_one (first.shortest (s.begun ++ (front ++ x ∷ [])) y back (apart u front x (y ∷ back) m))
+  found_bad u k first = found_none u bad_nowhere where
+    bad_nowhere : SpellsNowhere (spelt order h) (s.begun ++ u)
+    bad_nowhere front [] e = ap good_one (rw (e, append-nil) at first.spells)
+    bad_nowhere front (y ∷ back) e = ap good_one (first.shortest front y back e)
 
   unrefused_within : (u : List ℕ) → SpellsNowhere (operation_spelt order h) (s.begun ++ u) → Unrefused order h b u
   unrefused_within u none front back e k bad =

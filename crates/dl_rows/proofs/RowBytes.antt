@@ -28,36 +28,29 @@ use Rattle.dl_rows.proofs.UnitBodyLemmas.{begun_in, later, decided_at, events_mo
 -- ---- one byte more of a program
 
 -- a byte appends no row, or one, and then ends an operation
-byte_rows : (order : Order) (h : Params) (b : List ℕ) (x : ℕ) → (rows_in order h (b ++ x ∷ []) ≡ rows_in order h b)
+abbrev ByteRows : Order → Params → List ℕ → ℕ → Type 0
+ByteRows order h b x =
+    (rows_in order h (b ++ x ∷ []) ≡ rows_in order h b)
     ⊎ ((r : Row) × (rows_in order h (b ++ x ∷ []) ≡ rows_in order h b ++ r ∷ []) × (begun_in order h (b ++ x ∷ []) ≡ []))
-byte_rows order h b x = on (good_one (operation_spelt order h (begun_in order h b ++ x ∷ []))) refl where
-  os : List Operation
-  os = (operations_in order h b).found
 
-  on : (o : Option Operation) → good_one (operation_spelt order h (begun_in order h b ++ x ∷ [])) ≡ o
-      → (rows_in order h (b ++ x ∷ []) ≡ rows_in order h b)
-      ⊎ ((r : Row) × (rows_in order h (b ++ x ∷ []) ≡ rows_in order h b ++ r ∷ [])
-      × (begun_in order h (b ++ x ∷ []) ≡ []))
-  on o k =
-      let more : operations_in order h (b ++ x ∷ []) ≡ then_standing (operations_in order h b)
-      (standing_on (λ w. good_one (operation_spelt order h w)) (begun_in order h b ++ x ∷ []) o []) =
-      standing-append (λ w. good_one (operation_spelt order h w)) b (x ∷ [])
-      ∙ ap (λ (p : Option Operation). then_standing (operations_in order h b)
-      (standing_on (λ w. good_one (operation_spelt order h w)) (begun_in order h b ++ x ∷ []) p [])) k in
-      told o more
-    where
-      told : (o : Option Operation) → operations_in order h (b ++ x ∷ []) ≡ then_standing (operations_in order h b)
-          (standing_on (λ w. good_one (operation_spelt order h w)) (begun_in order h b ++ x ∷ []) o [])
-          → (rows_in order h (b ++ x ∷ []) ≡ rows_in order h b)
-          ⊎ ((r : Row) × (rows_in order h (b ++ x ∷ []) ≡ rows_in order h b ++ r ∷ [])
-          × (begun_in order h (b ++ x ∷ []) ≡ []))
-      told (Some a) e =
-          let rows = ap (λ (t : Standing Operation). matrix h t.found) e ∙ matrix-push h os a in
-          elim (true_or_false (appends_row a)) [
-            | inl is ↦ inr (row h os a, rw is at rows, ap (λ (t : Standing Operation). t.rest) e)
-            | inr is ↦ inl (rw append-nil at (rw is at rows))
-          ]
-      told None e = inl (ap (λ (t : Standing Operation). matrix h t.found) e ∙ ap (matrix h) (append-nil os))
+byte_rows : (order : Order) (h : Params) (b : List ℕ) (x : ℕ) → ByteRows order h b x
+byte_rows order h b x =
+    told (good_one (operation_spelt order h (begun_in order h b ++ x ∷ [])))
+    (standing-append (λ w. good_one (operation_spelt order h w)) b (x ∷ []))
+  where
+    os : List Operation
+    os = (operations_in order h b).found
+
+    told : (o : Option Operation) → operations_in order h (b ++ x ∷ []) ≡ then_standing (operations_in order h b)
+        (standing_on (λ w. good_one (operation_spelt order h w)) (begun_in order h b ++ x ∷ []) o [])
+        → ByteRows order h b x
+    told (Some a) e =
+        let rows = ap (λ (t : Standing Operation). matrix h t.found) e ∙ matrix-push h os a in
+        elim (true_or_false (appends_row a)) [
+          | inl is ↦ inr (row h os a, rw is at rows, ap (λ (t : Standing Operation). t.rest) e)
+          | inr is ↦ inl (rw append-nil at (rw is at rows))
+        ]
+    told None e = inl (ap (λ (t : Standing Operation). matrix h t.found) e ∙ ap (matrix h) (append-nil os))
 
 some_more : (rows more : List Row) (r : Row) → rows ≡ rows ++ r ∷ more → ⊥
 some_more rows more r e = omega (arith, ap length e, length-append rows (r ∷ more))

@@ -88,9 +88,6 @@ spells_split order layout (i ∷ items) more w s =
       (s.0, r.0, refl, s.3, r.3),
     )
 
-format_same : (f g : Format) (m n : ℕ) → length_is f m ≡ length_is g n → f ≡ g
-format_same f g m n e = cc
-
 -- the bytes of a unit up to the end of its header
 pub record UpToHeader (dialect : Dialect) (b : List ℕ) : Type 0 where
   pub front : List ℕ
@@ -108,73 +105,47 @@ record FirstItems (dialect : Dialect) (items : List Item) (f : Format) (v header
       → length u ≡ initial_size f + fixed_part f v
 
 -- where no field follows these, no byte does
-nothing_more : (dialect : Dialect) (items : List Item) (u : List ℕ) (o : Opening dialect items u) → o.more ≡ []
-    → length u ≡ initial_size o.format + fixed_part o.format o.of_version
-nothing_more dialect items u o none =
-    let zero : length o.rest ≡ 0 =
-    ap length (rw none at o.spelt) in
-    omega (arith, o.size, zero)
-
-abbrev sizes : Format → ℕ → ℕ
-sizes f v = initial_size f + fixed_part f v
-
-own_size : (dialect : Dialect) (f : Format) (n address segment header : ℕ) (u : List ℕ)
-    → SpellsFields dialect.order (header_layout dialect)
-    (length_is f n ∷ number_is 5 ∷ number_is address ∷ number_is segment ∷ number_is header ∷ []) u
-    → length u ≡ initial_size f + fixed_part f 5
-own_size dialect f n address segment header u s =
-    sized (opening_of dialect first u (initial_size f + fixed_part f 5 + header) s refl)
-  where
-    first : List Item
-    first = length_is f n ∷ number_is 5 ∷ number_is address ∷ number_is segment ∷ number_is header ∷ []
-
-    sized : Opening dialect first u → length u ≡ initial_size f + fixed_part f 5
-    sized o = elim o.shape [
-      | inl own ↦
-          let same : o.format ≡ f = format_same o.format f o.unit_length n (cc) in
-          let none : o.more ≡ [] = cc in
-          nothing_more dialect first u o none ∙ ap (sizes o.format) own.2 ∙ ap (λ (g : Format). sizes g 5) same
-      | inr older ↦ (let five : o.of_version ≡ 5 = number_same o.of_version 5 (cc) in absurd (older.1 five))
-    ]
-
-older_size_is : (dialect : Dialect) (f : Format) (n v header : ℕ) (u : List ℕ) → v ≢ 5
-    → SpellsFields dialect.order (header_layout dialect) (length_is f n ∷ number_is v ∷ number_is header ∷ []) u
-    → length u ≡ initial_size f + fixed_part f v
-older_size_is dialect f n v header u other s =
-    sized (opening_of dialect first u (initial_size f + fixed_part f v + header) s (rw (ne_eqb v 5 other) refl))
-  where
-    first : List Item
-    first = length_is f n ∷ number_is v ∷ number_is header ∷ []
-
-    sized : Opening dialect first u → length u ≡ initial_size f + fixed_part f v
-    sized o = elim o.shape [
-      | inl own ↦ (let five : v ≡ 5 = number_same v 5 (cc) in absurd (other five))
-      | inr older ↦
-          let same : o.format ≡ f = format_same o.format f o.unit_length n (cc) in
-          let none : o.more ≡ [] = cc in
-          let version : o.of_version ≡ v = number_same o.of_version v (cc) in
-          nothing_more dialect first u o none ∙ ap (sizes o.format) version ∙ ap (λ (g : Format). sizes g v) same
-    ]
+size_of : (dialect : Dialect) (items : List Item) (f : Format) (v end : ℕ) (u : List ℕ) → header_end items ≡ Some end
+    → ((o : Opening dialect items u) → (o.more ≡ []) × (o.format ≡ f) × (o.of_version ≡ v))
+    → SpellsFields dialect.order (header_layout dialect) items u → length u ≡ initial_size f + fixed_part f v
+size_of dialect items f v end u e is s =
+    let o = opening_of dialect items u end s e in
+    let k = is o in
+    let zero : length o.rest ≡ 0 = ap length (rw k.0 at o.spelt) in
+    rw (← k.1, ← k.2) (omega (arith, o.size, zero))
 
 first_of : (dialect : Dialect) (items : List Item) (w : List ℕ) (o : Opening dialect items w)
     → FirstItems dialect items o.format o.of_version o.header
 first_of dialect items w o = elim o.shape [
-  | inl own ↦ record {
-    first = length_is o.format o.unit_length ∷ number_is 5 ∷ number_is own.0 ∷ number_is own.1 ∷ number_is o.header
-        ∷ [];
-    more = o.more;
-    all = own.3;
-    end = ap (λ (v : ℕ). Some (initial_size o.format + fixed_part o.format v + o.header)) (sym own.2);
-    size = λ u s.
-        own_size dialect o.format o.unit_length own.0 own.1 o.header u s ∙ ap (sizes o.format) (sym own.2);
-  }
-  | inr older ↦ record {
-    first = length_is o.format o.unit_length ∷ number_is o.of_version ∷ number_is o.header ∷ [];
-    more = o.more;
-    all = older.3;
-    end = rw (ne_eqb o.of_version 5 older.1) refl;
-    size = λ u s. older_size_is dialect o.format o.unit_length o.of_version o.header u older.1 s;
-  }
+  | inl own ↦
+      let first : List Item = length_is o.format o.unit_length ∷ number_is 5 ∷ number_is own.0 ∷ number_is own.1
+      ∷ number_is o.header ∷ [] in
+      let end : header_end first ≡ Some (initial_size o.format + fixed_part o.format o.of_version + o.header) =
+      ap (λ (v : ℕ). Some (initial_size o.format + fixed_part o.format v + o.header)) (sym own.2) in
+      record {
+        first = first;
+        more = o.more;
+        all = own.3;
+        end = end;
+        size = λ u s. size_of dialect first o.format o.of_version _ u end (λ c. elim c.shape [
+          | inl d ↦ (cc, cc, d.2 ∙ sym own.2)
+          | inr d ↦ absurd (d.1 (number_same c.of_version 5 (cc)))
+        ]) s;
+      }
+  | inr older ↦
+      let first : List Item = length_is o.format o.unit_length ∷ number_is o.of_version ∷ number_is o.header ∷ [] in
+      let end : header_end first ≡ Some (initial_size o.format + fixed_part o.format o.of_version + o.header) =
+      rw (ne_eqb o.of_version 5 older.1) refl in
+      record {
+        first = first;
+        more = o.more;
+        all = older.3;
+        end = end;
+        size = λ u s. size_of dialect first o.format o.of_version _ u end (λ c. elim c.shape [
+          | inl d ↦ absurd (older.1 (number_same o.of_version 5 (cc)))
+          | inr d ↦ (cc, cc, number_same c.of_version o.of_version (cc))
+        ]) s;
+      }
 ]
 
 pub up_to_header : (dialect : Dialect) (b : List ℕ) (end : ℕ) → unit_len dialect b ≡ Some (length b)

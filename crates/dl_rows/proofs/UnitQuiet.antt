@@ -82,10 +82,8 @@ rest_program order h p b back some s =
     ap (λ (t : Standing Operation). t.rest) (sym later
     ∙ ap (operations_in order h) (sym whole ∙ sym (append-nil (b ++ back))) ∙ all) in
     let g = found_is_program order h (rest ++ back) some in
-    let same : g.0 ≡ rest ++ back = sym (append-nil g.0) ∙ ap (λ (z : List ℕ). g.0 ++ z) (sym none) ∙ sym g.1 in (
-      (operations_in order h (rest ++ back)).found,
-      rw same at g.2,
-    )
+    let same : rest ++ back ≡ g.0 = g.1 ∙ rw none (append-nil g.0) in
+    ((operations_in order h (rest ++ back)).found, rw (← same) at g.2)
 
 completed : (order : Order) (h : Params) (p : List Operation) (b back begun : List ℕ) → 1 ≤ h.opcode_base
     → SpellsProgram order h p (b ++ back) → (operations_in order h b).rest ≡ begun → 1 ≤ length begun
