@@ -62,7 +62,7 @@ at_nowhere {A} {f} {v = v} {u = u} x a none front back e =
     sym (append_assoc a.head u x) ∙ ap (λ (z : List ℕ). z ++ x) (sym a.whole) ∙ e in
     elim (split_front a.head (u ++ x) front back whole) [
       | inl p ↦ a.begun front p.0 p.1 p.2
-      | inr q ↦ subst (λ (z : List ℕ). ◌≡◌ {A = Option A} (f z) None) (sym q.1) (a.same q.0 ∙ none q.0 back q.2)
+      | inr q ↦ rw q.1 (a.same q.0 ∙ none q.0 back q.2)
     ]
 
 pub at_first : {A : Type 0} {f g : List ℕ → Option A} {v u : List ℕ} {r : A} (x : List ℕ) → At f g v u
@@ -73,8 +73,7 @@ at_first {A} {f} {v = v} {u = u} x a first =
       spells = ap f whole ∙ a.same (u ++ x) ∙ first.spells;
       shortest = λ front y back e. elim (split_front a.head (u ++ x) front (y ∷ back) (sym whole ∙ e)) [
         | inl p ↦ a.begun front p.0 p.1 p.2
-        | inr q ↦ subst (λ (z : List ℕ). ◌≡◌ {A = Option A} (f z) None) (sym q.1)
-            (a.same q.0 ∙ first.shortest q.0 y back q.2)
+        | inr q ↦ rw q.1 (a.same q.0 ∙ first.shortest q.0 y back q.2)
       ];
     }
 
@@ -104,7 +103,7 @@ at_join {A} {f} {t = t} a c = record {
   whole = a.whole ∙ ap (λ (z : List ℕ). a.head ++ z) c.whole ∙ sym (append_assoc a.head c.head t);
   begun = λ front x back e. elim (split_front a.head c.head front (x ∷ back) e) [
     | inl p ↦ a.begun front p.0 p.1 p.2
-    | inr q ↦ subst (λ (z : List ℕ). ◌≡◌ {A = Option A} (f z) None) (sym q.1) (a.same q.0 ∙ c.begun q.0 x back q.2)
+    | inr q ↦ rw q.1 (a.same q.0 ∙ c.begun q.0 x back q.2)
   ];
   same = λ w. ap f (append_assoc a.head c.head w) ∙ a.same (c.head ++ w) ∙ c.same w;
 }

@@ -1,7 +1,7 @@
 -- What is computed of bytes as an operation is so: a good one is spelled, a bad one is faulty.
 use Rattle.std.proofs.Common.{◌≡◌, ℕ, zero, suc, ◌+◌, ◌-◌, ◌^◌, ◌<◌, ◌≤◌, ◌⊎◌, true, not, nat_lt, ◌==◌, List, [], ◌∷◌}
 use Rattle.std.proofs.Common.{◌++◌, length, slice_get, slice_index, Some, None, Ok, Err, if◌then◌else◌, refl, sym, ap}
-use Rattle.std.proofs.Common.{arith, inl, inr, ℤ, pos, negsuc, false, subst, ◌∙◌}
+use Rattle.std.proofs.Common.{arith, inl, inr, ℤ, pos, negsuc, false, ◌∙◌}
 use Rattle.std.proofs.lemmas.Bool.{cases_Bool, cases_eq, cases_lt, lt-leb, le-leb, lt-ltb, le-ltb, eq-eqb, ne_eqb}
 use Rattle.std.proofs.lemmas.Bool.{eqb-true, ltb-true, ltb-false}
 use Rattle.std.proofs.lemmas.List.{append-nil}
@@ -33,7 +33,7 @@ pub signed_is : (w : List ℕ) → is_leb w ≡ true → IsSleb w (signed_number
 signed_is w t =
     let r = leb_is w t in
     let s : IsSleb w (signed_groups w r.1) = (r.0, r.1, r.2, refl) in
-    subst (λ (i : ℤ). IsSleb w i) (sym (signed_number-is w (signed_groups w r.1) s)) s
+    rw (signed_number-is w (signed_groups w r.1) s) s
 
 pub no_number : (w : List ℕ) → is_leb w ≡ false → IsNumber w → ⊥
 no_number w f n = true_false (is_leb-of w n.0 n.1 n.2) f

@@ -20,7 +20,7 @@ pub nowhere_good : (order : Order) (h : Params) (b : List ℕ) → SpellsNowhere
     → NoneGood order h b
 nowhere_good order h b none front back e = ap good_one (none front back e)
 
-not_good : (j : Judgement Operation) → ((o : Operation) → j ≡ good o → ⊥)
+pub not_good : (j : Judgement Operation) → ((o : Operation) → j ≡ good o → ⊥)
     → ◌≡◌ {A = Option Operation} (good_one j) None
 not_good j bars = grind arith
 

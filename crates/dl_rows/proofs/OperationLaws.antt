@@ -95,14 +95,10 @@ range_computes order h w some (inr (inr (inr d))) =
 opcode_computes : (order : Order) (h : Params) (w : List ℕ) → 1 ≤ h.opcode_base → WrongAtOpcode h w
     → Computes order h w fault.ExtendedLength
 opcode_computes order h w some f = begun_computes order h w f.n f.opcode [] some f.begins ∙ elim f.wrong [
-  | inl e ↦ at e.0 (rw (ne_eqb f.n 1 e.1) refl)
-  | inr (inl e) ↦ at e.0 (rw (ne_eqb f.n (1 + h.address_size) e.1) refl)
-  | inr (inr e) ↦ at e.0 (rw (eq-eqb f.n 1 e.1) refl)
-] where
-  at : {c : ℕ} → f.opcode ≡ c
-      → ◌≡◌ {A = Judgement Operation} (extended_spelt order h.address_size f.n c []) (bad fault.ExtendedLength)
-      → ◌≡◌ {A = Judgement Operation} (extended_spelt order h.address_size f.n f.opcode []) (bad fault.ExtendedLength)
-  at e same = ap (λ (c : ℕ). extended_spelt order h.address_size f.n c []) e ∙ same
+  | inl e ↦ rw e.0 (rw (ne_eqb f.n 1 e.1) refl)
+  | inr (inl e) ↦ rw e.0 (rw (ne_eqb f.n (1 + h.address_size) e.1) refl)
+  | inr (inr e) ↦ rw e.0 (rw (eq-eqb f.n 1 e.1) refl)
+]
 
 -- the fault is computed, or one that comes before it
 abbrev ComputesFirst : Order → Params → List ℕ → FaultKind → Type 0

@@ -1,6 +1,6 @@
 -- The laws of programs: what is cut off the front of bytes is the program that stands there, and has few rows.
 use Rattle.std.proofs.Common.{◌≡◌, ℕ, ◌≤◌, List, [], ◌∷◌, ◌++◌, length, Option, Some, None}
-use Rattle.std.proofs.Common.{refl, sym, ap, subst, ◌∙◌, arith, append_assoc, inl, inr}
+use Rattle.std.proofs.Common.{refl, sym, ap, ◌∙◌, arith, append_assoc, inl, inr}
 use Rattle.std.proofs.lemmas.Bool.{cases_Bool}
 use Rattle.std.proofs.lemmas.List.{append-nil}
 use Rattle.dl_num.specs.declared.fixed.Order.{Order}
@@ -33,8 +33,7 @@ good_one_is j o e = grind arith
 pub program_cut : (order : Order) (h : Params) (p : List Operation) (w v : List ℕ) (found : List Operation)
     (rest : List ℕ) → 1 ≤ h.opcode_base
     → SpellsProgram order h p w → IsCut (spelt order h) v found rest → IsCut (spelt order h) (w ++ v) (p ++ found) rest
-program_cut order h [] w v found rest some e c =
-    subst (λ (z : List ℕ). IsCut (spelt order h) (z ++ v) found rest) (sym e) c
+program_cut order h [] w v found rest some e c = rw e c
 program_cut order h (o ∷ p) w v found rest some (front, back, e, s, q) c = (
   front,
   back ++ v,

@@ -103,8 +103,11 @@ module _ {order : Order} {h : Params} {p : Program} {b : List ℕ} (s : ProgramS
   found_none : (u : List ℕ) → SpellsNowhere (spelt order h) (s.begun ++ u)
       → operations_in order h (b ++ u) ≡ record { found = s.operations; rest = s.begun ++ u }
   found_none u none =
-      more u ∙ rw (nothing_yet (spelt order h) s.begun u (λ front x back e.
-      none (s.begun ++ (front ++ x ∷ [])) back (apart u front x back e)), append-nil s.operations)
+      more u ∙ rw (
+        nothing_yet (spelt order h) s.begun u (λ front x back e.
+            none (s.begun ++ (front ++ x ∷ [])) back (apart u front x back e)),
+        append-nil s.operations,
+      )
 
   found_within : (u : List ℕ) → SpellsNowhere (operation_spelt order h) (s.begun ++ u)
       → operations_in order h (b ++ u) ≡ record { found = s.operations; rest = s.begun ++ u }

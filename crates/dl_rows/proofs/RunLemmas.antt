@@ -93,26 +93,25 @@ took_after {dialect} {b} {bytes} {k} {used} {first} {heard} t o = record {
   grows = cc (joined b bytes k used, append_assoc (events dialect b) first heard);
 }
 
+trace_went : (dialect : Dialect) (b bytes turns : List ℕ) (a : Given) (answers : List Given)
+    → IsTrace (May dialect) goes_on b bytes turns (a ∷ answers)
+    → Went dialect b bytes (used_in (a ∷ answers)) (heard_in (a ∷ answers)) (last_given a.gave answers)
+trace_went dialect b bytes turns a [] t =
+    let r = trace_rest (May dialect) goes_on b bytes turns a [] t in
+    let all : used_in (a ∷ []) ≡ a.used = used_cons a [] ∙ omega arith in
+    rw (all, append-nil) (went dialect b bytes r.0 a.used a.gave r.2)
+trace_went dialect b bytes turns a (c ∷ answers) t =
+    let r = trace_rest (May dialect) goes_on b bytes turns a (c ∷ answers) t in
+    let later = trace_went dialect (b ++ take a.used bytes) (drop a.used bytes) r.1 c answers r.3 in
+    rw (used_cons a (c ∷ answers)) (record {
+      took = took_after (went dialect b bytes r.0 a.used a.gave r.2).took later.took;
+      says = rw (← joined b bytes a.used (used_in (c ∷ answers))) later.says;
+    })
+
 trace_took : (dialect : Dialect) (b bytes turns : List ℕ) (answers : List Given) → WithinUnit dialect b
     → IsTrace (May dialect) goes_on b bytes turns answers → Took dialect b bytes (used_in answers) (heard_in answers)
 trace_took dialect b bytes turns [] in_unit t = took_none dialect b bytes in_unit
-trace_took dialect b bytes turns (a ∷ answers) in_unit t =
-    let r = trace_rest (May dialect) goes_on b bytes turns a answers t in
-    let first = (went dialect b bytes r.0 a.used a.gave r.2).took in
-    rw (used_cons a answers) (took_after first
-    (trace_took dialect (b ++ take a.used bytes) (drop a.used bytes) r.1 answers first.in_unit r.3))
-
-trace_says : (dialect : Dialect) (b bytes turns : List ℕ) (a : Given) (answers : List Given)
-    → IsTrace (May dialect) goes_on b bytes turns (a ∷ answers)
-    → Says dialect (b ++ take (used_in (a ∷ answers)) bytes) (last_given a.gave answers)
-trace_says dialect b bytes turns a [] t =
-    let r = trace_rest (May dialect) goes_on b bytes turns a [] t in
-    let all : used_in (a ∷ []) ≡ a.used = used_cons a [] ∙ omega arith in
-    rw all (went dialect b bytes r.0 a.used a.gave r.2).says
-trace_says dialect b bytes turns a (c ∷ answers) t =
-    let r = trace_rest (May dialect) goes_on b bytes turns a (c ∷ answers) t in
-    rw (used_cons a (c ∷ answers), ← joined b bytes a.used (used_in (c ∷ answers)))
-    (trace_says dialect (b ++ take a.used bytes) (drop a.used bytes) r.1 c answers r.3)
+trace_took dialect b bytes turns (a ∷ answers) in_unit t = (trace_went dialect b bytes turns a answers t).took
 
 -- ---- how far turns go
 
@@ -196,10 +195,8 @@ trace_runs dialect b bytes [] answers in_unit t = rw t (record {
 })
 trace_runs dialect b bytes (n ∷ turns) [] in_unit t = absurd t
 trace_runs dialect b bytes (n ∷ turns) (a ∷ answers) in_unit t =
-    runs_to dialect b bytes (n ∷ turns) (a ∷ answers) (last_given a.gave answers) (record {
-      took = trace_took dialect b bytes (n ∷ turns) (a ∷ answers) in_unit t;
-      says = trace_says dialect b bytes (n ∷ turns) a answers t;
-    })
+    runs_to dialect b bytes (n ∷ turns) (a ∷ answers) (last_given a.gave answers)
+    (trace_went dialect b bytes (n ∷ turns) a answers t)
     (trace_moves dialect b bytes (n ∷ turns) (a ∷ answers) (Ok event.More) in_unit t)
 
 -- ---- a unit in turns

@@ -26,6 +26,7 @@ use Rattle.dl_rows.specs.Reading.{WithinUnit}
 use Rattle.dl_rows.specs.Refusal.{decided_after, unit_decided, operation_decided, Refused}
 use Rattle.dl_rows.specs.UnitLaws.{IsIncomplete, IsCutShort, RefusesOperation, RefusedInProgram, OperationIsRefused}
 use Rattle.dl_rows.proofs.HeaderParams.{header_is_usable}
+use Rattle.dl_rows.proofs.OperationFront.{not_good}
 use Rattle.dl_rows.proofs.OperationLaws.{spelt_is_spelled, bad_is_faulty, no_spelling_is_faulty}
 use Rattle.dl_rows.proofs.ProgramLaws.{spelt, program_cut, found_is_program, none_begins_rest}
 use Rattle.dl_rows.proofs.UnitLemmas.{header_on, unit_len_on, no_header_before, refused_in_header}
@@ -55,11 +56,8 @@ ended kind k n end e = grind (arith, nat_tests)
 good_one_none : (order : Order) (h : Params) (w : List ℕ) → 1 ≤ h.opcode_base
     → ((o : Operation) → SpellsOperation order h o w → ⊥)
     → ◌≡◌ {A = Option Operation} (good_one (operation_spelt order h w)) None
-good_one_none order h w some none = on (operation_spelt order h w) refl where
-  on : (j : Judgement Operation) → operation_spelt order h w ≡ j → ◌≡◌ {A = Option Operation} (good_one j) None
-  on (Some (Ok o)) e = absurd (none o ((spelt_is_spelled order h o w some).1 e))
-  on (Some (Err k)) e = refl
-  on None e = refl
+good_one_none order h w some none =
+    not_good (operation_spelt order h w) (λ o e. none o ((spelt_is_spelled order h o w some).1 e))
 
 -- after a program stands what no operation begins
 rest_is : (order : Order) (h : Params) (p : List Operation) (done begun : List ℕ) → 1 ≤ h.opcode_base

@@ -1,7 +1,7 @@
 -- No front of a unit is refused.
 use Rattle.dl_head.specs.declared.dialect.Dialect.{Dialect}
 use Rattle.std.proofs.Common.{◌≡◌, ◌≢◌, ℕ, ◌+◌, ◌≤◌, List, [], ◌∷◌, ◌++◌, length, Option, Some, None, Err, refl, sym, ap}
-use Rattle.std.proofs.Common.{subst, ◌∙◌, arith, inl, inr, length-append, append_assoc, append-nil}
+use Rattle.std.proofs.Common.{◌∙◌, arith, inl, inr, length-append, append_assoc, append-nil}
 use Rattle.std.proofs.lemmas.Bool.{ne_eqb}
 use Rattle.dl_num.specs.declared.fixed.Order.{Order}
 use Rattle.dl_num.specs.Front.{Standing}
@@ -90,8 +90,7 @@ completed : (order : Order) (h : Params) (p : List Operation) (b back begun : Li
     → Completed order h begun back
 completed order h p b back begun some s e long = on next.0 next.1 where
   next : (q : List Operation) × SpellsProgram order h q (begun ++ back)
-  next = let r =
-      rest_program order h p b back some s in (r.0, subst (λ (z : List ℕ). SpellsProgram order h r.0 (z ++ back)) e r.1)
+  next = (let r = rest_program order h p b back some s in (r.0, rw e at r.1))
 
   -- no operation stands at the front of what is left
   none : (o : Operation) (w v : List ℕ) → begun ≡ w ++ v → SpellsOperation order h o w → ⊥
@@ -108,7 +107,7 @@ completed order h p b back begun some s e long = on next.0 next.1 where
       rest = rest;
       bytes = after_front begun back ((goes.0 ∷ goes.1) ++ rest) (k ∙ ap (λ (z : List ℕ). z ++ rest) goes.2
           ∙ append_assoc begun (goes.0 ∷ goes.1) rest);
-      spells = subst (λ (z : List ℕ). SpellsOperation order h o z) goes.2 t;
+      spells = rw goes.2 at t;
     }
     | inr (inr goes) ↦ absurd (none o front (goes.0 ∷ goes.1) goes.2 t)
   ]
