@@ -23,10 +23,10 @@ use Rattle.dl_rows.specs.OperationSpelt.{discriminator_spelt, extended_spelt, op
 use Rattle.dl_rows.specs.Phases.{HasLength, LebsLeft, PhaseStands, StepIs}
 use Rattle.dl_rows.proofs.FirstLemmas.{At, nowhere_here, at_first, at_same, at_join, at_here, first_nil, open_byte}
 use Rattle.dl_rows.proofs.OperandLemmas.{Verdict, skipped_nowhere, skipped_first, skipped_then, sized, sized_first}
-use Rattle.dl_rows.proofs.SpeltFirst.{extended_at, length_pending, length_begun, length_refused, body_out}
+use Rattle.dl_rows.proofs.SpeltFirst.{address_then, extended_at, length_pending, length_begun, length_refused, body_out}
 use Rattle.dl_rows.proofs.SpeltFirst.{discriminator_nowhere, discriminator_first, discriminator_out}
 use Rattle.dl_rows.proofs.SpeltFirst.{discriminator_early, discriminator_late}
-use Rattle.dl_rows.proofs.PhaseLemmas.{EndsAs, Answered, piece_is, address_then}
+use Rattle.dl_rows.proofs.PhaseLemmas.{EndsAs, Answered, piece_is}
 use Rattle.dl_num.specs.Fixed.{fixed}
 use Rattle.dl_rows.specs.declared.operation.Operation.{Operation}
 

@@ -270,22 +270,21 @@ extended_case order h o opcode operand w some e first =
     at_here (extended_at order h some e.size operand (length (opcode ∷ operand)) opcode e.bytes
     (e.spells, omega arith, e.fits)) first
 
-address_same : (order : Order) (size n : ℕ) → n ≡ 1 + size → (u : List ℕ)
-    → extended_spelt order size n 2 u ≡ sized size (λ v. op.SetAddress (fixed order v)) u
-address_same order size n e u = rw (eq-eqb n (1 + size) e) refl
+pub address_then : (order : Order) (size n : ℕ) → n ≡ 1 + size → (u : List ℕ)
+    → extended_spelt order size n 2 u ≡ sized size (λ w. op.SetAddress (fixed order w)) u
+address_then order size n e u = rw (eq-eqb n (1 + size) e) refl
 
-rest_same : (order : Order) (size n opcode : ℕ) → opcode ≢ 1 → opcode ≢ 2 → opcode ≢ 4 → (u : List ℕ)
-    → extended_spelt order size (suc n) opcode u ≡ sized n (λ v. op.Skipped) u
-rest_same order size n opcode one two four u =
-    rw (ne_eqb opcode 1 one, ne_eqb opcode 2 two, ne_eqb opcode 4 four) (grind (arith, nat_tests))
+pub rest_then : (order : Order) (size n x m : ℕ) → x ≢ 1 → x ≢ 2 → x ≢ 4 → n ≡ 1 + m → (u : List ℕ)
+    → extended_spelt order size n x u ≡ sized m (λ w. op.Skipped) u
+rest_then order size n x m a b c e u = rw (ne_eqb x 1 a, ne_eqb x 2 b, ne_eqb x 4 c, e) (grind (arith, nat_tests))
 
 skips_extended : (order : Order) (h : Params) (w : List ℕ) → 1 ≤ h.opcode_base → SkipsExtended w
     → SpellsFirst (operation_spelt order h) w (Ok op.Skipped)
 skips_extended order h w some s = extended_case order h op.Skipped s.opcode s.operand w some s.extended
     (at_here (at_same (extended_spelt order h.address_size (suc (length s.operand)) s.opcode)
     (sized (length s.operand) (λ v. op.Skipped)) s.operand
-    (rest_same order h.address_size (length s.operand) s.opcode s.not_end_sequence s.not_set_address
-    s.not_set_discriminator)) (sized_first (length s.operand) (λ v. op.Skipped) s.operand refl))
+    (rest_then order h.address_size (suc (length s.operand)) s.opcode (length s.operand) s.not_end_sequence
+    s.not_set_address s.not_set_discriminator (omega arith))) (sized_first (length s.operand) (λ v. op.Skipped) s.operand refl))
 
 -- ---- each operation
 
@@ -327,7 +326,7 @@ spells_first order h (op.SetAddress n) w some s =
     rw s.number (extended_case order h (op.SetAddress (fixed order s.operand)) 2 s.operand w some s.extended
     (at_here (at_same (extended_spelt order h.address_size (length (2 ∷ s.operand)) 2)
     (sized h.address_size (λ v. op.SetAddress (fixed order v))) s.operand
-    (address_same order h.address_size (length (2 ∷ s.operand)) (omega (arith, s.size))))
+    (address_then order h.address_size (length (2 ∷ s.operand)) (omega (arith, s.size))))
     (sized_first h.address_size (λ v. op.SetAddress (fixed order v)) s.operand s.size)))
 spells_first order h (op.SetDiscriminator n) w some s =
     extended_case order h (op.SetDiscriminator n) 4 s.operand w some s.extended
