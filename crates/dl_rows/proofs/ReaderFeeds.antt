@@ -1,6 +1,7 @@
 -- What a reader of a unit answers, by what it stands for.
 use Rattle.std.proofs.Common.{◌≡◌, ◌≢◌, inr, ℕ, List, [], ◌∷◌, ◌++◌, length, length-append, map, IfOk, Result, Ok}
 use Rattle.std.proofs.Common.{Err, refl, sym, ap, ◌∙◌, arith, append-nil}
+use Rattle.std.proofs.lemmas.List.{nil_from_length}
 use Rattle.dl_head.specs.declared.dialect.Dialect.{Dialect}
 use Rattle.dl_head.specs.declared.fault.Fault.{Fault}
 use Rattle.dl_table.specs.declared.fault.FaultKind.TheVariants.{Truncated}
@@ -24,12 +25,12 @@ use Rattle.dl_rows.specs.declared.unit_body.UnitBytes.{UnitBytes}
 use Rattle.dl_rows.specs.Each.{each_row}
 use Rattle.dl_rows.specs.Sinks.{Story}
 use Rattle.dl_rows.specs.LineUnit.{events}
-use Rattle.dl_rows.specs.Reading.{Feeds, IsPause, SinkAt, SinkAfter, FinishIs}
+use Rattle.dl_rows.specs.Reading.{Feeds, SinkAt, SinkAfter, FinishIs}
 use Rattle.dl_rows.specs.ReaderStands.{StandsFor}
 use Rattle.dl_rows.specs.ReaderAnswers.{ReaderFed, FedAfter, RowsFed}
 use Rattle.dl_rows.specs.ReaderStates.{InHeader, StandsAt}
 use Rattle.dl_rows.specs.UnitBodies.{InForeign, BodyFedAfter, BodyTells}
-use Rattle.dl_rows.proofs.UnitBodyFeeds.{fails_again}
+use Rattle.dl_rows.proofs.UnitBodyFeeds.{fails_again, sink_goes_on}
 use Rattle.dl_rows.proofs.HeadFeeds.{no_unit}
 use Rattle.dl_rows.proofs.UnitWhole.{NoneRefused}
 
@@ -105,14 +106,8 @@ finish_cut dialect head b taken is some s = inr (
 -- an answer that is no row
 pub sink_after : {S : Type 0} (story : Story S) (s : S) (rows : List Row) (result : Result Fed Fault)
     → IfOk result (λ fed. (r : Row) → fed.event ≢ event.Row r) → story.hears s rows → SinkAfter story s rows result
-sink_after story s rows (Ok fed) none hears = on fed.event none where
-  on : (e : Event) → ((r : Row) → e ≢ event.Row r) → SinkAt story s rows e
-  on (event.Row r) none = absurd (none r refl)
-  on other none = hears
+sink_after story s rows (Ok fed) none hears = sink_goes_on story s rows fed.event none hears
 sink_after story s rows (Err fault) none hears = hears
-
-pub no_row_paused : (e : Event) → IsPause e → (r : Row) → e ≢ event.Row r
-no_row_paused e pause r is = grind arith
 
 after_of_fed : (dialect : Dialect) (b piece : List ℕ) (result : Result Fed Fault) (new : Reader)
     → ReaderFed dialect b piece result new → FedAfter dialect (events dialect b) b piece result new
@@ -143,15 +138,12 @@ rows_stopped r new {b} {piece} {stop = stop} is same made s hears =
     no_rows r.dialect b piece (Err stop.fault) new
     (0, fails_again r.dialect b piece stop.fault at.in_unit at.refused, rw (same, made, append-nil) at) hears
 
-none_before : (rows : List Row) (r row : Row) → rows ++ r ∷ [] ≡ row ∷ [] → rows ≡ []
-none_before [] r row e = refl
-none_before (x ∷ rows) r row e =
-    let l : length (x ∷ (rows ++ r ∷ [])) ≡ 1 = ap length e in absurd (omega (arith, l, length-append rows (r ∷ [])))
-
 each_none : (s : EachRow) (rows : List Row) (result : Result Fed Fault) → SinkAfter each_row s rows result → rows ≡ []
 each_none s rows (Ok fed) at = on fed.event at where
   on : (e : Event) → SinkAt each_row s rows e → rows ≡ []
-  on (event.Row r) at = none_before rows r at.0 at.1
+  on (event.Row r) at =
+      let l : length (rows ++ r ∷ []) ≡ 1 = ap length at.1 in
+      nil_from_length rows (omega (arith, l, length-append rows (r ∷ [])))
   on other at = at
 each_none s rows (Err fault) at = at
 

@@ -258,13 +258,14 @@ fails_bad {t = t} {new = new} {piece = piece} {tail = tail} {rows = rows} {kind 
     (refused_on is u taken.few new kind (bad_at (later is.at u) kind g.spelt) (λ f x back k. (let z =
     front_before g.front f g.last x back k in g.unrefused f z.0 z.1)) counted g.count)
 
--- after a pause a sink goes on
-pub sink_paused : {S : Type 0} (story : Story S) (s : S) (rows : List Row) (e : Event) → IsPause e → story.hears s rows
-    → SinkAt story s rows e
-sink_paused story s rows event.More pause hears = hears
-sink_paused story s rows event.End pause hears = hears
-sink_paused story s rows event.NoMemory pause hears = hears
-sink_paused story s rows other pause hears = absurd pause
+pub no_row_paused : (e : Event) → IsPause e → (r : Row) → e ≢ event.Row r
+no_row_paused e pause r is = grind arith
+
+-- after an event that is no row a sink goes on
+pub sink_goes_on : {S : Type 0} (story : Story S) (s : S) (rows : List Row) (e : Event)
+    → ((r : Row) → e ≢ event.Row r) → story.hears s rows → SinkAt story s rows e
+sink_goes_on story s rows (event.Row r) none hears = absurd (none r refl)
+sink_goes_on story s rows other none hears = hears
 
 -- ---- the fault that stops a reader
 

@@ -34,9 +34,6 @@ use Rattle.dl_rows.proofs.FirstLemmas.{split_front}
 use Rattle.dl_rows.proofs.UnitQuiet.{parts_same, operation_quiet, NotBad, bad_decides, end_decides, nothing_decides}
 use Rattle.dl_rows.proofs.UnitWhole.{NoneRefused, silent}
 
-kind_same : (k j : FaultKind) → ◌≡◌ {A = Option FaultKind} (Some k) (Some j) → k ≡ j
-kind_same k j e = cc
-
 -- where a front has no header, it decides nothing
 quiet_in_header : (dialect : Dialect) (h : HeaderData) (w v front back : List ℕ) → IsHeader dialect h w
     → w ++ v ≡ front ++ back → header_in dialect front ≡ None → unit_decided dialect front ≡ None
@@ -101,7 +98,7 @@ operation_faults dialect h b (x ∷ w) kind some e none = on (operation_spelt di
       → or_else (bad_kind j) (at_end fault.OpcodeOverrun (length b) (unit_len dialect b)) ≡ Some kind
       → IsBadOperation h (x ∷ w) kind ⊎ (IsCutShort dialect h b (x ∷ w) × (kind ≡ fault.OpcodeOverrun))
   on (Some (Err k)) j f =
-      let same : k ≡ kind = kind_same k kind f in
+      let same : k ≡ kind = cc in
       inl ((bad_is_faulty dialect.order h kind (x ∷ w) some).1 (rw (← same) j))
   on (Some (Ok o)) j f =
       inr (cut_short (λ k g. (let e : ◌≡◌ {A = Judgement Operation} (Some (Ok o)) (bad k) = sym j ∙ g in absurd cc)) f)

@@ -1,5 +1,6 @@
 use Rattle.std.proofs.Common.{Ok, refl, sym}
-use Rattle.dl_rows.proofs.ReaderFeeds.{rows_stopped, feeds_foreign, feeds_body, no_rows, sink_after, no_row_paused}
+use Rattle.dl_rows.proofs.ReaderFeeds.{rows_stopped, feeds_foreign, feeds_body, no_rows, sink_after}
+use Rattle.dl_rows.proofs.UnitBodyFeeds.{no_row_paused}
 use Rattle.dl_rows.proofs.reader.Reader.feed_rows.Goals as goal
 
 pub returns-in-InHeader-clause-fed : goal.returns-in-InHeader-clause-fed

@@ -1,6 +1,7 @@
 use Rattle.std.proofs.Common.{ℕ, ◌-◌, List, ◌++◌, length, ap, arith}
 use Rattle.dl_num.proofs.LebFrontLemmas.{true_false}
-use Rattle.dl_rows.proofs.UnitBodyFeeds.{tells_in, feeds_row, feeds_nothing, fails_overrun, fails_bad, sink_paused}
+use Rattle.dl_rows.proofs.UnitBodyFeeds.{tells_in, feeds_row, feeds_nothing, fails_overrun, fails_bad}
+use Rattle.dl_rows.proofs.UnitBodyFeeds.{no_row_paused, sink_goes_on}
 use Rattle.dl_rows.proofs.unit_body.UnitBody.feed.Goals.{else-self-eq0-via-then-self-eq0+else-not-is_between}
 use Rattle.dl_rows.proofs.unit_body.UnitBody.feed.Goals.{else-self-eq0-via-else-self-eq0}
 use Rattle.dl_rows.proofs.unit_body.UnitBody.feed.Goals as goal
@@ -61,6 +62,6 @@ returns-else-self-eq0-clause-fed g c h b before first e is hears =
                 w ↦ (w.is_between.ensures.rest c.args.dialect.order h.params _ t.gives.stands).0 w.if-not-is_between.false
             | else-self-eq0-via-else-self-eq0 w ↦ absurd (w.if-self-eq0.false none)
           ]);
-      sink = sink_paused (g.S.RowSink.story first) c.push.new.sink (before ++ t.rows) c.pause.result.event
-          c.pause.ensures.pause t.sink;
+      sink = sink_goes_on (g.S.RowSink.story first) c.push.new.sink (before ++ t.rows) c.pause.result.event
+          (no_row_paused c.pause.result.event c.pause.ensures.pause) t.sink;
     }
