@@ -143,16 +143,11 @@ refused_in_program dialect b h program at kind found r = record {
       let c = head.0 ++ (p.0 ++ front) in
       let whole : b ≡ c ++ x ∷ back =
       rw (append_assoc head.0 (p.0 ++ front) (x ∷ back), append_assoc p.0 front (x ∷ back), ← e, ← p.1) head.1 in
-      let decided : operation_decided dialect.order h.params
-      (operations_in dialect.order h.params (p.0 ++ front)).rest (length c)
-      (unit_len dialect c) ≡ None =
-      sym (ap (decided_after dialect c) (header_is_found dialect h head.0 (p.0 ++ front) head.2))
-      ∙ r.shortest c x back whole in
+      let left = rest_is dialect.order h.params (operations_in dialect.order h.params program).found p.0 front some p.2
+      (λ o w v is s. none_here o w v is s) in
       quiet_incomplete dialect.order h.params front (length c) (unit_len dialect c) some
       (λ o s. none_here o front [] (sym (append-nil front)) s)
-      (sym (ap (λ (z : List ℕ). operation_decided dialect.order h.params z (length c) (unit_len dialect c))
-      (rest_is dialect.order h.params (operations_in dialect.order h.params program).found p.0 front some p.2
-      (λ o w v is s. none_here o w v is s))) ∙ decided)
+      (rw (header_is_found dialect h head.0 (p.0 ++ front) head.2, left) at (r.shortest c x back whole))
 
 -- ---- and the other way
 
@@ -241,11 +236,7 @@ module _ (dialect : Dialect) (b : List ℕ) (h : HeaderData) (program : List ℕ
         let same =
         parts_same g h (v ++ x ∷ back) program (sym (header_on dialect front (x ∷ back) g v is)
         ∙ ap (header_in dialect) (sym e) ∙ found) in
-        ap (decided_after dialect front) is
-        ∙ ap (λ (d : HeaderData). operation_decided dialect.order d.params
-        (operations_in dialect.order d.params v).rest (length front)
-        (unit_len dialect front)) same.0
-        ∙ quiet_program front x back v e (sym same.1)
+        rw (is, same.0) (quiet_program front x back v e (sym same.1))
 
   pub operation_refused : Refused dialect b at kind
   operation_refused = record {
