@@ -1,8 +1,8 @@
 -- What bytes make of an operation that is begun: set_discriminator, opcodes that are passed over,
 -- and the bytes before an operand.
 use Rattle.std.proofs.Common.{◌≡◌, ◌≢◌, ℕ, ◌+◌, ◌-◌, ◌^◌, ◌<◌, ◌≤◌, Bool, true, false, List, [], ◌∷◌, ◌++◌, length}
-use Rattle.std.proofs.Common.{take, slice_index, slice_index_or, Some, Ok, Err, refl, sym, ap, subst, ◌∙◌, arith, inl}
-use Rattle.std.proofs.Common.{inr, append_assoc}
+use Rattle.std.proofs.Common.{take, slice_index, slice_index_or, Some, Ok, Err, refl, sym, ap, ◌∙◌, arith, inl}
+use Rattle.std.proofs.Common.{inr, append_assoc, length-append}
 use Rattle.std.proofs.lemmas.Bool.{cases_lt, ne_eqb}
 use Rattle.std.proofs.lemmas.List.{length-append, append-nil, take_more, take_all}
 use Rattle.dl_num.specs.declared.fixed.Order.{Order}
@@ -21,13 +21,14 @@ use Rattle.dl_rows.specs.declared.operation_state.OperationStep.{OperationStep}
 use Rattle.dl_rows.specs.declared.operation_state.OperationStep.TheVariants as step
 use Rattle.dl_rows.specs.OperationSpelt.{discriminator_spelt, extended_spelt, operation_spelt}
 use Rattle.dl_rows.specs.Phases.{HasLength, LebsLeft, PhaseStands, StepIs}
-use Rattle.dl_rows.proofs.FirstLemmas.{first_nil, open_byte}
-use Rattle.dl_rows.proofs.OperandLemmas.{Verdict}
-use Rattle.dl_rows.proofs.ExtendedLemmas.{extended_first, length_pending, length_begun, length_refused, body_out}
-use Rattle.dl_rows.proofs.ExtendedLemmas.{discriminator_nowhere, discriminator_first, discriminator_out}
-use Rattle.dl_rows.proofs.ExtendedLemmas.{discriminator_early, discriminator_late}
-use Rattle.dl_rows.proofs.SkipLemmas.{skipped_nowhere, skipped_first, skipped_then}
-use Rattle.dl_rows.proofs.PhaseLemmas.{EndsAs, Answered, piece_is, body_first, body_none, first_same, nowhere_same}
+use Rattle.dl_rows.proofs.FirstLemmas.{At, nowhere_here, at_first, at_same, at_join, at_here, first_nil, open_byte}
+use Rattle.dl_rows.proofs.OperandLemmas.{Verdict, skipped_nowhere, skipped_first, skipped_then, sized, sized_first}
+use Rattle.dl_rows.proofs.SpeltFirst.{address_then, extended_at, length_pending, length_begun, length_refused, body_out}
+use Rattle.dl_rows.proofs.SpeltFirst.{discriminator_nowhere, discriminator_first, discriminator_out}
+use Rattle.dl_rows.proofs.SpeltFirst.{discriminator_early, discriminator_late}
+use Rattle.dl_rows.proofs.PhaseLemmas.{EndsAs, Answered, piece_is}
+use Rattle.dl_num.specs.Fixed.{fixed}
+use Rattle.dl_rows.specs.declared.operation.Operation.{Operation}
 
 -- ---- set_discriminator
 
@@ -45,34 +46,25 @@ discriminator_more order h left b old new v s more took =
         s.2.0,
         operand ++ b ∷ [],
         piece_is s.2.0 operand (b ∷ []) v 4 s.2.2,
-        subst (λ (z : ℕ). HasLength s.2.0 z) m s.2.3,
+        rw m at s.2.3,
         took operand s.2.4,
       ),
     )
+
+discriminator_at : (order : Order) (h : Params) (left : ℕ) (old : Uleb) {v : List ℕ}
+    (s : PhaseStands h (phase.Discriminator left old) v)
+    → At (operation_spelt order h) (discriminator_spelt (1 + length s.2.1 + left)) v s.2.1
+discriminator_at order h left old s =
+    let n = 1 + length s.2.1 + left in
+    at_join (extended_at order h s.0 s.2.0 s.2.1 n 4 s.2.2 s.2.3)
+    (at_same (extended_spelt order h.address_size n 4) (discriminator_spelt n) s.2.1 (λ u. refl))
 
 -- the operand of a discriminator that is begun says nothing yet
 pub discriminator_pends : (order : Order) (h : Params) (left : ℕ) (old : Uleb) (v : List ℕ)
     → PhaseStands h (phase.Discriminator left old) v → SpellsNowhere (operation_spelt order h) v
 discriminator_pends order h left old v s =
-    let operand = s.2.1 in
-    let n = 1 + length operand + left in
-    let e : operand ++ [] ≡ operand = append-nil operand in
-    let none : SpellsNowhere (extended_spelt order h.address_size n 4) operand =
-    nowhere_same (extended_spelt order h.address_size n 4) (discriminator_spelt n) operand (λ u. refl)
-    (discriminator_nowhere n operand s.2.4.continue (omega arith)) in
-    subst (λ (z : List ℕ). SpellsNowhere (operation_spelt order h) z) (append-nil v)
-    (body_none order h s.2.0 operand [] v 4 n s.0 s.2.2 s.2.3
-    (subst (λ (z : List ℕ). SpellsNowhere (extended_spelt order h.address_size n 4) z) (sym e) none))
-
--- where the operand with one more byte is judged so
-discriminator_at : (order : Order) (h : Params) (left b : ℕ) (old : Uleb) (v : List ℕ) (a : Verdict)
-    → (s : PhaseStands h (phase.Discriminator left old) v)
-    → SpellsFirst (discriminator_spelt (1 + length s.2.1 + left)) (s.2.1 ++ b ∷ []) a
-    → SpellsFirst (operation_spelt order h) (v ++ b ∷ []) a
-discriminator_at order h left b old v a s first =
-    let n = 1 + length s.2.1 + left in
-    body_first order h s.2.0 s.2.1 (b ∷ []) v 4 n a s.0 s.2.2 s.2.3
-    (first_same (extended_spelt order h.address_size n 4) (discriminator_spelt n) (s.2.1 ++ b ∷ []) a (λ u. refl) first)
+    nowhere_here (discriminator_at order h left old s)
+    (discriminator_nowhere (1 + length s.2.1 + left) s.2.1 s.2.4.continue (omega arith))
 
 pub discriminator_ends : (order : Order) (h : Params) (b : ℕ) (old : Uleb) (v : List ℕ) (m : ℕ)
     → PhaseStands h (phase.Discriminator 1 old) v → m < 2 ^ 64
@@ -80,7 +72,7 @@ pub discriminator_ends : (order : Order) (h : Params) (b : ℕ) (old : Uleb) (v 
     → SpellsFirst (operation_spelt order h) (v ++ b ∷ []) (Ok (op.SetDiscriminator m))
 discriminator_ends order h b old v m s lt is =
     let l : length (s.2.1 ++ b ∷ []) ≡ length s.2.1 + 1 = length-append s.2.1 (b ∷ []) in
-    discriminator_at order h 1 b old v (Ok (op.SetDiscriminator m)) s
+    at_first (b ∷ []) (discriminator_at order h 1 old s)
     (discriminator_first (1 + length s.2.1 + 1) m (s.2.1 ++ b ∷ []) (is s.2.1 s.2.4) lt (omega arith))
 
 pub discriminator_beyond : (order : Order) (h : Params) (left b : ℕ) (old : Uleb) (v : List ℕ) (e : LebRange)
@@ -90,21 +82,19 @@ pub discriminator_beyond : (order : Order) (h : Params) (left b : ℕ) (old : Ul
 discriminator_beyond order h left b old v e s is =
     let l : length (s.2.1 ++ b ∷ []) ≡ length s.2.1 + 1 = length-append s.2.1 (b ∷ []) in
     let out = is s.2.1 s.2.4 in
-    discriminator_at order h left b old v (Err fault.LebRange) s
+    let some = s.1 in
+    at_first (b ∷ []) (discriminator_at order h left old s)
     (discriminator_out (1 + length s.2.1 + left) out.0 (s.2.1 ++ b ∷ []) out.1 out.2 (omega arith))
 
 pub discriminator_short : (order : Order) (h : Params) (left b : ℕ) (old : Uleb) (v : List ℕ) (m : ℕ)
     → PhaseStands h (phase.Discriminator left old) v → left ≢ 1 → m < 2 ^ 64
     → ((w : List ℕ) → UlebTook old w → UlebIs (w ++ b ∷ []) (Ok m))
     → SpellsFirst (operation_spelt order h) (v ++ b ∷ []) (Err fault.ExtendedLength)
-discriminator_short order h left b old v m s some lt is =
+discriminator_short order h left b old v m s more lt is =
     let l : length (s.2.1 ++ b ∷ []) ≡ length s.2.1 + 1 = length-append s.2.1 (b ∷ []) in
-    let more = ne-lt left s.1 some in
-    discriminator_at order h left b old v (Err fault.ExtendedLength) s
+    let some = s.1 in
+    at_first (b ∷ []) (discriminator_at order h left old s)
     (discriminator_early (1 + length s.2.1 + left) m (s.2.1 ++ b ∷ []) (is s.2.1 s.2.4) lt (omega arith))
-  where
-    ne-lt : (left : ℕ) → 1 ≤ left → left ≢ 1 → 2 ≤ left
-    ne-lt left a n = elim (cases_lt 1 left) [ inl lt ↦ lt | inr le ↦ absurd (n (omega arith)) ]
 
 pub discriminator_long : (order : Order) (h : Params) (left b : ℕ) (old new : Uleb) (v : List ℕ)
     → PhaseStands h (phase.Discriminator left old) v → left ≤ 1
@@ -113,7 +103,7 @@ pub discriminator_long : (order : Order) (h : Params) (left b : ℕ) (old new : 
 discriminator_long order h left b old new v s one took =
     let l : length (s.2.1 ++ b ∷ []) ≡ length s.2.1 + 1 = length-append s.2.1 (b ∷ []) in
     let some = s.1 in
-    discriminator_at order h left b old v (Err fault.ExtendedLength) s
+    at_first (b ∷ []) (discriminator_at order h left old s)
     (discriminator_late (1 + length s.2.1 + left) b s.2.1 (took s.2.1 s.2.4).continue s.2.4.continue (omega arith))
 
 -- ---- bytes in two parts
@@ -121,36 +111,24 @@ discriminator_long order h left b old new v s one took =
 -- what bytes after front make of v and front, they and front make of v
 pub step_after : (order : Order) (h : Params) (v front bytes : List ℕ) (r : OperationStep)
     → StepIs order h (v ++ front) bytes r → StepIs order h v (front ++ bytes) r
-step_after order h v front bytes (step.Within p) s = (
-  subst (λ (z : List ℕ). PhaseStands h p z) (append_assoc v front bytes) s.0,
-  subst (λ (z : List ℕ). SpellsNowhere (operation_spelt order h) z) (append_assoc v front bytes) s.1,
-)
-step_after order h v front bytes (step.Ends o tail) s = (
-  front ++ s.0,
-  ap (λ (z : List ℕ). front ++ z) s.1 ∙ sym (append_assoc front s.0 tail.now),
-  subst (λ (z : List ℕ). SpellsFirst (operation_spelt order h) z (Ok o)) (append_assoc v front s.0) s.2,
-)
-step_after order h v front bytes (step.Refuses k tail) s = (
-  front ++ s.0,
-  ap (λ (z : List ℕ). front ++ z) s.1 ∙ sym (append_assoc front s.0 tail.now),
-  subst (λ (z : List ℕ). SpellsFirst (operation_spelt order h) z (Err k)) (append_assoc v front s.0) s.2,
-)
+step_after order h v front bytes (step.Within p) s =
+    let same = append_assoc v front bytes in (rw same at s.0, rw same at s.1)
+step_after order h v front bytes (step.Ends o tail) s =
+    (front ++ s.0, rw s.1 (sym (append_assoc front s.0 tail.now)), rw (append_assoc v front s.0) at s.2)
+step_after order h v front bytes (step.Refuses k tail) s =
+    (front ++ s.0, rw s.1 (sym (append_assoc front s.0 tail.now)), rw (append_assoc v front s.0) at s.2)
 
 -- the same where the bytes are told so
 pub step_from : (order : Order) (h : Params) (v front rest bytes : List ℕ) (r : OperationStep) → bytes ≡ front ++ rest
     → StepIs order h (v ++ front) rest r → StepIs order h v bytes r
-step_from order h v front rest bytes r e s =
-    subst (λ (z : List ℕ). StepIs order h v z r) (sym e) (step_after order h v front rest r s)
+step_from order h v front rest bytes r e s = rw e (step_after order h v front rest r s)
 
 -- bytes that end after one of them, where v and the front before it are told of together
 pub ends_after : (order : Order) (h : Params) (v front bytes tail : List ℕ) (b : ℕ) (a : Verdict)
     → bytes ≡ (front ++ b ∷ []) ++ tail
     → SpellsFirst (operation_spelt order h) ((v ++ front) ++ b ∷ []) a → EndsAs order h v bytes tail a
-ends_after order h v front bytes tail b a e first = (
-  front ++ b ∷ [],
-  e,
-  subst (λ (z : List ℕ). SpellsFirst (operation_spelt order h) z a) (append_assoc v front (b ∷ [])) first,
-)
+ends_after order h v front bytes tail b a e first =
+    (front ++ b ∷ [], e, rw (append_assoc v front (b ∷ [])) at first)
 
 -- ---- the length of an extended opcode
 
@@ -162,8 +140,7 @@ length_within order h old new v bytes s took =
     let t = took s.1.0 s.1.2 in
     let e = ap (λ (z : List ℕ). z ++ bytes) s.1.1 in (
       (s.0, (s.1.0 ++ bytes, e, t)),
-      subst (λ (z : List ℕ). SpellsNowhere (operation_spelt order h) z) (sym e)
-          (length_begun order h s.0 (s.1.0 ++ bytes) t.continue),
+      rw e (length_begun order h s.0 (s.1.0 ++ bytes) t.continue),
     )
 
 pub length_beyond : (order : Order) (h : Params) (old new : Uleb) (v bytes tail : List ℕ) (e : LebRange)
@@ -174,9 +151,7 @@ length_beyond order h old new v bytes tail e s answer =
     let out = a.2 in (
       a.0,
       a.1,
-      subst (λ (z : List ℕ). SpellsFirst (operation_spelt order h) z (Err fault.LebRange))
-          (sym (ap (λ (z : List ℕ). z ++ a.0) s.1.1))
-          (length_refused order h s.0 (s.1.0 ++ a.0) out.0 fault.LebRange out.1
+      rw s.1.1 (length_refused order h s.0 (s.1.0 ++ a.0) out.0 fault.LebRange out.1
           (body_out order h.address_size out.0 out.2)),
     )
 
@@ -188,17 +163,12 @@ pub length_read : (order : Order) (h : Params) (old new : Uleb) (v bytes tail : 
 length_read order h old new v bytes tail n r s answer rest =
     let a = answer s.1.0 s.1.2 in
     step_from order h v a.0 tail bytes r a.1
-    (subst (λ (z : List ℕ). StepIs order h z tail r) (sym (ap (λ (z : List ℕ). z ++ a.0) s.1.1))
-    (rest (s.1.0 ++ a.0) a.2))
+    (rw s.1.1 (rest (s.1.0 ++ a.0) a.2))
 
 pub length_of_zero : (order : Order) (h : Params) (w bytes : List ℕ) → 1 ≤ h.opcode_base → IsUleb w 0
     → EndsAs order h (0 ∷ w) bytes bytes (Err fault.ExtendedEmpty)
-length_of_zero order h w bytes some u = (
-  [],
-  refl,
-  subst (λ (z : List ℕ). SpellsFirst (operation_spelt order h) z (Err fault.ExtendedEmpty)) (sym (append-nil (0 ∷ w)))
-      (length_refused order h some w 0 fault.ExtendedEmpty u refl),
-)
+length_of_zero order h w bytes some u =
+    ([], refl, rw (append-nil w) (length_refused order h some w 0 fault.ExtendedEmpty u refl))
 
 -- ---- an extended opcode
 
@@ -206,22 +176,19 @@ pub extended_pends : (order : Order) (h : Params) (n : ℕ) (v bytes : List ℕ)
     → PhaseStands h (phase.Extended n) v → StepIs order h v bytes (step.Within (phase.Extended n))
 extended_pends order h n v (x ∷ bytes) e s = absurd (omega arith)
 extended_pends order h n v [] e s =
-    let same = append-nil v in (
-      subst (λ (z : List ℕ). PhaseStands h (phase.Extended n) z) (sym same) s,
-      subst (λ (z : List ℕ). SpellsNowhere (operation_spelt order h) z) (sym (same ∙ s.1.1))
-          (length_pending order h s.0 s.1.0 n s.1.2),
-    )
+    rw (append-nil v) (s, rw s.1.1 (length_pending order h s.0 s.1.0 n s.1.2))
 
 -- its number decides alone
 pub opcode_decides : (order : Order) (h : Params) (n x : ℕ) (v bytes tail : List ℕ) (a : Verdict)
     → PhaseStands h (phase.Extended n) v → bytes ≡ x ∷ tail
     → extended_spelt order h.address_size n x [] ≡ Some a → EndsAs order h v bytes tail a
-opcode_decides order h n x v bytes tail a s e is = (
-  x ∷ [],
-  e,
-  subst (λ (z : List ℕ). SpellsFirst (operation_spelt order h) z a) (sym (ap (λ (z : List ℕ). z ++ x ∷ []) s.1.1))
-      (extended_first order h s.0 s.1.0 n x [] a s.1.2 (first_nil (extended_spelt order h.address_size n x) a is)),
-)
+opcode_decides order h n x v bytes tail a s e is =
+    let here : v ++ x ∷ [] ≡ 0 ∷ (s.1.0 ++ x ∷ []) = ap (λ (z : List ℕ). z ++ x ∷ []) s.1.1 in (
+      x ∷ [],
+      e,
+      at_here (extended_at order h s.0 s.1.0 [] n x here s.1.2)
+          (first_nil (extended_spelt order h.address_size n x) a is),
+    )
 
 pub end_is : (order : Order) (size n x : ℕ) → x ≡ 1 → n ≡ 1
     → extended_spelt order size n x [] ≡ Some (Ok op.EndSequence)
@@ -253,8 +220,7 @@ skipped_within order h left now v bytes s more =
     let e = ap (λ (z : List ℕ). z ++ bytes) s.3.1 in
     let l = more (slice_index h.lengths.items (s.0 - 1)) s.3.0 s.3.2 in (
       (s.0, s.1, s.2, (s.3.0 ++ bytes, e, l)),
-      subst (λ (z : List ℕ). SpellsNowhere (operation_spelt order h) z) (sym e)
-          (skipped_nowhere order h s.0 (s.3.0 ++ bytes) now s.1 s.2 l),
+      rw e (skipped_nowhere order h s.0 (s.3.0 ++ bytes) now s.1 s.2 l),
     )
 
 pub skipped_ends : (order : Order) (h : Params) (left now b : ℕ) (v front bytes tail : List ℕ)
@@ -266,11 +232,8 @@ skipped_ends order h left now b v front bytes tail s more one lt e =
     let l = more (slice_index h.lengths.items (s.0 - 1)) s.3.0 s.3.2 in
     let some = l.some in
     let is : now ≡ 1 = omega arith in
-    let last = subst (λ (z : ℕ). LebsLeft (slice_index h.lengths.items (s.0 - 1)) (s.3.0 ++ front) z) is l in
     ends_after order h v front bytes tail b (Ok op.Skipped) e
-    (subst (λ (z : List ℕ). SpellsFirst (operation_spelt order h) (z ++ b ∷ []) (Ok op.Skipped))
-    (sym (ap (λ (z : List ℕ). z ++ front) s.3.1))
-    (skipped_first order h s.0 (s.3.0 ++ front) b s.1 s.2 last lt))
+    (rw s.3.1 (skipped_first order h s.0 (s.3.0 ++ front) b s.1 s.2 (rw is at l) lt))
 
 pub skipped_at_once : (order : Order) (h : Params) (b : ℕ) (bytes : List ℕ) → 12 < b → b < h.opcode_base
     → slice_index h.lengths.items (b - 1) ≡ 0 → EndsAs order h (b ∷ []) bytes bytes (Ok op.Skipped)
@@ -310,7 +273,7 @@ address_begins order h n x new v bytes tail r s e is size none width rest =
     ap (λ (z : List ℕ). z ++ x ∷ []) s.1.1 ∙ ap (λ (z : ℕ). 0 ∷ (s.1.0 ++ z ∷ [])) is
     ∙ ap (λ (z : List ℕ). 0 ∷ (s.1.0 ++ 2 ∷ z)) (sym none) in
     step_from order h v (x ∷ []) tail bytes r e
-    (rest (v ++ x ∷ []) (s.0, (s.1.0, now, subst (λ (z : ℕ). HasLength s.1.0 z) size s.1.2, width)))
+    (rest (v ++ x ∷ []) (s.0, (s.1.0, now, rw size at s.1.2, width)))
 
 pub discriminator_begins : (order : Order) (h : Params) (n x : ℕ) (new : Uleb) (v bytes tail : List ℕ)
     (r : OperationStep) → PhaseStands h (phase.Extended n) v → bytes ≡ x ∷ tail → x ≡ 4
@@ -321,7 +284,7 @@ discriminator_begins order h n x new v bytes tail r s e is more took rest =
     ap (λ (z : List ℕ). z ++ x ∷ []) s.1.1 ∙ ap (λ (z : ℕ). 0 ∷ (s.1.0 ++ z ∷ [])) is in
     let m : n ≡ 1 + 0 + (n - 1) = omega arith in
     step_from order h v (x ∷ []) tail bytes r e
-    (rest (v ++ x ∷ []) (s.0, omega arith, (s.1.0, [], now, subst (λ (z : ℕ). HasLength s.1.0 z) m s.1.2, took)))
+    (rest (v ++ x ∷ []) (s.0, omega arith, (s.1.0, [], now, rw m at s.1.2, took)))
 
 pub rest_begins : (order : Order) (h : Params) (n x : ℕ) (v bytes tail : List ℕ) (r : OperationStep)
     → PhaseStands h (phase.Extended n) v → bytes ≡ x ∷ tail → x ≢ 1 → x ≢ 2 → x ≢ 4
@@ -334,5 +297,57 @@ rest_begins order h n x v bytes tail r s e a b d more rest =
     (rest (v ++ x ∷ []) (
       s.0,
       omega arith,
-      (s.1.0, x, [], now, a, b, d, subst (λ (z : ℕ). HasLength s.1.0 z) m s.1.2),
+      (s.1.0, x, [], now, a, b, d, rw m at s.1.2),
     ))
+
+-- ---- extended opcodes whose bytes are all there, with a length of one byte
+
+-- bytes after a zero byte spell an operation, and tail are left
+abbrev pub Spelt : Order → Params → List ℕ → List ℕ → Operation → Type 0
+Spelt order h bytes tail o =
+    (front : List ℕ) × (bytes ≡ front ++ tail) × SpellsFirst (operation_spelt order h) (0 ∷ front) (Ok o)
+
+one_byte : (n : ℕ) → 1 ≤ n → n < 128 → HasLength (n ∷ []) n
+one_byte n some lt = (([], n, record { bytes = refl; continue = tt; ends = lt }, omega arith), some, omega arith)
+
+front_is : (n x : ℕ) (bytes rest body w tail : List ℕ) → bytes ≡ n ∷ rest → rest ≡ x ∷ body → body ≡ w ++ tail
+    → bytes ≡ (n ∷ x ∷ w) ++ tail
+front_is n x bytes rest body w tail a b c = a ∙ ap (λ (z : List ℕ). n ∷ z) (b ∙ ap (λ (z : List ℕ). x ∷ z) c)
+
+pub short_end : (order : Order) (h : Params) → 1 ≤ h.opcode_base → (n x : ℕ) (bytes rest tail : List ℕ)
+    → bytes ≡ n ∷ rest → rest ≡ x ∷ tail → x ≡ 1 → n ≡ 1 → Spelt order h bytes tail op.EndSequence
+short_end order h some n x bytes rest tail a b one len = (
+  n ∷ x ∷ [],
+  front_is n x bytes rest tail [] tail a b refl,
+  at_here (extended_at order h some (n ∷ []) [] n x refl (one_byte n (omega arith) (omega arith)))
+      (first_nil (extended_spelt order h.address_size n x) (Ok op.EndSequence)
+      (end_is order h.address_size n x one len)),
+)
+
+pub short_address : (order : Order) (h : Params) → 1 ≤ h.opcode_base → (n x m : ℕ) (bytes rest body tail : List ℕ)
+    → bytes ≡ n ∷ rest → rest ≡ x ∷ body → x ≡ 2 → n ≡ 1 + h.address_size → n < 128
+    → (w : List ℕ) × (body ≡ w ++ tail) × (length w ≡ h.address_size) × (m ≡ fixed order w)
+    → Spelt order h bytes tail (op.SetAddress m)
+short_address order h some n x m bytes rest body tail a b two len lt (w, cut, size, value) = (
+  n ∷ x ∷ w,
+  front_is n x bytes rest body w tail a b cut,
+  rw (value, two) (at_here (at_join
+      (extended_at order h some (n ∷ []) w n 2 refl (one_byte n (omega arith) lt))
+      (at_same (extended_spelt order h.address_size n 2) (sized h.address_size (λ w. op.SetAddress (fixed order w))) w
+      (address_then order h.address_size n len)))
+      (sized_first h.address_size (λ w. op.SetAddress (fixed order w)) w size)),
+)
+
+pub short_discriminator : (order : Order) (h : Params) → 1 ≤ h.opcode_base
+    → (n x m : ℕ) (bytes rest body tail : List ℕ) → bytes ≡ n ∷ rest → rest ≡ x ∷ body → x ≡ 4 → n < 128 → m < 2 ^ 64
+    → n + length tail ≡ 1 + length body → (w : List ℕ) × (body ≡ w ++ tail) × IsUleb w m
+    → Spelt order h bytes tail (op.SetDiscriminator m)
+short_discriminator order h some n x m bytes rest body tail a b four lt fits long (w, cut, is) =
+    let l : length body ≡ length w + length tail = ap length cut ∙ length-append w tail in
+    let len : 1 + length w ≡ n = omega arith in (
+      n ∷ x ∷ w,
+      front_is n x bytes rest body w tail a b cut,
+      rw four (at_here (at_join (extended_at order h some (n ∷ []) w n 4 refl (one_byte n (omega arith) lt))
+          (at_same (extended_spelt order h.address_size n 4) (discriminator_spelt n) w (λ u. refl)))
+          (discriminator_first n m w is fits len)),
+    )

@@ -1,9 +1,8 @@
 -- The bytes of a header that are taken at once: what the reader of the unit answers.
-use Rattle.std.proofs.Common.{◌≡◌, ◌≢◌, ◌<◌, ◌≤◌, ◌-◌, ◌^◌, min, inl, inr, ℕ, zero, suc, List, [], ◌∷◌, ◌++◌, length}
+use Rattle.std.proofs.Common.{◌≡◌, ◌<◌, ◌≤◌, ◌-◌, ◌^◌, min, ◌⊎◌, inl, inr, ℕ, zero, suc, List, [], ◌∷◌, ◌++◌, length}
 use Rattle.std.proofs.Common.{take, drop, get_or, slice_get, Option, Some, None, refl, sym, ap, subst, ◌∙◌, arith}
-use Rattle.std.proofs.Common.{append-nil, append_assoc}
+use Rattle.std.proofs.Common.{append-nil, length-append, length-take, ◌≢◌}
 use Rattle.std.proofs.lemmas.List.{take-append-drop}
-use Rattle.std.proofs.Math.Seq.{take-suc}
 use Rattle.dl_head.specs.declared.dialect.Dialect.{Dialect}
 use Rattle.dl_num.specs.Laws.{AllBytes}
 use Rattle.dl_head.specs.declared.fault.Fault.{Fault}
@@ -13,76 +12,84 @@ use Rattle.dl_head.specs.declared.reader.HeadStep.{HeadStep}
 use Rattle.dl_head.specs.declared.reader.HeadStep.TheVariants as answer
 use Rattle.dl_head.specs.Cells.{cells}
 use Rattle.dl_field.specs.HeaderData.{HeaderData}
-use Rattle.dl_head.specs.Header.{IsHeader, foreign_in, header_in, unit_len}
+use Rattle.dl_head.specs.Header.{IsHeader, foreign_in, header_in}
 use Rattle.dl_head.specs.Refusal.{HeaderRefused}
-use Rattle.dl_head.specs.Reading.{Answers}
+use Rattle.dl_head.specs.Reading.{Answers, Gives}
 use Rattle.dl_head.specs.Runs.{so_far, Took, Offered}
 use Rattle.dl_head.specs.Standing.{StandsFor as HeadStands}
 use Rattle.dl_field.proofs.FieldLemmas.{none_some}
 use Rattle.dl_head.proofs.OneAnswer.{one_answer}
-use Rattle.dl_head.proofs.HeaderLaws.{header_is_found}
+use Rattle.dl_head.proofs.HeaderLaws.{header_is_found, found_is_header}
 use Rattle.std.proofs.lemmas.Bool.{cases_eq}
 use Rattle.dl_rows.specs.declared.reader.Event.{Event}
 use Rattle.dl_rows.specs.declared.reader.Event.TheVariants as event
-use Rattle.dl_rows.specs.declared.reader.Fed.{Fed}
 use Rattle.dl_rows.specs.declared.reader.HeaderStop.{HeaderStop}
 use Rattle.dl_rows.specs.declared.reader.Reader.{Reader}
 use Rattle.dl_rows.specs.declared.reader.State.{State}
 use Rattle.dl_rows.specs.declared.reader.State.TheVariants as state
-use Rattle.dl_rows.specs.LineUnit.{IsUnit, events_of, events}
+use Rattle.dl_rows.specs.LineUnit.{IsUnit, events}
 use Rattle.dl_rows.specs.Reading.{WithinUnit, told, EventHolds, Feeds, Fails}
-use Rattle.dl_rows.specs.Refusal.{Refused}
 use Rattle.dl_rows.specs.ReaderStands.{StandsFor}
-use Rattle.dl_rows.specs.ReaderStates.{InHeader, StandsAt, StoppedInHeader}
-use Rattle.dl_rows.proofs.JoinLemmas.{no_header_on, header_sound_on, no_events, header_sound, header_event}
+use Rattle.dl_rows.specs.ReaderStates.{InHeader, StandsAt, StoppedInHeader, GoesOn, IsBegun, KnowsLength, HasHeader}
+use Rattle.dl_rows.proofs.FirstLemmas.{split_front}
+use Rattle.dl_rows.proofs.JoinLemmas.{no_events, header_sound, header_event}
 use Rattle.dl_rows.proofs.OperandRanges.{bytes_front, bytes_joined}
 use Rattle.dl_rows.proofs.ReaderLemmas.{foreign_no_header}
+use Rattle.dl_rows.proofs.RowBytes.{front_is}
+use Rattle.dl_rows.proofs.UnitBodyFeeds.{all_bytes}
 use Rattle.dl_rows.proofs.UnitLemmas.{refused_in_header}
 use Rattle.dl_rows.proofs.UnitLengths.{foreign_of}
 use Rattle.dl_rows.proofs.UnitWhole.{NoneRefused}
+use Rattle.std.proofs.Props.{props}
+use Rattle.std.proofs.Math.Logic.{∥∥₁_elim, ∥∥₁_prop}
+use Rattle.dl_rows.proofs.UnitKnown.{foreign_known, header_known}
 
 -- ---- up to a byte of the piece
 
-one_on : (b piece : List ℕ) (i : ℕ) → i < length piece
-    → b ++ take (suc i) piece ≡ (b ++ take i piece) ++ get_or piece i 0 ∷ []
-one_on b piece i lt =
-    ap (λ (l : List ℕ). b ++ l) (take-suc piece i 0 lt) ∙ sym (append_assoc b (take i piece) (get_or piece i 0 ∷ []))
+-- a front of b and bytes of the piece goes on in b, or is b and some of them
+in_piece : (b piece front back : List ℕ) (n : ℕ) → b ++ take n piece ≡ front ++ back
+    → ((x : ℕ) × (rest : List ℕ) × (b ≡ front ++ x ∷ rest)) ⊎ ((i : ℕ) × (i ≤ n) × (front ≡ b ++ take i piece))
+in_piece b piece front back n e = elim (split_front b (take n piece) front back e) [
+  | inl goes ↦ inl goes
+  | inr (v, is, parts) ↦ inr (
+    length v,
+    omega (arith, ap length parts, length-append v back, length-take n piece),
+    rw (front_is piece v back n parts) is,
+  )
+]
 
 -- no front is a header
 abbrev NoHeaders : Dialect → List ℕ → List ℕ → ℕ → Type 0
 NoHeaders dialect b piece n = (i : ℕ) → i ≤ n → (h : HeaderData) → IsHeader dialect h (b ++ take i piece) → ⊥
 
-no_header_up_to : (dialect : Dialect) (b piece : List ℕ) (n : ℕ) → n ≤ length piece → header_in dialect b ≡ None
+no_header_up_to : (dialect : Dialect) (b piece : List ℕ) (n : ℕ) → header_in dialect b ≡ None
     → NoHeaders dialect b piece n → header_in dialect (b ++ take n piece) ≡ None
-no_header_up_to dialect b piece zero le none not = ap (header_in dialect) (append-nil b) ∙ none
-no_header_up_to dialect b piece (suc n) le none not =
-    let before = no_header_up_to dialect b piece n (omega (arith, le)) none (λ i lt. not i (omega (arith, lt))) in
-    let one : b ++ take (suc n) piece ≡ (b ++ take n piece) ++ get_or piece n 0 ∷ [] =
-    one_on b piece n (omega (arith, le)) in
-    ap (header_in dialect) one
-    ∙ no_header_on dialect (b ++ take n piece) (get_or piece n 0) before
-    (λ h is. not (suc n) (omega arith) h (subst (λ (w : List ℕ). IsHeader dialect h w) (sym one) is))
+no_header_up_to dialect b piece n none not = on (header_in dialect (b ++ take n piece)) refl where
+  on : (o : Option (HeaderData × List ℕ)) → header_in dialect (b ++ take n piece) ≡ o
+      → header_in dialect (b ++ take n piece) ≡ None
+  on None e = e
+  on (Some (h, rest)) e =
+      let f = found_is_header dialect h (b ++ take n piece) rest e in
+      elim (in_piece b piece f.0 rest n f.1) [
+        | inl (x, back, e) ↦
+            absurd (none_some none (ap (header_in dialect) e ∙ header_is_found dialect h f.0 (x ∷ back) f.2))
+        | inr (i, le, e) ↦ absurd (not i le h (subst (λ (w : List ℕ). IsHeader dialect h w) e f.2))
+      ]
 
 -- nor is any refused in its header
 abbrev NoneRefusedTo : Dialect → List ℕ → List ℕ → ℕ → Type 0
 NoneRefusedTo dialect b piece n =
     (i : ℕ) → i ≤ n → (at : ℕ) (kind : FaultKind) → HeaderRefused dialect (b ++ take i piece) at kind → ⊥
 
-sound_up_to : (dialect : Dialect) (b piece : List ℕ) (n : ℕ) → n ≤ length piece → header_in dialect b ≡ None
+sound_up_to : (dialect : Dialect) (b piece : List ℕ) (n : ℕ) → header_in dialect b ≡ None
     → NoneRefused dialect b → NoHeaders dialect b piece n → NoneRefusedTo dialect b piece n
     → NoneRefused dialect (b ++ take n piece)
-sound_up_to dialect b piece zero le none sound not quiet = subst (NoneRefused dialect) (sym (append-nil b)) sound
-sound_up_to dialect b piece (suc n) le none sound not quiet =
-    let before =
-    sound_up_to dialect b piece n (omega (arith, le)) none sound (λ i lt. not i (omega (arith, lt)))
-    (λ i lt. quiet i (omega (arith, lt))) in
-    let one : b ++ take (suc n) piece ≡ (b ++ take n piece) ++ get_or piece n 0 ∷ [] =
-    one_on b piece n (omega (arith, le)) in
-    let here = no_header_up_to dialect b piece (suc n) le none not in
-    subst (NoneRefused dialect) (sym one)
-    (header_sound_on dialect (b ++ take n piece) (get_or piece n 0) before (ap (header_in dialect) (sym one)
-    ∙ here) (λ at kind is. quiet (suc n) (omega arith) at kind
-    (subst (λ (w : List ℕ). HeaderRefused dialect w at kind) (sym one) is)))
+sound_up_to dialect b piece n none sound not quiet front back at kind e r = elim (in_piece b piece front back n e) [
+  | inl (x, rest, e) ↦ sound front (x ∷ rest) at kind e r
+  | inr (i, le, e) ↦
+      let here = no_header_up_to dialect b piece i none (λ j lt. not j (omega (arith, lt, le))) in
+      quiet i le at kind ((refused_in_header dialect (b ++ take i piece) at kind here).0 (rw e at r))
+]
 
 -- ---- the reader has offered the piece to that of the header
 
@@ -96,15 +103,10 @@ pub record HeadTook (dialect : Dialect) (old new : HeadReader) (b piece : List �
   pub same_dialect : new.dialect ≡ dialect
   pub bytes : AllBytes piece
 
--- no front goes on to anything else
-goes_to : (dialect : Dialect) (b piece : List ℕ) (used : ℕ)
-    → ((i : ℕ) → i < used → Answers dialect (b ++ take i piece) answer.More)
-    → Answers dialect (b ++ take used piece) answer.More
-    → (i : ℕ) → i ≤ used → Answers dialect (b ++ take i piece) answer.More
-goes_to dialect b piece used before here i le = elim (cases_eq i used) [
-  | inl same ↦ subst (λ (n : ℕ). Answers dialect (b ++ take n piece) answer.More) (sym same) here
-  | inr other ↦ before i (omega (arith, le, other))
-]
+-- what holds of each number below one, and of it
+up_to : (P : ℕ → Type 0) (n : ℕ) → ((i : ℕ) → i < n → P i) → P n → (i : ℕ) → i ≤ n → P i
+up_to P n before here i le =
+    elim (cases_eq i n) [ inl same ↦ subst P (sym same) here | inr other ↦ before i (omega (arith, le, other)) ]
 
 taken_bytes : (b piece : List ℕ) (used : ℕ) → AllBytes b → AllBytes piece → AllBytes (b ++ take used piece)
 taken_bytes b piece used all more =
@@ -127,191 +129,142 @@ byte_at (x ∷ piece) (suc i) byte later e = byte_at piece i byte later e
 
 module _ {dialect : Dialect} {old new : HeadReader} {b piece : List ℕ} {used : ℕ} {step : HeadStep}
     (h : HeadTook dialect old new b piece used step) where
-  w : List ℕ
+  abbrev w : List ℕ
   w = b ++ take used piece
 
   no_event_before : events dialect b ≡ []
   no_event_before = no_events dialect b h.was.incomplete h.was.more.1
 
-  le : used ≤ length piece
-  le = h.took.within
-
-  in_unit : WithinUnit dialect (b ++ take used piece)
-  in_unit n len = h.stands.within n (ap (λ (d : Dialect). unit_len d (b ++ take used piece)) h.same_dialect ∙ len)
-
-  -- ---- the header goes on
-
-  module _ (goes : Answers dialect (b ++ take used piece) answer.More) where
-    all_go : (i : ℕ) → i ≤ used → Answers dialect (b ++ take i piece) answer.More
-    all_go = goes_to dialect b piece used h.took.before goes
-
-    incomplete : header_in dialect (b ++ take used piece) ≡ None
-    incomplete = no_header_up_to dialect b piece used h.took.within h.was.incomplete (λ i lt. (all_go i lt).0)
-
-    sound : NoneRefused dialect (b ++ take used piece)
-    sound = sound_up_to dialect b piece used h.took.within h.was.incomplete h.was.sound (λ i lt. (all_go i lt).0)
-        (λ i lt. (all_go i lt).2)
-
-    pub goes_stands : InHeader dialect new (b ++ take used piece)
-    goes_stands = record {
-      same_dialect = h.same_dialect;
-      stands = h.stands;
-      more = goes;
-      bytes = taken_bytes b piece used h.was.bytes h.bytes;
-      incomplete = incomplete;
-      sound = sound;
-    }
-
-    pub feeds_goes : (fed : Fed) (fin : Reader) → StandsFor fin (b ++ take used piece) → fed.used ≡ used
-        → told fed.event ≡ [] → EventHolds dialect b piece used fed.event → Feeds StandsFor dialect b piece fed fin
-    feeds_goes fed fin stands same none holds =
-        subst (λ (n : ℕ). Feeds StandsFor dialect b piece (record { used = n; event = fed.event }) fin) (sym same)
-        (record {
-          answered = record {
-            within = h.took.within;
-            in_unit = in_unit;
-            grows = no_events dialect (b ++ take used piece) incomplete goes.1
-                ∙ sym (ap (λ (l : List Event). l ++ told fed.event) no_event_before ∙ none);
-            holds = holds;
-            sound = sound;
-          };
-          stands = stands;
-        })
-
-    pub holds_more : used ≡ length piece → EventHolds dialect b piece used event.More
-    holds_more all = (all, λ unit. absurd (no_unit dialect (b ++ take used piece) incomplete goes.1 unit))
-
-    pub holds_refused : step ≡ answer.NoMemory → EventHolds dialect b piece used event.NoMemory
-    holds_refused is = let u = h.took.unfed is in (u.0, byte_at piece used u.0 u.1 u.2, incomplete, u.3)
-
-  -- ---- it has come to something
-
-  abbrev Ended : Type 0
-  Ended = step ≢ answer.More
-
-  fronts_go : (i : ℕ) → i < used → Answers dialect (b ++ take i piece) answer.More
-  fronts_go = h.took.before
+  in_unit : WithinUnit dialect w
+  in_unit n len = h.stands.within n (rw h.same_dialect len)
 
   last_event : 1 ≤ used → events dialect (b ++ take (used - 1) piece) ≡ events dialect b
   last_event some =
       let one : used - 1 < used = omega (arith, some) in
       let none =
-      no_header_up_to dialect b piece (used - 1) (omega (arith, h.took.within)) h.was.incomplete
-      (λ i lt. (fronts_go i (omega (arith, lt, one))).0) in
-      no_events dialect (b ++ take (used - 1) piece) none (fronts_go (used - 1) one).1 ∙ sym no_event_before
+      no_header_up_to dialect b piece (used - 1) h.was.incomplete
+      (λ i lt. (h.took.before i (omega (arith, lt, one))).0) in
+      no_events dialect (b ++ take (used - 1) piece) none (h.took.before (used - 1) one).1 ∙ sym no_event_before
 
-  -- what isn't a header has none after it
-  none_here : ((g : HeaderData) → IsHeader dialect g (b ++ take used piece) → ⊥)
-      → header_in dialect (b ++ take used piece) ≡ None
-  none_here not = no_header_up_to dialect b piece used h.took.within h.was.incomplete headers where
-    headers : NoHeaders dialect b piece used
-    headers i le g is = elim (cases_eq i used) [
-      | inl same ↦ not g (subst (λ (n : ℕ). IsHeader dialect g (b ++ take n piece)) same is)
-      | inr other ↦ (fronts_go i (omega (arith, le, other))).0 g is
-    ]
+  -- where the bytes are no header, no front of them is
+  headers : ((g : HeaderData) → IsHeader dialect g w → ⊥) → NoHeaders dialect b piece used
+  headers not =
+      up_to (λ (i : ℕ). (g : HeaderData) → IsHeader dialect g (b ++ take i piece) → ⊥) used
+      (λ i lt. (h.took.before i lt).0) not
+
+  sound_at : ((g : HeaderData) → IsHeader dialect g w → ⊥)
+      → ((at : ℕ) (kind : FaultKind) → HeaderRefused dialect w at kind → ⊥) → NoneRefused dialect w
+  sound_at not quiet =
+      sound_up_to dialect b piece used h.was.incomplete h.was.sound (headers not)
+      (up_to (λ (i : ℕ). (at : ℕ) (kind : FaultKind) → HeaderRefused dialect (b ++ take i piece) at kind → ⊥) used
+      (λ i lt. (h.took.before i lt).2) quiet)
+
+  incomplete_at : ((g : HeaderData) → IsHeader dialect g w → ⊥) → header_in dialect w ≡ None
+  incomplete_at not = no_header_up_to dialect b piece used h.was.incomplete (headers not)
+
+  -- an answer of an event
+  feeds_here : (e : Event) (fin : Reader) → StandsFor fin w → events dialect w ≡ told e
+      → EventHolds dialect b piece used e → NoneRefused dialect w
+      → Feeds StandsFor dialect b piece (record { used = used; event = e }) fin
+  feeds_here e fin stands grows holds sound = record {
+    answered = record {
+      within = h.took.within;
+      in_unit = in_unit;
+      grows = rw no_event_before grows;
+      holds = holds;
+      sound = sound;
+    };
+    stands = stands;
+  }
+
+  -- ---- the header goes on
+
+  module _ (goes : Answers dialect w answer.More) where
+    pub goes_stands : InHeader dialect new w
+    goes_stands = record {
+      same_dialect = h.same_dialect;
+      stands = h.stands;
+      more = goes;
+      bytes = taken_bytes b piece used h.was.bytes h.bytes;
+      incomplete = incomplete_at goes.0;
+      sound = sound_at goes.0 goes.2;
+    }
+
+    pub feeds_goes : (e : Event) (fin : Reader) → StandsFor fin w → told e ≡ [] → EventHolds dialect b piece used e
+        → Feeds StandsFor dialect b piece (record { used = used; event = e }) fin
+    feeds_goes e fin stands none holds =
+        feeds_here e fin stands (no_events dialect w (incomplete_at goes.0) goes.1 ∙ sym none) holds
+        (sound_at goes.0 goes.2)
+
+    pub holds_more : used ≡ length piece → EventHolds dialect b piece used event.More
+    holds_more all = (all, λ unit. absurd (no_unit dialect w (incomplete_at goes.0) goes.1 unit))
+
+    pub holds_refused : step ≡ answer.NoMemory → EventHolds dialect b piece used event.NoMemory
+    holds_refused is = let u = h.took.unfed is in (u.0, byte_at piece used u.0 u.1 u.2, incomplete_at goes.0, u.3)
 
   -- ---- a fault
 
-  module _ (f : Fault) (refused : HeaderRefused dialect (b ++ take used piece) f.offset f.kind) where
-    no_header_here : (g : HeaderData) → IsHeader dialect g (b ++ take used piece) → ⊥
+  module _ (f : Fault) (refused : HeaderRefused dialect w f.offset f.kind) where
+    no_header_here : (g : HeaderData) → IsHeader dialect g w → ⊥
     no_header_here g is =
-        (let e : answer.Fault f ≡ answer.Done = one_answer dialect (b
-        ++ take used piece) (answer.Fault f) answer.Done refused (g, is) in absurd cc)
+        (let e : answer.Fault f ≡ answer.Done =
+        one_answer dialect w (answer.Fault f) answer.Done refused (g, is) in absurd cc)
 
-    not_foreign_here : (o : Option ℕ) → foreign_in dialect (b ++ take used piece) ≡ o
-        → foreign_in dialect (b ++ take used piece) ≡ None
+    not_foreign_here : (o : Option ℕ) → foreign_in dialect w ≡ o → foreign_in dialect w ≡ None
     not_foreign_here None e = e
     not_foreign_here (Some v) e =
-        (let d : answer.Fault f ≡ answer.Foreign v = one_answer dialect (b
-        ++ take used piece) (answer.Fault f) (answer.Foreign v) refused e in absurd cc)
+        (let d : answer.Fault f ≡ answer.Foreign v =
+        one_answer dialect w (answer.Fault f) (answer.Foreign v) refused e in absurd cc)
 
     pub fails_head : Fails dialect b piece f used
     fails_head =
-        let none = none_here no_header_here in
+        let none = incomplete_at no_header_here in
         record {
           within = h.took.within;
           in_unit = in_unit;
-          refused = (refused_in_header dialect (b ++ take used piece) f.offset f.kind none).1 refused;
-          no_event =
-              no_events dialect (b ++ take used piece) none
-              (not_foreign_here (foreign_in dialect (b ++ take used piece)) refl) ∙ sym no_event_before;
+          refused = (refused_in_header dialect w f.offset f.kind none).1 refused;
+          no_event = no_events dialect w none (not_foreign_here (foreign_in dialect w) refl) ∙ sym no_event_before;
         }
 
-    pub stopped_head : (stop : HeaderStop) → stop.fault ≡ f → stop.taken ≡ length (b ++ take used piece)
-        → stop.cells ≡ min (cells dialect (b ++ take used piece)) (2 ^ 64 - 1)
-        → StoppedInHeader dialect stop (b ++ take used piece)
+    pub stopped_head : (stop : HeaderStop) → stop.fault ≡ f → stop.taken ≡ length w
+        → stop.cells ≡ min (cells dialect w) (2 ^ 64 - 1) → StoppedInHeader dialect stop w
     stopped_head stop fault taken held = record {
-      refused =
-          subst (λ (g : Fault). Refused dialect (b ++ take used piece) g.offset g.kind) (sym fault) fails_head.refused;
+      refused = rw fault fails_head.refused;
       taken = taken;
       in_unit = in_unit;
-      incomplete = none_here no_header_here;
+      incomplete = incomplete_at no_header_here;
       cells = held;
     }
 
   -- ---- a foreign version
 
-  module _ (fin : Reader) (v : ℕ) (foreign : foreign_in dialect (b ++ take used piece) ≡ Some v) where
-    not_refused_here : (at : ℕ) (kind : FaultKind) → HeaderRefused dialect (b ++ take used piece) at kind → ⊥
-    not_refused_here at kind r =
-        (let e : answer.Foreign v ≡ answer.Fault (record { offset = at; kind = kind }) =
-        one_answer dialect (b ++ take used piece) (answer.Foreign v)
-        (answer.Fault (record { offset = at; kind = kind }))
-        foreign r in absurd cc)
+  pub feeds_version : (fin : Reader) (v : ℕ) → foreign_in dialect w ≡ Some v → 1 ≤ used → StandsFor fin w
+      → Feeds StandsFor dialect b piece (record { used = used; event = event.Foreign v }) fin
+  feeds_version fin v foreign some stands =
+      feeds_here (event.Foreign v) fin stands (rw foreign) (some, last_event some) (sound_at not_header not_refused)
+    where
+      not_header : (g : HeaderData) → IsHeader dialect g w → ⊥
+      not_header g is =
+          none_some (foreign_no_header dialect w v foreign)
+          (ap (header_in dialect) (sym (append-nil w)) ∙ header_is_found dialect g w [] is)
 
-    pub feeds_version : 1 ≤ used → StandsFor fin (b ++ take used piece)
-        → Feeds StandsFor dialect b piece (record { used = used; event = event.Foreign v }) fin
-    feeds_version some stands =
-        let none = foreign_no_header dialect (b ++ take used piece) v foreign in
-        record {
-          answered = record {
-            within = h.took.within;
-            in_unit = in_unit;
-            grows = ap (λ (o : Option ℕ). events_of dialect.order o (header_in dialect (b ++ take used piece))) foreign
-                ∙ sym (ap (λ (l : List Event). l ++ event.Foreign v ∷ []) no_event_before);
-            holds = (some, last_event some);
-            sound = sound_up_to dialect b piece used h.took.within h.was.incomplete h.was.sound headers refusals;
-          };
-          stands = stands;
-        }
-      where
-        headers : NoHeaders dialect b piece used
-        headers i lt g is = elim (cases_eq i used) [
-          | inl same ↦
-              none_some (foreign_no_header dialect (b ++ take used piece) v foreign)
-              (ap (header_in dialect) (sym (append-nil (b ++ take used piece)))
-              ∙ header_is_found dialect g (b ++ take used piece) []
-              (subst (λ (n : ℕ). IsHeader dialect g (b ++ take n piece)) same is))
-          | inr other ↦ (fronts_go i (omega (arith, lt, other))).0 g is
-        ]
-
-        refusals : NoneRefusedTo dialect b piece used
-        refusals i lt at kind r = elim (cases_eq i used) [
-          | inl same ↦ not_refused_here at kind
-              (subst (λ (n : ℕ). HeaderRefused dialect (b ++ take n piece) at kind) same r)
-          | inr other ↦ (fronts_go i (omega (arith, lt, other))).2 at kind r
-        ]
+      not_refused : (at : ℕ) (kind : FaultKind) → HeaderRefused dialect w at kind → ⊥
+      not_refused at kind r =
+          (let e : answer.Foreign v ≡ answer.Fault (record { offset = at; kind = kind }) =
+          one_answer dialect w (answer.Foreign v) (answer.Fault (record { offset = at; kind = kind })) foreign r in
+          absurd cc)
 
   -- ---- a header
 
-  module _ (fin : Reader) (g : HeaderData) (is : IsHeader dialect g (b ++ take used piece)) where
-    pub feeds_header : 1 ≤ used → StandsFor fin (b ++ take used piece)
-        → Feeds StandsFor dialect b piece (record { used = used; event = event.Header }) fin
-    feeds_header some stands = record {
-      answered = record {
-        within = h.took.within;
-        in_unit = in_unit;
-        grows = header_event dialect g (b ++ take used piece) is
-            ∙ sym (ap (λ (l : List Event). l ++ event.Header ∷ []) no_event_before);
-        holds = (some, last_event some);
-        sound = header_sound dialect g (b ++ take used piece) is;
-      };
-      stands = stands;
-    }
+  pub feeds_header : (fin : Reader) (g : HeaderData) → IsHeader dialect g w → 1 ≤ used → StandsFor fin w
+      → Feeds StandsFor dialect b piece (record { used = used; event = event.Header }) fin
+  feeds_header fin g is some stands =
+      feeds_here event.Header fin stands (header_event dialect g w is) (some, last_event some)
+      (header_sound dialect g w is)
 
 -- by what the reader of the header answers
 pub head_took : {dialect : Dialect} {x : State} {old new : HeadReader} {b piece : List ℕ} {used : ℕ} {step : HeadStep}
-    → x ≡ state.InHeader old → StandsAt dialect x b → AllBytes piece
+    → x ≡ state.InHeader old → StandsAt dialect x b → ((i : ℕ) → i < length piece → get_or piece i 0 < 256)
     → ((d : List ℕ) → HeadStands old d → Answers old.dialect d answer.More → Offered old.dialect d piece used step new)
     → new.dialect ≡ old.dialect → HeadTook dialect old new b piece used step
 head_took {dialect} {x} {old} {new} {b} {piece} {used} {step} is stands all offered same =
@@ -324,7 +277,7 @@ head_took {dialect} {x} {old} {new} {b} {piece} {used} {step} is stands all offe
       stands = o.stands;
       whole = o.answered.whole;
       same_dialect = same ∙ was.same_dialect;
-      bytes = all;
+      bytes = all_bytes piece all;
     }
 
 -- what the bytes come to, by the step
@@ -337,3 +290,50 @@ come_to h a is = rw is at h.took.answers
 pub bytes_taken : {dialect : Dialect} {old new : HeadReader} {b piece : List ℕ} {used : ℕ} {step : HeadStep}
     → HeadTook dialect old new b piece used step → AllBytes (b ++ take used piece)
 bytes_taken {b = b} {piece = piece} {used = used} h = taken_bytes b piece used h.was.bytes h.bytes
+
+-- ---- where it is known that something was taken
+
+-- a header that is begun
+pub begun_in : {s : State} {head : HeadReader} → s ≡ state.InHeader head → ∥ IsBegun s ∥₁ → ∥ GoesOn head ∥₁
+begun_in is begun = rw is at begun
+
+-- how many bytes were taken
+pub taken_is : (head : HeadReader) (n : ℕ) → ∥ GoesOn head ∥₁ → ((b : List ℕ) → HeadStands head b → n ≡ length b)
+    → n ≡ head.taken
+taken_is head n begun counts = ∥∥₁_elim begun (hlevel props) (λ g. counts g.0 g.1 ∙ sym g.1.taken)
+
+-- one that comes to something takes a byte
+pub begun_takes : {head : HeadReader} {used : ℕ} {step : HeadStep} → ∥ GoesOn head ∥₁
+    → ((b : List ℕ) → HeadStands head b → Answers head.dialect b answer.More → step ≢ answer.More
+    → step ≢ answer.NoMemory → 1 ≤ used) → step ≢ answer.More → step ≢ answer.NoMemory → 1 ≤ used
+begun_takes begun takes ends fed =
+    ∥∥₁_elim begun (hlevel props) (λ g. takes g.0 g.1 g.2 ends fed)
+
+-- a reader that has taken a header does so
+pub header_knows : (head : HeadReader) → ∥ HasHeader head ∥₁ → ∥ KnowsLength head ∥₁
+header_knows head has = ∥∥₁_elim has ∥∥₁_prop (λ k. ∣ (k.0, k.1, header_known head.dialect k.2.0 k.0 k.2.1) ∣₁)
+
+-- and gives it
+pub header_given : (head : HeadReader) (o : Option HeaderData) → ∥ HasHeader head ∥₁ → Gives head.dialect head o
+    → o ≡ None → ⊥
+header_given head o has gives none =
+    ∥∥₁_elim has (hlevel props)
+    (λ k. (let n : Gives head.dialect head None = rw none at gives in n k.0 k.1 k.2.0 k.2.1))
+
+-- a piece was offered to the reader of a header
+module _ {old new : HeadReader} {piece : List ℕ} {used : ℕ} {step : HeadStep} (begun : ∥ GoesOn old ∥₁)
+    (offered : (b : List ℕ) → HeadStands old b → Answers old.dialect b answer.More
+    → Offered old.dialect b piece used step new)
+    (same : new.dialect ≡ old.dialect) where
+  -- what the bytes that it has taken come to
+  pub comes_to : (s : HeadStep) → step ≡ s
+      → ∥ ((b : List ℕ) × HeadStands new b × Answers new.dialect b (so_far s)) ∥₁
+  comes_to s is = ∥∥₁_elim begun ∥∥₁_prop (λ g.
+      (let o = offered g.0 g.1 g.2 in
+      ∣ (g.0 ++ take used piece, o.stands, rw same (rw is at o.answered.took.answers)) ∣₁))
+
+  -- a foreign version is complete
+  pub knows_foreign : (version : ℕ) → step ≡ answer.Foreign version → ∥ KnowsLength new ∥₁
+  knows_foreign version is =
+      ∥∥₁_elim (comes_to (answer.Foreign version) is) ∥∥₁_prop (λ g.
+      ∣ (g.0, g.1, foreign_known new.dialect g.0 version g.2) ∣₁)

@@ -1,9 +1,9 @@
 -- The params of a header are usable, and line_base is a byte.
 use Rattle.dl_head.specs.declared.dialect.Dialect.{Dialect}
-use Rattle.std.proofs.Common.{◌≡◌, ℕ, zero, suc, ◌+◌, ◌-◌, ◌≤◌, Bool, true, false, if◌then◌else◌, ◌==◌, List, [], ◌∷◌}
-use Rattle.std.proofs.Common.{◌++◌, length, drop, Some, None, refl, sym, subst, arith, inl, inr, length-append, ◌∙◌}
-use Rattle.std.proofs.Common.{◌<◌, ◌^◌}
-use Rattle.std.proofs.Common.{pos, negsuc, ◌-ℤ◌, Option, ap}
+use Rattle.std.proofs.Common.{◌≡◌, ℕ, zero, suc, ◌+◌, ◌-◌, ◌≤◌, Bool, true, if◌then◌else◌, ◌==◌, List, [], ◌∷◌}
+use Rattle.std.proofs.Common.{◌++◌, length, drop, Some, None, refl, arith, inl, inr, length-append}
+use Rattle.std.proofs.Common.{◌<◌, ◌^◌, pos, negsuc, ◌-ℤ◌, Option, ap}
+use Rattle.std.proofs.lemmas.Bool.Decides.{nat_tests}
 use Rattle.std.proofs.lemmas.Bool.{cases_lt, lt-ltb, le-ltb, cases_eq, eq-eqb, ne_eqb}
 use Rattle.std.specs.Prelude.{unsigned_abs}
 use Rattle.std.proofs.lemmas.Int.{ints}
@@ -24,10 +24,8 @@ use Rattle.dl_table.specs.Value.{Value, good}
 use Rattle.dl_field.specs.Field.{IsNumber}
 use Rattle.dl_field.specs.Layout.{Layout, initial_length_then, number_then, form_then, value_then, foreign_version}
 use Rattle.dl_field.specs.Layout.{path_or_end, last_entry, Item, length_is, number_is, form_is, value_is, end_is}
-use Rattle.dl_field.specs.Layout.{following}
-use Rattle.dl_field.specs.Layout.{following_all}
-use Rattle.dl_field.specs.Layout.{objection, number_size, field_spelt, pairs_layout, entry_layout, entries_layout}
-use Rattle.dl_field.specs.Layout.{table_layout, NumberField}
+use Rattle.dl_field.specs.Layout.{following, following_all, objection, number_size, field_spelt, pairs_layout}
+use Rattle.dl_field.specs.Layout.{entry_layout, entries_layout, table_layout, NumberField}
 use Rattle.dl_head.specs.Dialect.{older_size}
 use Rattle.dl_head.specs.HeaderLayout.{header_layout, lengths_layout, tables_layout, from_files, from_end}
 use Rattle.dl_head.specs.HeaderLayout.{from_default_is_stmt, after_minimum_length, from_address_size}
@@ -41,6 +39,7 @@ use Rattle.dl_head.proofs.Openings.{after_length}
 use Rattle.dl_head.proofs.ReadSound.{older_fits}
 use Rattle.dl_rows.specs.UnitLaws.{HeaderFits}
 use Rattle.dl_rows.proofs.OperandRanges.{bytes_front, bytes_back}
+use Rattle.dl_rows.proofs.UnitLengths.{number_same}
 
 -- a number of one byte is below 256
 abbrev pub IsSmall : NumberField → ℕ → Type 0
@@ -57,93 +56,79 @@ LeadsTo Bytes P (path_or_end format pairs entries next) = (t : TableData) → Le
 LeadsTo Bytes P (foreign_version v) = Unit {0}
 LeadsTo Bytes P (last_entry h) = P h
 
-number_same : (m n : ℕ) → number_is m ≡ number_is n → m ≡ n
-number_same m n e = cc
-
 -- a byte as a number
 small : (order : Order) (field : NumberField) (next : ℕ → Layout) (n : ℕ) (w : List ℕ) → AllBytes w
     → field_spelt order (number_then field next) w ≡ good (number_is n) → IsSmall field n
 small order field next n w all e one =
     let is = (field_is_judged order (number_then field next) (number_is n) w).1 e in
-    let fixed_is : IsNumber order (Some 1) is.0 w = subst (λ (o : Option ℕ). IsNumber order o is.0 w) one is.2 in
+    let fixed_is : IsNumber order (Some 1) is.0 w = rw one at is.2 in
     let below = fixed_is_below order w all in
     let power : 256 ^ length w ≡ 256 ^ 1 = ap (λ (k : ℕ). 256 ^ k) fixed_is.0 in
     let same : n ≡ is.0 = number_same n is.0 is.1 in
     omega (arith, below, power, same, fixed_is.1)
 
-leads_entry : (Bytes : Type 0) (P : HeaderData → Type 0) (format : Format) (pairs : List Pair) (before : List Value)
-    (next : List Value → Layout) → ((values : List Value) → LeadsTo Bytes P (next values))
-    → LeadsTo Bytes P (entry_layout format pairs before next)
-leads_entry Bytes P format [] before next all = all before
-leads_entry Bytes P format (p ∷ pairs) before next all =
-    λ v. leads_entry Bytes P format pairs (before ++ v ∷ []) next all
+-- what holds of the headers that good fields lead to
+module _ (Bytes : Type 0) (P : HeaderData → Type 0) where
+  leads_entry : (format : Format) (pairs : List Pair) (before : List Value) (next : List Value → Layout)
+      → ((values : List Value) → LeadsTo Bytes P (next values))
+      → LeadsTo Bytes P (entry_layout format pairs before next)
+  leads_entry format [] before next all = all before
+  leads_entry format (p ∷ pairs) before next all = λ v. leads_entry format pairs (before ++ v ∷ []) next all
 
-leads_on : (Bytes : Type 0) (P : HeaderData → Type 0) (order : Order) (layout : Layout) (i : Item) (items : List Item)
-    (w : List ℕ) → (Bytes → AllBytes w) → SpellsFields order layout (i ∷ items) w → LeadsTo Bytes P layout
-    → LeadsTo Bytes P (following layout i)
-leads_on Bytes P order (initial_length_then next) (length_is f n) items w all s leads = leads f n
-leads_on Bytes P order (initial_length_then next) (number_is n) items w all s leads = leads
-leads_on Bytes P order (initial_length_then next) (form_is f) items w all s leads = leads
-leads_on Bytes P order (initial_length_then next) (value_is v) items w all s leads = leads
-leads_on Bytes P order (initial_length_then next) (end_is n) items w all s leads = leads
-leads_on Bytes P order (number_then field next) i items w all s leads =
-    let n = is_number order field next s.0 i s.3 in
-    let front = λ (h : Bytes). bytes_front s.0 s.1 (subst (λ (z : List ℕ). AllBytes z) s.2 (all h)) in
-    subst (λ (j : Item). LeadsTo Bytes P (following (number_then field next) j)) (sym n.item)
-    (leads n.number n.fits (λ h. small order field next n.number s.0 (front h) (s.3
-    ∙ ap (λ (j : Item). good j) n.item)))
-leads_on Bytes P order (form_then next) (form_is f) items w all s leads = leads f
-leads_on Bytes P order (form_then next) (length_is f n) items w all s leads = leads
-leads_on Bytes P order (form_then next) (number_is n) items w all s leads = leads
-leads_on Bytes P order (form_then next) (value_is v) items w all s leads = leads
-leads_on Bytes P order (form_then next) (end_is n) items w all s leads = leads
-leads_on Bytes P order (value_then format f next) (value_is v) items w all s leads = leads v
-leads_on Bytes P order (value_then format f next) (length_is g n) items w all s leads = leads
-leads_on Bytes P order (value_then format f next) (number_is n) items w all s leads = leads
-leads_on Bytes P order (value_then format f next) (form_is g) items w all s leads = leads
-leads_on Bytes P order (value_then format f next) (end_is n) items w all s leads = leads
-leads_on Bytes P order (path_or_end format pairs entries next) (value_is v) items w all s leads =
-    leads_entry Bytes P format (drop 1 pairs) (v ∷ [])
-    (λ entry. path_or_end format pairs (entries ++ entry ∷ []) next) (λ entry. leads)
-leads_on Bytes P order (path_or_end format pairs entries next) (end_is n) items w all s leads =
-    leads (record { format = format; pairs = pairs; entries = entries })
-leads_on Bytes P order (path_or_end format pairs entries next) (length_is g n) items w all s leads = leads
-leads_on Bytes P order (path_or_end format pairs entries next) (number_is n) items w all s leads = leads
-leads_on Bytes P order (path_or_end format pairs entries next) (form_is g) items w all s leads = leads
-leads_on Bytes P order (foreign_version v) i items w all s leads = absurd (none_some refl s.3)
-leads_on Bytes P order (last_entry h) i items w all s leads = absurd (none_some refl s.3)
+  leads_on : (order : Order) (layout : Layout) (i : Item) (items : List Item) (w : List ℕ) → (Bytes → AllBytes w)
+      → SpellsFields order layout (i ∷ items) w → LeadsTo Bytes P layout → LeadsTo Bytes P (following layout i)
+  leads_on order (initial_length_then next) (length_is f n) items w all s leads = leads f n
+  leads_on order (number_then field next) i items w all s leads =
+      let n = is_number order field next s.0 i s.3 in
+      rw n.item (leads n.number n.fits (λ h. small order field next n.number s.0
+      (bytes_front s.0 s.1 (rw s.2 at (all h))) (rw n.item at s.3)))
+  leads_on order (form_then next) (form_is f) items w all s leads = leads f
+  leads_on order (value_then format f next) (value_is v) items w all s leads = leads v
+  leads_on order (path_or_end format pairs entries next) (value_is v) items w all s leads =
+      leads_entry format (drop 1 pairs) (v ∷ []) (λ entry. path_or_end format pairs (entries ++ entry ∷ []) next)
+      (λ entry. leads)
+  leads_on order (path_or_end format pairs entries next) (end_is n) items w all s leads =
+      leads (record { format = format; pairs = pairs; entries = entries })
+  leads_on order (foreign_version v) i items w all s leads = absurd (none_some refl s.3)
+  leads_on order (last_entry h) i items w all s leads = absurd (none_some refl s.3)
+  leads_on order layout i items w all s leads = leads
 
-pub leads_all : (Bytes : Type 0) (P : HeaderData → Type 0) (order : Order) (layout : Layout) (items : List Item)
-    (w : List ℕ) → (Bytes → AllBytes w) → SpellsFields order layout items w → LeadsTo Bytes P layout
-    → LeadsTo Bytes P (following_all layout items)
-leads_all Bytes P order layout [] w all s leads = leads
-leads_all Bytes P order layout (i ∷ items) w all s leads =
-    leads_all Bytes P order (following layout i) items s.1
-    (λ h. bytes_back s.0 s.1 (subst (λ (z : List ℕ). AllBytes z) s.2 (all h))) s.4
-    (leads_on Bytes P order layout i items w all s leads)
+  pub leads_all : (order : Order) (layout : Layout) (items : List Item) (w : List ℕ) → (Bytes → AllBytes w)
+      → SpellsFields order layout items w → LeadsTo Bytes P layout → LeadsTo Bytes P (following_all layout items)
+  leads_all order layout [] w all s leads = leads
+  leads_all order layout (i ∷ items) w all s leads =
+      leads_all order (following layout i) items s.1 (λ h. bytes_back s.0 s.1 (rw s.2 at (all h))) s.4
+      (leads_on order layout i items w all s leads)
 
--- ---- the tables don't change the params
+  -- ---- the tables don't change the params
 
-leads_pairs : (Bytes : Type 0) (P : HeaderData → Type 0) (count : ℕ) (before : List Pair) (next : List Pair → Layout)
-    → ((pairs : List Pair) → LeadsTo Bytes P (next pairs)) → LeadsTo Bytes P (pairs_layout count before next)
-leads_pairs Bytes P zero before next all = all before
-leads_pairs Bytes P (suc count) before next all =
-    λ code fits few f. leads_pairs Bytes P count (before ++ record { content = code; form = f } ∷ []) next all
+  leads_pairs : (count : ℕ) (before : List Pair) (next : List Pair → Layout)
+      → ((pairs : List Pair) → LeadsTo Bytes P (next pairs)) → LeadsTo Bytes P (pairs_layout count before next)
+  leads_pairs zero before next all = all before
+  leads_pairs (suc count) before next all =
+      λ code fits few f. leads_pairs count (before ++ record { content = code; form = f } ∷ []) next all
 
-leads_entries : (Bytes : Type 0) (P : HeaderData → Type 0) (format : Format) (pairs : List Pair) (count : ℕ)
-    (before : List (List Value)) (next : List (List Value) → Layout)
-    → ((entries : List (List Value)) → LeadsTo Bytes P (next entries))
-    → LeadsTo Bytes P (entries_layout format pairs count before next)
-leads_entries Bytes P format pairs zero before next all = all before
-leads_entries Bytes P format pairs (suc count) before next all =
-    leads_entry Bytes P format pairs [] (λ entry. entries_layout format pairs count (before ++ entry ∷ []) next)
-    (λ entry. leads_entries Bytes P format pairs count (before ++ entry ∷ []) next all)
+  leads_entries : (format : Format) (pairs : List Pair) (count : ℕ) (before : List (List Value))
+      (next : List (List Value) → Layout) → ((entries : List (List Value)) → LeadsTo Bytes P (next entries))
+      → LeadsTo Bytes P (entries_layout format pairs count before next)
+  leads_entries format pairs zero before next all = all before
+  leads_entries format pairs (suc count) before next all =
+      leads_entry format pairs [] (λ entry. entries_layout format pairs count (before ++ entry ∷ []) next)
+      (λ entry. leads_entries format pairs count (before ++ entry ∷ []) next all)
 
-pub leads_table : (Bytes : Type 0) (P : HeaderData → Type 0) (format : Format) (next : TableData → Layout)
-    → ((t : TableData) → LeadsTo Bytes P (next t)) → LeadsTo Bytes P (table_layout format next)
-leads_table Bytes P format next all =
-    λ pair_count fits few. leads_pairs Bytes P pair_count [] _
-    (λ pairs. λ count some below. leads_entries Bytes P format pairs count [] _ (λ entries. all _))
+  pub leads_table : (format : Format) (next : TableData → Layout) → ((t : TableData) → LeadsTo Bytes P (next t))
+      → LeadsTo Bytes P (table_layout format next)
+  leads_table format next all =
+      λ pair_count fits few. leads_pairs pair_count [] _
+      (λ pairs. λ count some below. leads_entries format pairs count [] _ (λ entries. all _))
+
+  pub leads_lengths : (opcode count : ℕ) (before : List ℕ) (next : List ℕ → Layout)
+      → ((lengths : List ℕ) → length lengths ≡ length before + count → LeadsTo Bytes P (next lengths))
+      → LeadsTo Bytes P (lengths_layout opcode count before next)
+  leads_lengths opcode zero before next all = all before (omega arith)
+  leads_lengths opcode (suc count) before next all =
+      λ n fits few. leads_lengths (opcode + 1) count (before ++ n ∷ []) next
+      (λ lengths size. all lengths (omega (arith, size, length-append before (n ∷ []))))
 
 -- the header's params are usable, and where they are read from bytes, line_base is one
 abbrev IsFit : Type 0 → Params → Type 0
@@ -166,24 +151,11 @@ leads_tables Bytes p fit = elim (cases_eq p.version 5) [
 
 -- ---- the fields that the params hold
 
-pub leads_lengths : (Bytes : Type 0) (P : HeaderData → Type 0) (opcode count : ℕ) (before : List ℕ) (next : List ℕ
-    → Layout)
-    → ((lengths : List ℕ) → length lengths ≡ length before + count → LeadsTo Bytes P (next lengths))
-    → LeadsTo Bytes P (lengths_layout opcode count before next)
-leads_lengths Bytes P opcode zero before next all = all before (omega arith)
-leads_lengths Bytes P opcode (suc count) before next all =
-    λ n fits few. leads_lengths Bytes P (opcode + 1) count (before ++ n ∷ []) next
-    (λ lengths size. all lengths (omega (arith, size, length-append before (n ∷ []))))
-
 fits_true : (b : Bool) (k : FaultKind) → (if b then None else Some k) ≡ None → b ≡ true
-fits_true true k e = refl
-fits_true false k e = absurd (none_some {a = k} refl (sym e))
+fits_true b k e = grind arith
 
 not_zero : (n : ℕ) (k : FaultKind) → (if n == 0 then Some k else None) ≡ None → 1 ≤ n
-not_zero n k e = elim (cases_eq n 0) [
-  | inl none ↦ absurd (none_some {a = k} e (rw (eq-eqb n 0 none) refl))
-  | inr other ↦ omega arith
-]
+not_zero n k e = grind (arith, nat_tests)
 
 signed_small : (n : ℕ) → n < 256 → unsigned_abs (signed_byte n) < 2 ^ 62
 signed_small n lt = elim (cases_lt n 128) [
@@ -249,8 +221,7 @@ leads_version Bytes dialect format n v = elim (cases_eq v 5) [
 fit_of : (Bytes : Type 0) (dialect : Dialect) (h : HeaderData) (w : List ℕ) (is : IsHeader dialect h w)
     → (Bytes → AllBytes is.fields) → IsFit Bytes h.params
 fit_of Bytes dialect h w is all =
-    subst (λ (l : Layout). LeadsTo Bytes (Fit Bytes) l)
-    (made_last (following_all (header_layout dialect) is.items) h is.made)
+    rw (made_last (following_all (header_layout dialect) is.items) h is.made) at
     (leads_all Bytes (Fit Bytes) dialect.order (header_layout dialect) is.items is.fields all is.spelt
     (λ format n v fits few. leads_version Bytes dialect format n v))
 
@@ -261,5 +232,5 @@ pub header_fits : HeaderFits
 header_fits dialect h w all is = (
   header_is_usable dialect h w is,
   (fit_of (AllBytes w) dialect h w is
-      (λ bytes. bytes_front is.fields is.padding (subst (λ (z : List ℕ). AllBytes z) is.whole bytes))).1 all,
+      (λ bytes. bytes_front is.fields is.padding (rw is.whole at bytes))).1 all,
 )

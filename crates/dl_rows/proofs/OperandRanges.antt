@@ -1,5 +1,5 @@
 -- The ranges of the operands that bytes spell.
-use Rattle.std.proofs.Common.{◌≡◌, ℕ, ◌^◌, ◌<◌, ◌≤◌, ℤ, pos, negsuc, List, [], ◌∷◌, ◌++◌, length, ap, subst, ◌∙◌, arith}
+use Rattle.std.proofs.Common.{◌≡◌, ℕ, ◌^◌, ◌<◌, ◌≤◌, ℤ, pos, negsuc, List, [], ◌∷◌, ◌++◌, length, ap, ◌∙◌, arith}
 use Rattle.std.specs.Prelude.{unsigned_abs}
 use Rattle.dl_num.specs.declared.fixed.Order.{Order}
 use Rattle.dl_num.specs.Fixed.{fixed}
@@ -43,23 +43,10 @@ address_range order h n operand usable all size number =
 
 pub range_of : (order : Order) (h : Params) (o : Operation) (v : List ℕ) → IsUsable h → AllBytes v
     → SpellsOperation order h o v → HasRange o
-range_of order h (op.Special b) v usable all s = (subst (λ (z : List ℕ). AllBytes z) s.1 all).0
+range_of order h (op.Special b) v usable all s = (rw s.1 at all).0
 range_of order h (op.AdvanceLine i) v usable all s = signed_range i s.fits
 range_of order h (op.SetAddress n) v usable all s =
     let whole : AllBytes (0 ∷ (s.extended.size ++ 2 ∷ s.operand)) =
-    subst (λ (z : List ℕ). AllBytes z) s.extended.bytes all in
+    rw s.extended.bytes at all in
     address_range order h n s.operand usable (bytes_back s.extended.size (2 ∷ s.operand) whole.1).1 s.size s.number
-range_of order h op.Copy v usable all s = tt
-range_of order h (op.AdvancePc n) v usable all s = tt
-range_of order h (op.SetFile n) v usable all s = tt
-range_of order h (op.SetColumn n) v usable all s = tt
-range_of order h op.NegateStatement v usable all s = tt
-range_of order h op.SetBasicBlock v usable all s = tt
-range_of order h op.ConstAddPc v usable all s = tt
-range_of order h (op.FixedAdvancePc n) v usable all s = tt
-range_of order h op.SetPrologueEnd v usable all s = tt
-range_of order h op.SetEpilogueBegin v usable all s = tt
-range_of order h (op.SetIsa n) v usable all s = tt
-range_of order h op.EndSequence v usable all s = tt
-range_of order h (op.SetDiscriminator n) v usable all s = tt
-range_of order h op.Skipped v usable all s = tt
+range_of order h other v usable all s = tt

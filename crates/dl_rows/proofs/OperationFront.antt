@@ -1,6 +1,5 @@
 -- No good operation stands at the front of bytes that go on in one, nor of those that begin with a bad one.
-use Rattle.std.proofs.Common.{◌≡◌, ℕ, ◌≤◌, List, [], ◌∷◌, ◌++◌, Option, Some, None, Ok, Err, refl, sym, ap, ◌∙◌}
-use Rattle.std.proofs.Common.{inl, inr}
+use Rattle.std.proofs.Common.{◌≡◌, ℕ, ◌≤◌, List, [], ◌∷◌, ◌++◌, Option, None, Err, refl, sym, ap, ◌∙◌, inl, inr, arith}
 use Rattle.std.proofs.lemmas.List.{append-nil}
 use Rattle.dl_num.specs.declared.fixed.Order.{Order}
 use Rattle.dl_num.specs.Front.{SpellsNowhere, SpellsFirst}
@@ -21,11 +20,9 @@ pub nowhere_good : (order : Order) (h : Params) (b : List ℕ) → SpellsNowhere
     → NoneGood order h b
 nowhere_good order h b none front back e = ap good_one (none front back e)
 
-not_good : (j : Judgement Operation) → ((o : Operation) → j ≡ good o → ⊥)
+pub not_good : (j : Judgement Operation) → ((o : Operation) → j ≡ good o → ⊥)
     → ◌≡◌ {A = Option Operation} (good_one j) None
-not_good None bars = refl
-not_good (Some (Ok o)) bars = absurd (bars o refl)
-not_good (Some (Err k)) bars = refl
+not_good j bars = grind arith
 
 -- bytes that begin with a bad operation spell no good one
 bad_then : (order : Order) (h : Params) (o : Operation) (w u : List ℕ) (k : FaultKind) → 1 ≤ h.opcode_base

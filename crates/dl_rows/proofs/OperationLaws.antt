@@ -1,6 +1,6 @@
 -- The laws of operations: what is computed of bytes agrees with the relations, and bytes spell one operation.
 use Rattle.std.proofs.Common.{◌≡◌, ◌≢◌, ℕ, ◌+◌, ◌^◌, ◌<◌, ◌≤◌, ◌⊎◌, List, [], ◌∷◌, ◌++◌, length, Some, None, Ok, Err}
-use Rattle.std.proofs.Common.{refl, sym, ap, subst, ◌∙◌, arith, inl, inr}
+use Rattle.std.proofs.Common.{refl, sym, ap, ◌∙◌, arith, inl, inr}
 use Rattle.std.proofs.lemmas.Bool.{cases_lt, cases_Bool, lt-leb, lt-ltb, le-ltb, eq-eqb, ne_eqb}
 use Rattle.std.proofs.lemmas.List.{append-nil}
 use Rattle.dl_num.specs.declared.fixed.Order.{Order}
@@ -20,14 +20,13 @@ use Rattle.dl_rows.specs.BadOperation.{UnsignedOut, SignedOut, EndsInLength, Beg
 use Rattle.dl_rows.specs.BadOperation.{DiscriminatorLength, IsFaulty, fault_order}
 use Rattle.dl_rows.specs.Laws.{SpeltIsSpelled, BadIsFaulty, NoOperationBeginsAnother, OneOperation, NoSpellingIsFaulty}
 use Rattle.dl_rows.proofs.OperandLemmas.{unsigned_out, signed_out}
-use Rattle.dl_rows.proofs.ExtendedLemmas.{zero_then, length_then, body_then, body_out, length_refused}
-use Rattle.dl_rows.proofs.SpeltFirst.{spells_first}
-use Rattle.dl_rows.proofs.Judged.{Judged, judged}
+use Rattle.dl_rows.proofs.SpeltFirst.{zero_then, length_then, body_then, body_out, length_refused, spells_first}
+use Rattle.dl_rows.proofs.Judged.{judged}
 
 pub spelt_is_spelled : SpeltIsSpelled
 spelt_is_spelled order h o w some = (
   λ s. (spells_first order h o w some s).spells,
-  λ e. subst (λ (j : Judgement Operation). Judged order h w j) e (judged order h w some),
+  λ e. rw e at (judged order h w some),
 )
 
 -- ---- what is computed of faulty bytes
@@ -41,8 +40,7 @@ unsigned_out_computes : (order : Order) (h : Params) (make : ℕ → Operation) 
     → (opcode < h.opcode_base → (v : List ℕ) → operation_spelt order h (opcode ∷ v) ≡ unsigned_operand make v)
     → u.opcode ≡ opcode → Computes order h w fault.LebRange
 unsigned_out_computes order h make opcode w u same e =
-    ap (operation_spelt order h) (u.bytes ∙ ap (λ (c : ℕ). c ∷ u.operand) e)
-    ∙ same (subst (λ (c : ℕ). c < h.opcode_base) e u.below) u.operand
+    ap (operation_spelt order h) (rw e at u.bytes) ∙ same (rw e at u.below) u.operand
     ∙ (unsigned_out make u.operand u.number u.spells u.out).spells
 
 takes_computes : (order : Order) (h : Params) (w : List ℕ) (u : UnsignedOut h w) → (u.opcode ≡ 2) ⊎ (u.opcode ≡ 4)
@@ -97,14 +95,10 @@ range_computes order h w some (inr (inr (inr d))) =
 opcode_computes : (order : Order) (h : Params) (w : List ℕ) → 1 ≤ h.opcode_base → WrongAtOpcode h w
     → Computes order h w fault.ExtendedLength
 opcode_computes order h w some f = begun_computes order h w f.n f.opcode [] some f.begins ∙ elim f.wrong [
-  | inl e ↦ at e.0 (rw (ne_eqb f.n 1 e.1) refl)
-  | inr (inl e) ↦ at e.0 (rw (ne_eqb f.n (1 + h.address_size) e.1) refl)
-  | inr (inr e) ↦ at e.0 (rw (eq-eqb f.n 1 e.1) refl)
-] where
-  at : {c : ℕ} → f.opcode ≡ c
-      → ◌≡◌ {A = Judgement Operation} (extended_spelt order h.address_size f.n c []) (bad fault.ExtendedLength)
-      → ◌≡◌ {A = Judgement Operation} (extended_spelt order h.address_size f.n f.opcode []) (bad fault.ExtendedLength)
-  at e same = ap (λ (c : ℕ). extended_spelt order h.address_size f.n c []) e ∙ same
+  | inl e ↦ rw e.0 (rw (ne_eqb f.n 1 e.1) refl)
+  | inr (inl e) ↦ rw e.0 (rw (ne_eqb f.n (1 + h.address_size) e.1) refl)
+  | inr (inr e) ↦ rw e.0 (rw (eq-eqb f.n 1 e.1) refl)
+]
 
 -- the fault is computed, or one that comes before it
 abbrev ComputesFirst : Order → Params → List ℕ → FaultKind → Type 0
@@ -182,7 +176,7 @@ bad_is_faulty order h kind w some = (
         (b.first fault.LebRange r.0 r.1)
   ],
   λ e. record {
-    faulty = subst (λ (j : Judgement Operation). Judged order h w j) e (judged order h w some);
+    faulty = rw e at (judged order h w some);
     first = λ other lt f. none_before order h kind other w some e lt f;
   },
 )
@@ -210,7 +204,7 @@ faulty_is_bad order h kind w some f = elim (faulty_computes order h kind w some 
 pub no_spelling_is_faulty : NoSpellingIsFaulty
 no_spelling_is_faulty order h o kind w [] some s f =
     let b = faulty_is_bad order h kind w some f in
-    let spelled = subst (λ (z : List ℕ). SpellsOperation order h o z) (append-nil w) s in
+    let spelled : SpellsOperation order h o w = rw append-nil at s in
     let e : ◌≡◌ {A = Judgement Operation} (good o) (bad b.0) =
     sym ((spelt_is_spelled order h o w some).0 spelled) ∙ b.1 in absurd cc
 no_spelling_is_faulty order h o kind w (x ∷ v) some s f =

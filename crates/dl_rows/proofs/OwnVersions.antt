@@ -1,18 +1,15 @@
 -- Where units of version 5 alone are read, each header is of version 5.
-use Rattle.std.proofs.Common.{◌≡◌, ℕ, ◌-◌, Bool, true, false, if◌then◌else◌, List, [], Option, None, inl, inr, refl}
-use Rattle.std.proofs.Common.{sym, ap}
-use Rattle.std.proofs.Common.{subst}
+use Rattle.std.proofs.Common.{◌≡◌, ℕ, ◌-◌, Bool, true, false, if◌then◌else◌, List, [], None, inl, inr, refl, ap}
 use Rattle.std.proofs.lemmas.Bool.{cases_eq, eq-eqb, ne_eqb}
 use Rattle.dl_table.specs.declared.form.Format.{Format}
 use Rattle.dl_field.specs.declared.params.Params.{Params}
 use Rattle.dl_field.specs.HeaderData.{HeaderData}
-use Rattle.dl_field.specs.Layout.{Layout}
+use Rattle.dl_field.specs.Layout.{following_all}
 use Rattle.dl_head.specs.declared.dialect.Dialect.{Dialect}
 use Rattle.dl_head.specs.declared.dialect.Older.TheVariants as older
 use Rattle.dl_head.specs.Dialect.{older_bytes, older_size}
 use Rattle.dl_head.specs.HeaderLayout.{header_layout, tables_layout, from_files, from_end, from_address_size}
 use Rattle.dl_head.specs.HeaderLayout.{format_alone}
-use Rattle.dl_head.specs.HeaderLayout.{from_older_version}
 use Rattle.dl_head.specs.Header.{IsHeader}
 use Rattle.dl_head.proofs.HeaderLaws.{made_last}
 use Rattle.dl_head.proofs.Openings.{after_length}
@@ -45,13 +42,12 @@ own_after : (dialect : Dialect) (format : Format) (n v : ℕ) → dialect.older 
 own_after dialect format n v alone = elim (cases_eq v 5) [
   | inl same ↦ rw (eq-eqb v 5 same) (own_fields format n)
   | inr other ↦ rw (ne_eqb v 5 other)
-      (subst (λ (o : Option ℕ). LeadsTo ⊥ IsOwn (from_older_version format n v o)) (sym (none_older dialect v alone))
-      tt)
+      (rw (none_older dialect v alone) tt)
 ]
 
 pub own_version : (dialect : Dialect) (h : HeaderData) (w : List ℕ) → dialect.older ≡ older.Foreign
     → IsHeader dialect h w → h.params.version ≡ 5
 own_version dialect h w alone is =
-    subst (λ (l : Layout). LeadsTo ⊥ IsOwn l) (made_last _ h is.made)
+    rw (made_last (following_all (header_layout dialect) is.items) h is.made) at
     (leads_all ⊥ IsOwn dialect.order (header_layout dialect) is.items is.fields (λ never. absurd never) is.spelt
     (λ format n v fits few. own_after dialect format n v alone))

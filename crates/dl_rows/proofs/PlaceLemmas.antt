@@ -1,18 +1,74 @@
 -- The place of a row, one operation more.
 use Rattle.std.proofs.Common.{◌≡◌, ℕ, ◌+◌, ◌*◌, ◌/◌, ◌%◌, ◌-◌, ◌<◌, ◌≤◌, refl, ap, ◌∙◌, arith, inl, inr, cond, Bool}
-use Rattle.std.proofs.Common.{true, false, not, ◌||◌, List, [], ◌∷◌, ◌++◌, length, Option, Some, None, sum_by}
+use Rattle.std.proofs.Common.{true, false, not, List, [], ◌∷◌, ◌++◌, length, Option, None, sum_by, ◌^◌}
+use Rattle.std.proofs.Common.{sym, ℤ, pos, ◌+ℤ◌}
 use Rattle.std.specs.Option.{option_or}
 use Rattle.std.specs.List.{after_last, list_any, suffix_len}
 use Rattle.std.proofs.lemmas.List.{reverse-append, drop_all, drop-append-le, length-append}
 use Rattle.std.proofs.lemmas.List.Sums.{suffix_len-le-length, sum_by-cons, sum_by_push}
-use Rattle.std.proofs.Math.Nat.{zero-div, zero-mod}
+use Rattle.std.proofs.Math.Nat.{zero-div, zero-mod, add-mul-div_right, add-mul-mod_self_right}
 use Rattle.std.proofs.lemmas.Bool.{cases_Bool}
 use Rattle.dl_field.specs.declared.params.Params.{Params}
-use Rattle.dl_rows.proofs.Arithmetic.{div_split, mod_split}
 use Rattle.dl_rows.specs.declared.operation.Operation.{Operation}
 use Rattle.dl_rows.specs.declared.operation.Operation.TheVariants as op
 use Rattle.dl_rows.specs.Matrix.{last_set, advance, set_address, is_address, is_fixed_add, fixed_add, onto_first, parts}
-use Rattle.dl_rows.specs.Matrix.{last_part, moves, address, op_index}
+use Rattle.dl_rows.specs.Matrix.{last_part, moves, address, op_index, modulo}
+use Rattle.std.specs.Prelude.{unsigned_abs}
+use Rattle.std.specs.Int.{w64, cast_unsigned}
+use Rattle.std.proofs.lemmas.Int.{ints}
+use Rattle.std.proofs.lemmas.Nat.{div-add-mod', mul-mod_second}
+use Rattle.dl_rows.specs.Machine.{advanced}
+use Rattle.dl_rows.specs.declared.registers.Registers.{Registers}
+
+-- whole steps and what is left, when a number is added to one that is split so
+pub div_split : (o n m : ℕ) → 0 < m → (o + n) / m ≡ n / m + (o + n % m) / m
+div_split o n m h =
+    let e : o + n ≡ o + n % m + n / m * m = omega (arith, div-add-mod' n m) in
+    ap (λ (x : ℕ). x / m) e ∙ add-mul-div_right (o + n % m) (n / m) h ∙ omega arith
+
+pub mod_split : (o n m : ℕ) → (o + n) % m ≡ (o + n % m) % m
+mod_split o n m =
+    let e : o + n ≡ o + n % m + n / m * m = omega (arith, div-add-mod' n m) in
+    ap (λ (x : ℕ). x % m) e ∙ add-mul-mod_self_right (o + n % m) (n / m) m
+
+-- wrapping twice on the way changes nothing
+pub wrapped_step : (a m q : ℕ) → (a + (m * (q % 2 ^ 64)) % 2 ^ 64) % 2 ^ 64 ≡ (a + m * q) % 2 ^ 64
+wrapped_step a m q = rw (mul-mod_second m q (2 ^ 64)) (omega arith)
+
+pub advanced_is : (h : Params) (r : Registers) (by : ℕ) {maximum index minimum : ℕ}
+    → 1 ≤ h.maximum_operations_per_instruction
+    → maximum ≡ h.maximum_operations_per_instruction → index ≡ r.op_index → minimum ≡ h.minimum_instruction_length
+    → (record r {
+      address =
+          (r.address + (minimum * ((by / maximum + (index + by % maximum) / maximum) % 2 ^ 64)) % 2 ^ 64) % 2 ^ 64;
+      op_index = (index + by % maximum) % maximum;
+    }) ≡ advanced h r by
+advanced_is h r by some a b c =
+    let d = div_split r.op_index by h.maximum_operations_per_instruction some in
+    let m = mod_split r.op_index by h.maximum_operations_per_instruction in
+    let w = wrapped_step r.address h.minimum_instruction_length (by / h.maximum_operations_per_instruction
+    + (r.op_index + by % h.maximum_operations_per_instruction) / h.maximum_operations_per_instruction) in
+    rw (a, b, c, w, ← d, ← m) refl
+
+-- where an instruction has one operation, each operation is one
+pub advanced_by_one : (h : Params) (r : Registers) (by : ℕ) {maximum index minimum : ℕ} → maximum ≡ 1
+    → maximum ≡ h.maximum_operations_per_instruction → index ≡ r.op_index → minimum ≡ h.minimum_instruction_length
+    → (record r { address = (r.address + (minimum * ((by + index) % 2 ^ 64)) % 2 ^ 64) % 2 ^ 64; op_index = 0 })
+    ≡ advanced h r by
+advanced_by_one h r by one a b c =
+    let m : h.maximum_operations_per_instruction ≡ 1 = sym a ∙ one in
+    let d : (r.op_index + by) / 1 ≡ by + r.op_index = omega arith in
+    let z : (r.op_index + by) % 1 ≡ 0 = omega arith in
+    let w = wrapped_step r.address h.minimum_instruction_length (by + r.op_index) in
+    rw (b, c, w, m, d, z) refl
+
+-- a step of a line that wraps on the way
+pub modulo-add : (z i : ℤ) → unsigned_abs i < 2 ^ 64
+    → (modulo z (2 ^ 64) + cast_unsigned w64 i) % 2 ^ 64 ≡ modulo (z +ℤ i) (2 ^ 64)
+modulo-add z i h = grind (arith, ints)
+
+pub modulo-same : (z : ℤ) → z +ℤ pos 0 ≡ z
+modulo-same z = omega (arith, ints)
 
 -- ---- one element more at the end
 
@@ -37,12 +93,10 @@ after_last-push p xs x =
     ]
 
 or_none : (a : Option ℕ) → option_or None a ≡ option_or a None
-or_none None = refl
-or_none (Some n) = refl
+or_none a = grind arith
 
 or_assoc : (a b c : Option ℕ) → option_or (option_or a b) c ≡ option_or a (option_or b c)
-or_assoc None b c = refl
-or_assoc (Some n) b c = refl
+or_assoc a b c = grind arith
 
 pub last_set-push : (sets : Operation → Option ℕ) (os : List Operation) (o : Operation)
     → last_set sets (os ++ o ∷ []) ≡ option_or (sets o) (last_set sets os)
@@ -51,14 +105,8 @@ last_set-push sets (x ∷ os) o = rw (last_set-push sets os o) (or_assoc (sets o
 
 pub any-push : (p : Operation → Bool) (os : List Operation) (o : Operation)
     → list_any p (os ++ o ∷ []) ≡ cond (p o) true (list_any p os)
-any-push p [] o = elim (p o) as (λ b. (b || false) ≡ cond b true false) [ true ↦ refl | false ↦ refl ]
-any-push p (x ∷ os) o =
-    rw (any-push p os o) (elim (p o) as (λ b. (p x || cond b true (list_any p os))
-    ≡ cond b true (p x || list_any p os)) [
-      | true ↦ (elim (p x) as (λ a. (a || true)
-          ≡ true) [ true ↦ refl | false ↦ refl ])
-      | false ↦ refl
-    ])
+any-push p [] o = grind arith
+any-push p (x ∷ os) o = rw (any-push p os o) (elim (cases_Bool (p x)) [ inl a ↦ rw a (grind arith) | inr a ↦ rw a refl ])
 
 -- ---- parts
 
@@ -73,11 +121,10 @@ IsSome xs = (x : ℕ) × (ys : List ℕ) × (xs ≡ x ∷ ys)
 
 parts_some : (h : Params) (os : List Operation) → IsSome (parts h os)
 parts_some h [] = (0, [], refl)
-parts_some h (o ∷ os) =
-    elim (is_fixed_add o) as (λ b. IsSome (cond b (0 ∷ parts h os) (onto_first (advance h o) (parts h os)))) [
-      | true ↦ (0, parts h os, refl)
-      | false ↦ let s = parts_some h os in (advance h o + s.0, s.1, rw s.2 refl)
-    ]
+parts_some h (o ∷ os) = elim (cases_Bool (is_fixed_add o)) [
+  | inl t ↦ rw t (0, parts h os, refl)
+  | inr f ↦ (let s = parts_some h os in rw f (advance h o + s.0, s.1, rw s.2 refl))
+]
 
 onto_first-push : (a : ℕ) (xs : List ℕ) → IsSome xs → onto_first a (xs ++ 0 ∷ []) ≡ onto_first a xs ++ 0 ∷ []
 onto_first-push a xs s = rw s.2 refl
@@ -86,12 +133,9 @@ parts-fixed : (h : Params) (os : List Operation) (o : Operation) → is_fixed_ad
     → parts h (os ++ o ∷ []) ≡ parts h os ++ 0 ∷ []
 parts-fixed h [] o e = rw e refl
 parts-fixed h (x ∷ os) o e =
-    rw (parts-fixed h os o e)
-    (elim (is_fixed_add x) as (λ b. cond b (0 ∷ (parts h os ++ 0 ∷ []))
-    (onto_first (advance h x) (parts h os ++ 0 ∷ [])) ≡ cond b (0 ∷ parts h os) (onto_first (advance h x) (parts h os))
-    ++ 0 ∷ []) [
-      | true ↦ refl
-      | false ↦ onto_first-push (advance h x) (parts h os) (parts_some h os)
+    rw (parts-fixed h os o e) (elim (cases_Bool (is_fixed_add x)) [
+      | inl t ↦ rw t refl
+      | inr f ↦ rw f (onto_first-push (advance h x) (parts h os) (parts_some h os))
     ])
 
 onto_last-cons : (a : ℕ) (xs : List ℕ) → IsSome xs → 0 ∷ onto_last a xs ≡ onto_last a (0 ∷ xs)
@@ -111,12 +155,9 @@ parts-plain : (h : Params) (os : List Operation) (o : Operation) → is_fixed_ad
 unfolding onto_last
 parts-plain h [] o e = rw e (ap (λ (n : ℕ). n ∷ []) (omega arith))
 parts-plain h (x ∷ os) o e =
-    rw (parts-plain h os o e)
-    (elim (is_fixed_add x) as (λ b. cond b (0 ∷ onto_last (advance h o) (parts h os))
-    (onto_first (advance h x) (onto_last (advance h o) (parts h os)))
-    ≡ onto_last (advance h o) (cond b (0 ∷ parts h os) (onto_first (advance h x) (parts h os)))) [
-      | true ↦ onto_last-cons (advance h o) (parts h os) (parts_some h os)
-      | false ↦ onto_both (advance h o) (advance h x) (parts h os) (parts_some h os)
+    rw (parts-plain h os o e) (elim (cases_Bool (is_fixed_add x)) [
+      | inl t ↦ rw t (onto_last-cons (advance h o) (parts h os) (parts_some h os))
+      | inr f ↦ rw f (onto_both (advance h o) (advance h x) (parts h os) (parts_some h os))
     ])
 
 last_part-onto : (a : ℕ) (xs : List ℕ) → last_part (onto_last a xs) ≡ last_part xs + a

@@ -1,6 +1,7 @@
 -- The laws of programs: what is cut off the front of bytes is the program that stands there, and has few rows.
-use Rattle.std.proofs.Common.{◌≡◌, ℕ, ◌≤◌, true, false, List, [], ◌∷◌, ◌++◌, length, Option, Some, None, Ok, Err, cond}
-use Rattle.std.proofs.Common.{refl, sym, ap, subst, ◌∙◌, arith, append_assoc}
+use Rattle.std.proofs.Common.{◌≡◌, ℕ, ◌≤◌, List, [], ◌∷◌, ◌++◌, length, Option, Some, None}
+use Rattle.std.proofs.Common.{refl, sym, ap, ◌∙◌, arith, append_assoc, inl, inr}
+use Rattle.std.proofs.lemmas.Bool.{cases_Bool}
 use Rattle.std.proofs.lemmas.List.{append-nil}
 use Rattle.dl_num.specs.declared.fixed.Order.{Order}
 use Rattle.dl_num.specs.Front.{SpellsNowhere, SpellsFirst, IsCut, Standing, standing_after}
@@ -10,7 +11,7 @@ use Rattle.dl_table.specs.Value.{Judgement, good}
 use Rattle.dl_rows.specs.declared.operation.Operation.{Operation}
 use Rattle.dl_rows.specs.OperationSpelt.{operation_spelt, good_one, operations_in}
 use Rattle.dl_rows.specs.Spelling.{SpellsOperation, SpellsProgram}
-use Rattle.dl_rows.specs.Matrix.{appends_row, row, rows_after}
+use Rattle.dl_rows.specs.Matrix.{appends_row, rows_after}
 use Rattle.dl_rows.specs.Laws.{OneProgram, ProgramIsFound, FoundIsProgram, NoneBeginsRest, RowForByte}
 use Rattle.dl_rows.proofs.SpeltFirst.{spells_first}
 use Rattle.dl_rows.proofs.OperationLaws.{spelt_is_spelled}
@@ -26,16 +27,13 @@ first_of order h o w some s =
     record { spells = ap good_one f.spells; shortest = λ front x back e. ap good_one (f.shortest front x back e) }
 
 good_one_is : (j : Judgement Operation) (o : Operation) → good_one j ≡ Some o → j ≡ good o
-good_one_is None o e = absurd cc
-good_one_is (Some (Ok p)) o e = cc
-good_one_is (Some (Err kind)) o e = absurd cc
+good_one_is j o e = grind arith
 
 -- a program, and then what is cut off the bytes after it
 pub program_cut : (order : Order) (h : Params) (p : List Operation) (w v : List ℕ) (found : List Operation)
     (rest : List ℕ) → 1 ≤ h.opcode_base
     → SpellsProgram order h p w → IsCut (spelt order h) v found rest → IsCut (spelt order h) (w ++ v) (p ++ found) rest
-program_cut order h [] w v found rest some e c =
-    subst (λ (z : List ℕ). IsCut (spelt order h) (z ++ v) found rest) (sym e) c
+program_cut order h [] w v found rest some e c = rw e c
 program_cut order h (o ∷ p) w v found rest some (front, back, e, s, q) c = (
   front,
   back ++ v,
@@ -115,12 +113,7 @@ rows_le : (h : Params) (front os : List Operation) → length (rows_after h fron
 rows_le h front [] = omega arith
 rows_le h front (o ∷ os) =
     let later = rows_le h (front ++ o ∷ []) os in
-    elim (appends_row o) as (λ b.
-    length (cond b (row h front o ∷ rows_after h (front ++ o ∷ []) os) (rows_after h (front ++ o ∷ []) os))
-    ≤ length (o ∷ os)) [
-      | true ↦ omega arith
-      | false ↦ omega arith
-    ]
+    elim (cases_Bool (appends_row o)) [ inl t ↦ rw t (omega arith) | inr f ↦ rw f (omega arith) ]
 
 pub a_row_for_a_byte : RowForByte
 a_row_for_a_byte order h b =

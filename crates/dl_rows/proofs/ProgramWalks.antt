@@ -1,112 +1,152 @@
--- A reader that goes through bytes of a program, operation by operation.
-use Rattle.std.proofs.Common.{◌≡◌, ◌↔◌, ℕ, List, [], ◌∷◌, ◌++◌, Option, Some, None, Ok, refl, sym, ap}
-use Rattle.std.proofs.Common.{subst, ◌∙◌, arith, append_assoc}
-use Rattle.std.proofs.lemmas.List.{append-nil}
+-- A reader that goes through bytes of a program, and tells a sink the rows on the way.
+use Rattle.std.proofs.Common.{◌≡◌, ◌↔◌, ℕ, List, [], ◌∷◌, ◌++◌, refl, sym, subst, ◌∙◌, append_assoc, append-nil}
 use Rattle.dl_num.specs.declared.fixed.Order.{Order}
-use Rattle.dl_num.specs.Front.{SpellsFirst}
 use Rattle.dl_num.specs.Laws.{AllBytes}
 use Rattle.dl_field.specs.declared.params.Params.{Params}
 use Rattle.dl_rows.specs.declared.row.Row.{Row}
-use Rattle.dl_rows.specs.declared.operation.Operation.{Operation}
 use Rattle.dl_rows.specs.declared.operation_state.OperationState.{OperationState}
 use Rattle.dl_rows.specs.declared.operation_state.OperationState.TheVariants as phase
 use Rattle.dl_rows.specs.declared.program.Program.{Program}
-use Rattle.dl_rows.specs.OperationSpelt.{operation_spelt, operations_in}
+use Rattle.dl_rows.specs.declared.program.ProgramStep.{ProgramStep}
+use Rattle.dl_rows.specs.declared.program.ProgramStep.TheVariants as given
+use Rattle.dl_rows.specs.OperationSpelt.{operations_in}
 use Rattle.dl_rows.specs.Phases.{PhaseStands}
-use Rattle.dl_rows.specs.LineUnit.{rows_in, ends_open}
-use Rattle.dl_rows.specs.Programs.{ProgramStands, Unrefused, Walked}
-use Rattle.dl_rows.specs.Sums.{FitsProgram, HasRange}
+use Rattle.dl_rows.specs.LineUnit.{rows_in}
+use Rattle.dl_rows.specs.Programs.{ProgramStands, Walked, NothingGiven, GivenIs, Telling, StandsAfter, Tells}
+use Rattle.dl_rows.specs.Sinks.{Story}
 use Rattle.dl_rows.proofs.FirstLemmas.{nil_front}
-use Rattle.dl_rows.proofs.Judged.{Judged, judged}
-use Rattle.dl_rows.proofs.OperandLemmas.{Verdict}
-use Rattle.dl_rows.proofs.OperandRanges.{range_of}
-use Rattle.dl_rows.proofs.ProgramTurns.{Turned, none_some, rows-found, rest-found, unrefused_join}
+use Rattle.dl_rows.proofs.OperandRanges.{bytes_back}
+use Rattle.dl_rows.proofs.ProgramSteps.{rest_here, none_here, none_some, unrefused_join}
 
-pub walk_start : (order : Order) (h : Params) (b bytes : List ℕ) (p : Program) → ProgramStands order h p b
-    → Walked order h b bytes p bytes
-walk_start order h b bytes p s =
-    let same = append-nil b in
-    record {
-      done = [];
-      split = refl;
-      stands = subst (λ (z : List ℕ). ProgramStands order h p z) (sym same) s;
-      rows = ap (rows_in order h) same;
-      unrefused = λ front back e k bad. (
-          let is : b ++ front ≡ b = ap (λ (z : List ℕ). b ++ z) (nil_front front back e) ∙ same in
-          none_some (ap (operation_spelt order h) (ap (λ (z : List ℕ). (operations_in order h z).rest) is
-          ∙ rest-found order h b s.operations s.begun s.found) ∙ s.pending s.begun [] (sym (append-nil s.begun)))
-          bad);
-    }
+-- ---- one stretch of bytes after the other
 
--- the operation that bytes spell has operands in range
-pub range_here : (order : Order) (h : Params) (v : List ℕ) (o : Operation) → FitsProgram h → AllBytes v
-    → SpellsFirst (operation_spelt order h) v (Ok o) → HasRange o
-range_here order h v o fits all first =
-    let opcodes = fits.usable.opcodes in
-    range_of order h o v fits.usable all (subst (λ (j : Option Verdict). Judged order h v j) first.spells
-    (judged order h v (omega arith)))
+module _ {order : Order} {h : Params} {b bytes : List ℕ} {rows : List Row} {p : Program} {rest : List ℕ}
+    (w : Walked order h b bytes rows p rest) where
+  -- a front of the bytes that are left
+  joined : (u tail : List ℕ) → rest ≡ u ++ tail → bytes ≡ (w.done ++ u) ++ tail
+  joined u tail e = rw (append_assoc w.done u tail, ← e) w.split
 
--- an operation more
-pub walk_on : (order : Order) (h : Params) (b bytes rest front tail : List ℕ) (p new : Program)
-    (w : Walked order h b bytes p rest) → rest ≡ front ++ tail
-    → Turned order h (b ++ w.done) front None new → Walked order h b bytes new tail
-walk_on order h b bytes rest front tail p new w e t =
-    let same = append_assoc b w.done front in
-    record {
-      done = w.done ++ front;
-      split = w.split ∙ ap (λ (z : List ℕ). w.done ++ z) e ∙ sym (append_assoc w.done front tail);
-      stands = subst (λ (z : List ℕ). ProgramStands order h new z) same t.stands;
-      rows = ap (rows_in order h) (sym same) ∙ t.rows ∙ append-nil (rows_in order h (b ++ w.done)) ∙ w.rows;
-      unrefused = unrefused_join order h b w.done front w.unrefused t.unrefused;
-    }
+  -- the same with its last byte set apart
+  after : (front : List ℕ) (last : ℕ)
+      → (b ++ w.done) ++ (front ++ last ∷ []) ≡ b ++ ((w.done ++ front) ++ last ∷ [])
+  after front last = rw (append_assoc w.done front (last ∷ [])) (append_assoc b w.done (front ++ last ∷ []))
 
--- a row
-pub walk_row : (order : Order) (h : Params) (b bytes rest front tail : List ℕ) (p new : Program) (row : Row)
-    (w : Walked order h b bytes p rest) → rest ≡ front ++ tail
-    → Turned order h (b ++ w.done) front (Some row) new
-    → (front : List ℕ) × (last : ℕ) × (bytes ≡ (front ++ last ∷ []) ++ tail)
-    × ProgramStands order h new (b ++ (front ++ last ∷ []))
-    × (rows_in order h (b ++ front) ≡ rows_in order h b)
-    × (rows_in order h (b ++ (front ++ last ∷ [])) ≡ rows_in order h b ++ row ∷ [])
-    × Unrefused order h b (front ++ last ∷ [])
-walk_row order h b bytes rest front tail p new row w e t =
-    let before = t.before in
-    let whole : w.done ++ front ≡ (w.done ++ before.front) ++ before.last ∷ [] =
-    ap (λ (z : List ℕ). w.done ++ z) before.bytes ∙ sym (append_assoc w.done before.front (before.last ∷ [])) in
-    let same = append_assoc b w.done front in
-    let here = same ∙ ap (λ (z : List ℕ). b ++ z) whole in (
-      w.done ++ before.front,
-      before.last,
-      w.split ∙ ap (λ (z : List ℕ). w.done ++ z) e ∙ sym (append_assoc w.done front tail)
-          ∙ ap (λ (z : List ℕ). z ++ tail) whole,
-      subst (λ (z : List ℕ). ProgramStands order h new z) here t.stands,
-      ap (rows_in order h) (sym (append_assoc b w.done before.front)) ∙ before.rows ∙ w.rows,
-      ap (rows_in order h) (sym here) ∙ t.rows ∙ ap (λ (z : List Row). z ++ row ∷ []) w.rows,
-      subst (λ (z : List ℕ). Unrefused order h b z) whole
-          (unrefused_join order h b w.done front w.unrefused t.unrefused),
-    )
+  parted : (front : List ℕ) (last : ℕ) → w.done ++ (front ++ last ∷ []) ≡ (w.done ++ front) ++ last ∷ []
+  parted front last = sym (append_assoc w.done front (last ∷ []))
+
+  all_rows : (more : List Row) → rows_in order h (b ++ w.done) ++ more ≡ rows_in order h b ++ (rows ++ more)
+  all_rows more = rw w.grown (append_assoc (rows_in order h b) rows more)
+
+  walk_join : {more : List Row} {new : Program} {tail : List ℕ} → Walked order h (b ++ w.done) rest more new tail
+      → Walked order h b bytes (rows ++ more) new tail
+  walk_join {more} {tail = tail} u =
+      let same = append_assoc b w.done u.done in
+      record {
+        done = w.done ++ u.done;
+        split = joined u.done tail u.split;
+        stands = rw same at u.stands;
+        grown = rw (all_rows more, same) at u.grown;
+        unrefused = unrefused_join order h b w.done u.done w.unrefused u.unrefused;
+      }
+
+  nothing_join : {more : List Row} {new : Program} → NothingGiven order h (b ++ w.done) rest more new
+      → NothingGiven order h b bytes (rows ++ more) new
+  nothing_join {more} u =
+      let same = append_assoc b w.done rest in
+      rw w.split (record {
+        stands = rw same at u.stands;
+        grown = rw (all_rows more, same) at u.grown;
+        unrefused = unrefused_join order h b w.done rest w.unrefused u.unrefused;
+      })
+
+  given_join : (step : ProgramStep) (more : List Row) (new : Program) → GivenIs order h (b ++ w.done) rest more step new
+      → GivenIs order h b bytes (rows ++ more) step new
+  given_join given.Nothing more new u = nothing_join u
+  given_join (given.Row row tail) more new g = record {
+    front = w.done ++ g.front;
+    last = g.last;
+    split = rw (parted g.front g.last) at (joined (g.front ++ g.last ∷ []) tail.now g.split);
+    stands = rw (after g.front g.last) at g.stands;
+    before = rw (all_rows more, append_assoc b w.done g.front) at g.before;
+    grown = rw (after g.front g.last, all_rows more) at g.grown;
+    unrefused = rw (parted g.front g.last) at (unrefused_join order h b w.done (g.front ++ g.last ∷ []) w.unrefused
+        g.unrefused);
+  }
+  given_join (given.Refuses kind tail) more new g = record {
+    front = w.done ++ g.front;
+    last = g.last;
+    split = rw (parted g.front g.last) at (joined (g.front ++ g.last ∷ []) tail.now g.split);
+    grown = rw (after g.front g.last, all_rows more) at g.grown;
+    unrefused = unrefused_join order h b w.done g.front w.unrefused g.unrefused;
+    spelt = rw (after g.front g.last) at g.spelt;
+    count = rw (after g.front g.last) at g.count;
+    is_open = rw (after g.front g.last) at g.is_open;
+  }
+
+-- nothing taken yet
+walk_start : {order : Order} {h : Params} {p : Program} {b : List ℕ} (bytes : List ℕ) → ProgramStands order h p b
+    → Walked order h b bytes [] p bytes
+walk_start {order} {h} {p} {b} bytes s = record {
+  done = [];
+  split = refl;
+  stands = rw append-nil s;
+  grown = simp append-nil;
+  unrefused = λ front back e k bad. (
+      let none : front ≡ [] = nil_front front back e in
+      none_some (none_here s) (rw (rest_here s) at (rw (none, append-nil) at bad)));
+}
+
+-- nothing is left
+pub nothing_left : {order : Order} {h : Params} {b bytes : List ℕ} {rows : List Row} {p : Program} {rest : List ℕ}
+    → Walked order h b bytes rows p rest → rest ≡ [] → NothingGiven order h b bytes rows p
+nothing_left w none =
+    let all = rw (none, append-nil) at w.split in
+    rw all (record { stands = w.stands; grown = w.grown; unrefused = w.unrefused })
+
+-- ---- what a sink hears
+
+pub tell_start : {S : Type 0} {story : Story S} {order : Order} {h : Params} {b : List ℕ} (bytes : List ℕ)
+    {before : List Row} {p : Program} {s : S} → ProgramStands order h p b → story.hears s before
+    → Telling story order h b bytes before p bytes s
+tell_start bytes stands hears =
+    record { rows = []; walked = walk_start bytes stands; hears = rw append-nil hears }
+
+module _ {S : Type 0} {story : Story S} {order : Order} {h : Params} {b bytes : List ℕ} {before : List Row}
+    {p : Program} {rest : List ℕ} {s : S} (t : Telling story order h b bytes before p rest s) (all : AllBytes bytes) where
+  rest_bytes : AllBytes rest
+  rest_bytes = bytes_back t.walked.done rest (rw t.walked.split at all)
+
+  -- whatever was taken before: more of the bytes is taken
+  pub tell_after : {new : Program} {tail : List ℕ} {new_s : S}
+      → ((v : List ℕ) (heard : List Row) → AllBytes rest → ProgramStands order h p v → story.hears s heard
+      → Telling story order h v rest heard new tail new_s) → Telling story order h b bytes before new tail new_s
+  tell_after more =
+      let u = more (b ++ t.walked.done) (before ++ t.rows) rest_bytes t.walked.stands t.hears in
+      record { rows = t.rows ++ u.rows; walked = walk_join t.walked u.walked; hears = rw append_assoc at u.hears }
+
+  -- the same, up to a stop
+  pub tells_after : {new : Program} (step : ProgramStep) {new_s : S}
+      → ((v : List ℕ) (heard : List Row) → AllBytes rest → ProgramStands order h p v → story.hears s heard
+      → Tells story order h v rest heard step new new_s) → Tells story order h b bytes before step new new_s
+  tells_after {new} step {new_s} more =
+      let u = more (b ++ t.walked.done) (before ++ t.rows) rest_bytes t.walked.stands t.hears in
+      record {
+        rows = t.rows ++ u.rows;
+        gives = given_join t.walked step u.rows new u.gives;
+        sink = subst (λ (rows : List Row). StandsAfter story new_s rows step) (append_assoc before t.rows u.rows)
+            u.sink;
+      }
+
+-- ---- between operations
 
 at_start : (h : Params) (at : OperationState) → PhaseStands h at [] → at ≡ phase.Start
 at_start h phase.Start s = refl
-at_start h (phase.Unsigned o number) s = absurd cc
-at_start h (phase.Line number) s = absurd cc
-at_start h (phase.FixedAdd number) s = absurd cc
-at_start h (phase.Skipped left) s = absurd cc
-at_start h (phase.Length number) s = absurd cc
-at_start h (phase.Extended n) s = absurd cc
-at_start h (phase.Address number) s = absurd cc
-at_start h (phase.Discriminator left number) s = absurd cc
-at_start h (phase.Rest left) s = absurd cc
+at_start h other s = absurd cc
 
 -- no operation is begun exactly where nothing is left after the complete ones
 pub between : (order : Order) (h : Params) (p : Program) (b : List ℕ) → ProgramStands order h p b
     → (p.phase ≡ phase.Start) ↔ ((operations_in order h b).rest ≡ [])
-between order h p b s =
-    let rest = rest-found order h b s.operations s.begun s.found in (
-      λ at. rest ∙ subst (λ (z : OperationState). PhaseStands h z s.begun) at s.phase,
-      λ e. at_start h p.phase (subst (λ (z : List ℕ). PhaseStands h p.phase z) (sym rest ∙ e) s.phase),
-    )
-
-pub in_sequence_is : (order : Order) (h : Params) (p : Program) (b : List ℕ) → ProgramStands order h p b
-    → p.in_sequence ≡ ends_open (rows_in order h b)
-in_sequence_is order h p b s = s.in_sequence ∙ ap ends_open (sym (rows-found order h b s.operations s.begun s.found))
+between order h p b s = (
+  λ at. rest_here s ∙ rw at at s.phase,
+  λ e. at_start h p.phase (rw (sym (rest_here s) ∙ e) at s.phase),
+)

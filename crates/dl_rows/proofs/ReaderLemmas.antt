@@ -1,18 +1,17 @@
 -- What the public clauses of a reader need of what it stands for.
-use Rattle.std.proofs.Common.{◌≡◌, ◌≢◌, ◌≤◌, ◌^◌, inl, inr, ℕ, ◌+◌, ◌-◌, min, List, [], ◌∷◌, length, Option, Some, None}
-use Rattle.std.proofs.Common.{Result, Ok, Err, refl, sym, ap, subst, ◌∙◌, arith, append-nil}
+use Rattle.std.proofs.Common.{◌≡◌, ◌≢◌, ◌^◌, inl, inr, ℕ, ◌+◌, ◌-◌, min, List, [], length, Option, Some, None, Result}
+use Rattle.std.proofs.Common.{Ok, Err, refl, sym, ap, ◌∙◌, arith, append-nil}
 use Rattle.std.proofs.lemmas.Bool.{cases_eq}
 use Rattle.dl_head.specs.declared.dialect.Dialect.{Dialect}
 use Rattle.dl_head.specs.declared.fault.Fault.{Fault}
 use Rattle.dl_table.specs.declared.fault.FaultKind.TheVariants.{Truncated}
 use Rattle.dl_head.specs.declared.reader.HeadReader.{HeadReader}
 use Rattle.dl_head.specs.Cells.{cells}
-use Rattle.dl_field.specs.HeaderData.{header_cells}
-use Rattle.dl_field.specs.HeaderData.{HeaderData}
+use Rattle.dl_field.specs.HeaderData.{header_cells, HeaderData}
 use Rattle.dl_head.specs.Header.{foreign_in, header_in, unit_len}
 use Rattle.dl_field.proofs.FieldLemmas.{none_some}
 use Rattle.dl_head.proofs.HeaderCells.{header_holds_its_cells}
-use Rattle.dl_head.proofs.HeaderLaws.{found_is_header, header_is_found, header_is_not_foreign}
+use Rattle.dl_head.proofs.HeaderLaws.{found_is_header, header_is_not_foreign}
 use Rattle.dl_rows.specs.declared.reader.Finish.{Finish}
 use Rattle.dl_rows.specs.declared.reader.Finish.TheVariants as finish
 use Rattle.dl_rows.specs.declared.reader.State.{State}
@@ -21,13 +20,12 @@ use Rattle.dl_rows.specs.declared.unit_body.BodyState.{BodyState}
 use Rattle.dl_rows.specs.declared.unit_body.BodyState.TheVariants as body
 use Rattle.dl_rows.specs.declared.unit_body.UnitBody.{UnitBody}
 use Rattle.dl_rows.specs.declared.unit_body.UnitBytes.{UnitBytes}
-use Rattle.dl_rows.specs.LineUnit.{IsUnit, rows_in, rows_later, unit_rows}
+use Rattle.dl_rows.specs.LineUnit.{IsUnit, rows_later, unit_rows}
 use Rattle.dl_rows.specs.Reading.{WithinUnit, FinishIs}
-use Rattle.dl_rows.specs.ReaderStates.{StandsAt, taken_in}
-use Rattle.dl_rows.specs.UnitBodies.{Counts, InProgram, InForeign, BodyStands}
-use Rattle.dl_rows.proofs.ForeignCells.{foreign_no_cells}
-use Rattle.dl_rows.proofs.UnitBodyLemmas.{counts_within, rows_on}
-use Rattle.dl_rows.proofs.UnitLengths.{foreign_unit, length_of_unit, some_same}
+use Rattle.dl_rows.specs.ReaderStates.{StandsAt}
+use Rattle.dl_rows.specs.UnitBodies.{Counts, AfterHeader, InProgram, InForeign, BodyStands}
+use Rattle.dl_rows.proofs.UnitLengths.{foreign_no_cells, foreign_unit, length_of_unit, some_same}
+use Rattle.dl_rows.proofs.UnitBodyLemmas.{counts_within, header_at}
 use Rattle.dl_rows.proofs.UnitQuiet.{foreign_quiet}
 use Rattle.dl_rows.proofs.UnitWhole.{NoneRefused, unit_unless_refused}
 
@@ -45,45 +43,31 @@ foreign_no_header dialect b version foreign = on (header_in dialect b) refl wher
 pub no_rows : (dialect : Dialect) (b : List ℕ) → header_in dialect b ≡ None → unit_rows dialect b ≡ []
 no_rows dialect b none = ap (rows_later dialect.order) none
 
--- the rows after a header
-pub rows_here : (dialect : Dialect) (h : HeaderData) (t : UnitBody) (b : List ℕ) (is : InProgram dialect h t b)
-    → unit_rows dialect b ≡ rows_in dialect.order h.params is.program
-rows_here dialect h t b is =
-    ap (unit_rows dialect) (sym (append-nil b)) ∙ rows_on dialect h t b [] is (omega arith) []
-    ∙ ap (λ (w : List ℕ). rows_in dialect.order h.params w) (append-nil is.program)
-
 -- the header that a reader after it has
+at_of : {dialect : Dialect} {h : HeaderData} {b : List ℕ} (s : BodyState) → BodyStands dialect h s b
+    → AfterHeader dialect h b
+at_of (body.InProgram t) is = is.at
+at_of (body.Stopped stop) is = is.at
+
 pub header_here : (dialect : Dialect) (h : HeaderData) (s : BodyState) (b : List ℕ) → BodyStands dialect h s b
     → (program : List ℕ) × (header_in dialect b ≡ Some (h, program))
-header_here dialect h (body.InProgram t) b is =
-    (is.program, ap (header_in dialect) is.whole ∙ header_is_found dialect h is.header is.program is.spells)
-header_here dialect h (body.Stopped stop) b is =
-    (is.program, ap (header_in dialect) is.whole ∙ header_is_found dialect h is.header is.program is.spells)
+header_here dialect h s b is = (let a : AfterHeader dialect h b = at_of s is in (a.program, header_at a))
 
 -- its cells are those of the bytes
 pub cells_here : (dialect : Dialect) (h : HeaderData) (s : BodyState) (b : List ℕ) → BodyStands dialect h s b
     → cells dialect b ≡ header_cells h
-cells_here dialect h (body.InProgram t) b is =
-    ap (cells dialect) is.whole ∙ (header_holds_its_cells dialect h is.header is.program is.spells).0
-cells_here dialect h (body.Stopped stop) b is =
-    ap (cells dialect) is.whole ∙ (header_holds_its_cells dialect h is.header is.program is.spells).0
+cells_here dialect h s b is =
+    (let a : AfterHeader dialect h b = at_of s is in
+    ap (cells dialect) a.whole ∙ (header_holds_its_cells dialect h a.header a.program a.spells).0)
 
 module _ (dialect : Dialect) (b : List ℕ) where
-  -- how many bytes were taken
-  pub taken_here : (s : State) → StandsAt dialect s b → taken_in s ≡ length b
-  taken_here (state.InHeader head) s = s.stands.taken
-  taken_here (state.StoppedInHeader stop) s = s.taken
-  taken_here (state.Foreign bytes) s = s.1.counts.taken
-  taken_here (state.AfterHeader h (body.InProgram t)) s = s.counts.taken
-  taken_here (state.AfterHeader h (body.Stopped stop)) s = s.taken
-
   -- no byte after the unit is taken
   pub within_here : (s : State) → StandsAt dialect s b → WithinUnit dialect b
   within_here (state.InHeader head) s = λ n len. s.stands.within n
       (ap (λ (d : Dialect). unit_len d b) s.same_dialect ∙ len)
   within_here (state.StoppedInHeader stop) s = s.in_unit
-  within_here (state.Foreign bytes) s = counts_within dialect bytes b s.1.counts
-  within_here (state.AfterHeader h (body.InProgram t)) s = counts_within dialect t.bytes b s.counts
+  within_here (state.Foreign bytes) s = counts_within s.1.counts
+  within_here (state.AfterHeader h (body.InProgram t)) s = counts_within s.counts
   within_here (state.AfterHeader h (body.Stopped stop)) s = s.in_unit
 
 -- the cells that a reader of the header holds
@@ -99,18 +83,14 @@ no_cells dialect version b foreign = sym (ap (λ (n : ℕ). min n (2 ^ 64 - 1))
 
 -- ---- `finish`
 
-some_bytes : (b : List ℕ) → b ≢ [] → 1 ≤ length b
-some_bytes [] some = absurd (some refl)
-some_bytes (x ∷ b) some = omega arith
-
 -- bytes that are counted, and of which none is refused
-pub finish_counted : (dialect : Dialect) (t : UnitBytes) (b : List ℕ) (result : Result Finish Fault)
+finish_counted : {dialect : Dialect} {t : UnitBytes} {b : List ℕ} {result : Result Finish Fault}
     → Counts dialect t b → b ≢ [] → NoneRefused dialect b → (t.left ≡ 0 → IsUnit dialect b)
     → (t.left ≡ 0 → result ≡ Ok finish.Whole)
     → (t.left ≢ 0 → result ≡ Err (record { offset = t.taken; kind = Truncated })) → FinishIs dialect b result
-finish_counted dialect t b result counts some sound whole is_whole is_cut = elim (cases_eq t.left 0) [
-  | inl none ↦ subst (FinishIs dialect b) (sym (is_whole none)) (whole none)
-  | inr more ↦ subst (FinishIs dialect b) (sym (is_cut more)) (inr (
+finish_counted {dialect} {t} {b} counts some sound whole is_whole is_cut = elim (cases_eq t.left 0) [
+  | inl none ↦ rw (is_whole none) (whole none)
+  | inr more ↦ rw (is_cut more) (inr (
     ap (λ (n : ℕ). record { offset = n; kind = Truncated }) counts.taken,
     some,
     λ unit. (let e = some_same (t.taken + t.left) (length b) (sym counts.left ∙ length_of_unit dialect b unit) in
@@ -119,11 +99,10 @@ finish_counted dialect t b result counts some sound whole is_whole is_cut = elim
   ))
 ]
 
-pub finish_foreign : (dialect : Dialect) (version : ℕ) (t : UnitBytes) (b : List ℕ) (result : Result Finish Fault)
-    → InForeign dialect version t b
-    → (t.left ≡ 0 → result ≡ Ok finish.Whole)
+pub finish_foreign : {dialect : Dialect} {version : ℕ} {t : UnitBytes} {b : List ℕ} {result : Result Finish Fault}
+    → InForeign dialect version t b → (t.left ≡ 0 → result ≡ Ok finish.Whole)
     → (t.left ≢ 0 → result ≡ Err (record { offset = t.taken; kind = Truncated })) → FinishIs dialect b result
-finish_foreign dialect version t b result is = finish_counted dialect t b result is.counts
+finish_foreign {dialect} {version} {t} {b} is = finish_counted is.counts
     (λ none. none_some {a = version} refl (ap (foreign_in dialect) (sym none) ∙ is.foreign))
     (foreign_quiet dialect b version (t.taken + t.left) is.foreign is.counts.left (omega (arith, is.counts.taken)))
     (λ none. inl (
@@ -132,15 +111,12 @@ finish_foreign dialect version t b result is = finish_counted dialect t b result
           is.foreign,
     ))
 
-pub finish_program : (dialect : Dialect) (h : HeaderData) (t : UnitBody) (b : List ℕ) (result : Result Finish Fault)
-    → InProgram dialect h t b
-    → (t.bytes.left ≡ 0 → result ≡ Ok finish.Whole)
+pub finish_program : {dialect : Dialect} {h : HeaderData} {t : UnitBody} {b : List ℕ} {result : Result Finish Fault}
+    → InProgram dialect h t b → (t.bytes.left ≡ 0 → result ≡ Ok finish.Whole)
     → (t.bytes.left ≢ 0 → result ≡ Err (record { offset = t.bytes.taken; kind = Truncated }))
     → FinishIs dialect b result
-finish_program dialect h t b result is = finish_counted dialect t.bytes b result is.counts
-    (λ none. none_some {a = (h, is.program)} (ap (header_in dialect) none) (ap (header_in dialect) is.whole
-    ∙ header_is_found dialect h is.header is.program is.spells))
-    is.sound
+finish_program {dialect} {h} {t} {b} is = finish_counted is.counts
+    (λ none. none_some {a = (h, is.at.program)} (ap (header_in dialect) none) (header_at is.at)) is.sound
     (λ none.
     (unit_unless_refused dialect b (is.counts.left ∙ ap (λ (n : ℕ). Some n) (omega (arith, none, is.counts.taken)))).1
     is.sound)

@@ -1,7 +1,7 @@
 -- The registers that are kept are the sums and last settings of the operations so far, and a row is made of them.
-use Rattle.std.proofs.Common.{◌≡◌, ℕ, suc, ◌+◌, ◌*◌, ◌/◌, ◌^◌, ◌%◌, ◌-◌, ◌<◌, ◌≤◌, ◌==◌, refl, sym, ap, ◌∙◌, arith, inl}
-use Rattle.std.proofs.Common.{inr, ℤ, pos, negsuc, ◌+ℤ◌, cond, true, false, not, List, [], ◌∷◌, ◌++◌, None, unwrap_or}
-use Rattle.std.proofs.Common.{fold, append_assoc}
+use Rattle.std.proofs.Common.{◌≡◌, ℕ, ◌+◌, ◌*◌, ◌/◌, ◌^◌, ◌%◌, ◌-◌, ◌<◌, ◌≤◌, ◌==◌, refl, sym, ap, ◌∙◌, arith, inl}
+use Rattle.std.proofs.Common.{inr, ℤ, pos, ◌+ℤ◌, cond, true, false, not, List, [], ◌∷◌, ◌++◌, None, unwrap_or}
+use Rattle.std.proofs.Common.{fold, append_assoc, Bool, ◌⊎◌, Some}
 use Rattle.std.specs.Prelude.{unsigned_abs}
 use Rattle.std.specs.Int.{w64, cast_unsigned}
 use Rattle.std.specs.Option.{option_or}
@@ -9,7 +9,7 @@ use Rattle.std.specs.List.{after_last, list_any}
 use Rattle.std.proofs.lemmas.List.{append-nil}
 use Rattle.std.proofs.lemmas.List.Sums.{fold_push}
 use Rattle.std.proofs.Math.Nat.{zero-div, zero-mod, mod-lt, div-eq_of_lt, mod-eq_of_lt}
-use Rattle.std.proofs.lemmas.Bool.{cases_lt, or_cases, eqb-true}
+use Rattle.std.proofs.lemmas.Bool.{cases_Bool, or_cases, eqb-true}
 use Rattle.std.proofs.lemmas.Nat.{div-add-mod'}
 use Rattle.std.proofs.lemmas.Int.{ints}
 use Rattle.dl_field.specs.declared.params.Params.{Params}
@@ -21,11 +21,16 @@ use Rattle.dl_rows.specs.Matrix.{is_end, appends_row, last_set, advance, set_add
 use Rattle.dl_rows.specs.Matrix.{fixed_add, parts, last_part, moves, address, op_index, line_step, line, set_file}
 use Rattle.dl_rows.specs.Matrix.{set_column, set_isa, set_discriminator, turned, is_block, is_prologue, is_epilogue}
 use Rattle.dl_rows.specs.Matrix.{modulo, row, rows_after, matrix}
-use Rattle.dl_rows.specs.Machine.{initial, applied, row_of}
+use Rattle.dl_rows.specs.Machine.{initial, applied, row_of, cleared}
 use Rattle.dl_rows.specs.Sums.{registers_of, registers_after, settled, HasRange, FitsProgram}
-use Rattle.dl_rows.proofs.Arithmetic.{modulo-add, modulo-same}
+use Rattle.dl_rows.proofs.PlaceLemmas.{modulo-add, modulo-same}
 use Rattle.dl_rows.proofs.PlaceLemmas.{after_last-push, last_set-push, any-push, address-plain, op_index-plain}
 use Rattle.dl_rows.proofs.PlaceLemmas.{address-fixed, op_index-fixed, address-set, op_index-set, steps-cons}
+use Rattle.dl_rows.specs.declared.row.Row.{Row}
+use Rattle.dl_rows.specs.declared.program.Program.{Program}
+use Rattle.dl_rows.specs.declared.operation_state.OperationState.{OperationState}
+use Rattle.dl_rows.specs.LineUnit.{ends_open}
+use Rattle.dl_rows.specs.Programs.{Finishes}
 
 index_lt : (h : Params) (s : List Operation) → 1 ≤ h.maximum_operations_per_instruction
     → op_index h s < h.maximum_operations_per_instruction
@@ -110,11 +115,7 @@ place h s o some a x n z =
     (h.minimum_instruction_length * ((op_index h s + advance h o) / h.maximum_operations_per_instruction))))
 
 abs_add : (z : ℤ) (n : ℕ) → unsigned_abs z < 2 ^ 62 → n < 256 → unsigned_abs (z +ℤ pos n) < 2 ^ 64
-abs_add (pos a) n h lt = omega arith
-abs_add (negsuc a) n h lt = elim (cases_lt a n) [
-  | inl small ↦ let e : negsuc a +ℤ pos n ≡ pos (n - suc a) = omega (arith, ints) in rw e (omega arith)
-  | inr le ↦ let e : negsuc a +ℤ pos n ≡ negsuc (a - n) = omega (arith, ints) in rw e (omega arith)
-]
+abs_add z n h lt = grind (arith, ints)
 
 step_lt : (h : Params) (b : ℕ) → unsigned_abs h.line_base < 2 ^ 62 → b < 256
     → unsigned_abs (h.line_base +ℤ pos ((b - h.opcode_base) % h.line_range)) < 2 ^ 64
@@ -127,41 +128,22 @@ pub registers_of-push : (h : Params) (s f : List Operation) (o : Operation) → 
 registers_of-push h s f (op.Special b) good r =
     pushed h s f (op.Special b) _ _ _ (place h s (op.Special b) good.usable.operations refl refl refl refl)
     (op_index-plain h s (op.Special b) refl refl) (line_moves h s (op.Special b) (step_lt h b good.line_base r))
-registers_of-push h s f op.Copy good r = quiet h s f op.Copy good.usable.operations refl refl refl refl refl refl
 registers_of-push h s f (op.AdvancePc n) good r =
     pushed h s f (op.AdvancePc n) _ _ _ (place h s (op.AdvancePc n) good.usable.operations refl refl refl refl)
     (op_index-plain h s (op.AdvancePc n) refl refl) (line_stays h s (op.AdvancePc n) refl)
 registers_of-push h s f (op.AdvanceLine i) good r =
     let p = stays h s (op.AdvanceLine i) good.usable.operations refl refl refl refl refl in
     pushed h s f (op.AdvanceLine i) _ _ _ (ap (λ (y : ℕ). y % 2 ^ 64) p.0) p.1 (line_moves h s (op.AdvanceLine i) r)
-registers_of-push h s f (op.SetFile n) good r =
-    quiet h s f (op.SetFile n) good.usable.operations refl refl refl refl refl refl
-registers_of-push h s f (op.SetColumn n) good r =
-    quiet h s f (op.SetColumn n) good.usable.operations refl refl refl refl refl refl
-registers_of-push h s f op.NegateStatement good r =
-    quiet h s f op.NegateStatement good.usable.operations refl refl refl refl refl refl
-registers_of-push h s f op.SetBasicBlock good r =
-    quiet h s f op.SetBasicBlock good.usable.operations refl refl refl refl refl refl
 registers_of-push h s f op.ConstAddPc good r =
     pushed h s f op.ConstAddPc _ _ _ (place h s op.ConstAddPc good.usable.operations refl refl refl refl)
     (op_index-plain h s op.ConstAddPc refl refl) (line_stays h s op.ConstAddPc refl)
 registers_of-push h s f (op.FixedAdvancePc n) good r =
     pushed h s f (op.FixedAdvancePc n) _ _ _ (rw (address-fixed h s n) (sym (wrapped (address h s) n)))
     (op_index-fixed h s n) (line_stays h s (op.FixedAdvancePc n) refl)
-registers_of-push h s f op.SetPrologueEnd good r =
-    quiet h s f op.SetPrologueEnd good.usable.operations refl refl refl refl refl refl
-registers_of-push h s f op.SetEpilogueBegin good r =
-    quiet h s f op.SetEpilogueBegin good.usable.operations refl refl refl refl refl refl
-registers_of-push h s f (op.SetIsa n) good r =
-    quiet h s f (op.SetIsa n) good.usable.operations refl refl refl refl refl refl
-registers_of-push h s f op.EndSequence good r =
-    quiet h s f op.EndSequence good.usable.operations refl refl refl refl refl refl
 registers_of-push h s f (op.SetAddress n) good r =
     pushed h s f (op.SetAddress n) _ _ _ (rw (address-set h s n) (mod-eq_of_lt r)) (op_index-set h s n)
     (line_stays h s (op.SetAddress n) refl)
-registers_of-push h s f (op.SetDiscriminator n) good r =
-    quiet h s f (op.SetDiscriminator n) good.usable.operations refl refl refl refl refl refl
-registers_of-push h s f op.Skipped good r = quiet h s f op.Skipped good.usable.operations refl refl refl refl refl refl
+registers_of-push h s f other good r = quiet h s f other good.usable.operations refl refl refl refl refl refl
 
 pub starts : (h : Params) → initial (not (h.default_is_stmt == 0)) ≡ registers_of h [] []
 starts h =
@@ -172,23 +154,8 @@ starts h =
 pub settles : (h : Params) (s f : List Operation) (o : Operation)
     → settled h o (registers_of h (s ++ o ∷ []) (f ++ o ∷ []))
     ≡ registers_of h (cond (is_end o) [] (s ++ o ∷ [])) (cond (appends_row o) [] (f ++ o ∷ []))
-settles h s f (op.Special b) = refl
-settles h s f op.Copy = refl
-settles h s f (op.AdvancePc n) = refl
-settles h s f (op.AdvanceLine i) = refl
-settles h s f (op.SetFile n) = refl
-settles h s f (op.SetColumn n) = refl
-settles h s f op.NegateStatement = refl
-settles h s f op.SetBasicBlock = refl
-settles h s f op.ConstAddPc = refl
-settles h s f (op.FixedAdvancePc n) = refl
-settles h s f op.SetPrologueEnd = refl
-settles h s f op.SetEpilogueBegin = refl
-settles h s f (op.SetIsa n) = refl
 settles h s f op.EndSequence = starts h
-settles h s f (op.SetAddress n) = refl
-settles h s f (op.SetDiscriminator n) = refl
-settles h s f op.Skipped = refl
+settles h s f other = refl
 
 -- ---- rows
 
@@ -230,17 +197,68 @@ rows_after-push : (h : Params) (front os : List Operation) (o : Operation)
     → rows_after h front (os ++ o ∷ []) ≡ rows_after h front os ++ cond (appends_row o) (row h (front ++ os) o ∷ []) []
 rows_after-push h front [] o = rw append-nil refl
 rows_after-push h front (x ∷ os) o =
-    let ih = rows_after-push h (front ++ x ∷ []) os o in
     let e = append_assoc front (x ∷ []) os in
-    rw (ih, e)
-    (elim (appends_row x) as (λ b.
-    cond b (row h front x
-    ∷ (rows_after h (front ++ x ∷ []) os ++ cond (appends_row o) (row h (front ++ (x ∷ os)) o ∷ []) []))
-    (rows_after h (front ++ x ∷ []) os ++ cond (appends_row o) (row h (front ++ (x ∷ os)) o ∷ []) [])
-    ≡ cond b (row h front x ∷ rows_after h (front ++ x ∷ []) os) (rows_after h (front ++ x ∷ []) os)
-    ++ cond (appends_row o) (row h (front ++ (x ∷ os)) o ∷ []) []) [ true ↦ refl | false ↦ refl ])
+    rw (rows_after-push h (front ++ x ∷ []) os o, e)
+    (elim (cases_Bool (appends_row x)) [ inl t ↦ rw t | inr f ↦ rw f ])
 
 -- one operation more, and its row where it appends one
 pub matrix-push : (h : Params) (os : List Operation) (o : Operation)
     → matrix h (os ++ o ∷ []) ≡ matrix h os ++ cond (appends_row o) (row h os o ∷ []) []
 matrix-push h os o = rows_after-push h [] os o
+
+-- ---- an operation more of a program: its row, and what is kept after it
+
+ends_open-push : (rows : List Row) (r : Row) → ends_open (rows ++ r ∷ []) ≡ not r.end_sequence
+ends_open-push [] r = refl
+ends_open-push (a ∷ []) r = refl
+ends_open-push (a ∷ b ∷ rows) r = ends_open-push (b ∷ rows) r
+
+-- an operation that appends no row leaves the registers as they are
+settled-plain : (h : Params) (o : Operation) (r : Registers) → appends_row o ≡ false → settled h o r ≡ r
+settled-plain h o r e = grind arith
+
+pub appends_none : (o : Operation) → ((b : ℕ) → o ≡ op.Special b → ⊥) → (o ≡ op.Copy → ⊥) → (o ≡ op.EndSequence → ⊥)
+    → appends_row o ≡ false
+appends_none o s c e = grind arith
+
+pub finishes_with_row : {h : Params} {before : List Operation} {o : Operation} {r : Row} {new : Program} (end : Bool)
+    → FitsProgram h → HasRange o
+    → appends_row o ≡ true → end ≡ is_end o → r ≡ row_of h (applied h (registers_after h before) o) end
+    → new.registers ≡ settled h o (applied h (registers_after h before) o) → new.in_sequence ≡ not end
+    → Finishes h before o (Some r) new
+finishes_with_row {h} {before} {o} {r} end fits range appends ends is registers was =
+    let made : r ≡ row h before o = is ∙ rw ends (row_is h before o fits range) in
+    let rows : matrix h (before ++ o ∷ []) ≡ matrix h before ++ r ∷ [] =
+    rw made (rw appends at (matrix-push h before o)) in
+    record {
+      registers = registers ∙ sym (registers_after-push h before o fits range);
+      rows = rows;
+      in_sequence = was ∙ rw (rows, ends_open-push (matrix h before) r, made) (ap not ends);
+    }
+
+pub finishes_without : {h : Params} {before : List Operation} {o : Operation} {new : Program} → FitsProgram h
+    → HasRange o → appends_row o ≡ false
+    → new.registers ≡ applied h (registers_after h before) o → new.in_sequence ≡ ends_open (matrix h before)
+    → Finishes h before o None new
+finishes_without {h} {before} {o} fits range appends registers was =
+    let rows : matrix h (before ++ o ∷ []) ≡ matrix h before ++ [] = rw appends at (matrix-push h before o) in
+    record {
+      registers =
+          registers ∙ sym (settled-plain h o (applied h (registers_after h before) o) appends)
+          ∙ sym (registers_after-push h before o fits range);
+      rows = rows;
+      in_sequence = rw (rows, append-nil) was;
+    }
+
+-- what a special opcode and copy leave
+pub settled_special : (o : Operation) → ((b : ℕ) × (o ≡ op.Special b)) ⊎ (o ≡ op.Copy)
+    → (appends_row o ≡ true) × (false ≡ is_end o) × ((h : Params) (r : Registers) → settled h o r ≡ cleared r)
+settled_special o (inl (b, is)) = rw is (refl, refl, λ h r. refl)
+settled_special o (inr is) = rw is (refl, refl, λ h r. refl)
+
+-- a program in an operation of which as much has come as in that of another
+pub same_begun : (p q : Program) → p.phase ≡ q.phase → p.begun ≡ q.begun
+    → p ≡ record q { registers = p.registers; in_sequence = p.in_sequence }
+same_begun p q phase begun =
+    ap (λ (z : OperationState). record p { phase = z }) phase
+    ∙ ap (λ (z : ℕ). record p { phase = q.phase; begun = z }) begun

@@ -1,48 +1,197 @@
 -- What is spelled as an operation is computed to be it, and no shorter front of it is anything.
 use Rattle.std.proofs.Common.{◌≡◌, ◌≢◌, ℕ, zero, suc, ◌+◌, ◌-◌, ◌<◌, ◌≤◌, true, false, List, [], ◌∷◌, ◌++◌, length}
-use Rattle.std.proofs.Common.{slice_index, Option, Some, None, Ok, if◌then◌else◌, refl, sym, ap, subst, ◌∙◌, arith, inl}
-use Rattle.std.proofs.Common.{inr}
+use Rattle.std.proofs.Common.{slice_index, Option, Some, None, Ok, if◌then◌else◌, refl, sym, ap, ◌∙◌, arith, inl, inr}
+use Rattle.std.proofs.Common.{◌^◌, drop, Err}
 use Rattle.std.specs.List.{concat, AllByRecursion}
-use Rattle.std.proofs.lemmas.Bool.{lt-leb, le-leb, eq-eqb, ne_eqb, cases_Bool, cases_eq, and_from}
-use Rattle.std.proofs.lemmas.Bool.{and_right as and_false}
-use Rattle.std.proofs.lemmas.List.{drop-append-le}
+use Rattle.std.proofs.lemmas.Bool.Decides.{nat_tests}
+use Rattle.std.proofs.lemmas.Bool.{lt-leb, le-leb, eq-eqb, ne_eqb, cases_Bool, and_from}
+use Rattle.std.proofs.lemmas.Bool.{and_right as and_false, lt-ltb, le-ltb}
+use Rattle.std.proofs.lemmas.List.{drop-append-le, length-append, append-nil, drop_all}
 use Rattle.dl_num.specs.declared.fixed.Order.{Order}
 use Rattle.dl_num.specs.Fixed.{fixed}
-use Rattle.dl_num.specs.Front.{SpellsFirst}
-use Rattle.dl_num.specs.Leb.{groups}
+use Rattle.dl_num.specs.Front.{SpellsFirst, SpellsNowhere}
+use Rattle.dl_num.specs.Leb.{groups, AllContinue, IsUleb}
 use Rattle.dl_num.specs.LebFront.{is_leb, leb_front, after_leb}
 use Rattle.dl_num.proofs.LebLaws.{is_leb-of, leb_is_front}
 use Rattle.dl_num.proofs.LebFrontLemmas.{and_left, and_right, true_false, leb_front-append, leb_front-le}
+use Rattle.dl_num.proofs.LebFrontLemmas.{is_leb-continues, leb_front-leb, leb_front-continues}
 use Rattle.dl_field.specs.declared.params.Params.{Params}
 use Rattle.dl_rows.specs.declared.operation.Operation.{Operation}
 use Rattle.dl_rows.specs.declared.operation.Operation.TheVariants as op
 use Rattle.dl_rows.specs.OperationSpelt.{unsigned_operand, signed_operand, are_lebs, discriminator_spelt}
-use Rattle.dl_rows.specs.OperationSpelt.{extended_spelt, operation_spelt}
+use Rattle.dl_rows.specs.OperationSpelt.{extended_spelt, operation_spelt, body_spelt, length_and_body}
 use Rattle.dl_rows.specs.Spelling.{IsBare, HasUnsigned, IsExtended, IsNumber, SkipsStandard, SkipsExtended}
 use Rattle.dl_rows.specs.Spelling.{SpellsOperation}
-use Rattle.dl_rows.proofs.FirstLemmas.{first_after, open_byte, first_nil, open_nil}
-use Rattle.dl_rows.proofs.OperandLemmas.{Verdict, unsigned_first, signed_first, sized, sized_first}
-use Rattle.dl_rows.proofs.ExtendedLemmas.{extended_first, discriminator_first}
-use Rattle.dl_rows.proofs.SkipLemmas.{skipped_then}
+use Rattle.dl_rows.proofs.FirstLemmas.{at_here, at_byte, at_same, first_nil, IsOpen, At, at_nowhere, nowhere_here}
+use Rattle.dl_rows.proofs.FirstLemmas.{at_join, nowhere_nil}
+use Rattle.dl_rows.proofs.OperandLemmas.{Verdict, unsigned_first, signed_first, sized, sized_first, skipped_then}
+use Rattle.dl_rows.proofs.OperandLemmas.{continue_front, continue_before, leb_front_continues, is_leb-number}
+use Rattle.dl_table.specs.declared.fault.FaultKind.{FaultKind}
+use Rattle.dl_table.specs.declared.fault.FaultKind.TheVariants as fault
+use Rattle.dl_rows.specs.Phases.{HasLength}
 
--- what spells the same spells the same first
-first_same : {A : Type 0} (spelt other : List ℕ → Option A) (w : List ℕ) (a : A) → ((u : List ℕ) → spelt u ≡ other u)
-    → SpellsFirst other w a → SpellsFirst spelt w a
-first_same spelt other w a same first = first_after spelt other [] w a (open_nil spelt) same first
+-- ---- the length
 
-first_at : {A : Type 0} (spelt : List ℕ → Option A) (v w : List ℕ) (a : A) → w ≡ v → SpellsFirst spelt v a
-    → SpellsFirst spelt w a
-first_at spelt v w a e first = subst (λ (z : List ℕ). SpellsFirst spelt z a) (sym e) first
+pub length_open : (order : Order) (size : ℕ) (w : List ℕ) (n : ℕ) → IsUleb w n
+    → IsOpen {A = Verdict} (length_and_body order size) w
+length_open order size w n u front x back e =
+    let c = leb_front_continues w front u.1 u.0 x back u.2 e in
+    rw (leb_front-continues front c, is_leb-continues front c) refl
+
+pub length_nowhere : (order : Order) (size : ℕ) (w : List ℕ) → AllContinue w
+    → SpellsNowhere {A = Verdict} (length_and_body order size) w
+length_nowhere order size w h front back e =
+    let c = continue_front w front back h e in
+    rw (leb_front-continues front c, is_leb-continues front c) refl
+
+-- after the length stands the body
+pub length_then : (order : Order) (size : ℕ) (w : List ℕ) (n : ℕ) → IsUleb w n → (u : List ℕ)
+    → length_and_body order size (w ++ u) ≡ body_spelt order size n u
+length_then order size w n s u =
+    let t = is_leb-number w s.0 s.1 s.2 in
+    let same = leb_front-leb w t in
+    let f : leb_front (w ++ u) ≡ w = leb_front-append w u (rw same t) ∙ same in
+    let g : groups w ≡ n = sym s.3 in
+    let d : drop (length w) (w ++ u) ≡ u =
+    drop-append-le (length w) w u (omega arith)
+    ∙ ap (λ (z : List ℕ). z ++ u) (drop_all (length w) w (omega arith)) in
+    rw (f, t, g, d) refl
+
+-- after the zero byte stands the length
+pub zero_then : (order : Order) (h : Params) → 1 ≤ h.opcode_base → (u : List ℕ)
+    → operation_spelt order h (0 ∷ u) ≡ length_and_body order h.address_size u
+zero_then order h some u = rw (lt-leb h.opcode_base 0 some) refl
+
+-- ---- the opcode
+
+pub body_then : (order : Order) (size n opcode : ℕ) → 1 ≤ n → n < 2 ^ 64 → (u : List ℕ)
+    → body_spelt order size n (opcode ∷ u) ≡ extended_spelt order size n opcode u
+body_then order size n opcode some lt u = rw (ne_eqb n 0 (λ k. omega arith), lt-ltb n (2 ^ 64) lt) refl
+
+pub body_nowhere : (order : Order) (size n : ℕ) → 1 ≤ n → n < 2 ^ 64
+    → SpellsNowhere {A = Verdict} (body_spelt order size n) []
+body_nowhere order size n some lt =
+    nowhere_nil (body_spelt order size n) (rw (ne_eqb n 0 (λ k. omega arith), lt-ltb n (2 ^ 64) lt) refl)
+
+-- ---- all before the operand
+
+-- after a length
+length_at : (order : Order) (h : Params) → 1 ≤ h.opcode_base → (w : List ℕ) (n : ℕ) (u : List ℕ) → IsUleb w n
+    → At (operation_spelt order h) (body_spelt order h.address_size n) (0 ∷ (w ++ u)) u
+length_at order h some w n u s =
+    at_join
+    (at_byte (operation_spelt order h) (length_and_body order h.address_size) 0 (w ++ u) refl (zero_then order h some))
+    (record {
+      head = w;
+      whole = refl;
+      begun = length_open order h.address_size w n s;
+      same = length_then order h.address_size w n s;
+    })
+
+-- after an extended opcode, the bytes being the length's, the opcode and operand
+pub extended_at : (order : Order) (h : Params) → 1 ≤ h.opcode_base → {v : List ℕ} (w operand : List ℕ) (n opcode : ℕ)
+    → v ≡ 0 ∷ (w ++ opcode ∷ operand) → HasLength w n
+    → At (operation_spelt order h) (extended_spelt order h.address_size n opcode) v operand
+extended_at order h some w operand n opcode e s =
+    let size = h.address_size in
+    rw e (at_join (length_at order h some w n (opcode ∷ operand) s.0)
+    (at_byte (body_spelt order size n) (extended_spelt order size n opcode) opcode operand
+    (rw (ne_eqb n 0 (λ k. omega (arith, k, s.1)), lt-ltb n (2 ^ 64) s.2) refl) (body_then order size n opcode s.1 s.2)))
+
+-- the length alone
+pub length_pending : (order : Order) (h : Params) → 1 ≤ h.opcode_base → (w : List ℕ) (n : ℕ) → HasLength w n
+    → SpellsNowhere (operation_spelt order h) (0 ∷ w)
+length_pending order h some w n s =
+    rw (append-nil w) at
+    (nowhere_here (length_at order h some w n [] s.0) (body_nowhere order h.address_size n s.1 s.2))
+
+pub length_begun : (order : Order) (h : Params) → 1 ≤ h.opcode_base → (w : List ℕ) → AllContinue w
+    → SpellsNowhere (operation_spelt order h) (0 ∷ w)
+length_begun order h some w c =
+    at_nowhere w
+    (at_byte (operation_spelt order h) (length_and_body order h.address_size) 0 [] refl (zero_then order h some))
+    (length_nowhere order h.address_size w c)
+
+-- a length that is refused: 0, or 2^64 and more
+pub length_refused : (order : Order) (h : Params) → 1 ≤ h.opcode_base → (w : List ℕ) (n : ℕ) (k : FaultKind)
+    → IsUleb w n
+    → body_spelt order h.address_size n [] ≡ Some (Err k) → SpellsFirst (operation_spelt order h) (0 ∷ w) (Err k)
+length_refused order h some w n k s e =
+    let first = at_here (length_at order h some w n [] s) (first_nil (body_spelt order h.address_size n) (Err k) e) in
+    rw (append-nil w) at first
+
+pub body_out : (order : Order) (size n : ℕ) → 2 ^ 64 ≤ n → body_spelt order size n [] ≡ Some (Err fault.LebRange)
+body_out order size n le = rw (ne_eqb n 0 (λ k. omega arith), le-ltb n (2 ^ 64) le) refl
+
+-- ---- set_discriminator
+
+pub discriminator_nowhere : (n : ℕ) (w : List ℕ) → AllContinue w → 1 + length w < n
+    → SpellsNowhere {A = Verdict} (discriminator_spelt n) w
+discriminator_nowhere n w c lt front back e =
+    let l : length w ≡ length front + length back = ap length e ∙ length-append front back in
+    rw (
+      ne_eqb n 1 (λ k. omega arith),
+      is_leb-continues front (continue_front w front back c e),
+      ne_eqb (1 + length front) n (λ k. omega arith),
+    ) refl
+
+-- no proper front of the operand decides, where the operand fits in the length
+discriminator_open : (n : ℕ) (w front : List ℕ) (x : ℕ) (back before : List ℕ) (last : ℕ) → AllContinue before
+    → w ≡ before ++ last ∷ [] → 1 + length w ≤ n
+    → w ≡ front ++ x ∷ back → ◌≡◌ {A = Option Verdict} (discriminator_spelt n front) None
+discriminator_open n w front x back before last c is le e =
+    let l : length w ≡ length front + suc (length back) = ap length e ∙ length-append front (x ∷ back) in
+    let m = continue_before before last front x back c (sym is ∙ e) in
+    rw (ne_eqb n 1 (λ k. omega arith), is_leb-continues front m, ne_eqb (1 + length front) n (λ k. omega arith)) refl
+
+-- a number that fits in the length, and what it is judged to be
+ended_first : (n m : ℕ) (w : List ℕ) (a : Verdict) → IsUleb w m → 1 + length w ≤ n
+    → (2 ≤ length w + 1 → is_leb w ≡ true → groups w ≡ m → discriminator_spelt n w ≡ Some a)
+    → SpellsFirst (discriminator_spelt n) w a
+ended_first n m w a u le spelt = record {
+  spells = (let l = ap length u.2.bytes in
+      spelt (omega (arith, l, length-append u.0 (u.1 ∷ []))) (is_leb-number w u.0 u.1 u.2) (sym u.3));
+  shortest = λ front x back k. discriminator_open n w front x back u.0 u.1 u.2.continue u.2.bytes le k;
+}
+
+pub discriminator_first : (n m : ℕ) (w : List ℕ) → IsUleb w m → m < 2 ^ 64 → 1 + length w ≡ n
+    → SpellsFirst (discriminator_spelt n) w (Ok (op.SetDiscriminator m))
+discriminator_first n m w u lt e =
+    ended_first n m w (Ok (op.SetDiscriminator m)) u (omega arith) (λ some t g. grind (arith, nat_tests))
+
+pub discriminator_out : (n m : ℕ) (w : List ℕ) → IsUleb w m → 2 ^ 64 ≤ m → 1 + length w ≤ n
+    → SpellsFirst (discriminator_spelt n) w (Err fault.LebRange)
+discriminator_out n m w u le e =
+    ended_first n m w (Err fault.LebRange) u e (λ some t g. grind (arith, nat_tests))
+
+-- the operand ends before its length does
+pub discriminator_early : (n m : ℕ) (w : List ℕ) → IsUleb w m → m < 2 ^ 64 → 1 + length w < n
+    → SpellsFirst (discriminator_spelt n) w (Err fault.ExtendedLength)
+discriminator_early n m w u lt e =
+    ended_first n m w (Err fault.ExtendedLength) u (omega arith) (λ some t g. grind (arith, nat_tests))
+
+-- the operand goes on at its length's end
+pub discriminator_late : (n b : ℕ) (w : List ℕ) → AllContinue (w ++ b ∷ []) → AllContinue w
+    → 1 + length (w ++ b ∷ []) ≡ n → SpellsFirst (discriminator_spelt n) (w ++ b ∷ []) (Err fault.ExtendedLength)
+discriminator_late n b w c d e = record {
+  spells = (let l : length (w ++ b ∷ []) ≡ length w + 1 = length-append w (b ∷ []) in
+      rw (ne_eqb n 1 (λ k. omega arith), is_leb-continues (w ++ b ∷ []) c, eq-eqb (1 + length (w ++ b ∷ [])) n e) refl);
+  shortest = λ front x back k. discriminator_open n (w ++ b ∷ []) front x back w b d refl (omega arith) k;
+}
 
 -- ---- standard opcodes
+
+-- an operation of one byte
+byte_first : (order : Order) (h : Params) (o : Operation) (opcode : ℕ) (w : List ℕ) → w ≡ opcode ∷ []
+    → operation_spelt order h (opcode ∷ []) ≡ Some (Ok o) → SpellsFirst (operation_spelt order h) w (Ok o)
+byte_first order h o opcode w is e =
+    let spelt = λ (u : List ℕ). operation_spelt order h (opcode ∷ u) in
+    rw is (at_here (at_byte (operation_spelt order h) spelt opcode [] refl (λ u. refl)) (first_nil spelt (Ok o) e))
 
 bare_first : (order : Order) (h : Params) (o : Operation) (opcode : ℕ) (w : List ℕ)
     → operation_spelt order h (opcode ∷ []) ≡ Some (Ok o)
     → IsBare h opcode w → SpellsFirst (operation_spelt order h) w (Ok o)
-bare_first order h o opcode w e s = first_at (operation_spelt order h) (opcode ∷ []) w (Ok o) s.bytes
-    (first_after (operation_spelt order h) (λ u. operation_spelt order h (opcode ∷ u)) (opcode ∷ []) [] (Ok o)
-    (open_byte (operation_spelt order h) opcode refl) (λ u. refl)
-    (first_nil (λ u. operation_spelt order h (opcode ∷ u)) (Ok o) e))
+bare_first order h o opcode w e s = byte_first order h o opcode w s.bytes e
 
 -- an opcode of one byte, and its operand
 operand_first : (order : Order) (h : Params) (o : Operation) (opcode : ℕ) (operand w : List ℕ)
@@ -50,9 +199,7 @@ operand_first : (order : Order) (h : Params) (o : Operation) (opcode : ℕ) (ope
     → ((u : List ℕ) → operation_spelt order h (opcode ∷ u) ≡ spelt u) → w ≡ opcode ∷ operand
     → SpellsFirst spelt operand (Ok o) → SpellsFirst (operation_spelt order h) w (Ok o)
 operand_first order h o opcode operand w spelt same e first =
-    first_at (operation_spelt order h) (opcode ∷ operand) w (Ok o) e
-    (first_after (operation_spelt order h) spelt (opcode ∷ []) operand (Ok o)
-    (open_byte (operation_spelt order h) opcode refl) same first)
+    rw e (at_here (at_byte (operation_spelt order h) spelt opcode operand refl same) first)
 
 unsigned_case : (order : Order) (h : Params) (make : ℕ → Operation) (opcode n : ℕ) (w : List ℕ)
     → (opcode < h.opcode_base → (u : List ℕ) → operation_spelt order h (opcode ∷ u) ≡ unsigned_operand make u)
@@ -120,41 +267,31 @@ extended_case : (order : Order) (h : Params) (o : Operation) (opcode : ℕ) (ope
     → SpellsFirst (extended_spelt order h.address_size (length (opcode ∷ operand)) opcode) operand (Ok o)
     → SpellsFirst (operation_spelt order h) w (Ok o)
 extended_case order h o opcode operand w some e first =
-    first_at (operation_spelt order h) (0 ∷ (e.size ++ opcode ∷ operand)) w (Ok o) e.bytes
-    (extended_first order h some e.size (length (opcode ∷ operand)) opcode operand (Ok o) (
-      e.spells,
-      omega arith,
-      e.fits,
-    ) first)
+    at_here (extended_at order h some e.size operand (length (opcode ∷ operand)) opcode e.bytes
+    (e.spells, omega arith, e.fits)) first
 
-address_same : (order : Order) (size n : ℕ) → n ≡ 1 + size → (u : List ℕ)
-    → extended_spelt order size n 2 u ≡ sized size (λ v. op.SetAddress (fixed order v)) u
-address_same order size n e u = rw (eq-eqb n (1 + size) e) refl
+pub address_then : (order : Order) (size n : ℕ) → n ≡ 1 + size → (u : List ℕ)
+    → extended_spelt order size n 2 u ≡ sized size (λ w. op.SetAddress (fixed order w)) u
+address_then order size n e u = rw (eq-eqb n (1 + size) e) refl
 
-rest_same : (order : Order) (size n opcode : ℕ) → opcode ≢ 1 → opcode ≢ 2 → opcode ≢ 4 → (u : List ℕ)
-    → extended_spelt order size (suc n) opcode u ≡ sized n (λ v. op.Skipped) u
-rest_same order size n opcode one two four u =
-    rw (ne_eqb opcode 1 one, ne_eqb opcode 2 two, ne_eqb opcode 4 four) (elim (cases_eq (length u) n) [
-      | inl e ↦ rw (eq-eqb (length u) n e, eq-eqb (1 + length u) (suc n) (omega arith)) refl
-      | inr e ↦ rw (ne_eqb (length u) n e, ne_eqb (1 + length u) (suc n) (λ k. e (omega arith))) refl
-    ])
+pub rest_then : (order : Order) (size n x m : ℕ) → x ≢ 1 → x ≢ 2 → x ≢ 4 → n ≡ 1 + m → (u : List ℕ)
+    → extended_spelt order size n x u ≡ sized m (λ w. op.Skipped) u
+rest_then order size n x m a b c e u = rw (ne_eqb x 1 a, ne_eqb x 2 b, ne_eqb x 4 c, e) (grind (arith, nat_tests))
 
 skips_extended : (order : Order) (h : Params) (w : List ℕ) → 1 ≤ h.opcode_base → SkipsExtended w
     → SpellsFirst (operation_spelt order h) w (Ok op.Skipped)
 skips_extended order h w some s = extended_case order h op.Skipped s.opcode s.operand w some s.extended
-    (first_same (extended_spelt order h.address_size (suc (length s.operand)) s.opcode)
-    (sized (length s.operand) (λ v. op.Skipped)) s.operand (Ok op.Skipped)
-    (rest_same order h.address_size (length s.operand) s.opcode s.not_end_sequence s.not_set_address
-    s.not_set_discriminator) (sized_first (length s.operand) (λ v. op.Skipped) s.operand refl))
+    (at_here (at_same (extended_spelt order h.address_size (suc (length s.operand)) s.opcode)
+    (sized (length s.operand) (λ v. op.Skipped)) s.operand
+    (rest_then order h.address_size (suc (length s.operand)) s.opcode (length s.operand) s.not_end_sequence
+    s.not_set_address s.not_set_discriminator (omega arith))) (sized_first (length s.operand) (λ v. op.Skipped) s.operand refl))
 
 -- ---- each operation
 
 pub spells_first : (order : Order) (h : Params) (o : Operation) (w : List ℕ) → 1 ≤ h.opcode_base
     → SpellsOperation order h o w → SpellsFirst (operation_spelt order h) w (Ok o)
-spells_first order h (op.Special b) w some s = first_at (operation_spelt order h) (b ∷ []) w (Ok (op.Special b)) s.1
-    (first_after (operation_spelt order h) (λ u. operation_spelt order h (b ∷ u)) (b ∷ []) [] (Ok (op.Special b))
-    (open_byte (operation_spelt order h) b refl) (λ u. refl)
-    (first_nil (λ u. operation_spelt order h (b ∷ u)) (Ok (op.Special b)) (rw (le-leb h.opcode_base b s.0) refl)))
+spells_first order h (op.Special b) w some s =
+    byte_first order h (op.Special b) b w s.1 (rw (le-leb h.opcode_base b s.0) refl)
 spells_first order h op.Copy w some s = bare_first order h op.Copy 1 w (rw (lt-leb h.opcode_base 1 s.below) refl) s
 spells_first order h (op.AdvancePc n) w some s =
     unsigned_case order h (λ m. op.AdvancePc m) 2 n w (λ lt u. rw (lt-leb h.opcode_base 2 lt) refl) s
@@ -173,8 +310,7 @@ spells_first order h op.SetBasicBlock w some s =
 spells_first order h op.ConstAddPc w some s =
     bare_first order h op.ConstAddPc 8 w (rw (lt-leb h.opcode_base 8 s.below) refl) s
 spells_first order h (op.FixedAdvancePc n) w some s =
-    subst (λ (m : ℕ). SpellsFirst (operation_spelt order h) w (Ok (op.FixedAdvancePc m))) (sym s.number)
-    (operand_first order h (op.FixedAdvancePc (fixed order s.operand)) 9 s.operand w
+    rw s.number (operand_first order h (op.FixedAdvancePc (fixed order s.operand)) 9 s.operand w
     (sized 2 (λ v. op.FixedAdvancePc (fixed order v))) (λ u. rw (lt-leb h.opcode_base 9 s.below) refl) s.bytes
     (sized_first 2 (λ v. op.FixedAdvancePc (fixed order v)) s.operand s.size))
 spells_first order h op.SetPrologueEnd w some s =
@@ -187,17 +323,15 @@ spells_first order h op.EndSequence w some s =
     extended_case order h op.EndSequence 1 [] w some s
     (first_nil (extended_spelt order h.address_size 1 1) (Ok op.EndSequence) refl)
 spells_first order h (op.SetAddress n) w some s =
-    subst (λ (m : ℕ). SpellsFirst (operation_spelt order h) w (Ok (op.SetAddress m))) (sym s.number)
-    (extended_case order h (op.SetAddress (fixed order s.operand)) 2 s.operand w some s.extended
-    (first_same (extended_spelt order h.address_size (length (2 ∷ s.operand)) 2)
+    rw s.number (extended_case order h (op.SetAddress (fixed order s.operand)) 2 s.operand w some s.extended
+    (at_here (at_same (extended_spelt order h.address_size (length (2 ∷ s.operand)) 2)
     (sized h.address_size (λ v. op.SetAddress (fixed order v))) s.operand
-    (Ok (op.SetAddress (fixed order s.operand)))
-    (address_same order h.address_size (length (2 ∷ s.operand)) (omega (arith, s.size)))
+    (address_then order h.address_size (length (2 ∷ s.operand)) (omega (arith, s.size))))
     (sized_first h.address_size (λ v. op.SetAddress (fixed order v)) s.operand s.size)))
 spells_first order h (op.SetDiscriminator n) w some s =
     extended_case order h (op.SetDiscriminator n) 4 s.operand w some s.extended
-    (first_same (extended_spelt order h.address_size (length (4 ∷ s.operand)) 4)
-    (discriminator_spelt (length (4 ∷ s.operand))) s.operand (Ok (op.SetDiscriminator n)) (λ u. refl)
+    (at_here (at_same (extended_spelt order h.address_size (length (4 ∷ s.operand)) 4)
+    (discriminator_spelt (length (4 ∷ s.operand))) s.operand (λ u. refl))
     (discriminator_first (length (4 ∷ s.operand)) n s.operand s.spells s.fits (omega arith)))
 spells_first order h op.Skipped w some (inl s) = skips_standard order h w s
 spells_first order h op.Skipped w some (inr s) = skips_extended order h w some s

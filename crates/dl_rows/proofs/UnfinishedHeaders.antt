@@ -1,21 +1,20 @@
 -- Where a header isn't complete at its end or at that of its unit, something is decided there.
 use Rattle.dl_head.specs.declared.dialect.Dialect.{Dialect}
-use Rattle.std.proofs.Common.{◌≡◌, ◌≢◌, ℕ, ◌+◌, ◌-◌, ◌≤◌, Bool, true, nat_le, ◌&&◌, if◌then◌else◌, List, [], ◌∷◌, ◌++◌}
-use Rattle.std.proofs.Common.{length, take, drop, Option, Some, None, refl, sym, ap, subst, ◌∙◌, arith, inl, inr}
+use Rattle.std.proofs.Common.{◌≡◌, ℕ, ◌+◌, ◌-◌, ◌≤◌, Bool, true, nat_le, ◌&&◌, if◌then◌else◌, List, [], ◌∷◌, ◌++◌}
+use Rattle.std.proofs.Common.{length, take, drop, Option, Some, None, refl, sym, ap, ◌∙◌, arith, inl, inr, ◌⊎◌}
 use Rattle.std.proofs.Common.{length-append, append_assoc}
+use Rattle.std.proofs.lemmas.Bool.Decides.{nat_tests}
 use Rattle.std.proofs.lemmas.Bool.{cases_eq, eq-eqb, ne_eqb, le-leb}
 use Rattle.std.proofs.lemmas.List.{take-append-drop, length-take-le}
 use Rattle.dl_num.specs.declared.fixed.Order.{Order}
 use Rattle.dl_table.specs.declared.fault.FaultKind.{FaultKind}
 use Rattle.dl_table.specs.declared.fault.FaultKind.TheVariants as fault
 use Rattle.dl_table.specs.declared.form.Format.{Format}
-use Rattle.dl_field.specs.Layout.{any_byte, address_size, header_length, version, Layout, initial_length_then}
-use Rattle.dl_field.specs.Layout.{number_then}
-use Rattle.dl_field.specs.Layout.{form_then, path_or_end}
-use Rattle.dl_field.specs.Layout.{value_then, foreign_version, last_entry, Item, length_is, number_is, following}
-use Rattle.dl_field.specs.Layout.{following_all, field_spelt}
-use Rattle.dl_head.specs.HeaderLayout.{header_layout, initial_size, fixed_part, from_minimum_length}
-use Rattle.dl_head.specs.HeaderLayout.{from_address_size, format_alone, from_older_version, older_params}
+use Rattle.dl_field.specs.HeaderData.{HeaderData}
+use Rattle.dl_field.specs.Layout.{any_byte, address_size, header_length, version, Layout, number_then, foreign_version}
+use Rattle.dl_field.specs.Layout.{last_entry, Item, length_is, number_is, following, following_all, field_spelt}
+use Rattle.dl_head.specs.HeaderLayout.{header_layout, initial_size, fixed_part, from_minimum_length, from_address_size}
+use Rattle.dl_head.specs.HeaderLayout.{format_alone, from_older_version, older_params}
 use Rattle.dl_head.specs.Dialect.{older_size}
 use Rattle.dl_head.specs.Header.{SpellsFields, Cut, cut, unit_end, unit_len, header_end, header_made, header_up_to}
 use Rattle.dl_head.specs.Header.{foreign_made, foreign_in, header_in, own_end, older_end}
@@ -26,51 +25,56 @@ use Rattle.dl_head.proofs.FirstFields.{is_length, is_number, late_not_foreign}
 use Rattle.dl_head.proofs.Openings.{Opening, opening_of, after_length, after_address, after_segment, after_header}
 use Rattle.dl_head.proofs.EarlyEnds.{header_end-append}
 use Rattle.dl_head.proofs.RefusalLaws.{decided_on}
+use Rattle.dl_rows.proofs.UnitLengths.{some_same, number_same}
 
 -- ---- where a header ends without being complete
 
 pub decides : (o : Option FaultKind) (kind : FaultKind) (n : ℕ) → or_else o (at_end kind n (Some n)) ≡ None → ⊥
-decides (Some k) kind n e = none_some e refl
-decides None kind n e =
-    none_some {a = kind} (sym (ap (λ (b : Bool). if b then Some kind else None) (eq-eqb n n refl)) ∙ e) refl
+decides o kind n e = grind (arith, nat_tests)
 
--- all fields that header_length and what follows it leave decide something at the header's last byte
-pub end_decides : (dialect : Dialect) (b : List ℕ) → header_end (cut dialect b).items ≡ Some (length b)
-    → header_in dialect b ≡ None → header_decided dialect b ≡ None → ⊥
-end_decides dialect b end none quiet = on (following_all (header_layout dialect) (cut dialect b).items) refl where
-  s : Sound dialect.order (header_layout dialect) b (cut dialect b)
-  s = cut_sound dialect.order (header_layout dialect) [] b
-
-  -- a field is incomplete
-  incomplete : (l : Layout) → following_all (header_layout dialect) (cut dialect b).items ≡ l
+-- where bytes end in an incomplete field, and decide nothing, the fields are complete, or those of a foreign unit
+quiet_ends : (dialect : Dialect) (b : List ℕ) (kind : FaultKind)
+    → field_overrun (length b) (cut dialect b).items (header_end (cut dialect b).items)
+    ≡ at_end kind (length b) (Some (length b)) → header_decided dialect b ≡ None
+    → ((h : HeaderData) × (following_all (header_layout dialect) (cut dialect b).items ≡ last_entry h))
+    ⊎ ((v : ℕ) × (following_all (header_layout dialect) (cut dialect b).items ≡ foreign_version v))
+quiet_ends dialect b kind over quiet = on (following_all (header_layout dialect) (cut dialect b).items) refl where
+  incomplete : (l : Layout) → decided_on dialect.order (length b) (cut dialect b).items (cut dialect b).rest l ≡ None
       → decided_on dialect.order (length b) (cut dialect b).items (cut dialect b).rest l
       ≡ or_else (bad_kind (field_spelt dialect.order l (cut dialect b).rest))
       (field_overrun (length b) (cut dialect b).items (header_end (cut dialect b).items))
       → ⊥
-  incomplete l e same =
-      let bad = bad_kind (field_spelt dialect.order l (cut dialect b).rest) in
-      decides bad fault.HeaderOverrun (length b)
-      (sym (ap (λ (o : Option ℕ). or_else bad (field_overrun (length b) (cut dialect b).items o)) end) ∙ sym same
-      ∙ sym (ap (decided_on dialect.order (length b) (cut dialect b).items (cut dialect b).rest) e) ∙ quiet)
+  incomplete l none same =
+      decides (bad_kind (field_spelt dialect.order l (cut dialect b).rest)) kind (length b)
+      (ap (or_else (bad_kind (field_spelt dialect.order l (cut dialect b).rest))) (sym over) ∙ sym same ∙ none)
 
-  on : (l : Layout) → following_all (header_layout dialect) (cut dialect b).items ≡ l → ⊥
-  on (last_entry h) e =
-      let fields = length b - length (cut dialect b).rest in
-      let within : (nat_le fields (length b) && nat_le (length b) (length b)) ≡ true =
-      rw (le-leb fields (length b) (omega arith)) (le-leb (length b) (length b) (omega arith)) in
-      let found : header_in dialect b ≡ Some (h, drop (length b) b) =
-      ap (λ (l : Layout). header_up_to b fields (header_made l) (header_end (cut dialect b).items)) e
-      ∙ ap (λ (o : Option ℕ). header_up_to b fields (Some h) o) end
-      ∙ ap (λ (t : Bool). if t then Some (h, drop (length b) b) else None) within in
-      none_some none found
-  on (foreign_version v) e =
-      let o = opening_of dialect (cut dialect b).items s.front (length b) s.spelt end in
-      late_not_foreign o.p o.more v (sym o.after ∙ e)
-  on (initial_length_then next) e = incomplete (initial_length_then next) e refl
-  on (number_then field next) e = incomplete (number_then field next) e refl
-  on (form_then next) e = incomplete (form_then next) e refl
-  on (value_then format f next) e = incomplete (value_then format f next) e refl
-  on (path_or_end format pairs entries next) e = incomplete (path_or_end format pairs entries next) e refl
+  on : (l : Layout) → following_all (header_layout dialect) (cut dialect b).items ≡ l
+      → ((h : HeaderData) × (l ≡ last_entry h)) ⊎ ((v : ℕ) × (l ≡ foreign_version v))
+  on (last_entry h) e = inl (h, refl)
+  on (foreign_version v) e = inr (v, refl)
+  on other e = absurd (incomplete other
+      (ap (decided_on dialect.order (length b) (cut dialect b).items (cut dialect b).rest) (sym e) ∙ quiet) refl)
+
+-- all fields that header_length and what follows it leave decide something at the header's last byte
+pub end_decides : (dialect : Dialect) (b : List ℕ) → header_end (cut dialect b).items ≡ Some (length b)
+    → header_in dialect b ≡ None → header_decided dialect b ≡ None → ⊥
+end_decides dialect b end none quiet =
+    elim (quiet_ends dialect b fault.HeaderOverrun (ap (field_overrun (length b) (cut dialect b).items) end) quiet) [
+      | inl (h, e) ↦
+          let fields = length b - length (cut dialect b).rest in
+          let within : (nat_le fields (length b) && nat_le (length b) (length b)) ≡ true =
+          rw (le-leb fields (length b) (omega arith)) (le-leb (length b) (length b) (omega arith)) in
+          let found : header_in dialect b ≡ Some (h, drop (length b) b) =
+          ap (λ (l : Layout). header_up_to b fields (header_made l) (header_end (cut dialect b).items)) e
+          ∙ ap (λ (o : Option ℕ). header_up_to b fields (Some h) o) end
+          ∙ ap (λ (t : Bool). if t then Some (h, drop (length b) b) else None) within in
+          none_some none found
+      | inr (v, e) ↦
+          let s : Sound dialect.order (header_layout dialect) b (cut dialect b) =
+          cut_sound dialect.order (header_layout dialect) [] b in
+          let o = opening_of dialect (cut dialect b).items s.front (length b) s.spelt end in
+          late_not_foreign o.p o.more v (sym o.after ∙ e)
+    ]
 
 spells_split : (order : Order) (layout : Layout) (items more : List Item) (w : List ℕ)
     → SpellsFields order layout (items ++ more) w
@@ -83,12 +87,6 @@ spells_split order layout (i ∷ items) more w s =
       s.2 ∙ ap (λ (z : List ℕ). s.0 ++ z) r.2 ∙ sym (append_assoc s.0 r.0 r.1),
       (s.0, r.0, refl, s.3, r.3),
     )
-
-format_same : (f g : Format) (m n : ℕ) → length_is f m ≡ length_is g n → f ≡ g
-format_same f g m n e = cc
-
-some_same : (m n : ℕ) → ◌≡◌ {A = Option ℕ} (Some m) (Some n) → m ≡ n
-some_same m n e = cc
 
 -- the bytes of a unit up to the end of its header
 pub record UpToHeader (dialect : Dialect) (b : List ℕ) : Type 0 where
@@ -107,76 +105,47 @@ record FirstItems (dialect : Dialect) (items : List Item) (f : Format) (v header
       → length u ≡ initial_size f + fixed_part f v
 
 -- where no field follows these, no byte does
-nothing_more : (dialect : Dialect) (items : List Item) (u : List ℕ) (o : Opening dialect items u) → o.more ≡ []
-    → length u ≡ initial_size o.format + fixed_part o.format o.of_version
-nothing_more dialect items u o none =
-    let zero : length o.rest ≡ 0 =
-    ap length (subst (λ (l : List Item). SpellsFields dialect.order (from_minimum_length o.p) l o.rest) none o.spelt) in
-    omega (arith, o.size, zero)
-
-number_same : (m n : ℕ) → number_is m ≡ number_is n → m ≡ n
-number_same m n e = cc
-
-abbrev sizes : Format → ℕ → ℕ
-sizes f v = initial_size f + fixed_part f v
-
-own_size : (dialect : Dialect) (f : Format) (n address segment header : ℕ) (u : List ℕ)
-    → SpellsFields dialect.order (header_layout dialect)
-    (length_is f n ∷ number_is 5 ∷ number_is address ∷ number_is segment ∷ number_is header ∷ []) u
-    → length u ≡ initial_size f + fixed_part f 5
-own_size dialect f n address segment header u s =
-    sized (opening_of dialect first u (initial_size f + fixed_part f 5 + header) s refl)
-  where
-    first : List Item
-    first = length_is f n ∷ number_is 5 ∷ number_is address ∷ number_is segment ∷ number_is header ∷ []
-
-    sized : Opening dialect first u → length u ≡ initial_size f + fixed_part f 5
-    sized o = elim o.shape [
-      | inl own ↦
-          let same : o.format ≡ f = format_same o.format f o.unit_length n (cc) in
-          let none : o.more ≡ [] = cc in
-          nothing_more dialect first u o none ∙ ap (sizes o.format) own.2 ∙ ap (λ (g : Format). sizes g 5) same
-      | inr older ↦ (let five : o.of_version ≡ 5 = number_same o.of_version 5 (cc) in absurd (older.1 five))
-    ]
-
-older_size_is : (dialect : Dialect) (f : Format) (n v header : ℕ) (u : List ℕ) → v ≢ 5
-    → SpellsFields dialect.order (header_layout dialect) (length_is f n ∷ number_is v ∷ number_is header ∷ []) u
-    → length u ≡ initial_size f + fixed_part f v
-older_size_is dialect f n v header u other s =
-    sized (opening_of dialect first u (initial_size f + fixed_part f v + header) s (rw (ne_eqb v 5 other) refl))
-  where
-    first : List Item
-    first = length_is f n ∷ number_is v ∷ number_is header ∷ []
-
-    sized : Opening dialect first u → length u ≡ initial_size f + fixed_part f v
-    sized o = elim o.shape [
-      | inl own ↦ (let five : v ≡ 5 = number_same v 5 (cc) in absurd (other five))
-      | inr older ↦
-          let same : o.format ≡ f = format_same o.format f o.unit_length n (cc) in
-          let none : o.more ≡ [] = cc in
-          let version : o.of_version ≡ v = number_same o.of_version v (cc) in
-          nothing_more dialect first u o none ∙ ap (sizes o.format) version ∙ ap (λ (g : Format). sizes g v) same
-    ]
+size_of : (dialect : Dialect) (items : List Item) (f : Format) (v end : ℕ) (u : List ℕ) → header_end items ≡ Some end
+    → ((o : Opening dialect items u) → (o.more ≡ []) × (o.format ≡ f) × (o.of_version ≡ v))
+    → SpellsFields dialect.order (header_layout dialect) items u → length u ≡ initial_size f + fixed_part f v
+size_of dialect items f v end u e is s =
+    let o = opening_of dialect items u end s e in
+    let k = is o in
+    let zero : length o.rest ≡ 0 = ap length (rw k.0 at o.spelt) in
+    rw (← k.1, ← k.2) (omega (arith, o.size, zero))
 
 first_of : (dialect : Dialect) (items : List Item) (w : List ℕ) (o : Opening dialect items w)
     → FirstItems dialect items o.format o.of_version o.header
 first_of dialect items w o = elim o.shape [
-  | inl own ↦ record {
-    first = length_is o.format o.unit_length ∷ number_is 5 ∷ number_is own.0 ∷ number_is own.1 ∷ number_is o.header
-        ∷ [];
-    more = o.more;
-    all = own.3;
-    end = ap (λ (v : ℕ). Some (initial_size o.format + fixed_part o.format v + o.header)) (sym own.2);
-    size = λ u s.
-        own_size dialect o.format o.unit_length own.0 own.1 o.header u s ∙ ap (sizes o.format) (sym own.2);
-  }
-  | inr older ↦ record {
-    first = length_is o.format o.unit_length ∷ number_is o.of_version ∷ number_is o.header ∷ [];
-    more = o.more;
-    all = older.3;
-    end = rw (ne_eqb o.of_version 5 older.1) refl;
-    size = λ u s. older_size_is dialect o.format o.unit_length o.of_version o.header u older.1 s;
-  }
+  | inl own ↦
+      let first : List Item = length_is o.format o.unit_length ∷ number_is 5 ∷ number_is own.0 ∷ number_is own.1
+      ∷ number_is o.header ∷ [] in
+      let end : header_end first ≡ Some (initial_size o.format + fixed_part o.format o.of_version + o.header) =
+      ap (λ (v : ℕ). Some (initial_size o.format + fixed_part o.format v + o.header)) (sym own.2) in
+      record {
+        first = first;
+        more = o.more;
+        all = own.3;
+        end = end;
+        size = λ u s. size_of dialect first o.format o.of_version _ u end (λ c. elim c.shape [
+          | inl d ↦ (cc, cc, d.2 ∙ sym own.2)
+          | inr d ↦ absurd (d.1 (number_same c.of_version 5 (cc)))
+        ]) s;
+      }
+  | inr older ↦
+      let first : List Item = length_is o.format o.unit_length ∷ number_is o.of_version ∷ number_is o.header ∷ [] in
+      let end : header_end first ≡ Some (initial_size o.format + fixed_part o.format o.of_version + o.header) =
+      rw (ne_eqb o.of_version 5 older.1) refl in
+      record {
+        first = first;
+        more = o.more;
+        all = older.3;
+        end = end;
+        size = λ u s. size_of dialect first o.format o.of_version _ u end (λ c. elim c.shape [
+          | inl d ↦ absurd (older.1 (number_same o.of_version 5 (cc)))
+          | inr d ↦ (cc, cc, number_same c.of_version o.of_version (cc))
+        ]) s;
+      }
 ]
 
 pub up_to_header : (dialect : Dialect) (b : List ℕ) (end : ℕ) → unit_len dialect b ≡ Some (length b)
@@ -193,7 +162,7 @@ up_to_header dialect b end len e =
     opened items fields rest whole s unit o =
         let i = first_of dialect items fields o in
         let u = spells_split dialect.order (header_layout dialect) i.first i.more fields
-        (subst (λ (l : List Item). SpellsFields dialect.order (header_layout dialect) l fields) i.all s) in
+        (rw i.all at s) in
         let tail = u.1 ++ rest in
         let all : b ≡ u.0 ++ tail = whole ∙ ap (λ (w : List ℕ). w ++ rest) u.2 ∙ append_assoc u.0 u.1 rest in
         let size = i.size u.0 u.3 in
@@ -223,26 +192,16 @@ made_own : (order : Order) (f : Format) (n : ℕ) (items : List Item) (w : List 
     → SpellsFields order (from_address_size n (format_alone f)) items w
     → header_made (following_all (from_address_size n (format_alone f)) items) ≡ None
 made_own order f n [] w e s = refl
-made_own order f n (i ∷ []) w e s =
-    let a = is_number order address_size (after_address f n) s.0 i s.3 in
-    ap (λ (x : Item). header_made (following (from_address_size n (format_alone f)) x)) a.item
+made_own order f n (i ∷ []) w e s = rw (is_number order address_size (after_address f n) s.0 i s.3).item
 made_own order f n (i ∷ j ∷ []) w e s =
     let a = is_number order address_size (after_address f n) s.0 i s.3 in
-    let t : SpellsFields order (after_address f n a.number) (j ∷ []) s.1 =
-    subst (λ (x : Item). SpellsFields order (following (from_address_size n (format_alone f)) x) (j ∷ []) s.1) a.item
-    s.4
-    in
-    let b = is_number order any_byte (after_segment f n a.number) t.0 j t.3 in
-    ap (λ (x : Item). header_made (following (following (from_address_size n (format_alone f)) x) j)) a.item
-    ∙ ap (λ (x : Item). header_made (following (after_address f n a.number) x)) b.item
+    let t : SpellsFields order (after_address f n a.number) (j ∷ []) s.1 = rw a.item at s.4 in
+    rw (a.item, (is_number order any_byte (after_segment f n a.number) t.0 j t.3).item)
 made_own order f n (i ∷ j ∷ k ∷ items) w e s =
     let a = is_number order address_size (after_address f n) s.0 i s.3 in
-    let t : SpellsFields order (after_address f n a.number) (j ∷ k ∷ items) s.1 =
-    subst (λ (x : Item). SpellsFields order (following (from_address_size n (format_alone f)) x) (j ∷ k ∷ items) s.1)
-    a.item s.4 in
+    let t : SpellsFields order (after_address f n a.number) (j ∷ k ∷ items) s.1 = rw a.item at s.4 in
     let b = is_number order any_byte (after_segment f n a.number) t.0 j t.3 in
-    let u : SpellsFields order (after_segment f n a.number b.number) (k ∷ items) t.1 =
-    subst (λ (x : Item). SpellsFields order (following (after_address f n a.number) x) (k ∷ items) t.1) b.item t.4 in
+    let u : SpellsFields order (after_segment f n a.number b.number) (k ∷ items) t.1 = rw b.item at t.4 in
     let c = is_number order (header_length f (n - fixed_part f 5)) (after_header f a.number b.number) u.0 k u.3 in
     absurd (none_some e (ap (λ (x : Item). own_end f (i ∷ j ∷ x ∷ items)) c.item))
 
@@ -278,48 +237,24 @@ made_ends : (dialect : Dialect) (items : List Item) (w : List ℕ)
     → SpellsFields dialect.order (header_layout dialect) items w
     → header_end items ≡ None → header_made (following_all (header_layout dialect) items) ≡ None
 made_ends dialect [] w s e = refl
-made_ends dialect (i ∷ []) w s e =
-    ap (λ (x : Item). header_made (following (header_layout dialect) x)) (is_length dialect.order s.0 i s.3).item
+made_ends dialect (i ∷ []) w s e = rw (is_length dialect.order s.0 i s.3).item
 made_ends dialect (i ∷ j ∷ items) w s e =
     let a = is_length dialect.order s.0 i s.3 in
-    let t : SpellsFields dialect.order (number_then version (after_length dialect a.format a.number)) (j ∷ items) s.1 =
-    subst (λ (x : Item). SpellsFields dialect.order (following (header_layout dialect) x) (j ∷ items) s.1) a.item s.4 in
+    let next = number_then version (after_length dialect a.format a.number) in
+    let t : SpellsFields dialect.order next (j ∷ items) s.1 = rw a.item at s.4 in
     let b = is_number dialect.order version (after_length dialect a.format a.number) t.0 j t.3 in
-    let none : header_end (length_is a.format a.number ∷ number_is b.number ∷ items) ≡ None =
-    sym (ap (λ (x : Item). header_end (x ∷ j ∷ items)) a.item
-    ∙ ap (λ (x : Item). header_end (length_is a.format a.number ∷ x ∷ items)) b.item) ∙ e in
-    ap (λ (x : Item). header_made (following_all (following (header_layout dialect) x) (j ∷ items))) a.item
-    ∙ ap (λ (x : Item). header_made (following_all
-    (following (number_then version (after_length dialect a.format a.number)) x) items)) b.item
-    ∙ made_version dialect a.format a.number b.number items t.1 none
-    (subst (λ (x : Item). SpellsFields dialect.order
-    (following (number_then version (after_length dialect a.format a.number)) x) items t.1) b.item t.4)
+    rw (a.item, b.item)
+    (made_version dialect a.format a.number b.number items t.1 (rw (a.item, b.item) at e) (rw b.item at t.4))
 
 -- the unit's last byte decides something
 pub unit_decides : (dialect : Dialect) (b : List ℕ) → unit_len dialect b ≡ Some (length b)
     → header_end (cut dialect b).items ≡ None → foreign_in dialect b ≡ None → header_decided dialect b ≡ None → ⊥
 unit_decides dialect b len end foreign quiet =
-    on (following_all (header_layout dialect) (cut dialect b).items) refl where
-      incomplete : (l : Layout) → following_all (header_layout dialect) (cut dialect b).items ≡ l
-          → decided_on dialect.order (length b) (cut dialect b).items (cut dialect b).rest l
-          ≡ or_else (bad_kind (field_spelt dialect.order l (cut dialect b).rest))
-          (field_overrun (length b) (cut dialect b).items (header_end (cut dialect b).items))
-          → ⊥
-      incomplete l e same =
-          let bad = bad_kind (field_spelt dialect.order l (cut dialect b).rest) in
-          decides bad fault.UnitOverrun (length b)
-          (sym (ap (λ (o : Option ℕ). or_else bad (field_overrun (length b) (cut dialect b).items o)) end
-          ∙ ap (λ (o : Option ℕ). or_else bad (at_end fault.UnitOverrun (length b) o)) len) ∙ sym same
-          ∙ sym (ap (decided_on dialect.order (length b) (cut dialect b).items (cut dialect b).rest) e) ∙ quiet)
-
-      on : (l : Layout) → following_all (header_layout dialect) (cut dialect b).items ≡ l → ⊥
-      on (last_entry h) e =
+    elim (quiet_ends dialect b fault.UnitOverrun
+    (ap (field_overrun (length b) (cut dialect b).items) end ∙ ap (at_end fault.UnitOverrun (length b)) len) quiet) [
+      | inl (h, e) ↦
           let s : Sound dialect.order (header_layout dialect) b (cut dialect b) =
           cut_sound dialect.order (header_layout dialect) [] b in
           none_some {a = h} (made_ends dialect (cut dialect b).items s.front s.spelt end) (ap header_made e)
-      on (foreign_version v) e = none_some {a = v} foreign (ap foreign_made e)
-      on (initial_length_then next) e = incomplete (initial_length_then next) e refl
-      on (number_then field next) e = incomplete (number_then field next) e refl
-      on (form_then next) e = incomplete (form_then next) e refl
-      on (value_then format f next) e = incomplete (value_then format f next) e refl
-      on (path_or_end format pairs entries next) e = incomplete (path_or_end format pairs entries next) e refl
+      | inr (v, e) ↦ none_some {a = v} foreign (ap foreign_made e)
+    ]

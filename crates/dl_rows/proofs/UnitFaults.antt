@@ -1,9 +1,9 @@
 -- What is refused after a header.
 use Rattle.dl_head.specs.declared.dialect.Dialect.{Dialect}
-use Rattle.std.proofs.Common.{◌≡◌, ℕ, ◌+◌, ◌<◌, ◌≤◌, Bool, if◌then◌else◌, List, [], ◌∷◌, ◌++◌, length, Option, Some}
-use Rattle.std.proofs.Common.{None, Ok, Err, refl, sym, ap, subst, ◌∙◌, arith, inl, inr, ◌⊎◌, append_assoc, append-nil}
-use Rattle.std.proofs.Common.{length-append}
-use Rattle.std.proofs.lemmas.Bool.{cases_eq, eq-eqb, ne_eqb}
+use Rattle.std.proofs.Common.{◌≡◌, ℕ, ◌+◌, ◌<◌, ◌≤◌, List, [], ◌∷◌, ◌++◌, length, Option, Some, None, Ok, Err, refl}
+use Rattle.std.proofs.Common.{sym, ap, ◌∙◌, arith, inl, inr, ◌⊎◌, append_assoc, append-nil, length-append}
+use Rattle.std.proofs.lemmas.Bool.Decides.{nat_tests}
+use Rattle.std.proofs.lemmas.Bool.{eq-eqb}
 use Rattle.dl_num.specs.declared.fixed.Order.{Order}
 use Rattle.dl_num.specs.Front.{SpellsNowhere, Standing}
 use Rattle.dl_num.proofs.FrontLemmas.{one_cut}
@@ -15,7 +15,7 @@ use Rattle.dl_table.specs.Value.{Judgement, bad}
 use Rattle.dl_head.specs.Header.{IsHeader, header_in, unit_len}
 use Rattle.dl_head.specs.Refusal.{or_else, bad_kind, at_end, NothingBefore}
 use Rattle.dl_field.proofs.FieldLemmas.{none_some}
-use Rattle.dl_head.proofs.FrontLemmas.{fronts, after_front}
+use Rattle.dl_head.proofs.FrontLemmas.{after_front}
 use Rattle.dl_head.proofs.HeaderLaws.{found_is_header, header_is_found}
 use Rattle.dl_head.proofs.QuietLemmas.{header_is_not_refused}
 use Rattle.dl_rows.specs.declared.operation.Operation.{Operation}
@@ -23,21 +23,16 @@ use Rattle.dl_rows.specs.BadOperation.{IsBadOperation}
 use Rattle.dl_rows.specs.OperationSpelt.{operation_spelt, good_one, operations_in}
 use Rattle.dl_rows.specs.Spelling.{SpellsOperation, SpellsProgram}
 use Rattle.dl_rows.specs.Reading.{WithinUnit}
-use Rattle.dl_rows.specs.Refusal.{left_after, decided_after, unit_decided, operation_decided, Refused}
+use Rattle.dl_rows.specs.Refusal.{decided_after, unit_decided, operation_decided, Refused}
 use Rattle.dl_rows.specs.UnitLaws.{IsIncomplete, IsCutShort, RefusesOperation, RefusedInProgram, OperationIsRefused}
 use Rattle.dl_rows.proofs.HeaderParams.{header_is_usable}
+use Rattle.dl_rows.proofs.OperationFront.{not_good}
 use Rattle.dl_rows.proofs.OperationLaws.{spelt_is_spelled, bad_is_faulty, no_spelling_is_faulty}
 use Rattle.dl_rows.proofs.ProgramLaws.{spelt, program_cut, found_is_program, none_begins_rest}
 use Rattle.dl_rows.proofs.UnitLemmas.{header_on, unit_len_on, no_header_before, refused_in_header}
-use Rattle.dl_rows.proofs.UnitQuiet.{parts_same, operation_quiet}
+use Rattle.dl_rows.proofs.FirstLemmas.{split_front}
+use Rattle.dl_rows.proofs.UnitQuiet.{parts_same, operation_quiet, NotBad, bad_decides, end_decides, nothing_decides}
 use Rattle.dl_rows.proofs.UnitWhole.{NoneRefused, silent}
-
-kind_same : (k j : FaultKind) → ◌≡◌ {A = Option FaultKind} (Some k) (Some j) → k ≡ j
-kind_same k j e = cc
-
-no_bytes : (order : Order) (h : Params) (kind : FaultKind)
-    → ◌≡◌ {A = Judgement Operation} (operation_spelt order h []) (bad kind) → ⊥
-no_bytes order h kind e = none_some refl e
 
 -- where a front has no header, it decides nothing
 quiet_in_header : (dialect : Dialect) (h : HeaderData) (w v front back : List ℕ) → IsHeader dialect h w
@@ -47,33 +42,19 @@ quiet_in_header dialect h w v front back is e none =
       refused : NoneRefused dialect front
       refused begun more at kind split r =
           let none_begun = no_header_before dialect begun more (ap (header_in dialect) (sym split) ∙ none) in
-          header_is_not_refused dialect h w v begun (more ++ back) at kind is (e ∙ ap (λ (z : List ℕ). z ++ back) split
-          ∙ append_assoc begun more back) ((refused_in_header dialect begun at kind none_begun).0 r)
+          header_is_not_refused dialect h w v begun (more ++ back) at kind is (e ∙ rw split (append_assoc begun more back))
+          ((refused_in_header dialect begun at kind none_begun).0 r)
 
 -- an overrun is decided at the end, and is one
 ended : (kind k : FaultKind) (n : ℕ) (end : Option ℕ) → at_end kind n end ≡ Some k → (end ≡ Some n) × (k ≡ kind)
-ended kind k n None e = absurd (none_some {a = k} refl e)
-ended kind k n (Some m) e = elim (cases_eq n m) [
-  | inl same ↦
-      let f : ◌≡◌ {A = Option FaultKind} (Some kind) (Some k) = rw (eq-eqb n m same) at e in
-      (ap (λ (x : ℕ). Some x) (sym same), kind_same k kind (sym f))
-  | inr other ↦
-      let f : ◌≡◌ {A = Option FaultKind} None (Some k) = rw (ne_eqb n m other) at e in
-      absurd (none_some {a = k} refl f)
-]
-
-some_apart : {k : FaultKind} {o : Operation} → ◌≡◌ {A = Judgement Operation} (Some (Ok o)) (bad k) → ⊥
-some_apart {k = k} {o = o} e = absurd cc
+ended kind k n end e = grind (arith, nat_tests)
 
 -- what is judged good or incomplete isn't bad, and what isn't good is no operation
 good_one_none : (order : Order) (h : Params) (w : List ℕ) → 1 ≤ h.opcode_base
     → ((o : Operation) → SpellsOperation order h o w → ⊥)
     → ◌≡◌ {A = Option Operation} (good_one (operation_spelt order h w)) None
-good_one_none order h w some none = on (operation_spelt order h w) refl where
-  on : (j : Judgement Operation) → operation_spelt order h w ≡ j → ◌≡◌ {A = Option Operation} (good_one j) None
-  on (Some (Ok o)) e = absurd (none o ((spelt_is_spelled order h o w some).1 e))
-  on (Some (Err k)) e = refl
-  on None e = refl
+good_one_none order h w some none =
+    not_good (operation_spelt order h w) (λ o e. none o ((spelt_is_spelled order h o w some).1 e))
 
 -- after a program stands what no operation begins
 rest_is : (order : Order) (h : Params) (p : List Operation) (done begun : List ℕ) → 1 ≤ h.opcode_base
@@ -91,12 +72,7 @@ quiet_incomplete : (order : Order) (h : Params) (w : List ℕ) (n : ℕ) (end : 
     → ((o : Operation) → SpellsOperation order h o w → ⊥) → operation_decided order h w n end ≡ None
     → IsIncomplete order h w
 quiet_incomplete order h w n end some none e =
-    (none, λ kind bad. judged kind w e ((bad_is_faulty order h kind w some).0 bad)) where
-      judged : (kind : FaultKind) (w : List ℕ) → operation_decided order h w n end ≡ None
-          → ◌≡◌ {A = Judgement Operation} (operation_spelt order h w) (bad kind) → ⊥
-      judged kind [] e j = no_bytes order h kind j
-      judged kind (x ∷ w) e j =
-          none_some e (ap (λ (i : Judgement Operation). or_else (bad_kind i) (at_end fault.OpcodeOverrun n end)) j)
+    (none, λ kind bad. none_some e (bad_decides order h w n end kind ((bad_is_faulty order h kind w some).0 bad)))
 
 -- what the bytes of an operation decide
 operation_faults : (dialect : Dialect) (h : Params) (b begun : List ℕ) (kind : FaultKind) → 1 ≤ h.opcode_base
@@ -105,17 +81,15 @@ operation_faults : (dialect : Dialect) (h : Params) (b begun : List ℕ) (kind :
     ⊎ (IsCutShort dialect h b begun × (kind ≡ fault.OpcodeOverrun))
 operation_faults dialect h b [] kind some e none = absurd (none_some {a = kind} refl e)
 operation_faults dialect h b (x ∷ w) kind some e none = on (operation_spelt dialect.order h (x ∷ w)) refl e where
-  cut_short : (j : Judgement Operation) → operation_spelt dialect.order h (x ∷ w) ≡ j
-      → ((k : FaultKind) → ◌≡◌ {A = Judgement Operation} j (bad k) → ⊥)
+  cut_short : NotBad dialect.order h (x ∷ w)
       → at_end fault.OpcodeOverrun (length b) (unit_len dialect b) ≡ Some kind
       → IsCutShort dialect h b (x ∷ w) × (kind ≡ fault.OpcodeOverrun)
-  cut_short j is good f =
+  cut_short good f =
       let end = ended fault.OpcodeOverrun kind (length b) (unit_len dialect b) f in (
         record {
           last = end.0;
           some = omega arith;
-          incomplete =
-              (none, λ k faulty. good k (sym is ∙ (bad_is_faulty dialect.order h k (x ∷ w) some).0 faulty));
+          incomplete = (none, λ k faulty. good k ((bad_is_faulty dialect.order h k (x ∷ w) some).0 faulty));
         },
         end.1,
       )
@@ -124,10 +98,11 @@ operation_faults dialect h b (x ∷ w) kind some e none = on (operation_spelt di
       → or_else (bad_kind j) (at_end fault.OpcodeOverrun (length b) (unit_len dialect b)) ≡ Some kind
       → IsBadOperation h (x ∷ w) kind ⊎ (IsCutShort dialect h b (x ∷ w) × (kind ≡ fault.OpcodeOverrun))
   on (Some (Err k)) j f =
-      inl ((bad_is_faulty dialect.order h kind (x ∷ w) some).1 (j ∙ ap (λ (y : FaultKind). let i : Judgement Operation =
-      bad y in i) (kind_same k kind f)))
-  on (Some (Ok o)) j f = inr (cut_short (Some (Ok o)) j (λ k g. some_apart g) f)
-  on None j f = inr (cut_short None j (λ k g. none_some refl g) f)
+      let same : k ≡ kind = cc in
+      inl ((bad_is_faulty dialect.order h kind (x ∷ w) some).1 (rw (← same) j))
+  on (Some (Ok o)) j f =
+      inr (cut_short (λ k g. (let e : ◌≡◌ {A = Judgement Operation} (Some (Ok o)) (bad k) = sym j ∙ g in absurd cc)) f)
+  on None j f = inr (cut_short (λ k g. none_some j g) f)
 
 pub refused_in_program : RefusedInProgram
 refused_in_program dialect b h program at kind found r = record {
@@ -136,7 +111,7 @@ refused_in_program dialect b h program at kind found r = record {
   begun = rest;
   whole = p.1;
   spells = p.2;
-  place = subst (λ (w : List ℕ). at + length w ≡ length b) (ap (left_after dialect b) found) r.place;
+  place = rw found at r.place;
   shortest = shortest;
   fault = operation_faults dialect h.params b rest kind some (sym (ap (decided_after dialect b) found)
       ∙ r.decided) (λ o s. none o rest [] (sym (append-nil rest)) s);
@@ -163,62 +138,37 @@ refused_in_program dialect b h program at kind found r = record {
       → IsIncomplete dialect.order h.params front
   shortest front x back e =
       let none_here =
-      λ (o : Operation) (w v : List ℕ) (is : front ≡ w ++ v). none o w (v ++ x ∷ back) (e
-      ∙ ap (λ (z : List ℕ). z ++ x ∷ back) is ∙ append_assoc w v (x ∷ back)) in
+      λ (o : Operation) (w v : List ℕ) (is : front ≡ w ++ v). none o w (v ++ x ∷ back)
+      (e ∙ rw is (append_assoc w v (x ∷ back))) in
       let c = head.0 ++ (p.0 ++ front) in
       let whole : b ≡ c ++ x ∷ back =
-      head.1 ∙ ap (λ (z : List ℕ). head.0 ++ z) (p.1 ∙ ap (λ (z : List ℕ). p.0 ++ z) e
-      ∙ sym (append_assoc p.0 front (x ∷ back))) ∙ sym (append_assoc head.0 (p.0 ++ front) (x ∷ back)) in
-      let decided : operation_decided dialect.order h.params
-      (operations_in dialect.order h.params (p.0 ++ front)).rest (length c)
-      (unit_len dialect c) ≡ None =
-      sym (ap (decided_after dialect c) (header_is_found dialect h head.0 (p.0 ++ front) head.2))
-      ∙ r.shortest c x back whole in
+      rw (append_assoc head.0 (p.0 ++ front) (x ∷ back), append_assoc p.0 front (x ∷ back), ← e, ← p.1) head.1 in
+      let left = rest_is dialect.order h.params (operations_in dialect.order h.params program).found p.0 front some p.2
+      (λ o w v is s. none_here o w v is s) in
       quiet_incomplete dialect.order h.params front (length c) (unit_len dialect c) some
       (λ o s. none_here o front [] (sym (append-nil front)) s)
-      (sym (ap (λ (z : List ℕ). operation_decided dialect.order h.params z (length c) (unit_len dialect c))
-      (rest_is dialect.order h.params (operations_in dialect.order h.params program).found p.0 front some p.2
-      (λ o w v is s. none_here o w v is s))) ∙ decided)
+      (rw (header_is_found dialect h head.0 (p.0 ++ front) head.2, left) at (r.shortest c x back whole))
 
 -- ---- and the other way
 
 incomplete_quiet : (order : Order) (h : Params) (w : List ℕ) (n : ℕ) (end : Option ℕ) → 1 ≤ h.opcode_base
     → IsIncomplete order h w → ((e : ℕ) → end ≡ Some e → n < e) → operation_decided order h w n end ≡ None
-incomplete_quiet order h [] n end some none before = refl
-incomplete_quiet order h (x ∷ w) n end some none before = on (operation_spelt order h (x ∷ w)) refl where
-  before_end : (o : Option ℕ) → end ≡ o → at_end fault.OpcodeOverrun n o ≡ None
-  before_end None k = refl
-  before_end (Some m) k = rw (ne_eqb n m (λ same. omega (arith, same, before m k))) refl
-
-  on : (j : Judgement Operation) → operation_spelt order h (x ∷ w) ≡ j
-      → or_else (bad_kind j) (at_end fault.OpcodeOverrun n end) ≡ None
-  on (Some (Err k)) j = absurd (none.1 k ((bad_is_faulty order h k (x ∷ w) some).1 j))
-  on (Some (Ok o)) j = before_end end refl
-  on None j = before_end end refl
+incomplete_quiet order h w n end some none before =
+    nothing_decides order h w n end (λ k j. none.1 k ((bad_is_faulty order h k w some).1 j))
+    (λ same. absurd (omega (arith, before n same)))
 
 -- the bytes of the operation decide the fault
 faults_decided : (dialect : Dialect) (h : Params) (b begun : List ℕ) (kind : FaultKind) → 1 ≤ h.opcode_base
     → IsBadOperation h begun kind ⊎ (IsCutShort dialect h b begun × (kind ≡ fault.OpcodeOverrun))
     → operation_decided dialect.order h begun (length b) (unit_len dialect b) ≡ Some kind
-faults_decided dialect h b [] kind some (inl is_bad) =
-    absurd (no_bytes dialect.order h kind ((bad_is_faulty dialect.order h kind [] some).0 is_bad))
-faults_decided dialect h b [] kind some (inr (short, is)) = absurd (omega (arith, short.some))
-faults_decided dialect h b (x ∷ w) kind some (inl is_bad) =
-    ap (λ (j : Judgement Operation). or_else (bad_kind j) (at_end fault.OpcodeOverrun (length b) (unit_len dialect b)))
-    ((bad_is_faulty dialect.order h kind (x ∷ w) some).0 is_bad)
-faults_decided dialect h b (x ∷ w) kind some (inr (short, is)) = on (operation_spelt dialect.order h (x ∷ w)) refl where
-  at_last : at_end fault.OpcodeOverrun (length b) (unit_len dialect b) ≡ Some kind
-  at_last =
-      ap (at_end fault.OpcodeOverrun (length b)) short.last
-      ∙ ap (λ (v : Bool). let o : Option FaultKind = if v then Some fault.OpcodeOverrun else None in
-      o) (eq-eqb (length b) (length b) refl)
-      ∙ ap (λ (k : FaultKind). let o : Option FaultKind = Some k in o) (sym is)
-
-  on : (j : Judgement Operation) → operation_spelt dialect.order h (x ∷ w) ≡ j
-      → or_else (bad_kind j) (at_end fault.OpcodeOverrun (length b) (unit_len dialect b)) ≡ Some kind
-  on (Some (Err k)) j = absurd (short.incomplete.1 k ((bad_is_faulty dialect.order h k (x ∷ w) some).1 j))
-  on (Some (Ok o)) j = at_last
-  on None j = at_last
+faults_decided dialect h b begun kind some (inl is_bad) =
+    bad_decides dialect.order h begun (length b) (unit_len dialect b) kind
+    ((bad_is_faulty dialect.order h kind begun some).0 is_bad)
+faults_decided dialect h b begun kind some (inr (short, is)) =
+    rw (is, short.last) (end_decides dialect.order h begun (length b) (Some (length b))
+    (λ none. (let l = ap length none in omega (arith, l, short.some)))
+    (λ k j. short.incomplete.1 k ((bad_is_faulty dialect.order h k begun some).1 j))
+    ∙ rw (eq-eqb (length b) (length b) refl))
 
 module _ (dialect : Dialect) (b : List ℕ) (h : HeaderData) (program : List ℕ) (at : ℕ) (kind : FaultKind)
     (found : header_in dialect b ≡ Some (h, program)) (within : WithinUnit dialect b)
@@ -233,14 +183,13 @@ module _ (dialect : Dialect) (b : List ℕ) (h : HeaderData) (program : List ℕ
   not_whole : (o : Operation) → SpellsOperation dialect.order h.params o r.begun → ⊥
   not_whole o s = elim r.fault [
     | inl is_bad ↦ no_spelling_is_faulty dialect.order h.params o kind r.begun [] base
-        (subst (SpellsOperation dialect.order h.params o) (sym (append-nil r.begun)) s) is_bad.faulty
+        (rw append-nil s) is_bad.faulty
     | inr short ↦ short.0.incomplete.0 o s
   ]
 
   none_begins : (o : Operation) (front back : List ℕ) → r.begun ≡ front ++ back
       → SpellsOperation dialect.order h.params o front → ⊥
-  none_begins o front [] e s = not_whole o (subst (SpellsOperation dialect.order h.params o)
-      (sym (e ∙ append-nil front)) s)
+  none_begins o front [] e s = not_whole o (rw (e, append-nil) s)
   none_begins o front (x ∷ back) e s = (r.shortest front x back e).0 o s
 
   rest_begun : (operations_in dialect.order h.params program).rest ≡ r.begun
@@ -260,42 +209,23 @@ module _ (dialect : Dialect) (b : List ℕ) (h : HeaderData) (program : List ℕ
       → operation_decided dialect.order h.params (operations_in dialect.order h.params v).rest (length front)
       (unit_len dialect front)
       ≡ None
-  quiet_program front x back v e part = elim (fronts v r.done (x ∷ back) r.begun (sym part ∙ r.whole)) [
-    | inl same ↦
-        let spelled = subst (SpellsProgram dialect.order h.params r.operations)
-        (sym same ∙ sym (append-nil v)) r.spells in
-        operation_quiet dialect.order h.params r.operations v [] (operations_in dialect.order h.params v).rest
-        (length front)
-        (unit_len dialect front) base spelled refl (λ n len. omega (arith, before_end front x back e n len))
-    | inr (inl more) ↦
-        let spelled = subst (SpellsProgram dialect.order h.params r.operations) more.2 r.spells in
-        let longer =
-        after_front v (x ∷ back) ((more.0 ∷ more.1) ++ r.begun) (sym part ∙ r.whole
-        ∙ ap (λ (z : List ℕ). z ++ r.begun) more.2 ∙ append_assoc v (more.0 ∷ more.1) r.begun) in
-        operation_quiet dialect.order h.params r.operations v (more.0 ∷ more.1)
-        (operations_in dialect.order h.params v).rest
-        (length front) (unit_len dialect front) base spelled refl
-        (λ n len. omega (
-          arith,
-          before_end front x back e n len,
-          ap length longer,
-          length-append (more.0 ∷ more.1) r.begun,
-        ))
-    | inr (inr more) ↦
-        let w = more.0 ∷ more.1 in
+  quiet_program front x back v e part = elim (split_front v (x ∷ back) r.done r.begun (sym part ∙ r.whole)) [
+    | inr (u, is, longer) ↦
+        operation_quiet dialect.order h.params r.operations v u (operations_in dialect.order h.params v).rest
+        (length front) (unit_len dialect front) base (rw is at r.spells) refl
+        (λ n len. omega (arith, before_end front x back e n len, ap length longer, length-append u r.begun))
+    | inl (y, z, is) ↦
+        let w = y ∷ z in
         let begun : r.begun ≡ w ++ x ∷ back =
         sym (after_front r.done (w ++ x ∷ back) r.begun (sym (append_assoc r.done w (x ∷ back))
-        ∙ ap (λ (z : List ℕ). z ++ x ∷ back) (sym more.2) ∙ sym part ∙ r.whole)) in
+        ∙ rw is at (sym part ∙ r.whole))) in
         let none : (o : Operation) (u t : List ℕ) → w ≡ u ++ t → SpellsOperation dialect.order h.params o u → ⊥ =
-        λ o u t is s. none_begins o u (t ++ x ∷ back) (begun ∙ ap (λ (z : List ℕ). z ++ x ∷ back) is
-        ∙ append_assoc u t (x ∷ back)) s in
+        λ o u t is s. none_begins o u (t ++ x ∷ back)
+        (begun ∙ ap (λ (q : List ℕ). q ++ x ∷ back) is ∙ append_assoc u t (x ∷ back)) s in
         let rest : (operations_in dialect.order h.params v).rest ≡ w =
-        ap (λ (z : List ℕ). (operations_in dialect.order h.params z).rest) more.2
-        ∙ rest_is dialect.order h.params r.operations r.done w base r.spells none in
-        ap (λ (z : List ℕ). operation_decided dialect.order h.params z (length front) (unit_len dialect front)) rest
-        ∙ incomplete_quiet dialect.order h.params w (length front) (unit_len dialect front) base
-        (r.shortest w x back begun)
-        (λ n len. omega (arith, before_end front x back e n len))
+        rw is (rest_is dialect.order h.params r.operations r.done w base r.spells none) in
+        rw rest (incomplete_quiet dialect.order h.params w (length front) (unit_len dialect front) base
+        (r.shortest w x back begun) (λ n len. omega (arith, before_end front x back e n len)))
   ]
 
   quiet_before : NothingBefore (unit_decided dialect) b
@@ -306,20 +236,12 @@ module _ (dialect : Dialect) (b : List ℕ) (h : HeaderData) (program : List ℕ
         let same =
         parts_same g h (v ++ x ∷ back) program (sym (header_on dialect front (x ∷ back) g v is)
         ∙ ap (header_in dialect) (sym e) ∙ found) in
-        ap (decided_after dialect front) is
-        ∙ ap (λ (d : HeaderData). operation_decided dialect.order d.params
-        (operations_in dialect.order d.params v).rest (length front)
-        (unit_len dialect front)) same.0
-        ∙ quiet_program front x back v e (sym same.1)
+        rw (is, same.0) (quiet_program front x back v e (sym same.1))
 
   pub operation_refused : Refused dialect b at kind
   operation_refused = record {
-    place = subst (λ (w : List ℕ). at + length w ≡ length b) (sym (ap (left_after dialect b) found ∙ rest_begun))
-        r.place;
-    decided =
-        ap (decided_after dialect b) found
-        ∙ ap (λ (w : List ℕ). operation_decided dialect.order h.params w (length b) (unit_len dialect b)) rest_begun
-        ∙ faults_decided dialect h.params b r.begun kind base r.fault;
+    place = rw (found, rest_begun) r.place;
+    decided = rw (found, rest_begun) (faults_decided dialect h.params b r.begun kind base r.fault);
     shortest = quiet_before;
   }
 

@@ -1,7 +1,5 @@
 -- The laws of units and refusals that need no more than those of headers and programs.
-use Rattle.std.proofs.Common.{◌≡◌, ℕ, List, [], ◌∷◌, length, Option, Some, None, sym, ap, subst, ◌∙◌, arith, inl, inr}
-use Rattle.std.proofs.Common.{append-nil}
-use Rattle.std.specs.Prelude.{map}
+use Rattle.std.proofs.Common.{◌≡◌, ℕ, List, [], length, Option, Some, None, sym, ap, ◌∙◌, arith, inl, inr, append-nil}
 use Rattle.dl_head.specs.declared.dialect.Dialect.{Dialect}
 use Rattle.dl_num.specs.Front.{Standing}
 use Rattle.dl_table.specs.declared.fault.FaultKind.{FaultKind}
@@ -11,10 +9,8 @@ use Rattle.dl_field.proofs.FieldLemmas.{none_some}
 use Rattle.dl_head.proofs.FrontLemmas.{GoesOn, fronts}
 use Rattle.dl_head.proofs.HeaderLaws.{header_is_found, header_is_not_foreign}
 use Rattle.dl_rows.specs.declared.operation.Operation.{Operation}
-use Rattle.dl_rows.specs.declared.reader.Event.TheVariants as event
-use Rattle.dl_rows.specs.Matrix.{matrix}
 use Rattle.dl_rows.specs.OperationSpelt.{operations_in}
-use Rattle.dl_rows.specs.LineUnit.{events_of, rows_later, own_events}
+use Rattle.dl_rows.specs.LineUnit.{rows_later}
 use Rattle.dl_rows.specs.Refusal.{Refused}
 use Rattle.dl_rows.specs.UnitLaws.{ForeignComesTo, UnitComesTo, OneRefusal, RowForProgramByte}
 use Rattle.dl_rows.proofs.HeaderParams.{header_is_usable}
@@ -22,8 +18,7 @@ use Rattle.dl_rows.proofs.ProgramLaws.{program_is_found, a_row_for_a_byte}
 use Rattle.dl_rows.proofs.UnitLengths.{foreign_of}
 
 pub foreign_comes_to : ForeignComesTo
-foreign_comes_to dialect version u is =
-    ap (λ (o : Option ℕ). events_of dialect.order o (header_in dialect u)) (foreign_of dialect version u is)
+foreign_comes_to dialect version u is = rw (foreign_of dialect version u is)
 
 pub unit_comes_to : UnitComesTo
 unit_comes_to dialect h p u is =
@@ -34,29 +29,23 @@ unit_comes_to dialect h p u is =
     ap (header_in dialect) is.whole ∙ header_is_found dialect h is.header is.program is.spells_header in
     let found = program_is_found dialect.order h.params p is.program [] (omega arith) is.spells_program in
     let operations : (operations_in dialect.order h.params is.program).found ≡ p =
-    ap (λ (b : List ℕ). (operations_in dialect.order h.params b).found) (sym (append-nil is.program))
-    ∙ ap (λ (s : Standing Operation). s.found) found ∙ append-nil p in
-    ap (λ (o : Option ℕ). events_of dialect.order o (header_in dialect u)) own
-    ∙ ap (own_events dialect.order) parts
-    ∙ ap (λ (q : List Operation). event.Header ∷ map event.Row (matrix h.params q)) operations
+    rw (append-nil p, append-nil is.program) at (ap (λ (s : Standing Operation). s.found) found) in
+    rw (own, parts, operations)
 
 not_longer : (dialect : Dialect) (b c : List ℕ) (at at2 : ℕ) (kind kind2 : FaultKind) → Refused dialect b at kind
     → Refused dialect c at2 kind2 → GoesOn b c → ⊥
 not_longer dialect b c at at2 kind kind2 r s g = none_some (s.shortest b g.0 g.1 g.2) r.decided
 
-kind_same : (k j : FaultKind) → ◌≡◌ {A = Option FaultKind} (Some k) (Some j) → k ≡ j
-kind_same k j e = cc
-
 same_refusal : (dialect : Dialect) (b : List ℕ) (at at2 : ℕ) (kind kind2 : FaultKind) → Refused dialect b at kind
     → Refused dialect b at2 kind2 → (at ≡ at2) × (kind ≡ kind2)
 same_refusal dialect b at at2 kind kind2 r s =
-    (omega (arith, r.place, s.place), kind_same kind kind2 (sym r.decided ∙ s.decided))
+    let same : ◌≡◌ {A = Option FaultKind} (Some kind) (Some kind2) = sym r.decided ∙ s.decided in
+    (omega (arith, r.place, s.place), cc)
 
 pub one_refusal : OneRefusal
 one_refusal dialect b c v u at at2 kind kind2 e r s = elim (fronts b c v u e) [
   | inl same ↦
-      let t = same_refusal dialect c at at2 kind kind2 (subst (λ (l : List ℕ). Refused dialect l at kind) same r) s in
-      (same, t.0, t.1)
+      let t = same_refusal dialect c at at2 kind kind2 (rw same at r) s in (same, t.0, t.1)
   | inr (inl g) ↦ absurd (not_longer dialect b c at at2 kind kind2 r s g)
   | inr (inr g) ↦ absurd (not_longer dialect c b at2 at kind2 kind s r g)
 ]

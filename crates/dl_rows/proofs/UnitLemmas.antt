@@ -1,6 +1,5 @@
 -- Fronts of a unit: what a header and a length that stand in them are, and what they decide.
-use Rattle.std.proofs.Common.{◌≡◌, ℕ, ◌+◌, List, ◌∷◌, ◌++◌, length, Option, Some, None, refl, sym, ap, subst, ◌∙◌}
-use Rattle.std.proofs.Common.{append_assoc}
+use Rattle.std.proofs.Common.{◌≡◌, ℕ, List, ◌∷◌, ◌++◌, Option, Some, None, refl, sym, ap, ◌∙◌, append_assoc}
 use Rattle.dl_head.specs.declared.dialect.Dialect.{Dialect}
 use Rattle.dl_field.specs.HeaderData.{HeaderData}
 use Rattle.dl_field.specs.Layout.{following_all}
@@ -47,12 +46,12 @@ decided_in_header dialect b none = ap (decided_after dialect b) none
 pub refused_in_header : RefusedInHeader
 refused_in_header dialect b at kind none = (
   λ r. record {
-    place = subst (λ (w : List ℕ). at + length w ≡ length b) left r.place;
+    place = rw left at r.place;
     decided = sym (decided_in_header dialect b none) ∙ r.decided;
     shortest = λ front x back e. sym (before front x back e) ∙ r.shortest front x back e;
   },
   λ r. record {
-    place = subst (λ (w : List ℕ). at + length w ≡ length b) (sym left) r.place;
+    place = rw left r.place;
     decided = decided_in_header dialect b none ∙ r.decided;
     shortest = λ front x back e. before front x back e ∙ r.shortest front x back e;
   },

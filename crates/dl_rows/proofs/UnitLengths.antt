@@ -1,16 +1,16 @@
--- The length of a unit, and the version of a foreign one, as they are computed.
+-- The length of a unit, and the version of a foreign one, as they are computed; and that this holds no cells.
 use Rattle.dl_head.specs.declared.dialect.Dialect.{Dialect}
 use Rattle.std.proofs.Common.{◌≡◌, ◌≢◌, ℕ, ◌≤◌, ◌^◌, ◌+◌, List, [], ◌∷◌, ◌++◌, length, Option, Some, None, refl, sym}
-use Rattle.std.proofs.Common.{ap}
-use Rattle.std.proofs.Common.{subst, ◌∙◌, arith, inl, inr, length-append, append_assoc, append-nil}
+use Rattle.std.proofs.Common.{ap, ◌∙◌, arith, inl, inr, length-append, append_assoc, append-nil, sum_by}
+use Rattle.std.proofs.lemmas.List.{nil_from_length}
 use Rattle.std.proofs.lemmas.Bool.{cases_eq, eq-eqb, ne_eqb}
 use Rattle.dl_num.specs.declared.fixed.Order.{Order}
 use Rattle.dl_table.specs.declared.form.Format.{Format}
 use Rattle.dl_table.specs.declared.form.Format.TheVariants.{Dwarf32, Dwarf64}
 use Rattle.dl_table.specs.Value.{good}
-use Rattle.dl_field.specs.Field.{IsFixed, IsInitialLength}
-use Rattle.dl_field.specs.Layout.{version, Layout, number_then, foreign_version, Item, length_is, number_is, form_is}
-use Rattle.dl_field.specs.Layout.{value_is, end_is, following, following_all, field_spelt}
+use Rattle.dl_field.specs.Field.{IsInitialLength}
+use Rattle.dl_field.specs.Layout.{version, Layout, number_then, foreign_version, Item, length_is, number_is, following}
+use Rattle.dl_field.specs.Layout.{following_all, field_spelt}
 use Rattle.dl_head.specs.Dialect.{older_size}
 use Rattle.dl_head.specs.HeaderLayout.{header_layout, initial_size, from_address_size, format_alone, older_params}
 use Rattle.dl_head.specs.HeaderLayout.{from_older_version}
@@ -25,6 +25,12 @@ use Rattle.dl_head.proofs.Openings.{after_length}
 use Rattle.dl_rows.specs.LineUnit.{HasItsLength, IsForeignUnit, IsUnit}
 use Rattle.dl_rows.specs.UnitLaws.{LengthIsComputed, NoUnitBeginsAnother}
 use Rattle.dl_rows.proofs.UnitLemmas.{unit_len_on}
+use Rattle.std.proofs.lemmas.List.Sums.{sum_by-cons}
+use Rattle.dl_field.specs.Cells.{item_cells, rest_cells}
+use Rattle.dl_head.specs.Cells.{cells}
+
+length_same : (f g : Format) (m n : ℕ) → length_is f m ≡ length_is g n → initial_size f + m ≡ initial_size g + n
+length_same f g m n e = cc
 
 pub some_same : (m n : ℕ) → ◌≡◌ {A = Option ℕ} (Some m) (Some n) → m ≡ n
 some_same m n e = cc
@@ -63,15 +69,7 @@ length_first : (dialect : Dialect) (u : List ℕ) (format : Format) (n : ℕ) (f
     → initial_size format + n ≡ length u → HasItsLength dialect.order u
 length_first dialect u format n front rest whole e size =
     let is = (field_is_judged dialect.order (header_layout dialect) (length_is format n) front).1 e in
-    let sizes : initial_size is.0 + is.1 ≡ initial_size format + n =
-    ap (λ (i : Item). elim i [
-      | length_is g m ↦ initial_size g
-          + m
-      | number_is m ↦ 0
-      | form_is g ↦ 0
-      | value_is v ↦ 0
-      | end_is m ↦ 0
-    ]) (sym is.2) in
+    let sizes = length_same format is.0 n is.1 is.2 in
     record {
       format = is.0;
       unit_length = is.1;
@@ -92,14 +90,10 @@ length_first dialect u format n front rest whole e size =
 length_in : (dialect : Dialect) (u fields rest : List ℕ) (items : List Item) → u ≡ fields ++ rest
     → SpellsFields dialect.order (header_layout dialect) items fields → unit_end items ≡ Some (length u)
     → HasItsLength dialect.order u
-length_in dialect u fields rest [] whole s e = absurd (none_some refl e)
-length_in dialect u fields rest (number_is n ∷ items) whole s e = absurd (none_some refl e)
-length_in dialect u fields rest (form_is f ∷ items) whole s e = absurd (none_some refl e)
-length_in dialect u fields rest (value_is v ∷ items) whole s e = absurd (none_some refl e)
-length_in dialect u fields rest (end_is n ∷ items) whole s e = absurd (none_some refl e)
 length_in dialect u fields rest (length_is format n ∷ items) whole s e =
     length_first dialect u format n s.0 (s.1 ++ rest) (whole ∙ ap (λ (w : List ℕ). w ++ rest) s.2
     ∙ append_assoc s.0 s.1 rest) s.3 (some_same _ _ e)
+length_in dialect u fields rest other whole s e = absurd (none_some refl e)
 
 pub length_is_computed : LengthIsComputed
 length_is_computed dialect u = (
@@ -113,16 +107,12 @@ pub length_of_unit : (dialect : Dialect) (u : List ℕ) → IsUnit dialect u →
 length_of_unit dialect u (inl foreign) = length_of dialect u foreign.1.its_length
 length_of_unit dialect u (inr own) = length_of dialect u own.2.its_length
 
-pub nothing_left : (v : List ℕ) → length v ≡ 0 → v ≡ []
-nothing_left [] e = refl
-nothing_left (x ∷ v) e = absurd (omega arith)
-
 pub no_unit_begins_another : NoUnitBeginsAnother
 no_unit_begins_another dialect u v one two =
     let same =
     some_same _ _ (sym (unit_len_on dialect u v (length u) (length_of_unit dialect u one))
     ∙ length_of_unit dialect (u ++ v) two) in
-    nothing_left v (omega (arith, same, length-append u v))
+    nil_from_length v (omega (arith, same, length-append u v))
 
 -- ---- the version of a foreign unit
 
@@ -160,7 +150,7 @@ none_foreign : (order : Order) (v w : ℕ) (items : List Item) (b : List ℕ)
 none_foreign order v w [] b s e = cc
 none_foreign order v w (i ∷ items) b s e = absurd (none_some refl s.3)
 
-number_same : (m n : ℕ) → number_is m ≡ number_is n → m ≡ n
+pub number_same : (m n : ℕ) → number_is m ≡ number_is n → m ≡ n
 number_same m n e = cc
 
 -- what follows a version other than 5 leads to a foreign version only where it isn't read
@@ -203,23 +193,18 @@ foreign_in_fields dialect v u fields rest (i ∷ j ∷ items) whole s e f =
     let a = is_length dialect.order s.0 i s.3 in
     let first : field_spelt dialect.order (header_layout dialect) s.0 ≡ good (length_is a.format a.number) =
     s.3 ∙ ap (λ (k : Item). good k) a.item in
-    let next : SpellsFields dialect.order (number_then version (after_length dialect a.format a.number))
-    (j ∷ items) s.1 =
-    subst (λ (k : Item). SpellsFields dialect.order (following (header_layout dialect) k) (j ∷ items) s.1) a.item s.4 in
+    let next : SpellsFields dialect.order (number_then version (after_length dialect a.format a.number)) (j ∷ items)
+    s.1 = rw a.item at s.4 in
     let n = is_number dialect.order version (after_length dialect a.format a.number) next.0 j next.3 in
     let tail : following_all (after_length dialect a.format a.number n.number) items ≡ foreign_version v =
-    ap (λ (k : Item). following_all (following (number_then version (after_length dialect a.format a.number)) k) items)
-    (sym n.item)
-    ∙ ap (λ (k : Item). following_all (following (header_layout dialect) k) (j ∷ items)) (sym a.item) ∙ f in
+    rw (a.item, n.item) at f in
     let found =
     version_of dialect a.format a.number n.number v items next.1
-    (subst (λ (k : Item). SpellsFields dialect.order
-    (following (number_then version (after_length dialect a.format a.number)) k)
-    items next.1) n.item next.4) tail in
+    (rw n.item at next.4) tail in
     let judged =
     (field_is_judged dialect.order (number_then version (after_length dialect a.format a.number))
     (number_is n.number) next.0).1
-    (next.3 ∙ ap (λ (k : Item). good k) n.item) in
+    (rw n.item at next.3) in
     record {
       its_length =
           length_first dialect u a.format a.number s.0 (s.1 ++ rest) (whole ∙ ap (λ (w : List ℕ). w ++ rest) s.2
@@ -229,8 +214,7 @@ foreign_in_fields dialect v u fields rest (i ∷ j ∷ items) whole s e f =
       back = next.1 ++ rest;
       whole = ap (λ (w : List ℕ). w ++ rest) next.2 ∙ append_assoc next.0 next.1 rest;
       spells =
-          subst (λ (m : ℕ). IsFixed dialect.order 2 m next.0)
-          (sym (number_same n.number judged.0 judged.1) ∙ found.0) judged.2;
+          rw (sym (number_same n.number judged.0 judged.1) ∙ found.0) at judged.2;
       other = found.1;
       unread = found.2;
     }
@@ -257,20 +241,56 @@ unit_len_small dialect b n e =
   where
     on : (items : List Item) (w : List ℕ) → SpellsFields dialect.order (header_layout dialect) items w
         → unit_end items ≡ Some n → n ≤ 2 ^ 41
-    on [] w s e = absurd (none_some refl e)
-    on (number_is m ∷ items) w s e = absurd (none_some refl e)
-    on (form_is f ∷ items) w s e = absurd (none_some refl e)
-    on (value_is v ∷ items) w s e = absurd (none_some refl e)
-    on (end_is m ∷ items) w s e = absurd (none_some refl e)
     on (length_is format m ∷ items) w s e =
         let is = (field_is_judged dialect.order (header_layout dialect) (length_is format m) s.0).1 s.3 in
-        let sizes : initial_size is.0 + is.1 ≡ initial_size format + m =
-        ap (λ (i : Item). elim i [
-          | length_is g k ↦ initial_size g
-              + k
-          | number_is k ↦ 0
-          | form_is g ↦ 0
-          | value_is v ↦ 0
-          | end_is k ↦ 0
-        ]) (sym is.2) in
+        let sizes = length_same format is.0 m is.1 is.2 in
         omega (arith, some_same _ _ e, sizes, small_length dialect.order is.0 is.1 s.0 is.3)
+    on other w s e = absurd (none_some refl e)
+
+-- ---- a foreign unit holds no cells
+
+-- after a foreign version no field is spelled
+after_version : (dialect : Dialect) (format : Format) (n m v : ℕ) (items : List Item) (w : List ℕ)
+    → SpellsFields dialect.order (after_length dialect format n m) items w
+    → following_all (after_length dialect format n m) items ≡ foreign_version v → sum_by item_cells items ≡ 0
+after_version dialect format n m v [] w s e = refl
+after_version dialect format n m v (i ∷ items) w s e =
+    let found = version_of dialect format n m v (i ∷ items) w s e in
+    let same : after_length dialect format n m ≡ foreign_version m =
+    rw (found.0, ne_eqb v 5 found.1) (rw found.2 refl) in
+    let t : SpellsFields dialect.order (foreign_version m) (i ∷ items) w = rw same at s in
+    absurd (none_some refl t.3)
+
+-- nor is its length or its version a cell
+in_fields : (dialect : Dialect) (v : ℕ) (items : List Item) (w : List ℕ)
+    → SpellsFields dialect.order (header_layout dialect) items w
+    → following_all (header_layout dialect) items ≡ foreign_version v → sum_by item_cells items ≡ 0
+in_fields dialect v [] w s f = absurd (none_some {a = v} refl (ap foreign_made f))
+in_fields dialect v (i ∷ []) w s f =
+    let a = is_length dialect.order s.0 i s.3 in
+    absurd (none_some {a = v} (ap (λ (j : Item). foreign_made (following (header_layout dialect) j)) a.item)
+    (ap foreign_made f))
+in_fields dialect v (i ∷ j ∷ items) w s f =
+    let a = is_length dialect.order s.0 i s.3 in
+    let next : SpellsFields dialect.order (number_then version (after_length dialect a.format a.number)) (j ∷ items)
+    s.1 = rw a.item at s.4 in
+    let n = is_number dialect.order version (after_length dialect a.format a.number) next.0 j next.3 in
+    let tail : following_all (after_length dialect a.format a.number n.number) items ≡ foreign_version v =
+    rw (a.item, n.item) at f in
+    let rest =
+    after_version dialect a.format a.number n.number v items next.1
+    (rw n.item at next.4) tail in
+    let first : item_cells i ≡ 0 = ap item_cells a.item in
+    let second : item_cells j ≡ 0 = ap item_cells n.item in
+    omega (arith, sum_by-cons item_cells i (j ∷ items), sum_by-cons item_cells j items, first, second, rest)
+
+-- what begins with a foreign version holds no cells
+pub foreign_no_cells : (dialect : Dialect) (v : ℕ) (b : List ℕ) → foreign_in dialect b ≡ Some v → cells dialect b ≡ 0
+foreign_no_cells dialect v b foreign =
+    let s : Sound dialect.order (header_layout dialect) b (cut dialect b) =
+    cut_sound dialect.order (header_layout dialect) [] b in
+    let last : following_all (header_layout dialect) (cut dialect b).items ≡ foreign_version v =
+    foreign_last (following_all (header_layout dialect) (cut dialect b).items) v foreign in
+    let items = in_fields dialect v (cut dialect b).items s.front s.spelt last in
+    ap (λ (l : Layout). sum_by item_cells (cut dialect b).items + rest_cells l (cut dialect b).rest) last
+    ∙ ap (λ (n : ℕ). n + 0) items

@@ -1,7 +1,7 @@
 -- No front of a unit is refused.
 use Rattle.dl_head.specs.declared.dialect.Dialect.{Dialect}
-use Rattle.std.proofs.Common.{◌≡◌, ℕ, ◌+◌, ◌≤◌, List, [], ◌∷◌, ◌++◌, length, Option, Some, None, Ok, Err, refl, sym, ap}
-use Rattle.std.proofs.Common.{subst, ◌∙◌, arith, inl, inr, length-append, append_assoc, append-nil}
+use Rattle.std.proofs.Common.{◌≡◌, ◌≢◌, ℕ, ◌+◌, ◌≤◌, List, [], ◌∷◌, ◌++◌, length, Option, Some, None, Err, refl, sym, ap}
+use Rattle.std.proofs.Common.{◌∙◌, arith, inl, inr, length-append, append_assoc, append-nil}
 use Rattle.std.proofs.lemmas.Bool.{ne_eqb}
 use Rattle.dl_num.specs.declared.fixed.Order.{Order}
 use Rattle.dl_num.specs.Front.{Standing}
@@ -26,6 +26,36 @@ use Rattle.dl_rows.proofs.OperationLaws.{bad_is_faulty, no_spelling_is_faulty}
 use Rattle.dl_rows.proofs.ProgramLaws.{program_is_found, found_is_program, none_begins_rest}
 use Rattle.dl_rows.proofs.UnitLemmas.{header_on, unit_len_on, refused_in_header}
 use Rattle.dl_rows.proofs.UnitLengths.{length_of_unit, foreign_of}
+
+-- ---- the bytes of the current operation, and what they decide
+
+-- w isn't bad
+abbrev pub NotBad : Order → Params → List ℕ → Type 0
+NotBad order h w = (k : FaultKind) → operation_spelt order h w ≡ Some (Err k) → ⊥
+
+pub bad_decides : (order : Order) (h : Params) (w : List ℕ) (n : ℕ) (end : Option ℕ) (k : FaultKind)
+    → operation_spelt order h w ≡ Some (Err k) → operation_decided order h w n end ≡ Some k
+bad_decides order h [] n end k e = absurd (none_some refl e)
+bad_decides order h (x ∷ w) n end k e = rw e
+
+-- where they aren't bad, the unit's end decides
+pub end_decides : (order : Order) (h : Params) (w : List ℕ) (n : ℕ) (end : Option ℕ) → w ≢ [] → NotBad order h w
+    → operation_decided order h w n end ≡ at_end fault.OpcodeOverrun n end
+end_decides order h [] n end some not_bad = absurd (some refl)
+end_decides order h (x ∷ w) n end some not_bad = on (operation_spelt order h (x ∷ w)) refl where
+  on : (j : Judgement Operation) → operation_spelt order h (x ∷ w) ≡ j
+      → or_else (bad_kind j) (at_end fault.OpcodeOverrun n end) ≡ at_end fault.OpcodeOverrun n end
+  on (Some (Err k)) e = absurd (not_bad k e)
+  on other e = refl
+
+-- nor does that, where it doesn't come in them
+pub nothing_decides : (order : Order) (h : Params) (w : List ℕ) (n : ℕ) (end : Option ℕ) → NotBad order h w
+    → (end ≡ Some n → w ≡ []) → operation_decided order h w n end ≡ None
+nothing_decides order h [] n end not_bad ends = refl
+nothing_decides order h (x ∷ w) n None not_bad ends = end_decides order h (x ∷ w) n None (λ e. absurd cc) not_bad
+nothing_decides order h (x ∷ w) n (Some end) not_bad ends =
+    end_decides order h (x ∷ w) n (Some end) (λ e. absurd cc) not_bad
+    ∙ rw (ne_eqb n end (λ same. (let e : x ∷ w ≡ [] = ends (ap (λ (m : ℕ). Some m) (sym same)) in absurd cc)))
 
 -- ---- fronts of a program
 
@@ -52,18 +82,15 @@ rest_program order h p b back some s =
     ap (λ (t : Standing Operation). t.rest) (sym later
     ∙ ap (operations_in order h) (sym whole ∙ sym (append-nil (b ++ back))) ∙ all) in
     let g = found_is_program order h (rest ++ back) some in
-    let same : g.0 ≡ rest ++ back = sym (append-nil g.0) ∙ ap (λ (z : List ℕ). g.0 ++ z) (sym none) ∙ sym g.1 in (
-      (operations_in order h (rest ++ back)).found,
-      subst (λ (z : List ℕ). SpellsProgram order h (operations_in order h (rest ++ back)).found z) same g.2,
-    )
+    let same : rest ++ back ≡ g.0 = g.1 ∙ rw none (append-nil g.0) in
+    ((operations_in order h (rest ++ back)).found, rw (← same) at g.2)
 
 completed : (order : Order) (h : Params) (p : List Operation) (b back begun : List ℕ) → 1 ≤ h.opcode_base
     → SpellsProgram order h p (b ++ back) → (operations_in order h b).rest ≡ begun → 1 ≤ length begun
     → Completed order h begun back
 completed order h p b back begun some s e long = on next.0 next.1 where
   next : (q : List Operation) × SpellsProgram order h q (begun ++ back)
-  next = let r =
-      rest_program order h p b back some s in (r.0, subst (λ (z : List ℕ). SpellsProgram order h r.0 (z ++ back)) e r.1)
+  next = (let r = rest_program order h p b back some s in (r.0, rw e at r.1))
 
   -- no operation stands at the front of what is left
   none : (o : Operation) (w v : List ℕ) → begun ≡ w ++ v → SpellsOperation order h o w → ⊥
@@ -80,7 +107,7 @@ completed order h p b back begun some s e long = on next.0 next.1 where
       rest = rest;
       bytes = after_front begun back ((goes.0 ∷ goes.1) ++ rest) (k ∙ ap (λ (z : List ℕ). z ++ rest) goes.2
           ∙ append_assoc begun (goes.0 ∷ goes.1) rest);
-      spells = subst (λ (z : List ℕ). SpellsOperation order h o z) goes.2 t;
+      spells = rw goes.2 at t;
     }
     | inr (inr goes) ↦ absurd (none o front (goes.0 ∷ goes.1) goes.2 t)
   ]
@@ -91,32 +118,18 @@ pub operation_quiet : (order : Order) (h : Params) (p : List Operation) (b back 
     → (operations_in order h b).rest ≡ begun → ((e : ℕ) → end ≡ Some e → n + length back ≤ e)
     → operation_decided order h begun n end ≡ None
 operation_quiet order h p b back [] n end some s e ends = refl
-operation_quiet order h p b back (x ∷ w) n end some s e ends = on (operation_spelt order h (x ∷ w)) refl where
-  c : Completed order h (x ∷ w) back
-  c = completed order h p b back (x ∷ w) some s e (omega arith)
-
-  before_end : (o : Option ℕ) → end ≡ o → at_end fault.OpcodeOverrun n o ≡ None
-  before_end None k = refl
-  before_end (Some m) k =
-      rw (ne_eqb n m (λ same. omega (arith, same, ends m k, ap length c.bytes, length-append (c.byte ∷ c.more) c.rest)))
-      refl
-
-  on : (j : Judgement Operation) → operation_spelt order h (x ∷ w) ≡ j
-      → or_else (bad_kind j) (at_end fault.OpcodeOverrun n end) ≡ None
-  on (Some (Err k)) j =
-      absurd (no_spelling_is_faulty order h c.operation k (x ∷ w) (c.byte ∷ c.more) some c.spells
-      ((bad_is_faulty order h k (x ∷ w) some).1 j).faulty)
-  on (Some (Ok o)) j = before_end end refl
-  on None j = before_end end refl
+operation_quiet order h p b back (x ∷ w) n end some s e ends =
+    let c = completed order h p b back (x ∷ w) some s e (omega arith) in
+    nothing_decides order h (x ∷ w) n end
+    (λ k j. no_spelling_is_faulty order h c.operation k (x ∷ w) (c.byte ∷ c.more) some c.spells
+    ((bad_is_faulty order h k (x ∷ w) some).1 j).faulty)
+    (λ same. absurd (omega (arith, ends n same, ap length c.bytes, length-append (c.byte ∷ c.more) c.rest)))
 
 -- ---- fronts of a unit
 
 pub parts_same : (g h : HeaderData) (v w : List ℕ) → ◌≡◌ {A = Option (HeaderData × List ℕ)} (Some (g, v)) (Some (h, w))
     → (g ≡ h) × (v ≡ w)
-parts_same g h v w e = (
-  ap (λ (o : Option (HeaderData × List ℕ)). elim o [ Some p ↦ p.0 | None ↦ g ]) e,
-  ap (λ (o : Option (HeaderData × List ℕ)). elim o [ Some p ↦ p.1 | None ↦ v ]) e,
-)
+parts_same g h v w e = grind arith
 
 -- a front with the header decides nothing
 own_quiet : (dialect : Dialect) (h : HeaderData) (p : List Operation) (u front back : List ℕ) (g : HeaderData)
@@ -130,10 +143,8 @@ own_quiet dialect h p u front back g begun is e found =
     ∙ ap (header_in dialect) (sym e) ∙ all) in
     let opcodes = (header_is_usable dialect h is.header is.spells_header).opcodes in
     let program : SpellsProgram dialect.order g.params p (begun ++ back) =
-    subst (λ (d : HeaderData). SpellsProgram dialect.order d.params p (begun ++ back)) (sym same.0)
-    (subst (λ (w : List ℕ). SpellsProgram dialect.order h.params p w) (sym same.1) is.spells_program) in
-    let some : 1 ≤ g.params.opcode_base =
-    subst (λ (d : HeaderData). 1 ≤ d.params.opcode_base) (sym same.0) (omega arith) in
+    rw (same.0, same.1) is.spells_program in
+    let some : 1 ≤ g.params.opcode_base = rw same.0 (omega arith) in
     ap (decided_after dialect front) found
     ∙ operation_quiet dialect.order g.params p begun back (operations_in dialect.order g.params begun).rest
     (length front)

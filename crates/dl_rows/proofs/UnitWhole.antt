@@ -1,24 +1,21 @@
 -- Bytes as long as their initial length says, of which no front is refused, are a unit.
 use Rattle.dl_head.specs.declared.dialect.Dialect.{Dialect}
-use Rattle.std.proofs.Common.{◌≡◌, ℕ, ◌-◌, ◌≤◌, List, [], ◌∷◌, ◌++◌}
-use Rattle.std.proofs.Common.{length, Option, Some, None, refl, sym, ap, subst, ◌∙◌, arith, inl, inr}
-use Rattle.std.proofs.Common.{length-append, append_assoc, append-nil}
+use Rattle.std.proofs.Common.{◌≡◌, ℕ, ◌-◌, ◌≤◌, List, [], ◌∷◌, ◌++◌, length, Option, Some, None, refl, sym, ap}
+use Rattle.std.proofs.Common.{◌∙◌, arith, inl, inr, length-append, append_assoc, append-nil}
 use Rattle.dl_num.specs.Front.{IsCut, standing}
 use Rattle.dl_num.proofs.FrontLemmas.{one_cut}
 use Rattle.dl_table.specs.declared.fault.FaultKind.{FaultKind}
 use Rattle.dl_table.specs.declared.fault.FaultKind.TheVariants as fault
 use Rattle.dl_field.specs.HeaderData.{HeaderData}
 use Rattle.dl_head.specs.HeaderLayout.{header_layout}
-use Rattle.dl_head.specs.Header.{cut, unit_len, header_end}
-use Rattle.dl_head.specs.Header.{foreign_in, header_in}
+use Rattle.dl_head.specs.Header.{cut, unit_len, header_end, foreign_in, header_in}
 use Rattle.dl_head.specs.Refusal.{bad_kind}
 use Rattle.dl_field.proofs.FieldLemmas.{none_some}
 use Rattle.dl_head.proofs.CutLemmas.{cut_sound, Sound}
 use Rattle.dl_head.proofs.HeaderLaws.{found_is_header}
 use Rattle.dl_rows.specs.OperationSpelt.{operation_spelt, operations_in}
-use Rattle.dl_rows.specs.Spelling.{SpellsProgram}
 use Rattle.dl_rows.specs.LineUnit.{IsOwnUnit, IsUnit}
-use Rattle.dl_rows.specs.Refusal.{left_after, left_over, operation_decided, decided_after, unit_decided, Refused}
+use Rattle.dl_rows.specs.Refusal.{left_after, left_over, operation_decided, unit_decided, Refused}
 use Rattle.dl_rows.specs.UnitLaws.{UnitUnlessRefused}
 use Rattle.dl_rows.proofs.HeaderParams.{header_is_usable}
 use Rattle.dl_rows.proofs.ProgramLaws.{found_is_program}
@@ -118,19 +115,15 @@ own_unit dialect b h program len quiet e =
     let opcodes = (header_is_usable dialect h f.0 f.2).opcodes in
     let p = found_is_program dialect.order h.params program (omega arith) in
     let over =
-    none_over (operations_in dialect.order h.params program).rest (sym (ap (decided_after dialect b) e
-    ∙ ap (λ (o : Option ℕ). operation_decided dialect.order h.params (operations_in dialect.order h.params program).rest
-    (length b) o) len) ∙ quiet) in
-    let whole : p.0 ≡ program = sym (p.1 ∙ ap (λ (w : List ℕ). p.0 ++ w) over ∙ append-nil p.0) in
+    none_over (operations_in dialect.order h.params program).rest (rw (e, len) at quiet) in
+    let whole : p.0 ≡ program = sym (rw (over, append-nil) at p.1) in
     record {
       its_length = (length_is_computed dialect b).1 len;
       header = f.0;
       program = program;
       whole = f.1;
       spells_header = f.2;
-      spells_program =
-          subst (λ (w : List ℕ). SpellsProgram dialect.order h.params
-          (operations_in dialect.order h.params program).found w) whole p.2;
+      spells_program = rw whole at p.2;
     }
   where
     none_over : (w : List ℕ) → operation_decided dialect.order h.params w (length b) (Some (length b)) ≡ None → w ≡ []

@@ -1,6 +1,4 @@
-use Rattle.std.proofs.Common.{◌≤◌, [], inl, inr, refl, sym, subst, arith}
-use Rattle.dl_rows.specs.declared.operation_state.OperationStep.{OperationStep}
-use Rattle.dl_rows.specs.Phases.{StepIs}
+use Rattle.std.proofs.Common.{◌≤◌, [], inl, inr, refl, arith}
 use Rattle.dl_rows.proofs.OperationFront.{NoneGood, nowhere_good, bad_is_none}
 use Rattle.dl_rows.proofs.front.operation_at_front.Goals as goal
 
@@ -12,8 +10,7 @@ returns-in-Within c =
     let some : 1 ≤ h.opcode_base = omega (arith, c.requires.opcodes) in
     let step = c.push.ensures.step [] refl in
     let none : NoneGood order h b = elim c.in-Within.is [
-      | inl w ↦ nowhere_good order h b (subst (λ (s : OperationStep). StepIs order h [] b s) w.1 step).1
-      | inr r ↦ (let s = subst (λ (s : OperationStep). StepIs order h [] b s) r.2 step in
-          subst (NoneGood order h) (sym s.1) (bad_is_none order h s.0 r.1.now r.0 some s.2))
+      | inl w ↦ nowhere_good order h b (rw w.1 at step).1
+      | inr r ↦ (let s = rw r.2 at step in rw s.1 (bad_is_none order h s.0 r.1.now r.0 some s.2))
     ] in
     record { left = tt; some = tt; none = none }

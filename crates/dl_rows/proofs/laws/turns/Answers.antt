@@ -1,5 +1,4 @@
-use Rattle.dl_rows.proofs.RunLemmas.{trace_runs}
-use Rattle.dl_rows.proofs.RunUnits.{trace_of_unit}
+use Rattle.dl_rows.proofs.RunLemmas.{trace_runs, trace_of_unit}
 use Rattle.dl_rows.proofs.laws.turns.Goals as goal
 
 pub returns-clause-trace : goal.returns-clause-trace

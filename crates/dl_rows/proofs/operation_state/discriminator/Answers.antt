@@ -1,4 +1,4 @@
-use Rattle.std.proofs.Common.{List, ℕ, ◌++◌, ◌-◌, take, slice_index_or, sym, subst}
+use Rattle.std.proofs.Common.{◌++◌, take, slice_index_or}
 use Rattle.dl_num.specs.declared.fixed.Order.TheVariants.{Little}
 use Rattle.dl_num.proofs.ReadBack.{split_at}
 use Rattle.dl_rows.specs.declared.operation_state.OperationState.TheVariants as phase
@@ -11,19 +11,15 @@ pub loop-i-preserved : goal.loop-i-preserved
 loop-i-preserved c h v s =
     let xs = c.args.bytes.now in
     let i = c.loop-i.i in
-    subst (λ (z : List ℕ). PhaseStands h (phase.Discriminator (c.loop-i.left - 1) c.push.new.self) z)
-    (sym (next_front v xs i c.loop-i-test.true))
+    rw (next_front v xs i c.loop-i-test.true)
     (discriminator_more Little h c.loop-i.left (slice_index_or xs i 0) c.loop-i.number c.push.new.self (v ++ take i xs)
-    (c.loop-i.invariant h v s) c.if-left-le1.false
-    c.in_default.ensures.answer)
+    (c.loop-i.invariant h v s) c.if-left-le1.false c.in_default.ensures.answer)
 
 pub returns-clause-step : goal.returns-clause-step
 returns-clause-step c order h v s =
     let xs = c.args.bytes.now in
-    let e = all_taken xs c.loop-i.i c.loop-i-test.false in
-    let now =
-    subst (λ (z : List ℕ). PhaseStands h (phase.Discriminator c.loop-i.left c.loop-i.number) (v ++ z)) e
-    (c.loop-i.invariant h v s) in
+    let now : PhaseStands h (phase.Discriminator c.loop-i.left c.loop-i.number) (v ++ xs) =
+    rw (all_taken xs c.loop-i.i c.loop-i-test.false) at (c.loop-i.invariant h v s) in
     (now, discriminator_pends order h c.loop-i.left c.loop-i.number (v ++ xs) now)
 
 pub returns-then-left-le1-clause-step : goal.returns-then-left-le1-clause-step
@@ -41,9 +37,7 @@ returns-in-Ok-clause-step c order h v s =
     let answer = rw c.in-Ok.is at c.in-Some.ensures.answer in
     ends_after order h v (take i xs) xs _ (slice_index_or xs i 0) _ (split_at xs i c.loop-i-test.true)
     (discriminator_ends order h (slice_index_or xs i 0) c.loop-i.number (v ++ take i xs) c.in-Ok.value
-    (subst (λ (z : ℕ). PhaseStands h (phase.Discriminator z c.loop-i.number) (v ++ take i xs)) c.if-left-eq1.true
-    (c.loop-i.invariant h v s))
-    (rw c.in-Ok.is at c.in-Some.ensures.fits) (λ w t. (answer w t).0))
+    (rw c.if-left-eq1.true at (c.loop-i.invariant h v s)) (rw c.in-Ok.is at c.in-Some.ensures.fits) (λ w t. (answer w t).0))
 
 pub returns-in-Ok-2-clause-step : goal.returns-in-Ok-2-clause-step
 returns-in-Ok-2-clause-step c order h v s =

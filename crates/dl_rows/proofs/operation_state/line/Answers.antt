@@ -1,7 +1,6 @@
-use Rattle.std.proofs.Common.{ℤ, Ok, w64, sym, subst}
+use Rattle.std.proofs.Common.{w64}
 use Rattle.std.proofs.lemmas.Int.{to_z-of_z}
-use Rattle.dl_rows.specs.declared.operation.Operation.TheVariants as op
-use Rattle.dl_rows.proofs.PhaseLemmas.{EndsAs, signed_fits, line_within, line_ends, line_refuses}
+use Rattle.dl_rows.proofs.PhaseLemmas.{signed_fits, line_within, line_ends, line_refuses}
 use Rattle.dl_rows.proofs.operation_state.line.Goals as goal
 
 pub returns-in_default-clause-step : goal.returns-in_default-clause-step
@@ -11,8 +10,7 @@ returns-in_default-clause-step c order h v s =
 pub returns-in-Ok-clause-step : goal.returns-in-Ok-clause-step
 returns-in-Ok-clause-step c order h v s =
     let fits = rw c.in-Ok.is at c.in-Some.ensures.fits in
-    subst (λ (z : ℤ). EndsAs order h v c.args.bytes.now c.in-Some.tail.now (Ok (op.AdvanceLine z)))
-    (sym (to_z-of_z w64 c.in-Ok.lines (signed_fits c.in-Ok.lines fits)))
+    rw (to_z-of_z w64 c.in-Ok.lines (signed_fits c.in-Ok.lines fits))
     (line_ends order h c.args.number c.take_from.new.self v c.args.bytes.now c.in-Some.tail.now c.in-Ok.lines fits s
     (rw c.in-Ok.is at c.in-Some.ensures.answer))
 

@@ -1,6 +1,6 @@
 use Rattle.std.proofs.Common.{◌-◌, arith, refl, [], slice_index}
 use Rattle.dl_rows.specs.Phases.{LebsLeft}
-use Rattle.dl_rows.proofs.SkipLemmas.{lebs_start}
+use Rattle.dl_rows.proofs.OperandLemmas.{lebs_start}
 use Rattle.dl_rows.proofs.BodyLemmas.{skipped_at_once}
 use Rattle.dl_rows.proofs.operation_state.operands.Goals as goal
 

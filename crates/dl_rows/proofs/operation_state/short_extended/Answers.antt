@@ -1,5 +1,5 @@
 use Rattle.std.proofs.Common.{arith, ◌∙◌}
-use Rattle.dl_rows.proofs.ShortExtended.{short_end, short_address, short_discriminator}
+use Rattle.dl_rows.proofs.BodyLemmas.{short_end, short_address, short_discriminator}
 use Rattle.dl_rows.proofs.operation_state.short_extended.Goals as goal
 
 pub returns-in-1-clause-operation : goal.returns-in-1-clause-operation

@@ -1,7 +1,6 @@
-use Rattle.std.proofs.Common.{[], ◌∷◌, ℤ, Ok, w64, arith, sym, subst}
+use Rattle.std.proofs.Common.{[], ◌∷◌, w64, arith}
 use Rattle.std.proofs.lemmas.Int.{to_z-of_z}
-use Rattle.dl_rows.specs.declared.operation.Operation.TheVariants as op
-use Rattle.dl_rows.proofs.PhaseLemmas.{EndsAs, after_opcode, signed_fits, short_line}
+use Rattle.dl_rows.proofs.PhaseLemmas.{after_opcode, signed_fits, short_line}
 use Rattle.dl_rows.proofs.operation_state.short_operation.Goals as goal
 
 pub returns-in-Some-clause-operation : goal.returns-in-Some-clause-operation
@@ -16,8 +15,7 @@ returns-in-0-clause-operation c =
 pub returns-in_ok-lines-in-3-clause-operation : goal.returns-in_ok-lines-in-3-clause-operation
 returns-in_ok-lines-in-3-clause-operation c =
     let lines = c.in_ok-lines-in-3.lines in
-    subst (λ (z : ℤ). EndsAs c.args.order c.args.params.now [] c.args.bytes.now c.in_ok-lines-in-3.tail.now
-    (Ok (op.AdvanceLine z))) (sym (to_z-of_z w64 lines (signed_fits lines c.in_ok-lines-in-3.ensures.fits)))
+    rw (to_z-of_z w64 lines (signed_fits lines c.in_ok-lines-in-3.ensures.fits))
     (short_line c.args.order c.args.params.now c.in_ok-opcode.opcode.now c.args.bytes.now c.in_ok-opcode.bytes.now
     c.in_ok-lines-in-3.tail.now lines c.in-3.is c.in_default.ensures.none.0
     c.in_ok-opcode.ensures.cases.0 c.in_ok-lines-in-3.ensures.fits c.in_ok-lines-in-3.ensures.number)

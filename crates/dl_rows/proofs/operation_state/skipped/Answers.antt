@@ -1,7 +1,7 @@
-use Rattle.std.proofs.Common.{List, ℕ, ◌++◌, ◌-◌, suc, ◌≡◌, take, slice_index_or, sym, subst, arith, refl}
+use Rattle.std.proofs.Common.{◌++◌, ◌-◌, suc, ◌≡◌, take, slice_index_or, arith, refl}
 use Rattle.dl_num.proofs.ReadBack.{split_at}
 use Rattle.dl_rows.specs.Phases.{LebsLeft}
-use Rattle.dl_rows.proofs.SkipLemmas.{lebs_more, lebs_next}
+use Rattle.dl_rows.proofs.OperandLemmas.{lebs_more, lebs_next}
 use Rattle.dl_rows.proofs.BodyLemmas.{not_lt, next_front, all_taken, skipped_within, skipped_ends}
 use Rattle.dl_rows.proofs.operation_state.skipped.Goals as goal
 
@@ -9,18 +9,18 @@ pub loop-i-preserved-then-not-push : goal.loop-i-preserved-then-not-push
 loop-i-preserved-then-not-push c count w l =
     let xs = c.args.bytes.now in
     let i = c.loop-i.i in
-    subst (λ (z : List ℕ). LebsLeft count z c.loop-i.left) (sym (next_front w xs i c.loop-i-test.true))
-    (lebs_more count (w ++ take i xs) c.loop-i.left (slice_index_or xs i 0) (c.loop-i.invariant count w l) (let e =
-    c.if-not-push.ensures in not_lt e.1))
+    rw (next_front w xs i c.loop-i-test.true)
+    (lebs_more count (w ++ take i xs) c.loop-i.left (slice_index_or xs i 0) (c.loop-i.invariant count w l)
+    (let e = c.if-not-push.ensures in not_lt e.1))
 
 pub loop-i-preserved : goal.loop-i-preserved
 loop-i-preserved c count w l =
     let xs = c.args.bytes.now in
     let i = c.loop-i.i in
     let is : c.loop-i.left ≡ suc (c.loop-i.left - 1) = omega (arith, c.if-left-le1.false) in
-    subst (λ (z : List ℕ). LebsLeft count z (c.loop-i.left - 1)) (sym (next_front w xs i c.loop-i-test.true))
-    (lebs_next count (w ++ take i xs) (c.loop-i.left - 1) (slice_index_or xs i 0)
-    (subst (λ (z : ℕ). LebsLeft count (w ++ take i xs) z) is (c.loop-i.invariant count w l))
+    let before : LebsLeft count (w ++ take i xs) (suc (c.loop-i.left - 1)) = rw (← is) (c.loop-i.invariant count w l) in
+    rw (next_front w xs i c.loop-i-test.true)
+    (lebs_next count (w ++ take i xs) (c.loop-i.left - 1) (slice_index_or xs i 0) before
     (c.if-not-push.ensures.0 refl) (omega (arith, c.if-left-le1.false)))
 
 pub returns-then-left-le1-clause-step : goal.returns-then-left-le1-clause-step
@@ -34,6 +34,5 @@ returns-then-left-le1-clause-step c order h v s =
 pub returns-clause-step : goal.returns-clause-step
 returns-clause-step c order h v s =
     let xs = c.args.bytes.now in
-    let e = all_taken xs c.loop-i.i (omega (arith, c.loop-i-test.false)) in
     skipped_within order h c.args.left c.loop-i.left v xs s
-    (λ count w l. subst (λ (z : List ℕ). LebsLeft count (w ++ z) c.loop-i.left) e (c.loop-i.invariant count w l))
+    (λ count w l. rw (all_taken xs c.loop-i.i (omega (arith, c.loop-i-test.false))) at (c.loop-i.invariant count w l))

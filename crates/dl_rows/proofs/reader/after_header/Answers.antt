@@ -1,5 +1,5 @@
 use Rattle.std.proofs.Common.{◌==◌, not, ap}
-use Rattle.dl_rows.proofs.HeaderBegun.{header_knows, header_given}
+use Rattle.dl_rows.proofs.HeadFeeds.{header_knows, header_given}
 use Rattle.dl_rows.proofs.JoinLemmas.{after_the_header}
 use Rattle.dl_rows.proofs.reader.after_header.Goals as goal
 

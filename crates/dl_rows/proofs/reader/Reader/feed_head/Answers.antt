@@ -1,27 +1,21 @@
-use Rattle.std.proofs.Common.{◌≡◌, ◌++◌, take, inr, refl, sym, ap, subst, ◌∙◌, arith}
-use Rattle.dl_head.specs.declared.dialect.Dialect.{Dialect}
-use Rattle.dl_head.specs.declared.reader.HeadReader.{HeadReader}
+use Rattle.std.proofs.Common.{◌++◌, take, inr, refl, sym, ◌∙◌, arith}
 use Rattle.dl_head.specs.declared.reader.HeadStep.TheVariants as answer
-use Rattle.dl_head.specs.Standing.{StandsFor as HeadStands}
-use Rattle.dl_rows.specs.ReaderStates.{HasHeader, StandsAt}
-use Rattle.dl_rows.specs.UnitBodies.{Counts}
 use Rattle.dl_rows.proofs.HeadFeeds.{head_took, bytes_taken, come_to, goes_stands, feeds_goes, holds_more}
 use Rattle.dl_rows.proofs.HeadFeeds.{holds_refused, fails_head, stopped_head, feeds_version, feeds_header}
-use Rattle.dl_rows.proofs.HeaderBegun.{begun_in, begun_takes, goes_more, goes_refused, knows_foreign, has_header}
+use Rattle.dl_rows.proofs.HeadFeeds.{begun_in, begun_takes, comes_to, knows_foreign}
 use Rattle.dl_rows.proofs.ReaderLemmas.{cells_at}
-use Rattle.dl_rows.proofs.UnitBodyFeeds.{all_bytes}
 use Rattle.dl_rows.proofs.reader.Reader.feed_head.Goals as goal
 
 pub invariant_of-self : goal.invariant_of-self
 invariant_of-self c = record {
-  begun = goes_more (begun_in c.in-InHeader.is c.args.self.now.begun) c.offer-used.ensures.offered
-      c.offer-used.ensures.dialect c.in-More.is;
+  begun = comes_to (begun_in c.in-InHeader.is c.args.self.now.begun) c.offer-used.ensures.offered
+      c.offer-used.ensures.dialect answer.More c.in-More.is;
 }
 
 pub invariant_of-self-in-NoMemory : goal.invariant_of-self-in-NoMemory
 invariant_of-self-in-NoMemory c = record {
-  begun = goes_refused (begun_in c.in-InHeader.is c.args.self.now.begun) c.offer-used.ensures.offered
-      c.offer-used.ensures.dialect c.in-NoMemory.is;
+  begun = comes_to (begun_in c.in-InHeader.is c.args.self.now.begun) c.offer-used.ensures.offered
+      c.offer-used.ensures.dialect answer.NoMemory c.in-NoMemory.is;
 }
 
 pub bytes_of-requires : goal.bytes_of-requires
@@ -31,9 +25,8 @@ bytes_of-requires c =
 
 pub after_header-requires : goal.after_header-requires
 after_header-requires c =
-    subst (λ (head : HeadReader). ∥ HasHeader head ∥₁) (sym c.replace-read.ensures.value)
-    (has_header (begun_in c.in-InHeader.is c.args.self.now.begun) c.offer-used.ensures.offered
-    c.offer-used.ensures.dialect c.in-Done.is)
+    rw c.replace-read.ensures.value (comes_to (begun_in c.in-InHeader.is c.args.self.now.begun)
+    c.offer-used.ensures.offered c.offer-used.ensures.dialect answer.Done c.in-Done.is)
 
 pub invariant_of-self-in-Done : goal.invariant_of-self-in-Done
 invariant_of-self-in-Done c = record { begun = c.after_header.ensures.begun }
@@ -41,7 +34,7 @@ invariant_of-self-in-Done c = record { begun = c.after_header.ensures.begun }
 pub returns-in-Fault-clause-fed : goal.returns-in-Fault-clause-fed
 returns-in-Fault-clause-fed c b s =
     let w = b ++ take c.offer-used.result.0 c.args.piece.now in
-    let h = head_took c.in-InHeader.is s (all_bytes c.args.piece.now (λ i lt. omega (arith, c.type_inv.piece i)))
+    let h = head_took c.in-InHeader.is s (λ i lt. omega (arith, c.type_inv.piece i))
     c.offer-used.ensures.offered c.offer-used.ensures.dialect in
     let refused = come_to h _ c.in-Fault.is in (
       c.offer-used.result.0,
@@ -53,61 +46,42 @@ returns-in-Fault-clause-fed c b s =
 
 pub returns-in-More-clause-fed : goal.returns-in-More-clause-fed
 returns-in-More-clause-fed c b s =
-    let h = head_took c.in-InHeader.is s (all_bytes c.args.piece.now (λ i lt. omega (arith, c.type_inv.piece i)))
+    let h = head_took c.in-InHeader.is s (λ i lt. omega (arith, c.type_inv.piece i))
     c.offer-used.ensures.offered c.offer-used.ensures.dialect in
     let goes = come_to h answer.More c.in-More.is in
-    feeds_goes h goes _ _ (goes_stands h goes) refl refl (holds_more h goes (h.whole c.in-More.is))
+    feeds_goes h goes _ _ (goes_stands h goes) refl (holds_more h goes (h.whole c.in-More.is))
 
 pub returns-in-NoMemory-clause-fed : goal.returns-in-NoMemory-clause-fed
 returns-in-NoMemory-clause-fed c b s =
-    let h = head_took c.in-InHeader.is s (all_bytes c.args.piece.now (λ i lt. omega (arith, c.type_inv.piece i)))
+    let h = head_took c.in-InHeader.is s (λ i lt. omega (arith, c.type_inv.piece i))
     c.offer-used.ensures.offered c.offer-used.ensures.dialect in
     let goes = come_to h answer.NoMemory c.in-NoMemory.is in
-    feeds_goes h goes _ _ (goes_stands h goes) refl refl (holds_refused h goes c.in-NoMemory.is)
+    feeds_goes h goes _ _ (goes_stands h goes) refl (holds_refused h goes c.in-NoMemory.is)
 
 pub returns-in-Foreign-clause-fed : goal.returns-in-Foreign-clause-fed
 returns-in-Foreign-clause-fed c b s =
     let w = b ++ take c.offer-used.result.0 c.args.piece.now in
-    let h = head_took c.in-InHeader.is s (all_bytes c.args.piece.now (λ i lt. omega (arith, c.type_inv.piece i)))
+    let h = head_took c.in-InHeader.is s (λ i lt. omega (arith, c.type_inv.piece i))
     c.offer-used.ensures.offered c.offer-used.ensures.dialect in
     let foreign = come_to h (answer.Foreign c.in-Foreign.version) c.in-Foreign.is in
     let some = begun_takes (begun_in c.in-InHeader.is c.args.self.now.begun) c.offer-used.ensures.progress
-    (λ e. no_more (sym c.in-Foreign.is ∙ e)) (λ e. no_refusal (sym c.in-Foreign.is ∙ e)) in
+    (λ e. absurd (cc (sym c.in-Foreign.is ∙ e))) (λ e. absurd (cc (sym c.in-Foreign.is ∙ e))) in
     feeds_version h _ c.in-Foreign.version foreign some (
       c.in-Foreign.version,
-      record {
-        counts =
-            subst (λ (d : Dialect). Counts d c.bytes_of.result w) h.same_dialect (c.bytes_of.ensures w h.stands);
-        foreign =
-            foreign;
-      },
+      record { counts = rw h.same_dialect at (c.bytes_of.ensures w h.stands); foreign = foreign },
     )
-  where
-    no_more : answer.Foreign c.in-Foreign.version ≡ answer.More → ⊥
-    no_more e = absurd cc
-
-    no_refusal : answer.Foreign c.in-Foreign.version ≡ answer.NoMemory → ⊥
-    no_refusal e = absurd cc
 
 pub returns-in-Done-clause-fed : goal.returns-in-Done-clause-fed
 returns-in-Done-clause-fed c b s =
     let w = b ++ take c.offer-used.result.0 c.args.piece.now in
-    let h = head_took c.in-InHeader.is s (all_bytes c.args.piece.now (λ i lt. omega (arith, c.type_inv.piece i)))
+    let h = head_took c.in-InHeader.is s (λ i lt. omega (arith, c.type_inv.piece i))
     c.offer-used.ensures.offered c.offer-used.ensures.dialect in
     let header = come_to h answer.Done c.in-Done.is in
     let some = begun_takes (begun_in c.in-InHeader.is c.args.self.now.begun) c.offer-used.ensures.progress
-    (λ e. no_more (sym c.in-Done.is ∙ e)) (λ e. no_refusal (sym c.in-Done.is ∙ e)) in
+    (λ e. absurd (cc (sym c.in-Done.is ∙ e))) (λ e. absurd (cc (sym c.in-Done.is ∙ e))) in
     let read = c.replace-read.ensures.value in
     feeds_header h _ header.0 header.1 some
-    (subst (λ (d : Dialect). StandsAt d c.after_header.result w)
-    (ap (λ (r : HeadReader). r.dialect) read ∙ h.same_dialect)
-    (c.after_header.ensures.stands w (subst (λ (r : HeadReader). HeadStands r w) (sym read) h.stands) (bytes_taken h)))
-  where
-    no_more : answer.Done ≡ answer.More → ⊥
-    no_more e = absurd cc
-
-    no_refusal : answer.Done ≡ answer.NoMemory → ⊥
-    no_refusal e = absurd cc
+    (rw (read, h.same_dialect) at (c.after_header.ensures.stands w (rw read h.stands) (bytes_taken h)))
 
 pub returns-in-Foreign-clause-progress : goal.returns-in-Foreign-clause-progress
 returns-in-Foreign-clause-progress c =

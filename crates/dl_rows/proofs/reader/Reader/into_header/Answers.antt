@@ -1,11 +1,6 @@
-use Rattle.std.proofs.Common.{subst}
-use Rattle.dl_rows.specs.declared.reader.State.{State}
-use Rattle.dl_rows.specs.ReaderStates.{StandsAt}
 use Rattle.dl_rows.proofs.ReaderLemmas.{header_here}
 use Rattle.dl_rows.proofs.reader.Reader.into_header.Goals as goal
 
 pub returns-in-AfterHeader : goal.returns-in-AfterHeader
 returns-in-AfterHeader c b s =
-    let dialect = c.args.self.dialect in
-    header_here dialect c.in-AfterHeader.header c.in-AfterHeader.field-1 b
-    (subst (λ (x : State). StandsAt dialect x b) c.in-AfterHeader.is s)
+    header_here c.args.self.dialect c.in-AfterHeader.header c.in-AfterHeader.field-1 b (rw c.in-AfterHeader.is at s)

@@ -1,4 +1,4 @@
-use Rattle.std.proofs.Common.{◌≡◌, ◌≤◌, ℕ, List, length, take, false}
+use Rattle.std.proofs.Common.{◌≡◌, ◌≤◌, ℕ, List, length, false}
 use Rattle.dl_rows.specs.ReaderStands.{StandsFor}
 use Rattle.dl_rows.proofs.RunTurns.{Going}
 use Rattle.dl_rows.proofs.reader.Reader.run.Given as goal
@@ -10,6 +10,6 @@ invariant-loop-turn g l = record {
   goes : l.run.ended ≡ false;
   dialect : l.self.dialect ≡ l.fn.self.dialect;
   going : (b : List ℕ) → StandsFor l.fn.self b
-      → Going g.L.Listener.heard l.fn.self.dialect b l.bytes (take l.turn-index l.turns) l.run l.fn.listener l.listener
-      l.self;
+      → Going g.L.Listener.heard l.fn.self.dialect b l.bytes l.turns l.turn-index l.run.taken l.run.refused
+      l.fn.listener l.listener l.self;
 }

@@ -1,6 +1,6 @@
 use Rattle.std.proofs.Common.{sym, ap, ◌∙◌}
 use Rattle.dl_rows.specs.ReaderStates.{taken_in}
-use Rattle.dl_rows.proofs.HeaderBegun.{begun_in, taken_is}
+use Rattle.dl_rows.proofs.HeadFeeds.{begun_in, taken_is}
 use Rattle.dl_rows.proofs.reader.Reader.taken.Goals as goal
 
 pub returns-in-InHeader-clause-field : goal.returns-in-InHeader-clause-field

@@ -1,5 +1,5 @@
 use Rattle.std.proofs.Common.{◌∙◌}
-use Rattle.dl_rows.proofs.Arithmetic.{advanced_is, advanced_by_one}
+use Rattle.dl_rows.proofs.PlaceLemmas.{advanced_is, advanced_by_one}
 use Rattle.dl_rows.proofs.registers.Registers.advance.Goals as goal
 
 pub returns : goal.returns

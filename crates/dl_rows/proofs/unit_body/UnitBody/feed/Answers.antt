@@ -1,8 +1,7 @@
-use Rattle.std.proofs.Common.{ℕ, ◌+◌, ◌-◌, ◌^◌, List, ◌++◌, length, min, sym, ap, ◌∙◌, arith}
+use Rattle.std.proofs.Common.{ℕ, ◌-◌, List, ◌++◌, length, ap, arith}
 use Rattle.dl_num.proofs.LebFrontLemmas.{true_false}
-use Rattle.dl_rows.specs.UnitBodies.{paused}
-use Rattle.dl_rows.proofs.UnitBodyFeeds.{all_bytes, tells_in, flat_row, flat_nothing, flat_bad, feeds_row}
-use Rattle.dl_rows.proofs.UnitBodyFeeds.{feeds_nothing, fails_overrun, fails_bad, sink_paused}
+use Rattle.dl_rows.proofs.UnitBodyFeeds.{tells_in, feeds_row, feeds_nothing, fails_overrun, fails_bad}
+use Rattle.dl_rows.proofs.UnitBodyFeeds.{no_row_paused, sink_goes_on}
 use Rattle.dl_rows.proofs.unit_body.UnitBody.feed.Goals.{else-self-eq0-via-then-self-eq0+else-not-is_between}
 use Rattle.dl_rows.proofs.unit_body.UnitBody.feed.Goals.{else-self-eq0-via-else-self-eq0}
 use Rattle.dl_rows.proofs.unit_body.UnitBody.feed.Goals as goal
@@ -10,43 +9,40 @@ use Rattle.dl_rows.proofs.unit_body.UnitBody.feed.Goals as goal
 pub returns-in-Row-clause-fed : goal.returns-in-Row-clause-fed
 returns-in-Row-clause-fed g c h b before first e is hears =
     let t = tells_in {S = g.row.S.Denot} {story = g.S.RowSink.story first} is c.args.piece.now e
-    c.front-bytes.ensures (all_bytes c.args.piece.now (λ i lt. omega (arith, c.type_inv.piece i)))
+    c.front-bytes.ensures (λ i lt. omega (arith, c.type_inv.piece i))
     (λ d fits bytes stands. c.in-Row.ensures.given d before first fits bytes stands hears) in
     record {
       rows = t.rows;
-      fed = feeds_row is (flat_row t.told c.in-Row.tail t.gives)
-          (ap (λ (w : List ℕ). length w - length c.in-Row.tail.now) c.front-bytes.ensures) c.count.ensures.taken
-          c.count.ensures.left;
+      fed = feeds_row is t.gives
+          (ap (λ (w : List ℕ). length w - length c.in-Row.tail.now) c.front-bytes.ensures) (record { taken = c.count.ensures.taken; left = c.count.ensures.left });
       sink = t.sink;
     }
 
 pub returns-in-Refuses-clause-fed : goal.returns-in-Refuses-clause-fed
 returns-in-Refuses-clause-fed g c h b before first e is hears =
     let t = tells_in {S = g.row.S.Denot} {story = g.S.RowSink.story first} is c.args.piece.now e
-    c.front-bytes.ensures (all_bytes c.args.piece.now (λ i lt. omega (arith, c.type_inv.piece i)))
+    c.front-bytes.ensures (λ i lt. omega (arith, c.type_inv.piece i))
     (λ d fits bytes stands. c.in-Refuses.ensures.given d before first fits bytes stands hears) in
     record {
       rows = t.rows;
-      fed = fails_bad is (flat_bad t.told c.in-Refuses.tail t.gives)
+      fed = fails_bad is t.gives
           (ap (λ (w : List ℕ). length w - length c.in-Refuses.tail.now) c.front-bytes.ensures)
-          c.count-in-Refuses.ensures.taken c.count-in-Refuses.ensures.left c.fault-in-Refuses.ensures;
+          (record { taken = c.count-in-Refuses.ensures.taken; left = c.count-in-Refuses.ensures.left })
+          c.fault-in-Refuses.ensures;
       sink = t.sink;
     }
 
 pub returns-then-not-is_between-clause-fed : goal.returns-then-not-is_between-clause-fed
 returns-then-not-is_between-clause-fed g c h b before first e is hears =
     let t = tells_in {S = g.row.S.Denot} {story = g.S.RowSink.story first} is c.args.piece.now e
-    c.front-bytes.ensures (all_bytes c.args.piece.now (λ i lt. omega (arith, c.type_inv.piece i)))
+    c.front-bytes.ensures (λ i lt. omega (arith, c.type_inv.piece i))
     (λ d fits bytes stands. c.in-Nothing.ensures.given d before first fits bytes stands hears) in
-    let flat = flat_nothing t.told t.gives in
     record {
       rows = t.rows;
-      fed = fails_overrun is flat
-          (c.count-in-Nothing.ensures.taken
-          ∙ ap (λ (w : List ℕ). min (c.args.self.now.bytes.taken + length w) (2 ^ 64 - 1)) c.front-bytes.ensures)
-          (c.count-in-Nothing.ensures.left
-          ∙ ap (λ (w : List ℕ). c.args.self.now.bytes.left - length w) c.front-bytes.ensures) c.if-self-eq0.true
-          (λ none. true_false ((c.is_between.ensures.rest c.args.dialect.order h.params _ flat.stands).1 none)
+      fed = fails_overrun is t.gives c.front-bytes.ensures
+          (record { taken = c.count-in-Nothing.ensures.taken; left = c.count-in-Nothing.ensures.left })
+          c.if-self-eq0.true
+          (λ none. true_false ((c.is_between.ensures.rest c.args.dialect.order h.params _ t.gives.stands).1 none)
           c.if-not-is_between.true) c.fault.ensures;
       sink = t.sink;
     }
@@ -54,24 +50,18 @@ returns-then-not-is_between-clause-fed g c h b before first e is hears =
 pub returns-else-self-eq0-clause-fed : goal.returns-else-self-eq0-clause-fed
 returns-else-self-eq0-clause-fed g c h b before first e is hears =
     let t = tells_in {S = g.row.S.Denot} {story = g.S.RowSink.story first} is c.args.piece.now e
-    c.front-bytes.ensures (all_bytes c.args.piece.now (λ i lt. omega (arith, c.type_inv.piece i)))
+    c.front-bytes.ensures (λ i lt. omega (arith, c.type_inv.piece i))
     (λ d fits bytes stands. c.in-Nothing.ensures.given d before first fits bytes stands hears) in
-    let flat = flat_nothing t.told t.gives in
     record {
       rows = t.rows;
-      fed = feeds_nothing is flat (c.pause.ensures.used ∙ ap length c.front-bytes.ensures)
-          (c.pause.ensures.event
-          ∙ ap (λ (n : ℕ). paused c.count-in-Nothing.new.self.taken c.count-in-Nothing.new.self.left n
-          (length c.args.piece.now)) (sym c.pause.ensures.used))
-          (c.count-in-Nothing.ensures.taken
-          ∙ ap (λ (w : List ℕ). min (c.args.self.now.bytes.taken + length w) (2 ^ 64 - 1)) c.front-bytes.ensures)
-          (c.count-in-Nothing.ensures.left
-          ∙ ap (λ (w : List ℕ). c.args.self.now.bytes.left - length w) c.front-bytes.ensures)
+      fed = feeds_nothing is t.gives c.front-bytes.ensures c.pause.ensures.used
+          (rw c.pause.ensures.used c.pause.ensures.event)
+          (record { taken = c.count-in-Nothing.ensures.taken; left = c.count-in-Nothing.ensures.left })
           (λ none. elim c.else-self-eq0.branch [
             | else-self-eq0-via-then-self-eq0+else-not-is_between
-                w ↦ (w.is_between.ensures.rest c.args.dialect.order h.params _ flat.stands).0 w.if-not-is_between.false
+                w ↦ (w.is_between.ensures.rest c.args.dialect.order h.params _ t.gives.stands).0 w.if-not-is_between.false
             | else-self-eq0-via-else-self-eq0 w ↦ absurd (w.if-self-eq0.false none)
           ]);
-      sink = sink_paused (g.S.RowSink.story first) c.push.new.sink (before ++ t.rows) c.pause.result.event
-          c.pause.ensures.pause t.sink;
+      sink = sink_goes_on (g.S.RowSink.story first) c.push.new.sink (before ++ t.rows) c.pause.result.event
+          (no_row_paused c.pause.result.event c.pause.ensures.pause) t.sink;
     }
