@@ -1,15 +1,14 @@
+pub mod Names
 pub mod OutLemmas
 pub mod EventLemmas
 pub mod Fronts
 pub mod SectionLemmas
 pub mod SectionCuts
 pub mod VisitsGrowth
-pub mod SectionGrowth
 pub mod OneAnswers
-pub mod OnePassing
+pub mod SectionGrowth
 pub mod PlainCopies
 pub mod OneCopying
-pub mod DumpFronts
 pub mod UnitsLemmas
 pub mod VisitLemmas
 pub mod HeaderPassed

@@ -2,7 +2,7 @@
 use Rattle.dl_head.specs.declared.dialect.Dialect.{Dialect}
 use Rattle.std.proofs.Common.{◌≡◌, ◌<◌, ◌≤◌, ◌⊎◌, inl, inr, ℕ, ◌+◌, Bool, List, [], ◌∷◌, ◌++◌, length, take, drop}
 use Rattle.std.proofs.Common.{Option, Some, None, arith, refl, sym, ap, ◌∙◌, subst, append_assoc, append-nil}
-use Rattle.std.proofs.Common.{length-append, take-append-drop}
+use Rattle.std.proofs.Common.{add-zero, length-append, take-append-drop}
 use Rattle.std.specs.Prelude.{is_some, is_none, cond, count_by, sum_by}
 use Rattle.std.specs.List.{AllByRecursion, concat}
 use Rattle.std.proofs.lemmas.List.{nil_from_length, take-append-le, take_all}
@@ -23,11 +23,11 @@ use Rattle.dl_rows.proofs.UnitLengths.{length_of_unit}
 use Rattle.dl_rows.proofs.UnitLaws.{row_for_program_byte}
 use Rattle.dl_rows.proofs.UnitQuiet.{unit_is_not_refused}
 use Rattle.dl_rows.proofs.ReaderLemmas.{no_rows}
-use Rattle.dl_run.specs.Section.{Visit, HasUnits, NoUnitBegins, visits, end_visits, unit_visits, units_visits}
+use Rattle.dl_run.specs.Section.{HasUnits, NoUnitBegins, end_visits, units_visits}
 use Rattle.dl_run.specs.Section.{section_visits, summary_of}
 use Rattle.dl_run.specs.UnitsRead.{rows_told}
 use Rattle.dl_run.proofs.EventLemmas.{rows_of_events}
-use Rattle.dl_run.proofs.Fronts.{all_front}
+use Rattle.dl_run.proofs.Fronts.{all_front, all_middle}
 
 -- ---- one unit more
 
@@ -55,26 +55,28 @@ has_front dialect s units front others rest all has = record {
   each = all_front (IsUnit dialect) front others (subst (AllByRecursion (IsUnit dialect)) all has.each);
 }
 
-units_visits-push : (dialect : Dialect) (offset : ℕ) (units : List (List ℕ)) (b : List ℕ)
-    → units_visits dialect offset (units ++ b ∷ []) ≡ units_visits dialect offset units
-    ++ unit_visits dialect (offset + length (concat units)) b
-units_visits-push dialect offset [] b =
-    append-nil (unit_visits dialect offset b) ∙ ap (λ (n : ℕ). unit_visits dialect n b) (omega arith)
-units_visits-push dialect offset (u ∷ units) b =
-    ap (λ (l : List Visit). unit_visits dialect offset u ++ l) (units_visits-push dialect (offset + length u) units b
-    ∙ ap (λ (n : ℕ). units_visits dialect (offset + length u) units ++ unit_visits dialect n b)
-    (omega (arith, length-append u (concat units))))
-    ∙ sym (append_assoc (unit_visits dialect offset u) (units_visits dialect (offset + length u) units)
-    (unit_visits dialect (offset + length (u ++ concat units)) b))
+-- the last of them apart
+pub has_last : {dialect : Dialect} {s : List ℕ} {units : List (List ℕ)} {u rest : List ℕ}
+    → HasUnits dialect s (units ++ u ∷ []) rest → HasUnits dialect s units (u ++ rest) × IsUnit dialect u
+has_last {dialect} {s} {units} {u} {rest} has = (
+  rw append-nil at (has_front dialect s (units ++ u ∷ []) units (u ∷ []) rest refl has),
+  all_middle (IsUnit dialect) units u [] has.each,
+)
+
+-- k: where the others begin
+pub units_visits-append : (dialect : Dialect) (offset : ℕ) (units others : List (List ℕ)) (k : ℕ)
+    → k ≡ offset + length (concat units)
+    → units_visits dialect offset (units ++ others) ≡ units_visits dialect offset units ++ units_visits dialect k others
+units_visits-append dialect offset [] others k at = rw (at, add-zero) refl
+units_visits-append dialect offset (u ∷ units) others k at =
+    rw (units_visits-append dialect (offset + length u) units others k (omega (arith, at, length-append u (concat units))))
+    (simp append_assoc)
 
 pub section_visits-push : (dialect : Dialect) (units : List (List ℕ)) (b : List ℕ)
     → section_visits dialect (units ++ b ∷ []) [] ≡ section_visits dialect units b ++ end_visits dialect b
 section_visits-push dialect units b =
-    append-nil (units_visits dialect 0 (units ++ b ∷ []))
-    ∙ units_visits-push dialect 0 units b
-    ∙ ap (λ (n : ℕ). units_visits dialect 0 units ++ unit_visits dialect n b) (omega arith)
-    ∙ sym (append_assoc (units_visits dialect 0 units) (visits dialect (length (concat units)) b)
-    (end_visits dialect b))
+    rw (append-nil, units_visits-append dialect 0 units (b ∷ []) (length (concat units)) (omega arith), append-nil)
+    (simp append_assoc)
 
 pub summary-push : (dialect : Dialect) (units : List (List ℕ)) (b : List ℕ)
     → summary_of dialect (units ++ b ∷ []) ≡ record {
