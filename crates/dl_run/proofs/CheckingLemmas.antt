@@ -1,18 +1,8 @@
 -- What a check comes to.
-use Rattle.std.proofs.Common.{inl, inr, ℕ, List, [], Option, Ok, Err, arith, refl}
-use Rattle.std.specs.Io.KnownBytes.{Appends}
-use Rattle.dl_head.specs.declared.dialect.Dialect.{Dialect}
-use Rattle.dl_run.specs.declared.checking.Checker.{Checker}
-use Rattle.dl_run.specs.declared.fault.RunFault.{RunFault}
-use Rattle.dl_run.specs.declared.fault.RunFault.TheVariants as fault
-use Rattle.dl_print.specs.declared.summary.Summary.{Summary}
-use Rattle.dl_run.specs.Checking.{check_story}
-use Rattle.dl_run.specs.Commands.{Checks}
-use Rattle.dl_run.specs.RunOutput.{TellsOut}
-use Rattle.dl_run.specs.Section.{EndsAs}
-use Rattle.dl_print.specs.Text.{summary_line}
-use Rattle.dl_run.specs.Visiting.{Ran}
-use Rattle.dl_print.proofs.Outs.{keeps_by_nothing}
+use Rattle.dl_run.proofs.Names.{[], Appends, arith, check_story, Checker, Checks, Dialect, EndsAs, Err, inl, inr}
+use Rattle.dl_run.proofs.Names.{keeps_by_nothing, List, Ok, Option, Ran, refl, RunFault, Summary, summary_line}
+use Rattle.dl_run.proofs.Names.{TellsOut, ℕ}
+use Rattle.dl_run.proofs.Names.fault
 
 module _ (dialect : Dialect) (limit : ℕ) (bytes : List ℕ) (left : Option (List ℕ)) (first new : Checker)
     (start mid now : Option (List ℕ)) where

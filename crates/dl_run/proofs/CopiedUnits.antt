@@ -1,37 +1,17 @@
 -- What is written for units that were read is units of the same rows.
-use Rattle.dl_head.specs.declared.dialect.Dialect.{Dialect}
-use Rattle.std.proofs.Common.{◌≡◌, inr, ℕ, zero, suc, ◌^◌, ◌<◌, ◌≤◌, ℤ, pos, negsuc, Bool, true, false, List, [], ◌∷◌}
-use Rattle.std.proofs.Common.{◌++◌, drop, map, Option, Some, None, refl, sym, ap, subst, ◌∙◌, arith, append-nil}
-use Rattle.std.specs.Prelude.{option_map, unwrap_or, if◌then◌else◌}
-use Rattle.std.specs.List.{AllByRecursion, after_last, concat}
-use Rattle.std.specs.Option.{option_or, option_map_or}
-use Rattle.std.proofs.Math.Nat.{mod-lt}
-use Rattle.dl_num.specs.declared.fixed.Order.{Order}
-use Rattle.dl_num.specs.Laws.{AllBytes}
-use Rattle.dl_head.specs.Built.{with_standard_opcodes}
-use Rattle.dl_field.specs.HeaderData.{HeaderData}
-use Rattle.dl_head.specs.Header.{header_in}
-use Rattle.dl_field.specs.declared.params.Params.{Params}
-use Rattle.dl_head.specs.Sound.{IsSoundHeader}
-use Rattle.dl_head.proofs.HeaderLaws.{found_is_header}
-use Rattle.dl_head.proofs.HeaderSound.{standard_fault, usable}
-use Rattle.dl_head.proofs.ReadSound.{header_is_sound}
-use Rattle.dl_table.proofs.SoundLemmas.{all_push}
-use Rattle.dl_rows.specs.declared.operation.Operation.{Operation}
-use Rattle.dl_rows.specs.declared.operation.Operation.TheVariants as op
-use Rattle.dl_rows.specs.LineUnit.{IsUnit, rows_later, unit_rows}
-use Rattle.dl_rows.specs.Matrix.{is_end, appends_row, last_set, last_part, parts, moves, line, modulo, row, row_from}
-use Rattle.dl_rows.specs.Matrix.{rows_after, sequence, fresh, set_file, set_column, set_isa, set_discriminator}
-use Rattle.dl_rows.specs.OperationSpelt.{operations_in}
-use Rattle.dl_rows.specs.Spelling.{SpellsOperation, SpellsProgram}
-use Rattle.dl_rows.proofs.OperandRanges.{bytes_front, bytes_back}
-use Rattle.dl_rows.proofs.ProgramLaws.{found_is_program}
-use Rattle.dl_emit.specs.Laws.{IsRow}
-use Rattle.dl_emit.specs.WrittenUnit.{unit_of}
-use Rattle.dl_emit.proofs.ReadAgain.{unit_is_read_again}
-use Rattle.dl_run.specs.Commands.{copied_unit, copied_units, IsCopied, AreCopied}
-use Rattle.dl_run.specs.CopyLaws.{IsAnew, CopiesAreUnits}
-use Rattle.dl_run.specs.Section.{header_of}
+use Rattle.dl_run.proofs.Names.{if◌then◌else◌, ◌++◌, ◌<◌, ◌^◌, ◌∙◌, ◌∷◌, ◌≡◌, ◌≤◌, [], after_last, all_push}
+use Rattle.dl_run.proofs.Names.{AllByRecursion, AllBytes, ap, append-nil, appends_row, AreCopied, arith, Bool}
+use Rattle.dl_run.proofs.Names.{bytes_back, bytes_front, concat, copied_unit, copied_units, CopiesAreUnits, Dialect}
+use Rattle.dl_run.proofs.Names.{drop, false, found_is_header, found_is_program, fresh, header_in, header_is_sound}
+use Rattle.dl_run.proofs.Names.{header_of, HeaderData, inr, is_end, IsAnew, IsCopied, IsRow, IsSoundHeader, IsUnit}
+use Rattle.dl_run.proofs.Names.{last_part, last_set, line, List, map, mod-lt, modulo, moves, negsuc, None, Operation}
+use Rattle.dl_run.proofs.Names.{operations_in, Option, option_map, option_map_or, option_or, Order, Params, parts}
+use Rattle.dl_run.proofs.Names.{pos, refl, row, row_from, rows_later, sequence, set_column, set_discriminator}
+use Rattle.dl_run.proofs.Names.{set_file, set_isa, Some, SpellsOperation, SpellsProgram, standard_fault, subst, suc}
+use Rattle.dl_run.proofs.Names.{sym, true, unit_is_read_again, unit_of, unit_rows, unwrap_or, usable}
+use Rattle.dl_run.proofs.Names.{with_standard_opcodes, zero, ℕ, ℤ}
+use Rattle.dl_run.proofs.Names.op
+use Rattle.dl_rows.specs.Matrix.{rows_after}
 use Rattle.dl_run.proofs.Fronts.{none_is_some, value_same}
 
 -- ---- the operands of operations that were read

@@ -1,33 +1,12 @@
 -- How a copier goes on, and what stops it.
-use Rattle.std.proofs.Common.{[], ◌≡◌, ℕ, List, ◌∷◌, ◌++◌}
-use Rattle.std.proofs.Common.{Option, Some, None, Result, Ok, Err, refl, sym, ap, ap₂, ◌∙◌, subst}
-use Rattle.std.proofs.Common.{append-nil}
-use Rattle.std.specs.Prelude.{⊤, option_map}
-use Rattle.std.proofs.KnownBytes.{Appends-nil}
-use Rattle.std.specs.Option.{option_or}
-use Rattle.dl_num.specs.declared.fixed.Order.{Order}
-use Rattle.dl_head.specs.Written.{header_bytes}
-use Rattle.dl_field.specs.declared.params.Params.{Params}
-use Rattle.dl_field.specs.HeaderData.{HeaderData}
-use Rattle.dl_rows.specs.declared.row.Row.{Row}
-use Rattle.dl_emit.specs.declared.fault.EmitFault.{EmitFault}
-use Rattle.dl_emit.specs.Grown.{ProgramData, IsGrown}
-use Rattle.dl_emit.specs.WrittenUnit.{program_len, rows_refusal, unit_of, refusal}
-use Rattle.dl_emit.proofs.GrownLemmas.{bytes_of_rows}
-use Rattle.dl_run.specs.declared.copying.Becomes.{Becomes}
-use Rattle.dl_run.specs.declared.copying.Copier.{Copier}
-use Rattle.dl_run.specs.declared.fault.RunFault.{RunFault}
-use Rattle.dl_run.specs.declared.fault.RunFault.TheVariants as fault
-use Rattle.dl_run.specs.UnitPrinted.{PrintsPart}
-use Rattle.dl_run.specs.Commands.{Made}
-use Rattle.dl_run.specs.Copying.{Copying, IsGrowth, made_by, offset_after, rows_since, stop_after, text_after, stops}
-use Rattle.dl_run.specs.Copying.{prints, copy_story}
-use Rattle.dl_print.specs.Output.{HasPrinted}
-use Rattle.dl_run.specs.RunOutput.{TellsOut}
-use Rattle.dl_print.specs.Printed.{Printed}
-use Rattle.dl_run.specs.Section.{Visit, of_header, of_version, of_row, of_open, of_end}
-use Rattle.dl_run.specs.Visiting.{StopsIn, header_told}
-use Rattle.dl_print.proofs.Outs.{HasPrinted-nothing, TellsOut-front}
+use Rattle.dl_run.proofs.Names.{◌++◌, ◌∙◌, ◌∷◌, ◌≡◌, [], ap, append-nil, Appends-nil, ap₂, Becomes, bytes_of_rows}
+use Rattle.dl_run.proofs.Names.{Copier, copy_story, Copying, EmitFault, Err, HasPrinted, HasPrinted-nothing}
+use Rattle.dl_run.proofs.Names.{header_bytes, header_told, HeaderData, IsGrown, IsGrowth, List, Made, made_by, None}
+use Rattle.dl_run.proofs.Names.{of_end, of_header, of_open, of_row, of_version, offset_after, Ok, Option, option_map}
+use Rattle.dl_run.proofs.Names.{option_or, Order, Params, Printed, prints, PrintsPart, program_len, ProgramData, refl}
+use Rattle.dl_run.proofs.Names.{refusal, Result, Row, rows_refusal, rows_since, RunFault, Some, stop_after, stops}
+use Rattle.dl_run.proofs.Names.{StopsIn, subst, sym, TellsOut, TellsOut-front, text_after, unit_of, Visit, ℕ, ⊤}
+use Rattle.dl_run.proofs.Names.fault
 use Rattle.dl_run.proofs.Fronts.{neither, none_is_some, value_same}
 use Rattle.dl_run.proofs.HeadersTold.{header_told-append}
 use Rattle.dl_run.proofs.CopyingVisits.{offset_after-append, rows_since-append, stop_after-append}

@@ -1,31 +1,14 @@
 -- What `copy` answers and writes.
-use Rattle.dl_head.specs.declared.dialect.Dialect.{Dialect}
-use Rattle.std.proofs.Common.{[], ◌≡◌, inl, inr, ℕ, List, ◌∷◌, ◌++◌, length}
-use Rattle.std.proofs.Common.{take, Option, Some, None, Result, Ok, Err, arith, refl, sym, ap, ◌∙◌, subst}
-use Rattle.std.proofs.Common.{append_assoc, append-nil}
-use Rattle.std.specs.Prelude.{option_map}
-use Rattle.std.specs.Io.KnownBytes.{Appends}
-use Rattle.std.specs.List.{AllByRecursion, concat}
-use Rattle.std.specs.Option.{option_or}
-use Rattle.dl_num.specs.declared.fixed.Order.{Order}
-use Rattle.dl_head.specs.Header.{foreign_in}
-use Rattle.dl_rows.specs.declared.row.Row.{Row}
-use Rattle.dl_rows.specs.LineUnit.{IsUnit}
-use Rattle.dl_rows.specs.Runs.{Sound}
-use Rattle.dl_emit.specs.declared.fault.EmitFault.{EmitFault}
-use Rattle.dl_emit.specs.WrittenUnit.{unit_of, refusal}
-use Rattle.dl_run.specs.declared.copying.Copier.{Copier}
-use Rattle.dl_run.specs.declared.fault.RunFault.{RunFault}
-use Rattle.dl_run.specs.declared.fault.RunFault.TheVariants as fault
-use Rattle.dl_print.specs.declared.summary.Summary.{Summary}
-use Rattle.dl_run.specs.Commands.{Made, AreMade, CopiesAs, units_as}
-use Rattle.dl_run.specs.Copying.{Copying, IsGrowth, StopsAt, made_by, offset_after, rows_since, stop_after, text_after}
-use Rattle.dl_run.specs.Copying.{prints, copy_story}
+use Rattle.dl_run.proofs.Names.{◌++◌, ◌∙◌, ◌∷◌, ◌≡◌, [], AllByRecursion, ap, append-nil, append_assoc, Appends}
+use Rattle.dl_run.proofs.Names.{AreMade, arith, concat, Copier, CopiesAs, copy_story, Copying, Dialect, EmitFault}
+use Rattle.dl_run.proofs.Names.{Err, foreign_in, HasBegun, HasUnits, inl, inr, IsGrowth, IsUnit, length, List, Made}
+use Rattle.dl_run.proofs.Names.{made_by, None, of_end, of_header, of_open, of_row, of_version, offset_after, Ok}
+use Rattle.dl_run.proofs.Names.{Option, option_map, option_or, Order, prints, Ran, refl, refusal, Result, Row}
+use Rattle.dl_run.proofs.Names.{rows_since, RunFault, section_visits, Settled, Some, Sound, stop_after, StopsAt}
+use Rattle.dl_run.proofs.Names.{subst, Summary, sym, take, TellsOut, text_after, unit_of, units_as, Visit}
+use Rattle.dl_run.proofs.Names.{VisitorStops, ℕ}
+use Rattle.dl_run.proofs.Names.fault
 use Rattle.dl_run.specs.Copying.{stops as stops_at}
-use Rattle.dl_run.specs.RunOutput.{TellsOut}
-use Rattle.dl_run.specs.Section.{Visit, of_header, of_version, of_row, of_open, of_end, HasUnits, HasBegun}
-use Rattle.dl_run.specs.Section.{section_visits}
-use Rattle.dl_run.specs.Visiting.{Ran, Settled, VisitorStops}
 use Rattle.dl_run.proofs.Fronts.{none_is_some}
 use Rattle.dl_run.proofs.RangeLemmas.{KeepsRanges, too_long}
 use Rattle.dl_run.proofs.SectionLemmas.{has_front}

@@ -1,28 +1,13 @@
 -- What is copied of the visits of a section.
-use Rattle.std.proofs.Common.{[], ◌≡◌, ◌⊎◌, inl, inr, ℕ, ◌+◌, Bool, false, List, ◌∷◌, ◌++◌, length, map}
-use Rattle.std.proofs.Common.{Option, Some, None, arith, refl, sym, ap, ap₂, ◌∙◌, subst}
-use Rattle.std.proofs.Common.{append_assoc, append-nil, length-append}
-use Rattle.std.specs.Prelude.{◌≢◌, option_map}
-use Rattle.std.specs.List.{AllByRecursion, concat}
-use Rattle.std.specs.Option.{option_or, option_map_or}
-use Rattle.dl_head.specs.declared.dialect.Dialect.{Dialect}
-use Rattle.dl_field.specs.HeaderData.{HeaderData}
-use Rattle.dl_head.specs.Header.{foreign_in, header_in}
-use Rattle.dl_head.proofs.HeaderLaws.{header_is_found}
-use Rattle.dl_rows.specs.declared.row.Row.{Row}
-use Rattle.dl_rows.specs.LineUnit.{IsUnit, unit_rows, ends_open}
-use Rattle.dl_rows.specs.Reading.{WithinUnit}
-use Rattle.dl_rows.proofs.UnitLengths.{foreign_of, length_of_unit, some_same}
-use Rattle.dl_rows.proofs.UnitQuiet.{unit_is_not_refused}
-use Rattle.dl_rows.specs.Runs.{Sound}
-use Rattle.dl_emit.specs.declared.fault.EmitFault.{EmitFault}
-use Rattle.dl_emit.specs.WrittenUnit.{unit_of, refusal}
-use Rattle.dl_run.specs.declared.fault.RunFault.{RunFault}
-use Rattle.dl_run.specs.declared.fault.RunFault.TheVariants as fault
-use Rattle.dl_run.specs.Commands.{Made, AreMade, unit_as, units_as}
-use Rattle.dl_run.specs.Copying.{IsGrowth, end_stop, stop_after, end_text, text_after}
-use Rattle.dl_run.specs.Section.{Visit, of_header, of_version, of_row, of_end, header_of}
-use Rattle.dl_run.specs.Section.{visits, open_visit, units_visits}
+use Rattle.dl_run.proofs.Names.{◌++◌, ◌+◌, ◌∙◌, ◌∷◌, ◌≡◌, ◌≢◌, ◌⊎◌, [], AllByRecursion, ap, append-nil, append_assoc}
+use Rattle.dl_run.proofs.Names.{ap₂, AreMade, arith, Bool, concat, Dialect, EmitFault, end_stop, end_text, ends_open}
+use Rattle.dl_run.proofs.Names.{false, foreign_in, foreign_of, header_in, header_is_found, header_of, HeaderData, inl}
+use Rattle.dl_run.proofs.Names.{inr, IsGrowth, IsUnit, length, length-append, length_of_unit, List, Made, map, None}
+use Rattle.dl_run.proofs.Names.{of_end, of_header, of_row, of_version, open_visit, Option, option_map, option_map_or}
+use Rattle.dl_run.proofs.Names.{option_or, refl, refusal, Row, RunFault, Some, some_same, Sound, stop_after, subst}
+use Rattle.dl_run.proofs.Names.{sym, text_after, unit_as, unit_is_not_refused, unit_of, unit_rows, units_as}
+use Rattle.dl_run.proofs.Names.{units_visits, Visit, visits, WithinUnit, ℕ}
+use Rattle.dl_run.proofs.Names.fault
 use Rattle.dl_run.proofs.Fronts.{none_is_some, value_same, fronts_of}
 use Rattle.dl_run.proofs.CopyingVisits.{written, Foreign, Own, Neither, one_of, foreign_visits, own_visits, no_visits}
 use Rattle.dl_run.proofs.CopyingVisits.{foreign_before, header_is, not_foreign, nothing_before}

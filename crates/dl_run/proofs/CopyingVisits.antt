@@ -1,25 +1,13 @@
 -- What is copied of visits one after the other, and of those of a unit.
-use Rattle.dl_head.specs.declared.dialect.Dialect.{Dialect}
-use Rattle.std.proofs.Common.{[], ◌≡◌, ◌⊎◌, inl, inr, ℕ, Bool, true, false, List, ◌∷◌, ◌++◌, map, flat_map}
-use Rattle.std.proofs.Common.{Option, Some, None, refl, sym, ap, ap₂, ◌∙◌}
-use Rattle.std.proofs.Common.{append_assoc, append-nil}
-use Rattle.std.specs.Prelude.{option_map}
-use Rattle.std.specs.Option.{option_or, option_map_or}
-use Rattle.dl_num.specs.declared.fixed.Order.{Order}
-use Rattle.dl_field.specs.HeaderData.{HeaderData}
-use Rattle.dl_head.specs.Header.{foreign_in, header_in}
-use Rattle.dl_rows.specs.declared.row.Row.{Row}
-use Rattle.dl_rows.specs.declared.reader.Event.TheVariants as event
-use Rattle.dl_rows.specs.LineUnit.{rows_later, unit_rows, events_of}
-use Rattle.dl_rows.proofs.ReaderLemmas.{foreign_no_header}
-use Rattle.dl_emit.specs.declared.fault.EmitFault.{EmitFault}
-use Rattle.dl_emit.specs.WrittenUnit.{unit_of, refusal}
-use Rattle.dl_run.specs.declared.fault.RunFault.{RunFault}
-use Rattle.dl_run.specs.declared.fault.RunFault.TheVariants as fault
-use Rattle.dl_run.specs.Commands.{Made}
-use Rattle.dl_run.specs.Copying.{rows_since, offset_after, end_stop, stop_after, end_text, text_after}
-use Rattle.dl_run.specs.Section.{Visit, of_header, of_version, of_row, of_open, of_end, header_of}
-use Rattle.dl_run.specs.Section.{event_visits, visits, open_visit}
+use Rattle.dl_run.proofs.Names.{◌++◌, ◌∙◌, ◌∷◌, ◌≡◌, ◌⊎◌, [], ap, append-nil, append_assoc, ap₂, Bool, Dialect}
+use Rattle.dl_run.proofs.Names.{EmitFault, end_stop, end_text, event_visits, events_of, false, flat_map, foreign_in}
+use Rattle.dl_run.proofs.Names.{foreign_no_header, header_in, header_of, HeaderData, inl, inr, List, Made, map, None}
+use Rattle.dl_run.proofs.Names.{of_end, of_header, of_open, of_row, of_version, offset_after, open_visit, Option}
+use Rattle.dl_run.proofs.Names.{option_map, option_map_or, option_or, Order, refl, refusal, Row, rows_later}
+use Rattle.dl_run.proofs.Names.{rows_since, RunFault, Some, stop_after, sym, text_after, true, unit_of, unit_rows}
+use Rattle.dl_run.proofs.Names.{Visit, visits, ℕ}
+use Rattle.dl_run.proofs.Names.event
+use Rattle.dl_run.proofs.Names.fault
 use Rattle.dl_run.proofs.Fronts.{or_assoc, none_is_some, value_same, neither, map_none, empty_both}
 
 -- ---- visits one after the other

@@ -1,21 +1,11 @@
 -- Counts of the current unit, where its reader tells an event.
-use Rattle.std.proofs.Common.{◌≡◌, ◌<◌, ℕ, ◌+◌, ◌^◌, Bool, true, false, List, [], ◌∷◌, ◌++◌, length, map, take}
-use Rattle.std.proofs.Common.{append-nil, arith, refl, sym, ap, ◌∙◌, subst, append_assoc, length-append, length-take}
-use Rattle.std.specs.Prelude.{◌||◌}
-use Rattle.std.proofs.lemmas.List.Sums.{count_by-le-length}
-use Rattle.std.specs.List.{concat}
-use Rattle.dl_head.specs.declared.dialect.Dialect.{Dialect}
-use Rattle.dl_rows.specs.declared.row.Row.{Row}
-use Rattle.dl_rows.specs.declared.reader.Event.{Event}
-use Rattle.dl_rows.specs.declared.reader.Event.TheVariants as event
-use Rattle.dl_rows.specs.declared.reader.Fed.{Fed}
-use Rattle.dl_rows.specs.declared.reader.Reader.{Reader}
-use Rattle.dl_rows.specs.LineUnit.{events}
-use Rattle.dl_rows.specs.Reading.{told, FeedsAfter}
+use Rattle.dl_run.proofs.Names.{◌++◌, ◌+◌, ◌<◌, ◌^◌, ◌||◌, ◌∙◌, ◌∷◌, ◌≡◌, [], ap, append-nil, append_assoc, arith}
+use Rattle.dl_run.proofs.Names.{Bool, concat, count_by-le-length, counted, Counted, Dialect, ends, Event, events}
+use Rattle.dl_run.proofs.Names.{false, Fed, FeedsAfter, is_foreign, length, length-append, length-take, List, map}
+use Rattle.dl_run.proofs.Names.{Reader, refl, Row, row_told, rows_told, SectionUnits, subst, sym, take, told, true}
+use Rattle.dl_run.proofs.Names.{UnitsAre, ℕ}
+use Rattle.dl_run.proofs.Names.event
 use Rattle.dl_rows.specs.ReaderStands.{StandsFor}
-use Rattle.dl_run.specs.declared.section.SectionUnits.{SectionUnits}
-use Rattle.dl_run.specs.Told.{ends, Counted}
-use Rattle.dl_run.specs.UnitsRead.{UnitsAre, counted, row_told, rows_told, is_foreign}
 use Rattle.dl_run.proofs.EventLemmas.{rows_told-append, rows_told-rows, none_told, no_version}
 use Rattle.dl_run.proofs.ToldLemmas.{ends-append}
 use Rattle.dl_run.proofs.SectionLemmas.{few_told}

@@ -1,20 +1,9 @@
 -- How a dump goes on, and what it comes to.
-use Rattle.std.proofs.Common.{◌≡◌, inl, inr, ℕ, List, [], ◌∷◌, ◌++◌, Option, Result, Ok, Err, refl, sym, ap, ◌∙◌, subst}
-use Rattle.std.proofs.Common.{append-nil}
-use Rattle.std.proofs.lemmas.Grind.{flat_map-append}
-use Rattle.dl_head.specs.declared.dialect.Dialect.{Dialect}
-use Rattle.dl_run.specs.declared.dumping.Dumper.{Dumper}
-use Rattle.dl_run.specs.declared.fault.RunFault.{RunFault}
-use Rattle.dl_run.specs.declared.fault.RunFault.TheVariants as fault
-use Rattle.dl_print.specs.declared.summary.Summary.{Summary}
-use Rattle.dl_run.specs.Commands.{Dumps}
-use Rattle.dl_run.specs.Dumping.{HasDumped, dump_story}
-use Rattle.dl_print.specs.Output.{HasPrinted}
-use Rattle.dl_run.specs.RunOutput.{TellsOut}
-use Rattle.dl_run.specs.Section.{Visit, section_visits}
-use Rattle.dl_run.specs.SectionText.{visit_text, visits_text}
-use Rattle.dl_print.specs.ValueText.{Strings, strings_of}
-use Rattle.dl_run.specs.Visiting.{StopsIn, Ran}
+use Rattle.dl_run.proofs.Names.{◌++◌, ◌∙◌, ◌∷◌, ◌≡◌, [], ap, append-nil, Dialect, dump_story, Dumper, Dumps, Err}
+use Rattle.dl_run.proofs.Names.{flat_map-append, HasDumped, HasPrinted, inl, inr, List, Ok, Option, Ran, refl, Result}
+use Rattle.dl_run.proofs.Names.{RunFault, section_visits, StopsIn, Strings, strings_of, subst, Summary, sym, TellsOut}
+use Rattle.dl_run.proofs.Names.{Visit, visit_text, visits_text, ℕ}
+use Rattle.dl_run.proofs.Names.fault
 use Rattle.dl_run.proofs.OutLemmas.{TellsOut-more}
 
 text-push : (s : Strings) (visits : List Visit) (v : Visit)

@@ -1,21 +1,10 @@
 -- Events of a unit, and the visits, rows and versions that they tell.
-use Rattle.dl_head.specs.declared.dialect.Dialect.{Dialect}
-use Rattle.std.proofs.Common.{◌≡◌, ℕ, false, List, [], ◌∷◌, ◌++◌, map, flat_map, Option, Some, None, refl, sym, ap, ap₂}
-use Rattle.std.proofs.Common.{◌∙◌, append_assoc}
-use Rattle.std.specs.Prelude.{is_some}
-use Rattle.std.proofs.lemmas.Grind.{flat_map-append}
-use Rattle.dl_num.specs.declared.fixed.Order.{Order}
-use Rattle.dl_field.specs.HeaderData.{HeaderData}
-use Rattle.dl_head.specs.Header.{foreign_in, header_in}
-use Rattle.dl_rows.specs.declared.row.Row.{Row}
-use Rattle.dl_rows.specs.declared.reader.Event.{Event}
-use Rattle.dl_rows.specs.declared.reader.Event.TheVariants as event
-use Rattle.dl_rows.specs.LineUnit.{rows_in, rows_later, unit_rows, own_events, events_of, events}
-use Rattle.dl_rows.proofs.UnitLemmas.{header_on}
-use Rattle.dl_rows.proofs.ReaderLemmas.{foreign_no_header, no_rows}
-use Rattle.dl_rows.specs.Reading.{told}
-use Rattle.dl_run.specs.Section.{Visit, of_row, header_of, event_visits, visits}
-use Rattle.dl_run.specs.UnitsRead.{row_told, rows_told, is_foreign}
+use Rattle.dl_run.proofs.Names.{◌++◌, ◌∙◌, ◌∷◌, ◌≡◌, [], ap, append_assoc, ap₂, Dialect, Event, event_visits, events}
+use Rattle.dl_run.proofs.Names.{events_of, false, flat_map, flat_map-append, foreign_in, foreign_no_header, header_in}
+use Rattle.dl_run.proofs.Names.{header_of, header_on, HeaderData, is_foreign, is_some, List, map, no_rows, None}
+use Rattle.dl_run.proofs.Names.{of_row, Option, Order, own_events, refl, Row, row_told, rows_in, rows_later}
+use Rattle.dl_run.proofs.Names.{rows_told, Some, sym, told, unit_rows, Visit, visits, ℕ}
+use Rattle.dl_run.proofs.Names.event
 
 -- ---- rows
 

@@ -1,25 +1,11 @@
 -- What `find` answers and writes.
-use Rattle.std.proofs.Common.{[], ◌≡◌, ◌⊎◌, inl, inr, ℕ, true, false, List, ◌∷◌, ◌++◌}
-use Rattle.std.proofs.Common.{take, Option, Some, None, Result, Ok, Err, arith, refl, sym, ap, ◌∙◌, subst}
-use Rattle.std.proofs.Common.{true≢false}
-use Rattle.std.specs.Io.KnownBytes.{Appends, Keeps}
-use Rattle.std.specs.List.{concat}
-use Rattle.dl_head.specs.declared.dialect.Dialect.{Dialect}
-use Rattle.dl_field.specs.HeaderData.{HeaderData}
-use Rattle.dl_rows.specs.declared.row.Row.{Row}
-use Rattle.dl_rows.specs.Runs.{Sound}
-use Rattle.dl_run.specs.declared.fault.RunFault.{RunFault}
-use Rattle.dl_run.specs.declared.fault.RunFault.TheVariants as fault
-use Rattle.dl_print.specs.declared.summary.Summary.{Summary}
-use Rattle.dl_run.specs.Commands.{Finds, NoneAnswers}
-use Rattle.dl_run.specs.declared.finding.Seeker.{Seeker}
-use Rattle.dl_run.specs.Finding.{found_after, text_found, Seeks, find_story}
-use Rattle.dl_run.specs.RunOutput.{TellsOut}
-use Rattle.dl_run.specs.Section.{Visit, EndsAs, HasBegun}
-use Rattle.dl_run.specs.Section.{section_visits, summary_of}
-use Rattle.dl_print.specs.ValueText.{Strings, strings_of}
-use Rattle.dl_run.specs.Visiting.{Ran, Settled, VisitorStops}
-use Rattle.dl_print.proofs.Outs.{keeps_by_nothing}
+use Rattle.dl_run.proofs.Names.{◌++◌, ◌∙◌, ◌∷◌, ◌≡◌, ◌⊎◌, [], ap, Appends, arith, concat, Dialect, EndsAs, Err, false}
+use Rattle.dl_run.proofs.Names.{find_story, Finds, found_after, HasBegun, HeaderData, inl, inr, Keeps}
+use Rattle.dl_run.proofs.Names.{keeps_by_nothing, List, None, NoneAnswers, Ok, Option, Ran, refl, Result, Row}
+use Rattle.dl_run.proofs.Names.{RunFault, section_visits, Seeker, Seeks, Settled, Some, Sound, Strings, strings_of}
+use Rattle.dl_run.proofs.Names.{subst, Summary, summary_of, sym, take, TellsOut, text_found, true, true≢false, Visit}
+use Rattle.dl_run.proofs.Names.{VisitorStops, ℕ}
+use Rattle.dl_run.proofs.Names.fault
 use Rattle.dl_run.proofs.FindingVisits.{found_front, found_of_section}
 use Rattle.dl_run.proofs.FindingVisits.{none_answers, split_first, last_first, found_in_bytes}
 

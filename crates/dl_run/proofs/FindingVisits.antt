@@ -1,26 +1,13 @@
 -- What is found in the visits of a section.
-use Rattle.std.proofs.Common.{[], ◌≡◌, ◌⊎◌, inl, inr, ℕ, ◌+◌, Bool, true, false, List, ◌∷◌, ◌++◌, length, flat_map}
-use Rattle.std.proofs.Common.{Option, Some, None, arith, refl, sym, ap, ◌∙◌, append_assoc}
-use Rattle.std.proofs.Common.{append-nil, length-append}
-use Rattle.std.specs.Prelude.{option_map}
-use Rattle.std.specs.List.{concat}
-use Rattle.std.specs.Option.{option_or}
-use Rattle.dl_head.specs.declared.dialect.Dialect.{Dialect}
-use Rattle.dl_field.specs.HeaderData.{HeaderData}
-use Rattle.dl_head.specs.Header.{header_in}
-use Rattle.dl_rows.specs.declared.row.Row.{Row}
-use Rattle.dl_rows.specs.declared.reader.Event.{Event}
-use Rattle.dl_rows.specs.declared.reader.Event.TheVariants as event
-use Rattle.dl_rows.specs.LineUnit.{rows_in, rows_later, unit_rows, ends_open, events}
-use Rattle.dl_look.specs.declared.place.Place.{Place}
-use Rattle.dl_look.specs.Answer.{answer}
-use Rattle.dl_run.specs.Commands.{IsFound, NoneAnswers}
-use Rattle.dl_run.specs.Finding.{answer_under, found_after}
+use Rattle.dl_run.proofs.Names.{◌++◌, ◌+◌, ◌∙◌, ◌∷◌, ◌≡◌, ◌⊎◌, [], answer, answer_under, ap, append-nil, append_assoc}
+use Rattle.dl_run.proofs.Names.{arith, Bool, concat, Dialect, end_visits, ends_open, Event, event_visits, events}
+use Rattle.dl_run.proofs.Names.{false, flat_map, found_after, HasUnits, header_in, header_of, header_visit}
+use Rattle.dl_run.proofs.Names.{HeaderData, inl, inr, IsFound, length, length-append, List, None, NoneAnswers, of_end}
+use Rattle.dl_run.proofs.Names.{of_header, of_open, of_row, of_version, open_visit, Option, option_map, option_or}
+use Rattle.dl_run.proofs.Names.{Place, refl, Row, rows_in, rows_later, rows_told, section_visits, Some, sym, true}
+use Rattle.dl_run.proofs.Names.{unit_rows, unit_visits, units_visits, Visit, visits, ℕ}
+use Rattle.dl_run.proofs.Names.event
 use Rattle.dl_run.specs.RowsTold.{rows_after}
-use Rattle.dl_run.specs.Section.{Visit, of_header, of_version, of_row, of_open, of_end, HasUnits}
-use Rattle.dl_run.specs.Section.{header_of, header_visit, event_visits, visits, open_visit, end_visits, unit_visits}
-use Rattle.dl_run.specs.Section.{units_visits, section_visits}
-use Rattle.dl_run.specs.UnitsRead.{rows_told}
 use Rattle.dl_run.proofs.EventLemmas.{rows_of_events}
 use Rattle.dl_run.proofs.Fronts.{or_assoc, or_none, none_is_some, value_same, neither, map_none}
 use Rattle.dl_run.proofs.SectionLemmas.{section_visits-push, has_front}

@@ -1,9 +1,7 @@
 -- Options one after the other, and the fronts of lists.
-use Rattle.std.proofs.Common.{◌≡◌, ◌⊎◌, inl, inr, List, [], ◌∷◌, ◌++◌, length, Option, Some, None, arith, refl, sym, ap}
-use Rattle.std.proofs.Common.{length-append, ◌∙◌, take, drop, take_at, drop_at}
-use Rattle.std.specs.Prelude.{option_map}
-use Rattle.std.specs.List.{AllByRecursion}
-use Rattle.std.specs.Option.{option_or}
+use Rattle.dl_run.proofs.Names.{◌++◌, ◌∙◌, ◌∷◌, ◌≡◌, ◌⊎◌, [], AllByRecursion, ap, arith, drop, drop_at, inl, inr}
+use Rattle.dl_run.proofs.Names.{length, length-append, List, None, Option, option_map, option_or, refl, Some, sym}
+use Rattle.dl_run.proofs.Names.{take, take_at}
 
 -- ---- options
 

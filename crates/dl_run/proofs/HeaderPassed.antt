@@ -1,19 +1,9 @@
 -- What is out where a header is written on the output itself, after all that was printed before.
-use Rattle.std.proofs.Common.{◌≡◌, ℕ, ◌+◌, ◌<◌, lit≤, List, [], ◌++◌, length, drop, take, Option, arith, sym, ap, subst, ◌∙◌}
-use Rattle.std.proofs.Common.{length-append, length-drop}
-use Rattle.std.specs.Io.KnownBytes.{Appends}
-use Rattle.dl_num.specs.declared.fixed.Order.{Order}
-use Rattle.dl_field.specs.HeaderData.{HeaderData}
-use Rattle.dl_table.specs.declared.form.Format.{Format}
-use Rattle.dl_table.specs.declared.form.Format.TheVariants.{Dwarf32, Dwarf64}
-use Rattle.dl_head.specs.Written.{header_bytes}
-use Rattle.dl_head.specs.HeaderLayout.{initial_size}
-use Rattle.dl_head.proofs.OrderLemmas.{length-header}
-use Rattle.dl_print.specs.Printed.{Printed}
-use Rattle.dl_print.specs.Output.{HasOut, HasPrinted}
-use Rattle.dl_print.proofs.Outs.{HasOut-more, HasOut-pending, HasPrinted-flushed, HasPrinted-more}
-use Rattle.dl_run.specs.RunOutput.{TellsOut}
-use Rattle.dl_run.specs.declared.fault.RunFault.TheVariants.{Write}
+use Rattle.dl_run.proofs.Names.{◌++◌, ◌+◌, ◌<◌, ◌∙◌, ◌≡◌, [], ap, Appends, arith, drop, Dwarf32, Dwarf64, Format}
+use Rattle.dl_run.proofs.Names.{HasOut, HasOut-more, HasOut-pending, HasPrinted, HasPrinted-flushed, HasPrinted-more}
+use Rattle.dl_run.proofs.Names.{header_bytes, HeaderData, initial_size, length, length-append, length-drop}
+use Rattle.dl_run.proofs.Names.{length-header, List, lit≤, Option, Order, Printed, subst, sym, take, TellsOut, Write}
+use Rattle.dl_run.proofs.Names.{ℕ}
 
 some_initial : (format : Format) → 0 < initial_size format
 some_initial Dwarf32 = lit≤ tt

@@ -1,17 +1,11 @@
 -- The header that visits tell of the current unit.
-use Rattle.std.proofs.Common.{◌≡◌, ◌⊎◌, inl, inr, ℕ, ◌+◌, Bool, true, false, List, [], ◌∷◌, ◌++◌, length, map, Option}
-use Rattle.std.proofs.Common.{Some, None, refl, sym, ap, ◌∙◌}
-use Rattle.std.specs.Prelude.{option_map}
-use Rattle.std.specs.List.{concat}
-use Rattle.dl_head.specs.declared.dialect.Dialect.{Dialect}
-use Rattle.dl_field.specs.HeaderData.{HeaderData}
-use Rattle.dl_rows.specs.declared.row.Row.{Row}
-use Rattle.dl_rows.specs.LineUnit.{ends_open, unit_rows}
-use Rattle.dl_rows.proofs.ReaderLemmas.{foreign_no_header}
-use Rattle.dl_run.specs.Section.{Visit, of_header, of_version, of_row, of_open, of_end, header_of, visits, open_visit}
-use Rattle.dl_run.specs.Section.{end_visits, unit_visits, units_visits, section_visits}
-use Rattle.dl_run.specs.Visiting.{header_told}
-use Rattle.dl_run.proofs.CopyingVisits.{Foreign, Own, Neither, one_of, foreign_visits, own_visits, no_visits, header_is}
+use Rattle.dl_run.proofs.Names.{◌++◌, ◌+◌, ◌∙◌, ◌∷◌, ◌≡◌, ◌⊎◌, [], ap, Bool, concat, Dialect, end_visits, ends_open}
+use Rattle.dl_run.proofs.Names.{false, foreign_no_header, header_of, header_told, HeaderData, inl, inr, length, List}
+use Rattle.dl_run.proofs.Names.{map, None, of_end, of_header, of_open, of_row, of_version, open_visit, Option}
+use Rattle.dl_run.proofs.Names.{option_map, refl, Row, section_visits, Some, sym, true, unit_rows, unit_visits}
+use Rattle.dl_run.proofs.Names.{units_visits, Visit, visits, ℕ}
+use Rattle.dl_run.proofs.CopyingVisits.{Foreign, Own, Neither, one_of, foreign_visits, own_visits, no_visits}
+use Rattle.dl_run.proofs.CopyingVisits.{header_is}
 
 -- by visits of two lists
 pub header_told-append : (h : Option HeaderData) (a b : List Visit)

@@ -1,26 +1,11 @@
 -- What is written for units that were read is units of version 5, of the same rows.
-use Rattle.std.proofs.Common.{◌≡◌, inr, ℕ, ◌+◌, Bool, true, false, List, [], ◌∷◌, ◌++◌, length, Option, None, refl}
-use Rattle.std.proofs.Common.{sym, ap, subst, ◌∙◌, append-nil}
-use Rattle.std.specs.List.{AllByRecursion, concat}
-use Rattle.std.specs.Option.{option_map_or}
-use Rattle.dl_num.specs.Laws.{AllBytes}
-use Rattle.dl_field.specs.declared.params.Params.{Params}
-use Rattle.dl_field.specs.HeaderData.{HeaderData}
-use Rattle.dl_head.specs.declared.dialect.Dialect.{Dialect}
-use Rattle.dl_head.specs.Sound.{IsSoundHeader}
-use Rattle.dl_head.specs.Written.{is_within_limit}
-use Rattle.dl_rows.specs.declared.row.Row.{Row}
-use Rattle.dl_rows.specs.LineUnit.{IsUnit, rows_later, unit_rows}
-use Rattle.dl_rows.proofs.OperandRanges.{bytes_back, bytes_front}
-use Rattle.dl_emit.specs.declared.fault.EmitFault.{EmitFault}
-use Rattle.dl_emit.specs.declared.fault.EmitFault.TheVariants.{TooLong}
-use Rattle.dl_emit.specs.Conversion.{to_version_5}
-use Rattle.dl_emit.specs.WrittenUnit.{program_len, refusal, rows_refusal, unit_of, unless}
-use Rattle.dl_emit.proofs.ConversionLemmas.{params_are}
-use Rattle.dl_emit.proofs.ConversionSound.{tables_near, version_5_sound}
-use Rattle.dl_emit.proofs.ReadAgain.{unit_is_read_again}
-use Rattle.dl_run.specs.Commands.{AreMade, IsMade, to_5, unit_as, units_as}
-use Rattle.dl_run.specs.CopyLaws.{AreNewer, CopiesAreNewer, IsNewer}
+use Rattle.dl_run.proofs.Names.{◌++◌, ◌+◌, ◌∙◌, ◌∷◌, ◌≡◌, [], AllByRecursion, AllBytes, ap, append-nil, AreMade}
+use Rattle.dl_run.proofs.Names.{AreNewer, Bool, bytes_back, bytes_front, concat, CopiesAreNewer, Dialect, EmitFault}
+use Rattle.dl_run.proofs.Names.{false, HeaderData, inr, is_within_limit, IsMade, IsNewer, IsSoundHeader, IsUnit}
+use Rattle.dl_run.proofs.Names.{length, List, None, Option, option_map_or, Params, params_are, program_len, refl}
+use Rattle.dl_run.proofs.Names.{refusal, Row, rows_later, rows_refusal, subst, sym, tables_near, to_5, to_version_5}
+use Rattle.dl_run.proofs.Names.{TooLong, true, unit_as, unit_is_read_again, unit_of, unit_rows, units_as, unless}
+use Rattle.dl_run.proofs.Names.{version_5_sound, ℕ}
 use Rattle.dl_run.proofs.CopiedUnits.{header_read, standard_sound}
 use Rattle.dl_run.proofs.Fronts.{neither, none_is_some}
 

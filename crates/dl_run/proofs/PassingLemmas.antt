@@ -1,32 +1,16 @@
 -- The units of other versions, what is told of them, and what is kept of that.
-use Rattle.dl_head.specs.declared.dialect.Dialect.{Dialect}
-use Rattle.std.proofs.Common.{◌≡◌, ◌⊎◌, inl, inr, ℕ, ◌<◌, ◌≤◌, ◌+◌, min, max, List, [], ◌∷◌, ◌++◌, length, map}
-use Rattle.std.proofs.Common.{flat_map, Option, Some}
-use Rattle.std.proofs.Common.{None, Ok, Err, Bool, true, false, arith, refl, sym, ap, ap₂, ◌∙◌, subst, append-nil}
-use Rattle.std.proofs.Common.{length-append}
-use Rattle.std.specs.Prelude.{cond, is_some, option_to_list}
-use Rattle.std.specs.List.{Contains}
-use Rattle.std.proofs.lemmas.Bool.{cases_lt}
-use Rattle.std.proofs.lemmas.Grind.{flat_map-append}
-use Rattle.std.proofs.lemmas.List.Sums.{sum_by-cons}
-use Rattle.std.proofs.lemmas.List.Elements.{All-push, Contains-append_left, Contains-push}
-use Rattle.dl_num.specs.declared.fixed.Order.{Order}
-use Rattle.dl_field.specs.HeaderData.{HeaderData}
-use Rattle.dl_head.specs.Header.{foreign_in, header_in}
-use Rattle.dl_rows.specs.declared.row.Row.{Row}
-use Rattle.dl_rows.specs.declared.reader.Event.TheVariants as event
-use Rattle.dl_rows.specs.LineUnit.{ends_open, events_of, own_events, rows_later, unit_rows}
-use Rattle.dl_run.specs.declared.fault.RunFault.{RunFault}
-use Rattle.dl_run.specs.declared.fault.RunFault.TheVariants as fault
-use Rattle.dl_run.specs.declared.passing_over.OtherVersions.{OtherVersions}
-use Rattle.dl_run.specs.declared.passing_over.PassedOver.{PassedOver}
-use Rattle.dl_run.specs.declared.passing_over.VersionRange.{VersionRange}
-use Rattle.dl_print.specs.declared.summary.Summary.{Summary}
-use Rattle.dl_run.specs.PassedOver.{AreTold, IsGreatest, IsLeast, PassesOver, other_versions}
-use Rattle.dl_run.specs.PassingOver.{IsPassedOver, Spans, version_story, version_told, versions_told}
-use Rattle.dl_run.specs.Section.{Visit, of_row, of_end, header_of, header_visit, event_visits, visits, open_visit}
-use Rattle.dl_run.specs.Section.{end_visits, section_visits, summary_of, unit_visits, units_visits}
-use Rattle.dl_run.specs.Visiting.{Ran}
+use Rattle.dl_run.proofs.Names.{◌++◌, ◌+◌, ◌<◌, ◌∙◌, ◌∷◌, ◌≡◌, ◌≤◌, ◌⊎◌, [], All-push, ap, append-nil, ap₂, AreTold}
+use Rattle.dl_run.proofs.Names.{arith, Bool, cases_lt, cond, Contains, Contains-append_left, Contains-push, Dialect}
+use Rattle.dl_run.proofs.Names.{end_visits, ends_open, Err, event_visits, events_of, false, flat_map, flat_map-append}
+use Rattle.dl_run.proofs.Names.{foreign_in, header_in, header_of, header_visit, HeaderData, inl, inr, is_some}
+use Rattle.dl_run.proofs.Names.{IsGreatest, IsLeast, IsPassedOver, length, length-append, List, map, max, min, None}
+use Rattle.dl_run.proofs.Names.{of_end, of_row, Ok, open_visit, Option, option_to_list, Order, other_versions}
+use Rattle.dl_run.proofs.Names.{OtherVersions, own_events, PassedOver, PassesOver, Ran, refl, Row, rows_later}
+use Rattle.dl_run.proofs.Names.{RunFault, section_visits, Some, Spans, subst, sum_by-cons, Summary, summary_of, sym}
+use Rattle.dl_run.proofs.Names.{true, unit_rows, unit_visits, units_visits, version_story, version_told, VersionRange}
+use Rattle.dl_run.proofs.Names.{versions_told, Visit, visits, ℕ}
+use Rattle.dl_run.proofs.Names.event
+use Rattle.dl_run.proofs.Names.fault
 use Rattle.dl_run.proofs.EventLemmas.{rows_visited}
 
 -- ---- one number more

@@ -1,12 +1,8 @@
 -- Where what becomes of a header doesn't depend on the place of its unit, as in `copy`, copies are told by units alone.
-use Rattle.std.proofs.Common.{◌≡◌, ℕ, ◌+◌, List, [], ◌∷◌, length, Option, Result, Ok, Err, refl, sym}
-use Rattle.std.specs.Io.KnownBytes.{Appends}
-use Rattle.dl_head.specs.Built.{with_standard_opcodes}
-use Rattle.dl_head.specs.declared.dialect.Dialect.{Dialect}
-use Rattle.dl_print.specs.declared.summary.Summary.{Summary}
-use Rattle.dl_run.specs.declared.fault.RunFault.{RunFault}
-use Rattle.dl_run.specs.declared.fault.RunFault.TheVariants as fault
-use Rattle.dl_run.specs.Commands.{Made, AreCopied, AreMade, Copies, CopiesAs, copied_units, units_as}
+use Rattle.dl_run.proofs.Names.{◌+◌, ◌∷◌, ◌≡◌, [], Appends, AreCopied, AreMade, copied_units, Copies, CopiesAs}
+use Rattle.dl_run.proofs.Names.{Dialect, Err, length, List, Made, Ok, Option, refl, Result, RunFault, Summary, sym}
+use Rattle.dl_run.proofs.Names.{units_as, with_standard_opcodes, ℕ}
+use Rattle.dl_run.proofs.Names.fault
 
 abbrev pub standard : Made
 standard offset h = with_standard_opcodes h

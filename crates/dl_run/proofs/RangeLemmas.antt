@@ -1,31 +1,14 @@
 -- The rows of a unit are in the range of its params, so that it isn't written only where it is too long.
-use Rattle.std.proofs.Common.{◌≡◌, ℕ, ◌+◌, ◌*◌, ◌^◌, ◌%◌, ◌≤◌, Bool, true, false, nat_lt, List, [], ◌∷◌, ◌++◌, Option}
-use Rattle.std.proofs.Common.{Some, None, refl, sym, ap, ◌∙◌, arith}
-use Rattle.std.specs.Prelude.{option_map, ◌&&◌, if◌then◌else◌}
-use Rattle.std.specs.Option.{option_or}
-use Rattle.std.proofs.lemmas.Bool.{lt-ltb, eq-eqb}
-use Rattle.std.proofs.lemmas.Nat.{pow_pos}
-use Rattle.std.proofs.Math.Nat.{mod-lt}
-use Rattle.dl_head.specs.declared.dialect.Dialect.{Dialect}
-use Rattle.dl_head.specs.Built.{with_standard_opcodes}
-use Rattle.dl_field.specs.HeaderData.{HeaderData}
-use Rattle.dl_head.specs.Header.{header_in, IsHeader}
-use Rattle.dl_head.specs.Written.{is_within_limit}
-use Rattle.dl_field.specs.declared.params.Params.{Params}
-use Rattle.dl_head.proofs.HeaderLaws.{found_is_header}
-use Rattle.dl_rows.specs.declared.operation.Operation.{Operation}
-use Rattle.dl_rows.specs.declared.row.Row.{Row}
-use Rattle.dl_rows.specs.LineUnit.{rows_later, unit_rows}
-use Rattle.dl_rows.specs.Matrix.{address, appends_row, last_part, parts, moves, op_index, row, row_from, rows_after}
-use Rattle.dl_rows.specs.Matrix.{sequence, fresh, is_end}
-use Rattle.dl_rows.specs.OperationSpelt.{operations_in}
-use Rattle.dl_rows.proofs.HeaderParams.{header_is_usable}
-use Rattle.dl_emit.specs.declared.fault.EmitFault.{EmitFault}
-use Rattle.dl_emit.specs.declared.fault.EmitFault.TheVariants as emit
-use Rattle.dl_emit.specs.WrittenUnit.{refusal, rows_refusal, is_in_range, out_of_range, program_len, unless}
-use Rattle.dl_emit.proofs.ConversionLemmas.{params_are}
-use Rattle.dl_run.specs.Commands.{Made, to_5}
-use Rattle.dl_run.specs.Section.{header_of}
+use Rattle.dl_run.proofs.Names.{if◌then◌else◌, ◌%◌, ◌&&◌, ◌*◌, ◌++◌, ◌+◌, ◌^◌, ◌∙◌, ◌∷◌, ◌≡◌, ◌≤◌, [], address, ap}
+use Rattle.dl_run.proofs.Names.{appends_row, arith, Bool, Dialect, EmitFault, eq-eqb, false, found_is_header, fresh}
+use Rattle.dl_run.proofs.Names.{header_in, header_is_usable, header_of, HeaderData, is_end, is_in_range}
+use Rattle.dl_run.proofs.Names.{is_within_limit, IsHeader, last_part, List, lt-ltb, Made, mod-lt, moves, nat_lt, None}
+use Rattle.dl_run.proofs.Names.{op_index, Operation, operations_in, Option, option_map, option_or, out_of_range}
+use Rattle.dl_run.proofs.Names.{Params, params_are, parts, pow_pos, program_len, refl, refusal, row, Row, row_from}
+use Rattle.dl_run.proofs.Names.{rows_later, rows_refusal, sequence, Some, sym, to_5, true, unit_rows, unless}
+use Rattle.dl_run.proofs.Names.{with_standard_opcodes, ℕ}
+use Rattle.dl_run.proofs.Names.emit
+use Rattle.dl_rows.specs.Matrix.{rows_after}
 use Rattle.dl_run.proofs.Fronts.{none_is_some, value_same}
 
 both : (a b : Bool) → a ≡ true → b ≡ true → (a && b) ≡ true

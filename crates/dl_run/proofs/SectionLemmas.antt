@@ -1,31 +1,13 @@
 -- Units of a section, one more of them, and how many rows they have at most.
-use Rattle.dl_head.specs.declared.dialect.Dialect.{Dialect}
-use Rattle.std.proofs.Common.{◌≡◌, ◌<◌, ◌≤◌, ◌⊎◌, inl, inr, ℕ, ◌+◌, Bool, List, [], ◌∷◌, ◌++◌, length, take, drop}
-use Rattle.std.proofs.Common.{Option, Some, None, arith, refl, sym, ap, ◌∙◌, subst, append_assoc, append-nil}
-use Rattle.std.proofs.Common.{add-zero, length-append, take-append-drop}
-use Rattle.std.specs.Prelude.{is_some, is_none, cond, count_by, sum_by}
-use Rattle.std.specs.List.{AllByRecursion, concat}
-use Rattle.std.proofs.lemmas.List.{nil_from_length, take-append-le, take_all}
-use Rattle.std.proofs.lemmas.Bool.{cases_lt}
-use Rattle.std.proofs.lemmas.List.Folds.{concat-append}
-use Rattle.std.proofs.lemmas.List.Sums.{sum_by-append, sum_by-cons, count_by-le-length}
-use Rattle.dl_num.specs.declared.fixed.Order.{Order}
-use Rattle.dl_field.specs.HeaderData.{HeaderData}
-use Rattle.dl_table.specs.declared.fault.FaultKind.{FaultKind}
-use Rattle.dl_head.specs.Header.{foreign_in, header_in, unit_len}
-use Rattle.dl_head.proofs.HeaderLaws.{found_is_header}
-use Rattle.dl_rows.specs.declared.row.Row.{Row}
-use Rattle.dl_rows.specs.LineUnit.{IsUnit, unit_rows, events}
-use Rattle.dl_rows.specs.Refusal.{Refused, unit_decided}
-use Rattle.dl_rows.specs.Runs.{Sound}
-use Rattle.dl_rows.proofs.UnitLemmas.{unit_len_on}
-use Rattle.dl_rows.proofs.UnitLengths.{length_of_unit}
-use Rattle.dl_rows.proofs.UnitLaws.{row_for_program_byte}
-use Rattle.dl_rows.proofs.UnitQuiet.{unit_is_not_refused}
-use Rattle.dl_rows.proofs.ReaderLemmas.{no_rows}
-use Rattle.dl_run.specs.Section.{HasUnits, NoUnitBegins, end_visits, units_visits}
-use Rattle.dl_run.specs.Section.{section_visits, summary_of}
-use Rattle.dl_run.specs.UnitsRead.{rows_told}
+use Rattle.dl_run.proofs.Names.{◌++◌, ◌+◌, ◌<◌, ◌∙◌, ◌∷◌, ◌≡◌, ◌≤◌, ◌⊎◌, [], add-zero, AllByRecursion, ap, append-nil}
+use Rattle.dl_run.proofs.Names.{append_assoc, arith, Bool, cases_lt, concat, concat-append, cond, count_by}
+use Rattle.dl_run.proofs.Names.{count_by-le-length, Dialect, drop, end_visits, events, FaultKind, foreign_in}
+use Rattle.dl_run.proofs.Names.{found_is_header, HasUnits, header_in, HeaderData, inl, inr, is_none, is_some, IsUnit}
+use Rattle.dl_run.proofs.Names.{length, length-append, length_of_unit, List, nil_from_length, no_rows, None}
+use Rattle.dl_run.proofs.Names.{NoUnitBegins, Option, Order, refl, Refused, Row, row_for_program_byte, rows_told}
+use Rattle.dl_run.proofs.Names.{section_visits, Some, Sound, subst, sum_by, sum_by-append, sum_by-cons, summary_of}
+use Rattle.dl_run.proofs.Names.{sym, take, take-append-drop, take-append-le, take_all, unit_decided}
+use Rattle.dl_run.proofs.Names.{unit_is_not_refused, unit_len, unit_len_on, unit_rows, units_visits, ℕ}
 use Rattle.dl_run.proofs.EventLemmas.{rows_of_events}
 use Rattle.dl_run.proofs.Fronts.{all_front, all_middle}
 

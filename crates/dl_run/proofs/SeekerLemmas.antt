@@ -1,32 +1,16 @@
 -- How a seeker goes on, and what stops it.
-use Rattle.std.proofs.Common.{[], ◌≡◌, ℕ, true, false, List, ◌∷◌, ◌++◌}
-use Rattle.std.proofs.Common.{Option, Some, None, Ok, Err, refl, sym, ap, ◌∙◌, subst}
-use Rattle.std.specs.Prelude.{⊤, option_map}
-use Rattle.std.specs.Io.KnownBytes.{Appends}
-use Rattle.std.specs.Option.{option_or}
-use Rattle.std.proofs.KnownBytes.{Appends-nil}
-use Rattle.dl_field.specs.HeaderData.{HeaderData}
-use Rattle.dl_rows.specs.declared.row.Row.{Row}
-use Rattle.dl_look.specs.declared.place.Place.{Place}
-use Rattle.dl_look.specs.Answer.{answer}
+use Rattle.dl_run.proofs.Names.{◌++◌, ◌∙◌, ◌∷◌, ◌≡◌, [], answer, answer_under, ap, Appends, Appends-nil, Err, false}
+use Rattle.dl_run.proofs.Names.{find_story, Flow, Flushes, found_after, found_text, HasFound, HasPrinted}
+use Rattle.dl_run.proofs.Names.{HasPrinted-nothing, HasPrinted-out, HeaderData, List, None, of_end, Ok, Option}
+use Rattle.dl_run.proofs.Names.{option_map, option_or, Place, Printed, refl, Row, Seeker, Seeks, SeeksOn, Some}
+use Rattle.dl_run.proofs.Names.{Stopped, Strings, strings_of, subst, sym, TellsOut, text_found, true, Visit, visits}
+use Rattle.dl_run.proofs.Names.{WriteFault, ℕ, ⊤}
+use Rattle.dl_run.proofs.Names.fault
+use Rattle.dl_run.proofs.Names.flow
 use Rattle.dl_look.specs.FinderRows.{StandsFor}
-use Rattle.dl_run.specs.declared.fault.RunFault.TheVariants as fault
-use Rattle.dl_run.specs.Commands.{found_text}
-use Rattle.dl_run.specs.declared.finding.Seeker.{Seeker}
-use Rattle.dl_rows.specs.declared.sink.Flow.{Flow}
-use Rattle.dl_rows.specs.declared.sink.Flow.TheVariants as flow
-use Rattle.dl_run.specs.Finding.{answer_under, found_after, text_found, SeeksOn, Seeks, HasFound, find_story}
-use Rattle.dl_print.specs.Output.{Flushes, HasPrinted}
-use Rattle.dl_run.specs.RunOutput.{TellsOut}
-use Rattle.dl_print.specs.Printed.{Printed}
-use Rattle.dl_print.specs.declared.fault.WriteFault.{WriteFault}
 use Rattle.dl_run.specs.RowsTold.{rows_after}
-use Rattle.dl_run.specs.Section.{Visit, of_end}
-use Rattle.dl_run.specs.Section.{visits}
-use Rattle.dl_print.specs.ValueText.{Strings, strings_of}
-use Rattle.dl_run.specs.Visiting.{GoesOn, Stopped}
+use Rattle.dl_run.specs.Visiting.{GoesOn}
 use Rattle.dl_run.proofs.Fronts.{or_none}
-use Rattle.dl_print.proofs.Outs.{HasPrinted-out, HasPrinted-nothing}
 use Rattle.dl_run.proofs.VisitLemmas.{rows_after-append}
 use Rattle.dl_run.proofs.FindingVisits.{found_after-append}
 

@@ -1,28 +1,11 @@
 -- Rows that a visitor is told while a reader takes bytes, and what it stands for then.
-use Rattle.std.proofs.Common.{◌≡◌, ℕ, ◌+◌, ◌^◌, ◌-◌, min, List, [], ◌∷◌, ◌++◌, map, Option, Some, None}
-use Rattle.std.proofs.Common.{Result, Ok, Err, arith, refl, sym, ap, ◌∙◌, subst, append_assoc, append-nil}
-use Rattle.std.proofs.Common.{length-append}
-use Rattle.std.specs.Prelude.{⊤, cond}
-use Rattle.std.proofs.lemmas.List.Sums.{sum_by-append}
-use Rattle.std.proofs.lemmas.List.{map-append}
-use Rattle.std.proofs.lemmas.Option.{same_Some}
-use Rattle.dl_field.proofs.FieldLemmas.{none_some}
-use Rattle.dl_head.specs.declared.fault.Fault.{Fault}
-use Rattle.dl_rows.specs.declared.row.Row.{Row}
-use Rattle.dl_rows.specs.declared.reader.Event.{Event}
-use Rattle.dl_rows.specs.declared.reader.Event.TheVariants as event
-use Rattle.dl_rows.specs.declared.reader.Fed.{Fed}
-use Rattle.dl_rows.specs.declared.reader.Reader.{Reader}
-use Rattle.dl_rows.specs.LineUnit.{events}
-use Rattle.dl_rows.specs.ReaderAnswers.{FedAfter, RowsFed}
-use Rattle.dl_rows.specs.Reading.{SinkAt, SinkAfter}
-use Rattle.dl_run.specs.declared.fault.RunFault.{RunFault}
-use Rattle.dl_run.specs.declared.section.Told.{Told}
-use Rattle.dl_run.specs.declared.section.SectionUnits.{SectionUnits}
-use Rattle.dl_run.specs.Section.{Visit, of_row}
-use Rattle.dl_run.specs.Told.{ends, Counted, HeardRows, told_story, NoRow, RowsOf, StopsAtRow}
-use Rattle.dl_run.specs.Visiting.{Story, Stopped, Hears}
-use Rattle.dl_run.specs.UnitsRead.{row_told}
+use Rattle.dl_run.proofs.Names.{◌++◌, ◌+◌, ◌-◌, ◌^◌, ◌∙◌, ◌∷◌, ◌≡◌, [], ap, append-nil, append_assoc, arith, cond}
+use Rattle.dl_run.proofs.Names.{Counted, ends, Err, Event, events, Fault, Fed, FedAfter, HeardRows, Hears}
+use Rattle.dl_run.proofs.Names.{length-append, List, map, map-append, min, None, none_some, NoRow, of_row, Ok, Option}
+use Rattle.dl_run.proofs.Names.{Reader, refl, Result, Row, row_told, RowsFed, RowsOf, RunFault, same_Some}
+use Rattle.dl_run.proofs.Names.{SectionUnits, SinkAfter, SinkAt, Some, Stopped, StopsAtRow, Story, subst}
+use Rattle.dl_run.proofs.Names.{sum_by-append, sym, Told, told_story, Visit, ℕ, ⊤}
+use Rattle.dl_run.proofs.Names.event
 
 pub ends-append : (xs ys : List Row) → ends (xs ++ ys) ≡ ends xs + ends ys
 ends-append xs ys = sum_by-append (λ (r : Row). cond r.end_sequence 1 0) xs ys

@@ -1,13 +1,9 @@
 -- Visits that a visitor is told one after the other.
-use Rattle.std.proofs.Common.{◌≡◌, ℕ, List, [], ◌∷◌, ◌++◌, Option, Result, Ok, Err, refl, sym, ap, ◌∙◌, subst}
-use Rattle.std.proofs.Common.{append_assoc}
-use Rattle.std.specs.Prelude.{MatchResult}
-use Rattle.dl_rows.specs.declared.row.Row.{Row}
-use Rattle.dl_run.specs.declared.fault.RunFault.{RunFault}
-use Rattle.dl_rows.specs.declared.sink.Flow.{Flow}
+use Rattle.dl_run.proofs.Names.{◌++◌, ◌∙◌, ◌∷◌, ◌≡◌, [], ap, append_assoc, Err, Flow, List, MatchResult, of_end}
+use Rattle.dl_run.proofs.Names.{of_header, of_open, of_row, of_version, Ok, Option, refl, Result, Row, RunFault}
+use Rattle.dl_run.proofs.Names.{Stopped, StopsIn, Story, subst, sym, Visit, ℕ}
 use Rattle.dl_run.specs.RowsTold.{rows_after}
-use Rattle.dl_run.specs.Section.{Visit, of_header, of_version, of_row, of_open, of_end}
-use Rattle.dl_run.specs.Visiting.{Story, Stopped, StopsIn, GoesOn}
+use Rattle.dl_run.specs.Visiting.{GoesOn}
 
 module _ {S : Type 0} (story : Story S) (first new : S) (start now : Option (List ℕ)) where
   pub stops_before : (visits more others : List Visit) (f : RunFault) → StopsIn story first new start now visits more f
