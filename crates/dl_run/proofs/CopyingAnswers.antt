@@ -1,12 +1,12 @@
 -- What `copy` answers and writes.
 use Rattle.dl_run.proofs.Names.{◌++◌, ◌∙◌, ◌∷◌, ◌≡◌, [], AllByRecursion, ap, append-nil, append_assoc, Appends}
 use Rattle.dl_run.proofs.Names.{AreMade, arith, concat, Copier, CopiesAs, copy_story, Copying, Dialect, EmitFault}
-use Rattle.dl_run.proofs.Names.{Err, foreign_in, HasBegun, HasUnits, inl, inr, IsGrowth, IsUnit, length, List, Made}
-use Rattle.dl_run.proofs.Names.{made_by, None, of_end, of_header, of_open, of_row, of_version, offset_after, Ok}
+use Rattle.dl_run.proofs.Names.{EndsAs, Err, foreign_in, HasBegun, HasUnits, inl, inr, IsGrowth, IsUnit, length, List}
+use Rattle.dl_run.proofs.Names.{Made, made_by, None, of_end, of_header, of_open, of_row, of_version, offset_after, Ok}
 use Rattle.dl_run.proofs.Names.{Option, option_map, option_or, Order, prints, Ran, refl, refusal, Result, Row}
-use Rattle.dl_run.proofs.Names.{rows_since, RunFault, section_visits, Settled, Some, Sound, stop_after, StopsAt}
-use Rattle.dl_run.proofs.Names.{subst, Summary, sym, take, TellsOut, text_after, unit_of, units_as, Visit}
-use Rattle.dl_run.proofs.Names.{VisitorStops, ℕ}
+use Rattle.dl_run.proofs.Names.{rows_since, RunFault, section_visits, Settled, Some, Sound, stop_after, stops}
+use Rattle.dl_run.proofs.Names.{StopsAt, subst, Summary, sym, take, TellsOut, text_after, unit_of, units_as, Visit}
+use Rattle.dl_run.proofs.Names.{VisitorStops, visits, Write, ℕ}
 use Rattle.dl_run.proofs.Names.fault
 use Rattle.dl_run.specs.Copying.{stops as stops_at}
 use Rattle.dl_run.proofs.Fronts.{none_is_some}
@@ -201,42 +201,30 @@ module _ (dialect : Dialect) (limit : ℕ) (bytes : List ℕ) (left : Option (Li
       stopped : Copied (Err f)
       stopped = by_stop f (told.stop begun.in_unit f reason)
 
+  settled : (units : List (List ℕ)) (b back : List ℕ) (f : RunFault)
+      → EndsAs dialect limit bytes left units b back (Err f)
+      → Settled copy_story first start now (section_visits dialect units b) (Copying first new start now)
+      → Copied (Err f)
+  settled units b back fault.NoMemory ends s =
+      (units, b, back, ends.0, ends.1, not_version units b ends.0.has.each s, inl ends.2, all_copied units b ends.0.has.each s)
+  settled units b back (fault.ForeignUnit offset) ends s = absurd ends
+  settled units b back (fault.Emit offset f) ends s = absurd ends
+  settled units b back (fault.Write out) ends s = absurd ends
+  settled units b back fault.NotFound ends s = absurd ends
+  settled units b back f ends s =
+      (units, b, back, ends, not_version units b ends.0.each s, all_copied units b ends.0.each s)
+
   pub copies : (result : Result Summary RunFault) → Ran copy_story dialect limit bytes left first new start now result
       → Copied result
   copies (Ok summary) (inl (units, ends, settled)) = (units, ends, all_copied units [] ends.0.each settled)
   copies (Ok summary) (inr (_, _, _, _, settled)) = absurd settled.tells
-  copies (Err (fault.Write out)) (units, b, back, begun, (before, more, whole, tells)) =
-      failed_write units b back before more out begun.has whole tells
-  copies (Err fault.NoMemory) (units, b, back, inl (ends, settled)) = (
-    units,
-    b,
-    back,
-    ends.0,
-    ends.1,
-    not_version units b ends.0.has.each settled,
-    inl ends.2,
-    all_copied units b ends.0.has.each settled,
-  )
-  copies (Err fault.NoMemory) (units, b, back, inr (begun, sound, stops)) =
-      no_memory units b back begun fault.NoMemory stops sound stops.reason
-  copies (Err (fault.ForeignUnit offset)) (units, b, back, inl (ends, settled)) = absurd ends
-  copies (Err (fault.ForeignUnit offset)) (units, b, back, inr (has, sound, stops)) =
-      stopped units b back has (fault.ForeignUnit offset) stops stops.reason
-  copies (Err (fault.Emit offset f)) (units, b, back, inl (ends, settled)) = absurd ends
-  copies (Err (fault.Emit offset f)) (units, b, back, inr (has, sound, stops)) =
-      stopped units b back has (fault.Emit offset f) stops stops.reason
-  copies (Err fault.NotFound) (units, b, back, inl (ends, settled)) = absurd ends
-  copies (Err fault.NotFound) (units, b, back, inr (has, sound, stops)) =
-      stopped units b back has fault.NotFound stops stops.reason
-  copies (Err (fault.Damage at kind)) (units, b, back, inl (ends, settled)) =
-      (units, b, back, ends, not_version units b ends.0.each settled, all_copied units b ends.0.each settled)
-  copies (Err (fault.Damage at kind)) (units, b, back, inr (has, sound, stops)) =
-      stopped units b back has (fault.Damage at kind) stops stops.reason
-  copies (Err fault.Read) (units, b, back, inl (ends, settled)) =
-      (units, b, back, ends, not_version units b ends.0.each settled, all_copied units b ends.0.each settled)
-  copies (Err fault.Read) (units, b, back, inr (has, sound, stops)) =
-      stopped units b back has fault.Read stops stops.reason
-  copies (Err fault.SectionTooLong) (units, b, back, inl (ends, settled)) =
-      (units, b, back, ends, not_version units b ends.0.each settled, all_copied units b ends.0.each settled)
-  copies (Err fault.SectionTooLong) (units, b, back, inr (has, sound, stops)) =
-      stopped units b back has fault.SectionTooLong stops stops.reason
+  copies (Err (fault.Write out)) ran =
+      failed_write ran.0 ran.1 ran.2 ran.4.0 ran.4.1 out ran.3.has ran.4.2 ran.4.3
+  copies (Err fault.NoMemory) ran = elim ran.3 [
+    | inl ends ↦ settled ran.0 ran.1 ran.2 fault.NoMemory ends.0 ends.1
+    | inr s ↦ no_memory ran.0 ran.1 ran.2 s.0 fault.NoMemory s.2 s.1 s.2.reason
+  ]
+  copies (Err f) ran = elim ran.3 [
+    | inl ends ↦ settled ran.0 ran.1 ran.2 f ends.0 ends.1
+    | inr s ↦ stopped ran.0 ran.1 ran.2 s.0 f s.2 s.2.reason
+  ]

@@ -33,12 +33,7 @@ stop_later made dialect n u done after b (fault.ForeignUnit offset) (c, back, ve
     (c, back, version, whole, omega (arith, at, length-append u (concat done)), within, foreign)
 stop_later made dialect n u done after b (fault.Emit offset f) (v, later, h, whole, at, header, refused) =
     (v, later, h, whole, omega (arith, at, length-append u (concat done)), header, refused)
-stop_later made dialect n u done after b (fault.Damage at kind) s = absurd s
-stop_later made dialect n u done after b fault.NoMemory s = absurd s
-stop_later made dialect n u done after b fault.Read s = absurd s
-stop_later made dialect n u done after b (fault.Write out) s = absurd s
-stop_later made dialect n u done after b fault.SectionTooLong s = absurd s
-stop_later made dialect n u done after b fault.NotFound s = absurd s
+stop_later made dialect n u done after b f s = absurd s
 
 -- of the units that aren't copied, or of b after them, the current bytes are at fault in no way, and memory grows for
 -- them

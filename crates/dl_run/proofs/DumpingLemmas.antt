@@ -50,25 +50,13 @@ module _ (dialect : Dialect) (limit : ℕ) (bytes : List ℕ) (left : Option (Li
       → Dumps dialect (strings_of first.strings) limit bytes left start now result
   dumps (Ok summary) (inl (units, ends, settled)) = (units, [], [], ends, settled.out)
   dumps (Ok summary) (inr done) = absurd done.4.tells
-  dumps (Err (fault.Write out)) (units, b, back, has, writes) = (
-    units,
-    b,
-    back,
-    has,
-    out_of_all (strings_of first.strings) start now (section_visits dialect units b) writes.0 writes.1 (fault.Write out)
-        writes.2 writes.3,
+  dumps (Err (fault.Write out)) ran = (
+    ran.0,
+    ran.1,
+    ran.2,
+    ran.3,
+    out_of_all (strings_of first.strings) start now (section_visits dialect ran.0 ran.1) ran.4.0 ran.4.1
+        (fault.Write out) ran.4.2 ran.4.3,
   )
-  dumps (Err (fault.Damage offset kind)) (units, b, back, inl (ends, settled)) = (units, b, back, ends, settled.out)
-  dumps (Err fault.NoMemory) (units, b, back, inl (ends, settled)) = (units, b, back, ends, settled.out)
-  dumps (Err fault.Read) (units, b, back, inl (ends, settled)) = (units, b, back, ends, settled.out)
-  dumps (Err fault.SectionTooLong) (units, b, back, inl (ends, settled)) = (units, b, back, ends, settled.out)
-  dumps (Err fault.NotFound) (units, b, back, inl (ends, settled)) = (units, b, back, ends, settled.out)
-  dumps (Err (fault.ForeignUnit unit)) (units, b, back, inl (ends, settled)) = (units, b, back, ends, settled.out)
-  dumps (Err (fault.Emit unit f)) (units, b, back, inl (ends, settled)) = (units, b, back, ends, settled.out)
-  dumps (Err (fault.Damage offset kind)) (units, b, back, inr (has, sound, stops)) = absurd stops.reason
-  dumps (Err fault.NoMemory) (units, b, back, inr (has, sound, stops)) = absurd stops.reason
-  dumps (Err fault.Read) (units, b, back, inr (has, sound, stops)) = absurd stops.reason
-  dumps (Err fault.SectionTooLong) (units, b, back, inr (has, sound, stops)) = absurd stops.reason
-  dumps (Err fault.NotFound) (units, b, back, inr (has, sound, stops)) = absurd stops.reason
-  dumps (Err (fault.ForeignUnit unit)) (units, b, back, inr (has, sound, stops)) = absurd stops.reason
-  dumps (Err (fault.Emit unit f)) (units, b, back, inr (has, sound, stops)) = absurd stops.reason
+  dumps (Err f) (units, b, back, inl (ends, settled)) = (units, b, back, ends, settled.out)
+  dumps (Err f) (units, b, back, inr (has, sound, stops)) = absurd stops.reason

@@ -144,18 +144,6 @@ module _ (dialect : Dialect) (limit : ℕ) (bytes : List ℕ) (left : Option (Li
 
   pub failed : (f : RunFault) → Ran version_story dialect limit bytes left first new start now (Err f)
       → PassesOver dialect limit bytes left (Err f)
-  failed (fault.Write out) (units, b, back, has, writes) = absurd (omega (arith, writes.3.0))
-  failed (fault.Damage offset kind) (units, b, back, inl (ends, settled)) = (units, b, back, ends)
-  failed fault.NoMemory (units, b, back, inl (ends, settled)) = (units, b, back, ends)
-  failed fault.Read (units, b, back, inl (ends, settled)) = (units, b, back, ends)
-  failed fault.SectionTooLong (units, b, back, inl (ends, settled)) = (units, b, back, ends)
-  failed fault.NotFound (units, b, back, inl (ends, settled)) = absurd ends
-  failed (fault.ForeignUnit unit) (units, b, back, inl (ends, settled)) = absurd ends
-  failed (fault.Emit unit f) (units, b, back, inl (ends, settled)) = absurd ends
-  failed (fault.Damage offset kind) (units, b, back, inr (has, sound, stops)) = absurd stops.reason
-  failed fault.NoMemory (units, b, back, inr (has, sound, stops)) = absurd stops.reason
-  failed fault.Read (units, b, back, inr (has, sound, stops)) = absurd stops.reason
-  failed fault.SectionTooLong (units, b, back, inr (has, sound, stops)) = absurd stops.reason
-  failed fault.NotFound (units, b, back, inr (has, sound, stops)) = absurd stops.reason
-  failed (fault.ForeignUnit unit) (units, b, back, inr (has, sound, stops)) = absurd stops.reason
-  failed (fault.Emit unit f) (units, b, back, inr (has, sound, stops)) = absurd stops.reason
+  failed (fault.Write out) ran = absurd (omega (arith, ran.4.3.0))
+  failed f (units, b, back, inl (ends, settled)) = (units, b, back, ends)
+  failed f (units, b, back, inr (has, sound, stops)) = absurd stops.reason

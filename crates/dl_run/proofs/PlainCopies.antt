@@ -37,13 +37,7 @@ module _ (dialect : Dialect) where
         (units, b, back, begun, sound, own, grows, copied units each out)
     copies_plainly (Err (fault.Write out)) (units, back, whole, each, tells) =
         (units, back, whole, are_copied 0 units each, rw (sym (same_text 0 units)) tells)
-    copies_plainly (Err (fault.Damage at kind)) (units, b, back, ends, own, (each, out)) =
-        (units, b, back, ends, own, copied units each out)
-    copies_plainly (Err fault.Read) (units, b, back, ends, own, (each, out)) =
-        (units, b, back, ends, own, copied units each out)
-    copies_plainly (Err fault.SectionTooLong) (units, b, back, ends, own, (each, out)) =
-        (units, b, back, ends, own, copied units each out)
-    copies_plainly (Err fault.NotFound) (units, b, back, ends, own, each) = absurd ends
+    copies_plainly (Err f) copies = (copies.0, copies.1, copies.2, copies.3, copies.4, copied copies.0 copies.5.0 copies.5.1)
 
     made_of : (units : List (List ℕ)) → AreCopied dialect units → Appends start now (copied_units dialect units)
         → AreMade standard dialect 0 units × Appends start now (units_as standard dialect 0 units)
@@ -60,10 +54,4 @@ module _ (dialect : Dialect) where
         (units, b, back, begun, sound, own, grows, made_of units each out)
     copies_as (Err (fault.Write out)) (units, back, whole, each, tells) =
         (units, back, whole, are_made 0 units each, rw (same_text 0 units) tells)
-    copies_as (Err (fault.Damage at kind)) (units, b, back, ends, own, (each, out)) =
-        (units, b, back, ends, own, made_of units each out)
-    copies_as (Err fault.Read) (units, b, back, ends, own, (each, out)) =
-        (units, b, back, ends, own, made_of units each out)
-    copies_as (Err fault.SectionTooLong) (units, b, back, ends, own, (each, out)) =
-        (units, b, back, ends, own, made_of units each out)
-    copies_as (Err fault.NotFound) (units, b, back, ends, own, each) = absurd ends
+    copies_as (Err f) copies = (copies.0, copies.1, copies.2, copies.3, copies.4, made_of copies.0 copies.5.0 copies.5.1)
