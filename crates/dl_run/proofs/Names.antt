@@ -117,8 +117,8 @@ pub use Rattle.dl_run.specs.Commands.{AreCopied, AreMade, Checks, copied_unit, c
 pub use Rattle.dl_run.specs.Commands.{Finds, found_text, IsCopied, IsFound, IsMade, Made, NoneAnswers, to_5, unit_as}
 pub use Rattle.dl_run.specs.Commands.{units_as}
 pub use Rattle.dl_run.specs.CopyLaws.{AreNewer, CopiesAreNewer, CopiesAreUnits, IsAnew, IsNewer}
-pub use Rattle.dl_run.specs.Copying.{copy_story, Copying, end_stop, end_text, IsGrowth, made_by, offset_after, prints}
-pub use Rattle.dl_run.specs.Copying.{rows_since, stop_after, stops, StopsAt, text_after}
+pub use Rattle.dl_run.specs.Copying.{comes_to, copy_story, Copying, ended_as, goes, IsGrowth, made_by, Progress}
+pub use Rattle.dl_run.specs.Copying.{stop_in, stopped, StopsAt, text_in, told_to, visited}
 pub use Rattle.dl_run.specs.Dumping.{dump_story, HasDumped}
 pub use Rattle.dl_run.specs.Finding.{answer_under, find_story, found_after, HasFound, Seeks, SeeksOn, text_found}
 pub use Rattle.dl_run.specs.PassedOver.{AreTold, IsGreatest, IsLeast, other_versions, PassesOver}
