@@ -5,7 +5,7 @@ use Rattle.dl_run.proofs.Names.{ends, EndsAs, Err, foreign_in, goes, HasBegun, H
 use Rattle.dl_run.proofs.Names.{List, Made, made_by, None, of_end, of_version, Ok, Option, Order, Progress, Ran, refl}
 use Rattle.dl_run.proofs.Names.{refusal, Result, Row, RunFault, same_from_push, section_visits, Settled, Some, Sound}
 use Rattle.dl_run.proofs.Names.{stop_in, stopped, StopsAt, Summary, take, TellsOut, text_in, told_to, unit_of}
-use Rattle.dl_run.proofs.Names.{units_as, Visit, visited, VisitorStops, visits, WithinUnit, Write, zero-add, ℕ}
+use Rattle.dl_run.proofs.Names.{units_as, Visit, visited, VisitorStops, WithinUnit, Write, zero-add, ℕ}
 use Rattle.dl_run.proofs.Names.fault
 use Rattle.dl_run.proofs.CopyingSections.{StopIs, Now, Heard, heard_of}
 use Rattle.dl_run.proofs.CopyingVisits.{comes_to-append}

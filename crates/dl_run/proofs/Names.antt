@@ -14,8 +14,8 @@ pub use Rattle.std.proofs.lemmas.Grind.{flat_map-append}
 pub use Rattle.std.proofs.lemmas.List.{append_cancel_left, drop_all, drop_more, map-append, nil_from_length}
 pub use Rattle.std.proofs.lemmas.List.{same_from_push, take-append-le, take_rest}
 pub use Rattle.std.proofs.lemmas.List.Elements.{All-push, Contains-append_left, Contains-push}
-pub use Rattle.std.proofs.lemmas.List.Folds.{concat-append}
-pub use Rattle.std.proofs.lemmas.List.Sums.{count_by-le-length, sum_by-append, sum_by-cons}
+pub use Rattle.std.proofs.lemmas.List.Folds.{concat-append, fold_stays}
+pub use Rattle.std.proofs.lemmas.List.Sums.{count_by-le-length, fold-append, sum_by-append, sum_by-cons}
 pub use Rattle.std.proofs.lemmas.Option.{get_or_from_slice_get, same_Some, slice_get_within}
 pub use Rattle.std.specs.Io.KnownBytes.{Appends, Consumes, IsAtEnd, Keeps}
 pub use Rattle.std.specs.List.{after_last, AllByRecursion, concat}
@@ -120,7 +120,8 @@ pub use Rattle.dl_run.specs.CopyLaws.{AreNewer, CopiesAreNewer, CopiesAreUnits, 
 pub use Rattle.dl_run.specs.Copying.{comes_to, copy_story, Copying, ended_as, goes, IsGrowth, made_by, Progress}
 pub use Rattle.dl_run.specs.Copying.{stop_in, stopped, StopsAt, text_in, told_to, visited}
 pub use Rattle.dl_run.specs.Dumping.{dump_story, HasDumped}
-pub use Rattle.dl_run.specs.Finding.{answer_under, find_story, found_after, HasFound, Seeks, SeeksOn, text_found}
+pub use Rattle.dl_run.specs.Finding.{answer_under, find_story, finds, HasFound, Search, search_of, Seeks, seeks}
+pub use Rattle.dl_run.specs.Finding.{SeeksOn, seen, text_found}
 pub use Rattle.dl_run.specs.PassedOver.{AreTold, IsGreatest, IsLeast, other_versions, PassesOver}
 pub use Rattle.dl_run.specs.PassingOver.{IsPassedOver, Spans, version_story, version_told, versions_told}
 pub use Rattle.dl_run.specs.RunOutput.{TellsOut}

@@ -32,8 +32,8 @@ returns-in_err-summary g c =
     rw (p.1, p.2) (
       read.0,
       read.1,
-      failed options.dialect options.limit read.0 (g.R.Read.remaining c.read_units.new.input) first
-          c.read_units.new.visitor start (g.W.Write.contents c.read_units.new.output) _ c.new-strings.ensures _ ran,
+      failed options.dialect _ options.limit read.0 (g.R.Read.remaining c.read_units.new.input) first
+          c.read_units.new.visitor start (g.W.Write.contents c.read_units.new.output) c.new-strings.ensures _ ran,
     )
 
 pub returns-then-seeker : goal.returns-then-seeker
@@ -46,8 +46,8 @@ returns-then-seeker g c =
     (Appends-nil start) in (
       read.0,
       read.1,
-      found options.dialect options.limit read.0 (g.R.Read.remaining c.read_units.new.input) first
-          c.read_units.new.visitor start (g.W.Write.contents c.read_units.new.output) _ c.new-strings.ensures
+      found options.dialect _ options.limit read.0 (g.R.Read.remaining c.read_units.new.input) first
+          c.read_units.new.visitor start (g.W.Write.contents c.read_units.new.output) c.new-strings.ensures
           c.in_ok-summary.summary c.if-seeker.true ran,
     )
 
@@ -61,7 +61,7 @@ returns-else-seeker g c =
     (Appends-nil start) in (
       read.0,
       read.1,
-      not_found options.dialect options.limit read.0 (g.R.Read.remaining c.read_units.new.input) first
-          c.read_units.new.visitor start (g.W.Write.contents c.read_units.new.output) _ c.new-strings.ensures
+      not_found options.dialect _ options.limit read.0 (g.R.Read.remaining c.read_units.new.input) first
+          c.read_units.new.visitor start (g.W.Write.contents c.read_units.new.output) c.new-strings.ensures
           c.in_ok-summary.summary c.if-seeker.false ran,
     )
