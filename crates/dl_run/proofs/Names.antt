@@ -105,7 +105,7 @@ pub use Rattle.dl_look.specs.declared.place.Place.{Place}
 pub use Rattle.dl_print.proofs.Outs.{HasOut-more, HasOut-pending, HasPrinted-flushed, HasPrinted-more}
 pub use Rattle.dl_print.proofs.Outs.{HasPrinted-nothing, HasPrinted-out, keeps_by_nothing, TellsOut-front}
 pub use Rattle.dl_print.specs.Counts.{add, with_unit}
-pub use Rattle.dl_print.specs.Output.{Flushes, HasOut, HasPrinted}
+pub use Rattle.dl_print.specs.Output.{Flushes, HasOut, HasPrinted, Prints}
 pub use Rattle.dl_print.specs.Printed.{Printed}
 pub use Rattle.dl_print.specs.Text.{summary_line}
 pub use Rattle.dl_print.specs.ValueText.{Strings, strings_of}
