@@ -2,16 +2,16 @@
 use Rattle.dl_run.proofs.Names.{if◌then◌else◌, ◌++◌, ◌<◌, ◌^◌, ◌∙◌, ◌∷◌, ◌≡◌, ◌≤◌, [], after_last, all_push}
 use Rattle.dl_run.proofs.Names.{AllByRecursion, AllBytes, ap, append-nil, appends_row, AreCopied, arith, Bool}
 use Rattle.dl_run.proofs.Names.{bytes_back, bytes_front, concat, copied_unit, copied_units, CopiesAreUnits, Dialect}
-use Rattle.dl_run.proofs.Names.{drop, false, found_is_header, found_is_program, fresh, header_in, header_is_sound}
-use Rattle.dl_run.proofs.Names.{header_of, HeaderData, inr, is_end, IsAnew, IsCopied, IsRow, IsSoundHeader, IsUnit}
-use Rattle.dl_run.proofs.Names.{last_part, last_set, line, List, map, mod-lt, modulo, moves, negsuc, None, Operation}
-use Rattle.dl_run.proofs.Names.{operations_in, Option, option_map, option_map_or, option_or, Order, Params, parts}
-use Rattle.dl_run.proofs.Names.{pos, refl, row, row_from, rows_later, sequence, set_column, set_discriminator}
-use Rattle.dl_run.proofs.Names.{set_file, set_isa, Some, SpellsOperation, SpellsProgram, standard_fault, subst, suc}
-use Rattle.dl_run.proofs.Names.{sym, true, unit_is_read_again, unit_of, unit_rows, unwrap_or, usable}
-use Rattle.dl_run.proofs.Names.{with_standard_opcodes, zero, ℕ, ℤ}
+use Rattle.dl_run.proofs.Names.{drop, false, found_is_header, found_is_program, fresh, header_is_sound, header_of}
+use Rattle.dl_run.proofs.Names.{HeaderData, inr, is_end, IsAnew, IsCopied, IsRow, IsSoundHeader, IsUnit, last_part}
+use Rattle.dl_run.proofs.Names.{last_set, line, List, map, mod-lt, modulo, moves, negsuc, None, op_index, Operation}
+use Rattle.dl_run.proofs.Names.{operations_in, Option, option_or, Order, Params, parts, pos, refl, row, row_from}
+use Rattle.dl_run.proofs.Names.{rows_later, sequence, set_column, set_discriminator, set_file, set_isa, Some}
+use Rattle.dl_run.proofs.Names.{SpellsOperation, SpellsProgram, standard_fault, subst, suc, sym, true}
+use Rattle.dl_run.proofs.Names.{unit_is_read_again, unit_rows, unwrap_or, usable, with_standard_opcodes, zero, ℕ, ℤ}
 use Rattle.dl_run.proofs.Names.op
 use Rattle.dl_rows.specs.Matrix.{rows_after}
+use Rattle.dl_run.proofs.EventLemmas.{header_parts}
 use Rattle.dl_run.proofs.Fronts.{none_is_some, value_same}
 
 -- ---- the operands of operations that were read
@@ -29,19 +29,7 @@ small_of order h (op.SetFile n) w s = s.fits
 small_of order h (op.SetColumn n) w s = s.fits
 small_of order h (op.SetIsa n) w s = s.fits
 small_of order h (op.SetDiscriminator n) w s = s.fits
-small_of order h (op.Special b) w s = tt
-small_of order h (op.AdvanceLine i) w s = tt
-small_of order h (op.SetAddress n) w s = tt
-small_of order h op.Copy w s = tt
-small_of order h (op.AdvancePc n) w s = tt
-small_of order h op.NegateStatement w s = tt
-small_of order h op.SetBasicBlock w s = tt
-small_of order h op.ConstAddPc w s = tt
-small_of order h (op.FixedAdvancePc n) w s = tt
-small_of order h op.SetPrologueEnd w s = tt
-small_of order h op.SetEpilogueBegin w s = tt
-small_of order h op.EndSequence w s = tt
-small_of order h op.Skipped w s = tt
+small_of order h o w s = tt
 
 all_small : (order : Order) (h : Params) (os : List Operation) (w : List ℕ) → SpellsProgram order h os w
     → AllByRecursion Small os
@@ -113,16 +101,14 @@ module _ (h : Params) (some : 1 ≤ h.maximum_operations_per_instruction)
       → AllByRecursion IsRow (rows_after h front os)
   rows_are front [] small more = tt
   rows_are front (o ∷ os) small more =
-      by (appends_row o) (rows_are (front ++ o ∷ []) os (all_push Small front o small more.0) more.1) where
-        since : (p : Operation → Bool) → AllByRecursion Small (after_last p front ++ o ∷ [])
-        since p = all_push Small (after_last p front) o (all_drop Small _ front small) more.0
-
-        by : (b : Bool) → AllByRecursion IsRow (rows_after h (front ++ o ∷ []) os)
-            → AllByRecursion IsRow (if b then row h front o ∷ rows_after h (front ++ o ∷ []) os
-            else rows_after h (front ++ o ∷ []) os)
-        by true tail =
-            (row_is (sequence front o) (fresh front o) (is_end o) (since is_end) (since appends_row), tail)
-        by false tail = tail
+      let since = λ (p : Operation → Bool). all_push Small (after_last p front) o (all_drop Small _ front small) more.0 in
+      let tail = rows_are (front ++ o ∷ []) os (all_push Small front o small more.0) more.1 in
+      elim (appends_row o)
+      as (λ b. AllByRecursion IsRow (if b then row h front o ∷ rows_after h (front ++ o ∷ []) os
+      else rows_after h (front ++ o ∷ []) os)) [
+        | true ↦ (row_is (sequence front o) (fresh front o) (is_end o) (since is_end) (since appends_row), tail)
+        | false ↦ tail
+      ]
 
 -- ---- one unit
 
@@ -144,43 +130,34 @@ pub record HasHeader (dialect : Dialect) (u : List ℕ) (h : HeaderData) : Type 
 
 pub header_read : (dialect : Dialect) (u : List ℕ) (h : HeaderData) → AllBytes u → header_of dialect u ≡ Some h
     → HasHeader dialect u h
-header_read dialect u h all is = by (header_in dialect u) refl where
-  by : (parts : Option (HeaderData × List ℕ)) → header_in dialect u ≡ parts → HasHeader dialect u h
-  by None e = absurd (none_is_some (sym (ap (λ (p : Option (HeaderData × List ℕ)). option_map (λ q. q.0) p) e) ∙ is))
-  by (Some (own, program)) e =
-      let same : own ≡ h =
-      value_same own h (sym (ap (λ (p : Option (HeaderData × List ℕ)). option_map (λ q. q.0) p) e) ∙ is) in
-      let w = found_is_header dialect own u program e in
-      let sound = header_is_sound dialect own w.0 w.2 (bytes_front w.0 program (subst AllBytes w.1 all)) in
-      let params = usable own.params own.directories own.files sound.params in
-      let found = found_is_program dialect.order own.params program (let opcodes = params.opcodes in omega arith) in
-      let small = all_small dialect.order own.params (operations_in dialect.order own.params program).found
-      found.0 found.2 in
-      record {
-        sound = subst IsSoundHeader same sound;
-        rows = subst (AllByRecursion IsRow) (sym (ap (rows_later dialect.order) e))
-            (rows_are own.params params.operations sound.maximum_operations []
-            (operations_in dialect.order own.params program).found tt small);
-      }
+header_read dialect u h all is =
+    let parts = header_parts dialect u h is in
+    let program = parts.0 in
+    let w = found_is_header dialect h u program parts.1 in
+    let sound = header_is_sound dialect h w.0 w.2 (bytes_front w.0 program (rw w.1 at all)) in
+    let params = usable h.params h.directories h.files sound.params in
+    let found = found_is_program dialect.order h.params program (let opcodes = params.opcodes in omega arith) in
+    let os = (operations_in dialect.order h.params program).found in
+    record {
+      sound = sound;
+      rows = rw parts.1 (rows_are h.params params.operations sound.maximum_operations [] os tt
+          (all_small dialect.order h.params os found.0 found.2));
+    }
 
 copy_is_anew : (dialect : Dialect) (u : List ℕ) → AllBytes u → IsCopied dialect u
     → IsAnew dialect u (copied_unit dialect u)
 copy_is_anew dialect u all (h, is, none) =
     let read = header_read dialect u h all is in
     let std = with_standard_opcodes h in
-    let rows = unit_rows dialect u in
-    let again = unit_is_read_again dialect std rows (standard_sound h read.sound) read.rows none in
-    let anew : IsAnew dialect u (unit_of dialect.order std rows) = record {
+    let again = unit_is_read_again dialect std (unit_rows dialect u) (standard_sound h read.sound) read.rows none in
+    rw is (record {
       header = h;
       its_header = is;
       operations = _;
       unit = again.unit;
       events_are = again.events_are;
       rows = ap (rows_later dialect.order) again.header ∙ again.program.same;
-    } in
-    subst (IsAnew dialect u)
-    (sym (ap (λ (o : Option HeaderData). option_map_or (λ g. unit_of dialect.order (with_standard_opcodes g) rows) o [])
-    is)) anew
+    })
 
 -- ---- units
 

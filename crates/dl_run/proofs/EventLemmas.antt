@@ -2,9 +2,10 @@
 use Rattle.dl_run.proofs.Names.{◌++◌, ◌∙◌, ◌∷◌, ◌≡◌, [], ap, append_assoc, ap₂, Dialect, Event, event_visits, events}
 use Rattle.dl_run.proofs.Names.{events_of, false, flat_map, flat_map-append, foreign_in, foreign_no_header, header_in}
 use Rattle.dl_run.proofs.Names.{header_of, header_on, HeaderData, is_foreign, is_some, List, map, no_rows, None}
-use Rattle.dl_run.proofs.Names.{of_row, Option, Order, own_events, refl, Row, row_told, rows_in, rows_later}
-use Rattle.dl_run.proofs.Names.{rows_told, Some, sym, told, unit_rows, Visit, visits, ℕ}
+use Rattle.dl_run.proofs.Names.{of_row, Option, option_map, Order, own_events, refl, Row, row_told, rows_in}
+use Rattle.dl_run.proofs.Names.{rows_later, rows_told, Some, sym, told, unit_rows, Visit, visits, ℕ}
 use Rattle.dl_run.proofs.Names.event
+use Rattle.dl_run.proofs.Fronts.{none_is_some, value_same}
 
 -- ---- rows
 
@@ -105,3 +106,14 @@ visits_grow dialect offset b x told grows =
     ap (flat_map at) grows
     ∙ flat_map-append at (events dialect b) told
     ∙ ap (λ (l : List Visit). l ++ flat_map at told) (same_visits dialect offset b x (header_in dialect b) refl)
+
+-- ---- headers
+
+-- the bytes that a header stands in front of
+pub header_parts : (dialect : Dialect) (b : List ℕ) (h : HeaderData) → header_of dialect b ≡ Some h
+    → (program : List ℕ) × (header_in dialect b ≡ Some (h, program))
+header_parts dialect b h is = by (header_in dialect b) refl is where
+  by : (parts : Option (HeaderData × List ℕ)) → header_in dialect b ≡ parts → option_map (λ p. p.0) parts ≡ Some h
+      → (program : List ℕ) × (header_in dialect b ≡ Some (h, program))
+  by None e some = absurd (none_is_some some)
+  by (Some (g, program)) e some = let same : g ≡ h = value_same g h some in (program, rw same at e)

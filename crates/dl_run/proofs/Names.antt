@@ -113,9 +113,9 @@ pub use Rattle.dl_print.specs.declared.fault.WriteFault.{WriteFault}
 pub use Rattle.dl_print.specs.declared.summary.Summary.{Summary}
 pub use Rattle.dl_dirs.specs.Compilation.{directory_by}
 pub use Rattle.dl_run.specs.Checking.{check_story}
-pub use Rattle.dl_run.specs.Commands.{AreCopied, AreMade, Checks, copied_unit, copied_units, Copies, CopiesAs, Dumps}
-pub use Rattle.dl_run.specs.Commands.{Finds, found_text, IsCopied, IsFound, IsMade, Made, NoneAnswers, to_5, unit_as}
-pub use Rattle.dl_run.specs.Commands.{units_as}
+pub use Rattle.dl_run.specs.Commands.{AreCopied, AreMade, Checks, copied_unit, copied_units, Copies, CopiesAs}
+pub use Rattle.dl_run.specs.Commands.{CopiesBy, Dumps, Finds, found_text, IsCopied, IsFound, IsMade, Made}
+pub use Rattle.dl_run.specs.Commands.{NoneAnswers, to_5, unit_as, units_as}
 pub use Rattle.dl_run.specs.CopyLaws.{AreNewer, CopiesAreNewer, CopiesAreUnits, IsAnew, IsNewer}
 pub use Rattle.dl_run.specs.Copying.{comes_to, copy_story, Copying, ended_as, goes, IsGrowth, made_by, Progress}
 pub use Rattle.dl_run.specs.Copying.{stop_in, stopped, StopsAt, text_in, told_to, visited}

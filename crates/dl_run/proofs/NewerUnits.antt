@@ -2,10 +2,9 @@
 use Rattle.dl_run.proofs.Names.{◌++◌, ◌+◌, ◌∙◌, ◌∷◌, ◌≡◌, [], AllByRecursion, AllBytes, ap, append-nil, AreMade}
 use Rattle.dl_run.proofs.Names.{AreNewer, Bool, bytes_back, bytes_front, concat, CopiesAreNewer, Dialect, EmitFault}
 use Rattle.dl_run.proofs.Names.{false, HeaderData, inr, is_within_limit, IsMade, IsNewer, IsSoundHeader, IsUnit}
-use Rattle.dl_run.proofs.Names.{length, List, None, Option, option_map_or, Params, params_are, program_len, refl}
-use Rattle.dl_run.proofs.Names.{refusal, Row, rows_later, rows_refusal, subst, sym, tables_near, to_5, to_version_5}
-use Rattle.dl_run.proofs.Names.{TooLong, true, unit_as, unit_is_read_again, unit_of, unit_rows, units_as, unless}
-use Rattle.dl_run.proofs.Names.{version_5_sound, ℕ}
+use Rattle.dl_run.proofs.Names.{length, List, None, Option, Params, params_are, program_len, refl, refusal, Row}
+use Rattle.dl_run.proofs.Names.{rows_later, rows_refusal, subst, sym, tables_near, to_5, to_version_5, TooLong, true}
+use Rattle.dl_run.proofs.Names.{unit_as, unit_is_read_again, unit_rows, units_as, unless, version_5_sound, ℕ}
 use Rattle.dl_run.proofs.CopiedUnits.{header_read, standard_sound}
 use Rattle.dl_run.proofs.Fronts.{neither, none_is_some}
 
@@ -31,7 +30,7 @@ module _ (directories : ℕ → Option (List ℕ)) (dialect : Dialect) where
       let made = to_5 directories offset h in
       let rows = unit_rows dialect u in
       let again = unit_is_read_again dialect made rows (to_5_sound offset h rows read.sound none) read.rows none in
-      let newer : IsNewer directories dialect offset u (unit_of dialect.order made rows) = record {
+      rw is (record {
         header = h;
         its_header = is;
         version = ap (λ (p : Params). p.version) (params_are h (directories offset));
@@ -39,10 +38,7 @@ module _ (directories : ℕ → Option (List ℕ)) (dialect : Dialect) where
         unit = again.unit;
         events_are = again.events_are;
         rows = ap (rows_later dialect.order) again.header ∙ again.program.same;
-      } in
-      subst (IsNewer directories dialect offset u)
-      (sym (ap (λ (o : Option HeaderData). option_map_or
-      (λ g. unit_of dialect.order (to_5 directories offset g) rows) o []) is)) newer
+      })
 
   -- the copies of units, the first of which stands at the offset
   record Newer (offset : ℕ) (units : List (List ℕ)) : Type 0 where

@@ -4,11 +4,12 @@ use Rattle.dl_run.proofs.Names.{AreMade, arith, concat, CopiesAs, CopyIsFront, C
 use Rattle.dl_run.proofs.Names.{EmitFault, EndsAs, Err, foreign_in, foreign_is_not_refused, foreign_known}
 use Rattle.dl_run.proofs.Names.{foreign_no_header, fronts, HasUnits, header_in, header_of, header_on, HeaderData, inl}
 use Rattle.dl_run.proofs.Names.{inr, IsMade, IsOfBytes, IsUnit, length, length-append, List, Made, None, Ok, OneCopy}
-use Rattle.dl_run.proofs.Names.{OneCopying, OneCopyingTo5, OneCopyTo5, Option, option_map, refl, refusal}
-use Rattle.dl_run.proofs.Names.{refused_in_header, Result, RunFault, Some, Summary, sym, take, TellsOut, to_5}
-use Rattle.dl_run.proofs.Names.{TooLong, unit_rows, units_as, WithinUnit, Write, zero-add, ℕ}
+use Rattle.dl_run.proofs.Names.{OneCopying, OneCopyingTo5, OneCopyTo5, Option, refl, refusal, refused_in_header}
+use Rattle.dl_run.proofs.Names.{Result, RunFault, Some, Summary, sym, take, TellsOut, to_5, TooLong, unit_rows}
+use Rattle.dl_run.proofs.Names.{units_as, WithinUnit, Write, zero-add, ℕ}
 use Rattle.dl_run.proofs.Names.fault
 use Rattle.dl_run.proofs.CopyingAnswers.{copies}
+use Rattle.dl_run.proofs.EventLemmas.{header_parts}
 use Rattle.dl_run.proofs.Fronts.{none_is_some, value_same}
 use Rattle.dl_run.proofs.OutLemmas.{TellsOut-more}
 use Rattle.dl_run.proofs.PlainCopies.{standard, copies_as}
@@ -186,13 +187,11 @@ module _ (made : Made) (dialect : Dialect) (limit : ℕ) (bytes : List ℕ) wher
   -- what begins with another version doesn't begin with a unit that has a header
   no_header : {w : List ℕ} → AtVersion w → (u back : List ℕ) (h : HeaderData) → w ≡ u ++ back
       → header_of dialect u ≡ Some h → ⊥
-  no_header {w} v u back h is header = by (header_in dialect u) refl header where
-    by : (o : Option (HeaderData × List ℕ)) → header_in dialect u ≡ o → option_map (λ p. p.0) o ≡ Some h → ⊥
-    by None none some = none_is_some some
-    by (Some (g, program)) its some =
-        none_is_some (sym (foreign_no_header dialect (v.b ++ v.back) v.version
-        (foreign_on dialect v.b v.back v.version v.foreign))
-        ∙ ap (header_in dialect) (sym v.whole ∙ is) ∙ header_on dialect u back g program its)
+  no_header {w} v u back h is header =
+      let parts = header_parts dialect u h header in
+      none_is_some (sym (foreign_no_header dialect (v.b ++ v.back) v.version
+      (foreign_on dialect v.b v.back v.version v.foreign))
+      ∙ ap (header_in dialect) (sym v.whole ∙ is) ∙ header_on dialect u back h parts.0 parts.1)
 
   same_answer : {units : List (List ℕ)} {w : List ℕ} {result result2 : Result Summary RunFault} → Stops units w result
       → Stops units w result2 → result ≡ result2
@@ -274,20 +273,17 @@ module _ (made : Made) (dialect : Dialect) (limit : ℕ) (bytes : List ℕ) (lef
 pub one_copying : OneCopying
 one_copying dialect limit bytes left left2 start start2 now now2 result result2 of of2 copies copies2 =
     one_answer standard dialect limit bytes left left2 start start2 now now2 result result2 of of2
-    (copies_as dialect limit bytes left start now result copies)
-    (copies_as dialect limit bytes left2 start2 now2 result2 copies2)
+    (copies_as _ _ _ _ _ _ _ copies) (copies_as _ _ _ _ _ _ _ copies2)
 
 pub one_copy : OneCopy
 one_copy dialect limit bytes left left2 start start2 now now2 result result2 of of2 copies copies2 =
     one_text standard dialect limit bytes left left2 start start2 now now2 result result2 of of2
-    (copies_as dialect limit bytes left start now result copies)
-    (copies_as dialect limit bytes left2 start2 now2 result2 copies2)
+    (copies_as _ _ _ _ _ _ _ copies) (copies_as _ _ _ _ _ _ _ copies2)
 
 pub copy_is_front : CopyIsFront
 copy_is_front dialect limit bytes left left2 start start2 now now2 out result2 of2 copies copies2 =
     text_is_front standard dialect limit bytes left left2 start start2 now now2 out result2 of2
-    (copies_as dialect limit bytes left start now (Err (fault.Write out)) copies)
-    (copies_as dialect limit bytes left2 start2 now2 result2 copies2)
+    (copies_as dialect limit bytes left start now (Err (fault.Write out)) copies) (copies_as _ _ _ _ _ _ _ copies2)
 
 pub one_copying_to_5 : OneCopyingTo5
 one_copying_to_5 directories = one_answer (to_5 (directory_by directories))
