@@ -1,6 +1,6 @@
 -- Counts of the current unit, where its reader tells an event.
 use Rattle.dl_run.proofs.Names.{◌++◌, ◌+◌, ◌<◌, ◌^◌, ◌||◌, ◌∙◌, ◌∷◌, ◌≡◌, [], ap, append-nil, append_assoc, arith}
-use Rattle.dl_run.proofs.Names.{Bool, concat, count_by-le-length, counted, Counted, Dialect, ends, Event, events}
+use Rattle.dl_run.proofs.Names.{Bool, concat, count_by-le-length, Counted, counted, Dialect, ends, Event, events}
 use Rattle.dl_run.proofs.Names.{false, Fed, FeedsAfter, is_foreign, length, length-append, length-take, List, map}
 use Rattle.dl_run.proofs.Names.{Reader, refl, Row, row_told, rows_told, SectionUnits, subst, sym, take, told, true}
 use Rattle.dl_run.proofs.Names.{UnitsAre, ℕ}
@@ -13,11 +13,7 @@ use Rattle.dl_run.proofs.SectionLemmas.{few_told}
 foreign-append : (es more : List Event) → is_foreign (es ++ more) ≡ (is_foreign es || is_foreign more)
 foreign-append [] more = refl
 foreign-append (event.Foreign version ∷ es) more = refl
-foreign-append (event.More ∷ es) more = foreign-append es more
-foreign-append (event.Header ∷ es) more = foreign-append es more
-foreign-append (event.Row r ∷ es) more = foreign-append es more
-foreign-append (event.End ∷ es) more = foreign-append es more
-foreign-append (event.NoMemory ∷ es) more = foreign-append es more
+foreign-append (e ∷ es) more = foreign-append es more
 
 or_false : (x : Bool) → (x || false) ≡ x
 or_false true = refl
@@ -30,20 +26,12 @@ or_true false = refl
 module _ (u : SectionUnits) where
   foreign_more : (e : Event) (x : Bool) → u.is_foreign ≡ x → (counted e u).is_foreign ≡ (x || is_foreign (told e))
   foreign_more (event.Foreign version) x is = sym (or_true x)
-  foreign_more (event.Row r) x is = is ∙ sym (or_false x)
-  foreign_more event.More x is = is ∙ sym (or_false x)
-  foreign_more event.Header x is = is ∙ sym (or_false x)
-  foreign_more event.End x is = is ∙ sym (or_false x)
-  foreign_more event.NoMemory x is = is ∙ sym (or_false x)
+  foreign_more e x is = is ∙ sym (or_false x)
 
   -- what an event leaves as it is
   same_but : (e : Event) → counted e u ≡ record u { is_foreign = (counted e u).is_foreign }
-  same_but event.More = refl
-  same_but event.Header = refl
   same_but (event.Foreign version) = refl
-  same_but (event.Row r) = refl
-  same_but event.End = refl
-  same_but event.NoMemory = refl
+  same_but e = refl
 
 module _ (dialect : Dialect) (u : SectionUnits) (t piece : List ℕ) (units : List (List ℕ)) (b : List ℕ)
     (are : UnitsAre dialect u t units b) (v : SectionUnits) (own : v.reader.dialect ≡ dialect)

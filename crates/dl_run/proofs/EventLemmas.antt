@@ -1,9 +1,9 @@
 -- Events of a unit, and the visits, rows and versions that they tell.
-use Rattle.dl_run.proofs.Names.{◌++◌, ◌∙◌, ◌∷◌, ◌≡◌, [], ap, append_assoc, ap₂, Dialect, Event, event_visits, events}
-use Rattle.dl_run.proofs.Names.{events_of, false, flat_map, flat_map-append, foreign_in, foreign_no_header, header_in}
-use Rattle.dl_run.proofs.Names.{header_of, header_on, HeaderData, is_foreign, is_some, List, map, no_rows, None}
-use Rattle.dl_run.proofs.Names.{of_row, Option, option_map, Order, own_events, refl, Row, row_told, rows_in}
-use Rattle.dl_run.proofs.Names.{rows_later, rows_told, Some, sym, told, unit_rows, Visit, visits, ℕ}
+use Rattle.dl_run.proofs.Names.{◌++◌, ◌∷◌, ◌≡◌, [], ap, append_assoc, Dialect, Event, event_visits, events, events_of}
+use Rattle.dl_run.proofs.Names.{false, flat_map, flat_map-append, foreign_in, foreign_no_header, header_in, header_of}
+use Rattle.dl_run.proofs.Names.{header_on, HeaderData, is_foreign, is_some, List, map, no_rows, None, of_row, Option}
+use Rattle.dl_run.proofs.Names.{option_map, Order, own_events, refl, Row, row_told, rows_in, rows_later, rows_told}
+use Rattle.dl_run.proofs.Names.{Some, sym, told, unit_rows, Visit, visits, ℕ}
 use Rattle.dl_run.proofs.Names.event
 use Rattle.dl_run.proofs.Fronts.{none_is_some, value_same}
 
@@ -16,8 +16,7 @@ rows_told-rows (r ∷ rows) = ap (λ (l : List Row). r ∷ l) (rows_told-rows ro
 pub rows_told-append : (es more : List Event) → rows_told (es ++ more) ≡ rows_told es ++ rows_told more
 rows_told-append [] more = refl
 rows_told-append (e ∷ es) more =
-    ap (λ (l : List Row). row_told e ++ l) (rows_told-append es more)
-    ∙ sym (append_assoc (row_told e) (rows_told es) (rows_told more))
+    rw (rows_told-append es more) (simp append_assoc)
 
 rows_of_own : (order : Order) (parts : Option (HeaderData × List ℕ))
     → rows_told (own_events order parts) ≡ rows_later order parts
@@ -36,11 +35,7 @@ rows_of_events dialect b = rows_by dialect b (foreign_in dialect b) refl
 -- an event that tells no row
 pub none_told : (e : Event) → row_told e ≡ [] → rows_told (told e) ≡ []
 none_told (event.Row r) none = none
-none_told event.More none = refl
-none_told event.Header none = refl
-none_told (event.Foreign version) none = refl
-none_told event.End none = refl
-none_told event.NoMemory none = refl
+none_told e none = refl
 
 -- rows are visits of their own, whatever the header
 pub rows_visited : (offset : ℕ) (h : Option HeaderData) (rows : List Row)
@@ -80,21 +75,9 @@ same_visits : (dialect : Dialect) (offset : ℕ) (b x : List ℕ) (parts : Optio
     → header_in dialect b ≡ parts
     → flat_map (event_visits offset (header_of dialect (b ++ x))) (events dialect b) ≡ visits dialect offset b
 same_visits dialect offset b x None is =
-    ap (λ (p : Option (HeaderData × List ℕ)). flat_map (event_visits offset (header_of dialect (b ++ x)))
-    (events_of dialect.order (foreign_in dialect b) p)) is
-    ∙ headerless offset (header_of dialect (b ++ x)) dialect.order (foreign_in dialect b)
-    ∙ sym (ap
-    (λ (p : Option (HeaderData × List ℕ)). flat_map
-    (event_visits offset (Rattle.std.specs.Option.option_map (λ parts. parts.0) p))
-    (events_of dialect.order (foreign_in dialect b) p)) is)
+    rw is (headerless offset (header_of dialect (b ++ x)) dialect.order (foreign_in dialect b))
 same_visits dialect offset b x (Some (h, program)) is =
-    ap₂ (λ (p q : Option (HeaderData × List ℕ)). flat_map
-    (event_visits offset (Rattle.std.specs.Option.option_map (λ parts. parts.0) p))
-    (events_of dialect.order (foreign_in dialect b) q)) (header_on dialect b x h program is) is
-    ∙ sym (ap
-    (λ (p : Option (HeaderData × List ℕ)). flat_map
-    (event_visits offset (Rattle.std.specs.Option.option_map (λ parts. parts.0) p))
-    (events_of dialect.order (foreign_in dialect b) p)) is)
+    rw (header_on dialect b x h program is, is) refl
 
 -- where the events grow, so do the visits
 pub visits_grow : (dialect : Dialect) (offset : ℕ) (b x : List ℕ) (told : List Event)
@@ -102,10 +85,11 @@ pub visits_grow : (dialect : Dialect) (offset : ℕ) (b x : List ℕ) (told : Li
     → visits dialect offset (b ++ x) ≡ visits dialect offset b
     ++ flat_map (event_visits offset (header_of dialect (b ++ x))) told
 visits_grow dialect offset b x told grows =
-    let at = event_visits offset (header_of dialect (b ++ x)) in
-    ap (flat_map at) grows
-    ∙ flat_map-append at (events dialect b) told
-    ∙ ap (λ (l : List Visit). l ++ flat_map at told) (same_visits dialect offset b x (header_in dialect b) refl)
+    rw (
+      grows,
+      flat_map-append (event_visits offset (header_of dialect (b ++ x))) (events dialect b) told,
+      same_visits dialect offset b x (header_in dialect b) refl,
+    ) refl
 
 -- ---- headers
 

@@ -1,9 +1,8 @@
 -- The header that visits tell of the current unit.
-use Rattle.dl_run.proofs.Names.{◌++◌, ◌+◌, ◌∙◌, ◌∷◌, ◌≡◌, ◌⊎◌, [], ap, Bool, concat, Dialect, end_visits, ends_open}
+use Rattle.dl_run.proofs.Names.{◌++◌, ◌+◌, ◌∙◌, ◌∷◌, ◌≡◌, ◌⊎◌, [], Bool, concat, Dialect, end_visits, ends_open}
 use Rattle.dl_run.proofs.Names.{false, foreign_no_header, header_of, header_told, HeaderData, inl, inr, length, List}
-use Rattle.dl_run.proofs.Names.{map, None, of_end, of_header, of_open, of_row, of_version, open_visit, Option}
-use Rattle.dl_run.proofs.Names.{option_map, refl, Row, section_visits, Some, sym, true, unit_rows, unit_visits}
-use Rattle.dl_run.proofs.Names.{units_visits, Visit, visits, ℕ}
+use Rattle.dl_run.proofs.Names.{map, None, of_end, of_header, of_row, open_visit, Option, refl, Row, section_visits}
+use Rattle.dl_run.proofs.Names.{Some, true, unit_rows, unit_visits, units_visits, Visit, visits, ℕ}
 use Rattle.dl_run.proofs.CopyingVisits.{Foreign, Own, Neither, one_of, foreign_visits, own_visits, no_visits}
 use Rattle.dl_run.proofs.CopyingVisits.{header_is}
 
@@ -12,10 +11,8 @@ pub header_told-append : (h : Option HeaderData) (a b : List Visit)
     → header_told h (a ++ b) ≡ header_told (header_told h a) b
 header_told-append h [] b = refl
 header_told-append h (of_header n g ∷ a) b = header_told-append (Some g) a b
-header_told-append h (of_version n v ∷ a) b = header_told-append h a b
-header_told-append h (of_row r ∷ a) b = header_told-append h a b
-header_told-append h (of_open ∷ a) b = header_told-append h a b
 header_told-append h (of_end g ∷ a) b = header_told-append None a b
+header_told-append h (v ∷ a) b = header_told-append h a b
 
 of_open_none : (h : Option HeaderData) (is_open : Bool) → header_told h (open_visit is_open) ≡ h
 of_open_none h true = refl
@@ -42,27 +39,20 @@ module _ (dialect : Dialect) where
   none_of_units : (n : ℕ) (units : List (List ℕ)) → header_told None (units_visits dialect n units) ≡ None
   none_of_units n [] = refl
   none_of_units n (u ∷ units) =
-      header_told-append None (unit_visits dialect n u) (units_visits dialect (n + length u) units)
-      ∙ ap (λ (h : Option HeaderData). header_told h (units_visits dialect (n + length u) units)) (none_at_end n u)
-      ∙ none_of_units (n + length u) units
+      rw (header_told-append None (unit_visits dialect n u) (units_visits dialect (n + length u) units), none_at_end n u)
+      (none_of_units (n + length u) units)
 
   by_kind : (n : ℕ) (b : List ℕ) → Foreign dialect n b ⊎ (Own dialect n b ⊎ Neither dialect n b)
       → header_told None (visits dialect n b) ≡ header_of dialect b
-  by_kind n b (inl f) =
-      ap (header_told None) (foreign_visits dialect n b f)
-      ∙ sym (ap (λ (p : Option (HeaderData × List ℕ)). option_map (λ q. q.0) p) (foreign_no_header dialect b f.0 f.1))
+  by_kind n b (inl f) = rw (foreign_visits dialect n b f, foreign_no_header dialect b f.0 f.1) refl
   by_kind n b (inr (inl own)) =
-      ap (header_told None) (own_visits dialect n b own) ∙ rows_tell_none (Some own.0) (unit_rows dialect b)
-      ∙ sym (header_is dialect n b own)
-  by_kind n b (inr (inr none)) =
-      ap (header_told None) (no_visits dialect n b none)
-      ∙ sym (ap (λ (p : Option (HeaderData × List ℕ)). option_map (λ q. q.0) p) none.1)
+      rw (own_visits dialect n b own, header_is dialect n b own) (rows_tell_none (Some own.0) (unit_rows dialect b))
+  by_kind n b (inr (inr none)) = rw (no_visits dialect n b none, none.1) refl
 
   -- that of the bytes after the units
   pub header_of_section : (units : List (List ℕ)) (b : List ℕ)
       → header_told None (section_visits dialect units b) ≡ header_of dialect b
   header_of_section units b =
       let n = length (concat units) in
-      header_told-append None (units_visits dialect 0 units) (visits dialect n b)
-      ∙ ap (λ (h : Option HeaderData). header_told h (visits dialect n b)) (none_of_units 0 units)
-      ∙ by_kind n b (one_of dialect n b)
+      rw (header_told-append None (units_visits dialect 0 units) (visits dialect n b), none_of_units 0 units)
+      (by_kind n b (one_of dialect n b))

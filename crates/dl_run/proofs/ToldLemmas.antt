@@ -1,10 +1,10 @@
 -- Rows that a visitor is told while a reader takes bytes, and what it stands for then.
-use Rattle.dl_run.proofs.Names.{◌++◌, ◌+◌, ◌-◌, ◌^◌, ◌∙◌, ◌∷◌, ◌≡◌, [], ap, append-nil, append_assoc, arith, cond}
-use Rattle.dl_run.proofs.Names.{Counted, ends, Err, Event, events, Fault, Fed, FedAfter, HeardRows, Hears}
-use Rattle.dl_run.proofs.Names.{length-append, List, map, map-append, min, None, none_some, NoRow, of_row, Ok, Option}
-use Rattle.dl_run.proofs.Names.{Reader, refl, Result, Row, row_told, RowsFed, RowsOf, RunFault, same_Some}
-use Rattle.dl_run.proofs.Names.{SectionUnits, SinkAfter, SinkAt, Some, Stopped, StopsAtRow, Story, subst}
-use Rattle.dl_run.proofs.Names.{sum_by-append, sym, Told, told_story, Visit, ℕ, ⊤}
+use Rattle.dl_run.proofs.Names.{ends, ◌++◌, ◌+◌, ◌-◌, ◌^◌, ◌∙◌, ◌∷◌, ◌≡◌, [], ap, append-nil, append_assoc, arith, cond}
+use Rattle.dl_run.proofs.Names.{Counted, Err, Event, Fault, Fed, HeardRows, Hears, length-append, List, map}
+use Rattle.dl_run.proofs.Names.{map-append, min, None, none_some, NoRow, of_row, Ok, Option, Reader, refl, Result}
+use Rattle.dl_run.proofs.Names.{Row, row, row_told, RowsFed, RowsOf, RunFault, same_Some, SectionUnits, SinkAfter}
+use Rattle.dl_run.proofs.Names.{SinkAt, Some, StopsAtRow, Story, sum_by-append, sym, told, Told, told_story, visits}
+use Rattle.dl_run.proofs.Names.{ℕ, ⊤}
 use Rattle.dl_run.proofs.Names.event
 
 pub ends-append : (xs ys : List Row) → ends (xs ++ ys) ≡ ends xs + ends ys
@@ -34,9 +34,8 @@ module _ {W V : Type 0} (story : Story V) (contents : W → Option (List ℕ)) w
       let s = stops first start (visits ++ map of_row rows) (told first start visits tells) in (
         map of_row rows ++ s.0,
         s.1,
-        map-append of_row rows (r ∷ []) ∙ ap (λ (l : List Visit). map of_row rows ++ l) s.2
-            ∙ sym (append_assoc (map of_row rows) s.0 s.1),
-        subst (λ (l : List Visit). Stopped story first w start c l f) (append_assoc visits (map of_row rows) s.0) s.3,
+        rw (map-append, s.2) (simp append_assoc),
+        rw append_assoc at s.3,
       )
 
   -- no row was told
@@ -47,8 +46,7 @@ module _ {W V : Type 0} (story : Story V) (contents : W → Option (List ℕ)) w
     counts = record { of_rows = λ small. omega arith; of_ends = λ small. omega arith };
     fails = none;
     hears = λ fst start visits tells.
-        subst (λ (l : List Visit). story.tells fst first.visitor.now start (contents first.output.now) l)
-        (sym (append-nil visits)) tells;
+        rw append-nil tells;
   }
 
   -- the sink goes on, so no row is answered
@@ -60,11 +58,7 @@ module _ {W V : Type 0} (story : Story V) (contents : W → Option (List ℕ)) w
     at : (e : Event) → fed.event ≡ e → SinkAt (told_story story contents first) now rows e
         → (row_told fed.event ≡ []) × HeardRows story contents first now rows None (Ok (tt {0}))
     at (event.Row r) is stopped = absurd (none_some none stopped.1.fails)
-    at event.More is told = (ap row_told is, told)
-    at event.Header is told = (ap row_told is, told)
-    at (event.Foreign version) is told = (ap row_told is, told)
-    at event.End is told = (ap row_told is, told)
-    at event.NoMemory is told = (ap row_told is, told)
+    at e is told = (ap row_told is, told)
 
   -- the sink stopped, at the row that is answered
   pub stops_with : (first now : Told W V) (rows : List Row) (f : RunFault) (fed : Result Fed Fault)
@@ -82,14 +76,9 @@ module _ {W V : Type 0} (story : Story V) (contents : W → Option (List ℕ)) w
           refl,
           r,
           is,
-          subst (λ (e : RunFault). HeardRows story contents first now (rows ++ r ∷ []) (Some e) (Err e)) same
-              stopped.1,
+          rw same at stopped.1,
         )
-    at event.More is told = absurd (none_some told.fails some)
-    at event.Header is told = absurd (none_some told.fails some)
-    at (event.Foreign version) is told = absurd (none_some told.fails some)
-    at event.End is told = absurd (none_some told.fails some)
-    at event.NoMemory is told = absurd (none_some told.fails some)
+    at e is told = absurd (none_some told.fails some)
 
   -- w, after: what the visitor and the writer end as, where the sink still holds them
   pub all_told : (b piece : List ℕ) (old : SectionUnits) (reader : Reader) (first sink : Told W V) (w : V) (now : W)
@@ -112,9 +101,7 @@ module _ {W V : Type 0} (story : Story V) (contents : W → Option (List ℕ)) w
         dialect = dialect;
         fed_rows = f.fed;
         same = refl;
-        counts =
-            subst (λ (n : ℕ). Counted n old.sequences sink.rows sink.sequences f.rows) rows_are
-            (subst (λ (n : ℕ). Counted first.rows n sink.rows sink.sequences f.rows) ends_are told.counts);
+        counts = rw (rows_are, ends_are) at told.counts;
         hears = rw (w_is (sym told.visitor), now_is (sym told.output)) told.hears;
         no_row = so.0;
       }
@@ -135,8 +122,6 @@ module _ {W V : Type 0} (story : Story V) (contents : W → Option (List ℕ)) w
         fed = so.0;
         is_row = so.3;
         dialect = dialect;
-        fed_rows =
-            subst (λ (r : Result Fed Fault). FedAfter old.reader.dialect (events old.reader.dialect b
-            ++ map event.Row rf.rows) b piece r new.reader) so.1 rf.fed;
+        fed_rows = rw so.1 at rf.fed;
         hears = rw (w_is (sym told.visitor), now_is (sym told.output)) told.hears;
       }
