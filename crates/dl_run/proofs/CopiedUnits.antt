@@ -1,18 +1,21 @@
--- What is written for units that were read is units of the same rows.
-use Rattle.dl_run.proofs.Names.{if◌then◌else◌, ◌++◌, ◌<◌, ◌^◌, ◌∙◌, ◌∷◌, ◌≡◌, ◌≤◌, [], after_last, all_push}
-use Rattle.dl_run.proofs.Names.{AllByRecursion, AllBytes, ap, append-nil, appends_row, AreCopied, arith, Bool}
-use Rattle.dl_run.proofs.Names.{bytes_back, bytes_front, concat, copied_unit, copied_units, CopiesAreUnits, Dialect}
-use Rattle.dl_run.proofs.Names.{drop, false, found_is_header, found_is_program, fresh, header_is_sound, header_of}
-use Rattle.dl_run.proofs.Names.{HeaderData, inr, is_end, IsAnew, IsCopied, IsRow, IsSoundHeader, IsUnit, last_part}
-use Rattle.dl_run.proofs.Names.{last_set, line, List, map, mod-lt, modulo, moves, negsuc, None, op_index, Operation}
-use Rattle.dl_run.proofs.Names.{operations_in, Option, option_or, Order, Params, parts, pos, refl, row, row_from}
-use Rattle.dl_run.proofs.Names.{rows_later, sequence, set_column, set_discriminator, set_file, set_isa, Some}
-use Rattle.dl_run.proofs.Names.{SpellsOperation, SpellsProgram, standard_fault, subst, suc, sym, true}
-use Rattle.dl_run.proofs.Names.{unit_is_read_again, unit_rows, unwrap_or, usable, with_standard_opcodes, zero, ℕ, ℤ}
+-- What is written for units that were read is units of the same rows, of version 5 where they become such.
+use Rattle.dl_run.proofs.Names.{if◌then◌else◌, ◌++◌, ◌+◌, ◌<◌, ◌^◌, ◌∙◌, ◌∷◌, ◌≡◌, ◌≤◌, [], after_last, all_push}
+use Rattle.dl_run.proofs.Names.{AllByRecursion, AllBytes, ap, append-nil, appends_row, AreCopied, AreMade, AreNewer}
+use Rattle.dl_run.proofs.Names.{arith, Bool, bytes_back, bytes_front, concat, copied_unit, copied_units}
+use Rattle.dl_run.proofs.Names.{CopiesAreNewer, CopiesAreUnits, Dialect, drop, EmitFault, false, found_is_header}
+use Rattle.dl_run.proofs.Names.{found_is_program, fresh, header_is_sound, header_of, HeaderData, inr, is_end}
+use Rattle.dl_run.proofs.Names.{is_within_limit, IsAnew, IsCopied, IsMade, IsNewer, IsRow, IsSoundHeader, IsUnit}
+use Rattle.dl_run.proofs.Names.{last_part, last_set, length, line, List, map, mod-lt, modulo, moves, negsuc, None}
+use Rattle.dl_run.proofs.Names.{Operation, operations_in, Option, option_or, Order, Params, params_are}
+use Rattle.dl_run.proofs.Names.{parts, pos, program_len, refl, refusal, Row, row, row_from, rows_later, rows_refusal}
+use Rattle.dl_run.proofs.Names.{sequence, set_column, set_discriminator, set_file, set_isa, Some, SpellsOperation}
+use Rattle.dl_run.proofs.Names.{SpellsProgram, standard_fault, subst, suc, sym, tables_near, to_5, to_version_5}
+use Rattle.dl_run.proofs.Names.{TooLong, true, unit_as, unit_is_read_again, unit_rows, units_as, unless, unwrap_or}
+use Rattle.dl_run.proofs.Names.{usable, version_5_sound, with_standard_opcodes, zero, ℕ, ℤ}
 use Rattle.dl_run.proofs.Names.op
 use Rattle.dl_rows.specs.Matrix.{rows_after}
 use Rattle.dl_run.proofs.EventLemmas.{header_parts}
-use Rattle.dl_run.proofs.Fronts.{none_is_some, value_same}
+use Rattle.dl_run.proofs.Fronts.{neither, none_is_some, value_same}
 
 -- ---- the operands of operations that were read
 
@@ -189,4 +192,67 @@ copies_are_units dialect s units rest all has copied =
             are_units dialect units anew;
       },
       anew,
+    )
+
+-- ---- units of version 5
+
+accepted : (b : Bool) (f : EmitFault) → unless b f ≡ None → b ≡ true
+accepted true f e = refl
+accepted false f e = absurd (none_is_some (sym e))
+
+module _ (directories : ℕ → Option (List ℕ)) (dialect : Dialect) where
+  -- what becomes of a sound header is sound, where its unit can be written
+  to_5_sound : (offset : ℕ) (h : HeaderData) (rows : List Row) → IsSoundHeader h
+      → refusal (to_5 directories offset h) rows ≡ None → IsSoundHeader (to_5 directories offset h)
+  to_5_sound offset h rows sound none =
+      let directory = directories offset in
+      let made = to_5 directories offset h in
+      let len = program_len made.params rows in
+      let fits = accepted (is_within_limit made len) TooLong (neither (rows_refusal made.params rows) _ none).1 in
+      standard_sound (to_version_5 h directory) (version_5_sound h directory sound (tables_near made len fits))
+
+  one_newer : (offset : ℕ) (u : List ℕ) → AllBytes u → IsMade (to_5 directories) dialect offset u
+      → IsNewer directories dialect offset u (unit_as (to_5 directories) dialect offset u)
+  one_newer offset u all (h, is, none) =
+      let read = header_read dialect u h all is in
+      let made = to_5 directories offset h in
+      let rows = unit_rows dialect u in
+      let again = unit_is_read_again dialect made rows (to_5_sound offset h rows read.sound none) read.rows none in
+      rw is (record {
+        header = h;
+        its_header = is;
+        version = ap (λ (p : Params). p.version) (params_are h (directories offset));
+        operations = _;
+        unit = again.unit;
+        events_are = again.events_are;
+        rows = ap (rows_later dialect.order) again.header ∙ again.program.same;
+      })
+
+  -- the copies of units, the first of which stands at the offset
+  record Newer (offset : ℕ) (units : List (List ℕ)) : Type 0 where
+    newer : List (List ℕ)
+    joined : units_as (to_5 directories) dialect offset units ≡ concat newer
+    are_units : AllByRecursion (IsUnit dialect) newer
+    are_newer : AreNewer directories dialect offset units newer
+
+  all_newer : (offset : ℕ) (units : List (List ℕ)) → AllBytes (concat units)
+      → AreMade (to_5 directories) dialect offset units → Newer offset units
+  all_newer offset [] all made = record { newer = []; joined = refl; are_units = tt; are_newer = tt }
+  all_newer offset (u ∷ units) all made =
+      let one = one_newer offset u (bytes_front u (concat units) all) made.0 in
+      let more = all_newer (offset + length u) units (bytes_back u (concat units) all) made.1 in
+      record {
+        newer = unit_as (to_5 directories) dialect offset u ∷ more.newer;
+        joined = ap (λ (l : List ℕ). unit_as (to_5 directories) dialect offset u ++ l) more.joined;
+        are_units = (inr (_, _, one.unit), more.are_units);
+        are_newer = (one, more.are_newer);
+      }
+
+pub copies_are_newer : CopiesAreNewer
+copies_are_newer directories dialect s units rest all has made =
+    let n = all_newer directories dialect 0 units
+    (bytes_front (concat units) rest (subst AllBytes has.whole all)) made in (
+      n.newer,
+      record { whole = n.joined ∙ sym (append-nil (concat n.newer)); each = n.are_units },
+      n.are_newer,
     )

@@ -1,12 +1,11 @@
 -- How a copier goes on, and what stops it.
 use Rattle.dl_run.proofs.Names.{◌++◌, ◌∙◌, ◌∷◌, ◌≡◌, [], ap, Appends-nil, bytes_of_rows, Copier, copy_story, Copying}
-use Rattle.dl_run.proofs.Names.{EmitFault, Err, goes, HasPrinted, HasPrinted-nothing, header_bytes, header_told}
-use Rattle.dl_run.proofs.Names.{HeaderData, IsGrown, IsGrowth, List, made_by, None, of_end, of_header, of_open}
-use Rattle.dl_run.proofs.Names.{of_row, of_version, Ok, Option, Order, Params, Printed, PrintsPart, program_len}
-use Rattle.dl_run.proofs.Names.{ProgramData, refl, refusal, Result, Row, rows_refusal, RunFault, Some, StopsIn, sym}
-use Rattle.dl_run.proofs.Names.{TellsOut-front, told_to, unit_of, Visit, visited, visits, Write, ℕ, ⊤}
+use Rattle.dl_run.proofs.Names.{EmitFault, Err, fold-append, goes, HasPrinted, HasPrinted-nothing, header_bytes}
+use Rattle.dl_run.proofs.Names.{header_told, HeaderData, IsGrown, IsGrowth, List, made_by, None, of_end, of_header}
+use Rattle.dl_run.proofs.Names.{of_open, of_row, of_version, Ok, Option, Order, Params, Printed, PrintsPart}
+use Rattle.dl_run.proofs.Names.{program_len, ProgramData, refl, refusal, Result, Row, rows_refusal, RunFault, Some}
+use Rattle.dl_run.proofs.Names.{StopsIn, sym, TellsOut-front, told_to, unit_of, Visit, visited, visits, Write, ℕ, ⊤}
 use Rattle.dl_run.proofs.Names.fault
-use Rattle.dl_run.proofs.CopyingVisits.{comes_to-append}
 use Rattle.dl_run.proofs.Fronts.{none_is_some, value_same, neither}
 use Rattle.dl_run.proofs.HeadersTold.{header_told-append}
 
@@ -85,7 +84,7 @@ module _ {first old : Copier} {start held : Option (List ℕ)} {visits : List Vi
       ≡ visited (made_by first.becomes) first.program.order (goes old.unit s.rows s.text) visit
   told_more visit =
       rw (
-        comes_to-append (made_by first.becomes) first.program.order (goes first.unit [] []) visits (visit ∷ []),
+        fold-append (visited (made_by first.becomes) first.program.order) (goes first.unit [] []) visits (visit ∷ []),
         s.told,
       ) refl
 

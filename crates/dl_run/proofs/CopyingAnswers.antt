@@ -1,14 +1,14 @@
 -- What `copy` answers and writes.
 use Rattle.dl_run.proofs.Names.{◌++◌, ◌∙◌, ◌∷◌, ◌≡◌, [], AllByRecursion, append-nil, append_assoc, Appends, AreMade}
 use Rattle.dl_run.proofs.Names.{arith, concat, Copier, CopiesAs, copy_story, Copying, Dialect, EmitFault, ended_as}
-use Rattle.dl_run.proofs.Names.{ends, EndsAs, Err, foreign_in, goes, HasBegun, HasUnits, inl, inr, IsUnit, length}
-use Rattle.dl_run.proofs.Names.{List, Made, made_by, None, of_end, of_version, Ok, Option, Order, Progress, Ran, refl}
-use Rattle.dl_run.proofs.Names.{refusal, Result, Row, RunFault, same_from_push, section_visits, Settled, Some, Sound}
-use Rattle.dl_run.proofs.Names.{stop_in, stopped, StopsAt, Summary, take, TellsOut, text_in, told_to, unit_of}
-use Rattle.dl_run.proofs.Names.{units_as, Visit, visited, VisitorStops, WithinUnit, Write, zero-add, ℕ}
+use Rattle.dl_run.proofs.Names.{ends, EndsAs, Err, fold-append, foreign_in, goes, HasBegun, HasUnits, inl, inr}
+use Rattle.dl_run.proofs.Names.{IsUnit, length, List, Made, made_by, None, of_end, of_version, Ok, Option, Order}
+use Rattle.dl_run.proofs.Names.{Progress, Ran, refl, refusal, Result, Row, RunFault, same_from_push, section_visits}
+use Rattle.dl_run.proofs.Names.{Settled, Some, Sound, stop_in, stopped, StopsAt, Summary, take, TellsOut, text_in}
+use Rattle.dl_run.proofs.Names.{told_to, unit_of, units_as, Visit, visited, VisitorStops, WithinUnit, Write}
+use Rattle.dl_run.proofs.Names.{zero-add, ℕ}
 use Rattle.dl_run.proofs.Names.fault
 use Rattle.dl_run.proofs.CopyingSections.{StopIs, Now, Heard, heard_of}
-use Rattle.dl_run.proofs.CopyingVisits.{comes_to-append}
 use Rattle.dl_run.proofs.Fronts.{none_is_some, value_same}
 use Rattle.dl_run.proofs.RangeLemmas.{KeepsRanges, too_long}
 use Rattle.dl_run.proofs.SectionLemmas.{has_front}
@@ -143,7 +143,7 @@ module _ (dialect : Dialect) (limit : ℕ) (bytes : List ℕ) (left : Option (Li
           ≡ told_to first heard
       last =
           rw (
-            comes_to-append made first.program.order (goes first.unit [] []) stops.before (stops.visit ∷ []),
+            fold-append (visited made first.program.order) (goes first.unit [] []) stops.before (stops.visit ∷ []),
             stops.tells.told,
           ) refl
 

@@ -1,14 +1,14 @@
 -- What is copied of the visits of a section.
-use Rattle.dl_run.proofs.Names.{◌++◌, ◌+◌, ◌∙◌, ◌∷◌, ◌≡◌, ◌≢◌, ◌⊎◌, [], AllByRecursion, ap, append-nil, append_assoc}
+use Rattle.dl_run.proofs.Names.{visited, ◌++◌, ◌+◌, ◌∙◌, ◌∷◌, ◌≡◌, ◌≢◌, ◌⊎◌, [], AllByRecursion, ap, append-nil, append_assoc}
 use Rattle.dl_run.proofs.Names.{AreMade, arith, Bool, comes_to, concat, Dialect, EmitFault, ended_as}
-use Rattle.dl_run.proofs.Names.{ends_open, false, foreign_in, foreign_of, goes, header_in, header_is_found, header_of}
-use Rattle.dl_run.proofs.Names.{HeaderData, inl, inr, IsGrowth, IsMade, IsUnit, length, length-append, length_of_unit}
-use Rattle.dl_run.proofs.Names.{List, Made, None, of_end, of_header, of_version, open_visit, Option, Progress, refl}
-use Rattle.dl_run.proofs.Names.{refusal, Row, RunFault, Some, some_same, Sound, stopped, sym, unit_as}
-use Rattle.dl_run.proofs.Names.{unit_is_not_refused, unit_of, unit_rows, units_as, units_visits, Visit, visits}
-use Rattle.dl_run.proofs.Names.{WithinUnit, ℕ}
+use Rattle.dl_run.proofs.Names.{ends_open, false, fold-append, foreign_in, foreign_of, goes, header_in}
+use Rattle.dl_run.proofs.Names.{header_is_found, header_of, HeaderData, inl, inr, IsGrowth, IsMade, IsUnit, length}
+use Rattle.dl_run.proofs.Names.{length-append, length_of_unit, List, Made, None, of_end, of_header, of_version}
+use Rattle.dl_run.proofs.Names.{open_visit, Option, Progress, refl, refusal, Row, RunFault, Some, some_same, Sound}
+use Rattle.dl_run.proofs.Names.{stopped, sym, unit_as, unit_is_not_refused, unit_of, unit_rows, units_as}
+use Rattle.dl_run.proofs.Names.{units_visits, Visit, visits, WithinUnit, ℕ}
 use Rattle.dl_run.proofs.Names.fault
-use Rattle.dl_run.proofs.CopyingVisits.{comes_to-append, stays_stopped, Foreign, Own, Neither, one_of}
+use Rattle.dl_run.proofs.CopyingVisits.{stays_stopped, Foreign, Own, Neither, one_of}
 use Rattle.dl_run.proofs.CopyingVisits.{foreign_visits, own_visits, no_visits, Front, at_version, before_version}
 use Rattle.dl_run.proofs.CopyingVisits.{goes_on, front_of, header_is, own_front, foreign_front}
 use Rattle.dl_run.proofs.Fronts.{fronts_of, empty_both}
@@ -203,7 +203,7 @@ module _ (made : Made) (dialect : Dialect) where
             ))
         with_end x left later (inr own) =
             rw (
-              comes_to-append made dialect.order (goes m [] text) own_part (end_is ∷ x),
+              fold-append (visited made dialect.order) (goes m [] text) own_part (end_is ∷ x),
               own_front made dialect n u is_open m text own,
             ) (rw (header_is dialect n u own) (by_refusal (refusal its_header its_rows) refl)) where
               its_rows : List Row

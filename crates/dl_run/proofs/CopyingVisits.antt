@@ -1,8 +1,8 @@
 -- What is copied of visits one after the other, and of those of a unit.
 use Rattle.dl_run.proofs.Names.{◌++◌, ◌∙◌, ◌∷◌, ◌≡◌, ◌⊎◌, [], AllByRecursion, ap, append-nil, append_assoc, Bool}
-use Rattle.dl_run.proofs.Names.{comes_to, Dialect, false, foreign_in, foreign_no_header, goes, header_in, header_of}
-use Rattle.dl_run.proofs.Names.{HeaderData, inl, inr, List, Made, map, None, of_header, of_open, of_row, of_version}
-use Rattle.dl_run.proofs.Names.{open_visit, Option, Order, parts, Progress, refl, Row, rows_in, RunFault, Some}
+use Rattle.dl_run.proofs.Names.{comes_to, Dialect, false, fold_stays, foreign_in, foreign_no_header, goes, header_in}
+use Rattle.dl_run.proofs.Names.{header_of, HeaderData, inl, inr, List, Made, map, None, of_header, of_open, of_row}
+use Rattle.dl_run.proofs.Names.{of_version, open_visit, Option, Order, parts, refl, Row, rows_in, RunFault, Some}
 use Rattle.dl_run.proofs.Names.{stopped, sym, true, unit_rows, Visit, visited, visits, ℕ, ⊤}
 use Rattle.dl_run.proofs.Names.fault
 use Rattle.dl_run.proofs.EventLemmas.{rows_visited}
@@ -11,15 +11,9 @@ use Rattle.dl_run.proofs.Fronts.{none_is_some, all_front}
 -- ---- visits one after the other
 
 module _ (made : Made) (order : Order) where
-  pub comes_to-append : (p : Progress) (a b : List Visit)
-      → comes_to made order p (a ++ b) ≡ comes_to made order (comes_to made order p a) b
-  comes_to-append p [] b = refl
-  comes_to-append p (v ∷ a) b = comes_to-append (visited made order p v) a b
-
   pub stays_stopped : (text : List ℕ) (f : RunFault) (visits : List Visit)
       → comes_to made order (stopped text f) visits ≡ stopped text f
-  stays_stopped text f [] = refl
-  stays_stopped text f (v ∷ visits) = stays_stopped text f visits
+  stays_stopped text f visits = fold_stays (visited made order) (stopped text f) (λ v. refl) visits
 
   -- rows, and that the last isn't an end row
   pub after_rows : (offset : ℕ) (before : List Row) (text : List ℕ) (rows : List Row) (is_open : Bool)

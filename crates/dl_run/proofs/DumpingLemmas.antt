@@ -1,7 +1,7 @@
 -- How a dump goes on, and what it comes to.
 use Rattle.dl_run.proofs.Names.{◌++◌, ◌∷◌, ◌≡◌, [], append-nil, Dialect, dump_story, Dumper, Dumps, ends, Err}
 use Rattle.dl_run.proofs.Names.{flat_map, flat_map-append, HasDumped, inl, inr, List, Ok, Option, Printed, Prints}
-use Rattle.dl_run.proofs.Names.{Ran, refl, Result, RunFault, StopsIn, strings_of, Summary, Visit, visit_text, visits}
+use Rattle.dl_run.proofs.Names.{Ran, refl, Result, RunFault, StopsIn, strings_of, Summary, Visit, visit_text}
 use Rattle.dl_run.proofs.Names.{visits_text, Write, WriteFault, ℕ, ⊤}
 use Rattle.dl_run.proofs.Names.fault
 use Rattle.dl_run.proofs.OutLemmas.{TellsOut-more}

@@ -30,4 +30,3 @@ pub mod CopyingSections
 pub mod CopyingAnswers
 pub mod CopierLemmas
 pub mod CopiedUnits
-pub mod NewerUnits

@@ -17,6 +17,7 @@ pub use Rattle.std.proofs.lemmas.List.Elements.{All-push, Contains-append_left, 
 pub use Rattle.std.proofs.lemmas.List.Folds.{concat-append, fold_stays}
 pub use Rattle.std.proofs.lemmas.List.Sums.{count_by-le-length, fold-append, sum_by-append, sum_by-cons}
 pub use Rattle.std.proofs.lemmas.Option.{get_or_from_slice_get, same_Some, slice_get_within}
+pub use Rattle.std.proofs.lemmas.Result.{err_from_is_err_and}
 pub use Rattle.std.specs.Io.KnownBytes.{Appends, Consumes, IsAtEnd, Keeps}
 pub use Rattle.std.specs.List.{after_last, AllByRecursion, concat}
 pub use Rattle.std.specs.Option.{option_map_or, option_or}
@@ -104,10 +105,11 @@ pub use Rattle.dl_look.specs.Answer.{answer}
 pub use Rattle.dl_look.specs.declared.place.Place.{Place}
 pub use Rattle.dl_print.proofs.Outs.{HasOut-more, HasOut-pending, HasPrinted-flushed, HasPrinted-more}
 pub use Rattle.dl_print.proofs.Outs.{HasPrinted-nothing, HasPrinted-out, keeps_by_nothing, TellsOut-front}
+pub use Rattle.dl_print.proofs.Outs.{TellsOut-more}
 pub use Rattle.dl_print.specs.Counts.{add, with_unit}
 pub use Rattle.dl_print.specs.Output.{Flushes, HasOut, HasPrinted, Prints}
 pub use Rattle.dl_print.specs.Printed.{Printed}
-pub use Rattle.dl_print.specs.Text.{summary_line}
+pub use Rattle.dl_print.specs.Text.{row_line, summary_line}
 pub use Rattle.dl_print.specs.ValueText.{Strings, strings_of}
 pub use Rattle.dl_print.specs.declared.fault.WriteFault.{WriteFault}
 pub use Rattle.dl_print.specs.declared.summary.Summary.{Summary}

@@ -5,7 +5,7 @@ use Rattle.dl_run.proofs.Names.{header_is_usable, header_of, HeaderData, is_end,
 use Rattle.dl_run.proofs.Names.{IsHeader, last_part, List, lt-ltb, Made, mod-lt, moves, None, op_index, Operation}
 use Rattle.dl_run.proofs.Names.{operations_in, Option, option_or, out_of_range, Params, params_are, parts, pow_pos}
 use Rattle.dl_run.proofs.Names.{program_len, refl, refusal, Row, row, row_from, rows_later, rows_refusal, sequence}
-use Rattle.dl_run.proofs.Names.{Some, sym, to_5, TooLong, true, unit_rows, unless, usable, with_standard_opcodes, ℕ}
+use Rattle.dl_run.proofs.Names.{Some, sym, to_5, TooLong, true, unit_rows, unless, with_standard_opcodes, ℕ}
 use Rattle.dl_run.proofs.Names.emit
 use Rattle.dl_rows.specs.Matrix.{rows_after}
 use Rattle.dl_run.proofs.EventLemmas.{header_parts}

@@ -1,5 +1,5 @@
 -- What `copy` and `copy_to_5` are told and write. No promise rests on this file.
-use Rattle.std.specs.Prelude.{⊤, ◌≡◌, ℕ, List, [], ◌∷◌, ◌++◌, Option, Some, None}
+use Rattle.std.specs.Prelude.{⊤, ◌≡◌, ℕ, List, [], ◌∷◌, ◌++◌, Option, Some, None, fold}
 use Rattle.dl_num.specs.declared.fixed.Order.{Order}
 use Rattle.dl_head.specs.Built.{with_standard_opcodes}
 use Rattle.dl_dirs.specs.Compilation.{directory_by}
@@ -56,8 +56,7 @@ visited made order (goes offset rows text) (of_end (Some h)) =
     ended_as (unit_of order (made offset h) rows) text offset (refusal (made offset h) rows)
 
 abbrev pub comes_to : Made → Order → Progress → List Visit → Progress
-comes_to made order p [] = p
-comes_to made order p (visit ∷ visits) = comes_to made order (visited made order p visit) visits
+comes_to made order p visits = fold (visited made order) p visits
 
 -- ---- the copier
 

@@ -1,7 +1,4 @@
-use Rattle.std.proofs.Common.{[]}
-use Rattle.std.proofs.lemmas.Result.{err_from_is_err_and}
-use Rattle.dl_print.specs.Text.{summary_line}
-use Rattle.dl_print.proofs.Outs.{HasPrinted-out}
+use Rattle.dl_run.proofs.Names.{[], err_from_is_err_and, HasPrinted-out, summary_line}
 use Rattle.dl_run.proofs.CheckingLemmas.{failed, line_lost, line_out, nothing_printed}
 use Rattle.dl_run.proofs.checking.check.Goals as goal
 

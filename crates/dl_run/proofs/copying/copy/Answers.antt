@@ -1,12 +1,10 @@
-use Rattle.std.proofs.Common.{refl}
-use Rattle.std.proofs.KnownBytes.{Appends-nil}
-use Rattle.dl_run.specs.Copying.{made_by}
+use Rattle.dl_head.specs.Dialect.{version_5}
+use Rattle.dl_rows.proofs.OwnVersions.{own_version}
+use Rattle.dl_run.proofs.Names.{Appends-nil, made_by, refl}
 use Rattle.dl_run.proofs.CopierLemmas.{begins}
 use Rattle.dl_run.proofs.CopyingAnswers.{copies}
 use Rattle.dl_run.proofs.PlainCopies.{copies_plainly}
 use Rattle.dl_run.proofs.RangeLemmas.{KeepsRanges, standard_keeps}
-use Rattle.dl_head.specs.Dialect.{version_5}
-use Rattle.dl_rows.proofs.OwnVersions.{own_version}
 use Rattle.dl_run.proofs.copying.copy.Goals as goal
 
 pub returns : goal.returns

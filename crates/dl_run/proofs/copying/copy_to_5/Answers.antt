@@ -1,6 +1,4 @@
-use Rattle.std.proofs.KnownBytes.{Appends-nil}
-use Rattle.dl_dirs.specs.Compilation.{directory_by}
-use Rattle.dl_run.specs.Copying.{made_by}
+use Rattle.dl_run.proofs.Names.{Appends-nil, directory_by, made_by}
 use Rattle.dl_run.proofs.CopierLemmas.{begins}
 use Rattle.dl_run.proofs.CopyingAnswers.{copies}
 use Rattle.dl_run.proofs.RangeLemmas.{KeepsRanges, to_5_keeps}

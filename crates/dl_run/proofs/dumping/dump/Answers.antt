@@ -1,8 +1,5 @@
-use Rattle.std.proofs.Common.{refl}
-use Rattle.std.proofs.KnownBytes.{Appends-nil}
-use Rattle.dl_run.specs.declared.dumping.Dumper.{Dumper}
+use Rattle.dl_run.proofs.Names.{Appends-nil, Dumper, HasPrinted-nothing, refl}
 use Rattle.dl_run.proofs.DumpingLemmas.{dumps}
-use Rattle.dl_print.proofs.Outs.{HasPrinted-nothing}
 use Rattle.dl_run.proofs.dumping.dump.Goals as goal
 
 pub returns : goal.returns

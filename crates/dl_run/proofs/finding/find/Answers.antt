@@ -1,11 +1,6 @@
-use Rattle.std.proofs.Common.{false, refl}
-use Rattle.std.proofs.KnownBytes.{Appends-nil}
-use Rattle.std.proofs.lemmas.Result.{err_from_is_err_and}
 use Rattle.dl_look.specs.declared.finder.Finder.{Finder}
-use Rattle.dl_look.specs.declared.place.Place.{Place}
-use Rattle.dl_print.specs.Printed.{Printed}
-use Rattle.dl_run.specs.declared.finding.Seeker.{Seeker}
 use Rattle.dl_print.specs.declared.output.string_sections.StringSections.{StringSections}
+use Rattle.dl_run.proofs.Names.{Appends-nil, err_from_is_err_and, false, Place, Printed, refl, Seeker}
 use Rattle.dl_run.proofs.SeekerLemmas.{begins}
 use Rattle.dl_run.proofs.FindingAnswers.{failed, found, not_found}
 use Rattle.dl_run.proofs.finding.find.Goals as goal

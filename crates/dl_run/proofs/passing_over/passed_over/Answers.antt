@@ -1,6 +1,4 @@
-use Rattle.std.proofs.Common.{None, refl}
-use Rattle.std.proofs.KnownBytes.{Appends-nil}
-use Rattle.std.proofs.lemmas.Result.{err_from_is_err_and}
+use Rattle.dl_run.proofs.Names.{Appends-nil, err_from_is_err_and, None, refl}
 use Rattle.dl_run.proofs.PassingLemmas.{counted, failed}
 use Rattle.dl_run.proofs.passing_over.passed_over.Goals as goal
 

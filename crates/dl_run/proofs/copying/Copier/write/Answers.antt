@@ -1,9 +1,6 @@
-use Rattle.std.proofs.Common.{◌++◌, ◌∙◌, ℕ, List, ap, append_assoc, refl, subst}
-use Rattle.std.proofs.lemmas.Result.{err_from_is_err_and}
-use Rattle.dl_head.specs.Written.{header_bytes}
-use Rattle.dl_emit.specs.Grown.{ProgramData}
-use Rattle.dl_emit.specs.WrittenUnit.{program_len, unit_of}
-use Rattle.dl_print.specs.Output.{HasPrinted, TellsOut}
+use Rattle.dl_print.specs.Output.{TellsOut}
+use Rattle.dl_run.proofs.Names.{◌++◌, ◌∙◌, ap, append_assoc, err_from_is_err_and, HasPrinted, header_bytes, List}
+use Rattle.dl_run.proofs.Names.{program_len, ProgramData, refl, subst, unit_of, ℕ}
 use Rattle.dl_run.proofs.CopierLemmas.{front_stops, unit_text}
 use Rattle.dl_run.proofs.copying.Copier.write.Goals as goal
 

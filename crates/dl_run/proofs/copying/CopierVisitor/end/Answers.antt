@@ -1,6 +1,4 @@
-use Rattle.std.proofs.Common.{[], None, refl, ◌∙◌}
-use Rattle.std.proofs.lemmas.Result.{err_from_is_err_and}
-use Rattle.dl_run.specs.Section.{of_end}
+use Rattle.dl_run.proofs.Names.{◌∙◌, [], err_from_is_err_and, None, of_end, refl}
 use Rattle.dl_run.proofs.CopierLemmas.{copies_on, copies_unit, grows_no_more, stops_at_unit, stops_for_memory}
 use Rattle.dl_run.proofs.copying.CopierVisitor.end.Goals as goal
 

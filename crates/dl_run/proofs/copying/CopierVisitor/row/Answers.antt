@@ -1,5 +1,4 @@
-use Rattle.std.proofs.Common.{◌++◌, ◌∷◌, [], refl}
-use Rattle.dl_run.specs.Section.{of_row}
+use Rattle.dl_run.proofs.Names.{◌++◌, ◌∷◌, [], of_row, refl}
 use Rattle.dl_run.proofs.CopierLemmas.{copies_on, grows_by, stops_for_memory, still}
 use Rattle.dl_run.proofs.copying.CopierVisitor.row.Goals as goal
 

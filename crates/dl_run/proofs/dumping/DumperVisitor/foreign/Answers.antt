@@ -1,5 +1,4 @@
-use Rattle.std.proofs.lemmas.Result.{err_from_is_err_and}
-use Rattle.dl_run.specs.Section.{of_version}
+use Rattle.dl_run.proofs.Names.{err_from_is_err_and, of_version}
 use Rattle.dl_run.proofs.DumpingLemmas.{prints_visit, loses_visit}
 use Rattle.dl_run.proofs.dumping.DumperVisitor.foreign.Goals as goal
 

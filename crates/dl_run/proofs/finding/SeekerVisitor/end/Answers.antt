@@ -1,12 +1,6 @@
-use Rattle.std.proofs.Common.{◌≡◌, ◌∙◌, [], refl, sym, true}
-use Rattle.std.proofs.lemmas.Result.{err_from_is_err_and}
-use Rattle.dl_look.specs.Answer.{answer}
 use Rattle.dl_print.specs.HeaderText.{file_text}
-use Rattle.dl_print.specs.Text.{row_line}
-use Rattle.dl_print.specs.ValueText.{strings_of}
-use Rattle.dl_print.proofs.Outs.{TellsOut-more}
-use Rattle.dl_run.specs.Finding.{answer_under, seeks}
-use Rattle.dl_run.specs.Section.{of_end}
+use Rattle.dl_run.proofs.Names.{◌∙◌, ◌≡◌, [], answer, answer_under, err_from_is_err_and, of_end, refl, row_line}
+use Rattle.dl_run.proofs.Names.{seeks, strings_of, sym, TellsOut-more, true}
 use Rattle.dl_run.proofs.SeekerLemmas.{has_found, no_answer, seeks_on, stops_printing}
 use Rattle.dl_run.proofs.finding.SeekerVisitor.end.Goals.{in_default-via-in-Some+in_default, in_default-via-in_default}
 use Rattle.dl_run.proofs.finding.SeekerVisitor.end.Goals as goal

@@ -1,5 +1,4 @@
-use Rattle.std.proofs.Common.{refl}
-use Rattle.dl_run.specs.Section.{of_version}
+use Rattle.dl_run.proofs.Names.{of_version, refl}
 use Rattle.dl_run.proofs.SeekerLemmas.{seeks_past}
 use Rattle.dl_run.proofs.finding.SeekerVisitor.foreign.Goals as goal
 

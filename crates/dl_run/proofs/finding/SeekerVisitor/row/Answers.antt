@@ -1,5 +1,4 @@
-use Rattle.std.proofs.Common.{◌++◌, ◌∷◌, [], refl}
-use Rattle.dl_run.specs.Section.{of_row}
+use Rattle.dl_run.proofs.Names.{◌++◌, ◌∷◌, [], of_row, refl}
 use Rattle.dl_run.proofs.SeekerLemmas.{seeks_on}
 use Rattle.dl_run.proofs.finding.SeekerVisitor.row.Goals as goal
 

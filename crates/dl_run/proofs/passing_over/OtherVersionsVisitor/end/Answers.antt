@@ -1,5 +1,4 @@
-use Rattle.std.proofs.Common.{append-nil}
-use Rattle.dl_run.specs.Section.{of_end}
+use Rattle.dl_run.proofs.Names.{append-nil, of_end}
 use Rattle.dl_run.proofs.PassingLemmas.{told-push}
 use Rattle.dl_run.proofs.passing_over.OtherVersionsVisitor.end.Goals as goal
 

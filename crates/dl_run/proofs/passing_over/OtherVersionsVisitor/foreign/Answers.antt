@@ -1,6 +1,4 @@
-use Rattle.std.proofs.Common.{◌∷◌, ◌++◌, [], Some}
-use Rattle.dl_run.specs.PassingOver.{Spans, versions_told}
-use Rattle.dl_run.specs.Section.{of_version}
+use Rattle.dl_run.proofs.Names.{◌++◌, ◌∷◌, [], of_version, Some, Spans, versions_told}
 use Rattle.dl_run.proofs.PassingLemmas.{told-push}
 use Rattle.dl_run.proofs.passing_over.OtherVersionsVisitor.foreign.Goals.{in-Some, in-None}
 use Rattle.dl_run.proofs.passing_over.OtherVersionsVisitor.foreign.Goals as goal
