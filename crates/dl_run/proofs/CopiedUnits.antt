@@ -6,7 +6,7 @@ use Rattle.dl_run.proofs.Names.{CopiesAreNewer, CopiesAreUnits, Dialect, drop, E
 use Rattle.dl_run.proofs.Names.{found_is_program, fresh, header_is_sound, header_of, HeaderData, inr, is_end}
 use Rattle.dl_run.proofs.Names.{is_within_limit, IsAnew, IsCopied, IsMade, IsNewer, IsRow, IsSoundHeader, IsUnit}
 use Rattle.dl_run.proofs.Names.{last_part, last_set, length, line, List, map, mod-lt, modulo, moves, negsuc, None}
-use Rattle.dl_run.proofs.Names.{Operation, operations_in, Option, option_or, Order, Params, params_are}
+use Rattle.dl_run.proofs.Names.{op_index, Operation, operations_in, Option, option_or, Order, Params, params_are}
 use Rattle.dl_run.proofs.Names.{parts, pos, program_len, refl, refusal, Row, row, row_from, rows_later, rows_refusal}
 use Rattle.dl_run.proofs.Names.{sequence, set_column, set_discriminator, set_file, set_isa, Some, SpellsOperation}
 use Rattle.dl_run.proofs.Names.{SpellsProgram, standard_fault, subst, suc, sym, tables_near, to_5, to_version_5}
@@ -164,35 +164,20 @@ copy_is_anew dialect u all (h, is, none) =
 
 -- ---- units
 
-copies : (dialect : Dialect) (units : List (List ℕ)) → AllBytes (concat units) → AreCopied dialect units
-    → AllByRecursion (λ u. IsAnew dialect u (copied_unit dialect u)) units
-copies dialect [] all copied = tt
-copies dialect (u ∷ units) all copied = (
-  copy_is_anew dialect u (bytes_front u (concat units) all) copied.0,
-  copies dialect units (bytes_back u (concat units) all) copied.1,
-)
-
-are_units : (dialect : Dialect) (units : List (List ℕ))
-    → AllByRecursion (λ u. IsAnew dialect u (copied_unit dialect u)) units
-    → AllByRecursion (IsUnit dialect) (map (copied_unit dialect) units)
-are_units dialect [] anew = tt
-are_units dialect (u ∷ units) anew = (inr (_, _, anew.0.unit), are_units dialect units anew.1)
-
-joined : (dialect : Dialect) (units : List (List ℕ))
-    → copied_units dialect units ≡ concat (map (copied_unit dialect) units)
-joined dialect [] = refl
-joined dialect (u ∷ units) = ap (λ (l : List ℕ). copied_unit dialect u ++ l) (joined dialect units)
+all_anew : (dialect : Dialect) (units : List (List ℕ)) → AllBytes (concat units) → AreCopied dialect units
+    → (copied_units dialect units ≡ concat (map (copied_unit dialect) units))
+    × AllByRecursion (IsUnit dialect) (map (copied_unit dialect) units)
+    × AllByRecursion (λ u. IsAnew dialect u (copied_unit dialect u)) units
+all_anew dialect [] all copied = (refl, tt, tt)
+all_anew dialect (u ∷ units) all copied =
+    let one = copy_is_anew dialect u (bytes_front u (concat units) all) copied.0 in
+    let more = all_anew dialect units (bytes_back u (concat units) all) copied.1 in
+    (ap (λ (l : List ℕ). copied_unit dialect u ++ l) more.0, (inr (_, _, one.unit), more.1), (one, more.2))
 
 pub copies_are_units : CopiesAreUnits
 copies_are_units dialect s units rest all has copied =
-    let anew = copies dialect units (bytes_front (concat units) rest (subst AllBytes has.whole all)) copied in (
-      record {
-        whole = joined dialect units ∙ sym (append-nil (concat (map (copied_unit dialect) units)));
-        each =
-            are_units dialect units anew;
-      },
-      anew,
-    )
+    let anew = all_anew dialect units (bytes_front (concat units) rest (rw has.whole at all)) copied in
+    (record { whole = rw append-nil anew.0; each = anew.1 }, anew.2)
 
 -- ---- units of version 5
 

@@ -55,12 +55,12 @@ grows_no_more visits g c h told =
     absurd (none_is_some (sym (header_told-append None visits (of_end g ∷ [])) ∙ told))
 
 -- the program stands after the header
-pub unit_text : (p : ProgramData) (h : HeaderData) (rows : List Row) (first last : List ℕ)
-    → IsGrown p p.order h.params rows → refusal h rows ≡ None → first ≡ p.first → last ≡ p.last
+pub unit_text : (p now : ProgramData) (h : HeaderData) (rows : List Row) (first last : List ℕ)
+    → IsGrown p p.order h.params rows → refusal h rows ≡ None → now ≡ p → first ≡ now.first → last ≡ now.last
     → header_bytes p.order h (program_len h.params rows) ++ (first ++ last) ≡ unit_of p.order h rows
-unit_text p h rows first last grown accepted f l =
+unit_text p now h rows first last grown accepted same f l =
     let held = bytes_of_rows p h.params rows grown (neither (rows_refusal h.params rows) _ accepted).0 in
-    rw (f, l, held) refl
+    rw (f, l, same, held) refl
 
 -- what stops at a part of a unit stops at the unit
 pub front_stops : (old new : Option (List ℕ)) (before after : Printed) (refused : Option EmitFault) (offset : ℕ)

@@ -2,11 +2,11 @@
 use Rattle.dl_run.proofs.Names.{◌++◌, ◌+◌, ◌∙◌, ◌∷◌, ◌≡◌, [], add-zero, answer, ap, append-nil, append_assoc, Appends}
 use Rattle.dl_run.proofs.Names.{AreMade, arith, concat, CopiesAs, CopyIsFront, CopyTo5IsFront, Dialect, directory_by}
 use Rattle.dl_run.proofs.Names.{EmitFault, EndsAs, Err, foreign_in, foreign_is_not_refused, foreign_known}
-use Rattle.dl_run.proofs.Names.{foreign_no_header, fronts, HasUnits, header_in, header_of, header_on, HeaderData, inl}
-use Rattle.dl_run.proofs.Names.{inr, IsMade, IsOfBytes, IsUnit, length, length-append, List, Made, None, Ok, OneCopy}
-use Rattle.dl_run.proofs.Names.{OneCopying, OneCopyingTo5, OneCopyTo5, Option, refl, refusal, refused_in_header}
-use Rattle.dl_run.proofs.Names.{Result, RunFault, Some, Summary, sym, take, TellsOut, to_5, TooLong, unit_rows}
-use Rattle.dl_run.proofs.Names.{units_as, WithinUnit, Write, zero-add, ℕ}
+use Rattle.dl_run.proofs.Names.{foreign_no_header, foreign_on, fronts, HasUnits, header_in, header_of, header_on}
+use Rattle.dl_run.proofs.Names.{HeaderData, inl, inr, IsMade, IsOfBytes, IsUnit, length, length-append, List, Made}
+use Rattle.dl_run.proofs.Names.{None, Ok, OneCopy, OneCopying, OneCopyingTo5, OneCopyTo5, Option, refl, refusal}
+use Rattle.dl_run.proofs.Names.{refused_in_header, Result, RunFault, Some, Summary, sym, take, TellsOut, to_5}
+use Rattle.dl_run.proofs.Names.{TooLong, unit_rows, units_as, WithinUnit, Write, zero-add, ℕ}
 use Rattle.dl_run.proofs.Names.fault
 use Rattle.dl_run.proofs.CopyingAnswers.{copies}
 use Rattle.dl_run.proofs.EventLemmas.{header_parts}
@@ -16,7 +16,6 @@ use Rattle.dl_run.proofs.PlainCopies.{standard, copies_as}
 use Rattle.dl_run.proofs.SectionCuts.{one_front, same, shorter, longer, meet, How, refused, over, Ended, of_bytes}
 use Rattle.dl_run.proofs.SectionCuts.{ended, one_end}
 use Rattle.dl_run.proofs.SectionLemmas.{has_last}
-use Rattle.dl_run.proofs.VisitsGrowth.{foreign_on}
 
 units_as-append : (made : Made) (dialect : Dialect) (n : ℕ) (units others : List (List ℕ))
     → units_as made dialect n (units ++ others)

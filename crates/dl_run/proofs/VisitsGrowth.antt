@@ -1,16 +1,15 @@
 -- What is told of a unit of which more bytes come, and that nothing more is where its bytes are refused.
 use Rattle.dl_run.proofs.Names.{◌++◌, ◌∙◌, ◌∷◌, ◌≡◌, ◌≤◌, ◌⊎◌, [], ap, append-nil, append_assoc, appends_row, arith}
-use Rattle.dl_run.proofs.Names.{cond, Cut, cut, cut-append, cut_after, Dialect, Event, events, false, FaultKind}
-use Rattle.dl_run.proofs.Names.{following_all, foreign_in, foreign_is_not_refused, foreign_known, foreign_last}
-use Rattle.dl_run.proofs.Names.{foreign_made, foreign_version, found_is_header, found_is_program, good_one, header_in}
-use Rattle.dl_run.proofs.Names.{header_is_not_foreign, header_is_not_refused, header_is_usable, header_layout}
-use Rattle.dl_run.proofs.Names.{header_on, HeaderData, HeaderRefused, inl, inr, IsBadOperation, IsCutShort, Judgement}
-use Rattle.dl_run.proofs.Names.{length, length-append, List, map, map-append, matrix, nil_from_length, no_events}
-use Rattle.dl_run.proofs.Names.{no_spelling_is_faulty, None, nothing_yet, Ok, OpcodeOverrun, Operation}
-use Rattle.dl_run.proofs.Names.{operation_spelt, operations_in, Option, Order, Params, refl, Refused}
-use Rattle.dl_run.proofs.Names.{refused_in_header, refused_in_program, RefusesOperation, Row, row, rows_in, Some}
-use Rattle.dl_run.proofs.Names.{spelt_is_spelled, Standing, standing-append, standing_after, sym, true, unit_len_on}
-use Rattle.dl_run.proofs.Names.{Visit, visits, WithinUnit, ℕ}
+use Rattle.dl_run.proofs.Names.{cond, Dialect, Event, events, false, FaultKind, foreign_in, foreign_is_not_refused}
+use Rattle.dl_run.proofs.Names.{foreign_known, foreign_on, found_is_header, found_is_program, good_one, header_in}
+use Rattle.dl_run.proofs.Names.{header_is_not_foreign, header_is_not_refused, header_is_usable, header_on, HeaderData}
+use Rattle.dl_run.proofs.Names.{HeaderRefused, inl, inr, IsBadOperation, IsCutShort, Judgement, length, length-append}
+use Rattle.dl_run.proofs.Names.{List, map, map-append, matrix, nil_from_length, no_events, no_spelling_is_faulty}
+use Rattle.dl_run.proofs.Names.{None, nothing_yet, Ok, OpcodeOverrun, Operation, operation_spelt, operations_in}
+use Rattle.dl_run.proofs.Names.{Option, Order, Params, refl, Refused, refused_in_header, refused_in_program}
+use Rattle.dl_run.proofs.Names.{RefusesOperation, Row, row, rows_in, Some, spelt_is_spelled, Standing}
+use Rattle.dl_run.proofs.Names.{standing-append, standing_after, sym, told, true, unit_len_on, Visit, visits}
+use Rattle.dl_run.proofs.Names.{WithinUnit, ℕ}
 use Rattle.dl_run.proofs.Names.event
 use Rattle.dl_rows.specs.Matrix.{rows_after}
 use Rattle.dl_run.proofs.EventLemmas.{visits_grow}
@@ -41,23 +40,6 @@ rows_grow order h p x =
       ap (λ (s : Standing Operation). matrix h s.found) (standing-append spelt p x)
           ∙ rows_after-append h [] before after,
     )
-
--- after a foreign version nothing is cut off
-no_items : (order : Order) (version : ℕ) (begun b : List ℕ)
-    → (cut_after order (foreign_version version) begun b).items ≡ []
-no_items order version begun [] = refl
-no_items order version begun (x ∷ b) = no_items order version (begun ++ x ∷ []) b
-
--- a version that was read stays
-pub foreign_on : (dialect : Dialect) (b x : List ℕ) (version : ℕ) → foreign_in dialect b ≡ Some version
-    → foreign_in dialect (b ++ x) ≡ Some version
-foreign_on dialect b x version foreign =
-    let items = (cut dialect b).items in
-    let last = foreign_last (following_all (header_layout dialect) items) version foreign in
-    let none : (cut_after dialect.order (following_all (header_layout dialect) items) (cut dialect b).rest
-    x).items ≡ [] = rw last (no_items dialect.order version (cut dialect b).rest x) in
-    ap (λ (c : Cut). foreign_made (following_all (header_layout dialect) c.items)) (cut-append dialect b x)
-    ∙ rw (none, append-nil items) foreign
 
 -- the events of bytes that have a header
 own : (dialect : Dialect) (b : List ℕ) (h : HeaderData) (program : List ℕ) → header_in dialect b ≡ Some (h, program)
