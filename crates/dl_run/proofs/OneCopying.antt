@@ -2,11 +2,11 @@
 use Rattle.dl_run.proofs.Names.{◌++◌, ◌+◌, ◌∙◌, ◌∷◌, ◌≡◌, [], add-zero, answer, ap, append-nil, append_assoc, Appends}
 use Rattle.dl_run.proofs.Names.{AreMade, arith, concat, CopiesAs, CopyIsFront, CopyTo5IsFront, Dialect, directory_by}
 use Rattle.dl_run.proofs.Names.{EmitFault, EndsAs, Err, foreign_in, foreign_is_not_refused, foreign_known}
-use Rattle.dl_run.proofs.Names.{foreign_no_header, foreign_on, fronts, HasUnits, header_in, header_of, header_on}
-use Rattle.dl_run.proofs.Names.{HeaderData, inl, inr, IsMade, IsOfBytes, IsUnit, length, length-append, List, Made}
-use Rattle.dl_run.proofs.Names.{None, Ok, OneCopy, OneCopying, OneCopyingTo5, OneCopyTo5, Option, refl, refusal}
-use Rattle.dl_run.proofs.Names.{refused_in_header, Result, RunFault, Some, Summary, sym, take, TellsOut, to_5}
-use Rattle.dl_run.proofs.Names.{TooLong, unit_rows, units_as, WithinUnit, Write, zero-add, ℕ}
+use Rattle.dl_run.proofs.Names.{foreign_no_header, foreign_on, fronts, HasBegun, HasUnits, header_in, header_of}
+use Rattle.dl_run.proofs.Names.{header_on, HeaderData, inl, inr, IsMade, IsOfBytes, IsUnit, length, length-append}
+use Rattle.dl_run.proofs.Names.{List, Made, nil_from_length, None, Ok, OneCopy, OneCopying, OneCopyingTo5, OneCopyTo5}
+use Rattle.dl_run.proofs.Names.{Option, refl, refusal, refused_in_header, Result, RunFault, Some, Summary, sym, take}
+use Rattle.dl_run.proofs.Names.{TellsOut, to_5, TooLong, unit_rows, units_as, Write, zero-add, ℕ}
 use Rattle.dl_run.proofs.Names.fault
 use Rattle.dl_run.proofs.CopyingAnswers.{copies}
 use Rattle.dl_run.proofs.EventLemmas.{header_parts}
@@ -15,7 +15,7 @@ use Rattle.dl_run.proofs.OutLemmas.{TellsOut-more}
 use Rattle.dl_run.proofs.PlainCopies.{standard, copies_as}
 use Rattle.dl_run.proofs.SectionCuts.{one_front, same, shorter, longer, meet, How, refused, over, Ended, of_bytes}
 use Rattle.dl_run.proofs.SectionCuts.{ended, one_end}
-use Rattle.dl_run.proofs.SectionLemmas.{has_last}
+use Rattle.dl_run.proofs.SectionLemmas.{has_last, same_rest}
 
 units_as-append : (made : Made) (dialect : Dialect) (n : ℕ) (units others : List (List ℕ))
     → units_as made dialect n (units ++ others)
@@ -38,205 +38,156 @@ made_at made dialect n (u ∷ units) v others all =
 -- ---- how copying ends
 
 module _ (made : Made) (dialect : Dialect) (limit : ℕ) (bytes : List ℕ) where
-  -- w, after the units: the section ends, and not in another version; or that version begins it; or a unit whose copy
+  abbrev s : List ℕ
+  s = take limit bytes
+
+  -- after the units the section ends, and not in another version; or that version is begun; or there is a unit whose copy
   -- would be too long
-  record AtEnd (units : List (List ℕ)) (w : List ℕ) (result : Result Summary RunFault) : Type 0 where
-    left : Option (List ℕ)
-    b : List ℕ
-    back : List ℕ
-    whole : w ≡ b ++ back
-    of : IsOfBytes result
-    ends : EndsAs dialect limit bytes left units b back result
-    own : foreign_in dialect b ≡ None
+  abbrev AtEnd : List (List ℕ) → Result Summary RunFault → Type 0
+  AtEnd units result =
+      (left : Option (List ℕ)) × (b : List ℕ) × (back : List ℕ) × IsOfBytes result
+      × EndsAs dialect limit bytes left units b back result × (foreign_in dialect b ≡ None)
 
-  record AtVersion (w : List ℕ) : Type 0 where
-    b : List ℕ
-    back : List ℕ
-    version : ℕ
-    whole : w ≡ b ++ back
-    within : WithinUnit dialect b
-    foreign : foreign_in dialect b ≡ Some version
+  abbrev AtVersion : List (List ℕ) → Type 0
+  AtVersion units =
+      (b : List ℕ) × (back : List ℕ) × (version : ℕ) × HasBegun dialect s units b back
+      × (foreign_in dialect b ≡ Some version)
 
-  record AtUnit (units : List (List ℕ)) (w : List ℕ) : Type 0 where
-    u : List ℕ
-    back : List ℕ
-    h : HeaderData
-    f : EmitFault
-    whole : w ≡ u ++ back
-    unit : IsUnit dialect u
-    header : header_of dialect u ≡ Some h
-    refused : refusal (made (length (concat units)) h) (unit_rows dialect u) ≡ Some f
+  abbrev AtUnit : List (List ℕ) → Type 0
+  AtUnit units =
+      (u : List ℕ) × (back : List ℕ) × (h : HeaderData) × (f : EmitFault) × HasUnits dialect s (units ++ u ∷ []) back
+      × (header_of dialect u ≡ Some h) × (refusal (made (length (concat units)) h) (unit_rows dialect u) ≡ Some f)
 
-  data Stops (units : List (List ℕ)) (w : List ℕ) (result : Result Summary RunFault) : Type 0 where
-    at_end : AtEnd units w result → Stops units w result
-    at_version : AtVersion w → result ≡ Err (fault.ForeignUnit (length (concat units))) → Stops units w result
-    at_unit : AtUnit units w → result ≡ Err (fault.Emit (length (concat units)) TooLong) → Stops units w result
+  data Stops (units : List (List ℕ)) (result : Result Summary RunFault) : Type 0 where
+    at_end : AtEnd units result → Stops units result
+    at_version : AtVersion units → result ≡ Err (fault.ForeignUnit (length (concat units))) → Stops units result
+    at_unit : AtUnit units → result ≡ Err (fault.Emit (length (concat units)) TooLong) → Stops units result
 
-  record Copied (start now : Option (List ℕ)) (result : Result Summary RunFault) : Type 0 where
-    units : List (List ℕ)
-    w : List ℕ
-    has : HasUnits dialect (take limit bytes) units w
-    copied : AreMade made dialect 0 units
-    out : Appends start now (units_as made dialect 0 units)
-    how : Stops units w result
-
-  ends_so : (left start now : Option (List ℕ)) (result : Result Summary RunFault) → IsOfBytes result
-      → (units : List (List ℕ)) (b back : List ℕ) → EndsAs dialect limit bytes left units b back result
-      → foreign_in dialect b ≡ None → AreMade made dialect 0 units × Appends start now (units_as made dialect 0 units)
-      → Copied start now result
-  ends_so left start now result of units b back ends own out = record {
-    units = units;
-    w = b ++ back;
-    has = (ended dialect limit bytes left units b back result (of_bytes of) ends).has;
-    copied = out.0;
-    out = out.1;
-    how = at_end (record { left = left; b = b; back = back; whole = refl; of = of; ends = ends; own = own });
-  }
+  abbrev Copied : (start now : Option (List ℕ)) → Result Summary RunFault → Type 0
+  Copied start now result =
+      (units : List (List ℕ)) × AreMade made dialect 0 units × Appends start now (units_as made dialect 0 units)
+      × Stops units result
 
   copied_of : (left start now : Option (List ℕ)) (result : Result Summary RunFault) → IsOfBytes result
       → CopiesAs made dialect limit bytes left start now result → Copied start now result
   copied_of left start now (Ok summary) of (units, ends, out) =
-      ends_so left start now (Ok summary) of units [] [] ends refl out
-  copied_of left start now (Err (fault.ForeignUnit offset)) of (units, b, back, v, has, place, foreign, out) = record {
-    units = units;
-    w = b ++ back;
-    has = has.has;
-    copied = out.0;
-    out = out.1;
-    how = at_version (record {
-      b = b;
-      back = back;
-      version = v;
-      whole = refl;
-      within = has.in_unit;
-      foreign = foreign;
-    }) (rw place refl);
-  }
+      (units, out.0, out.1, at_end (left, [], [], of, ends, refl))
+  copied_of left start now (Err (fault.ForeignUnit offset)) of (units, b, back, v, has, place, foreign, out) =
+      (units, out.0, out.1, at_version (b, back, v, has, foreign) (rw place refl))
   copied_of left start now (Err (fault.Emit offset f)) of (units, u, back, h, has, place, header, unwritten, long, out) =
-      record {
-        units = units;
-        w = u ++ back;
-        has = (has_last has).0;
-        copied = out.0;
-        out = out.1;
-        how = at_unit (record {
-          u = u;
-          back = back;
-          h = h;
-          f = f;
-          whole = refl;
-          unit = (has_last has).1;
-          header = header;
-          refused = rw place at unwritten;
-        }) (rw (place, long) refl);
-      }
+      (units, out.0, out.1, at_unit (u, back, h, f, has, header, rw place at unwritten) (rw (place, long) refl))
   copied_of left start now (Err fault.NoMemory) of copies = absurd of
   copied_of left start now (Err (fault.Write n)) of copies = absurd of
-  copied_of left start now (Err f) of copies =
-      ends_so left start now (Err f) of copies.0 copies.1 copies.2 copies.3 copies.4 copies.5
+  copied_of left start now (Err f) of c = (c.0, c.5.0, c.5.1, at_end (left, c.1, c.2, of, c.3, c.4))
 
-  -- what two of these say of the same bytes
+  -- ---- what two of these say of the same bytes
 
-  its_end : {units : List (List ℕ)} {w : List ℕ} {result : Result Summary RunFault} (e : AtEnd units w result)
-      → Ended dialect limit bytes units e.b e.back result
-  its_end {units} {w} {result} e = ended dialect limit bytes e.left units e.b e.back result (of_bytes e.of) e.ends
+  module _ (units : List (List ℕ)) (result : Result Summary RunFault) where
+    its_end : (e : AtEnd units result) → Ended dialect limit bytes units e.1 e.2 result
+    its_end e = ended dialect limit bytes e.0 units e.1 e.2 result (of_bytes e.3) e.4
 
-  one_ending : {units : List (List ℕ)} {w : List ℕ} {result result2 : Result Summary RunFault} → AtEnd units w result
-      → AtEnd units w result2 → result ≡ result2
-  one_ending {units} {w} {result} {result2} e e2 =
-      (one_end dialect limit bytes e.left e2.left units units e.b e2.b e.back e2.back result result2 e.of e2.of e.ends
-      e2.ends).3
+    no_unit : AtEnd units result → (u back : List ℕ) → HasUnits dialect s units (u ++ back) → IsUnit dialect u → ⊥
+    no_unit e u back has unit = (its_end e).none u back (same_rest (its_end e).has has) unit
 
-  no_unit : {units : List (List ℕ)} {w : List ℕ} {result : Result Summary RunFault} → AtEnd units w result
-      → (u back : List ℕ) → w ≡ u ++ back → IsUnit dialect u → ⊥
-  no_unit e u back is unit = (its_end e).none u back (sym e.whole ∙ is) unit
+    no_version : AtEnd units result → AtVersion units → ⊥
+    no_version e (b, back, version, begun, foreign) = elim (fronts e.1 b e.2 back whole) [
+      | inl one ↦ none_is_some (sym e.5 ∙ ap (foreign_in dialect) one ∙ foreign)
+      | inr (inl g) ↦ not_longer g.0 g.1 g.2 (its_end e).how
+      | inr (inr g) ↦ none_is_some (sym e.5 ∙ ap (foreign_in dialect) g.2
+          ∙ foreign_on dialect b (g.0 ∷ g.1) version foreign)
+    ] where
+      whole : e.1 ++ e.2 ≡ b ++ back
+      whole = same_rest (its_end e).has begun.has
 
-  no_version : {units : List (List ℕ)} {w : List ℕ} {result : Result Summary RunFault} → AtEnd units w result
-      → AtVersion w → ⊥
-  no_version {units} {w} {result} e v = elim (fronts e.b v.b e.back v.back whole) [
-    | inl one ↦ none_is_some (sym e.own ∙ ap (foreign_in dialect) one ∙ v.foreign)
-    | inr (inl g) ↦ not_longer g.0 g.1 g.2 (its_end e).how
-    | inr (inr g) ↦ none_is_some (sym e.own ∙ ap (foreign_in dialect) g.2
-        ∙ foreign_on dialect v.b (g.0 ∷ g.1) v.version v.foreign)
-  ] where
-    whole : e.b ++ e.back ≡ v.b ++ v.back
-    whole = sym e.whole ∙ v.whole
-
-    not_longer : (x : ℕ) (y : List ℕ) → v.b ≡ e.b ++ x ∷ y → How dialect limit bytes units e.b e.back result → ⊥
-    not_longer x y is (over nothing sound answer) =
-        omega (
-          arith,
-          ap length whole,
-          ap length is,
-          ap length nothing,
-          length-append e.b e.back,
-          length-append v.b v.back,
-          length-append e.b (x ∷ y),
-        )
-    not_longer x y is (refused at kind r answer) = by (header_in dialect e.b) refl where
-      by : (o : Option (HeaderData × List ℕ)) → header_in dialect e.b ≡ o → ⊥
-      by None none =
-          let unit = foreign_known dialect v.b v.version v.foreign in
-          foreign_is_not_refused dialect v.b e.b (x ∷ y) v.version unit.0 at kind v.foreign unit.1
-          (v.within unit.0 unit.1) is ((refused_in_header dialect e.b at kind none).0 r)
-      by (Some (h, program)) some =
-          none_is_some (sym (foreign_no_header dialect v.b v.version v.foreign) ∙ ap (header_in dialect) is
-          ∙ header_on dialect e.b (x ∷ y) h program some)
+      not_longer : (x : ℕ) (y : List ℕ) → b ≡ e.1 ++ x ∷ y → How dialect limit bytes units e.1 e.2 result → ⊥
+      not_longer x y is (over nothing sound answer) =
+          omega (
+            arith,
+            ap length whole,
+            ap length is,
+            ap length nothing,
+            length-append e.1 e.2,
+            length-append b back,
+            length-append e.1 (x ∷ y),
+          )
+      not_longer x y is (refused at kind r answer) = by (header_in dialect e.1) refl where
+        by : (o : Option (HeaderData × List ℕ)) → header_in dialect e.1 ≡ o → ⊥
+        by None none =
+            let unit = foreign_known dialect b version foreign in
+            foreign_is_not_refused dialect b e.1 (x ∷ y) version unit.0 at kind foreign unit.1
+            (begun.in_unit unit.0 unit.1) is ((refused_in_header dialect e.1 at kind none).0 r)
+        by (Some (h, program)) some =
+            none_is_some (sym (foreign_no_header dialect b version foreign) ∙ ap (header_in dialect) is
+            ∙ header_on dialect e.1 (x ∷ y) h program some)
 
   -- what begins with another version doesn't begin with a unit that has a header
-  no_header : {w : List ℕ} → AtVersion w → (u back : List ℕ) (h : HeaderData) → w ≡ u ++ back
-      → header_of dialect u ≡ Some h → ⊥
-  no_header {w} v u back h is header =
+  no_header : (units : List (List ℕ)) → AtVersion units → (u back : List ℕ) (h : HeaderData)
+      → HasUnits dialect s units (u ++ back) → header_of dialect u ≡ Some h → ⊥
+  no_header units (b, rest, version, begun, foreign) u back h has header =
       let parts = header_parts dialect u h header in
-      none_is_some (sym (foreign_no_header dialect (v.b ++ v.back) v.version
-      (foreign_on dialect v.b v.back v.version v.foreign))
-      ∙ ap (header_in dialect) (sym v.whole ∙ is) ∙ header_on dialect u back h parts.0 parts.1)
+      none_is_some (sym (foreign_no_header dialect (b ++ rest) version (foreign_on dialect b rest version foreign))
+      ∙ ap (header_in dialect) (same_rest begun.has has) ∙ header_on dialect u back h parts.0 parts.1)
 
-  same_answer : {units : List (List ℕ)} {w : List ℕ} {result result2 : Result Summary RunFault} → Stops units w result
-      → Stops units w result2 → result ≡ result2
-  same_answer (at_end e) (at_end e2) = one_ending e e2
-  same_answer (at_end e) (at_version v is) = absurd (no_version e v)
-  same_answer (at_end e) (at_unit u is) = absurd (no_unit e u.u u.back u.whole u.unit)
-  same_answer (at_version v is) (at_end e) = absurd (no_version e v)
-  same_answer (at_version v is) (at_version v2 is2) = is ∙ sym is2
-  same_answer (at_version v is) (at_unit u is2) = absurd (no_header v u.u u.back u.h u.whole u.header)
-  same_answer (at_unit u is) (at_end e) = absurd (no_unit e u.u u.back u.whole u.unit)
-  same_answer (at_unit u is) (at_version v is2) = absurd (no_header v u.u u.back u.h u.whole u.header)
-  same_answer (at_unit u is) (at_unit u2 is2) = is ∙ sym is2
+  same_answer : (units : List (List ℕ)) (result result2 : Result Summary RunFault) → Stops units result
+      → Stops units result2 → result ≡ result2
+  same_answer units a b (at_end e) (at_end e2) =
+      (one_end dialect limit bytes e.0 e2.0 units units e.1 e2.1 e.2 e2.2 a b e.3 e2.3 e.4 e2.4).3
+  same_answer units a b (at_end e) (at_version v is) = absurd (no_version units a e v)
+  same_answer units a b (at_end e) (at_unit u is) =
+      absurd (no_unit units a e u.0 u.1 (has_last u.4).0 (has_last u.4).1)
+  same_answer units a b (at_version v is) (at_end e) = absurd (no_version units b e v)
+  same_answer units a b (at_version v is) (at_version v2 is2) = is ∙ sym is2
+  same_answer units a b (at_version v is) (at_unit u is2) =
+      absurd (no_header units v u.0 u.1 u.2 (has_last u.4).0 u.5)
+  same_answer units a b (at_unit u is) (at_end e) =
+      absurd (no_unit units b e u.0 u.1 (has_last u.4).0 (has_last u.4).1)
+  same_answer units a b (at_unit u is) (at_version v is2) =
+      absurd (no_header units v u.0 u.1 u.2 (has_last u.4).0 u.5)
+  same_answer units a b (at_unit u is) (at_unit u2 is2) = is ∙ sym is2
 
   -- ---- the same units
 
-  -- no unit begins that has a copy
-  no_copy : {units : List (List ℕ)} {w : List ℕ} {result : Result Summary RunFault} → Stops units w result
-      → (u back : List ℕ) → w ≡ u ++ back → IsUnit dialect u → IsMade made dialect (length (concat units)) u → ⊥
-  no_copy (at_end e) u back is unit copied = no_unit e u back is unit
-  no_copy (at_version v answer) u back is unit copied = no_header v u back copied.0 is copied.1
-  no_copy (at_unit v answer) u back is unit copied =
-      let same = (one_front dialect v.u u v.back back v.unit unit (sym v.whole ∙ is)).0 in
-      let headers : v.h ≡ copied.0 =
-      value_same v.h copied.0 (sym v.header ∙ ap (header_of dialect) same ∙ copied.1) in
-      none_is_some (sym copied.2 ∙ rw (headers, same) at v.refused)
+  -- no unit comes next that has a copy
+  no_copy : (units : List (List ℕ)) (result : Result Summary RunFault) → Stops units result → (u back : List ℕ)
+      → HasUnits dialect s units (u ++ back) → IsUnit dialect u → IsMade made dialect (length (concat units)) u → ⊥
+  no_copy units result (at_end e) u back has unit copied = no_unit units result e u back has unit
+  no_copy units result (at_version v is) u back has unit copied = no_header units v u back copied.0 has copied.1
+  no_copy units result (at_unit v is) u back has unit copied =
+      let last = has_last v.4 in
+      let same = (one_front dialect v.0 u v.1 back last.1 unit (same_rest last.0 has)).0 in
+      let headers : v.2 ≡ copied.0 = value_same v.2 copied.0 (sym v.5 ∙ ap (header_of dialect) same ∙ copied.1) in
+      none_is_some (sym copied.2 ∙ rw (headers, same) at v.6)
 
-  module _ {start2 now2 : Option (List ℕ)} {result2 : Result Summary RunFault} (c2 : Copied start2 now2 result2) where
-    -- of units that are copied the first are those that are copied as far as can be
-    fewer_copies : (units : List (List ℕ)) (w : List ℕ) → HasUnits dialect (take limit bytes) units w
-        → AreMade made dialect 0 units → (others : List (List ℕ)) × (c2.units ≡ units ++ others)
-    fewer_copies units w has copied = elim (meet has c2.has) [
-      | same us e ↦ ([], cc (append-nil units))
-      | shorter v vs us e unit ↦ (v ∷ vs, us)
-      | longer v vs us e unit ↦ absurd (no_copy c2.how v (concat vs ++ w) e unit
-          (rw zero-add at (made_at made dialect 0 c2.units v vs (rw us at copied))))
-    ]
+  has_of : (units : List (List ℕ)) (result : Result Summary RunFault) → Stops units result
+      → (w : List ℕ) × HasUnits dialect s units w
+  has_of units result (at_end e) = (e.1 ++ e.2, (its_end units result e).has)
+  has_of units result (at_version v is) = (v.0 ++ v.1, v.3.has)
+  has_of units result (at_unit u is) = (u.0 ++ u.1, (has_last u.4).0)
 
-    same_units : {start now : Option (List ℕ)} {result : Result Summary RunFault} (c : Copied start now result)
-        → (c.units ≡ c2.units) × (c.w ≡ c2.w)
-    same_units c = elim (meet c.has c2.has) [
-      | same us e ↦ (us, e)
-      | shorter v vs us e unit ↦ absurd (no_copy c.how v (concat vs ++ c2.w) e unit
-          (rw zero-add at (made_at made dialect 0 c.units v vs (rw us at c2.copied))))
-      | longer v vs us e unit ↦ absurd (no_copy c2.how v (concat vs ++ c.w) e unit
-          (rw zero-add at (made_at made dialect 0 c2.units v vs (rw us at c.copied))))
-    ]
+  -- of units that are copied the first are those that are copied as far as can be
+  fewer_copies : (units units2 : List (List ℕ)) (w : List ℕ) (result2 : Result Summary RunFault)
+      → HasUnits dialect s units w → AreMade made dialect 0 units → Stops units2 result2
+      → (others : List (List ℕ)) × (units2 ≡ units ++ others)
+  fewer_copies units units2 w result2 has copied how2 =
+      let has2 = has_of units2 result2 how2 in
+      elim (meet has has2.1) [
+        | same us e ↦ ([], cc (append-nil units))
+        | shorter v vs us e unit ↦ (v ∷ vs, us)
+        | longer v vs us e unit ↦ absurd (no_copy units2 result2 how2 v (concat vs ++ w) (rw e at has2.1) unit
+            (rw zero-add at (made_at made dialect 0 units2 v vs (rw us at copied))))
+      ]
+
+  same_units : (result result2 : Result Summary RunFault) (units units2 : List (List ℕ)) → AreMade made dialect 0 units
+      → AreMade made dialect 0 units2 → Stops units result → Stops units2 result2 → units ≡ units2
+  same_units result result2 units units2 copied copied2 how how2 =
+      let has = has_of units result how in
+      let has2 = has_of units2 result2 how2 in
+      let fewer = fewer_copies units units2 has.0 result2 has.1 copied how2 in
+      let more = fewer_copies units2 units has2.0 result has2.1 copied2 how in
+      let lengths = length-append units fewer.0 in
+      let nothing : fewer.0 ≡ [] =
+      nil_from_length fewer.0 (omega (arith, ap length fewer.1, ap length more.1, lengths, length-append units2 more.0)) in
+      cc (fewer.1, nothing, append-nil units)
 
 -- where what becomes of headers is known
 module _ (made : Made) (dialect : Dialect) (limit : ℕ) (bytes : List ℕ) (left left2 start start2 now now2 : Option
@@ -247,8 +198,8 @@ module _ (made : Made) (dialect : Dialect) (limit : ℕ) (bytes : List ℕ) (lef
   one_answer result result2 of of2 copies copies2 =
       let c = copied_of made dialect limit bytes left start now result of copies in
       let c2 = copied_of made dialect limit bytes left2 start2 now2 result2 of2 copies2 in
-      let same = same_units made dialect limit bytes c2 c in
-      same_answer made dialect limit bytes c.how (rw (← same.0, ← same.1) at c2.how)
+      let same = same_units made dialect limit bytes result result2 c.0 c2.0 c.1 c2.1 c.3 c2.3 in
+      same_answer made dialect limit bytes c.0 result result2 c.3 (rw (← same) at c2.3)
 
   one_text : (result result2 : Result Summary RunFault) → IsOfBytes result → IsOfBytes result2
       → CopiesAs made dialect limit bytes left start now result
@@ -257,7 +208,8 @@ module _ (made : Made) (dialect : Dialect) (limit : ℕ) (bytes : List ℕ) (lef
   one_text result result2 of of2 copies copies2 =
       let c = copied_of made dialect limit bytes left start now result of copies in
       let c2 = copied_of made dialect limit bytes left2 start2 now2 result2 of2 copies2 in
-      (units_as made dialect 0 c.units, c.out, rw (same_units made dialect limit bytes c2 c).0 c2.out)
+      let same = same_units made dialect limit bytes result result2 c.0 c2.0 c.1 c2.1 c.3 c2.3 in
+      (units_as made dialect 0 c.0, c.2, rw same c2.2)
 
   text_is_front : (out : ℕ) (result2 : Result Summary RunFault) → IsOfBytes result2
       → CopiesAs made dialect limit bytes left start now (Err (fault.Write out))
@@ -265,9 +217,13 @@ module _ (made : Made) (dialect : Dialect) (limit : ℕ) (bytes : List ℕ) (lef
       → (text : List ℕ) × TellsOut start now text (fault.Write out) × Appends start2 now2 text
   text_is_front out result2 of2 (units, back, has, copied, tells) copies2 =
       let c2 = copied_of made dialect limit bytes left2 start2 now2 result2 of2 copies2 in
-      let fewer = fewer_copies made dialect limit bytes c2 units back has copied in
-      let text = ap (units_as made dialect 0) fewer.1 ∙ units_as-append made dialect 0 units fewer.0 in
-      (units_as made dialect 0 c2.units, rw text (TellsOut-more start now (units_as made dialect 0 units) (units_as made dialect (0 + length (concat units)) fewer.0) (fault.Write out) tells), c2.out)
+      let fewer = fewer_copies made dialect limit bytes units c2.0 back result2 has copied c2.3 in
+      let text = ap (units_as made dialect 0) fewer.1 ∙ units_as-append made dialect 0 units fewer.0 in (
+        units_as made dialect 0 c2.0,
+        rw text (TellsOut-more start now (units_as made dialect 0 units)
+        (units_as made dialect (0 + length (concat units)) fewer.0) (fault.Write out) tells),
+        c2.2,
+      )
 
 pub one_copying : OneCopying
 one_copying dialect limit bytes left left2 start start2 now now2 result result2 of of2 copies copies2 =

@@ -1,12 +1,12 @@
 -- Units of a section, one more of them, and how many rows they have at most.
-use Rattle.dl_run.proofs.Names.{◌++◌, ◌+◌, ◌∷◌, ◌≡◌, ◌≤◌, [], add-zero, all_push, AllByRecursion, ap, append-nil}
-use Rattle.dl_run.proofs.Names.{append_assoc, arith, concat, concat-append, cond, count_by, count_by-le-length}
-use Rattle.dl_run.proofs.Names.{Dialect, end_visits, events, FaultKind, foreign_in, found_is_header, fronts, HasUnits}
-use Rattle.dl_run.proofs.Names.{header_in, HeaderData, inl, inr, is_none, is_some, IsUnit, length, length-append}
-use Rattle.dl_run.proofs.Names.{length_of_unit, List, nil_from_length, no_rows, None, NoUnitBegins, Option, refl}
-use Rattle.dl_run.proofs.Names.{Refused, Row, row_for_program_byte, rows_told, section_visits, Some, Sound}
-use Rattle.dl_run.proofs.Names.{sum_by-append, sum_by-cons, summary_of, unit_is_not_refused, unit_len, unit_len_on}
-use Rattle.dl_run.proofs.Names.{unit_rows, units_visits, ℕ}
+use Rattle.dl_run.proofs.Names.{◌++◌, ◌+◌, ◌∙◌, ◌∷◌, ◌≡◌, ◌≤◌, [], add-zero, all_push, AllByRecursion, ap, append-nil}
+use Rattle.dl_run.proofs.Names.{append_assoc, append_cancel_left, arith, concat, concat-append, cond, count_by}
+use Rattle.dl_run.proofs.Names.{count_by-le-length, Dialect, end_visits, events, FaultKind, foreign_in}
+use Rattle.dl_run.proofs.Names.{found_is_header, fronts, HasUnits, header_in, HeaderData, inl, inr, is_none, is_some}
+use Rattle.dl_run.proofs.Names.{IsUnit, length, length-append, length_of_unit, List, nil_from_length, no_rows, None}
+use Rattle.dl_run.proofs.Names.{NoUnitBegins, Option, refl, Refused, Row, row_for_program_byte, rows_told}
+use Rattle.dl_run.proofs.Names.{section_visits, Some, Sound, sum_by-append, sum_by-cons, summary_of, sym}
+use Rattle.dl_run.proofs.Names.{unit_is_not_refused, unit_len, unit_len_on, unit_rows, units_visits, ℕ}
 use Rattle.dl_run.proofs.EventLemmas.{rows_of_events}
 use Rattle.dl_run.proofs.Fronts.{all_front, all_middle, none_is_some}
 
@@ -37,6 +37,11 @@ has_last {dialect} {s} {units} {u} {rest} has = (
   rw append-nil at (has_front dialect s (units ++ u ∷ []) units (u ∷ []) rest refl has),
   all_middle (IsUnit dialect) units u [] has.each,
 )
+
+-- what is left after the same units
+pub same_rest : {dialect : Dialect} {s : List ℕ} {units : List (List ℕ)} {v w : List ℕ} → HasUnits dialect s units v
+    → HasUnits dialect s units w → v ≡ w
+same_rest {dialect} {s} {units} {v} {w} a b = append_cancel_left (concat units) v w (sym a.whole ∙ b.whole)
 
 -- k: where the others begin
 pub units_visits-append : (dialect : Dialect) (offset : ℕ) (units others : List (List ℕ)) (k : ℕ)
