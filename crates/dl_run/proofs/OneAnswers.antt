@@ -3,7 +3,7 @@ use Rattle.dl_run.proofs.Names.{◌++◌, ◌∙◌, ◌∷◌, ◌≡◌, [], a
 use Rattle.dl_run.proofs.Names.{Dumps, EndsAs, Err, Finds, header_of, HeaderData, IsFound, IsGreatest, IsLeast}
 use Rattle.dl_run.proofs.Names.{IsOfBytes, length, List, None, NoneAnswers, Ok, OneChecking, OneDump, OneDumping}
 use Rattle.dl_run.proofs.Names.{OneFinding, OneFound, OnePassingOver, Option, other_versions, PassedOver, PassesOver}
-use Rattle.dl_run.proofs.Names.{Place, refl, Result, Row, RunFault, section_text, Some, Strings, Summary}
+use Rattle.dl_run.proofs.Names.{Place, refl, Result, Row, row, RunFault, section_text, Some, Strings, Summary}
 use Rattle.dl_run.proofs.Names.{summary_of, sym, take, told, unit_rows, Write, ℕ}
 use Rattle.dl_run.proofs.Names.fault
 use Rattle.dl_run.proofs.DumpingLemmas.{dumps}
@@ -137,33 +137,36 @@ abbrev none_has : Result Summary RunFault → Result Summary RunFault
 none_has (Ok summary) = Err fault.NotFound
 none_has (Err f) = Err f
 
-data Finding (dialect : Dialect) (x : Place) (limit : ℕ) (bytes : List ℕ) (left : Option (List ℕ))
-    (result : Result Summary RunFault) : Type 0 where
-  is_found : (units : List (List ℕ)) (u back : List ℕ) (h : HeaderData) (r : Row)
-      → IsFound dialect x (take limit bytes) units u back h r → result ≡ Ok (summary_of dialect (units ++ u ∷ []))
-      → Finding dialect x limit bytes left result
-  is_none : (units : List (List ℕ)) (b back : List ℕ) (end : Result Summary RunFault) → IsOfBytes end
-      → EndsAs dialect limit bytes left units b back end → NoneAnswers dialect x units → result ≡ none_has end
-      → Finding dialect x limit bytes left result
-
 module _ (dialect : Dialect) (x : Place) (limit : ℕ) (bytes : List ℕ) where
+  -- one answers, or the section ends so and none does
+  abbrev Shown : Type 0
+  Shown =
+      (units : List (List ℕ)) × (u : List ℕ) × (back : List ℕ) × (h : HeaderData) × (r : Row)
+      × IsFound dialect x (take limit bytes) units u back h r
+
+  abbrev Silent : Type 0
+  Silent =
+      (left : Option (List ℕ)) × (units : List (List ℕ)) × (b : List ℕ) × (back : List ℕ)
+      × (end : Result Summary RunFault) × IsOfBytes end × EndsAs dialect limit bytes left units b back end
+      × NoneAnswers dialect x units
+
+  data Finding (result : Result Summary RunFault) : Type 0 where
+    is_found : (f : Shown) → result ≡ Ok (summary_of dialect (f.0 ++ f.1 ∷ [])) → Finding result
+    is_none : (e : Silent) → result ≡ none_has e.4 → Finding result
+
   finding : (strings : Strings) (left start now : Option (List ℕ)) (result : Result Summary RunFault)
-      → IsOfBytes result → Finds dialect strings x limit bytes left start now result
-      → Finding dialect x limit bytes left result
+      → IsOfBytes result → Finds dialect strings x limit bytes left start now result → Finding result
   finding strings left start now (Ok summary) of (units, u, back, h, r, found, is, out) =
-      is_found units u back h r found (ap (λ (s : Summary). Ok s) is)
+      is_found (units, u, back, h, r, found) (rw is refl)
   finding strings left start now (Err (fault.Write out)) of finds = absurd of
   finding strings left start now (Err fault.NotFound) of finds =
-      is_none finds.0 [] [] (Ok finds.1) tt finds.2 finds.3 refl
+      is_none (left, finds.0, [], [], Ok finds.1, tt, finds.2, finds.3) refl
   finding strings left start now (Err f) of (units, b, back, ends, none, kept) =
-      is_none units b back (Err f) of ends none refl
+      is_none (left, units, b, back, Err f, of, ends, none) refl
 
   -- where one is found, not all units up to the end have no answer
-  apart : (left : Option (List ℕ)) (units units2 : List (List ℕ)) (u back : List ℕ) (h : HeaderData) (r : Row)
-      (b back2 : List ℕ) (end : Result Summary RunFault)
-      → IsFound dialect x (take limit bytes) units u back h r → IsOfBytes end
-      → EndsAs dialect limit bytes left units2 b back2 end → NoneAnswers dialect x units2 → ⊥
-  apart left units units2 u back h r b back2 end f of ends none =
+  apart : Shown → Silent → ⊥
+  apart (units, u, back, h, r, f) (left, units2, b, back2, end, of, ends, none) =
       let s = ended dialect limit bytes left units2 b back2 end (of_bytes of) ends in
       let (has, is) = has_last f.has in
       elim (meet has s.has) [
@@ -175,24 +178,16 @@ module _ (dialect : Dialect) (x : Place) (limit : ℕ) (bytes : List ℕ) where
         | longer v vs us e unit ↦ s.none v (concat vs ++ (u ++ back)) e unit
       ]
 
-  one_of : (left left2 : Option (List ℕ)) (result result2 : Result Summary RunFault)
-      → Finding dialect x limit bytes left result → Finding dialect x limit bytes left2 result2 → result ≡ result2
-  one_of left left2 result result2 (is_found units u back h r found is) (is_found units2 u2 back2 h2 r2 found2 is2) =
-      let one = one_found dialect x (take limit bytes) units units2 u u2 back back2 h h2 r r2 found found2 in
-      cc (one.0, one.1)
-  one_of left left2 result result2 (is_found units u back h r found is)
-      (is_none units2 b2 back2 end2 of2 ends2 none2 is2) =
-      absurd (apart left2 units units2 u back h r b2 back2 end2 found of2 ends2 none2)
-  one_of left left2 result result2 (is_none units b back end of ends none is)
-      (is_found units2 u2 back2 h2 r2 found2 is2) =
-      absurd (apart left units2 units u2 back2 h2 r2 b back end found2 of ends none)
-  one_of left left2 result result2 (is_none units b back end of ends none is)
-      (is_none units2 b2 back2 end2 of2 ends2 none2 is2) =
-      is ∙ ap none_has (one_end dialect limit bytes left left2 units units2 b b2 back back2 end end2 of
-      of2 ends ends2).3 ∙ sym is2
+  one_of : {result result2 : Result Summary RunFault} → Finding result → Finding result2 → result ≡ result2
+  one_of (is_found f is) (is_found g is2) =
+      let one = one_found dialect x (take limit bytes) f.0 g.0 f.1 g.1 f.2 g.2 f.3 g.3 f.4 g.4 f.5 g.5 in
+      is ∙ rw (one.0, one.1) (sym is2)
+  one_of (is_found f is) (is_none e is2) = absurd (apart f e)
+  one_of (is_none e is) (is_found f is2) = absurd (apart f e)
+  one_of (is_none d is) (is_none e is2) =
+      is ∙ ap none_has (one_end dialect limit bytes d.0 e.0 d.1 e.1 d.2 e.2 d.3 e.3 d.4 e.4 d.5 e.5 d.6 e.6).3 ∙ sym is2
 
 pub one_finding : OneFinding
 one_finding dialect strings strings2 x limit bytes left left2 start start2 now now2 result result2 of of2 finds finds2 =
-    one_of dialect x limit bytes left left2 result result2
-    (finding dialect x limit bytes strings left start now result of finds)
+    one_of dialect x limit bytes (finding dialect x limit bytes strings left start now result of finds)
     (finding dialect x limit bytes strings2 left2 start2 now2 result2 of2 finds2)
